@@ -1,0 +1,4 @@
+pub mod Faults
+pub mod Plane
+pub mod Refusal
+pub mod Streams

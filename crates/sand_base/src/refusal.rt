@@ -1,0 +1,37 @@
+ghost use Rattle.std.specs.Prelude.{◌≡◌};
+ghost use Rattle.sand_base.specs.Refusal.{refusal_number, refusal_word};
+
+/// Why a statement was refused.
+#[derive(Clone, Copy, Debug, PartialEq, Eq)]
+pub enum Refusal {
+    /// Memory was refused. It may come at any statement.
+    Memory,
+    /// No relation has the name.
+    UnknownRelation,
+    /// A form or a check that isn't built yet.
+    NotBuilt,
+}
+
+impl Refusal {
+    /// The number that a refused line prints.
+    pub fn number(&self) -> u8
+        ensures { result ≡ refusal_number self.now }
+    {
+        match self {
+            Refusal::Memory => 1,
+            Refusal::UnknownRelation => 8,
+            Refusal::NotBuilt => 26,
+        }
+    }
+
+    /// The word that a refused line prints after the number.
+    pub fn word(&self) -> &'static str
+        ensures { result.now ≡ refusal_word self.now }
+    {
+        match self {
+            Refusal::Memory => "Memory",
+            Refusal::UnknownRelation => "UnknownRelation",
+            Refusal::NotBuilt => "NotBuilt",
+        }
+    }
+}
