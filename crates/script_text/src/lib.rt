@@ -1,13 +1,23 @@
-// A library with one function.
+//! The script language: statements as values, their printed form, and reading a line.
+//!
+//! A statement has one printed form, and `parse_line` reads it back. Above: `session`, which carries
+//! statements out. Below: `sand_base`. Contracts see a statement as plain data, its names as lists of bytes;
+//! read `specs/Statement.antt` first, and then `specs/Line.antt`.
 #![tactic(auto)]
 
-ghost use Rattle.std.specs.Prelude.{◌≡◌};
-ghost use Rattle.script_text.specs.Echo.{echo_of};
+mod parse;
+mod print;
+mod statement;
 
-// The `ensures` clause is the contract: what `echo` returns is `echo_of` of its argument, a definition
-// in `specs/Echo.antt`, which a caller's clause can cite too.
-pub fn echo(x: usize) -> usize
-    ensures { result ≡ echo_of x }
-{
-    x
-}
+pub use parse::{LineFault, parse_line};
+pub use print::print_statement;
+pub use statement::{Column, Plan, Statement};
+
+/// The longest name, in bytes.
+pub const LONGEST_NAME: usize = 32;
+
+/// The most rows that one `show` may ask for.
+pub const MOST_ROWS: u32 = 1_000_000;
+
+/// The longest line, in bytes.
+pub const LONGEST_LINE: usize = 8_192;
