@@ -1,0 +1,27 @@
+-- The gap of two shapes: the least squared distance between their points.
+use Rattle.std.specs.Prelude.{◌≡◌, ℕ, ℤ, ◌*◌, pos, ◌+ℤ◌, ◌-ℤ◌, ◌*ℤ◌, ◌≤ℤ◌}
+use Rattle.exact_frac.specs.declared.frac.Frac.{Frac}
+use Rattle.sand_base.specs.declared.shape.Shape.{Shape}
+use Rattle.sand_model.specs.Carrier.{RationalPoint, IsOf}
+
+-- a whole number, squared
+abbrev pub square : ℤ → ℤ
+square a = a *ℤ a
+
+-- the squared distance of two rational points, times `common_square`
+abbrev pub far : RationalPoint → RationalPoint → ℤ
+far q r =
+    square ((q.x *ℤ pos r.n) -ℤ (r.x *ℤ pos q.n)) +ℤ square ((q.y *ℤ pos r.n) -ℤ (r.y *ℤ pos q.n))
+
+-- the product of both denominators, squared
+abbrev pub common_square : RationalPoint → RationalPoint → ℤ
+common_square q r = square (pos (q.n * r.n))
+
+-- num / den is the least squared distance of two sets of points: some pair is that far apart, and no pair is nearer
+pub record IsLeast (A B : RationalPoint → Type 0) (num den : ℕ) : Type 0 where
+  pub attained : (q r : RationalPoint) × A q × B r × (far q r *ℤ pos den ≡ pos num *ℤ common_square q r)
+  pub least : (q r : RationalPoint) → A q → B r → (pos num *ℤ common_square q r) ≤ℤ (far q r *ℤ pos den)
+
+-- the fraction is the gap of the two shapes
+abbrev pub IsGap : Shape → Shape → Frac → Type 0
+IsGap a b gap = IsLeast (IsOf a) (IsOf b) gap.num gap.den
