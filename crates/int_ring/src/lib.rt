@@ -1,13 +1,16 @@
-// A library with one function.
+//! Identities and inequalities over the integers, as lemmas for the proofs of other crates.
+//!
+//! No crate calls this one: there is no code in it. Its one contract says that the test `same` of
+//! `specs/Poly.antt`, which multiplies two polynomial expressions out, is right: expressions that pass
+//! have one value for all integers. Proofs cite it as `ring` of `proofs/Ring.antt`, and the order
+//! lemmas of `proofs/Order.antt` beside it. Above: `plane_geom` and whoever proves with products of
+//! integers. Below: std alone. Read `specs/Expr.antt` first, then the README.
+//! After B. Gregoire and A. Mahboubi, Proving equalities in a commutative ring done right in Coq (2005).
 #![tactic(auto)]
 
-ghost use Rattle.std.specs.Prelude.{◌≡◌};
-ghost use Rattle.int_ring.specs.Echo.{echo_of};
+ghost use Rattle.int_ring.specs.Sound.{RingIsSound};
 
-// The `ensures` clause is the contract: what `echo` returns is `echo_of` of its argument, a definition
-// in `specs/Echo.antt`, which a caller's clause can cite too.
-pub fn echo(x: usize) -> usize
-    ensures { result ≡ echo_of x }
-{
-    x
-}
+/// Does nothing: its clause is the law of the reflective test, so that a contract of the program names it.
+pub fn ring_is_sound()
+    ensures { RingIsSound }
+{}

@@ -1,0 +1,7 @@
+mod Examples
+pub mod Inequality
+pub mod Laws
+pub mod Order
+mod PolyLemmas
+pub mod Ring
+pub mod Squares
