@@ -1,0 +1,4 @@
+mod Digits
+mod Quotients
+pub mod LowestTerms
+pub mod PrintedLemmas
