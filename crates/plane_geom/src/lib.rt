@@ -1,13 +1,16 @@
-// A library with one function.
+//! The exact gap of points, segments and closed rectangles: the least squared distance, as a fraction.
+//!
+//! One idea: each call computes by a closed formula in whole numbers, and its contract says that the answer
+//! is the least value over all rational points of both shapes. Above: `session` and `ring_geom`. Below:
+//! `exact_frac` for the answers, `sand_model` for what a gap is, `int_ring` for the proofs. Contracts see
+//! shapes as sets of rational points; read `sand_model`'s `specs/Carrier.antt` and `specs/Gap.antt` first,
+//! then `specs/Vectors.antt` here.
+//! After J. O'Rourke, Computational Geometry in C (1998), and V. Lumelsky, On fast computation of distance
+//! between line segments (1985).
 #![tactic(auto)]
 
-ghost use Rattle.std.specs.Prelude.{◌≡◌};
-ghost use Rattle.plane_geom.specs.Echo.{echo_of};
+mod points;
+#[cfg(test)]
+mod tests;
 
-// The `ensures` clause is the contract: what `echo` returns is `echo_of` of its argument, a definition
-// in `specs/Echo.antt`, which a caller's clause can cite too.
-pub fn echo(x: usize) -> usize
-    ensures { result ≡ echo_of x }
-{
-    x
-}
+pub use points::gap_points;

@@ -3,10 +3,15 @@
 //! Points of the plane, shapes, names, refusals, and the traits `Source` and `Sink` with their
 //! implementations in memory. Nothing here computes an answer. Above: all other crates. Below: std.
 //! Contracts see a `Label` as the list of its bytes, a `Source` by the bytes that it has left, and a `Sink`
-//! by a relation to the bytes that it took. Read `specs/Faults.antt` first: it says when a stream may fail.
+//! by a relation to the bytes that it took. A stream in memory is the record of all that decides its next
+//! call, so a list of failing calls (fault injection) makes any run of faults, and makes it again.
+//! Read `specs/Faults.antt` first: it says when a stream may fail. Then `specs/Calls.antt`.
 #![tactic(auto)]
 
+mod calls;
 mod label;
+mod mem_sink;
+mod mem_source;
 mod memory;
 mod point;
 mod rect;
@@ -15,8 +20,14 @@ mod segment;
 mod shape;
 mod sink;
 mod source;
+mod sure_source;
+#[cfg(test)]
+mod tests;
 
+pub use calls::Calls;
 pub use label::Label;
+pub use mem_sink::MemSink;
+pub use mem_source::MemSource;
 pub use memory::NoMemory;
 pub use point::Point;
 pub use rect::Rect;
@@ -25,6 +36,7 @@ pub use segment::Segment;
 pub use shape::Shape;
 pub use sink::Sink;
 pub use source::{Failed, Source};
+pub use sure_source::SureSource;
 
 /// The number of bits of a coordinate. Grid points of the plane have coordinates below 2 to this power, and
 /// corners of blocks reach it. No other place writes the number out.

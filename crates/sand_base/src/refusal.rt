@@ -1,5 +1,9 @@
 ghost use Rattle.std.specs.Prelude.{◌≡◌};
 ghost use Rattle.sand_base.specs.Refusal.{refusal_number, refusal_word};
+ghost use Rattle.sand_base.specs.declared.refusal.Refusal.TheVariants.{Memory};
+
+use crate::NoMemory;
+use std::alloc::{AllocError, AllocFailed};
 
 /// Why a statement was refused.
 #[derive(Clone, Copy, Debug, PartialEq, Eq)]
@@ -33,5 +37,29 @@ impl Refusal {
             Refusal::UnknownRelation => "UnknownRelation",
             Refusal::NotBuilt => "NotBuilt",
         }
+    }
+}
+
+impl From<NoMemory> for Refusal {
+    ghost from_gives = { λ _ why. why ≡ Memory };
+
+    fn from(_: NoMemory) -> Self {
+        Refusal::Memory
+    }
+}
+
+impl From<AllocError> for Refusal {
+    ghost from_gives = { λ _ why. why ≡ Memory };
+
+    fn from(_: AllocError) -> Self {
+        Refusal::Memory
+    }
+}
+
+impl<T: Drop> From<AllocFailed<T>> for Refusal {
+    ghost from_gives = { λ _ why. why ≡ Memory };
+
+    fn from(_: AllocFailed<T>) -> Self {
+        Refusal::Memory
     }
 }

@@ -2,7 +2,7 @@
 use Rattle.std.specs.Prelude.{◌≡◌, ℕ, List, [], ◌∷◌, IsSorted, IsPermutation}
 use Rattle.std.specs.Ordering.{nat_cmp, ordering_then}
 use Rattle.std.specs.declared.cmp.Ordering.{Ordering}
-use Rattle.exact_frac.specs.Value.{by_value}
+use Rattle.exact_frac.specs.Frac.{value_cmp}
 use Rattle.exact_frac.specs.declared.frac.Frac.{Frac}
 use Rattle.sand_base.specs.declared.shape.Shape.{Shape}
 use Rattle.sand_model.specs.Gap.{IsGap}
@@ -16,7 +16,7 @@ Measures goal (row ∷ rows) (hit ∷ hits) = (hit.1 ≡ row.0) × IsGap row.1 g
 
 -- by the value of the gap, and equal gaps by id
 abbrev pub rank_order : Frac × ℕ → Frac × ℕ → Ordering
-rank_order a b = ordering_then (by_value (λ f. f.num) (λ f. f.den) a.0 b.0) (nat_cmp a.1 b.1)
+rank_order a b = ordering_then (value_cmp a.0 b.0) (nat_cmp a.1 b.1)
 
 -- The hits are the ranking of the rows from the goal: each row once, with its gap, sorted by gap and then by id.
 pub record IsRanking (goal : Shape) (rows : List (ℕ × Shape)) (hits : List (Frac × ℕ)) : Type 0 where

@@ -1,0 +1,97 @@
+use crate::{
+    Calls, Failed, Label, MemSink, MemSource, NoMemory, Point, Shape, Sink, Source, SureSource,
+};
+use std::alloc::AllocError;
+use std::process::Abort;
+
+#[test]
+fn calls_are_numbered_from_1_and_fail_where_the_list_names_them(
+    rt: HostRuntime,
+) -> Result<(), AllocError> {
+    let mut calls = Calls::new(vec![in rt.alloc(); 3, 0, 1, 3]?);
+    for (number, answer) in [
+        (1, Err(Failed {})),
+        (2, Ok(())),
+        (3, Err(Failed {})),
+        (4, Ok(())),
+    ] {
+        assert_eq!(rt; calls.begin(), answer);
+        assert_eq!(rt; calls.made(), number);
+    }
+    Ok(())
+}
+
+// Reads into a piece of four bytes give these answers and bytes, one after the other.
+fn gives<S: Source>(rt: &impl Abort, source: &mut S, answers: &[(Result<usize, Failed>, [u8; 4])]) {
+    for (count, bytes) in answers {
+        let mut piece = [0; 4];
+        assert_eq!(rt; source.read(&mut piece), *count);
+        assert_eq!(rt; piece, *bytes);
+    }
+}
+
+#[test]
+fn a_source_gives_chunks_and_a_failed_read_loses_nothing(
+    rt: HostRuntime,
+) -> Result<(), AllocError> {
+    let alloc = rt.alloc();
+    let end = (Ok(0), [0; 4]);
+    let eight = vec![in alloc; 1, 2, 3, 4, 5, 6, 7, 8]?;
+    let mut sure = SureSource::new(alloc, eight.clone()?, 3);
+    gives(
+        &rt,
+        &mut sure,
+        &[
+            (Ok(3), [1, 2, 3, 0]),
+            (Ok(3), [4, 5, 6, 0]),
+            (Ok(2), [7, 8, 0, 0]),
+            end,
+        ],
+    );
+    let mut failing = MemSource::new(alloc, eight, 3, vec![in alloc; 2]?);
+    gives(
+        &rt,
+        &mut failing,
+        &[
+            (Ok(3), [1, 2, 3, 0]),
+            (Err(Failed {}), [0; 4]),
+            (Ok(3), [4, 5, 6, 0]),
+            (Ok(2), [7, 8, 0, 0]),
+            end,
+        ],
+    );
+    let mut wide = MemSource::new(alloc, vec![in alloc; 1, 2, 3, 4, 5, 6]?, 5, vec![in alloc]?);
+    gives(
+        &rt,
+        &mut wide,
+        &[(Ok(4), [1, 2, 3, 4]), (Ok(2), [5, 6, 0, 0]), end],
+    );
+    let mut empty = SureSource::new(alloc, vec![in alloc]?, 1);
+    gives(&rt, &mut empty, &[end]);
+    Ok(())
+}
+
+#[test]
+fn a_sink_takes_what_fits_and_fails_where_it_is_full(rt: HostRuntime) -> Result<(), NoMemory> {
+    let alloc = rt.alloc();
+    let mut sink = MemSink::new(alloc, 2, vec![in alloc; 1]?)?;
+    for (piece, count) in [
+        ([7, 8, 9], Err(Failed {})),
+        ([7, 8, 9], Ok(2)),
+        ([9, 9, 9], Err(Failed {})),
+    ] {
+        assert_eq!(rt; sink.write(&piece), count);
+    }
+    assert_eq!(rt; sink.bytes(), [7, 8].as_slice());
+    Ok(())
+}
+
+#[test]
+fn names_and_shapes_are_copied_where_memory_is_left(rt: HostRuntime) -> Result<(), NoMemory> {
+    let alloc = rt.alloc();
+    let label = Label::new(alloc, "north")?;
+    assert_eq!(rt; label.copy(alloc)?.as_str(), "north");
+    let shape = Shape::Point(Point { x: 3, y: 4 });
+    assert_eq!(rt; shape.copy(alloc)?, shape);
+    Ok(())
+}
