@@ -9,8 +9,11 @@
 //! between line segments (1985).
 #![tactic(auto)]
 
+mod point_segment;
 mod points;
 #[cfg(test)]
 mod tests;
+mod vectors;
 
+pub use point_segment::{gap_point_segment, on_segment};
 pub use points::gap_points;

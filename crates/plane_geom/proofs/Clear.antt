@@ -1,0 +1,140 @@
+-- No pair of weighted means of two pairs of points is nearer than a fraction: the one notion of the geometry's proofs.
+use Rattle.std.proofs.Common.{◌≡◌, ℤ, pos, ◌+ℤ◌, ◌-ℤ◌, ◌*ℤ◌, neg_ℤ, ◌≤ℤ◌, ◌<ℤ◌, [], ◌∷◌, refl, subst, arith}
+use Rattle.std.proofs.lemmas.Int.{ints}
+use Rattle.sand_base.specs.declared.point.Point.{Point}
+use Rattle.int_ring.specs.Expr.{var, at, num, neg, ◌⊕◌, ◌⊖◌, ◌⊗◌}
+use Rattle.int_ring.proofs.Ring.{ring}
+use Rattle.int_ring.proofs.Order.{mul_nonneg, mul_positive, mul_le, add_nonneg, chain_le}
+use Rattle.int_ring.proofs.Inequality.{le_ring, le_ring_scaled}
+use Rattle.int_ring.proofs.Squares.{square_nonneg}
+
+-- the vector (x, y), over the denominator k, is at least as long as the root of m / e
+abbrev pub IsClear : ℤ → ℤ → ℤ → ℤ → ℤ → Type 0
+IsClear m e x y k = (m *ℤ (k *ℤ k)) ≤ℤ (((x *ℤ x) +ℤ (y *ℤ y)) *ℤ e)
+
+-- an equal vector over an equal denominator is as long
+pub along : (m e x y k x' y' k' : ℤ) → IsClear m e x y k → x ≡ x' → y ≡ y' → k ≡ k' → IsClear m e x' y' k'
+along m e x y k x' y' k' h p q r =
+    subst (λ t. IsClear m e x' y' t) r (subst (λ t. IsClear m e x' t k) q (subst (λ t. IsClear m e t y k) p h))
+
+-- so is the opposite vector
+pub opposite : (m e x y k : ℤ) → IsClear m e (neg_ℤ x) (neg_ℤ y) k → IsClear m e x y k
+opposite m e x y k h =
+    subst (λ t. (m *ℤ (k *ℤ k)) ≤ℤ (t *ℤ e))
+    (ring (at (x ∷ y ∷ [])) (neg (var 0) ⊗ neg (var 0) ⊕ neg (var 1) ⊗ neg (var 1)) (var 0 ⊗ var 0 ⊕ var 1 ⊗ var 1) refl) h
+
+-- a vector that a factor of at most 1, which is t / s, brings to such a length was itself as long
+pub shrunk : (m e x y k t s : ℤ) → pos 0 ≤ℤ e → pos 0 ≤ℤ t → t ≤ℤ s → pos 0 <ℤ s
+    → IsClear m e (t *ℤ x) (t *ℤ y) (s *ℤ k) → IsClear m e x y k
+shrunk m e x y k t s he ht hts hs h =
+    let vm = var 0 in
+    let ve = var 1 in
+    let vx = var 2 in
+    let vy = var 3 in
+    let vk = var 4 in
+    let vt = var 5 in
+    let vs = var 6 in
+    let long = vx ⊗ vx ⊕ vy ⊗ vy in
+    let far = ((vt ⊗ vx) ⊗ (vt ⊗ vx) ⊕ (vt ⊗ vy) ⊗ (vt ⊗ vy)) ⊗ ve in
+    let near = vm ⊗ ((vs ⊗ vk) ⊗ (vs ⊗ vk)) in
+    le_ring_scaled (at (m ∷ e ∷ x ∷ y ∷ k ∷ t ∷ s ∷ [])) (vm ⊗ (vk ⊗ vk)) (long ⊗ ve) (vs ⊗ vs)
+    ((far ⊖ near) ⊕ ((vs ⊖ vt) ⊗ (vs ⊕ vt)) ⊗ (long ⊗ ve)) refl
+    (mul_positive s s hs hs)
+    (add_nonneg _ _ (not_below _ _ h)
+    (mul_nonneg _ _ (mul_nonneg _ _ (not_below t s hts) (both t s ht hs))
+    (mul_nonneg _ _ (add_nonneg _ _ (square_nonneg x) (square_nonneg y)) he)))
+  where
+    not_below : (p q : ℤ) → p ≤ℤ q → pos 0 ≤ℤ (q -ℤ p)
+    not_below p q h = omega (arith, ints)
+
+    both : (t s : ℤ) → pos 0 ≤ℤ t → pos 0 <ℤ s → pos 0 ≤ℤ (s +ℤ t)
+    both t s ht hs = omega (arith, ints)
+
+-- a common positive factor changes nothing
+pub unscaled : (m e x y k s : ℤ) → pos 0 ≤ℤ e → pos 0 <ℤ s → IsClear m e (s *ℤ x) (s *ℤ y) (s *ℤ k) → IsClear m e x y k
+unscaled m e x y k s he hs h = shrunk m e x y k s s he (weak s hs) (same s) hs h
+  where
+    weak : (s : ℤ) → pos 0 <ℤ s → pos 0 ≤ℤ s
+    weak s h = omega (arith, ints)
+
+    same : (s : ℤ) → s ≤ℤ s
+    same s = omega (arith, ints)
+
+-- what is at least as long as a vector that is long enough is long enough
+pub farther : (m e x y x' y' k : ℤ) → pos 0 ≤ℤ e → IsClear m e x y (pos 1)
+    → (((x *ℤ x) +ℤ (y *ℤ y)) *ℤ (k *ℤ k)) ≤ℤ ((x' *ℤ x') +ℤ (y' *ℤ y')) → IsClear m e x' y' k
+farther m e x y x' y' k he h far =
+    let vm = var 0 in
+    let ve = var 1 in
+    let vk = var 2 in
+    let vl = var 3 in
+    chain_le _ _ _
+    (le_ring (at (m ∷ e ∷ k ∷ ((x *ℤ x) +ℤ (y *ℤ y)) ∷ [])) (vm ⊗ (vk ⊗ vk)) ((vl ⊗ (vk ⊗ vk)) ⊗ ve)
+    ((vk ⊗ vk) ⊗ (vl ⊗ ve ⊖ vm ⊗ (num (pos 1) ⊗ num (pos 1)))) refl
+    (mul_nonneg _ _ (square_nonneg k) (not_below _ _ h)))
+    (mul_le _ _ e he far)
+  where
+    not_below : (p q : ℤ) → p ≤ℤ q → pos 0 ≤ℤ (q -ℤ p)
+    not_below p q h = omega (arith, ints)
+
+-- two weights, not both 0
+pub record IsWeights (i j : ℤ) : Type 0 where
+  pub first : pos 0 ≤ℤ i
+  pub second : pos 0 ≤ℤ j
+  pub some : pos 0 <ℤ (i +ℤ j)
+
+-- along one axis, the way from the mean of c and e under u and v to that of a and b under i and j, times both sums of weights
+abbrev pub offset : ℤ → ℤ → ℤ → ℤ → ℤ → ℤ → ℤ → ℤ → ℤ
+offset a b c e i j u v = (((i *ℤ a) +ℤ (j *ℤ b)) *ℤ (u +ℤ v)) -ℤ (((u *ℤ c) +ℤ (v *ℤ e)) *ℤ (i +ℤ j))
+
+-- means of a and b, and of c and d, are at least the root of m / e apart
+abbrev pub AreClear : ℤ → ℤ → Point → Point → Point → Point → Type 0
+AreClear m e a b c d =
+    (i j u v : ℤ) → IsWeights i j → IsWeights u v
+    → IsClear m e (offset (pos a.x) (pos b.x) (pos c.x) (pos d.x) i j u v) (offset (pos a.y) (pos b.y) (pos c.y) (pos d.y) i j u v)
+    ((i +ℤ j) *ℤ (u +ℤ v))
+
+-- the weights, the other way round
+pub turned_weights : (i j : ℤ) → IsWeights i j → IsWeights j i
+turned_weights i j h = record { first = h.second; second = h.first; some = other i j h.some }
+  where
+    other : (i j : ℤ) → pos 0 <ℤ (i +ℤ j) → pos 0 <ℤ (j +ℤ i)
+    other i j h = omega (arith, ints)
+
+-- the first two points, the other way round
+pub turn_first : (m e : ℤ) (a b c d : Point) → AreClear m e a b c d → AreClear m e b a c d
+turn_first m e a b c d h i j u v wi wu =
+    along _ _ _ _ _ _ _ _ (h j i u v (turned_weights i j wi) wu) (one (pos a.x) (pos b.x) (pos c.x) (pos d.x) i j u v)
+    (one (pos a.y) (pos b.y) (pos c.y) (pos d.y) i j u v) (sums i j u v)
+  where
+    one : (a b c d i j u v : ℤ) → offset a b c d j i u v ≡ offset b a c d i j u v
+    one a b c d i j u v =
+        let va = var 0 in
+        let vb = var 1 in
+        let other = (var 6 ⊗ var 2 ⊕ var 7 ⊗ var 3) in
+        ring (at (a ∷ b ∷ c ∷ d ∷ i ∷ j ∷ u ∷ v ∷ []))
+        ((var 5 ⊗ va ⊕ var 4 ⊗ vb) ⊗ (var 6 ⊕ var 7) ⊖ other ⊗ (var 5 ⊕ var 4))
+        ((var 4 ⊗ vb ⊕ var 5 ⊗ va) ⊗ (var 6 ⊕ var 7) ⊖ other ⊗ (var 4 ⊕ var 5)) refl
+
+    sums : (i j u v : ℤ) → (j +ℤ i) *ℤ (u +ℤ v) ≡ (i +ℤ j) *ℤ (u +ℤ v)
+    sums i j u v = ring (at (i ∷ j ∷ u ∷ v ∷ [])) ((var 1 ⊕ var 0) ⊗ (var 2 ⊕ var 3)) ((var 0 ⊕ var 1) ⊗ (var 2 ⊕ var 3)) refl
+
+-- the two pairs, exchanged
+pub exchange : (m e : ℤ) (a b c d : Point) → AreClear m e a b c d → AreClear m e c d a b
+exchange m e a b c d h i j u v wi wu =
+    opposite m e _ _ _
+    (along _ _ _ _ _ _ _ _ (h u v i j wu wi) (one (pos a.x) (pos b.x) (pos c.x) (pos d.x) i j u v)
+    (one (pos a.y) (pos b.y) (pos c.y) (pos d.y) i j u v) (sums i j u v))
+  where
+    one : (a b c d i j u v : ℤ) → offset a b c d u v i j ≡ neg_ℤ (offset c d a b i j u v)
+    one a b c d i j u v =
+        let left = (var 6 ⊗ var 0 ⊕ var 7 ⊗ var 1) ⊗ (var 4 ⊕ var 5) in
+        let right = (var 4 ⊗ var 2 ⊕ var 5 ⊗ var 3) ⊗ (var 6 ⊕ var 7) in
+        ring (at (a ∷ b ∷ c ∷ d ∷ i ∷ j ∷ u ∷ v ∷ [])) (left ⊖ right) (neg (right ⊖ left)) refl
+
+    sums : (i j u v : ℤ) → (u +ℤ v) *ℤ (i +ℤ j) ≡ (i +ℤ j) *ℤ (u +ℤ v)
+    sums i j u v = ring (at (i ∷ j ∷ u ∷ v ∷ [])) ((var 2 ⊕ var 3) ⊗ (var 0 ⊕ var 1)) ((var 0 ⊕ var 1) ⊗ (var 2 ⊕ var 3)) refl
+
+-- the second two points, the other way round
+pub turn_second : (m e : ℤ) (a b c d : Point) → AreClear m e a b c d → AreClear m e a b d c
+turn_second m e a b c d h = exchange m e d c a b (turn_first m e c d a b (exchange m e a b c d h))

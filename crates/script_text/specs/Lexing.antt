@@ -1,0 +1,99 @@
+-- How a line falls into pieces, from the left, each as long as can be.
+use Rattle.std.specs.Prelude.{◌≡◌, ℕ, zero, suc, ◌+◌, ◌-◌, Bool, false, ◌&&◌, ◌||◌, ◌==◌, cond, nat_lt, nat_le, List, [], ◌∷◌, length, take, drop, Option, Some, None}
+use Rattle.std.specs.Char.{is_ascii_digit}
+use Rattle.std.specs.List.{prefix_len}
+use Rattle.script_text.specs.declared.TheConstants.{LONGEST_NAME}
+use Rattle.script_text.specs.declared.lexer.Cut as lexer
+use Rattle.script_text.specs.declared.token.Symbol.{Symbol}
+use Rattle.script_text.specs.declared.token.Symbol.TheVariants.{Open, Close, Comma, Dot, Minus, Equal, NotEqual, Less, AtMost, Greater, AtLeast}
+use Rattle.script_text.specs.Line.{is_blank}
+use Rattle.script_text.specs.Name.{starts_name, continues_name}
+use Rattle.script_text.specs.Token.{Piece, name, number, mark, piece_of, IsPiece}
+
+-- the symbol of one byte
+abbrev pub short_symbol : ℕ → Option Symbol
+short_symbol b = cond (b == 40) (Some Open) (cond (b == 41) (Some Close) (cond (b == 44) (Some Comma) (cond (b == 46) (Some Dot)
+    (cond (b == 45) (Some Minus) (cond (b == 61) (Some Equal) (cond (b == 60) (Some Less) (cond (b == 62) (Some Greater) None)))))))
+
+-- the symbol of this byte and `=`
+abbrev pub long_symbol : ℕ → Option Symbol
+long_symbol b = cond (b == 33) (Some NotEqual) (cond (b == 60) (Some AtMost) (cond (b == 62) (Some AtLeast) None))
+
+-- a piece and the number of its bytes
+pub record Cut : Type 0 where
+  pub piece : Piece
+  pub len : ℕ
+
+-- the cut that the lexer made
+abbrev pub cut_of : lexer.Cut → Cut
+cut_of c = record { piece = piece_of c.token; len = c.len }
+
+-- a cut of so many bytes, where there is a symbol
+abbrev pub symbol_cut : ℕ → Option Symbol → Option Cut
+symbol_cut n None = None
+symbol_cut n (Some s) = Some (record { piece = mark s; len = n })
+
+-- the bytes begin with `=`
+abbrev pub begins_equal : List ℕ → Bool
+begins_equal [] = false
+begins_equal (b ∷ bytes) = b == 61
+
+-- the longer symbol where there is one and `=` follows, else the short one
+abbrev pub longest_symbol : Option Symbol → ℕ → List ℕ → Option Cut
+longest_symbol None b bytes = symbol_cut 1 (short_symbol b)
+longest_symbol (Some s) b bytes = cond (begins_equal bytes) (Some (record { piece = mark s; len = 2 })) (symbol_cut 1 (short_symbol b))
+
+-- the longest symbol at the front of the byte and those after it
+abbrev pub symbol_at : ℕ → List ℕ → Option Cut
+symbol_at b bytes = longest_symbol (long_symbol b) b bytes
+
+-- the name of so many bytes, where it is not too long
+abbrev pub name_cut : ℕ → List ℕ → Option Cut
+name_cut n bytes = cond (nat_le n LONGEST_NAME) (Some (record { piece = name (take n bytes); len = n })) None
+
+-- the number of so many bytes
+abbrev pub number_cut : ℕ → List ℕ → Option Cut
+number_cut n bytes = Some (record { piece = number (take n bytes); len = n })
+
+-- a digit, or a minus before digits
+abbrev pub begins_number : ℕ → ℕ → Bool
+begins_number b digits = is_ascii_digit b || (b == 45) && nat_lt 0 digits
+
+-- the longest piece at the front of the bytes; none where no piece begins there, or a name there is too long
+abbrev pub first_cut : List ℕ → Option Cut
+first_cut [] = None
+first_cut (b ∷ bytes) =
+    cond (starts_name b) (name_cut (1 + prefix_len continues_name bytes) (b ∷ bytes))
+    (cond (begins_number b (prefix_len is_ascii_digit bytes)) (number_cut (1 + prefix_len is_ascii_digit bytes) (b ∷ bytes))
+    (symbol_at b bytes))
+
+-- the bytes after the blanks at the front
+abbrev pub skip_blanks : List ℕ → List ℕ
+skip_blanks bytes = drop (prefix_len is_blank bytes) bytes
+
+-- a piece, and the number of bytes from its first byte to the line's end
+pub record Placed : Type 0 where
+  pub piece : Piece
+  pub room : ℕ
+
+-- the piece of a cut, and the pieces after it
+abbrev pub placed : Option Cut → ℕ → (ℕ → List Placed) → List Placed
+placed None room after = []
+placed (Some c) room after = record { piece = c.piece; room = room } ∷ after (c.len - 1)
+
+-- The pieces of the bytes after the first few, which belong to a piece already. They end before a byte at
+-- which none begins.
+abbrev pub pieces_after : ℕ → List ℕ → List Placed
+pieces_after n [] = []
+pieces_after (suc n) (b ∷ bytes) = pieces_after n bytes
+pieces_after zero (b ∷ bytes) =
+    cond (is_blank b) (pieces_after zero bytes) (placed (first_cut (b ∷ bytes)) (1 + length bytes) (λ n. pieces_after n bytes))
+
+-- the pieces of the bytes
+unfoldable pub pieces : List ℕ → List Placed
+pieces bytes = pieces_after 0 bytes
+
+-- the piece stands next in the bytes, and these are left after it
+pub record IsNext (bytes : List ℕ) (piece : Piece) (after : List ℕ) : Type 0 where
+  pub place : pieces bytes ≡ record { piece = piece; room = length (skip_blanks bytes) } ∷ pieces after
+  pub shape : IsPiece piece

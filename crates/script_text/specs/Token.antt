@@ -1,0 +1,56 @@
+-- Tokens of a line, and the bytes that spell them.
+use Rattle.std.specs.Prelude.{◌≡◌, ℕ, Bool, true, false, ◌&&◌, List, [], ◌∷◌, codes, nat_lt, length, cond, ◌==◌}
+use Rattle.std.specs.Char.{is_ascii_digit}
+use Rattle.std.specs.List.{list_all}
+use Rattle.script_text.specs.Name.{IsName}
+use Rattle.script_text.specs.declared.token.Symbol.{Symbol}
+use Rattle.script_text.specs.declared.token.Symbol.TheVariants as symbol
+use Rattle.script_text.specs.declared.token.Token.{Token}
+use Rattle.script_text.specs.declared.token.Token.TheVariants as read
+
+-- a name, a number by its bytes, or a symbol
+pub data Piece : Type 0 where
+  name : List ℕ → Piece
+  number : List ℕ → Piece
+  mark : Symbol → Piece
+
+-- the piece that a token of the reader stands for
+abbrev pub piece_of : Token → Piece
+piece_of (read.Name text) = name text.now
+piece_of (read.Number text) = number text.now
+piece_of (read.Mark s) = mark s
+
+-- the bytes of a symbol
+abbrev pub symbol_text : Symbol → List ℕ
+symbol_text symbol.Open = codes "("
+symbol_text symbol.Close = codes ")"
+symbol_text symbol.Comma = codes ","
+symbol_text symbol.Dot = codes "."
+symbol_text symbol.Minus = codes "-"
+symbol_text symbol.Equal = codes "="
+symbol_text symbol.NotEqual = codes "!="
+symbol_text symbol.Less = codes "<"
+symbol_text symbol.AtMost = codes "<="
+symbol_text symbol.Greater = codes ">"
+symbol_text symbol.AtLeast = codes ">="
+
+-- one digit or more
+abbrev pub is_digits : List ℕ → Bool
+is_digits bytes = nat_lt 0 (length bytes) && list_all is_ascii_digit bytes
+
+-- digits, or a minus and then digits
+abbrev pub is_number : List ℕ → Bool
+is_number [] = false
+is_number (b ∷ bytes) = cond (b == 45) (is_digits bytes) (is_digits (b ∷ bytes))
+
+-- the bytes that spell a piece
+abbrev pub spelling : Piece → List ℕ
+spelling (name bytes) = bytes
+spelling (number bytes) = bytes
+spelling (mark s) = symbol_text s
+
+-- the piece is one of the language: names and numbers are of their shape, and names not too long
+abbrev pub IsPiece : Piece → Type 0
+IsPiece (name bytes) = IsName bytes
+IsPiece (number bytes) = is_number bytes ≡ true
+IsPiece (mark s) = Unit {0}

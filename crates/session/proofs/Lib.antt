@@ -1,0 +1,11 @@
+pub mod Decimals
+pub mod EndLemmas
+pub mod LineLemmas
+pub mod Places
+pub mod PrintLemmas
+pub mod RankingLemmas
+pub mod RowsLemmas
+pub mod StateLemmas
+pub mod Statements
+pub mod Words
+pub mod WrittenFront

@@ -1,0 +1,143 @@
+-- What each statement answers, from where its relation stands and how its checks went.
+use Rattle.std.proofs.Common.{◌≡◌, ℕ, ◌+◌, ◌<◌, ◌≤◌, Bool, true, false, not, ltb, List, [], ◌∷◌, ◌++◌, length, take, get_or, set, MatchBool, Option, Some, None, Result, Ok, Err, refl, sym, ap, ◌∙◌, subst, arith, inl, inr}
+use Rattle.std.specs.List.{position}
+use Rattle.std.proofs.lemmas.Bool.{le-leb, lt-leb}
+use Rattle.std.proofs.lemmas.List.{set-get_or, get_or_default}
+use Rattle.sand_base.specs.declared.refusal.Refusal.TheVariants as why
+use Rattle.sand_base.specs.declared.shape.Shape.{Shape}
+use Rattle.sand_model.specs.Relation.{Relation, has_name, same_name, with_row, with_index, changed_at, new_relation}
+use Rattle.exact_frac.specs.declared.frac.Frac.{Frac}
+use Rattle.sand_model.specs.Ranking.{IsRanking}
+use Rattle.script_text.specs.declared.statement.Column.{Column}
+use Rattle.script_text.specs.declared.statement.Plan.TheVariants.{Rank}
+use Rattle.script_text.specs.declared.statement.Statement.TheVariants.{Create, Insert, Index, Show}
+use Rattle.session.specs.Outcome.{Answers, Refuses, GivesRows}
+use Rattle.session.specs.declared.TheConstants.{MOST_RELATIONS, MOST_IDS}
+use Rattle.session.specs.declared.reply.Reply.{Reply}
+use Rattle.session.specs.declared.reply.Reply.TheVariants.{Silent, Done, Id, Rows, Refused}
+use Rattle.session.proofs.Places.{position_some, find-none, find-some, changed_at-place}
+
+-- a relation that is put back leaves all as they were
+pub put_back : (world : List Relation) (at : ℕ) (r : Relation) → r ≡ get_or world at r → set world at r ≡ world
+put_back world at r here = ap (set world at) here ∙ set-get_or world at r
+
+-- the name is taken
+pub create-taken : (old : List Relation) (name column : List ℕ) (at : ℕ) (r : Relation) → position (has_name name) old ≡ Some at
+    → r ≡ get_or old at r → Answers old (Create name column) (Refused why.NotBuilt) old
+create-taken old name column at r h here = rw (find-some (has_name name) old at r h here) (refl, refl)
+
+-- the name is taken, wherever it stands
+pub create-taken_at : (old : List Relation) (name column : List ℕ) (at : ℕ) → position (has_name name) old ≡ Some at
+    → Answers old (Create name column) (Refused why.NotBuilt) old
+create-taken_at old name column at h =
+    let r = get_or old at (new_relation name column) in
+    create-taken old name column at r h (get_or_default old at (new_relation name column) r (position_some (has_name name) old at h).1)
+
+-- there are too many relations
+pub create-full : (old : List Relation) (name column : List ℕ) → position (has_name name) old ≡ None
+    → MOST_RELATIONS ≤ length old → Answers old (Create name column) (Refused why.NotBuilt) old
+create-full old name column h full =
+    rw (find-none (has_name name) old h) (rw (le-leb MOST_RELATIONS (length old) full) (refl, refl))
+
+-- a new relation at the end
+pub create-done : (old new : List Relation) (name column : List ℕ) → position (has_name name) old ≡ None
+    → length old < MOST_RELATIONS → new ≡ old ++ new_relation name column ∷ [] → Answers old (Create name column) Done new
+create-done old new name column h room added =
+    rw (find-none (has_name name) old h) (rw (lt-leb MOST_RELATIONS (length old) room) (refl, added))
+
+-- no relation has the name
+pub insert-unknown : (old : List Relation) (name : List ℕ) (value : Shape) → position (has_name name) old ≡ None
+    → Answers old (Insert name value) (Refused why.UnknownRelation) old
+insert-unknown old name value h = rw (find-none (has_name name) old h) (refl, refl)
+
+-- all ids were given out
+pub insert-spent : (old : List Relation) (name : List ℕ) (value : Shape) (at : ℕ) (r : Relation) → position (has_name name) old ≡ Some at
+    → r ≡ get_or old at r → ltb MOST_IDS r.next ≡ true → Answers old (Insert name value) (Refused why.NotBuilt) (set old at r)
+insert-spent old name value at r h here spent =
+    rw (find-some (has_name name) old at r h here) (rw spent (refl, put_back old at r here))
+
+-- the row is added to its relation
+pub insert-done : (old : List Relation) (name : List ℕ) (value : Shape) (at id : ℕ) (r r' : Relation) → position (has_name name) old ≡ Some at
+    → r ≡ get_or old at r → ltb MOST_IDS r.next ≡ false → id ≡ r.next → r' ≡ with_row value r → Answers old (Insert name value) (Id id) (set old at r')
+insert-done old name value at id r r' h here room own added =
+    rw (find-some (has_name name) old at r h here) (rw room
+    (ap Id own, ap (set old at) added ∙ sym (changed_at-place name (with_row value) old at r h here)))
+
+-- no relation has the name
+pub index-unknown : (old : List Relation) (column : Column) → position (has_name column.relation) old ≡ None
+    → Answers old (Index column) (Refused why.UnknownRelation) old
+index-unknown old column h = rw (find-none (has_name column.relation) old h) (refl, refl)
+
+-- the relation has no such column
+pub index-no_column : (old : List Relation) (column : Column) (at : ℕ) (r : Relation) → position (has_name column.relation) old ≡ Some at
+    → r ≡ get_or old at r → same_name r.column column.column ≡ false → Answers old (Index column) (Refused why.NotBuilt) (set old at r)
+index-no_column old column at r h here other =
+    rw (find-some (has_name column.relation) old at r h here) (rw other (refl, put_back old at r here))
+
+-- the column has an index
+pub index-there : (old : List Relation) (column : Column) (at : ℕ) (r : Relation) → position (has_name column.relation) old ≡ Some at
+    → r ≡ get_or old at r → same_name r.column column.column ≡ true → r.is_indexed ≡ true → Answers old (Index column) (Refused why.NotBuilt) (set old at r)
+index-there old column at r h here same there =
+    let refused = Refused why.NotBuilt in
+    let P : Bool → Type 0 = λ b.
+    MatchBool b (Refuses why.NotBuilt old refused (set old at r))
+    ((refused ≡ Done) × (set old at r ≡ changed_at column.relation with_index old)) in
+    rw (find-some (has_name column.relation) old at r h here) (rw same (subst P (sym there) (refl, put_back old at r here)))
+
+-- the column gets its index
+pub index-done : (old : List Relation) (column : Column) (at : ℕ) (r r' : Relation) → position (has_name column.relation) old ≡ Some at
+    → r ≡ get_or old at r → same_name r.column column.column ≡ true → r.is_indexed ≡ false → r' ≡ with_index r
+    → Answers old (Index column) Done (set old at r')
+index-done old column at r r' h here same absent indexed =
+    rw (find-some (has_name column.relation) old at r h here) (rw (same, absent)
+    (refl, ap (set old at) indexed ∙ sym (changed_at-place column.relation with_index old at r h here)))
+
+-- no relation has the name
+pub show-unknown : (old : List Relation) (count : ℕ) (column : Column) (goal : Shape) → position (has_name column.relation) old ≡ None
+    → Answers old (Show count (Rank column goal)) (Refused why.UnknownRelation) old
+show-unknown old count column goal h = rw (find-none (has_name column.relation) old h) (refl, refl)
+
+-- the relation has no such column
+pub show-no_column : (old : List Relation) (count : ℕ) (column : Column) (goal : Shape) (at : ℕ) (r : Relation)
+    → position (has_name column.relation) old ≡ Some at → r ≡ get_or old at r → same_name r.column column.column ≡ false
+    → Answers old (Show count (Rank column goal)) (Refused why.NotBuilt) old
+show-no_column old count column goal at r h here other =
+    rw (find-some (has_name column.relation) old at r h here) (rw other (refl, refl))
+
+-- the column has no index
+pub show-no_index : (old : List Relation) (count : ℕ) (column : Column) (goal : Shape) (at : ℕ) (r : Relation)
+    → position (has_name column.relation) old ≡ Some at → r ≡ get_or old at r → same_name r.column column.column ≡ true
+    → r.is_indexed ≡ false → Answers old (Show count (Rank column goal)) (Refused why.NotBuilt) old
+show-no_index old count column goal at r h here same absent =
+    rw (find-some (has_name column.relation) old at r h here) (rw (same, absent) (refl, refl))
+
+-- the first rows of the ranking are given
+pub show-rows : (old : List Relation) (count : ℕ) (column : Column) (goal : Shape) (at : ℕ) (r : Relation)
+    (ranked given : List (Frac × ℕ)) (long : ℕ)
+    → position (has_name column.relation) old ≡ Some at → r ≡ get_or old at r → same_name r.column column.column ≡ true
+    → r.is_indexed ≡ true → IsRanking goal r.rows ranked → given ≡ take count ranked → long ≡ length ranked
+    → Answers old (Show count (Rank column goal)) (Rows given (ltb long count)) old
+show-rows old count column goal at r ranked given long h here same there ranking cut length-is =
+    let gives : GivesRows r goal count (Rows given (ltb long count)) = record {
+      hits = ranked;
+      ranking = ranking;
+      given = ap (λ (hits : List (Frac × ℕ)). Rows hits (ltb long count)) cut ∙ ap (λ n. Rows (take count ranked) (ltb n count)) length-is;
+    } in
+    let P : Bool → Type 0 = λ b.
+    MatchBool b (GivesRows r goal count (Rows given (ltb long count)) × (old ≡ old))
+    (Refuses why.NotBuilt old (Rows given (ltb long count)) old) in
+    rw (find-some (has_name column.relation) old at r h here) (rw same (subst P (sym there) (gives, refl)))
+
+-- two names that a test told apart
+pub name_differs : (told : Bool) (seen seen' name name' : List ℕ) → told ≡ not (same_name seen seen') → told ≡ true
+    → seen ≡ name → seen' ≡ name' → same_name name name' ≡ false
+name_differs told seen seen' name name' test is seen-is seen'-is =
+    let go : (b : Bool) → not b ≡ true → b ≡ false = elim [ true ↦ λ e. sym e | false ↦ λ e. refl ] in
+    ap (λ n. same_name n name') (sym seen-is) ∙ ap (same_name seen) (sym seen'-is) ∙ go (same_name seen seen') (sym test ∙ is)
+
+-- two names that a test found the same
+pub name_same : (told : Bool) (seen seen' name name' : List ℕ) → told ≡ not (same_name seen seen') → told ≡ false
+    → seen ≡ name → seen' ≡ name' → same_name name name' ≡ true
+name_same told seen seen' name name' test is seen-is seen'-is =
+    let go : (b : Bool) → not b ≡ false → b ≡ true = elim [ true ↦ λ e. refl | false ↦ λ e. sym e ] in
+    ap (λ n. same_name n name') (sym seen-is) ∙ ap (same_name seen) (sym seen'-is) ∙ go (same_name seen seen') (sym test ∙ is)

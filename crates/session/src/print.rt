@@ -1,0 +1,98 @@
+ghost use Rattle.std.specs.Prelude.{◌≡◌, ◌++◌, codes, OnOk};
+ghost use Rattle.std.specs.Fmt.{decimal};
+ghost use Rattle.sand_base.specs.Faults.{HasCause};
+ghost use Rattle.sand_base.specs.Refusal.{refusal_number, refusal_word};
+ghost use Rattle.session.specs.Text.{PrintsRow, WritesReply, WritesRows, WritesRanking, line_feed, refused_text};
+
+use crate::Reply;
+use crate::short_text::{ShortText, append, append_number};
+use crate::write_all::write_all;
+use exact_frac::Frac;
+use sand_base::{Failed, Refusal, Sink};
+
+// The line of a row: its gap, a tab, its id.
+fn row_line(gap: &Frac, id: u32) -> ShortText
+    ensures { PrintsRow (gap.now, id) result }
+{
+    let printed = gap.text();
+    let mut line = ShortText::new();
+    append(&mut line, printed.as_bytes());
+    append(&mut line, b"\t");
+    append_number(&mut line, id);
+    append(&mut line, b"\n");
+    line
+}
+
+// The line of a row that was added.
+fn id_line(id: u32) -> ShortText
+    ensures { result ≡ codes "id " ++ decimal id ++ line_feed }
+{
+    let mut line = ShortText::new();
+    append(&mut line, b"id ");
+    append_number(&mut line, id);
+    append(&mut line, b"\n");
+    line
+}
+
+// The line of a refused statement.
+fn refused_line(why: Refusal) -> ShortText
+    ensures { result ≡ refused_text (refusal_number why) (refusal_word why) }
+{
+    let mut line = ShortText::new();
+    append(&mut line, b"refused ");
+    append_number(&mut line, u32::from(why.number()));
+    append(&mut line, b" ");
+    append(&mut line, why.word().as_bytes());
+    append(&mut line, b"\n");
+    line
+}
+
+// The lines of rows.
+fn print_rows<K: Sink>(hits: &[(Frac, u32)], out: &mut K) -> Result<(), Failed>
+    ensures written { OnOk result (WritesRows hits.now (K.took out.old) (K.took out.new)) }
+    ensures cause { HasCause (K.faults out.old) (K.faults out.new) result }
+{
+    for (gap, id) in hits {
+        write_all(out, row_line(gap, *id).as_bytes())?;
+    }
+    Ok(())
+}
+
+// The lines of rows, and `end` where the flag says so.
+fn print_ranking<K: Sink>(hits: &[(Frac, u32)], end: bool, out: &mut K) -> Result<(), Failed>
+    ensures written { OnOk result (WritesRanking hits.now end (K.took out.old) (K.took out.new)) }
+    ensures cause { HasCause (K.faults out.old) (K.faults out.new) result }
+{
+    print_rows(hits, out)?;
+    if !end {
+        return Ok(());
+    }
+    write_all(out, b"end\n")?;
+    Ok(())
+}
+
+/// Writes the text of an answer. It takes no memory.
+pub fn print_reply<K: Sink>(reply: &Reply, out: &mut K) -> Result<(), Failed>
+    ensures written { OnOk result (WritesReply reply.now (K.took out.old) (K.took out.new)) }
+    ensures cause { HasCause (K.faults out.old) (K.faults out.new) result }
+{
+    match reply {
+        Reply::Silent => Ok(()),
+        Reply::Done => {
+            write_all(out, b"ok\n")?;
+            Ok(())
+        }
+        Reply::Id(id) => {
+            write_all(out, id_line(*id).as_bytes())?;
+            Ok(())
+        }
+        Reply::Rows { hits, end } => {
+            print_ranking(hits.as_slice(), *end, out)?;
+            Ok(())
+        }
+        Reply::Refused(why) => {
+            write_all(out, refused_line(*why).as_bytes())?;
+            Ok(())
+        }
+    }
+}
