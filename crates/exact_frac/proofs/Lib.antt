@@ -1,4 +1,5 @@
 mod Digits
 mod Quotients
 pub mod LowestTerms
+pub mod PrintedExists
 pub mod PrintedLemmas

@@ -1,5 +1,6 @@
 pub mod Decimals
 pub mod EndLemmas
+pub mod FrontLemmas
 pub mod LineLemmas
 pub mod Places
 pub mod PrintLemmas

@@ -1,8 +1,8 @@
 -- How a text is cut where one more byte comes.
-use Rattle.std.proofs.Common.{◌≡◌, ℕ, suc, ◌+◌, ◌<◌, ◌≤◌, Bool, true, false, cond, eqb, ltb, leb, List, [], ◌∷◌, ◌++◌, length, Option, Some, None, refl, sym, ap, ◌∙◌, subst, arith, length-append}
+use Rattle.std.proofs.Common.{◌≡◌, ℕ, suc, ◌+◌, ◌<◌, ◌≤◌, Bool, true, false, cond, eqb, ltb, leb, List, [], ◌∷◌, ◌++◌, length, Option, Some, None, refl, sym, ap, ◌∙◌, subst, arith, length-append, append_assoc, append-nil}
 use Rattle.std.proofs.lemmas.Bool.{ltb-true, ltb-false, leb-true, leb-false, le-leb, lt-leb, le-ltb}
 use Rattle.script_text.specs.declared.TheConstants.{LONGEST_LINE}
-use Rattle.session.specs.Line.{cut, onto, clipped, with_byte}
+use Rattle.session.specs.Line.{cut, onto, clipped, with_byte, lines, ended_lines, last_line}
 
 -- a byte in front of a cut text and one behind it don't meet
 onto-behind : (b c : ℕ) (lines : List (List ℕ)) (piece : List ℕ) → onto b lines (piece ++ c ∷ [])
@@ -55,3 +55,25 @@ clipped-byte line c =
           ap (λ b. cond b (Some (line ++ c ∷ [])) None) long
     ] in
     go _ refl
+
+-- the lines that ended in a front of a text are the first of those that end in the text
+ended_front : (front rest : List ℕ) → (more : List (List ℕ)) × (ended_lines (front ++ rest) ≡ ended_lines front ++ more)
+ended_front front [] = ([], ap ended_lines (append-nil front) ∙ sym (append-nil (ended_lines front)))
+ended_front front (c ∷ rest) =
+    let later = ended_front (front ++ c ∷ []) rest in
+    let same : ended_lines (front ++ c ∷ rest) ≡ ended_lines (front ++ c ∷ []) ++ later.0 =
+    ap ended_lines (sym (append_assoc front (c ∷ []) rest)) ∙ later.1 in
+    let go : (b : Bool) → eqb c 10 ≡ b → (more : List (List ℕ)) × (ended_lines (front ++ c ∷ rest) ≡ ended_lines front ++ more) =
+    elim [
+      true ↦ λ e. ((cut front).1 ∷ later.0,
+        same ∙ ap (λ (w : List (List ℕ) × List ℕ). w.0 ++ later.0) (cut-feed front c e)
+        ∙ append_assoc (ended_lines front) ((cut front).1 ∷ []) later.0)
+    | false ↦ λ e. (later.0, same ∙ ap (λ (w : List (List ℕ) × List ℕ). w.0 ++ later.0) (cut-byte front c e)) ] in
+    go (eqb c 10) refl
+
+-- they are the first of the lines of the text
+pub lines_front : (front rest : List ℕ) → (others : List (List ℕ)) × (lines (front ++ rest) ≡ ended_lines front ++ others)
+lines_front front rest =
+    let ended = ended_front front rest in
+    let last = last_line (cut (front ++ rest)).1 in
+    (ended.0 ++ last, ap (λ t. t ++ last) ended.1 ∙ append_assoc (ended_lines front) ended.0 last)

@@ -1,16 +1,17 @@
 -- How bytes lead a run on.
-use Rattle.std.proofs.Common.{◌≡◌, ℕ, ◌+◌, ◌<◌, ◌≤◌, length, take, take_all, get_or, Bool, false, true, eqb, ◌||◌, List, [], ◌∷◌, ◌++◌, Some, refl, sym, ap, ◌∙◌, subst, append_assoc, append-nil}
+use Rattle.std.proofs.Common.{◌≡◌, ℕ, ◌+◌, ◌<◌, ◌≤◌, length, take, take_all, drop, take-append-drop, get_or, Bool, false, true, eqb, ◌||◌, List, [], ◌∷◌, ◌++◌, Some, refl, sym, ap, ◌∙◌, subst, append_assoc, append-nil}
 use Rattle.std.specs.List.{list_any}
 use Rattle.std.proofs.lemmas.List.{take_more}
 use Rattle.sand_base.specs.Streams.{Adds}
 use Rattle.sand_model.specs.Relation.{Relation}
-use Rattle.session.specs.Line.{cut, clipped, with_byte}
+use Rattle.session.specs.Line.{cut, ended_lines, clipped, with_byte}
 use Rattle.session.specs.Outcome.{Step}
-use Rattle.session.specs.Run.{Run}
-use Rattle.session.specs.State.{SoFar, EndsLine, GoesOn}
+use Rattle.session.specs.Run.{Run, IsRunText}
+use Rattle.session.specs.State.{SoFar, EndsLine, BreaksLine, GoesOn, StopsIn}
 use Rattle.session.specs.Text.{Prints, IsText, is_refused}
 use Rattle.session.specs.declared.reply.Reply.{Reply}
 use Rattle.session.specs.declared.state.State.{State}
+use Rattle.session.proofs.FrontLemmas.{WritesFront-after}
 use Rattle.session.proofs.LineLemmas.{cut-byte, cut-feed, clipped-byte}
 use Rattle.session.proofs.WrittenFront.{Adds-trans}
 
@@ -109,3 +110,42 @@ GoesOn-more a b c t0 t1 t2 piece at below first second =
 pub GoesOn-whole : (a b : State) (t0 t1 : List ℕ → Type 0) (piece : List ℕ) (at : ℕ) → length piece ≤ at
     → GoesOn a b t0 t1 (take at piece) → GoesOn a b t0 t1 piece
 GoesOn-whole a b t0 t1 piece at all goes = subst (λ p. GoesOn a b t0 t1 p) (take_all at piece all) goes
+
+-- four lists, grouped otherwise
+regrouped : (a b c d : List ℕ) → (a ++ (b ++ c)) ++ d ≡ (a ++ b) ++ (c ++ d)
+regrouped a b c d = ap (λ t. t ++ d) (sym (append_assoc a b c)) ∙ append_assoc (a ++ b) c d
+
+-- a line feed ends the line in hand, of whose answer some front was written
+pub StopsIn-feed : (old : State) (before now : List ℕ → Type 0) (byte : ℕ) → eqb byte 10 ≡ true → BreaksLine old before now
+    → StopsIn old before now (byte ∷ [])
+StopsIn-feed old before now byte feed breaks bytes text so_far =
+    let ended = cut-feed bytes byte feed in
+    let reply = breaks.reply in
+    let step : Step old.relations.items (clipped (cut bytes).1) reply breaks.world =
+    subst (λ line. Step old.relations.items line reply breaks.world) so_far.line breaks.step in
+    let ran = Run-append [] old.relations.items breaks.world (cut bytes).0 so_far.replies (cut bytes).1 reply so_far.ran step in
+    let is_run : IsRunText (ended_lines (bytes ++ byte ∷ [])) (text ++ breaks.broken.text) (old.some_refused || is_refused reply) = record {
+      replies = so_far.replies ++ reply ∷ [];
+      world = breaks.world;
+      ran = subst (λ (w : List (List ℕ) × List ℕ). Run [] w.0 (so_far.replies ++ reply ∷ []) breaks.world) (sym ended) ran;
+      printed = IsText-append so_far.replies reply text breaks.broken.text so_far.printed breaks.broken.prints;
+      refused = ap (λ b. b || is_refused reply) so_far.refused ∙ sym (list_any-append is_refused so_far.replies reply)
+    } in
+    (byte ∷ [], [], refl, breaks.broken.text, old.some_refused || is_refused reply, is_run, breaks.broken.front)
+
+-- a piece led on byte by byte, and then stopped in one
+pub StopsIn-more : (old mid : State) (before m now : List ℕ → Type 0) (piece : List ℕ) (at : ℕ) → at < length piece
+    → GoesOn old mid before m (take at piece) → StopsIn mid m now (get_or piece at 0 ∷ []) → StopsIn old before now piece
+StopsIn-more old mid before m now piece at below goes stops bytes text so_far =
+    let one = goes bytes text so_far in
+    let two = stops (bytes ++ take at piece) (text ++ one.0) one.1 in
+    let fed = take at piece ++ two.0 in
+    let rest = two.1 ++ drop (at + 1) piece in
+    let same : piece ≡ fed ++ rest =
+    sym (take-append-drop (at + 1) piece) ∙ ap (λ t. t ++ drop (at + 1) piece) (take_more piece at 0 below ∙ ap (λ t. take at piece ++ t) two.2)
+    ∙ regrouped (take at piece) two.0 two.1 (drop (at + 1) piece) in
+    let more = one.0 ++ two.3 in
+    let is_run : IsRunText (ended_lines (bytes ++ fed)) (text ++ more) two.4 =
+    subst (λ t. IsRunText (ended_lines (bytes ++ fed)) t two.4) (append_assoc text one.0 two.3)
+    (subst (λ b. IsRunText (ended_lines b) ((text ++ one.0) ++ two.3) two.4) (append_assoc bytes (take at piece) two.0) two.5) in
+    (fed, rest, same, more, two.4, is_run, WritesFront-after one.0 two.3 before m now one.2 two.6)

@@ -12,6 +12,10 @@ abbrev pub cut : List ℕ → List (List ℕ) × List ℕ
 cut [] = ([], [])
 cut (b ∷ bytes) = cond (b == 10) ([] ∷ (cut bytes).0, (cut bytes).1) (onto b (cut bytes).0 (cut bytes).1)
 
+-- the lines that a line feed ends
+abbrev pub ended_lines : List ℕ → List (List ℕ)
+ended_lines bytes = (cut bytes).0
+
 -- a last piece is a line where it isn't empty
 abbrev pub last_line : List ℕ → List (List ℕ)
 last_line [] = []

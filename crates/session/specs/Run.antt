@@ -1,13 +1,14 @@
 -- A run over the lines of a script, and how it may end.
-use Rattle.std.specs.Prelude.{◌≡◌, ℕ, Bool, true, false, List, [], ◌∷◌, Option, IfSome, ⊤}
-use Rattle.std.specs.Io.KnownBytes.{IsAtEnd}
+use Rattle.std.specs.Prelude.{◌≡◌, ℕ, ◌+◌, ◌≤◌, Bool, true, false, List, [], ◌∷◌, ◌++◌, length, take, Option, IfSome, ⊤}
+use Rattle.std.specs.Io.KnownBytes.{Consumes, IsAtEnd}
 use Rattle.std.specs.List.{list_any}
 use Rattle.sand_base.specs.Faults.{Rose}
 use Rattle.sand_base.specs.Streams.{Adds, Stays}
 use Rattle.sand_model.specs.Relation.{Relation}
-use Rattle.session.specs.Line.{lines, clipped}
+use Rattle.session.specs.Line.{lines, ended_lines, clipped}
 use Rattle.session.specs.Outcome.{Step}
-use Rattle.session.specs.Text.{is_refused, IsText}
+use Rattle.session.specs.Text.{is_refused, IsText, WritesFront}
+use Rattle.session.specs.declared.TheConstants.{LONGEST_SCRIPT}
 use Rattle.session.specs.declared.reply.Reply.{Reply}
 use Rattle.session.specs.declared.status.Status.{Status}
 use Rattle.session.specs.declared.status.Status.TheVariants as status
@@ -34,17 +35,41 @@ pub record Writes (script : List (List ℕ)) (some_refused : Bool) (before now :
   pub is_run : IsRunText script text some_refused
   pub written : Adds before now text
 
--- The whole promise, by the status: what the source had left and has left, what the sink had taken and has
--- taken. With `Done` no line of the script was refused, with `SomeRefused` some line was.
+-- some front of the text of a run over the first of these lines was written
+pub record Breaks (script : List (List ℕ)) (before now : List ℕ → Type 0) : Type 0 where
+  pub carried_out : List (List ℕ)
+  pub others : List (List ℕ)
+  pub first : script ≡ carried_out ++ others
+  pub text : List ℕ
+  pub some_refused : Bool
+  pub is_run : IsRunText carried_out text some_refused
+  pub front : WritesFront text before now
+
+-- these bytes were read of the script, and have what is said of them
+abbrev pub HasRead : Option (List ℕ) → Option (List ℕ) → (List ℕ → Type 0) → Type 0
+HasRead script left P = (bytes : List ℕ) × Consumes script left bytes × P bytes
+
+-- the source is at its end, and its script isn't too long and has what is said of it
+abbrev pub HasReadAll : Option (List ℕ) → Option (List ℕ) → (List ℕ → Type 0) → Type 0
+HasReadAll script left P = IfSome script (λ bytes. (length bytes ≤ LONGEST_SCRIPT) × P bytes) × IsAtEnd left
+
+-- The whole promise, by the status, over what the source had left and has left and what the sink had taken and
+-- has taken. With `Done` and `SomeRefused` the text of a run over all lines was written, and no line or some line
+-- was refused. With `ReadFault` and `ScriptTooLong` that of the lines which a line feed ended among the bytes read
+-- (the one byte too many isn't among them). With `WriteFault` a front of the text of the lines carried out, which
+-- are the first of those read. With `Usage` and `NoMemory` nothing was read or written.
 abbrev pub Ends : Status → Option (List ℕ) → Option (List ℕ) → (List ℕ → Type 0) → (List ℕ → Type 0) → Type 0
-Ends status.Done script left before now = IfSome script (λ bytes. Writes (lines bytes) false before now) × IsAtEnd left
-Ends status.SomeRefused script left before now =
-    IfSome script (λ bytes. Writes (lines bytes) true before now) × IsAtEnd left
-Ends status.Usage script left before now = Stays before now
-Ends status.NoMemory script left before now = Stays before now
-Ends status.ReadFault script left before now = ⊤
-Ends status.WriteFault script left before now = ⊤
-Ends status.ScriptTooLong script left before now = ⊤
+Ends status.Done script left before now = HasReadAll script left (λ bytes. Writes (lines bytes) false before now)
+Ends status.SomeRefused script left before now = HasReadAll script left (λ bytes. Writes (lines bytes) true before now)
+Ends status.ReadFault script left before now = HasRead script left (λ bytes.
+    (length bytes ≤ LONGEST_SCRIPT) × (some_refused : Bool) × Writes (ended_lines bytes) some_refused before now)
+Ends status.ScriptTooLong script left before now = HasRead script left (λ bytes.
+    (length bytes ≡ LONGEST_SCRIPT + 1)
+    × (some_refused : Bool) × Writes (ended_lines (take LONGEST_SCRIPT bytes)) some_refused before now)
+Ends status.WriteFault script left before now = HasRead script left (λ bytes.
+    (length bytes ≤ LONGEST_SCRIPT + 1) × Breaks (lines bytes) before now)
+Ends status.Usage script left before now = (left ≡ script) × Stays before now
+Ends status.NoMemory script left before now = (left ≡ script) × Stays before now
 
 -- Why a run ended so: a fault only where its count rose, and no other status where a count rose.
 abbrev pub IsCaused : Status → ℕ → ℕ → ℕ → ℕ → Type 0
@@ -56,3 +81,9 @@ IsCaused _ reads reads' writes writes' = (reads' ≡ reads) × (writes' ≡ writ
 abbrev pub IsWriteCaused : Status → ℕ → ℕ → Type 0
 IsWriteCaused status.WriteFault writes writes' = Rose writes writes'
 IsWriteCaused _ writes writes' = writes' ≡ writes
+
+-- the status is one of a run that began to read
+abbrev pub HasBegun : Status → Type 0
+HasBegun status.Usage = ⊥
+HasBegun status.NoMemory = ⊥
+HasBegun _ = ⊤

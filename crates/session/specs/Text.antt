@@ -55,6 +55,30 @@ IsText [] text = text ≡ []
 IsText (reply ∷ replies) text =
     (own : List ℕ) × (more : List ℕ) × Prints reply own × IsText replies more × (text ≡ own ++ more)
 
+-- some front of the text was written
+pub record WritesFront (text : List ℕ) (before now : List ℕ → Type 0) : Type 0 where
+  pub front : List ℕ
+  pub rest : List ℕ
+  pub same : text ≡ front ++ rest
+  pub written : Adds before now front
+
+-- some front of the text of an answer was written
+pub record BreaksReply (reply : Reply) (before now : List ℕ → Type 0) : Type 0 where
+  pub text : List ℕ
+  pub prints : Prints reply text
+  pub front : WritesFront text before now
+
+-- some front of the lines of rows was written
+pub record BreaksRows (hits : List (Frac × ℕ)) (before now : List ℕ → Type 0) : Type 0 where
+  pub text : List ℕ
+  pub prints : PrintsRows hits text
+  pub front : WritesFront text before now
+
+-- some front of the lines of rows and of their end was written
+abbrev pub BreaksRanking : List (Frac × ℕ) → Bool → (List ℕ → Type 0) → (List ℕ → Type 0) → Type 0
+BreaksRanking hits end before now =
+    (rows : List ℕ) × PrintsRows hits rows × WritesFront (rows ++ end_text end) before now
+
 -- the text of an answer was written
 pub record WritesReply (reply : Reply) (before now : List ℕ → Type 0) : Type 0 where
   pub text : List ℕ

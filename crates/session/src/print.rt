@@ -1,8 +1,8 @@
-ghost use Rattle.std.specs.Prelude.{◌≡◌, ◌++◌, codes, OnOk};
+ghost use Rattle.std.specs.Prelude.{◌≡◌, ◌++◌, codes, OnOk, OnErr};
 ghost use Rattle.std.specs.Fmt.{decimal};
 ghost use Rattle.sand_base.specs.Faults.{HasCause};
 ghost use Rattle.sand_base.specs.Refusal.{refusal_number, refusal_word};
-ghost use Rattle.session.specs.Text.{PrintsRow, WritesReply, WritesRows, WritesRanking, line_feed, refused_text};
+ghost use Rattle.session.specs.Text.{PrintsRow, WritesReply, WritesRows, WritesRanking, BreaksReply, BreaksRows, BreaksRanking, line_feed, refused_text};
 
 use crate::Reply;
 use crate::short_text::{ShortText, append, append_number};
@@ -50,6 +50,7 @@ fn refused_line(why: Refusal) -> ShortText
 // The lines of rows.
 fn print_rows<K: Sink>(hits: &[(Frac, u32)], out: &mut K) -> Result<(), Failed>
     ensures written { OnOk result (WritesRows hits.now (K.took out.old) (K.took out.new)) }
+    ensures front { OnErr result (BreaksRows hits.now (K.took out.old) (K.took out.new)) }
     ensures cause { HasCause (K.faults out.old) (K.faults out.new) result }
 {
     for (gap, id) in hits {
@@ -61,6 +62,7 @@ fn print_rows<K: Sink>(hits: &[(Frac, u32)], out: &mut K) -> Result<(), Failed>
 // The lines of rows, and `end` where the flag says so.
 fn print_ranking<K: Sink>(hits: &[(Frac, u32)], end: bool, out: &mut K) -> Result<(), Failed>
     ensures written { OnOk result (WritesRanking hits.now end (K.took out.old) (K.took out.new)) }
+    ensures front { OnErr result (BreaksRanking hits.now end (K.took out.old) (K.took out.new)) }
     ensures cause { HasCause (K.faults out.old) (K.faults out.new) result }
 {
     print_rows(hits, out)?;
@@ -74,6 +76,7 @@ fn print_ranking<K: Sink>(hits: &[(Frac, u32)], end: bool, out: &mut K) -> Resul
 /// Writes the text of an answer. It takes no memory.
 pub fn print_reply<K: Sink>(reply: &Reply, out: &mut K) -> Result<(), Failed>
     ensures written { OnOk result (WritesReply reply.now (K.took out.old) (K.took out.new)) }
+    ensures front { OnErr result (BreaksReply reply.now (K.took out.old) (K.took out.new)) }
     ensures cause { HasCause (K.faults out.old) (K.faults out.new) result }
 {
     match reply {

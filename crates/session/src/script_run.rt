@@ -1,8 +1,8 @@
-ghost use Rattle.std.specs.Prelude.{◌≡◌, ◌⊎◌, ◌≤◌, [], length, IfOk, if◌then◌else◌};
+ghost use Rattle.std.specs.Prelude.{◌≡◌, ◌↔◌, ◌<◌, ◌≤◌, [], length, IfOk, if◌then◌else◌};
 ghost use Rattle.std.specs.Io.KnownBytes.{ReadConsumes};
 ghost use Rattle.sand_base.specs.Faults.{HasCause};
-ghost use Rattle.session.specs.Run.{Ends, IsCaused, IsWriteCaused};
-ghost use Rattle.session.specs.State.{SoFar, Finishes};
+ghost use Rattle.session.specs.Run.{Ends, HasBegun, IsCaused, IsWriteCaused};
+ghost use Rattle.session.specs.State.{SoFar, Finishes, GivesUp};
 
 use crate::state::{State, begin, end_line, feed};
 use crate::{LONGEST_SCRIPT, Status};
@@ -43,21 +43,21 @@ fn finish<K: Sink>(alloc: Global, state: &mut State, out: &mut K) -> Status
     if state.line.is_empty() {
         return status_of(state);
     }
-    let Ok(()) = end_line(alloc, state, out) else {
-        return Status::WriteFault;
-    };
-    status_of(state)
+    match end_line(alloc, state, out) {
+        Ok(()) => status_of(state),
+        Err(Failed {}) => Status::WriteFault,
+    }
 }
 
 // The last bytes that are carried out of a script that is too long.
 fn give_up<K: Sink>(alloc: Global, state: &mut State, piece: &[u8], out: &mut K) -> Status
-    ensures status { (result ≡ Status.ScriptTooLong) ⊎ (result ≡ Status.WriteFault) }
+    ensures gives_up { GivesUp result state.old state.new (K.took out.old) (K.took out.new) piece.now }
     ensures cause { IsWriteCaused result (K.faults out.old) (K.faults out.new) }
 {
-    let Ok(()) = feed(alloc, state, piece, out) else {
-        return Status::WriteFault;
-    };
-    Status::ScriptTooLong
+    match feed(alloc, state, piece, out) {
+        Ok(()) => Status::ScriptTooLong,
+        Err(Failed {}) => Status::WriteFault,
+    }
 }
 
 // Reads the script piece by piece.
@@ -70,13 +70,15 @@ fn read_script<S: Source, K: Sink>(
     requires { SoFar [] [] state.old }
     ensures promise { Ends result (S.left script.old) (S.left script.new) (K.took out.old) (K.took out.new) }
     ensures cause { IsCaused result (S.faults script.old) (S.faults script.new) (K.faults out.old) (K.faults out.new) }
+    ensures begun { HasBegun result }
 {
     let mut piece = [0u8; PIECE];
     let mut count = 0;
     'pieces: loop {
         let want = PIECE.min(LONGEST_SCRIPT + 1 - count);
-        let Ok(n) = read_piece(script, &mut piece, want) else {
-            return Status::ReadFault;
+        let n = match read_piece(script, &mut piece, want) {
+            Ok(n) => n,
+            Err(Failed {}) => return Status::ReadFault,
         };
         if n == 0 {
             return finish(alloc, state, out);
@@ -85,9 +87,10 @@ fn read_script<S: Source, K: Sink>(
         if count > LONGEST_SCRIPT {
             return give_up(alloc, state, &piece[..n - 1], out);
         }
-        let Ok(()) = feed(alloc, state, &piece[..n], out) else {
-            return Status::WriteFault;
-        };
+        match feed(alloc, state, &piece[..n], out) {
+            Ok(()) => {}
+            Err(Failed {}) => return Status::WriteFault,
+        }
     }
 }
 
@@ -100,6 +103,7 @@ pub fn run<S: Source, K: Sink>(
 ) -> Status
     ensures promise { Ends result (S.left script.old) (S.left script.new) (K.took out.old) (K.took out.new) }
     ensures cause { IsCaused result (S.faults script.old) (S.faults script.new) (K.faults out.old) (K.faults out.new) }
+    ensures usage { (result ≡ Status.Usage) ↔ (0 < length words.now) }
 {
     if !words.is_empty() {
         return Status::Usage;

@@ -1,10 +1,10 @@
-ghost use Rattle.std.specs.Prelude.{◌≡◌, ◌≤◌, [], ◌∷◌, Some, length, IfOk, OnOk};
+ghost use Rattle.std.specs.Prelude.{◌≡◌, ◌≤◌, [], ◌∷◌, Some, length, IfOk, OnOk, OnErr};
 ghost use Rattle.std.specs.Option.{option_map};
 ghost use Rattle.sand_base.specs.Faults.{HasCause};
 ghost use Rattle.script_text.specs.declared.TheConstants.{LONGEST_LINE};
 ghost use Rattle.session.specs.Line.{chopped};
 ghost use Rattle.session.specs.Outcome.{Step, reply_of};
-ghost use Rattle.session.specs.State.{SoFar, EndsLine, GoesOn};
+ghost use Rattle.session.specs.State.{SoFar, EndsLine, BreaksLine, GoesOn, StopsIn};
 ghost use Rattle.session.specs.Text.{is_refused};
 
 use crate::Reply;
@@ -84,6 +84,7 @@ fn is_refusal(reply: &Reply) -> bool
 /// A line feed: the line in hand is carried out, its answer written, and the next line begins.
 pub fn end_line<K: Sink>(alloc: Global, state: &mut State, out: &mut K) -> Result<(), Failed>
     ensures ends { OnOk result (EndsLine state.old state.new (K.took out.old) (K.took out.new)) }
+    ensures breaks { OnErr result (BreaksLine state.old (K.took out.old) (K.took out.new)) }
     ensures cause { HasCause (K.faults out.old) (K.faults out.new) result }
 {
     let reply = answer(alloc, &mut state.relations, &state.line);
@@ -96,6 +97,7 @@ pub fn end_line<K: Sink>(alloc: Global, state: &mut State, out: &mut K) -> Resul
 // The next byte of the script.
 fn feed_byte<K: Sink>(alloc: Global, state: &mut State, byte: u8, out: &mut K) -> Result<(), Failed>
     ensures goes_on { OnOk result (GoesOn state.old state.new (K.took out.old) (K.took out.new) (byte ∷ [])) }
+    ensures stops { OnErr result (StopsIn state.old (K.took out.old) (K.took out.new) (byte ∷ [])) }
     ensures cause { HasCause (K.faults out.old) (K.faults out.new) result }
 {
     if byte == b'\n' {
@@ -114,6 +116,7 @@ pub fn feed<K: Sink>(
     out: &mut K,
 ) -> Result<(), Failed>
     ensures goes_on { OnOk result (GoesOn state.old state.new (K.took out.old) (K.took out.new) piece.now) }
+    ensures stops { OnErr result (StopsIn state.old (K.took out.old) (K.took out.new) piece.now) }
     ensures cause { HasCause (K.faults out.old) (K.faults out.new) result }
 {
     'bytes: for byte in piece {
