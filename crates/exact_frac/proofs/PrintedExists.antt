@@ -34,12 +34,14 @@ pub printed_exists : (num den : ℕ) → 0 < den → (text : List ℕ) × IsPrin
 printed_exists num den some =
     let divisor = gcd_within den num den (omega arith) in
     let g = divisor.0 in
-    let positive : 0 < g = divisor_positive den g some divisor.1.1 in
-    (ratio_text (num / g) (den / g), record {
-      n = num / g;
-      d = den / g;
-      same = quotients_same num den g divisor.1;
-      positive = quotient_positive den g some divisor.1.1;
-      lowest = quotients_lowest num den g positive divisor.1;
-      written = refl;
-    })
+    let positive : 0 < g = divisor_positive den g some divisor.1.1 in (
+      ratio_text (num / g) (den / g),
+      record {
+        n = num / g;
+        d = den / g;
+        same = quotients_same num den g divisor.1;
+        positive = quotient_positive den g some divisor.1.1;
+        lowest = quotients_lowest num den g positive divisor.1;
+        written = refl;
+      },
+    )

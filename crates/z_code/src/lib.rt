@@ -1,13 +1,14 @@
-// A library with one function.
+//! Blocks of the quadtree under their Morton codes (Z-order codes).
+//!
+//! A block is a square of the plane and a range of codes at once, so a quadtree kept in the order of
+//! its codes has the leaves under a block side by side. Above: `pmr_tree`. Below: `sand_base`.
+//! Contracts see a block's code and level; read `specs/Block.antt` first, then `specs/Code.antt`.
+//! After G. M. Morton (1966); linear quadtrees after I. Gargantini (1982) and H. Samet (2006).
 #![tactic(auto)]
 
-ghost use Rattle.std.specs.Prelude.{◌≡◌};
-ghost use Rattle.z_code.specs.Echo.{echo_of};
+mod block;
+mod code;
+#[cfg(test)]
+mod tests;
 
-// The `ensures` clause is the contract: what `echo` returns is `echo_of` of its argument, a definition
-// in `specs/Echo.antt`, which a caller's clause can cite too.
-pub fn echo(x: usize) -> usize
-    ensures { result ≡ echo_of x }
-{
-    x
-}
+pub use block::Block;

@@ -1,0 +1,241 @@
+// Whole runs over streams in memory, with their outputs and statuses worked out by hand.
+ghost use Rattle.std.specs.Prelude.{◌≤◌};
+
+use sand_base::{Label, MemSink, MemSource, NoMemory};
+use session::{Status, run};
+use std::alloc::{AllocError, Global};
+use std::process::Abort;
+use std::test::Fail;
+
+// A script with the streams that it is run over, and what the run must write and end with.
+#[derive(Drop)]
+struct Case<'a> {
+    name: &'static str,
+    script: &'static str,
+    chunk: usize,
+    failing_reads: &'a [u64],
+    room: usize,
+    failing_writes: &'a [u64],
+    output: &'static str,
+    status: Status,
+}
+
+// The first points of the plane, ranked: the plain run without its refused last line.
+const RANKED: &str =
+    "create p (at point)\nindex p.at\ninsert p (0 0)\ninsert p (3 4)\nshow 3 rank p.at from (0 0)\n";
+
+const RANKED_TEXT: &str = "ok\nok\nid 1\nid 2\n0\t1\n25\t2\nend\n";
+
+// A run without faults, the script given at once.
+const fn plain(
+    name: &'static str,
+    script: &'static str,
+    output: &'static str,
+    status: Status,
+) -> Case<'static> {
+    Case {
+        name,
+        script,
+        chunk: 4096,
+        failing_reads: &[],
+        room: 4096,
+        failing_writes: &[],
+        output,
+        status,
+    }
+}
+
+fn vector(alloc: Global, numbers: &[u64]) -> Result<Vec<u64>, AllocError> {
+    numbers.to_vec(alloc)
+}
+
+// Runs a case, and gives what the sink took with the status.
+fn answer(alloc: Global, case: &Case) -> Result<(MemSink, Status), NoMemory>
+    requires { 1 ≤ case.now.chunk }
+{
+    let script = case.script.as_bytes().to_vec(alloc)?;
+    let reads = vector(alloc, case.failing_reads)?;
+    let writes = vector(alloc, case.failing_writes)?;
+    let mut source = MemSource::new(alloc, script, case.chunk, reads);
+    let mut sink = MemSink::new(alloc, case.room, writes)?;
+    let status = run(alloc, &[], &mut source, &mut sink);
+    Ok((sink, status))
+}
+
+fn check(rt: &impl Abort, alloc: Global, case: &Case) -> Result<(), Fail> {
+    assert!(rt; 1 <= case.chunk, "{}: the chunk", case.name);
+    let (sink, status) = answer(alloc, case)?;
+    assert_eq!(rt;
+        sink.bytes(),
+        case.output.as_bytes(),
+        "{}: the output",
+        case.name
+    );
+    assert_eq!(rt; status, case.status, "{}: the status", case.name);
+    Ok(())
+}
+
+#[test]
+fn scripts_are_answered(rt: HostRuntime) -> Result<(), Fail> {
+    let cases = [
+        plain("the plain run", RANKED, RANKED_TEXT, Status::Done),
+        plain(
+            "a relation that isn't there",
+            "create p (at point)\nindex p.at\nshow 1 rank q.at from (0 0)\ninsert q (0 0)\nindex q.at\n",
+            "ok\nok\nrefused 8 UnknownRelation\nrefused 8 UnknownRelation\nrefused 8 UnknownRelation\n",
+            Status::SomeRefused,
+        ),
+        plain(
+            "the farthest point",
+            "create p (at point)\nindex p.at\ninsert p (65535 65535)\nshow 1 rank p.at from (0 0)\n",
+            "ok\nok\nid 1\n8589672450\t1\n",
+            Status::Done,
+        ),
+        plain(
+            "equal gaps stand by id",
+            "create p (at point)\nindex p.at\ninsert p (5 0)\ninsert p (0 1)\ninsert p (3 4)\nshow 9 rank p.at from (0 0)\n",
+            "ok\nok\nid 1\nid 2\nid 3\n1\t2\n25\t1\n25\t3\nend\n",
+            Status::Done,
+        ),
+        plain(
+            "a name that is taken, no column, an index that is there, no index",
+            "create p (at point)\ncreate p (at point)\nshow 1 rank p.at from (0 0)\nindex p.to\nindex p.at\nindex p.at\nshow 1 rank p.to from (0 0)\nshow 1 rank p.at from (0 0)\n",
+            "ok\nrefused 26 NotBuilt\nrefused 26 NotBuilt\nrefused 26 NotBuilt\nok\nrefused 26 NotBuilt\nrefused 26 NotBuilt\nend\n",
+            Status::SomeRefused,
+        ),
+        plain(
+            "blank lines, comments and carriage returns",
+            "\n \t\n# a comment\n  # another\r\ncreate p (at point)\r\n\r\n",
+            "ok\n",
+            Status::Done,
+        ),
+    ];
+    for case in &cases {
+        check(&rt, rt.alloc(), case)?;
+    }
+    Ok(())
+}
+
+#[test]
+fn runs_end_with_their_status(rt: HostRuntime) -> Result<(), Fail> {
+    let cases = [
+        plain("an empty script", "", "", Status::Done),
+        plain(
+            "a last line without a line feed",
+            "create p (at point)",
+            "ok\n",
+            Status::Done,
+        ),
+        Case {
+            chunk: 20,
+            failing_reads: &[2],
+            ..plain(
+                "the source fails in the middle",
+                "create p (at point)\ninsert",
+                "ok\n",
+                Status::ReadFault,
+            )
+        },
+        Case {
+            room: 2,
+            ..plain(
+                "the sink is full",
+                "create p (at point)\n",
+                "ok",
+                Status::WriteFault,
+            )
+        },
+    ];
+    for case in &cases {
+        check(&rt, rt.alloc(), case)?;
+    }
+    Ok(())
+}
+
+// The status of a script of so many line feeds, which print nothing.
+fn line_feeds(alloc: Global, count: usize) -> Result<Status, NoMemory> {
+    let script = vec![in alloc; b'\n'; count]?;
+    let mut source = MemSource::new(alloc, script, 4096, Vec::new(alloc));
+    let mut sink = MemSink::new(alloc, 0, Vec::new(alloc))?;
+    Ok(run(alloc, &[], &mut source, &mut sink))
+}
+
+#[test]
+fn the_longest_script_is_read_and_no_longer_one(rt: HostRuntime) -> Result<(), Fail> {
+    assert_eq!(rt; line_feeds(rt.alloc(), 16_777_216)?, Status::Done);
+    assert_eq!(rt; line_feeds(rt.alloc(), 16_777_217)?, Status::ScriptTooLong);
+    Ok(())
+}
+
+#[test]
+fn a_word_on_the_command_line_is_a_wrong_use(rt: HostRuntime) -> Result<(), Fail> {
+    let alloc = rt.alloc();
+    let words = [Label::new(alloc, "--frames")?, Label::new(alloc, "15")?];
+    let mut source = MemSource::new(
+        alloc,
+        b"create p (at point)\n".to_vec(alloc)?,
+        4096,
+        Vec::new(alloc),
+    );
+    let mut sink = MemSink::new(alloc, 16, Vec::new(alloc))?;
+    assert_eq!(rt; run(alloc, &words, &mut source, &mut sink), Status::Usage);
+    assert_eq!(rt; sink.bytes().len(), 0);
+    Ok(())
+}
+
+// The plain run over a source and a sink of which one call fails: what was written, and the status.
+fn broken(
+    alloc: Global,
+    failing_reads: &[u64],
+    failing_writes: &[u64],
+) -> Result<(MemSink, Status), NoMemory> {
+    answer(
+        alloc,
+        &Case {
+            chunk: 20,
+            failing_reads,
+            failing_writes,
+            ..plain("", RANKED, RANKED_TEXT, Status::Done)
+        },
+    )
+}
+
+#[test]
+fn a_read_that_fails_ends_the_run_where_it_stands(rt: HostRuntime) -> Result<(), Fail> {
+    let mut undisturbed = 0;
+    for call in 1..=20 {
+        let (sink, status) = broken(rt.alloc(), &[call], &[])?;
+        if status == Status::Done {
+            undisturbed = call;
+            break;
+        }
+        assert_eq!(rt; status, Status::ReadFault, "read {call}");
+        assert!(rt;
+            RANKED_TEXT.as_bytes().starts_with(sink.bytes()),
+            "read {call}"
+        );
+    }
+    // (89 bytes in pieces of 20 are five reads, and a sixth finds the end)
+    assert_eq!(rt; undisturbed, 7, "the reads of the plain run");
+    Ok(())
+}
+
+#[test]
+fn a_write_that_fails_ends_the_run_where_it_stands(rt: HostRuntime) -> Result<(), Fail> {
+    let mut undisturbed = 0;
+    for call in 1..=20 {
+        let (sink, status) = broken(rt.alloc(), &[], &[call])?;
+        if status == Status::Done {
+            undisturbed = call;
+            break;
+        }
+        assert_eq!(rt; status, Status::WriteFault, "write {call}");
+        assert!(rt;
+            RANKED_TEXT.as_bytes().starts_with(sink.bytes()),
+            "write {call}"
+        );
+    }
+    // (seven lines, a write each)
+    assert_eq!(rt; undisturbed, 8, "the writes of the plain run");
+    Ok(())
+}
