@@ -101,23 +101,25 @@ turned_weights i j h = record { first = h.second; second = h.first; some = other
     other : (i j : ℤ) → pos 0 <ℤ (i +ℤ j) → pos 0 <ℤ (j +ℤ i)
     other i j h = omega (arith, ints)
 
+-- along one axis, the first two points and their weights, the other way round
+pub turned_offset : (a b c d i j u v : ℤ) → offset a b c d j i u v ≡ offset b a c d i j u v
+turned_offset a b c d i j u v =
+    let va = var 0 in
+    let vb = var 1 in
+    let other = (var 6 ⊗ var 2 ⊕ var 7 ⊗ var 3) in
+    ring (at (a ∷ b ∷ c ∷ d ∷ i ∷ j ∷ u ∷ v ∷ []))
+    ((var 5 ⊗ va ⊕ var 4 ⊗ vb) ⊗ (var 6 ⊕ var 7) ⊖ other ⊗ (var 5 ⊕ var 4))
+    ((var 4 ⊗ vb ⊕ var 5 ⊗ va) ⊗ (var 6 ⊕ var 7) ⊖ other ⊗ (var 4 ⊕ var 5)) refl
+
+-- and their denominators
+pub turned_sums : (i j u v : ℤ) → (j +ℤ i) *ℤ (u +ℤ v) ≡ (i +ℤ j) *ℤ (u +ℤ v)
+turned_sums i j u v = ring (at (i ∷ j ∷ u ∷ v ∷ [])) ((var 1 ⊕ var 0) ⊗ (var 2 ⊕ var 3)) ((var 0 ⊕ var 1) ⊗ (var 2 ⊕ var 3)) refl
+
 -- the first two points, the other way round
 pub turn_first : (m e : ℤ) (a b c d : Point) → AreClear m e a b c d → AreClear m e b a c d
 turn_first m e a b c d h i j u v wi wu =
-    along _ _ _ _ _ _ _ _ (h j i u v (turned_weights i j wi) wu) (one (pos a.x) (pos b.x) (pos c.x) (pos d.x) i j u v)
-    (one (pos a.y) (pos b.y) (pos c.y) (pos d.y) i j u v) (sums i j u v)
-  where
-    one : (a b c d i j u v : ℤ) → offset a b c d j i u v ≡ offset b a c d i j u v
-    one a b c d i j u v =
-        let va = var 0 in
-        let vb = var 1 in
-        let other = (var 6 ⊗ var 2 ⊕ var 7 ⊗ var 3) in
-        ring (at (a ∷ b ∷ c ∷ d ∷ i ∷ j ∷ u ∷ v ∷ []))
-        ((var 5 ⊗ va ⊕ var 4 ⊗ vb) ⊗ (var 6 ⊕ var 7) ⊖ other ⊗ (var 5 ⊕ var 4))
-        ((var 4 ⊗ vb ⊕ var 5 ⊗ va) ⊗ (var 6 ⊕ var 7) ⊖ other ⊗ (var 4 ⊕ var 5)) refl
-
-    sums : (i j u v : ℤ) → (j +ℤ i) *ℤ (u +ℤ v) ≡ (i +ℤ j) *ℤ (u +ℤ v)
-    sums i j u v = ring (at (i ∷ j ∷ u ∷ v ∷ [])) ((var 1 ⊕ var 0) ⊗ (var 2 ⊕ var 3)) ((var 0 ⊕ var 1) ⊗ (var 2 ⊕ var 3)) refl
+    along m e _ _ _ _ _ _ (h j i u v (turned_weights i j wi) wu) (turned_offset (pos a.x) (pos b.x) (pos c.x) (pos d.x) i j u v)
+    (turned_offset (pos a.y) (pos b.y) (pos c.y) (pos d.y) i j u v) (turned_sums i j u v)
 
 -- the two pairs, exchanged
 pub exchange : (m e : ℤ) (a b c d : Point) → AreClear m e a b c d → AreClear m e c d a b

@@ -1,7 +1,15 @@
+pub mod Blend
 pub mod Clear
+pub mod Crossing
+pub mod Descent
 pub mod Least
 pub mod Means
+pub mod NearestSide
+pub mod OneSide
 pub mod OnSegment
 pub mod PointLemmas
 pub mod PointSegment
+pub mod RectLemmas
+pub mod SegmentLemmas
+pub mod SegmentRect
 pub mod SignedLemmas

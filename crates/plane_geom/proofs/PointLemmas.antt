@@ -1,5 +1,6 @@
 -- Two points: every pair of rational points that stand for them is as far apart as they are.
-use Rattle.std.proofs.Common.{◌≡◌, ℕ, ◌*◌, ℤ, pos, ◌+ℤ◌, ◌-ℤ◌, ◌*ℤ◌, ◌≤ℤ◌, [], ◌∷◌, refl, ap, ap₂, sym, ◌∙◌, lit<, arith}
+use Rattle.std.proofs.Common.{◌≡◌, ℕ, ◌*◌, ◌≤◌, ℤ, pos, ◌+ℤ◌, ◌-ℤ◌, ◌*ℤ◌, ◌≤ℤ◌, [], ◌∷◌, refl, ap, ap₂, sym, ◌∙◌, lit<, arith}
+use Rattle.std.specs.Int.{abs_diff}
 use Rattle.std.proofs.lemmas.Int.{ints}
 use Rattle.sand_base.specs.declared.point.Point.{Point}
 use Rattle.sand_model.specs.Carrier.{RationalPoint, IsPoint}
@@ -50,7 +51,7 @@ points_far a b q r h k =
     ∙ both_axes (pos (q.n * r.n)) (pos a.x) (pos b.x) (pos a.y) (pos b.y)
 
 -- a whole distance as the fraction over 1
-over_one : (f d c : ℤ) (n e : ℕ) → f ≡ d *ℤ c → pos n ≡ d → e ≡ 1 → f *ℤ pos e ≡ pos n *ℤ c
+pub over_one : (f d c : ℤ) (n e : ℕ) → f ≡ d *ℤ c → pos n ≡ d → e ≡ 1 → f *ℤ pos e ≡ pos n *ℤ c
 over_one f d c n e h k l = ap₂ (λ t u. t *ℤ pos u) h l ∙ one (d *ℤ c) ∙ ap (λ t. t *ℤ c) (sym k)
   where
     one : (t : ℤ) → t *ℤ pos 1 ≡ t
@@ -65,3 +66,7 @@ points_least a b n e h k = record {
   where
     same : (q r : RationalPoint) → IsPoint a q → IsPoint b r → far q r *ℤ pos e ≡ pos n *ℤ common_square q r
     same q r hq hr = over_one (far q r) (dot_of a b b) (common_square q r) n e (points_far a b q r hq hr) h k
+
+-- two coordinates up to a bound are at most the bound apart
+pub apart_short : (r a b m : ℕ) → r ≡ abs_diff a b → a ≤ m → b ≤ m → r ≤ m
+apart_short r a b m e ha hb = omega arith

@@ -1,15 +1,13 @@
 -- How a run ends at the end of its script.
 use Rattle.std.proofs.Common.{◌≡◌, ℕ, ◌+◌, ◌<◌, ◌≤◌, Bool, true, false, if◌then◌else◌, ◌||◌, List, [], ◌∷◌, ◌++◌, length, length-append, ◌-◌, take, drop, take-append-drop, Option, None, Some, IfSome, refl, sym, ap, ◌∙◌, subst, append_assoc, append-nil, arith}
-use Rattle.std.specs.List.{list_any}
 use Rattle.std.specs.Io.KnownBytes.{Consumes, Keeps, IsAtEnd}
 use Rattle.std.proofs.KnownBytes.{Consumes-trans, Consumes-nil, Consumes-kept}
 use Rattle.std.proofs.Math.Seq.{take-append-add}
-use Rattle.sand_base.specs.Streams.{Adds}
 use Rattle.session.specs.Line.{cut, clipped, last_line, lines, ended_lines, is_no_line}
 use Rattle.session.specs.Outcome.{Step}
-use Rattle.session.specs.Run.{Run, IsRunText, Writes, Breaks, Ends}
+use Rattle.session.specs.Run.{Run, IsRunText, Writes, Ends}
 use Rattle.session.specs.State.{SoFar, EndsLine, BreaksLine, GoesOn, StopsIn, EndsRun, BreaksRun, Finishes, GivesUp}
-use Rattle.session.specs.Text.{IsText, is_refused}
+use Rattle.session.specs.Text.{is_refused}
 use Rattle.session.specs.declared.state.State.{State}
 use Rattle.session.specs.declared.status.Status.{Status}
 use Rattle.session.specs.declared.status.Status.TheVariants as status
@@ -38,7 +36,7 @@ EndsRun-line old new before now some ends bytes text so_far =
       world = new.relations.items;
       ran = subst (λ (l : List (List ℕ)). Run [] ((cut bytes).0 ++ l) (so_far.replies ++ ends.reply ∷ []) new.relations.items) (sym last) ran;
       printed = IsText-append so_far.replies ends.reply text ends.text so_far.printed ends.prints;
-      refused = ends.refused ∙ ap (λ b. b || is_refused ends.reply) so_far.refused ∙ sym (list_any-append is_refused so_far.replies ends.reply)
+      refused = ends.refused ∙ ap (λ b. b || is_refused ends.reply) so_far.refused ∙ sym (list_any-append is_refused so_far.replies ends.reply);
     } in
     (ends.text, is_run, ends.written)
 
@@ -63,7 +61,7 @@ BreaksRun-line old before now some breaks bytes text so_far =
       world = breaks.world;
       ran = subst (λ (l : List (List ℕ)). Run [] ((cut bytes).0 ++ l) (so_far.replies ++ reply ∷ []) breaks.world) (sym last) ran;
       printed = IsText-append so_far.replies reply text breaks.broken.text so_far.printed breaks.broken.prints;
-      refused = ap (λ b. b || is_refused reply) so_far.refused ∙ sym (list_any-append is_refused so_far.replies reply)
+      refused = ap (λ b. b || is_refused reply) so_far.refused ∙ sym (list_any-append is_refused so_far.replies reply);
     } in
     (breaks.broken.text, old.some_refused || is_refused reply, is_run, breaks.broken.front)
 
@@ -87,7 +85,7 @@ ReadSoFar-begin script state took reads writes = record {
   counted = refl;
   few = omega arith;
   reads_same = refl;
-  writes_same = refl
+  writes_same = refl;
 }
 
 -- one more piece was read and fed
@@ -104,7 +102,7 @@ ReadSoFar-more script left left' count n old mid new before after after' reads r
       counted = length-append so_far.bytes read ∙ ap (λ k. k + length read) so_far.counted ∙ ap (λ k. count + k) long;
       few = few;
       reads_same = r ∙ so_far.reads_same;
-      writes_same = w ∙ so_far.writes_same
+      writes_same = w ∙ so_far.writes_same;
     }
 
 -- a source that is at its end gave all that it had
@@ -127,7 +125,7 @@ written_run b old mid before after now bytes begun goes ends =
     record {
       text = went.0 ++ ended.0;
       is_run = ended.1;
-      written = Adds-trans before after now went.0 ended.0 went.2 ended.2
+      written = Adds-trans before after now went.0 ended.0 went.2 ended.2;
     }
 
 -- a run over the lines that ended in what was read, with its text
@@ -135,41 +133,53 @@ ended_run : (old mid : State) (before after : List ℕ → Type 0) (bytes : List
     → GoesOn old mid before after bytes → (b : Bool) × Writes (ended_lines bytes) b before after
 ended_run old mid before after bytes begun goes =
     let went = goes [] [] begun in
-    let so_far = went.1 in
-    (mid.some_refused, record {
-      text = went.0;
-      is_run = record {
-        replies = so_far.replies;
-        world = mid.relations.items;
-        ran = so_far.ran;
-        printed = so_far.printed;
-        refused = so_far.refused
-      };
-      written = went.2
-    })
+    let so_far = went.1 in (
+      mid.some_refused,
+      record {
+        text = went.0;
+        is_run = record {
+          replies = so_far.replies;
+          world = mid.relations.items;
+          ran = so_far.ran;
+          printed = so_far.printed;
+          refused = so_far.refused;
+        };
+        written = went.2;
+      },
+    )
 
 -- the promise at the end of the script
 Ends-from_finish : (result : Status) (script left : Option (List ℕ)) (old mid : State) (before after now : List ℕ → Type 0) (bytes : List ℕ)
     → SoFar [] [] old → Consumes script left bytes → IsAtEnd left → length bytes ≤ LONGEST_SCRIPT → GoesOn old mid before after bytes
     → Finishes result mid after now → Ends result script left before now
-Ends-from_finish status.Done script left old mid before after now bytes begun consumed ended few goes finish =
-    (all_read script bytes (λ all. (length all ≤ LONGEST_SCRIPT) × Writes (lines all) false before now) (whole_script script left bytes consumed ended)
-    (few, written_run false old mid before after now bytes begun goes finish), ended)
-Ends-from_finish status.SomeRefused script left old mid before after now bytes begun consumed ended few goes finish =
-    (all_read script bytes (λ all. (length all ≤ LONGEST_SCRIPT) × Writes (lines all) true before now) (whole_script script left bytes consumed ended)
-    (few, written_run true old mid before after now bytes begun goes finish), ended)
+Ends-from_finish status.Done script left old mid before after now bytes begun consumed ended few goes finish = (
+  all_read script bytes (λ all. (length all ≤ LONGEST_SCRIPT) × Writes (lines all) false before now) (whole_script script left bytes consumed ended)
+      (few, written_run false old mid before after now bytes begun goes finish),
+  ended,
+)
+Ends-from_finish status.SomeRefused script left old mid before after now bytes begun consumed ended few goes finish = (
+  all_read script bytes (λ all. (length all ≤ LONGEST_SCRIPT) × Writes (lines all) true before now) (whole_script script left bytes consumed ended)
+      (few, written_run true old mid before after now bytes begun goes finish),
+  ended,
+)
 Ends-from_finish status.WriteFault script left old mid before after now bytes begun consumed ended few goes finish =
     let went = goes [] [] begun in
-    let broken = finish bytes went.0 went.1 in
-    (bytes, consumed, (omega (arith, few), record {
-      carried_out = lines bytes;
-      others = [];
-      first = sym (append-nil (lines bytes));
-      text = went.0 ++ broken.0;
-      some_refused = broken.1;
-      is_run = broken.2;
-      front = WritesFront-after went.0 broken.0 before after now went.2 broken.3
-    }))
+    let broken = finish bytes went.0 went.1 in (
+      bytes,
+      consumed,
+      (
+        omega (arith, few),
+        record {
+          carried_out = lines bytes;
+          others = [];
+          first = sym (append-nil (lines bytes));
+          text = went.0 ++ broken.0;
+          some_refused = broken.1;
+          is_run = broken.2;
+          front = WritesFront-after went.0 broken.0 before after now went.2 broken.3;
+        },
+      ),
+    )
 Ends-from_finish status.ReadFault script left old mid before after now bytes begun consumed ended few goes finish = absurd finish
 Ends-from_finish status.ScriptTooLong script left old mid before after now bytes begun consumed ended few goes finish = absurd finish
 Ends-from_finish status.Usage script left old mid before after now bytes begun consumed ended few goes finish = absurd finish
@@ -194,9 +204,11 @@ pub Ends-read_fault : (script left left' : Option (List ℕ)) (count : ℕ) (old
     → ReadSoFar script left count old mid before after reads reads' writes writes' → Keeps left left'
     → Ends status.ReadFault script left' before after
 Ends-read_fault script left left' count old mid before after reads reads' writes writes' begun so_far kept =
-    let run = ended_run old mid before after so_far.bytes begun so_far.goes in
-    (so_far.bytes, Consumes-kept script left left' so_far.bytes so_far.consumed kept,
-    (omega (arith, so_far.counted, so_far.few), run.0, run.1))
+    let run = ended_run old mid before after so_far.bytes begun so_far.goes in (
+      so_far.bytes,
+      Consumes-kept script left left' so_far.bytes so_far.consumed kept,
+      (omega (arith, so_far.counted, so_far.few), run.0, run.1),
+    )
 
 -- the promise where a write failed in a piece
 pub Ends-write_fault : (script left left' : Option (List ℕ)) (count n : ℕ) (old mid : State) (before after now : List ℕ → Type 0)
@@ -211,17 +223,22 @@ Ends-write_fault script left left' count n old mid before after now reads reads'
     let split : all ≡ front ++ (stopped.1 ++ behind) =
     ap (λ t. so_far.bytes ++ t) (same ∙ ap (λ t. t ++ behind) stopped.2 ∙ append_assoc stopped.0 stopped.1 behind)
     ∙ sym (append_assoc so_far.bytes stopped.0 (stopped.1 ++ behind)) in
-    let first = lines_front front (stopped.1 ++ behind) in
-    (all, Consumes-trans script left left' so_far.bytes read so_far.consumed consumed,
-    (omega (arith, length-append so_far.bytes read, so_far.counted, long), record {
-      carried_out = ended_lines front;
-      others = first.0;
-      first = ap lines split ∙ first.1;
-      text = went.0 ++ stopped.3;
-      some_refused = stopped.4;
-      is_run = stopped.5;
-      front = WritesFront-after went.0 stopped.3 before after now went.2 stopped.6
-    }))
+    let first = lines_front front (stopped.1 ++ behind) in (
+      all,
+      Consumes-trans script left left' so_far.bytes read so_far.consumed consumed,
+      (
+        omega (arith, length-append so_far.bytes read, so_far.counted, long),
+        record {
+          carried_out = ended_lines front;
+          others = first.0;
+          first = ap lines split ∙ first.1;
+          text = went.0 ++ stopped.3;
+          some_refused = stopped.4;
+          is_run = stopped.5;
+          front = WritesFront-after went.0 stopped.3 before after now went.2 stopped.6;
+        },
+      ),
+    )
 
 -- the promise where there is one byte too many
 pub Ends-give_up : (result : Status) (script left left' : Option (List ℕ)) (count n : ℕ) (old mid new : State) (before after now : List ℕ → Type 0)
@@ -235,10 +252,15 @@ Ends-give_up status.ScriptTooLong script left left' count n old mid new before a
     let front : take LONGEST_SCRIPT all ≡ so_far.bytes ++ fed =
     ap (λ k. take k all) at ∙ take-append-add so_far.bytes read (n - 1) ∙ ap (λ t. so_far.bytes ++ t) (sym same) in
     let run = ended_run old new before now (so_far.bytes ++ fed) begun
-        (GoesOn-trans old mid new before after now so_far.bytes fed so_far.goes gives) in
-    (all, Consumes-trans script left left' so_far.bytes read so_far.consumed consumed,
-    (omega (arith, length-append so_far.bytes read, so_far.counted, long, many, few), run.0,
-    subst (λ b. Writes (ended_lines b) run.0 before now) (sym front) run.1))
+    (GoesOn-trans old mid new before after now so_far.bytes fed so_far.goes gives) in (
+      all,
+      Consumes-trans script left left' so_far.bytes read so_far.consumed consumed,
+      (
+        omega (arith, length-append so_far.bytes read, so_far.counted, long, many, few),
+        run.0,
+        subst (λ b. Writes (ended_lines b) run.0 before now) (sym front) run.1,
+      ),
+    )
 Ends-give_up status.WriteFault script left left' count n old mid new before after now reads reads' writes writes' read fed begun so_far consumed long many few same gives =
     let behind = drop (n - 1) read in
     Ends-write_fault script left left' count n old mid before after now reads reads' writes writes' read fed behind begun so_far consumed long few gives

@@ -1,5 +1,5 @@
 -- Texts of which a front was written.
-use Rattle.std.proofs.Common.{◌≡◌, ℕ, ◌+◌, ◌<◌, ◌≤◌, Bool, List, [], ◌∷◌, ◌++◌, Result, Ok, Err, OnErr, length, get_or, take, drop, refl, sym, ap, ◌∙◌, subst, append_assoc, append-nil, arith, take-append-drop}
+use Rattle.std.proofs.Common.{◌≡◌, ℕ, ◌+◌, ◌<◌, Bool, List, [], ◌∷◌, ◌++◌, Result, Ok, Err, OnErr, length, get_or, take, drop, refl, sym, ap, ◌∙◌, subst, append_assoc, take-append-drop}
 use Rattle.std.proofs.lemmas.List.{take_more}
 use Rattle.exact_frac.specs.declared.frac.Frac.{Frac}
 use Rattle.exact_frac.proofs.PrintedExists.{printed_exists}
@@ -16,7 +16,7 @@ WritesFront-stop at text before mid now added stays = record {
   front = take at text;
   rest = drop at text;
   same = sym (take-append-drop at text);
-  written = λ bytes taken. stays (bytes ++ take at text) (added bytes taken)
+  written = λ bytes taken. stays (bytes ++ take at text) (added bytes taken);
 }
 
 -- a text was written and then a front of another
@@ -26,7 +26,7 @@ WritesFront-after a text before mid now added broken = record {
   front = a ++ broken.front;
   rest = broken.rest;
   same = ap (λ t. a ++ t) broken.same ∙ sym (append_assoc a broken.front broken.rest);
-  written = Adds-trans before mid now a broken.front added broken.written
+  written = Adds-trans before mid now a broken.front added broken.written;
 }
 
 -- a front of a text is a front of the longer text
@@ -36,7 +36,7 @@ WritesFront-more text more before now broken = record {
   front = broken.front;
   rest = broken.rest ++ more;
   same = ap (λ t. t ++ more) broken.same ∙ append_assoc broken.front broken.rest more;
-  written = broken.written
+  written = broken.written;
 }
 
 -- each row has its line
@@ -73,7 +73,7 @@ BreaksRows-at hits at d row before mid now below written own broken =
     record {
       text = (written.text ++ row) ++ later.0;
       prints = subst (λ h. PrintsRows h ((written.text ++ row) ++ later.0)) (take-append-drop (at + 1) hits) all;
-      front = WritesFront-more (written.text ++ row) later.0 before now (WritesFront-after written.text row before mid now written.written broken)
+      front = WritesFront-more (written.text ++ row) later.0 before now (WritesFront-after written.text row before mid now written.written broken);
     }
 
 -- what holds anyway holds at an Err
@@ -90,6 +90,9 @@ BreaksRanking-rows hits end before now broken =
 -- the end behind rows broke off
 pub BreaksRanking-end : (hits : List (Frac × ℕ)) (end : Bool) (text : List ℕ) (before mid now : List ℕ → Type 0) → WritesRows hits before mid
     → WritesFront text mid now → end_text end ≡ text → BreaksRanking hits end before now
-BreaksRanking-end hits end text before mid now written broken is =
-    (written.text, written.prints, subst (λ t. WritesFront (written.text ++ t) before now) (sym is)
-    (WritesFront-after written.text text before mid now written.written broken))
+BreaksRanking-end hits end text before mid now written broken is = (
+  written.text,
+  written.prints,
+  subst (λ t. WritesFront (written.text ++ t) before now) (sym is)
+      (WritesFront-after written.text text before mid now written.written broken),
+)

@@ -1,6 +1,6 @@
 -- How a text is cut where one more byte comes.
-use Rattle.std.proofs.Common.{◌≡◌, ℕ, suc, ◌+◌, ◌<◌, ◌≤◌, Bool, true, false, cond, eqb, ltb, leb, List, [], ◌∷◌, ◌++◌, length, Option, Some, None, refl, sym, ap, ◌∙◌, subst, arith, length-append, append_assoc, append-nil}
-use Rattle.std.proofs.lemmas.Bool.{ltb-true, ltb-false, leb-true, leb-false, le-leb, lt-leb, le-ltb}
+use Rattle.std.proofs.Common.{◌≡◌, ℕ, suc, Bool, true, false, cond, eqb, leb, List, [], ◌∷◌, ◌++◌, length, Some, None, refl, sym, ap, ◌∙◌, arith, length-append, append_assoc, append-nil}
+use Rattle.std.proofs.lemmas.Bool.{leb-false, lt-leb}
 use Rattle.script_text.specs.declared.TheConstants.{LONGEST_LINE}
 use Rattle.session.specs.Line.{cut, onto, clipped, with_byte, lines, ended_lines, last_line}
 
@@ -65,10 +65,13 @@ ended_front front (c ∷ rest) =
     ap ended_lines (sym (append_assoc front (c ∷ []) rest)) ∙ later.1 in
     let go : (b : Bool) → eqb c 10 ≡ b → (more : List (List ℕ)) × (ended_lines (front ++ c ∷ rest) ≡ ended_lines front ++ more) =
     elim [
-      true ↦ λ e. ((cut front).1 ∷ later.0,
+      | true ↦ λ e. (
+        (cut front).1 ∷ later.0,
         same ∙ ap (λ (w : List (List ℕ) × List ℕ). w.0 ++ later.0) (cut-feed front c e)
-        ∙ append_assoc (ended_lines front) ((cut front).1 ∷ []) later.0)
-    | false ↦ λ e. (later.0, same ∙ ap (λ (w : List (List ℕ) × List ℕ). w.0 ++ later.0) (cut-byte front c e)) ] in
+            ∙ append_assoc (ended_lines front) ((cut front).1 ∷ []) later.0,
+      )
+      | false ↦ λ e. (later.0, same ∙ ap (λ (w : List (List ℕ) × List ℕ). w.0 ++ later.0) (cut-byte front c e))
+    ] in
     go (eqb c 10) refl
 
 -- they are the first of the lines of the text

@@ -1,8 +1,7 @@
 -- How bytes lead a run on.
-use Rattle.std.proofs.Common.{◌≡◌, ℕ, ◌+◌, ◌<◌, ◌≤◌, length, take, take_all, drop, take-append-drop, get_or, Bool, false, true, eqb, ◌||◌, List, [], ◌∷◌, ◌++◌, Some, refl, sym, ap, ◌∙◌, subst, append_assoc, append-nil}
+use Rattle.std.proofs.Common.{◌≡◌, ℕ, ◌+◌, ◌<◌, ◌≤◌, length, take, take_all, drop, take-append-drop, get_or, Bool, false, true, eqb, ◌||◌, List, [], ◌∷◌, ◌++◌, refl, sym, ap, ◌∙◌, subst, append_assoc, append-nil}
 use Rattle.std.specs.List.{list_any}
 use Rattle.std.proofs.lemmas.List.{take_more}
-use Rattle.sand_base.specs.Streams.{Adds}
 use Rattle.sand_model.specs.Relation.{Relation}
 use Rattle.session.specs.Line.{cut, ended_lines, clipped, with_byte}
 use Rattle.session.specs.Outcome.{Step}
@@ -129,7 +128,7 @@ StopsIn-feed old before now byte feed breaks bytes text so_far =
       world = breaks.world;
       ran = subst (λ (w : List (List ℕ) × List ℕ). Run [] w.0 (so_far.replies ++ reply ∷ []) breaks.world) (sym ended) ran;
       printed = IsText-append so_far.replies reply text breaks.broken.text so_far.printed breaks.broken.prints;
-      refused = ap (λ b. b || is_refused reply) so_far.refused ∙ sym (list_any-append is_refused so_far.replies reply)
+      refused = ap (λ b. b || is_refused reply) so_far.refused ∙ sym (list_any-append is_refused so_far.replies reply);
     } in
     (byte ∷ [], [], refl, breaks.broken.text, old.some_refused || is_refused reply, is_run, breaks.broken.front)
 

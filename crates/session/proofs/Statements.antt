@@ -1,5 +1,5 @@
 -- What each statement answers, from where its relation stands and how its checks went.
-use Rattle.std.proofs.Common.{◌≡◌, ℕ, ◌+◌, ◌<◌, ◌≤◌, Bool, true, false, not, ltb, List, [], ◌∷◌, ◌++◌, length, take, get_or, set, MatchBool, Option, Some, None, Result, Ok, Err, refl, sym, ap, ◌∙◌, subst, arith, inl, inr}
+use Rattle.std.proofs.Common.{◌≡◌, ℕ, ◌<◌, ◌≤◌, Bool, true, false, not, ltb, List, [], ◌∷◌, ◌++◌, length, take, get_or, set, MatchBool, Some, None, refl, sym, ap, ◌∙◌, subst}
 use Rattle.std.specs.List.{position}
 use Rattle.std.proofs.lemmas.Bool.{le-leb, lt-leb}
 use Rattle.std.proofs.lemmas.List.{set-get_or, get_or_default}
@@ -13,8 +13,7 @@ use Rattle.script_text.specs.declared.statement.Plan.TheVariants.{Rank}
 use Rattle.script_text.specs.declared.statement.Statement.TheVariants.{Create, Insert, Index, Show}
 use Rattle.session.specs.Outcome.{Answers, Refuses, GivesRows}
 use Rattle.session.specs.declared.TheConstants.{MOST_RELATIONS, MOST_IDS}
-use Rattle.session.specs.declared.reply.Reply.{Reply}
-use Rattle.session.specs.declared.reply.Reply.TheVariants.{Silent, Done, Id, Rows, Refused}
+use Rattle.session.specs.declared.reply.Reply.TheVariants.{Done, Id, Rows, Refused}
 use Rattle.session.proofs.Places.{position_some, find-none, find-some, changed_at-place}
 
 -- a relation that is put back leaves all as they were

@@ -1,5 +1,5 @@
 -- The words of refusals are short.
-use Rattle.std.proofs.Common.{ℕ, ◌≤◌, length, lit≤}
+use Rattle.std.proofs.Common.{◌≤◌, length, lit≤}
 use Rattle.sand_base.specs.Refusal.{refusal_word}
 use Rattle.sand_base.specs.declared.refusal.Refusal.{Refusal}
 use Rattle.sand_base.specs.declared.refusal.Refusal.TheVariants.{Memory, UnknownRelation, NotBuilt}

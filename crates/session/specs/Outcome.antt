@@ -1,5 +1,5 @@
 -- What carrying a line out answers, and what it leaves of the relations.
-use Rattle.std.specs.Prelude.{◌≡◌, ◌⊎◌, ℕ, nat_le, nat_lt, Bool, List, [], ◌∷◌, ◌++◌, length, take, find, Option, Some, None, Result, Ok, Err, MatchBool, MatchOption}
+use Rattle.std.specs.Prelude.{◌≡◌, ◌⊎◌, ℕ, nat_le, nat_lt, List, [], ◌∷◌, ◌++◌, length, take, find, Option, Some, None, Result, Ok, Err, MatchBool, MatchOption}
 use Rattle.exact_frac.specs.declared.frac.Frac.{Frac}
 use Rattle.sand_base.specs.declared.refusal.Refusal.{Refusal}
 use Rattle.sand_base.specs.declared.refusal.Refusal.TheVariants as why

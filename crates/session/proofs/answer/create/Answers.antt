@@ -1,5 +1,5 @@
 -- the name is taken, or a new relation stands at the end
-use Rattle.std.proofs.Common.{◌≡◌, ◌∙◌, ◌++◌, [], ◌∷◌, ap, sym, inr, arith}
+use Rattle.std.proofs.Common.{◌∙◌, ◌++◌, [], ◌∷◌, ap, inr, arith}
 use Rattle.session.proofs.Places.{place_seen, place_none_seen}
 use Rattle.session.proofs.Statements.{create-taken_at, create-done}
 use Rattle.session.proofs.answer.create.Goals as goal

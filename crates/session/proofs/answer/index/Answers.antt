@@ -1,5 +1,5 @@
 -- no such relation, no such column, an index that is there, and a new one
-use Rattle.std.proofs.Common.{◌≡◌, ◌∙◌, sym, inr}
+use Rattle.std.proofs.Common.{◌∙◌, sym, inr}
 use Rattle.session.proofs.Places.{place_seen, place_none_seen}
 use Rattle.session.proofs.Statements.{index-unknown, index-no_column, index-there, index-done, name_differs, name_same}
 use Rattle.session.proofs.answer.index.Goals as goal

@@ -1,5 +1,5 @@
 -- no such relation, no id left, and a row added
-use Rattle.std.proofs.Common.{◌≡◌, ◌∙◌, sym, inr}
+use Rattle.std.proofs.Common.{◌∙◌, sym, inr}
 use Rattle.session.proofs.Places.{place_seen, place_none_seen}
 use Rattle.session.proofs.Statements.{insert-unknown, insert-spent, insert-done}
 use Rattle.session.proofs.answer.insert.Goals as goal

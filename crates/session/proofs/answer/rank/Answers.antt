@@ -1,5 +1,5 @@
 -- no such relation, no such column, no index, and the rows
-use Rattle.std.proofs.Common.{◌≡◌, ◌∙◌, sym, inr, rules}
+use Rattle.std.proofs.Common.{◌∙◌, sym, inr, rules}
 use Rattle.session.proofs.Places.{place_seen, place_none_seen}
 use Rattle.session.proofs.Statements.{show-unknown, show-no_column, show-no_index, show-rows, name_differs, name_same}
 use Rattle.session.proofs.answer.rank.Goals as goal

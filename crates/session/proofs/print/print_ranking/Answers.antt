@@ -1,5 +1,5 @@
 -- the rows broke off, or their end did
-use Rattle.std.proofs.Common.{ap, refl, rules}
+use Rattle.std.proofs.Common.{ap}
 use Rattle.session.specs.Text.{end_text}
 use Rattle.session.proofs.FrontLemmas.{on_err, BreaksRanking-rows, BreaksRanking-end}
 use Rattle.session.proofs.print.print_ranking.Goals as goal

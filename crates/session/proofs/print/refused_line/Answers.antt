@@ -1,5 +1,5 @@
 -- a refusal's number has ten digits at most, and its word is short
-use Rattle.std.proofs.Common.{◌∙◌, ap, length, arith}
+use Rattle.std.proofs.Common.{ap, length, arith}
 use Rattle.session.proofs.Decimals.{length-decimal-short}
 use Rattle.session.proofs.Words.{length-refusal_word}
 use Rattle.session.proofs.print.refused_line.Goals as goal

@@ -1,5 +1,5 @@
 -- nothing was read yet, one more piece was, and the ways in which the reading ends
-use Rattle.std.proofs.Common.{[], ◌≡◌, ◌+◌, ◌-◌, ◌<◌, ◌≤◌, take, length, min, arith, rules}
+use Rattle.std.proofs.Common.{[], ◌≡◌, ◌+◌, ◌<◌, ◌≤◌, take, length, arith, rules}
 use Rattle.std.proofs.lemmas.Grind.{common_steps}
 use Rattle.session.specs.declared.TheConstants.{LONGEST_SCRIPT}
 use Rattle.session.proofs.EndLemmas.{ReadSoFar-begin, ReadSoFar-more, Ends-at_end, Ends-read_fault, Ends-write_fault, Ends-give_up, whole_read}

@@ -1,5 +1,4 @@
-use Rattle.std.proofs.Common.{◌≡◌, ◌≤◌, ◌-◌, length, take}
-use Rattle.sand_base.specs.Streams.{Adds}
+use Rattle.std.proofs.Common.{◌-◌, length}
 use Rattle.session.proofs.write_all.write_all.Given as goal
 use Rattle.session.proofs.WrittenFront.{WrittenFront}
 

@@ -1,0 +1,163 @@
+-- Two segments that cross in the midst of both share the point where their lines meet.
+use Rattle.std.proofs.Common.{◌≡◌, inl, inr, ℕ, ◌+◌, ◌*◌, ◌<◌, ℤ, pos, nat_abs, ◌+ℤ◌, ◌-ℤ◌, ◌*ℤ◌, ◌≤ℤ◌, ◌<ℤ◌, [], ◌∷◌, refl, ap₂, sym, ◌∙◌, subst, arith}
+use Rattle.std.proofs.lemmas.Int.{ints}
+use Rattle.sand_base.specs.declared.point.Point.{Point}
+use Rattle.sand_base.specs.declared.segment.Segment.{Segment}
+use Rattle.sand_model.specs.Carrier.{RationalPoint, IsOnSegment}
+use Rattle.sand_model.specs.Gap.{IsLeast, square, common_square}
+use Rattle.int_ring.specs.Expr.{var, at, num, ◌⊕◌, ◌⊖◌, ◌⊗◌}
+use Rattle.int_ring.proofs.Ring.{ring}
+use Rattle.int_ring.proofs.Order.{add_nonneg, pos_abs}
+use Rattle.int_ring.proofs.Inequality.{le_ring}
+use Rattle.int_ring.proofs.Squares.{square_nonneg}
+use Rattle.plane_geom.specs.Crossing.{Cross}
+use Rattle.plane_geom.specs.Vectors.{cross_of}
+use Rattle.plane_geom.proofs.Clear.{offset}
+use Rattle.plane_geom.proofs.Means.{segment_hull}
+use Rattle.plane_geom.proofs.Least.{Attained, attained_at, attained_exchanged}
+
+-- under the heights as weights, both means are one point: along x
+meets_x : (ax ay bx by cx cy dx dy : ℤ)
+    → offset ax bx cx dx
+    (pos 0 -ℤ (((dx -ℤ cx) *ℤ (by -ℤ cy)) -ℤ ((dy -ℤ cy) *ℤ (bx -ℤ cx))))
+    (((dx -ℤ cx) *ℤ (ay -ℤ cy)) -ℤ ((dy -ℤ cy) *ℤ (ax -ℤ cx)))
+    (((bx -ℤ ax) *ℤ (dy -ℤ ay)) -ℤ ((by -ℤ ay) *ℤ (dx -ℤ ax)))
+    (pos 0 -ℤ (((bx -ℤ ax) *ℤ (cy -ℤ ay)) -ℤ ((by -ℤ ay) *ℤ (cx -ℤ ax)))) ≡ pos 0
+meets_x ax ay bx by cx cy dx dy =
+    let vax = var 0 in
+    let vay = var 1 in
+    let vbx = var 2 in
+    let vby = var 3 in
+    let vcx = var 4 in
+    let vcy = var 5 in
+    let vdx = var 6 in
+    let vdy = var 7 in
+    let none = num (pos 0) in
+    let i = none ⊖ ((vdx ⊖ vcx) ⊗ (vby ⊖ vcy) ⊖ (vdy ⊖ vcy) ⊗ (vbx ⊖ vcx)) in
+    let j = (vdx ⊖ vcx) ⊗ (vay ⊖ vcy) ⊖ (vdy ⊖ vcy) ⊗ (vax ⊖ vcx) in
+    let u = (vbx ⊖ vax) ⊗ (vdy ⊖ vay) ⊖ (vby ⊖ vay) ⊗ (vdx ⊖ vax) in
+    let v = none ⊖ ((vbx ⊖ vax) ⊗ (vcy ⊖ vay) ⊖ (vby ⊖ vay) ⊗ (vcx ⊖ vax)) in
+    ring (at (ax ∷ ay ∷ bx ∷ by ∷ cx ∷ cy ∷ dx ∷ dy ∷ []))
+    ((i ⊗ vax ⊕ j ⊗ vbx) ⊗ (u ⊕ v) ⊖ (u ⊗ vcx ⊕ v ⊗ vdx) ⊗ (i ⊕ j)) none refl
+
+-- and along y
+meets_y : (ax ay bx by cx cy dx dy : ℤ)
+    → offset ay by cy dy
+    (pos 0 -ℤ (((dx -ℤ cx) *ℤ (by -ℤ cy)) -ℤ ((dy -ℤ cy) *ℤ (bx -ℤ cx))))
+    (((dx -ℤ cx) *ℤ (ay -ℤ cy)) -ℤ ((dy -ℤ cy) *ℤ (ax -ℤ cx)))
+    (((bx -ℤ ax) *ℤ (dy -ℤ ay)) -ℤ ((by -ℤ ay) *ℤ (dx -ℤ ax)))
+    (pos 0 -ℤ (((bx -ℤ ax) *ℤ (cy -ℤ ay)) -ℤ ((by -ℤ ay) *ℤ (cx -ℤ ax)))) ≡ pos 0
+meets_y ax ay bx by cx cy dx dy =
+    let vax = var 0 in
+    let vay = var 1 in
+    let vbx = var 2 in
+    let vby = var 3 in
+    let vcx = var 4 in
+    let vcy = var 5 in
+    let vdx = var 6 in
+    let vdy = var 7 in
+    let none = num (pos 0) in
+    let i = none ⊖ ((vdx ⊖ vcx) ⊗ (vby ⊖ vcy) ⊖ (vdy ⊖ vcy) ⊗ (vbx ⊖ vcx)) in
+    let j = (vdx ⊖ vcx) ⊗ (vay ⊖ vcy) ⊖ (vdy ⊖ vcy) ⊗ (vax ⊖ vcx) in
+    let u = (vbx ⊖ vax) ⊗ (vdy ⊖ vay) ⊖ (vby ⊖ vay) ⊗ (vdx ⊖ vax) in
+    let v = none ⊖ ((vbx ⊖ vax) ⊗ (vcy ⊖ vay) ⊖ (vby ⊖ vay) ⊗ (vcx ⊖ vax)) in
+    ring (at (ax ∷ ay ∷ bx ∷ by ∷ cx ∷ cy ∷ dx ∷ dy ∷ []))
+    ((i ⊗ vay ⊕ j ⊗ vby) ⊗ (u ⊕ v) ⊖ (u ⊗ vcy ⊕ v ⊗ vdy) ⊗ (i ⊕ j)) none refl
+
+-- the heights of the two segments differ by one number
+heights_differ : (a b c d : Point) → cross_of c d a -ℤ cross_of c d b ≡ cross_of a b d -ℤ cross_of a b c
+heights_differ a b c d =
+    plain (pos a.x) (pos a.y) (pos b.x) (pos b.y) (pos c.x) (pos c.y) (pos d.x) (pos d.y)
+  where
+    plain : (ax ay bx by cx cy dx dy : ℤ)
+        → (((dx -ℤ cx) *ℤ (ay -ℤ cy)) -ℤ ((dy -ℤ cy) *ℤ (ax -ℤ cx))) -ℤ (((dx -ℤ cx) *ℤ (by -ℤ cy)) -ℤ ((dy -ℤ cy) *ℤ (bx -ℤ cx)))
+        ≡ (((bx -ℤ ax) *ℤ (dy -ℤ ay)) -ℤ ((by -ℤ ay) *ℤ (dx -ℤ ax))) -ℤ (((bx -ℤ ax) *ℤ (cy -ℤ ay)) -ℤ ((by -ℤ ay) *ℤ (cx -ℤ ax)))
+    plain ax ay bx by cx cy dx dy =
+        let vax = var 0 in
+        let vay = var 1 in
+        let vbx = var 2 in
+        let vby = var 3 in
+        let vcx = var 4 in
+        let vcy = var 5 in
+        let vdx = var 6 in
+        let vdy = var 7 in
+        ring (at (ax ∷ ay ∷ bx ∷ by ∷ cx ∷ cy ∷ dx ∷ dy ∷ []))
+        (((vdx ⊖ vcx) ⊗ (vay ⊖ vcy) ⊖ (vdy ⊖ vcy) ⊗ (vax ⊖ vcx)) ⊖ ((vdx ⊖ vcx) ⊗ (vby ⊖ vcy) ⊖ (vdy ⊖ vcy) ⊗ (vbx ⊖ vcx)))
+        (((vbx ⊖ vax) ⊗ (vdy ⊖ vay) ⊖ (vby ⊖ vay) ⊗ (vdx ⊖ vax)) ⊖ ((vbx ⊖ vax) ⊗ (vcy ⊖ vay) ⊖ (vby ⊖ vay) ⊗ (vcx ⊖ vax))) refl
+
+-- equal weights give equal offsets
+same_offset : (a b c d i j u v i' j' u' v' : ℤ) → i ≡ i' → j ≡ j' → u ≡ u' → v ≡ v' → offset a b c d i j u v ≡ offset a b c d i' j' u' v'
+same_offset a b c d i j u v i' j' u' v' hi hj hu hv =
+    ap₂ (λ s t. offset a b c d s t u v) hi hj ∙ ap₂ (λ s t. offset a b c d i' j' s t) hu hv
+
+-- where a lies above the line of the second segment and b below, and d above that of the first and c below, a point is shared
+left_shared : (s t : Segment) → pos 0 <ℤ cross_of t.a t.b s.a → cross_of t.a t.b s.b <ℤ pos 0
+    → cross_of s.a s.b t.a <ℤ pos 0 → pos 0 <ℤ cross_of s.a s.b t.b → Attained (IsOnSegment s) (IsOnSegment t) 0 1
+left_shared s t ha hb hc hd =
+    let i = pos 0 -ℤ cross_of t.a t.b s.b in
+    let j = cross_of t.a t.b s.a in
+    let u = cross_of s.a s.b t.b in
+    let v = pos 0 -ℤ cross_of s.a s.b t.a in
+    let pi : pos (nat_abs i) ≡ i = pos_abs i (turned _ hb) in
+    let pj : pos (nat_abs j) ≡ j = pos_abs j (weak _ ha) in
+    let pu : pos (nat_abs u) ≡ u = pos_abs u (weak _ hd) in
+    let pv : pos (nat_abs v) ≡ v = pos_abs v (turned _ hc) in
+    attained_at s.a s.b t.a t.b 0 1 (segment_hull s) (segment_hull t) (nat_abs i) (nat_abs j) (nat_abs u) (nat_abs v)
+    (some _ _ _ _ pi pj hb ha) (some' _ _ _ _ pu pv hd hc)
+    (nothing _ _ (square (pos ((nat_abs i + nat_abs j) * (nat_abs u + nat_abs v))))
+    (same_offset (pos s.a.x) (pos s.b.x) (pos t.a.x) (pos t.b.x) _ _ _ _ i j u v pi pj pu pv
+    ∙ meets_x (pos s.a.x) (pos s.a.y) (pos s.b.x) (pos s.b.y) (pos t.a.x) (pos t.a.y) (pos t.b.x) (pos t.b.y))
+    (same_offset (pos s.a.y) (pos s.b.y) (pos t.a.y) (pos t.b.y) _ _ _ _ i j u v pi pj pu pv
+    ∙ meets_y (pos s.a.x) (pos s.a.y) (pos s.b.x) (pos s.b.y) (pos t.a.x) (pos t.a.y) (pos t.b.x) (pos t.b.y)))
+  where
+    weak : (t : ℤ) → pos 0 <ℤ t → pos 0 ≤ℤ t
+    weak t h = omega (arith, ints)
+
+    turned : (t : ℤ) → t <ℤ pos 0 → pos 0 ≤ℤ (pos 0 -ℤ t)
+    turned t h = omega (arith, ints)
+
+    some : (i j : ℕ) (s t : ℤ) → pos i ≡ pos 0 -ℤ s → pos j ≡ t → s <ℤ pos 0 → pos 0 <ℤ t → 0 < i + j
+    some i j s t e f h k = omega (arith, ints)
+
+    some' : (u v : ℕ) (s t : ℤ) → pos u ≡ s → pos v ≡ pos 0 -ℤ t → pos 0 <ℤ s → t <ℤ pos 0 → 0 < u + v
+    some' u v s t e f h k = omega (arith, ints)
+
+    nothing : (x y k : ℤ) → x ≡ pos 0 → y ≡ pos 0 → ((x *ℤ x) +ℤ (y *ℤ y)) *ℤ pos 1 ≡ pos 0 *ℤ k
+    nothing x y k e f =
+        ap₂ (λ s t. ((s *ℤ s) +ℤ (t *ℤ t)) *ℤ pos 1) e f
+        ∙ ring (at (k ∷ [])) ((num (pos 0) ⊗ num (pos 0) ⊕ num (pos 0) ⊗ num (pos 0)) ⊗ num (pos 1)) (num (pos 0) ⊗ var 0) refl
+
+-- segments that cross share a point
+crossing_shared : (s t : Segment) → Cross s t → Attained (IsOnSegment s) (IsOnSegment t) 0 1
+crossing_shared s t h =
+    elim h.first [
+      | inl p ↦ elim h.second [
+        | inl q ↦ absurd (against _ _ _ _ (heights_differ s.a s.b t.a t.b) q.0 q.1 p.0 p.1)
+        | inr q ↦ left_shared s t q.0 q.1 p.0 p.1
+      ]
+      | inr p ↦ elim h.second [
+        | inl q ↦ attained_exchanged 0 1 (left_shared t s p.0 p.1 q.0 q.1)
+        | inr q ↦ absurd (against' _ _ _ _ (heights_differ s.a s.b t.a t.b) q.0 q.1 p.0 p.1)
+      ]
+    ]
+  where
+    against : (a b c d : ℤ) → a -ℤ b ≡ d -ℤ c → a <ℤ pos 0 → pos 0 <ℤ b → c <ℤ pos 0 → pos 0 <ℤ d → ⊥
+    against a b c d e ha hb hc hd = omega (arith, ints)
+
+    against' : (a b c d : ℤ) → a -ℤ b ≡ d -ℤ c → pos 0 <ℤ a → b <ℤ pos 0 → pos 0 <ℤ c → d <ℤ pos 0 → ⊥
+    against' a b c d e ha hb hc hd = omega (arith, ints)
+
+-- two sets that share a point are 0 apart
+pub shared_least : {A B : RationalPoint → Type 0} (m e : ℕ) → m ≡ 0 → e ≡ 1 → Attained A B 0 1 → IsLeast A B m e
+shared_least {A} {B} m e hm he t =
+    subst (λ (n : ℕ). IsLeast A B n e) (sym hm)
+    (subst (λ (n : ℕ). IsLeast A B 0 n) (sym he) (record { attained = t; least = λ q r hq hr. none _ _ (common_square q r) }))
+  where
+    none : (x y k : ℤ) → (pos 0 *ℤ k) ≤ℤ (((x *ℤ x) +ℤ (y *ℤ y)) *ℤ pos 1)
+    none x y k =
+        le_ring (at (x ∷ y ∷ k ∷ [])) (num (pos 0) ⊗ var 2) ((var 0 ⊗ var 0 ⊕ var 1 ⊗ var 1) ⊗ num (pos 1))
+        (var 0 ⊗ var 0 ⊕ var 1 ⊗ var 1) refl (add_nonneg _ _ (square_nonneg x) (square_nonneg y))
+
+-- segments that cross are 0 apart
+pub crossing_least : (s t : Segment) (m e : ℕ) → m ≡ 0 → e ≡ 1 → Cross s t → IsLeast (IsOnSegment s) (IsOnSegment t) m e
+crossing_least s t m e hm he h = shared_least m e hm he (crossing_shared s t h)
