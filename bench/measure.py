@@ -1,7 +1,7 @@
 #!/usr/bin/env python3
 """Runs the built program over scripts and prints lines per second and peak memory. It gives no verdict.
 
-  bench/measure.py            200,000 inserts and 20 rankings of 10 rows, and parts of it
+  bench/measure.py            points and segments: inserts, and rankings of 10 rows
   bench/measure.py FILE..     these scripts
 """
 import os
@@ -28,11 +28,11 @@ def measure(name: str, path: str) -> None:
     )
 
 
-def made(inserts: int, rankings: int) -> None:
+def made(kind: str, inserts: int, rankings: int) -> None:
     with tempfile.NamedTemporaryFile() as script:
-        words = [sys.executable, os.path.join(HERE, "points.py"), str(inserts), str(rankings)]
+        words = [sys.executable, os.path.join(HERE, "rows.py"), kind, str(inserts), str(rankings)]
         subprocess.run(words, stdout=script, check=True)
-        measure(f"{inserts} inserts, {rankings} rankings", script.name)
+        measure(f"{inserts} {kind}s, {rankings} rankings", script.name)
 
 
 if not os.access(PROGRAM, os.X_OK):
@@ -41,7 +41,10 @@ if len(sys.argv) > 1:
     for path in sys.argv[1:]:
         measure(path, path)
 else:
-    made(50_000, 0)
-    made(100_000, 0)
-    made(200_000, 0)
-    made(200_000, 20)
+    made("point", 50_000, 0)
+    made("point", 100_000, 0)
+    made("point", 200_000, 0)
+    made("point", 200_000, 20)
+    made("point", 100_000, 20)
+    made("segment", 50_000, 20)
+    made("segment", 100_000, 20)

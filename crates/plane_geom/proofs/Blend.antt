@@ -5,8 +5,9 @@ use Rattle.sand_base.specs.declared.segment.Segment.{Segment}
 use Rattle.sand_model.specs.Carrier.{RationalPoint, IsWithin, IsOnSegment}
 use Rattle.int_ring.specs.Expr.{var, at, num, ◌⊕◌, ◌⊖◌, ◌⊗◌}
 use Rattle.int_ring.proofs.Ring.{ring_using_two}
-use Rattle.int_ring.proofs.Order.{mul_nonneg, mul_positive, add_nonneg, pos_abs}
+use Rattle.int_ring.proofs.Order.{difference_nonneg, mul_nonneg, mul_positive, add_nonneg, pos_abs}
 use Rattle.int_ring.proofs.Inequality.{le_ring}
+use Rattle.plane_geom.proofs.Signs.{natural}
 
 -- the mean of two rational points under two weights
 abbrev blend : (w z : ℕ) (q r : RationalPoint) → 0 < w * q.n + z * r.n → RationalPoint
@@ -17,24 +18,16 @@ blend w z q r h = record {
   positive = h;
 }
 
--- q - p isn't negative where p ≤ q
-not_below : (p q : ℤ) → p ≤ℤ q → pos 0 ≤ℤ (q -ℤ p)
-not_below p q h = omega (arith, ints)
-
--- a natural isn't negative
-natural : (n : ℕ) → pos 0 ≤ℤ pos n
-natural n = omega (arith, ints)
-
 -- it lies in each range in which both lie
 blend_within : (low high w z n m : ℕ) (x u : ℤ) → IsWithin low high n x → IsWithin low high m u
     → IsWithin low high (w * n + z * m) ((pos w *ℤ x) +ℤ (pos z *ℤ u))
 blend_within low high w z n m x u h k = record {
   above = le_ring (at (pos w ∷ pos z ∷ pos n ∷ pos m ∷ x ∷ u ∷ pos low ∷ [])) ((var 0 ⊗ var 2 ⊕ var 1 ⊗ var 3) ⊗ var 6)
       (var 0 ⊗ var 4 ⊕ var 1 ⊗ var 5) (var 0 ⊗ (var 4 ⊖ var 2 ⊗ var 6) ⊕ var 1 ⊗ (var 5 ⊖ var 3 ⊗ var 6)) refl
-      (add_nonneg _ _ (mul_nonneg (pos w) _ (natural w) (not_below _ _ h.above)) (mul_nonneg (pos z) _ (natural z) (not_below _ _ k.above)));
+      (add_nonneg _ _ (mul_nonneg (pos w) _ (natural w) (difference_nonneg _ _ h.above)) (mul_nonneg (pos z) _ (natural z) (difference_nonneg _ _ k.above)));
   below = le_ring (at (pos w ∷ pos z ∷ pos n ∷ pos m ∷ x ∷ u ∷ pos high ∷ [])) (var 0 ⊗ var 4 ⊕ var 1 ⊗ var 5)
       ((var 0 ⊗ var 2 ⊕ var 1 ⊗ var 3) ⊗ var 6) (var 0 ⊗ (var 2 ⊗ var 6 ⊖ var 4) ⊕ var 1 ⊗ (var 3 ⊗ var 6 ⊖ var 5)) refl
-      (add_nonneg _ _ (mul_nonneg (pos w) _ (natural w) (not_below _ _ h.below)) (mul_nonneg (pos z) _ (natural z) (not_below _ _ k.below)));
+      (add_nonneg _ _ (mul_nonneg (pos w) _ (natural w) (difference_nonneg _ _ h.below)) (mul_nonneg (pos z) _ (natural z) (difference_nonneg _ _ k.below)));
 }
 
 -- it lies on each line on which both lie
@@ -101,8 +94,8 @@ pub cut_x : (s : Segment) (level : ℕ) (q r : RationalPoint) → IsOnSegment s 
 cut_x s level q r hq hr high low apart =
     let w = nat_abs (pos (r.n * level) -ℤ r.x) in
     let z = nat_abs (q.x -ℤ pos (q.n * level)) in
-    let ew : pos w ≡ pos (r.n * level) -ℤ r.x = pos_abs (pos (r.n * level) -ℤ r.x) (not_below r.x (pos (r.n * level)) low) in
-    let ez : pos z ≡ q.x -ℤ pos (q.n * level) = pos_abs (q.x -ℤ pos (q.n * level)) (not_below (pos (q.n * level)) q.x high) in
+    let ew : pos w ≡ pos (r.n * level) -ℤ r.x = pos_abs (pos (r.n * level) -ℤ r.x) (difference_nonneg r.x (pos (r.n * level)) low) in
+    let ez : pos z ≡ q.x -ℤ pos (q.n * level) = pos_abs (q.x -ℤ pos (q.n * level)) (difference_nonneg (pos (q.n * level)) q.x high) in
     let h = some_weight w z q.n r.n q.positive r.positive (sum_positive w z (pos (r.n * level)) r.x q.x (pos (q.n * level)) ew ez apart) in (
       blend w z q r h,
       record {
@@ -118,8 +111,8 @@ pub cut_y : (s : Segment) (level : ℕ) (q r : RationalPoint) → IsOnSegment s 
 cut_y s level q r hq hr high low apart =
     let w = nat_abs (pos (r.n * level) -ℤ r.y) in
     let z = nat_abs (q.y -ℤ pos (q.n * level)) in
-    let ew : pos w ≡ pos (r.n * level) -ℤ r.y = pos_abs (pos (r.n * level) -ℤ r.y) (not_below r.y (pos (r.n * level)) low) in
-    let ez : pos z ≡ q.y -ℤ pos (q.n * level) = pos_abs (q.y -ℤ pos (q.n * level)) (not_below (pos (q.n * level)) q.y high) in
+    let ew : pos w ≡ pos (r.n * level) -ℤ r.y = pos_abs (pos (r.n * level) -ℤ r.y) (difference_nonneg r.y (pos (r.n * level)) low) in
+    let ez : pos z ≡ q.y -ℤ pos (q.n * level) = pos_abs (q.y -ℤ pos (q.n * level)) (difference_nonneg (pos (q.n * level)) q.y high) in
     let h = some_weight w z q.n r.n q.positive r.positive (sum_positive w z (pos (r.n * level)) r.y q.y (pos (q.n * level)) ew ez apart) in (
       blend w z q r h,
       record {

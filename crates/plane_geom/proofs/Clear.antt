@@ -4,9 +4,10 @@ use Rattle.std.proofs.lemmas.Int.{ints}
 use Rattle.sand_base.specs.declared.point.Point.{Point}
 use Rattle.int_ring.specs.Expr.{var, at, num, neg, ◌⊕◌, ◌⊖◌, ◌⊗◌}
 use Rattle.int_ring.proofs.Ring.{ring}
-use Rattle.int_ring.proofs.Order.{mul_nonneg, mul_positive, mul_le, add_nonneg, chain_le}
+use Rattle.int_ring.proofs.Order.{difference_nonneg, mul_nonneg, mul_positive, mul_le, add_nonneg, chain_le}
 use Rattle.int_ring.proofs.Inequality.{le_ring, le_ring_scaled}
 use Rattle.int_ring.proofs.Squares.{square_nonneg}
+use Rattle.plane_geom.proofs.Signs.{weak}
 
 -- the vector (x, y), over the denominator k, is at least as long as the root of m / e
 abbrev pub IsClear : ℤ → ℤ → ℤ → ℤ → ℤ → Type 0
@@ -40,25 +41,33 @@ shrunk m e x y k t s he ht hts hs h =
     le_ring_scaled (at (m ∷ e ∷ x ∷ y ∷ k ∷ t ∷ s ∷ [])) (vm ⊗ (vk ⊗ vk)) (long ⊗ ve) (vs ⊗ vs)
     ((far ⊖ near) ⊕ ((vs ⊖ vt) ⊗ (vs ⊕ vt)) ⊗ (long ⊗ ve)) refl
     (mul_positive s s hs hs)
-    (add_nonneg _ _ (not_below _ _ h)
-    (mul_nonneg _ _ (mul_nonneg _ _ (not_below t s hts) (both t s ht hs))
+    (add_nonneg _ _ (difference_nonneg _ _ h)
+    (mul_nonneg _ _ (mul_nonneg _ _ (difference_nonneg t s hts) (both t s ht hs))
     (mul_nonneg _ _ (add_nonneg _ _ (square_nonneg x) (square_nonneg y)) he)))
   where
-    not_below : (p q : ℤ) → p ≤ℤ q → pos 0 ≤ℤ (q -ℤ p)
-    not_below p q h = omega (arith, ints)
-
     both : (t s : ℤ) → pos 0 ≤ℤ t → pos 0 <ℤ s → pos 0 ≤ℤ (s +ℤ t)
     both t s ht hs = omega (arith, ints)
 
 -- a common positive factor changes nothing
 pub unscaled : (m e x y k s : ℤ) → pos 0 ≤ℤ e → pos 0 <ℤ s → IsClear m e (s *ℤ x) (s *ℤ y) (s *ℤ k) → IsClear m e x y k
-unscaled m e x y k s he hs h = shrunk m e x y k s s he (weak s hs) (same s) hs h
+unscaled m e x y k s he hs h = shrunk m e x y k s s he (weak (pos 0) s hs) (same s) hs h
   where
-    weak : (s : ℤ) → pos 0 <ℤ s → pos 0 ≤ℤ s
-    weak s h = omega (arith, ints)
-
     same : (s : ℤ) → s ≤ℤ s
     same s = omega (arith, ints)
+
+-- a common factor keeps a vector long enough
+pub raised : (m e x y k r : ℤ) → IsClear m e x y k → IsClear m e (r *ℤ x) (r *ℤ y) (r *ℤ k)
+raised m e x y k r h =
+    let vm = var 0 in
+    let ve = var 1 in
+    let vx = var 2 in
+    let vy = var 3 in
+    let vk = var 4 in
+    let vr = var 5 in
+    le_ring (at (m ∷ e ∷ x ∷ y ∷ k ∷ r ∷ [])) (vm ⊗ ((vr ⊗ vk) ⊗ (vr ⊗ vk)))
+    (((vr ⊗ vx) ⊗ (vr ⊗ vx) ⊕ (vr ⊗ vy) ⊗ (vr ⊗ vy)) ⊗ ve)
+    ((vr ⊗ vr) ⊗ ((vx ⊗ vx ⊕ vy ⊗ vy) ⊗ ve ⊖ vm ⊗ (vk ⊗ vk))) refl
+    (mul_nonneg _ _ (square_nonneg r) (difference_nonneg _ _ h))
 
 -- what is at least as long as a vector that is long enough is long enough
 pub farther : (m e x y x' y' k : ℤ) → pos 0 ≤ℤ e → IsClear m e x y (pos 1)
@@ -71,11 +80,8 @@ farther m e x y x' y' k he h far =
     chain_le _ _ _
     (le_ring (at (m ∷ e ∷ k ∷ ((x *ℤ x) +ℤ (y *ℤ y)) ∷ [])) (vm ⊗ (vk ⊗ vk)) ((vl ⊗ (vk ⊗ vk)) ⊗ ve)
     ((vk ⊗ vk) ⊗ (vl ⊗ ve ⊖ vm ⊗ (num (pos 1) ⊗ num (pos 1)))) refl
-    (mul_nonneg _ _ (square_nonneg k) (not_below _ _ h)))
+    (mul_nonneg _ _ (square_nonneg k) (difference_nonneg _ _ h)))
     (mul_le _ _ e he far)
-  where
-    not_below : (p q : ℤ) → p ≤ℤ q → pos 0 ≤ℤ (q -ℤ p)
-    not_below p q h = omega (arith, ints)
 
 -- two weights, not both 0
 pub record IsWeights (i j : ℤ) : Type 0 where

@@ -13,8 +13,9 @@ use Rattle.int_ring.proofs.Squares.{square_nonneg}
 use Rattle.plane_geom.specs.Crossing.{Cross}
 use Rattle.plane_geom.specs.Vectors.{cross_of}
 use Rattle.plane_geom.proofs.Clear.{offset}
-use Rattle.plane_geom.proofs.Means.{segment_hull}
+use Rattle.plane_geom.proofs.SegmentHull.{segment_hull}
 use Rattle.plane_geom.proofs.Least.{Attained, attained_at, attained_exchanged}
+use Rattle.plane_geom.proofs.Signs.{weak, turned_sign}
 
 -- under the heights as weights, both means are one point: along x
 meets_x : (ax ay bx by cx cy dx dy : ℤ)
@@ -98,10 +99,10 @@ left_shared s t ha hb hc hd =
     let j = cross_of t.a t.b s.a in
     let u = cross_of s.a s.b t.b in
     let v = pos 0 -ℤ cross_of s.a s.b t.a in
-    let pi : pos (nat_abs i) ≡ i = pos_abs i (turned _ hb) in
-    let pj : pos (nat_abs j) ≡ j = pos_abs j (weak _ ha) in
-    let pu : pos (nat_abs u) ≡ u = pos_abs u (weak _ hd) in
-    let pv : pos (nat_abs v) ≡ v = pos_abs v (turned _ hc) in
+    let pi : pos (nat_abs i) ≡ i = pos_abs i (turned_sign _ (weak _ _ hb)) in
+    let pj : pos (nat_abs j) ≡ j = pos_abs j (weak _ _ ha) in
+    let pu : pos (nat_abs u) ≡ u = pos_abs u (weak _ _ hd) in
+    let pv : pos (nat_abs v) ≡ v = pos_abs v (turned_sign _ (weak _ _ hc)) in
     attained_at s.a s.b t.a t.b 0 1 (segment_hull s) (segment_hull t) (nat_abs i) (nat_abs j) (nat_abs u) (nat_abs v)
     (some _ _ _ _ pi pj hb ha) (some' _ _ _ _ pu pv hd hc)
     (nothing _ _ (square (pos ((nat_abs i + nat_abs j) * (nat_abs u + nat_abs v))))
@@ -110,12 +111,6 @@ left_shared s t ha hb hc hd =
     (same_offset (pos s.a.y) (pos s.b.y) (pos t.a.y) (pos t.b.y) _ _ _ _ i j u v pi pj pu pv
     ∙ meets_y (pos s.a.x) (pos s.a.y) (pos s.b.x) (pos s.b.y) (pos t.a.x) (pos t.a.y) (pos t.b.x) (pos t.b.y)))
   where
-    weak : (t : ℤ) → pos 0 <ℤ t → pos 0 ≤ℤ t
-    weak t h = omega (arith, ints)
-
-    turned : (t : ℤ) → t <ℤ pos 0 → pos 0 ≤ℤ (pos 0 -ℤ t)
-    turned t h = omega (arith, ints)
-
     some : (i j : ℕ) (s t : ℤ) → pos i ≡ pos 0 -ℤ s → pos j ≡ t → s <ℤ pos 0 → pos 0 <ℤ t → 0 < i + j
     some i j s t e f h k = omega (arith, ints)
 
@@ -128,7 +123,7 @@ left_shared s t ha hb hc hd =
         ∙ ring (at (k ∷ [])) ((num (pos 0) ⊗ num (pos 0) ⊕ num (pos 0) ⊗ num (pos 0)) ⊗ num (pos 1)) (num (pos 0) ⊗ var 0) refl
 
 -- segments that cross share a point
-crossing_shared : (s t : Segment) → Cross s t → Attained (IsOnSegment s) (IsOnSegment t) 0 1
+pub crossing_shared : (s t : Segment) → Cross s t → Attained (IsOnSegment s) (IsOnSegment t) 0 1
 crossing_shared s t h =
     elim h.first [
       | inl p ↦ elim h.second [

@@ -9,6 +9,7 @@ use Rattle.int_ring.proofs.Ring.{ring}
 use Rattle.int_ring.proofs.Order.{mul_positive}
 use Rattle.plane_geom.proofs.Clear.{IsClear, AreClear, offset, along, unscaled}
 use Rattle.plane_geom.proofs.Means.{IsMean, IsHull}
+use Rattle.plane_geom.proofs.Signs.{natural, once}
 
 -- some pair of points of two sets is the root of num / den apart
 abbrev pub Attained : (RationalPoint → Type 0) → (RationalPoint → Type 0) → ℕ → ℕ → Type 0
@@ -30,7 +31,7 @@ sums_are k l n m i j u v tk tl =
     ∙ ap₂ (λ s t. s *ℤ t) tk tl
 
 -- no pair of means is nearer than the bound of the weights
-means_clear : (m e : ℤ) (a b c d : Point) (q r : RationalPoint) → pos 0 ≤ℤ e → AreClear m e a b c d → IsMean a b q → IsMean c d r
+pub means_clear : (m e : ℤ) (a b c d : Point) (q r : RationalPoint) → pos 0 ≤ℤ e → AreClear m e a b c d → IsMean a b q → IsMean c d r
     → IsClear m e ((q.x *ℤ pos r.n) -ℤ (r.x *ℤ pos q.n)) ((q.y *ℤ pos r.n) -ℤ (r.y *ℤ pos q.n)) (pos q.n *ℤ pos r.n)
 means_clear m e a b c d q r he h p s =
     unscaled m e _ _ _ (p.k *ℤ s.k) he (mul_positive p.k s.k p.positive s.positive)
@@ -46,9 +47,6 @@ least_of_clear a b c d m e ha hb t h = record {
   attained = t;
   least = λ q r hq hr. means_clear (pos m) (pos e) a b c d q r (natural e) h (ha.into q hq) (hb.into r hr);
 }
-  where
-    natural : (n : ℕ) → pos 0 ≤ℤ pos n
-    natural n = omega (arith, ints)
 
 -- the mean of two grid points under natural weights
 abbrev pub mean : (a b : Point) (i j : ℕ) → 0 < i + j → RationalPoint
@@ -67,14 +65,8 @@ mean_is a b i j h = record {
   y = once (pos (i * a.y + j * b.y));
 }
   where
-    natural : (n : ℕ) → pos 0 ≤ℤ pos n
-    natural n = omega (arith, ints)
-
     some : (i j : ℕ) → 0 < i + j → pos 0 <ℤ (pos i +ℤ pos j)
     some i j h = omega (arith, ints)
-
-    once : (t : ℤ) → pos 1 *ℤ t ≡ t
-    once t = omega (arith, ints)
 
 -- no natural is a negative weight
 not_negative : {P : Type 0} (n : ℕ) → pos 0 ≤ℤ negsuc n → P
@@ -84,17 +76,22 @@ not_negative n h = absurd (omega (arith, ints))
 some_weight : (i j : ℕ) → pos 0 <ℤ (pos i +ℤ pos j) → 0 < i + j
 some_weight i j h = omega (arith, ints)
 
--- the least distance bounds the means under all weights
-pub clear_of_least : {A B : RationalPoint → Type 0} (a b c d : Point) (m e : ℕ) → IsHull A a b → IsHull B c d
-    → IsLeast A B m e → AreClear (pos m) (pos e) a b c d
-clear_of_least a b c d m e ha hb h (negsuc i) j u v wi wu = not_negative i wi.first
-clear_of_least a b c d m e ha hb h (pos i) (negsuc j) u v wi wu = not_negative j wi.second
-clear_of_least a b c d m e ha hb h (pos i) (pos j) (negsuc u) v wi wu = not_negative u wu.first
-clear_of_least a b c d m e ha hb h (pos i) (pos j) (pos u) (negsuc v) wi wu = not_negative v wu.second
-clear_of_least a b c d m e ha hb h (pos i) (pos j) (pos u) (pos v) wi wu =
+-- a bound for all pairs of points is one for the means under all weights
+pub clear_of_bound : {A B : RationalPoint → Type 0} (a b c d : Point) (m e : ℕ) → IsHull A a b → IsHull B c d
+    → ((q r : RationalPoint) → A q → B r → (pos m *ℤ common_square q r) ≤ℤ (far q r *ℤ pos e)) → AreClear (pos m) (pos e) a b c d
+clear_of_bound a b c d m e ha hb h (negsuc i) j u v wi wu = not_negative i wi.first
+clear_of_bound a b c d m e ha hb h (pos i) (negsuc j) u v wi wu = not_negative j wi.second
+clear_of_bound a b c d m e ha hb h (pos i) (pos j) (negsuc u) v wi wu = not_negative u wu.first
+clear_of_bound a b c d m e ha hb h (pos i) (pos j) (pos u) (negsuc v) wi wu = not_negative v wu.second
+clear_of_bound a b c d m e ha hb h (pos i) (pos j) (pos u) (pos v) wi wu =
     let pi = some_weight i j wi.some in
     let pu = some_weight u v wu.some in
-    h.least (mean a b i j pi) (mean c d u v pu) (ha.back _ (mean_is a b i j pi)) (hb.back _ (mean_is c d u v pu))
+    h (mean a b i j pi) (mean c d u v pu) (ha.back _ (mean_is a b i j pi)) (hb.back _ (mean_is c d u v pu))
+
+-- the least distance is such a bound
+pub clear_of_least : {A B : RationalPoint → Type 0} (a b c d : Point) (m e : ℕ) → IsHull A a b → IsHull B c d
+    → IsLeast A B m e → AreClear (pos m) (pos e) a b c d
+clear_of_least a b c d m e ha hb h = clear_of_bound a b c d m e ha hb h.least
 
 -- some weights give a pair that is so far apart
 pub attained_at : {A B : RationalPoint → Type 0} (a b c d : Point) (m e : ℕ) → IsHull A a b → IsHull B c d

@@ -1,15 +1,15 @@
 -- Rational points as weighted means of two grid points: the points of a segment are the means of its ends.
-use Rattle.std.proofs.Common.{◌≡◌, ℕ, ◌*◌, ◌<◌, min, max, ℤ, pos, ◌+ℤ◌, ◌-ℤ◌, ◌*ℤ◌, ◌≤ℤ◌, ◌<ℤ◌, [], ◌∷◌, refl, ap, ◌∙◌, subst, arith}
+use Rattle.std.proofs.Common.{◌≡◌, ℕ, ◌<◌, min, max, ℤ, pos, ◌+ℤ◌, ◌-ℤ◌, ◌*ℤ◌, ◌≤ℤ◌, ◌<ℤ◌, [], ◌∷◌, refl, ◌∙◌, arith}
 use Rattle.std.proofs.Math.IntN.{+ℤ_comm}
-use Rattle.std.proofs.lemmas.Int.{ints, by_lt_z}
+use Rattle.std.proofs.lemmas.Int.{ints}
 use Rattle.sand_base.specs.declared.point.Point.{Point}
 use Rattle.sand_base.specs.declared.segment.Segment.{Segment}
 use Rattle.sand_model.specs.Carrier.{RationalPoint, IsPoint, IsWithin, IsOnSegment}
 use Rattle.int_ring.specs.Expr.{var, at, num, ◌⊕◌, ◌⊖◌, ◌⊗◌}
-use Rattle.int_ring.proofs.Ring.{ring, ring_using, ring_using_two}
-use Rattle.int_ring.proofs.Order.{le_by, mul_nonneg, mul_positive, add_nonneg, both_le, le_from_mul, same_from_mul, pos_le}
-use Rattle.int_ring.proofs.Squares.{square_nonneg, squares_zero}
+use Rattle.int_ring.proofs.Ring.{ring_using, ring_using_two}
+use Rattle.int_ring.proofs.Order.{difference_nonneg, le_by, mul_nonneg, add_nonneg, le_from_mul, same_from_mul, pos_le}
 use Rattle.plane_geom.proofs.Clear.{IsWeights, turned_weights}
+use Rattle.plane_geom.proofs.Signs.{natural}
 
 -- k times the point q is the mean of a and b under the weights i and j
 pub record IsMean (a b : Point) (q : RationalPoint) : Type 0 where
@@ -26,10 +26,6 @@ pub record IsMean (a b : Point) (q : RationalPoint) : Type 0 where
 pub record IsHull (A : RationalPoint → Type 0) (a b : Point) : Type 0 where
   pub into : (q : RationalPoint) → A q → IsMean a b q
   pub back : (q : RationalPoint) → IsMean a b q → A q
-
--- a natural isn't negative
-natural : (n : ℕ) → pos 0 ≤ℤ pos n
-natural n = omega (arith, ints)
 
 -- a mean of one point with itself is that point
 one_point : (k i j n x p : ℤ) → pos 0 <ℤ k → k *ℤ n ≡ i +ℤ j → k *ℤ x ≡ (i *ℤ p) +ℤ (j *ℤ p) → x ≡ n *ℤ p
@@ -115,10 +111,7 @@ mean_above k i j n x a b low hk w t e ha hb =
     (var 1 ⊗ (var 5 ⊖ var 7) ⊕ var 2 ⊗ (var 6 ⊖ var 7))
     (num (pos 1)) (var 0 ⊗ var 4) (var 1 ⊗ var 5 ⊕ var 2 ⊗ var 6)
     (num (pos 0) ⊖ var 7) (var 0 ⊗ var 3) (var 1 ⊕ var 2) e t refl)
-    (add_nonneg _ _ (mul_nonneg _ _ w.first (not_below low a ha)) (mul_nonneg _ _ w.second (not_below low b hb))))
-  where
-    not_below : (p q : ℤ) → p ≤ℤ q → pos 0 ≤ℤ (q -ℤ p)
-    not_below p q h = omega (arith, ints)
+    (add_nonneg _ _ (mul_nonneg _ _ w.first (difference_nonneg low a ha)) (mul_nonneg _ _ w.second (difference_nonneg low b hb))))
 
 -- and at most what both are
 mean_below : (k i j n x a b high : ℤ) → pos 0 <ℤ k → IsWeights i j → k *ℤ n ≡ i +ℤ j → k *ℤ x ≡ (i *ℤ a) +ℤ (j *ℤ b)
@@ -130,10 +123,7 @@ mean_below k i j n x a b high hk w t e ha hb =
     (var 1 ⊗ (var 7 ⊖ var 5) ⊕ var 2 ⊗ (var 7 ⊖ var 6))
     (num (pos 0) ⊖ num (pos 1)) (var 0 ⊗ var 4) (var 1 ⊗ var 5 ⊕ var 2 ⊗ var 6)
     (var 7) (var 0 ⊗ var 3) (var 1 ⊕ var 2) e t refl)
-    (add_nonneg _ _ (mul_nonneg _ _ w.first (not_below a high ha)) (mul_nonneg _ _ w.second (not_below b high hb))))
-  where
-    not_below : (p q : ℤ) → p ≤ℤ q → pos 0 ≤ℤ (q -ℤ p)
-    not_below p q h = omega (arith, ints)
+    (add_nonneg _ _ (mul_nonneg _ _ w.first (difference_nonneg a high ha)) (mul_nonneg _ _ w.second (difference_nonneg b high hb))))
 
 -- a mean of two naturals lies between the lesser and the greater
 mean_within : (k i j : ℤ) (n : ℕ) (x : ℤ) (a b : ℕ) → pos 0 <ℤ k → IsWeights i j → k *ℤ pos n ≡ i +ℤ j
@@ -151,151 +141,4 @@ mean_on s q m = record {
       (share m.k m.i m.j (pos q.n) q.y (pos s.a.y) (pos s.b.y) m.total m.y);
   x = mean_within m.k m.i m.j q.n q.x s.a.x s.b.x m.positive m.weights m.total m.x;
   y = mean_within m.k m.i m.j q.n q.y s.a.y s.b.y m.positive m.weights m.total m.y;
-}
-
--- q - p isn't negative where p ≤ q
-not_below : (p q : ℤ) → p ≤ℤ q → pos 0 ≤ℤ (q -ℤ p)
-not_below p q h = omega (arith, ints)
-
--- a step up, and what lies between its ends
-step_up : (n x a b : ℤ) → a ≤ℤ b → (n *ℤ a) ≤ℤ x → x ≤ℤ (n *ℤ b)
-    → (pos 0 ≤ℤ ((b -ℤ a) *ℤ (x -ℤ (n *ℤ a)))) × (pos 0 ≤ℤ ((b -ℤ a) *ℤ ((n *ℤ b) -ℤ x)))
-step_up n x a b l low high = (
-  mul_nonneg (b -ℤ a) (x -ℤ (n *ℤ a)) (not_below a b l) (not_below (n *ℤ a) x low),
-  mul_nonneg (b -ℤ a) ((n *ℤ b) -ℤ x) (not_below a b l) (not_below x (n *ℤ b) high),
-)
-
--- a step down, and what lies between its ends
-step_down : (n x a b : ℤ) → b ≤ℤ a → (n *ℤ b) ≤ℤ x → x ≤ℤ (n *ℤ a)
-    → (pos 0 ≤ℤ ((b -ℤ a) *ℤ (x -ℤ (n *ℤ a)))) × (pos 0 ≤ℤ ((b -ℤ a) *ℤ ((n *ℤ b) -ℤ x)))
-step_down n x a b l low high = (
-  subst (λ t. pos 0 ≤ℤ t)
-      (ring (at (n ∷ x ∷ a ∷ b ∷ [])) ((var 2 ⊖ var 3) ⊗ (var 0 ⊗ var 2 ⊖ var 1)) ((var 3 ⊖ var 2) ⊗ (var 1 ⊖ var 0 ⊗ var 2)) refl)
-      (mul_nonneg (a -ℤ b) ((n *ℤ a) -ℤ x) (not_below b a l) (not_below x (n *ℤ a) high)),
-  subst (λ t. pos 0 ≤ℤ t)
-      (ring (at (n ∷ x ∷ a ∷ b ∷ [])) ((var 2 ⊖ var 3) ⊗ (var 1 ⊖ var 0 ⊗ var 3)) ((var 3 ⊖ var 2) ⊗ (var 0 ⊗ var 3 ⊖ var 1)) refl)
-      (mul_nonneg (a -ℤ b) (x -ℤ (n *ℤ b)) (not_below b a l) (not_below (n *ℤ b) x low)),
-)
-
--- what lies between two bounds lies on the side of the step from either of them
-along_step : (n : ℕ) (x : ℤ) (a b : ℕ) → IsWithin (min a b) (max a b) n x
-    → (pos 0 ≤ℤ ((pos b -ℤ pos a) *ℤ (x -ℤ (pos n *ℤ pos a)))) × (pos 0 ≤ℤ ((pos b -ℤ pos a) *ℤ ((pos n *ℤ pos b) -ℤ x)))
-along_step n x a b h =
-    by_lt_z (pos b) (pos a)
-    (λ l.
-    let e : min a b ≡ b = omega (arith, ints) in
-    let f : max a b ≡ a = omega (arith, ints) in
-    step_down (pos n) x (pos a) (pos b) (omega (arith, ints))
-    (subst (λ (t : ℕ). pos (n * t) ≤ℤ x) e h.above) (subst (λ (t : ℕ). x ≤ℤ pos (n * t)) f h.below))
-    (λ l.
-    let e : min a b ≡ a = omega (arith, ints) in
-    let f : max a b ≡ b = omega (arith, ints) in
-    step_up (pos n) x (pos a) (pos b) l
-    (subst (λ (t : ℕ). pos (n * t) ≤ℤ x) e h.above) (subst (λ (t : ℕ). x ≤ℤ pos (n * t)) f h.below))
-
--- along one axis: the foot's share of a step, for a point on the step's line
-foot_x : (dx dy u v n a b : ℤ) → b -ℤ a ≡ dx → (dx *ℤ v) -ℤ (dy *ℤ u) ≡ pos 0
-    → ((dx *ℤ dx) +ℤ (dy *ℤ dy)) *ℤ (u +ℤ n *ℤ a)
-    ≡ (((n *ℤ ((dx *ℤ dx) +ℤ (dy *ℤ dy))) -ℤ ((dx *ℤ u) +ℤ (dy *ℤ v))) *ℤ a) +ℤ (((dx *ℤ u) +ℤ (dy *ℤ v)) *ℤ b)
-foot_x dx dy u v n a b e h =
-    let long = var 0 ⊗ var 0 ⊕ var 1 ⊗ var 1 in
-    let foot = var 0 ⊗ var 2 ⊕ var 1 ⊗ var 3 in
-    ring_using_two (at (dx ∷ dy ∷ u ∷ v ∷ n ∷ a ∷ b ∷ [])) (long ⊗ (var 2 ⊕ var 4 ⊗ var 5)) ((var 4 ⊗ long ⊖ foot) ⊗ var 5 ⊕ foot ⊗ var 6)
-    (num (pos 0) ⊖ var 1) (var 0 ⊗ var 3 ⊖ var 1 ⊗ var 2) (num (pos 0))
-    (num (pos 0) ⊖ foot) (var 6 ⊖ var 5) (var 0) h e refl
-
--- the same along the other axis
-foot_y : (dx dy u v n a b : ℤ) → b -ℤ a ≡ dy → (dx *ℤ v) -ℤ (dy *ℤ u) ≡ pos 0
-    → ((dx *ℤ dx) +ℤ (dy *ℤ dy)) *ℤ (v +ℤ n *ℤ a)
-    ≡ (((n *ℤ ((dx *ℤ dx) +ℤ (dy *ℤ dy))) -ℤ ((dx *ℤ u) +ℤ (dy *ℤ v))) *ℤ a) +ℤ (((dx *ℤ u) +ℤ (dy *ℤ v)) *ℤ b)
-foot_y dx dy u v n a b e h =
-    let long = var 0 ⊗ var 0 ⊕ var 1 ⊗ var 1 in
-    let foot = var 0 ⊗ var 2 ⊕ var 1 ⊗ var 3 in
-    ring_using_two (at (dx ∷ dy ∷ u ∷ v ∷ n ∷ a ∷ b ∷ [])) (long ⊗ (var 3 ⊕ var 4 ⊗ var 5)) ((var 4 ⊗ long ⊖ foot) ⊗ var 5 ⊕ foot ⊗ var 6)
-    (var 0) (var 0 ⊗ var 3 ⊖ var 1 ⊗ var 2) (num (pos 0))
-    (num (pos 0) ⊖ foot) (var 6 ⊖ var 5) (var 1) h e refl
-
--- a point of a segment that has a length is a mean of its ends
-long_mean : (s : Segment) (q : RationalPoint) → IsOnSegment s q
-    → pos 0 <ℤ (((pos s.b.x -ℤ pos s.a.x) *ℤ (pos s.b.x -ℤ pos s.a.x)) +ℤ ((pos s.b.y -ℤ pos s.a.y) *ℤ (pos s.b.y -ℤ pos s.a.y)))
-    → IsMean s.a s.b q
-long_mean s q h l =
-    let dx = pos s.b.x -ℤ pos s.a.x in
-    let dy = pos s.b.y -ℤ pos s.a.y in
-    let n = pos q.n in
-    let u = q.x -ℤ (n *ℤ pos s.a.x) in
-    let v = q.y -ℤ (n *ℤ pos s.a.y) in
-    let long = (dx *ℤ dx) +ℤ (dy *ℤ dy) in
-    let foot = (dx *ℤ u) +ℤ (dy *ℤ v) in
-    let wx = along_step q.n q.x s.a.x s.b.x h.x in
-    let wy = along_step q.n q.y s.a.y s.b.y h.y in
-    record {
-      k = long;
-      i = (n *ℤ long) -ℤ foot;
-      j = foot;
-      positive = l;
-      weights = record {
-        first = rest_sign dx dy (pos s.a.x) (pos s.b.x) (pos s.a.y) (pos s.b.y) q.x q.y n refl refl wx.1 wy.1;
-        second = add_nonneg _ _ wx.0 wy.0;
-        some = all_some n long foot (subst (λ t. pos 0 <ℤ t) refl (times_positive q.n long q.positive l));
-      };
-      total = whole long n foot;
-      x = ap (λ t. long *ℤ t) (back q.x (n *ℤ pos s.a.x)) ∙ foot_x dx dy u v n (pos s.a.x) (pos s.b.x) refl h.line;
-      y = ap (λ t. long *ℤ t) (back q.y (n *ℤ pos s.a.y)) ∙ foot_y dx dy u v n (pos s.a.y) (pos s.b.y) refl h.line;
-    }
-  where
-    back : (x t : ℤ) → x ≡ (x -ℤ t) +ℤ t
-    back x t = omega (arith, ints)
-
-    whole : (l n f : ℤ) → l *ℤ n ≡ ((n *ℤ l) -ℤ f) +ℤ f
-    whole l n f = ring (at (l ∷ n ∷ f ∷ [])) (var 0 ⊗ var 1) ((var 1 ⊗ var 0 ⊖ var 2) ⊕ var 2) refl
-
-    times_positive : (n : ℕ) (l : ℤ) → 0 < n → pos 0 <ℤ l → pos 0 <ℤ (pos n *ℤ l)
-    times_positive n l hn hl = mul_positive (pos n) l (omega (arith, ints)) hl
-
-    all_some : (n l f : ℤ) → pos 0 <ℤ (n *ℤ l) → pos 0 <ℤ (((n *ℤ l) -ℤ f) +ℤ f)
-    all_some n l f h = omega (arith, ints)
-
-    rest_sign : (dx dy a b c d x y n : ℤ) → b -ℤ a ≡ dx → d -ℤ c ≡ dy
-        → pos 0 ≤ℤ (dx *ℤ ((n *ℤ b) -ℤ x)) → pos 0 ≤ℤ (dy *ℤ ((n *ℤ d) -ℤ y))
-        → pos 0 ≤ℤ ((n *ℤ ((dx *ℤ dx) +ℤ (dy *ℤ dy))) -ℤ ((dx *ℤ (x -ℤ (n *ℤ a))) +ℤ (dy *ℤ (y -ℤ (n *ℤ c)))))
-    rest_sign dx dy a b c d x y n e f h k =
-        subst (λ t. pos 0 ≤ℤ t)
-        (ring_using_two (at (dx ∷ dy ∷ a ∷ b ∷ c ∷ d ∷ x ∷ y ∷ n ∷ []))
-        (var 0 ⊗ (var 8 ⊗ var 3 ⊖ var 6) ⊕ var 1 ⊗ (var 8 ⊗ var 5 ⊖ var 7))
-        (var 8 ⊗ (var 0 ⊗ var 0 ⊕ var 1 ⊗ var 1) ⊖ (var 0 ⊗ (var 6 ⊖ var 8 ⊗ var 2) ⊕ var 1 ⊗ (var 7 ⊖ var 8 ⊗ var 4)))
-        (var 8 ⊗ var 0) (var 3 ⊖ var 2) (var 0)
-        (var 8 ⊗ var 1) (var 5 ⊖ var 4) (var 1) e f refl)
-        (add_nonneg _ _ h k)
-
--- what lies between two equal bounds is both
-between_equals : (n : ℕ) (x : ℤ) (a b : ℕ) → b ≡ a → IsWithin (min a b) (max a b) n x → x ≡ pos n *ℤ pos a
-between_equals n x a b l h =
-    let e : min a b ≡ a = omega arith in
-    let f : max a b ≡ a = omega arith in
-    both_le x (pos n *ℤ pos a) (subst (λ (t : ℕ). x ≤ℤ pos (n * t)) f h.below) (subst (λ (t : ℕ). pos (n * t) ≤ℤ x) e h.above)
-
--- a point of a segment of length zero is both its ends
-flat_mean : (s : Segment) (q : RationalPoint) → IsOnSegment s q
-    → (((pos s.b.x -ℤ pos s.a.x) *ℤ (pos s.b.x -ℤ pos s.a.x)) +ℤ ((pos s.b.y -ℤ pos s.a.y) *ℤ (pos s.b.y -ℤ pos s.a.y))) ≤ℤ pos 0
-    → IsMean s.a s.b q
-flat_mean s q h l =
-    let flat = squares_zero (pos s.b.x -ℤ pos s.a.x) (pos s.b.y -ℤ pos s.a.y)
-    (nothing _ _ (square_nonneg (pos s.b.x -ℤ pos s.a.x)) (square_nonneg (pos s.b.y -ℤ pos s.a.y)) l) in
-    first_end s.a s.b q (record {
-      x = between_equals q.n q.x s.a.x s.b.x (same s.a.x s.b.x flat.0) h.x;
-      y = between_equals q.n q.y s.a.y s.b.y (same s.a.y s.b.y flat.1) h.y;
-    })
-  where
-    nothing : (p q : ℤ) → pos 0 ≤ℤ p → pos 0 ≤ℤ q → (p +ℤ q) ≤ℤ pos 0 → p +ℤ q ≡ pos 0
-    nothing p q hp hq h = omega (arith, ints)
-
-    same : (a b : ℕ) → pos b -ℤ pos a ≡ pos 0 → b ≡ a
-    same a b h = omega (arith, ints)
-
--- the points of a segment are the means of its ends
-pub segment_hull : (s : Segment) → IsHull (IsOnSegment s) s.a s.b
-segment_hull s = record {
-  into = λ q h. by_lt_z (pos 0) _ (λ l. long_mean s q h l) (λ l. flat_mean s q h l);
-  back = mean_on s;
 }

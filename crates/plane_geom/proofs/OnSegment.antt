@@ -10,6 +10,7 @@ use Rattle.int_ring.proofs.Ring.{ring_using_two}
 use Rattle.plane_geom.specs.Incidence.{IsBetween, IsInBox, LiesOn}
 use Rattle.plane_geom.specs.Vectors.{cross_of}
 use Rattle.plane_geom.proofs.PointLemmas.{spot, spot_is}
+use Rattle.plane_geom.proofs.Signs.{once}
 
 -- the cross product at what stands for p is the one at p, times the denominator
 line_is : (a b p : Point) (q : RationalPoint) → IsPoint p q → cross_at a b q ≡ pos q.n *ℤ cross_of a b p
@@ -49,9 +50,6 @@ lies_on p s e h q hq = record {
 pub on_its_line : (p : Point) (s : Segment) → LiesOn p s → cross_of s.a s.b p ≡ pos 0
 on_its_line p s h =
     sym (once (cross_of s.a s.b p)) ∙ sym (line_is s.a s.b p (spot p) (spot_is p)) ∙ (h (spot p) (spot_is p)).line
-  where
-    once : (t : ℤ) → pos 1 *ℤ t ≡ t
-    once t = omega (arith, ints)
 
 -- and in its box
 pub in_its_box : (p : Point) (s : Segment) → LiesOn p s → IsInBox p s

@@ -4,12 +4,13 @@ use Rattle.std.proofs.lemmas.Int.{ints, by_lt_z}
 use Rattle.sand_base.specs.declared.point.Point.{Point}
 use Rattle.int_ring.specs.Expr.{var, at, num, ◌⊕◌, ◌⊖◌, ◌⊗◌}
 use Rattle.int_ring.proofs.Ring.{ring, ring_using_two}
-use Rattle.int_ring.proofs.Order.{mul_nonneg, mul_positive, chain_le, both_le, apart}
+use Rattle.int_ring.proofs.Order.{difference_nonneg, mul_nonneg, mul_positive, chain_le, both_le, apart}
 use Rattle.int_ring.proofs.Inequality.{le_ring}
 use Rattle.int_ring.proofs.Squares.{square_nonneg, squares_zero}
 use Rattle.plane_geom.specs.Vectors.{cross_of}
 use Rattle.plane_geom.proofs.Clear.{AreClear, offset, along, turn_first, turn_second, exchange}
 use Rattle.plane_geom.proofs.Descent.{OnLine, long, drawn_together}
+use Rattle.plane_geom.proofs.Signs.{weak, sum_zero, no_step}
 
 -- no end of either segment is nearer to the other segment than the root of m / e
 pub record EndsClear (m e : ℤ) (a b c d : Point) : Type 0 where
@@ -114,10 +115,7 @@ both_down n s m hc h k =
 lower_share : (u v hc hd : ℤ) → pos 0 ≤ℤ v → hc ≤ℤ hd → ((u +ℤ v) *ℤ hc) ≤ℤ ((u *ℤ hc) +ℤ (v *ℤ hd))
 lower_share u v hc hd hv h =
     le_ring (at (u ∷ v ∷ hc ∷ hd ∷ [])) ((var 0 ⊕ var 1) ⊗ var 2) (var 0 ⊗ var 2 ⊕ var 1 ⊗ var 3) (var 1 ⊗ (var 3 ⊖ var 2)) refl
-    (mul_nonneg v (hd -ℤ hc) hv (not_below hc hd h))
-  where
-    not_below : (p q : ℤ) → p ≤ℤ q → pos 0 ≤ℤ (q -ℤ p)
-    not_below p q h = omega (arith, ints)
+    (mul_nonneg v (hd -ℤ hc) hv (difference_nonneg hc hd h))
 
 -- a factor of a product that isn't positive is 0, where it isn't negative and the other is positive
 no_share : (t h : ℤ) → pos 0 <ℤ t → pos 0 ≤ℤ h → (t *ℤ h) ≤ℤ pos 0 → h ≡ pos 0
@@ -131,7 +129,7 @@ lower_pair m e a b c d he h hl hc hd i j u v wi wu =
     by_lt_z (pos 0) (height a b c d u v)
     (λ up.
     drawn_together m e a b c d i j u v ((u +ℤ v) *ℤ cross_of a b c) (height a b c d u v) he h.first h.second h.third
-    (record { first = wi; second = wu; some = mul_nonneg (u +ℤ v) (cross_of a b c) (weak (u +ℤ v) wu.some) hc; most = share; whole = up })
+    (record { first = wi; second = wu; some = mul_nonneg (u +ℤ v) (cross_of a b c) (weak (pos 0) (u +ℤ v) wu.some) hc; most = share; whole = up })
     hl (on_line a b c d i j u v ((u +ℤ v) *ℤ cross_of a b c) (height a b c d u v)
     (drawn_down (i +ℤ j) (u +ℤ v) (height a b c d u v) (cross_of a b c))))
     (λ down.
@@ -140,25 +138,16 @@ lower_pair m e a b c d he h hl hc hd i j u v wi wu =
     (record { first = wi; second = wu; some = omega (arith, ints); most = omega (arith, ints); whole = omega (arith, ints) })
     hl (on_line a b c d i j u v (pos 1) (pos 1)
     (both_down ((i +ℤ j) *ℤ (u +ℤ v)) (i +ℤ j) (height a b c d u v) (cross_of a b c) low
-    (both_le _ _ down (chain_le _ _ _ (mul_nonneg (u +ℤ v) (cross_of a b c) (weak (u +ℤ v) wu.some) hc) share)))))
-  where
-    weak : (t : ℤ) → pos 0 <ℤ t → pos 0 ≤ℤ t
-    weak t h = omega (arith, ints)
+    (both_le _ _ down (chain_le _ _ _ (mul_nonneg (u +ℤ v) (cross_of a b c) (weak (pos 0) (u +ℤ v) wu.some) hc) share)))))
 
 -- a pair of means, where the first segment is one point
 flat_pair : (m e : ℤ) (a b c d : Point) → AreClear m e a a c d → long a b ≤ℤ pos 0 → AreClear m e a b c d
 flat_pair m e a b c d h hl i j u v wi wu =
     let flat = squares_zero (pos b.x -ℤ pos a.x) (pos b.y -ℤ pos a.y)
-    (nothing _ _ (square_nonneg (pos b.x -ℤ pos a.x)) (square_nonneg (pos b.y -ℤ pos a.y)) hl) in
+    (sum_zero _ _ (square_nonneg (pos b.x -ℤ pos a.x)) (square_nonneg (pos b.y -ℤ pos a.y)) hl) in
     along m e _ _ _ _ _ _ (h i j u v wi wu)
-    (ap (λ t. offset (pos a.x) t (pos c.x) (pos d.x) i j u v) (same (pos a.x) (pos b.x) flat.0))
-    (ap (λ t. offset (pos a.y) t (pos c.y) (pos d.y) i j u v) (same (pos a.y) (pos b.y) flat.1)) refl
-  where
-    nothing : (p q : ℤ) → pos 0 ≤ℤ p → pos 0 ≤ℤ q → (p +ℤ q) ≤ℤ pos 0 → p +ℤ q ≡ pos 0
-    nothing p q hp hq h = omega (arith, ints)
-
-    same : (a b : ℤ) → b -ℤ a ≡ pos 0 → a ≡ b
-    same a b h = omega (arith, ints)
+    (ap (λ t. offset (pos a.x) t (pos c.x) (pos d.x) i j u v) (no_step (pos a.x) (pos b.x) flat.0))
+    (ap (λ t. offset (pos a.y) t (pos c.y) (pos d.y) i j u v) (no_step (pos a.y) (pos b.y) flat.1)) refl
 
 -- where c is the lower end of a segment that lies to the left of the first
 lower_clear : (m e : ℤ) (a b c d : Point) → pos 0 ≤ℤ e → EndsClear m e a b c d → pos 0 ≤ℤ cross_of a b c
@@ -173,9 +162,6 @@ left_clear m e a b c d he h hc hd =
     by_lt_z (cross_of a b d) (cross_of a b c)
     (λ l. turn_second m e a b d c (lower_clear m e a b d c he (other_ends m e a b c d h) hd (weak _ _ l)))
     (λ l. lower_clear m e a b c d he h hc l)
-  where
-    weak : (p q : ℤ) → p <ℤ q → p ≤ℤ q
-    weak p q h = omega (arith, ints)
 
 -- seen from the other end, heights change their sign
 cross_turned : (a b p : Point) → cross_of b a p ≡ pos 0 -ℤ cross_of a b p

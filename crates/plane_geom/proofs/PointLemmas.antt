@@ -1,5 +1,5 @@
 -- Two points: every pair of rational points that stand for them is as far apart as they are.
-use Rattle.std.proofs.Common.{◌≡◌, ℕ, ◌*◌, ◌≤◌, ℤ, pos, ◌+ℤ◌, ◌-ℤ◌, ◌*ℤ◌, ◌≤ℤ◌, [], ◌∷◌, refl, ap, ap₂, sym, ◌∙◌, lit<, arith}
+use Rattle.std.proofs.Common.{◌≡◌, ℕ, ◌*◌, ◌≤◌, ℤ, pos, ◌+ℤ◌, ◌-ℤ◌, ◌*ℤ◌, [], ◌∷◌, refl, ap, ap₂, sym, ◌∙◌, lit<, arith}
 use Rattle.std.specs.Int.{abs_diff}
 use Rattle.std.proofs.lemmas.Int.{ints}
 use Rattle.sand_base.specs.declared.point.Point.{Point}
@@ -8,6 +8,7 @@ use Rattle.sand_model.specs.Gap.{IsLeast, square, far, common_square}
 use Rattle.int_ring.specs.Expr.{var, at, num, ◌⊕◌, ◌⊖◌, ◌⊗◌}
 use Rattle.int_ring.proofs.Ring.{ring, ring_using_two}
 use Rattle.plane_geom.specs.Vectors.{dot_of}
+use Rattle.plane_geom.proofs.Signs.{same_le}
 
 -- a grid point as a rational point
 abbrev pub spot : Point → RationalPoint
@@ -19,10 +20,6 @@ spot_is p = record { x = once p.x; y = once p.y }
   where
     once : (n : ℕ) → pos n ≡ pos (1 * n)
     once n = let e : n ≡ 1 * n = omega arith in ap pos e
-
--- equal integers are in order
-pub le_of_same : (a b : ℤ) → a ≡ b → a ≤ℤ b
-le_of_same a b e = omega (arith, ints)
 
 -- the difference along one axis, where both sides are multiples of grid coordinates
 axis : (x n a u m b : ℤ) → x ≡ n *ℤ a → u ≡ m *ℤ b → x *ℤ m -ℤ u *ℤ n ≡ (n *ℤ m) *ℤ (a -ℤ b)
@@ -61,7 +58,7 @@ over_one f d c n e h k l = ap₂ (λ t u. t *ℤ pos u) h l ∙ one (d *ℤ c) �
 pub points_least : (a b : Point) (n e : ℕ) → pos n ≡ dot_of a b b → e ≡ 1 → IsLeast (IsPoint a) (IsPoint b) n e
 points_least a b n e h k = record {
   attained = (spot a, spot b, spot_is a, spot_is b, same (spot a) (spot b) (spot_is a) (spot_is b));
-  least = λ q r hq hr. le_of_same _ _ (sym (same q r hq hr));
+  least = λ q r hq hr. same_le _ _ (sym (same q r hq hr));
 }
   where
     same : (q r : RationalPoint) → IsPoint a q → IsPoint b r → far q r *ℤ pos e ≡ pos n *ℤ common_square q r

@@ -12,8 +12,10 @@ use Rattle.int_ring.proofs.Inequality.{le_ring}
 use Rattle.int_ring.proofs.Squares.{square_nonneg}
 use Rattle.plane_geom.specs.Vectors.{dot_of, cross_of}
 use Rattle.plane_geom.proofs.Clear.{IsClear, IsWeights, AreClear, offset, along, farther, turn_second}
-use Rattle.plane_geom.proofs.Means.{point_hull, segment_hull, mean_on, first_end, second_end}
+use Rattle.plane_geom.proofs.Means.{point_hull, mean_on, first_end, second_end}
+use Rattle.plane_geom.proofs.SegmentHull.{segment_hull}
 use Rattle.plane_geom.proofs.Least.{least_of_clear, clear_of_least, attained_at, attained_within}
+use Rattle.plane_geom.proofs.Signs.{natural, once, turned_sign}
 
 -- along one axis, the way from a mean of a and b to a multiple of p, told from a
 from_first : (p a b i j u v : ℤ) → offset p p a b i j u v ≡ (i +ℤ j) *ℤ (((u +ℤ v) *ℤ (p -ℤ a)) -ℤ (v *ℤ (b -ℤ a)))
@@ -21,10 +23,6 @@ from_first p a b i j u v =
     ring (at (p ∷ a ∷ b ∷ i ∷ j ∷ u ∷ v ∷ []))
     ((var 3 ⊗ var 0 ⊕ var 4 ⊗ var 0) ⊗ (var 5 ⊕ var 6) ⊖ (var 5 ⊗ var 1 ⊕ var 6 ⊗ var 2) ⊗ (var 3 ⊕ var 4))
     ((var 3 ⊕ var 4) ⊗ ((var 5 ⊕ var 6) ⊗ (var 0 ⊖ var 1) ⊖ var 6 ⊗ (var 2 ⊖ var 1))) refl
-
--- an integer that isn't positive, turned
-turned_sign : (t : ℤ) → t ≤ℤ pos 0 → pos 0 ≤ℤ (pos 0 -ℤ t)
-turned_sign t h = omega (arith, ints)
 
 -- from a point behind the first end, every mean is at least as far as that end
 behind_far : (s u v dx dy px py : ℤ) → pos 0 ≤ℤ u → pos 0 ≤ℤ v → ((dx *ℤ px) +ℤ (dy *ℤ py)) ≤ℤ pos 0
@@ -114,9 +112,6 @@ foot_offset : (p a b u v l f : ℤ) → u +ℤ v ≡ l → v ≡ f → offset p 
 foot_offset p a b u v l f e g =
     from_first p a b (pos 1) (pos 0) u v ∙ ap₂ (λ s t. pos 1 *ℤ ((s *ℤ (p -ℤ a)) -ℤ (t *ℤ (b -ℤ a)))) e g
     ∙ once ((l *ℤ (p -ℤ a)) -ℤ (f *ℤ (b -ℤ a)))
-  where
-    once : (t : ℤ) → pos 1 *ℤ t ≡ t
-    once t = omega (arith, ints)
 
 -- an equal factor
 times_same : (s t l : ℤ) → t ≡ l → s *ℤ t ≡ s *ℤ l
@@ -136,13 +131,6 @@ foot_apart p a b u v m e hl hf hm he =
     ∙ times_same _ e l he
     ∙ foot_exact (pos b.x -ℤ pos a.x) (pos b.y -ℤ pos a.y) (pos p.x -ℤ pos a.x) (pos p.y -ℤ pos a.y) l f refl refl
     ∙ sym (ap₂ (λ s t. s *ℤ (t *ℤ t)) hm (once (u +ℤ v) ∙ hl))
-  where
-    once : (t : ℤ) → pos 1 *ℤ t ≡ t
-    once t = omega (arith, ints)
-
--- a natural isn't negative
-natural : (n : ℕ) → pos 0 ≤ℤ pos n
-natural n = omega (arith, ints)
 
 -- the least distance of two points bounds the step between them
 two_points : (p a : Point) (m e : ℕ) → IsLeast (IsPoint p) (IsPoint a) m e

@@ -7,20 +7,13 @@ use Rattle.sand_model.specs.Carrier.{RationalPoint, IsPoint, IsWithin, IsInRect}
 use Rattle.sand_model.specs.Gap.{IsLeast, far, common_square}
 use Rattle.int_ring.specs.Expr.{var, at, num, ◌⊕◌, ◌⊖◌, ◌⊗◌}
 use Rattle.int_ring.proofs.Ring.{ring}
-use Rattle.int_ring.proofs.Order.{mul_nonneg, add_nonneg, both_le}
+use Rattle.int_ring.proofs.Order.{difference_nonneg, mul_nonneg, add_nonneg, both_le}
 use Rattle.int_ring.proofs.Inequality.{le_ring}
 use Rattle.int_ring.proofs.Squares.{square_nonneg, square_le}
 use Rattle.plane_geom.specs.Rectangles.{range_gap}
 use Rattle.plane_geom.specs.Vectors.{dot_of}
 use Rattle.plane_geom.proofs.PointLemmas.{spot, spot_is, points_far, over_one}
-
--- a natural isn't negative
-natural : (n : ℕ) → pos 0 ≤ℤ pos n
-natural n = omega (arith, ints)
-
--- q - p isn't negative where p ≤ q
-not_below : (p q : ℤ) → p ≤ℤ q → pos 0 ≤ℤ (q -ℤ p)
-not_below p q h = omega (arith, ints)
+use Rattle.plane_geom.proofs.Signs.{natural, same_le}
 
 -- where g is the way from a up to b, what lies at most at a and at least at b is at least g apart, over any denominators
 way_up : (g n m x u a b : ℤ) → g ≡ b -ℤ a → pos 0 ≤ℤ g → pos 0 ≤ℤ n → pos 0 ≤ℤ m → x ≤ℤ (n *ℤ a) → (m *ℤ b) ≤ℤ u
@@ -38,7 +31,7 @@ way_up g n m x u a b e hg hn hm hx hu =
     (subst (λ t. (t *ℤ (n *ℤ m)) ≤ℤ ((u *ℤ n) -ℤ (x *ℤ m))) (sym e)
     (le_ring (at (n ∷ m ∷ x ∷ u ∷ a ∷ b ∷ [])) ((var 5 ⊖ var 4) ⊗ (var 0 ⊗ var 1)) (var 3 ⊗ var 0 ⊖ var 2 ⊗ var 1)
     (var 0 ⊗ (var 3 ⊖ var 1 ⊗ var 5) ⊕ var 1 ⊗ (var 0 ⊗ var 4 ⊖ var 2)) refl
-    (add_nonneg _ _ (mul_nonneg n _ hn (not_below _ _ hu)) (mul_nonneg m _ hm (not_below _ _ hx)))))))
+    (add_nonneg _ _ (mul_nonneg n _ hn (difference_nonneg _ _ hu)) (mul_nonneg m _ hm (difference_nonneg _ _ hx)))))))
 
 -- the same, with the two exchanged
 way_down : (g n m x u a b : ℤ) → g ≡ a -ℤ b → pos 0 ≤ℤ g → pos 0 ≤ℤ n → pos 0 ≤ℤ m → (n *ℤ a) ≤ℤ x → u ≤ℤ (m *ℤ b)
@@ -137,7 +130,7 @@ rects_least a b m e hax hay hbx hby hm he =
     total : (g h k x y : ℤ) → (g *ℤ k) ≤ℤ x → (h *ℤ k) ≤ℤ y → ((g +ℤ h) *ℤ k) ≤ℤ ((x +ℤ y) *ℤ pos 1)
     total g h k x y hx hy =
         le_ring (at (g ∷ h ∷ k ∷ x ∷ y ∷ [])) ((var 0 ⊕ var 1) ⊗ var 2) ((var 3 ⊕ var 4) ⊗ num (pos 1))
-        ((var 3 ⊖ var 0 ⊗ var 2) ⊕ (var 4 ⊖ var 1 ⊗ var 2)) refl (add_nonneg _ _ (not_below _ _ hx) (not_below _ _ hy))
+        ((var 3 ⊖ var 0 ⊗ var 2) ⊕ (var 4 ⊖ var 1 ⊗ var 2)) refl (add_nonneg _ _ (difference_nonneg _ _ hx) (difference_nonneg _ _ hy))
 
     plain : (g h k x y : ℤ) (m e : ℕ) → pos m ≡ g +ℤ h → e ≡ 1 → (g *ℤ k) ≤ℤ x → (h *ℤ k) ≤ℤ y
         → (pos m *ℤ k) ≤ℤ ((x +ℤ y) *ℤ pos e)
@@ -162,8 +155,5 @@ point_rect_least p r m e h =
     (λ q hq. record { x = equal p.x q.n q.x hq.x; y = equal p.y q.n q.y hq.y })
     (λ q hq. hq) (λ q hq. hq) h
   where
-    bound : (p q : ℤ) → p ≡ q → p ≤ℤ q
-    bound p q e = omega (arith, ints)
-
     equal : (a n : ℕ) (x : ℤ) → x ≡ pos (n * a) → IsWithin a a n x
-    equal a n x e = record { above = bound _ _ (sym e); below = bound _ _ e }
+    equal a n x e = record { above = same_le _ _ (sym e); below = same_le _ _ e }

@@ -1,5 +1,5 @@
 -- Two segments: they share a point where they cross, and otherwise the least distance from an end is the least of all.
-use Rattle.std.proofs.Common.{◌⊎◌, inl, inr, ℕ, ◌≤◌, ℤ, pos, ◌-ℤ◌, ◌*ℤ◌, ◌≤ℤ◌, ◌<ℤ◌, [], ◌∷◌, refl, sym, subst, arith}
+use Rattle.std.proofs.Common.{◌⊎◌, inl, inr, ℕ, ◌≤◌, ℤ, pos, ◌*ℤ◌, ◌≤ℤ◌, ◌<ℤ◌, [], ◌∷◌, refl, sym, subst, arith}
 use Rattle.std.proofs.lemmas.Int.{ints, by_lt_z}
 use Rattle.exact_frac.specs.declared.frac.Frac.{Frac}
 use Rattle.sand_base.specs.declared.point.Point.{Point}
@@ -7,16 +7,18 @@ use Rattle.sand_base.specs.declared.segment.Segment.{Segment}
 use Rattle.sand_model.specs.Carrier.{RationalPoint, IsPoint, IsOnSegment}
 use Rattle.sand_model.specs.Gap.{IsLeast}
 use Rattle.int_ring.specs.Expr.{var, at, ◌⊕◌, ◌⊖◌, ◌⊗◌}
-use Rattle.int_ring.proofs.Order.{mul_nonneg, add_nonneg, pos_le}
+use Rattle.int_ring.proofs.Order.{difference_nonneg, mul_nonneg, add_nonneg, pos_le}
 use Rattle.int_ring.proofs.Inequality.{le_ring_scaled}
 use Rattle.int_ring.proofs.Squares.{square_nonneg}
 use Rattle.plane_geom.specs.Crossing.{AreOpposed, Cross}
 use Rattle.plane_geom.specs.Lesser.{IsAtMost, IsLesser}
 use Rattle.plane_geom.specs.Vectors.{cross_of}
 use Rattle.plane_geom.proofs.Clear.{IsClear, AreClear, exchange}
-use Rattle.plane_geom.proofs.Means.{point_hull, segment_hull, mean_on, first_end, second_end}
+use Rattle.plane_geom.proofs.Means.{point_hull, mean_on, first_end, second_end}
+use Rattle.plane_geom.proofs.SegmentHull.{segment_hull}
 use Rattle.plane_geom.proofs.Least.{Attained, least_of_clear, clear_of_least, attained_within, attained_exchanged}
 use Rattle.plane_geom.proofs.OneSide.{EndsClear, left_clear, right_clear, exchanged_ends}
+use Rattle.plane_geom.proofs.Signs.{natural, weak}
 
 -- a vector that is as long as one fraction says is as long as each fraction says that is at most it
 lesser_one : (m e m' e' x y k : ℤ) → pos 0 <ℤ e → pos 0 ≤ℤ e' → (m' *ℤ e) ≤ℤ (m *ℤ e') → IsClear m e x y k → IsClear m' e' x y k
@@ -31,10 +33,7 @@ lesser_one m e m' e' x y k he he' le h =
     let far = vx ⊗ vx ⊕ vy ⊗ vy in
     le_ring_scaled (at (m ∷ e ∷ m' ∷ e' ∷ x ∷ y ∷ k ∷ [])) (vm' ⊗ (vk ⊗ vk)) (far ⊗ ve') ve
     (ve' ⊗ (far ⊗ ve ⊖ vm ⊗ (vk ⊗ vk)) ⊕ (vk ⊗ vk) ⊗ (vm ⊗ ve' ⊖ vm' ⊗ ve)) refl he
-    (add_nonneg _ _ (mul_nonneg _ _ he' (not_below _ _ h)) (mul_nonneg _ _ (square_nonneg k) (not_below _ _ le)))
-  where
-    not_below : (p q : ℤ) → p ≤ℤ q → pos 0 ≤ℤ (q -ℤ p)
-    not_below p q h = omega (arith, ints)
+    (add_nonneg _ _ (mul_nonneg _ _ he' (difference_nonneg _ _ h)) (mul_nonneg _ _ (square_nonneg k) (difference_nonneg _ _ le)))
 
 -- the same, of two fractions
 pub at_most_one : (f g : Frac) (x y k : ℤ) → IsAtMost g f → IsClear (pos f.num) (pos f.den) x y k → IsClear (pos g.num) (pos g.den) x y k
@@ -43,9 +42,6 @@ at_most_one f g x y k le h =
   where
     above : (n : ℕ) → 1 ≤ n → pos 0 <ℤ pos n
     above n h = omega (arith, ints)
-
-    natural : (n : ℕ) → pos 0 ≤ℤ pos n
-    natural n = omega (arith, ints)
 
 -- a bound by a fraction is one by each fraction that is at most it
 at_most_clear : (f g : Frac) (a b c d : Point) → IsAtMost g f → AreClear (pos f.num) (pos f.den) a b c d
@@ -61,9 +57,6 @@ side_or_opposed x y =
     by_lt_z y (pos 0)
     (λ ly. by_lt_z (pos 0) x (λ px. inr (inr (inr (px, ly)))) (λ px. inr (inl (px, weak y (pos 0) ly))))
     (λ ly. inl (lx, ly)))
-  where
-    weak : (p q : ℤ) → p <ℤ q → p ≤ℤ q
-    weak p q h = omega (arith, ints)
 
 -- where the segments don't cross, their ends decide
 pub uncrossed_clear : (m e : ℤ) (s t : Segment) → pos 0 ≤ℤ e → EndsClear m e s.a s.b t.a t.b → ¬ Cross s t
@@ -143,6 +136,3 @@ nearest_least s t a b of_s c d of_t least h apart =
     least_of_clear s.a s.b t.a t.b least.num least.den (segment_hull s) (segment_hull t)
     (nearest_attained s t a b of_s c d of_t least h)
     (uncrossed_clear (pos least.num) (pos least.den) s t (natural least.den) (nearest_clear s t a b of_s c d of_t least h) apart)
-  where
-    natural : (n : ℕ) → pos 0 ≤ℤ pos n
-    natural n = omega (arith, ints)

@@ -1,8 +1,9 @@
--- How far two ranges of one axis are apart, and the sides of a rectangle.
-use Rattle.std.specs.Prelude.{ℕ, ◌+◌, ◌-◌, ◌≤◌}
+-- How far two ranges of one axis are apart, the sides of a rectangle, and which segments enter it.
+use Rattle.std.specs.Prelude.{ℕ, ◌+◌, ◌-◌, ◌≤◌, ◌⊎◌}
 use Rattle.sand_base.specs.declared.point.Point.{Point}
 use Rattle.sand_base.specs.declared.rect.Rect.{Rect}
 use Rattle.sand_base.specs.declared.segment.Segment.{Segment}
+use Rattle.plane_geom.specs.Crossing.{Cross}
 
 -- how far the range from low to high lies from the one from other_low to other_high: 0 where they meet
 abbrev pub range_gap : ℕ → ℕ → ℕ → ℕ → ℕ
@@ -38,3 +39,8 @@ bottom_side r = record { a = r.low; b = bottom_right r }
 -- the side of the greatest y
 abbrev pub top_side : Rect → Segment
 top_side r = record { a = top_left r; b = r.high }
+
+-- the segment begins in the rectangle, or it crosses a side in the midst of both
+abbrev pub Enters : Segment → Rect → Type 0
+Enters s r =
+    IsCovered s.a r ⊎ ((Cross s (left_side r) ⊎ Cross s (right_side r)) ⊎ (Cross s (bottom_side r) ⊎ Cross s (top_side r)))

@@ -1,10 +1,13 @@
-ghost use Rattle.std.specs.Prelude.{◌↔◌, IsTrue};
+ghost use Rattle.std.specs.Prelude.{◌≡◌, ◌↔◌, ◌⊎◌, IsTrue};
 ghost use Rattle.sand_base.specs.Plane.{IsRectInReach, IsSegmentInReach};
 ghost use Rattle.sand_model.specs.Carrier.{IsInRect, IsOnSegment};
 ghost use Rattle.sand_model.specs.Gap.{IsLeast};
-ghost use Rattle.plane_geom.specs.Rectangles.{IsCovered};
+ghost use Rattle.plane_geom.specs.Crossing.{Cross};
+ghost use Rattle.plane_geom.specs.Rectangles.{Enters, IsCovered, left_side, right_side, bottom_side, top_side};
 
-use crate::segments::{gap_segments, nearer};
+use crate::point_segment::gap_point_segment;
+use crate::rects::gap_point_rect;
+use crate::segments::{crosses, nearer};
 use exact_frac::Frac;
 use sand_base::{Point, Rect, Segment};
 
@@ -14,56 +17,95 @@ pub fn gap_segment_rect(s: Segment, r: Rect) -> Frac
     requires r { IsRectInReach r }
     ensures { IsLeast (IsOnSegment s) (IsInRect r) result.num result.den }
 {
-    if is_covered(s.a, r) {
+    if enters(s, r) {
         Frac::new(0, 1)
     } else {
-        nearest_side(s, r)
+        nearest_end_or_corner(s, r)
     }
 }
 
-/// The least squared distance of a segment from the four sides of a rectangle.
-fn nearest_side(s: Segment, r: Rect) -> Frac
+/// The least squared distance of an end of the segment from the rectangle, or of a corner of it from the segment.
+fn nearest_end_or_corner(s: Segment, r: Rect) -> Frac
     requires s { IsSegmentInReach s }
     requires r { IsRectInReach r }
-    ensures { ¬ IsCovered s.a r → IsLeast (IsOnSegment s) (IsInRect r) result.num result.den }
+    ensures { ¬ Enters s r → IsLeast (IsOnSegment s) (IsInRect r) result.num result.den }
 {
-    let top_left = Point {
-        x: r.low.x,
-        y: r.high.y,
+    let (left, right) = upright_sides(r);
+    let of_ends = nearer(gap_point_rect(s.a, r), gap_point_rect(s.b, r));
+    let of_left = nearer(gap_point_segment(left.a, s), gap_point_segment(left.b, s));
+    let of_right = nearer(gap_point_segment(right.a, s), gap_point_segment(right.b, s));
+    nearer(of_ends, nearer(of_left, of_right))
+}
+
+/// Whether the segment begins in the rectangle, or crosses a side of it in the midst of both.
+fn enters(s: Segment, r: Rect) -> bool
+    requires s { IsSegmentInReach s }
+    requires r { IsRectInReach r }
+    ensures { IsTrue result ↔ Enters s r }
+{
+    let (left, right) = upright_sides(r);
+    let (bottom, top) = level_sides(r);
+    is_covered(s.a, r) || crosses_either(s, left, right) || crosses_either(s, bottom, top)
+}
+
+/// Whether the segment crosses one of two others.
+fn crosses_either(s: Segment, t: Segment, u: Segment) -> bool
+    requires s { IsSegmentInReach s }
+    requires t { IsSegmentInReach t }
+    requires u { IsSegmentInReach u }
+    ensures { IsTrue result ↔ (Cross s t ⊎ Cross s u) }
+{
+    crosses(s, t) || crosses(s, u)
+}
+
+/// The left side and the right one. Their ends are the four corners.
+fn upright_sides(r: Rect) -> (Segment, Segment)
+    requires { IsRectInReach r }
+    ensures left { result.0 ≡ left_side r }
+    ensures right { result.1 ≡ right_side r }
+    ensures left_reach { IsSegmentInReach result.0 }
+    ensures right_reach { IsSegmentInReach result.1 }
+{
+    let left = Segment {
+        a: r.low,
+        b: Point {
+            x: r.low.x,
+            y: r.high.y,
+        },
     };
-    let bottom_right = Point {
-        x: r.high.x,
-        y: r.low.y,
+    let right = Segment {
+        a: Point {
+            x: r.high.x,
+            y: r.low.y,
+        },
+        b: r.high,
     };
-    let left = gap_segments(
-        s,
-        Segment {
-            a: r.low,
-            b: top_left,
+    (left, right)
+}
+
+/// The bottom side and the top one.
+fn level_sides(r: Rect) -> (Segment, Segment)
+    requires { IsRectInReach r }
+    ensures bottom { result.0 ≡ bottom_side r }
+    ensures top { result.1 ≡ top_side r }
+    ensures bottom_reach { IsSegmentInReach result.0 }
+    ensures top_reach { IsSegmentInReach result.1 }
+{
+    let bottom = Segment {
+        a: r.low,
+        b: Point {
+            x: r.high.x,
+            y: r.low.y,
         },
-    );
-    let right = gap_segments(
-        s,
-        Segment {
-            a: bottom_right,
-            b: r.high,
+    };
+    let top = Segment {
+        a: Point {
+            x: r.low.x,
+            y: r.high.y,
         },
-    );
-    let bottom = gap_segments(
-        s,
-        Segment {
-            a: r.low,
-            b: bottom_right,
-        },
-    );
-    let top = gap_segments(
-        s,
-        Segment {
-            a: top_left,
-            b: r.high,
-        },
-    );
-    nearer(nearer(left, right), nearer(bottom, top))
+        b: r.high,
+    };
+    (bottom, top)
 }
 
 /// Whether the point lies in the closed rectangle.

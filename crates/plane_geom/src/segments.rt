@@ -42,7 +42,7 @@ pub fn nearer(a: Frac, b: Frac) -> Frac
 }
 
 /// Whether the segments cross in the midst of both.
-fn crosses(s: Segment, t: Segment) -> bool
+pub fn crosses(s: Segment, t: Segment) -> bool
     requires s { IsSegmentInReach s }
     requires t { IsSegmentInReach t }
     ensures { IsTrue result ↔ Cross s t }

@@ -12,21 +12,21 @@ const REACH: u32 = 1 << COORDINATE_BITS;
 
 const FAR: u32 = 65_536;
 
-fn at(x: u32, y: u32) -> Point {
+fn at([x, y]: [u32; 2]) -> Point {
     Point { x, y }
 }
 
-fn way(ax: u32, ay: u32, bx: u32, by: u32) -> Segment {
+fn way([ax, ay, bx, by]: [u32; 4]) -> Segment {
     Segment {
-        a: at(ax, ay),
-        b: at(bx, by),
+        a: at([ax, ay]),
+        b: at([bx, by]),
     }
 }
 
-fn area(low_x: u32, low_y: u32, high_x: u32, high_y: u32) -> Rect {
+fn area([low_x, low_y, high_x, high_y]: [u32; 4]) -> Rect {
     Rect {
-        low: at(low_x, low_y),
-        high: at(high_x, high_y),
+        low: at([low_x, low_y]),
+        high: at([high_x, high_y]),
     }
 }
 
@@ -48,7 +48,9 @@ fn rect_in_reach(r: Rect) -> bool
     in_reach(r.low) && in_reach(r.high) && r.low.x <= r.high.x && r.low.y <= r.high.y
 }
 
+/// The parts in lowest terms.
 fn parts(gap: Frac) -> (u128, u128) {
+    let gap = gap.lowest();
     (gap.num(), gap.den())
 }
 
@@ -103,281 +105,133 @@ fn of_rects(a: Rect, b: Rect) -> Option<(u128, u128)> {
 #[test]
 fn gaps_of_points(rt: HostRuntime) {
     let cases = [
-        ("one point at the origin", at(0, 0), at(0, 0), 0),
-        ("one point", at(5, 7), at(5, 7), 0),
-        ("three across and four up", at(0, 0), at(3, 4), 25),
-        ("the same way back", at(3, 4), at(0, 0), 25),
-        ("down to the right", at(0, 4), at(3, 0), 25),
-        (
-            "along the lower border",
-            at(0, 0),
-            at(FAR, 0),
-            4_294_967_296,
-        ),
-        ("across the plane", at(0, FAR), at(FAR, 0), 8_589_934_592),
+        ("the origin", [0, 0], [0, 0], 0),
+        ("one point", [5, 7], [5, 7], 0),
+        ("three and four", [0, 0], [3, 4], 25),
+        ("the same way back", [3, 4], [0, 0], 25),
+        ("down to the right", [0, 4], [3, 0], 25),
+        ("one border", [0, 0], [FAR, 0], 4_294_967_296),
+        ("across", [0, FAR], [FAR, 0], 8_589_934_592),
     ];
     for (name, a, b, gap) in cases {
-        assert_eq!(rt; of_points(a, b), Some((gap, 1)), "{name}");
+        assert_eq!(rt; of_points(at(a), at(b)), Some((gap, 1)), "{name}");
     }
 }
 
 #[test]
 fn gaps_of_a_point_and_a_segment(rt: HostRuntime) {
     let cases = [
-        (
-            "a segment of length zero",
-            at(1, 2),
-            way(4, 6, 4, 6),
-            (25, 1),
-            false,
-        ),
-        (
-            "the point of such a segment",
-            at(4, 6),
-            way(4, 6, 4, 6),
-            (0, 1),
-            true,
-        ),
-        (
-            "behind the first end",
-            at(0, 0),
-            way(1, 1, 5, 1),
-            (2, 1),
-            false,
-        ),
-        (
-            "under the first end",
-            at(1, 0),
-            way(1, 1, 5, 1),
-            (1, 1),
-            false,
-        ),
-        (
-            "under the midst",
-            at(3, 0),
-            way(1, 1, 5, 1),
-            (16, 16),
-            false,
-        ),
-        (
-            "beyond the second end",
-            at(9, 4),
-            way(1, 1, 5, 1),
-            (25, 1),
-            false,
-        ),
-        ("on the second end", at(5, 1), way(1, 1, 5, 1), (0, 1), true),
-        ("in the midst", at(3, 1), way(1, 1, 5, 1), (0, 16), true),
-        (
-            "on the line past the end",
-            at(6, 1),
-            way(1, 1, 5, 1),
-            (1, 1),
-            false,
-        ),
-        ("over a slope", at(0, 2), way(0, 0, 2, 2), (16, 8), false),
-        ("a fifth away", at(0, 1), way(0, 0, 1, 2), (1, 5), false),
-        (
-            "on the long diagonal",
-            at(1, 1),
-            way(0, 0, FAR, FAR),
-            (0, 8_589_934_592),
-            true,
-        ),
+        ("length zero", [1, 2], [4, 6, 4, 6], (25, 1), false),
+        ("its one point", [4, 6], [4, 6, 4, 6], (0, 1), true),
+        ("behind", [0, 0], [1, 1, 5, 1], (2, 1), false),
+        ("under the first", [1, 0], [1, 1, 5, 1], (1, 1), false),
+        ("under the midst", [3, 0], [1, 1, 5, 1], (1, 1), false),
+        ("beyond", [9, 4], [1, 1, 5, 1], (25, 1), false),
+        ("on the second end", [5, 1], [1, 1, 5, 1], (0, 1), true),
+        ("in the midst", [3, 1], [1, 1, 5, 1], (0, 1), true),
+        ("on the line", [6, 1], [1, 1, 5, 1], (1, 1), false),
+        ("over a slope", [0, 2], [0, 0, 2, 2], (2, 1), false),
+        ("a fifth away", [0, 1], [0, 0, 1, 2], (1, 5), false),
+        ("a diagonal", [1, 1], [0, 0, FAR, FAR], (0, 1), true),
         (
             "the far corner",
-            at(0, FAR),
-            way(0, 0, FAR, FAR),
-            (18_446_744_073_709_551_616, 8_589_934_592),
+            [0, FAR],
+            [0, 0, FAR, FAR],
+            (2_147_483_648, 1),
             false,
         ),
     ];
     for (name, p, s, gap, on) in cases {
-        assert_eq!(rt; of_point_and_segment(p, s), Some((gap, on)), "{name}");
+        assert_eq!(rt;
+            of_point_and_segment(at(p), way(s)),
+            Some((gap, on)),
+            "{name}"
+        );
     }
 }
 
 #[test]
 fn gaps_of_segments(rt: HostRuntime) {
     let cases = [
-        ("crossing", way(0, 0, 4, 4), way(0, 4, 4, 0), (0, 1)),
-        (
-            "crossing, turned round",
-            way(4, 0, 0, 4),
-            way(4, 4, 0, 0),
-            (0, 1),
-        ),
-        (
-            "crossing in the midst of the plane",
-            way(0, 0, FAR, FAR),
-            way(0, FAR, FAR, 0),
-            (0, 1),
-        ),
-        (
-            "touching at the ends",
-            way(0, 0, 2, 2),
-            way(2, 2, 5, 1),
-            (0, 1),
-        ),
-        (
-            "an end in the midst",
-            way(0, 0, 4, 0),
-            way(2, 0, 2, 5),
-            (0, 16),
-        ),
-        (
-            "on one line, overlapping",
-            way(0, 0, 4, 0),
-            way(2, 0, 6, 0),
-            (0, 16),
-        ),
-        (
-            "on one line, apart",
-            way(0, 0, 2, 0),
-            way(5, 0, 9, 0),
-            (9, 1),
-        ),
-        (
-            "parallel, one over the other",
-            way(0, 0, 4, 0),
-            way(1, 3, 3, 3),
-            (144, 16),
-        ),
-        (
-            "parallel, a tie of both ends",
-            way(0, 0, 2, 0),
-            way(0, 2, 2, 2),
-            (4, 1),
-        ),
-        (
-            "two of length zero",
-            way(3, 4, 3, 4),
-            way(0, 0, 0, 0),
-            (25, 1),
-        ),
-        (
-            "one of length zero",
-            way(0, 1, 0, 1),
-            way(0, 0, 1, 2),
-            (1, 5),
-        ),
-        ("end to end", way(0, 0, 3, 0), way(5, 1, 5, 4), (5, 1)),
-        (
-            "an end over the midst",
-            way(0, 0, 10, 0),
-            way(5, 1, 5, 4),
-            (100, 100),
-        ),
-        (
-            "an end beside a slope",
-            way(0, 0, 4, 4),
-            way(3, 2, 6, 0),
-            (16, 32),
-        ),
+        ("crossing", [0, 0, 4, 4], [0, 4, 4, 0], (0, 1)),
+        ("turned round", [4, 0, 0, 4], [4, 4, 0, 0], (0, 1)),
+        ("diagonals", [0, 0, FAR, FAR], [0, FAR, FAR, 0], (0, 1)),
+        ("end on end", [0, 0, 2, 2], [2, 2, 5, 1], (0, 1)),
+        ("end in the midst", [0, 0, 4, 0], [2, 0, 2, 5], (0, 1)),
+        ("one line, shared", [0, 0, 4, 0], [2, 0, 6, 0], (0, 1)),
+        ("one line, apart", [0, 0, 2, 0], [5, 0, 9, 0], (9, 1)),
+        ("parallel", [0, 0, 4, 0], [1, 3, 3, 3], (9, 1)),
+        ("a tie of both ends", [0, 0, 2, 0], [0, 2, 2, 2], (4, 1)),
+        ("both length zero", [3, 4, 3, 4], [0, 0, 0, 0], (25, 1)),
+        ("one length zero", [0, 1, 0, 1], [0, 0, 1, 2], (1, 5)),
+        ("two ends", [0, 0, 3, 0], [5, 1, 5, 4], (5, 1)),
+        ("over the midst", [0, 0, 10, 0], [5, 1, 5, 4], (1, 1)),
+        ("beside a slope", [0, 0, 4, 4], [3, 2, 6, 0], (1, 2)),
         (
             "two borders",
-            way(0, 0, 0, FAR),
-            way(FAR, 0, FAR, FAR),
+            [0, 0, 0, FAR],
+            [FAR, 0, FAR, FAR],
             (4_294_967_296, 1),
         ),
         (
             "nearly met",
-            way(0, 0, FAR, 65_535),
-            way(1, 1, 1, 1),
+            [0, 0, FAR, 65_535],
+            [1, 1, 1, 1],
             (1, 8_589_803_521),
         ),
     ];
     for (name, s, t, gap) in cases {
-        assert_eq!(rt; of_segments(s, t), Some(gap), "{name}");
+        assert_eq!(rt; of_segments(way(s), way(t)), Some(gap), "{name}");
     }
 }
 
 #[test]
 fn gaps_of_a_point_and_a_rectangle(rt: HostRuntime) {
     let cases = [
-        ("a corner away", at(0, 0), area(2, 2, 5, 4), 8),
-        ("inside", at(3, 3), area(2, 2, 5, 4), 0),
-        ("on a corner", at(2, 4), area(2, 2, 5, 4), 0),
-        ("to the right", at(6, 3), area(2, 2, 5, 4), 1),
-        ("above", at(3, 9), area(2, 2, 5, 4), 25),
-        ("above to the right", at(7, 7), area(2, 2, 5, 4), 13),
-        ("a rectangle of one point", at(0, 7), area(3, 3, 3, 3), 25),
-        (
-            "the far corner",
-            at(0, 0),
-            area(FAR, FAR, FAR, FAR),
-            8_589_934_592,
-        ),
+        ("to a corner", [0, 0], [2, 2, 5, 4], 8),
+        ("inside", [3, 3], [2, 2, 5, 4], 0),
+        ("on a corner", [2, 4], [2, 2, 5, 4], 0),
+        ("to the right", [6, 3], [2, 2, 5, 4], 1),
+        ("above", [3, 9], [2, 2, 5, 4], 25),
+        ("above to the right", [7, 7], [2, 2, 5, 4], 13),
+        ("a point as rectangle", [0, 7], [3, 3, 3, 3], 25),
+        ("across", [0, 0], [FAR, FAR, FAR, FAR], 8_589_934_592),
     ];
     for (name, p, r, gap) in cases {
-        assert_eq!(rt; of_point_and_rect(p, r), Some((gap, 1)), "{name}");
+        assert_eq!(rt; of_point_and_rect(at(p), area(r)), Some((gap, 1)), "{name}");
     }
 }
 
 #[test]
 fn gaps_of_a_segment_and_a_rectangle(rt: HostRuntime) {
     let cases = [
-        ("inside", way(3, 3, 4, 3), area(2, 2, 6, 4), (0, 1)),
-        ("right through", way(0, 3, 9, 3), area(2, 2, 6, 4), (0, 1)),
-        ("into it", way(0, 3, 4, 3), area(2, 2, 6, 4), (0, 1)),
-        (
-            "touching a corner",
-            way(0, 4, 2, 2),
-            area(2, 2, 6, 4),
-            (0, 1),
-        ),
-        ("past a corner", way(0, 3, 3, 0), area(2, 2, 6, 4), (9, 18)),
-        ("below", way(3, 0, 5, 1), area(2, 2, 6, 4), (16, 16)),
-        (
-            "through a rectangle of one point",
-            way(0, 0, 6, 6),
-            area(3, 3, 3, 3),
-            (0, 72),
-        ),
-        (
-            "through a rectangle that is a line",
-            way(4, 0, 4, 5),
-            area(0, 2, 8, 2),
-            (0, 1),
-        ),
-        (
-            "across the plane",
-            way(0, 0, 0, 0),
-            area(FAR, FAR, FAR, FAR),
-            (8_589_934_592, 1),
-        ),
+        ("inside", [3, 3, 4, 3], [2, 2, 6, 4], (0, 1)),
+        ("right through", [0, 3, 9, 3], [2, 2, 6, 4], (0, 1)),
+        ("from above", [4, 9, 4, 3], [2, 2, 6, 4], (0, 1)),
+        ("through a corner", [0, 4, 4, 0], [2, 2, 6, 4], (0, 1)),
+        ("past a corner", [0, 3, 3, 0], [2, 2, 6, 4], (1, 2)),
+        ("an end below", [3, 0, 5, 1], [2, 2, 6, 4], (1, 1)),
+        ("corner to corner", [2, 4, 6, 2], [2, 2, 6, 4], (0, 1)),
+        ("through a point", [0, 0, 6, 6], [3, 3, 3, 3], (0, 1)),
+        ("through a line", [4, 0, 4, 5], [0, 2, 8, 2], (0, 1)),
+        ("beside a line", [4, 3, 4, 5], [0, 2, 8, 2], (1, 1)),
     ];
     for (name, s, r, gap) in cases {
-        assert_eq!(rt; of_segment_and_rect(s, r), Some(gap), "{name}");
+        assert_eq!(rt; of_segment_and_rect(way(s), area(r)), Some(gap), "{name}");
     }
 }
 
 #[test]
 fn gaps_of_rectangles(rt: HostRuntime) {
     let cases = [
-        ("corner to corner", area(0, 0, 2, 2), area(5, 6, 9, 9), 25),
-        ("overlapping", area(0, 0, 4, 4), area(2, 2, 9, 9), 0),
-        (
-            "touching at a corner",
-            area(0, 0, 2, 2),
-            area(2, 2, 3, 3),
-            0,
-        ),
-        (
-            "one inside the other",
-            area(0, 0, 9, 9),
-            area(3, 3, 4, 4),
-            0,
-        ),
-        ("two lines", area(0, 0, 4, 0), area(2, 3, 2, 8), 9),
-        (
-            "two borders",
-            area(0, 0, 0, FAR),
-            area(FAR, 0, FAR, FAR),
-            4_294_967_296,
-        ),
+        ("corner to corner", [0, 0, 2, 2], [5, 6, 9, 9], 25),
+        ("overlapping", [0, 0, 4, 4], [2, 2, 9, 9], 0),
+        ("one shared corner", [0, 0, 2, 2], [2, 2, 3, 3], 0),
+        ("inside", [0, 0, 9, 9], [3, 3, 4, 4], 0),
+        ("two lines", [0, 0, 4, 0], [2, 3, 2, 8], 9),
+        ("borders", [0, 0, 0, 9], [FAR, 0, FAR, 9], 4_294_967_296),
     ];
     for (name, a, b, gap) in cases {
-        assert_eq!(rt; of_rects(a, b), Some((gap, 1)), "{name}");
+        assert_eq!(rt; of_rects(area(a), area(b)), Some((gap, 1)), "{name}");
     }
 }

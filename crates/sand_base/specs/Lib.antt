@@ -4,5 +4,6 @@ pub mod MemSink
 pub mod MemSource
 pub mod Plane
 pub mod Refusal
+pub mod Shape
 pub mod Streams
 pub mod SureSource

@@ -12,9 +12,15 @@ pub record IsInPlane (p : Point) : Type 0 where
   pub x : p.x < 2 ^ COORDINATE_BITS
   pub y : p.y < 2 ^ COORDINATE_BITS
 
+-- both ends of the segment are grid points of the plane
+pub record IsSegmentInPlane (s : Segment) : Type 0 where
+  pub a : IsInPlane s.a
+  pub b : IsInPlane s.b
+
 -- each coordinate of the shape is in the plane
 abbrev pub IsShapeInPlane : Shape → Type 0
 IsShapeInPlane (shape.Point p) = IsInPlane p
+IsShapeInPlane (shape.Segment s) = IsSegmentInPlane s
 
 -- the point is a grid point of the closed square round the plane, where the corners of blocks lie
 pub record IsCorner (p : Point) : Type 0 where

@@ -9,6 +9,7 @@
 #![tactic(auto)]
 
 mod calls;
+mod kind;
 mod label;
 mod mem_sink;
 mod mem_source;
@@ -25,6 +26,7 @@ mod sure_source;
 mod tests;
 
 pub use calls::Calls;
+pub use kind::Kind;
 pub use label::Label;
 pub use mem_sink::MemSink;
 pub use mem_source::MemSource;

@@ -10,8 +10,16 @@ use std::alloc::{AllocError, AllocFailed};
 pub enum Refusal {
     /// Memory was refused. It may come at any statement.
     Memory,
+    /// The line has too many bytes.
+    LineTooLong,
+    /// The line is not of the grammar; the column, in bytes from 1, of its first fault.
+    Syntax { column: u32 },
+    /// A number of the line is out of its range.
+    Range,
     /// No relation has the name.
     UnknownRelation,
+    /// The kind of the value is not that of the column.
+    WrongKind,
     /// A form or a check that isn't built yet.
     NotBuilt,
 }
@@ -23,7 +31,11 @@ impl Refusal {
     {
         match self {
             Refusal::Memory => 1,
+            Refusal::LineTooLong => 5,
+            Refusal::Syntax { .. } => 6,
+            Refusal::Range => 7,
             Refusal::UnknownRelation => 8,
+            Refusal::WrongKind => 10,
             Refusal::NotBuilt => 26,
         }
     }
@@ -34,7 +46,11 @@ impl Refusal {
     {
         match self {
             Refusal::Memory => "Memory",
+            Refusal::LineTooLong => "LineTooLong",
+            Refusal::Syntax { .. } => "Syntax",
+            Refusal::Range => "Range",
             Refusal::UnknownRelation => "UnknownRelation",
+            Refusal::WrongKind => "WrongKind",
             Refusal::NotBuilt => "NotBuilt",
         }
     }

@@ -1,12 +1,14 @@
 ghost use Rattle.std.specs.Prelude.{◌≡◌, IfOk};
+ghost use Rattle.sand_base.specs.Shape.{kind_of};
 
-use crate::{NoMemory, Point};
+use crate::{Kind, NoMemory, Point, Segment};
 use std::alloc::Global;
 
 /// What a spatial column holds, and what a ranking starts from.
 #[derive(Debug, PartialEq, Eq, Drop)]
 pub enum Shape {
     Point(Point),
+    Segment(Segment),
 }
 
 impl Shape {
@@ -16,6 +18,17 @@ impl Shape {
     {
         match self {
             Shape::Point(at) => Ok(Shape::Point(*at)),
+            Shape::Segment(way) => Ok(Shape::Segment(*way)),
+        }
+    }
+
+    /// The kind of the columns that hold such a shape.
+    pub fn kind(&self) -> Kind
+        ensures { result ≡ kind_of self.now }
+    {
+        match self {
+            Shape::Point(_) => Kind::Point,
+            Shape::Segment(_) => Kind::Segment,
         }
     }
 }

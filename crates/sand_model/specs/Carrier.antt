@@ -42,3 +42,4 @@ pub record IsInRect (r : Rect) (q : RationalPoint) : Type 0 where
 -- the points of a shape
 abbrev pub IsOf : Shape → RationalPoint → Type 0
 IsOf (shape.Point p) q = IsPoint p q
+IsOf (shape.Segment s) q = IsOnSegment s q

@@ -104,6 +104,46 @@ fn scripts_are_answered(rt: HostRuntime) -> Result<(), Fail> {
             Status::SomeRefused,
         ),
         plain(
+            "a segment",
+            "create s (way segment)\nindex s.way\ninsert s (0 1)-(2 0)\nshow 1 rank s.way from (0 0)\n",
+            "ok\nok\nid 1\n4/5\t1\n",
+            Status::Done,
+        ),
+        plain(
+            "segments that a comparison of whole parts would mix up",
+            "create s (way segment)\nindex s.way\ninsert s (1 0)-(1 0)\ninsert s (0 1)-(65535 0)\ninsert s (0 1)-(2 0)\n\
+             show 3 rank s.way from (0 0)\n",
+            "ok\nok\nid 1\nid 2\nid 3\n4/5\t3\n4294836225/4294836226\t2\n1\t1\n",
+            Status::Done,
+        ),
+        plain(
+            "the other diagonal of the plane",
+            "create s (way segment)\nindex s.way\ninsert s (0 65535)-(65535 0)\nshow 1 rank s.way from (0 0)\n",
+            "ok\nok\nid 1\n4294836225/2\t1\n",
+            Status::Done,
+        ),
+        plain(
+            "a segment as the goal",
+            "create s (way segment)\nindex s.way\ninsert s (0 0)-(4 4)\ninsert s (9 0)-(9 9)\nshow 3 rank s.way from (0 4)-(4 0)\n\
+             create p (at point)\nindex p.at\ninsert p (3 3)\nshow 1 rank p.at from (0 4)-(4 0)\n",
+            "ok\nok\nid 1\nid 2\n0\t1\n25\t2\nend\nok\nok\nid 1\n2\t1\n",
+            Status::Done,
+        ),
+        plain(
+            "another kind, numbers out of range, and faults of the grammar",
+            "create p (at point)\nindex p.at\ninsert p (1 1)-(2 2)\ninsert p (70000 1)\nshow 0 rank p.at from (0 0)\n\
+             show 3 rnk p.at from (0 0)\ninsert p (0\ninsert p 5\ninsert p (1 1)\n",
+            "ok\nok\nrefused 10 WrongKind\nrefused 7 Range\nrefused 7 Range\n\
+             refused 6 Syntax 8\nrefused 6 Syntax 12\nrefused 6 Syntax 10\nid 1\n",
+            Status::SomeRefused,
+        ),
+        plain(
+            "spellings that are read",
+            "create\tp(at   point )\nindex p . at\ninsert p(0007 -0)\nshow 00001 rank p.at from ( 7 0 )\n",
+            "ok\nok\nid 1\n0\t1\n",
+            Status::Done,
+        ),
+        plain(
             "blank lines, comments and carriage returns",
             "\n \t\n# a comment\n  # another\r\ncreate p (at point)\r\n\r\n",
             "ok\n",
@@ -237,5 +277,25 @@ fn a_write_that_fails_ends_the_run_where_it_stands(rt: HostRuntime) -> Result<()
     }
     // (seven lines, a write each)
     assert_eq!(rt; undisturbed, 8, "the writes of the plain run");
+    Ok(())
+}
+
+#[test]
+fn a_line_that_is_too_long_is_refused_and_the_next_is_read(rt: HostRuntime) -> Result<(), Fail> {
+    let alloc = rt.alloc();
+    let mut script = vec![in alloc; b'x'; 8193]?;
+    script.push(b'\n')?;
+    script.extend_from_slice(vec![in alloc; b'x'; 8192]?.as_slice())?;
+    script.extend_from_slice(b"\ncreate p (at point)\n")?;
+    let mut source = MemSource::new(alloc, script, 4096, Vec::new(alloc));
+    let mut sink = MemSink::new(alloc, 4096, Vec::new(alloc))?;
+    assert_eq!(rt;
+        run(alloc, &[], &mut source, &mut sink),
+        Status::SomeRefused
+    );
+    assert_eq!(rt;
+        sink.bytes(),
+        b"refused 5 LineTooLong\nrefused 6 Syntax 1\nok\n".as_slice()
+    );
     Ok(())
 }

@@ -1,33 +1,39 @@
--- The reader reads the printed form of a statement in range as that statement.
-use Rattle.std.proofs.Common.{◌≡◌, ℕ, ◌<◌, ◌≤◌, ◌^◌, true, false, eqb, List, [], ◌∷◌, ◌++◌, length, Some, Ok, refl, ap, ◌∙◌, arith, append_assoc}
+-- The printed form of a statement in range writes that statement, and nothing is left of it.
+use Rattle.std.proofs.Common.{◌≡◌, ℕ, ◌<◌, ◌≤◌, ◌^◌, true, false, eqb, List, [], ◌∷◌, ◌++◌, length, refl, ap, subst, sym, ◌∙◌, arith, append_assoc}
 use Rattle.std.proofs.lemmas.List.{append-nil}
-use Rattle.std.specs.Prelude.{codes}
-use Rattle.std.proofs.lemmas.Bool.{and_parts, and_from, cond-true, le-leb, lt-ltb}
+use Rattle.std.specs.Prelude.{codes, pos}
+use Rattle.std.proofs.lemmas.Bool.{and_parts, and_from, lt-ltb}
 use Rattle.std.proofs.lemmas.Bool.Decides.{nat_tests}
 use Rattle.std.proofs.lemmas.Fmt.{decimal_nonempty, digits_decimal, digits_value-decimal}
 use Rattle.std.specs.Char.{is_ascii_digit}
 use Rattle.std.specs.Fmt.{decimal}
 use Rattle.std.specs.List.{prefix_len, list_all}
 use Rattle.std.specs.Str.Parse.{digits_value}
-use Rattle.sand_base.specs.Plane.{IsInPlane}
+use Rattle.sand_base.specs.Plane.{IsInPlane, IsSegmentInPlane, IsShapeInPlane}
+use Rattle.sand_base.specs.declared.kind.Kind.{Kind}
+use Rattle.sand_base.specs.declared.kind.Kind.TheVariants as kind
 use Rattle.sand_base.specs.declared.point.Point.{Point}
+use Rattle.sand_base.specs.declared.segment.Segment.{Segment}
+use Rattle.sand_base.specs.declared.shape.Shape.{Shape}
 use Rattle.sand_base.specs.declared.shape.Shape.TheVariants as shape
 use Rattle.script_text.specs.declared.TheConstants.{MOST_ROWS}
 use Rattle.script_text.specs.declared.statement.Column.{Column}
 use Rattle.script_text.specs.declared.statement.Plan.TheVariants.{Rank}
 use Rattle.script_text.specs.declared.statement.Statement.{Statement}
 use Rattle.script_text.specs.declared.statement.Statement.TheVariants.{Create, Insert, Index, Show}
-use Rattle.script_text.specs.Lexing.{pieces}
+use Rattle.script_text.specs.Grammar.{Word, Writes, value_of, shape_words, words}
+use Rattle.script_text.specs.KindWord.{kind_word}
+use Rattle.script_text.specs.Lexing.{Lexed, put, lex}
 use Rattle.script_text.specs.Name.{IsName}
-use Rattle.script_text.specs.Reading.{State, natural, is_natural, magnitude, is_between, whole_in}
-use Rattle.script_text.specs.Statement.{IsColumnInRange, IsInRange, printed}
+use Rattle.script_text.specs.Reading.{is_natural, magnitude}
+use Rattle.script_text.specs.Statement.{IsColumnInRange, IsInRange, shape_text, printed}
 use Rattle.script_text.specs.Token.{is_number, number}
-use Rattle.script_text.proofs.NumberLemmas.{numerals}
-use Rattle.script_text.proofs.SpelledLemmas.{pieces-name, pieces-number}
+use Rattle.script_text.proofs.NumberLemmas.{numerals, value-natural}
+use Rattle.script_text.proofs.SpelledLemmas.{lex-name, lex-number}
 
--- before these bytes, with every number in range so far
-abbrev at : List ℕ → State
-at bytes = record { left = pieces bytes; in_range = true }
+-- the pieces write the words, and nothing is left after them
+abbrev pub WritesWhole : Lexed → List Word → Type 0
+WritesWhole lexed ws = Writes lexed.pieces ws × (lexed.rest ≡ [])
 
 -- digits without a minus are a number, and what they write is its magnitude
 record IsPlain (text : List ℕ) : Type 0 where
@@ -51,59 +57,107 @@ plain-digits (b ∷ bytes) some h =
 plain-decimal : (n : ℕ) → n < 2 ^ 64 → IsPlain (decimal n)
 plain-decimal n h = plain-digits (decimal n) (decimal_nonempty n h) (digits_decimal numerals n h)
 
--- a decimal number in its range is what it writes
-natural-decimal : (least most n : ℕ) → least ≤ n → n ≤ most → n < 2 ^ 64 → natural least most (decimal n) ≡ Some n
-natural-decimal least most n low high h =
+-- a decimal number has its value
+value-decimal : (n : ℕ) → n < 2 ^ 64 → value_of (decimal n) ≡ pos n
+value-decimal n h =
     let plain = plain-decimal n h in
-    let value : magnitude (decimal n) ≡ n = plain.value ∙ digits_value-decimal numerals n h in
-    let within : is_between least most (decimal n) ≡ true =
-    and_from (is_natural (decimal n)) _ plain.natural (rw value (and_from _ _ (le-leb least n low) (le-leb n most high))) in
-    cond-true _ _ _ within ∙ ap Some value
+    value-natural (decimal n) plain.natural ∙ ap pos (plain.value ∙ digits_value-decimal numerals n h)
 
 -- a decimal number that is spelled, where it ends, is the next piece
-pieces-decimal : (n : ℕ) (more : List ℕ) → n < 2 ^ 64 → prefix_len is_ascii_digit more ≡ 0
-    → pieces (decimal n ++ more) ≡ record { piece = number (decimal n); room = length (decimal n ++ more) } ∷ pieces more
-pieces-decimal n more h ends = pieces-number (decimal n) more (plain-decimal n h).spelled ends
+lex-decimal : (n : ℕ) (more : List ℕ) → n < 2 ^ 64 → prefix_len is_ascii_digit more ≡ 0
+    → lex (decimal n ++ more) ≡ put (record { piece = number (decimal n); room = length (decimal n ++ more) }) (lex more)
+lex-decimal n more h ends = lex-number (decimal n) more (plain-decimal n h).spelled ends
 
--- a `create` is read
-reads-create : (r c : List ℕ) → IsName r → IsName c
-    → whole_in (at (codes "create " ++ (r ++ (codes " (" ++ (c ++ codes " point)"))))) ≡ Ok (Create r c, at [])
-unfolding pieces
-reads-create r c hr hc =
-    let first = pieces-name r (codes " (" ++ (c ++ codes " point)")) hr refl in
-    let second = pieces-name c (codes " point)") hc refl in
-    rw (first, second) refl
+-- the word of a kind is a name
+kind-name : (k : Kind) → IsName (kind_word k)
+kind-name kind.Point = record { spelled = refl; short = omega arith }
+kind-name kind.Segment = record { spelled = refl; short = omega arith }
 
--- its printed form, part by part
-printed-create : (r c : List ℕ) → printed (Create r c) ≡ codes "create " ++ (r ++ (codes " (" ++ (c ++ codes " point)")))
-printed-create r c = simp append_assoc
+-- a `create` is written
+writes-create : (r c : List ℕ) (k : Kind) → IsName r → IsName c
+    → WritesWhole (lex (codes "create " ++ (r ++ (codes " (" ++ (c ++ (codes " " ++ (kind_word k ++ codes ")"))))))) (words (Create r c k))
+unfolding lex
+writes-create r c k hr hc =
+    let first = lex-name r (codes " (" ++ (c ++ (codes " " ++ (kind_word k ++ codes ")")))) hr refl in
+    let second = lex-name c (codes " " ++ (kind_word k ++ codes ")")) hc refl in
+    let third = lex-name (kind_word k) (codes ")") (kind-name k) refl in
+    rw (first, second, third) ((refl, (refl, (refl, (refl, (refl, (refl, tt)))))), refl)
 
--- an `insert` is read
-reads-insert : (r : List ℕ) (p : Point) → IsName r → IsInPlane p
-    → whole_in (at (codes "insert " ++ (r ++ (codes " (" ++ (decimal p.x ++ (codes " " ++ (decimal p.y ++ codes ")"))))))) ≡ Ok (Insert r (shape.Point p), at [])
-unfolding pieces
-reads-insert r p hr hp =
-    let name = pieces-name r (codes " (" ++ (decimal p.x ++ (codes " " ++ (decimal p.y ++ codes ")")))) hr refl in
-    let x = pieces-decimal p.x (codes " " ++ (decimal p.y ++ codes ")")) (omega (arith, hp.x)) refl in
-    let x_is = natural-decimal 0 65535 p.x (omega arith) (omega (arith, hp.x)) (omega (arith, hp.x)) in
-    let y = pieces-decimal p.y (codes ")") (omega (arith, hp.y)) refl in
-    let y_is = natural-decimal 0 65535 p.y (omega arith) (omega (arith, hp.y)) (omega (arith, hp.y)) in
-    rw (name, x, x_is, y, y_is) refl
-
-regroup-insert : (a r b p x q y e : List ℕ) → ((a ++ r) ++ b) ++ ((((p ++ x) ++ q) ++ y) ++ e) ≡ a ++ (r ++ (b ++ (p ++ (x ++ (q ++ (y ++ e))))))
-regroup-insert a r b p x q y e = simp append_assoc
+-- the parts of a `create`, one after another
+regroup-create : (a r b c d k e : List ℕ) → (((((a ++ r) ++ b) ++ c) ++ d) ++ k) ++ e ≡ a ++ (r ++ (b ++ (c ++ (d ++ (k ++ e)))))
+regroup-create a r b c d k e = simp append_assoc
 
 -- its printed form, part by part
-printed-insert : (r : List ℕ) (p : Point) → printed (Insert r (shape.Point p)) ≡ codes "insert " ++ (r ++ (codes " (" ++ (decimal p.x ++ (codes " " ++ (decimal p.y ++ codes ")")))))
-printed-insert r p = regroup-insert (codes "insert ") r (codes " ") (codes "(") (decimal p.x) (codes " ") (decimal p.y) (codes ")")
+printed-create : (r c : List ℕ) (k : Kind) → printed (Create r c k) ≡ codes "create " ++ (r ++ (codes " (" ++ (c ++ (codes " " ++ (kind_word k ++ codes ")")))))
+printed-create r c k = regroup-create (codes "create ") r (codes " (") c (codes " ") (kind_word k) (codes ")")
 
--- an `index` is read
-reads-index : (c : Column) → IsColumnInRange c → whole_in (at (codes "index " ++ (c.relation ++ (codes "." ++ (c.column ++ []))))) ≡ Ok (Index c, at [])
-unfolding pieces
-reads-index c h =
-    let first = pieces-name c.relation (codes "." ++ (c.column ++ [])) h.0 refl in
-    let second = pieces-name c.column [] h.1 refl in
-    rw (first, second) refl
+-- a spot is written, after a blank
+writes-spot : (p : Point) → IsInPlane p
+    → WritesWhole (lex (codes " (" ++ (decimal p.x ++ (codes " " ++ (decimal p.y ++ codes ")"))))) (shape_words (shape.Point p))
+unfolding lex
+writes-spot p h =
+    let x = lex-decimal p.x (codes " " ++ (decimal p.y ++ codes ")")) (omega (arith, h.x)) refl in
+    let x_is = value-decimal p.x (omega (arith, h.x)) in
+    let y = lex-decimal p.y (codes ")") (omega (arith, h.y)) refl in
+    let y_is = value-decimal p.y (omega (arith, h.y)) in
+    rw (x, y) ((refl, (x_is, (y_is, (refl, tt)))), refl)
+
+-- the parts of a spot, one after another, with others before and after them
+regroup-spot : (a p x q y e : List ℕ) → a ++ ((((p ++ x) ++ q) ++ y) ++ e) ≡ (a ++ p) ++ (x ++ (q ++ (y ++ e)))
+regroup-spot a p x q y e = simp append_assoc
+
+-- a segment is written, after a blank
+writes-segment : (s : Segment) → IsSegmentInPlane s
+    → WritesWhole (lex (codes " (" ++ (decimal s.a.x ++ (codes " " ++ (decimal s.a.y ++ (codes ")-(" ++ (decimal s.b.x ++ (codes " " ++ (decimal s.b.y ++ codes ")"))))))))) (shape_words (shape.Segment s))
+unfolding lex
+writes-segment s h =
+    let second = codes ")-(" ++ (decimal s.b.x ++ (codes " " ++ (decimal s.b.y ++ codes ")"))) in
+    let ax = lex-decimal s.a.x (codes " " ++ (decimal s.a.y ++ second)) (omega (arith, h.a.x)) refl in
+    let ax_is = value-decimal s.a.x (omega (arith, h.a.x)) in
+    let ay = lex-decimal s.a.y second (omega (arith, h.a.y)) refl in
+    let ay_is = value-decimal s.a.y (omega (arith, h.a.y)) in
+    let bx = lex-decimal s.b.x (codes " " ++ (decimal s.b.y ++ codes ")")) (omega (arith, h.b.x)) refl in
+    let bx_is = value-decimal s.b.x (omega (arith, h.b.x)) in
+    let by = lex-decimal s.b.y (codes ")") (omega (arith, h.b.y)) refl in
+    let by_is = value-decimal s.b.y (omega (arith, h.b.y)) in
+    rw (ax, ay, bx, by) ((refl, (ax_is, (ay_is, (refl, (refl, (refl, (bx_is, (by_is, (refl, tt))))))))), refl)
+
+-- the parts of a segment, one after another
+regroup-segment : (a p x q y e m g z r w f : List ℕ)
+    → a ++ ((((((p ++ x) ++ q) ++ y) ++ e) ++ m) ++ ((((g ++ z) ++ r) ++ w) ++ f)) ≡ (a ++ p) ++ (x ++ (q ++ (y ++ ((e ++ (m ++ g)) ++ (z ++ (r ++ (w ++ f)))))))
+regroup-segment a p x q y e m g z r w f = simp append_assoc
+
+-- a shape is written, after a blank
+writes-shape : (s : Shape) → IsShapeInPlane s → WritesWhole (lex (codes " " ++ shape_text s)) (shape_words s)
+writes-shape (shape.Point p) h =
+    rw (regroup-spot (codes " ") (codes "(") (decimal p.x) (codes " ") (decimal p.y) (codes ")")) (writes-spot p h)
+writes-shape (shape.Segment s) h =
+    rw (regroup-segment (codes " ") (codes "(") (decimal s.a.x) (codes " ") (decimal s.a.y) (codes ")") (codes "-") (codes "(") (decimal s.b.x) (codes " ") (decimal s.b.y) (codes ")"))
+    (writes-segment s h)
+
+-- an `insert` is written
+writes-insert : (r : List ℕ) (s : Shape) → IsName r → IsShapeInPlane s → WritesWhole (lex (codes "insert " ++ (r ++ (codes " " ++ shape_text s)))) (words (Insert r s))
+unfolding lex
+writes-insert r s hr hs =
+    let name = lex-name r (codes " " ++ shape_text s) hr refl in
+    let value = writes-shape s hs in
+    rw name ((refl, (refl, value.0)), value.1)
+
+-- the parts of an `insert`, one after another
+regroup-insert : (a r b s : List ℕ) → ((a ++ r) ++ b) ++ s ≡ a ++ (r ++ (b ++ s))
+regroup-insert a r b s = simp append_assoc
+
+-- its printed form, part by part
+printed-insert : (r : List ℕ) (s : Shape) → printed (Insert r s) ≡ codes "insert " ++ (r ++ (codes " " ++ shape_text s))
+printed-insert r s = regroup-insert (codes "insert ") r (codes " ") (shape_text s)
+
+-- an `index` is written
+writes-index : (c : Column) → IsColumnInRange c → WritesWhole (lex (codes "index " ++ (c.relation ++ (codes "." ++ (c.column ++ []))))) (words (Index c))
+unfolding lex
+writes-index c h =
+    let first = lex-name c.relation (codes "." ++ (c.column ++ [])) h.0 refl in
+    let second = lex-name c.column [] h.1 refl in
+    rw (first, second) ((refl, (refl, (refl, (refl, tt)))), refl)
 
 -- the parts of an `index`, one after another
 regroup-index : (a r b c : List ℕ) → a ++ ((r ++ b) ++ c) ≡ a ++ (r ++ (b ++ (c ++ [])))
@@ -113,37 +167,34 @@ regroup-index a r b c = simp (append_assoc, append-nil)
 printed-index : (c : Column) → printed (Index c) ≡ codes "index " ++ (c.relation ++ (codes "." ++ (c.column ++ [])))
 printed-index c = regroup-index (codes "index ") c.relation (codes ".") c.column
 
--- a `show` is read
-reads-show : (n : ℕ) (c : Column) (p : Point) → 1 ≤ n → n ≤ MOST_ROWS → IsColumnInRange c → IsInPlane p
-    → whole_in (at (codes "show " ++ (decimal n ++ (codes " rank " ++ (c.relation ++ (codes "." ++ (c.column ++ (codes " from (" ++ (decimal p.x ++ (codes " " ++ (decimal p.y ++ codes ")")))))))))))
-    ≡ Ok (Show n (Rank c (shape.Point p)), at [])
-unfolding pieces
-reads-show n c p low high hc hp =
-    let goal = codes " from (" ++ (decimal p.x ++ (codes " " ++ (decimal p.y ++ codes ")"))) in
-    let count = pieces-decimal n (codes " rank " ++ (c.relation ++ (codes "." ++ (c.column ++ goal)))) (omega arith) refl in
-    let count_is = natural-decimal 1 MOST_ROWS n low high (omega arith) in
-    let first = pieces-name c.relation (codes "." ++ (c.column ++ goal)) hc.0 refl in
-    let second = pieces-name c.column goal hc.1 refl in
-    let x = pieces-decimal p.x (codes " " ++ (decimal p.y ++ codes ")")) (omega (arith, hp.x)) refl in
-    let x_is = natural-decimal 0 65535 p.x (omega arith) (omega (arith, hp.x)) (omega (arith, hp.x)) in
-    let y = pieces-decimal p.y (codes ")") (omega (arith, hp.y)) refl in
-    let y_is = natural-decimal 0 65535 p.y (omega arith) (omega (arith, hp.y)) (omega (arith, hp.y)) in
-    rw (count, count_is, first, second, x, x_is, y, y_is) refl
+-- a `show` is written
+writes-show : (n : ℕ) (c : Column) (s : Shape) → 1 ≤ n → n ≤ MOST_ROWS → IsColumnInRange c → IsShapeInPlane s
+    → WritesWhole (lex (codes "show " ++ (decimal n ++ (codes " rank " ++ (c.relation ++ (codes "." ++ (c.column ++ (codes " from" ++ (codes " " ++ shape_text s)))))))))
+    (words (Show n (Rank c s)))
+unfolding lex
+writes-show n c s low high hc hs =
+    let goal = codes " from" ++ (codes " " ++ shape_text s) in
+    let count = lex-decimal n (codes " rank " ++ (c.relation ++ (codes "." ++ (c.column ++ goal)))) (omega arith) refl in
+    let count_is = value-decimal n (omega arith) in
+    let first = lex-name c.relation (codes "." ++ (c.column ++ goal)) hc.0 refl in
+    let second = lex-name c.column goal hc.1 refl in
+    let shape = writes-shape s hs in
+    rw (count, first, second) ((refl, (count_is, (refl, (refl, (refl, (refl, (refl, shape.0))))))), shape.1)
 
 -- the parts of a `show`, one after another
-regroup-show : (a n b k r d c f p x q y e : List ℕ)
-    → ((a ++ n) ++ b) ++ (((k ++ ((r ++ d) ++ c)) ++ f) ++ ((((p ++ x) ++ q) ++ y) ++ e)) ≡ a ++ (n ++ (b ++ (k ++ (r ++ (d ++ (c ++ (f ++ (p ++ (x ++ (q ++ (y ++ e)))))))))))
-regroup-show a n b k r d c f p x q y e = simp append_assoc
+regroup-show : (a n b k r d c f g s : List ℕ)
+    → ((a ++ n) ++ b) ++ (((k ++ ((r ++ d) ++ c)) ++ (f ++ g)) ++ s) ≡ a ++ (n ++ ((b ++ k) ++ (r ++ (d ++ (c ++ (f ++ (g ++ s)))))))
+regroup-show a n b k r d c f g s = simp append_assoc
 
 -- its printed form, part by part
-printed-show : (n : ℕ) (c : Column) (p : Point) → printed (Show n (Rank c (shape.Point p)))
-    ≡ codes "show " ++ (decimal n ++ (codes " rank " ++ (c.relation ++ (codes "." ++ (c.column ++ (codes " from (" ++ (decimal p.x ++ (codes " " ++ (decimal p.y ++ codes ")")))))))))
-printed-show n c p =
-    regroup-show (codes "show ") (decimal n) (codes " ") (codes "rank ") c.relation (codes ".") c.column (codes " from ") (codes "(") (decimal p.x) (codes " ") (decimal p.y) (codes ")")
+printed-show : (n : ℕ) (c : Column) (s : Shape) → printed (Show n (Rank c s))
+    ≡ codes "show " ++ (decimal n ++ (codes " rank " ++ (c.relation ++ (codes "." ++ (c.column ++ (codes " from" ++ (codes " " ++ shape_text s)))))))
+printed-show n c s =
+    regroup-show (codes "show ") (decimal n) (codes " ") (codes "rank ") c.relation (codes ".") c.column (codes " from") (codes " ") (shape_text s)
 
--- the printed form of a statement in range is read as that statement, whole
-pub reads-printed : (s : Statement) → IsInRange s → whole_in (at (printed s)) ≡ Ok (s, at [])
-reads-printed (Create r c) h = ap (λ line. whole_in (at line)) (printed-create r c) ∙ reads-create r c h.0 h.1
-reads-printed (Insert r (shape.Point p)) h = ap (λ line. whole_in (at line)) (printed-insert r p) ∙ reads-insert r p h.0 h.1
-reads-printed (Index c) h = ap (λ line. whole_in (at line)) (printed-index c) ∙ reads-index c h
-reads-printed (Show n (Rank c (shape.Point p))) h = ap (λ line. whole_in (at line)) (printed-show n c p) ∙ reads-show n c p h.0 h.1 h.2.0 h.2.1
+-- the printed form of a statement in range writes it
+pub writes-printed : (s : Statement) → IsInRange s → WritesWhole (lex (printed s)) (words s)
+writes-printed (Create r c k) h = rw (printed-create r c k) (writes-create r c k h.0 h.1)
+writes-printed (Insert r s) h = rw (printed-insert r s) (writes-insert r s h.0 h.1)
+writes-printed (Index c) h = rw (printed-index c) (writes-index c h)
+writes-printed (Show n (Rank c s)) h = rw (printed-show n c s) (writes-show n c s h.0 h.1 h.2.0 h.2.1)

@@ -7,11 +7,11 @@ use Rattle.std.proofs.lemmas.Bool.Decides.{nat_tests}
 use Rattle.std.specs.Char.{is_ascii_digit}
 use Rattle.std.specs.List.{prefix_len, list_all}
 use Rattle.script_text.specs.declared.TheConstants.{LONGEST_NAME}
-use Rattle.script_text.specs.Lexing.{Cut, first_cut, name_cut, number_cut, begins_number, pieces}
-use Rattle.script_text.specs.Line.{is_blank}
+use Rattle.script_text.specs.Lexical.{is_blank}
+use Rattle.script_text.specs.Lexing.{Cut, first_cut, name_cut, number_cut, begins_number, put, lex}
 use Rattle.script_text.specs.Name.{starts_name, continues_name, IsName}
 use Rattle.script_text.specs.Token.{name, number, is_number, is_digits}
-use Rattle.script_text.proofs.PiecesLemmas.{pieces-cut}
+use Rattle.script_text.proofs.LexLemmas.{lex-cut}
 
 -- a run of bytes that pass a test ends before bytes of which the first doesn't
 run-seam : (p : ℕ → Bool) (xs more : List ℕ) → list_all p xs ≡ true → prefix_len p more ≡ 0 → prefix_len p (xs ++ more) ≡ length xs
@@ -32,31 +32,36 @@ drop-seam b bytes more = rw one-add (drop-append_seam bytes more)
 not_blank-name : (b : ℕ) → starts_name b ≡ true → is_blank b ≡ false
 not_blank-name b h = grind (arith, nat_tests)
 
--- a name that is spelled, where it ends, is the next piece
-pub pieces-name : (bytes more : List ℕ) → IsName bytes → prefix_len continues_name more ≡ 0
-    → pieces (bytes ++ more) ≡ record { piece = name bytes; room = length (bytes ++ more) } ∷ pieces more
-pieces-name [] more h ends = absurd (false≢true h.spelled)
-pieces-name (b ∷ bytes) more h ends =
+-- a name that is spelled, where it ends, is cut
+pub first_cut-name : (b : ℕ) (bytes more : List ℕ) → IsName (b ∷ bytes) → prefix_len continues_name more ≡ 0
+    → first_cut (b ∷ (bytes ++ more)) ≡ Some (record { piece = name (b ∷ bytes); len = 1 + length bytes })
+first_cut-name b bytes more h ends =
     let two = and_parts (starts_name b) (list_all continues_name bytes) h.spelled in
-    let cut : Cut = record { piece = name (b ∷ bytes); len = 1 + length bytes } in
     let short : 1 + length bytes ≤ LONGEST_NAME = omega (arith, h.short) in
-    let first : first_cut (b ∷ (bytes ++ more)) ≡ Some cut =
     cond-true (starts_name b) _ _ two.0
     ∙ ap (λ n. name_cut (1 + n) (b ∷ (bytes ++ more))) (run-seam continues_name bytes more two.1 ends)
     ∙ cond-true (leb (1 + length bytes) LONGEST_NAME) _ _ (le-leb _ _ short)
-    ∙ ap (λ xs. Some (record { piece = name xs; len = 1 + length bytes })) (take-seam b bytes more) in
-    pieces-cut b (bytes ++ more) cut (not_blank-name b two.0) first (omega arith)
-    ∙ ap (λ xs. record { piece = name (b ∷ bytes); room = length (b ∷ (bytes ++ more)) } ∷ pieces xs) (drop-seam b bytes more)
+    ∙ ap (λ xs. Some (record { piece = name xs; len = 1 + length bytes })) (take-seam b bytes more)
+
+-- and is the next piece
+pub lex-name : (bytes more : List ℕ) → IsName bytes → prefix_len continues_name more ≡ 0
+    → lex (bytes ++ more) ≡ put (record { piece = name bytes; room = length (bytes ++ more) }) (lex more)
+lex-name [] more h ends = absurd (false≢true h.spelled)
+lex-name (b ∷ bytes) more h ends =
+    let two = and_parts (starts_name b) (list_all continues_name bytes) h.spelled in
+    let cut : Cut = record { piece = name (b ∷ bytes); len = 1 + length bytes } in
+    lex-cut b (bytes ++ more) cut (not_blank-name b two.0) (first_cut-name b bytes more h ends) (omega arith)
+    ∙ ap (λ xs. put (record { piece = name (b ∷ bytes); room = length (b ∷ (bytes ++ more)) }) (lex xs)) (drop-seam b bytes more)
 
 -- what a number is made of
-record IsNumberSplit (b : ℕ) (bytes : List ℕ) : Type 0 where
-  digits : list_all is_ascii_digit bytes ≡ true
-  begins : begins_number b (length bytes) ≡ true
-  no_name : starts_name b ≡ false
-  no_blank : is_blank b ≡ false
+pub record IsNumberSplit (b : ℕ) (bytes : List ℕ) : Type 0 where
+  pub digits : list_all is_ascii_digit bytes ≡ true
+  pub begins : begins_number b (length bytes) ≡ true
+  pub no_name : starts_name b ≡ false
+  pub no_blank : is_blank b ≡ false
 
 -- a number is made of these
-number-split : (b : ℕ) (bytes : List ℕ) → is_number (b ∷ bytes) ≡ true → IsNumberSplit b bytes
+pub number-split : (b : ℕ) (bytes : List ℕ) → is_number (b ∷ bytes) ≡ true → IsNumberSplit b bytes
 number-split b bytes h =
     let go : (t : Bool) → eqb b 45 ≡ t → cond t (is_digits bytes) (is_digits (b ∷ bytes)) ≡ true → IsNumberSplit b bytes =
     elim [
@@ -70,18 +75,22 @@ number-split b bytes h =
     ] in
     go _ refl h
 
--- a number that is spelled, where it ends, is the next piece
-pub pieces-number : (bytes more : List ℕ) → is_number bytes ≡ true → prefix_len is_ascii_digit more ≡ 0
-    → pieces (bytes ++ more) ≡ record { piece = number bytes; room = length (bytes ++ more) } ∷ pieces more
-pieces-number [] more h ends = absurd (false≢true h)
-pieces-number (b ∷ bytes) more h ends =
+-- a number that is spelled, where it ends, is cut
+pub first_cut-number : (b : ℕ) (bytes more : List ℕ) → is_number (b ∷ bytes) ≡ true → prefix_len is_ascii_digit more ≡ 0
+    → first_cut (b ∷ (bytes ++ more)) ≡ Some (record { piece = number (b ∷ bytes); len = 1 + length bytes })
+first_cut-number b bytes more h ends =
     let split = number-split b bytes h in
-    let cut : Cut = record { piece = number (b ∷ bytes); len = 1 + length bytes } in
     let run = run-seam is_ascii_digit bytes more split.digits ends in
-    let first : first_cut (b ∷ (bytes ++ more)) ≡ Some cut =
     cond-false (starts_name b) _ _ split.no_name
     ∙ cond-true (begins_number b (prefix_len is_ascii_digit (bytes ++ more))) _ _ (ap (begins_number b) run ∙ split.begins)
     ∙ ap (λ n. number_cut (1 + n) (b ∷ (bytes ++ more))) run
-    ∙ ap (λ xs. Some (record { piece = number xs; len = 1 + length bytes })) (take-seam b bytes more) in
-    pieces-cut b (bytes ++ more) cut split.no_blank first (omega arith)
-    ∙ ap (λ xs. record { piece = number (b ∷ bytes); room = length (b ∷ (bytes ++ more)) } ∷ pieces xs) (drop-seam b bytes more)
+    ∙ ap (λ xs. Some (record { piece = number xs; len = 1 + length bytes })) (take-seam b bytes more)
+
+-- and is the next piece
+pub lex-number : (bytes more : List ℕ) → is_number bytes ≡ true → prefix_len is_ascii_digit more ≡ 0
+    → lex (bytes ++ more) ≡ put (record { piece = number bytes; room = length (bytes ++ more) }) (lex more)
+lex-number [] more h ends = absurd (false≢true h)
+lex-number (b ∷ bytes) more h ends =
+    let cut : Cut = record { piece = number (b ∷ bytes); len = 1 + length bytes } in
+    lex-cut b (bytes ++ more) cut (number-split b bytes h).no_blank (first_cut-number b bytes more h ends) (omega arith)
+    ∙ ap (λ xs. put (record { piece = number (b ∷ bytes); room = length (b ∷ (bytes ++ more)) }) (lex xs)) (drop-seam b bytes more)

@@ -1,12 +1,12 @@
 -- How a line falls into pieces, from the left, each as long as can be.
-use Rattle.std.specs.Prelude.{◌≡◌, ℕ, zero, suc, ◌+◌, ◌-◌, Bool, false, ◌&&◌, ◌||◌, ◌==◌, cond, nat_lt, nat_le, List, [], ◌∷◌, length, take, drop, Option, Some, None}
+use Rattle.std.specs.Prelude.{◌≡◌, ℕ, zero, suc, ◌+◌, ◌-◌, ◌<◌, Bool, false, ◌&&◌, ◌||◌, ◌==◌, cond, nat_lt, nat_le, List, [], ◌∷◌, length, take, drop, Option, Some, None}
 use Rattle.std.specs.Char.{is_ascii_digit}
 use Rattle.std.specs.List.{prefix_len}
 use Rattle.script_text.specs.declared.TheConstants.{LONGEST_NAME}
 use Rattle.script_text.specs.declared.lexer.Cut as lexer
 use Rattle.script_text.specs.declared.token.Symbol.{Symbol}
 use Rattle.script_text.specs.declared.token.Symbol.TheVariants.{Open, Close, Comma, Dot, Minus, Equal, NotEqual, Less, AtMost, Greater, AtLeast}
-use Rattle.script_text.specs.Line.{is_blank}
+use Rattle.script_text.specs.Lexical.{Placed, is_blank, skip_blanks}
 use Rattle.script_text.specs.Name.{starts_name, continues_name}
 use Rattle.script_text.specs.Token.{Piece, name, number, mark, piece_of, IsPiece}
 
@@ -67,33 +67,48 @@ first_cut (b ∷ bytes) =
     (cond (begins_number b (prefix_len is_ascii_digit bytes)) (number_cut (1 + prefix_len is_ascii_digit bytes) (b ∷ bytes))
     (symbol_at b bytes))
 
--- the bytes after the blanks at the front
-abbrev pub skip_blanks : List ℕ → List ℕ
-skip_blanks bytes = drop (prefix_len is_blank bytes) bytes
+-- the pieces of some bytes, and what is left after them and the blanks
+pub record Lexed : Type 0 where
+  pub pieces : List Placed
+  pub rest : List ℕ
 
--- a piece, and the number of bytes from its first byte to the line's end
-pub record Placed : Type 0 where
-  pub piece : Piece
-  pub room : ℕ
+-- a piece in front of others
+abbrev pub put : Placed → Lexed → Lexed
+put p lexed = record { pieces = p ∷ lexed.pieces; rest = lexed.rest }
 
--- the piece of a cut, and the pieces after it
-abbrev pub placed : Option Cut → ℕ → (ℕ → List Placed) → List Placed
-placed None room after = []
-placed (Some c) room after = record { piece = c.piece; room = room } ∷ after (c.len - 1)
+-- the piece of a cut, and the pieces after it; or none, and the bytes are left
+abbrev pub placed : Option Cut → List ℕ → (ℕ → Lexed) → Lexed
+placed None bytes after = record { pieces = []; rest = bytes }
+placed (Some c) bytes after = put (record { piece = c.piece; room = length bytes }) (after (c.len - 1))
 
 -- The pieces of the bytes after the first few, which belong to a piece already. They end before a byte at
 -- which none begins.
-abbrev pub pieces_after : ℕ → List ℕ → List Placed
-pieces_after n [] = []
-pieces_after (suc n) (b ∷ bytes) = pieces_after n bytes
-pieces_after zero (b ∷ bytes) =
-    cond (is_blank b) (pieces_after zero bytes) (placed (first_cut (b ∷ bytes)) (1 + length bytes) (λ n. pieces_after n bytes))
+abbrev pub lex_after : ℕ → List ℕ → Lexed
+lex_after n [] = record { pieces = []; rest = [] }
+lex_after (suc n) (b ∷ bytes) = lex_after n bytes
+lex_after zero (b ∷ bytes) =
+    cond (is_blank b) (lex_after zero bytes) (placed (first_cut (b ∷ bytes)) (b ∷ bytes) (λ n. lex_after n bytes))
+
+-- the pieces of the bytes, and what is left after them
+unfoldable pub lex : List ℕ → Lexed
+lex bytes = lex_after 0 bytes
 
 -- the pieces of the bytes
-unfoldable pub pieces : List ℕ → List Placed
-pieces bytes = pieces_after 0 bytes
+abbrev pub pieces : List ℕ → List Placed
+pieces bytes = (lex bytes).pieces
+
+-- what is left after the pieces and the blanks
+abbrev pub unread : List ℕ → List ℕ
+unread bytes = (lex bytes).rest
 
 -- the piece stands next in the bytes, and these are left after it
 pub record IsNext (bytes : List ℕ) (piece : Piece) (after : List ℕ) : Type 0 where
   pub place : pieces bytes ≡ record { piece = piece; room = length (skip_blanks bytes) } ∷ pieces after
+  pub rest : unread bytes ≡ unread after
   pub shape : IsPiece piece
+  pub shorter : length after < length bytes
+
+-- no piece stands next
+pub record IsLast (bytes : List ℕ) : Type 0 where
+  pub place : pieces bytes ≡ []
+  pub rest : unread bytes ≡ skip_blanks bytes

@@ -3,6 +3,8 @@ use Rattle.std.specs.Prelude.{◌≡◌, ℕ, Bool, true, false, not, ◌&&◌, 
 use Rattle.std.specs.Str.{bytes_eq}
 use Rattle.std.specs.Str.Parse.{digits_value}
 use Rattle.sand_base.specs.declared.TheConstants.{COORDINATE_BITS}
+use Rattle.sand_base.specs.declared.kind.Kind.{Kind}
+use Rattle.sand_base.specs.declared.kind.Kind.TheVariants as kind
 use Rattle.sand_base.specs.declared.point.Point.{Point}
 use Rattle.sand_base.specs.declared.shape.Shape.{Shape}
 use Rattle.sand_base.specs.declared.shape.Shape.TheVariants as shape
@@ -18,7 +20,9 @@ use Rattle.script_text.specs.declared.stuck.Stuck.{Stuck}
 use Rattle.script_text.specs.declared.stuck.Stuck.TheVariants as stuck
 use Rattle.script_text.specs.declared.token.Symbol.{Symbol}
 use Rattle.script_text.specs.declared.token.Symbol.TheVariants as symbol
-use Rattle.script_text.specs.Lexing.{Placed, pieces}
+use Rattle.script_text.specs.KindWord.{kind_word}
+use Rattle.script_text.specs.Lexical.{Placed}
+use Rattle.script_text.specs.Lexing.{pieces}
 use Rattle.script_text.specs.Token.{Piece, name, number, mark, symbol_text}
 
 -- the pieces that are left, and whether every number so far was in its range
@@ -110,6 +114,18 @@ keyword_piece (name bytes) = keyword_of bytes
 keyword_piece (number bytes) = None
 keyword_piece (mark s) = None
 
+-- the kind with this word
+abbrev pub kind_named : List ℕ → Option Kind
+kind_named text =
+    cond (bytes_eq text (kind_word kind.Point)) (Some kind.Point)
+    (cond (bytes_eq text (kind_word kind.Segment)) (Some kind.Segment) None)
+
+-- the kind whose word a piece is
+abbrev pub kind_piece : Piece → Option Kind
+kind_piece (name bytes) = kind_named bytes
+kind_piece (number bytes) = None
+kind_piece (mark s) = None
+
 -- the number begins with a minus
 abbrev pub is_minus : List ℕ → Bool
 is_minus [] = false
@@ -134,7 +150,7 @@ natural least most text = cond (is_between least most text) (Some (magnitude tex
 
 -- the number, or 0 where it is out of range, which is noted
 abbrev pub noted : Option ℕ → State → Result (ℕ × State) (List Placed)
-noted o s = Ok (unwrap_or o 0, record s { in_range = s.in_range && is_some o })
+noted o s = Ok (unwrap_or o 0, record s { in_range = is_some o && s.in_range })
 
 -- a number of this range
 abbrev pub natural_in : ℕ → ℕ → Read ℕ
@@ -152,6 +168,20 @@ word_in word = piece_in (word_of word)
 abbrev pub mark_in : Symbol → Read (Unit {0})
 mark_in wanted = piece_in (mark_of wanted)
 
+-- a piece that fits is taken; one that doesn't is left, and is no fault
+abbrev pub taken_or_left : Option (Unit {0}) → State → List Placed → Result (Bool × State) (List Placed)
+taken_or_left None s after = Ok (false, s)
+taken_or_left (Some _) s after = Ok (true, record s { left = after })
+
+-- whether this symbol is the next of these pieces
+abbrev pub front_or_none : Symbol → State → List Placed → Result (Bool × State) (List Placed)
+front_or_none wanted s [] = Ok (false, s)
+front_or_none wanted s (p ∷ after) = taken_or_left (mark_of wanted p.piece) s after
+
+-- whether this symbol comes next, and then it is taken
+abbrev pub whether_in : Symbol → Read Bool
+whether_in wanted s = front_or_none wanted s s.left
+
 -- `relation.column`
 abbrev pub column_in : Read Column
 column_in =
@@ -168,9 +198,14 @@ spot_in =
     bind (mark_in symbol.Open) (λ _. bind coordinate_in (λ x. bind coordinate_in (λ y. bind (mark_in symbol.Close) (λ _.
     pure (record { x = x; y = y })))))
 
+-- what follows the first spot of a shape, by whether it is a minus
+abbrev pub shape_from : Point → Bool → Read Shape
+shape_from a false = pure (shape.Point a)
+shape_from a true = bind spot_in (λ b. pure (shape.Segment (record { a = a; b = b })))
+
 -- a shape
 abbrev pub shape_in : Read Shape
-shape_in = bind spot_in (λ at. pure (shape.Point at))
+shape_in = bind spot_in (λ a. bind (whether_in symbol.Minus) (shape_from a))
 
 -- a plan
 abbrev pub plan_in : Read Plan
@@ -181,8 +216,8 @@ plan_in =
 -- what follows `create`
 abbrev pub create_in : Read Statement
 create_in =
-    bind name_in (λ relation. bind (mark_in symbol.Open) (λ _. bind name_in (λ column. bind (word_in (codes "point")) (λ _.
-    bind (mark_in symbol.Close) (λ _. pure (Create relation column))))))
+    bind name_in (λ relation. bind (mark_in symbol.Open) (λ _. bind name_in (λ column. bind (piece_in kind_piece) (λ kind.
+    bind (mark_in symbol.Close) (λ _. pure (Create relation column kind))))))
 
 -- what follows `insert`
 abbrev pub insert_in : Read Statement

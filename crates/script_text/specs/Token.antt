@@ -1,8 +1,8 @@
 -- Tokens of a line, and the bytes that spell them.
-use Rattle.std.specs.Prelude.{◌≡◌, ℕ, Bool, true, false, ◌&&◌, List, [], ◌∷◌, codes, nat_lt, length, cond, ◌==◌}
+use Rattle.std.specs.Prelude.{◌≡◌, ℕ, ◌≤◌, Bool, true, false, ◌&&◌, List, [], ◌∷◌, ◌++◌, codes, nat_lt, length, cond, ◌==◌}
 use Rattle.std.specs.Char.{is_ascii_digit}
 use Rattle.std.specs.List.{list_all}
-use Rattle.script_text.specs.Name.{IsName}
+use Rattle.script_text.specs.Name.{IsName, is_name}
 use Rattle.script_text.specs.declared.token.Symbol.{Symbol}
 use Rattle.script_text.specs.declared.token.Symbol.TheVariants as symbol
 use Rattle.script_text.specs.declared.token.Token.{Token}
@@ -54,3 +54,16 @@ abbrev pub IsPiece : Piece → Type 0
 IsPiece (name bytes) = IsName bytes
 IsPiece (number bytes) = is_number bytes ≡ true
 IsPiece (mark s) = Unit {0}
+
+-- the piece is of its shape; a name may have any length
+abbrev pub IsShaped : Piece → Type 0
+IsShaped (name bytes) = is_name bytes ≡ true
+IsShaped (number bytes) = is_number bytes ≡ true
+IsShaped (mark s) = Unit {0}
+
+-- The piece is one of the language, the bytes are its spelling and then the others, and nothing longer that has the
+-- shape of a piece stands at their front.
+pub record IsToken (bytes : List ℕ) (piece : Piece) (after : List ℕ) : Type 0 where
+  pub shape : IsPiece piece
+  pub split : bytes ≡ spelling piece ++ after
+  pub longest : (other : Piece) (left : List ℕ) → IsShaped other → bytes ≡ spelling other ++ left → length (spelling other) ≤ length (spelling piece)

@@ -1,12 +1,15 @@
-ghost use Rattle.std.specs.Prelude.{◌≡◌, ◌≤◌, ◌<◌, ◌^◌, true};
-ghost use Rattle.script_text.specs.Reading.{Gives, start, natural, natural_in, name_of, word_of, mark_of, keyword_piece, piece_in, end_in};
+ghost use Rattle.std.specs.Prelude.{◌≡◌, ◌≤◌, ◌<◌, ◌^◌, true, Ok};
+ghost use Rattle.script_text.specs.Reading.{Gives, start, natural, natural_in, name_of, word_of, mark_of, keyword_piece, kind_piece, piece_in};
+ghost use Rattle.script_text.specs.Reading.{whether_in, end_in};
+ghost use Rattle.script_text.specs.Grammar.{room_at};
 ghost use Rattle.script_text.specs.Token.{is_number};
 
 use crate::keyword::{Keyword, keyword_of};
-use crate::lexer::next_token;
+use crate::kinds::kind_named;
+use crate::lexer::{next_token, skip_blanks};
 use crate::stuck::Stuck;
 use crate::token::{Symbol, Token};
-use sand_base::Label;
+use sand_base::{Kind, Label};
 use std::alloc::Global;
 use std::marker::Model;
 
@@ -55,6 +58,16 @@ impl<'t> Cursor<'t> {
         self.is_in_range
     }
 
+    /// How many bytes there are from the next token on; none where no token is left.
+    pub fn room(&self) -> usize
+        ensures { result ≡ room_at self.now.left }
+    {
+        match next_token(self.rest) {
+            Some(_) => skip_blanks(self.rest).len(),
+            None => 0,
+        }
+    }
+
     /// Takes a name.
     pub fn name(&mut self, alloc: Global) -> Result<Label, Stuck>
         ensures { Gives (piece_in name_of) self.old self.new result }
@@ -93,6 +106,32 @@ impl<'t> Cursor<'t> {
             }
             _ => Err(Stuck::Here),
         }
+    }
+
+    /// Takes this symbol where it comes next, and says whether it does.
+    pub fn takes(&mut self, wanted: Symbol) -> bool
+        ensures { whether_in wanted self.old ≡ Ok (result, self.new) }
+    {
+        match next_token(self.rest) {
+            Some((Token::Mark(symbol), after)) if symbol == wanted => {
+                self.rest = after;
+                true
+            }
+            _ => false,
+        }
+    }
+
+    /// Takes the word of a kind.
+    pub fn kind(&mut self) -> Result<Kind, Stuck>
+        ensures { Gives (piece_in kind_piece) self.old self.new result }
+    {
+        if let Some((Token::Name(text), after)) = next_token(self.rest)
+            && let Some(kind) = kind_named(text)
+        {
+            self.rest = after;
+            return Ok(kind);
+        }
+        Err(Stuck::Here)
     }
 
     /// Takes the word that begins a statement.

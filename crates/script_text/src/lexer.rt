@@ -3,10 +3,10 @@ ghost use Rattle.std.specs.Option.{option_map};
 ghost use Rattle.std.specs.Str.{IsAscii};
 ghost use Rattle.std.specs.Char.{is_ascii_digit};
 ghost use Rattle.std.specs.List.{prefix_len};
-ghost use Rattle.script_text.specs.Line.{is_blank};
+ghost use Rattle.script_text.specs.Lexical.{is_blank, skip_blanks};
 ghost use Rattle.script_text.specs.Name.{starts_name, continues_name};
-ghost use Rattle.script_text.specs.Lexing.{skip_blanks, first_cut, cut_of, begins_number, short_symbol};
-ghost use Rattle.script_text.specs.Lexing.{long_symbol, symbol_at, pieces, IsNext};
+ghost use Rattle.script_text.specs.Lexing.{first_cut, cut_of, begins_number, short_symbol, long_symbol, symbol_at};
+ghost use Rattle.script_text.specs.Lexing.{unread, IsNext, IsLast};
 ghost use Rattle.script_text.specs.Token.{piece_of};
 
 use crate::LONGEST_NAME;
@@ -170,7 +170,7 @@ fn first_cut(bytes: &[u8]) -> Option<Cut<'_>>
 
 /// The next token of the rest of a line, and what stands after it.
 pub fn next_token(rest: &[u8]) -> Option<(Token<'_>, &[u8])>
-    ensures { MatchOption result (pieces rest.now ≡ []) (λ p. IsNext rest.now (piece_of p.0) p.1.now) }
+    ensures { MatchOption result (IsLast rest.now) (λ p. IsNext rest.now (piece_of p.0) p.1.now) }
 {
     let bare = skip_blanks(rest);
     let Some(cut) = first_cut(bare) else {
@@ -178,4 +178,15 @@ pub fn next_token(rest: &[u8]) -> Option<(Token<'_>, &[u8])>
     };
     let (_, after) = bare.split_at(cut.len);
     Some((cut.token, after))
+}
+
+/// What is left of a line after its tokens: nothing, or the bytes from the first one on at which no token begins.
+pub fn unread(line: &[u8]) -> &[u8]
+    ensures { result.now ≡ unread line.now }
+{
+    let mut rest = line;
+    'tokens: while let Some((_, after)) = next_token(rest) {
+        rest = after;
+    }
+    skip_blanks(rest)
 }

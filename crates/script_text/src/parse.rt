@@ -1,13 +1,14 @@
-ghost use Rattle.std.specs.Prelude.{◌≡◌, ◌≤◌, ◌↔◌, length, IfOk, IsTrue};
-ghost use Rattle.script_text.specs.Statement.{printed};
+ghost use Rattle.std.specs.Prelude.{◌≡◌, ℕ, ◌+◌, ◌≤◌, false, [], length};
 ghost use Rattle.script_text.specs.Line.{Reads, is_passed_over};
+ghost use Rattle.script_text.specs.Lexical.{IsColumn};
+ghost use Rattle.script_text.specs.Lexing.{unread};
 ghost use Rattle.script_text.specs.declared.TheConstants.{LONGEST_LINE};
+ghost use Rattle.script_text.specs.declared.parse.LineFault.TheVariants.{Syntax};
 
+use crate::Statement;
 use crate::cursor::Cursor;
-use crate::lexer::skip_blanks;
+use crate::lexer::{skip_blanks, unread};
 use crate::stuck::Stuck;
-use crate::{Statement, print_statement};
-use sand_base::NoMemory;
 use std::alloc::Global;
 
 /// Why a line gives no statement.
@@ -15,18 +16,11 @@ use std::alloc::Global;
 pub enum LineFault {
     /// Memory was refused.
     Memory,
-    /// The line is no printed form of a statement that is built.
-    NotBuilt,
-}
-
-impl From<NoMemory> for LineFault {
-    ghost use Rattle.script_text.specs.declared.parse.LineFault.TheVariants.{Memory};
-
-    ghost from_gives = { λ _ fault. fault ≡ Memory };
-
-    fn from(_: NoMemory) -> Self {
-        LineFault::Memory
-    }
+    /// No token begins at this column, or no line of the grammar goes on with the token there. Columns count bytes
+    /// from 1; where the tokens end too early, the column is one past the line.
+    Syntax { column: u32 },
+    /// A number is out of its range.
+    Range,
 }
 
 /// Whether the line has blanks alone, or a `#` as its first other byte.
@@ -39,15 +33,40 @@ fn is_passed_over(line: &[u8]) -> bool
     }
 }
 
-/// Whether the line is the printed form of the statement.
-fn is_printed(alloc: Global, statement: &Statement, line: &[u8]) -> Result<bool, NoMemory>
-    ensures { IfOk result (λ same. IsTrue same ↔ (line.now ≡ printed statement.now)) }
+/// A fault at the byte from which on the line has so many bytes.
+fn syntax_at(line: &[u8], room: usize) -> LineFault
+    requires within { room ≤ length line.now }
+    requires short { length line.now ≤ LONGEST_LINE }
+    ensures { (column : ℕ) × (result ≡ Syntax column) × IsColumn line.now room column }
 {
-    let text = print_statement(alloc, statement)?;
-    Ok(text.as_slice() == line)
+    let column = line.len() - room + 1;
+    LineFault::Syntax {
+        column: column as u32,
+    }
+}
+
+/// Reads the statement of a line of tokens.
+fn read_tokens(alloc: Global, line: &[u8]) -> Result<Option<Statement>, LineFault>
+    requires short { length line.now ≤ LONGEST_LINE }
+    requires counts { is_passed_over line.now ≡ false }
+    requires lexed { unread line.now ≡ [] }
+    ensures { Reads line.now result }
+{
+    let mut cursor = Cursor::over(line);
+    let statement = match cursor.whole(alloc) {
+        Ok(statement) => statement,
+        Err(Stuck::Memory) => return Err(LineFault::Memory),
+        Err(Stuck::Here) => return Err(syntax_at(line, cursor.room())),
+    };
+    if !cursor.is_in_range() {
+        return Err(LineFault::Range);
+    }
+    Ok(Some(statement))
 }
 
 /// Reads one line, without its line feed. None for a line of blanks or a comment.
+///
+/// Memory is taken for the statement's names alone.
 pub fn parse_line(alloc: Global, line: &[u8]) -> Result<Option<Statement>, LineFault>
     requires { length line.now ≤ LONGEST_LINE }
     ensures { Reads line.now result }
@@ -55,21 +74,11 @@ pub fn parse_line(alloc: Global, line: &[u8]) -> Result<Option<Statement>, LineF
     if is_passed_over(line) {
         return Ok(None);
     }
-    let mut cursor = Cursor::over(line);
-    let statement = match cursor.whole(alloc) {
-        Ok(statement) => statement,
-        Err(Stuck::Memory) => return Err(LineFault::Memory),
-        Err(Stuck::Here) => return Err(LineFault::NotBuilt),
-    };
-    if !cursor.is_in_range() {
-        return Err(LineFault::NotBuilt);
+    let bad = unread(line);
+    if !bad.is_empty() {
+        return Err(syntax_at(line, bad.len()));
     }
-    let same = is_printed(alloc, &statement, line)?;
-    if same {
-        Ok(Some(statement))
-    } else {
-        Err(LineFault::NotBuilt)
-    }
+    read_tokens(alloc, line)
 }
 
 #[cfg(test)]
@@ -80,57 +89,186 @@ mod tests {
     enum Outcome {
         PassedOver,
         Read,
-        NotBuilt,
+        Syntax(u32),
+        Range,
         Memory,
         TooLong,
     }
 
-    /// What the line says. One that is read must be printed as it stands.
-    fn says(rt: &HostRuntime, line: &str) -> Outcome {
-        let bytes = line.as_bytes();
-        if bytes.len() > LONGEST_LINE {
+    /// What the line says. One that is read must have this printed form.
+    fn says(rt: &HostRuntime, line: &[u8], form: &str) -> Outcome {
+        if line.len() > LONGEST_LINE {
             return Outcome::TooLong;
         }
-        match parse_line(rt.alloc(), bytes) {
+        match parse_line(rt.alloc(), line) {
             Ok(None) => Outcome::PassedOver,
             Ok(Some(statement)) => match print_statement(rt.alloc(), &statement) {
-                Ok(text) if text.as_slice() == bytes => Outcome::Read,
+                Ok(text) if text.as_slice() == form.as_bytes() => Outcome::Read,
                 _ => Outcome::Memory,
             },
             Err(LineFault::Memory) => Outcome::Memory,
-            Err(LineFault::NotBuilt) => Outcome::NotBuilt,
+            Err(LineFault::Syntax { column }) => Outcome::Syntax(column),
+            Err(LineFault::Range) => Outcome::Range,
         }
     }
 
     #[test]
-    fn printed_forms_are_read_and_nothing_else(rt: HostRuntime) {
+    fn a_line_of_the_grammar_is_read_as_its_statement(rt: HostRuntime) {
+        for (line, form) in [
+            ("create p (at point)", "create p (at point)"),
+            ("\tcreate  p(at\tpoint ) ", "create p (at point)"),
+            ("insert p (0 65535)", "insert p (0 65535)"),
+            ("insert create(3 4)", "insert create (3 4)"),
+            ("insert p (-0 00065535)", "insert p (0 65535)"),
+            ("insert p (1-0)", "insert p (1 0)"),
+            ("index p.at", "index p.at"),
+            ("create s (way segment)", "create s (way segment)"),
+            (
+                "create segment(point segment )",
+                "create segment (point segment)",
+            ),
+            ("insert s (0 1)-(2 0)", "insert s (0 1)-(2 0)"),
+            ("insert s (1 0) - (1 0)", "insert s (1 0)-(1 0)"),
+            (
+                "insert s(65535 00)-\t( 0 65535)",
+                "insert s (65535 0)-(0 65535)",
+            ),
+            ("index p . at", "index p.at"),
+            (
+                "show 1000000 rank p.at from (2 9)",
+                "show 1000000 rank p.at from (2 9)",
+            ),
+            (
+                "show 1rank rank.from from(2 9)",
+                "show 1 rank rank.from from (2 9)",
+            ),
+            (
+                "show 1 rank s.way from (0 0)-(1 1)",
+                "show 1 rank s.way from (0 0)-(1 1)",
+            ),
+            (
+                "index abcdefghijklmnopqrstuvwxyz_ABCDE.Z9",
+                "index abcdefghijklmnopqrstuvwxyz_ABCDE.Z9",
+            ),
+        ] {
+            assert_eq!(rt; says(&rt, line.as_bytes(), form), Outcome::Read, "{line}");
+        }
+    }
+
+    #[test]
+    fn any_other_line_has_its_fault(rt: HostRuntime) {
         for (line, wanted) in [
-            ("create p (at point)", Outcome::Read),
-            ("insert p (0 65535)", Outcome::Read),
-            ("index p.at", Outcome::Read),
-            ("show 1000000 rank p.at from (2 9)", Outcome::Read),
-            ("insert create (3 4)", Outcome::Read),
-            ("index abcdefghijklmnopqrstuvwxyz_ABCDE.Z9", Outcome::Read),
             ("", Outcome::PassedOver),
             (" \t ", Outcome::PassedOver),
-            (" \t# a comment", Outcome::PassedOver),
+            (" \t# a comment \"", Outcome::PassedOver),
+            ("insert p (70000 1)", Outcome::Range),
+            ("insert p (0 65536)", Outcome::Range),
+            ("insert p (-1 0)", Outcome::Range),
+            (
+                "insert p (0 340282366920938463463374607431768211456)",
+                Outcome::Range,
+            ),
+            (
+                "insert p (-340282366920938463463374607431768211457 0)",
+                Outcome::Range,
+            ),
+            ("insert s (0 1)-(2 70000)", Outcome::Range),
+            ("insert s (0 1)-(2 -1)", Outcome::Range),
+            ("insert s (65536 1)-(2 0)", Outcome::Range),
+            ("show 0 rank p.at from (2 9)", Outcome::Range),
+            ("show 1000001 rank p.at from (2 9)", Outcome::Range),
+            ("show 3 rnk p.at from (0 0)", Outcome::Syntax(8)),
+            ("insert p (0", Outcome::Syntax(12)),
+            ("insert p (0  ", Outcome::Syntax(14)),
+            ("insert p 5", Outcome::Syntax(10)),
+            ("insert p (70000", Outcome::Syntax(16)),
+            ("insert p (0 - 1)", Outcome::Syntax(13)),
+            ("insert p (0 1 2)", Outcome::Syntax(15)),
+            ("insert p (0 1) ,", Outcome::Syntax(16)),
+            ("create s (way line)", Outcome::Syntax(15)),
+            ("create s (way Point)", Outcome::Syntax(15)),
+            ("insert s (0 1)-", Outcome::Syntax(16)),
+            ("insert s (0 1)-5", Outcome::Syntax(15)),
+            ("insert s (0 1) - 5", Outcome::Syntax(18)),
+            ("insert s (0 1)-(2", Outcome::Syntax(18)),
+            ("insert s (0 1) (2 0)", Outcome::Syntax(16)),
+            ("insert s (0 1)-(2 0)-(3 3)", Outcome::Syntax(21)),
+            ("insert s (0 70000)-(2", Outcome::Syntax(22)),
+            ("show 1 rank s.way from (0 0)-", Outcome::Syntax(30)),
+            ("index p", Outcome::Syntax(8)),
+            ("Index p.at", Outcome::Syntax(1)),
+            ("index p.1", Outcome::Syntax(9)),
             (
                 "index abcdefghijklmnopqrstuvwxyz_ABCDEF.Z9",
-                Outcome::NotBuilt,
+                Outcome::Syntax(7),
             ),
-            ("insert p (0 65536)", Outcome::NotBuilt),
-            ("insert p (0  1)", Outcome::NotBuilt),
-            ("insert p (0 01)", Outcome::NotBuilt),
-            ("insert p (0 -0)", Outcome::NotBuilt),
-            ("insert p (0 1) ", Outcome::NotBuilt),
-            ("insert p 5", Outcome::NotBuilt),
-            ("show 0 rank p.at from (2 9)", Outcome::NotBuilt),
-            ("show 1000001 rank p.at from (2 9)", Outcome::NotBuilt),
-            ("index p", Outcome::NotBuilt),
-            ("Index p.at", Outcome::NotBuilt),
-            ("x # not a comment", Outcome::NotBuilt),
+            ("index p.at # no comment", Outcome::Syntax(12)),
+            ("index 5 \"", Outcome::Syntax(9)),
+            ("index p.\"at\"", Outcome::Syntax(9)),
+            ("insert p (0\r1)", Outcome::Syntax(12)),
+            ("\tinsert\tp (0\t1\u{1})", Outcome::Syntax(15)),
+            ("insert p\u{e9} (0 1)", Outcome::Syntax(9)),
+            ("insert p (0 1)\u{7f}", Outcome::Syntax(15)),
+            ("!", Outcome::Syntax(1)),
+            ("index p!=q.at", Outcome::Syntax(8)),
         ] {
-            assert_eq!(rt; says(&rt, line), wanted, "{line}");
+            assert_eq!(rt; says(&rt, line.as_bytes(), ""), wanted, "{line}");
+        }
+    }
+
+    /// A line of so many of the same byte, and then another text, is read with this outcome.
+    fn padded(
+        rt: &HostRuntime,
+        front: &str,
+        byte: u8,
+        count: usize,
+        back: &str,
+        form: &str,
+    ) -> Option<Outcome> {
+        let mut line = Vec::new(rt.alloc());
+        line.extend_from_slice(front.as_bytes()).ok()?;
+        for _ in 0..count {
+            line.push(byte).ok()?;
+        }
+        line.extend_from_slice(back.as_bytes()).ok()?;
+        Some(says(rt, line.as_slice(), form))
+    }
+
+    #[test]
+    fn long_lines_are_read_to_their_end(rt: HostRuntime) {
+        for (front, byte, count, back, wanted) in [
+            ("", b'x', LONGEST_LINE, "", Outcome::Syntax(1)),
+            ("", b' ', LONGEST_LINE, "", Outcome::PassedOver),
+            ("", b'(', LONGEST_LINE, "", Outcome::Syntax(1)),
+            ("index p.at", b' ', LONGEST_LINE - 10, "", Outcome::Read),
+            (
+                "index p.at",
+                b' ',
+                LONGEST_LINE - 11,
+                "5",
+                Outcome::Syntax(8192),
+            ),
+            (
+                "index p.",
+                b' ',
+                LONGEST_LINE - 8,
+                "",
+                Outcome::Syntax(8193),
+            ),
+            ("insert p (7 ", b'0', 8_000, "9)", Outcome::Read),
+            ("insert p (7 -", b'0', 8_000, ")", Outcome::Read),
+            ("insert p (7 ", b'9', 8_000, ")", Outcome::Range),
+        ] {
+            let form = match (front, back) {
+                ("insert p (7 ", _) => "insert p (7 9)",
+                ("insert p (7 -", _) => "insert p (7 0)",
+                _ => "index p.at",
+            };
+            assert_eq!(rt;
+                padded(&rt, front, byte, count, back, form),
+                Some(wanted),
+                "{front} {back}"
+            );
         }
     }
 }

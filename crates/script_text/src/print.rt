@@ -1,8 +1,9 @@
 ghost use Rattle.std.specs.Prelude.{◌≡◌, IfOk};
 ghost use Rattle.script_text.specs.Statement.{printed};
 
+use crate::kinds::kind_word;
 use crate::{Column, Plan, Statement};
-use sand_base::{NoMemory, Shape};
+use sand_base::{NoMemory, Point, Shape};
 use std::alloc::Global;
 use std::fmt;
 
@@ -19,6 +20,23 @@ impl fmt::Display for Column {
     }
 }
 
+/// A point as the language writes it.
+#[derive(Drop)]
+struct Spot<'p>(&'p Point);
+
+impl<'p> fmt::Display for Spot<'p> {
+    ghost use Rattle.std.specs.Prelude.{Some};
+    ghost use Rattle.script_text.specs.Statement.{spot_text};
+
+    ghost output = { λ spot. Some (spot_text spot.0.now) };
+
+    fn fmt<W: fmt::Write>(&self, f: &mut fmt::Formatter<W>) -> fmt::Result {
+        let x = self.0.x;
+        let y = self.0.y;
+        write!(f, "({x} {y})")
+    }
+}
+
 /// A shape as the language writes it.
 #[derive(Drop)]
 struct Written<'s>(&'s Shape);
@@ -32,9 +50,13 @@ impl<'s> fmt::Display for Written<'s> {
     fn fmt<W: fmt::Write>(&self, f: &mut fmt::Formatter<W>) -> fmt::Result {
         match self.0 {
             Shape::Point(at) => {
-                let x = at.x;
-                let y = at.y;
-                write!(f, "({x} {y})")
+                let at = Spot(at);
+                write!(f, "{at}")
+            }
+            Shape::Segment(way) => {
+                let a = Spot(&way.a);
+                let b = Spot(&way.b);
+                write!(f, "{a}-{b}")
             }
         }
     }
@@ -64,10 +86,15 @@ impl fmt::Display for Statement {
 
     fn fmt<W: fmt::Write>(&self, f: &mut fmt::Formatter<W>) -> fmt::Result {
         match self {
-            Statement::Create { relation, column } => {
+            Statement::Create {
+                relation,
+                column,
+                kind,
+            } => {
                 let relation = relation.as_str();
                 let column = column.as_str();
-                write!(f, "create {relation} ({column} point)")
+                let kind = kind_word(*kind);
+                write!(f, "create {relation} ({column} {kind})")
             }
             Statement::Insert { relation, value } => {
                 let relation = relation.as_str();

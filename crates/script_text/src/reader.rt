@@ -6,7 +6,7 @@ use crate::keyword::Keyword;
 use crate::stuck::Stuck;
 use crate::token::Symbol;
 use crate::{Column, MOST_ROWS, Plan, Statement};
-use sand_base::{COORDINATE_BITS, Point, Shape};
+use sand_base::{COORDINATE_BITS, Point, Segment, Shape};
 use std::alloc::Global;
 
 impl<'t> Cursor<'t> {
@@ -38,12 +38,16 @@ impl<'t> Cursor<'t> {
         Ok(Point { x, y })
     }
 
-    /// Reads a shape.
+    /// Reads a shape: a spot, or two with a `-` between them.
     fn shape(&mut self) -> Result<Shape, Stuck>
         ensures { Gives shape_in self.old self.new result }
     {
-        let at = self.spot()?;
-        Ok(Shape::Point(at))
+        let a = self.spot()?;
+        if !self.takes(Symbol::Minus) {
+            return Ok(Shape::Point(a));
+        }
+        let b = self.spot()?;
+        Ok(Shape::Segment(Segment { a, b }))
     }
 
     /// Reads a plan.
@@ -64,9 +68,13 @@ impl<'t> Cursor<'t> {
         let relation = self.name(alloc)?;
         self.mark(Symbol::Open)?;
         let column = self.name(alloc)?;
-        self.word("point")?;
+        let kind = self.kind()?;
         self.mark(Symbol::Close)?;
-        Ok(Statement::Create { relation, column })
+        Ok(Statement::Create {
+            relation,
+            column,
+            kind,
+        })
     }
 
     /// Reads what follows `insert`.

@@ -1,4 +1,4 @@
-use sand_base::{Label, Shape};
+use sand_base::{Kind, Label, Shape};
 
 /// A column of a relation, written `relation.column`.
 #[derive(Drop)]
@@ -17,12 +17,24 @@ pub enum Plan {
 /// What a line of a script says.
 #[derive(Drop)]
 pub enum Statement {
-    /// `create RELATION (COLUMN point)`: an empty relation with one column of points.
-    Create { relation: Label, column: Label },
-    /// `insert RELATION (X Y)`: one more row.
-    Insert { relation: Label, value: Shape },
+    /// `create RELATION (COLUMN KIND)`: an empty relation with one column, of shapes of the kind.
+    Create {
+        relation: Label,
+        column: Label,
+        kind: Kind,
+    },
+    /// `insert RELATION SHAPE`: one more row.
+    Insert {
+        relation: Label,
+        value: Shape,
+    },
     /// `index RELATION.COLUMN`: an index on the column.
-    Index { column: Column },
+    Index {
+        column: Column,
+    },
     /// `show COUNT PLAN`: the first rows of a plan, at most as many as the count.
-    Show { count: u32, plan: Plan },
+    Show {
+        count: u32,
+        plan: Plan,
+    },
 }

@@ -1,21 +1,53 @@
 -- Rows measured one after the other.
-use Rattle.std.proofs.Common.{◌≡◌, ℕ, zero, suc, arith, ◌+◌, ◌<◌, List, [], ◌∷◌, ◌++◌, length, get_or, take, subst, sym, refl}
+use Rattle.std.proofs.Common.{◌≡◌, ℕ, zero, suc, arith, ◌+◌, ◌<◌, ◌*◌, pos, ◌*ℤ◌, ◌≤ℤ◌, List, [], ◌∷◌, ◌++◌, length, get_or, take, subst, sym, ap, ◌∙◌, refl, mul_comm}
 use Rattle.std.proofs.lemmas.List.{take_more}
+use Rattle.int_ring.specs.Expr.{Expr, var, at, ◌⊕◌, ◌⊖◌, ◌⊗◌}
+use Rattle.int_ring.proofs.Ring.{ring}
 use Rattle.exact_frac.specs.declared.frac.Frac.{Frac}
 use Rattle.sand_base.specs.Plane.{IsShapeInPlane}
 use Rattle.sand_base.specs.declared.shape.Shape.{Shape}
 use Rattle.sand_base.specs.declared.point.Point.{Point}
 use Rattle.sand_base.specs.declared.shape.Shape.TheVariants as shape
-use Rattle.sand_model.specs.Carrier.{IsPoint}
-use Rattle.sand_model.specs.Gap.{IsGap, IsLeast}
+use Rattle.sand_model.specs.Carrier.{RationalPoint, IsOf}
+use Rattle.sand_model.specs.Gap.{IsGap, IsLeast, far, common_square, square}
 use Rattle.sand_model.specs.Ranking.{Measures}
 use Rattle.session.specs.Rows.{AreInPlane}
 
--- the gap of two shapes that are points is that of the points
-pub IsGap-points : (value goal : Shape) (p q : Point) (gap : Frac) → value ≡ shape.Point p → goal ≡ shape.Point q
-    → IsLeast (IsPoint p) (IsPoint q) gap.num gap.den → IsGap value goal gap
-IsGap-points value goal p q gap value-is goal-is least =
-    subst (λ v. IsGap v goal gap) (sym value-is) (subst (λ g. IsGap (shape.Point p) g gap) (sym goal-is) least)
+-- the gap of two shapes is told by what they are
+pub IsGap-of : (value goal v g : Shape) (gap : Frac) → value ≡ v → goal ≡ g → IsLeast (IsOf v) (IsOf g) gap.num gap.den → IsGap value goal gap
+IsGap-of value goal v g gap value-is goal-is least =
+    subst (λ w. IsGap w goal gap) (sym value-is) (subst (λ w. IsGap v w gap) (sym goal-is) least)
+
+-- two points are as far apart either way
+far-swap : (q r : RationalPoint) → far q r ≡ far r q
+far-swap q r =
+    ring (at (q.x ∷ q.y ∷ pos q.n ∷ r.x ∷ r.y ∷ pos r.n ∷ []))
+    ((var 0 ⊗ var 5 ⊖ var 3 ⊗ var 2) ⊗ (var 0 ⊗ var 5 ⊖ var 3 ⊗ var 2) ⊕ (var 1 ⊗ var 5 ⊖ var 4 ⊗ var 2) ⊗ (var 1 ⊗ var 5 ⊖ var 4 ⊗ var 2))
+    ((var 3 ⊗ var 2 ⊖ var 0 ⊗ var 5) ⊗ (var 3 ⊗ var 2 ⊖ var 0 ⊗ var 5) ⊕ (var 4 ⊗ var 2 ⊖ var 1 ⊗ var 5) ⊗ (var 4 ⊗ var 2 ⊖ var 1 ⊗ var 5))
+    refl
+
+-- and their denominators have one product
+common_square-swap : (q r : RationalPoint) → common_square q r ≡ common_square r q
+common_square-swap q r = ap (λ n. square (pos n)) (mul_comm q.n r.n)
+
+-- the least squared distance of two sets is that of the other way
+pub IsLeast-swap : (A B : RationalPoint → Type 0) (num den : ℕ) → IsLeast A B num den → IsLeast B A num den
+IsLeast-swap A B num den least =
+    let pair = least.attained in
+    let q = pair.0 in
+    let r = pair.1 in
+    record {
+      attained = (
+        r,
+        q,
+        pair.3,
+        pair.2,
+        ap (λ f. f *ℤ pos den) (far-swap r q) ∙ pair.4 ∙ ap (λ c. pos num *ℤ c) (common_square-swap q r),
+      );
+      least = λ u v in_b in_a.
+          subst (λ f. (pos num *ℤ common_square u v) ≤ℤ (f *ℤ pos den)) (far-swap v u)
+          (subst (λ c. (pos num *ℤ c) ≤ℤ (far v u *ℤ pos den)) (common_square-swap v u) (least.least v u in_a in_b));
+    }
 
 -- one more row is measured at the end
 pub Measures-append : (goal : Shape) (rows : List (ℕ × Shape)) (hits : List (Frac × ℕ)) (row : ℕ × Shape) (hit : Frac × ℕ)

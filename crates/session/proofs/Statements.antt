@@ -3,6 +3,8 @@ use Rattle.std.proofs.Common.{◌≡◌, ℕ, ◌<◌, ◌≤◌, Bool, true, fa
 use Rattle.std.specs.List.{position}
 use Rattle.std.proofs.lemmas.Bool.{le-leb, lt-leb}
 use Rattle.std.proofs.lemmas.List.{set-get_or, get_or_default}
+use Rattle.sand_base.specs.Shape.{kind_of, same_kind}
+use Rattle.sand_base.specs.declared.kind.Kind.{Kind}
 use Rattle.sand_base.specs.declared.refusal.Refusal.TheVariants as why
 use Rattle.sand_base.specs.declared.shape.Shape.{Shape}
 use Rattle.sand_model.specs.Relation.{Relation, has_name, same_name, with_row, with_index, changed_at, new_relation}
@@ -21,27 +23,27 @@ pub put_back : (world : List Relation) (at : ℕ) (r : Relation) → r ≡ get_o
 put_back world at r here = ap (set world at) here ∙ set-get_or world at r
 
 -- the name is taken
-pub create-taken : (old : List Relation) (name column : List ℕ) (at : ℕ) (r : Relation) → position (has_name name) old ≡ Some at
-    → r ≡ get_or old at r → Answers old (Create name column) (Refused why.NotBuilt) old
-create-taken old name column at r h here = rw (find-some (has_name name) old at r h here) (refl, refl)
+pub create-taken : (old : List Relation) (name column : List ℕ) (kind : Kind) (at : ℕ) (r : Relation) → position (has_name name) old ≡ Some at
+    → r ≡ get_or old at r → Answers old (Create name column kind) (Refused why.NotBuilt) old
+create-taken old name column kind at r h here = rw (find-some (has_name name) old at r h here) (refl, refl)
 
 -- the name is taken, wherever it stands
-pub create-taken_at : (old : List Relation) (name column : List ℕ) (at : ℕ) → position (has_name name) old ≡ Some at
-    → Answers old (Create name column) (Refused why.NotBuilt) old
-create-taken_at old name column at h =
-    let r = get_or old at (new_relation name column) in
-    create-taken old name column at r h (get_or_default old at (new_relation name column) r (position_some (has_name name) old at h).1)
+pub create-taken_at : (old : List Relation) (name column : List ℕ) (kind : Kind) (at : ℕ) → position (has_name name) old ≡ Some at
+    → Answers old (Create name column kind) (Refused why.NotBuilt) old
+create-taken_at old name column kind at h =
+    let r = get_or old at (new_relation name column kind) in
+    create-taken old name column kind at r h (get_or_default old at (new_relation name column kind) r (position_some (has_name name) old at h).1)
 
 -- there are too many relations
-pub create-full : (old : List Relation) (name column : List ℕ) → position (has_name name) old ≡ None
-    → MOST_RELATIONS ≤ length old → Answers old (Create name column) (Refused why.NotBuilt) old
-create-full old name column h full =
+pub create-full : (old : List Relation) (name column : List ℕ) (kind : Kind) → position (has_name name) old ≡ None
+    → MOST_RELATIONS ≤ length old → Answers old (Create name column kind) (Refused why.NotBuilt) old
+create-full old name column kind h full =
     rw (find-none (has_name name) old h) (rw (le-leb MOST_RELATIONS (length old) full) (refl, refl))
 
 -- a new relation at the end
-pub create-done : (old new : List Relation) (name column : List ℕ) → position (has_name name) old ≡ None
-    → length old < MOST_RELATIONS → new ≡ old ++ new_relation name column ∷ [] → Answers old (Create name column) Done new
-create-done old new name column h room added =
+pub create-done : (old new : List Relation) (name column : List ℕ) (kind : Kind) → position (has_name name) old ≡ None
+    → length old < MOST_RELATIONS → new ≡ old ++ new_relation name column kind ∷ [] → Answers old (Create name column kind) Done new
+create-done old new name column kind h room added =
     rw (find-none (has_name name) old h) (rw (lt-leb MOST_RELATIONS (length old) room) (refl, added))
 
 -- no relation has the name
@@ -49,17 +51,23 @@ pub insert-unknown : (old : List Relation) (name : List ℕ) (value : Shape) →
     → Answers old (Insert name value) (Refused why.UnknownRelation) old
 insert-unknown old name value h = rw (find-none (has_name name) old h) (refl, refl)
 
+-- the value is of another kind than the column
+pub insert-wrong_kind : (old : List Relation) (name : List ℕ) (value : Shape) (at : ℕ) (r : Relation) → position (has_name name) old ≡ Some at
+    → r ≡ get_or old at r → same_kind (kind_of value) r.kind ≡ false → Answers old (Insert name value) (Refused why.WrongKind) (set old at r)
+insert-wrong_kind old name value at r h here other =
+    rw (find-some (has_name name) old at r h here) (rw other (refl, put_back old at r here))
+
 -- all ids were given out
 pub insert-spent : (old : List Relation) (name : List ℕ) (value : Shape) (at : ℕ) (r : Relation) → position (has_name name) old ≡ Some at
-    → r ≡ get_or old at r → ltb MOST_IDS r.next ≡ true → Answers old (Insert name value) (Refused why.NotBuilt) (set old at r)
-insert-spent old name value at r h here spent =
-    rw (find-some (has_name name) old at r h here) (rw spent (refl, put_back old at r here))
+    → r ≡ get_or old at r → same_kind (kind_of value) r.kind ≡ true → ltb MOST_IDS r.next ≡ true → Answers old (Insert name value) (Refused why.NotBuilt) (set old at r)
+insert-spent old name value at r h here same spent =
+    rw (find-some (has_name name) old at r h here) (rw (same, spent) (refl, put_back old at r here))
 
 -- the row is added to its relation
 pub insert-done : (old : List Relation) (name : List ℕ) (value : Shape) (at id : ℕ) (r r' : Relation) → position (has_name name) old ≡ Some at
-    → r ≡ get_or old at r → ltb MOST_IDS r.next ≡ false → id ≡ r.next → r' ≡ with_row value r → Answers old (Insert name value) (Id id) (set old at r')
-insert-done old name value at id r r' h here room own added =
-    rw (find-some (has_name name) old at r h here) (rw room
+    → r ≡ get_or old at r → same_kind (kind_of value) r.kind ≡ true → ltb MOST_IDS r.next ≡ false → id ≡ r.next → r' ≡ with_row value r → Answers old (Insert name value) (Id id) (set old at r')
+insert-done old name value at id r r' h here same room own added =
+    rw (find-some (has_name name) old at r h here) (rw (same, room)
     (ap Id own, ap (set old at) added ∙ sym (changed_at-place name (with_row value) old at r h here)))
 
 -- no relation has the name

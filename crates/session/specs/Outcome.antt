@@ -1,6 +1,7 @@
 -- What carrying a line out answers, and what it leaves of the relations.
 use Rattle.std.specs.Prelude.{◌≡◌, ◌⊎◌, ℕ, nat_le, nat_lt, List, [], ◌∷◌, ◌++◌, length, take, find, Option, Some, None, Result, Ok, Err, MatchBool, MatchOption}
 use Rattle.exact_frac.specs.declared.frac.Frac.{Frac}
+use Rattle.sand_base.specs.Shape.{kind_of, same_kind}
 use Rattle.sand_base.specs.declared.refusal.Refusal.{Refusal}
 use Rattle.sand_base.specs.declared.refusal.Refusal.TheVariants as why
 use Rattle.sand_base.specs.declared.shape.Shape.{Shape}
@@ -29,15 +30,17 @@ pub record GivesRows (relation : Relation) (goal : Shape) (count : ℕ) (reply :
 
 -- What a statement answers. Its checks are tried in order; the first that fails refuses it.
 abbrev pub Answers : List Relation → Statement → Reply → List Relation → Type 0
-Answers old (Create name column) reply new =
+Answers old (Create name column kind) reply new =
     MatchOption (find (has_name name) old)
     (MatchBool (nat_le MOST_RELATIONS (length old)) (Refuses why.NotBuilt old reply new)
-    ((reply ≡ Done) × (new ≡ old ++ new_relation name column ∷ [])))
+    ((reply ≡ Done) × (new ≡ old ++ new_relation name column kind ∷ [])))
     (λ relation. Refuses why.NotBuilt old reply new)
 Answers old (Insert name value) reply new =
     MatchOption (find (has_name name) old) (Refuses why.UnknownRelation old reply new) (λ relation.
-    MatchBool (nat_lt MOST_IDS relation.next) (Refuses why.NotBuilt old reply new)
+    MatchBool (same_kind (kind_of value) relation.kind)
+    (MatchBool (nat_lt MOST_IDS relation.next) (Refuses why.NotBuilt old reply new)
     ((reply ≡ Id relation.next) × (new ≡ changed_at name (with_row value) old)))
+    (Refuses why.WrongKind old reply new))
 Answers old (Index column) reply new =
     MatchOption (find (has_name column.relation) old) (Refuses why.UnknownRelation old reply new) (λ relation.
     MatchBool (same_name relation.column column.column)
@@ -65,12 +68,13 @@ reply_of (Err why) = Refused why
 abbrev pub Meets : List Relation → Result (Option Statement) LineFault → Reply → List Relation → Type 0
 Meets old (Ok None) reply new = (reply ≡ Silent) × (new ≡ old)
 Meets old (Ok (Some statement)) reply new = CarriesOut old statement reply new
-Meets old (Err fault.NotBuilt) reply new = Refuses why.NotBuilt old reply new
+Meets old (Err (fault.Syntax column)) reply new = Refuses (why.Syntax column) old reply new
+Meets old (Err fault.Range) reply new = Refuses why.Range old reply new
 Meets old (Err fault.Memory) reply new = Refuses why.Memory old reply new
 
 -- what a line answers, or one that is too long
 abbrev pub Outcome : List Relation → Option (List ℕ) → Reply → List Relation → Type 0
-Outcome old None reply new = Refuses why.NotBuilt old reply new
+Outcome old None reply new = Refuses why.LineTooLong old reply new
 Outcome old (Some line) reply new =
     (read : Result (Option Statement) LineFault) × Reads (chopped line) read × Meets old read reply new
 

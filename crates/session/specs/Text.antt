@@ -4,6 +4,8 @@ use Rattle.std.specs.Fmt.{decimal}
 use Rattle.exact_frac.specs.Printed.{IsPrinted}
 use Rattle.exact_frac.specs.declared.frac.Frac.{Frac}
 use Rattle.sand_base.specs.Refusal.{refusal_number, refusal_word}
+use Rattle.sand_base.specs.declared.refusal.Refusal.{Refusal}
+use Rattle.sand_base.specs.declared.refusal.Refusal.TheVariants as why
 use Rattle.sand_base.specs.Streams.{Adds}
 use Rattle.session.specs.declared.reply.Reply.{Reply}
 use Rattle.session.specs.declared.reply.Reply.TheVariants.{Silent, Done, Id, Rows, Refused}
@@ -32,9 +34,15 @@ PrintsRows (hit ∷ hits) text =
 abbrev pub end_text : Bool → List ℕ
 end_text end = cond end (codes "end" ++ line_feed) []
 
+-- what stands behind the word of a refusal: the column of a fault of the grammar
+abbrev pub detail_text : Refusal → List ℕ
+detail_text (why.Syntax column) = codes " " ++ decimal column
+detail_text _ = []
+
 -- the line of a refused statement
-abbrev pub refused_text : ℕ → List ℕ → List ℕ
-refused_text number word = codes "refused " ++ decimal number ++ codes " " ++ word ++ line_feed
+abbrev pub refused_text : Refusal → List ℕ
+refused_text refusal =
+    codes "refused " ++ decimal (refusal_number refusal) ++ codes " " ++ refusal_word refusal ++ detail_text refusal ++ line_feed
 
 -- the text of an answer
 abbrev pub Prints : Reply → List ℕ → Type 0
@@ -42,11 +50,11 @@ Prints Silent text = text ≡ []
 Prints Done text = text ≡ codes "ok" ++ line_feed
 Prints (Id id) text = text ≡ codes "id " ++ decimal id ++ line_feed
 Prints (Rows hits end) text = (rows : List ℕ) × PrintsRows hits rows × (text ≡ rows ++ end_text end)
-Prints (Refused why) text = text ≡ refused_text (refusal_number why) (refusal_word why)
+Prints (Refused refusal) text = text ≡ refused_text refusal
 
 -- whether an answer is a refusal
 abbrev pub is_refused : Reply → Bool
-is_refused (Refused why) = true
+is_refused (Refused refusal) = true
 is_refused _ = false
 
 -- the text of answers, one after the other

@@ -6,7 +6,7 @@ ghost use Rattle.session.specs.Outcome.{CarriesOut, reply_of};
 
 use crate::relation::Relation;
 use crate::{Hits, MOST_RELATIONS, Reply};
-use sand_base::{Label, Refusal, Shape};
+use sand_base::{Kind, Label, Refusal, Shape};
 use script_text::{Column, Plan, Statement};
 use std::alloc::Global;
 
@@ -25,8 +25,9 @@ pub fn create(
     relations: &mut Vec<Relation>,
     name: Label,
     column: Label,
+    kind: Kind,
 ) -> Result<Reply, Refusal>
-    ensures { CarriesOut relations.old.items (Statement.Create name column) (reply_of result) relations.new.items }
+    ensures { CarriesOut relations.old.items (Statement.Create name column kind) (reply_of result) relations.new.items }
 {
     if let Some(_) = place_of(relations, name.as_str()) {
         return Err(Refusal::NotBuilt);
@@ -34,7 +35,7 @@ pub fn create(
     if relations.len() >= MOST_RELATIONS {
         return Err(Refusal::NotBuilt);
     }
-    relations.push(Relation::new(alloc, name, column))?;
+    relations.push(Relation::new(alloc, name, column, kind))?;
     Ok(Reply::Done)
 }
 
@@ -47,6 +48,9 @@ pub fn insert(relations: &mut Vec<Relation>, name: &Label, value: Shape) -> Resu
         return Err(Refusal::UnknownRelation);
     };
     let relation = &mut relations[at];
+    if !relation.takes(&value) {
+        return Err(Refusal::WrongKind);
+    }
     if relation.is_spent() {
         return Err(Refusal::NotBuilt);
     }
@@ -126,7 +130,11 @@ pub fn carry_out(
     ensures { CarriesOut relations.old.items statement (reply_of result) relations.new.items }
 {
     match statement {
-        Statement::Create { relation, column } => create(alloc, relations, relation, column),
+        Statement::Create {
+            relation,
+            column,
+            kind,
+        } => create(alloc, relations, relation, column, kind),
         Statement::Insert { relation, value } => insert(relations, &relation, value),
         Statement::Index { column } => index(relations, &column),
         Statement::Show { count, plan } => show(alloc, relations, count, &plan),

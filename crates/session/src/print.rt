@@ -1,8 +1,8 @@
-ghost use Rattle.std.specs.Prelude.{◌≡◌, ◌++◌, codes, OnOk, OnErr};
+ghost use Rattle.std.specs.Prelude.{◌≡◌, ◌+◌, ◌≤◌, ◌++◌, length, codes, OnOk, OnErr};
 ghost use Rattle.std.specs.Fmt.{decimal};
 ghost use Rattle.sand_base.specs.Faults.{HasCause};
-ghost use Rattle.sand_base.specs.Refusal.{refusal_number, refusal_word};
-ghost use Rattle.session.specs.Text.{PrintsRow, WritesReply, WritesRows, WritesRanking, BreaksReply, BreaksRows, BreaksRanking, line_feed, refused_text};
+ghost use Rattle.session.specs.Text.{PrintsRow, WritesReply, WritesRows, WritesRanking, BreaksReply, BreaksRows, BreaksRanking, line_feed, detail_text, refused_text};
+ghost use Rattle.session.specs.declared.short_text.TheConstants.{ROOM};
 
 use crate::Reply;
 use crate::short_text::{ShortText, append, append_number};
@@ -34,15 +34,37 @@ fn id_line(id: u32) -> ShortText
     line
 }
 
+// A space and a column.
+fn append_column(line: &mut ShortText, column: u32)
+    requires { length line.old + 11 ≤ ROOM }
+    ensures text { line.new ≡ line.old ++ (codes " " ++ decimal column) }
+    ensures len { length line.new ≤ length line.old + 11 }
+{
+    append(line, b" ");
+    append_number(line, column);
+}
+
+// What stands behind the word of a refusal.
+fn append_detail(line: &mut ShortText, why: Refusal)
+    requires { length line.old + 11 ≤ ROOM }
+    ensures text { line.new ≡ line.old ++ detail_text why }
+    ensures len { length line.new ≤ length line.old + 11 }
+{
+    if let Refusal::Syntax { column } = why {
+        append_column(line, column);
+    }
+}
+
 // The line of a refused statement.
 fn refused_line(why: Refusal) -> ShortText
-    ensures { result ≡ refused_text (refusal_number why) (refusal_word why) }
+    ensures { result ≡ refused_text why }
 {
     let mut line = ShortText::new();
     append(&mut line, b"refused ");
     append_number(&mut line, u32::from(why.number()));
     append(&mut line, b" ");
     append(&mut line, why.word().as_bytes());
+    append_detail(&mut line, why);
     append(&mut line, b"\n");
     line
 }

@@ -5,17 +5,9 @@ ghost use Rattle.sand_model.specs.Ranking.{IsRanking, Measures};
 ghost use Rattle.session.specs.Rows.{AreInPlane};
 
 use exact_frac::Frac;
-use plane_geom::gap_points;
-use sand_base::{NoMemory, Point, Shape};
+use plane_geom::{gap_point_segment, gap_points, gap_segments};
+use sand_base::{NoMemory, Shape};
 use std::alloc::Global;
-
-// The point that a shape is.
-fn point_of(shape: &Shape) -> Point
-    ensures { shape.now ≡ Shape.Point result }
-{
-    let Shape::Point(at) = shape;
-    *at
-}
 
 // The gap of two shapes.
 fn gap_of(value: &Shape, goal: &Shape) -> Frac
@@ -23,7 +15,12 @@ fn gap_of(value: &Shape, goal: &Shape) -> Frac
     requires goal { IsShapeInPlane goal.now }
     ensures { IsGap value.now goal.now result }
 {
-    gap_points(point_of(value), point_of(goal))
+    match (value, goal) {
+        (Shape::Point(at), Shape::Point(from)) => gap_points(*at, *from),
+        (Shape::Point(at), Shape::Segment(from)) => gap_point_segment(*at, *from),
+        (Shape::Segment(way), Shape::Point(from)) => gap_point_segment(*from, *way),
+        (Shape::Segment(way), Shape::Segment(from)) => gap_segments(*way, *from),
+    }
 }
 
 // Each row's gap from the goal, with its id.

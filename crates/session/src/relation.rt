@@ -1,5 +1,6 @@
 ghost use Rattle.std.specs.Prelude.{◌≡◌, ◌≤◌, nat_lt, IfOk, OnErr};
 ghost use Rattle.sand_base.specs.Plane.{IsShapeInPlane};
+ghost use Rattle.sand_base.specs.Shape.{kind_of, same_kind};
 ghost use Rattle.sand_model.specs.Ranking.{IsRanking};
 ghost use Rattle.sand_model.specs.Relation.{new_relation, with_row, with_index};
 ghost use Rattle.session.specs.declared.TheConstants.{MOST_IDS};
@@ -7,15 +8,16 @@ ghost use Rattle.session.specs.declared.TheConstants.{MOST_IDS};
 use crate::MOST_IDS;
 use crate::ranking::ranking;
 use exact_frac::Frac;
-use sand_base::{Label, NoMemory, Shape};
+use sand_base::{Kind, Label, NoMemory, Shape};
 use std::alloc::Global;
 use std::marker::Model;
 
-/// A relation with one column of points, its rows in memory.
+/// A relation with one spatial column, its rows in memory.
 #[derive(Drop)]
 pub struct Relation {
     name: Label,
     column: Label,
+    kind: Kind,
     rows: Vec<(u32, Shape)>,
     next: u32,
     is_indexed: bool,
@@ -32,6 +34,7 @@ impl Model for Relation {
     ghost view = { λ r. record {
       name = r.name;
       column = r.column;
+      kind = r.kind;
       rows = r.rows.items;
       next = r.next;
       is_indexed = r.is_indexed;
@@ -42,12 +45,13 @@ impl Model for Relation {
 
 impl Relation {
     /// A relation without rows and without an index, whose ids begin at 1.
-    pub fn new(alloc: Global, name: Label, column: Label) -> Relation
-        ensures { result ≡ new_relation name column }
+    pub fn new(alloc: Global, name: Label, column: Label, kind: Kind) -> Relation
+        ensures { result ≡ new_relation name column kind }
     {
         Relation {
             name,
             column,
+            kind,
             rows: Vec::new(alloc),
             next: 1,
             is_indexed: false,
@@ -64,6 +68,16 @@ impl Relation {
         ensures { result.now ≡ self.now.column }
     {
         self.column.as_str()
+    }
+
+    /// Whether the column is of the kind of the value.
+    pub fn takes(&self, value: &Shape) -> bool
+        ensures { result ≡ same_kind (kind_of value.now) self.now.kind }
+    {
+        match (value, self.kind) {
+            (Shape::Point(_), Kind::Point) | (Shape::Segment(_), Kind::Segment) => true,
+            (Shape::Point(_), Kind::Segment) | (Shape::Segment(_), Kind::Point) => false,
+        }
     }
 
     pub fn is_indexed(&self) -> bool

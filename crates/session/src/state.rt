@@ -56,7 +56,8 @@ fn answer_line(alloc: Global, relations: &mut Vec<Relation>, line: &[u8]) -> Res
     match parse_line(alloc, without_return(line)) {
         Ok(None) => Ok(Reply::Silent),
         Ok(Some(statement)) => carry_out(alloc, relations, statement),
-        Err(LineFault::NotBuilt) => Err(Refusal::NotBuilt),
+        Err(LineFault::Syntax { column }) => Err(Refusal::Syntax { column }),
+        Err(LineFault::Range) => Err(Refusal::Range),
         Err(LineFault::Memory) => Err(Refusal::Memory),
     }
 }
@@ -66,7 +67,7 @@ fn answer(alloc: Global, relations: &mut Vec<Relation>, line: &OpenLine) -> Repl
     ensures { Step relations.old.items line.now result relations.new.items }
 {
     let Some(bytes) = line.bytes() else {
-        return Reply::Refused(Refusal::NotBuilt);
+        return Reply::Refused(Refusal::LineTooLong);
     };
     match answer_line(alloc, relations, bytes) {
         Ok(reply) => reply,

@@ -5,7 +5,7 @@ use Rattle.exact_frac.specs.declared.TheConstants.{MAX_DEN}
 use Rattle.plane_geom.specs.Vectors.{dot_of}
 use Rattle.plane_geom.proofs.point_segment.gap_point_segment.Goals as goal
 use Rattle.plane_geom.proofs.PointSegment.{behind_least, beyond_least, foot_least}
-use Rattle.plane_geom.proofs.SignedLemmas.{word_is, passed, failed}
+use Rattle.plane_geom.proofs.SignedWords.{word_is, passed, failed}
 
 -- the point lies behind the first end
 pub returns-then-along-le0 : goal.returns-then-along-le0

@@ -3,7 +3,7 @@ use Rattle.std.proofs.Common.{lit<, rules}
 use Rattle.exact_frac.specs.declared.TheConstants.{MAX_DEN}
 use Rattle.plane_geom.proofs.point_segment.on_segment.Goals as goal
 use Rattle.plane_geom.proofs.OnSegment.{lies_on, on_its_line, in_its_box}
-use Rattle.plane_geom.proofs.SignedLemmas.{zero_word, word_zero}
+use Rattle.plane_geom.proofs.SignedWords.{zero_word, word_zero}
 
 -- on the line, the box decides
 pub returns-then-cross-eq0 : goal.returns-then-cross-eq0

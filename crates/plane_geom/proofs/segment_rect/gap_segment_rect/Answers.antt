@@ -1,14 +1,15 @@
--- A segment with its first end in the rectangle is 0 apart, and another as far as the nearest side.
+-- A segment that enters the rectangle is 0 apart, and another as far as the nearest end or corner.
 use Rattle.std.proofs.Common.{refl}
 use Rattle.std.proofs.lemmas.Bool.{false≢true}
 use Rattle.plane_geom.proofs.segment_rect.gap_segment_rect.Goals as goal
-use Rattle.plane_geom.proofs.NearestSide.{covered_least}
+use Rattle.plane_geom.proofs.EndsAndCorners.{entering_least}
 
--- the first end lies in the rectangle
-pub returns-then-is_covered : goal.returns-then-is_covered
-returns-then-is_covered c =
-    covered_least c.args.s c.args.r c.new.result.num c.new.result.den c.new.ensures.num c.new.ensures.den (c.if-is_covered.ensures.0 refl)
+-- the segment enters the rectangle
+pub returns-then-enters : goal.returns-then-enters
+returns-then-enters c =
+    entering_least c.args.s c.args.r c.new.result.num c.new.result.den (record { x = c.requires.r.x; y = c.requires.r.y })
+    c.new.ensures.num c.new.ensures.den (c.if-enters.ensures.0 refl)
 
--- it lies outside
-pub returns-else-is_covered : goal.returns-else-is_covered
-returns-else-is_covered c = c.nearest_side.ensures (λ h. false≢true (c.if-is_covered.ensures.1 h))
+-- the segment stays outside
+pub returns-else-enters : goal.returns-else-enters
+returns-else-enters c = c.nearest_end_or_corner.ensures (λ h. false≢true (c.if-enters.ensures.1 h))

@@ -4,7 +4,13 @@ use Rattle.std.specs.Int.RustNames.{unsigned_abs}
 use Rattle.exact_frac.specs.declared.TheConstants.{MAX_DEN}
 use Rattle.sand_base.specs.declared.TheConstants.{COORDINATE_BITS}
 use Rattle.plane_geom.proofs.vectors.cross.Goals as goal
-use Rattle.plane_geom.proofs.SignedLemmas.{difference_value, difference_short, product_of}
+use Rattle.plane_geom.proofs.SignedWords.{difference_fits, difference_value, difference_short, product_of}
+
+-- the difference fits, by the bounds of both products
+pub overflow_sub-result : goal.overflow_sub-result
+overflow_sub-result c =
+    difference_fits c.product.result c.product-2.result (2 ^ COORDINATE_BITS * 2 ^ COORDINATE_BITS)
+    c.product.ensures.short c.product-2.ensures.short (lit< tt)
 
 -- each product is that of its two steps, and the difference fits
 pub returns-clause-value : goal.returns-clause-value

@@ -2,7 +2,13 @@
 use Rattle.std.proofs.Common.{◌*◌, ◌^◌, ◌∙◌, ap₂, lit<, ◌+ℤ◌}
 use Rattle.sand_base.specs.declared.TheConstants.{COORDINATE_BITS}
 use Rattle.plane_geom.proofs.vectors.dot.Goals as goal
-use Rattle.plane_geom.proofs.SignedLemmas.{sum_value, product_of}
+use Rattle.plane_geom.proofs.SignedWords.{sum_fits, sum_value, product_of}
+
+-- the bounds of both products add up
+pub overflow_add-result : goal.overflow_add-result
+overflow_add-result c =
+    sum_fits c.product.result c.product-2.result (2 ^ COORDINATE_BITS * 2 ^ COORDINATE_BITS)
+    c.product.ensures.short c.product-2.ensures.short (lit< tt)
 
 -- each product is that of its two steps, and the sum fits
 pub returns-clause-value : goal.returns-clause-value

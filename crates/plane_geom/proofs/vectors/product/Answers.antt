@@ -3,7 +3,7 @@ use Rattle.std.proofs.Common.{◌*◌, ◌^◌, ◌≤◌, sym, subst, lit<}
 use Rattle.std.specs.Int.RustNames.{unsigned_abs}
 use Rattle.sand_base.specs.declared.TheConstants.{COORDINATE_BITS}
 use Rattle.plane_geom.proofs.vectors.product.Goals as goal
-use Rattle.plane_geom.proofs.SignedLemmas.{product_value, product_short}
+use Rattle.plane_geom.proofs.SignedWords.{product_value, product_short}
 
 -- nothing is lost
 pub returns-clause-value : goal.returns-clause-value

@@ -1,5 +1,5 @@
 -- What is passed over shows in the first byte after the blanks.
-use Rattle.script_text.proofs.ParseLemmas.{passed-none, passed-some}
+use Rattle.script_text.proofs.LineLemmas.{passed-none, passed-some}
 use Rattle.script_text.proofs.parse.is_passed_over.Goals as goal
 
 -- there is none

@@ -1,24 +1,15 @@
 use Rattle.std.proofs.Common.{sym, ◌∙◌}
-use Rattle.std.proofs.lemmas.Bool.{false≢true}
-use Rattle.script_text.proofs.ParseLemmas.{stuck-unprinted, wide-unprinted, other-unprinted, IsPrinted-read}
+use Rattle.std.proofs.lemmas.Bool.{eqb-false}
+use Rattle.script_text.proofs.LineLemmas.{unread-within, bad-byte, fault-at}
 use Rattle.script_text.proofs.parse.parse_line.Goals as goal
 
--- the reader is stuck
-pub returns-in-Err-Here : goal.returns-in-Err-Here
-returns-in-Err-Here c =
-    (sym c.if-is_passed_over.ensures, stuck-unprinted c.args.line.now c.over-cursor.result c.over-cursor.ensures c.whole.new.self.left (rw c.in-Err-Here.field-0-is at c.in-Err-Here.ensures))
+-- what is left of the line is within it
+pub syntax_at-requires-clause-within : goal.syntax_at-requires-clause-within
+syntax_at-requires-clause-within c = unread-within c.args.line.now c.unread-bad.result.now c.unread-bad.ensures
 
--- a number is out of its range
-pub returns-then-not-is_in_range : goal.returns-then-not-is_in_range
-returns-then-not-is_in_range c =
-    (sym c.if-is_passed_over.ensures, wide-unprinted c.args.line.now c.over-cursor.result c.over-cursor.ensures c.in-Ok.statement c.whole.new.self c.in-Ok.ensures (sym c.if-not-is_in_range.ensures))
-
--- the line is the printed form
-pub returns-then-same : goal.returns-then-same
-returns-then-same c =
-    IsPrinted-read c.args.line.now c.over-cursor.result c.over-cursor.ensures c.in-Ok.statement c.whole.new.self c.in-Ok.ensures (sym c.if-not-is_in_range.ensures) (c.in_ok-same.ensures.0 c.if-same.true)
-
--- the line has other blanks or zeros than the printed form
-pub returns-else-same : goal.returns-else-same
-returns-else-same c =
-    (sym c.if-is_passed_over.ensures, other-unprinted c.args.line.now c.over-cursor.result c.over-cursor.ensures c.in-Ok.statement c.whole.new.self c.in-Ok.ensures (λ e. false≢true (sym c.if-same.false ∙ c.in_ok-same.ensures.1 e)))
+-- what is left begins with the first bad byte
+pub returns-then-not-is_empty : goal.returns-then-not-is_empty
+returns-then-not-is_empty c =
+    fault-at c.args.line.now _ c.syntax_at.result c.syntax_at.ensures (sym c.if-is_passed_over.ensures)
+    (bad-byte c.args.line.now c.unread-bad.result.now c.unread-bad.ensures
+    (eqb-false _ 0 (sym c.is_empty.ensures ∙ c.if-not-is_empty.true)))

@@ -6,9 +6,9 @@ use Rattle.session.proofs.answer.create.Goals as goal
 
 pub returns-in-Some : goal.returns-in-Some
 returns-in-Some c =
-    inr (create-taken_at c.args.relations.now.items c.args.name c.args.column _ (place_seen _ _ _ _ _ _ c.place_of.ensures c.as_str.ensures c.deref.ensures.value c.in-Some.is))
+    inr (create-taken_at c.args.relations.now.items c.args.name c.args.column c.args.kind _ (place_seen _ _ _ _ _ _ c.place_of.ensures c.as_str.ensures c.deref.ensures.value c.in-Some.is))
 
 pub returns : goal.returns
 returns c =
-    inr (create-done _ _ _ _ (place_none_seen _ _ _ _ _ c.place_of.ensures c.as_str.ensures c.deref.ensures.value c.in_default.not-Some)
+    inr (create-done _ _ _ _ _ (place_none_seen _ _ _ _ _ c.place_of.ensures c.as_str.ensures c.deref.ensures.value c.in_default.not-Some)
     (omega arith) (c.in_ok-push.ensures.items ∙ ap (λ r. c.args.relations.now.items ++ r ∷ []) c.new.ensures))

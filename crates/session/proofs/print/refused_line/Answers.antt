@@ -21,6 +21,17 @@ append-requires-3 c =
       length-refusal_word c.args.why,
     )
 
+pub append_detail-requires : goal.append_detail-requires
+append_detail-requires c =
+    omega (
+      arith,
+      length-decimal-short c.from.result c.from.type_inv,
+      ap length c.new-line.ensures,
+      ap length c.as_bytes.ensures.value,
+      ap length c.word.ensures,
+      length-refusal_word c.args.why,
+    )
+
 pub append-requires-4 : goal.append-requires-4
 append-requires-4 c =
     omega (

@@ -1,0 +1,9 @@
+-- The words of the kinds of columns.
+use Rattle.std.specs.Prelude.{ℕ, List, codes}
+use Rattle.sand_base.specs.declared.kind.Kind.{Kind}
+use Rattle.sand_base.specs.declared.kind.Kind.TheVariants as kind
+
+-- the word of a kind
+abbrev pub kind_word : Kind → List ℕ
+kind_word kind.Point = codes "point"
+kind_word kind.Segment = codes "segment"
