@@ -99,7 +99,8 @@ fn scripts_are_answered(rt: HostRuntime) -> Result<(), Fail> {
         ),
         plain(
             "a name that is taken, no column, an index that is there, no index",
-            "create p (at point)\ncreate p (at point)\nshow 1 rank p.at from (0 0)\nindex p.to\nindex p.at\nindex p.at\nshow 1 rank p.to from (0 0)\nshow 1 rank p.at from (0 0)\n",
+            "create p (at point)\ncreate p (at point)\nshow 1 rank p.at from (0 0)\nindex p.to\nindex p.at\nindex p.at\n\
+             show 1 rank p.to from (0 0)\nshow 1 rank p.at from (0 0)\n",
             "ok\nrefused 26 NotBuilt\nrefused 26 NotBuilt\nrefused 26 NotBuilt\nok\nrefused 26 NotBuilt\nrefused 26 NotBuilt\nend\n",
             Status::SomeRefused,
         ),

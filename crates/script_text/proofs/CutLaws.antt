@@ -1,11 +1,9 @@
 -- The pieces that the lexer finds are the tokens of a line, and what it leaves begins with the first fault.
-use Rattle.std.proofs.Common.{◌≡◌, ℕ, zero, suc, ◌+◌, ◌<◌, ◌≤◌, List, [], ◌∷◌, ◌++◌, length, drop, Option, Some, None, refl, sym, ap, subst, ◌∙◌, arith, length-drop}
+use Rattle.std.proofs.Common.{◌≡◌, ℕ, zero, suc, ◌<◌, ◌≤◌, List, [], ◌∷◌, length, drop, Option, Some, None, refl, sym, ap, subst, ◌∙◌, arith, length-drop}
 use Rattle.std.specs.Prelude.{⊤}
 use Rattle.std.specs.List.{prefix_len}
-use Rattle.script_text.specs.Grammar.{room_at}
 use Rattle.script_text.specs.Lexical.{Placed, ArePieces, IsCut, IsFault, is_blank, skip_blanks}
 use Rattle.script_text.specs.Lexing.{Cut, Lexed, first_cut, put, lex, pieces, unread}
-use Rattle.script_text.specs.Token.{Piece, IsToken}
 use Rattle.script_text.proofs.LexLemmas.{lex-none, lex-some, shorter-cut}
 use Rattle.script_text.proofs.TokenLemmas.{first_cut-token, first_cut-fault, token-first_cut, fault-first_cut}
 

@@ -4,7 +4,7 @@ use Rattle.std.proofs.Math.Numerals.{one-add}
 use Rattle.std.proofs.lemmas.Bool.{cond-false}
 use Rattle.std.specs.List.{prefix_len}
 use Rattle.script_text.specs.Lexical.{is_blank, skip_blanks}
-use Rattle.script_text.specs.Lexing.{Cut, Lexed, first_cut, put, placed, lex_after, lex, IsNext, IsLast}
+use Rattle.script_text.specs.Lexing.{Cut, first_cut, put, placed, lex_after, lex, IsNext, IsLast}
 use Rattle.script_text.proofs.CutLemmas.{IsPiece-first_cut}
 
 -- bytes that are passed by are dropped

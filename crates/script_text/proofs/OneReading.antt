@@ -1,6 +1,5 @@
 -- A line has one reading, and the printed form of a statement in range is read as that statement.
-use Rattle.std.proofs.Common.{◌≡◌, ◌≢◌, ℕ, ◌+◌, ◌-◌, ◌<◌, Bool, true, false, ◌&&◌, cond, List, [], ◌∷◌, ◌++◌, length, Option, Some, None, Result, Ok, Err, refl, sym, ap, subst, ◌∙◌, inl, inr, arith, append_assoc}
-use Rattle.std.specs.Prelude.{◌⊎◌}
+use Rattle.std.proofs.Common.{◌≡◌, ◌≢◌, ℕ, ◌+◌, ◌-◌, Bool, true, false, ◌&&◌, cond, List, [], ◌∷◌, ◌++◌, length, Option, Some, None, Result, Ok, Err, refl, sym, ap, subst, ◌∙◌, inl, inr, arith, append_assoc}
 use Rattle.std.proofs.lemmas.Bool.{cond-true, cond-false}
 use Rattle.std.proofs.lemmas.List.{append-nil}
 use Rattle.script_text.specs.declared.parse.LineFault.{LineFault}
@@ -9,13 +8,13 @@ use Rattle.script_text.specs.declared.statement.Statement.{Statement}
 use Rattle.script_text.specs.declared.statement.Statement.TheVariants.{Create, Insert, Index, Show}
 use Rattle.script_text.specs.Grammar.{Fits, Writes, IsOfGrammar, IsFront, IsFirstBad, GoesWrong, room_at, words}
 use Rattle.script_text.specs.Lexical.{Placed, ArePieces, IsCut, IsLexed, IsFault, IsColumn}
-use Rattle.script_text.specs.Lexing.{lex, pieces, unread}
-use Rattle.script_text.specs.Line.{is_passed_over, IsReadAs, HasBadByte, HasBadToken, IsOutOfRange, Reads}
+use Rattle.script_text.specs.Lexing.{pieces, unread}
+use Rattle.script_text.specs.Line.{is_passed_over, IsReadAs, IsOutOfRange, Reads}
 use Rattle.script_text.specs.Reading.{State, start, whole_in}
 use Rattle.script_text.specs.Statement.{IsInRange, printed}
 use Rattle.script_text.proofs.CutLaws.{IsEnd, cut-are, pieces-cut, cut-pieces, cut-unread}
 use Rattle.script_text.proofs.GrammarLemmas.{writes-fit}
-use Rattle.script_text.proofs.LineLemmas.{IsReadWhole, grammar-read, read-grammar, read-written, stuck-first_bad, is-read, token-counts}
+use Rattle.script_text.proofs.LineLemmas.{grammar-read, read-grammar, read-written, stuck-first_bad, is-read, token-counts}
 use Rattle.script_text.proofs.ReadBack.{writes-printed}
 use Rattle.script_text.proofs.ReaderLaws.{at, are-append}
 use Rattle.script_text.proofs.RuleLaws.{are-parts}

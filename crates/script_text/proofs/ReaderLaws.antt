@@ -1,5 +1,6 @@
--- Laws of every step of the reader: what it takes it takes whatever follows, and where it is stuck no other end would help.
-use Rattle.std.proofs.Common.{◌≡◌, ℕ, Bool, true, false, ◌&&◌, List, [], ◌∷◌, ◌++◌, Option, Some, None, Result, Ok, Err, refl, sym, ap, subst, ◌∙◌, append_assoc}
+-- Laws of every step of the reader: what it takes it takes before every rest that begins with the same piece, and where it is
+-- stuck no other end would help.
+use Rattle.std.proofs.Common.{◌≡◌, Bool, true, false, ◌&&◌, List, [], ◌∷◌, ◌++◌, Option, Some, None, Result, Ok, Err, refl, sym, ap, subst, ◌∙◌, append_assoc}
 use Rattle.std.specs.Prelude.{⊤}
 use Rattle.std.proofs.lemmas.List.{append-nil}
 use Rattle.script_text.specs.Lexical.{Placed, ArePieces}

@@ -1,5 +1,5 @@
 -- What each rule of the grammar takes are the words of the value that it gives.
-use Rattle.std.proofs.Common.{◌≡◌, ℕ, ◌≤◌, Bool, true, false, cond, ◌&&◌, List, [], ◌∷◌, ◌++◌, Option, Some, None, Result, Ok, Err, refl, sym, ap, subst, ◌∙◌, arith}
+use Rattle.std.proofs.Common.{◌≡◌, ℕ, ◌≤◌, Bool, true, false, cond, ◌&&◌, List, [], ◌∷◌, ◌++◌, Option, Some, None, Ok, Err, refl, sym, ap, subst, ◌∙◌, arith}
 use Rattle.std.specs.Prelude.{ℤ, pos, codes, ⊤, is_some, unwrap_or}
 use Rattle.std.proofs.lemmas.Bool.{and_parts, false≢true}
 use Rattle.std.proofs.lemmas.List.{append-nil}
@@ -10,16 +10,14 @@ use Rattle.sand_base.specs.Plane.{IsInPlane, IsShapeInPlane}
 use Rattle.script_text.specs.declared.TheConstants.{MOST_ROWS}
 use Rattle.script_text.specs.declared.keyword.Keyword.{Keyword}
 use Rattle.script_text.specs.declared.keyword.Keyword.TheVariants as keyword
-use Rattle.script_text.specs.declared.statement.Column.{Column}
-use Rattle.script_text.specs.declared.statement.Plan.{Plan}
 use Rattle.script_text.specs.declared.statement.Statement.{Statement}
 use Rattle.script_text.specs.declared.token.Symbol.{Symbol}
 use Rattle.script_text.specs.declared.token.Symbol.TheVariants as symbol
-use Rattle.script_text.specs.Grammar.{Word, name, number, mark, StandsFor, AllStandFor, AnyNumber, HasValue, Fits, Writes, value_of, column_words, spot_words, shape_words, plan_words, words}
+use Rattle.script_text.specs.Grammar.{Word, name, number, mark, StandsFor, AnyNumber, HasValue, Fits, Writes, value_of, column_words, spot_words, shape_words, plan_words, words}
 use Rattle.script_text.specs.KindWord.{kind_word}
 use Rattle.script_text.specs.Lexical.{Placed, ArePieces}
 use Rattle.script_text.specs.Name.{IsName}
-use Rattle.script_text.specs.Reading.{State, Read, pure, bind, go_on, piece_in, name_in, word_in, mark_in, natural_in, noted, natural, name_of, number_of, word_of, mark_of, keyword_piece, kind_piece, whether_in, column_in, coordinate_in, spot_in, shape_from, shape_in, plan_in, create_in, insert_in, index_in, show_in, rest_in, statement_in, end_in, none_left, whole_in}
+use Rattle.script_text.specs.Reading.{State, Read, pure, bind, go_on, piece_in, name_in, word_in, mark_in, natural_in, noted, natural, name_of, number_of, word_of, mark_of, keyword_piece, kind_piece, whether_in, column_in, spot_in, shape_from, shape_in, plan_in, create_in, insert_in, index_in, show_in, rest_in, statement_in, end_in, none_left, whole_in}
 use Rattle.script_text.specs.Statement.{IsColumnInRange, IsPlanInRange, IsInRange}
 use Rattle.script_text.specs.Token.{Piece, IsPiece}
 use Rattle.script_text.specs.Token as token

@@ -1,8 +1,7 @@
 -- What the lexer cuts is the longest token that stands there, and where it cuts nothing none does.
-use Rattle.std.proofs.Common.{◌≡◌, ℕ, zero, suc, ◌+◌, ◌<◌, ◌≤◌, Bool, true, false, ◌&&◌, ◌||◌, cond, eqb, ltb, leb, List, [], ◌∷◌, ◌++◌, length, take, drop, Option, Some, None, refl, sym, ap, subst, ◌∙◌, arith, length-take, length-append}
-use Rattle.std.specs.Prelude.{⊤, MatchOption}
-use Rattle.std.proofs.Math.Numerals.{one-add}
-use Rattle.std.proofs.lemmas.Bool.{and_parts, cond-true, cond-false, cond_both, eqb-true, leb-true, leb-false, false≢true}
+use Rattle.std.proofs.Common.{◌≡◌, ℕ, ◌+◌, ◌<◌, ◌≤◌, Bool, true, false, cond, eqb, leb, List, [], ◌∷◌, ◌++◌, length, take, drop, Option, Some, None, refl, sym, ap, subst, ◌∙◌, arith, length-take}
+use Rattle.std.specs.Prelude.{⊤}
+use Rattle.std.proofs.lemmas.Bool.{and_parts, cond-true, cond-false, cond_both, eqb-true, leb-false, false≢true}
 use Rattle.std.proofs.lemmas.Bool.Decides.{nat_tests}
 use Rattle.std.proofs.lemmas.List.{append-nil, take-append-drop, take_at, drop_at}
 use Rattle.std.proofs.lemmas.List.Folds.{length-prefix_len}
@@ -11,7 +10,7 @@ use Rattle.std.specs.List.{prefix_len, list_all}
 use Rattle.script_text.specs.declared.TheConstants.{LONGEST_NAME}
 use Rattle.script_text.specs.declared.token.Symbol.{Symbol}
 use Rattle.script_text.specs.declared.token.Symbol.TheVariants.{Open, Close, Comma, Dot, Minus, Equal, NotEqual, Less, AtMost, Greater, AtLeast}
-use Rattle.script_text.specs.Lexing.{Cut, first_cut, name_cut, number_cut, symbol_cut, symbol_at, longest_symbol, begins_equal, short_symbol, long_symbol, begins_number}
+use Rattle.script_text.specs.Lexing.{Cut, first_cut, name_cut, number_cut, symbol_cut, longest_symbol, begins_equal, short_symbol, long_symbol, begins_number}
 use Rattle.script_text.specs.Name.{starts_name, continues_name, is_name}
 use Rattle.script_text.specs.Token.{Piece, name, number, mark, symbol_text, spelling, is_number, IsPiece, IsShaped, IsToken}
 use Rattle.script_text.proofs.CutLemmas.{IsPiece-first_cut}

@@ -1,5 +1,5 @@
 -- Every list of tokens of the form of a statement's words is read whole, and one that writes them is read as that statement.
-use Rattle.std.proofs.Common.{◌≡◌, ℕ, ◌≤◌, Bool, true, false, ◌&&◌, List, [], ◌∷◌, ◌++◌, Option, Some, None, Result, Ok, Err, refl, sym, ap, subst, ◌∙◌, arith}
+use Rattle.std.proofs.Common.{◌≡◌, ℕ, ◌≤◌, Bool, true, false, ◌&&◌, List, [], ◌∷◌, ◌++◌, Option, Some, None, Ok, refl, sym, ap, subst, arith}
 use Rattle.std.specs.Prelude.{ℤ, pos, codes, ⊤, is_some, unwrap_or}
 use Rattle.std.proofs.lemmas.List.{append-nil}
 use Rattle.sand_base.specs.declared.kind.Kind.{Kind}
@@ -19,7 +19,7 @@ use Rattle.script_text.specs.declared.token.Symbol.TheVariants as symbol
 use Rattle.script_text.specs.Grammar.{Word, name, number, mark, StandsFor, AnyNumber, HasValue, Fits, Writes, column_words, spot_words, shape_words, plan_words, words}
 use Rattle.script_text.specs.KindWord.{kind_word}
 use Rattle.script_text.specs.Lexical.{Placed}
-use Rattle.script_text.specs.Reading.{Read, pure, bind, go_on, piece_in, name_in, word_in, mark_in, natural_in, noted, natural, name_of, number_of, word_of, mark_of, keyword_piece, kind_piece, whether_in, taken_or_left, column_in, spot_in, shape_from, shape_in, plan_in, create_in, insert_in, index_in, show_in, statement_in, end_in, none_left, whole_in}
+use Rattle.script_text.specs.Reading.{Read, pure, bind, go_on, piece_in, name_in, word_in, mark_in, natural_in, noted, natural, name_of, number_of, word_of, mark_of, keyword_piece, kind_piece, whether_in, taken_or_left, column_in, spot_in, shape_from, shape_in, plan_in, statement_in, end_in, none_left, whole_in}
 use Rattle.script_text.specs.Statement.{IsInRange, IsPlanInRange}
 use Rattle.script_text.specs.Token.{Piece}
 use Rattle.script_text.proofs.GrammarLemmas.{stand-parts}
@@ -142,7 +142,7 @@ read-last {A} {B} {ends} {follows} {first} next {ws} {v} {x} within one two = re
   taken = λ tokens h. subst (λ ps. Takes follows (bind first next) ps x true) (append-nil tokens) (Takes-then next within (one.taken tokens h) (two.taken [] tt));
 }
 
--- what is without a symbol
+-- before another symbol nothing is taken
 Takes-without : (s : Symbol) → Takes (Without s) (whether_in s) [] false true
 Takes-without s = record { gives = gives } where
   gives : (more : List Placed) (before : Bool) → Without s more → whether_in s (at more before) ≡ Ok (false, at more before)
@@ -264,29 +264,29 @@ read-spot p h =
     read-mark _ symbol.Open (read-number 0 65535 _ p.x (omega arith) (omega (arith, h.x)) (read-number 0 65535 _ p.y (omega arith) (omega (arith, h.y))
     (read-mark _ symbol.Close read-pure)))
 
--- what a shape's step takes after its first spot, before all but a minus
-abbrev Shaped : List Placed → Type 0
-Shaped = Without symbol.Minus
+-- what may follow a shape: all but a minus
+abbrev NoMinus : List Placed → Type 0
+NoMinus = Without symbol.Minus
 
 -- a shape
-accept-shape : (s : Shape) → Accepts Shaped shape_in (shape_words s)
+accept-shape : (s : Shape) → Accepts NoMinus shape_in (shape_words s)
 accept-shape (shape.Point p) = accept-part _ (accept-spot p) (λ a. accept-without (shape_from a) symbol.Minus accept-pure)
 accept-shape (shape.Segment s) =
     accept-part _ (accept-spot s.a) (λ a. accept-with (shape_from a) symbol.Minus (accept-last _ (λ more h. tt) (accept-spot s.b) (λ b. accept-pure)))
 
 -- a shape
-read-shape : (s : Shape) → IsShapeInPlane s → ReadsAs Shaped shape_in (shape_words s) s
+read-shape : (s : Shape) → IsShapeInPlane s → ReadsAs NoMinus shape_in (shape_words s) s
 read-shape (shape.Point p) h = read-part _ (read-spot p h) (read-without (shape_from p) symbol.Minus read-pure)
 read-shape (shape.Segment s) h =
     read-part _ (read-spot s.a h.a) (read-with (shape_from s.a) symbol.Minus (read-last _ (λ more h. tt) (read-spot s.b h.b) read-pure))
 
 -- a plan
-accept-plan : (p : Plan) → Accepts Shaped plan_in (plan_words p)
+accept-plan : (p : Plan) → Accepts NoMinus plan_in (plan_words p)
 accept-plan (Rank c goal) =
     accept-word _ (codes "rank") (accept-part _ (accept-column c) (λ c. accept-word _ (codes "from") (accept-last _ (λ more h. h) (accept-shape goal) (λ goal. accept-pure))))
 
 -- a plan
-read-plan : (p : Plan) → IsPlanInRange p → ReadsAs Shaped plan_in (plan_words p) p
+read-plan : (p : Plan) → IsPlanInRange p → ReadsAs NoMinus plan_in (plan_words p) p
 read-plan (Rank c goal) h =
     read-word _ (codes "rank") (read-part _ (read-column c) (read-word _ (codes "from") (read-last _ (λ more h. h) (read-shape goal h.1) read-pure)))
 
@@ -301,7 +301,7 @@ read-kind : {B : Type 0} {follows : List Placed → Type 0} (next : Kind → Rea
 read-kind next k rest = read-piece kind_piece next (name (kind_word k)) k (λ p h. kind-taken HasValue p k h) rest
 
 -- a keyword, and what follows it
-accept-statement : (t : Statement) → Accepts Shaped statement_in (words t)
+accept-statement : (t : Statement) → Accepts NoMinus statement_in (words t)
 accept-statement (Create r c k) =
     accept-piece keyword_piece _ (name (codes "create")) keyword.Create (λ p h. keyword-taken AnyNumber p keyword.Create h)
     (accept-name _ r (accept-mark _ symbol.Open (accept-name _ c (accept-kind _ k (accept-mark _ symbol.Close accept-pure)))))
@@ -316,7 +316,7 @@ accept-statement (Show n p) =
     (accept-number 1 MOST_ROWS _ (pos n) (λ n. accept-last _ (λ more h. h) (accept-plan p) (λ p. accept-pure)))
 
 -- a keyword, and what follows it
-read-statement : (t : Statement) → IsInRange t → ReadsAs Shaped statement_in (words t) t
+read-statement : (t : Statement) → IsInRange t → ReadsAs NoMinus statement_in (words t) t
 read-statement (Create r c k) h =
     read-piece keyword_piece _ (name (codes "create")) keyword.Create (λ p h. keyword-taken HasValue p keyword.Create h)
     (read-name _ r (read-mark _ symbol.Open (read-name _ c (read-kind _ k (read-mark _ symbol.Close read-pure)))))
@@ -330,15 +330,15 @@ read-statement (Show n p) h =
     read-piece keyword_piece _ (name (codes "show")) keyword.Show (λ p h. keyword-taken HasValue p keyword.Show h)
     (read-number 1 MOST_ROWS _ n h.0 h.1 (read-last _ (λ more h. h) (read-plan p h.2) read-pure))
 
--- before the end of the line there is no minus
-nothing-shaped : (more : List Placed) → Nothing more → Shaped more
-nothing-shaped [] h = tt
-nothing-shaped (p ∷ more) h = absurd cc
+-- where nothing follows no minus does
+nothing-no_minus : (more : List Placed) → Nothing more → NoMinus more
+nothing-no_minus [] h = tt
+nothing-no_minus (p ∷ more) h = absurd cc
 
 -- every list of tokens of the form of a statement is read whole
 pub accept-whole : (t : Statement) → Accepts Nothing whole_in (words t)
-accept-whole t = accept-last _ nothing-shaped (accept-statement t) accept-end
+accept-whole t = accept-last _ nothing-no_minus (accept-statement t) accept-end
 
 -- every list of tokens that writes a statement in range is read as that statement
 pub read-whole : (t : Statement) → IsInRange t → ReadsAs Nothing whole_in (words t) t
-read-whole t h = read-last _ nothing-shaped (read-statement t h) (read-end t)
+read-whole t h = read-last _ nothing-no_minus (read-statement t h) (read-end t)

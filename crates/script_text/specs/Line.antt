@@ -3,7 +3,7 @@ use Rattle.std.specs.Prelude.{◌≡◌, ◌⊎◌, ℕ, Bool, true, false, ◌=
 use Rattle.script_text.specs.declared.statement.Statement.{Statement}
 use Rattle.script_text.specs.declared.parse.LineFault.{LineFault}
 use Rattle.script_text.specs.declared.parse.LineFault.TheVariants.{Memory, Syntax, Range}
-use Rattle.script_text.specs.Grammar.{Fits, Writes, IsOfGrammar, IsFirstBad, words, room_at}
+use Rattle.script_text.specs.Grammar.{Writes, IsOfGrammar, IsFirstBad, words, room_at}
 use Rattle.script_text.specs.Lexical.{Placed, IsCut, IsLexed, IsFault, IsColumn, is_blank}
 use Rattle.script_text.specs.Statement.{IsInRange}
 

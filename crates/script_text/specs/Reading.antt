@@ -198,7 +198,7 @@ spot_in =
     bind (mark_in symbol.Open) (λ _. bind coordinate_in (λ x. bind coordinate_in (λ y. bind (mark_in symbol.Close) (λ _.
     pure (record { x = x; y = y })))))
 
--- what follows the first spot of a shape, by whether it is a minus
+-- what follows the first spot of a shape, by whether a minus comes next
 abbrev pub shape_from : Point → Bool → Read Shape
 shape_from a false = pure (shape.Point a)
 shape_from a true = bind spot_in (λ b. pure (shape.Segment (record { a = a; b = b })))

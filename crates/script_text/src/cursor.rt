@@ -1,6 +1,6 @@
 ghost use Rattle.std.specs.Prelude.{◌≡◌, ◌≤◌, ◌<◌, ◌^◌, true, Ok};
-ghost use Rattle.script_text.specs.Reading.{Gives, start, natural, natural_in, name_of, word_of, mark_of, keyword_piece, kind_piece, piece_in};
-ghost use Rattle.script_text.specs.Reading.{whether_in, end_in};
+ghost use Rattle.script_text.specs.Reading.{Gives, start, natural, natural_in, name_of, word_of, mark_of, keyword_piece};
+ghost use Rattle.script_text.specs.Reading.{kind_piece, piece_in, whether_in, end_in};
 ghost use Rattle.script_text.specs.Grammar.{room_at};
 ghost use Rattle.script_text.specs.Token.{is_number};
 

@@ -255,6 +255,8 @@ mod tests {
                 "",
                 Outcome::Syntax(8193),
             ),
+            ("index p.at ", 0xff, 1, "", Outcome::Syntax(12)),
+            ("index ", 0, 1, "p.at", Outcome::Syntax(7)),
             ("insert p (7 ", b'0', 8_000, "9)", Outcome::Read),
             ("insert p (7 -", b'0', 8_000, ")", Outcome::Read),
             ("insert p (7 ", b'9', 8_000, ")", Outcome::Range),

@@ -1,13 +1,11 @@
 -- Rows measured one after the other.
-use Rattle.std.proofs.Common.{◌≡◌, ℕ, zero, suc, arith, ◌+◌, ◌<◌, ◌*◌, pos, ◌*ℤ◌, ◌≤ℤ◌, List, [], ◌∷◌, ◌++◌, length, get_or, take, subst, sym, ap, ◌∙◌, refl, mul_comm}
+use Rattle.std.proofs.Common.{◌≡◌, ℕ, zero, suc, arith, ◌+◌, ◌<◌, pos, ◌*ℤ◌, ◌≤ℤ◌, List, [], ◌∷◌, ◌++◌, length, get_or, take, subst, sym, ap, ◌∙◌, refl, mul_comm}
 use Rattle.std.proofs.lemmas.List.{take_more}
-use Rattle.int_ring.specs.Expr.{Expr, var, at, ◌⊕◌, ◌⊖◌, ◌⊗◌}
+use Rattle.int_ring.specs.Expr.{var, at, ◌⊕◌, ◌⊖◌, ◌⊗◌}
 use Rattle.int_ring.proofs.Ring.{ring}
 use Rattle.exact_frac.specs.declared.frac.Frac.{Frac}
 use Rattle.sand_base.specs.Plane.{IsShapeInPlane}
 use Rattle.sand_base.specs.declared.shape.Shape.{Shape}
-use Rattle.sand_base.specs.declared.point.Point.{Point}
-use Rattle.sand_base.specs.declared.shape.Shape.TheVariants as shape
 use Rattle.sand_model.specs.Carrier.{RationalPoint, IsOf}
 use Rattle.sand_model.specs.Gap.{IsGap, IsLeast, far, common_square, square}
 use Rattle.sand_model.specs.Ranking.{Measures}
