@@ -26,6 +26,12 @@ const RANKED: &str =
 
 const RANKED_TEXT: &str = "ok\nok\nid 1\nid 2\n0\t1\n25\t2\nend\n";
 
+// The same with its last line, which is refused.
+const REFUSED_LAST: &str = "create p (at point)\nindex p.at\ninsert p (0 0)\ninsert p (3 4)\n\
+    show 3 rank p.at from (0 0)\nshow 1 rank q.at from (0 0)\n";
+
+const REFUSED_LAST_TEXT: &str = "ok\nok\nid 1\nid 2\n0\t1\n25\t2\nend\nrefused 8 UnknownRelation\n";
+
 // A run without faults, the script given at once.
 const fn plain(
     name: &'static str,
@@ -79,6 +85,12 @@ fn check(rt: &impl Abort, alloc: Global, case: &Case) -> Result<(), Fail> {
 fn scripts_are_answered(rt: HostRuntime) -> Result<(), Fail> {
     let cases = [
         plain("the plain run", RANKED, RANKED_TEXT, Status::Done),
+        plain(
+            "the plain run with its refused last line",
+            REFUSED_LAST,
+            REFUSED_LAST_TEXT,
+            Status::SomeRefused,
+        ),
         plain(
             "a relation that isn't there",
             "create p (at point)\nindex p.at\nshow 1 rank q.at from (0 0)\ninsert q (0 0)\nindex q.at\n",
@@ -236,7 +248,7 @@ fn broken(
             chunk: 20,
             failing_reads,
             failing_writes,
-            ..plain("", RANKED, RANKED_TEXT, Status::Done)
+            ..plain("", REFUSED_LAST, REFUSED_LAST_TEXT, Status::SomeRefused)
         },
     )
 }
@@ -246,18 +258,18 @@ fn a_read_that_fails_ends_the_run_where_it_stands(rt: HostRuntime) -> Result<(),
     let mut undisturbed = 0;
     for call in 1..=20 {
         let (sink, status) = broken(rt.alloc(), &[call], &[])?;
-        if status == Status::Done {
+        if status == Status::SomeRefused {
             undisturbed = call;
             break;
         }
         assert_eq!(rt; status, Status::ReadFault, "read {call}");
         assert!(rt;
-            RANKED_TEXT.as_bytes().starts_with(sink.bytes()),
+            REFUSED_LAST_TEXT.as_bytes().starts_with(sink.bytes()),
             "read {call}"
         );
     }
-    // (89 bytes in pieces of 20 are five reads, and a sixth finds the end)
-    assert_eq!(rt; undisturbed, 7, "the reads of the plain run");
+    // (117 bytes in pieces of 20 are six reads, and a seventh finds the end)
+    assert_eq!(rt; undisturbed, 8, "the reads of the plain run");
     Ok(())
 }
 
@@ -266,18 +278,18 @@ fn a_write_that_fails_ends_the_run_where_it_stands(rt: HostRuntime) -> Result<()
     let mut undisturbed = 0;
     for call in 1..=20 {
         let (sink, status) = broken(rt.alloc(), &[], &[call])?;
-        if status == Status::Done {
+        if status == Status::SomeRefused {
             undisturbed = call;
             break;
         }
         assert_eq!(rt; status, Status::WriteFault, "write {call}");
         assert!(rt;
-            RANKED_TEXT.as_bytes().starts_with(sink.bytes()),
+            REFUSED_LAST_TEXT.as_bytes().starts_with(sink.bytes()),
             "write {call}"
         );
     }
-    // (seven lines, a write each)
-    assert_eq!(rt; undisturbed, 8, "the writes of the plain run");
+    // (eight lines, a write each)
+    assert_eq!(rt; undisturbed, 9, "the writes of the plain run");
     Ok(())
 }
 
