@@ -9,8 +9,10 @@
 #![tactic(auto)]
 
 mod calls;
+mod ids;
 mod kind;
 mod label;
+mod limits;
 mod mem_sink;
 mod mem_source;
 mod memory;
@@ -22,12 +24,15 @@ mod shape;
 mod sink;
 mod source;
 mod sure_source;
+mod visit;
 #[cfg(test)]
 mod tests;
 
 pub use calls::Calls;
+pub use ids::Ids;
 pub use kind::Kind;
 pub use label::Label;
+pub use limits::Limits;
 pub use mem_sink::MemSink;
 pub use mem_source::MemSource;
 pub use memory::NoMemory;
@@ -39,6 +44,7 @@ pub use shape::Shape;
 pub use sink::Sink;
 pub use source::{Failed, Source};
 pub use sure_source::SureSource;
+pub use visit::{Visit, VisitLog};
 
 /// The number of bits of a coordinate. Grid points of the plane have coordinates below 2 to this power, and
 /// corners of blocks reach it. No other place writes the number out.
