@@ -1,14 +1,7 @@
 -- The calls of an object in memory: they are numbered from 1, and a list names those that fail.
-use Rattle.std.specs.Prelude.{◌≡◌, ℕ, ◌+◌, ◌-◌, ◌^◌, Bool, nat_eq, nat_lt, ◌&&◌, min, List, Result, IsErr, IsOk, MatchBool}
+use Rattle.std.specs.Prelude.{◌≡◌, ℕ, Bool, nat_eq, nat_lt, ◌&&◌, List, Result, IsErr, IsOk, MatchBool}
 use Rattle.std.specs.List.{list_any}
-
--- the greatest number that a counter of calls or faults reaches, where it stays
-abbrev pub last_count : ℕ
-last_count = 2 ^ 64 - 1
-
--- the count after this one
-abbrev pub next_count : ℕ → ℕ
-next_count n = min (n + 1) last_count
+use Rattle.sand_base.specs.Faults.{last_count, next_count}
 
 -- The numbers of the calls that fail, the number of the last call that was made (0 before the first), and how many faults were counted.
 pub record CallsState : Type 0 where

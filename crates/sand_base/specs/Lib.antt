@@ -1,9 +1,14 @@
-pub mod Calls
-pub mod Faults
-pub mod MemSink
-pub mod MemSource
+-- the plane, its shapes, and what is in range
+pub mod Grid
 pub mod Plane
-pub mod Refusal
 pub mod Shape
+pub mod InRange
+-- refusals
+pub mod Refusal
+-- the outside: when a call may fail, and what the streams in memory do
+pub mod Faults
 pub mod Streams
+pub mod Calls
 pub mod SureSource
+pub mod MemSource
+pub mod MemSink

@@ -1,40 +1,56 @@
--- Which points lie in the plane that is indexed, and which shapes do.
-use Rattle.std.specs.Prelude.{◌^◌, ◌<◌, ◌≤◌}
-use Rattle.sand_base.specs.declared.TheConstants.{COORDINATE_BITS}
-use Rattle.sand_base.specs.declared.point.Point.{Point}
+-- Which shapes lie in the plane that is indexed, and which in the closed square round it.
+use Rattle.std.specs.Prelude.{◌≤◌}
+use Rattle.sand_base.specs.declared.goal.Goal.{Goal}
+use Rattle.sand_base.specs.declared.goal.Goal.TheVariants as goal
 use Rattle.sand_base.specs.declared.rect.Rect.{Rect}
 use Rattle.sand_base.specs.declared.segment.Segment.{Segment}
 use Rattle.sand_base.specs.declared.shape.Shape.{Shape}
 use Rattle.sand_base.specs.declared.shape.Shape.TheVariants as shape
-
--- the point is a grid point of the plane
-pub record IsInPlane (p : Point) : Type 0 where
-  pub x : p.x < 2 ^ COORDINATE_BITS
-  pub y : p.y < 2 ^ COORDINATE_BITS
+use Rattle.sand_base.specs.Grid.{IsInPlane, IsCorner, IsRing}
+pub use Rattle.sand_base.specs.Grid.{IsInPlane, IsCorner, IsRing}
 
 -- both ends of the segment are grid points of the plane
 pub record IsSegmentInPlane (s : Segment) : Type 0 where
   pub a : IsInPlane s.a
   pub b : IsInPlane s.b
 
--- each coordinate of the shape is in the plane
+-- both corners of the rectangle are grid points of the plane, and the low one is at most the high one
+pub record IsRectInPlane (r : Rect) : Type 0 where
+  pub low : IsInPlane r.low
+  pub high : IsInPlane r.high
+  pub x : r.low.x ≤ r.high.x
+  pub y : r.low.y ≤ r.high.y
+
+-- each coordinate of the shape is in the plane, and a polygon's border is a ring
 abbrev pub IsShapeInPlane : Shape → Type 0
 IsShapeInPlane (shape.Point p) = IsInPlane p
 IsShapeInPlane (shape.Segment s) = IsSegmentInPlane s
+IsShapeInPlane (shape.Polygon corners) = IsRing corners
 
--- the point is a grid point of the closed square round the plane, where the corners of blocks lie
-pub record IsCorner (p : Point) : Type 0 where
-  pub x : p.x ≤ 2 ^ COORDINATE_BITS
-  pub y : p.y ≤ 2 ^ COORDINATE_BITS
+-- each coordinate of the goal is in the plane, and a rectangle's low corner is at most its high one
+abbrev pub IsGoalInPlane : Goal → Type 0
+IsGoalInPlane (goal.Shape s) = IsShapeInPlane s
+IsGoalInPlane (goal.Rect r) = IsRectInPlane r
 
--- both ends of the segment lie in that square
+-- both ends of the segment lie in the closed square
 pub record IsSegmentInReach (s : Segment) : Type 0 where
   pub a : IsCorner s.a
   pub b : IsCorner s.b
 
--- the corners of the rectangle lie in that square, and the low one is at most the high one
+-- the corners of the rectangle lie in the closed square, and the low one is at most the high one
 pub record IsRectInReach (r : Rect) : Type 0 where
   pub low : IsCorner r.low
   pub high : IsCorner r.high
   pub x : r.low.x ≤ r.high.x
   pub y : r.low.y ≤ r.high.y
+
+-- the shape lies in the closed square, and a polygon's border is a ring
+abbrev pub IsShapeInReach : Shape → Type 0
+IsShapeInReach (shape.Point p) = IsCorner p
+IsShapeInReach (shape.Segment s) = IsSegmentInReach s
+IsShapeInReach (shape.Polygon corners) = IsRing corners
+
+-- the goal lies in the closed square
+abbrev pub IsGoalInReach : Goal → Type 0
+IsGoalInReach (goal.Shape s) = IsShapeInReach s
+IsGoalInReach (goal.Rect r) = IsRectInReach r

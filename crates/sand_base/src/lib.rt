@@ -9,6 +9,7 @@
 #![tactic(auto)]
 
 mod calls;
+mod goal;
 mod ids;
 mod kind;
 mod label;
@@ -19,16 +20,22 @@ mod memory;
 mod point;
 mod rect;
 mod refusal;
+mod ring;
+mod rough;
+mod row;
+mod schema;
 mod segment;
 mod shape;
 mod sink;
 mod source;
 mod sure_source;
+mod value;
 mod visit;
 #[cfg(test)]
 mod tests;
 
 pub use calls::Calls;
+pub use goal::Goal;
 pub use ids::Ids;
 pub use kind::Kind;
 pub use label::Label;
@@ -39,11 +46,16 @@ pub use memory::NoMemory;
 pub use point::Point;
 pub use rect::Rect;
 pub use refusal::Refusal;
+pub use ring::{FEWEST_CORNERS, MOST_CORNERS, Ring};
+pub use rough::Rough;
+pub use row::Row;
+pub use schema::Schema;
 pub use segment::Segment;
 pub use shape::Shape;
 pub use sink::Sink;
 pub use source::{Failed, Source};
 pub use sure_source::SureSource;
+pub use value::Value;
 pub use visit::{Visit, VisitLog};
 
 /// The number of bits of a coordinate. Grid points of the plane have coordinates below 2 to this power, and

@@ -1,5 +1,6 @@
 use crate::{
-    Calls, Failed, Label, MemSink, MemSource, NoMemory, Point, Shape, Sink, Source, SureSource,
+    Calls, Failed, Label, MemSink, MemSource, NoMemory, Point, Ring, Row, Shape, Sink, Source,
+    SureSource, Value,
 };
 use std::alloc::AllocError;
 use std::process::Abort;
@@ -91,7 +92,15 @@ fn names_and_shapes_are_copied_where_memory_is_left(rt: HostRuntime) -> Result<(
     let alloc = rt.alloc();
     let label = Label::new(alloc, "north")?;
     assert_eq!(rt; label.copy(alloc)?.as_str(), "north");
-    let shape = Shape::Point(Point { x: 3, y: 4 });
-    assert_eq!(rt; shape.copy(alloc)?, shape);
+    let at = Point { x: 3, y: 4 };
+    let Ok(ring) = Ring::new(vec![in alloc; at; 3]?) else {
+        panic!(rt; "three grid points are a ring");
+    };
+    let row = Row::new(vec![in alloc; Value::Text(label), Value::Shape(Shape::Polygon(ring))]?);
+    let [Value::Text(name), Value::Shape(Shape::Polygon(copied))] = row.copy(alloc)?.values() else {
+        panic!(rt; "the copy has a text and a polygon");
+    };
+    assert_eq!(rt; name.as_str(), "north");
+    assert_eq!(rt; copied.corners(), [at; 3].as_slice());
     Ok(())
 }
