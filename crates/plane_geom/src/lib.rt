@@ -22,4 +22,5 @@ pub use point_segment::{gap_point_segment, on_segment};
 pub use points::gap_points;
 pub use rects::{gap_point_rect, gap_rects};
 pub use segment_rect::gap_segment_rect;
-pub use segments::gap_segments;
+pub use segments::{gap_segments, nearer};
+pub use vectors::cross;

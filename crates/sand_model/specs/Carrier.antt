@@ -1,10 +1,8 @@
--- The points of which a shape consists: all its rational points, and not only those of the grid.
+-- The points of which points, segments and rectangles consist: all rational points, and not only those of the grid.
 use Rattle.std.specs.Prelude.{◌≡◌, ℕ, ℤ, ◌*◌, ◌<◌, min, max, pos, ◌-ℤ◌, ◌*ℤ◌, ◌≤ℤ◌}
 use Rattle.sand_base.specs.declared.point.Point.{Point}
 use Rattle.sand_base.specs.declared.rect.Rect.{Rect}
 use Rattle.sand_base.specs.declared.segment.Segment.{Segment}
-use Rattle.sand_base.specs.declared.shape.Shape.{Shape}
-use Rattle.sand_base.specs.declared.shape.Shape.TheVariants as shape
 
 -- a rational point of the plane, (x / n, y / n)
 pub record RationalPoint : Type 0 where
@@ -38,8 +36,3 @@ pub record IsOnSegment (s : Segment) (q : RationalPoint) : Type 0 where
 pub record IsInRect (r : Rect) (q : RationalPoint) : Type 0 where
   pub x : IsWithin r.low.x r.high.x q.n q.x
   pub y : IsWithin r.low.y r.high.y q.n q.y
-
--- the points of a shape
-abbrev pub IsOf : Shape → RationalPoint → Type 0
-IsOf (shape.Point p) q = IsPoint p q
-IsOf (shape.Segment s) q = IsOnSegment s q

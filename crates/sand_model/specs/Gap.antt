@@ -1,8 +1,6 @@
--- The gap of two shapes: the least squared distance between their points.
+-- The least squared distance between the points of two sets.
 use Rattle.std.specs.Prelude.{◌≡◌, ℕ, ℤ, ◌*◌, pos, ◌+ℤ◌, ◌-ℤ◌, ◌*ℤ◌, ◌≤ℤ◌}
-use Rattle.exact_frac.specs.declared.frac.Frac.{Frac}
-use Rattle.sand_base.specs.declared.shape.Shape.{Shape}
-use Rattle.sand_model.specs.Carrier.{RationalPoint, IsOf}
+use Rattle.sand_model.specs.Carrier.{RationalPoint}
 
 -- a whole number, squared
 abbrev pub square : ℤ → ℤ
@@ -21,7 +19,3 @@ common_square q r = square (pos (q.n * r.n))
 pub record IsLeast (A B : RationalPoint → Type 0) (num den : ℕ) : Type 0 where
   pub attained : (q r : RationalPoint) × A q × B r × (far q r *ℤ pos den ≡ pos num *ℤ common_square q r)
   pub least : (q r : RationalPoint) → A q → B r → (pos num *ℤ common_square q r) ≤ℤ (far q r *ℤ pos den)
-
--- the fraction is the gap of the two shapes
-abbrev pub IsGap : Shape → Shape → Frac → Type 0
-IsGap a b gap = IsLeast (IsOf a) (IsOf b) gap.num gap.den

@@ -9,13 +9,14 @@ use Rattle.std.specs.Char.{is_ascii_digit}
 use Rattle.std.specs.Fmt.{decimal}
 use Rattle.std.specs.List.{prefix_len, list_all}
 use Rattle.std.specs.Str.Parse.{digits_value}
-use Rattle.sand_base.specs.Plane.{IsInPlane, IsSegmentInPlane, IsShapeInPlane}
-use Rattle.sand_base.specs.declared.kind.Kind.{Kind}
-use Rattle.sand_base.specs.declared.kind.Kind.TheVariants as kind
+use Rattle.sand_base.specs.Plane.{IsInPlane, IsSegmentInPlane}
+use Rattle.script_text.specs.Shape.{IsShapeInPlane}
+use Rattle.script_text.specs.declared.shape.Kind.{Kind}
+use Rattle.script_text.specs.declared.shape.Kind.TheVariants as kind
 use Rattle.sand_base.specs.declared.point.Point.{Point}
 use Rattle.sand_base.specs.declared.segment.Segment.{Segment}
-use Rattle.sand_base.specs.declared.shape.Shape.{Shape}
-use Rattle.sand_base.specs.declared.shape.Shape.TheVariants as shape
+use Rattle.script_text.specs.declared.shape.Shape.{Shape}
+use Rattle.script_text.specs.declared.shape.Shape.TheVariants as shape
 use Rattle.script_text.specs.declared.TheConstants.{MOST_ROWS}
 use Rattle.script_text.specs.declared.statement.Column.{Column}
 use Rattle.script_text.specs.declared.statement.Plan.TheVariants.{Rank}

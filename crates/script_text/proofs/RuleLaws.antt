@@ -3,10 +3,11 @@ use Rattle.std.proofs.Common.{◌≡◌, ℕ, ◌≤◌, Bool, true, false, cond
 use Rattle.std.specs.Prelude.{ℤ, pos, codes, ⊤, is_some, unwrap_or}
 use Rattle.std.proofs.lemmas.Bool.{and_parts, false≢true}
 use Rattle.std.proofs.lemmas.List.{append-nil}
-use Rattle.sand_base.specs.declared.kind.Kind.TheVariants as kind
+use Rattle.script_text.specs.declared.shape.Kind.TheVariants as kind
 use Rattle.sand_base.specs.declared.point.Point.{Point}
-use Rattle.sand_base.specs.declared.shape.Shape.{Shape}
-use Rattle.sand_base.specs.Plane.{IsInPlane, IsShapeInPlane}
+use Rattle.script_text.specs.declared.shape.Shape.{Shape}
+use Rattle.sand_base.specs.Plane.{IsInPlane}
+use Rattle.script_text.specs.Shape.{IsShapeInPlane}
 use Rattle.script_text.specs.declared.TheConstants.{MOST_ROWS}
 use Rattle.script_text.specs.declared.keyword.Keyword.{Keyword}
 use Rattle.script_text.specs.declared.keyword.Keyword.TheVariants as keyword

@@ -2,11 +2,12 @@
 use Rattle.std.proofs.Common.{◌≡◌, ℕ, ◌≤◌, Bool, true, false, ◌&&◌, List, [], ◌∷◌, ◌++◌, Option, Some, None, Ok, refl, sym, ap, subst, arith}
 use Rattle.std.specs.Prelude.{ℤ, pos, codes, ⊤, is_some, unwrap_or}
 use Rattle.std.proofs.lemmas.List.{append-nil}
-use Rattle.sand_base.specs.declared.kind.Kind.{Kind}
+use Rattle.script_text.specs.declared.shape.Kind.{Kind}
 use Rattle.sand_base.specs.declared.point.Point.{Point}
-use Rattle.sand_base.specs.declared.shape.Shape.{Shape}
-use Rattle.sand_base.specs.declared.shape.Shape.TheVariants as shape
-use Rattle.sand_base.specs.Plane.{IsInPlane, IsShapeInPlane}
+use Rattle.script_text.specs.declared.shape.Shape.{Shape}
+use Rattle.script_text.specs.declared.shape.Shape.TheVariants as shape
+use Rattle.sand_base.specs.Plane.{IsInPlane}
+use Rattle.script_text.specs.Shape.{IsShapeInPlane}
 use Rattle.script_text.specs.declared.TheConstants.{MOST_ROWS}
 use Rattle.script_text.specs.declared.keyword.Keyword.TheVariants as keyword
 use Rattle.script_text.specs.declared.statement.Column.{Column}

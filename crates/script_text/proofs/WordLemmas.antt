@@ -3,8 +3,8 @@ use Rattle.std.proofs.Common.{◌≡◌, ℕ, Bool, true, false, cond, List, Opt
 use Rattle.std.specs.Prelude.{ℤ, codes}
 use Rattle.std.specs.Str.{bytes_eq}
 use Rattle.std.proofs.lemmas.Slice.Eq.{bytes_eq-Decides}
-use Rattle.sand_base.specs.declared.kind.Kind.{Kind}
-use Rattle.sand_base.specs.declared.kind.Kind.TheVariants as kind
+use Rattle.script_text.specs.declared.shape.Kind.{Kind}
+use Rattle.script_text.specs.declared.shape.Kind.TheVariants as kind
 use Rattle.script_text.specs.declared.keyword.Keyword.{Keyword}
 use Rattle.script_text.specs.declared.keyword.Keyword.TheVariants.{Create, Insert, Index, Show}
 use Rattle.script_text.specs.declared.token.Symbol.{Symbol}

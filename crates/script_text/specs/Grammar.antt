@@ -3,8 +3,8 @@
 use Rattle.std.specs.Prelude.{◌≡◌, ℕ, ℤ, pos, neg_ℤ, ◌==◌, cond, List, [], ◌∷◌, ◌++◌, codes, ⊤}
 use Rattle.std.specs.Str.Parse.{digits_value}
 use Rattle.sand_base.specs.declared.point.Point.{Point}
-use Rattle.sand_base.specs.declared.shape.Shape.{Shape}
-use Rattle.sand_base.specs.declared.shape.Shape.TheVariants as shape
+use Rattle.script_text.specs.declared.shape.Shape.{Shape}
+use Rattle.script_text.specs.declared.shape.Shape.TheVariants as shape
 use Rattle.script_text.specs.declared.statement.Column.{Column}
 use Rattle.script_text.specs.declared.statement.Plan.{Plan}
 use Rattle.script_text.specs.declared.statement.Plan.TheVariants.{Rank}

@@ -1,7 +1,7 @@
 -- The words of the kinds of columns.
 use Rattle.std.specs.Prelude.{ℕ, List, codes}
-use Rattle.sand_base.specs.declared.kind.Kind.{Kind}
-use Rattle.sand_base.specs.declared.kind.Kind.TheVariants as kind
+use Rattle.script_text.specs.declared.shape.Kind.{Kind}
+use Rattle.script_text.specs.declared.shape.Kind.TheVariants as kind
 
 -- the word of a kind
 abbrev pub kind_word : Kind → List ℕ

@@ -3,11 +3,11 @@ use Rattle.std.specs.Prelude.{◌≡◌, ℕ, Bool, true, false, not, ◌&&◌, 
 use Rattle.std.specs.Str.{bytes_eq}
 use Rattle.std.specs.Str.Parse.{digits_value}
 use Rattle.sand_base.specs.declared.TheConstants.{COORDINATE_BITS}
-use Rattle.sand_base.specs.declared.kind.Kind.{Kind}
-use Rattle.sand_base.specs.declared.kind.Kind.TheVariants as kind
+use Rattle.script_text.specs.declared.shape.Kind.{Kind}
+use Rattle.script_text.specs.declared.shape.Kind.TheVariants as kind
 use Rattle.sand_base.specs.declared.point.Point.{Point}
-use Rattle.sand_base.specs.declared.shape.Shape.{Shape}
-use Rattle.sand_base.specs.declared.shape.Shape.TheVariants as shape
+use Rattle.script_text.specs.declared.shape.Shape.{Shape}
+use Rattle.script_text.specs.declared.shape.Shape.TheVariants as shape
 use Rattle.script_text.specs.declared.TheConstants.{MOST_ROWS}
 use Rattle.script_text.specs.declared.keyword.Keyword.{Keyword}
 use Rattle.script_text.specs.declared.keyword.Keyword.TheVariants as keyword

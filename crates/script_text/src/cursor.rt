@@ -7,9 +7,10 @@ ghost use Rattle.script_text.specs.Token.{is_number};
 use crate::keyword::{Keyword, keyword_of};
 use crate::kinds::kind_named;
 use crate::lexer::{next_token, skip_blanks};
+use crate::shape::Kind;
 use crate::stuck::Stuck;
 use crate::token::{Symbol, Token};
-use sand_base::{Kind, Label};
+use sand_base::Label;
 use std::alloc::Global;
 use std::marker::Model;
 

@@ -2,7 +2,7 @@ ghost use Rattle.std.specs.Prelude.{◌≡◌};
 ghost use Rattle.script_text.specs.KindWord.{kind_word};
 ghost use Rattle.script_text.specs.Reading.{kind_named};
 
-use sand_base::Kind;
+use crate::shape::Kind;
 
 /// The word of a kind.
 pub fn kind_word(kind: Kind) -> &'static str

@@ -16,6 +16,7 @@ mod lexer;
 mod parse;
 mod print;
 mod reader;
+mod shape;
 mod statement;
 mod stuck;
 mod token;
@@ -23,6 +24,7 @@ mod token;
 pub use laws::{a_line_has_one_reading, printed_forms_are_read};
 pub use parse::{LineFault, parse_line};
 pub use print::print_statement;
+pub use shape::{Kind, Shape};
 pub use statement::{Column, Plan, Statement};
 
 /// The longest name, in bytes.

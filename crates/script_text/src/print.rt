@@ -2,8 +2,9 @@ ghost use Rattle.std.specs.Prelude.{◌≡◌, IfOk};
 ghost use Rattle.script_text.specs.Statement.{printed};
 
 use crate::kinds::kind_word;
+use crate::shape::Shape;
 use crate::{Column, Plan, Statement};
-use sand_base::{NoMemory, Point, Shape};
+use sand_base::{NoMemory, Point};
 use std::alloc::Global;
 use std::fmt;
 

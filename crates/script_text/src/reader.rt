@@ -3,10 +3,11 @@ ghost use Rattle.script_text.specs.Reading.{rest_in, shape_in, show_in, spot_in,
 
 use crate::cursor::Cursor;
 use crate::keyword::Keyword;
+use crate::shape::Shape;
 use crate::stuck::Stuck;
 use crate::token::Symbol;
 use crate::{Column, MOST_ROWS, Plan, Statement};
-use sand_base::{COORDINATE_BITS, Point, Segment, Shape};
+use sand_base::{COORDINATE_BITS, Point, Segment};
 use std::alloc::Global;
 
 impl<'t> Cursor<'t> {

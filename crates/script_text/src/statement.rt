@@ -1,4 +1,5 @@
-use sand_base::{Kind, Label, Shape};
+use crate::shape::{Kind, Shape};
+use sand_base::Label;
 
 /// A column of a relation, written `relation.column`.
 #[derive(Drop)]

@@ -4,7 +4,7 @@ use Rattle.std.specs.List.{find, position, position_or_len, slice_get}
 use Rattle.std.proofs.lemmas.Bool.{ltb-true, ltb-false}
 use Rattle.std.proofs.lemmas.List.Folds.{find_at}
 use Rattle.std.proofs.lemmas.Option.{slice_get_past, slice_get_read}
-use Rattle.sand_model.specs.Relation.{Relation, has_name, changed_at}
+use Rattle.session.specs.OneColumn.{Relation, has_name, changed_at}
 
 -- the place that a search gives is that of the first that passes, and is inside
 pub position_some : {X : Type 0} (p : X → Bool) (xs : List X) (at : ℕ) → position p xs ≡ Some at

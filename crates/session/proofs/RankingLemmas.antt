@@ -4,11 +4,13 @@ use Rattle.std.proofs.lemmas.List.{take_more}
 use Rattle.int_ring.specs.Expr.{var, at, ◌⊕◌, ◌⊖◌, ◌⊗◌}
 use Rattle.int_ring.proofs.Ring.{ring}
 use Rattle.exact_frac.specs.declared.frac.Frac.{Frac}
-use Rattle.sand_base.specs.Plane.{IsShapeInPlane}
-use Rattle.sand_base.specs.declared.shape.Shape.{Shape}
-use Rattle.sand_model.specs.Carrier.{RationalPoint, IsOf}
-use Rattle.sand_model.specs.Gap.{IsGap, IsLeast, far, common_square, square}
-use Rattle.sand_model.specs.Ranking.{Measures}
+use Rattle.script_text.specs.Shape.{IsShapeInPlane}
+use Rattle.script_text.specs.declared.shape.Shape.{Shape}
+use Rattle.sand_model.specs.Carrier.{RationalPoint}
+use Rattle.session.specs.ShapeGap.{IsOf}
+use Rattle.sand_model.specs.Gap.{IsLeast, far, common_square, square}
+use Rattle.session.specs.ShapeGap.{IsGap}
+use Rattle.session.specs.Ranked.{Measures}
 use Rattle.session.specs.Rows.{AreInPlane}
 
 -- the gap of two shapes is told by what they are

@@ -2,7 +2,7 @@
 use Rattle.std.proofs.Common.{◌≡◌, ℕ, ◌+◌, ◌<◌, ◌≤◌, length, take, take_all, drop, take-append-drop, get_or, Bool, false, true, eqb, ◌||◌, List, [], ◌∷◌, ◌++◌, refl, sym, ap, ◌∙◌, subst, append_assoc, append-nil}
 use Rattle.std.specs.List.{list_any}
 use Rattle.std.proofs.lemmas.List.{take_more}
-use Rattle.sand_model.specs.Relation.{Relation}
+use Rattle.session.specs.OneColumn.{Relation}
 use Rattle.session.specs.Line.{cut, ended_lines, clipped, with_byte}
 use Rattle.session.specs.Outcome.{Step}
 use Rattle.session.specs.Run.{Run, IsRunText}

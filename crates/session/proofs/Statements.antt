@@ -3,13 +3,13 @@ use Rattle.std.proofs.Common.{◌≡◌, ℕ, ◌<◌, ◌≤◌, Bool, true, fa
 use Rattle.std.specs.List.{position}
 use Rattle.std.proofs.lemmas.Bool.{le-leb, lt-leb}
 use Rattle.std.proofs.lemmas.List.{set-get_or, get_or_default}
-use Rattle.sand_base.specs.Shape.{kind_of, same_kind}
-use Rattle.sand_base.specs.declared.kind.Kind.{Kind}
+use Rattle.script_text.specs.Shape.{kind_of, same_kind}
+use Rattle.script_text.specs.declared.shape.Kind.{Kind}
 use Rattle.sand_base.specs.declared.refusal.Refusal.TheVariants as why
-use Rattle.sand_base.specs.declared.shape.Shape.{Shape}
-use Rattle.sand_model.specs.Relation.{Relation, has_name, same_name, with_row, with_index, changed_at, new_relation}
+use Rattle.script_text.specs.declared.shape.Shape.{Shape}
+use Rattle.session.specs.OneColumn.{Relation, has_name, same_name, with_row, with_index, changed_at, new_relation}
 use Rattle.exact_frac.specs.declared.frac.Frac.{Frac}
-use Rattle.sand_model.specs.Ranking.{IsRanking}
+use Rattle.session.specs.Ranked.{IsRanking}
 use Rattle.script_text.specs.declared.statement.Column.{Column}
 use Rattle.script_text.specs.declared.statement.Plan.TheVariants.{Rank}
 use Rattle.script_text.specs.declared.statement.Statement.TheVariants.{Create, Insert, Index, Show}

@@ -1,12 +1,12 @@
 -- What carrying a line out answers, and what it leaves of the relations.
 use Rattle.std.specs.Prelude.{◌≡◌, ◌⊎◌, ℕ, nat_le, nat_lt, List, [], ◌∷◌, ◌++◌, length, take, find, Option, Some, None, Result, Ok, Err, MatchBool, MatchOption}
 use Rattle.exact_frac.specs.declared.frac.Frac.{Frac}
-use Rattle.sand_base.specs.Shape.{kind_of, same_kind}
+use Rattle.script_text.specs.Shape.{kind_of, same_kind}
 use Rattle.sand_base.specs.declared.refusal.Refusal.{Refusal}
 use Rattle.sand_base.specs.declared.refusal.Refusal.TheVariants as why
-use Rattle.sand_base.specs.declared.shape.Shape.{Shape}
-use Rattle.sand_model.specs.Ranking.{IsRanking}
-use Rattle.sand_model.specs.Relation.{Relation, same_name, has_name, new_relation, with_row, with_index, changed_at}
+use Rattle.script_text.specs.declared.shape.Shape.{Shape}
+use Rattle.session.specs.Ranked.{IsRanking}
+use Rattle.session.specs.OneColumn.{Relation, same_name, has_name, new_relation, with_row, with_index, changed_at}
 use Rattle.script_text.specs.Line.{Reads}
 use Rattle.script_text.specs.declared.parse.LineFault.{LineFault}
 use Rattle.script_text.specs.declared.parse.LineFault.TheVariants as fault

@@ -2,9 +2,9 @@
 use Rattle.std.specs.Prelude.{◌≡◌, ℕ, ◌+◌, ◌≤◌, Bool, true, false, List, [], ◌∷◌, ◌++◌, length, take, Option, IfSome, ⊤}
 use Rattle.std.specs.Io.KnownBytes.{Consumes, IsAtEnd}
 use Rattle.std.specs.List.{list_any}
-use Rattle.sand_base.specs.Faults.{Rose}
+use Rattle.sand_base.specs.Faults.{next_count}
 use Rattle.sand_base.specs.Streams.{Adds, Stays}
-use Rattle.sand_model.specs.Relation.{Relation}
+use Rattle.session.specs.OneColumn.{Relation}
 use Rattle.session.specs.Line.{lines, ended_lines, clipped}
 use Rattle.session.specs.Outcome.{Step}
 use Rattle.session.specs.Text.{is_refused, IsText, WritesFront}
@@ -73,13 +73,13 @@ Ends status.NoMemory script left before now = (left ≡ script) × Stays before 
 
 -- Why a run ended so: a fault only where its count rose, and no other status where a count rose.
 abbrev pub IsCaused : Status → ℕ → ℕ → ℕ → ℕ → Type 0
-IsCaused status.ReadFault reads reads' writes writes' = Rose reads reads' × (writes' ≡ writes)
-IsCaused status.WriteFault reads reads' writes writes' = (reads' ≡ reads) × Rose writes writes'
+IsCaused status.ReadFault reads reads' writes writes' = (reads' ≡ next_count reads) × (writes' ≡ writes)
+IsCaused status.WriteFault reads reads' writes writes' = (reads' ≡ reads) × (writes' ≡ next_count writes)
 IsCaused _ reads reads' writes writes' = (reads' ≡ reads) × (writes' ≡ writes)
 
 -- the same of the sink alone
 abbrev pub IsWriteCaused : Status → ℕ → ℕ → Type 0
-IsWriteCaused status.WriteFault writes writes' = Rose writes writes'
+IsWriteCaused status.WriteFault writes writes' = writes' ≡ next_count writes
 IsWriteCaused _ writes writes' = writes' ≡ writes
 
 -- the status is one of a run that began to read

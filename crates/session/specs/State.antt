@@ -2,7 +2,7 @@
 use Rattle.std.specs.Prelude.{◌≡◌, ℕ, Bool, true, false, ◌||◌, List, [], ◌++◌, Some}
 use Rattle.std.specs.List.{list_any}
 use Rattle.sand_base.specs.Streams.{Adds}
-use Rattle.sand_model.specs.Relation.{Relation}
+use Rattle.session.specs.OneColumn.{Relation}
 use Rattle.session.specs.Line.{cut, clipped, lines, ended_lines}
 use Rattle.session.specs.Outcome.{Step}
 use Rattle.session.specs.Run.{Run, IsRunText}

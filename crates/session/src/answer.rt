@@ -1,13 +1,13 @@
 ghost use Rattle.std.specs.Prelude.{◌≡◌, position};
-ghost use Rattle.sand_base.specs.Plane.{IsShapeInPlane};
-ghost use Rattle.sand_model.specs.Relation.{has_name};
+ghost use Rattle.script_text.specs.Shape.{IsShapeInPlane};
+ghost use Rattle.session.specs.OneColumn.{has_name};
 ghost use Rattle.script_text.specs.Statement.{IsInRange, IsPlanInRange};
 ghost use Rattle.session.specs.Outcome.{CarriesOut, reply_of};
 
 use crate::relation::Relation;
 use crate::{Hits, MOST_RELATIONS, Reply};
-use sand_base::{Kind, Label, Refusal, Shape};
-use script_text::{Column, Plan, Statement};
+use sand_base::{Label, Refusal};
+use script_text::{Column, Kind, Plan, Shape, Statement};
 use std::alloc::Global;
 
 // The place of the relation with this name.

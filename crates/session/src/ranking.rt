@@ -1,12 +1,13 @@
 ghost use Rattle.std.specs.Prelude.{◌≡◌, IfOk};
-ghost use Rattle.sand_base.specs.Plane.{IsShapeInPlane};
-ghost use Rattle.sand_model.specs.Gap.{IsGap};
-ghost use Rattle.sand_model.specs.Ranking.{IsRanking, Measures};
+ghost use Rattle.script_text.specs.Shape.{IsShapeInPlane};
+ghost use Rattle.session.specs.ShapeGap.{IsGap};
+ghost use Rattle.session.specs.Ranked.{IsRanking, Measures};
 ghost use Rattle.session.specs.Rows.{AreInPlane};
 
 use exact_frac::Frac;
 use plane_geom::{gap_point_segment, gap_points, gap_segments};
-use sand_base::{NoMemory, Shape};
+use sand_base::NoMemory;
+use script_text::Shape;
 use std::alloc::Global;
 
 // The gap of two shapes.

@@ -1,14 +1,15 @@
 ghost use Rattle.std.specs.Prelude.{◌≡◌, ◌≤◌, nat_lt, IfOk, OnErr};
-ghost use Rattle.sand_base.specs.Plane.{IsShapeInPlane};
-ghost use Rattle.sand_base.specs.Shape.{kind_of, same_kind};
-ghost use Rattle.sand_model.specs.Ranking.{IsRanking};
-ghost use Rattle.sand_model.specs.Relation.{new_relation, with_row, with_index};
+ghost use Rattle.script_text.specs.Shape.{IsShapeInPlane};
+ghost use Rattle.script_text.specs.Shape.{kind_of, same_kind};
+ghost use Rattle.session.specs.Ranked.{IsRanking};
+ghost use Rattle.session.specs.OneColumn.{new_relation, with_row, with_index};
 ghost use Rattle.session.specs.declared.TheConstants.{MOST_IDS};
 
 use crate::MOST_IDS;
 use crate::ranking::ranking;
 use exact_frac::Frac;
-use sand_base::{Kind, Label, NoMemory, Shape};
+use sand_base::{Label, NoMemory};
+use script_text::{Kind, Shape};
 use std::alloc::Global;
 use std::marker::Model;
 
@@ -25,7 +26,7 @@ pub struct Relation {
 
 impl Model for Relation {
     ghost use Rattle.std.specs.Prelude.{◌+◌, ◌≤◌};
-    ghost use Rattle.sand_model.specs.Relation.{Relation};
+    ghost use Rattle.session.specs.OneColumn.{Relation};
     ghost use Rattle.session.specs.Rows.{AreInPlane};
     ghost use Rattle.session.specs.declared.TheConstants.{MOST_IDS};
 

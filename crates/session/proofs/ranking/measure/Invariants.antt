@@ -1,5 +1,5 @@
 use Rattle.std.proofs.Common.{take}
-use Rattle.sand_model.specs.Ranking.{Measures}
+use Rattle.session.specs.Ranked.{Measures}
 use Rattle.session.proofs.ranking.measure.Given as goal
 
 -- the rows so far are measured

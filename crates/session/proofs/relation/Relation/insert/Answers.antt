@@ -1,6 +1,6 @@
 -- the new row's value lies in the plane, and the id was at most the last
 use Rattle.std.proofs.Common.{ap, arith}
-use Rattle.sand_model.specs.Relation.{Relation}
+use Rattle.session.specs.OneColumn.{Relation}
 use Rattle.session.proofs.RowsLemmas.{AreInPlane-append}
 use Rattle.session.proofs.relation.Relation.insert.Goals as goal
 
