@@ -2,14 +2,15 @@
 # make test  the whole gate: proofs, must-fail edits, tests, stored runs and examples
 
 SCRIPT ?= examples/first.sand
-PROGRAM = crates/sand_shell/out/sand_shell
 
 .PHONY: run test
 
 run:
-	cd crates/sand_shell && rt run </dev/null >/dev/null
-	cp $(PROGRAM) sand
-	./sand <$(SCRIPT)
+	@bash .ci/build
+	@echo "-- the script $(SCRIPT):"
+	@cat $(SCRIPT)
+	@echo "-- and its answer:"
+	@./sand <$(SCRIPT)
 
 test:
-	bash .ci/run
+	@bash .ci/test

@@ -1,25 +1,27 @@
-ghost use Rattle.std.specs.Prelude.{◌≡◌, None};
+ghost use Rattle.std.specs.Prelude.{◌≡◌};
 
 use sand_base::{Failed, Source};
-use std::io::{Read, Stdin};
+use std::io::Read;
 
-/// Standard input as the source of a script. It tells nothing of what it holds, and counts its faults.
+/// A reader as the source of a script: standard input in the program. What the reader tells of the bytes to come
+/// is what the source tells (standard input tells nothing). It counts its faults.
 #[derive(Drop)]
-pub struct StdinSource {
-    input: Stdin,
+pub struct StdinSource<R: Read + Drop> {
+    input: R,
     faults: u64,
 }
 
-impl StdinSource {
-    pub fn new(input: Stdin) -> StdinSource
-        ensures { result.faults ≡ 0 }
+impl<R: Read + Drop> StdinSource<R> {
+    pub fn new(input: R) -> StdinSource<R>
+        ensures input { result.input ≡ input }
+        ensures faults { result.faults ≡ 0 }
     {
         StdinSource { input, faults: 0 }
     }
 }
 
-impl Source for StdinSource {
-    ghost left = { λ _. None };
+impl<R: Read + Drop> Source for StdinSource<R> {
+    ghost left = { λ s. R.remaining s.input };
 
     ghost faults = { λ s. s.faults };
 
@@ -37,10 +39,13 @@ mod tests {
     use super::*;
 
     #[test]
-    fn an_empty_input_is_at_its_end(rt: HostRuntime) {
-        let mut source = StdinSource::new(rt.stdin());
-        let mut piece = [7u8; 16];
-        assert_eq!(rt; source.read(&mut piece), Ok(0));
-        assert_eq!(rt; source.faults, 0);
+    fn a_reader_gives_its_bytes_and_an_empty_one_is_at_its_end(rt: HostRuntime) {
+        let mut source = StdinSource::new(b"ok\n".as_slice());
+        let mut piece = [0u8; 2];
+        assert_eq!(rt; source.read(&mut piece), Ok(2));
+        assert_eq!(rt; piece, *b"ok");
+        let mut input = StdinSource::new(rt.stdin());
+        assert_eq!(rt; input.read(&mut piece), Ok(0));
+        assert_eq!(rt; input.faults, 0);
     }
 }

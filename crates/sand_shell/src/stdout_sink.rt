@@ -1,26 +1,28 @@
 ghost use Rattle.std.specs.Prelude.{◌≡◌};
+ghost use Rattle.sand_shell.specs.Written.{AreHeld};
 
 use sand_base::{Failed, Sink};
-use std::io::{Stdout, Write};
+use std::io::Write;
 
-/// Standard output as the sink of the answers. It tells nothing of what it took, and counts its faults. A
-/// write that takes no byte counts as one.
+/// A writer as the sink of the answers: standard output in the program. It has taken the bytes that the writer
+/// tells it holds (standard output tells nothing). It counts its faults; a write that takes no byte is one.
 #[derive(Drop)]
-pub struct StdoutSink {
-    output: Stdout,
+pub struct StdoutSink<W: Write + Drop> {
+    output: W,
     faults: u64,
 }
 
-impl StdoutSink {
-    pub fn new(output: Stdout) -> StdoutSink
-        ensures { result.faults ≡ 0 }
+impl<W: Write + Drop> StdoutSink<W> {
+    pub fn new(output: W) -> StdoutSink<W>
+        ensures output { result.output ≡ output }
+        ensures faults { result.faults ≡ 0 }
     {
         StdoutSink { output, faults: 0 }
     }
 }
 
-impl Sink for StdoutSink {
-    ghost took = { λ _ _. ⊥ };
+impl<W: Write + Drop> Sink for StdoutSink<W> {
+    ghost took = { λ s. AreHeld (W.contents s.output) };
 
     ghost faults = { λ s. s.faults };
 
@@ -38,11 +40,16 @@ impl Sink for StdoutSink {
 #[cfg(test)]
 mod tests {
     use super::*;
+    use std::alloc::AllocError;
 
     #[test]
-    fn a_line_is_taken(rt: HostRuntime) {
+    fn a_line_is_taken(rt: HostRuntime) -> Result<(), AllocError> {
+        let mut held = StdoutSink::new(vec![in rt.alloc(); 7u8]?);
+        assert_eq!(rt; held.write(b"ok\n"), Ok(3));
+        assert_eq!(rt; held.output.as_slice(), b"\x07ok\n".as_slice());
         let mut sink = StdoutSink::new(rt.stdout());
         assert_eq!(rt; sink.write(b"ok\n"), Ok(3));
         assert_eq!(rt; sink.faults, 0);
+        Ok(())
     }
 }

@@ -113,7 +113,8 @@ fn scripts_are_answered(rt: HostRuntime) -> Result<(), Fail> {
             "a name that is taken, no column, an index that is there, no index",
             "create p (at point)\ncreate p (at point)\nshow 1 rank p.at from (0 0)\nindex p.to\nindex p.at\nindex p.at\n\
              show 1 rank p.to from (0 0)\nshow 1 rank p.at from (0 0)\n",
-            "ok\nrefused 26 NotBuilt\nrefused 26 NotBuilt\nrefused 26 NotBuilt\nok\nrefused 26 NotBuilt\nrefused 26 NotBuilt\nend\n",
+            "ok\nrefused 11 NameTaken\nrefused 13 NoIndex\nrefused 9 UnknownColumn\nok\nrefused 14 IndexThere\n\
+             refused 9 UnknownColumn\nend\n",
             Status::SomeRefused,
         ),
         plain(
@@ -205,6 +206,24 @@ fn runs_end_with_their_status(rt: HostRuntime) -> Result<(), Fail> {
     Ok(())
 }
 
+#[test]
+fn no_more_than_64_relations_are_made(rt: HostRuntime) -> Result<(), Fail> {
+    let alloc = rt.alloc();
+    let mut script = String::new(alloc);
+    let mut output = String::new(alloc);
+    for number in 1..=64u32 {
+        script.push_str(format!(in alloc; "create r{number} (at point)\n")?.as_str())?;
+        output.push_str("ok\n")?;
+    }
+    script.push_str("create more (at point)\ncreate r1 (at point)\n")?;
+    output.push_str("refused 12 TooManyRelations\nrefused 11 NameTaken\n")?;
+    let mut source = MemSource::new(alloc, script.into_bytes(), 4096, Vec::new(alloc));
+    let mut sink = MemSink::new(alloc, 4096, Vec::new(alloc))?;
+    assert_eq!(rt; run(alloc, &[], &mut source, &mut sink), Status::SomeRefused);
+    assert_eq!(rt; sink.bytes(), output.as_bytes());
+    Ok(())
+}
+
 // The status of a script of so many line feeds, which print nothing.
 fn line_feeds(alloc: Global, count: usize) -> Result<Status, NoMemory> {
     let script = vec![in alloc; b'\n'; count]?;
@@ -253,43 +272,38 @@ fn broken(
     )
 }
 
+// The run with one failing call ends with the status and has written this many bytes of the undisturbed text.
+fn breaks_after(
+    rt: &impl Abort,
+    broken: (MemSink, Status),
+    status: Status,
+    length: usize,
+) {
+    let (sink, ended) = broken;
+    assert_eq!(rt; ended, status, "after {length} bytes");
+    assert!(rt; REFUSED_LAST_TEXT.as_bytes().starts_with(sink.bytes()));
+    assert_eq!(rt; sink.bytes().len(), length);
+}
+
 #[test]
 fn a_read_that_fails_ends_the_run_where_it_stands(rt: HostRuntime) -> Result<(), Fail> {
-    let mut undisturbed = 0;
-    for call in 1..=20 {
-        let (sink, status) = broken(rt.alloc(), &[call], &[])?;
-        if status == Status::SomeRefused {
-            undisturbed = call;
-            break;
-        }
-        assert_eq!(rt; status, Status::ReadFault, "read {call}");
-        assert!(rt;
-            REFUSED_LAST_TEXT.as_bytes().starts_with(sink.bytes()),
-            "read {call}"
-        );
+    // (in pieces of 20 bytes the six lines end with the reads 1, 2, 3, 4, 5 and 6, and a seventh finds the end)
+    for (call, length) in [(1, 0), (2, 3), (3, 6), (4, 11), (5, 16), (6, 29), (7, 55)] {
+        let run = broken(rt.alloc(), &[call], &[])?;
+        breaks_after(&rt, run, Status::ReadFault, length);
     }
-    // (117 bytes in pieces of 20 are six reads, and a seventh finds the end)
-    assert_eq!(rt; undisturbed, 8, "the reads of the plain run");
+    breaks_after(&rt, broken(rt.alloc(), &[8], &[])?, Status::SomeRefused, 55);
     Ok(())
 }
 
 #[test]
 fn a_write_that_fails_ends_the_run_where_it_stands(rt: HostRuntime) -> Result<(), Fail> {
-    let mut undisturbed = 0;
-    for call in 1..=20 {
-        let (sink, status) = broken(rt.alloc(), &[], &[call])?;
-        if status == Status::SomeRefused {
-            undisturbed = call;
-            break;
-        }
-        assert_eq!(rt; status, Status::WriteFault, "write {call}");
-        assert!(rt;
-            REFUSED_LAST_TEXT.as_bytes().starts_with(sink.bytes()),
-            "write {call}"
-        );
-    }
     // (eight lines, a write each)
-    assert_eq!(rt; undisturbed, 9, "the writes of the plain run");
+    for (call, length) in [(1, 0), (2, 3), (3, 6), (4, 11), (5, 16), (6, 20), (7, 25), (8, 29)] {
+        let run = broken(rt.alloc(), &[], &[call])?;
+        breaks_after(&rt, run, Status::WriteFault, length);
+    }
+    breaks_after(&rt, broken(rt.alloc(), &[], &[9])?, Status::SomeRefused, 55);
     Ok(())
 }
 

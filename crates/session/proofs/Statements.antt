@@ -24,19 +24,19 @@ put_back world at r here = ap (set world at) here ∙ set-get_or world at r
 
 -- the name is taken
 pub create-taken : (old : List Relation) (name column : List ℕ) (kind : Kind) (at : ℕ) (r : Relation) → position (has_name name) old ≡ Some at
-    → r ≡ get_or old at r → Answers old (Create name column kind) (Refused why.NotBuilt) old
+    → r ≡ get_or old at r → Answers old (Create name column kind) (Refused why.NameTaken) old
 create-taken old name column kind at r h here = rw (find-some (has_name name) old at r h here) (refl, refl)
 
 -- the name is taken, wherever it stands
 pub create-taken_at : (old : List Relation) (name column : List ℕ) (kind : Kind) (at : ℕ) → position (has_name name) old ≡ Some at
-    → Answers old (Create name column kind) (Refused why.NotBuilt) old
+    → Answers old (Create name column kind) (Refused why.NameTaken) old
 create-taken_at old name column kind at h =
     let r = get_or old at (new_relation name column kind) in
     create-taken old name column kind at r h (get_or_default old at (new_relation name column kind) r (position_some (has_name name) old at h).1)
 
 -- there are too many relations
 pub create-full : (old : List Relation) (name column : List ℕ) (kind : Kind) → position (has_name name) old ≡ None
-    → MOST_RELATIONS ≤ length old → Answers old (Create name column kind) (Refused why.NotBuilt) old
+    → MOST_RELATIONS ≤ length old → Answers old (Create name column kind) (Refused why.TooManyRelations) old
 create-full old name column kind h full =
     rw (find-none (has_name name) old h) (rw (le-leb MOST_RELATIONS (length old) full) (refl, refl))
 
@@ -59,7 +59,7 @@ insert-wrong_kind old name value at r h here other =
 
 -- all ids were given out
 pub insert-spent : (old : List Relation) (name : List ℕ) (value : Shape) (at : ℕ) (r : Relation) → position (has_name name) old ≡ Some at
-    → r ≡ get_or old at r → same_kind (kind_of value) r.kind ≡ true → ltb MOST_IDS r.next ≡ true → Answers old (Insert name value) (Refused why.NotBuilt) (set old at r)
+    → r ≡ get_or old at r → same_kind (kind_of value) r.kind ≡ true → ltb MOST_IDS r.next ≡ true → Answers old (Insert name value) (Refused why.IdsSpent) (set old at r)
 insert-spent old name value at r h here same spent =
     rw (find-some (has_name name) old at r h here) (rw (same, spent) (refl, put_back old at r here))
 
@@ -77,17 +77,17 @@ index-unknown old column h = rw (find-none (has_name column.relation) old h) (re
 
 -- the relation has no such column
 pub index-no_column : (old : List Relation) (column : Column) (at : ℕ) (r : Relation) → position (has_name column.relation) old ≡ Some at
-    → r ≡ get_or old at r → same_name r.column column.column ≡ false → Answers old (Index column) (Refused why.NotBuilt) (set old at r)
+    → r ≡ get_or old at r → same_name r.column column.column ≡ false → Answers old (Index column) (Refused why.UnknownColumn) (set old at r)
 index-no_column old column at r h here other =
     rw (find-some (has_name column.relation) old at r h here) (rw other (refl, put_back old at r here))
 
 -- the column has an index
 pub index-there : (old : List Relation) (column : Column) (at : ℕ) (r : Relation) → position (has_name column.relation) old ≡ Some at
-    → r ≡ get_or old at r → same_name r.column column.column ≡ true → r.is_indexed ≡ true → Answers old (Index column) (Refused why.NotBuilt) (set old at r)
+    → r ≡ get_or old at r → same_name r.column column.column ≡ true → r.is_indexed ≡ true → Answers old (Index column) (Refused why.IndexThere) (set old at r)
 index-there old column at r h here same there =
-    let refused = Refused why.NotBuilt in
+    let refused = Refused why.IndexThere in
     let P : Bool → Type 0 = λ b.
-    MatchBool b (Refuses why.NotBuilt old refused (set old at r))
+    MatchBool b (Refuses why.IndexThere old refused (set old at r))
     ((refused ≡ Done) × (set old at r ≡ changed_at column.relation with_index old)) in
     rw (find-some (has_name column.relation) old at r h here) (rw same (subst P (sym there) (refl, put_back old at r here)))
 
@@ -107,14 +107,14 @@ show-unknown old count column goal h = rw (find-none (has_name column.relation) 
 -- the relation has no such column
 pub show-no_column : (old : List Relation) (count : ℕ) (column : Column) (goal : Shape) (at : ℕ) (r : Relation)
     → position (has_name column.relation) old ≡ Some at → r ≡ get_or old at r → same_name r.column column.column ≡ false
-    → Answers old (Show count (Rank column goal)) (Refused why.NotBuilt) old
+    → Answers old (Show count (Rank column goal)) (Refused why.UnknownColumn) old
 show-no_column old count column goal at r h here other =
     rw (find-some (has_name column.relation) old at r h here) (rw other (refl, refl))
 
 -- the column has no index
 pub show-no_index : (old : List Relation) (count : ℕ) (column : Column) (goal : Shape) (at : ℕ) (r : Relation)
     → position (has_name column.relation) old ≡ Some at → r ≡ get_or old at r → same_name r.column column.column ≡ true
-    → r.is_indexed ≡ false → Answers old (Show count (Rank column goal)) (Refused why.NotBuilt) old
+    → r.is_indexed ≡ false → Answers old (Show count (Rank column goal)) (Refused why.NoIndex) old
 show-no_index old count column goal at r h here same absent =
     rw (find-some (has_name column.relation) old at r h here) (rw (same, absent) (refl, refl))
 
@@ -132,7 +132,7 @@ show-rows old count column goal at r ranked given long h here same there ranking
     } in
     let P : Bool → Type 0 = λ b.
     MatchBool b (GivesRows r goal count (Rows given (ltb long count)) × (old ≡ old))
-    (Refuses why.NotBuilt old (Rows given (ltb long count)) old) in
+    (Refuses why.NoIndex old (Rows given (ltb long count)) old) in
     rw (find-some (has_name column.relation) old at r h here) (rw same (subst P (sym there) (gives, refl)))
 
 -- two names that a test told apart

@@ -32,28 +32,28 @@ pub record GivesRows (relation : Relation) (goal : Shape) (count : ℕ) (reply :
 abbrev pub Answers : List Relation → Statement → Reply → List Relation → Type 0
 Answers old (Create name column kind) reply new =
     MatchOption (find (has_name name) old)
-    (MatchBool (nat_le MOST_RELATIONS (length old)) (Refuses why.NotBuilt old reply new)
+    (MatchBool (nat_le MOST_RELATIONS (length old)) (Refuses why.TooManyRelations old reply new)
     ((reply ≡ Done) × (new ≡ old ++ new_relation name column kind ∷ [])))
-    (λ relation. Refuses why.NotBuilt old reply new)
+    (λ relation. Refuses why.NameTaken old reply new)
 Answers old (Insert name value) reply new =
     MatchOption (find (has_name name) old) (Refuses why.UnknownRelation old reply new) (λ relation.
     MatchBool (same_kind (kind_of value) relation.kind)
-    (MatchBool (nat_lt MOST_IDS relation.next) (Refuses why.NotBuilt old reply new)
+    (MatchBool (nat_lt MOST_IDS relation.next) (Refuses why.IdsSpent old reply new)
     ((reply ≡ Id relation.next) × (new ≡ changed_at name (with_row value) old)))
     (Refuses why.WrongKind old reply new))
 Answers old (Index column) reply new =
     MatchOption (find (has_name column.relation) old) (Refuses why.UnknownRelation old reply new) (λ relation.
     MatchBool (same_name relation.column column.column)
-    (MatchBool relation.is_indexed (Refuses why.NotBuilt old reply new)
+    (MatchBool relation.is_indexed (Refuses why.IndexThere old reply new)
     ((reply ≡ Done) × (new ≡ changed_at column.relation with_index old)))
-    (Refuses why.NotBuilt old reply new))
+    (Refuses why.UnknownColumn old reply new))
 Answers old (Show count (Rank column goal)) reply new =
     MatchOption (find (has_name column.relation) old) (Refuses why.UnknownRelation old reply new) (λ relation.
     MatchBool (same_name relation.column column.column)
     (MatchBool relation.is_indexed
     (GivesRows relation goal count reply × (new ≡ old))
-    (Refuses why.NotBuilt old reply new))
-    (Refuses why.NotBuilt old reply new))
+    (Refuses why.NoIndex old reply new))
+    (Refuses why.UnknownColumn old reply new))
 
 -- A statement is carried out: it is refused for want of memory, which may come at any statement, or answered.
 abbrev pub CarriesOut : List Relation → Statement → Reply → List Relation → Type 0

@@ -30,10 +30,10 @@ pub fn create(
     ensures { CarriesOut relations.old.items (Statement.Create name column kind) (reply_of result) relations.new.items }
 {
     if let Some(_) = place_of(relations, name.as_str()) {
-        return Err(Refusal::NotBuilt);
+        return Err(Refusal::NameTaken);
     }
     if relations.len() >= MOST_RELATIONS {
-        return Err(Refusal::NotBuilt);
+        return Err(Refusal::TooManyRelations);
     }
     relations.push(Relation::new(alloc, name, column, kind))?;
     Ok(Reply::Done)
@@ -52,7 +52,7 @@ pub fn insert(relations: &mut Vec<Relation>, name: &Label, value: Shape) -> Resu
         return Err(Refusal::WrongKind);
     }
     if relation.is_spent() {
-        return Err(Refusal::NotBuilt);
+        return Err(Refusal::IdsSpent);
     }
     let id = relation.insert(value)?;
     Ok(Reply::Id(id))
@@ -67,10 +67,10 @@ pub fn index(relations: &mut Vec<Relation>, column: &Column) -> Result<Reply, Re
     };
     let relation = &mut relations[at];
     if relation.column() != column.column.as_str() {
-        return Err(Refusal::NotBuilt);
+        return Err(Refusal::UnknownColumn);
     }
     if relation.is_indexed() {
-        return Err(Refusal::NotBuilt);
+        return Err(Refusal::IndexThere);
     }
     relation.index();
     Ok(Reply::Done)
@@ -106,10 +106,10 @@ fn rank(
     };
     let relation = &relations[at];
     if relation.column() != column.column.as_str() {
-        return Err(Refusal::NotBuilt);
+        return Err(Refusal::UnknownColumn);
     }
     if !relation.is_indexed() {
-        return Err(Refusal::NotBuilt);
+        return Err(Refusal::NoIndex);
     }
     let mut hits = relation.ranking(alloc, goal)?;
     let end = hits.len() < count as usize;

@@ -8,6 +8,7 @@
 #![tactic(auto)]
 
 mod answer;
+mod laws;
 mod open_line;
 mod print;
 mod ranking;
@@ -19,6 +20,7 @@ mod state;
 mod status;
 mod write_all;
 
+pub use laws::limits_of_a_run;
 pub use reply::{Hits, Reply};
 pub use script_run::run;
 pub use status::Status;
