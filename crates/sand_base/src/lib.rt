@@ -1,11 +1,12 @@
 //! The plain types that every layer of SAND shares, and the two streams that a run reads and writes.
 //!
-//! Points of the plane, shapes, names, refusals, and the traits `Source` and `Sink` with their
-//! implementations in memory. Nothing here computes an answer. Above: all other crates. Below: std.
-//! Contracts see a `Label` as the list of its bytes, a `Source` by the bytes that it has left, and a `Sink`
-//! by a relation to the bytes that it took. A stream in memory is the record of all that decides its next
-//! call, so a list of failing calls (fault injection) makes any run of faults, and makes it again.
-//! Read `specs/Faults.antt` first: it says when a stream may fail. Then `specs/Calls.antt`.
+//! Points of the plane, shapes, values, rows, names, visits, refusals, and the traits `Source` and `Sink` with
+//! their implementations in memory. Nothing here computes an answer. Above: all other crates. Below: std.
+//! Contracts see plain data: a `Label` as the list of its bytes, a `Ring` as that of its vertices, a `Source` by the
+//! bytes that it has left, and a `Sink` by a relation to the bytes that it took. A stream in memory is the record
+//! of all that decides its next call, so a list of failing calls (fault injection) makes any run of faults, and
+//! makes it again. Read `specs/Grid.antt`, `specs/Plane.antt` and `specs/InRange.antt` first: the plane and what is in
+//! range. Then `specs/Faults.antt`, which says when a stream may fail, and `specs/Calls.antt`.
 #![tactic(auto)]
 
 mod calls;
@@ -29,10 +30,10 @@ mod shape;
 mod sink;
 mod source;
 mod sure_source;
-mod value;
-mod visit;
 #[cfg(test)]
 mod tests;
+mod value;
+mod visit;
 
 pub use calls::Calls;
 pub use goal::Goal;
@@ -59,5 +60,5 @@ pub use value::Value;
 pub use visit::{Visit, VisitLog};
 
 /// The number of bits of a coordinate. Grid points of the plane have coordinates below 2 to this power, and
-/// corners of blocks reach it. No other place writes the number out.
+/// corners of blocks reach it.
 pub const COORDINATE_BITS: u32 = 16;

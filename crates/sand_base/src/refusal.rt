@@ -24,7 +24,9 @@ pub enum Refusal {
     /// The line has too many bytes.
     LineTooLong,
     /// The line is not of the grammar; the column, in bytes from 1, of its first fault.
-    Syntax { column: u32 },
+    Syntax {
+        column: u32,
+    },
     /// A number or a length of the line is out of its range.
     Range,
     /// No relation has the name.
@@ -44,7 +46,10 @@ pub enum Refusal {
     /// The relation has no row with the id.
     NoSuchId,
     /// A record of a data file is not of the schema: its number and its leftmost bad column, both from 1.
-    BadRecord { row: u32, column: u32 },
+    BadRecord {
+        row: u32,
+        column: u32,
+    },
     /// The data file has too many bytes.
     FileTooLong,
     /// The row's encoding has too many bytes.

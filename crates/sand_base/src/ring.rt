@@ -7,6 +7,7 @@ use std::marker::Model;
 
 /// The fewest and the most vertices of a ring.
 pub const FEWEST_CORNERS: usize = 3;
+
 pub const MOST_CORNERS: usize = 64;
 
 /// The border of a polygon: 3 to 64 grid points, each joined to the next and the last to the first. It may
