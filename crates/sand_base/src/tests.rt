@@ -97,7 +97,8 @@ fn names_and_shapes_are_copied_where_memory_is_left(rt: HostRuntime) -> Result<(
         panic!(rt; "three grid points are a ring");
     };
     let row = Row::new(vec![in alloc; Value::Text(label), Value::Shape(Shape::Polygon(ring))]?);
-    let [Value::Text(name), Value::Shape(Shape::Polygon(copied))] = row.copy(alloc)?.values() else {
+    let copy = row.copy(alloc)?;
+    let [Value::Text(name), Value::Shape(Shape::Polygon(copied))] = copy.values() else {
         panic!(rt; "the copy has a text and a polygon");
     };
     assert_eq!(rt; name.as_str(), "north");
