@@ -219,7 +219,10 @@ fn no_more_than_64_relations_are_made(rt: HostRuntime) -> Result<(), Fail> {
     output.push_str("refused 12 TooManyRelations\nrefused 11 NameTaken\n")?;
     let mut source = MemSource::new(alloc, script.into_bytes(), 4096, Vec::new(alloc));
     let mut sink = MemSink::new(alloc, 4096, Vec::new(alloc))?;
-    assert_eq!(rt; run(alloc, &[], &mut source, &mut sink), Status::SomeRefused);
+    assert_eq!(rt;
+        run(alloc, &[], &mut source, &mut sink),
+        Status::SomeRefused
+    );
     assert_eq!(rt; sink.bytes(), output.as_bytes());
     Ok(())
 }
@@ -273,12 +276,7 @@ fn broken(
 }
 
 // The run with one failing call ends with the status and has written this many bytes of the undisturbed text.
-fn breaks_after(
-    rt: &impl Abort,
-    broken: (MemSink, Status),
-    status: Status,
-    length: usize,
-) {
+fn breaks_after(rt: &impl Abort, broken: (MemSink, Status), status: Status, length: usize) {
     let (sink, ended) = broken;
     assert_eq!(rt; ended, status, "after {length} bytes");
     assert!(rt; REFUSED_LAST_TEXT.as_bytes().starts_with(sink.bytes()));
@@ -299,7 +297,16 @@ fn a_read_that_fails_ends_the_run_where_it_stands(rt: HostRuntime) -> Result<(),
 #[test]
 fn a_write_that_fails_ends_the_run_where_it_stands(rt: HostRuntime) -> Result<(), Fail> {
     // (eight lines, a write each)
-    for (call, length) in [(1, 0), (2, 3), (3, 6), (4, 11), (5, 16), (6, 20), (7, 25), (8, 29)] {
+    for (call, length) in [
+        (1, 0),
+        (2, 3),
+        (3, 6),
+        (4, 11),
+        (5, 16),
+        (6, 20),
+        (7, 25),
+        (8, 29),
+    ] {
         let run = broken(rt.alloc(), &[], &[call])?;
         breaks_after(&rt, run, Status::WriteFault, length);
     }
