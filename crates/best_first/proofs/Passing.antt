@@ -1,0 +1,100 @@
+-- What calls leave to the next one: the pages, the causes of refusals, and where a search stands.
+use Rattle.std.proofs.Common.{◌≡◌, List, ◌++◌, Bool, false, Contains, Option, None, Some, IfSome, if◌then◌else◌, Err, ⊎_elim, refl, sym, ap, ap₂, ◌∙◌, subst, Ordering, Equal}
+use Rattle.std.specs.Cmp.{IsTotalOrder}
+use Rattle.sand_base.specs.declared.visit.Visit.{Visit}
+use Rattle.page_pool.specs.Disk.{PageMap}
+use Rattle.page_pool.specs.Pool.{PoolState}
+use Rattle.page_pool.specs.Desk.{DeskState}
+use Rattle.page_pool.specs.Reads.{IsRead}
+use Rattle.page_pool.specs.Causes.{HasPageCause}
+use Rattle.page_pool.specs.declared.fault.PageFault.{PageFault}
+use Rattle.page_pool.specs.declared.fault.PageFault.TheVariants.{Memory, Device, Damaged}
+use Rattle.rank_queue.specs.Least.{IsFirst}
+use Rattle.best_first.specs.declared.hit.Hit.{Hit}
+use Rattle.best_first.specs.declared.item.Item.{Item}
+use Rattle.best_first.specs.declared.item.Item.TheVariants.{Node, Rough, Row}
+use Rattle.best_first.specs.Item.{row_of}
+use Rattle.best_first.specs.Hierarchy.{Meaning}
+use Rattle.best_first.specs.Order.{item_cmp, item_total}
+use Rattle.best_first.specs.OrderLaws.{kind_cmp}
+use Rattle.best_first.specs.Frontier.{StandsOver}
+use Rattle.best_first.specs.Visits.{told_pages, SearchState, IsVisit, Goes, Fails}
+use Rattle.best_first.specs.Steps.{IsSettled}
+use Rattle.best_first.proofs.Bags.{none}
+use Rattle.best_first.proofs.Ranks.{alike_kind}
+use Rattle.best_first.proofs.Queues.{both_first}
+use Rattle.best_first.proofs.Journeys.{stays, goes_both, goes_fails}
+
+pub read_itself : (s : PoolState) → IsRead s s
+read_itself s = record { pages = refl; beginning = refl; dirty = refl; freed = refl; kept = refl; top = refl; spare = refl; told = refl; stored = refl; frames = refl }
+
+pub read_both : (a b c : PoolState) → IsRead a b → IsRead b c → IsRead a c
+read_both a b c p q = record {
+  pages = q.pages ∙ p.pages;
+  beginning = q.beginning ∙ p.beginning;
+  dirty = q.dirty ∙ p.dirty;
+  freed = q.freed ∙ p.freed;
+  kept = q.kept ∙ p.kept;
+  top = q.top ∙ p.top;
+  spare = q.spare ∙ p.spare;
+  told = q.told ∙ p.told;
+  stored = q.stored ∙ p.stored;
+  frames = q.frames ∙ p.frames;
+}
+
+pub told_read : (old new : DeskState) → IsRead old.pool new.pool → told_pages new ≡ told_pages old
+told_read old new r = ap₂ (λ (t : Bool) (p : PageMap). if t then Some p else None) r.told r.pages
+
+-- a refusal has its cause in the whole call where the calls before it were accepted
+pub cause_later : {T U : Type 0} (old mid new : PoolState) (fault : PageFault) → mid.disk.faults ≡ old.disk.faults → HasPageCause {T = T} mid new (Err fault) → HasPageCause {T = U} old new (Err fault)
+cause_later {T} {U} old mid new Memory e h = record { counted = h.counted ∙ e; damaged = h.damaged }
+cause_later {T} {U} old mid new Device e h = record { counted = h.counted ∙ ap Rattle.sand_base.specs.Calls.next_count e; damaged = h.damaged }
+cause_later {T} {U} old mid new (Damaged page kept read) e h = record { counted = h.counted ∙ e; damaged = h.damaged }
+
+pub all_over : (pages : Option PageMap) (C : PageMap → Type 0) → ((p : PageMap) → C p) → IfSome pages C
+all_over None C f = tt
+all_over (Some p) C f = f p
+
+visit_kind : {N : Type 0} (cmp : N → N → Ordering) (front : Item N) (hit : Hit) → IsVisit front → kind_cmp cmp front (row_of hit) ≡ Equal → ⊥
+visit_kind cmp (Node gap node) hit v e = cc
+visit_kind cmp (Rough gap l r) hit v e = cc
+visit_kind cmp (Row gap l r) hit v e = v
+
+-- where a node or a rough object is at the front, no row is
+pub not_settled : {N : Type 0} {cmp : N → N → Ordering} → IsTotalOrder cmp → (front : Item N) (held : List (Item N)) → IsVisit front → IsFirst (item_cmp cmp) front held → IsSettled (item_cmp cmp) held → ⊥
+not_settled {N} {cmp} o front held visit first settled =
+    ⊎_elim
+    (λ empty. none front (subst (λ l. Contains l front) empty first.queued))
+    (λ (hit, row). visit_kind cmp front hit visit (alike_kind cmp front (row_of hit)
+    (both_first (item_total o) front (row_of hit)
+    (Rattle.std.proofs.lemmas.List.Elements.All-contains (λ y. Rattle.std.specs.Ordering.is_gt (item_cmp cmp front y) ≡ false) held (row_of hit) first.least row.queued)
+    (Rattle.std.proofs.lemmas.List.Elements.All-contains (λ y. Rattle.std.specs.Ordering.is_gt (item_cmp cmp (row_of hit) y) ≡ false) held front row.least first.queued))))
+    settled
+
+module _ {N : Type 0} (cmp : N → N → Ordering) (meaning : PageMap → Meaning N) (note : Item N → Visit) where
+  pub stays_over : (pages : Option PageMap) (s : SearchState N) → IfSome pages (λ p. Goes cmp (meaning p) note s s)
+  stays_over pages s = all_over pages (λ p. Goes cmp (meaning p) note s s) (λ p. stays (meaning p) note s)
+
+  -- a search stands where it went
+  pub stands_over : (pages : Option PageMap) (old new : SearchState N) → IfSome pages (λ p. StandsOver cmp (meaning p) old.held old.last) → IfSome pages (λ p. Goes cmp (meaning p) note old new) → IfSome pages (λ p. StandsOver cmp (meaning p) new.held new.last)
+  stands_over None old new s h = tt
+  stands_over (Some p) old new (laws, (done, s)) h = let makes = h done s in (laws, (done ++ makes.taken, makes.stands))
+
+  -- and after a refused step too
+  pub stands_cut : (pages : Option PageMap) (old new : SearchState N) → IfSome pages (λ p. StandsOver cmp (meaning p) old.held old.last) → IfSome pages (λ p. Fails cmp (meaning p) note old new) → IfSome pages (λ p. StandsOver cmp (meaning p) new.held new.last)
+  stands_cut None old new s h = tt
+  stands_cut (Some p) old new (laws, (done, s)) h = let cut = h done s in (laws, (done ++ cut.makes.taken, cut.makes.stands))
+
+  pub goes_over : (pages : Option PageMap) (old mid new : SearchState N) → IfSome pages (λ p. Goes cmp (meaning p) note old mid) → IfSome pages (λ p. Goes cmp (meaning p) note mid new) → IfSome pages (λ p. Goes cmp (meaning p) note old new)
+  goes_over None old mid new a b = tt
+  goes_over (Some p) old mid new a b = goes_both (meaning p) note old mid new a b
+
+  pub fails_over : (pages : Option PageMap) (old mid new : SearchState N) → IfSome pages (λ p. Goes cmp (meaning p) note old mid) → IfSome pages (λ p. Fails cmp (meaning p) note mid new) → IfSome pages (λ p. Fails cmp (meaning p) note old new)
+  fails_over None old mid new a b = tt
+  fails_over (Some p) old mid new a b = goes_fails (meaning p) note old mid new a b
+
+-- a step of a loop over a search: it stands, over the desk as it is now, and its number fell
+pub row_goes : {N H : Type 0} (cmp : N → N → Ordering) (meaning : H → PageMap → Meaning N) (old_desk new_desk : DeskState) (old_hierarchy new_hierarchy : H) (held : List (Item N)) (last : Option Hit) → IsRead old_desk.pool new_desk.pool → new_hierarchy ≡ old_hierarchy → IfSome (told_pages old_desk) (λ p. StandsOver cmp (meaning old_hierarchy p) held last) → IfSome (told_pages new_desk) (λ p. StandsOver cmp (meaning new_hierarchy p) held last)
+row_goes cmp meaning old_desk new_desk old_hierarchy new_hierarchy held last read same stands =
+    subst (λ t. IfSome t (λ p. StandsOver cmp (meaning new_hierarchy p) held last)) (sym (told_read old_desk new_desk read))
+    (subst (λ h. IfSome (told_pages old_desk) (λ p. StandsOver cmp (meaning h p) held last)) (sym same) stands)

@@ -1,0 +1,22 @@
+use Rattle.std.proofs.Common.{◌≡◌, ◌≤◌, IfSome}
+use Rattle.page_pool.specs.Reads.{IsRead}
+use Rattle.best_first.specs.Order.{item_cmp}
+use Rattle.best_first.specs.Frontier.{StandsOver}
+use Rattle.best_first.specs.Visits.{told_pages, state, Goes}
+use Rattle.best_first.specs.Steps.{steps, IsSettled}
+use Rattle.best_first.proofs.settle.settle.Given as goal
+
+-- the search stands, more was taken since the beginning, and nothing changed where the front was settled then
+abbrev pub invariant-steps : goal.invariant-steps
+invariant-steps g l = record {
+  read : IsRead l.fn.desk.pool l.desk.pool;
+  faults : l.desk.pool.disk.faults ≡ l.fn.desk.pool.disk.faults;
+  last : l.frontier.last ≡ l.fn.frontier.last;
+  falls : steps (g.H.Hierarchy.weight l.hierarchy) (g.Q.Queue.held l.frontier.queue) ≤ steps (g.H.Hierarchy.weight l.hierarchy) (g.Q.Queue.held l.fn.frontier.queue);
+  stands : IfSome (told_pages l.desk) (λ p. StandsOver g.H.Node.Ord.cmp (g.H.Hierarchy.meaning l.hierarchy p) (g.Q.Queue.held l.frontier.queue) l.frontier.last);
+  moves : IfSome (told_pages l.fn.desk) (λ p. Goes g.H.Node.Ord.cmp (g.H.Hierarchy.meaning l.hierarchy p) (g.H.Hierarchy.note l.hierarchy) (state (g.Q.Queue.held l.fn.frontier.queue) l.fn.frontier.last l.fn.frontier.counts l.fn.desk) (state (g.Q.Queue.held l.frontier.queue) l.frontier.last l.frontier.counts l.desk));
+  still : IsSettled (item_cmp g.H.Node.Ord.cmp) (g.Q.Queue.held l.fn.frontier.queue) → (l.desk ≡ l.fn.desk) × (g.Q.Queue.held l.frontier.queue ≡ g.Q.Queue.held l.fn.frontier.queue);
+}
+
+abbrev pub decreases-steps : goal.decreases-steps
+decreases-steps g l = steps (g.H.Hierarchy.weight l.hierarchy) (g.Q.Queue.held l.frontier.queue)

@@ -1,0 +1,11 @@
+pub mod Reach
+pub mod Item
+pub mod Hierarchy
+pub mod Answer
+pub mod Frontier
+pub mod Visits
+pub mod Steps
+pub mod Rows
+pub mod Order
+pub mod OrderLaws
+pub mod Inside

@@ -1,0 +1,77 @@
+ghost use Rattle.best_first.specs.declared.item.Item.{Item};
+ghost use Rattle.std.specs.Prelude.{[], ◌∷◌, ◌≡◌, ◌<◌, ◌≤◌, ◌^◌, ◌++◌, length, IfSome, IsPermutation};
+ghost use Rattle.best_first.specs.Reach.{within};
+ghost use Rattle.best_first.specs.Hierarchy.{kept};
+ghost use Rattle.best_first.specs.Inside.{AddsRow};
+
+use crate::{Hit, Item};
+use exact_frac::Frac;
+use rank_queue::Queue;
+
+// Whether the gap is within the ceiling.
+fn is_within(ceiling: Option<u32>, gap: &Frac) -> bool
+    requires { IfSome ceiling (λ most. most < 2 ^ 22) }
+    ensures { result ≡ within ceiling gap.now }
+{
+    match ceiling {
+        None => true,
+        Some(most) => gap.at_most_square(most),
+    }
+}
+
+// Queues each item that is within the ceiling. Places for all of them are reserved.
+pub fn push_within<N: Ord + Copy, Q: Queue<Item<N>>>(
+    queue: &mut Q,
+    ceiling: Option<u32>,
+    found: &[Item<N>],
+)
+    requires small { IfSome ceiling (λ most. most < 2 ^ 22) }
+    requires room { length found.now ≤ Q.spare queue.old }
+    ensures { IsPermutation (kept (within ceiling) found.now ++ Q.held queue.old) (Q.held queue.new) }
+{
+    for item in found {
+        if is_within(ceiling, &item.gap()) {
+            queue.push(*item);
+        }
+    }
+}
+
+// Queues the root of a hierarchy, where it is within the ceiling.
+pub fn push_root<N: Ord + Copy, Q: Queue<Item<N>>>(
+    queue: &mut Q,
+    ceiling: Option<u32>,
+    gap: Frac,
+    node: N,
+)
+    requires small { IfSome ceiling (λ most. most < 2 ^ 22) }
+    requires room { 1 ≤ Q.spare queue.old }
+    ensures { IsPermutation (kept (within ceiling) (Item.Node gap node ∷ []) ++ Q.held queue.old) (Q.held queue.new) }
+{
+    if is_within(ceiling, &gap) {
+        queue.push(Item::Node { gap, node });
+    }
+}
+
+// Queues the row whose geometry was fetched. Where its gap is below the one under which it stood as rough, it was
+// given already, since a leaf nearer by listed it too.
+pub fn push_row<N: Ord + Copy, Q: Queue<Item<N>>>(
+    queue: &mut Q,
+    ceiling: Option<u32>,
+    rough: &Frac,
+    hit: Hit,
+)
+    requires small { IfSome ceiling (λ most. most < 2 ^ 22) }
+    requires room { 1 ≤ Q.spare queue.old }
+    ensures { AddsRow ceiling rough.now hit (Q.held queue.old) (Q.held queue.new) }
+{
+    if rough.compare(&hit.gap).is_gt() {
+        return;
+    }
+    if is_within(ceiling, &hit.gap) {
+        queue.push(Item::Row {
+            gap: hit.gap,
+            left: hit.left,
+            right: hit.right,
+        });
+    }
+}

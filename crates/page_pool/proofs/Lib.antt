@@ -1,0 +1,13 @@
+pub mod Maps
+pub mod Cached
+pub mod Overlay
+pub mod Counted
+pub mod Spare
+pub mod Changes
+pub mod Accounts
+pub mod Whole
+pub mod States
+pub mod Seen
+pub mod Loads
+pub mod Written
+pub mod WritesAdd

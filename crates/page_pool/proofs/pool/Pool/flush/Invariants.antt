@@ -1,0 +1,15 @@
+use Rattle.std.proofs.Common.{◌≡◌, None}
+use Rattle.page_pool.specs.Commands.{Writes, waiting_count}
+use Rattle.page_pool.proofs.pool.Pool.flush.Given as goal
+
+-- what was written so far, with no fault
+abbrev pub invariant-waiting : goal.invariant-waiting
+invariant-waiting g l = record {
+  writes : Writes l.fn.self l.self;
+  closed : l.self.beginning ≡ None;
+  faults : l.self.disk.faults ≡ l.fn.self.disk.faults;
+}
+
+-- fewer wait each time
+abbrev pub decreases-waiting : goal.decreases-waiting
+decreases-waiting g l = waiting_count l.self

@@ -1,0 +1,55 @@
+use Rattle.std.proofs.Common.{◌≡◌, ◌≢◌, None, Ok, Err, refl, sym, ap, subst, ◌∙◌, false}
+use Rattle.std.specs.FinMap as map
+use Rattle.std.proofs.lemmas.Result.{err_from_is_err_and}
+use Rattle.page_pool.specs.declared.fault.PageFault.TheVariants.{Memory, Damaged}
+use Rattle.sha2.specs.Sha256.{sha256}
+use Rattle.page_pool.specs.Disk.{DiskView}
+use Rattle.page_pool.specs.Causes.{page_fault}
+use Rattle.page_pool.specs.Inside.{state_of}
+use Rattle.page_pool.specs.Reads.{Gets}
+use Rattle.page_pool.proofs.Loads.{gets_state, gets_refused, damage_untold, bytes_differ, not_there}
+use Rattle.page_pool.proofs.pool.Pool.load.Goals as goal
+
+-- the disk refused
+pub returns-in_err-page : goal.returns-in_err-page
+returns-in_err-page g c =
+    let disk : DiskView = g.D.Disk.seen c.self.inside.disk in
+    let disk' : DiskView = g.D.Disk.seen c.read_fresh.new.disk in
+    let p = err_from_is_err_and c.from_residual.result c.from_residual.ensures.1 in
+    rw (p.1, p.2)
+    (subst (λ old. Gets old (state_of disk' c.self.inside.digests c.self.inside.staged c.touch.new.self c.self.inside.numbers c.self.inside.is_open c.saturating_add-self-inside.result) c.args.n (Err (page_fault c.in_err-page.field-0.0))) c.self.view_is
+    (gets_refused disk disk' c.self.inside.digests c.self.inside.staged c.self.inside.frames c.touch.new.self c.self.inside.numbers c.self.inside.is_open c.self.inside.gets c.saturating_add-self-inside.result c.args.n c.in_err-page.field-0.0
+    c.in_err-page.ensures.told c.in_err-page.ensures.pages c.touch.ensures.most c.saturating_add-self-inside.ensures c.in_err-page.ensures.counted))
+
+-- the page has another digest than the kept one
+pub returns-then-ne : goal.returns-then-ne
+returns-then-ne g c =
+    let disk : DiskView = g.D.Disk.seen c.self.inside.disk in
+    let disk' : DiskView = g.D.Disk.seen c.read_fresh.new.disk in
+    let none : map.get c.self.inside.staged.changes c.args.n ≡ None = sym c.get.ensures ∙ not_there c.get.result (sym c.is_some.ensures ∙ c.if-is_some.false) in
+    let differ : c.in-Some.kept.now ≢ c.digest-read.result = bytes_differ c.digest-read.result c.in-Some.kept.now (sym c.ne.ensures ∙ c.if-ne.true) in
+    let untold : disk.told ≡ false = damage_untold disk c.self.inside.digests c.self.inside.staged.changes c.self.inside.frames c.self.inside.numbers c.self.inside.is_open c.args.n c.in_ok-page.page c.in-Some.kept.now c.digest-read.result
+    c.self.invariant none (sym c.in-Some.ensures) c.in_ok-page.ensures.value c.digest-read.ensures differ in
+    subst (λ old. Gets old (state_of disk' c.self.inside.digests c.self.inside.staged c.touch.new.self c.self.inside.numbers c.self.inside.is_open c.saturating_add-self-inside.result) c.args.n (Err (Damaged c.args.n c.in-Some.kept.now c.digest-read.result))) c.self.view_is
+    (gets_state disk disk' c.self.inside.digests c.self.inside.staged c.self.inside.frames c.touch.new.self c.self.inside.numbers c.self.inside.is_open c.self.inside.gets c.saturating_add-self-inside.result c.args.n (Err (Damaged c.args.n c.in-Some.kept.now c.digest-read.result))
+    c.in_ok-page.ensures.told c.in_ok-page.ensures.pages c.touch.ensures.most c.saturating_add-self-inside.ensures c.in_ok-page.ensures.counted
+    record { kept_is = sym c.in-Some.ensures; read_is = c.digest-read.ensures ∙ ap sha256 (sym c.in_ok-page.ensures.given); differ = differ; untold = c.in_ok-page.ensures.told ∙ untold } refl)
+
+-- memory for the frame was refused
+pub returns-in_err-put : goal.returns-in_err-put
+returns-in_err-put g c =
+    let disk : DiskView = g.D.Disk.seen c.self.inside.disk in
+    let disk' : DiskView = g.D.Disk.seen c.read_fresh.new.disk in
+    let p = err_from_is_err_and c.from_residual-in_err-put.result c.from_residual-in_err-put.ensures.1 in
+    rw (p.1, p.2)
+    (subst (λ old. Gets old (state_of disk' c.self.inside.digests c.self.inside.staged c.put.new.self c.self.inside.numbers c.self.inside.is_open c.saturating_add-self-inside.result) c.args.n (Err Memory)) c.self.view_is
+    (gets_state disk disk' c.self.inside.digests c.self.inside.staged c.self.inside.frames c.put.new.self c.self.inside.numbers c.self.inside.is_open c.self.inside.gets c.saturating_add-self-inside.result c.args.n (Err Memory)
+    c.in_ok-page.ensures.told c.in_ok-page.ensures.pages (c.put.ensures.most ∙ c.touch.ensures.most) c.saturating_add-self-inside.ensures c.in_ok-page.ensures.counted tt tt))
+
+pub returns : goal.returns
+returns g c =
+    let disk : DiskView = g.D.Disk.seen c.self.inside.disk in
+    let disk' : DiskView = g.D.Disk.seen c.read_fresh.new.disk in
+    subst (λ old. Gets old (state_of disk' c.self.inside.digests c.self.inside.staged c.put.new.self c.self.inside.numbers c.self.inside.is_open c.saturating_add-self-inside.result) c.args.n (Ok tt)) c.self.view_is
+    (gets_state disk disk' c.self.inside.digests c.self.inside.staged c.self.inside.frames c.put.new.self c.self.inside.numbers c.self.inside.is_open c.self.inside.gets c.saturating_add-self-inside.result c.args.n (Ok tt)
+    c.in_ok-page.ensures.told c.in_ok-page.ensures.pages (c.put.ensures.most ∙ c.touch.ensures.most) c.saturating_add-self-inside.ensures c.in_ok-page.ensures.counted tt tt)

@@ -1,0 +1,153 @@
+-- How a pool's parts make up what contracts see of it. (For proofs; no clause above speaks of it.)
+use Rattle.std.specs.Prelude.{◌≡◌, ℕ, ◌+◌, ◌-◌, ◌^◌, ◌≤◌, List, [], ◌∷◌, length, slice_get, Bool, true, false, cond, ◌||◌, nat_eq, nat_lt, IsTrue, Option, None, Some, ◌⊎◌, refl}
+use Rattle.std.specs.FinMap as map
+use Rattle.std.specs.FinSet as set
+use Rattle.std.specs.Ordering.{nat_cmp}
+use Rattle.std.specs.Coded.{Coded, code_by, coded×, coded_ℕ, coded_list, coded_option, coded_bool}
+use Rattle.sha2.specs.Sha256.{sha256}
+use Rattle.page_pool.specs.Disk.{PageMap, DigestMap, NumberSet, DiskView}
+use Rattle.page_pool.specs.Pool.{PoolState}
+
+-- what the open command, or those since the last writing, did to each page: its bytes, or None where it was freed
+abbrev pub ChangeMap : Type 0
+ChangeMap = map.FinMap nat_cmp (Option (List ℕ))
+
+-- the staged changes, and how many of them are pages
+pub record StagedState : Type 0 where
+  pub changes : ChangeMap
+  pub count : ℕ
+
+-- the clean pages, how many they are, and how many they may be
+pub record FramesState : Type 0 where
+  pub pages : PageMap
+  pub count : ℕ
+  pub most : ℕ
+
+-- the number that is given next, if any is left; the greatest given and the freed ones that are given again, now and at the command's beginning
+pub record NumbersState : Type 0 where
+  pub next : Option ℕ
+  pub top : ℕ
+  pub spare : NumberSet
+  pub past_top : ℕ
+  pub past_spare : NumberSet
+
+abbrev pub page_map_code : Coded PageMap
+page_map_code = map.code coded_ℕ (coded_list coded_ℕ)
+
+abbrev pub number_set_code : Coded NumberSet
+number_set_code = set.code coded_ℕ
+
+abbrev pub disk_code : Coded DiskView
+disk_code = code_by (Bool × (PageMap × (List ℕ × ℕ))) (coded× coded_bool (coded× page_map_code (coded× (coded_list coded_ℕ) coded_ℕ)))
+    (λ d. (d.told, (d.pages, (d.given, d.faults)))) (λ p. record { told = p.0; pages = p.1.0; given = p.1.1.0; faults = p.1.1.1 }) (λ _. refl)
+
+abbrev pub staged_code : Coded StagedState
+staged_code = code_by (ChangeMap × ℕ) (coded× (map.code coded_ℕ (coded_option (coded_list coded_ℕ))) coded_ℕ) (λ s. (s.changes, s.count)) (λ p. record { changes = p.0; count = p.1 }) (λ _. refl)
+
+abbrev pub frames_code : Coded FramesState
+frames_code = code_by (PageMap × (ℕ × ℕ)) (coded× page_map_code (coded× coded_ℕ coded_ℕ)) (λ s. (s.pages, (s.count, s.most))) (λ p. record { pages = p.0; count = p.1.0; most = p.1.1 }) (λ _. refl)
+
+abbrev pub numbers_code : Coded NumbersState
+numbers_code = code_by (Option ℕ × (ℕ × (NumberSet × (ℕ × NumberSet)))) (coded× (coded_option coded_ℕ) (coded× coded_ℕ (coded× number_set_code (coded× coded_ℕ number_set_code))))
+    (λ s. (s.next, (s.top, (s.spare, (s.past_top, s.past_spare))))) (λ p. record { next = p.0; top = p.1.0; spare = p.1.1.0; past_top = p.1.1.1.0; past_spare = p.1.1.1.1 }) (λ _. refl)
+
+-- the last of the freed numbers, and where there is none the next one above, if it is below 2 ^ 64
+abbrev pub next_number : List ℕ → ℕ → Option ℕ
+next_number spare top = cond (nat_eq (length spare) 0) (cond (nat_lt (top + 1) (2 ^ 64)) (Some (top + 1)) None) (slice_get spare (length spare - 1))
+
+-- Number n was taken: the next one above all where no freed one waits, and else a freed one.
+pub record Takes (old new : NumbersState) (n : ℕ) : Type 0 where
+  pub past_top : new.past_top ≡ old.past_top
+  pub past_spare : new.past_spare ≡ old.past_spare
+  pub again : ((n ≡ old.top + 1) × (new.top ≡ n) × (old.spare ≡ set.empty) × (new.spare ≡ set.empty)) ⊎ (IsTrue (set.contains old.spare n) × (new.spare ≡ set.remove old.spare n) × (new.top ≡ old.top))
+
+-- The books are in order: the numbers up to the greatest are those in use and those that are free, and none is both.
+pub record IsAccount (in_use : ℕ → Bool) (top : ℕ) (spare : NumberSet) : Type 0 where
+  pub all : (n : ℕ) → 1 ≤ n → n ≤ top → IsTrue (in_use n) ⊎ IsTrue (set.contains spare n)
+  pub positive : (n : ℕ) → IsTrue (in_use n) → 1 ≤ n
+  pub given : (n : ℕ) → IsTrue (in_use n) → n ≤ top
+  pub apart : (n : ℕ) → IsTrue (in_use n) → set.contains spare n ≡ false
+  pub spare_positive : (n : ℕ) → IsTrue (set.contains spare n) → 1 ≤ n
+  pub spare_given : (n : ℕ) → IsTrue (set.contains spare n) → n ≤ top
+
+-- the number has a staged change or a kept digest
+abbrev pub is_used : ChangeMap → DigestMap → ℕ → Bool
+is_used changes kept n = map.contains_key changes n || map.contains_key kept n
+
+abbrev pub pool_code : Coded PoolState
+pool_code = code_by
+    (PageMap × (Option PageMap × (NumberSet × (NumberSet × (DigestMap × (ℕ × (NumberSet × (DiskView × (ℕ × (ℕ × ℕ))))))))))
+    (coded× page_map_code (coded× (coded_option page_map_code) (coded× number_set_code (coded× number_set_code (coded× page_map_code (coded× coded_ℕ (coded× number_set_code (coded× disk_code (coded× coded_ℕ (coded× coded_ℕ coded_ℕ))))))))))
+    (λ s. (s.pages, (s.beginning, (s.dirty, (s.freed, (s.kept, (s.top, (s.spare, (s.disk, (s.frames, (s.held, s.gets)))))))))))
+    (λ p. record {
+      pages = p.0;
+      beginning = p.1.0;
+      dirty = p.1.1.0;
+      freed = p.1.1.1.0;
+      kept = p.1.1.1.1.0;
+      top = p.1.1.1.1.1.0;
+      spare = p.1.1.1.1.1.1.0;
+      disk = p.1.1.1.1.1.1.1.0;
+      frames = p.1.1.1.1.1.1.1.1.0;
+      held = p.1.1.1.1.1.1.1.1.1.0;
+      gets = p.1.1.1.1.1.1.1.1.1.1;
+    })
+    (λ _. refl)
+
+-- the pages after these changes
+abbrev pub overlay : List (ℕ × Option (List ℕ)) → PageMap → PageMap
+overlay [] pages = pages
+overlay ((n, None) ∷ changes) pages = map.remove (overlay changes pages) n
+overlay ((n, Some page) ∷ changes) pages = map.insert (overlay changes pages) n page
+
+-- the numbers of the pages among these changes
+abbrev pub written : List (ℕ × Option (List ℕ)) → NumberSet
+written [] = set.empty
+written ((n, None) ∷ changes) = set.remove (written changes) n
+written ((n, Some page) ∷ changes) = set.insert (written changes) n
+
+-- the numbers that these changes freed
+abbrev pub dropped : List (ℕ × Option (List ℕ)) → NumberSet
+dropped [] = set.empty
+dropped ((n, None) ∷ changes) = set.insert (dropped changes) n
+dropped ((n, Some page) ∷ changes) = set.remove (dropped changes) n
+
+-- the pages that the disk has: those with a kept digest, or the digests themselves where it doesn't tell
+unfoldable pub stored : DiskView → DigestMap → PageMap
+stored disk kept = cond disk.told (map.retain_keys disk.pages (λ n. map.contains_key kept n)) kept
+
+-- the live pages, the dirty ones and the freed numbers of a map of changes
+unfoldable pub overlaid : ChangeMap → PageMap → PageMap
+overlaid changes pages = overlay (map.entries changes) pages
+
+unfoldable pub dirty_of : ChangeMap → NumberSet
+dirty_of changes = written (map.entries changes)
+
+unfoldable pub freed_of : ChangeMap → NumberSet
+freed_of changes = dropped (map.entries changes)
+
+-- what contracts see of a pool's parts
+abbrev pub state_of : DiskView → DigestMap → StagedState → FramesState → NumbersState → Bool → ℕ → PoolState
+state_of disk kept staged frames numbers is_open gets = record {
+  pages = overlaid staged.changes (stored disk kept);
+  beginning = cond is_open (Some (stored disk kept)) None;
+  dirty = dirty_of staged.changes;
+  freed = freed_of staged.changes;
+  kept = kept;
+  top = numbers.top;
+  spare = numbers.spare;
+  disk = disk;
+  frames = frames.most;
+  held = frames.count + staged.count;
+  gets = gets;
+}
+
+-- What holds of a pool's parts. A kept digest is that of the disk's page, unless the page waits to be written and no command is open, since a failed writing may have spoiled it.
+-- A clean page has the kept digest, and is the disk's. No number is lost, now and at the beginning of the open command.
+pub record IsWhole (disk : DiskView) (kept : DigestMap) (changes : ChangeMap) (frames : FramesState) (numbers : NumbersState) (is_open : Bool) : Type 0 where
+  pub stands : IsTrue disk.told → (n : ℕ) (digest : List ℕ) → map.get kept n ≡ Some digest → (is_open ≡ false → map.get changes n ≡ None)
+      → (page : List ℕ) × ((map.get disk.pages n ≡ Some page) × (digest ≡ sha256 page))
+  pub digested : (n : ℕ) (page : List ℕ) → map.get frames.pages n ≡ Some page → map.get kept n ≡ Some (sha256 page)
+  pub same : IsTrue disk.told → (n : ℕ) (page : List ℕ) → map.get frames.pages n ≡ Some page → map.get disk.pages n ≡ Some page
+  pub numbers_now : IsAccount (is_used changes kept) numbers.top numbers.spare
+  pub numbers_before : is_open ≡ true → IsAccount (λ n. map.contains_key kept n) numbers.past_top numbers.past_spare

@@ -1,0 +1,10 @@
+pub mod Disk
+pub mod Pool
+pub mod Causes
+pub mod Reads
+pub mod Commands
+pub mod Steps
+pub mod Desk
+pub mod MemDisk
+pub mod Inside
+pub mod Codes

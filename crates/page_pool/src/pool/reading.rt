@@ -1,0 +1,89 @@
+ghost use Rattle.std.specs.Prelude.{◌≡◌, IfSome, IfOk};
+ghost use Rattle.std.specs.Borrow.{sem};
+ghost use Rattle.std.specs.Io.BufRead.{Rests};
+ghost use Rattle.std.specs.FinMap as map;
+ghost use Rattle.page_pool.specs.Pool.{IsLive, IsPage};
+ghost use Rattle.page_pool.specs.Reads.{Gets};
+
+use crate::page::{Page, read_fresh};
+use crate::{Disk, PageFault, Pages, Pool};
+
+impl<D: Disk> Pool<D> {
+    ghost use Rattle.page_pool.specs.contracts.pool.Pool.{the_row};
+
+    /// Page `n`: one get. Nothing changes but the frames and the counts, whatever the answer.
+    pub fn get(&mut self, n: u64) -> Result<&[u8; 4096], PageFault>
+        requires { IsLive self.old n }
+        ensures value { IfOk result (λ page. IsPage self.old n page.now) }
+        ensures* after { sem 𝓛 (Rests (the_row D.row D.Disk) self.entry (λ new.
+            Gets self.old new n result)) }
+    {
+        match self.load(n) {
+            Ok(()) => {}
+            Err(why) => return Err(why),
+        }
+        match self.held_page(n) {
+            Some(page) => Ok(page),
+            None => Err(PageFault::Memory),
+        }
+    }
+
+    // One get: afterwards the page is staged or in a frame, if Ok came.
+    fn load(&mut self, n: u64) -> Result<(), PageFault>
+        requires { IsLive self.old n }
+        ensures { Gets self.old self.new n result }
+    {
+        self.gets = self.gets.saturating_add(1);
+        if self.staged.get(n).is_some() || self.frames.touch(n) {
+            return Ok(());
+        }
+        let Some(kept) = self.digests.get(n) else {
+            return Err(PageFault::Memory);
+        };
+        let page = read_fresh(self.alloc, &mut self.disk, n)?;
+        let read = page.digest();
+        if read != *kept {
+            return Err(PageFault::Damaged {
+                page: n,
+                kept: *kept,
+                read,
+            });
+        }
+        self.frames.put(n, page)?;
+        Ok(())
+    }
+
+    // The page, where it is staged or in a frame.
+    fn held_page(&self, n: u64) -> Option<&[u8; 4096]>
+        requires { IsLive self.now n }
+        ensures { IfSome result (λ page. IsPage self.now n page.now) }
+    {
+        match self.staged.get(n) {
+            Some(Some(page)) => Some(page.bytes()),
+            Some(None) => None,
+            None => match self.frames.get(n) {
+                Some(page) => Some(page.bytes()),
+                None => None,
+            },
+        }
+    }
+}
+
+impl<D: Disk> Pages for Pool<D> {
+    ghost shown = { λ s. s };
+
+    fn page(&mut self, n: u64) -> Result<&[u8; 4096], PageFault> {
+        self.get(n)
+    }
+
+    fn is_live(&self, n: u64) -> bool {
+        match self.staged.get(n) {
+            Some(change) => change.is_some(),
+            None => self.digests.get(n).is_some(),
+        }
+    }
+
+    fn gets(&self) -> u64 {
+        self.gets
+    }
+}

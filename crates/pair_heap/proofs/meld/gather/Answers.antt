@@ -1,0 +1,14 @@
+use Rattle.std.proofs.Common.{◌++◌}
+use Rattle.pair_heap.specs.Chain.{items}
+use Rattle.pair_heap.specs.Tree.{tree_items}
+use Rattle.pair_heap.proofs.MeldsKeepItems.{gathered}
+use Rattle.pair_heap.proofs.meld.gather.Goals as goal
+
+-- the next tree goes into the one in hand
+pub trees-preserved : goal.trees-preserved
+trees-preserved g c = record {
+  all = c.meld.ensures.tree;
+  rest = (rw c.in-Some.ensures at c.trees.invariant.rest).2;
+  kept = gathered (tree_items c.args.first ++ items c.args.trees.chain) (tree_items c.trees.all) (tree_items c.in-Some.next) (items c.in-Some.others.chain) (tree_items c.meld.new.one)
+      (rw c.in-Some.ensures at c.trees.invariant.kept) c.meld.ensures.items;
+}

@@ -1,0 +1,17 @@
+use Rattle.std.proofs.Common.{◌++◌, IsPermutation}
+use Rattle.pair_heap.specs.Chain.{items}
+use Rattle.pair_heap.specs.Heap.{IsHeap}
+use Rattle.pair_heap.specs.Tree.{IsTree, tree_items}
+use Rattle.pair_heap.proofs.Measures.{siblings}
+use Rattle.pair_heap.proofs.meld.gather.Given as goal
+
+-- the tree in hand and the trees that are left hold the items of all trees
+abbrev pub invariant-trees : goal.invariant-trees
+invariant-trees g l = record {
+  all : IsTree g.T.Ord.cmp l.all;
+  rest : IsHeap g.T.Ord.cmp l.rest.chain;
+  kept : IsPermutation (tree_items l.fn.first ++ items l.fn.trees.chain) (tree_items l.all ++ items l.rest.chain);
+}
+
+abbrev pub decreases-trees : goal.decreases-trees
+decreases-trees g l = siblings l.rest.chain

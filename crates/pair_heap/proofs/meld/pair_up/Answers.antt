@@ -1,0 +1,13 @@
+use Rattle.pair_heap.specs.Chain.{items}
+use Rattle.pair_heap.specs.Tree.{tree_items}
+use Rattle.pair_heap.proofs.MeldsKeepItems.{paired}
+use Rattle.pair_heap.proofs.meld.pair_up.Goals as goal
+
+-- the first two trees become one, which goes before the pairs
+pub pairs-preserved : goal.pairs-preserved
+pairs-preserved g c = record {
+  rest = (rw c.in-Some-first_of.ensures at (rw c.in-Some.ensures at c.pairs.invariant.rest).2).2;
+  pairs = rw c.before-pairs.ensures (c.meld.ensures.tree.least, c.meld.ensures.tree.heap, c.pairs.invariant.pairs);
+  kept = rw c.before-pairs.ensures (paired (items c.args.trees.chain) (tree_items c.in-Some.one) (tree_items c.in-Some-first_of.other) (items c.in-Some-first_of.others.chain) (items c.pairs.pairs.chain) (tree_items c.meld.new.one)
+      (rw (c.in-Some.ensures, c.in-Some-first_of.ensures) at c.pairs.invariant.kept) c.meld.ensures.items);
+}

@@ -1,0 +1,9 @@
+use Rattle.pair_heap.proofs.RootTaken.{taken_items, taken_least}
+use Rattle.pair_heap.proofs.root.take_least.Goals as goal
+
+pub returns-clause-items : goal.returns-clause-items
+returns-clause-items g c = rw (← c.in-Some.ensures.value, c.replace-2.ensures.after) (taken_items c.in-Some.tree c.join.result c.join.ensures.items)
+
+-- the tree was in order
+pub returns-clause-least : goal.returns-clause-least
+returns-clause-least g c = rw c.replace-2.ensures.after (taken_least g.T.Ord.cmp c.in-Some.tree c.join.result (rw (← c.in-Some.ensures.value) at c.requires) c.join.ensures.items)

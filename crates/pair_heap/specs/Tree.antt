@@ -1,0 +1,26 @@
+-- A tree in hand, as its items and its order.
+use Rattle.std.specs.Prelude.{List, [], ◌∷◌, Option, Some, None}
+use Rattle.std.specs.declared.cmp.Ordering.{Ordering}
+use Rattle.pair_heap.specs.declared.tree.Tree.{Tree}
+use Rattle.pair_heap.specs.Least.{IsLeast}
+use Rattle.pair_heap.specs.Chain.{items}
+use Rattle.pair_heap.specs.Heap.{IsHeap}
+
+-- the root's item and those below it
+abbrev pub tree_items : {X : Type 0} → Tree X → List X
+tree_items tree = tree.item ∷ items tree.kids.chain
+
+-- the root's item is the least, and the trees below are in heap order
+pub record IsTree {X : Type 0} (cmp : X → X → Ordering) (tree : Tree X) : Type 0 where
+  pub least : IsLeast cmp tree.item (items tree.kids.chain)
+  pub heap : IsHeap cmp tree.kids.chain
+
+-- the items of a heap's only tree, where it has one
+abbrev pub root_items : {X : Type 0} → Option (Tree X) → List X
+root_items None = []
+root_items (Some tree) = tree_items tree
+
+-- the tree is in order, where there is one
+abbrev pub IsRoot : {X : Type 0} → (X → X → Ordering) → Option (Tree X) → Type 0
+IsRoot cmp None = Unit {0}
+IsRoot cmp (Some tree) = IsTree cmp tree

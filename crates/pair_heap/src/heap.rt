@@ -1,0 +1,154 @@
+ghost use Rattle.std.specs.Prelude.{◌≡◌, ◌+◌, ◌<◌, ◌≤◌, [], ◌∷◌, length, OnOk, MatchOption, IsPermutation};
+ghost use Rattle.pair_heap.specs.Least.{IsFirst, IsLeast};
+
+use crate::release::{release, release_spares};
+use crate::root::{meld_in, take_least};
+use crate::spare::{Spares, put_spare, take_spare};
+use crate::tree::Tree;
+use crate::trees::Trees;
+use sand_base::NoMemory;
+use std::alloc::Global;
+use std::marker::Model;
+use std_alloc::room::Vacant;
+
+/// A priority queue that gives the least item first, as one tree in heap order (a pairing heap). A node never moves:
+/// growing copies no item, and a push in a spare block can't fail. Items that compare equal are all kept, in any order.
+pub struct PairHeap<T: Ord> {
+    root: Option<Tree<T>>,
+    spares: Spares<T>,
+    len: usize,
+    spare: usize,
+    alloc: Global,
+}
+
+impl<T: Ord> Model for PairHeap<T> {
+    ghost use Rattle.pair_heap.specs.Queued.{Queued};
+
+    ghost Value = { Queued T };
+
+    ghost use Rattle.pair_heap.specs.Tree.{root_items};
+    ghost use Rattle.pair_heap.specs.Sound.{IsSound};
+
+    ghost view = { λ h. record { items = root_items h.root; spare = h.spare } };
+
+    ghost invariant = { IsSound T.cmp };
+}
+
+impl<T: Ord + Drop> PairHeap<T> {
+    /// A heap with no item and no spare block. It takes no memory.
+    pub fn empty(alloc: Global) -> PairHeap<T>
+        ensures items { result.items ≡ [] }
+        ensures spare { result.spare ≡ 0 }
+    {
+        PairHeap {
+            root: None,
+            spares: Spares::none(),
+            len: 0,
+            spare: 0,
+            alloc,
+        }
+    }
+
+    /// Sees that there are so many spare blocks. The items stay as they are, and no spare block is lost, after a refusal too.
+    pub fn reserve(&mut self, count: usize) -> Result<(), NoMemory>
+        ensures items { self.new.items ≡ self.old.items }
+        ensures kept { self.old.spare ≤ self.new.spare }
+        ensures spare { OnOk result (count ≤ self.new.spare) }
+    {
+        while self.spare() < count {
+            self.add_spare()?;
+        }
+        Ok(())
+    }
+
+    // One spare block more.
+    fn add_spare(&mut self) -> Result<(), NoMemory>
+        ensures items { self.new.items ≡ self.old.items }
+        ensures kept { self.old.spare ≤ self.new.spare }
+        ensures spare { OnOk result (self.new.spare ≡ self.old.spare + 1) }
+    {
+        if self.spare >= usize::MAX - self.len {
+            return Err(NoMemory {});
+        }
+        let Ok(room) = Vacant::take(self.alloc) else {
+            return Err(NoMemory {});
+        };
+        put_spare(&mut self.spares, room, self.alloc);
+        self.spare += 1;
+        Ok(())
+    }
+
+    /// Adds an item in a spare block.
+    pub fn push(&mut self, item: T)
+        requires { 0 < self.old.spare }
+        ensures items { IsPermutation (item ∷ self.old.items) self.new.items }
+        ensures spare { self.new.spare + 1 ≡ self.old.spare }
+    {
+        let Some(room) = take_spare(&mut self.spares, self.alloc) else {
+            unreachable!();
+        };
+        let tree = Tree {
+            item,
+            room,
+            kids: Trees::end(),
+        };
+        meld_in(&mut self.root, tree, self.alloc);
+        self.spare -= 1;
+        self.len += 1;
+    }
+
+    /// The item at the root, which no other comes before; None exactly where there is none.
+    pub fn peek(&self) -> Option<&T>
+        ensures { MatchOption result (self.now.items ≡ []) (λ x. IsFirst T.cmp x.now self.now.items) }
+    {
+        match &self.root {
+            None => None,
+            Some(tree) => Some(&tree.item),
+        }
+    }
+
+    /// Takes an item that no other comes before, whose block is spare from then on; None exactly where there is none.
+    pub fn pop(&mut self) -> Option<T>
+        ensures items { MatchOption result ((self.old.items ≡ []) × (self.new.items ≡ [])) (λ x. IsPermutation self.old.items (x ∷ self.new.items)) }
+        ensures least { MatchOption result (self.old.items ≡ []) (λ x. IsLeast T.cmp x self.new.items) }
+        ensures spare { MatchOption result (self.new.spare ≡ self.old.spare) (λ _. self.new.spare ≡ self.old.spare + 1) }
+    {
+        let Some((item, room)) = take_least(&mut self.root, self.alloc) else {
+            return None;
+        };
+        put_spare(&mut self.spares, room, self.alloc);
+        self.len -= 1;
+        self.spare += 1;
+        Some(item)
+    }
+
+    /// The number of items.
+    pub fn len(&self) -> usize
+        ensures { result ≡ length self.now.items }
+    {
+        self.len
+    }
+
+    /// The number of spare blocks: so many pushes can't fail.
+    pub fn spare(&self) -> usize
+        ensures { result ≡ self.now.spare }
+    {
+        self.spare
+    }
+}
+
+impl<T: Ord + Drop> Drop for PairHeap<T> {
+    fn drop(self) {
+        let PairHeap {
+            root,
+            spares,
+            len: _,
+            spare: _,
+            alloc,
+        } = self;
+        if let Some(tree) = root {
+            release(tree.before(Trees::end()), alloc);
+        }
+        release_spares(spares, alloc);
+    }
+}

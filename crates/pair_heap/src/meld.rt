@@ -1,0 +1,78 @@
+ghost use Rattle.std.specs.Prelude.{◌≡◌, ◌++◌, MatchOption, IsPermutation};
+ghost use Rattle.pair_heap.specs.Chain.{end, items};
+ghost use Rattle.pair_heap.specs.Heap.{IsHeap};
+ghost use Rattle.pair_heap.specs.Tree.{IsTree, tree_items};
+
+use crate::tree::{Tree, first_of};
+use crate::trees::Trees;
+use std::alloc::Global;
+use std::mem::replace;
+
+// Melds the other tree into the one in place: the one of them whose item comes later becomes the other's first child.
+#[inline(always)]
+pub(crate) fn meld<T: Ord + Drop>(one: &mut Tree<T>, other: Tree<T>, alloc: Global)
+    requires one { IsTree T.cmp one.old }
+    requires other { IsTree T.cmp other }
+    ensures tree { IsTree T.cmp one.new }
+    ensures items { IsPermutation (tree_items one.old ++ tree_items other) (tree_items one.new) }
+{
+    if one.item.cmp(&other.item).is_gt() {
+        let below = replace(one, other);
+        one.adopt(below, alloc);
+    } else {
+        one.adopt(other, alloc);
+    }
+}
+
+// The first pass: each two neighbours become one tree, and the last of an odd row stays alone.
+#[inline]
+fn pair_up<T: Ord + Drop>(trees: Trees<T>, alloc: Global) -> Trees<T>
+    requires { IsHeap T.cmp trees.chain }
+    ensures heap { IsHeap T.cmp result.chain }
+    ensures items { IsPermutation (items trees.chain) (items result.chain) }
+{
+    let mut rest = trees;
+    let mut pairs = Trees::end();
+    'pairs: loop {
+        let Some((mut one, others)) = first_of(rest, alloc) else {
+            return pairs;
+        };
+        let Some((other, others)) = first_of(others, alloc) else {
+            return one.before(pairs);
+        };
+        rest = others;
+        meld(&mut one, other, alloc);
+        pairs = one.before(pairs);
+    }
+}
+
+// The second pass: all trees become one.
+#[inline]
+fn gather<T: Ord + Drop>(first: Tree<T>, trees: Trees<T>, alloc: Global) -> Tree<T>
+    requires first { IsTree T.cmp first }
+    requires trees { IsHeap T.cmp trees.chain }
+    ensures tree { IsTree T.cmp result }
+    ensures items { IsPermutation (tree_items first ++ items trees.chain) (tree_items result) }
+{
+    let mut all = first;
+    let mut rest = trees;
+    'trees: loop {
+        let Some((next, others)) = first_of(rest, alloc) else {
+            return all;
+        };
+        rest = others;
+        meld(&mut all, next, alloc);
+    }
+}
+
+// One tree of all trees of the chain, in two passes; None where there is none.
+pub(crate) fn join<T: Ord + Drop>(trees: Trees<T>, alloc: Global) -> Option<Tree<T>>
+    requires { IsHeap T.cmp trees.chain }
+    ensures tree { MatchOption result (trees.chain ≡ end) (λ t. IsTree T.cmp t) }
+    ensures items { MatchOption result (trees.chain ≡ end) (λ t. IsPermutation (items trees.chain) (tree_items t)) }
+{
+    let Some((first, rest)) = first_of(pair_up(trees, alloc), alloc) else {
+        return None;
+    };
+    Some(gather(first, rest, alloc))
+}

@@ -1,0 +1,89 @@
+-- Distances of grid points in the closed square are fractions that fit, and of two fractions there is a lesser one.
+use Rattle.std.proofs.Common.{inl, inr, ℕ, ◌*◌, ◌^◌, ◌<◌, ◌≤◌, ℤ, pos, ◌+ℤ◌, ◌-ℤ◌, ◌*ℤ◌, refl, lit≤, arith}
+use Rattle.std.proofs.Math.Nat.{mul-le-mul}
+use Rattle.std.proofs.lemmas.Bool.{cases_lt}
+use Rattle.std.proofs.lemmas.Int.{ints}
+use Rattle.std.specs.Int.RustNames.{unsigned_abs}
+use Rattle.exact_frac.specs.declared.TheConstants.{MAX_NUM, MAX_DEN}
+use Rattle.exact_frac.specs.declared.frac.Frac.{Frac}
+use Rattle.sand_base.specs.Grid.{IsCorner}
+use Rattle.sand_base.specs.declared.TheConstants.{COORDINATE_BITS}
+use Rattle.sand_base.specs.declared.point.Point.{Point}
+use Rattle.plane_geom.specs.Lesser.{IsLesser}
+use Rattle.plane_geom.specs.Vectors.{dot_of, cross_of}
+use Rattle.plane_geom.proofs.SignedWords.{product_short}
+
+-- the width of the closed square
+abbrev width : ℕ
+width = 2 ^ COORDINATE_BITS
+
+-- a step inside it is at most as long as it is wide
+step_short : (a b m : ℕ) → a ≤ m → b ≤ m → unsigned_abs (pos b -ℤ pos a) ≤ m
+step_short a b m ha hb = omega (arith, ints)
+
+-- sums and differences of two short numbers
+sum_short : (a b : ℤ) (m : ℕ) → unsigned_abs a ≤ m → unsigned_abs b ≤ m → unsigned_abs (a +ℤ b) ≤ 2 * m
+sum_short a b m ha hb = omega (arith, ints)
+
+difference_short : (a b : ℤ) (m : ℕ) → unsigned_abs a ≤ m → unsigned_abs b ≤ m → unsigned_abs (a -ℤ b) ≤ 2 * m
+difference_short a b m ha hb = omega (arith, ints)
+
+-- twice the square of the width is no more than a denominator may be
+room : 2 * (width * width) ≤ MAX_DEN
+room = lit≤ tt
+
+-- dot products fit a denominator
+pub dot_short : (o a b : Point) → IsCorner o → IsCorner a → IsCorner b → unsigned_abs (dot_of o a b) ≤ MAX_DEN
+dot_short o a b ho ha hb =
+    through _ _ _
+    (sum_short ((pos a.x -ℤ pos o.x) *ℤ (pos b.x -ℤ pos o.x)) ((pos a.y -ℤ pos o.y) *ℤ (pos b.y -ℤ pos o.y)) (width * width)
+    (product_short (pos a.x -ℤ pos o.x) (pos b.x -ℤ pos o.x) width (step_short o.x a.x width ho.x ha.x) (step_short o.x b.x width ho.x hb.x))
+    (product_short (pos a.y -ℤ pos o.y) (pos b.y -ℤ pos o.y) width (step_short o.y a.y width ho.y ha.y) (step_short o.y b.y width ho.y hb.y)))
+    room
+  where
+    through : (p q r : ℕ) → p ≤ q → q ≤ r → p ≤ r
+    through p q r h k = omega arith
+
+-- and so do cross products
+pub cross_short : (o a b : Point) → IsCorner o → IsCorner a → IsCorner b → unsigned_abs (cross_of o a b) ≤ MAX_DEN
+cross_short o a b ho ha hb =
+    through _ _ _
+    (difference_short ((pos a.x -ℤ pos o.x) *ℤ (pos b.y -ℤ pos o.y)) ((pos a.y -ℤ pos o.y) *ℤ (pos b.x -ℤ pos o.x)) (width * width)
+    (product_short (pos a.x -ℤ pos o.x) (pos b.y -ℤ pos o.y) width (step_short o.x a.x width ho.x ha.x) (step_short o.y b.y width ho.y hb.y))
+    (product_short (pos a.y -ℤ pos o.y) (pos b.x -ℤ pos o.x) width (step_short o.y a.y width ho.y ha.y) (step_short o.x b.x width ho.x hb.x)))
+    room
+  where
+    through : (p q r : ℕ) → p ≤ q → q ≤ r → p ≤ r
+    through p q r h k = omega arith
+
+-- what fits a denominator fits a numerator
+pub den_fits : (n : ℕ) → n ≤ MAX_DEN → n ≤ MAX_NUM
+den_fits n h = through _ _ _ h (lit≤ tt)
+  where
+    through : (p q r : ℕ) → p ≤ q → q ≤ r → p ≤ r
+    through p q r h k = omega arith
+
+-- and so does its square
+pub square_fits : (n : ℕ) → n ≤ MAX_DEN → n * n ≤ MAX_NUM
+square_fits n h = through (n * n) (MAX_DEN * MAX_DEN) MAX_NUM (mul-le-mul h h) (lit≤ tt)
+  where
+    through : (p q r : ℕ) → p ≤ q → q ≤ r → p ≤ r
+    through p q r h k = omega arith
+
+-- a whole number as a fraction
+abbrev pub whole : (n : ℕ) → n ≤ MAX_DEN → Frac
+whole n h = record { num = n; den = 1; small = den_fits n h; positive = lit≤ tt; fits = lit≤ tt }
+
+-- the lesser of two fractions
+pub lesser : (f g : Frac) → (h : Frac) × IsLesser f g h
+lesser f g =
+    elim (cases_lt (f.num * g.den) (g.num * f.den)) [
+      | inl l ↦ (f, record { one = inl refl; first = same (f.num * f.den); second = weak _ _ l })
+      | inr l ↦ (g, record { one = inr refl; first = l; second = same (g.num * g.den) })
+    ]
+  where
+    same : (n : ℕ) → n ≤ n
+    same n = omega arith
+
+    weak : (m n : ℕ) → m < n → m ≤ n
+    weak m n h = omega arith

@@ -1,0 +1,117 @@
+-- The least distance from a union of sets is the lesser of theirs, so that a loop over the edges of a ring gives the ring's.
+use Rattle.std.proofs.Common.{◌≡◌, ◌⊎◌, inl, inr, ℕ, zero, suc, ◌+◌, ◌*◌, ◌≤◌, pos, ◌*ℤ◌, ◌≤ℤ◌, List, [], ◌∷◌, length, take, drop, refl, sym, subst}
+use Rattle.std.proofs.lemmas.List.{take_all}
+use Rattle.std.proofs.Math.Numerals.{add-one}
+use Rattle.exact_frac.specs.declared.frac.Frac.{Frac}
+use Rattle.sand_base.specs.declared.segment.Segment.{Segment}
+use Rattle.sand_model.specs.Carrier.{RationalPoint, IsOnSegment}
+use Rattle.sand_model.specs.Gap.{IsLeast, far, common_square}
+use Rattle.sand_model.specs.Rings.{SomeOf}
+use Rattle.int_ring.specs.Expr.{var, at, ◌⊕◌, ◌⊖◌, ◌⊗◌}
+use Rattle.int_ring.proofs.Ring.{ring}
+use Rattle.plane_geom.specs.Lesser.{IsAtMost, IsLesser}
+use Rattle.plane_geom.proofs.Least.{attained_within, attained_exchanged}
+use Rattle.plane_geom.proofs.SegmentLemmas.{lesser_attained, at_most_one}
+use Rattle.plane_geom.proofs.Sides.{AreApart}
+
+-- the two sets exchanged
+pub least_exchanged : {A B : RationalPoint → Type 0} (m e : ℕ) → IsLeast A B m e → IsLeast B A m e
+least_exchanged m e h = record {
+  attained = attained_exchanged m e h.attained;
+  least = λ q r hq hr.
+      subst (λ t. (pos m *ℤ common_square q r) ≤ℤ (t *ℤ pos e)) (far_turned r q)
+      (subst (λ t. (pos m *ℤ t) ≤ℤ (far r q *ℤ pos e)) (common_turned r q) (h.least r q hr hq));
+}
+  where
+    far_turned : (q r : RationalPoint) → far q r ≡ far r q
+    far_turned q r =
+        let vx = var 0 ⊗ var 5 ⊖ var 3 ⊗ var 2 in
+        let vy = var 1 ⊗ var 5 ⊖ var 4 ⊗ var 2 in
+        let wx = var 3 ⊗ var 2 ⊖ var 0 ⊗ var 5 in
+        let wy = var 4 ⊗ var 2 ⊖ var 1 ⊗ var 5 in
+        ring (at (q.x ∷ q.y ∷ pos q.n ∷ r.x ∷ r.y ∷ pos r.n ∷ [])) (vx ⊗ vx ⊕ vy ⊗ vy) (wx ⊗ wx ⊕ wy ⊗ wy) refl
+
+    common_turned : (q r : RationalPoint) → common_square q r ≡ common_square r q
+    common_turned q r =
+        ring (at (pos q.n ∷ pos r.n ∷ [])) ((var 0 ⊗ var 1) ⊗ (var 0 ⊗ var 1)) ((var 1 ⊗ var 0) ⊗ (var 1 ⊗ var 0)) refl
+
+-- another set with the same points
+pub least_same : {A B C : RationalPoint → Type 0} (m e : ℕ) → ((q : RationalPoint) → A q → C q) → ((q : RationalPoint) → C q → A q)
+    → IsLeast A B m e → IsLeast C B m e
+least_same m e f g h = record {
+  attained = attained_within m e f (λ r hr. hr) h.attained;
+  least = λ q r hq hr. h.least q r (g q hq) hr;
+}
+
+-- points as far apart as one fraction says are as far apart as each fraction says that is at most it
+lesser_apart : (f g : Frac) (q z : RationalPoint) → IsAtMost g f → AreApart f.num f.den q z → AreApart g.num g.den q z
+lesser_apart f g q z le h = at_most_one f g _ _ (pos (q.n * z.n)) le h
+
+-- the lesser of two distances is that of the union
+pub least_union : {A A' B : RationalPoint → Type 0} (f g h : Frac) → IsLeast A B f.num f.den → IsLeast A' B g.num g.den → IsLesser f g h
+    → IsLeast (λ q. A q ⊎ A' q) B h.num h.den
+least_union {A} {A'} {B} f g h hf hg l = record {
+  attained = lesser_attained {A = λ q. A q ⊎ A' q} {B = B} f g h l
+      (attained_within {C = λ q. A q ⊎ A' q} {D = B} f.num f.den (λ q k. inl k) (λ r k. k) hf.attained)
+      (attained_within {C = λ q. A q ⊎ A' q} {D = B} g.num g.den (λ q k. inr k) (λ r k. k) hg.attained);
+  least = λ q r hq hr.
+      elim hq [
+        | inl a ↦ lesser_apart f h q r l.first (hf.least q r a hr)
+        | inr b ↦ lesser_apart g h q r l.second (hg.least q r b hr)
+      ];
+}
+
+-- the point lies on one of the segments
+abbrev pub IsOnAny : List Segment → RationalPoint → Type 0
+IsOnAny es q = SomeOf (λ s. IsOnSegment s q) es
+
+-- one term more
+module _ {A : Type 0} (P : A → Type 0) where
+  pub some_more : (es : List A) (i : ℕ) (x : A) (rest : List A) → drop i es ≡ x ∷ rest → SomeOf P (take i es) ⊎ P x → SomeOf P (take (suc i) es)
+  some_more [] zero x rest e h = cc
+  some_more [] (suc i) x rest e h = cc
+  some_more (y ∷ es) zero x rest e h = elim h [ inl none ↦ absurd none | inr p ↦ inl (subst P (sym (first y x es rest e)) p) ]
+    where
+      first : (y x : A) (es rest : List A) → ◌≡◌ {A = List A} (y ∷ es) (x ∷ rest) → y ≡ x
+      first y x es rest e = cc
+  some_more (y ∷ es) (suc i) x rest e h =
+      elim h [
+        | inl s ↦ elim s [ inl p ↦ inl p | inr more ↦ inr (some_more es i x rest e (inl more)) ]
+        | inr p ↦ inr (some_more es i x rest e (inr p))
+      ]
+
+  pub some_fewer : (es : List A) (i : ℕ) (x : A) (rest : List A) → drop i es ≡ x ∷ rest → SomeOf P (take (suc i) es) → SomeOf P (take i es) ⊎ P x
+  some_fewer [] zero x rest e h = absurd h
+  some_fewer [] (suc i) x rest e h = absurd h
+  some_fewer (y ∷ es) zero x rest e h = elim h [ inl p ↦ inr (subst P (first y x es rest e) p) | inr none ↦ absurd none ]
+    where
+      first : (y x : A) (es rest : List A) → ◌≡◌ {A = List A} (y ∷ es) (x ∷ rest) → y ≡ x
+      first y x es rest e = cc
+  some_fewer (y ∷ es) (suc i) x rest e h =
+      elim h [
+        | inl p ↦ inl (inl p)
+        | inr more ↦ elim (some_fewer es i x rest e more) [ inl s ↦ inl (inr s) | inr p ↦ inr p ]
+      ]
+
+-- the first segment of a list
+pub least_first : {B : RationalPoint → Type 0} (es : List Segment) (s : Segment) (rest : List Segment) (m e : ℕ) → drop 0 es ≡ s ∷ rest
+    → IsLeast (IsOnSegment s) B m e → IsLeast (IsOnAny (take 1 es)) B m e
+least_first {B} es s rest m e at h =
+    least_same {A = IsOnSegment s} {B = B} {C = IsOnAny (take 1 es)} m e
+    (λ q k. some_more (λ t. IsOnSegment t q) es 0 s rest at (inr k))
+    (λ q k. elim (some_fewer (λ t. IsOnSegment t q) es 0 s rest at k) [ inl none ↦ absurd none | inr on ↦ on ]) h
+
+-- and the next one, with those before it
+pub least_next : {B : RationalPoint → Type 0} (es : List Segment) (i : ℕ) (s : Segment) (rest : List Segment) (f g h : Frac)
+    → drop i es ≡ s ∷ rest → IsLeast (IsOnAny (take i es)) B f.num f.den → IsLeast (IsOnSegment s) B g.num g.den → IsLesser f g h
+    → IsLeast (IsOnAny (take (i + 1) es)) B h.num h.den
+least_next {B} es i s rest f g h at hf hg l =
+    rw (add-one i)
+    (least_same {A = λ q. IsOnAny (take i es) q ⊎ IsOnSegment s q} {B = B} {C = IsOnAny (take (suc i) es)} h.num h.den
+    (λ q k. some_more (λ t. IsOnSegment t q) es i s rest at k) (λ q k. some_fewer (λ t. IsOnSegment t q) es i s rest at k)
+    (least_union {A = IsOnAny (take i es)} {A' = IsOnSegment s} {B = B} f g h hf hg l))
+
+-- all of them
+pub least_of_all : {B : RationalPoint → Type 0} (es : List Segment) (i m e : ℕ) → length es ≤ i → IsLeast (IsOnAny (take i es)) B m e
+    → IsLeast (IsOnAny es) B m e
+least_of_all {B} es i m e h l = subst (λ (xs : List Segment). IsLeast (IsOnAny xs) B m e) (take_all i es h) l
