@@ -1,4 +1,4 @@
-ghost use Rattle.std.specs.Prelude.{◌≡◌, length, take_while};
+ghost use Rattle.std.specs.Prelude.{◌≡◌, ℕ, ◌+◌, ◌<◌, ◌≤◌, List, [], ◌∷◌, length, take_while, OnOk, MatchOption, IsPermutation};
 ghost use Rattle.std.specs.Ordering.{is_gt};
 
 use crate::Queue;

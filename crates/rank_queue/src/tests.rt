@@ -76,13 +76,9 @@ const CASES: [(&str, &[Step]); 6] = [
 ];
 
 // Takes the queue through the steps of each case.
-fn keeps_to<Q: Queue<u8>>(
-    rt: &impl Abort,
-    queue: &mut Q,
-    cases: &[(&str, &[Step])],
-) -> Result<(), Fail> {
-    for (name, steps) in cases {
-        for step in *steps {
+fn keeps_to_the_cases<Q: Queue<u8>>(rt: &impl Abort, queue: &mut Q) -> Result<(), Fail> {
+    for (name, steps) in CASES {
+        for step in steps {
             match *step {
                 Push(item) => {
                     queue.reserve(1)?;
@@ -93,7 +89,9 @@ fn keeps_to<Q: Queue<u8>>(
                     assert_eq!(rt; queue.pop(), Some(item), "{name}");
                 }
                 End => {
+                    assert_eq!(rt; queue.peek(), None, "{name}");
                     assert_eq!(rt; queue.pop(), None, "{name}");
+                    assert_eq!(rt; queue.len(), 0, "{name}");
                 }
             }
         }
@@ -104,11 +102,28 @@ fn keeps_to<Q: Queue<u8>>(
 #[test]
 fn the_plain_queue_keeps_to_the_cases(rt: HostRuntime) -> Result<(), Fail> {
     let mut queue: PlainQueue<u8> = PlainQueue::empty(rt.alloc());
-    keeps_to(&rt, &mut queue, &CASES)
+    keeps_to_the_cases(&rt, &mut queue)
 }
 
 #[test]
 fn the_pairing_queue_keeps_to_the_cases(rt: HostRuntime) -> Result<(), Fail> {
     let mut queue: PairQueue<u8> = PairQueue::empty(rt.alloc());
-    keeps_to(&rt, &mut queue, &CASES)
+    keeps_to_the_cases(&rt, &mut queue)
+}
+
+#[test]
+fn a_pop_gives_its_place_back(rt: HostRuntime) -> Result<(), Fail> {
+    let mut plain: PlainQueue<u8> = PlainQueue::empty(rt.alloc());
+    let mut pair: PairQueue<u8> = PairQueue::empty(rt.alloc());
+    plain.reserve(2)?;
+    pair.reserve(2)?;
+    plain.push(3);
+    pair.push(3);
+    assert_eq!(&rt; plain.spare(), 1);
+    assert_eq!(&rt; pair.spare(), 1);
+    assert_eq!(&rt; plain.pop(), Some(3));
+    assert_eq!(&rt; pair.pop(), Some(3));
+    assert_eq!(&rt; plain.spare(), 2);
+    assert_eq!(&rt; pair.spare(), 2);
+    Ok(())
 }
