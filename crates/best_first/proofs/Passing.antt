@@ -48,7 +48,7 @@ told_read old new r = ap₂ (λ (t : Bool) (p : PageMap). if t then Some p else 
 -- a refusal has its cause in the whole call where the calls before it were accepted
 pub cause_later : {T U : Type 0} (old mid new : PoolState) (fault : PageFault) → mid.disk.faults ≡ old.disk.faults → HasPageCause {T = T} mid new (Err fault) → HasPageCause {T = U} old new (Err fault)
 cause_later {T} {U} old mid new Memory e h = record { counted = h.counted ∙ e; damaged = h.damaged }
-cause_later {T} {U} old mid new Device e h = record { counted = h.counted ∙ ap Rattle.sand_base.specs.Calls.next_count e; damaged = h.damaged }
+cause_later {T} {U} old mid new Device e h = record { counted = h.counted ∙ ap Rattle.sand_base.specs.Faults.next_count e; damaged = h.damaged }
 cause_later {T} {U} old mid new (Damaged page kept read) e h = record { counted = h.counted ∙ e; damaged = h.damaged }
 
 pub all_over : (pages : Option PageMap) (C : PageMap → Type 0) → ((p : PageMap) → C p) → IfSome pages C

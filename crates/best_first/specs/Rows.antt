@@ -1,14 +1,14 @@
 -- The steps of the lazy iterator over the rows to come, and its outcome.
-use Rattle.std.specs.Prelude.{◌≡◌, Bool, true, false, Option, None, Some, Result, Ok, Err, IfOk, ⊤}
+use Rattle.std.specs.Prelude.{◌≡◌, ◌⊎◌, Bool, true, false, Option, None, Some, Result, Ok, Err, IfOk, ⊤}
 use Rattle.page_pool.specs.declared.fault.PageFault.{PageFault}
 use Rattle.best_first.specs.declared.hit.Hit.{Hit}
 use Rattle.best_first.specs.Hierarchy.{Meaning}
 use Rattle.best_first.specs.Answer.{IsNext, IsExhausted}
 
--- A row comes only while no step has given None, and leaves that so; a step that gives None leaves the end, or the fault.
+-- A row comes only while no step has given None, and leaves that so; the first step that gives None leaves the end, or the fault, and each later one leaves that as it is.
 abbrev pub StepsOutcome : Result Bool PageFault → Option Hit → Result Bool PageFault → Type 0
 StepsOutcome before (Some hit) after = (before ≡ Ok false) × (after ≡ Ok false)
-StepsOutcome before None after = IfOk after (λ over. over ≡ true)
+StepsOutcome before None after = IfOk after (λ over. over ≡ true) × ((before ≡ Ok false) ⊎ (after ≡ before))
 
 -- the row is the next one of the answer, and where the end is the outcome none is left
 abbrev pub GivesRowsNext : {N : Type 0} → Meaning N → Option Hit → Option Hit → Result Bool PageFault → Type 0

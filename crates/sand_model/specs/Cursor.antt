@@ -69,7 +69,7 @@ abbrev pub IsRefusedStep : Measure → Cursor → Refusal → Cursor → Type 0
 IsRefusedStep gap old refusal new =
     (seen : Counts) × AreBetween old.counts (step_of gap old).1.counts seen × (new ≡ record old { counts = seen })
 
--- Up to so many steps of a cursor and their lines: no further one after the end, or after a refused one. `may` says which refusals may come.
+-- up to so many steps of a cursor with their lines, none after the end or after a refusal that `may` allows
 abbrev pub Steps : Measure → (Refusal → Type 0) → ℕ → Cursor → List OutputLine → Cursor → Type 0
 Steps gap may zero old lines new = (lines ≡ []) × (new ≡ old)
 Steps gap may (suc count) old lines new =

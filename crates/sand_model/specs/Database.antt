@@ -82,13 +82,13 @@ tree_of gap shapes threshold = entered (map (λ pair. pair.0) shapes) empty_tree
 abbrev pub new_relation : List ℕ → List (List ℕ × Kind) → Relation
 new_relation name schema = record { name = name; schema = schema; rows = []; next = 1; indexes = [] }
 
--- an index of a column after the row of the id came, among these rows
+-- an index of a column with the new row of this id, among these rows
 abbrev pub index_with : Measure → List (ℕ × List Value) → ℕ → ℕ × Index → ℕ × Index
 index_with gap rows id (column, Quadtree threshold tree) =
     (column, Quadtree threshold (tree_with gap (shapes_of column rows) threshold id tree))
 index_with gap rows id (column, Attribute) = (column, Attribute)
 
--- an index of a column after the row of the id went
+-- an index of a column without the row of this id
 abbrev pub index_without : ℕ → ℕ × Index → ℕ × Index
 index_without id (column, Quadtree threshold tree) = (column, Quadtree threshold (shrunk threshold id tree))
 index_without id (column, Attribute) = (column, Attribute)
@@ -109,7 +109,7 @@ without_row id relation = record relation {
   indexes = map (index_without id) relation.indexes;
 }
 
--- the index that a column gets: a quadtree where a threshold is given
+-- the index that a column gets: a quadtree of this threshold, or an attribute index where none is given
 abbrev pub new_index : Measure → List (ℕ × List Value) → ℕ → Option ℕ → Index
 new_index gap rows column (Some threshold) = Quadtree threshold (tree_of gap (shapes_of column rows) threshold)
 new_index gap rows column None = Attribute
@@ -137,6 +137,10 @@ column_named schema name = counted_from 0 schema where
 abbrev pub index_at : Relation → ℕ → Option Index
 index_at relation column =
     option_map (λ pair. pair.1) (find (λ pair. nat_eq pair.0 column) relation.indexes)
+
+-- the database with one relation more, at its end
+abbrev pub with_relation : Relation → Database → Database
+with_relation relation database = database ++ relation ∷ []
 
 -- the values of the row of the id
 abbrev pub row_at : Relation → ℕ → Option (List Value)

@@ -114,14 +114,14 @@ abbrev pub with_fetched : Database → List (List ℕ) → List Place → PlanRo
 with_fetched database names places row =
     record row { values = row.values ++ fetched_values database names row places }
 
--- the whole number at a place, by which rows are sorted
+-- the whole number at a place, by which rows are sorted; 0 where there is none
 abbrev pub number_at : Database → List (List ℕ) → Place → PlanRow → ℤ
 number_at database names place row = number (value_at database names row place) where
   number : Option Value → ℤ
   number (Some (value.Int n)) = n
   number _ = pos 0
 
--- a row with the gap of the shape at a place from a goal in its gap's place
+-- a row whose gap is that of the shape at a place from a goal
 abbrev pub with_gap : Measure → Database → List (List ℕ) → Place → Shape → PlanRow → PlanRow
 with_gap gap database names place goal row = measured (value_at database names row place) where
   measured : Option Value → PlanRow

@@ -56,7 +56,7 @@ ceiling_of (plan.Join left right within) = within
 ceiling_of (plan.Semi left right within) = within
 ceiling_of _ = None
 
--- the reach of the last of some rows, and nothing where there is none
+-- the reach of the last of some rows, and nothing where there is none or it has no gap
 abbrev pub reach_of_last : List PlanRow → Reach
 reach_of_last [] = Nothing
 reach_of_last (row ∷ []) = of_gap row.gap where
@@ -65,7 +65,7 @@ reach_of_last (row ∷ []) = of_gap row.gap where
   of_gap None = Nothing
 reach_of_last (row ∷ next ∷ rows) = reach_of_last (next ∷ rows)
 
--- every row of the left relation of a semi-join has been given
+-- the source is a semi-join with a row for each row of its left relation
 abbrev pub is_saturated : Database → Plan → List PlanRow → Bool
 is_saturated database (plan.Semi left right within) rows =
     nat_eq (length rows) (length (column_shapes database left))

@@ -38,7 +38,7 @@ edges (first ∷ rest) = chain (last_of first rest) (first ∷ rest)
 abbrev pub IsOnRing : List Point → RationalPoint → Type 0
 IsOnRing ring q = SomeOf (λ s. IsOnSegment s q) (edges ring)
 
--- the way from a to b rises from at most the height of v to above it, and there it lies to the right of v
+-- a is at most as high as v, b is higher, and the edge from a to b crosses v's height to the right of v
 abbrev pub rises_over : Point → Point → Point → Bool
 rises_over v a b =
     not (nat_lt v.y a.y)

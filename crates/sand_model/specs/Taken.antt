@@ -61,7 +61,7 @@ beneath_sort (plan.SortBy p place) = cond (is_lazy p) p (beneath_sort p)
 beneath_sort (plan.SortNear p place goal) = cond (is_lazy p) p (beneath_sort p)
 beneath_sort p = p
 
--- What a cursor that has given so many rows has taken, and whether it has come to its end. A sort takes the whole plan beneath it at the first row.
+-- what a cursor that gave so many rows, or came to its end, has taken; with a sort, from its first step on, what the plan beneath the innermost sort spends
 abbrev pub has_taken : Measure → Database → Plan → ℕ → Bool → Taken
 has_taken gap database p given is_ended =
     cond (is_lazy p)

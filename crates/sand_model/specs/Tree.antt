@@ -1,5 +1,5 @@
--- The PMR quadtree as a value: a leaf splits once where an insertion fills it beyond a threshold, and four leaves merge where a
--- deletion leaves too few. After R. C. Nelson and H. Samet (1986) and H. Samet (2006).
+-- The PMR quadtree as a value: a leaf splits once where an insertion fills it beyond a threshold. After R. C. Nelson
+-- and H. Samet (1986) and H. Samet (2006). That four leaves merge where a deletion leaves fewer ids than the threshold is our own rule.
 use Rattle.std.specs.Prelude.{◌≡◌, ◌⊎◌, ℕ, ◌+◌, Bool, true, false, cond, nat_eq, nat_lt, ◌&&◌, not, max, List, [], ◌∷◌, ◌++◌, length, filter, Contains}
 use Rattle.sand_base.specs.declared.TheConstants.{COORDINATE_BITS}
 use Rattle.z_code.specs.Block.{child}
@@ -42,7 +42,7 @@ split meets b ids =
     Inner (Leaf (filter (meets (child b 0)) ids)) (Leaf (filter (meets (child b 1)) ids))
     (Leaf (filter (meets (child b 2)) ids)) (Leaf (filter (meets (child b 3)) ids))
 
--- a leaf that took an id: it splits once where it holds more ids than the threshold and its level is in the tree
+-- a leaf that took an id: it splits once where it holds more ids than the threshold and isn't of the finest level
 abbrev pub settled : (Block → ℕ → Bool) → ℕ → Block → List ℕ → Tree
 settled meets threshold b ids =
     cond (nat_lt threshold (length ids) && nat_lt b.level COORDINATE_BITS) (split meets b ids) (Leaf ids)
