@@ -5,7 +5,7 @@
 #![tactic(auto)]
 
 ghost use Rattle.std.specs.Prelude.{◌^◌, ◌<◌, ◌≤◌};
-ghost use Rattle.sand_base.specs.Plane.{IsCorner, IsSegmentInReach, IsRectInReach};
+ghost use Rattle.sand_base.specs.Plane.{IsInClosedPlane, IsSegmentInClosedPlane, IsRectInClosedPlane};
 
 use exact_frac::Frac;
 use plane_geom::{
@@ -33,7 +33,7 @@ impl Draws {
     }
 
     fn point(&mut self) -> Point
-        ensures { IsCorner result }
+        ensures { IsInClosedPlane result }
     {
         let x = self.next();
         let y = self.next();
@@ -41,7 +41,7 @@ impl Draws {
     }
 
     fn segment(&mut self) -> Segment
-        ensures { IsSegmentInReach result }
+        ensures { IsSegmentInClosedPlane result }
     {
         let a = self.point();
         let b = self.point();
@@ -49,7 +49,7 @@ impl Draws {
     }
 
     fn rect(&mut self) -> Rect
-        ensures { IsRectInReach result }
+        ensures { IsRectInClosedPlane result }
     {
         let a = self.point();
         let b = self.point();

@@ -36,10 +36,10 @@ shrunk m e x y k t s he ht hts hs h =
     let vt = var 5 in
     let vs = var 6 in
     let long = vx ⊗ vx ⊕ vy ⊗ vy in
-    let far = ((vt ⊗ vx) ⊗ (vt ⊗ vx) ⊕ (vt ⊗ vy) ⊗ (vt ⊗ vy)) ⊗ ve in
+    let scaled_distance = ((vt ⊗ vx) ⊗ (vt ⊗ vx) ⊕ (vt ⊗ vy) ⊗ (vt ⊗ vy)) ⊗ ve in
     let near = vm ⊗ ((vs ⊗ vk) ⊗ (vs ⊗ vk)) in
     le_ring_scaled (at (m ∷ e ∷ x ∷ y ∷ k ∷ t ∷ s ∷ [])) (vm ⊗ (vk ⊗ vk)) (long ⊗ ve) (vs ⊗ vs)
-    ((far ⊖ near) ⊕ ((vs ⊖ vt) ⊗ (vs ⊕ vt)) ⊗ (long ⊗ ve)) refl
+    ((scaled_distance ⊖ near) ⊕ ((vs ⊖ vt) ⊗ (vs ⊕ vt)) ⊗ (long ⊗ ve)) refl
     (mul_positive s s hs hs)
     (add_nonneg _ _ (difference_nonneg _ _ h)
     (mul_nonneg _ _ (mul_nonneg _ _ (difference_nonneg t s hts) (both t s ht hs))
@@ -72,7 +72,7 @@ raised m e x y k r h =
 -- what is at least as long as a vector that is long enough is long enough
 pub farther : (m e x y x' y' k : ℤ) → pos 0 ≤ℤ e → IsClear m e x y (pos 1)
     → (((x *ℤ x) +ℤ (y *ℤ y)) *ℤ (k *ℤ k)) ≤ℤ ((x' *ℤ x') +ℤ (y' *ℤ y')) → IsClear m e x' y' k
-farther m e x y x' y' k he h far =
+farther m e x y x' y' k he h scaled_distance =
     let vm = var 0 in
     let ve = var 1 in
     let vk = var 2 in
@@ -81,7 +81,7 @@ farther m e x y x' y' k he h far =
     (le_ring (at (m ∷ e ∷ k ∷ ((x *ℤ x) +ℤ (y *ℤ y)) ∷ [])) (vm ⊗ (vk ⊗ vk)) ((vl ⊗ (vk ⊗ vk)) ⊗ ve)
     ((vk ⊗ vk) ⊗ (vl ⊗ ve ⊖ vm ⊗ (num (pos 1) ⊗ num (pos 1)))) refl
     (mul_nonneg _ _ (square_nonneg k) (difference_nonneg _ _ h)))
-    (mul_le _ _ e he far)
+    (mul_le _ _ e he scaled_distance)
 
 -- two weights, not both 0
 pub record IsWeights (i j : ℤ) : Type 0 where

@@ -2,8 +2,8 @@
 use Rattle.std.proofs.Common.{◌≡◌, ℕ, ◌+◌, ◌*◌, ◌<◌, ℤ, pos, negsuc, ◌+ℤ◌, ◌-ℤ◌, ◌*ℤ◌, ◌≤ℤ◌, ◌<ℤ◌, [], ◌∷◌, refl, ap, ap₂, sym, ◌∙◌, arith}
 use Rattle.std.proofs.lemmas.Int.{ints}
 use Rattle.sand_base.specs.declared.point.Point.{Point}
-use Rattle.sand_model.specs.Carrier.{RationalPoint}
-use Rattle.sand_model.specs.Gap.{IsLeast, far, common_square}
+use Rattle.sand_model.specs.Points.{RationalPoint}
+use Rattle.sand_model.specs.Gap.{IsLeast, scaled_distance, common_square}
 use Rattle.int_ring.specs.Expr.{var, at, ◌⊕◌, ◌⊖◌, ◌⊗◌}
 use Rattle.int_ring.proofs.Ring.{ring}
 use Rattle.int_ring.proofs.Order.{mul_positive}
@@ -13,7 +13,7 @@ use Rattle.plane_geom.proofs.Signs.{natural, once}
 
 -- some pair of points of two sets is the root of num / den apart
 abbrev pub Attained : (RationalPoint → Type 0) → (RationalPoint → Type 0) → ℕ → ℕ → Type 0
-Attained A B num den = (q r : RationalPoint) × A q × B r × (far q r *ℤ pos den ≡ pos num *ℤ common_square q r)
+Attained A B num den = (q r : RationalPoint) × A q × B r × (scaled_distance q r *ℤ pos den ≡ pos num *ℤ common_square q r)
 
 -- along one axis, two means under a common factor
 offset_is : (k l n m x y a b c d i j u v : ℤ) → k *ℤ n ≡ i +ℤ j → l *ℤ m ≡ u +ℤ v
@@ -78,7 +78,7 @@ some_weight i j h = omega (arith, ints)
 
 -- a bound for all pairs of points is one for the means under all weights
 pub clear_of_bound : {A B : RationalPoint → Type 0} (a b c d : Point) (m e : ℕ) → IsHull A a b → IsHull B c d
-    → ((q r : RationalPoint) → A q → B r → (pos m *ℤ common_square q r) ≤ℤ (far q r *ℤ pos e)) → AreClear (pos m) (pos e) a b c d
+    → ((q r : RationalPoint) → A q → B r → (pos m *ℤ common_square q r) ≤ℤ (scaled_distance q r *ℤ pos e)) → AreClear (pos m) (pos e) a b c d
 clear_of_bound a b c d m e ha hb h (negsuc i) j u v wi wu = not_negative i wi.first
 clear_of_bound a b c d m e ha hb h (pos i) (negsuc j) u v wi wu = not_negative j wi.second
 clear_of_bound a b c d m e ha hb h (pos i) (pos j) (negsuc u) v wi wu = not_negative u wu.first
@@ -96,7 +96,7 @@ clear_of_least a b c d m e ha hb h = clear_of_bound a b c d m e ha hb h.least
 -- some weights give a pair that is so far apart
 pub attained_at : {A B : RationalPoint → Type 0} (a b c d : Point) (m e : ℕ) → IsHull A a b → IsHull B c d
     → (i j u v : ℕ) (hi : 0 < i + j) (hu : 0 < u + v)
-    → far (mean a b i j hi) (mean c d u v hu) *ℤ pos e ≡ pos m *ℤ common_square (mean a b i j hi) (mean c d u v hu) → Attained A B m e
+    → scaled_distance (mean a b i j hi) (mean c d u v hu) *ℤ pos e ≡ pos m *ℤ common_square (mean a b i j hi) (mean c d u v hu) → Attained A B m e
 attained_at a b c d m e ha hb i j u v hi hu h =
     (mean a b i j hi, mean c d u v hu, ha.back _ (mean_is a b i j hi), hb.back _ (mean_is c d u v hu), h)
 
@@ -110,7 +110,7 @@ attained_exchanged m e t = (
   ap (λ s. s *ℤ pos e) (far_exchanged t.1 t.0) ∙ t.4 ∙ ap (λ s. pos m *ℤ s) (common_exchanged t.0 t.1),
 )
   where
-    far_exchanged : (q r : RationalPoint) → far q r ≡ far r q
+    far_exchanged : (q r : RationalPoint) → scaled_distance q r ≡ scaled_distance r q
     far_exchanged q r =
         let vx = var 0 ⊗ var 5 ⊖ var 3 ⊗ var 2 in
         let vy = var 1 ⊗ var 5 ⊖ var 4 ⊗ var 2 in

@@ -4,7 +4,7 @@ use Rattle.std.proofs.Math.IntN.{+ℤ_comm}
 use Rattle.std.proofs.lemmas.Int.{ints}
 use Rattle.sand_base.specs.declared.point.Point.{Point}
 use Rattle.sand_base.specs.declared.segment.Segment.{Segment}
-use Rattle.sand_model.specs.Carrier.{RationalPoint, IsPoint, IsWithin, IsOnSegment}
+use Rattle.sand_model.specs.Points.{RationalPoint, IsPoint, IsWithin, IsOnSegment}
 use Rattle.int_ring.specs.Expr.{var, at, num, ◌⊕◌, ◌⊖◌, ◌⊗◌}
 use Rattle.int_ring.proofs.Ring.{ring_using, ring_using_two}
 use Rattle.int_ring.proofs.Order.{difference_nonneg, le_by, mul_nonneg, add_nonneg, le_from_mul, same_from_mul, pos_le}

@@ -4,7 +4,7 @@ use Rattle.std.proofs.Math.Nat.{mul-le-mul_left}
 use Rattle.std.proofs.lemmas.Int.{ints}
 use Rattle.sand_base.specs.declared.point.Point.{Point}
 use Rattle.sand_base.specs.declared.segment.Segment.{Segment}
-use Rattle.sand_model.specs.Carrier.{RationalPoint, IsPoint, IsWithin, cross_at}
+use Rattle.sand_model.specs.Points.{RationalPoint, IsPoint, IsWithin, cross_at}
 use Rattle.int_ring.specs.Expr.{var, at, num, ◌⊖◌, ◌⊗◌}
 use Rattle.int_ring.proofs.Ring.{ring_using_two}
 use Rattle.plane_geom.specs.Incidence.{IsBetween, IsInBox, LiesOn}

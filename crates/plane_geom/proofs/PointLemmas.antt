@@ -3,8 +3,8 @@ use Rattle.std.proofs.Common.{◌≡◌, ℕ, ◌*◌, ◌≤◌, ℤ, pos, ◌+
 use Rattle.std.specs.Int.{abs_diff}
 use Rattle.std.proofs.lemmas.Int.{ints}
 use Rattle.sand_base.specs.declared.point.Point.{Point}
-use Rattle.sand_model.specs.Carrier.{RationalPoint, IsPoint}
-use Rattle.sand_model.specs.Gap.{IsLeast, square, far, common_square}
+use Rattle.sand_model.specs.Points.{RationalPoint, IsPoint}
+use Rattle.sand_model.specs.Gap.{IsLeast, square, scaled_distance, common_square}
 use Rattle.int_ring.specs.Expr.{var, at, num, ◌⊕◌, ◌⊖◌, ◌⊗◌}
 use Rattle.int_ring.proofs.Ring.{ring, ring_using_two}
 use Rattle.plane_geom.specs.Vectors.{dot_of}
@@ -40,7 +40,7 @@ both_axes s a b c d =
     ring (at (s ∷ a ∷ b ∷ c ∷ d ∷ [])) (left ⊗ left ⊕ right ⊗ right) ((across ⊗ across ⊕ up ⊗ up) ⊗ (var 0 ⊗ var 0)) refl
 
 -- two rational points that stand for a and b are as far apart as a and b
-pub points_far : (a b : Point) (q r : RationalPoint) → IsPoint a q → IsPoint b r → far q r ≡ dot_of a b b *ℤ common_square q r
+pub points_far : (a b : Point) (q r : RationalPoint) → IsPoint a q → IsPoint b r → scaled_distance q r ≡ dot_of a b b *ℤ common_square q r
 points_far a b q r h k =
     ap₂ (λ u v. square u +ℤ square v)
     (axis q.x (pos q.n) (pos a.x) r.x (pos r.n) (pos b.x) h.x k.x)
@@ -61,8 +61,8 @@ points_least a b n e h k = record {
   least = λ q r hq hr. same_le _ _ (sym (same q r hq hr));
 }
   where
-    same : (q r : RationalPoint) → IsPoint a q → IsPoint b r → far q r *ℤ pos e ≡ pos n *ℤ common_square q r
-    same q r hq hr = over_one (far q r) (dot_of a b b) (common_square q r) n e (points_far a b q r hq hr) h k
+    same : (q r : RationalPoint) → IsPoint a q → IsPoint b r → scaled_distance q r *ℤ pos e ≡ pos n *ℤ common_square q r
+    same q r hq hr = over_one (scaled_distance q r) (dot_of a b b) (common_square q r) n e (points_far a b q r hq hr) h k
 
 -- two coordinates up to a bound are at most the bound apart
 pub apart_short : (r a b m : ℕ) → r ≡ abs_diff a b → a ≤ m → b ≤ m → r ≤ m

@@ -3,8 +3,8 @@ use Rattle.std.proofs.Common.{◌≡◌, ℕ, ◌*◌, ◌≤◌, min, max, ℤ,
 use Rattle.std.proofs.lemmas.Int.{ints, by_lt_z}
 use Rattle.sand_base.specs.declared.point.Point.{Point}
 use Rattle.sand_base.specs.declared.rect.Rect.{Rect}
-use Rattle.sand_model.specs.Carrier.{RationalPoint, IsPoint, IsWithin, IsInRect}
-use Rattle.sand_model.specs.Gap.{IsLeast, far, common_square}
+use Rattle.sand_model.specs.Points.{RationalPoint, IsPoint, IsWithin, IsInRect}
+use Rattle.sand_model.specs.Gap.{IsLeast, scaled_distance, common_square}
 use Rattle.int_ring.specs.Expr.{var, at, num, ◌⊕◌, ◌⊖◌, ◌⊗◌}
 use Rattle.int_ring.proofs.Ring.{ring}
 use Rattle.int_ring.proofs.Order.{difference_nonneg, mul_nonneg, add_nonneg, both_le}
@@ -115,7 +115,7 @@ rects_least a b m e hax hay hbx hby hm he =
         spot q,
         record { x = near_in a.low.x a.high.x b.low.x hax; y = near_in a.low.y a.high.y b.low.y hay },
         record { x = near_in b.low.x b.high.x a.low.x hbx; y = near_in b.low.y b.high.y a.low.y hby },
-        over_one (far (spot p) (spot q)) (dot_of p q q) (common_square (spot p) (spot q)) m e
+        over_one (scaled_distance (spot p) (spot q)) (dot_of p q q) (common_square (spot p) (spot q)) m e
             (points_far p q (spot p) (spot q) (spot_is p) (spot_is q))
             (hm
             ∙ sym (ap₂ (λ s t. s +ℤ t) (near_gap a.low.x a.high.x b.low.x b.high.x hax hbx) (near_gap a.low.y a.high.y b.low.y b.high.y hay hby)))

@@ -4,7 +4,7 @@ use Rattle.std.proofs.lemmas.Int.{ints, by_lt_z}
 use Rattle.exact_frac.specs.declared.frac.Frac.{Frac}
 use Rattle.sand_base.specs.declared.point.Point.{Point}
 use Rattle.sand_base.specs.declared.segment.Segment.{Segment}
-use Rattle.sand_model.specs.Carrier.{RationalPoint, IsPoint, IsOnSegment}
+use Rattle.sand_model.specs.Points.{RationalPoint, IsPoint, IsOnSegment}
 use Rattle.sand_model.specs.Gap.{IsLeast}
 use Rattle.int_ring.specs.Expr.{var, at, ◌⊕◌, ◌⊖◌, ◌⊗◌}
 use Rattle.int_ring.proofs.Order.{difference_nonneg, mul_nonneg, add_nonneg, pos_le}
@@ -30,9 +30,9 @@ lesser_one m e m' e' x y k he he' le h =
     let vx = var 4 in
     let vy = var 5 in
     let vk = var 6 in
-    let far = vx ⊗ vx ⊕ vy ⊗ vy in
-    le_ring_scaled (at (m ∷ e ∷ m' ∷ e' ∷ x ∷ y ∷ k ∷ [])) (vm' ⊗ (vk ⊗ vk)) (far ⊗ ve') ve
-    (ve' ⊗ (far ⊗ ve ⊖ vm ⊗ (vk ⊗ vk)) ⊕ (vk ⊗ vk) ⊗ (vm ⊗ ve' ⊖ vm' ⊗ ve)) refl he
+    let scaled_distance = vx ⊗ vx ⊕ vy ⊗ vy in
+    le_ring_scaled (at (m ∷ e ∷ m' ∷ e' ∷ x ∷ y ∷ k ∷ [])) (vm' ⊗ (vk ⊗ vk)) (scaled_distance ⊗ ve') ve
+    (ve' ⊗ (scaled_distance ⊗ ve ⊖ vm ⊗ (vk ⊗ vk)) ⊕ (vk ⊗ vk) ⊗ (vm ⊗ ve' ⊖ vm' ⊗ ve)) refl he
     (add_nonneg _ _ (mul_nonneg _ _ he' (difference_nonneg _ _ h)) (mul_nonneg _ _ (square_nonneg k) (difference_nonneg _ _ le)))
 
 -- the same, of two fractions

@@ -3,8 +3,8 @@ use Rattle.std.proofs.Common.{◌≡◌, ◌⊎◌, inl, inr, ℕ, ◌*◌, ◌�
 use Rattle.std.proofs.lemmas.Int.{ints}
 use Rattle.sand_base.specs.declared.rect.Rect.{Rect}
 use Rattle.sand_base.specs.declared.segment.Segment.{Segment}
-use Rattle.sand_model.specs.Carrier.{RationalPoint, IsWithin, IsOnSegment, IsInRect}
-use Rattle.sand_model.specs.Gap.{far, common_square}
+use Rattle.sand_model.specs.Points.{RationalPoint, IsWithin, IsOnSegment, IsInRect}
+use Rattle.sand_model.specs.Gap.{scaled_distance, common_square}
 use Rattle.int_ring.specs.Expr.{var, at, num, ◌⊕◌, ◌⊖◌, ◌⊗◌}
 use Rattle.int_ring.proofs.Ring.{ring}
 use Rattle.int_ring.proofs.Order.{difference_nonneg, mul_nonneg, mul_le, add_nonneg, chain_le}
@@ -14,7 +14,7 @@ use Rattle.plane_geom.proofs.Signs.{natural, same_le}
 
 -- two rational points are at least the root of m / e apart
 abbrev pub AreApart : ℕ → ℕ → RationalPoint → RationalPoint → Type 0
-AreApart m e q z = (pos m *ℤ common_square q z) ≤ℤ (far q z *ℤ pos e)
+AreApart m e q z = (pos m *ℤ common_square q z) ≤ℤ (scaled_distance q z *ℤ pos e)
 
 -- no point of a segment is nearer to a side of a rectangle than the root of m / e
 pub record SidesApart (m e : ℕ) (s : Segment) (r : Rect) : Type 0 where

@@ -2,7 +2,7 @@
 use Rattle.std.specs.Prelude.{ℕ, ◌≤◌, min, max}
 use Rattle.sand_base.specs.declared.point.Point.{Point}
 use Rattle.sand_base.specs.declared.segment.Segment.{Segment}
-use Rattle.sand_model.specs.Carrier.{RationalPoint, IsPoint, IsOnSegment}
+use Rattle.sand_model.specs.Points.{RationalPoint, IsPoint, IsOnSegment}
 
 -- v is at least the lesser and at most the greater of two bounds
 pub record IsBetween (a b v : ℕ) : Type 0 where

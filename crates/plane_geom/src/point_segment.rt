@@ -1,8 +1,8 @@
 ghost use Rattle.std.specs.Prelude.{◌≡◌, ◌≤◌, ◌↔◌, IsTrue, pos, ◌*ℤ◌, ◌<ℤ◌};
 ghost use Rattle.std.specs.Int.RustNames.{unsigned_abs};
 ghost use Rattle.exact_frac.specs.declared.TheConstants.{MAX_DEN};
-ghost use Rattle.sand_base.specs.Plane.{IsCorner, IsSegmentInReach};
-ghost use Rattle.sand_model.specs.Carrier.{IsPoint, IsOnSegment};
+ghost use Rattle.sand_base.specs.Plane.{IsInClosedPlane, IsSegmentInClosedPlane};
+ghost use Rattle.sand_model.specs.Points.{IsPoint, IsOnSegment};
 ghost use Rattle.sand_model.specs.Gap.{IsLeast};
 ghost use Rattle.plane_geom.specs.Incidence.{IsBetween, IsInBox, LiesOn};
 
@@ -13,8 +13,8 @@ use sand_base::{Point, Segment};
 
 /// The squared distance of a point and a segment with both its ends, which may be one point.
 pub fn gap_point_segment(p: Point, s: Segment) -> Frac
-    requires p { IsCorner p }
-    requires s { IsSegmentInReach s }
+    requires p { IsInClosedPlane p }
+    requires s { IsSegmentInClosedPlane s }
     ensures { IsLeast (IsPoint p) (IsOnSegment s) result.num result.den }
 {
     let along = dot(s.a, s.b, p);
@@ -42,8 +42,8 @@ fn height_square(cross: i64, length: i64) -> Frac
 
 /// Whether the point lies on the segment; both ends do.
 pub fn on_segment(p: Point, s: Segment) -> bool
-    requires p { IsCorner p }
-    requires s { IsSegmentInReach s }
+    requires p { IsInClosedPlane p }
+    requires s { IsSegmentInClosedPlane s }
     ensures { IsTrue result ↔ LiesOn p s }
 {
     cross(s.a, s.b, p) == 0 && in_box(p, s)

@@ -1,7 +1,7 @@
 ghost use Rattle.std.specs.Prelude.{◌≡◌, ◌+◌, ◌*◌, ◌^◌, ◌≤◌, ◌↔◌, IsTrue};
 ghost use Rattle.sand_base.specs.declared.TheConstants.{COORDINATE_BITS};
-ghost use Rattle.sand_base.specs.Plane.{IsCorner, IsRectInReach};
-ghost use Rattle.sand_model.specs.Carrier.{IsInRect, IsPoint};
+ghost use Rattle.sand_base.specs.Plane.{IsInClosedPlane, IsRectInClosedPlane};
+ghost use Rattle.sand_model.specs.Points.{IsInRect, IsPoint};
 ghost use Rattle.sand_model.specs.Gap.{IsLeast};
 ghost use Rattle.plane_geom.specs.Rectangles.{range_gap};
 
@@ -10,8 +10,8 @@ use sand_base::{Point, Rect};
 
 /// The squared distance of two closed rectangles, a whole number: 0 where they share a point.
 pub fn gap_rects(a: Rect, b: Rect) -> Frac
-    requires a { IsRectInReach a }
-    requires b { IsRectInReach b }
+    requires a { IsRectInClosedPlane a }
+    requires b { IsRectInClosedPlane b }
     ensures { IsLeast (IsInRect a) (IsInRect b) result.num result.den }
 {
     let across = u128::from(between_ranges(a.low.x, a.high.x, b.low.x, b.high.x));
@@ -21,8 +21,8 @@ pub fn gap_rects(a: Rect, b: Rect) -> Frac
 
 /// The squared distance of a point and a closed rectangle, a whole number: 0 where the point lies in it.
 pub fn gap_point_rect(p: Point, r: Rect) -> Frac
-    requires p { IsCorner p }
-    requires r { IsRectInReach r }
+    requires p { IsInClosedPlane p }
+    requires r { IsRectInClosedPlane r }
     ensures { IsLeast (IsPoint p) (IsInRect r) result.num result.den }
 {
     gap_rects(Rect { low: p, high: p }, r)

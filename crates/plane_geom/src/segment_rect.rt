@@ -1,6 +1,6 @@
 ghost use Rattle.std.specs.Prelude.{◌≡◌, ◌↔◌, ◌⊎◌, IsTrue};
-ghost use Rattle.sand_base.specs.Plane.{IsRectInReach, IsSegmentInReach};
-ghost use Rattle.sand_model.specs.Carrier.{IsInRect, IsOnSegment};
+ghost use Rattle.sand_base.specs.Plane.{IsRectInClosedPlane, IsSegmentInClosedPlane};
+ghost use Rattle.sand_model.specs.Points.{IsInRect, IsOnSegment};
 ghost use Rattle.sand_model.specs.Gap.{IsLeast};
 ghost use Rattle.plane_geom.specs.Crossing.{Cross};
 ghost use Rattle.plane_geom.specs.Rectangles.{Enters, IsCovered, left_side, right_side, bottom_side, top_side};
@@ -13,8 +13,8 @@ use sand_base::{Point, Rect, Segment};
 
 /// The squared distance of a segment with both its ends and a closed rectangle: 0 where they share a point.
 pub fn gap_segment_rect(s: Segment, r: Rect) -> Frac
-    requires s { IsSegmentInReach s }
-    requires r { IsRectInReach r }
+    requires s { IsSegmentInClosedPlane s }
+    requires r { IsRectInClosedPlane r }
     ensures { IsLeast (IsOnSegment s) (IsInRect r) result.num result.den }
 {
     if enters(s, r) {
@@ -26,8 +26,8 @@ pub fn gap_segment_rect(s: Segment, r: Rect) -> Frac
 
 /// The least squared distance of an end of the segment from the rectangle, or of a corner of it from the segment.
 fn nearest_end_or_corner(s: Segment, r: Rect) -> Frac
-    requires s { IsSegmentInReach s }
-    requires r { IsRectInReach r }
+    requires s { IsSegmentInClosedPlane s }
+    requires r { IsRectInClosedPlane r }
     ensures { ¬ Enters s r → IsLeast (IsOnSegment s) (IsInRect r) result.num result.den }
 {
     let (left, right) = upright_sides(r);
@@ -39,8 +39,8 @@ fn nearest_end_or_corner(s: Segment, r: Rect) -> Frac
 
 /// Whether the segment begins in the rectangle, or crosses a side of it in the midst of both.
 fn enters(s: Segment, r: Rect) -> bool
-    requires s { IsSegmentInReach s }
-    requires r { IsRectInReach r }
+    requires s { IsSegmentInClosedPlane s }
+    requires r { IsRectInClosedPlane r }
     ensures { IsTrue result ↔ Enters s r }
 {
     let (left, right) = upright_sides(r);
@@ -50,9 +50,9 @@ fn enters(s: Segment, r: Rect) -> bool
 
 /// Whether the segment crosses one of two others.
 fn crosses_either(s: Segment, t: Segment, u: Segment) -> bool
-    requires s { IsSegmentInReach s }
-    requires t { IsSegmentInReach t }
-    requires u { IsSegmentInReach u }
+    requires s { IsSegmentInClosedPlane s }
+    requires t { IsSegmentInClosedPlane t }
+    requires u { IsSegmentInClosedPlane u }
     ensures { IsTrue result ↔ (Cross s t ⊎ Cross s u) }
 {
     crosses(s, t) || crosses(s, u)
@@ -60,11 +60,11 @@ fn crosses_either(s: Segment, t: Segment, u: Segment) -> bool
 
 /// The left side and the right one. Their ends are the four corners.
 fn upright_sides(r: Rect) -> (Segment, Segment)
-    requires { IsRectInReach r }
+    requires { IsRectInClosedPlane r }
     ensures left { result.0 ≡ left_side r }
     ensures right { result.1 ≡ right_side r }
-    ensures left_reach { IsSegmentInReach result.0 }
-    ensures right_reach { IsSegmentInReach result.1 }
+    ensures left_reach { IsSegmentInClosedPlane result.0 }
+    ensures right_reach { IsSegmentInClosedPlane result.1 }
 {
     let left = Segment {
         a: r.low,
@@ -85,11 +85,11 @@ fn upright_sides(r: Rect) -> (Segment, Segment)
 
 /// The bottom side and the top one.
 fn level_sides(r: Rect) -> (Segment, Segment)
-    requires { IsRectInReach r }
+    requires { IsRectInClosedPlane r }
     ensures bottom { result.0 ≡ bottom_side r }
     ensures top { result.1 ≡ top_side r }
-    ensures bottom_reach { IsSegmentInReach result.0 }
-    ensures top_reach { IsSegmentInReach result.1 }
+    ensures bottom_reach { IsSegmentInClosedPlane result.0 }
+    ensures top_reach { IsSegmentInClosedPlane result.1 }
 {
     let bottom = Segment {
         a: r.low,

@@ -1,6 +1,6 @@
 ghost use Rattle.std.specs.Prelude.{◌↔◌, IsTrue};
-ghost use Rattle.sand_base.specs.Plane.{IsSegmentInReach};
-ghost use Rattle.sand_model.specs.Carrier.{IsOnSegment};
+ghost use Rattle.sand_base.specs.Plane.{IsSegmentInClosedPlane};
+ghost use Rattle.sand_model.specs.Points.{IsOnSegment};
 ghost use Rattle.sand_model.specs.Gap.{IsLeast};
 ghost use Rattle.plane_geom.specs.Crossing.{AreOpposed, Cross, Splits};
 ghost use Rattle.plane_geom.specs.Lesser.{IsLesser};
@@ -12,8 +12,8 @@ use sand_base::Segment;
 
 /// The squared distance of two segments with all their ends: 0 where they share a point.
 pub fn gap_segments(s: Segment, t: Segment) -> Frac
-    requires s { IsSegmentInReach s }
-    requires t { IsSegmentInReach t }
+    requires s { IsSegmentInClosedPlane s }
+    requires t { IsSegmentInClosedPlane t }
     ensures { IsLeast (IsOnSegment s) (IsOnSegment t) result.num result.den }
 {
     if crosses(s, t) {
@@ -25,8 +25,8 @@ pub fn gap_segments(s: Segment, t: Segment) -> Frac
 
 /// The least squared distance of an end of either segment from the other segment.
 fn nearest_end(s: Segment, t: Segment) -> Frac
-    requires s { IsSegmentInReach s }
-    requires t { IsSegmentInReach t }
+    requires s { IsSegmentInClosedPlane s }
+    requires t { IsSegmentInClosedPlane t }
     ensures { ¬ Cross s t → IsLeast (IsOnSegment s) (IsOnSegment t) result.num result.den }
 {
     let of_s = nearer(gap_point_segment(s.a, t), gap_point_segment(s.b, t));
@@ -43,8 +43,8 @@ pub fn nearer(a: Frac, b: Frac) -> Frac
 
 /// Whether the segments cross in the midst of both.
 pub fn crosses(s: Segment, t: Segment) -> bool
-    requires s { IsSegmentInReach s }
-    requires t { IsSegmentInReach t }
+    requires s { IsSegmentInClosedPlane s }
+    requires t { IsSegmentInClosedPlane t }
     ensures { IsTrue result ↔ Cross s t }
 {
     splits(s, t) && splits(t, s)
@@ -52,8 +52,8 @@ pub fn crosses(s: Segment, t: Segment) -> bool
 
 /// Whether the ends of t lie on the two sides of the line of s, and neither on the line.
 fn splits(s: Segment, t: Segment) -> bool
-    requires s { IsSegmentInReach s }
-    requires t { IsSegmentInReach t }
+    requires s { IsSegmentInClosedPlane s }
+    requires t { IsSegmentInClosedPlane t }
     ensures { IsTrue result ↔ Splits s t }
 {
     are_opposed(cross(s.a, s.b, t.a), cross(s.a, s.b, t.b))

@@ -1,5 +1,5 @@
 ghost use Rattle.std.specs.Prelude.{IsTrue};
-ghost use Rattle.sand_base.specs.Plane.{IsCorner, IsRectInReach, IsSegmentInReach};
+ghost use Rattle.sand_base.specs.Plane.{IsInClosedPlane, IsRectInClosedPlane, IsSegmentInClosedPlane};
 
 use crate::{
     gap_point_rect, gap_point_segment, gap_points, gap_rects, gap_segment_rect, gap_segments,
@@ -31,19 +31,19 @@ fn area([low_x, low_y, high_x, high_y]: [u32; 4]) -> Rect {
 }
 
 fn in_reach(p: Point) -> bool
-    ensures { IsTrue result → IsCorner p }
+    ensures { IsTrue result → IsInClosedPlane p }
 {
     p.x <= REACH && p.y <= REACH
 }
 
 fn segment_in_reach(s: Segment) -> bool
-    ensures { IsTrue result → IsSegmentInReach s }
+    ensures { IsTrue result → IsSegmentInClosedPlane s }
 {
     in_reach(s.a) && in_reach(s.b)
 }
 
 fn rect_in_reach(r: Rect) -> bool
-    ensures { IsTrue result → IsRectInReach r }
+    ensures { IsTrue result → IsRectInClosedPlane r }
 {
     in_reach(r.low) && in_reach(r.high) && r.low.x <= r.high.x && r.low.y <= r.high.y
 }

@@ -2,7 +2,7 @@ ghost use Rattle.std.specs.Prelude.{◌≡◌, ◌*◌, ◌^◌, ◌≤◌, pos,
 ghost use Rattle.std.specs.Int.RustNames.{unsigned_abs};
 ghost use Rattle.exact_frac.specs.declared.TheConstants.{MAX_DEN};
 ghost use Rattle.sand_base.specs.declared.TheConstants.{COORDINATE_BITS};
-ghost use Rattle.sand_base.specs.Plane.{IsCorner};
+ghost use Rattle.sand_base.specs.Plane.{IsInClosedPlane};
 ghost use Rattle.plane_geom.specs.Vectors.{dot_of, cross_of};
 
 use sand_base::Point;
@@ -29,9 +29,9 @@ fn product(a: i64, b: i64) -> i64
 
 /// The dot product of the steps from o to a and from o to b.
 pub fn dot(o: Point, a: Point, b: Point) -> i64
-    requires o { IsCorner o }
-    requires a { IsCorner a }
-    requires b { IsCorner b }
+    requires o { IsInClosedPlane o }
+    requires a { IsInClosedPlane a }
+    requires b { IsInClosedPlane b }
     ensures value { result ≡ dot_of o a b }
     ensures short { unsigned_abs result ≤ MAX_DEN }
 {
@@ -40,9 +40,9 @@ pub fn dot(o: Point, a: Point, b: Point) -> i64
 
 /// The cross product of the steps from o to a and from o to b: above 0 where b lies to the left of the way from o to a.
 pub fn cross(o: Point, a: Point, b: Point) -> i64
-    requires o { IsCorner o }
-    requires a { IsCorner a }
-    requires b { IsCorner b }
+    requires o { IsInClosedPlane o }
+    requires a { IsInClosedPlane a }
+    requires b { IsInClosedPlane b }
     ensures value { result ≡ cross_of o a b }
     ensures short { unsigned_abs result ≤ MAX_DEN }
 {

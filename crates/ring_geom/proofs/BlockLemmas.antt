@@ -3,7 +3,7 @@ use Rattle.std.proofs.Common.{◌≡◌, ◌⊎◌, inl, inr, ℕ, zero, suc, �
 use Rattle.std.specs.Prelude.{◌↔◌, IsTrue, Decides, map}
 use Rattle.std.proofs.lemmas.Bool.{ltb-true, eqb-true, eq-eqb}
 use Rattle.std.proofs.lemmas.Bool.Decides.{same_from_decides, Decides-or, Decides-like}
-use Rattle.sand_base.specs.Plane.{IsRectInReach, IsShapeInReach}
+use Rattle.sand_base.specs.Plane.{IsRectInClosedPlane, IsShapeInClosedPlane}
 use Rattle.sand_base.specs.declared.TheConstants.{COORDINATE_BITS}
 use Rattle.sand_base.specs.declared.goal.Goal.{Goal}
 use Rattle.sand_base.specs.declared.goal.Goal.TheVariants as goal
@@ -153,13 +153,13 @@ some_unmapped P f (x ∷ xs) h = elim h [ inl p ↦ inl p | inr more ↦ inr (so
 
 -- the shape meets the square of the block, as a test
 module _ (gap : Measure) (m : IsMeasure gap) where
-  pub meets_is_meeting : (s : Shape) (r : Rect) → IsShapeInReach s → IsRectInReach r → IsTrue (meets gap s r) ↔ IsMeeting (goal.Shape s) (goal.Rect r)
+  pub meets_is_meeting : (s : Shape) (r : Rect) → IsShapeInClosedPlane s → IsRectInClosedPlane r → IsTrue (meets gap s r) ↔ IsMeeting (goal.Shape s) (goal.Rect r)
   meets_is_meeting s r hs hr = let f = gap (goal.Shape s) (goal.Rect r) in let g = m (goal.Shape s) (goal.Rect r) hs hr in (
     λ t. meets_of_zero (goal.Shape s) (goal.Rect r) f.num f.den f.positive (eqb-true f.num 0 t) g,
     λ k. eq-eqb f.num 0 (zero_of_meets (goal.Shape s) (goal.Rect r) f.num f.den k g),
   )
 
-  pub meets_children : (s : Shape) (b : Block) → IsShapeInReach s → IsBlock b → b.level < COORDINATE_BITS
+  pub meets_children : (s : Shape) (b : Block) → IsShapeInClosedPlane s → IsBlock b → b.level < COORDINATE_BITS
       → meets gap s (square_of b)
       ≡ (meets gap s (square_of (child b 0)) || (meets gap s (square_of (child b 1))
       || (meets gap s (square_of (child b 2)) || meets gap s (square_of (child b 3)))))

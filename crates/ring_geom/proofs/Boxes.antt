@@ -9,7 +9,7 @@ use Rattle.sand_base.specs.declared.rect.Rect.{Rect}
 use Rattle.sand_base.specs.declared.segment.Segment.{Segment}
 use Rattle.sand_base.specs.declared.shape.Shape.{Shape}
 use Rattle.sand_base.specs.declared.shape.Shape.TheVariants as shape
-use Rattle.sand_model.specs.Carrier.{RationalPoint, IsWithin, IsOnSegment, IsInRect}
+use Rattle.sand_model.specs.Points.{RationalPoint, IsWithin, IsOnSegment, IsInRect}
 use Rattle.sand_model.specs.Figures.{IsPointOf, Holds, corners_of}
 use Rattle.sand_model.specs.Rings.{SomeOf, EachOf, chain, last_of, edges, grid, is_crossed, is_odd, differ, IsInside}
 use Rattle.int_ring.proofs.Order.{chain_le, pos_le}

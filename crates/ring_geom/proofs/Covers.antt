@@ -1,17 +1,17 @@
 -- Of rectangles that tile one which holds a shape, one meets the shape and is no farther from a goal than the shape.
 use Rattle.std.proofs.Common.{◌≡◌, inl, inr, ℕ, ◌*◌, ◌≤◌, pos, ◌*ℤ◌, List, [], ◌∷◌, length, arith}
-use Rattle.sand_model.specs.Gap.{far, common_square}
+use Rattle.sand_model.specs.Gap.{scaled_distance, common_square}
 use Rattle.std.specs.Prelude.{All}
 use Rattle.std.proofs.lemmas.List.Elements.{All-head, All-tail}
-use Rattle.sand_base.specs.Grid.{IsInPlane, IsCorner}
-use Rattle.sand_base.specs.Plane.{IsGoalInReach, IsShapeInReach}
+use Rattle.sand_base.specs.Grid.{IsInPlane, IsInClosedPlane}
+use Rattle.sand_base.specs.Plane.{IsGoalInClosedPlane, IsShapeInClosedPlane}
 use Rattle.sand_base.specs.declared.goal.Goal.{Goal}
 use Rattle.sand_base.specs.declared.goal.Goal.TheVariants as goal
 use Rattle.sand_base.specs.declared.point.Point.{Point}
 use Rattle.sand_base.specs.declared.rect.Rect.{Rect}
 use Rattle.sand_base.specs.declared.shape.Shape.{Shape}
 use Rattle.sand_base.specs.declared.shape.Shape.TheVariants as shape
-use Rattle.sand_model.specs.Carrier.{RationalPoint, IsInRect}
+use Rattle.sand_model.specs.Points.{RationalPoint, IsInRect}
 use Rattle.sand_model.specs.FigureGap.{IsGapOf, IsMeeting}
 use Rattle.sand_model.specs.Figures.{IsPointOf, IsPointOfFigure, Holds, HoldsInside, corners_of}
 use Rattle.sand_model.specs.Rings.{SomeOf, EachOf, grid}
@@ -59,7 +59,7 @@ holding_reached g s root parts m e v h tiles inside on =
 
 -- those at the point of the shape that is nearest to the goal
 nearest_reached : (g : Goal) (s : Shape) (root : Rect) (parts : List Rect) (m e : ℕ) (q z : RationalPoint) → AreCovered (corners_of s) root
-    → Tiles root parts → IsPointOfFigure g q → IsPointOf s z → far q z *ℤ pos e ≡ pos m *ℤ common_square q z → SomeOf (IsReached g s m e) parts
+    → Tiles root parts → IsPointOfFigure g q → IsPointOf s z → scaled_distance q z *ℤ pos e ≡ pos m *ℤ common_square q z → SomeOf (IsReached g s m e) parts
 nearest_reached g s root parts m e q z h tiles on_goal on apart =
     some_also {P = λ part. IsInRect part z} {Q = IsReached g s m e}
     (λ part k. (
@@ -72,7 +72,7 @@ nearest_reached g s root parts m e q z h tiles on_goal on apart =
     )) parts (tiles z (points_in root s z h on))
 
 -- of the tiles one is reached
-pub tiles_cover : (g : Goal) (s : Shape) (root : Rect) (parts : List Rect) (m e : ℕ) → IsGoalInReach g → AreCovered (corners_of s) root
+pub tiles_cover : (g : Goal) (s : Shape) (root : Rect) (parts : List Rect) (m e : ℕ) → IsGoalInClosedPlane g → AreCovered (corners_of s) root
     → Tiles root parts → IsGapOf g (goal.Shape s) m e → SomeOf (IsReached g s m e) parts
 tiles_cover g s root parts m e reach h tiles gap =
     elim (decide_covering g (goal.Shape s)) [
@@ -139,7 +139,7 @@ tiles_cover_pairs a b root root' parts others m e ha hb ta tb gap =
     ]
 
 -- a rectangle that holds the vertices of a shape meets it, since there is a first one
-pub holder_meets : (s : Shape) (r : Rect) → IsShapeInReach s → AreCovered (corners_of s) r → IsMeeting (goal.Shape s) (goal.Rect r)
+pub holder_meets : (s : Shape) (r : Rect) → IsShapeInClosedPlane s → AreCovered (corners_of s) r → IsMeeting (goal.Shape s) (goal.Rect r)
 holder_meets s r reach h =
     let v = corner_on s (λ p. IsCovered p r) (first_covered s reach h) in
     meets_of_touch (goal.Shape s) r (inr (grid v.0, v.2, grid_in v.0 r v.1))
@@ -148,20 +148,20 @@ holder_meets s r reach h =
     some_first P [] l h = absurd (omega arith)
     some_first P (p ∷ ps) l h = inl h.0
 
-    first_covered : (s : Shape) → IsShapeInReach s → AreCovered (corners_of s) r → SomeOf (λ p. IsCovered p r) (corners_of s)
+    first_covered : (s : Shape) → IsShapeInClosedPlane s → AreCovered (corners_of s) r → SomeOf (λ p. IsCovered p r) (corners_of s)
     first_covered (shape.Point p) reach h = inl h.0
     first_covered (shape.Segment t) reach h = inl h.0
     first_covered (shape.Polygon ring) reach h = some_first (λ p. IsCovered p r) ring reach.fewest h
 
 -- a corner lies in the whole square
-corner_covered : (p : Point) → IsCorner p → IsCovered p whole_square
+corner_covered : (p : Point) → IsInClosedPlane p → IsCovered p whole_square
 corner_covered p h = record { left = least p.x; right = h.x; bottom = least p.y; top = h.y }
   where
     least : (n : ℕ) → 0 ≤ n
     least n = omega arith
 
 -- which holds each shape
-pub square_holds : (s : Shape) → IsShapeInReach s → AreCovered (corners_of s) whole_square
+pub square_holds : (s : Shape) → IsShapeInClosedPlane s → AreCovered (corners_of s) whole_square
 square_holds (shape.Point p) h = (corner_covered p h, tt)
 square_holds (shape.Segment s) h = (corner_covered s.a h.a, (corner_covered s.b h.b, tt))
 square_holds (shape.Polygon ring) h = each ring h.in_plane

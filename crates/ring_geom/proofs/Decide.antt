@@ -8,7 +8,7 @@ use Rattle.sand_base.specs.declared.goal.Goal.TheVariants as goal
 use Rattle.sand_base.specs.declared.point.Point.{Point}
 use Rattle.sand_base.specs.declared.segment.Segment.{Segment}
 use Rattle.sand_base.specs.declared.shape.Shape.TheVariants as shape
-use Rattle.sand_model.specs.Carrier.{RationalPoint, IsWithin, IsOnSegment}
+use Rattle.sand_model.specs.Points.{RationalPoint, IsWithin, IsOnSegment}
 use Rattle.sand_model.specs.FigureGap.{IsCovering}
 use Rattle.sand_model.specs.Figures.{HoldsInside, vertices_of}
 use Rattle.sand_model.specs.Rings.{SomeOf, edges, grid, is_crossed, is_odd, IsInside}

@@ -1,7 +1,7 @@
 -- The edge that ends at a vertex is the term of the list of edges with the vertex's number.
 use Rattle.std.proofs.Common.{◌≡◌, ℕ, zero, suc, ◌+◌, ◌-◌, ◌<◌, ◌≤◌, List, [], ◌∷◌, length, get_or, drop, refl, ap, ap₂, sym, ◌∙◌, arith}
 use Rattle.std.proofs.Math.Numerals.{add-one}
-use Rattle.sand_base.specs.Grid.{IsInPlane, IsCorner}
+use Rattle.sand_base.specs.Grid.{IsInPlane, IsInClosedPlane}
 use Rattle.sand_base.specs.declared.point.Point.{Point}
 use Rattle.sand_base.specs.declared.segment.Segment.{Segment}
 use Rattle.sand_model.specs.Rings.{chain, last_of, edges}
@@ -55,7 +55,7 @@ later_edge (first ∷ rest) a b d (suc i) hi h ea eb =
     one_less i = omega arith
 
 -- a vertex of a ring lies in the closed square
-pub corner_of_plane : (p : Point) → IsInPlane p → IsCorner p
+pub corner_of_plane : (p : Point) → IsInPlane p → IsInClosedPlane p
 corner_of_plane p h = record { x = weak _ _ h.x; y = weak _ _ h.y }
   where
     weak : (m n : ℕ) → m < n → m ≤ n

@@ -1,17 +1,17 @@
 -- A rectangle that holds a figure is no farther from a goal than the figure.
 use Rattle.std.proofs.Common.{◌≡◌, inl, inr, ℕ, ◌*◌, ◌≤◌, ℤ, pos, ◌-ℤ◌, ◌*ℤ◌, ◌≤ℤ◌, List, [], ◌∷◌, refl, sym, subst, arith}
 use Rattle.std.proofs.Math.Nat.{mul-le-mul_left}
-use Rattle.sand_base.specs.Plane.{IsGoalInReach}
+use Rattle.sand_base.specs.Plane.{IsGoalInClosedPlane}
 use Rattle.sand_base.specs.declared.goal.Goal.{Goal}
 use Rattle.sand_base.specs.declared.goal.Goal.TheVariants as goal
 use Rattle.sand_base.specs.declared.point.Point.{Point}
 use Rattle.sand_base.specs.declared.rect.Rect.{Rect}
 use Rattle.sand_base.specs.declared.shape.Shape.{Shape}
 use Rattle.sand_base.specs.declared.shape.Shape.TheVariants as shape
-use Rattle.sand_model.specs.Carrier.{RationalPoint, IsWithin, IsOnSegment, IsInRect}
+use Rattle.sand_model.specs.Points.{RationalPoint, IsWithin, IsOnSegment, IsInRect}
 use Rattle.sand_model.specs.FigureGap.{IsCovering, IsGapOf}
 use Rattle.sand_model.specs.Figures.{IsPointOf, IsPointOfFigure, HoldsInside, corners_of, vertices_of}
-use Rattle.sand_model.specs.Gap.{far, common_square}
+use Rattle.sand_model.specs.Gap.{scaled_distance, common_square}
 use Rattle.sand_model.specs.Rings.{SomeOf, EachOf, chain, last_of, grid, IsOnRing}
 use Rattle.int_ring.specs.Expr.{var, num, at, ◌⊖◌, ◌⊗◌}
 use Rattle.int_ring.proofs.Ring.{ring_using}
@@ -29,13 +29,13 @@ use Rattle.ring_geom.proofs.Touch.{gap_zero, touch_of_inside}
 use Rattle.ring_geom.proofs.Zero.{scale_positive}
 
 -- a pair that is as far apart as m / e says, and no nearer than n / d: then n / d is at most m / e
-pub cross_bound : (q z : RationalPoint) (m e n d : ℕ) → far q z *ℤ pos e ≡ pos m *ℤ common_square q z
-    → (pos n *ℤ common_square q z) ≤ℤ (far q z *ℤ pos d) → n * e ≤ m * d
+pub cross_bound : (q z : RationalPoint) (m e n d : ℕ) → scaled_distance q z *ℤ pos e ≡ pos m *ℤ common_square q z
+    → (pos n *ℤ common_square q z) ≤ℤ (scaled_distance q z *ℤ pos d) → n * e ≤ m * d
 cross_bound q z m e n d h k =
     le_pos (n * e) (m * d)
     (le_from_mul (pos (n * e)) (pos (m * d)) (common_square q z) (scale_positive q z)
     (le_by (pos (n * e) *ℤ common_square q z) (pos (m * d) *ℤ common_square q z) _
-    (exchanged (far q z) (pos m) (pos e) (pos n) (pos d) (common_square q z) h)
+    (exchanged (scaled_distance q z) (pos m) (pos e) (pos n) (pos d) (common_square q z) h)
     (mul_nonneg (pos e) _ (natural e) (difference_nonneg _ _ k))))
   where
     exchanged : (f m e n d c : ℤ) → f *ℤ e ≡ m *ℤ c → ((m *ℤ d) *ℤ c) -ℤ ((n *ℤ e) *ℤ c) ≡ e *ℤ ((f *ℤ d) -ℤ (n *ℤ c))
@@ -71,7 +71,7 @@ corner_on (shape.Segment s) P h =
 corner_on (shape.Polygon ring) P h = vertex_on_ring P ring h
 
 -- and so are those of a figure in reach
-pub vertex_on : (g : Goal) (P : Point → Type 0) → IsGoalInReach g → SomeOf P (vertices_of g) → (v : Point) × P v × IsPointOfFigure g (grid v)
+pub vertex_on : (g : Goal) (P : Point → Type 0) → IsGoalInClosedPlane g → SomeOf P (vertices_of g) → (v : Point) × P v × IsPointOfFigure g (grid v)
 vertex_on (goal.Shape s) P reach h = corner_on s P h
 vertex_on (goal.Rect r) P reach h = let v = some_corner P r reach.x reach.y h in (v.0, v.2, grid_in v.0 r v.1)
 
@@ -113,7 +113,7 @@ part_held q r h = record {
     }
 
 -- a figure that holds a vertex of what a rectangle holds is 0 from the rectangle
-zero_from : (g a : Goal) (r : Rect) (n d : ℕ) → IsGoalInReach g → IsHeld a r → IsCovering g a → IsGapOf g (goal.Rect r) n d → n ≡ 0
+zero_from : (g a : Goal) (r : Rect) (n d : ℕ) → IsGoalInClosedPlane g → IsHeld a r → IsCovering g a → IsGapOf g (goal.Rect r) n d → n ≡ 0
 zero_from g a r n d reach held c h =
     gap_zero g r n d
     (elim c [
@@ -124,7 +124,7 @@ zero_from g a r n d reach held c h =
     ]) h
 
 -- a rectangle that holds a figure is no farther from a goal than the figure
-pub no_farther : (g a : Goal) (r : Rect) (m e n d : ℕ) → IsGoalInReach g → IsHeld a r → IsGapOf g a m e → IsGapOf g (goal.Rect r) n d
+pub no_farther : (g a : Goal) (r : Rect) (m e n d : ℕ) → IsGoalInClosedPlane g → IsHeld a r → IsGapOf g a m e → IsGapOf g (goal.Rect r) n d
     → n * e ≤ m * d
 no_farther g a r m e n d reach held h k =
     elim (decide_covering g a) [

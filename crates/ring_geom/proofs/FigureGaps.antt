@@ -7,7 +7,7 @@ use Rattle.sand_base.specs.declared.rect.Rect.{Rect}
 use Rattle.sand_base.specs.declared.segment.Segment.{Segment}
 use Rattle.sand_base.specs.declared.shape.Shape.{Shape}
 use Rattle.sand_base.specs.declared.shape.Shape.TheVariants as shape
-use Rattle.sand_model.specs.Carrier.{IsPoint, IsOnSegment, IsInRect}
+use Rattle.sand_model.specs.Points.{IsPoint, IsOnSegment, IsInRect}
 use Rattle.sand_model.specs.FigureGap.{IsCovering, IsGapOf}
 use Rattle.sand_model.specs.Figures.{IsPointOf, IsPointOfFigure, Holds, HoldsInside, corners_of, vertices_of}
 use Rattle.sand_model.specs.Gap.{IsLeast}

@@ -6,7 +6,7 @@ use Rattle.std.proofs.lemmas.Int.{ints}
 use Rattle.std.specs.Int.RustNames.{unsigned_abs}
 use Rattle.exact_frac.specs.declared.TheConstants.{MAX_NUM, MAX_DEN}
 use Rattle.exact_frac.specs.declared.frac.Frac.{Frac}
-use Rattle.sand_base.specs.Grid.{IsCorner}
+use Rattle.sand_base.specs.Grid.{IsInClosedPlane}
 use Rattle.sand_base.specs.declared.TheConstants.{COORDINATE_BITS}
 use Rattle.sand_base.specs.declared.point.Point.{Point}
 use Rattle.plane_geom.specs.Lesser.{IsLesser}
@@ -33,7 +33,7 @@ room : 2 * (width * width) ≤ MAX_DEN
 room = lit≤ tt
 
 -- dot products fit a denominator
-pub dot_short : (o a b : Point) → IsCorner o → IsCorner a → IsCorner b → unsigned_abs (dot_of o a b) ≤ MAX_DEN
+pub dot_short : (o a b : Point) → IsInClosedPlane o → IsInClosedPlane a → IsInClosedPlane b → unsigned_abs (dot_of o a b) ≤ MAX_DEN
 dot_short o a b ho ha hb =
     through _ _ _
     (sum_short ((pos a.x -ℤ pos o.x) *ℤ (pos b.x -ℤ pos o.x)) ((pos a.y -ℤ pos o.y) *ℤ (pos b.y -ℤ pos o.y)) (width * width)
@@ -45,7 +45,7 @@ dot_short o a b ho ha hb =
     through p q r h k = omega arith
 
 -- and so do cross products
-pub cross_short : (o a b : Point) → IsCorner o → IsCorner a → IsCorner b → unsigned_abs (cross_of o a b) ≤ MAX_DEN
+pub cross_short : (o a b : Point) → IsInClosedPlane o → IsInClosedPlane a → IsInClosedPlane b → unsigned_abs (cross_of o a b) ≤ MAX_DEN
 cross_short o a b ho ha hb =
     through _ _ _
     (difference_short ((pos a.x -ℤ pos o.x) *ℤ (pos b.y -ℤ pos o.y)) ((pos a.y -ℤ pos o.y) *ℤ (pos b.x -ℤ pos o.x)) (width * width)

@@ -5,7 +5,7 @@ use Rattle.std.proofs.lemmas.List.{drop_all}
 use Rattle.std.proofs.lemmas.Int.{ints}
 use Rattle.sand_base.specs.declared.point.Point.{Point}
 use Rattle.sand_base.specs.declared.segment.Segment.{Segment}
-use Rattle.sand_model.specs.Carrier.{IsWithin, IsOnSegment}
+use Rattle.sand_model.specs.Points.{IsWithin, IsOnSegment}
 use Rattle.sand_model.specs.Rings.{SomeOf, chain, last_of, edges, grid, is_crossed, is_odd, differ}
 use Rattle.int_ring.specs.Expr.{var, num, at, ◌⊖◌, ◌⊗◌}
 use Rattle.int_ring.proofs.Ring.{ring_using}

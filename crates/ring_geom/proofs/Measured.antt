@@ -4,8 +4,8 @@ use Rattle.std.specs.Prelude.{All}
 use Rattle.std.proofs.lemmas.Bool.{cases_lt}
 use Rattle.std.proofs.lemmas.List.Elements.{All-nil, All-cons, All-head, All-tail}
 use Rattle.exact_frac.specs.declared.frac.Frac.{Frac}
-use Rattle.sand_base.specs.Grid.{IsInPlane, IsCorner, IsRing}
-use Rattle.sand_base.specs.Plane.{IsGoalInReach, IsRectInReach, IsSegmentInReach, IsShapeInReach}
+use Rattle.sand_base.specs.Grid.{IsInPlane, IsInClosedPlane, IsRing}
+use Rattle.sand_base.specs.Plane.{IsGoalInClosedPlane, IsRectInClosedPlane, IsSegmentInClosedPlane, IsShapeInClosedPlane}
 use Rattle.sand_base.specs.declared.TheConstants.{COORDINATE_BITS}
 use Rattle.sand_base.specs.declared.goal.Goal.{Goal}
 use Rattle.sand_base.specs.declared.goal.Goal.TheVariants as goal
@@ -14,7 +14,7 @@ use Rattle.sand_base.specs.declared.rect.Rect.{Rect}
 use Rattle.sand_base.specs.declared.segment.Segment.{Segment}
 use Rattle.sand_base.specs.declared.shape.Shape.{Shape}
 use Rattle.sand_base.specs.declared.shape.Shape.TheVariants as shape
-use Rattle.sand_model.specs.Carrier.{RationalPoint, IsPoint, IsOnSegment, IsInRect}
+use Rattle.sand_model.specs.Points.{RationalPoint, IsPoint, IsOnSegment, IsInRect}
 use Rattle.sand_model.specs.FigureGap.{IsFigureGap}
 use Rattle.sand_model.specs.Figures.{IsPointOf, IsPointOfFigure}
 use Rattle.sand_model.specs.Measure.{Measure, IsMeasure}
@@ -31,8 +31,8 @@ turned : {A B : RationalPoint → Type 0} → HasLeast A B → HasLeast B A
 turned {A} {B} h = (h.0, least_exchanged {A = A} {B = B} (h.0).num (h.0).den h.1)
 
 -- some segments, of which there is one
-any_least : {B : RationalPoint → Type 0} → ((e : Segment) → IsSegmentInReach e → HasLeast (IsOnSegment e) B) → (e : Segment) (es : List Segment)
-    → IsSegmentInReach e → EachOf IsSegmentInReach es → HasLeast (IsOnAny (e ∷ es)) B
+any_least : {B : RationalPoint → Type 0} → ((e : Segment) → IsSegmentInClosedPlane e → HasLeast (IsOnSegment e) B) → (e : Segment) (es : List Segment)
+    → IsSegmentInClosedPlane e → EachOf IsSegmentInClosedPlane es → HasLeast (IsOnAny (e ∷ es)) B
 any_least {B} f e [] h hs =
     let one = f e h in (
       one.0,
@@ -46,35 +46,35 @@ any_least {B} f e (d ∷ es) h hs =
     (least.0, least_union {A = IsOnSegment e} {A' = IsOnAny (d ∷ es)} {B = B} one.0 rest.0 least.0 one.1 rest.1 least.1)
 
 -- the edges of a ring lie in the closed square
-chain_in_reach : (from : Point) (ps : List Point) → IsCorner from → EachOf IsCorner ps → EachOf IsSegmentInReach (chain from ps)
+chain_in_reach : (from : Point) (ps : List Point) → IsInClosedPlane from → EachOf IsInClosedPlane ps → EachOf IsSegmentInClosedPlane (chain from ps)
 chain_in_reach from [] h hs = tt
 chain_in_reach from (to ∷ rest) h hs = (record { a = h; b = hs.0 }, chain_in_reach to rest hs.0 hs.1)
 
-last_in_reach : (first : Point) (rest : List Point) → IsCorner first → EachOf IsCorner rest → IsCorner (last_of first rest)
+last_in_reach : (first : Point) (rest : List Point) → IsInClosedPlane first → EachOf IsInClosedPlane rest → IsInClosedPlane (last_of first rest)
 last_in_reach first [] h hs = h
 last_in_reach first (next ∷ rest) h hs = last_in_reach next rest hs.0 hs.1
 
-pub corners_in_reach : (ps : List Point) → All IsInPlane ps → EachOf IsCorner ps
+pub corners_in_reach : (ps : List Point) → All IsInPlane ps → EachOf IsInClosedPlane ps
 corners_in_reach [] h = tt
 corners_in_reach (p ∷ ps) h = (corner_of_plane p (All-head IsInPlane p ps h), corners_in_reach ps (All-tail IsInPlane p ps h))
 
 -- a ring
-ring_least : {B : RationalPoint → Type 0} → ((e : Segment) → IsSegmentInReach e → HasLeast (IsOnSegment e) B) → (ring : List Point)
-    → 3 ≤ length ring → EachOf IsCorner ring → HasLeast (IsOnRing ring) B
+ring_least : {B : RationalPoint → Type 0} → ((e : Segment) → IsSegmentInClosedPlane e → HasLeast (IsOnSegment e) B) → (ring : List Point)
+    → 3 ≤ length ring → EachOf IsInClosedPlane ring → HasLeast (IsOnRing ring) B
 ring_least {B} f [] l h = absurd (omega arith)
 ring_least {B} f (first ∷ rest) l h =
     let last = last_in_reach first rest h.0 h.1 in
     any_least {B = B} f (record { a = last_of first rest; b = first }) (chain first rest) (record { a = last; b = h.0 }) (chain_in_reach first rest h.0 h.1)
 
 -- a shape
-shape_least : {B : RationalPoint → Type 0} → ((p : Point) → IsCorner p → HasLeast (IsPoint p) B)
-    → ((e : Segment) → IsSegmentInReach e → HasLeast (IsOnSegment e) B) → (s : Shape) → IsShapeInReach s → HasLeast (IsPointOf s) B
+shape_least : {B : RationalPoint → Type 0} → ((p : Point) → IsInClosedPlane p → HasLeast (IsPoint p) B)
+    → ((e : Segment) → IsSegmentInClosedPlane e → HasLeast (IsOnSegment e) B) → (s : Shape) → IsShapeInClosedPlane s → HasLeast (IsPointOf s) B
 shape_least {B} of_point of_segment (shape.Point p) h = of_point p h
 shape_least {B} of_point of_segment (shape.Segment s) h = of_segment s h
 shape_least {B} of_point of_segment (shape.Polygon ring) h = ring_least {B = B} of_segment ring h.fewest (corners_in_reach ring h.in_plane)
 
 -- two shapes
-two_shapes : (s t : Shape) → IsShapeInReach s → IsShapeInReach t → HasLeast (IsPointOf s) (IsPointOf t)
+two_shapes : (s t : Shape) → IsShapeInClosedPlane s → IsShapeInClosedPlane t → HasLeast (IsPointOf s) (IsPointOf t)
 two_shapes s t hs ht =
     shape_least {B = IsPointOf t}
     (λ p hp.
@@ -85,11 +85,11 @@ two_shapes s t hs ht =
     (shape_least {B = IsOnSegment d} (λ q hq. point_segment q d hq hd) (λ e he. segment_segment e d he hd) t ht)) s hs
 
 -- a shape and a rectangle
-shape_rect : (s : Shape) (r : Rect) → IsShapeInReach s → IsRectInReach r → HasLeast (IsPointOf s) (IsInRect r)
+shape_rect : (s : Shape) (r : Rect) → IsShapeInClosedPlane s → IsRectInClosedPlane r → HasLeast (IsPointOf s) (IsInRect r)
 shape_rect s r hs hr = shape_least {B = IsInRect r} (λ p hp. point_rect p r hp hr) (λ e he. segment_rect e r he hr) s hs
 
 -- two figures
-figures_least : (a b : Goal) → IsGoalInReach a → IsGoalInReach b → HasLeast (IsPointOfFigure a) (IsPointOfFigure b)
+figures_least : (a b : Goal) → IsGoalInClosedPlane a → IsGoalInClosedPlane b → HasLeast (IsPointOfFigure a) (IsPointOfFigure b)
 figures_least (goal.Shape s) (goal.Shape t) ha hb = two_shapes s t ha hb
 figures_least (goal.Shape s) (goal.Rect r) ha hb = shape_rect s r ha hb
 figures_least (goal.Rect r) (goal.Shape s) ha hb = turned {A = IsPointOf s} {B = IsInRect r} (shape_rect s r hb ha)
@@ -100,7 +100,7 @@ abbrev none : Frac
 none = whole 0 (lit≤ tt)
 
 -- two figures of the closed square have a gap
-pub gap_exists : (a b : Goal) → IsGoalInReach a → IsGoalInReach b → (f : Frac) × IsFigureGap a b f
+pub gap_exists : (a b : Goal) → IsGoalInClosedPlane a → IsGoalInClosedPlane b → (f : Frac) × IsFigureGap a b f
 gap_exists a b ha hb =
     elim (decide_covering a b) [
       | inl c ↦ (none, covering_gap a b 0 1 refl c)
@@ -132,7 +132,7 @@ decide_both p q =
 decide_alike : {P Q : Type 0} → (P → Q) → (Q → P) → Dec P → Dec Q
 decide_alike f g h = elim h [ inl p ↦ inl (f p) | inr fails ↦ inr (λ q. fails (g q)) ]
 
-decide_corner : (p : Point) → Dec (IsCorner p)
+decide_corner : (p : Point) → Dec (IsInClosedPlane p)
 decide_corner p =
     decide_alike (λ h. record { x = h.0; y = h.1 }) (λ h. (h.x, h.y)) (decide_both (decide_le p.x (2 ^ COORDINATE_BITS)) (decide_le p.y (2 ^ COORDINATE_BITS)))
 
@@ -151,7 +151,7 @@ decide_ring ps =
     decide_alike (λ h. record { fewest = h.0; most = h.1.0; in_plane = h.1.1 }) (λ h. (h.fewest, (h.most, h.in_plane)))
     (decide_both (decide_le 3 (length ps)) (decide_both (decide_le (length ps) 64) (decide_all ps)))
 
-decide_reach : (g : Goal) → Dec (IsGoalInReach g)
+decide_reach : (g : Goal) → Dec (IsGoalInClosedPlane g)
 decide_reach (goal.Shape (shape.Point p)) = decide_corner p
 decide_reach (goal.Shape (shape.Segment s)) =
     decide_alike (λ h. record { a = h.0; b = h.1 }) (λ h. (h.a, h.b)) (decide_both (decide_corner s.a) (decide_corner s.b))
@@ -161,12 +161,12 @@ decide_reach (goal.Rect r) =
     (decide_both (decide_both (decide_corner r.low) (decide_corner r.high)) (decide_both (decide_le r.low.x r.high.x) (decide_le r.low.y r.high.y)))
 
 -- the gap where both lie in the closed square, and else nothing
-abbrev picked : (a b : Goal) → Dec (IsGoalInReach a) → Dec (IsGoalInReach b) → Frac
+abbrev picked : (a b : Goal) → Dec (IsGoalInClosedPlane a) → Dec (IsGoalInClosedPlane b) → Frac
 picked a b (inl ha) (inl hb) = (gap_exists a b ha hb).0
 picked a b (inl ha) (inr fails) = none
 picked a b (inr fails) hb = none
 
-picked_gap : (a b : Goal) (da : Dec (IsGoalInReach a)) (db : Dec (IsGoalInReach b)) → IsGoalInReach a → IsGoalInReach b
+picked_gap : (a b : Goal) (da : Dec (IsGoalInClosedPlane a)) (db : Dec (IsGoalInClosedPlane b)) → IsGoalInClosedPlane a → IsGoalInClosedPlane b
     → IsFigureGap a b (picked a b da db)
 picked_gap a b (inl ha) (inl hb) ka kb = (gap_exists a b ha hb).1
 picked_gap a b (inl ha) (inr fails) ka kb = absurd (fails kb)

@@ -6,7 +6,7 @@ use Rattle.std.proofs.lemmas.Int.{ints}
 use Rattle.sand_base.specs.declared.goal.Goal.TheVariants as goal
 use Rattle.sand_base.specs.declared.rect.Rect.{Rect}
 use Rattle.sand_base.specs.declared.shape.Shape.{Shape}
-use Rattle.sand_model.specs.Carrier.{RationalPoint, IsInRect}
+use Rattle.sand_model.specs.Points.{RationalPoint, IsInRect}
 use Rattle.sand_model.specs.FigureGap.{IsGapOf, IsMeeting}
 use Rattle.sand_model.specs.Figures.{Holds, corners_of}
 use Rattle.sand_model.specs.Rings.{grid}

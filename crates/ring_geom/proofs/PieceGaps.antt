@@ -6,13 +6,13 @@ use Rattle.std.proofs.lemmas.Int.{ints, by_lt_z}
 use Rattle.std.specs.Int.RustNames.{unsigned_abs}
 use Rattle.exact_frac.specs.declared.TheConstants.{MAX_DEN}
 use Rattle.exact_frac.specs.declared.frac.Frac.{Frac}
-use Rattle.sand_base.specs.Grid.{IsCorner}
-use Rattle.sand_base.specs.Plane.{IsSegmentInReach, IsRectInReach}
+use Rattle.sand_base.specs.Grid.{IsInClosedPlane}
+use Rattle.sand_base.specs.Plane.{IsSegmentInClosedPlane, IsRectInClosedPlane}
 use Rattle.sand_base.specs.declared.TheConstants.{COORDINATE_BITS}
 use Rattle.sand_base.specs.declared.point.Point.{Point}
 use Rattle.sand_base.specs.declared.rect.Rect.{Rect}
 use Rattle.sand_base.specs.declared.segment.Segment.{Segment}
-use Rattle.sand_model.specs.Carrier.{RationalPoint, IsPoint, IsOnSegment, IsInRect}
+use Rattle.sand_model.specs.Points.{RationalPoint, IsPoint, IsOnSegment, IsInRect}
 use Rattle.sand_model.specs.Gap.{IsLeast}
 use Rattle.int_ring.proofs.Order.{pos_abs, add_nonneg}
 use Rattle.int_ring.proofs.Squares.{square_nonneg, square_abs}
@@ -34,7 +34,7 @@ abbrev pub HasLeast : (RationalPoint → Type 0) → (RationalPoint → Type 0) 
 HasLeast A B = (f : Frac) × IsLeast A B f.num f.den
 
 -- two points
-pub point_point : (a b : Point) → IsCorner a → IsCorner b → HasLeast (IsPoint a) (IsPoint b)
+pub point_point : (a b : Point) → IsInClosedPlane a → IsInClosedPlane b → HasLeast (IsPoint a) (IsPoint b)
 point_point a b ha hb =
     let n = unsigned_abs (dot_of a b b) in (
       whole n (dot_short a b b ha hb hb),
@@ -43,7 +43,7 @@ point_point a b ha hb =
     )
 
 -- a point and a segment
-pub point_segment : (p : Point) (s : Segment) → IsCorner p → IsSegmentInReach s → HasLeast (IsPoint p) (IsOnSegment s)
+pub point_segment : (p : Point) (s : Segment) → IsInClosedPlane p → IsSegmentInClosedPlane s → HasLeast (IsPoint p) (IsOnSegment s)
 point_segment p s hp hs =
     by_lt_z (pos 0) (dot_of s.a s.b p)
     (λ ahead.
@@ -75,7 +75,7 @@ point_segment p s hp hs =
     some n l d e h k = omega (arith, ints)
 
 -- two rectangles
-pub rect_rect : (q r : Rect) → IsRectInReach q → IsRectInReach r → HasLeast (IsInRect q) (IsInRect r)
+pub rect_rect : (q r : Rect) → IsRectInClosedPlane q → IsRectInClosedPlane r → HasLeast (IsInRect q) (IsInRect r)
 rect_rect q r hq hr =
     let x = range_gap q.low.x q.high.x r.low.x r.high.x in
     let y = range_gap q.low.y q.high.y r.low.y r.high.y in (
@@ -96,7 +96,7 @@ rect_rect q r hq hr =
         omega arith
 
 -- a point and a rectangle
-pub point_rect : (p : Point) (r : Rect) → IsCorner p → IsRectInReach r → HasLeast (IsPoint p) (IsInRect r)
+pub point_rect : (p : Point) (r : Rect) → IsInClosedPlane p → IsRectInClosedPlane r → HasLeast (IsPoint p) (IsInRect r)
 point_rect p r hp hr =
     let h = rect_rect (record { low = p; high = p }) r (record { low = hp; high = hp; x = same p.x; y = same p.y }) hr in
     (h.0, point_rect_least p r (h.0).num (h.0).den h.1)
@@ -137,7 +137,7 @@ abbrev none : Frac
 none = whole 0 (lit≤ tt)
 
 -- two segments
-pub segment_segment : (s t : Segment) → IsSegmentInReach s → IsSegmentInReach t → HasLeast (IsOnSegment s) (IsOnSegment t)
+pub segment_segment : (s t : Segment) → IsSegmentInClosedPlane s → IsSegmentInClosedPlane t → HasLeast (IsOnSegment s) (IsOnSegment t)
 segment_segment s t hs ht =
     elim (decide_cross s t) [
       | inl cross ↦ (none, crossing_least s t 0 1 refl refl cross)
@@ -193,7 +193,7 @@ decide_enters s r =
         ]
 
 -- a segment and a rectangle
-pub segment_rect : (s : Segment) (r : Rect) → IsSegmentInReach s → IsRectInReach r → HasLeast (IsOnSegment s) (IsInRect r)
+pub segment_rect : (s : Segment) (r : Rect) → IsSegmentInClosedPlane s → IsRectInClosedPlane r → HasLeast (IsOnSegment s) (IsInRect r)
 segment_rect s r hs hr =
     elim (decide_enters s r) [
       | inl enters ↦ (none, corners.entering_least s r 0 1 (record { x = hr.x; y = hr.y }) refl refl enters)

@@ -3,7 +3,7 @@ use Rattle.std.proofs.Common.{◌≡◌, ◌⊎◌, inl, inr, ℕ, ◌<◌, ◌�
 use Rattle.std.proofs.lemmas.Bool.{cases_lt}
 use Rattle.sand_base.specs.declared.point.Point.{Point}
 use Rattle.sand_base.specs.declared.rect.Rect.{Rect}
-use Rattle.sand_model.specs.Carrier.{IsOnSegment, IsInRect}
+use Rattle.sand_model.specs.Points.{IsOnSegment, IsInRect}
 use Rattle.sand_model.specs.Rings.{SomeOf, edges, grid, is_crossed, is_odd, differ, IsInside}
 use Rattle.plane_geom.specs.Rectangles.{IsCovered}
 use Rattle.plane_geom.proofs.Leaving.{value_within}

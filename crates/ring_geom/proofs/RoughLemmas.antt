@@ -1,7 +1,7 @@
 -- The rough shape of a polygon is its bounding rectangle, and no farther than the polygon.
 use Rattle.std.proofs.Common.{◌≡◌, ℕ, ◌*◌, ◌≤◌, min, max, List, [], ◌∷◌, ap, arith}
-use Rattle.sand_base.specs.Grid.{IsCorner, IsRing}
-use Rattle.sand_base.specs.Plane.{IsGoalInReach, IsRectInReach, IsShapeInReach}
+use Rattle.sand_base.specs.Grid.{IsInClosedPlane, IsRing}
+use Rattle.sand_base.specs.Plane.{IsGoalInClosedPlane, IsRectInClosedPlane, IsShapeInClosedPlane}
 use Rattle.sand_base.specs.declared.goal.Goal.{Goal}
 use Rattle.sand_base.specs.declared.goal.Goal.TheVariants as goal
 use Rattle.sand_base.specs.declared.point.Point.{Point}
@@ -110,7 +110,7 @@ rough_is_bounding (first ∷ more) r h k =
     ap (λ (t : Rect). goal.Rect t) (bounding_unique (first ∷ more) (bound_from first more) r (bound_is first more) k)
 
 -- the bounding rectangle of vertices in the closed square lies in it
-bound_in_reach : (first : Point) (more : List Point) → IsCorner first → EachOf IsCorner more → IsRectInReach (bound_from first more)
+bound_in_reach : (first : Point) (more : List Point) → IsInClosedPlane first → EachOf IsInClosedPlane more → IsRectInClosedPlane (bound_from first more)
 bound_in_reach first [] h hs = record { low = h; high = h; x = same first.x; y = same first.y }
   where
     same : (n : ℕ) → n ≤ n
@@ -132,7 +132,7 @@ bound_in_reach first (next ∷ more) h hs = let rest = bound_in_reach next more 
     ordered a l g = omega arith
 
 -- a rough shape lies in the closed square where its shape does
-pub rough_in_reach : (s : Shape) → IsShapeInReach s → IsGoalInReach (rough_figure s)
+pub rough_in_reach : (s : Shape) → IsShapeInClosedPlane s → IsGoalInClosedPlane (rough_figure s)
 rough_in_reach (shape.Point p) h = h
 rough_in_reach (shape.Segment s) h = h
 rough_in_reach (shape.Polygon []) h = h
@@ -147,7 +147,7 @@ module _ (gap : Measure) (m : IsMeasure gap) where
       same n d = omega arith
 
   -- a rough shape is no farther from a goal than its shape
-  pub rough_no_farther : (g : Goal) (s : Shape) → IsGoalInReach g → IsShapeInReach s → IsAtMost (gap g (rough_figure s)) (gap g (goal.Shape s))
+  pub rough_no_farther : (g : Goal) (s : Shape) → IsGoalInClosedPlane g → IsShapeInClosedPlane s → IsAtMost (gap g (rough_figure s)) (gap g (goal.Shape s))
   rough_no_farther g (shape.Point p) hg hs = same_gap g (goal.Shape (shape.Point p))
   rough_no_farther g (shape.Segment s) hg hs = same_gap g (goal.Shape (shape.Segment s))
   rough_no_farther g (shape.Polygon []) hg hs = same_gap g (goal.Shape (shape.Polygon []))
@@ -158,7 +158,7 @@ module _ (gap : Measure) (m : IsMeasure gap) where
       (m g (goal.Rect (bound_from first more)) hg (rough_in_reach (shape.Polygon (first ∷ more)) hs))
 
   -- a rough polygon and a shape
-  rough_first : (first : Point) (more : List Point) (b : Shape) → IsRing (first ∷ more) → IsShapeInReach b
+  rough_first : (first : Point) (more : List Point) (b : Shape) → IsRing (first ∷ more) → IsShapeInClosedPlane b
       → IsAtMost (gap (rough_figure (shape.Polygon (first ∷ more))) (goal.Shape b)) (gap (goal.Shape (shape.Polygon (first ∷ more))) (goal.Shape b))
   rough_first first more b ha hb =
       no_farther (goal.Shape b) (goal.Shape (shape.Polygon (first ∷ more))) (bound_from first more) _ _ _ _ hb
@@ -168,7 +168,7 @@ module _ (gap : Measure) (m : IsMeasure gap) where
       (m (goal.Rect (bound_from first more)) (goal.Shape b) (rough_in_reach (shape.Polygon (first ∷ more)) ha) hb))
 
   -- two rough shapes are no farther apart than their shapes
-  pub roughs_no_farther : (a b : Shape) → IsShapeInReach a → IsShapeInReach b
+  pub roughs_no_farther : (a b : Shape) → IsShapeInClosedPlane a → IsShapeInClosedPlane b
       → IsAtMost (gap (rough_figure a) (rough_figure b)) (gap (goal.Shape a) (goal.Shape b))
   roughs_no_farther (shape.Point p) b ha hb = rough_no_farther (goal.Shape (shape.Point p)) b ha hb
   roughs_no_farther (shape.Segment s) b ha hb = rough_no_farther (goal.Shape (shape.Segment s)) b ha hb

@@ -7,10 +7,10 @@ use Rattle.sand_base.specs.declared.point.Point.{Point}
 use Rattle.sand_base.specs.declared.rect.Rect.{Rect}
 use Rattle.sand_base.specs.declared.segment.Segment.{Segment}
 use Rattle.sand_base.specs.declared.shape.Shape.TheVariants as shape
-use Rattle.sand_model.specs.Carrier.{RationalPoint, IsWithin, IsOnSegment, IsInRect}
+use Rattle.sand_model.specs.Points.{RationalPoint, IsWithin, IsOnSegment, IsInRect}
 use Rattle.sand_model.specs.FigureGap.{IsCovering, IsGapOf, IsMeeting}
 use Rattle.sand_model.specs.Figures.{IsPointOfFigure, HoldsInside}
-use Rattle.sand_model.specs.Gap.{IsLeast, far, common_square}
+use Rattle.sand_model.specs.Gap.{IsLeast, scaled_distance, common_square}
 use Rattle.sand_model.specs.Rings.{SomeOf, edges}
 use Rattle.int_ring.specs.Expr.{var, at, num, ◌⊕◌, ◌⊖◌, ◌⊗◌}
 use Rattle.int_ring.proofs.Ring.{ring}
@@ -28,7 +28,7 @@ abbrev pub Shared : (RationalPoint → Type 0) → (RationalPoint → Type 0) �
 Shared A B = (q : RationalPoint) × A q × B q
 
 -- a point is no way from itself
-itself : (q : RationalPoint) (e : ℤ) → far q q *ℤ e ≡ pos 0
+itself : (q : RationalPoint) (e : ℤ) → scaled_distance q q *ℤ e ≡ pos 0
 itself q e = plain q.x q.y (pos q.n) e
   where
     plain : (x y n e : ℤ)
@@ -83,7 +83,7 @@ pub zero_shared : {A : RationalPoint → Type 0} (r : Rect) (e : ℕ) → 0 < e 
 zero_shared r e he h =
     let q = h.attained.0 in
     let z = h.attained.1 in
-    let far_none = product_none (far q z) (pos e) (above_zero e he) (h.attained.4 ∙ nothing (common_square q z)) in
+    let far_none = product_none (scaled_distance q z) (pos e) (above_zero e he) (h.attained.4 ∙ nothing (common_square q z)) in
     let apart = squares_zero ((q.x *ℤ pos z.n) -ℤ (z.x *ℤ pos q.n)) ((q.y *ℤ pos z.n) -ℤ (z.y *ℤ pos q.n)) far_none in (
       q,
       h.attained.2,

@@ -5,7 +5,7 @@ use Rattle.std.specs.Ordering.{nat_cmp}
 use Rattle.std.specs.declared.cmp.Ordering.TheVariants.{Equal}
 use Rattle.std.proofs.lemmas.Bool.Decides.{nat_tests}
 use Rattle.std.proofs.Common.{arith}
-use Rattle.sand_base.specs.Plane.{IsShapeInReach}
+use Rattle.sand_base.specs.Plane.{IsShapeInClosedPlane}
 use Rattle.sand_base.specs.declared.goal.Goal.TheVariants as goal
 use Rattle.sand_base.specs.declared.rect.Rect.{Rect}
 use Rattle.sand_base.specs.declared.shape.Shape.{Shape}
@@ -26,7 +26,7 @@ pub same_compares : (m n : ℕ) → m ≡ n → nat_cmp m n ≡ Equal
 same_compares m n e = grind (arith, nat_tests)
 
 -- the root's square holds each shape
-root_holds : (s : Shape) → IsShapeInReach s → AreCovered (corners_of s) (square_of root_block)
+root_holds : (s : Shape) → IsShapeInClosedPlane s → AreCovered (corners_of s) (square_of root_block)
 root_holds s h = subst (λ (r : Rect). AreCovered (corners_of s) r) (sym root_square) (square_holds s h)
 
 -- so it meets each

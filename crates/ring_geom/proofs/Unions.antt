@@ -4,8 +4,8 @@ use Rattle.std.proofs.lemmas.List.{take_all}
 use Rattle.std.proofs.Math.Numerals.{add-one}
 use Rattle.exact_frac.specs.declared.frac.Frac.{Frac}
 use Rattle.sand_base.specs.declared.segment.Segment.{Segment}
-use Rattle.sand_model.specs.Carrier.{RationalPoint, IsOnSegment}
-use Rattle.sand_model.specs.Gap.{IsLeast, far, common_square}
+use Rattle.sand_model.specs.Points.{RationalPoint, IsOnSegment}
+use Rattle.sand_model.specs.Gap.{IsLeast, scaled_distance, common_square}
 use Rattle.sand_model.specs.Rings.{SomeOf}
 use Rattle.int_ring.specs.Expr.{var, at, ◌⊕◌, ◌⊖◌, ◌⊗◌}
 use Rattle.int_ring.proofs.Ring.{ring}
@@ -20,10 +20,10 @@ least_exchanged m e h = record {
   attained = attained_exchanged m e h.attained;
   least = λ q r hq hr.
       subst (λ t. (pos m *ℤ common_square q r) ≤ℤ (t *ℤ pos e)) (far_turned r q)
-      (subst (λ t. (pos m *ℤ t) ≤ℤ (far r q *ℤ pos e)) (common_turned r q) (h.least r q hr hq));
+      (subst (λ t. (pos m *ℤ t) ≤ℤ (scaled_distance r q *ℤ pos e)) (common_turned r q) (h.least r q hr hq));
 }
   where
-    far_turned : (q r : RationalPoint) → far q r ≡ far r q
+    far_turned : (q r : RationalPoint) → scaled_distance q r ≡ scaled_distance r q
     far_turned q r =
         let vx = var 0 ⊗ var 5 ⊖ var 3 ⊗ var 2 in
         let vy = var 1 ⊗ var 5 ⊖ var 4 ⊗ var 2 in

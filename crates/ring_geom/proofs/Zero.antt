@@ -2,10 +2,10 @@
 use Rattle.std.proofs.Common.{◌≡◌, inl, inr, ℕ, ◌*◌, ◌<◌, ℤ, pos, ◌*ℤ◌, ◌≤ℤ◌, ◌<ℤ◌, refl, sym, ◌∙◌, subst, arith}
 use Rattle.std.proofs.lemmas.Int.{ints, by_lt_z}
 use Rattle.sand_base.specs.declared.goal.Goal.{Goal}
-use Rattle.sand_model.specs.Carrier.{RationalPoint}
+use Rattle.sand_model.specs.Points.{RationalPoint}
 use Rattle.sand_model.specs.FigureGap.{IsGapOf, IsMeeting}
 use Rattle.sand_model.specs.Figures.{IsPointOfFigure}
-use Rattle.sand_model.specs.Gap.{IsLeast, far, common_square}
+use Rattle.sand_model.specs.Gap.{IsLeast, scaled_distance, common_square}
 use Rattle.int_ring.proofs.Order.{same_from_mul, mul_positive}
 use Rattle.plane_geom.proofs.Crossing.{shared_least}
 use Rattle.plane_geom.proofs.Signs.{above_zero}
@@ -31,8 +31,8 @@ zero_least : {A B : RationalPoint → Type 0} (e : ℕ) → 0 < e → IsLeast A 
 zero_least e he h =
     let q = h.attained.0 in
     let r = h.attained.1 in
-    let none = same_from_mul (far q r) (pos 0) (pos e) (above_zero e he) (h.attained.4 ∙ nothing (common_square q r) ∙ sym (nothing (pos e))) in
-    shared_least 0 1 refl refl (q, r, h.attained.2, h.attained.3, once (far q r) ∙ none ∙ sym (nothing (common_square q r)))
+    let none = same_from_mul (scaled_distance q r) (pos 0) (pos e) (above_zero e he) (h.attained.4 ∙ nothing (common_square q r) ∙ sym (nothing (pos e))) in
+    shared_least 0 1 refl refl (q, r, h.attained.2, h.attained.3, once (scaled_distance q r) ∙ none ∙ sym (nothing (common_square q r)))
 
 -- a gap of 0 is a meeting
 pub meets_of_zero : (a b : Goal) (m e : ℕ) → 0 < e → m ≡ 0 → IsGapOf a b m e → IsMeeting a b
@@ -48,10 +48,10 @@ least_none : {A B : RationalPoint → Type 0} (m e : ℕ) → IsLeast A B 0 1 �
 least_none m e z h =
     let q = z.attained.0 in
     let r = z.attained.1 in
-    let none = sym (once (far q r)) ∙ z.attained.4 ∙ nothing (common_square q r) in
+    let none = sym (once (scaled_distance q r)) ∙ z.attained.4 ∙ nothing (common_square q r) in
     by_lt_z (pos 0) (pos m)
     (λ l.
-    absurd (against (pos m *ℤ common_square q r) (far q r *ℤ pos e) (mul_positive (pos m) (common_square q r) l (scale_positive q r))
+    absurd (against (pos m *ℤ common_square q r) (scaled_distance q r *ℤ pos e) (mul_positive (pos m) (common_square q r) l (scale_positive q r))
     (h.least q r z.attained.2 z.attained.3) (subst (λ t. t *ℤ pos e ≡ pos 0) (sym none) (nothing (pos e)))))
     (λ l. zero m l)
   where

@@ -3,7 +3,7 @@ use Rattle.std.specs.Prelude.{◌≡◌, ◌↔◌, List, [], ◌∷◌, ◌++�
 use Rattle.std.specs.declared.cmp.Ordering.TheVariants.{Equal}
 use Rattle.exact_frac.specs.Frac.{value_cmp}
 use Rattle.exact_frac.specs.declared.frac.Frac.{Frac}
-use Rattle.sand_base.specs.Plane.{IsGoalInReach, IsShapeInReach}
+use Rattle.sand_base.specs.Plane.{IsGoalInClosedPlane, IsShapeInClosedPlane}
 use Rattle.sand_base.specs.declared.goal.Goal.{Goal}
 use Rattle.sand_base.specs.declared.goal.Goal.TheVariants as goal
 use Rattle.sand_base.specs.declared.point.Point.{Point}
@@ -48,7 +48,7 @@ IsNoFarther a b f = (h : Frac) → IsFigureGap a b h → IsAtMost h f
 -- a rectangle that holds all vertices of a shape is no farther from a goal than the shape
 abbrev pub BoundIsNoFarther : Type 0
 BoundIsNoFarther =
-    (g : Goal) (s : Shape) (r : Rect) (f : Frac) → IsGoalInReach g → AreCovered (corners_of s) r → IsFigureGap g (goal.Shape s) f
+    (g : Goal) (s : Shape) (r : Rect) (f : Frac) → IsGoalInClosedPlane g → AreCovered (corners_of s) r → IsFigureGap g (goal.Shape s) f
     → IsNoFarther g (goal.Rect r) f
 
 -- and two of them are no farther apart than their shapes
@@ -60,7 +60,7 @@ BoundsAreNoFarther =
 -- a rectangle is no farther from a goal than its parts
 abbrev pub WholeIsNoFarther : Type 0
 WholeIsNoFarther =
-    (g : Goal) (q r : Rect) (f : Frac) → IsGoalInReach g → IsPartOf q r → IsFigureGap g (goal.Rect q) f → IsNoFarther g (goal.Rect r) f
+    (g : Goal) (q r : Rect) (f : Frac) → IsGoalInClosedPlane g → IsPartOf q r → IsFigureGap g (goal.Rect q) f → IsNoFarther g (goal.Rect r) f
 
 -- and two of them are no farther apart than their parts
 abbrev pub WholesAreNoFarther : Type 0
@@ -74,11 +74,11 @@ QuartersMeet = (a : Goal) (r : Rect) (c : Point) → IsCovered c r → IsMeeting
 
 -- a rectangle that holds the vertices of a shape meets it
 abbrev pub HoldersMeet : Type 0
-HoldersMeet = (s : Shape) (r : Rect) → IsShapeInReach s → AreCovered (corners_of s) r → IsMeeting (goal.Shape s) (goal.Rect r)
+HoldersMeet = (s : Shape) (r : Rect) → IsShapeInClosedPlane s → AreCovered (corners_of s) r → IsMeeting (goal.Shape s) (goal.Rect r)
 
 -- the whole square holds the vertices of each shape
 abbrev pub SquareHoldsAll : Type 0
-SquareHoldsAll = (s : Shape) → IsShapeInReach s → AreCovered (corners_of s) whole_square
+SquareHoldsAll = (s : Shape) → IsShapeInClosedPlane s → AreCovered (corners_of s) whole_square
 
 -- a rectangle tiles itself
 abbrev pub WholeTiles : Type 0
@@ -93,7 +93,7 @@ QuartersTile =
 -- of the tiles of a rectangle that holds the vertices of a shape, one meets the shape and is no farther from a goal than it
 abbrev pub TilesCover : Type 0
 TilesCover =
-    (g : Goal) (s : Shape) (root : Rect) (parts : List Rect) (f : Frac) → IsGoalInReach g → AreCovered (corners_of s) root
+    (g : Goal) (s : Shape) (root : Rect) (parts : List Rect) (f : Frac) → IsGoalInClosedPlane g → AreCovered (corners_of s) root
     → Tiles root parts → IsFigureGap g (goal.Shape s) f
     → SomeOf (λ part. IsMeeting (goal.Shape s) (goal.Rect part) × IsNoFarther g (goal.Rect part) f) parts
 

@@ -4,7 +4,7 @@ use Rattle.sand_base.specs.declared.goal.Goal.{Goal}
 use Rattle.sand_base.specs.declared.goal.Goal.TheVariants as goal
 use Rattle.sand_base.specs.declared.point.Point.{Point}
 use Rattle.sand_base.specs.declared.rect.Rect.{Rect}
-use Rattle.sand_model.specs.Carrier.{RationalPoint, IsInRect}
+use Rattle.sand_model.specs.Points.{RationalPoint, IsInRect}
 use Rattle.sand_model.specs.FigureGap.{IsMeeting}
 use Rattle.sand_model.specs.Rings.{SomeOf}
 

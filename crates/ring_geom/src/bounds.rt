@@ -1,6 +1,6 @@
 // The least closed rectangle that holds a shape.
 ghost use Rattle.std.specs.Prelude.{◌≡◌};
-ghost use Rattle.sand_base.specs.Plane.{IsCorner, IsRectInReach, IsRing, IsShapeInReach};
+ghost use Rattle.sand_base.specs.Plane.{IsInClosedPlane, IsRectInClosedPlane, IsRing, IsShapeInClosedPlane};
 ghost use Rattle.sand_model.specs.Figures.{corners_of};
 ghost use Rattle.ring_geom.specs.Bounding.{IsBounding, IsWidened};
 
@@ -8,9 +8,9 @@ use sand_base::{Point, Rect, Shape};
 
 /// The least closed rectangle that holds all vertices of the shape, and so all of its points.
 pub fn bounding(a: &Shape) -> Rect
-    requires { IsShapeInReach a.now }
+    requires { IsShapeInClosedPlane a.now }
     ensures bound { IsBounding (corners_of a.now) result }
-    ensures reach { IsRectInReach result }
+    ensures reach { IsRectInClosedPlane result }
 {
     match a {
         Shape::Point(p) => Rect { low: *p, high: *p },
@@ -29,7 +29,7 @@ pub fn bounding(a: &Shape) -> Rect
 fn around(corners: &[Point]) -> Rect
     requires { IsRing corners.now }
     ensures bound { IsBounding corners.now result }
-    ensures reach { IsRectInReach result }
+    ensures reach { IsRectInClosedPlane result }
 {
     let mut bound = Rect {
         low: corners[0],
@@ -43,10 +43,10 @@ fn around(corners: &[Point]) -> Rect
 
 // The least closed rectangle that holds another and a point.
 fn widened(r: Rect, p: Point) -> Rect
-    requires r { IsRectInReach r }
-    requires p { IsCorner p }
+    requires r { IsRectInClosedPlane r }
+    requires p { IsInClosedPlane p }
     ensures wide { IsWidened r p result }
-    ensures reach { IsRectInReach result }
+    ensures reach { IsRectInClosedPlane result }
 {
     let low = Point {
         x: r.low.x.min(p.x),

@@ -1,6 +1,6 @@
 // Which shapes have a vertex inside another's ring.
 ghost use Rattle.std.specs.Prelude.{◌↔◌, IsTrue};
-ghost use Rattle.sand_base.specs.Plane.{IsRing, IsShapeInReach};
+ghost use Rattle.sand_base.specs.Plane.{IsRing, IsShapeInClosedPlane};
 ghost use Rattle.sand_model.specs.Figures.{Holds, corners_of};
 ghost use Rattle.sand_model.specs.Rings.{SomeOf, IsInside};
 
@@ -9,8 +9,8 @@ use sand_base::{Point, Ring, Shape};
 
 /// Whether a vertex of the first shape lies inside the second one's ring; only a polygon has one.
 pub fn has_corner_in(a: &Shape, b: &Shape) -> bool
-    requires a { IsShapeInReach a.now }
-    requires b { IsShapeInReach b.now }
+    requires a { IsShapeInClosedPlane a.now }
+    requires b { IsShapeInClosedPlane b.now }
     ensures { IsTrue result ↔ SomeOf (Holds b.now) (corners_of a.now) }
 {
     match b {
@@ -22,7 +22,7 @@ pub fn has_corner_in(a: &Shape, b: &Shape) -> bool
 
 // Whether a vertex of the shape lies inside the ring.
 fn has_corner_inside(a: &Shape, ring: &Ring) -> bool
-    requires { IsShapeInReach a.now }
+    requires { IsShapeInClosedPlane a.now }
     ensures { IsTrue result ↔ SomeOf (IsInside ring.now) (corners_of a.now) }
 {
     match a {

@@ -1,6 +1,6 @@
 // The edges of a ring, one by one.
 ghost use Rattle.std.specs.Prelude.{◌≡◌, ◌<◌, ◌+◌, length, drop, ◌∷◌};
-ghost use Rattle.sand_base.specs.Plane.{IsRing, IsSegmentInReach};
+ghost use Rattle.sand_base.specs.Plane.{IsRing, IsSegmentInClosedPlane};
 ghost use Rattle.sand_model.specs.Rings.{edges};
 
 use sand_base::{Point, Segment};
@@ -10,7 +10,7 @@ pub fn edge(corners: &[Point], i: usize) -> Segment
     requires ring { IsRing corners.now }
     requires there { i < length corners.now }
     ensures at { drop i (edges corners.now) ≡ result ∷ drop (i + 1) (edges corners.now) }
-    ensures reach { IsSegmentInReach result }
+    ensures reach { IsSegmentInClosedPlane result }
 {
     if i == 0 {
         Segment {

@@ -1,6 +1,6 @@
 // The gap of any two figures, points, segments, polygons and rectangles, as a fraction.
 ghost use Rattle.std.specs.Prelude.{◌≡◌};
-ghost use Rattle.sand_base.specs.Plane.{IsGoalInReach, IsRectInReach, IsShapeInReach};
+ghost use Rattle.sand_base.specs.Plane.{IsGoalInClosedPlane, IsRectInClosedPlane, IsShapeInClosedPlane};
 ghost use Rattle.sand_base.specs.declared.goal.Goal.TheVariants as goal;
 ghost use Rattle.sand_base.specs.declared.shape.Shape.TheVariants as shape;
 ghost use Rattle.sand_model.specs.FigureGap.{IsFigureGap};
@@ -19,8 +19,8 @@ use sand_base::{Goal, Rect, Ring, Shape};
 /// The gap of two shapes: 0 where a vertex of one lies inside the other's ring, else the squared distance of
 /// their nearest points. It isn't in lowest terms.
 pub fn gap_shapes(a: &Shape, b: &Shape) -> Frac
-    requires a { IsShapeInReach a.now }
-    requires b { IsShapeInReach b.now }
+    requires a { IsShapeInClosedPlane a.now }
+    requires b { IsShapeInClosedPlane b.now }
     ensures { IsFigureGap (goal.Shape a.now) (goal.Shape b.now) result }
 {
     if has_corner_in(a, b) || has_corner_in(b, a) {
@@ -32,8 +32,8 @@ pub fn gap_shapes(a: &Shape, b: &Shape) -> Frac
 
 // The squared distance of the nearest points of two shapes, where those of a polygon lie on its edges.
 fn nearest(a: &Shape, b: &Shape) -> Frac
-    requires a { IsShapeInReach a.now }
-    requires b { IsShapeInReach b.now }
+    requires a { IsShapeInClosedPlane a.now }
+    requires b { IsShapeInClosedPlane b.now }
     ensures { IsLeast (IsPointOf a.now) (IsPointOf b.now) result.num result.den }
 {
     match (a, b) {
@@ -54,8 +54,8 @@ fn nearest(a: &Shape, b: &Shape) -> Frac
 
 /// The gap of a shape and a closed rectangle.
 pub fn gap_shape_rect(a: &Shape, r: Rect) -> Frac
-    requires a { IsShapeInReach a.now }
-    requires r { IsRectInReach r }
+    requires a { IsShapeInClosedPlane a.now }
+    requires r { IsRectInClosedPlane r }
     ensures { IsFigureGap (goal.Shape a.now) (goal.Rect r) result }
 {
     match a {
@@ -68,7 +68,7 @@ pub fn gap_shape_rect(a: &Shape, r: Rect) -> Frac
 // The gap of a polygon and a closed rectangle. One corner stands for all four: where no edge meets the rectangle,
 // all are inside the ring or none is.
 fn gap_polygon_rect(ring: &Ring, r: Rect) -> Frac
-    requires { IsRectInReach r }
+    requires { IsRectInClosedPlane r }
     ensures { IsFigureGap (goal.Shape (shape.Polygon ring.now)) (goal.Rect r) result }
 {
     if inside(r.low, ring) {
@@ -80,8 +80,8 @@ fn gap_polygon_rect(ring: &Ring, r: Rect) -> Frac
 
 /// The gap of a goal and a shape.
 pub fn gap_goal(g: &Goal, s: &Shape) -> Frac
-    requires g { IsGoalInReach g.now }
-    requires s { IsShapeInReach s.now }
+    requires g { IsGoalInClosedPlane g.now }
+    requires s { IsShapeInClosedPlane s.now }
     ensures { IsFigureGap g.now (goal.Shape s.now) result }
 {
     match g {
@@ -92,8 +92,8 @@ pub fn gap_goal(g: &Goal, s: &Shape) -> Frac
 
 /// The gap of a goal and a closed rectangle.
 pub fn gap_goal_rect(g: &Goal, r: Rect) -> Frac
-    requires g { IsGoalInReach g.now }
-    requires r { IsRectInReach r }
+    requires g { IsGoalInClosedPlane g.now }
+    requires r { IsRectInClosedPlane r }
     ensures { IsFigureGap g.now (goal.Rect r) result }
 {
     match g {

@@ -24,7 +24,7 @@ ghost use Rattle.ring_geom.specs.MeasureLaws.{
   ChildIsPart,
   BlockIsNoFarther,
   RoughIsBounding,
-  RoughIsInReach,
+  RoughIsInClosedPlane,
   RoughIsNoFarther,
   RoughsAreNoFarther,
   LeavesCover,
@@ -61,7 +61,7 @@ pub fn measure_laws()
     ensures part { ChildIsPart }
     ensures block { BlockIsNoFarther }
     ensures bounding { RoughIsBounding }
-    ensures reach { RoughIsInReach }
+    ensures reach { RoughIsInClosedPlane }
     ensures rough { RoughIsNoFarther }
     ensures roughs { RoughsAreNoFarther }
     ensures leaves { LeavesCover }

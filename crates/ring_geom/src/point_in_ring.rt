@@ -1,6 +1,6 @@
 // Which grid points are inside a ring: those on an edge, and those from which a ray crosses an odd number of edges.
 ghost use Rattle.std.specs.Prelude.{◌≡◌, ◌↔◌, IsTrue};
-ghost use Rattle.sand_base.specs.Plane.{IsCorner, IsSegmentInReach};
+ghost use Rattle.sand_base.specs.Plane.{IsInClosedPlane, IsSegmentInClosedPlane};
 ghost use Rattle.sand_model.specs.Rings.{rises_over, is_crossed, IsInside};
 
 use crate::edges::edge;
@@ -10,7 +10,7 @@ use sand_base::{Point, Ring, Segment};
 /// Whether the grid point lies inside the ring or on an edge of it, even-odd: it does where a ray from it to the
 /// right crosses an odd number of edges. One pass over the edges, which ends at an edge that the point lies on.
 pub fn inside(v: Point, ring: &Ring) -> bool
-    requires { IsCorner v }
+    requires { IsInClosedPlane v }
     ensures { IsTrue result ↔ IsInside ring.now v }
 {
     let corners = ring.corners();
@@ -27,8 +27,8 @@ pub fn inside(v: Point, ring: &Ring) -> bool
 
 // Whether the ray from v to the right crosses the edge: of its ends the lower one counts, and the upper one not.
 fn is_crossed(v: Point, side: Segment) -> bool
-    requires v { IsCorner v }
-    requires side { IsSegmentInReach side }
+    requires v { IsInClosedPlane v }
+    requires side { IsSegmentInClosedPlane side }
     ensures { result ≡ is_crossed v side }
 {
     rises_over(v, side.a, side.b) || rises_over(v, side.b, side.a)
@@ -36,9 +36,9 @@ fn is_crossed(v: Point, side: Segment) -> bool
 
 // Whether the way from a to b rises over the height of v, and there lies to the right of v.
 fn rises_over(v: Point, a: Point, b: Point) -> bool
-    requires v { IsCorner v }
-    requires a { IsCorner a }
-    requires b { IsCorner b }
+    requires v { IsInClosedPlane v }
+    requires a { IsInClosedPlane a }
+    requires b { IsInClosedPlane b }
     ensures { result ≡ rises_over v a b }
 {
     a.y <= v.y && v.y < b.y && 0 < cross(a, b, v)

@@ -1,6 +1,6 @@
 // The least distances of a ring's edges, each in one pass over them.
-ghost use Rattle.sand_base.specs.Plane.{IsCorner, IsRectInReach, IsRing, IsSegmentInReach};
-ghost use Rattle.sand_model.specs.Carrier.{IsInRect, IsOnSegment, IsPoint};
+ghost use Rattle.sand_base.specs.Plane.{IsInClosedPlane, IsRectInClosedPlane, IsRing, IsSegmentInClosedPlane};
+ghost use Rattle.sand_model.specs.Points.{IsInRect, IsOnSegment, IsPoint};
 ghost use Rattle.sand_model.specs.Gap.{IsLeast};
 ghost use Rattle.sand_model.specs.Rings.{IsOnRing};
 
@@ -12,7 +12,7 @@ use sand_base::{Point, Rect, Segment};
 /// The squared distance of the nearest edge from a point.
 pub fn ring_to_point(corners: &[Point], p: Point) -> Frac
     requires corners { IsRing corners.now }
-    requires p { IsCorner p }
+    requires p { IsInClosedPlane p }
     ensures { IsLeast (IsOnRing corners.now) (IsPoint p) result.num result.den }
 {
     let mut best = gap_point_segment(p, edge(corners, 0));
@@ -25,7 +25,7 @@ pub fn ring_to_point(corners: &[Point], p: Point) -> Frac
 /// The squared distance of the nearest edge from a segment.
 pub fn ring_to_segment(corners: &[Point], s: Segment) -> Frac
     requires corners { IsRing corners.now }
-    requires s { IsSegmentInReach s }
+    requires s { IsSegmentInClosedPlane s }
     ensures { IsLeast (IsOnRing corners.now) (IsOnSegment s) result.num result.den }
 {
     let mut best = gap_segments(edge(corners, 0), s);
@@ -38,7 +38,7 @@ pub fn ring_to_segment(corners: &[Point], s: Segment) -> Frac
 /// The squared distance of the nearest edge from a closed rectangle.
 pub fn ring_to_rect(corners: &[Point], r: Rect) -> Frac
     requires corners { IsRing corners.now }
-    requires r { IsRectInReach r }
+    requires r { IsRectInClosedPlane r }
     ensures { IsLeast (IsOnRing corners.now) (IsInRect r) result.num result.den }
 {
     let mut best = gap_segment_rect(edge(corners, 0), r);

@@ -9,7 +9,7 @@ pub record IsInPlane (p : Point) : Type 0 where
   pub y : p.y < 2 ^ COORDINATE_BITS
 
 -- the point is a grid point of the closed square round the plane, where the corners of blocks lie
-pub record IsCorner (p : Point) : Type 0 where
+pub record IsInClosedPlane (p : Point) : Type 0 where
   pub x : p.x ≤ 2 ^ COORDINATE_BITS
   pub y : p.y ≤ 2 ^ COORDINATE_BITS
 

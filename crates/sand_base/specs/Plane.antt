@@ -6,8 +6,8 @@ use Rattle.sand_base.specs.declared.rect.Rect.{Rect}
 use Rattle.sand_base.specs.declared.segment.Segment.{Segment}
 use Rattle.sand_base.specs.declared.shape.Shape.{Shape}
 use Rattle.sand_base.specs.declared.shape.Shape.TheVariants as shape
-use Rattle.sand_base.specs.Grid.{IsInPlane, IsCorner, IsRing}
-pub use Rattle.sand_base.specs.Grid.{IsInPlane, IsCorner, IsRing}
+use Rattle.sand_base.specs.Grid.{IsInPlane, IsInClosedPlane, IsRing}
+pub use Rattle.sand_base.specs.Grid.{IsInPlane, IsInClosedPlane, IsRing}
 
 -- both ends of the segment are grid points of the plane
 pub record IsSegmentInPlane (s : Segment) : Type 0 where
@@ -33,24 +33,24 @@ IsGoalInPlane (goal.Shape s) = IsShapeInPlane s
 IsGoalInPlane (goal.Rect r) = IsRectInPlane r
 
 -- both ends of the segment lie in the closed square
-pub record IsSegmentInReach (s : Segment) : Type 0 where
-  pub a : IsCorner s.a
-  pub b : IsCorner s.b
+pub record IsSegmentInClosedPlane (s : Segment) : Type 0 where
+  pub a : IsInClosedPlane s.a
+  pub b : IsInClosedPlane s.b
 
 -- the corners of the rectangle lie in the closed square, and the low one is at most the high one
-pub record IsRectInReach (r : Rect) : Type 0 where
-  pub low : IsCorner r.low
-  pub high : IsCorner r.high
+pub record IsRectInClosedPlane (r : Rect) : Type 0 where
+  pub low : IsInClosedPlane r.low
+  pub high : IsInClosedPlane r.high
   pub x : r.low.x ≤ r.high.x
   pub y : r.low.y ≤ r.high.y
 
 -- the shape lies in the closed square, and a polygon's border is a ring
-abbrev pub IsShapeInReach : Shape → Type 0
-IsShapeInReach (shape.Point p) = IsCorner p
-IsShapeInReach (shape.Segment s) = IsSegmentInReach s
-IsShapeInReach (shape.Polygon corners) = IsRing corners
+abbrev pub IsShapeInClosedPlane : Shape → Type 0
+IsShapeInClosedPlane (shape.Point p) = IsInClosedPlane p
+IsShapeInClosedPlane (shape.Segment s) = IsSegmentInClosedPlane s
+IsShapeInClosedPlane (shape.Polygon corners) = IsRing corners
 
 -- the goal lies in the closed square
-abbrev pub IsGoalInReach : Goal → Type 0
-IsGoalInReach (goal.Shape s) = IsShapeInReach s
-IsGoalInReach (goal.Rect r) = IsRectInReach r
+abbrev pub IsGoalInClosedPlane : Goal → Type 0
+IsGoalInClosedPlane (goal.Shape s) = IsShapeInClosedPlane s
+IsGoalInClosedPlane (goal.Rect r) = IsRectInClosedPlane r

@@ -5,7 +5,7 @@ use Rattle.sand_base.specs.declared.goal.Goal.TheVariants as goal
 use Rattle.sand_base.specs.declared.point.Point.{Point}
 use Rattle.sand_base.specs.declared.shape.Shape.{Shape}
 use Rattle.sand_base.specs.declared.shape.Shape.TheVariants as shape
-use Rattle.sand_model.specs.Carrier.{RationalPoint, IsPoint, IsOnSegment, IsInRect}
+use Rattle.sand_model.specs.Points.{RationalPoint, IsPoint, IsOnSegment, IsInRect}
 use Rattle.sand_model.specs.Rings.{IsOnRing, IsInside}
 
 -- the rational points of a shape; those of a polygon are the points of its edges

@@ -3,7 +3,7 @@ use Rattle.std.specs.Prelude.{◌⊎◌, pos, ◌-ℤ◌, ◌*ℤ◌, int_lt, na
 use Rattle.std.proofs.Common.{lit<}
 use Rattle.sand_base.specs.declared.point.Point.{Point}
 use Rattle.sand_base.specs.declared.segment.Segment.{Segment}
-use Rattle.sand_model.specs.Carrier.{RationalPoint, IsOnSegment}
+use Rattle.sand_model.specs.Points.{RationalPoint, IsOnSegment}
 
 -- some term of the list has the property
 abbrev pub SomeOf : {A : Type 0} → (A → Type 0) → List A → Type 0

@@ -6,9 +6,9 @@ use Rattle.int_ring.proofs.Ring.{ring}
 use Rattle.exact_frac.specs.declared.frac.Frac.{Frac}
 use Rattle.script_text.specs.Shape.{IsShapeInPlane}
 use Rattle.script_text.specs.declared.shape.Shape.{Shape}
-use Rattle.sand_model.specs.Carrier.{RationalPoint}
+use Rattle.sand_model.specs.Points.{RationalPoint}
 use Rattle.session.specs.ShapeGap.{IsOf}
-use Rattle.sand_model.specs.Gap.{IsLeast, far, common_square, square}
+use Rattle.sand_model.specs.Gap.{IsLeast, scaled_distance, common_square, square}
 use Rattle.session.specs.ShapeGap.{IsGap}
 use Rattle.session.specs.Ranked.{Measures}
 use Rattle.session.specs.Rows.{AreInPlane}
@@ -19,8 +19,8 @@ IsGap-of value goal v g gap value-is goal-is least =
     subst (λ w. IsGap w goal gap) (sym value-is) (subst (λ w. IsGap v w gap) (sym goal-is) least)
 
 -- two points are as far apart either way
-far-swap : (q r : RationalPoint) → far q r ≡ far r q
-far-swap q r =
+scaled_distance-swap : (q r : RationalPoint) → scaled_distance q r ≡ scaled_distance r q
+scaled_distance-swap q r =
     ring (at (q.x ∷ q.y ∷ pos q.n ∷ r.x ∷ r.y ∷ pos r.n ∷ []))
     ((var 0 ⊗ var 5 ⊖ var 3 ⊗ var 2) ⊗ (var 0 ⊗ var 5 ⊖ var 3 ⊗ var 2) ⊕ (var 1 ⊗ var 5 ⊖ var 4 ⊗ var 2) ⊗ (var 1 ⊗ var 5 ⊖ var 4 ⊗ var 2))
     ((var 3 ⊗ var 2 ⊖ var 0 ⊗ var 5) ⊗ (var 3 ⊗ var 2 ⊖ var 0 ⊗ var 5) ⊕ (var 4 ⊗ var 2 ⊖ var 1 ⊗ var 5) ⊗ (var 4 ⊗ var 2 ⊖ var 1 ⊗ var 5))
@@ -42,11 +42,11 @@ IsLeast-swap A B num den least =
         q,
         pair.3,
         pair.2,
-        ap (λ f. f *ℤ pos den) (far-swap r q) ∙ pair.4 ∙ ap (λ c. pos num *ℤ c) (common_square-swap q r),
+        ap (λ f. f *ℤ pos den) (scaled_distance-swap r q) ∙ pair.4 ∙ ap (λ c. pos num *ℤ c) (common_square-swap q r),
       );
       least = λ u v in_b in_a.
-          subst (λ f. (pos num *ℤ common_square u v) ≤ℤ (f *ℤ pos den)) (far-swap v u)
-          (subst (λ c. (pos num *ℤ c) ≤ℤ (far v u *ℤ pos den)) (common_square-swap v u) (least.least v u in_a in_b));
+          subst (λ f. (pos num *ℤ common_square u v) ≤ℤ (f *ℤ pos den)) (scaled_distance-swap v u)
+          (subst (λ c. (pos num *ℤ c) ≤ℤ (scaled_distance v u *ℤ pos den)) (common_square-swap v u) (least.least v u in_a in_b));
     }
 
 -- one more row is measured at the end

@@ -1,6 +1,6 @@
 -- The gap of two of the shapes that a statement can name today.
 use Rattle.exact_frac.specs.declared.frac.Frac.{Frac}
-use Rattle.sand_model.specs.Carrier.{RationalPoint, IsPoint, IsOnSegment}
+use Rattle.sand_model.specs.Points.{RationalPoint, IsPoint, IsOnSegment}
 use Rattle.sand_model.specs.Gap.{IsLeast}
 use Rattle.script_text.specs.declared.shape.Shape.{Shape}
 use Rattle.script_text.specs.declared.shape.Shape.TheVariants as shape

@@ -101,31 +101,31 @@ pub text_read : (old mid piece new : List ℕ) (count : ℕ) → old ≡ count �
 text_read old mid piece new count e long split = e ∙ ap (λ m. count ∷ m) split ∙ ap (λ n. n ∷ (piece ++ new)) (sym long)
 
 -- so many grid points
-pub record AreCorners (count : ℕ) (corners : List Point) : Type 0 where
+pub record AreInClosedPlane (count : ℕ) (corners : List Point) : Type 0 where
   pub many : length corners ≡ count
   pub in_plane : All IsInPlane corners
 
 -- fewer points are followed by one more
-goes_on : (count : ℕ) (done : List Point) → length done < count → (all more : List Point) → AreCorners count all → all ≡ done ++ more
+goes_on : (count : ℕ) (done : List Point) → length done < count → (all more : List Point) → AreInClosedPlane count all → all ≡ done ++ more
     → (a : Point) × ((tail : List Point) × ((more ≡ a ∷ tail) × IsInPlane a))
 goes_on count done short all [] fits e = absurd (omega (arith, fits.many, ap length e ∙ length-append done []))
 goes_on count done short all (a ∷ tail) fits e =
     (a, (tail, (refl, All-head IsInPlane a tail (All-behind IsInPlane all done (a ∷ tail) e fits.in_plane))))
 
 -- fewer points go on with one more
-pub corners_go_on : (count : ℕ) (done : List Point) → length done < count → GoesOn IsInPlane (AreCorners count) done
+pub corners_go_on : (count : ℕ) (done : List Point) → length done < count → GoesOn IsInPlane (AreInClosedPlane count) done
 corners_go_on count done short = record { next = goes_on count done short }
 
 -- as many points as there are to be are all
-is_all : (count : ℕ) (done : List Point) → length done ≡ count → (all more : List Point) → AreCorners count all → all ≡ done ++ more → more ≡ []
+is_all : (count : ℕ) (done : List Point) → length done ≡ count → (all more : List Point) → AreInClosedPlane count all → all ≡ done ++ more → more ≡ []
 is_all count done full all more fits e =
     nil_from_length more (omega (arith, fits.many, ap length e ∙ length-append done more))
 
-pub corners_are_all : (count : ℕ) (done : List Point) → length done ≡ count → IsAll (AreCorners count) done
+pub corners_are_all : (count : ℕ) (done : List Point) → length done ≡ count → IsAll (AreInClosedPlane count) done
 corners_are_all count done full = record { last = is_all count done full }
 
 -- a ring's points are so many
-corners_of : (count : ℕ) (corners : List Point) → count ≡ length corners → IsRing corners → AreCorners count corners
+corners_of : (count : ℕ) (corners : List Point) → count ≡ length corners → IsRing corners → AreInClosedPlane count corners
 corners_of count corners e ring = record { many = sym e; in_plane = ring.in_plane }
 
 -- no byte is no ring
@@ -134,7 +134,7 @@ ring_empty old e a rest ia h = cc
 
 -- with no such points behind the count there is no ring
 pub ring_short : (old mid : List ℕ) (count : ℕ) → old ≡ count ∷ mid
-    → IsNoneInFront (AreCorners count) (λ corners. flat_map point_bytes corners) mid → IsNoneInFront IsRing ring_bytes old
+    → IsNoneInFront (AreInClosedPlane count) (λ corners. flat_map point_bytes corners) mid → IsNoneInFront IsRing ring_bytes old
 ring_short old mid count e none a rest ia h =
     let lengths : count ≡ length a = cc in
     let rests : mid ≡ flat_map point_bytes a ++ rest = cc in
@@ -142,15 +142,15 @@ ring_short old mid count e none a rest ia h =
 
 -- the points behind the count are a ring
 pub ring_bad : (old mid new : List ℕ) (count : ℕ) (done : List Point) → old ≡ count ∷ mid → length done ≡ count
-    → HasRead (AreCorners count) point_bytes mid done new → ¬ (IsRing done) → IsNoneInFront IsRing ring_bytes old
+    → HasRead (AreInClosedPlane count) point_bytes mid done new → ¬ (IsRing done) → IsNoneInFront IsRing ring_bytes old
 ring_bad old mid new count done e full has bad a rest ia h =
     let lengths : count ≡ length a = cc in
     let rests : mid ≡ flat_map point_bytes a ++ rest = cc in
-    bad (subst IsRing (ends (AreCorners count) point_bytes mid done new has (corners_are_all count done full) a rest (corners_of count a lengths ia) rests) ia)
+    bad (subst IsRing (ends (AreInClosedPlane count) point_bytes mid done new has (corners_are_all count done full) a rest (corners_of count a lengths ia) rests) ia)
 
 -- a ring was read
 pub ring_read : (old mid new : List ℕ) (count : ℕ) (done : List Point) → old ≡ count ∷ mid → length done ≡ count
-    → HasRead (AreCorners count) point_bytes mid done new → old ≡ ring_bytes done ++ new
+    → HasRead (AreInClosedPlane count) point_bytes mid done new → old ≡ ring_bytes done ++ new
 ring_read old mid new count done e full has =
     e ∙ ap (λ m. count ∷ m) has.read ∙ ap (λ n. n ∷ (flat_map point_bytes done ++ new)) (sym full)
 

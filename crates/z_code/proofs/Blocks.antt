@@ -1,7 +1,7 @@
 -- The half-open square of a block and its range of codes hold the same grid points.
 use Rattle.std.proofs.Common.{◌≡◌, ℕ, ◌+◌, ◌-◌, ◌*◌, ◌/◌, ◌^◌, ◌<◌, ◌≤◌, ◌↔◌, sym, ap, ap₂, ◌∙◌, subst, arith, add-zero}
 use Rattle.std.proofs.lemmas.Nat.{pow_pos}
-use Rattle.sand_base.specs.Plane.{IsInPlane, IsRectInReach}
+use Rattle.sand_base.specs.Plane.{IsInPlane, IsRectInClosedPlane}
 use Rattle.sand_base.specs.declared.TheConstants.{COORDINATE_BITS}
 use Rattle.sand_base.specs.declared.point.Point.{Point}
 use Rattle.z_code.specs.Code.{code_of, point_of, even_bits}
@@ -30,7 +30,7 @@ range_fits b h =
     omega (arith, at.first, at.count, end)
 
 -- a block's square is a rectangle within reach
-pub square_in_reach : (b : Block) → IsBlock b → IsRectInReach (square_of b)
+pub square_in_reach : (b : Block) → IsBlock b → IsRectInClosedPlane (square_of b)
 square_in_reach b h =
     let ends = square_fits b h in record {
       low = record { x = omega (arith, ends.0); y = omega (arith, ends.1) };

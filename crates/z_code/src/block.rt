@@ -1,6 +1,6 @@
 ghost use Rattle.std.specs.Prelude.{◌≡◌, ℕ, ◌+◌, ◌*◌, ◌/◌, ◌^◌, ◌<◌, ◌≤◌, ◌↔◌, IsTrue};
 ghost use Rattle.std.specs.List.{Contains};
-ghost use Rattle.sand_base.specs.Plane.{IsInPlane, IsRectInReach};
+ghost use Rattle.sand_base.specs.Plane.{IsInPlane, IsRectInClosedPlane};
 ghost use Rattle.z_code.specs.Code.{code_of, Interleaves};
 ghost use Rattle.z_code.specs.Block.{IsBlock, side_length, code_count, square_of, HasPoint, HasCode, IsCodeOfPointIn};
 ghost use Rattle.z_code.specs.Block.{children_of, IsQuarter, IsDivided, HoldsSquare, HoldsRange};
@@ -75,7 +75,7 @@ impl Block {
     pub fn rect(self) -> Rect
         requires { IsBlock self }
         ensures square { result ≡ square_of self }
-        ensures in_reach { IsRectInReach result }
+        ensures in_reach { IsRectInClosedPlane result }
         ensures corner { IsInPlane result.low }
         ensures code { code_of result.low ≡ self.z }
         ensures bits { Interleaves self.z result.low }

@@ -1,7 +1,7 @@
 -- The least distance of the ends and the corners is that of a segment that doesn't enter the rectangle.
 use Rattle.std.proofs.Common.{◌≡◌, ℕ, subst}
 use Rattle.sand_base.specs.declared.segment.Segment.{Segment}
-use Rattle.sand_model.specs.Carrier.{IsPoint, IsOnSegment}
+use Rattle.sand_model.specs.Points.{IsPoint, IsOnSegment}
 use Rattle.sand_model.specs.Gap.{IsLeast}
 use Rattle.plane_geom.proofs.segment_rect.nearest_end_or_corner.Goals as goal
 use Rattle.plane_geom.proofs.EndsAndCorners.{nearest_least}

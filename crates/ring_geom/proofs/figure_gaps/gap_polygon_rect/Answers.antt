@@ -2,7 +2,7 @@
 use Rattle.std.proofs.Common.{sym, ◌∙◌, subst, List}
 use Rattle.std.proofs.lemmas.Bool.{false≢true}
 use Rattle.sand_base.specs.declared.point.Point.{Point}
-use Rattle.sand_model.specs.Carrier.{IsInRect}
+use Rattle.sand_model.specs.Points.{IsInRect}
 use Rattle.sand_model.specs.Gap.{IsLeast}
 use Rattle.sand_model.specs.Rings.{IsOnRing}
 use Rattle.ring_geom.proofs.FigureGaps.{polygon_rect_gap}

@@ -2,7 +2,7 @@
 use Rattle.std.proofs.Common.{◌≡◌, ℕ, List, sym, subst}
 use Rattle.sand_base.specs.declared.point.Point.{Point}
 use Rattle.sand_base.specs.declared.shape.Shape.{Shape}
-use Rattle.sand_model.specs.Carrier.{RationalPoint, IsPoint, IsOnSegment}
+use Rattle.sand_model.specs.Points.{RationalPoint, IsPoint, IsOnSegment}
 use Rattle.sand_model.specs.Figures.{IsPointOf}
 use Rattle.sand_model.specs.Gap.{IsLeast}
 use Rattle.sand_model.specs.Rings.{IsOnRing}

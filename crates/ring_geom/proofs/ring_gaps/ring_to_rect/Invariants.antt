@@ -1,6 +1,6 @@
 -- The least distance of the edges so far.
 use Rattle.std.proofs.Common.{take}
-use Rattle.sand_model.specs.Carrier.{IsInRect}
+use Rattle.sand_model.specs.Points.{IsInRect}
 use Rattle.sand_model.specs.Gap.{IsLeast}
 use Rattle.sand_model.specs.Rings.{edges}
 use Rattle.ring_geom.proofs.Unions.{IsOnAny}

@@ -1,5 +1,5 @@
 -- The first edge, one edge more, and all of them.
-use Rattle.sand_model.specs.Carrier.{IsOnSegment}
+use Rattle.sand_model.specs.Points.{IsOnSegment}
 use Rattle.sand_model.specs.Rings.{edges}
 use Rattle.ring_geom.proofs.InsideLoop.{no_more_edges}
 use Rattle.ring_geom.proofs.Unions.{least_first, least_next, least_of_all}

@@ -4,21 +4,21 @@ use Rattle.std.proofs.lemmas.List.{length_push}
 use Rattle.sand_base.specs.Plane.{IsInPlane}
 use Rattle.tuple_codec.specs.Encoding.{point_bytes}
 use Rattle.tuple_codec.proofs.Lists.{begins, stops, reads}
-use Rattle.tuple_codec.proofs.Corners.{AreCorners, points_free, corners_go_on, ring_short, ring_bad, ring_read}
+use Rattle.tuple_codec.proofs.Corners.{AreInClosedPlane, points_free, corners_go_on, ring_short, ring_bad, ring_read}
 use Rattle.tuple_codec.proofs.figures.read_ring.Goals as goal
 
 -- no vertex was read yet
 pub corners-init : goal.corners-init
 corners-init c = record {
   many = ap length c.in_ok-corners.ensures.items;
-  read = rw c.in_ok-corners.ensures.items (begins (AreCorners c.in-Some.count) point_bytes c.byte.new.self.left.now);
+  read = rw c.in_ok-corners.ensures.items (begins (AreInClosedPlane c.in-Some.count) point_bytes c.byte.new.self.left.now);
 }
 
 -- a vertex is missing
 pub returns-in_default-read_point : goal.returns-in_default-read_point
 returns-in_default-read_point c =
     ring_short c.args.reader.now.left.now c.byte.new.self.left.now c.in-Some.count c.in-Some.ensures
-    (stops IsInPlane (AreCorners c.in-Some.count) point_bytes c.byte.new.self.left.now c.corners.corners.items c.corners.reader.left.now
+    (stops IsInPlane (AreInClosedPlane c.in-Some.count) point_bytes c.byte.new.self.left.now c.corners.corners.items c.corners.reader.left.now
     c.corners.invariant.read
     (corners_go_on c.in-Some.count c.corners.corners.items (omega (arith, c.corners.invariant.many)))
     c.in_default-read_point.ensures)
@@ -32,7 +32,7 @@ corners-preserved c = record {
       ∙ ap (λ n. n + 1) c.corners.invariant.many;
   read =
       rw c.in_ok-push.ensures.items
-      (reads IsInPlane (AreCorners c.in-Some.count) point_bytes points_free c.byte.new.self.left.now c.corners.corners.items c.corners.reader.left.now
+      (reads IsInPlane (AreInClosedPlane c.in-Some.count) point_bytes points_free c.byte.new.self.left.now c.corners.corners.items c.corners.reader.left.now
       c.read_point.new.reader.left.now c.in-Some-read_point.corner c.corners.invariant.read
       (corners_go_on c.in-Some.count c.corners.corners.items (omega (arith, c.corners.invariant.many)))
       c.in-Some-read_point.ensures.0 c.in-Some-read_point.ensures.1);

@@ -1,6 +1,6 @@
 -- The closed square of a block, and the code of its corner.
 use Rattle.std.proofs.Common.{◌≡◌, ℕ, ◌+◌, ap, ap₂, ◌∙◌, subst, sym}
-use Rattle.sand_base.specs.Plane.{IsRectInReach}
+use Rattle.sand_base.specs.Plane.{IsRectInClosedPlane}
 use Rattle.sand_base.specs.declared.point.Point.{Point}
 use Rattle.sand_base.specs.declared.rect.Rect.{Rect}
 use Rattle.z_code.specs.Code.{code_of}
@@ -25,7 +25,7 @@ returns-clause-square c = square (goal.at.returns-clause-square c).After-side_le
 -- which lies within reach
 pub returns-clause-in_reach : goal.returns-clause-in_reach
 returns-clause-in_reach c =
-    subst IsRectInReach (sym (square (goal.at.returns-clause-in_reach c).After-side_length-side)) (square_in_reach c.args.self c.requires)
+    subst IsRectInClosedPlane (sym (square (goal.at.returns-clause-in_reach c).After-side_length-side)) (square_in_reach c.args.self c.requires)
 
 -- and whose corner has the block's code
 pub returns-clause-code : goal.returns-clause-code
