@@ -19,3 +19,6 @@ pub mod Gets
 pub mod Finds
 pub mod Frame
 pub mod Floors
+pub mod PageRuns
+pub mod Chains
+pub mod RunSteps

@@ -49,7 +49,7 @@ planted m w r p g e =
           top = λ h. absurd (omega arith);
           owns = λ q. elim (same_cases q r) [ inl i ↦ omega (arith, i.0, ap (λ (x : ℕ). live w x) i.1) | inr i ↦ omega (arith, i.0) ];
           ascending = subst A (sym es) tt;
-          chain = (r, (refl, ap (λ (x : Node). next_of x) no));
+          chain = (r, (refl, (g.positive, ap (λ (x : Node). next_of x) no)));
           counted = sym (ap (λ (x : List Pair). length x) es);
         };
         many = λ h. absurd (omega arith);

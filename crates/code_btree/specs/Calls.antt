@@ -1,6 +1,6 @@
 -- What the calls of a tree do.
-use Rattle.std.specs.Prelude.{◌≡◌, ℕ, ◌+◌, ◌≤◌, List, [], Option, None, Result, OnOk, IsTrue}
-use Rattle.sand_base.specs.Faults.{next_count}
+use Rattle.std.specs.Prelude.{◌≡◌, ℕ, ◌+◌, ◌≤◌, List, [], Option, None, Result, OnOk, IsTrue, min}
+use Rattle.sand_base.specs.Faults.{next_count, last_count}
 use Rattle.page_pool.specs.declared.fault.PageFault.{PageFault}
 use Rattle.page_pool.specs.Pool.{PoolState}
 use Rattle.page_pool.specs.Reads.{IsRead}
@@ -35,6 +35,13 @@ pub record Looks {T : Type 0} (old new : PoolState) (limit : ℕ) (result : Resu
   pub read : IsRead old new
   pub within : new.gets ≤ old.gets + limit
   pub some : OnOk result (next_count old.gets ≤ new.gets)
+  pub cause : HasPageCause old new result
+
+-- A reading call of at most so many gets, or of none; the number of gets doesn't fall.
+pub record Peeks {T : Type 0} (old new : PoolState) (limit : ℕ) (result : Result T PageFault) : Type 0 where
+  pub read : IsRead old new
+  pub within : new.gets ≤ old.gets + limit
+  pub later : OnOk result (min old.gets last_count ≤ new.gets)
   pub cause : HasPageCause old new result
 
 -- the tree is in w what it is in m: its pairs, its pages, and that it is a tree

@@ -3,7 +3,7 @@ ghost use Rattle.page_pool.specs.Pool.{IsOpen, IsTold};
 ghost use Rattle.page_pool.specs.Causes.{HasPageCause};
 ghost use Rattle.page_pool.specs.Steps.{InCommand};
 ghost use Rattle.code_btree.specs.Tree.{IsTree, pages_in, tree_items};
-ghost use Rattle.code_btree.specs.Items.{find_item, floor_item};
+ghost use Rattle.code_btree.specs.Items.{find_item, floor_item, ceiling_item};
 ghost use Rattle.code_btree.specs.Calls.{Planted, Inserted, Looks};
 
 use crate::insert::{Grown, counted, insert_under};
@@ -107,5 +107,23 @@ impl Tree {
         }
         let found = floor_under(pages, self.height - 1, self.root, key)?;
         Ok(found)
+    }
+
+    /// The pair of the least key not below this one. It makes one get more than the height at most.
+    pub fn ceiling<P: Pages>(
+        &self,
+        pages: &mut P,
+        key: u128,
+    ) -> Result<Option<(u128, u128)>, PageFault>
+        requires { IsTold (P.shown pages.old) → IsTree (pages_in (P.shown pages.old)) self.now }
+        ensures value { IfOk result (λ found. IsTold (P.shown pages.old) → found ≡ ceiling_item key (tree_items (pages_in (P.shown pages.old)) self.now)) }
+        ensures looks { Looks (P.shown pages.old) (P.shown pages.new) (self.now.height + 1) result }
+    {
+        let mut run = self.run(pages, key);
+        if let Some(pair) = run.next() {
+            return Ok(Some(pair));
+        }
+        let _ended = run.outcome()?;
+        Ok(None)
     }
 }
