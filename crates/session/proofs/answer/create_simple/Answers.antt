@@ -2,7 +2,7 @@
 use Rattle.std.proofs.Common.{◌∙◌, ◌++◌, [], ◌∷◌, ap, inr, arith}
 use Rattle.session.proofs.Places.{place_seen, place_none_seen}
 use Rattle.session.proofs.Statements.{create-taken_at, create-full, create-done}
-use Rattle.session.proofs.answer.create.Goals as goal
+use Rattle.session.proofs.answer.create_simple.Goals as goal
 
 pub returns-in-Some : goal.returns-in-Some
 returns-in-Some c =
