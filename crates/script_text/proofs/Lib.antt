@@ -1,6 +1,7 @@
 mod CutLaws
 mod CutLemmas
 mod Depth
+mod Doubled
 mod Falls
 mod FormLaws
 mod LexLemmas
@@ -8,6 +9,7 @@ mod LineLemmas
 mod ListReading
 mod NumberLemmas
 mod OneReading
+mod Pages
 mod Predictive
 mod Ranged
 mod RingLemmas

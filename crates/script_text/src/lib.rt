@@ -12,13 +12,17 @@
 #![tactic(auto)]
 
 mod column;
+mod copy;
 mod cursor;
 mod laws;
 mod lexer;
 mod lists;
 mod parse;
 mod plan;
+mod plan_printer;
 mod plan_reader;
+mod print;
+mod printer;
 mod reader;
 mod statement;
 mod statement_reader;
@@ -28,12 +32,14 @@ mod test;
 mod tests;
 mod text;
 mod token;
+mod value_printer;
 
 pub use column::{Column, Place};
 pub use laws::{a_line_has_one_reading, the_limits};
 pub use lists::{Places, Tests};
 pub use parse::{LineFault, parse_line};
 pub use plan::Plan;
+pub use print::print_statement;
 use sand_base::COORDINATE_BITS;
 pub use statement::Statement;
 pub use test::{Op, Test};
