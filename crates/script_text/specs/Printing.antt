@@ -37,7 +37,7 @@ each words (x ∷ xs) = words x ++ each words xs
 
 abbrev pub more_words : {A : Type 0} → List Piece → (A → List Piece) → List A → List Piece
 more_words between words [] = []
-more_words between words (x ∷ xs) = between ++ words x ++ more_words between words xs
+more_words between words (x ∷ xs) = between ++ (words x ++ more_words between words xs)
 
 abbrev pub list_words : {A : Type 0} → List Piece → (A → List Piece) → List A → List Piece
 list_words between words [] = []
@@ -100,6 +100,10 @@ within_words (Some n) = name (codes "within") ∷ number (decimal n) ∷ []
 abbrev pub comma : List Piece
 comma = mark symbol.Comma ∷ []
 
+-- a plan between brackets
+abbrev pub inner_words : List Piece → List Piece
+inner_words ws = mark symbol.Open ∷ ws ++ (mark symbol.Close ∷ [])
+
 -- a plan
 abbrev pub plan_words : PlanValue → List Piece
 plan_words (Scan relation) = name (codes "scan") ∷ name relation ∷ []
@@ -110,13 +114,12 @@ plan_words (PickEqual column value) = name (codes "pick") ∷ column_words colum
 plan_words (PickBetween column low high) = name (codes "pick") ∷ column_words column ++ (name (codes "from") ∷ int_words low ++ (name (codes "to") ∷ int_words high))
 plan_words (Join left right within) = name (codes "join") ∷ column_words left ++ (column_words right ++ within_words within)
 plan_words (Semi left right within) = name (codes "semi") ∷ column_words left ++ (column_words right ++ within_words within)
-plan_words (Filter plan tests) = name (codes "filter") ∷ mark symbol.Open ∷ plan_words plan ++ (mark symbol.Close ∷ name (codes "where") ∷ list_words (fixed (codes "and")) test_words tests)
-plan_words (Match plan place column) = name (codes "match") ∷ mark symbol.Open ∷ plan_words plan ++ (mark symbol.Close ∷ place_words place ++ (mark symbol.Equal ∷ column_words column))
-plan_words (Fetch plan places) = name (codes "fetch") ∷ mark symbol.Open ∷ plan_words plan ++ (mark symbol.Close ∷ list_words comma place_words places)
-plan_words (First count plan) = name (codes "first") ∷ number (decimal count) ∷ mark symbol.Open ∷ plan_words plan ++ (mark symbol.Close ∷ [])
-plan_words (SortBy plan place) = name (codes "sort") ∷ mark symbol.Open ∷ plan_words plan ++ (mark symbol.Close ∷ name (codes "by") ∷ place_words place)
-plan_words (SortNear plan place goal) = name (codes "sort") ∷ mark symbol.Open ∷ plan_words plan
-    ++ (mark symbol.Close ∷ name (codes "near") ∷ place_words place ++ (name (codes "from") ∷ shape_words goal))
+plan_words (Filter plan tests) = name (codes "filter") ∷ inner_words (plan_words plan) ++ (name (codes "where") ∷ list_words (fixed (codes "and")) test_words tests)
+plan_words (Match plan place column) = name (codes "match") ∷ inner_words (plan_words plan) ++ (place_words place ++ (mark symbol.Equal ∷ column_words column))
+plan_words (Fetch plan places) = name (codes "fetch") ∷ inner_words (plan_words plan) ++ list_words comma place_words places
+plan_words (First count plan) = name (codes "first") ∷ number (decimal count) ∷ inner_words (plan_words plan)
+plan_words (SortBy plan place) = name (codes "sort") ∷ inner_words (plan_words plan) ++ (name (codes "by") ∷ place_words place)
+plan_words (SortNear plan place goal) = name (codes "sort") ∷ inner_words (plan_words plan) ++ (name (codes "near") ∷ place_words place ++ (name (codes "from") ∷ shape_words goal))
 
 -- `header`, where it is there; a threshold, where it is there
 abbrev pub header_words : Bool → List Piece

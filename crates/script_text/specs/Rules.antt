@@ -139,10 +139,13 @@ value_form = alt an_int (λ n (u : Unit {0}). value.Int n) (nothing tt)
 abbrev pub values_form : Form (List Value)
 values_form = seq (λ v vs. v ∷ vs) value_form (rule more_values)
 
+-- `point | segment | polygon`
+abbrev pub spatial_form : Form Kind
+spatial_form = case_word (codes "point") (nothing kind.Point) (case_word (codes "segment") (nothing kind.Segment) (after_word (codes "polygon") (nothing kind.Polygon)))
+
 -- `int | text | point | segment | polygon`
 abbrev pub kind_form : Form Kind
-kind_form = case_word (codes "int") (nothing kind.Int) (case_word (codes "text") (nothing kind.Text) (case_word (codes "point") (nothing kind.Point)
-    (case_word (codes "segment") (nothing kind.Segment) (take (a_word (codes "polygon")) (λ (u : Unit {0}). kind.Polygon)))))
+kind_form = case_word (codes "int") (nothing kind.Int) (case_word (codes "text") (nothing kind.Text) spatial_form)
 
 -- `NAME kind`
 abbrev pub field_form : Form (List ℕ × Kind)
@@ -298,10 +301,14 @@ stats_rest = take a_name (λ c. statement.Stats c)
 abbrev pub blocks_rest : Form StatementValue
 blocks_rest = told (λ c. statement.Blocks c) column_form
 
+-- a statement on cursors, plans or leaves, which changes no relation
+abbrev pub query_form : Form StatementValue
+query_form =
+    case_word (codes "open") open_rest (case_word (codes "next") next_rest (case_word (codes "close") close_rest (case_word (codes "show") show_rest
+    (case_word (codes "stats") stats_rest (after_word (codes "blocks") blocks_rest)))))
+
 -- a statement
 abbrev pub statement_form : Form StatementValue
 statement_form =
     case_word (codes "create") create_rest (case_word (codes "insert") insert_rest (case_word (codes "delete") delete_rest (case_word (codes "load") load_rest
-    (case_word (codes "index") index_rest (case_word (codes "open") open_rest (case_word (codes "next") next_rest
-    (case_word (codes "close") close_rest (case_word (codes "show") show_rest
-    (case_word (codes "stats") stats_rest (after_word (codes "blocks") blocks_rest))))))))))
+    (case_word (codes "index") index_rest query_form))))

@@ -1,6 +1,6 @@
 //! The script language: statements and plans as values, and reading a line.
 //!
-//! THE CONTRACTS ALONE: the calls refuse memory. A line is cut into tokens that borrow it, each the longest that stands there (`lexer`, `text`): once for the first
+//! A line is cut into tokens that borrow it, each the longest that stands there (`lexer`, `text`): once for the first
 //! byte at which none begins, and once for a cursor that takes them one by one (`cursor`) under the grammar, which has a
 //! method for each rule (`reader`, `plan_reader`, `statement_reader`). `parse_line` gives the statement, or the column
 //! of the first fault. The grammar is said once, as data: forms typed by their value (`specs/Form.antt`,
@@ -13,19 +13,29 @@
 
 mod column;
 mod copy;
-mod field;
+mod cursor;
+mod laws;
 mod lexer;
 mod lists;
 mod parse;
 mod plan;
+mod plan_printer;
+mod plan_reader;
 mod print;
+mod printer;
+mod reader;
 mod statement;
+mod statement_reader;
 mod stuck;
 mod test;
+#[cfg(test)]
+mod tests;
+mod text;
 mod token;
+mod value_printer;
 
 pub use column::{Column, Place};
-pub use field::read_field;
+pub use laws::{a_line_has_one_reading, the_limits};
 pub use lists::{Places, Tests};
 pub use parse::{LineFault, parse_line};
 pub use plan::Plan;

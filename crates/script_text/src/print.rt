@@ -1,15 +1,146 @@
 ghost use Rattle.std.specs.Prelude.{◌≡◌, IfOk};
-ghost use Rattle.script_text.specs.Printing.{printed};
-ghost use Rattle.script_text.specs.Statement.{statement_value};
+ghost use Rattle.script_text.specs.Page.{put_all};
+ghost use Rattle.script_text.specs.Plan.{plan_value};
+ghost use Rattle.script_text.specs.Printing.{printed, words};
+ghost use Rattle.script_text.specs.Statement.{statement_value, Create, Insert, Delete, Load, Index, OpenCursor, Next, Show};
 
-use crate::Statement;
-use sand_base::NoMemory;
+use crate::printer::Printer;
+use crate::token::Symbol;
+use crate::{Column, Plan, Statement};
+use sand_base::{Label, NoMemory, Row, Schema};
 use std::alloc::Global;
+
+#[tactic(auto, using(crate::proofs::Pages::put_append), unfolding(crate::specs::Page::put_all))]
+impl Printer {
+    // Writes a `create`.
+    fn create(&mut self, relation: &Label, columns: &Schema) -> Result<(), NoMemory>
+        ensures { IfOk result (λ _. self.new ≡ put_all self.old (words (Create relation.now columns.now))) }
+    {
+        self.name("create")?;
+        self.name(relation.as_str())?;
+        self.mark(Symbol::Open)?;
+        self.fields(columns.columns())?;
+        self.mark(Symbol::Close)?;
+        Ok(())
+    }
+
+    // Writes an `insert`.
+    fn insert(&mut self, relation: &Label, values: &Row) -> Result<(), NoMemory>
+        ensures { IfOk result (λ _. self.new ≡ put_all self.old (words (Insert relation.now values.now))) }
+    {
+        self.name("insert")?;
+        self.name(relation.as_str())?;
+        self.values(values.values())?;
+        Ok(())
+    }
+
+    // Writes a `delete`.
+    fn delete(&mut self, relation: &Label, id: u32) -> Result<(), NoMemory>
+        ensures { IfOk result (λ _. self.new ≡ put_all self.old (words (Delete relation.now id))) }
+    {
+        self.name("delete")?;
+        self.name(relation.as_str())?;
+        self.natural(id)?;
+        Ok(())
+    }
+
+    // Writes a `load`.
+    fn load(&mut self, relation: &Label, file: &Label, header: bool) -> Result<(), NoMemory>
+        ensures { IfOk result (λ _. self.new ≡ put_all self.old (words (Load relation.now file.now header))) }
+    {
+        self.name("load")?;
+        self.name(relation.as_str())?;
+        self.text(file)?;
+        if header {
+            self.name("header")?;
+        }
+        Ok(())
+    }
+
+    // Writes an `index`.
+    fn index(&mut self, column: &Column, threshold: Option<u8>) -> Result<(), NoMemory>
+        ensures { IfOk result (λ _. self.new ≡ put_all self.old (words (Index column.now threshold))) }
+    {
+        self.name("index")?;
+        self.column(column)?;
+        if let Some(threshold) = threshold {
+            self.natural(u32::from(threshold))?;
+        }
+        Ok(())
+    }
+
+    // Writes an `open`.
+    fn open(&mut self, cursor: &Label, plan: &Plan) -> Result<(), NoMemory>
+        ensures { IfOk result (λ _. self.new ≡ put_all self.old (words (OpenCursor cursor.now (plan_value plan.now)))) }
+    {
+        self.name("open")?;
+        self.name(cursor.as_str())?;
+        self.mark(Symbol::Equal)?;
+        self.plan(plan)?;
+        Ok(())
+    }
+
+    // Writes a `next`.
+    fn next(&mut self, cursor: &Label, count: u32) -> Result<(), NoMemory>
+        ensures { IfOk result (λ _. self.new ≡ put_all self.old (words (Next cursor.now count))) }
+    {
+        self.name("next")?;
+        self.name(cursor.as_str())?;
+        self.natural(count)?;
+        Ok(())
+    }
+
+    // Writes a `show`.
+    fn show(&mut self, count: u32, plan: &Plan) -> Result<(), NoMemory>
+        ensures { IfOk result (λ _. self.new ≡ put_all self.old (words (Show count (plan_value plan.now)))) }
+    {
+        self.name("show")?;
+        self.natural(count)?;
+        self.plan(plan)?;
+        Ok(())
+    }
+
+    // Writes a statement.
+    fn statement(&mut self, statement: &Statement) -> Result<(), NoMemory>
+        ensures { IfOk result (λ _. self.new ≡ put_all self.old (words (statement_value statement.now))) }
+    {
+        match statement {
+            Statement::Create { relation, columns } => self.create(relation, columns)?,
+            Statement::Insert { relation, values } => self.insert(relation, values)?,
+            Statement::Delete { relation, id } => self.delete(relation, *id)?,
+            Statement::Load {
+                relation,
+                file,
+                header,
+            } => self.load(relation, file, *header)?,
+            Statement::Index { column, threshold } => self.index(column, *threshold)?,
+            Statement::OpenCursor { cursor, plan } => self.open(cursor, plan)?,
+            Statement::Next { cursor, count } => self.next(cursor, *count)?,
+            Statement::CloseCursor { cursor } => {
+                self.name("close")?;
+                self.name(cursor.as_str())?;
+            }
+            Statement::Show { count, plan } => self.show(*count, plan)?,
+            Statement::Stats { cursor } => {
+                self.name("stats")?;
+                self.name(cursor.as_str())?;
+            }
+            Statement::Blocks { column } => {
+                self.name("blocks")?;
+                self.column(column)?;
+            }
+        }
+        Ok(())
+    }
+}
 
 /// The printed form of a statement: its tokens, with one space between two of them but beside brackets, commas, dots and
 /// the minus of a segment.
+#[tactic(auto, using(crate::proofs::Pages::print_all))]
 pub fn print_statement(alloc: Global, statement: &Statement) -> Result<Vec<u8>, NoMemory>
     ensures { IfOk result (λ text. text.items ≡ printed (statement_value statement.now)) }
 {
-    Err(NoMemory {})
+    let mut printer = Printer::new(alloc);
+    printer.statement(statement)?;
+    Ok(printer.into_bytes())
 }
