@@ -3,6 +3,7 @@ mod CutLemmas
 mod Depth
 mod Doubled
 mod Falls
+mod Fields
 mod FormLaws
 mod LexLemmas
 mod LineLemmas
@@ -11,6 +12,10 @@ mod NumberLemmas
 mod OneReading
 mod Pages
 mod Predictive
+mod PrintedIsRead
+mod PrintedLexes
+mod PrintedNumbers
+mod PrintedTexts
 mod Ranged
 mod RingLemmas
 mod RunLemmas
@@ -22,3 +27,4 @@ mod TextRuns
 mod TokenLemmas
 mod Unfold
 mod Whole
+mod Writes

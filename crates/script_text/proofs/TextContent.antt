@@ -58,16 +58,16 @@ no-quotes (x ∷ xs) ys h =
     ap (λ t. x ∷ content_after t (xs ++ ys)) (ne_eqb x 34 (h 0 (omega arith))) ∙ ap (λ zs. x ∷ zs) (no-quotes xs ys (λ k less. h (suc k) (omega (arith, less))))
 
 -- one character, by its code
-record HasCode (bytes : List ℕ) : Type 0 where
-  code : ℕ
-  is : bytes ≡ encode_utf8 code ++ []
+pub record HasCode (bytes : List ℕ) : Type 0 where
+  pub code : ℕ
+  pub is : bytes ≡ encode_utf8 code ++ []
 
 code-of : (bytes cs : List ℕ) → bytes ≡ encode_utf8_all cs → is_one_plain cs ≡ true → HasCode bytes
 code-of bytes [] e h = absurd (false≢true h)
 code-of bytes (c ∷ []) e h = record { code = c; is = e }
 code-of bytes (c ∷ d ∷ cs) e h = absurd (false≢true h)
 
-has-code : (bytes : List ℕ) → is_plain bytes ≡ true → HasCode bytes
+pub has-code : (bytes : List ℕ) → is_plain bytes ≡ true → HasCode bytes
 unfolding is_plain
 has-code bytes h = code-of bytes (chars bytes) (sym (encodes-chars bytes (plain-utf8 bytes h))) (and_parts (is_utf8 bytes) (is_one_plain (chars bytes)) h).1
 

@@ -44,7 +44,7 @@ two_chars bytes rest after c d h e f =
     (chars_past_char bytes rest c h e ∙ ap (λ cs. c ∷ cs) (chars_past_char rest after d (IsUtf8-past_char bytes rest c h e) f)))
 
 -- the control characters are the ones that `is_control` tells
-control-same : (c : ℕ) → char.is_control c ≡ is_control c
+pub control-same : (c : ℕ) → char.is_control c ≡ is_control c
 control-same c = grind (arith, nat_tests)
 
 -- one character is one

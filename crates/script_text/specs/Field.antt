@@ -1,5 +1,5 @@
 -- What a field of a data file says, by the kind of its column.
-use Rattle.std.specs.Prelude.{◌≡◌, ℕ, Bool, true, not, ◌==◌, List}
+use Rattle.std.specs.Prelude.{◌≡◌, ℕ, Bool, true, not, ◌==◌, List, Option, Some, None}
 use Rattle.std.specs.List.{list_all}
 use Rattle.sand_base.specs.InRange.{IsTextInRange}
 use Rattle.sand_base.specs.Shape.{kind_of}
@@ -14,10 +14,14 @@ use Rattle.script_text.specs.Number.{is_int, value_of}
 use Rattle.script_text.specs.Rules.{shape_form}
 use Rattle.script_text.specs.Token.{is_number}
 
--- the field writes the shape in range, which is of the kind; no tab stands in it, spaces may
+-- the byte may stand in the field of a shape: no tab may, though spaces may
+abbrev pub is_shape_byte : ℕ → Bool
+is_shape_byte b = not (b == 9)
+
+-- the field writes the shape in range, which is of the kind
 pub record IsShapeField (k : Kind) (field : List ℕ) (s : Shape) : Type 0 where
   pub kind : kind_of s ≡ k
-  pub no_tab : list_all (λ b. not (b == 9)) field ≡ true
+  pub no_tab : list_all is_shape_byte field ≡ true
   pub tokens : List Placed
   pub lexed : IsLexed field tokens
   pub written : IsOf shape_form s true tokens
@@ -27,3 +31,8 @@ abbrev pub IsFieldOf : Kind → List ℕ → Value → Type 0
 IsFieldOf k field (value.Int n) = (k ≡ kind.Int) × (is_number field ≡ true) × (is_int field ≡ true) × (n ≡ value_of field)
 IsFieldOf k field (value.Text t) = (k ≡ kind.Text) × (t ≡ field) × IsTextInRange field
 IsFieldOf k field (value.Shape s) = IsShapeField k field s
+
+-- what reading a field gives: the value that it is, or nothing where it is none of the kind
+abbrev pub ReadsField : Kind → List ℕ → Option Value → Type 0
+ReadsField k field None = (v : Value) → ¬ IsFieldOf k field v
+ReadsField k field (Some v) = IsFieldOf k field v

@@ -40,8 +40,8 @@ fn natural(text: &str, least: u32, most: u32) -> Option<u32>
     }
 }
 
-// The number, where 64 bits hold it.
-fn int(text: &str) -> Option<i64>
+/// The number, where 64 bits hold it.
+pub fn int(text: &str) -> Option<i64>
     requires { is_number text.now ≡ true }
     ensures { result ≡ int text.now }
 {

@@ -128,8 +128,8 @@ fn symbol_cut(b: u8, after: &[u8]) -> Option<Cut<'_>>
     })
 }
 
-// The text of bytes below 128.
-fn text_of(bytes: &[u8]) -> &str
+/// The text of bytes below 128.
+pub fn text_of(bytes: &[u8]) -> &str
     requires { IsAscii bytes.now }
     ensures { result.now ≡ bytes.now }
 {

@@ -1,6 +1,6 @@
 ghost use Rattle.std.specs.Prelude.{◌≡◌, ◌<◌, IfOk, codes, length};
 ghost use Rattle.script_text.specs.declared.token.Symbol.TheVariants.{Comma, Open};
-ghost use Rattle.script_text.specs.Grammar.{reading};
+ghost use Rattle.script_text.specs.Grammar.{reading, whole};
 ghost use Rattle.script_text.specs.Reading.{Gives, GivesAs};
 ghost use Rattle.script_text.specs.Rules.{after_sign, after_word, column_form, columns_form, coordinate_form, corner_form};
 ghost use Rattle.script_text.specs.Rules.{field_form, kind_form, op_form, place_form, places_form, plain_form, rect_form};
@@ -133,6 +133,16 @@ impl<'t> Cursor<'t> {
             return self.point_or_segment();
         }
         self.polygon(alloc)
+    }
+
+    /// Reads a shape, which is all that is left.
+    #[tactic(auto, unfolding(crate::specs::Grammar::whole))]
+    pub fn whole_shape(&mut self, alloc: Global) -> Result<Shape, Stuck>
+        ensures { Gives (whole shape_form) self.old self.new result }
+    {
+        let shape = self.shape(alloc)?;
+        self.end()?;
+        Ok(shape)
     }
 
     /// Reads an int or a text.

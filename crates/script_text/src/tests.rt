@@ -1,4 +1,5 @@
-use crate::{LONGEST_LINE, LineFault, parse_line};
+use crate::{LONGEST_LINE, LineFault, Statement, parse_line, print_statement, read_field};
+use sand_base::{Kind, Value};
 
 /// What a line says.
 #[derive(Clone, Copy, Debug, PartialEq, Eq)]
@@ -181,5 +182,128 @@ fn long_lines_are_read_to_their_end(rt: HostRuntime) {
             Some(Outcome::Syntax(column)),
             "{column}"
         );
+    }
+}
+
+/// The printed form of the statement that a line writes.
+fn printed(rt: &HostRuntime, line: &str) -> Option<Vec<u8>> {
+    if line.len() > LONGEST_LINE {
+        return None;
+    }
+    let statement = parse_line(rt.alloc(), line.as_bytes()).ok()??;
+    print_statement(rt.alloc(), &statement).ok()
+}
+
+#[test]
+fn statements_have_one_printed_form(rt: HostRuntime) {
+    for (line, wanted) in [
+        ("create p(at point,pop int)", "create p (at point, pop int)"),
+        (
+            "insert r((0 0)(4 0)(4 4)),-2,\"a \"\"\",(0 -0) - (007 1)",
+            "insert r ((0 0) (4 0) (4 4)), -2, \"a \"\"\", (0 0)-(7 1)",
+        ),
+        ("insert p -000", "insert p 0"),
+        ("load p \"a\"header", "load p \"a\" header"),
+        ("index p . at 08", "index p.at 8"),
+        (
+            "open c=filter(rank p.at from(0 0))where 1.pop=9 and 1.pop!=8",
+            "open c = filter (rank p.at from (0 0)) where 1.pop = 9 and 1.pop != 8",
+        ),
+        (
+            "show 2 fetch(match(scan p)1.k=q.k)1.a,2.b",
+            "show 2 fetch (match (scan p) 1.k = q.k) 1.a, 2.b",
+        ),
+        (
+            "show 2 sort(sort(scan p)by 1.a)near 1.b from(0 0)",
+            "show 2 sort (sort (scan p) by 1.a) near 1.b from (0 0)",
+        ),
+        (
+            "show 1 pick p.n from -5 to 9223372036854775807",
+            "show 1 pick p.n from -5 to 9223372036854775807",
+        ),
+    ] {
+        let text = printed(&rt, line);
+        assert!(rt;
+            matches!(&text, Some(bytes) if bytes.as_slice() == wanted.as_bytes()),
+            "{line}"
+        );
+    }
+}
+
+/// A line of as many operators inside one another as a line can hold, with or without their closing brackets.
+fn nested(rt: &HostRuntime, depth: usize, closed: usize) -> Option<Vec<u8>> {
+    let mut line = Vec::new(rt.alloc());
+    line.extend_from_slice(b"show 1 ").ok()?;
+    for _ in 0..depth {
+        line.extend_from_slice(b"first 1(").ok()?;
+    }
+    line.extend_from_slice(b"scan p").ok()?;
+    for _ in 0..closed {
+        line.push(b')').ok()?;
+    }
+    Some(line)
+}
+
+/// How deep the plan of a `show` is, read from its copy, and how many bytes it is printed in.
+fn depth_and_size(rt: &HostRuntime, line: &[u8]) -> Option<(usize, usize)> {
+    if line.len() > LONGEST_LINE {
+        return None;
+    }
+    let statement = parse_line(rt.alloc(), line).ok()??;
+    let text = print_statement(rt.alloc(), &statement).ok()?;
+    let Statement::Show { plan, .. } = &statement else {
+        return None;
+    };
+    let copy = plan.copy(rt.alloc()).ok()?;
+    Some((copy.depth(), text.len()))
+}
+
+#[test]
+fn the_deepest_plan_of_a_line_is_read_copied_and_printed(rt: HostRuntime) {
+    let line = nested(&rt, 908, 908);
+    assert!(rt; matches!(&line, Some(bytes) if bytes.len() == 8_185));
+    if let Some(bytes) = line {
+        assert_eq!(rt; depth_and_size(&rt, bytes.as_slice()), Some((909, 9_093)));
+    }
+    if let Some(bytes) = nested(&rt, 908, 907) {
+        assert_eq!(rt; says(&rt, bytes.as_slice()), Outcome::Syntax(8_185));
+    }
+}
+
+/// What a field is, in few words.
+fn field(rt: &HostRuntime, bytes: &[u8], kind: Kind) -> &'static str {
+    match read_field(rt.alloc(), bytes, kind) {
+        Ok(None) => "none",
+        Ok(Some(Value::Int(_))) => "int",
+        Ok(Some(Value::Text(_))) => "text",
+        Ok(Some(Value::Shape(_))) => "shape",
+        Err(_) => "memory",
+    }
+}
+
+#[test]
+fn fields_are_of_their_kind_or_none(rt: HostRuntime) {
+    for (bytes, kind, wanted) in [
+        (&b"-007"[..], Kind::Int, "int"),
+        (&b"9223372036854775808"[..], Kind::Int, "none"),
+        (&b" 7"[..], Kind::Int, "none"),
+        (&b"-"[..], Kind::Int, "none"),
+        (&b""[..], Kind::Int, "none"),
+        (&b""[..], Kind::Text, "text"),
+        (&b"a \"b\""[..], Kind::Text, "text"),
+        (&b"a\tb"[..], Kind::Text, "none"),
+        (&[0xC3][..], Kind::Text, "none"),
+        (&[b'x'; 255][..], Kind::Text, "text"),
+        (&[b'x'; 256][..], Kind::Text, "none"),
+        (&b" ( 1  2 ) "[..], Kind::Point, "shape"),
+        (&b"(1\t2)"[..], Kind::Point, "none"),
+        (&b"(1 2)"[..], Kind::Segment, "none"),
+        (&b"(1 2)-(3 4)"[..], Kind::Segment, "shape"),
+        (&b"((0 0) (4 0) (4 4))"[..], Kind::Polygon, "shape"),
+        (&b"((0 0) (4 0))"[..], Kind::Polygon, "none"),
+        (&b"(1 65536)"[..], Kind::Point, "none"),
+        (&b"(1 2)x"[..], Kind::Point, "none"),
+    ] {
+        assert_eq!(rt; field(&rt, bytes, kind), wanted, "{wanted}");
     }
 }
