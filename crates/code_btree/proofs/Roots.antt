@@ -27,7 +27,7 @@ keeps_of m w before after others moved = record {
 pub one_pages : (m : Store) (h q n : ℕ) → times q (all_pages m h (n ∷ [])) ≡ times q (pages m h n)
 one_pages m h q n = ap (λ (ps : List ℕ). times q ps) (append-nil (pages m h n))
 
-one_links : (m : Store) (h n : ℕ) → all_links m h (n ∷ []) ≡ links m h n
+pub one_links : (m : Store) (h n : ℕ) → all_links m h (n ∷ []) ≡ links m h n
 one_links m h n = append-nil (links m h n)
 
 pub subtree_of : (m : Store) (h n count : ℕ) → IsTreeAt m h n count → Subtree m h n

@@ -7,7 +7,7 @@ use Rattle.page_pool.specs.Reads.{IsRead}
 use Rattle.page_pool.specs.Causes.{HasPageCause}
 use Rattle.code_btree.specs.declared.map.Tree.{Tree}
 use Rattle.code_btree.specs.Node.{Pair}
-use Rattle.code_btree.specs.Items.{put_item, find_item}
+use Rattle.code_btree.specs.Items.{put_item, drop_item, find_item}
 use Rattle.code_btree.specs.Tree.{Store, IsTree, tree_items, tree_pages, times, live}
 
 -- A change touched only these pages, which became those. Every other live page keeps its bytes; a gained page wasn't live, a lost one is freed, and no other page comes or goes.
@@ -27,6 +27,13 @@ pub record Planted (m w : Store) (t : Tree) : Type 0 where
 pub record Inserted (m w : Store) (t u : Tree) (key value : ℕ) (was : Option ℕ) : Type 0 where
   pub tree : IsTree w u
   pub items : tree_items w u ≡ put_item key value (tree_items m t)
+  pub found : was ≡ find_item key (tree_items m t)
+  pub keeps : Keeps m w (tree_pages m t) (tree_pages w u)
+
+-- the map lacks the key, the old value came back, and no other page was touched
+pub record Removed (m w : Store) (t u : Tree) (key : ℕ) (was : Option ℕ) : Type 0 where
+  pub tree : IsTree w u
+  pub items : tree_items w u ≡ drop_item key (tree_items m t)
   pub found : was ≡ find_item key (tree_items m t)
   pub keeps : Keeps m w (tree_pages m t) (tree_pages w u)
 

@@ -8,4 +8,5 @@ pub mod Calls
 pub mod Run
 -- What only the proof needs.
 pub mod Steps
+pub mod Removals
 pub mod Chain
