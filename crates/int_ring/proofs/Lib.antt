@@ -1,6 +1,7 @@
 mod Examples
 pub mod Inequality
 pub mod Laws
+pub mod Named
 pub mod Order
 mod PolyLemmas
 pub mod Ring

@@ -5,8 +5,9 @@ use Rattle.sand_base.specs.declared.point.Point.{Point}
 use Rattle.int_ring.specs.Expr.{var, at, num, neg, ◌⊕◌, ◌⊖◌, ◌⊗◌}
 use Rattle.int_ring.proofs.Ring.{ring}
 use Rattle.int_ring.proofs.Order.{difference_nonneg, mul_nonneg, mul_positive, mul_le, add_nonneg, chain_le}
-use Rattle.int_ring.proofs.Inequality.{le_ring, le_ring_scaled}
+use Rattle.int_ring.proofs.Named.{inequality, inequality_scaled}
 use Rattle.int_ring.proofs.Squares.{square_nonneg}
+use Rattle.plane_geom.proofs.Forms as form
 use Rattle.plane_geom.proofs.Signs.{weak}
 
 -- the vector (x, y), over the denominator k, is at least as long as the root of m / e
@@ -28,18 +29,14 @@ opposite m e x y k h =
 pub shrunk : (m e x y k t s : ℤ) → pos 0 ≤ℤ e → pos 0 ≤ℤ t → t ≤ℤ s → pos 0 <ℤ s
     → IsClear m e (t *ℤ x) (t *ℤ y) (s *ℤ k) → IsClear m e x y k
 shrunk m e x y k t s he ht hts hs h =
-    let vm = var 0 in
-    let ve = var 1 in
-    let vx = var 2 in
-    let vy = var 3 in
-    let vk = var 4 in
-    let vt = var 5 in
-    let vs = var 6 in
-    let long = vx ⊗ vx ⊕ vy ⊗ vy in
-    let scaled_distance = ((vt ⊗ vx) ⊗ (vt ⊗ vx) ⊕ (vt ⊗ vy) ⊗ (vt ⊗ vy)) ⊗ ve in
-    let near = vm ⊗ ((vs ⊗ vk) ⊗ (vs ⊗ vk)) in
-    le_ring_scaled (at (m ∷ e ∷ x ∷ y ∷ k ∷ t ∷ s ∷ [])) (vm ⊗ (vk ⊗ vk)) (long ⊗ ve) (vs ⊗ vs)
-    ((scaled_distance ⊖ near) ⊕ ((vs ⊖ vt) ⊗ (vs ⊕ vt)) ⊗ (long ⊗ ve)) refl
+    inequality_scaled (m ∷ e ∷ x ∷ y ∷ k ∷ t ∷ s ∷ [])
+    (λ m e x y k t s.
+    let long = form.squares x y ⊗ e in (
+      m ⊗ (k ⊗ k),
+      long,
+      s ⊗ s,
+      (form.squares (t ⊗ x) (t ⊗ y) ⊗ e ⊖ m ⊗ ((s ⊗ k) ⊗ (s ⊗ k))) ⊕ ((s ⊖ t) ⊗ (s ⊕ t)) ⊗ long,
+    )) refl
     (mul_positive s s hs hs)
     (add_nonneg _ _ (difference_nonneg _ _ h)
     (mul_nonneg _ _ (mul_nonneg _ _ (difference_nonneg t s hts) (both t s ht hs))
@@ -58,28 +55,21 @@ unscaled m e x y k s he hs h = shrunk m e x y k s s he (weak (pos 0) s hs) (same
 -- a common factor keeps a vector long enough
 pub raised : (m e x y k r : ℤ) → IsClear m e x y k → IsClear m e (r *ℤ x) (r *ℤ y) (r *ℤ k)
 raised m e x y k r h =
-    let vm = var 0 in
-    let ve = var 1 in
-    let vx = var 2 in
-    let vy = var 3 in
-    let vk = var 4 in
-    let vr = var 5 in
-    le_ring (at (m ∷ e ∷ x ∷ y ∷ k ∷ r ∷ [])) (vm ⊗ ((vr ⊗ vk) ⊗ (vr ⊗ vk)))
-    (((vr ⊗ vx) ⊗ (vr ⊗ vx) ⊕ (vr ⊗ vy) ⊗ (vr ⊗ vy)) ⊗ ve)
-    ((vr ⊗ vr) ⊗ ((vx ⊗ vx ⊕ vy ⊗ vy) ⊗ ve ⊖ vm ⊗ (vk ⊗ vk))) refl
+    inequality (m ∷ e ∷ x ∷ y ∷ k ∷ r ∷ [])
+    (λ m e x y k r. (
+      m ⊗ ((r ⊗ k) ⊗ (r ⊗ k)),
+      form.squares (r ⊗ x) (r ⊗ y) ⊗ e,
+      (r ⊗ r) ⊗ (form.squares x y ⊗ e ⊖ m ⊗ (k ⊗ k)),
+    )) refl
     (mul_nonneg _ _ (square_nonneg r) (difference_nonneg _ _ h))
 
 -- what is at least as long as a vector that is long enough is long enough
 pub farther : (m e x y x' y' k : ℤ) → pos 0 ≤ℤ e → IsClear m e x y (pos 1)
     → (((x *ℤ x) +ℤ (y *ℤ y)) *ℤ (k *ℤ k)) ≤ℤ ((x' *ℤ x') +ℤ (y' *ℤ y')) → IsClear m e x' y' k
 farther m e x y x' y' k he h scaled_distance =
-    let vm = var 0 in
-    let ve = var 1 in
-    let vk = var 2 in
-    let vl = var 3 in
     chain_le _ _ _
-    (le_ring (at (m ∷ e ∷ k ∷ ((x *ℤ x) +ℤ (y *ℤ y)) ∷ [])) (vm ⊗ (vk ⊗ vk)) ((vl ⊗ (vk ⊗ vk)) ⊗ ve)
-    ((vk ⊗ vk) ⊗ (vl ⊗ ve ⊖ vm ⊗ (num (pos 1) ⊗ num (pos 1)))) refl
+    (inequality (m ∷ e ∷ k ∷ ((x *ℤ x) +ℤ (y *ℤ y)) ∷ [])
+    (λ m e k l. (m ⊗ (k ⊗ k), (l ⊗ (k ⊗ k)) ⊗ e, (k ⊗ k) ⊗ (l ⊗ e ⊖ m ⊗ (num (pos 1) ⊗ num (pos 1))))) refl
     (mul_nonneg _ _ (square_nonneg k) (difference_nonneg _ _ h)))
     (mul_le _ _ e he scaled_distance)
 

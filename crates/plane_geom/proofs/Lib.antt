@@ -1,9 +1,11 @@
+pub mod Axis
 pub mod Blend
 pub mod Clear
 pub mod Crossing
 pub mod Descent
 pub mod Drawing
 pub mod EndsAndCorners
+pub mod Forms
 pub mod Least
 pub mod Leaving
 pub mod Means
