@@ -5,7 +5,7 @@ use Rattle.sand_base.specs.declared.point.Point.{Point}
 use Rattle.sand_base.specs.declared.segment.Segment.{Segment}
 use Rattle.sand_model.specs.Points.{RationalPoint, IsOnSegment}
 use Rattle.sand_model.specs.Gap.{IsLeast, square, common_square}
-use Rattle.int_ring.specs.Expr.{var, at, num, ◌⊕◌, ◌⊖◌, ◌⊗◌}
+use Rattle.int_ring.specs.Expr.{Expr, var, at, num, ◌⊕◌, ◌⊖◌, ◌⊗◌}
 use Rattle.int_ring.proofs.Ring.{ring}
 use Rattle.int_ring.proofs.Named.{identity}
 use Rattle.int_ring.proofs.Order.{add_nonneg, pos_abs}
@@ -24,21 +24,15 @@ meets : (a b c d : Point)
     → let i = pos 0 -ℤ cross_of c d b in let j = cross_of c d a in let u = cross_of a b d in let v = pos 0 -ℤ cross_of a b c in
     (offset (pos a.x) (pos b.x) (pos c.x) (pos d.x) i j u v ≡ pos 0) × (offset (pos a.y) (pos b.y) (pos c.y) (pos d.y) i j u v ≡ pos 0)
 meets a b c d =
-    let coordinates = pos a.x ∷ pos a.y ∷ pos b.x ∷ pos b.y ∷ pos c.x ∷ pos c.y ∷ pos d.x ∷ pos d.y ∷ [] in
-    let none = num (pos 0) in (
-      identity coordinates
-          (λ ax ay bx by cx cy dx dy. (
-            form.offset ax bx cx dx (none ⊖ form.cross cx cy dx dy bx by) (form.cross cx cy dx dy ax ay)
-                (form.cross ax ay bx by dx dy) (none ⊖ form.cross ax ay bx by cx cy),
-            none,
-          )) refl,
-      identity coordinates
-          (λ ax ay bx by cx cy dx dy. (
-            form.offset ay by cy dy (none ⊖ form.cross cx cy dx dy bx by) (form.cross cx cy dx dy ax ay)
-                (form.cross ax ay bx by dx dy) (none ⊖ form.cross ax ay bx by cx cy),
-            none,
-          )) refl,
+    let coordinates = pos a.x ∷ pos a.y ∷ pos b.x ∷ pos b.y ∷ pos c.x ∷ pos c.y ∷ pos d.x ∷ pos d.y ∷ [] in (
+      identity coordinates (λ ax ay bx by cx cy dx dy. (way ax bx cx dx ax ay bx by cx cy dx dy, num (pos 0))) refl,
+      identity coordinates (λ ax ay bx by cx cy dx dy. (way ay by cy dy ax ay bx by cx cy dx dy, num (pos 0))) refl,
     )
+  where
+    way : Expr → Expr → Expr → Expr → Expr → Expr → Expr → Expr → Expr → Expr → Expr → Expr → Expr
+    way a b c d ax ay bx by cx cy dx dy =
+        form.offset a b c d (num (pos 0) ⊖ form.cross cx cy dx dy bx by) (form.cross cx cy dx dy ax ay)
+        (form.cross ax ay bx by dx dy) (num (pos 0) ⊖ form.cross ax ay bx by cx cy)
 
 -- the heights of the two segments differ by one number
 heights_differ : (a b c d : Point) → cross_of c d a -ℤ cross_of c d b ≡ cross_of a b d -ℤ cross_of a b c

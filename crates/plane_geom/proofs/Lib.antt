@@ -1,3 +1,4 @@
+pub mod Apart
 pub mod Axis
 pub mod Blend
 pub mod Clear

@@ -1,5 +1,5 @@
 -- Two segments: they share a point where they cross, and otherwise the least distance from an end is the least of all.
-use Rattle.std.proofs.Common.{◌⊎◌, inl, inr, ℕ, ◌≤◌, ℤ, pos, ◌*ℤ◌, ◌≤ℤ◌, ◌<ℤ◌, [], ◌∷◌, refl, sym, subst, arith}
+use Rattle.std.proofs.Common.{◌⊎◌, inl, inr, ℕ, ◌*◌, ◌≤◌, ℤ, pos, ◌*ℤ◌, ◌≤ℤ◌, ◌<ℤ◌, [], ◌∷◌, refl, sym, subst, arith}
 use Rattle.std.proofs.lemmas.Int.{ints, by_lt_z}
 use Rattle.exact_frac.specs.declared.frac.Frac.{Frac}
 use Rattle.sand_base.specs.declared.point.Point.{Point}
@@ -13,6 +13,7 @@ use Rattle.int_ring.proofs.Squares.{square_nonneg}
 use Rattle.plane_geom.specs.Crossing.{AreOpposed, Cross}
 use Rattle.plane_geom.specs.Lesser.{IsAtMost, IsLesser}
 use Rattle.plane_geom.specs.Vectors.{cross_of}
+use Rattle.plane_geom.proofs.Apart.{AreApart}
 use Rattle.plane_geom.proofs.Clear.{IsClear, AreClear, exchange}
 use Rattle.plane_geom.proofs.Forms as form
 use Rattle.plane_geom.proofs.Means.{point_hull, mean_on, first_end, second_end}
@@ -40,6 +41,10 @@ at_most_one f g x y k le h =
   where
     above : (n : ℕ) → 1 ≤ n → pos 0 <ℤ pos n
     above n h = omega (arith, ints)
+
+-- and of two points
+pub lesser_apart : (f g : Frac) (q z : RationalPoint) → IsAtMost g f → AreApart f.num f.den q z → AreApart g.num g.den q z
+lesser_apart f g q z le h = at_most_one f g _ _ (pos (q.n * z.n)) le h
 
 -- a bound by a fraction is one by each fraction that is at most it
 at_most_clear : (f g : Frac) (a b c d : Point) → IsAtMost g f → AreClear (pos f.num) (pos f.den) a b c d

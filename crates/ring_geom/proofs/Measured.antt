@@ -19,12 +19,13 @@ use Rattle.sand_model.specs.FigureGap.{IsFigureGap}
 use Rattle.sand_model.specs.Figures.{IsPointOf, IsPointOfFigure}
 use Rattle.sand_model.specs.Measure.{Measure, IsMeasure}
 use Rattle.sand_model.specs.Rings.{EachOf, chain, last_of, IsOnRing}
+use Rattle.plane_geom.proofs.Least.{least_exchanged, least_same}
 use Rattle.ring_geom.proofs.Decide.{Dec, decide_covering}
 use Rattle.ring_geom.proofs.EdgeLemmas.{corner_of_plane}
 use Rattle.ring_geom.proofs.FigureGaps.{covering_gap, least_gap}
 use Rattle.ring_geom.proofs.Fractions.{whole, lesser}
 use Rattle.ring_geom.proofs.PieceGaps.{HasLeast, point_point, point_segment, segment_segment, point_rect, segment_rect, rect_rect}
-use Rattle.ring_geom.proofs.Unions.{IsOnAny, least_exchanged, least_same, least_union}
+use Rattle.ring_geom.proofs.Unions.{IsOnAny, least_union}
 
 -- the two sets exchanged
 turned : {A B : RationalPoint → Type 0} → HasLeast A B → HasLeast B A
