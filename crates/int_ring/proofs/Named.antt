@@ -1,5 +1,5 @@
 -- Identities and inequalities whose variables have names: their expressions are a function of the variables.
-use Rattle.std.proofs.Common.{◌≡◌, ℕ, zero, suc, true, ℤ, pos, ◌≤ℤ◌, ◌<ℤ◌, List, [], ◌∷◌}
+use Rattle.std.proofs.Common.{◌≡◌, ℕ, suc, true, ℤ, pos, ◌≤ℤ◌, ◌<ℤ◌, List, [], ◌∷◌}
 use Rattle.int_ring.specs.Expr.{Expr, var, at, value, ◌⊖◌, ◌⊗◌}
 use Rattle.int_ring.specs.Poly.{same}
 use Rattle.int_ring.proofs.Ring.{ring, ring_using}

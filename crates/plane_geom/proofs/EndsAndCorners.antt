@@ -1,23 +1,23 @@
 -- A segment and a rectangle: where the segment doesn't enter it, an end or a corner is nearest.
-use Rattle.std.proofs.Common.{◌≡◌, inl, inr, ℕ, ◌*◌, ◌≤◌, min, max, ℤ, pos, ◌+ℤ◌, ◌-ℤ◌, ◌*ℤ◌, [], ◌∷◌, refl, arith}
+use Rattle.std.proofs.Common.{◌≡◌, inl, inr, ℕ, ℤ, pos, ◌+ℤ◌, ◌-ℤ◌, ◌*ℤ◌, [], ◌∷◌, refl}
 use Rattle.exact_frac.specs.declared.frac.Frac.{Frac}
 use Rattle.sand_base.specs.declared.point.Point.{Point}
 use Rattle.sand_base.specs.declared.rect.Rect.{Rect}
 use Rattle.sand_base.specs.declared.segment.Segment.{Segment}
-use Rattle.sand_model.specs.Points.{RationalPoint, IsPoint, IsWithin, IsOnSegment, IsInRect}
+use Rattle.sand_model.specs.Points.{RationalPoint, IsPoint, IsOnSegment, IsInRect}
 use Rattle.sand_model.specs.Gap.{IsLeast}
 use Rattle.int_ring.specs.Expr.{var, at, num, ◌⊕◌, ◌⊖◌, ◌⊗◌}
 use Rattle.int_ring.proofs.Ring.{ring}
 use Rattle.plane_geom.specs.Crossing.{Cross}
-use Rattle.plane_geom.specs.Lesser.{IsAtMost, IsLesser}
+use Rattle.exact_frac.specs.Lesser.{IsLesser}
 use Rattle.plane_geom.specs.Rectangles.{Enters, IsCovered, top_left, bottom_right, left_side, right_side, bottom_side, top_side}
 use Rattle.plane_geom.proofs.Clear.{exchange}
-use Rattle.plane_geom.proofs.Crossing.{crossing_shared, shared_least}
+use Rattle.plane_geom.proofs.CrossingPoint.{crossing_shared, shared_least}
 use Rattle.plane_geom.proofs.Least.{Attained, attained_within, attained_exchanged, clear_of_bound, means_clear}
 use Rattle.plane_geom.proofs.Means.{mean_on, first_end, second_end, point_hull}
 use Rattle.plane_geom.proofs.SegmentHull.{segment_hull}
-use Rattle.plane_geom.proofs.PointLemmas.{points_least}
-use Rattle.plane_geom.proofs.SegmentLemmas.{lesser_attained, lesser_apart, uncrossed_clear}
+use Rattle.plane_geom.proofs.GapOfPoints.{points_least}
+use Rattle.plane_geom.proofs.NearestEnd.{lesser_attained, lesser_apart, uncrossed_clear}
 use Rattle.plane_geom.proofs.Apart.{AreApart}
 use Rattle.plane_geom.proofs.Axis.{horizontal, vertical}
 use Rattle.plane_geom.proofs.Leaving.{sides_bound}

@@ -1,23 +1,16 @@
 -- A segment with a point in a rectangle and an end outside meets a side, so that its sides bound the distance.
-use Rattle.std.proofs.Common.{◌≡◌, ℕ, ◌*◌, ◌<◌, ◌≤◌, ℤ, pos, ◌+ℤ◌, ◌-ℤ◌, ◌*ℤ◌, ◌≤ℤ◌, ◌<ℤ◌, [], ◌∷◌, refl, sym, subst, arith}
-use Rattle.std.proofs.Math.Nat.{mul-le-mul_left, le_refl}
-use Rattle.std.proofs.lemmas.Int.{ints, by_lt_z}
+use Rattle.std.proofs.Common.{◌≡◌, ℕ, ◌*◌, ◌≤◌, ℤ, pos, ◌-ℤ◌, ◌≤ℤ◌, ◌<ℤ◌, arith}
+use Rattle.std.proofs.lemmas.Int.{ints}
 use Rattle.sand_base.specs.declared.rect.Rect.{Rect}
 use Rattle.sand_base.specs.declared.segment.Segment.{Segment}
-use Rattle.sand_model.specs.Points.{RationalPoint, IsWithin, IsOnSegment, IsInRect}
-use Rattle.sand_model.specs.Gap.{scaled_distance, common_square}
-use Rattle.int_ring.specs.Expr.{num, ◌⊖◌, ◌⊗◌}
-use Rattle.int_ring.proofs.Named.{identity, inequality}
-use Rattle.int_ring.proofs.Order.{mul_nonneg, mul_positive, add_nonneg, pos_le}
-use Rattle.int_ring.proofs.Squares.{square_nonneg}
+use Rattle.sand_model.specs.Points.{RationalPoint, IsOnSegment, IsInRect}
 use Rattle.plane_geom.specs.Rectangles.{IsCovered}
 use Rattle.plane_geom.proofs.Apart.{AreApart, met, no_bound}
 use Rattle.plane_geom.proofs.Axis.{Axis, horizontal, vertical, other, coordinate, numerator, IsInRange, in_range, in_both}
 use Rattle.plane_geom.proofs.Blend.{IsCut, cut}
-use Rattle.plane_geom.proofs.Forms as form
 use Rattle.plane_geom.proofs.Means.{mean_on, first_end}
-use Rattle.plane_geom.proofs.PointLemmas.{spot, spot_is}
-use Rattle.plane_geom.proofs.Signs.{natural, above_zero, weak}
+use Rattle.plane_geom.proofs.GapOfPoints.{spot, spot_is}
+use Rattle.plane_geom.proofs.Signs.{weak}
 use Rattle.plane_geom.proofs.Sides.{IsOrdered, SidesApart, IsBeyond, End, low_end, high_end, corner, on_side, end_in, beyond_or_in, beyond_apart}
 
 -- a segment with a point in the rectangle and one beyond an end of an axis has one at the end, within all that both lie in

@@ -1,11 +1,11 @@
 -- From a point outside a rectangle, the side towards it bounds the distance.
-use Rattle.std.proofs.Common.{◌≡◌, ◌⊎◌, inl, inr, ℕ, ◌*◌, ◌≤◌, min, max, ℤ, pos, ◌+ℤ◌, ◌-ℤ◌, ◌*ℤ◌, ◌≤ℤ◌, ◌<ℤ◌, [], ◌∷◌, refl, ap, ◌∙◌, subst, arith}
+use Rattle.std.proofs.Common.{◌≡◌, ℕ, ◌*◌, ◌≤◌, min, max, ℤ, pos, ◌+ℤ◌, ◌-ℤ◌, ◌*ℤ◌, ◌≤ℤ◌, ◌<ℤ◌, [], ◌∷◌, refl, ap, ◌∙◌, subst, arith}
 use Rattle.std.proofs.Math.Nat.{mul-le-mul_left, le_refl}
 use Rattle.std.proofs.lemmas.Int.{ints, by_lt_z}
 use Rattle.sand_base.specs.declared.point.Point.{Point}
 use Rattle.sand_base.specs.declared.rect.Rect.{Rect}
 use Rattle.sand_base.specs.declared.segment.Segment.{Segment}
-use Rattle.sand_model.specs.Points.{RationalPoint, IsPoint, IsWithin, IsOnSegment, IsInRect}
+use Rattle.sand_model.specs.Points.{RationalPoint, IsWithin, IsOnSegment, IsInRect}
 use Rattle.sand_model.specs.Gap.{square}
 use Rattle.int_ring.specs.Expr.{num, ◌⊕◌, ◌⊖◌, ◌⊗◌}
 use Rattle.int_ring.proofs.Named.{identity, inequality}
@@ -13,7 +13,7 @@ use Rattle.int_ring.proofs.Order.{difference_nonneg, mul_nonneg, mul_le, add_non
 use Rattle.int_ring.proofs.Squares.{square_nonneg}
 use Rattle.plane_geom.specs.Rectangles.{IsCovered, top_left, bottom_right, left_side, right_side, bottom_side, top_side}
 use Rattle.plane_geom.proofs.Apart.{AreApart}
-use Rattle.plane_geom.proofs.Axis.{Axis, horizontal, vertical, other, coordinate, numerator, IsInRange, in_range, in_both}
+use Rattle.plane_geom.proofs.Axis.{Axis, horizontal, vertical, coordinate, numerator, IsInRange, in_range}
 use Rattle.plane_geom.proofs.Signs.{natural, weak}
 
 -- the rectangle reads from its low corner to its high one

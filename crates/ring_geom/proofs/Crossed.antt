@@ -13,7 +13,7 @@ use Rattle.int_ring.proofs.Order.{mul_lt, lt_from_mul, difference_positive}
 use Rattle.plane_geom.proofs.Axis.{vertical}
 use Rattle.plane_geom.proofs.Blend.{cut}
 use Rattle.plane_geom.proofs.Means.{mean_on, first_end, second_end}
-use Rattle.plane_geom.proofs.PointLemmas.{spot_is}
+use Rattle.plane_geom.proofs.GapOfPoints.{spot_is}
 use Rattle.plane_geom.proofs.Signs.{weak, above_zero}
 
 -- a point of the segment at the level, which lies to the right of each column from which the segment is crossed there

@@ -18,7 +18,7 @@ use Rattle.int_ring.proofs.Order.{mul_le, le_from_mul, same_from_mul, mul_positi
 use Rattle.int_ring.proofs.Squares.{squares_zero}
 use Rattle.plane_geom.specs.Rectangles.{IsCovered}
 use Rattle.plane_geom.proofs.Apart.{itself, met}
-use Rattle.plane_geom.proofs.Crossing.{shared_least}
+use Rattle.plane_geom.proofs.CrossingPoint.{shared_least}
 use Rattle.plane_geom.proofs.Signs.{natural, above_zero}
 use Rattle.ring_geom.proofs.Decide.{decide_covering}
 use Rattle.ring_geom.proofs.Moves.{Meets}

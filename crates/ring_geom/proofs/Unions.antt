@@ -9,9 +9,9 @@ use Rattle.sand_model.specs.Gap.{IsLeast, scaled_distance, common_square}
 use Rattle.sand_model.specs.Rings.{SomeOf}
 use Rattle.int_ring.specs.Expr.{var, at, ◌⊕◌, ◌⊖◌, ◌⊗◌}
 use Rattle.int_ring.proofs.Ring.{ring}
-use Rattle.plane_geom.specs.Lesser.{IsAtMost, IsLesser}
+use Rattle.exact_frac.specs.Lesser.{IsAtMost, IsLesser}
 use Rattle.plane_geom.proofs.Least.{attained_within, least_same}
-use Rattle.plane_geom.proofs.SegmentLemmas.{lesser_attained, lesser_apart}
+use Rattle.plane_geom.proofs.NearestEnd.{lesser_attained, lesser_apart}
 
 -- the lesser of two distances is that of the union
 pub least_union : {A A' B : RationalPoint → Type 0} (f g h : Frac) → IsLeast A B f.num f.den → IsLeast A' B g.num g.den → IsLesser f g h

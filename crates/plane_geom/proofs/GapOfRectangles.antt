@@ -3,7 +3,7 @@ use Rattle.std.proofs.Common.{◌≡◌, ℕ, ◌*◌, ◌≤◌, min, max, ℤ,
 use Rattle.std.proofs.lemmas.Int.{ints, by_lt_z}
 use Rattle.sand_base.specs.declared.point.Point.{Point}
 use Rattle.sand_base.specs.declared.rect.Rect.{Rect}
-use Rattle.sand_model.specs.Points.{RationalPoint, IsPoint, IsWithin, IsInRect}
+use Rattle.sand_model.specs.Points.{IsPoint, IsWithin, IsInRect}
 use Rattle.sand_model.specs.Gap.{IsLeast, scaled_distance, common_square}
 use Rattle.int_ring.specs.Expr.{var, at, num, ◌⊕◌, ◌⊖◌, ◌⊗◌}
 use Rattle.int_ring.proofs.Ring.{ring}
@@ -13,7 +13,7 @@ use Rattle.int_ring.proofs.Squares.{square_nonneg, square_le}
 use Rattle.plane_geom.specs.Rectangles.{range_gap}
 use Rattle.plane_geom.specs.Vectors.{dot_of}
 use Rattle.plane_geom.proofs.Least.{least_same}
-use Rattle.plane_geom.proofs.PointLemmas.{spot, spot_is, points_far, over_one}
+use Rattle.plane_geom.proofs.GapOfPoints.{spot, spot_is, points_apart, over_one}
 use Rattle.plane_geom.proofs.Signs.{natural, same_le}
 
 -- where g is the way from a up to b, what lies at most at a and at least at b is at least g apart, over any denominators
@@ -117,7 +117,7 @@ rects_least a b m e hax hay hbx hby hm he =
         record { x = near_in a.low.x a.high.x b.low.x hax; y = near_in a.low.y a.high.y b.low.y hay },
         record { x = near_in b.low.x b.high.x a.low.x hbx; y = near_in b.low.y b.high.y a.low.y hby },
         over_one (scaled_distance (spot p) (spot q)) (dot_of p q q) (common_square (spot p) (spot q)) m e
-            (points_far p q (spot p) (spot q) (spot_is p) (spot_is q))
+            (points_apart p q (spot p) (spot q) (spot_is p) (spot_is q))
             (hm
             ∙ sym (ap₂ (λ s t. s +ℤ t) (near_gap a.low.x a.high.x b.low.x b.high.x hax hbx) (near_gap a.low.y a.high.y b.low.y b.high.y hay hby)))
             he,

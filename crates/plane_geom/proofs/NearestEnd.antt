@@ -6,12 +6,12 @@ use Rattle.sand_base.specs.declared.point.Point.{Point}
 use Rattle.sand_base.specs.declared.segment.Segment.{Segment}
 use Rattle.sand_model.specs.Points.{RationalPoint, IsPoint, IsOnSegment}
 use Rattle.sand_model.specs.Gap.{IsLeast}
-use Rattle.int_ring.specs.Expr.{var, at, ◌⊕◌, ◌⊖◌, ◌⊗◌}
+use Rattle.int_ring.specs.Expr.{◌⊕◌, ◌⊖◌, ◌⊗◌}
 use Rattle.int_ring.proofs.Order.{difference_nonneg, mul_nonneg, add_nonneg, pos_le}
 use Rattle.int_ring.proofs.Named.{inequality_scaled}
 use Rattle.int_ring.proofs.Squares.{square_nonneg}
 use Rattle.plane_geom.specs.Crossing.{AreOpposed, Cross}
-use Rattle.plane_geom.specs.Lesser.{IsAtMost, IsLesser}
+use Rattle.exact_frac.specs.Lesser.{IsAtMost, IsLesser}
 use Rattle.plane_geom.specs.Vectors.{cross_of}
 use Rattle.plane_geom.proofs.Apart.{AreApart}
 use Rattle.plane_geom.proofs.Clear.{IsClear, AreClear, exchange}
