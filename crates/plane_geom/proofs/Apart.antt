@@ -51,9 +51,11 @@ distance_exchanged q r =
     identity (q.x ∷ q.y ∷ pos q.n ∷ r.x ∷ r.y ∷ pos r.n ∷ [])
     (λ x y n u v m. (form.squares (x ⊗ m ⊖ u ⊗ n) (y ⊗ m ⊖ v ⊗ n), form.squares (u ⊗ n ⊖ x ⊗ m) (v ⊗ n ⊖ y ⊗ m))) refl
 
+-- over the same denominators
 pub common_exchanged : (q r : RationalPoint) → common_square q r ≡ common_square r q
 common_exchanged q r = identity (pos q.n ∷ pos r.n ∷ []) (λ n m. ((n ⊗ m) ⊗ (n ⊗ m), (m ⊗ n) ⊗ (m ⊗ n))) refl
 
+-- and so is a bound
 pub apart_exchanged : (m e : ℕ) (q r : RationalPoint) → AreApart m e q r → AreApart m e r q
 apart_exchanged m e q r h =
     subst (λ t. (pos m *ℤ common_square r q) ≤ℤ (t *ℤ pos e)) (distance_exchanged q r)

@@ -15,8 +15,8 @@ abbrev pub IsClear : ℤ → ℤ → ℤ → ℤ → ℤ → Type 0
 IsClear m e x y k = (m *ℤ (k *ℤ k)) ≤ℤ (((x *ℤ x) +ℤ (y *ℤ y)) *ℤ e)
 
 -- an equal vector over an equal denominator is as long
-pub along : (m e x y k x' y' k' : ℤ) → IsClear m e x y k → x ≡ x' → y ≡ y' → k ≡ k' → IsClear m e x' y' k'
-along m e x y k x' y' k' h p q r =
+pub as_long : (m e x y k x' y' k' : ℤ) → IsClear m e x y k → x ≡ x' → y ≡ y' → k ≡ k' → IsClear m e x' y' k'
+as_long m e x y k x' y' k' h p q r =
     subst (λ t. IsClear m e x' y' t) r (subst (λ t. IsClear m e x' t k) q (subst (λ t. IsClear m e t y k) p h))
 
 -- so is the opposite vector
@@ -114,14 +114,14 @@ turned_sums i j u v = ring (at (i ∷ j ∷ u ∷ v ∷ [])) ((var 1 ⊕ var 0) 
 -- the first two points, the other way round
 pub turn_first : (m e : ℤ) (a b c d : Point) → AreClear m e a b c d → AreClear m e b a c d
 turn_first m e a b c d h i j u v wi wu =
-    along m e _ _ _ _ _ _ (h j i u v (turned_weights i j wi) wu) (turned_offset (pos a.x) (pos b.x) (pos c.x) (pos d.x) i j u v)
+    as_long m e _ _ _ _ _ _ (h j i u v (turned_weights i j wi) wu) (turned_offset (pos a.x) (pos b.x) (pos c.x) (pos d.x) i j u v)
     (turned_offset (pos a.y) (pos b.y) (pos c.y) (pos d.y) i j u v) (turned_sums i j u v)
 
 -- the two pairs, exchanged
 pub exchange : (m e : ℤ) (a b c d : Point) → AreClear m e a b c d → AreClear m e c d a b
 exchange m e a b c d h i j u v wi wu =
     opposite m e _ _ _
-    (along _ _ _ _ _ _ _ _ (h u v i j wu wi) (one (pos a.x) (pos b.x) (pos c.x) (pos d.x) i j u v)
+    (as_long _ _ _ _ _ _ _ _ (h u v i j wu wi) (one (pos a.x) (pos b.x) (pos c.x) (pos d.x) i j u v)
     (one (pos a.y) (pos b.y) (pos c.y) (pos d.y) i j u v) (sums i j u v))
   where
     one : (a b c d i j u v : ℤ) → offset a b c d u v i j ≡ neg_ℤ (offset c d a b i j u v)

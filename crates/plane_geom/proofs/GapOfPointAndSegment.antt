@@ -11,7 +11,7 @@ use Rattle.int_ring.proofs.Order.{mul_nonneg, add_nonneg, pos_abs}
 use Rattle.int_ring.proofs.Named.{inequality}
 use Rattle.int_ring.proofs.Squares.{square_nonneg}
 use Rattle.plane_geom.specs.Vectors.{dot_of, cross_of}
-use Rattle.plane_geom.proofs.Clear.{IsClear, IsWeights, AreClear, offset, along, farther, turn_second}
+use Rattle.plane_geom.proofs.Clear.{IsClear, IsWeights, AreClear, offset, as_long, farther, turn_second}
 use Rattle.plane_geom.proofs.Forms as form
 use Rattle.plane_geom.proofs.Means.{point_hull, mean_on, first_end, second_end}
 use Rattle.plane_geom.proofs.SegmentHull.{segment_hull}
@@ -46,7 +46,7 @@ behind_far s u v dx dy px py hu hv h =
 behind_clear : (m e : ℤ) (p a b : Point) → pos 0 ≤ℤ e
     → IsClear m e (pos p.x -ℤ pos a.x) (pos p.y -ℤ pos a.y) (pos 1) → dot_of a b p ≤ℤ pos 0 → AreClear m e p p a b
 behind_clear m e p a b he h behind i j u v wi wu =
-    along m e _ _ _ _ _ _
+    as_long m e _ _ _ _ _ _
     (farther m e _ _ _ _ _ he h
     (behind_far (i +ℤ j) u v (pos b.x -ℤ pos a.x) (pos b.y -ℤ pos a.y) (pos p.x -ℤ pos a.x) (pos p.y -ℤ pos a.y) wu.first wu.second behind))
     (sym (from_first (pos p.x) (pos a.x) (pos b.x) i j u v)) (sym (from_first (pos p.y) (pos a.y) (pos b.y) i j u v)) refl
@@ -71,7 +71,7 @@ foot_far s u v dx dy px py =
 -- the height over a segment's line bounds the distance of all its points
 foot_clear : (p a b : Point) → AreClear (cross_of a b p *ℤ cross_of a b p) (dot_of a b b) p p a b
 foot_clear p a b i j u v wi wu =
-    along (cross_of a b p *ℤ cross_of a b p) (dot_of a b b) _ _ _ _ _ _
+    as_long (cross_of a b p *ℤ cross_of a b p) (dot_of a b b) _ _ _ _ _ _
     (foot_far (i +ℤ j) u v (pos b.x -ℤ pos a.x) (pos b.y -ℤ pos a.y) (pos p.x -ℤ pos a.x) (pos p.y -ℤ pos a.y))
     (sym (from_first (pos p.x) (pos a.x) (pos b.x) i j u v)) (sym (from_first (pos p.y) (pos a.y) (pos b.y) i j u v)) refl
 
@@ -128,7 +128,7 @@ two_points : (p a : Point) (m e : ℕ) → IsLeast (IsPoint p) (IsPoint a) m e
     → IsClear (pos m) (pos e) (pos p.x -ℤ pos a.x) (pos p.y -ℤ pos a.y) (pos 1)
 two_points p a m e h =
     let one : IsWeights (pos 1) (pos 0) = record { first = omega (arith, ints); second = omega (arith, ints); some = omega (arith, ints) } in
-    along (pos m) (pos e) _ _ (pos 1) _ _ _
+    as_long (pos m) (pos e) _ _ (pos 1) _ _ _
     (clear_of_least p p a a m e (point_hull p) (point_hull a) h (pos 1) (pos 0) (pos 1) (pos 0) one one)
     (step (pos p.x) (pos a.x)) (step (pos p.y) (pos a.y)) refl
   where

@@ -8,7 +8,7 @@ use Rattle.int_ring.specs.Expr.{var, at, ◌⊖◌, ◌⊗◌}
 use Rattle.int_ring.proofs.Ring.{ring}
 use Rattle.int_ring.proofs.Order.{mul_positive}
 use Rattle.plane_geom.proofs.Apart.{distance_exchanged, common_exchanged, apart_exchanged}
-use Rattle.plane_geom.proofs.Clear.{IsClear, AreClear, offset, along, unscaled}
+use Rattle.plane_geom.proofs.Clear.{IsClear, AreClear, offset, as_long, unscaled}
 use Rattle.plane_geom.proofs.Means.{IsMean, IsHull}
 use Rattle.plane_geom.proofs.Signs.{natural, once}
 
@@ -36,7 +36,7 @@ pub means_clear : (m e : ℤ) (a b c d : Point) (q r : RationalPoint) → pos 0 
     → IsClear m e ((q.x *ℤ pos r.n) -ℤ (r.x *ℤ pos q.n)) ((q.y *ℤ pos r.n) -ℤ (r.y *ℤ pos q.n)) (pos q.n *ℤ pos r.n)
 means_clear m e a b c d q r he h p s =
     unscaled m e _ _ _ (p.k *ℤ s.k) he (mul_positive p.k s.k p.positive s.positive)
-    (along m e _ _ _ _ _ _ (h p.i p.j s.i s.j p.weights s.weights)
+    (as_long m e _ _ _ _ _ _ (h p.i p.j s.i s.j p.weights s.weights)
     (sym (offset_is p.k s.k (pos q.n) (pos r.n) q.x r.x _ _ _ _ p.i p.j s.i s.j p.total s.total p.x s.x))
     (sym (offset_is p.k s.k (pos q.n) (pos r.n) q.y r.y _ _ _ _ p.i p.j s.i s.j p.total s.total p.y s.y))
     (sym (sums_are p.k s.k (pos q.n) (pos r.n) p.i p.j s.i s.j p.total s.total)))

@@ -10,7 +10,7 @@ use Rattle.int_ring.proofs.Inequality.{le_ring}
 use Rattle.int_ring.proofs.Squares.{square_nonneg, squares_zero}
 use Rattle.plane_geom.specs.Vectors.{cross_of}
 use Rattle.plane_geom.proofs.Forms as form
-use Rattle.plane_geom.proofs.Clear.{AreClear, offset, along, turn_first, turn_second, exchange}
+use Rattle.plane_geom.proofs.Clear.{AreClear, offset, as_long, turn_first, turn_second, exchange}
 use Rattle.plane_geom.proofs.Descent.{OnLine, long, drawn_together}
 use Rattle.plane_geom.proofs.Signs.{weak, sum_zero, no_step}
 
@@ -132,7 +132,7 @@ flat_pair : (m e : ℤ) (a b c d : Point) → AreClear m e a a c d → long a b 
 flat_pair m e a b c d h hl i j u v wi wu =
     let flat = squares_zero (pos b.x -ℤ pos a.x) (pos b.y -ℤ pos a.y)
     (sum_zero _ _ (square_nonneg (pos b.x -ℤ pos a.x)) (square_nonneg (pos b.y -ℤ pos a.y)) hl) in
-    along m e _ _ _ _ _ _ (h i j u v wi wu)
+    as_long m e _ _ _ _ _ _ (h i j u v wi wu)
     (ap (λ t. offset (pos a.x) t (pos c.x) (pos d.x) i j u v) (no_step (pos a.x) (pos b.x) flat.0))
     (ap (λ t. offset (pos a.y) t (pos c.y) (pos d.y) i j u v) (no_step (pos a.y) (pos b.y) flat.1)) refl
 

@@ -74,13 +74,14 @@ segment_in r s q h on = record {
   y = wider r.low.y r.high.y s.a.y s.b.y q.n q.y h.a.bottom h.b.bottom h.a.top h.b.top on.y;
 }
 
--- the corners of a rectangle lie in it
+-- all four corners of a rectangle lie in it
 pub record CornersCovered (r : Rect) : Type 0 where
   pub low : IsCovered r.low r
   pub top_left_one : IsCovered (top_left r) r
   pub bottom_right_one : IsCovered (bottom_right r) r
   pub high : IsCovered r.high r
 
+-- as they do where its low corner is the low one
 pub corners_covered : (r : Rect) → IsOrdered r → CornersCovered r
 corners_covered r o = record {
   low = record { left = le_refl _; right = o.x; bottom = le_refl _; top = o.y };

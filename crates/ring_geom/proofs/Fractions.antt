@@ -10,7 +10,7 @@ use Rattle.sand_base.specs.Grid.{IsInClosedPlane}
 use Rattle.sand_base.specs.declared.TheConstants.{COORDINATE_BITS}
 use Rattle.sand_base.specs.declared.point.Point.{Point}
 use Rattle.plane_geom.specs.Vectors.{dot_of, cross_of}
-use Rattle.plane_geom.proofs.SignedWords.{product_short}
+use Rattle.plane_geom.proofs.SignedWords.{product_short, sum_short, difference_short}
 
 -- the width of the closed square
 abbrev width : ℕ
@@ -19,13 +19,6 @@ width = 2 ^ COORDINATE_BITS
 -- a step inside it is at most as long as it is wide
 step_short : (a b m : ℕ) → a ≤ m → b ≤ m → unsigned_abs (pos b -ℤ pos a) ≤ m
 step_short a b m ha hb = omega (arith, ints)
-
--- sums and differences of two short numbers
-sum_short : (a b : ℤ) (m : ℕ) → unsigned_abs a ≤ m → unsigned_abs b ≤ m → unsigned_abs (a +ℤ b) ≤ 2 * m
-sum_short a b m ha hb = omega (arith, ints)
-
-difference_short : (a b : ℤ) (m : ℕ) → unsigned_abs a ≤ m → unsigned_abs b ≤ m → unsigned_abs (a -ℤ b) ≤ 2 * m
-difference_short a b m ha hb = omega (arith, ints)
 
 -- twice the square of the width is no more than a denominator may be
 room : 2 * (width * width) ≤ MAX_DEN
