@@ -1,5 +1,5 @@
 -- What lies in a rectangle that holds all vertices of a shape: its points, and the grid points inside its ring.
-use Rattle.std.proofs.Common.{◌≡◌, inl, inr, ℕ, ◌+◌, ◌*◌, ◌<◌, ◌≤◌, min, max, ℤ, pos, ◌≤ℤ◌, Bool, true, false, List, [], ◌∷◌, refl, ap₂, sym, ◌∙◌, arith}
+use Rattle.std.proofs.Common.{◌≡◌, inl, inr, ℕ, ◌+◌, ◌*◌, ◌<◌, ◌≤◌, ℤ, pos, ◌≤ℤ◌, Bool, true, false, List, [], ◌∷◌, refl, ap₂, sym, ◌∙◌, arith}
 use Rattle.std.specs.Prelude.{IsTrue, nat_lt, int_lt}
 use Rattle.std.proofs.Math.Nat.{mul-le-mul_left}
 use Rattle.std.proofs.lemmas.Bool.{cases_Bool, cases_lt, lt-ltb, le-ltb, false≢true}
@@ -9,10 +9,10 @@ use Rattle.sand_base.specs.declared.rect.Rect.{Rect}
 use Rattle.sand_base.specs.declared.segment.Segment.{Segment}
 use Rattle.sand_base.specs.declared.shape.Shape.{Shape}
 use Rattle.sand_base.specs.declared.shape.Shape.TheVariants as shape
-use Rattle.sand_model.specs.Points.{RationalPoint, IsWithin, IsOnSegment, IsInRect}
+use Rattle.sand_model.specs.Points.{RationalPoint, IsOnSegment, IsInRect}
 use Rattle.sand_model.specs.Figures.{IsPointOf, Holds, corners_of}
 use Rattle.sand_model.specs.Rings.{SomeOf, EachOf, chain, last_of, edges, grid, is_crossed, is_odd, differ, IsInside}
-use Rattle.int_ring.proofs.Order.{chain_le, pos_le}
+use Rattle.int_ring.proofs.Order.{pos_le}
 use Rattle.plane_geom.specs.Rectangles.{IsCovered}
 use Rattle.plane_geom.proofs.Sides.{EndsCovered, segment_in, value_within}
 use Rattle.ring_geom.specs.Bounding.{AreCovered}

@@ -1,6 +1,6 @@
 -- A figure meets a rectangle exactly where a vertex of one is inside the other or they share a point.
-use Rattle.std.proofs.Common.{◌≡◌, ◌⊎◌, inl, inr, ℕ, ◌*◌, ◌<◌, ◌≤◌, ℤ, pos, ◌+ℤ◌, ◌-ℤ◌, ◌*ℤ◌, ◌≤ℤ◌, ◌<ℤ◌, List, [], ◌∷◌, refl, sym, ◌∙◌, subst, arith}
-use Rattle.std.proofs.lemmas.Int.{ints, by_lt_z}
+use Rattle.std.proofs.Common.{◌≡◌, ◌⊎◌, inl, inr, ℕ, ◌*◌, ◌<◌, ◌≤◌, ℤ, pos, ◌-ℤ◌, ◌*ℤ◌, ◌≤ℤ◌, ◌<ℤ◌, List, [], ◌∷◌, refl, sym, ◌∙◌, subst, arith}
+use Rattle.std.proofs.lemmas.Int.{ints}
 use Rattle.sand_base.specs.declared.goal.Goal.{Goal}
 use Rattle.sand_base.specs.declared.goal.Goal.TheVariants as goal
 use Rattle.sand_base.specs.declared.point.Point.{Point}
@@ -12,9 +12,9 @@ use Rattle.sand_model.specs.FigureGap.{IsCovering, IsGapOf, IsMeeting}
 use Rattle.sand_model.specs.Figures.{IsPointOfFigure, HoldsInside}
 use Rattle.sand_model.specs.Gap.{IsLeast, scaled_distance, common_square}
 use Rattle.sand_model.specs.Rings.{SomeOf, edges}
-use Rattle.int_ring.specs.Expr.{var, at, num, ◌⊕◌, ◌⊖◌, ◌⊗◌}
+use Rattle.int_ring.specs.Expr.{var, at, ◌⊗◌}
 use Rattle.int_ring.proofs.Ring.{ring}
-use Rattle.int_ring.proofs.Order.{mul_le, le_from_mul, same_from_mul, mul_positive}
+use Rattle.int_ring.proofs.Order.{mul_le, le_from_mul, same_from_mul}
 use Rattle.int_ring.proofs.Squares.{squares_zero}
 use Rattle.plane_geom.specs.Rectangles.{IsCovered}
 use Rattle.plane_geom.proofs.Apart.{itself, met}

@@ -1,15 +1,14 @@
 -- The least distance from a union of sets is the lesser of theirs, so that a loop over the edges of a ring gives the ring's.
-use Rattle.std.proofs.Common.{◌≡◌, ◌⊎◌, inl, inr, ℕ, zero, suc, ◌+◌, ◌*◌, ◌≤◌, pos, ◌*ℤ◌, ◌≤ℤ◌, List, [], ◌∷◌, length, take, drop, refl, sym, subst}
+use Rattle.std.proofs.Common.{◌≡◌, ◌⊎◌, inl, inr, ℕ, zero, suc, ◌+◌, ◌≤◌, List, [], ◌∷◌, length, take, drop, sym, subst}
 use Rattle.std.proofs.lemmas.List.{take_all}
 use Rattle.std.proofs.Math.Numerals.{add-one}
 use Rattle.exact_frac.specs.declared.frac.Frac.{Frac}
 use Rattle.sand_base.specs.declared.segment.Segment.{Segment}
 use Rattle.sand_model.specs.Points.{RationalPoint, IsOnSegment}
-use Rattle.sand_model.specs.Gap.{IsLeast, scaled_distance, common_square}
+use Rattle.sand_model.specs.Gap.{IsLeast}
 use Rattle.sand_model.specs.Rings.{SomeOf}
-use Rattle.int_ring.specs.Expr.{var, at, ◌⊕◌, ◌⊖◌, ◌⊗◌}
-use Rattle.int_ring.proofs.Ring.{ring}
-use Rattle.exact_frac.specs.Lesser.{IsAtMost, IsLesser}
+use Rattle.int_ring.specs.Expr.{at}
+use Rattle.exact_frac.specs.Lesser.{IsLesser}
 use Rattle.plane_geom.proofs.Least.{attained_within, least_same}
 use Rattle.plane_geom.proofs.NearestEnd.{lesser_attained, lesser_apart}
 
