@@ -1,90 +1,47 @@
--- Two segments that cross in the midst of both share the point where their lines meet.
+-- Two segments that cross properly share the point where their lines meet.
 use Rattle.std.proofs.Common.{◌≡◌, inl, inr, ℕ, ◌+◌, ◌*◌, ◌<◌, ℤ, pos, nat_abs, ◌+ℤ◌, ◌-ℤ◌, ◌*ℤ◌, ◌≤ℤ◌, ◌<ℤ◌, [], ◌∷◌, refl, ap₂, sym, ◌∙◌, subst, arith}
 use Rattle.std.proofs.lemmas.Int.{ints}
 use Rattle.sand_base.specs.declared.point.Point.{Point}
 use Rattle.sand_base.specs.declared.segment.Segment.{Segment}
 use Rattle.sand_model.specs.Points.{RationalPoint, IsOnSegment}
 use Rattle.sand_model.specs.Gap.{IsLeast, square, common_square}
-use Rattle.int_ring.specs.Expr.{var, at, num, ◌⊕◌, ◌⊖◌, ◌⊗◌}
+use Rattle.int_ring.specs.Expr.{Expr, var, at, num, ◌⊕◌, ◌⊖◌, ◌⊗◌}
 use Rattle.int_ring.proofs.Ring.{ring}
+use Rattle.int_ring.proofs.Named.{identity}
 use Rattle.int_ring.proofs.Order.{add_nonneg, pos_abs}
 use Rattle.int_ring.proofs.Inequality.{le_ring}
 use Rattle.int_ring.proofs.Squares.{square_nonneg}
 use Rattle.plane_geom.specs.Crossing.{Cross}
 use Rattle.plane_geom.specs.Vectors.{cross_of}
 use Rattle.plane_geom.proofs.Clear.{offset}
+use Rattle.plane_geom.proofs.Forms as form
 use Rattle.plane_geom.proofs.SegmentHull.{segment_hull}
 use Rattle.plane_geom.proofs.Least.{Attained, attained_at, attained_exchanged}
 use Rattle.plane_geom.proofs.Signs.{weak, turned_sign}
 
--- under the heights as weights, both means are one point: along x
-meets_x : (ax ay bx by cx cy dx dy : ℤ)
-    → offset ax bx cx dx
-    (pos 0 -ℤ (((dx -ℤ cx) *ℤ (by -ℤ cy)) -ℤ ((dy -ℤ cy) *ℤ (bx -ℤ cx))))
-    (((dx -ℤ cx) *ℤ (ay -ℤ cy)) -ℤ ((dy -ℤ cy) *ℤ (ax -ℤ cx)))
-    (((bx -ℤ ax) *ℤ (dy -ℤ ay)) -ℤ ((by -ℤ ay) *ℤ (dx -ℤ ax)))
-    (pos 0 -ℤ (((bx -ℤ ax) *ℤ (cy -ℤ ay)) -ℤ ((by -ℤ ay) *ℤ (cx -ℤ ax)))) ≡ pos 0
-meets_x ax ay bx by cx cy dx dy =
-    let vax = var 0 in
-    let vay = var 1 in
-    let vbx = var 2 in
-    let vby = var 3 in
-    let vcx = var 4 in
-    let vcy = var 5 in
-    let vdx = var 6 in
-    let vdy = var 7 in
-    let none = num (pos 0) in
-    let i = none ⊖ ((vdx ⊖ vcx) ⊗ (vby ⊖ vcy) ⊖ (vdy ⊖ vcy) ⊗ (vbx ⊖ vcx)) in
-    let j = (vdx ⊖ vcx) ⊗ (vay ⊖ vcy) ⊖ (vdy ⊖ vcy) ⊗ (vax ⊖ vcx) in
-    let u = (vbx ⊖ vax) ⊗ (vdy ⊖ vay) ⊖ (vby ⊖ vay) ⊗ (vdx ⊖ vax) in
-    let v = none ⊖ ((vbx ⊖ vax) ⊗ (vcy ⊖ vay) ⊖ (vby ⊖ vay) ⊗ (vcx ⊖ vax)) in
-    ring (at (ax ∷ ay ∷ bx ∷ by ∷ cx ∷ cy ∷ dx ∷ dy ∷ []))
-    ((i ⊗ vax ⊕ j ⊗ vbx) ⊗ (u ⊕ v) ⊖ (u ⊗ vcx ⊕ v ⊗ vdx) ⊗ (i ⊕ j)) none refl
-
--- and along y
-meets_y : (ax ay bx by cx cy dx dy : ℤ)
-    → offset ay by cy dy
-    (pos 0 -ℤ (((dx -ℤ cx) *ℤ (by -ℤ cy)) -ℤ ((dy -ℤ cy) *ℤ (bx -ℤ cx))))
-    (((dx -ℤ cx) *ℤ (ay -ℤ cy)) -ℤ ((dy -ℤ cy) *ℤ (ax -ℤ cx)))
-    (((bx -ℤ ax) *ℤ (dy -ℤ ay)) -ℤ ((by -ℤ ay) *ℤ (dx -ℤ ax)))
-    (pos 0 -ℤ (((bx -ℤ ax) *ℤ (cy -ℤ ay)) -ℤ ((by -ℤ ay) *ℤ (cx -ℤ ax)))) ≡ pos 0
-meets_y ax ay bx by cx cy dx dy =
-    let vax = var 0 in
-    let vay = var 1 in
-    let vbx = var 2 in
-    let vby = var 3 in
-    let vcx = var 4 in
-    let vcy = var 5 in
-    let vdx = var 6 in
-    let vdy = var 7 in
-    let none = num (pos 0) in
-    let i = none ⊖ ((vdx ⊖ vcx) ⊗ (vby ⊖ vcy) ⊖ (vdy ⊖ vcy) ⊗ (vbx ⊖ vcx)) in
-    let j = (vdx ⊖ vcx) ⊗ (vay ⊖ vcy) ⊖ (vdy ⊖ vcy) ⊗ (vax ⊖ vcx) in
-    let u = (vbx ⊖ vax) ⊗ (vdy ⊖ vay) ⊖ (vby ⊖ vay) ⊗ (vdx ⊖ vax) in
-    let v = none ⊖ ((vbx ⊖ vax) ⊗ (vcy ⊖ vay) ⊖ (vby ⊖ vay) ⊗ (vcx ⊖ vax)) in
-    ring (at (ax ∷ ay ∷ bx ∷ by ∷ cx ∷ cy ∷ dx ∷ dy ∷ []))
-    ((i ⊗ vay ⊕ j ⊗ vby) ⊗ (u ⊕ v) ⊖ (u ⊗ vcy ⊕ v ⊗ vdy) ⊗ (i ⊕ j)) none refl
+-- under the heights as weights, both means are one point
+meets : (a b c d : Point)
+    → let i = pos 0 -ℤ cross_of c d b in let j = cross_of c d a in let u = cross_of a b d in let v = pos 0 -ℤ cross_of a b c in
+    (offset (pos a.x) (pos b.x) (pos c.x) (pos d.x) i j u v ≡ pos 0) × (offset (pos a.y) (pos b.y) (pos c.y) (pos d.y) i j u v ≡ pos 0)
+meets a b c d =
+    let coordinates = pos a.x ∷ pos a.y ∷ pos b.x ∷ pos b.y ∷ pos c.x ∷ pos c.y ∷ pos d.x ∷ pos d.y ∷ [] in (
+      identity coordinates (λ ax ay bx by cx cy dx dy. (way ax bx cx dx ax ay bx by cx cy dx dy, num (pos 0))) refl,
+      identity coordinates (λ ax ay bx by cx cy dx dy. (way ay by cy dy ax ay bx by cx cy dx dy, num (pos 0))) refl,
+    )
+  where
+    way : Expr → Expr → Expr → Expr → Expr → Expr → Expr → Expr → Expr → Expr → Expr → Expr → Expr
+    way a b c d ax ay bx by cx cy dx dy =
+        form.offset a b c d (num (pos 0) ⊖ form.cross cx cy dx dy bx by) (form.cross cx cy dx dy ax ay)
+        (form.cross ax ay bx by dx dy) (num (pos 0) ⊖ form.cross ax ay bx by cx cy)
 
 -- the heights of the two segments differ by one number
 heights_differ : (a b c d : Point) → cross_of c d a -ℤ cross_of c d b ≡ cross_of a b d -ℤ cross_of a b c
 heights_differ a b c d =
-    plain (pos a.x) (pos a.y) (pos b.x) (pos b.y) (pos c.x) (pos c.y) (pos d.x) (pos d.y)
-  where
-    plain : (ax ay bx by cx cy dx dy : ℤ)
-        → (((dx -ℤ cx) *ℤ (ay -ℤ cy)) -ℤ ((dy -ℤ cy) *ℤ (ax -ℤ cx))) -ℤ (((dx -ℤ cx) *ℤ (by -ℤ cy)) -ℤ ((dy -ℤ cy) *ℤ (bx -ℤ cx)))
-        ≡ (((bx -ℤ ax) *ℤ (dy -ℤ ay)) -ℤ ((by -ℤ ay) *ℤ (dx -ℤ ax))) -ℤ (((bx -ℤ ax) *ℤ (cy -ℤ ay)) -ℤ ((by -ℤ ay) *ℤ (cx -ℤ ax)))
-    plain ax ay bx by cx cy dx dy =
-        let vax = var 0 in
-        let vay = var 1 in
-        let vbx = var 2 in
-        let vby = var 3 in
-        let vcx = var 4 in
-        let vcy = var 5 in
-        let vdx = var 6 in
-        let vdy = var 7 in
-        ring (at (ax ∷ ay ∷ bx ∷ by ∷ cx ∷ cy ∷ dx ∷ dy ∷ []))
-        (((vdx ⊖ vcx) ⊗ (vay ⊖ vcy) ⊖ (vdy ⊖ vcy) ⊗ (vax ⊖ vcx)) ⊖ ((vdx ⊖ vcx) ⊗ (vby ⊖ vcy) ⊖ (vdy ⊖ vcy) ⊗ (vbx ⊖ vcx)))
-        (((vbx ⊖ vax) ⊗ (vdy ⊖ vay) ⊖ (vby ⊖ vay) ⊗ (vdx ⊖ vax)) ⊖ ((vbx ⊖ vax) ⊗ (vcy ⊖ vay) ⊖ (vby ⊖ vay) ⊗ (vcx ⊖ vax))) refl
+    identity (pos a.x ∷ pos a.y ∷ pos b.x ∷ pos b.y ∷ pos c.x ∷ pos c.y ∷ pos d.x ∷ pos d.y ∷ [])
+    (λ ax ay bx by cx cy dx dy. (
+      form.cross cx cy dx dy ax ay ⊖ form.cross cx cy dx dy bx by,
+      form.cross ax ay bx by dx dy ⊖ form.cross ax ay bx by cx cy,
+    )) refl
 
 -- equal weights give equal offsets
 same_offset : (a b c d i j u v i' j' u' v' : ℤ) → i ≡ i' → j ≡ j' → u ≡ u' → v ≡ v' → offset a b c d i j u v ≡ offset a b c d i' j' u' v'
@@ -107,9 +64,9 @@ left_shared s t ha hb hc hd =
     (some _ _ _ _ pi pj hb ha) (some' _ _ _ _ pu pv hd hc)
     (nothing _ _ (square (pos ((nat_abs i + nat_abs j) * (nat_abs u + nat_abs v))))
     (same_offset (pos s.a.x) (pos s.b.x) (pos t.a.x) (pos t.b.x) _ _ _ _ i j u v pi pj pu pv
-    ∙ meets_x (pos s.a.x) (pos s.a.y) (pos s.b.x) (pos s.b.y) (pos t.a.x) (pos t.a.y) (pos t.b.x) (pos t.b.y))
+    ∙ (meets s.a s.b t.a t.b).0)
     (same_offset (pos s.a.y) (pos s.b.y) (pos t.a.y) (pos t.b.y) _ _ _ _ i j u v pi pj pu pv
-    ∙ meets_y (pos s.a.x) (pos s.a.y) (pos s.b.x) (pos s.b.y) (pos t.a.x) (pos t.a.y) (pos t.b.x) (pos t.b.y)))
+    ∙ (meets s.a s.b t.a t.b).1))
   where
     some : (i j : ℕ) (s t : ℤ) → pos i ≡ pos 0 -ℤ s → pos j ≡ t → s <ℤ pos 0 → pos 0 <ℤ t → 0 < i + j
     some i j s t e f h k = omega (arith, ints)

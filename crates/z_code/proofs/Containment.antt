@@ -4,10 +4,10 @@ use Rattle.std.proofs.lemmas.Bool.{eqb-true, eq-eqb, leb-true}
 use Rattle.std.proofs.lemmas.Nat.{pow_pos, pow-add}
 use Rattle.sand_base.specs.declared.TheConstants.{COORDINATE_BITS}
 use Rattle.z_code.specs.Code.{code_of, even_bits}
-use Rattle.z_code.specs.Block.{side_length, code_count, IsBlock, corner_of, HasPoint, HasCode, HoldsSquare, HoldsRange}
+use Rattle.z_code.specs.Block.{side_length, code_count, IsBlock, corner_of, HasPoint, HasCode, HoldsSquare, HoldsRange, IsContainment}
 use Rattle.z_code.specs.declared.block.Block.{Block}
 use Rattle.z_code.proofs.Powers.{in_run, run_below, pow_order}
-use Rattle.z_code.proofs.Points.{point_of-in_plane, code_of-point_of}
+use Rattle.z_code.proofs.CodesOfPoints.{point_of-in_plane, code_of-point_of}
 use Rattle.z_code.proofs.Places.{place_of, height, number_of}
 use Rattle.z_code.proofs.Blocks.{HasPoint-from_code, HasCode-from_point, HasCode-first, first_of_code}
 
@@ -16,20 +16,19 @@ pub record IsInside (b other : Block) : Type 0 where
   pub lower : b.level ≤ other.level
   pub first : other.z / code_count b.level * code_count b.level ≡ b.z
 
--- where the level is no higher, the test of the first codes decides what says the same as lying inside
-pub decides_lower : {P : Type 0} (b other : Block) (first : ℕ) → b.level ≤ other.level → first ≡ other.z / code_count b.level * code_count b.level
-    → (IsInside b other → P) → (P → IsInside b other) → IsTrue (eqb first b.z) ↔ P
-decides_lower b other first lower is to from = (
-  λ test. to (record { lower = lower; first = sym is ∙ eqb-true first b.z test }),
-  λ h. eq-eqb first b.z (is ∙ (from h).first),
+-- where the level is no higher, the test of the first codes decides
+pub decides_lower : (b other : Block) (first : ℕ) → b.level ≤ other.level → first ≡ other.z / code_count b.level * code_count b.level
+    → IsTrue (eqb first b.z) ↔ IsInside b other
+decides_lower b other first lower is = (
+  λ test. record { lower = lower; first = sym is ∙ eqb-true first b.z test },
+  λ h. eq-eqb first b.z (is ∙ h.first),
 )
 
 -- a higher block fails the test of the levels, and doesn't lie inside
-pub decides_higher : {P : Type 0} (b other : Block) → other.level < b.level
-    → (IsInside b other → P) → (P → IsInside b other) → IsTrue (leb b.level other.level) ↔ P
-decides_higher b other higher to from = (
+pub decides_higher : (b other : Block) → other.level < b.level → IsTrue (leb b.level other.level) ↔ IsInside b other
+decides_higher b other higher = (
   λ test. absurd (omega (arith, leb-true b.level other.level test)),
-  λ h. let inside = from h in absurd (omega (arith, inside.lower)),
+  λ h. absurd (omega (arith, h.lower)),
 )
 
 -- a multiple of a greater power is a multiple of a smaller one
@@ -52,7 +51,7 @@ first_inside b other inside =
     record { from_first = omega (arith, inside.first, run.0); below_next = omega (arith, inside.first, run.1) }
 
 -- a block inside another has its range there
-pub HoldsRange-from_inside : (b other : Block) → IsBlock b → IsBlock other → IsInside b other → HoldsRange b other
+HoldsRange-from_inside : (b other : Block) → IsBlock b → IsBlock other → IsInside b other → HoldsRange b other
 HoldsRange-from_inside b other hb ho inside =
     let has = first_inside b other inside in
     let at = place_of b hb in
@@ -62,14 +61,14 @@ HoldsRange-from_inside b other hb ho inside =
     record { from_first = has.from_first; to_last = omega (arith, end, at.first, at.count, below.first, below.count) }
 
 -- and each of its codes
-pub HasCode-from_range : (b other : Block) → HoldsRange b other → (z : ℕ) → HasCode other z → HasCode b z
+HasCode-from_range : (b other : Block) → HoldsRange b other → (z : ℕ) → HasCode other z → HasCode b z
 HasCode-from_range b other within z has = record {
   from_first = omega (arith, within.from_first, has.from_first);
   below_next = omega (arith, within.to_last, has.below_next);
 }
 
 -- a block whose codes another has lies in its range
-pub HoldsRange-from_codes : (b other : Block) → ((z : ℕ) → HasCode other z → HasCode b z) → HoldsRange b other
+HoldsRange-from_codes : (b other : Block) → ((z : ℕ) → HasCode other z → HasCode b z) → HoldsRange b other
 HoldsRange-from_codes b other all =
     let some = pow_pos (2 * (COORDINATE_BITS - other.level)) in
     let first = all other.z (HasCode-first other) in
@@ -77,7 +76,7 @@ HoldsRange-from_codes b other all =
     record { from_first = first.from_first; to_last = omega (arith, last.below_next, some) }
 
 -- a block whose range lies in another's lies inside it
-pub IsInside-from_range : (b other : Block) → IsBlock b → IsBlock other → HoldsRange b other → IsInside b other
+IsInside-from_range : (b other : Block) → IsBlock b → IsBlock other → HoldsRange b other → IsInside b other
 IsInside-from_range b other hb ho within =
     let some = pow_pos (2 * (COORDINATE_BITS - other.level)) in
     let fewer : code_count other.level ≤ code_count b.level = omega (arith, within.from_first, within.to_last) in
@@ -86,11 +85,11 @@ IsInside-from_range b other hb ho within =
     record { lower = omega (arith, heights, hb.in_tree, ho.in_tree); first = sym (first_of_code b hb other.z has) }
 
 -- a block inside another has its codes there
-pub HasCode-from_inside : (b other : Block) → IsBlock b → IsBlock other → IsInside b other → (z : ℕ) → HasCode other z → HasCode b z
+HasCode-from_inside : (b other : Block) → IsBlock b → IsBlock other → IsInside b other → (z : ℕ) → HasCode other z → HasCode b z
 HasCode-from_inside b other hb ho inside z has = HasCode-from_range b other (HoldsRange-from_inside b other hb ho inside) z has
 
 -- a block whose codes another has lies inside it
-pub IsInside-from_codes : (b other : Block) → IsBlock b → IsBlock other → ((z : ℕ) → HasCode other z → HasCode b z) → IsInside b other
+IsInside-from_codes : (b other : Block) → IsBlock b → IsBlock other → ((z : ℕ) → HasCode other z → HasCode b z) → IsInside b other
 IsInside-from_codes b other hb ho all = IsInside-from_range b other hb ho (HoldsRange-from_codes b other all)
 
 -- the corner of a block has its code
@@ -98,7 +97,7 @@ code_of-corner : (b : Block) → IsBlock b → code_of (corner_of b) ≡ b.z
 code_of-corner b h = code_of-point_of b.z h.in_plane
 
 -- a block inside another has its square there
-pub HoldsSquare-from_inside : (b other : Block) → IsBlock b → IsBlock other → IsInside b other → HoldsSquare b other
+HoldsSquare-from_inside : (b other : Block) → IsBlock b → IsBlock other → IsInside b other → HoldsSquare b other
 HoldsSquare-from_inside b other hb ho inside =
     let has = subst (λ z. HasCode b z) (sym (code_of-corner other ho)) (first_inside b other inside) in
     let corner = HasPoint-from_code b hb (corner_of other) (point_of-in_plane other.z) has in
@@ -117,7 +116,7 @@ HoldsSquare-from_inside b other hb ho inside =
     }
 
 -- a block whose square lies in another's lies inside it
-pub IsInside-from_square : (b other : Block) → IsBlock b → IsBlock other → HoldsSquare b other → IsInside b other
+IsInside-from_square : (b other : Block) → IsBlock b → IsBlock other → HoldsSquare b other → IsInside b other
 IsInside-from_square b other hb ho holds =
     let some = pow_pos (height other) in
     let shorter : side_length other.level ≤ side_length b.level = omega (arith, holds.low_x, holds.high_x) in
@@ -130,3 +129,11 @@ IsInside-from_square b other hb ho holds =
     } in
     let has = subst (λ z. HasCode b z) (code_of-corner other ho) (HasCode-from_point b hb (corner_of other) corner) in
     record { lower = omega (arith, heights, hb.in_tree, ho.in_tree); first = sym (first_of_code b hb other.z has) }
+
+-- what decides whether a block lies inside another decides all three
+pub told : {Told : Type 0} (b other : Block) → IsBlock b → IsBlock other → Told ↔ IsInside b other → IsContainment Told b other
+told b other hb ho decides = record {
+  squares = (λ t. HoldsSquare-from_inside b other hb ho (decides.0 t), λ h. decides.1 (IsInside-from_square b other hb ho h));
+  codes = (λ t. HasCode-from_inside b other hb ho (decides.0 t), λ h. decides.1 (IsInside-from_codes b other hb ho h));
+  ranges = (λ t. HoldsRange-from_inside b other hb ho (decides.0 t), λ h. decides.1 (IsInside-from_range b other hb ho h));
+}

@@ -1,4 +1,4 @@
--- The lesser of two fractions.
+-- The lesser of two fractions, by their values.
 use Rattle.std.specs.Prelude.{◌≡◌, ◌⊎◌, ◌*◌, ◌≤◌}
 use Rattle.exact_frac.specs.declared.frac.Frac.{Frac}
 

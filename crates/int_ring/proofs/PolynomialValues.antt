@@ -3,7 +3,7 @@ use Rattle.std.proofs.Common.{◌≡◌, ℕ, zero, suc, Bool, true, false, ◌&
 use Rattle.std.proofs.Math.IntN.{+ℤ_assoc, +ℤ_comm, +ℤ_idl, +ℤ_idr, neg_ℤ-+ℤ, *ℤ-zero, zero-*ℤ}
 use Rattle.int_ring.specs.Expr.{Expr, var, num, plus, minus, times, neg, value}
 use Rattle.int_ring.specs.Poly.{Poly, constant, horner, poly_value, join, variable, add_constant, add, negate, scale, times_constant, along, multiply, is_zero, norm}
-use Rattle.int_ring.proofs.Laws.{*ℤ-+ℤ, +ℤ-*ℤ, *ℤ_assoc, *ℤ-neg_ℤ, *ℤ_left_comm, *ℤ_one, +ℤ_regroup}
+use Rattle.int_ring.proofs.ProductLaws.{*ℤ-+ℤ, +ℤ-*ℤ, *ℤ_assoc, *ℤ-neg_ℤ, *ℤ_left_comm, *ℤ_one, +ℤ_regroup}
 
 -- the values of the later variables
 abbrev later : (ℕ → ℤ) → ℕ → ℤ

@@ -40,8 +40,8 @@ both_axes s a b c d =
     ring (at (s ∷ a ∷ b ∷ c ∷ d ∷ [])) (left ⊗ left ⊕ right ⊗ right) ((across ⊗ across ⊕ up ⊗ up) ⊗ (var 0 ⊗ var 0)) refl
 
 -- two rational points that stand for a and b are as far apart as a and b
-pub points_far : (a b : Point) (q r : RationalPoint) → IsPoint a q → IsPoint b r → scaled_distance q r ≡ dot_of a b b *ℤ common_square q r
-points_far a b q r h k =
+pub points_apart : (a b : Point) (q r : RationalPoint) → IsPoint a q → IsPoint b r → scaled_distance q r ≡ dot_of a b b *ℤ common_square q r
+points_apart a b q r h k =
     ap₂ (λ u v. square u +ℤ square v)
     (axis q.x (pos q.n) (pos a.x) r.x (pos r.n) (pos b.x) h.x k.x)
     (axis q.y (pos q.n) (pos a.y) r.y (pos r.n) (pos b.y) h.y k.y)
@@ -62,7 +62,7 @@ points_least a b n e h k = record {
 }
   where
     same : (q r : RationalPoint) → IsPoint a q → IsPoint b r → scaled_distance q r *ℤ pos e ≡ pos n *ℤ common_square q r
-    same q r hq hr = over_one (scaled_distance q r) (dot_of a b b) (common_square q r) n e (points_far a b q r hq hr) h k
+    same q r hq hr = over_one (scaled_distance q r) (dot_of a b b) (common_square q r) n e (points_apart a b q r hq hr) h k
 
 -- two coordinates up to a bound are at most the bound apart
 pub apart_short : (r a b m : ℕ) → r ≡ abs_diff a b → a ≤ m → b ≤ m → r ≤ m

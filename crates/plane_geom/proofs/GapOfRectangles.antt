@@ -3,7 +3,7 @@ use Rattle.std.proofs.Common.{◌≡◌, ℕ, ◌*◌, ◌≤◌, min, max, ℤ,
 use Rattle.std.proofs.lemmas.Int.{ints, by_lt_z}
 use Rattle.sand_base.specs.declared.point.Point.{Point}
 use Rattle.sand_base.specs.declared.rect.Rect.{Rect}
-use Rattle.sand_model.specs.Points.{RationalPoint, IsPoint, IsWithin, IsInRect}
+use Rattle.sand_model.specs.Points.{IsPoint, IsWithin, IsInRect}
 use Rattle.sand_model.specs.Gap.{IsLeast, scaled_distance, common_square}
 use Rattle.int_ring.specs.Expr.{var, at, num, ◌⊕◌, ◌⊖◌, ◌⊗◌}
 use Rattle.int_ring.proofs.Ring.{ring}
@@ -12,7 +12,8 @@ use Rattle.int_ring.proofs.Inequality.{le_ring}
 use Rattle.int_ring.proofs.Squares.{square_nonneg, square_le}
 use Rattle.plane_geom.specs.Rectangles.{range_gap}
 use Rattle.plane_geom.specs.Vectors.{dot_of}
-use Rattle.plane_geom.proofs.PointLemmas.{spot, spot_is, points_far, over_one}
+use Rattle.plane_geom.proofs.Least.{least_same}
+use Rattle.plane_geom.proofs.GapOfPoints.{spot, spot_is, points_apart, over_one}
 use Rattle.plane_geom.proofs.Signs.{natural, same_le}
 
 -- where g is the way from a up to b, what lies at most at a and at least at b is at least g apart, over any denominators
@@ -116,7 +117,7 @@ rects_least a b m e hax hay hbx hby hm he =
         record { x = near_in a.low.x a.high.x b.low.x hax; y = near_in a.low.y a.high.y b.low.y hay },
         record { x = near_in b.low.x b.high.x a.low.x hbx; y = near_in b.low.y b.high.y a.low.y hby },
         over_one (scaled_distance (spot p) (spot q)) (dot_of p q q) (common_square (spot p) (spot q)) m e
-            (points_far p q (spot p) (spot q) (spot_is p) (spot_is q))
+            (points_apart p q (spot p) (spot q) (spot_is p) (spot_is q))
             (hm
             ∙ sym (ap₂ (λ s t. s +ℤ t) (near_gap a.low.x a.high.x b.low.x b.high.x hax hbx) (near_gap a.low.y a.high.y b.low.y b.high.y hay hby)))
             he,
@@ -138,22 +139,13 @@ rects_least a b m e hax hay hbx hby hm he =
         subst (λ t. (t *ℤ k) ≤ℤ ((x +ℤ y) *ℤ pos e)) (sym hm)
         (subst (λ (t : ℕ). ((g +ℤ h) *ℤ k) ≤ℤ ((x +ℤ y) *ℤ pos t)) (sym he) (total g h k x y hx hy))
 
--- the sets of two distances may be told in other words
-least_same : {A B C D : RationalPoint → Type 0} (m e : ℕ) → ((q : RationalPoint) → A q → C q) → ((q : RationalPoint) → C q → A q)
-    → ((q : RationalPoint) → B q → D q) → ((q : RationalPoint) → D q → B q) → IsLeast A B m e → IsLeast C D m e
-least_same m e f f' g g' h = record {
-  attained = (h.attained.0, h.attained.1, f _ h.attained.2, g _ h.attained.3, h.attained.4);
-  least = λ q r hq hr. h.least q r (f' q hq) (g' r hr);
-}
-
 -- a point is the rectangle with it as both corners
 pub point_rect_least : (p : Point) (r : Rect) (m e : ℕ) → IsLeast (IsInRect (record { low = p; high = p })) (IsInRect r) m e
     → IsLeast (IsPoint p) (IsInRect r) m e
 point_rect_least p r m e h =
     least_same m e
     (λ q hq. record { x = both_le _ _ hq.x.below hq.x.above; y = both_le _ _ hq.y.below hq.y.above })
-    (λ q hq. record { x = equal p.x q.n q.x hq.x; y = equal p.y q.n q.y hq.y })
-    (λ q hq. hq) (λ q hq. hq) h
+    (λ q hq. record { x = equal p.x q.n q.x hq.x; y = equal p.y q.n q.y hq.y }) h
   where
     equal : (a n : ℕ) (x : ℤ) → x ≡ pos (n * a) → IsWithin a a n x
     equal a n x e = record { above = same_le _ _ (sym e); below = same_le _ _ e }

@@ -1,19 +1,21 @@
 -- Two segments: they share a point where they cross, and otherwise the least distance from an end is the least of all.
-use Rattle.std.proofs.Common.{◌⊎◌, inl, inr, ℕ, ◌≤◌, ℤ, pos, ◌*ℤ◌, ◌≤ℤ◌, ◌<ℤ◌, [], ◌∷◌, refl, sym, subst, arith}
+use Rattle.std.proofs.Common.{◌⊎◌, inl, inr, ℕ, ◌*◌, ◌≤◌, ℤ, pos, ◌*ℤ◌, ◌≤ℤ◌, ◌<ℤ◌, [], ◌∷◌, refl, sym, subst, arith}
 use Rattle.std.proofs.lemmas.Int.{ints, by_lt_z}
 use Rattle.exact_frac.specs.declared.frac.Frac.{Frac}
 use Rattle.sand_base.specs.declared.point.Point.{Point}
 use Rattle.sand_base.specs.declared.segment.Segment.{Segment}
 use Rattle.sand_model.specs.Points.{RationalPoint, IsPoint, IsOnSegment}
 use Rattle.sand_model.specs.Gap.{IsLeast}
-use Rattle.int_ring.specs.Expr.{var, at, ◌⊕◌, ◌⊖◌, ◌⊗◌}
+use Rattle.int_ring.specs.Expr.{◌⊕◌, ◌⊖◌, ◌⊗◌}
 use Rattle.int_ring.proofs.Order.{difference_nonneg, mul_nonneg, add_nonneg, pos_le}
-use Rattle.int_ring.proofs.Inequality.{le_ring_scaled}
+use Rattle.int_ring.proofs.Named.{inequality_scaled}
 use Rattle.int_ring.proofs.Squares.{square_nonneg}
 use Rattle.plane_geom.specs.Crossing.{AreOpposed, Cross}
-use Rattle.plane_geom.specs.Lesser.{IsAtMost, IsLesser}
+use Rattle.exact_frac.specs.Lesser.{IsAtMost, IsLesser}
 use Rattle.plane_geom.specs.Vectors.{cross_of}
+use Rattle.plane_geom.proofs.Apart.{AreApart}
 use Rattle.plane_geom.proofs.Clear.{IsClear, AreClear, exchange}
+use Rattle.plane_geom.proofs.Forms as form
 use Rattle.plane_geom.proofs.Means.{point_hull, mean_on, first_end, second_end}
 use Rattle.plane_geom.proofs.SegmentHull.{segment_hull}
 use Rattle.plane_geom.proofs.Least.{Attained, least_of_clear, clear_of_least, attained_within, attained_exchanged}
@@ -23,16 +25,13 @@ use Rattle.plane_geom.proofs.Signs.{natural, weak}
 -- a vector that is as long as one fraction says is as long as each fraction says that is at most it
 lesser_one : (m e m' e' x y k : ℤ) → pos 0 <ℤ e → pos 0 ≤ℤ e' → (m' *ℤ e) ≤ℤ (m *ℤ e') → IsClear m e x y k → IsClear m' e' x y k
 lesser_one m e m' e' x y k he he' le h =
-    let vm = var 0 in
-    let ve = var 1 in
-    let vm' = var 2 in
-    let ve' = var 3 in
-    let vx = var 4 in
-    let vy = var 5 in
-    let vk = var 6 in
-    let scaled_distance = vx ⊗ vx ⊕ vy ⊗ vy in
-    le_ring_scaled (at (m ∷ e ∷ m' ∷ e' ∷ x ∷ y ∷ k ∷ [])) (vm' ⊗ (vk ⊗ vk)) (scaled_distance ⊗ ve') ve
-    (ve' ⊗ (scaled_distance ⊗ ve ⊖ vm ⊗ (vk ⊗ vk)) ⊕ (vk ⊗ vk) ⊗ (vm ⊗ ve' ⊖ vm' ⊗ ve)) refl he
+    inequality_scaled (m ∷ e ∷ m' ∷ e' ∷ x ∷ y ∷ k ∷ [])
+    (λ m e m' e' x y k. (
+      m' ⊗ (k ⊗ k),
+      form.squares x y ⊗ e',
+      e,
+      e' ⊗ (form.squares x y ⊗ e ⊖ m ⊗ (k ⊗ k)) ⊕ (k ⊗ k) ⊗ (m ⊗ e' ⊖ m' ⊗ e),
+    )) refl he
     (add_nonneg _ _ (mul_nonneg _ _ he' (difference_nonneg _ _ h)) (mul_nonneg _ _ (square_nonneg k) (difference_nonneg _ _ le)))
 
 -- the same, of two fractions
@@ -42,6 +41,10 @@ at_most_one f g x y k le h =
   where
     above : (n : ℕ) → 1 ≤ n → pos 0 <ℤ pos n
     above n h = omega (arith, ints)
+
+-- and of two points
+pub lesser_apart : (f g : Frac) (q z : RationalPoint) → IsAtMost g f → AreApart f.num f.den q z → AreApart g.num g.den q z
+lesser_apart f g q z le h = at_most_one f g _ _ (pos (q.n * z.n)) le h
 
 -- a bound by a fraction is one by each fraction that is at most it
 at_most_clear : (f g : Frac) (a b c d : Point) → IsAtMost g f → AreClear (pos f.num) (pos f.den) a b c d

@@ -8,10 +8,11 @@ use Rattle.sand_model.specs.Gap.{IsLeast}
 use Rattle.int_ring.specs.Expr.{var, at, num, ◌⊕◌, ◌⊖◌, ◌⊗◌}
 use Rattle.int_ring.proofs.Ring.{ring}
 use Rattle.int_ring.proofs.Order.{mul_nonneg, add_nonneg, pos_abs}
-use Rattle.int_ring.proofs.Inequality.{le_ring}
+use Rattle.int_ring.proofs.Named.{inequality}
 use Rattle.int_ring.proofs.Squares.{square_nonneg}
 use Rattle.plane_geom.specs.Vectors.{dot_of, cross_of}
-use Rattle.plane_geom.proofs.Clear.{IsClear, IsWeights, AreClear, offset, along, farther, turn_second}
+use Rattle.plane_geom.proofs.Clear.{IsClear, IsWeights, AreClear, offset, as_long, farther, turn_second}
+use Rattle.plane_geom.proofs.Forms as form
 use Rattle.plane_geom.proofs.Means.{point_hull, mean_on, first_end, second_end}
 use Rattle.plane_geom.proofs.SegmentHull.{segment_hull}
 use Rattle.plane_geom.proofs.Least.{least_of_clear, clear_of_least, attained_at, attained_within}
@@ -30,19 +31,13 @@ behind_far : (s u v dx dy px py : ℤ) → pos 0 ≤ℤ u → pos 0 ≤ℤ v →
     ≤ℤ (((s *ℤ (((u +ℤ v) *ℤ px) -ℤ (v *ℤ dx))) *ℤ (s *ℤ (((u +ℤ v) *ℤ px) -ℤ (v *ℤ dx))))
     +ℤ ((s *ℤ (((u +ℤ v) *ℤ py) -ℤ (v *ℤ dy))) *ℤ (s *ℤ (((u +ℤ v) *ℤ py) -ℤ (v *ℤ dy)))))
 behind_far s u v dx dy px py hu hv h =
-    let vs = var 0 in
-    let vu = var 1 in
-    let vv = var 2 in
-    let vdx = var 3 in
-    let vdy = var 4 in
-    let vpx = var 5 in
-    let vpy = var 6 in
-    let x = vs ⊗ ((vu ⊕ vv) ⊗ vpx ⊖ vv ⊗ vdx) in
-    let y = vs ⊗ ((vu ⊕ vv) ⊗ vpy ⊖ vv ⊗ vdy) in
-    let k = vs ⊗ (vu ⊕ vv) in
-    let dot = vdx ⊗ vpx ⊕ vdy ⊗ vpy in
-    le_ring (at (s ∷ u ∷ v ∷ dx ∷ dy ∷ px ∷ py ∷ [])) ((vpx ⊗ vpx ⊕ vpy ⊗ vpy) ⊗ (k ⊗ k)) (x ⊗ x ⊕ y ⊗ y)
-    ((vs ⊗ vs) ⊗ ((vv ⊗ vv) ⊗ (vdx ⊗ vdx ⊕ vdy ⊗ vdy) ⊕ (num (pos 2) ⊗ ((vu ⊕ vv) ⊗ vv)) ⊗ (num (pos 0) ⊖ dot))) refl
+    inequality (s ∷ u ∷ v ∷ dx ∷ dy ∷ px ∷ py ∷ [])
+    (λ s u v dx dy px py.
+    let k = s ⊗ (u ⊕ v) in (
+      form.squares px py ⊗ (k ⊗ k),
+      form.squares (s ⊗ ((u ⊕ v) ⊗ px ⊖ v ⊗ dx)) (s ⊗ ((u ⊕ v) ⊗ py ⊖ v ⊗ dy)),
+      (s ⊗ s) ⊗ ((v ⊗ v) ⊗ form.squares dx dy ⊕ (num (pos 2) ⊗ ((u ⊕ v) ⊗ v)) ⊗ (num (pos 0) ⊖ (dx ⊗ px ⊕ dy ⊗ py))),
+    )) refl
     (mul_nonneg _ _ (square_nonneg s)
     (add_nonneg _ _ (mul_nonneg _ _ (square_nonneg v) (add_nonneg _ _ (square_nonneg dx) (square_nonneg dy)))
     (mul_nonneg _ _ (mul_nonneg (pos 2) _ (omega (arith, ints)) (mul_nonneg _ _ (add_nonneg u v hu hv) hv)) (turned_sign _ h))))
@@ -51,7 +46,7 @@ behind_far s u v dx dy px py hu hv h =
 behind_clear : (m e : ℤ) (p a b : Point) → pos 0 ≤ℤ e
     → IsClear m e (pos p.x -ℤ pos a.x) (pos p.y -ℤ pos a.y) (pos 1) → dot_of a b p ≤ℤ pos 0 → AreClear m e p p a b
 behind_clear m e p a b he h behind i j u v wi wu =
-    along m e _ _ _ _ _ _
+    as_long m e _ _ _ _ _ _
     (farther m e _ _ _ _ _ he h
     (behind_far (i +ℤ j) u v (pos b.x -ℤ pos a.x) (pos b.y -ℤ pos a.y) (pos p.x -ℤ pos a.x) (pos p.y -ℤ pos a.y) wu.first wu.second behind))
     (sym (from_first (pos p.x) (pos a.x) (pos b.x) i j u v)) (sym (from_first (pos p.y) (pos a.y) (pos b.y) i j u v)) refl
@@ -62,25 +57,21 @@ foot_far : (s u v dx dy px py : ℤ)
     ≤ℤ ((((s *ℤ (((u +ℤ v) *ℤ px) -ℤ (v *ℤ dx))) *ℤ (s *ℤ (((u +ℤ v) *ℤ px) -ℤ (v *ℤ dx))))
     +ℤ ((s *ℤ (((u +ℤ v) *ℤ py) -ℤ (v *ℤ dy))) *ℤ (s *ℤ (((u +ℤ v) *ℤ py) -ℤ (v *ℤ dy))))) *ℤ ((dx *ℤ dx) +ℤ (dy *ℤ dy)))
 foot_far s u v dx dy px py =
-    let vs = var 0 in
-    let vu = var 1 in
-    let vv = var 2 in
-    let vdx = var 3 in
-    let vdy = var 4 in
-    let vpx = var 5 in
-    let vpy = var 6 in
-    let x = vs ⊗ ((vu ⊕ vv) ⊗ vpx ⊖ vv ⊗ vdx) in
-    let y = vs ⊗ ((vu ⊕ vv) ⊗ vpy ⊖ vv ⊗ vdy) in
-    let k = vs ⊗ (vu ⊕ vv) in
-    let cross = vdx ⊗ vpy ⊖ vdy ⊗ vpx in
-    let shift = vdx ⊗ x ⊕ vdy ⊗ y in
-    le_ring (at (s ∷ u ∷ v ∷ dx ∷ dy ∷ px ∷ py ∷ [])) ((cross ⊗ cross) ⊗ (k ⊗ k)) ((x ⊗ x ⊕ y ⊗ y) ⊗ (vdx ⊗ vdx ⊕ vdy ⊗ vdy))
-    (shift ⊗ shift) refl (square_nonneg _)
+    inequality (s ∷ u ∷ v ∷ dx ∷ dy ∷ px ∷ py ∷ [])
+    (λ s u v dx dy px py.
+    let x = s ⊗ ((u ⊕ v) ⊗ px ⊖ v ⊗ dx) in
+    let y = s ⊗ ((u ⊕ v) ⊗ py ⊖ v ⊗ dy) in
+    let cross = dx ⊗ py ⊖ dy ⊗ px in
+    let shift = dx ⊗ x ⊕ dy ⊗ y in (
+      (cross ⊗ cross) ⊗ ((s ⊗ (u ⊕ v)) ⊗ (s ⊗ (u ⊕ v))),
+      form.squares x y ⊗ form.squares dx dy,
+      shift ⊗ shift,
+    )) refl (square_nonneg _)
 
 -- the height over a segment's line bounds the distance of all its points
 foot_clear : (p a b : Point) → AreClear (cross_of a b p *ℤ cross_of a b p) (dot_of a b b) p p a b
 foot_clear p a b i j u v wi wu =
-    along (cross_of a b p *ℤ cross_of a b p) (dot_of a b b) _ _ _ _ _ _
+    as_long (cross_of a b p *ℤ cross_of a b p) (dot_of a b b) _ _ _ _ _ _
     (foot_far (i +ℤ j) u v (pos b.x -ℤ pos a.x) (pos b.y -ℤ pos a.y) (pos p.x -ℤ pos a.x) (pos p.y -ℤ pos a.y))
     (sym (from_first (pos p.x) (pos a.x) (pos b.x) i j u v)) (sym (from_first (pos p.y) (pos a.y) (pos b.y) i j u v)) refl
 
@@ -137,7 +128,7 @@ two_points : (p a : Point) (m e : ℕ) → IsLeast (IsPoint p) (IsPoint a) m e
     → IsClear (pos m) (pos e) (pos p.x -ℤ pos a.x) (pos p.y -ℤ pos a.y) (pos 1)
 two_points p a m e h =
     let one : IsWeights (pos 1) (pos 0) = record { first = omega (arith, ints); second = omega (arith, ints); some = omega (arith, ints) } in
-    along (pos m) (pos e) _ _ (pos 1) _ _ _
+    as_long (pos m) (pos e) _ _ (pos 1) _ _ _
     (clear_of_least p p a a m e (point_hull p) (point_hull a) h (pos 1) (pos 0) (pos 1) (pos 0) one one)
     (step (pos p.x) (pos a.x)) (step (pos p.y) (pos a.y)) refl
   where
