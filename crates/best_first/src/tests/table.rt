@@ -140,6 +140,7 @@ impl Hierarchy for Table {
 
     // (no contract asks what pages mean that aren't told, and over pages that are the table meets no law)
     ghost meaning = { λ t pages. record {
+      IsReadable = Unit {0};
       root = 40;
       gap = λ node. t.root_gap;
       finds = λ node. [];
