@@ -5,3 +5,4 @@ pub mod Passing
 pub mod Bounds
 pub mod Turns
 pub mod Lists
+pub mod ForLayers
