@@ -8,7 +8,7 @@ use Rattle.page_pool.specs.Pool.{PoolState}
 use Rattle.page_pool.specs.Reads.{IsRead, Gets}
 use Rattle.page_pool.specs.Causes.{HasPageCause}
 use Rattle.page_pool.specs.Steps.{IsRead-refl, IsRead-trans, HasPageCause-before, HasPageCause-passed, HasPageCause-memory, HasPageCause-done}
-use Rattle.code_btree.specs.Calls.{Looks}
+use Rattle.code_btree.specs.Calls.{Looks, Peeks}
 
 pub next_small : (n : ℕ) → next_count n ≤ n + 1
 next_small n = omega arith
@@ -58,3 +58,20 @@ looks_then a b c k l x r g h some = record {
   some = some;
   cause = HasPageCause-before a b c r g.cause.counted h.cause;
 }
+
+-- gets, and then further ones or none
+pub looks_peek : {T U : Type 0} (a b c : PoolState) (k l : ℕ) (x : T) (y : U) → Looks a b k (Ok x) → Peeks b c l (Ok y) → Looks a c (k + l) (Ok y)
+looks_peek a b c k l x y g h = record {
+  read = IsRead-trans a b c g.read h.read;
+  within = omega (arith, g.within, h.within);
+  some = omega (arith, g.some, h.later);
+  cause = HasPageCause-before a b c (Ok y) g.cause.counted h.cause;
+}
+
+-- no get at all
+pub peeks_none : {T : Type 0} (a : PoolState) (k : ℕ) (x : T) → Peeks a a k (Ok x)
+peeks_none a k x = record { read = IsRead-refl a; within = omega arith; later = omega arith; cause = HasPageCause-done a a x refl }
+
+pub looks_peeks : {T : Type 0} (a b : PoolState) (k : ℕ) (r : Result T PageFault) → Looks a b k r → Peeks a b k r
+looks_peeks a b k (Ok x) g = record { read = g.read; within = g.within; later = omega (arith, g.some); cause = g.cause }
+looks_peeks a b k (Err e) g = record { read = g.read; within = g.within; later = tt; cause = g.cause }

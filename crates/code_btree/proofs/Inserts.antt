@@ -115,7 +115,7 @@ seps_split f lk lc up rk rc ks cs e h =
     let s = same_front lk (drop 1 fl) (up ∷ rk) (first_of_list fr ∷ drop 1 fr) (omega (arith, length-drop 1 fl, h.left)) j in
     (s.0, (ap (λ (x : List ℕ). first_of_list x) s.1, ap (λ (x : List ℕ). drop 1 x) s.1))
 
-first_least : (w : Store) (h : ℕ) (rc : List ℕ) → 1 ≤ length rc → Each (λ x. Filled w h x) rc → first_key (all_items w h rc) ≡ first_of_list (map (λ x. least w h x) rc)
+pub first_least : (w : Store) (h : ℕ) (rc : List ℕ) → 1 ≤ length rc → Each (λ x. Filled w h x) rc → first_key (all_items w h rc) ≡ first_of_list (map (λ x. least w h x) rc)
 first_least w h [] l e = absurd (omega arith)
 first_least w h (c ∷ rc) l e = first_key-append (items w h c) (all_items w h rc) (filled_some w h c e.0)
 

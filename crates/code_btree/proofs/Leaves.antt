@@ -32,6 +32,7 @@ cuts_of m u v n r p1 p2 o p l g wr e f =
       gained = zero_r;
       right = live_some v r p2 r_now;
       right_node = ap (λ (x : Option (List ℕ)). node_in x) r_now ∙ f;
+      positive = g.positive;
       others = λ q a b. wr.others q a ∙ g.others q b;
     }
 
@@ -107,7 +108,7 @@ leaf_cut m w n r k o was left right nx en cut l u ea ef =
             | inr j ↦ omega (arith, live_same m w q (cut.others q i.0 j.0))
           ]
         ];
-        linked = λ s e p. (p.0, (nl, nr ∙ p.1));
+        linked = λ s e p. (p.0, (p.1.0, (nl, (omega (arith, nl, cut.positive), nr ∙ p.1.1))));
       };
       items = ap₂ (λ (x y : List Pair). x ++ y) (ap (λ (x : Node). entries_of x) cut.node) (one_items w 0 r ∙ ap (λ (x : Node). entries_of x) cut.right_node) ∙ (sym ea ∙ ap (λ (x : List Pair). alter k o x) (sym one));
       found = sym ef ∙ ap (λ (x : List Pair). find_item k x) (sym one);

@@ -19,3 +19,11 @@ pub mod Gets
 pub mod Finds
 pub mod Frame
 pub mod Floors
+pub mod PageRuns
+pub mod Chains
+pub mod Joins
+pub mod Balances
+pub mod Evens
+pub mod Removes
+pub mod Falls
+pub mod RunSteps

@@ -79,8 +79,8 @@ times-heads q f (x ∷ xs) = omega (arith, times-append q (f x) (flat_map (λ y.
 
 pub Path-append : (s t e : ℕ) (xs ys : List (ℕ × ℕ)) → Path s xs t → Path t ys e → Path s (xs ++ ys) e
 Path-append s t e [] ys h k = let P : ℕ → Type 0 = λ x. Path x ys e in subst P (sym h) k
-Path-append s t e (x ∷ xs) ys h k = (h.0, Path-append x.1 t e xs ys h.1 k)
+Path-append s t e (x ∷ xs) ys h k = (h.0, (h.1.0, Path-append x.1 t e xs ys h.1.1 k))
 
 pub Path-split : (s e : ℕ) (xs ys : List (ℕ × ℕ)) → Path s (xs ++ ys) e → (t : ℕ) × (Path s xs t × Path t ys e)
 Path-split s e [] ys h = (s, (refl, h))
-Path-split s e (x ∷ xs) ys h = let r = Path-split x.1 e xs ys h.1 in (r.0, ((h.0, r.1.0), r.1.1))
+Path-split s e (x ∷ xs) ys h = let r = Path-split x.1 e xs ys h.1.1 in (r.0, ((h.0, (h.1.0, r.1.0)), r.1.1))

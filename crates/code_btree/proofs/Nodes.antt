@@ -183,3 +183,11 @@ leaf_spliced p b n i j k m size is jk ij long fits =
     ∙ (map-append entry_of (cells 32 32 i p) (cells 32 0 m b ++ cells 32 (32 + 32 * j) k p)
     ∙ ap₂ (λ (x y : List Pair). x ++ y) head (map-append entry_of (cells 32 0 m b) (cells 32 (32 + 32 * j) k p) ∙ ap (λ (y : List Pair). map entry_of (cells 32 0 m b) ++ y) tail)))
     (ap (λ (c : List ℕ). word_of c) next ∙ sym h.next)
+
+-- the link of a leaf, as it is read
+pub next_read : (p : List ℕ) → node_of p ≡ leaf (entries_of (node_of p)) (next_of (node_of p)) → next_of (node_of p) ≡ word_of (piece 8 8 p)
+next_read p h = elim (reading p) [ as_leaf x y z ↦ leaf_next p z | as_inner x y z ↦ absurd (inner_not_leaf p _ _ z h) | as_blank z ↦ absurd (cc) ]
+
+-- a leaf has as many entries as its head says
+pub leaf_head : (p : List ℕ) → node_of p ≡ leaf (entries_of (node_of p)) (next_of (node_of p)) → IsLeafOf p (count_of p)
+leaf_head p h = let t = leaf_is_told p h in leaf_told p (count_of p) t.0 refl t.1

@@ -27,7 +27,7 @@ keeps_of m w before after others moved = record {
 pub one_pages : (m : Store) (h q n : ℕ) → times q (all_pages m h (n ∷ [])) ≡ times q (pages m h n)
 one_pages m h q n = ap (λ (ps : List ℕ). times q ps) (append-nil (pages m h n))
 
-one_links : (m : Store) (h n : ℕ) → all_links m h (n ∷ []) ≡ links m h n
+pub one_links : (m : Store) (h n : ℕ) → all_links m h (n ∷ []) ≡ links m h n
 one_links m h n = append-nil (links m h n)
 
 pub subtree_of : (m : Store) (h n count : ℕ) → IsTreeAt m h n count → Subtree m h n
@@ -49,7 +49,7 @@ planted m w r p g e =
           top = λ h. absurd (omega arith);
           owns = λ q. elim (same_cases q r) [ inl i ↦ omega (arith, i.0, ap (λ (x : ℕ). live w x) i.1) | inr i ↦ omega (arith, i.0) ];
           ascending = subst A (sym es) tt;
-          chain = (r, (refl, ap (λ (x : Node). next_of x) no));
+          chain = (r, (refl, (g.positive, ap (λ (x : Node). next_of x) no)));
           counted = sym (ap (λ (x : List Pair). length x) es);
         };
         many = λ h. absurd (omega arith);

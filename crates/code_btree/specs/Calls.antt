@@ -1,13 +1,13 @@
 -- What the calls of a tree do.
-use Rattle.std.specs.Prelude.{◌≡◌, ℕ, ◌+◌, ◌≤◌, List, [], Option, None, Result, OnOk, IsTrue}
-use Rattle.sand_base.specs.Faults.{next_count}
+use Rattle.std.specs.Prelude.{◌≡◌, ℕ, ◌+◌, ◌≤◌, List, [], Option, None, Result, OnOk, IsTrue, min}
+use Rattle.sand_base.specs.Faults.{next_count, last_count}
 use Rattle.page_pool.specs.declared.fault.PageFault.{PageFault}
 use Rattle.page_pool.specs.Pool.{PoolState}
 use Rattle.page_pool.specs.Reads.{IsRead}
 use Rattle.page_pool.specs.Causes.{HasPageCause}
 use Rattle.code_btree.specs.declared.map.Tree.{Tree}
 use Rattle.code_btree.specs.Node.{Pair}
-use Rattle.code_btree.specs.Items.{put_item, find_item}
+use Rattle.code_btree.specs.Items.{put_item, drop_item, find_item}
 use Rattle.code_btree.specs.Tree.{Store, IsTree, tree_items, tree_pages, times, live}
 
 -- A change touched only these pages, which became those. Every other live page keeps its bytes; a gained page wasn't live, a lost one is freed, and no other page comes or goes.
@@ -30,11 +30,25 @@ pub record Inserted (m w : Store) (t u : Tree) (key value : ℕ) (was : Option �
   pub found : was ≡ find_item key (tree_items m t)
   pub keeps : Keeps m w (tree_pages m t) (tree_pages w u)
 
+-- the map lacks the key, the old value came back, and no other page was touched
+pub record Removed (m w : Store) (t u : Tree) (key : ℕ) (was : Option ℕ) : Type 0 where
+  pub tree : IsTree w u
+  pub items : tree_items w u ≡ drop_item key (tree_items m t)
+  pub found : was ≡ find_item key (tree_items m t)
+  pub keeps : Keeps m w (tree_pages m t) (tree_pages w u)
+
 -- A reading call of at most so many gets: it changes nothing, and it makes at least one get where it isn't refused.
 pub record Looks {T : Type 0} (old new : PoolState) (limit : ℕ) (result : Result T PageFault) : Type 0 where
   pub read : IsRead old new
   pub within : new.gets ≤ old.gets + limit
   pub some : OnOk result (next_count old.gets ≤ new.gets)
+  pub cause : HasPageCause old new result
+
+-- A reading call of at most so many gets, or of none; the number of gets doesn't fall.
+pub record Peeks {T : Type 0} (old new : PoolState) (limit : ℕ) (result : Result T PageFault) : Type 0 where
+  pub read : IsRead old new
+  pub within : new.gets ≤ old.gets + limit
+  pub later : OnOk result (min old.gets last_count ≤ new.gets)
   pub cause : HasPageCause old new result
 
 -- the tree is in w what it is in m: its pairs, its pages, and that it is a tree

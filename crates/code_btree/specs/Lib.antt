@@ -5,5 +5,8 @@ pub mod Node
 pub mod Items
 pub mod Tree
 pub mod Calls
+pub mod Run
 -- What only the proof needs.
 pub mod Steps
+pub mod Removals
+pub mod Chain

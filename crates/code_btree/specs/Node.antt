@@ -64,6 +64,14 @@ size_of (leaf entries next) = length entries
 size_of (inner keys children) = length keys
 size_of blank = 0
 
+-- a page that is read as a leaf
+abbrev pub IsLeaf : List ℕ → Type 0
+IsLeaf page = node_of page ≡ leaf (entries_of (node_of page)) (next_of (node_of page))
+
+-- the entries of a leaf from a place on
+abbrev pub entries_on : List ℕ → ℕ → List Pair
+entries_on page place = drop place (entries_of (node_of page))
+
 -- a page that is read as a leaf of so many entries
 pub record IsLeafOf (page : List ℕ) (count : ℕ) : Type 0 where
   pub is_leaf : node_of page ≡ leaf (entries_of (node_of page)) (next_of (node_of page))

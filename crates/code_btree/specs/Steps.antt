@@ -40,6 +40,7 @@ pub record Cuts (m w : Store) (n r : ℕ) (o p : Node) : Type 0 where
   pub gained : live m r ≡ 0
   pub right : live w r ≡ 1
   pub right_node : Rattle.code_btree.specs.Tree.node w r ≡ p
+  pub positive : 1 ≤ r
   pub others : (q : ℕ) → same q n ≡ 0 → same q r ≡ 0 → w q ≡ m q
 
 -- an element put in at a place

@@ -74,10 +74,10 @@ live m q = cond (is_some (m q)) 1 0
 abbrev pub Owns : Store → ℕ → List ℕ → Type 0
 Owns m level cs = (q : ℕ) → times q (all_pages m level cs) ≤ live m q
 
--- leaves that lead from page s on to page e
+-- leaves that lead from page s on to page e; none of them is page 0
 abbrev pub Path : ℕ → List (ℕ × ℕ) → ℕ → Type 0
 Path s [] e = s ≡ e
-Path s (l ∷ ls) e = (s ≡ l.0) × Path l.1 ls e
+Path s (l ∷ ls) e = (s ≡ l.0) × ((1 ≤ s) × Path l.1 ls e)
 
 -- a leaf of at most 127 entries
 pub record LeafOk (o : Node) : Type 0 where

@@ -1,9 +1,11 @@
 ghost use Rattle.std.specs.Prelude.{◌≡◌, ◌+◌, ◌-◌, ◌*◌, ◌/◌, ◌%◌, ◌<◌, ◌≤◌, ◌≢◌, ◌∷◌, ◌++◌, [], length, take, drop, MatchOption};
-ghost use Rattle.code_btree.specs.Node.{IsLeafOf, entry_of, entry_key, entry_value, entries_in, entries_of, next_of, node_of};
+ghost use Rattle.code_btree.specs.Node.{IsLeaf, IsLeafOf, entry_of, entry_key, entry_value, entries_in, entries_of, next_of, node_of};
 ghost use Rattle.code_btree.specs.Node.Node.{leaf};
 ghost use Rattle.code_btree.specs.Items.{Ascending, floor_item};
 
-use crate::bytes::{Page, half_at, number_at, paste, put_half, put_number, put_word, splice};
+use crate::bytes::{
+    Page, half_at, number_at, paste, put_half, put_number, put_word, splice, word_at,
+};
 
 // The number of a leaf's entries; other bytes are no leaf.
 pub fn leaf_count(page: &Page) -> Option<usize>
@@ -117,6 +119,13 @@ pub fn splice_entries(page: &mut Page, count: usize, from: usize, to: usize, byt
 {
     splice(page, 32 + 32 * from, 32 + 32 * to, 32 + 32 * count, bytes);
     put_half(page, 2, (from + (bytes.len() / 32 + (count - to))) as u16);
+}
+
+// The number of the leaf that follows.
+pub fn next_at(page: &Page) -> u64
+    ensures { IsLeaf page.now → result ≡ next_of (node_of page.now) }
+{
+    word_at(page, 8)
 }
 
 // The leaf that follows.

@@ -10,7 +10,7 @@ use crate::leaf::{floor_of, leaf_count, rank, value_found};
 use page_pool::{PageFault, Pages};
 
 // The child of page `n` under which a key belongs: one get.
-fn child_for<P: Pages>(pages: &mut P, n: u64, key: u128) -> Result<Option<u64>, PageFault>
+pub fn child_for<P: Pages>(pages: &mut P, n: u64, key: u128) -> Result<Option<u64>, PageFault>
     ensures value { IfOk result (λ child. IsTold (P.shown pages.old) → LeadsTo (pages_in (P.shown pages.old)) n key child) }
     ensures looks { Looks (P.shown pages.old) (P.shown pages.new) 1 result }
 {
