@@ -11,5 +11,7 @@
 mod lefts;
 mod next_pair;
 mod semi;
+#[cfg(test)]
+mod tests;
 
 pub use semi::Semi;
