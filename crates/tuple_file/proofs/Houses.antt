@@ -61,9 +61,9 @@ pub record Ground (m : Store) (f : TupleFile) (n : ℕ) : Type 0 where
   pub apart : times n (tree_pages m f.tree) ≡ 0
   pub both : live m n ≡ min 1 (times n (homes (tree_items m f.tree)))
 
-pub ground : (m : Store) (f : TupleFile) (n : ℕ) → IsFile m f → (f.newest ≡ Some n) ⊎ (m n ≡ None) → Ground m f n
+pub ground : {R : Type 0} (m : Store) (f : TupleFile) (n : ℕ) → IsFile m f → ((f.newest ≡ Some n) × R) ⊎ (m n ≡ None) → Ground m f n
 ground m f n h s = elim s [
-  | inl e ↦ let l = h.newest n e in let k = home_live m f n h l in record { apart = k.1; both = omega (arith, k.0, l) }
+  | inl e ↦ let l = h.newest n e.0 in let k = home_live m f n h l in record { apart = k.1; both = omega (arith, k.0, l) }
   | inr e ↦
       let z = live_none m n e in
       let o = h.owns n in

@@ -1,14 +1,15 @@
 -- A tuple is put: into a page, and into the file.
-use Rattle.std.proofs.Common.{◌≡◌, ◌≢◌, ℕ, ◌+◌, ◌*◌, ◌<◌, ◌≤◌, List, [], ◌∷◌, length, refl, sym, ◌∙◌, ap, ap₂, subst, inl, inr, arith}
+use Rattle.std.proofs.Common.{◌≡◌, ◌≢◌, ℕ, ◌+◌, ◌*◌, ◌<◌, ◌≤◌, suc, Bool, cond, List, [], ◌∷◌, ◌++◌, length, refl, sym, ◌∙◌, ap, ap₂, subst, inl, inr, arith}
 use Rattle.std.specs.Prelude.{Option, None, Some, option_map}
-use Rattle.std.proofs.lemmas.Bool.Decides.{eqb_tells}
+use Rattle.std.proofs.lemmas.Bool.Decides.{leb_tells, eqb_tells}
 use Rattle.code_btree.specs.declared.map.Tree.{Tree}
 use Rattle.code_btree.specs.Node.{Pair}
-use Rattle.code_btree.specs.Items.{find_item, put_item}
+use Rattle.code_btree.specs.Items.{find_item, items_below, items_above, put_item}
 use Rattle.code_btree.specs.Tree.{Store, same, times, live, tree_items, tree_pages, IsTree}
 use Rattle.code_btree.specs.Calls.{Inserted}
 use Rattle.code_btree.specs.Calls as tree
 use Rattle.code_btree.proofs.Lists.{same_cases, same_self, live_same}
+use Rattle.code_btree.proofs.Orders.{lt_is, lt_not, eq_is, eq_not}
 use Rattle.code_btree.proofs.Roots.{keeps_of}
 use Rattle.code_btree.proofs.Frame.{frame}
 use Rattle.tuple_file.specs.declared.file.TupleFile.{TupleFile}
@@ -89,6 +90,17 @@ none_of : {A B : Type 0} (f : A → B) (o : Option A) → option_map f o ≡ Non
 none_of f None h = refl
 none_of f (Some x) h = absurd (none_some (f x) h)
 
+-- the value that was put is found
+find_above : (k : ℕ) (es zs : List Pair) → find_item k (items_below k es ++ zs) ≡ find_item k zs
+find_above k [] zs = refl
+find_above k (e ∷ es) zs = elim (leb_tells (suc e.0) k) [
+  | inl x ↦ let n : e.0 ≢ k = omega (arith, x.1) in rw (lt_is e.0 k x.1, eq_not e.0 k n) (find_above k es zs)
+  | inr x ↦ rw (lt_not e.0 k (omega (arith, x.1))) (find_above k es zs)
+]
+
+find_put : (k v : ℕ) (es : List Pair) → find_item k (put_item k v es) ≡ Some v
+find_put k v es = find_above k es ((k, v) ∷ items_above k es) ∙ ap (λ (b : Bool). cond b (Some v) (find_item k (items_above k es))) (eq_is k k refl)
+
 pub put_done : (m x w : Store) (f : TupleFile) (u : Tree) (id n slot v : ℕ) (bytes : List ℕ) (was : Option ℕ) → IsFile m f → of_id id (file_rows m f) ≡ None → 1 ≤ length bytes
     → Settled m x f.newest n slot bytes → v ≡ n * 65536 + slot → Inserted x w f.tree u id v was → Put m w f (record { tree = u; newest = Some n }) id bytes
 put_done m x w f u id n slot v bytes was file fresh size s ev i =
@@ -130,7 +142,11 @@ put_done m x w f u id n slot v bytes was file fresh size s ev i =
       };
       rows = ap (λ (xs : List Pair). tuples w xs) items ∙ (tuples_put w id v es ∙ ap₂ (λ (b : List ℕ) (rs : List (ℕ × List ℕ)). with_id id b rs)
           (tuple_here w v n slot page_is slot_is ∙ p.added.here) (tuples_same m w es (tuples_stay m w es n slot v bytes p)));
+      lies = ap (λ (xs : List Pair). option_map page_of (find_item id xs)) items ∙ (ap (λ (o : Option ℕ). option_map page_of o) (find_put id v es) ∙ ap (λ (k : ℕ). Some k) page_is);
       fills = λ q e room. ap (λ (k : ℕ). Some k) (sym (s.fills q e room));
+      begins = λ q full e.
+          let N : ℕ → Type 0 = λ k. m k ≡ None in
+          subst N (some_same n q e) (elim s.from [ inl i ↦ absurd (full n i.0 i.1) | inr i ↦ i ]);
       keeps = keeps_of m w (file_pages m f) (file_pages w g)
           (λ q l z.
           let c = pages_count m f q in

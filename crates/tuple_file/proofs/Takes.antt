@@ -113,6 +113,7 @@ houses_take m w es fs n slot v freed h p = record {
 pub record IsNewest (old new : Option ℕ) (n : ℕ) (freed : Bool) : Type 0 where
   pub same_page : (q : ℕ) → new ≡ Some q → old ≡ Some q
   pub is_left : (q : ℕ) → freed ≡ true → new ≡ Some q → q ≢ n
+  pub kept : (q : ℕ) → old ≡ Some q → (freed ≡ true → q ≢ n) → new ≡ Some q
 
 pub take_done : (m x w : Store) (f : TupleFile) (u : Tree) (id n slot v : ℕ) (freed : Bool) (newest : Option ℕ) → IsFile m f → Removed m x f.tree u id (Some v)
     → n ≡ page_of v → slot ≡ slot_of v → Emptied x w n slot freed → IsNewest f.newest newest n freed → Taken m w f (record { tree = u; newest = newest }) id true
@@ -151,10 +152,11 @@ take_done m x w f u id n slot v freed newest file r en es' e last =
           omega (arith, r.keeps.moved q, up q, pages_count m f q, pages_count w g q, l, home_n, live_none w n (p.gone k).freed, live_same m x n xn, kn.0, ap (λ (i : ℕ). live x i) j.1, ap (λ (i : ℕ). live w i) j.1, ap (λ (i : ℕ). times i (homes es)) j.1, ap (λ (i : ℕ). times i (homes fs)) j.1)))
       | inr j ↦ omega (arith, r.keeps.moved q, up q, pages_count m f q, pages_count w g q, hc q, j.0, live_same x w q (e.others q j.0))
     ] in
+    let owns = owns_then m w (file_pages m f) (file_pages w g) file.owns moved in
     record {
       file = record {
         tree = t.tree r.tree;
-        owns = owns_then m w (file_pages m f) (file_pages w g) file.owns moved;
+        owns = owns;
         housed = houses_take m w es fs n slot v freed file.housed p;
         newest = λ q k.
             let l : 1 ≤ times q (homes es) = file.newest q (last.same_page q k) in
@@ -167,6 +169,7 @@ take_done m x w f u id n slot v freed newest file r en es' e last =
       };
       rows = tuples_same m w fs (tuples_stay m w es fs n slot v freed file.housed p) ∙ (ap (λ (xs : List Pair). tuples m xs) items ∙ tuples_drop m id es asc);
       found = sym (ap (λ (o : Option (List ℕ)). is_some o) (tuples_find m id es ∙ ap (λ (o : Option ℕ). option_map (λ k. tuple_of m k) o) found));
+      stays = λ q k l. last.kept q k (λ b z. absurd (omega (arith, l, owns q, ap (λ (i : ℕ). live w i) z, live_none w n (p.gone b).freed)));
       keeps = keeps_of m w (file_pages m f) (file_pages w g)
           (λ q l z.
           let c = pages_count m f q in
@@ -213,6 +216,7 @@ take_none m w f u id file r =
       };
       rows = tuples_same m w fs (λ v l. tuple_same m w v (home (page_of v) (omega (arith, l, pc v, times-up v es)))) ∙ (ap (λ (xs : List Pair). tuples m xs) r.items ∙ tuples_drop m id es file.tree.at.ascending);
       found = sym (ap (λ (o : Option (List ℕ)). is_some o) (tuples_find m id es ∙ ap (λ (o : Option ℕ). option_map (λ k. tuple_of m k) o) found));
+      stays = λ q k l. k;
       keeps = keeps_of m w (file_pages m f) (file_pages w g) (λ q l z. r.keeps.others q l (omega (arith, z, pages_count m f q))) moved;
     }
 
@@ -225,11 +229,15 @@ taken_sound m x f u id n v file r en =
     let P : Option (List ℕ) → Type 0 = λ o. IsTuples (bytes_of o) in
     subst P (sym (r.keeps.others n k.0 k.1)) (file.housed.sound n l)
 
-pub newest_is : (old new : Option ℕ) (n : ℕ) (freed : Bool) → IfSome new (λ k. old ≡ Some k) → (freed ≡ true → IfSome new (λ k. k ≢ n)) → IsNewest old new n freed
-newest_is old None n freed h k = record { same_page = λ q e. absurd (none_some q (sym e)); is_left = λ q b e. absurd (none_some q (sym e)) }
-newest_is old (Some p) n freed h k = record {
+kept_of : (old new : Option ℕ) (q n : ℕ) (freed : Bool) → old ≡ Some q → IfSome old (λ k. (freed ≡ true → k ≢ n) → new ≡ Some k) → (freed ≡ true → q ≢ n) → new ≡ Some q
+kept_of old new q n freed e l = let P : Option ℕ → Type 0 = λ o. IfSome o (λ k. (freed ≡ true → k ≢ n) → new ≡ Some k) in subst P e l
+
+pub newest_is : (old new : Option ℕ) (n : ℕ) (freed : Bool) → IfSome new (λ k. old ≡ Some k) → (freed ≡ true → IfSome new (λ k. k ≢ n)) → IfSome old (λ k. (freed ≡ true → k ≢ n) → new ≡ Some k) → IsNewest old new n freed
+newest_is old None n freed h k l = record { same_page = λ q e. absurd (none_some q (sym e)); is_left = λ q b e. absurd (none_some q (sym e)); kept = λ q e. kept_of old None q n freed e l }
+newest_is old (Some p) n freed h k l = record {
   same_page = λ q e. h ∙ e;
   is_left = λ q b e z. k b (some_same p q e ∙ z);
+  kept = λ q e. kept_of old (Some p) q n freed e l;
 }
 
 -- the same removal, by the id that was asked for and the answer that came

@@ -13,7 +13,7 @@ pub record Begun (m w : Store) (n slot : ℕ) (bytes : List ℕ) : Type 0 where
 
 -- The tuple went into a slot of page n, which is the newest one, where it fits, or a new one. No other page changed.
 pub record Settled (m w : Store) (newest : Option ℕ) (n slot : ℕ) (bytes : List ℕ) : Type 0 where
-  pub from : (newest ≡ Some n) ⊎ (m n ≡ None)
+  pub from : ((newest ≡ Some n) × HasRoom (bytes_of (m n)) (length bytes)) ⊎ (m n ≡ None)
   pub fills : (q : ℕ) → newest ≡ Some q → HasRoom (bytes_of (m q)) (length bytes) → q ≡ n
   pub others : (q : ℕ) → same q n ≡ 0 → w q ≡ m q
   pub is_live : live w n ≡ 1

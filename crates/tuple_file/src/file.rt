@@ -140,6 +140,7 @@ impl TupleFile {
 fn unless_freed(newest: Option<u64>, page: u64, freed: bool) -> Option<u64>
     ensures same { IfSome result (λ n. newest ≡ Some n) }
     ensures live { freed ≡ true → IfSome result (λ n. n ≢ page) }
+    ensures kept { IfSome newest (λ n. (freed ≡ true → n ≢ page) → result ≡ Some n) }
 {
     let n = newest?;
     if freed && n == page {
