@@ -1,13 +1,13 @@
 -- Two neighbours that became one, or two other ones, seen in the tree.
-use Rattle.std.proofs.Common.{◌≡◌, ◌≢◌, ℕ, zero, suc, ◌+◌, ◌-◌, ◌<◌, ◌≤◌, ◌⊎◌, List, [], ◌∷◌, ◌++◌, length, drop, map, refl, sym, ◌∙◌, ap, ap₂, subst, inl, inr, arith, append_assoc, append-nil, length-append}
+use Rattle.std.proofs.Common.{◌≡◌, ℕ, zero, suc, ◌+◌, ◌≤◌, List, [], ◌∷◌, ◌++◌, length, drop, map, sym, ◌∙◌, ap, ap₂, subst, inl, inr, arith, append-nil, length-append}
 use Rattle.std.specs.Prelude.{Option, None, Some}
 use Rattle.std.proofs.lemmas.List.{map-append, length-map}
 use Rattle.code_btree.specs.Node.{Pair, Node, leaf, inner, node_of, entries_of, next_of, keys_of, children_of, size_of}
 use Rattle.code_btree.specs.Items.{Each}
-use Rattle.code_btree.specs.Tree.{Store, node_in, node, items, pages, links, all_items, all_pages, all_links, first_key, least, same, times, live, Owns, Path, LeafOk, TopOk, few, Sound, Filled}
+use Rattle.code_btree.specs.Tree.{Store, node_in, node, pages, all_items, first_key, least, same, times, live, Owns, Path, TopOk, few, Sound, Filled}
 use Rattle.code_btree.specs.Steps.{Change, Wrote, Freed, HalvesLeaf, HalvesInner}
-use Rattle.code_btree.specs.Removals.{Shares, Merges, Neighbours, Balances, left_over}
-use Rattle.code_btree.proofs.Lists.{same_cases, same_self, live_small, live_same, live_some, live_none, times-append, Each-append, Each-left, Each-right, Each-map}
+use Rattle.code_btree.specs.Removals.{Shares, Merges, Neighbours, Balances}
+use Rattle.code_btree.proofs.Lists.{same_cases, same_self, live_small, live_same, live_some, live_none, times-append, Each-append, Each-right, Each-map}
 use Rattle.code_btree.proofs.Moves.{Stays, change_none, row_items, all_kids, items_up, Topped, lift, lift-items, kids_stay}
 use Rattle.code_btree.proofs.Seps.{seps_join, first_of_list}
 use Rattle.code_btree.proofs.Counts.{top_sizes}

@@ -1,5 +1,5 @@
 -- Rows of cells: joined, pasted over, and spliced.
-use Rattle.std.proofs.Common.{◌≡◌, ℕ, zero, suc, ◌+◌, ◌-◌, ◌*◌, ◌<◌, ◌≤◌, ◌⊎◌, List, [], ◌∷◌, ◌++◌, length, get_or, take, drop, refl, sym, ◌∙◌, ap, ap₂, inl, inr, arith, append_assoc, append-nil, take_at, drop_at, mul-le-mul_left}
+use Rattle.std.proofs.Common.{◌≡◌, ℕ, zero, suc, ◌+◌, ◌-◌, ◌*◌, ◌<◌, ◌≤◌, ◌⊎◌, List, ◌∷◌, ◌++◌, length, get_or, take, drop, refl, sym, ◌∙◌, ap, ap₂, inl, inr, arith, take_at, drop_at, mul-le-mul_left}
 use Rattle.code_btree.specs.Bytes.{piece, cells, pasted, spliced}
 use Rattle.code_btree.proofs.Pieces.{length-piece, length-pasted, piece_apart, piece_within, piece_piece}
 

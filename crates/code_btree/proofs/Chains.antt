@@ -1,24 +1,23 @@
 -- The chain of leaves: a tree's pairs in the order of its leaves, and where a run goes from a leaf.
-use Rattle.std.proofs.Common.{◌≡◌, ◌≢◌, ℕ, zero, suc, ◌+◌, ◌-◌, ◌<◌, ◌≤◌, ◌⊎◌, Bool, true, false, cond, List, [], ◌∷◌, ◌++◌, length, get_or, take, drop, refl, sym, ◌∙◌, ap, ap₂, subst, inl, inr, arith, append_assoc, append-nil, length-append, take-append-drop}
+use Rattle.std.proofs.Common.{◌≡◌, ℕ, zero, suc, ◌+◌, ◌-◌, ◌<◌, ◌≤◌, true, cond, List, [], ◌∷◌, ◌++◌, length, get_or, take, drop, refl, sym, ◌∙◌, ap, ap₂, subst, inl, inr, arith, append_assoc, append-nil, length-append}
 use Rattle.std.specs.Prelude.{Option, None, Some, MatchOption}
-use Rattle.std.specs.List.{flat_map}
 use Rattle.std.proofs.lemmas.List.{drop_all, drop_more}
 use Rattle.std.proofs.lemmas.List.Concat.{flat_map-append}
 use Rattle.std.proofs.lemmas.Bool.Decides.{leb_tells}
 use Rattle.code_btree.specs.declared.chain.Given.{Given}
 use Rattle.code_btree.specs.declared.map.Tree.{Tree}
 use Rattle.code_btree.specs.declared.steps.Spot.{Spot}
-use Rattle.code_btree.specs.Node.{Pair, Node, leaf, inner, blank, node_of, entries_of, next_of, keys_of, children_of, size_of, IsLeafOf, IsInnerOf, entry_key, entry_value, child_in}
+use Rattle.code_btree.specs.Node.{Pair, Node, leaf, inner, blank, node_of, entries_of, next_of, children_of, size_of, IsLeafOf, entry_key, entry_value, child_in}
 use Rattle.code_btree.specs.Items.{Each, Above, Below, Ascending, items_from}
-use Rattle.code_btree.specs.Tree.{Store, node, items, links, all_items, all_links, Path, Sound, Filled, few, IsTree, tree_items}
+use Rattle.code_btree.specs.Tree.{Store, node, items, links, all_items, all_links, Path, Sound, Filled, IsTree, tree_items}
 use Rattle.code_btree.specs.Steps.{Subtree, LeadsTo, InnerStep}
-use Rattle.code_btree.specs.Run.{chained, IsPlaceIn, BeginsAt, StandsAt, left_at, least_left}
-use Rattle.code_btree.specs.Chain.{Gives, IsGivenIn, RankGives, IsGivenFrom, Seeks, Follows, IsFirstOf}
+use Rattle.code_btree.specs.Run.{chained, BeginsAt, StandsAt, left_at, least_left}
+use Rattle.code_btree.specs.Chain.{Gives, IsGivenIn, IsGivenFrom, Seeks, Follows, IsFirstOf}
 use Rattle.code_btree.proofs.Lists.{Each-append, Each-right, Each-map, Path-split}
-use Rattle.code_btree.proofs.Orders.{items_from-append, from-Below, from-AtLeast, AtLeast, Above-AtLeast, Below-rank, AtLeast-rank, lt_is, lt_not}
+use Rattle.code_btree.proofs.Orders.{items_from-append, from-Below, from-AtLeast, Above-AtLeast, lt_is, lt_not}
 use Rattle.code_btree.proofs.Looks.{entry_is}
-use Rattle.code_btree.proofs.Leaves.{here, ranked, leaf_sound}
-use Rattle.code_btree.proofs.Inserts.{At, at_page}
+use Rattle.code_btree.proofs.Leaves.{here, leaf_sound}
+use Rattle.code_btree.proofs.Inserts.{at_page}
 use Rattle.code_btree.proofs.PageRuns.{rank_from}
 
 chained-append : (m : Store) (xs ys : List (ℕ × ℕ)) → chained m (xs ++ ys) ≡ chained m xs ++ chained m ys

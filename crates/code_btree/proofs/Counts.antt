@@ -1,12 +1,12 @@
 -- How many pairs a tree has at least, and how many more after a pair was put.
-use Rattle.std.proofs.Common.{◌≡◌, ◌≢◌, ℕ, zero, suc, ◌+◌, ◌-◌, ◌*◌, ◌^◌, ◌<◌, ◌≤◌, ◌⊎◌, List, [], ◌∷◌, ◌++◌, length, drop, map, refl, sym, ◌∙◌, ap, subst, inl, inr, arith, length-append, length-drop, mul-le-mul_right}
+use Rattle.std.proofs.Common.{◌≡◌, ℕ, zero, suc, ◌+◌, ◌-◌, ◌*◌, ◌^◌, ◌<◌, ◌≤◌, List, [], ◌∷◌, length, map, refl, ◌∙◌, ap, subst, inl, inr, arith, length-append, length-drop, mul-le-mul_right}
 use Rattle.std.specs.Prelude.{Option, None, Some}
 use Rattle.std.proofs.Math.Nat.{pow-succ'}
 use Rattle.std.proofs.lemmas.List.{length-map}
 use Rattle.std.proofs.lemmas.Bool.Decides.{leb_tells, eqb_tells}
-use Rattle.code_btree.specs.Node.{Pair, Node, leaf, inner, entries_of, keys_of, children_of, size_of}
-use Rattle.code_btree.specs.Items.{Each, Above, Ascending, find_item, items_below, items_above}
-use Rattle.code_btree.specs.Tree.{Store, node, items, all_items, least, LeafOk, TopOk, few, Sound, Filled, IsTreeAt}
+use Rattle.code_btree.specs.Node.{Pair, Node, children_of, size_of}
+use Rattle.code_btree.specs.Items.{Each, Above, Ascending, find_item}
+use Rattle.code_btree.specs.Tree.{Store, node, items, all_items, least, TopOk, Sound, Filled, IsTreeAt}
 use Rattle.code_btree.specs.Steps.{alter, count_after}
 use Rattle.code_btree.proofs.Lists.{Each-map}
 use Rattle.code_btree.proofs.Orders.{below-Above, above-Above, find-Above, lt_is, lt_not, eq_not}

@@ -1,12 +1,12 @@
 -- What the edits of a page make of its node.
-use Rattle.std.proofs.Common.{◌≡◌, ◌≢◌, ℕ, zero, suc, ◌+◌, ◌-◌, ◌*◌, ◌/◌, ◌%◌, ◌^◌, ◌<◌, ◌≤◌, ◌⊎◌, List, [], ◌∷◌, ◌++◌, length, get_or, take, drop, map, replicate, min, refl, sym, ◌∙◌, ap, ap₂, subst, inl, inr, arith, rules, append_assoc, append-nil, length-append, length-take, length-drop, take_all}
+use Rattle.std.proofs.Common.{◌≡◌, ℕ, suc, ◌+◌, ◌-◌, ◌*◌, ◌/◌, ◌%◌, ◌^◌, ◌<◌, ◌≤◌, List, [], ◌∷◌, ◌++◌, length, get_or, take, drop, map, replicate, refl, sym, ◌∙◌, ap, ap₂, inl, inr, arith, length-append, length-take, length-drop, take_all}
 use Rattle.std.proofs.lemmas.List.{length-map, map-append, take-map, drop-map, length-replicate}
 use Rattle.code_btree.specs.Bytes.{piece, cells, pasted, spliced, half_of, half_bytes, word_of, word_bytes, number_of, number_bytes}
-use Rattle.code_btree.specs.Node.{Pair, Node, leaf, inner, blank, entry_of, count_of, node_of, entries_of, next_of, keys_of, children_of, size_of, IsLeafOf, IsInnerOf, entries_in, keys_in, children_in}
+use Rattle.code_btree.specs.Node.{Pair, Node, leaf, inner, entry_of, count_of, node_of, entries_of, next_of, keys_of, children_of, IsLeafOf, IsInnerOf, entries_in, keys_in, children_in}
 use Rattle.code_btree.proofs.Pieces.{length-piece, length-pasted, piece_apart, piece_within, pasted-before, pasted-within}
 use Rattle.code_btree.proofs.Numbers.{half_back, word_back, number_back, length-half_bytes, length-word_bytes, length-number_bytes}
-use Rattle.code_btree.proofs.Cells.{length-cells, cells-add, cells_apart, cells-take, cells-drop, cells_piece, cells_spliced, length-spliced, piece_unspliced, cells_unspliced, get-cells}
-use Rattle.code_btree.proofs.Nodes.{LeafBytes, InnerBytes, leaf_bytes, inner_bytes, leaf_made, inner_made, leaf_spliced}
+use Rattle.code_btree.proofs.Cells.{length-cells, cells_apart, cells-take, cells-drop, cells_piece, cells_spliced, length-spliced, piece_unspliced, cells_unspliced}
+use Rattle.code_btree.proofs.Nodes.{leaf_bytes, inner_bytes, leaf_made, inner_made, leaf_spliced}
 
 pub leaf_is : (r : List ℕ) (es : List Pair) (x n : ℕ) → node_of r ≡ leaf es x → length es ≡ n → n ≤ 127 → IsLeafOf r n
 leaf_is r es x n m l f = record {

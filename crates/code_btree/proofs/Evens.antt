@@ -1,10 +1,10 @@
 -- Two neighbours read and written, in the code's words.
-use Rattle.std.proofs.Common.{◌≡◌, ℕ, suc, ◌+◌, ◌-◌, ◌<◌, ◌≤◌, List, [], ◌∷◌, ◌++◌, length, get_or, refl, sym, ◌∙◌, ap, ap₂, subst, arith, length-append}
-use Rattle.std.specs.Prelude.{Option, None, Some}
+use Rattle.std.proofs.Common.{◌≡◌, ℕ, suc, ◌+◌, ◌≤◌, List, [], ◌∷◌, ◌++◌, length, get_or, refl, sym, ◌∙◌, ap, ap₂, subst, arith, length-append}
+use Rattle.std.specs.Prelude.{None, Some}
 use Rattle.code_btree.specs.Node.{Pair, Node, leaf, inner, node_of, entries_of, next_of, keys_of, children_of, size_of, IsLeafOf, IsInnerOf, entry_key}
-use Rattle.code_btree.specs.Tree.{Store, node_in, node, first_key, least, few}
+use Rattle.code_btree.specs.Tree.{Store, node, first_key, least}
 use Rattle.code_btree.specs.Steps.{Wrote, Freed, HalvesLeaf, HalvesInner}
-use Rattle.code_btree.specs.Removals.{Shares, Merges, Neighbours, Balances}
+use Rattle.code_btree.specs.Removals.{Neighbours, Balances}
 use Rattle.code_btree.proofs.Looks.{entry_is}
 use Rattle.code_btree.proofs.Leaves.{here}
 use Rattle.code_btree.proofs.Balances.{apart, shares_of, merges_of, leaves_shared, leaves_merged, inners_shared, inners_merged}

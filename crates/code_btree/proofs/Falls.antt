@@ -1,16 +1,16 @@
 -- Whole trees after a key was taken: with the root kept, and with its only child as the new root.
 use Rattle.std.proofs.Common.{◌≡◌, ◌≢◌, ℕ, zero, suc, ◌+◌, ◌-◌, ◌*◌, ◌^◌, ◌<◌, ◌≤◌, ◌⊎◌, Bool, true, false, List, [], ◌∷◌, ◌++◌, length, drop, map, refl, sym, ◌∙◌, ap, ap₂, subst, inl, inr, arith, append-nil}
-use Rattle.std.specs.Prelude.{Option, None, Some, MatchOption}
+use Rattle.std.specs.Prelude.{Option, None, Some}
 use Rattle.std.proofs.lemmas.Bool.Decides.{leb_tells, eqb_tells}
 use Rattle.code_btree.specs.declared.map.Tree.{Tree}
 use Rattle.code_btree.specs.declared.remove.Shrunk.{Shrunk}
-use Rattle.code_btree.specs.Node.{Pair, Node, leaf, inner, node_of, entries_of, next_of, keys_of, children_of, size_of, IsInnerOf, child_in}
+use Rattle.code_btree.specs.Node.{Pair, Node, inner, node_of, keys_of, children_of, size_of, IsInnerOf, child_in}
 use Rattle.code_btree.specs.Items.{Each, Above, Ascending, find_item}
 use Rattle.code_btree.specs.Tree.{Store, node_in, node, items, pages, links, all_items, all_pages, all_links, same, times, live, Owns, Path, few, Sound, Filled, IsTreeAt, IsTree, tree_items, tree_pages}
 use Rattle.code_btree.specs.Calls.{Keeps, Removed}
-use Rattle.code_btree.specs.Steps.{Change, Alters, alter, Freed}
+use Rattle.code_btree.specs.Steps.{alter, Freed}
 use Rattle.code_btree.specs.Removals.{RemovesUnder, count_before, FallsTo}
-use Rattle.code_btree.proofs.Lists.{Each-map, same_cases, same_self, live_small, live_same, live_none}
+use Rattle.code_btree.proofs.Lists.{Each-map, same_cases, live_small, live_same, live_none}
 use Rattle.code_btree.proofs.Orders.{Ascending-drop, below-Above, above-Above, find-Above, lt_is, lt_not, eq_not}
 use Rattle.code_btree.proofs.Moves.{Stays, tree_stays, owns_after}
 use Rattle.code_btree.proofs.Looks.{child_is}
@@ -18,7 +18,6 @@ use Rattle.code_btree.proofs.Rises.{one_items}
 use Rattle.code_btree.proofs.Leaves.{here}
 use Rattle.code_btree.proofs.Counts.{many}
 use Rattle.code_btree.proofs.Roots.{keeps_of, one_pages, one_links}
-use Rattle.code_btree.proofs.Balances.{head_times}
 use Rattle.code_btree.proofs.Removes.{few_some}
 
 suc_before : (n : ℕ) (o : Option ℕ) → suc (count_before n o) ≡ count_before (suc n) o

@@ -1,9 +1,8 @@
 -- A key looked up, one level after the other.
-use Rattle.std.proofs.Common.{◌≡◌, ◌≢◌, ℕ, zero, suc, ◌+◌, ◌-◌, ◌<◌, ◌≤◌, List, [], ◌∷◌, ◌++◌, length, get_or, take, drop, refl, sym, ◌∙◌, ap, ap₂, subst, arith}
-use Rattle.std.specs.Prelude.{Option, None, Some, MatchOption}
-use Rattle.std.specs.List.{flat_map}
-use Rattle.code_btree.specs.Node.{Pair, Node, leaf, inner, node_of, entries_of, next_of, keys_of, children_of, size_of, IsLeafOf, IsInnerOf, entry_key, entry_value, key_in, child_in}
-use Rattle.code_btree.specs.Items.{find_item, Ascending}
+use Rattle.std.proofs.Common.{◌≡◌, ℕ, suc, ◌+◌, List, [], ◌∷◌, take, drop, sym, ◌∙◌, ap, subst, arith}
+use Rattle.std.specs.Prelude.{Option, None, Some}
+use Rattle.code_btree.specs.Node.{Pair, Node, leaf, inner, node_of, entries_of, next_of, keys_of, children_of, child_in}
+use Rattle.code_btree.specs.Items.{find_item}
 use Rattle.code_btree.specs.Tree.{Store, node, items, all_items}
 use Rattle.code_btree.specs.Steps.{Subtree, LeadsTo, InnerStep, IsFoundIn, LeafStep}
 use Rattle.code_btree.proofs.Orders.{find_middle, leaf_hit, leaf_miss}

@@ -1,9 +1,9 @@
 -- The pair of the greatest key not above one, looked for one level after the other.
-use Rattle.std.proofs.Common.{◌≡◌, ◌≢◌, ℕ, zero, suc, ◌+◌, ◌-◌, ◌<◌, ◌≤◌, List, [], ◌∷◌, ◌++◌, length, get_or, take, drop, refl, sym, ◌∙◌, ap, ap₂, subst, arith, append-nil, length-append, take-append-drop}
-use Rattle.std.specs.Prelude.{Option, None, Some, MatchOption}
+use Rattle.std.proofs.Common.{◌≡◌, ◌≢◌, ℕ, suc, ◌+◌, ◌-◌, ◌<◌, ◌≤◌, List, [], ◌∷◌, ◌++◌, length, get_or, take, drop, refl, sym, ◌∙◌, ap, ap₂, subst, arith, append-nil, take-append-drop}
+use Rattle.std.specs.Prelude.{Option, None, Some}
 use Rattle.std.proofs.lemmas.List.{drop_more, take_more}
-use Rattle.code_btree.specs.Node.{Pair, Node, leaf, inner, node_of, entries_of, next_of, keys_of, children_of, size_of, IsLeafOf, IsInnerOf, entry_key, entry_value, key_in, child_in}
-use Rattle.code_btree.specs.Items.{Each, Above, Below, Ascending, items_upto, last_item, floor_item}
+use Rattle.code_btree.specs.Node.{Pair, Node, leaf, node_of, entries_of, next_of, children_of, IsLeafOf, entry_key, entry_value, child_in}
+use Rattle.code_btree.specs.Items.{Above, Below, Ascending, items_upto, last_item, floor_item}
 use Rattle.code_btree.specs.Tree.{Store, node, items, all_items, first_key}
 use Rattle.code_btree.specs.Steps.{Subtree, LeadsTo, InnerStep, IsFloorIn}
 use Rattle.code_btree.proofs.Lists.{Each-map}

@@ -1,10 +1,10 @@
 -- A tree depends only on its own pages.
-use Rattle.std.proofs.Common.{◌≡◌, ℕ, zero, suc, ◌+◌, ◌-◌, ◌≤◌, ◌⊎◌, List, [], ◌∷◌, length, refl, sym, ◌∙◌, ap, subst, inl, inr, arith}
+use Rattle.std.proofs.Common.{◌≡◌, ℕ, ◌-◌, ◌≤◌, List, length, sym, ◌∙◌, ap, subst, inl, inr, arith}
 use Rattle.std.proofs.lemmas.Bool.Decides.{leb_tells}
 use Rattle.code_btree.specs.declared.map.Tree.{Tree}
 use Rattle.code_btree.specs.Node.{Pair, Node, size_of}
 use Rattle.code_btree.specs.Items.{Ascending}
-use Rattle.code_btree.specs.Tree.{Store, times, live, Path, IsTreeAt, IsTree, tree_items, tree_pages, links, pages, items, all_pages}
+use Rattle.code_btree.specs.Tree.{Store, times, Path, tree_pages, pages}
 use Rattle.code_btree.specs.Calls.{Unmoved}
 use Rattle.code_btree.proofs.Lists.{live_same}
 use Rattle.code_btree.proofs.Moves.{tree_stays}

@@ -1,12 +1,11 @@
 -- Gets that add up.
-use Rattle.std.proofs.Common.{◌≡◌, ℕ, ◌+◌, ◌-◌, ◌≤◌, min, refl, sym, ◌∙◌, ap, arith}
+use Rattle.std.proofs.Common.{ℕ, ◌+◌, ◌≤◌, refl, arith}
 use Rattle.std.specs.Prelude.{Result, Ok, Err, OnOk}
-use Rattle.sand_base.specs.Faults.{next_count, last_count}
+use Rattle.sand_base.specs.Faults.{next_count}
 use Rattle.page_pool.specs.declared.fault.PageFault.{PageFault}
 use Rattle.page_pool.specs.declared.fault.PageFault.TheVariants.{Memory}
 use Rattle.page_pool.specs.Pool.{PoolState}
-use Rattle.page_pool.specs.Reads.{IsRead, Gets}
-use Rattle.page_pool.specs.Causes.{HasPageCause}
+use Rattle.page_pool.specs.Reads.{Gets}
 use Rattle.page_pool.specs.Steps.{IsRead-refl, IsRead-trans, HasPageCause-before, HasPageCause-passed, HasPageCause-memory, HasPageCause-done}
 use Rattle.code_btree.specs.Calls.{Looks, Peeks}
 

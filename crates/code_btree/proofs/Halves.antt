@@ -1,5 +1,5 @@
 -- Lists with an element put in, cut in two.
-use Rattle.std.proofs.Common.{◌≡◌, ℕ, zero, suc, ◌+◌, ◌-◌, ◌<◌, ◌≤◌, List, [], ◌∷◌, ◌++◌, length, get_or, take, drop, refl, sym, ◌∙◌, ap, ap₂, subst, arith, append_assoc, append-nil, length-append, length-take, length-drop, take_at, drop_at, take-add, drop-drop, take-append-drop}
+use Rattle.std.proofs.Common.{◌≡◌, ℕ, ◌+◌, ◌-◌, ◌≤◌, List, [], ◌∷◌, ◌++◌, length, get_or, take, drop, sym, ◌∙◌, ap, ap₂, subst, arith, append_assoc, append-nil, length-append, length-take, length-drop, take_at, drop_at, take-add, drop-drop, take-append-drop}
 use Rattle.std.proofs.lemmas.List.{take-append-le, drop-append-le, drop_all, drop_more}
 use Rattle.code_btree.specs.Node.{Pair}
 use Rattle.code_btree.specs.Steps.{put_at, HalvesLeaf, HalvesInner}

@@ -1,17 +1,16 @@
 -- A pair put under an inner page, in the code's words.
-use Rattle.std.proofs.Common.{◌≡◌, ◌≢◌, ℕ, zero, suc, ◌+◌, ◌-◌, ◌<◌, ◌≤◌, ◌⊎◌, List, [], ◌∷◌, ◌++◌, length, get_or, take, drop, map, refl, sym, ◌∙◌, ap, ap₂, subst, inl, inr, arith, append_assoc, append-nil, length-append, length-take, length-drop, take-append-drop, take_at, drop_at}
-use Rattle.std.specs.Prelude.{Option, None, Some}
-use Rattle.std.specs.List.{flat_map}
-use Rattle.std.proofs.lemmas.List.{map-append, length-map, drop_more, append_cancel_left}
+use Rattle.std.proofs.Common.{◌≡◌, ℕ, suc, ◌+◌, ◌-◌, ◌<◌, ◌≤◌, List, [], ◌∷◌, ◌++◌, length, get_or, take, drop, map, refl, sym, ◌∙◌, ap, ap₂, subst, inl, inr, arith, length-append, length-take, length-drop, take-append-drop, take_at, drop_at}
+use Rattle.std.specs.Prelude.{Option, Some}
+use Rattle.std.proofs.lemmas.List.{map-append, length-map, drop_more}
 use Rattle.std.proofs.lemmas.Bool.Decides.{leb_tells}
-use Rattle.code_btree.specs.Node.{Pair, Node, leaf, inner, blank, node_of, entries_of, next_of, keys_of, children_of, size_of, IsInnerOf, key_in, child_in}
-use Rattle.code_btree.specs.Items.{Each, Above, Below, Ascending, find_item, items_below}
-use Rattle.code_btree.specs.Tree.{Store, node_in, node, items, pages, links, all_items, all_pages, all_links, first_key, least, same, times, live, Owns, Path, LeafOk, TopOk, few, Sound, Filled}
-use Rattle.code_btree.specs.Steps.{Change, Alters, alter, Subtree, Writes, Cuts, SplitsInner, HalvesInner, InsertsUnder, Adopts, Grows, put_at}
+use Rattle.code_btree.specs.Node.{Pair, Node, inner, node_of, keys_of, children_of, size_of, IsInnerOf, key_in, child_in}
+use Rattle.code_btree.specs.Items.{Each, Above, Ascending}
+use Rattle.code_btree.specs.Tree.{Store, node_in, node, items, all_items, first_key, least, live, few, Sound, Filled}
+use Rattle.code_btree.specs.Steps.{Alters, alter, Subtree, HalvesInner, InsertsUnder, Adopts, put_at}
 use Rattle.code_btree.specs.declared.insert.Grown.{Grown}
 use Rattle.code_btree.specs.declared.insert.Grown.TheVariants.{Kept, Split}
-use Rattle.code_btree.proofs.Lists.{Each-append, Each-left, Each-right, Each-map, Each-zip}
-use Rattle.code_btree.proofs.Orders.{below-Above, below-Below}
+use Rattle.code_btree.proofs.Lists.{Each-append, Each-right, Each-zip}
+use Rattle.code_btree.proofs.Orders.{below-Above}
 use Rattle.code_btree.proofs.Moves.{Stays, row_items, row_least, row_full, all_kids, kids_stay}
 use Rattle.code_btree.proofs.Seps.{seps_insert, seps_same, seps_join, first_of_list}
 use Rattle.code_btree.proofs.Halves.{length-put_at, put_right}

@@ -1,7 +1,7 @@
 -- Two neighbours joined, and one element moved from the fuller to the other.
-use Rattle.std.proofs.Common.{◌≡◌, ℕ, zero, suc, ◌+◌, ◌-◌, ◌<◌, ◌≤◌, List, [], ◌∷◌, ◌++◌, length, get_or, take, drop, refl, sym, ◌∙◌, ap, ap₂, subst, arith, append_assoc, append-nil, length-append, length-take, length-drop, take_all, take-append-drop}
-use Rattle.std.proofs.lemmas.List.{drop_all, drop_more, take_more}
-use Rattle.code_btree.specs.Node.{Pair, Node, leaf, inner, node_of, entries_of, next_of, keys_of, children_of, IsLeafOf, IsInnerOf}
+use Rattle.std.proofs.Common.{◌≡◌, ℕ, zero, suc, ◌+◌, ◌-◌, ◌<◌, ◌≤◌, List, [], ◌∷◌, ◌++◌, length, get_or, take, drop, refl, sym, ◌∙◌, ap, ap₂, arith, append_assoc, append-nil, length-take, length-drop, take_all}
+use Rattle.std.proofs.lemmas.List.{drop_all, take_more}
+use Rattle.code_btree.specs.Node.{Pair}
 use Rattle.code_btree.specs.Steps.{put_at, HalvesLeaf, HalvesInner}
 use Rattle.code_btree.proofs.Halves.{length-put_at}
 

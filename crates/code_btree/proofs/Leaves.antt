@@ -1,13 +1,12 @@
 -- Leaves written, cut and read.
-use Rattle.std.proofs.Common.{◌≡◌, ◌≢◌, ℕ, zero, suc, ◌+◌, ◌-◌, ◌<◌, ◌≤◌, ◌⊎◌, List, [], ◌∷◌, ◌++◌, length, get_or, take, drop, refl, sym, ◌∙◌, ap, ap₂, subst, inl, inr, arith, append_assoc, append-nil, length-append, length-take, length-drop}
+use Rattle.std.proofs.Common.{◌≡◌, ◌≢◌, ℕ, ◌+◌, ◌-◌, ◌<◌, ◌≤◌, List, [], ◌∷◌, ◌++◌, length, get_or, take, drop, refl, sym, ◌∙◌, ap, ap₂, subst, inl, inr, arith, length-append, length-take, length-drop}
 use Rattle.std.specs.Prelude.{Option, None, Some}
-use Rattle.code_btree.specs.Node.{Pair, Node, leaf, inner, blank, node_of, entries_of, next_of, keys_of, children_of, size_of, IsLeafOf, entry_key, entry_value}
-use Rattle.code_btree.specs.Items.{Each, Above, Below, Ascending, find_item}
-use Rattle.code_btree.specs.Tree.{Store, node_in, node, items, pages, links, all_items, all_pages, all_links, first_key, least, same, times, live, Owns, Path, LeafOk, few, Sound, Filled}
-use Rattle.code_btree.specs.Steps.{Change, Alters, alter, Subtree, Wrote, Gained, Freed, Writes, Cuts, SplitsLeaf, SplitsInner, HalvesLeaf, HalvesInner, InsertsUnder, put_at}
-use Rattle.code_btree.specs.declared.insert.Grown.{Grown}
+use Rattle.code_btree.specs.Node.{Pair, Node, leaf, inner, node_of, entries_of, next_of, keys_of, children_of, size_of, IsLeafOf, entry_key, entry_value}
+use Rattle.code_btree.specs.Items.{Ascending, find_item}
+use Rattle.code_btree.specs.Tree.{Store, node_in, node, all_items, first_key, same, live, Path, LeafOk}
+use Rattle.code_btree.specs.Steps.{Alters, alter, Subtree, Wrote, Gained, Writes, Cuts, SplitsLeaf, SplitsInner, HalvesLeaf, HalvesInner, InsertsUnder, put_at}
 use Rattle.code_btree.specs.declared.insert.Grown.TheVariants.{Kept, Split}
-use Rattle.code_btree.proofs.Lists.{same_cases, same_self, live_small, live_same, live_some, live_none, times-append}
+use Rattle.code_btree.proofs.Lists.{same_cases, same_self, live_small, live_same, live_some, live_none}
 use Rattle.code_btree.proofs.Orders.{leaf_hit, leaf_miss}
 use Rattle.code_btree.proofs.Looks.{entry_is}
 use Rattle.code_btree.proofs.Rises.{one_items}

@@ -1,9 +1,8 @@
 -- What the code reads of a page, by its node.
-use Rattle.std.proofs.Common.{◌≡◌, ℕ, zero, suc, ◌+◌, ◌-◌, ◌*◌, ◌<◌, ◌≤◌, List, [], ◌∷◌, ◌++◌, length, get_or, take, drop, map, refl, sym, ◌∙◌, ap, ap₂, arith, take-take, drop-drop}
+use Rattle.std.proofs.Common.{◌≡◌, ℕ, suc, ◌+◌, ◌*◌, ◌<◌, List, [], get_or, take, drop, ◌∙◌, ap, ap₂, arith, take-take, drop-drop}
 use Rattle.std.proofs.lemmas.List.{get_or-map, drop-take}
 use Rattle.code_btree.specs.Bytes.{piece, cells, number_of, word_of}
-use Rattle.code_btree.specs.Node.{Pair, Node, leaf, inner, node_of, entry_of, entries_of, keys_of, children_of, IsLeafOf, IsInnerOf, entry_key, entry_value, key_in, child_in}
-use Rattle.code_btree.proofs.Pieces.{piece_piece}
+use Rattle.code_btree.specs.Node.{Pair, node_of, entry_of, entries_of, keys_of, children_of, IsLeafOf, IsInnerOf, entry_key, entry_value, key_in, child_in}
 use Rattle.code_btree.proofs.Cells.{length-cells, get-cells}
 use Rattle.code_btree.proofs.Nodes.{leaf_bytes, inner_bytes}
 

@@ -1,14 +1,14 @@
 -- Rows of trees that stay or become other rows: the three moves that carry insertion and removal alike.
-use Rattle.std.proofs.Common.{◌≡◌, ◌≢◌, ℕ, zero, suc, ◌+◌, ◌-◌, ◌<◌, ◌≤◌, ◌⊎◌, Bool, true, false, cond, List, [], ◌∷◌, ◌++◌, length, map, drop, refl, sym, ◌∙◌, ap, ap₂, subst, inl, inr, arith, append_assoc, append-nil}
-use Rattle.std.specs.Prelude.{Option, None, Some, is_some}
+use Rattle.std.proofs.Common.{◌≡◌, ℕ, zero, suc, ◌+◌, ◌≤◌, List, [], ◌∷◌, ◌++◌, length, map, drop, refl, sym, ◌∙◌, ap, ap₂, subst, inl, inr, arith}
+use Rattle.std.specs.Prelude.{Option}
 use Rattle.std.specs.List.{flat_map}
 use Rattle.std.proofs.lemmas.List.Concat.{flat_map-append}
 use Rattle.std.proofs.lemmas.Bool.Decides.{leb_tells}
-use Rattle.code_btree.specs.Node.{Pair, Node, leaf, inner, blank, node_of, entries_of, next_of, keys_of, children_of, size_of}
+use Rattle.code_btree.specs.Node.{Pair, Node, inner, entries_of, next_of, keys_of, children_of, size_of}
 use Rattle.code_btree.specs.Items.{Each}
 use Rattle.code_btree.specs.Tree.{Store, node_in, node, items, pages, links, all_items, all_pages, all_links, first_key, least, same, times, live, Owns, Path, LeafOk, TopOk, few, Sound, Filled}
 use Rattle.code_btree.specs.Steps.{Change}
-use Rattle.code_btree.proofs.Lists.{same_cases, same_self, live_small, live_same, times-append, Each-append, Each-left, Each-right, Each-map, Each-zip, Each-flat, Each-join, flat_map-same, map-same, flat_map-flat, times-heads, Path-append, Path-split}
+use Rattle.code_btree.proofs.Lists.{same_self, live_small, live_same, times-append, Each-append, Each-map, Each-zip, Each-flat, flat_map-same, map-same, flat_map-flat, times-heads, Path-append, Path-split}
 
 -- the tree under page n is in w what it is in m
 pub record Stays (m w : Store) (h n : ℕ) : Type 0 where

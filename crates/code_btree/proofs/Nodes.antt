@@ -1,13 +1,12 @@
 -- Pages read as nodes, and what is read of them after a splice.
-use Rattle.std.proofs.Common.{◌≡◌, ◌≢◌, ℕ, zero, suc, ◌+◌, ◌-◌, ◌*◌, ◌^◌, ◌<◌, ◌≤◌, ◌⊎◌, Bool, true, false, cond, eqb, leb, List, [], ◌∷◌, ◌++◌, length, get_or, take, drop, map, refl, sym, ◌∙◌, ap, ap₂, subst, inl, inr, arith, rules, append_assoc, length-append, true≢false, take_all}
-use Rattle.std.specs.Prelude.{◌==◌, ◌&&◌, nat_le, slice_index}
-use Rattle.std.proofs.lemmas.Bool.Decides.{nat_tests, leb_tells, eqb_tells}
-use Rattle.std.proofs.lemmas.List.{length-map, map-append, take-map, drop-map, get_or-map}
+use Rattle.std.proofs.Common.{◌≡◌, ℕ, suc, ◌+◌, ◌-◌, ◌*◌, ◌≤◌, false, eqb, List, ◌++◌, length, get_or, take, drop, map, refl, sym, ◌∙◌, ap, ap₂, inl, inr, arith, take_all}
+use Rattle.std.proofs.lemmas.Bool.Decides.{leb_tells, eqb_tells}
+use Rattle.std.proofs.lemmas.List.{length-map, map-append, take-map, drop-map}
 use Rattle.code_btree.specs.Bytes.{piece, cells, pasted, spliced, half_of, half_bytes, word_of, number_of}
-use Rattle.code_btree.specs.Node.{Pair, Node, leaf, inner, blank, entry_of, count_of, leaf_of, inner_of, node_of, entries_of, next_of, keys_of, children_of, size_of, IsLeafOf, IsInnerOf}
+use Rattle.code_btree.specs.Node.{Pair, Node, leaf, inner, blank, entry_of, count_of, leaf_of, inner_of, node_of, entries_of, next_of, keys_of, children_of, IsLeafOf, IsInnerOf}
 use Rattle.code_btree.proofs.Pieces.{length-piece, length-pasted, piece_apart, piece_within, pasted-before}
 use Rattle.code_btree.proofs.Numbers.{half_back, length-half_bytes}
-use Rattle.code_btree.proofs.Cells.{length-cells, cells-add, cells_apart, cells-take, cells-drop, cells_spliced, length-spliced, piece_unspliced, cells_unspliced, get-cells}
+use Rattle.code_btree.proofs.Cells.{length-cells, cells_apart, cells-take, cells-drop, cells_spliced, length-spliced, piece_unspliced}
 
 -- what the bytes of a leaf of n entries are
 pub record LeafBytes (p : List ℕ) (n : ℕ) : Type 0 where

@@ -1,9 +1,9 @@
 -- Numbers in bytes: what is read of a page, and what is read back of what was written.
-use Rattle.std.proofs.Common.{◌≡◌, ℕ, suc, ◌+◌, ◌-◌, ◌*◌, ◌/◌, ◌%◌, ◌^◌, ◌<◌, ◌≤◌, List, [], ◌∷◌, ◌++◌, length, get_or, take, drop, refl, sym, ◌∙◌, ap, ap₂, arith, length-append, length-drop, length-take, take-take, drop-drop, take_at, drop_at, mod-eq_of_lt}
-use Rattle.std.specs.Int.{w16, w64, from_be_bytes, to_be_bytes, bytes_high_first}
+use Rattle.std.proofs.Common.{◌≡◌, ℕ, suc, ◌+◌, ◌*◌, ◌/◌, ◌%◌, ◌^◌, ◌<◌, ◌≤◌, List, [], ◌∷◌, ◌++◌, length, get_or, take, drop, refl, sym, ◌∙◌, ap, ap₂, arith, length-append, take-take, drop-drop, take_at, drop_at}
+use Rattle.std.specs.Int.{w16, w64, from_be_bytes}
 use Rattle.std.proofs.lemmas.Nat.{from_be_bytes-to_be_bytes_2, from_be_bytes-to_be_bytes_8}
 use Rattle.std.proofs.lemmas.List.{drop_more, drop-take}
-use Rattle.code_btree.specs.Bytes.{piece, half_of, half_bytes, word_of, word_bytes, number_of, number_bytes, pasted}
+use Rattle.code_btree.specs.Bytes.{piece, half_of, half_bytes, word_of, word_bytes, number_of, number_bytes}
 
 step : (w at i : ℕ) (p : List ℕ) → at + i < length p → take (suc w) (drop (at + i) p) ≡ get_or p (at + i) 0 ∷ take w (drop (at + suc i) p)
 step w at i p h =

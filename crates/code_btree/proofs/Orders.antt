@@ -1,10 +1,10 @@
 -- Pairs in order: cut at a key, found, put and dropped.
-use Rattle.std.proofs.Common.{◌≡◌, ◌≢◌, ℕ, zero, suc, ◌+◌, ◌-◌, ◌<◌, ◌≤◌, ◌⊎◌, Bool, true, false, cond, List, [], ◌∷◌, ◌++◌, length, get_or, take, drop, refl, sym, ◌∙◌, ap, ap₂, subst, inl, inr, arith, rules, append_assoc, append-nil, length-append, take-append-drop}
-use Rattle.std.specs.Prelude.{Option, None, Some, ◌==◌, nat_lt}
-use Rattle.std.proofs.lemmas.Bool.Decides.{nat_tests, leb_tells, eqb_tells}
+use Rattle.std.proofs.Common.{◌≡◌, ◌≢◌, ℕ, zero, suc, ◌+◌, ◌-◌, ◌<◌, ◌≤◌, true, false, cond, List, [], ◌∷◌, ◌++◌, length, get_or, take, drop, refl, sym, ◌∙◌, ap, ap₂, subst, inl, inr, arith, append_assoc, append-nil, take-append-drop}
+use Rattle.std.specs.Prelude.{None, Some, ◌==◌, nat_lt}
+use Rattle.std.proofs.lemmas.Bool.Decides.{leb_tells, eqb_tells}
 use Rattle.std.proofs.lemmas.List.{drop_more}
 use Rattle.code_btree.specs.Node.{Pair}
-use Rattle.code_btree.specs.Items.{Each, Above, Below, Ascending, find_item, items_below, items_from, items_above, items_upto, put_item, drop_item, last_item, first_item, floor_item, ceiling_item}
+use Rattle.code_btree.specs.Items.{Each, Above, Below, Ascending, find_item, items_below, items_from, items_above, items_upto}
 use Rattle.code_btree.specs.Tree.{first_key}
 use Rattle.code_btree.specs.Steps.{alter}
 use Rattle.code_btree.proofs.Lists.{Each-append, Each-left, Each-right, Each-map}

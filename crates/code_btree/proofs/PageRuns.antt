@@ -1,5 +1,5 @@
 -- The entries of one leaf page, one after the other.
-use Rattle.std.proofs.Common.{◌≡◌, ℕ, ◌+◌, ◌-◌, ◌*◌, ◌<◌, ◌≤◌, List, [], ◌∷◌, ◌++◌, length, get_or, take, drop, map, refl, sym, ◌∙◌, ap, ap₂, arith, take-append-drop}
+use Rattle.std.proofs.Common.{◌≡◌, ℕ, ◌+◌, ◌-◌, ◌*◌, ◌<◌, ◌≤◌, List, [], ◌∷◌, ◌++◌, get_or, take, drop, sym, ◌∙◌, ap, ap₂, arith, take-append-drop}
 use Rattle.std.proofs.lemmas.List.{drop_more, get_or-map}
 use Rattle.code_btree.specs.Bytes.{piece, cells}
 use Rattle.code_btree.specs.Node.{Pair, node_of, entry_of, entries_of, entries_on, IsLeafOf, entry_key}

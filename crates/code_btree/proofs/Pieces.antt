@@ -1,8 +1,8 @@
 -- What the pieces and the cells of a page are after a paste.
-use Rattle.std.proofs.Common.{◌≡◌, ◌≢◌, ℕ, zero, suc, ◌+◌, ◌-◌, ◌*◌, ◌<◌, ◌≤◌, ◌⊎◌, List, [], ◌∷◌, ◌++◌, length, get_or, take, drop, min, refl, sym, ◌∙◌, ap, inl, inr, arith, rules, length-append, length-drop, length-take, get_or-drop, get_or-take, get_or-append-add, take-add, map, append_assoc}
-use Rattle.std.proofs.lemmas.List.{same_lists, places, get_or_append_left, get_or-append_right, drop-drop, length-map, map-append}
+use Rattle.std.proofs.Common.{◌≡◌, ℕ, suc, ◌+◌, ◌-◌, ◌<◌, ◌≤◌, ◌⊎◌, List, ◌++◌, length, get_or, take, drop, refl, sym, ◌∙◌, ap, inl, inr, arith, length-append, length-drop, length-take, get_or-drop, get_or-take}
+use Rattle.std.proofs.lemmas.List.{same_lists, get_or_append_left, get_or-append_right}
 use Rattle.std.proofs.lemmas.Bool.Decides.{leb_tells}
-use Rattle.code_btree.specs.Bytes.{piece, cells, pasted, spliced}
+use Rattle.code_btree.specs.Bytes.{piece, pasted}
 
 pub length-piece : (w at : ℕ) (p : List ℕ) → at + w ≤ length p → length (piece w at p) ≡ w
 length-piece w at p h = simp (length-take, length-drop) (omega arith)

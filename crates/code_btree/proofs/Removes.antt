@@ -1,21 +1,19 @@
 -- A key taken from under an inner page, in the code's words.
-use Rattle.std.proofs.Common.{◌≡◌, ◌≢◌, ℕ, zero, suc, ◌+◌, ◌-◌, ◌<◌, ◌≤◌, ◌⊎◌, Bool, true, false, List, [], ◌∷◌, ◌++◌, length, get_or, take, drop, map, refl, sym, ◌∙◌, ap, ap₂, subst, inl, inr, arith, append_assoc, append-nil, length-append, length-take, length-drop, take-append-drop, take_all}
+use Rattle.std.proofs.Common.{◌≡◌, ◌≢◌, ℕ, zero, suc, ◌+◌, ◌-◌, ◌<◌, ◌≤◌, Bool, false, List, [], ◌∷◌, ◌++◌, length, get_or, take, drop, map, refl, sym, ◌∙◌, ap, ap₂, subst, arith, append_assoc, length-append, length-take, length-drop, take-append-drop}
 use Rattle.std.specs.Prelude.{Option, None, Some}
-use Rattle.std.proofs.lemmas.List.{map-append, length-map, drop_more, take_more, drop_all}
-use Rattle.std.proofs.lemmas.List.Concat.{flat_map-append}
+use Rattle.std.proofs.lemmas.List.{map-append, length-map}
 use Rattle.code_btree.specs.declared.remove.Shrunk.{Shrunk}
 use Rattle.code_btree.specs.Node.{Pair, Node, leaf, inner, node_of, entries_of, next_of, keys_of, children_of, size_of, IsLeafOf, IsInnerOf, entry_key, entry_value, key_in, child_in}
-use Rattle.code_btree.specs.Items.{Each, Above, Below, Ascending, find_item}
-use Rattle.code_btree.specs.Tree.{Store, node_in, node, items, all_items, all_pages, first_key, least, same, times, live, Owns, few, Sound, Filled}
+use Rattle.code_btree.specs.Items.{Each, find_item}
+use Rattle.code_btree.specs.Tree.{Store, node_in, node, items, all_items, first_key, least, Owns, few, Sound, Filled}
 use Rattle.code_btree.specs.Steps.{Change, Alters, alter, Subtree, Wrote, Writes}
 use Rattle.code_btree.specs.Removals.{Neighbours, Balances, left_over, or_least, RemovesUnder, noted_keys, mended_keys, mended_children, Mends}
-use Rattle.code_btree.proofs.Lists.{Each-append, Each-left, Each-right, Each-map, times-append}
+use Rattle.code_btree.proofs.Lists.{Each-append, Each-left, Each-right}
 use Rattle.code_btree.proofs.Orders.{alter_middle, leaf_hit, leaf_miss}
 use Rattle.code_btree.proofs.Moves.{Stays, row_least, row_full, left_stays, right_stays, widen, widen-items, items-three, pages-three, change_none, change_next, owns_after}
 use Rattle.code_btree.proofs.Seps.{seps_same, seps_set, seps_merge, sep_behind}
 use Rattle.code_btree.proofs.Looks.{entry_is, key_is, child_is}
-use Rattle.code_btree.proofs.Counts.{top_sizes}
-use Rattle.code_btree.proofs.Rises.{Descent, rowed, row_left, row_right, fulls, filled_some, first_key-append, one_items, one_kids, top_stays, up_quiet, up_written}
+use Rattle.code_btree.proofs.Rises.{Descent, rowed, row_left, row_right, fulls, filled_some, first_key-append, one_items, top_stays, up_quiet, up_written}
 use Rattle.code_btree.proofs.Leaves.{here, ranked, missed, leaf_sound, writes_of, leaf_written}
 use Rattle.code_btree.proofs.Inserts.{At}
 use Rattle.code_btree.proofs.Joins.{last_apart}

@@ -1,17 +1,16 @@
 -- One level down to the child under which a key belongs, and up again with what became of it.
-use Rattle.std.proofs.Common.{◌≡◌, ◌≢◌, ℕ, zero, suc, ◌+◌, ◌-◌, ◌<◌, ◌≤◌, ◌⊎◌, List, [], ◌∷◌, ◌++◌, length, get_or, take, drop, map, refl, sym, ◌∙◌, ap, ap₂, subst, inl, inr, arith, append_assoc, append-nil, length-append}
-use Rattle.std.specs.Prelude.{Option, None, Some}
-use Rattle.std.specs.List.{flat_map}
+use Rattle.std.proofs.Common.{◌≡◌, ℕ, zero, suc, ◌+◌, ◌-◌, ◌<◌, ◌≤◌, List, [], ◌∷◌, ◌++◌, length, get_or, drop, map, refl, sym, ◌∙◌, ap, ap₂, subst, inl, inr, arith, append-nil, length-append}
+use Rattle.std.specs.Prelude.{Option}
 use Rattle.std.proofs.lemmas.List.{map-append, length-map}
 use Rattle.std.proofs.lemmas.List.Concat.{flat_map-append}
-use Rattle.code_btree.specs.Node.{Pair, Node, leaf, inner, blank, node_of, entries_of, next_of, keys_of, children_of, size_of}
+use Rattle.code_btree.specs.Node.{Pair, Node, inner, keys_of, children_of, size_of}
 use Rattle.code_btree.specs.Items.{Each, Above, Below, Ascending, find_item}
-use Rattle.code_btree.specs.Tree.{Store, node_in, node, items, pages, links, all_items, all_pages, all_links, first_key, least, same, times, live, Owns, Path, LeafOk, TopOk, few, Sound, Filled}
-use Rattle.code_btree.specs.Steps.{Change, Alters, alter, Subtree, Writes, Cuts, SplitsInner, HalvesInner}
-use Rattle.code_btree.proofs.Lists.{same_cases, same_self, live_small, live_same, times-append, Each-append, Each-left, Each-right, Each-map}
+use Rattle.code_btree.specs.Tree.{Store, node_in, node, items, all_items, all_pages, first_key, least, same, times, live, Owns, TopOk, few, Sound, Filled}
+use Rattle.code_btree.specs.Steps.{Change, Alters, alter, Subtree, Writes, Cuts}
+use Rattle.code_btree.proofs.Lists.{same_cases, same_self, live_small, live_same, Each-left, Each-right, Each-map}
 use Rattle.code_btree.proofs.Orders.{alter_middle, find_middle, Ascending-left, Ascending-right, Below-from, Above-from}
-use Rattle.code_btree.proofs.Moves.{Stays, row_least, row_full, left_stays, right_stays, widen, widen-items, items-three, pages-append, pages-three, all_kids, pages_up, items_up, Topped, lift, lift-items}
-use Rattle.code_btree.proofs.Seps.{sep_before, sep_behind, seps_same}
+use Rattle.code_btree.proofs.Moves.{Stays, left_stays, right_stays, widen, widen-items, items-three, pages-three, all_kids, pages_up, items_up, Topped, lift, lift-items}
+use Rattle.code_btree.proofs.Seps.{sep_before, sep_behind}
 
 row_some : (m : Store) (h : ℕ) (some : (c : ℕ) → Filled m h c → 1 ≤ length (items m h c)) (cs : List ℕ) → 1 ≤ length cs → Each (λ c. Filled m h c) cs → 1 ≤ length (all_items m h cs)
 row_some m h some [] l e = absurd (omega arith)

@@ -1,17 +1,17 @@
 -- Whole trees: planted, with the root kept, and with a new root above two pages.
-use Rattle.std.proofs.Common.{◌≡◌, ◌≢◌, ℕ, zero, suc, ◌+◌, ◌-◌, ◌*◌, ◌^◌, ◌<◌, ◌≤◌, ◌⊎◌, List, [], ◌∷◌, ◌++◌, length, drop, map, refl, sym, ◌∙◌, ap, ap₂, subst, inl, inr, arith, append-nil}
-use Rattle.std.specs.Prelude.{Option, None, Some}
+use Rattle.std.proofs.Common.{◌≡◌, ℕ, suc, ◌+◌, ◌-◌, ◌*◌, ◌^◌, List, [], ◌∷◌, length, drop, map, refl, sym, ◌∙◌, ap, ap₂, subst, inl, inr, arith, append-nil}
+use Rattle.std.specs.Prelude.{Option}
 use Rattle.code_btree.specs.declared.map.Tree.{Tree}
 use Rattle.code_btree.specs.declared.insert.Grown.TheVariants.{Kept, Split}
-use Rattle.code_btree.specs.Node.{Pair, Node, leaf, inner, node_of, entries_of, next_of, keys_of, children_of, size_of}
+use Rattle.code_btree.specs.Node.{Pair, Node, leaf, inner, node_of, entries_of, next_of, children_of, size_of}
 use Rattle.code_btree.specs.Items.{Each, Ascending, find_item}
-use Rattle.code_btree.specs.Tree.{Store, node_in, node, items, pages, links, all_items, all_pages, all_links, least, same, times, live, Owns, Path, few, Sound, Filled, IsTreeAt, IsTree, tree_items, tree_pages}
+use Rattle.code_btree.specs.Tree.{Store, node_in, node, items, pages, links, all_items, all_pages, all_links, least, same, times, live, Owns, Path, Filled, IsTreeAt, IsTree}
 use Rattle.code_btree.specs.Calls.{Keeps, Planted, Inserted}
-use Rattle.code_btree.specs.Steps.{Change, Alters, alter, Subtree, Gained, InsertsUnder, count_after}
-use Rattle.code_btree.proofs.Lists.{same_cases, same_self, live_small, live_same, live_some, live_none, none_live, times-append, Each-zip}
+use Rattle.code_btree.specs.Steps.{alter, Subtree, Gained, InsertsUnder, count_after}
+use Rattle.code_btree.proofs.Lists.{same_cases, live_small, live_same, live_some, live_none, none_live}
 use Rattle.code_btree.proofs.Orders.{Ascending-put}
 use Rattle.code_btree.proofs.Moves.{Stays, row_stays, row_items, row_pages, row_links, row_least, row_filled, owns_after}
-use Rattle.code_btree.proofs.Rises.{one_items, one_kids, top_made}
+use Rattle.code_btree.proofs.Rises.{one_items, top_made}
 use Rattle.code_btree.proofs.Leaves.{leaf_ok}
 use Rattle.code_btree.proofs.Seps.{first_of_list}
 use Rattle.code_btree.proofs.Counts.{length_put, many}

@@ -1,16 +1,17 @@
 -- A step of a run, as its contract says it.
-use Rattle.std.proofs.Common.{◌≡◌, ℕ, ◌+◌, ◌-◌, ◌^◌, ◌<◌, ◌≤◌, Bool, true, false, cond, List, ◌∷◌, refl, sym, ◌∙◌, ap, subst, true≢false, arith}
+use Rattle.std.proofs.Common.{◌≡◌, ℕ, ◌+◌, ◌<◌, ◌≤◌, Bool, true, false, cond, ◌∷◌, sym, ◌∙◌, ap, subst, arith}
 use Rattle.std.specs.Prelude.{Option, None, Some, Result, Ok, Err}
 use Rattle.sand_base.specs.Faults.{next_count}
 use Rattle.page_pool.specs.declared.fault.PageFault.{PageFault}
-use Rattle.page_pool.specs.Pool.{PoolState, IsTold}
+use Rattle.page_pool.specs.Pool.{PoolState}
 use Rattle.page_pool.specs.Causes.{HasPageCause}
 use Rattle.page_pool.specs.Steps.{HasPageCause-done}
 use Rattle.code_btree.specs.declared.steps.Spot.{Spot}
 use Rattle.code_btree.specs.Node.{Pair}
 use Rattle.code_btree.specs.Tree.{Store, pages_in}
 use Rattle.code_btree.specs.Calls.{Peeks}
-use Rattle.code_btree.specs.Run.{RunView, run_left, left_at, least_left, StandsAt, IsGiven, IsStep, RunsOn, Stepped, Rested, step_gets, keys_left}
+use Rattle.code_btree.specs.Run.{left_at, least_left, StandsAt, RunsOn, step_gets, keys_left}
+use Rattle.code_btree.specs.Chain.{IsGiven, IsStep}
 use Rattle.code_btree.proofs.Stores.{same_store}
 
 least_begun : (s : Spot) (k : ℕ) → s.begun ≡ true → s.from ≡ k → least_left s ≡ k + 1

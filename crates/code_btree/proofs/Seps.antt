@@ -1,6 +1,5 @@
 -- Separators: the least keys of a row of trees but the first.
-use Rattle.std.proofs.Common.{◌≡◌, ℕ, zero, suc, ◌+◌, ◌-◌, ◌<◌, ◌≤◌, List, [], ◌∷◌, ◌++◌, length, get_or, take, drop, map, refl, sym, ◌∙◌, ap, ap₂, arith, append_assoc, append-nil, length-append, take_at, drop_at, take-append-drop, drop-drop}
-use Rattle.std.proofs.lemmas.List.{map-append, take-map, drop-map}
+use Rattle.std.proofs.Common.{◌≡◌, ℕ, zero, suc, ◌+◌, ◌-◌, ◌<◌, ◌≤◌, List, [], ◌∷◌, ◌++◌, length, get_or, take, drop, refl, sym, ◌∙◌, ap, ap₂, arith, append_assoc, length-append, take_at, drop_at, drop-drop}
 
 -- a key put in front of child `length fs + 1`
 pub seps_insert : (fs gs : List ℕ) (a b k : ℕ) → (1 ≤ length fs → b ≡ a)

@@ -1,16 +1,15 @@
 -- What the pool's calls do to the store of live pages.
-use Rattle.std.proofs.Common.{◌≡◌, ℕ, zero, suc, ◌+◌, ◌≤◌, ◌⊎◌, Bool, true, false, cond, eqb, List, refl, sym, ◌∙◌, ap, inl, inr, arith}
-use Rattle.std.specs.Prelude.{Option, None, Some, is_some}
+use Rattle.std.proofs.Common.{◌≡◌, ℕ, Bool, true, false, cond, eqb, List, refl, ◌∙◌, ap, inl, inr, arith}
+use Rattle.std.specs.Prelude.{None, Some}
 use Rattle.std.specs.FinMap as fin
 use Rattle.std.specs.Ordering.{nat_cmp, is_eq}
 use Rattle.std.specs.Cmp.{nat_cmp_total}
 use Rattle.std.proofs.lemmas.Bool.Decides.{nat_tests, eqb_tells}
 use Rattle.page_pool.specs.Disk.{PageMap}
 use Rattle.page_pool.specs.Pool.{PoolState, zero_page}
-use Rattle.page_pool.specs.Commands.{Puts, Allocates, Frees, Changes}
-use Rattle.code_btree.specs.Tree.{Store, pages_in, same, live}
+use Rattle.page_pool.specs.Commands.{Puts, Allocates, Frees}
+use Rattle.code_btree.specs.Tree.{Store, pages_in, same}
 use Rattle.code_btree.specs.Steps.{Wrote, Gained, Freed}
-use Rattle.code_btree.proofs.Lists.{live_none}
 
 tie : (q n : ℕ) → is_eq (nat_cmp q n) ≡ eqb q n
 tie q n = grind (arith, nat_tests)

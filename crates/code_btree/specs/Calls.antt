@@ -1,12 +1,11 @@
 -- What the calls of a tree do.
-use Rattle.std.specs.Prelude.{◌≡◌, ℕ, ◌+◌, ◌≤◌, List, [], Option, None, Result, OnOk, IsTrue, min}
+use Rattle.std.specs.Prelude.{◌≡◌, ℕ, ◌+◌, ◌≤◌, List, [], Option, None, Result, OnOk, min}
 use Rattle.sand_base.specs.Faults.{next_count, last_count}
 use Rattle.page_pool.specs.declared.fault.PageFault.{PageFault}
 use Rattle.page_pool.specs.Pool.{PoolState}
 use Rattle.page_pool.specs.Reads.{IsRead}
 use Rattle.page_pool.specs.Causes.{HasPageCause}
 use Rattle.code_btree.specs.declared.map.Tree.{Tree}
-use Rattle.code_btree.specs.Node.{Pair}
 use Rattle.code_btree.specs.Items.{put_item, drop_item, find_item}
 use Rattle.code_btree.specs.Tree.{Store, IsTree, tree_items, tree_pages, times, live}
 

@@ -1,11 +1,13 @@
 -- Leaves read one after the other: what one gives at a place, and where the next pair stands.
-use Rattle.std.specs.Prelude.{◌≡◌, ℕ, ◌+◌, ◌-◌, ◌≤◌, ◌<◌, ◌⊎◌, List, [], ◌∷◌, ◌++◌, length, drop, Option, None, Some, MatchOption}
+use Rattle.std.specs.Prelude.{◌≡◌, ℕ, ◌+◌, ◌-◌, ◌≤◌, ◌<◌, ◌⊎◌, ◌^◌, List, [], ◌∷◌, ◌++◌, length, drop, true, Option, Some, MatchOption}
+use Rattle.page_pool.specs.Pool.{PoolState, IsTold}
 use Rattle.code_btree.specs.declared.chain.Given.{Given}
 use Rattle.code_btree.specs.declared.map.Tree.{Tree}
-use Rattle.code_btree.specs.Node.{Pair, Node, leaf, node_of, entries_of, next_of, IsLeafOf, entry_key}
+use Rattle.code_btree.specs.declared.steps.Spot.{Spot}
+use Rattle.code_btree.specs.Node.{Pair, leaf, node_of, entries_of, next_of, IsLeafOf, entry_key}
 use Rattle.code_btree.specs.Items.{items_from}
-use Rattle.code_btree.specs.Tree.{Store, items, links, node}
-use Rattle.code_btree.specs.Run.{chained, BeginsAt}
+use Rattle.code_btree.specs.Tree.{Store, items, links, node, pages_in}
+use Rattle.code_btree.specs.Run.{chained, BeginsAt, StandsAt, least_left, left_at}
 
 -- An entry of a leaf, where one stands at this place; and where the next pair stands, behind it or at the start of the next leaf.
 pub record Gives (es : List Pair) (next n at : ℕ) (g : Given) : Type 0 where
@@ -54,3 +56,16 @@ pub record Follows (m : Store) (t : Tree) (es : List Pair) (e : Pair) (leaf plac
 -- the first of these pairs was given, or there are none
 abbrev pub IsFirstOf : Store → Tree → List Pair → Given → Type 0
 IsFirstOf m t es g = MatchOption g.pair (es ≡ []) (λ e. Follows m t es e g.leaf g.place)
+
+-- A step from a spot gave a pair and the spot behind it, or found none. Over any disk keys rise.
+pub record IsGiven (old : PoolState) (s : Spot) (g : Pair × Spot) : Type 0 where
+  pub told : IsTold old → (left_at (pages_in old) s ≡ g.0 ∷ left_at (pages_in old) g.1) × StandsAt (pages_in old) g.1
+  pub least : least_left s ≤ g.0.0
+  pub small : g.0.0 < 2 ^ 128
+  pub tree : g.1.tree ≡ s.tree
+  pub begun : g.1.begun ≡ true
+  pub from : g.1.from ≡ g.0.0
+
+-- the same, or there is none where the disk tells
+abbrev pub IsStep : PoolState → Spot → Option (Pair × Spot) → Type 0
+IsStep old s r = MatchOption r (IsTold old → left_at (pages_in old) s ≡ []) (λ g. IsGiven old s g)

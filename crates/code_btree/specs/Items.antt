@@ -1,5 +1,5 @@
 -- A finite map from numbers to numbers, as its pairs in ascending order of their keys.
-use Rattle.std.specs.Prelude.{◌≡◌, ℕ, ◌<◌, ◌==◌, nat_lt, nat_le, List, [], ◌∷◌, ◌++◌, cond, Option, None, Some}
+use Rattle.std.specs.Prelude.{ℕ, ◌<◌, ◌==◌, nat_lt, List, [], ◌∷◌, ◌++◌, cond, Option, None, Some}
 use Rattle.code_btree.specs.Node.{Pair}
 
 -- a fact holds of each element

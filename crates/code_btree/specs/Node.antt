@@ -1,5 +1,5 @@
 -- The two pages of a B+-tree (R. Bayer and E. McCreight, 1972; D. Comer, 1979) as contracts see them: a leaf with its entries, an inner page with its keys and children.
-use Rattle.std.specs.Prelude.{◌≡◌, ℕ, zero, suc, ◌+◌, ◌*◌, ◌/◌, ◌≤◌, ◌==◌, ◌&&◌, nat_le, List, [], ◌∷◌, map, length, take, drop, cond, slice_index, Option, None, Some}
+use Rattle.std.specs.Prelude.{◌≡◌, ℕ, suc, ◌+◌, ◌*◌, ◌/◌, ◌≤◌, ◌==◌, ◌&&◌, nat_le, List, [], map, length, take, drop, cond, slice_index}
 use Rattle.code_btree.specs.Bytes.{piece, cells, half_of, word_of, number_of}
 
 -- a key with its value

@@ -1,7 +1,7 @@
 -- Steps inside a removal: neighbours that are balanced, and what becomes of the tree under one page.
-use Rattle.std.specs.Prelude.{◌≡◌, ℕ, zero, suc, ◌+◌, ◌-◌, ◌≤◌, ◌<◌, List, [], ◌∷◌, ◌++◌, take, drop, length, get_or, Bool, true, false, Option, None, Some, IfSome}
+use Rattle.std.specs.Prelude.{◌≡◌, ℕ, zero, suc, ◌+◌, ◌≤◌, ◌<◌, List, [], ◌∷◌, ◌++◌, take, drop, length, get_or, Bool, true, false, Option, None, Some, IfSome}
 use Rattle.code_btree.specs.declared.remove.Shrunk.{Shrunk}
-use Rattle.code_btree.specs.Node.{Pair, Node, inner, size_of}
+use Rattle.code_btree.specs.Node.{Node, inner, size_of}
 use Rattle.code_btree.specs.Items.{Each}
 use Rattle.code_btree.specs.Tree.{Store, items, all_items, least, same, live, Owns, few, Sound}
 use Rattle.code_btree.specs.Steps.{Change, Alters, Writes}

@@ -1,5 +1,5 @@
 -- A run over a tree's pairs from a key on: what it has still to give, and what a step does.
-use Rattle.std.specs.Prelude.{◌≡◌, ℕ, ◌+◌, ◌-◌, ◌≤◌, ◌<◌, ◌^◌, OnOk, List, [], ◌∷◌, ◌++◌, Bool, true, false, cond, length, drop, Option, None, Result, Ok, Err, IfSome, MatchOption}
+use Rattle.std.specs.Prelude.{◌≡◌, ℕ, ◌+◌, ◌-◌, ◌≤◌, ◌<◌, ◌^◌, OnOk, List, [], ◌∷◌, ◌++◌, Bool, true, false, cond, length, drop, Option, None, Result, Ok, IfSome}
 use Rattle.std.specs.List.{flat_map}
 use Rattle.sand_base.specs.Faults.{next_count}
 use Rattle.page_pool.specs.declared.fault.PageFault.{PageFault}
@@ -92,18 +92,6 @@ pub record Stepped (a : RunView) (r : Option Pair) (b : RunView) : Type 0 where
 pub record RunsOn (a : RunView) (r : Option Pair) (b : RunView) : Type 0 where
   pub steps : a.outcome ≡ Ok false → Stepped a r b
   pub rests : (a.outcome ≡ Ok false → ⊥) → Rested a r b
-
--- A step from a spot gave a pair and the spot behind it, or found none. Over any disk keys rise.
-pub record IsGiven (old : PoolState) (s : Spot) (g : Pair × Spot) : Type 0 where
-  pub told : IsTold old → (left_at (pages_in old) s ≡ g.0 ∷ left_at (pages_in old) g.1) × StandsAt (pages_in old) g.1
-  pub least : least_left s ≤ g.0.0
-  pub small : g.0.0 < 2 ^ 128
-  pub tree : g.1.tree ≡ s.tree
-  pub begun : g.1.begun ≡ true
-  pub from : g.1.from ≡ g.0.0
-
-abbrev pub IsStep : PoolState → Spot → Option (Pair × Spot) → Type 0
-IsStep old s r = MatchOption r (IsTold old → left_at (pages_in old) s ≡ []) (λ g. IsGiven old s g)
 
 -- no more pairs come than keys are left
 abbrev pub keys_left : Spot → ℕ

@@ -1,5 +1,5 @@
 -- Steps inside a writing call: single pages written, gained and freed, and what becomes of the tree under one page.
-use Rattle.std.specs.Prelude.{◌≡◌, ℕ, zero, suc, ◌+◌, ◌-◌, ◌≤◌, ◌<◌, List, [], ◌∷◌, ◌++◌, take, drop, length, Option, None, Some, MatchOption, ◌≢◌}
+use Rattle.std.specs.Prelude.{◌≡◌, ℕ, ◌+◌, ◌-◌, ◌≤◌, ◌<◌, List, [], ◌∷◌, ◌++◌, take, drop, length, Option, None, Some, MatchOption, ◌≢◌}
 use Rattle.code_btree.specs.declared.insert.Grown.{Grown}
 use Rattle.code_btree.specs.declared.insert.Grown.TheVariants.{Kept, Split}
 use Rattle.code_btree.specs.Node.{Pair, Node, leaf, inner, node_of, entries_of, next_of, keys_of, children_of, size_of, IsLeafOf, IsInnerOf, entry_key, entry_value, key_in, child_in}

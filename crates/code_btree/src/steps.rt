@@ -3,8 +3,8 @@ ghost use Rattle.std.specs.Iterator.{at_most};
 ghost use Rattle.sand_base.specs.Faults.{next_count};
 ghost use Rattle.page_pool.specs.Pool.{IsTold};
 ghost use Rattle.code_btree.specs.Tree.{IsTree, pages_in};
-ghost use Rattle.code_btree.specs.Run.{CanRun, IsStep, RunsOn, StandsAt, first_spot, keys_left, least_left, left_at, run_view, step_gets};
-ghost use Rattle.code_btree.specs.Chain.{IsFirstOf};
+ghost use Rattle.code_btree.specs.Run.{CanRun, RunsOn, StandsAt, first_spot, keys_left, least_left, left_at, run_view, step_gets};
+ghost use Rattle.code_btree.specs.Chain.{IsFirstOf, IsStep};
 ghost use Rattle.code_btree.specs.Calls.{Peeks};
 
 use crate::Tree;

@@ -53,14 +53,14 @@ impl<'t> Cursor<'t> {
         Ok(Place { k, column })
     }
 
-    /// Reads a coordinate.
+    // Reads a coordinate.
     fn coordinate(&mut self) -> Result<u32, Stuck>
         ensures { Gives (reading coordinate_form) self.old self.new result }
     {
         self.natural(0, (1 << COORDINATE_BITS) - 1)
     }
 
-    /// Reads `(x y)`.
+    // Reads `(x y)`.
     fn spot(&mut self) -> Result<Point, Stuck>
         ensures gives { Gives (reading spot_form) self.old self.new result }
         ensures falls { IfOk result (λ _. length self.new.left < length self.old.left) }
@@ -72,7 +72,7 @@ impl<'t> Cursor<'t> {
         Ok(Point { x, y })
     }
 
-    /// Reads what may follow a spot: a minus and another one.
+    // Reads what may follow a spot: a minus and another one.
     fn way(&mut self) -> Result<Option<Point>, Stuck>
         ensures { Gives (reading way_form) self.old self.new result }
     {
@@ -84,7 +84,7 @@ impl<'t> Cursor<'t> {
         Ok(Some(b))
     }
 
-    /// Reads the spots of a polygon.
+    // Reads the spots of a polygon.
     #[tactic(auto, using(crate::proofs::ListReading::spots_end, crate::proofs::ListReading::spots_step, crate::proofs::ListReading::spots_stuck))]
     fn spots(&mut self, alloc: Global) -> Result<Vec<Point>, Stuck>
         ensures { GivesAs (λ list. list.items) (reading spots_form) self.old self.new result }
@@ -97,7 +97,7 @@ impl<'t> Cursor<'t> {
         Ok(items)
     }
 
-    /// Reads a point or a segment, after its first bracket.
+    // Reads a point or a segment, after its first bracket.
     fn point_or_segment(&mut self) -> Result<Shape, Stuck>
         ensures { Gives (reading point_or_segment_form) self.old self.new result }
     {
@@ -113,7 +113,7 @@ impl<'t> Cursor<'t> {
         }
     }
 
-    /// Reads a polygon, after its first bracket.
+    // Reads a polygon, after its first bracket.
     fn polygon(&mut self, alloc: Global) -> Result<Shape, Stuck>
         ensures { Gives (reading polygon_form) self.old self.new result }
     {
@@ -157,7 +157,7 @@ impl<'t> Cursor<'t> {
         Ok(Value::Text(text))
     }
 
-    /// Reads a value.
+    // Reads a value.
     fn value(&mut self, alloc: Global) -> Result<Value, Stuck>
         ensures { Gives (reading value_form) self.old self.new result }
     {
@@ -173,7 +173,7 @@ impl<'t> Cursor<'t> {
         Ok(Value::Shape(shape))
     }
 
-    /// Reads a comma and a value.
+    // Reads a comma and a value.
     fn next_value(&mut self, alloc: Global) -> Result<Value, Stuck>
         ensures gives { Gives (reading (after_sign Comma value_form)) self.old self.new result }
         ensures falls { IfOk result (λ _. length self.new.left < length self.old.left) }
@@ -195,7 +195,7 @@ impl<'t> Cursor<'t> {
         Ok(items)
     }
 
-    /// Reads the word of a kind that shapes have.
+    // Reads the word of a kind that shapes have.
     fn spatial_kind(&mut self) -> Result<Kind, Stuck>
         ensures { Gives (reading spatial_form) self.old self.new result }
     {
@@ -211,7 +211,7 @@ impl<'t> Cursor<'t> {
         Ok(Kind::Polygon)
     }
 
-    /// Reads the word of a kind.
+    // Reads the word of a kind.
     fn kind(&mut self) -> Result<Kind, Stuck>
         ensures { Gives (reading kind_form) self.old self.new result }
     {
@@ -226,7 +226,7 @@ impl<'t> Cursor<'t> {
         self.spatial_kind()
     }
 
-    /// Reads a column's name and its kind.
+    // Reads a column's name and its kind.
     fn field(&mut self, alloc: Global) -> Result<(Label, Kind), Stuck>
         ensures { Gives (reading field_form) self.old self.new result }
     {
@@ -235,7 +235,7 @@ impl<'t> Cursor<'t> {
         Ok((name, kind))
     }
 
-    /// Reads a comma, a column's name and its kind.
+    // Reads a comma, a column's name and its kind.
     fn next_field(&mut self, alloc: Global) -> Result<(Label, Kind), Stuck>
         ensures gives { Gives (reading (after_sign Comma field_form)) self.old self.new result }
         ensures falls { IfOk result (λ _. length self.new.left < length self.old.left) }
@@ -257,7 +257,7 @@ impl<'t> Cursor<'t> {
         Ok(items)
     }
 
-    /// Reads how a test compares.
+    // Reads how a test compares.
     fn op(&mut self) -> Result<Op, Stuck>
         ensures { Gives (reading op_form) self.old self.new result }
     {
@@ -285,7 +285,7 @@ impl<'t> Cursor<'t> {
         Ok(Op::AtLeast)
     }
 
-    /// Reads a test.
+    // Reads a test.
     fn test(&mut self, alloc: Global) -> Result<Test, Stuck>
         ensures { Gives (reading test_form) self.old self.new result }
     {
@@ -295,7 +295,7 @@ impl<'t> Cursor<'t> {
         Ok(Test { place, op, value })
     }
 
-    /// Reads `and` and a test.
+    // Reads `and` and a test.
     fn next_test(&mut self, alloc: Global) -> Result<Test, Stuck>
         ensures gives { Gives (reading (after_word (codes "and") test_form)) self.old self.new result }
         ensures falls { IfOk result (λ _. length self.new.left < length self.old.left) }
@@ -317,7 +317,7 @@ impl<'t> Cursor<'t> {
         Ok(items)
     }
 
-    /// Reads a comma and a place.
+    // Reads a comma and a place.
     fn next_place(&mut self, alloc: Global) -> Result<Place, Stuck>
         ensures gives { Gives (reading (after_sign Comma place_form)) self.old self.new result }
         ensures falls { IfOk result (λ _. length self.new.left < length self.old.left) }
@@ -351,7 +351,7 @@ impl<'t> Cursor<'t> {
         Ok(Some(distance))
     }
 
-    /// Reads a corner of a window.
+    // Reads a corner of a window.
     fn corner(&mut self) -> Result<Point, Stuck>
         ensures { Gives (reading corner_form) self.old self.new result }
     {

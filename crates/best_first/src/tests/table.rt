@@ -1,5 +1,5 @@
 // A tree of bounds in a table, as a hierarchy whose calls can be refused.
-ghost use Rattle.std.specs.Prelude.{◌≡◌, [], ◌∷◌, Some, None, if◌then◌else◌, IfErr, sum_by};
+ghost use Rattle.std.specs.Prelude.{◌≡◌, [], Some, None, if◌then◌else◌, IfErr, sum_by};
 ghost use Rattle.std.proofs.lemmas.Map.Lookups.{exact_unsigned};
 ghost use Rattle.sand_base.specs.declared.visit.Visit.TheVariants as visit;
 ghost use Rattle.page_pool.specs.declared.fault.PageFault.TheVariants.{Memory};
@@ -140,6 +140,7 @@ impl Hierarchy for Table {
 
     // (no contract asks what pages mean that aren't told, and over pages that are the table meets no law)
     ghost meaning = { λ t pages. record {
+      IsReadable = Unit {0};
       root = 40;
       gap = λ node. t.root_gap;
       finds = λ node. [];

@@ -1,8 +1,7 @@
 // A desk over a disk that doesn't tell its pages, so that no contract of a search asks what the pages mean.
 ghost use Rattle.std.specs.Prelude.{◌≡◌, IsTrue, false, IfOk};
 ghost use Rattle.std.specs.FinMap as map;
-ghost use Rattle.page_pool.specs.Disk.{DiskView};
-ghost use Rattle.page_pool.specs.Pool.{IsClosed, IsOpen};
+ghost use Rattle.page_pool.specs.Pool.{IsClosed};
 
 use page_pool::{Desk, Disk, DiskFault, PageFault, Pages, Pool};
 use std::alloc::Global;

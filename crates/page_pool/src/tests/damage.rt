@@ -1,6 +1,4 @@
 // Bytes that come back other than they were written.
-ghost use Rattle.std.specs.Prelude.{◌≡◌};
-
 use super::flipping_disk::FlippingDisk;
 use crate::{PageFault, Pages, Pool};
 use std::alloc::Global;

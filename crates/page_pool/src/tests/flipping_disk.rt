@@ -1,7 +1,6 @@
 // A disk that gives other bytes than were written.
-ghost use Rattle.std.specs.Prelude.{◌≡◌, false};
+ghost use Rattle.std.specs.Prelude.{false};
 ghost use Rattle.std.specs.FinMap as map;
-ghost use Rattle.page_pool.specs.Disk.{DiskView};
 
 use crate::{Disk, DiskFault};
 use std::alloc::Global;

@@ -74,6 +74,7 @@ impl Hierarchy for Bounds {
 
     // (no contract asks what pages mean that aren't told, and over pages that are the tree meets no law)
     ghost meaning = { λ t pages. record {
+      IsReadable = Unit {0};
       root = 2;
       gap = λ node. t.root_gap;
       finds = λ node. [];

@@ -1,5 +1,5 @@
 -- a number is its two halves
-use Rattle.std.proofs.Common.{◌≡◌, ◌+◌, ◌*◌, ◌^◌, ap₂, ℕ, ◌∙◌, sym}
+use Rattle.std.proofs.Common.{◌+◌, ◌*◌, ◌^◌, ap₂, ℕ, ◌∙◌}
 use Rattle.code_btree.proofs.Numbers.{number_read}
 use Rattle.code_btree.proofs.bytes.number_at.Goals as goal
 

@@ -1,6 +1,6 @@
 -- the child has the pairs from the key on, and the pages to its right follow
-use Rattle.std.proofs.Common.{◌≡◌, ◌-◌, ℕ, suc, sym, ◌∙◌, ap, subst, arith}
-use Rattle.std.specs.Prelude.{Option, Some}
+use Rattle.std.proofs.Common.{◌≡◌, ◌-◌, ℕ, suc, sym, ◌∙◌, subst, arith}
+use Rattle.std.specs.Prelude.{Option}
 use Rattle.page_pool.specs.Pool.{IsTold}
 use Rattle.code_btree.specs.Tree.{Store, pages_in}
 use Rattle.code_btree.specs.Steps.{Subtree, LeadsTo}

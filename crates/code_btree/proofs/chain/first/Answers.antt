@@ -1,5 +1,5 @@
 -- the leaf of the key gives the pair, or leads to the leaf that does
-use Rattle.std.proofs.Common.{◌≡◌, ◌∙◌, ◌+◌, ◌-◌, ◌≤◌, ℕ, List, subst, arith}
+use Rattle.std.proofs.Common.{◌≡◌, ◌∙◌, ◌+◌, ◌-◌, List, subst, arith}
 use Rattle.std.specs.Prelude.{Ok}
 use Rattle.page_pool.specs.Pool.{PoolState}
 use Rattle.code_btree.specs.Node.{Pair}

@@ -1,6 +1,6 @@
 -- the entry at the place, and the place behind it or the next leaf
 use Rattle.std.proofs.Common.{arith}
-use Rattle.code_btree.proofs.Chains.{gives_none, gives_inside, gives_last}
+use Rattle.code_btree.proofs.Chains.{gives_inside, gives_last}
 use Rattle.code_btree.proofs.chain.give.Goals as goal
 
 pub returns-then-at-count-2 : goal.returns-then-at-count-2

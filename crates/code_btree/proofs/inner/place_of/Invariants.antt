@@ -1,5 +1,5 @@
 -- the place lies between the two bounds
-use Rattle.std.proofs.Common.{◌+◌, ◌-◌, ◌<◌, ◌≤◌}
+use Rattle.std.proofs.Common.{◌-◌, ◌<◌, ◌≤◌}
 use Rattle.code_btree.specs.Node.{key_in}
 use Rattle.code_btree.proofs.inner.place_of.Given as goal
 

@@ -1,5 +1,5 @@
 -- the page has room for the child, or the right half is gained
-use Rattle.std.proofs.Common.{◌+◌, arith, ap}
+use Rattle.std.proofs.Common.{◌+◌, arith}
 use Rattle.code_btree.specs.Tree.{pages_in}
 use Rattle.code_btree.specs.Node.{children_of, node_of}
 use Rattle.code_btree.proofs.Leaves.{inner_split_done, writes_of}

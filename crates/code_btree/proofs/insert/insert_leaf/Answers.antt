@@ -1,5 +1,5 @@
 -- a value is set, an entry is put in, or the leaf is split
-use Rattle.std.proofs.Common.{◌≡◌, ◌+◌, ◌++◌, ◌∙◌, take, drop, ap, ℕ, List}
+use Rattle.std.proofs.Common.{◌+◌, ◌++◌, ◌∙◌, take, drop, ap, List}
 use Rattle.code_btree.specs.Node.{Pair, leaf, node_of, entries_of, next_of}
 use Rattle.code_btree.specs.Tree.{pages_in}
 use Rattle.code_btree.proofs.Stores.{same_store}

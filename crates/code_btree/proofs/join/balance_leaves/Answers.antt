@@ -1,6 +1,6 @@
 -- the two are one page, or one entry was moved
 use Rattle.std.proofs.Common.{◌∙◌}
-use Rattle.code_btree.specs.Tree.{Store, pages_in}
+use Rattle.code_btree.specs.Tree.{pages_in}
 use Rattle.code_btree.proofs.Stores.{same_store}
 use Rattle.code_btree.proofs.Evens.{leaves_evened, leaves_joined}
 use Rattle.code_btree.proofs.join.balance_leaves.Goals as goal

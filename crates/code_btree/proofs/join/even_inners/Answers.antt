@@ -1,5 +1,5 @@
 -- the first child of the second goes to the end of the first, or the last one of the first to the front of the second
-use Rattle.std.proofs.Common.{◌≡◌, ◌+◌, ◌-◌, ◌++◌, ◌∙◌, ℕ, List, refl, sym, ap, arith}
+use Rattle.std.proofs.Common.{◌-◌, ◌++◌, ◌∙◌, ℕ, List, refl, sym, ap, arith}
 use Rattle.code_btree.specs.Node.{Node, node_of, keys_of, children_of}
 use Rattle.code_btree.proofs.Halves.{halves_inner_at}
 use Rattle.code_btree.proofs.Joins.{inners_low, inners_high}

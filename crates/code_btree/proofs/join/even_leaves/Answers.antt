@@ -1,5 +1,5 @@
 -- the first entry of the second goes to the end of the first, or the last one of the first to the front of the second
-use Rattle.std.proofs.Common.{◌≡◌, ◌+◌, ◌-◌, ◌∙◌, ℕ, List, get_or, sym, ap, ap₂, arith}
+use Rattle.std.proofs.Common.{◌≡◌, ◌-◌, ◌∙◌, ℕ, get_or, sym, ap, ap₂, arith}
 use Rattle.code_btree.specs.Node.{Pair, Node, node_of, entries_of}
 use Rattle.code_btree.proofs.Halves.{halves_leaf_at}
 use Rattle.code_btree.proofs.Joins.{even_low, even_high}

@@ -1,5 +1,5 @@
 -- the key between and the first child, and then the other keys and children
-use Rattle.std.proofs.Common.{◌≡◌, ◌+◌, ◌-◌, ◌++◌, ◌∙◌, ℕ, List, take, drop, sym, ap, ap₂, arith}
+use Rattle.std.proofs.Common.{◌+◌, ◌-◌, ◌++◌, ◌∙◌, ℕ, List, take, drop, sym, ap, ap₂, arith}
 use Rattle.code_btree.specs.Node.{Node, inner, node_of, keys_of, children_of}
 use Rattle.code_btree.proofs.Joins.{joined_keys, joined_children}
 use Rattle.code_btree.proofs.Looks.{child_is}

@@ -1,6 +1,6 @@
 -- the entries of the second stand behind those of the first
 use Rattle.std.proofs.Common.{◌≡◌, ◌+◌, ◌-◌, ◌/◌, ◌++◌, ◌∙◌, ℕ, List, length, take, drop, ap, ap₂, subst, arith}
-use Rattle.code_btree.specs.Node.{Pair, Node, leaf, node_of, entries_of, next_of, IsLeafOf}
+use Rattle.code_btree.specs.Node.{Pair, Node, leaf, node_of, entries_of, IsLeafOf}
 use Rattle.code_btree.proofs.Joins.{joined}
 use Rattle.code_btree.proofs.join.join_leaves.Goals as goal
 

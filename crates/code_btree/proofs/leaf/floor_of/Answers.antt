@@ -1,5 +1,5 @@
 -- the key stands there, nothing is below it, or the entry before its place
-use Rattle.std.proofs.Common.{◌≡◌, ◌∙◌, ap₂, sym, ℕ, arith}
+use Rattle.std.proofs.Common.{◌∙◌, ap₂, ℕ, arith}
 use Rattle.std.specs.Prelude.{Some}
 use Rattle.code_btree.proofs.Floors.{floor_found, floor_none, floor_below}
 use Rattle.code_btree.proofs.leaf.floor_of.Goals as goal

@@ -1,5 +1,5 @@
 -- the place lies between the two bounds
-use Rattle.std.proofs.Common.{◌+◌, ◌-◌, ◌<◌, ◌≤◌}
+use Rattle.std.proofs.Common.{◌-◌, ◌<◌, ◌≤◌}
 use Rattle.code_btree.specs.Node.{entry_key}
 use Rattle.code_btree.proofs.leaf.rank.Given as goal
 

@@ -1,5 +1,5 @@
 -- the splice and the count make the leaf
-use Rattle.std.proofs.Common.{arith, ◌≡◌}
+use Rattle.std.proofs.Common.{arith}
 use Rattle.code_btree.proofs.Edits.{leaf_edit, leaf_edit_is}
 use Rattle.code_btree.proofs.leaf.splice_entries.Goals as goal
 

@@ -1,6 +1,6 @@
 -- the child has the key's pair, where there is one
 use Rattle.std.proofs.Common.{◌≡◌, ◌-◌, ℕ, suc, sym, ◌∙◌, ap, subst, arith}
-use Rattle.std.specs.Prelude.{Option, Some}
+use Rattle.std.specs.Prelude.{Option}
 use Rattle.page_pool.specs.Pool.{IsTold}
 use Rattle.code_btree.specs.Items.{find_item}
 use Rattle.code_btree.specs.Tree.{Store, items, pages_in}

@@ -1,6 +1,6 @@
 -- the first key is read where it stands
 use Rattle.std.proofs.Common.{◌∙◌, ℕ, ap}
-use Rattle.std.specs.Prelude.{Option, Some}
+use Rattle.std.specs.Prelude.{Some}
 use Rattle.code_btree.proofs.Evens.{first_read}
 use Rattle.code_btree.proofs.remove.first_left.Goals as goal
 

@@ -1,5 +1,5 @@
 -- the neighbours are one page, or there is another key between them
-use Rattle.std.proofs.Common.{◌≡◌, ◌-◌, ◌∙◌, ℕ, refl, sym, subst, arith}
+use Rattle.std.proofs.Common.{◌≡◌, ◌-◌, ℕ, refl, subst}
 use Rattle.std.specs.Prelude.{Option, None, Some}
 use Rattle.code_btree.specs.Tree.{Store, pages_in, least}
 use Rattle.code_btree.specs.Removals.{Neighbours, Balances}

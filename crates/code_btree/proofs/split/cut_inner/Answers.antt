@@ -1,6 +1,6 @@
 -- the page is cut in its middle, and the child goes into one half
-use Rattle.std.proofs.Common.{ap, ◌∙◌, ◌+◌, ◌-◌, sym, List, arith}
-use Rattle.code_btree.specs.Node.{Pair, Node, keys_of, children_of}
+use Rattle.std.proofs.Common.{ap, ◌∙◌, ◌+◌, ◌-◌, sym, arith}
+use Rattle.code_btree.specs.Node.{Node, keys_of, children_of}
 use Rattle.code_btree.specs.Steps.{put_at}
 use Rattle.code_btree.proofs.Halves.{inner_low, inner_high, halves_inner_at}
 use Rattle.code_btree.proofs.Looks.{key_is}

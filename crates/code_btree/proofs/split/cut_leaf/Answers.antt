@@ -1,6 +1,6 @@
 -- the cut is chosen so that each half has 64 entries
-use Rattle.std.proofs.Common.{ap, ◌∙◌, ◌+◌, ◌-◌, List, arith}
-use Rattle.code_btree.specs.Node.{Pair, Node, entries_of}
+use Rattle.std.proofs.Common.{ap, ◌∙◌, ◌-◌, arith}
+use Rattle.code_btree.specs.Node.{Node, entries_of}
 use Rattle.code_btree.specs.Steps.{put_at}
 use Rattle.code_btree.proofs.Halves.{halves_low, halves_high, halves_leaf_at}
 use Rattle.code_btree.proofs.split.cut_leaf.Goals as goal

@@ -1,5 +1,5 @@
 -- the root is whole, or a new one stands above it
-use Rattle.std.proofs.Common.{◌≡◌, ◌+◌, ◌-◌, ℕ, ◌∙◌, subst, arith}
+use Rattle.std.proofs.Common.{◌≡◌, ◌+◌, ◌-◌, subst, arith}
 use Rattle.code_btree.specs.Tree.{Store, pages_in}
 use Rattle.code_btree.specs.Steps.{InsertsUnder}
 use Rattle.code_btree.specs.declared.insert.Grown.{Grown}
