@@ -10,7 +10,7 @@ use std::marker::Model;
 // The ids that one word has bits for.
 const WORD: u32 = 64;
 
-/// Which left rows were given with their first pair, one bit for each id, and how many wait for theirs.
+// Which left rows were given with their first pair, one bit for each id, and how many wait for theirs.
 #[derive(Drop)]
 pub struct Lefts {
     words: Vec<u64>,
@@ -29,7 +29,7 @@ impl Model for Lefts {
 }
 
 impl Lefts {
-    /// So many left rows, none of which was given. There is a bit for each id up to the greatest.
+    // So many left rows, none of which was given. There is a bit for each id up to the greatest.
     pub fn new(alloc: Global, count: u32, greatest: u32) -> Result<Lefts, NoMemory>
         ensures given { IfOk result (λ s. s.given ≡ set.empty) }
         ensures below { IfOk result (λ s. greatest < s.below) }
@@ -42,15 +42,15 @@ impl Lefts {
         })
     }
 
-    /// How many left rows wait for their first pair.
+    // How many left rows wait for their first pair.
     pub fn waiting(&self) -> u32
         ensures { result ≡ self.now.waiting }
     {
         self.waiting
     }
 
-    /// The left row of this id is given, and true answered, where it has a bit and was not given before. Else all
-    /// stays as it is.
+    // The left row of this id is given, and true answered, where it has a bit and was not given before. Else all
+    // stays as it is.
     pub fn give(&mut self, id: u32) -> bool
         requires { 0 < self.old.waiting }
         ensures { MatchBool result ((set.contains self.old.given id ≡ false) × (self.new ≡ gives id self.old)) ((self.new ≡ self.old) × ((self.old.below ≤ id) ⊎ (set.contains self.old.given id ≡ true))) }
