@@ -16,5 +16,7 @@ mod place;
 mod row;
 mod steps;
 mod store;
+#[cfg(test)]
+mod tests;
 
 pub use file::TupleFile;
