@@ -32,8 +32,6 @@ mod statement;
 mod statement_reader;
 mod stuck;
 mod test;
-#[cfg(test)]
-mod tests;
 mod text;
 mod token;
 mod value_printer;
