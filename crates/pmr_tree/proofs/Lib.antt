@@ -1,0 +1,9 @@
+pub mod Orders
+pub mod Quarter
+pub mod KeyLists
+pub mod Growth
+pub mod Steps
+pub mod Entries
+pub mod LeafSteps
+pub mod SplitSteps
+pub mod GrowSteps

@@ -1,0 +1,4 @@
+pub mod Lists
+pub mod Keys
+pub mod Changes
+pub mod Leaves
