@@ -188,16 +188,16 @@ enough_fits m q n b block up rows rise (Leaf p) (Leaf r) (Inner s s' s'' s''') t
 enough_fits m q n b block up rows rise (Leaf p) (Leaf r) (Leaf s) (Inner t t' t'' t''') fit h = tt
 
 -- an inner place among the four is enough
-enough_second : (n : ℕ) (p a b c d s t : Tree) → HasEnough n p (Inner a b c d) s t
+pub enough_second : (n : ℕ) (p a b c d s t : Tree) → HasEnough n p (Inner a b c d) s t
 enough_second n (Leaf p) a b c d s t = tt
 enough_second n (Inner p p' p'' p''') a b c d s t = tt
 
-enough_third : (n : ℕ) (p r a b c d t : Tree) → HasEnough n p r (Inner a b c d) t
+pub enough_third : (n : ℕ) (p r a b c d t : Tree) → HasEnough n p r (Inner a b c d) t
 enough_third n (Leaf p) (Leaf r) a b c d t = tt
 enough_third n (Leaf p) (Inner r r' r'' r''') a b c d t = tt
 enough_third n (Inner p p' p'' p''') r a b c d t = tt
 
-enough_fourth : (n : ℕ) (p r s a b c d : Tree) → HasEnough n p r s (Inner a b c d)
+pub enough_fourth : (n : ℕ) (p r s a b c d : Tree) → HasEnough n p r s (Inner a b c d)
 enough_fourth n (Leaf p) (Leaf r) (Leaf s) a b c d = tt
 enough_fourth n (Leaf p) (Leaf r) (Inner s s' s'' s''') a b c d = tt
 enough_fourth n (Leaf p) (Inner r r' r'' r''') s a b c d = tt
@@ -319,7 +319,7 @@ full_shrunk n id (Leaf ids) = tt
 full_shrunk n id (Inner p r s t) = full_merged n (shrunk n id p) (shrunk n id r) (shrunk n id s) (shrunk n id t) (full_shrunk n id p) (full_shrunk n id r) (full_shrunk n id s) (full_shrunk n id t)
 
 -- a full place does not merge
-merged_full : (n : ℕ) (p r s t : Tree) → HasEnough n p r s t → merged n p r s t ≡ Inner p r s t
+pub merged_full : (n : ℕ) (p r s t : Tree) → HasEnough n p r s t → merged n p r s t ≡ Inner p r s t
 merged_full n (Leaf p) (Leaf r) (Leaf s) (Leaf t) h = rw h refl
 merged_full n (Inner p p' p'' p''') r s t h = refl
 merged_full n (Leaf p) (Inner r r' r'' r''') s t h = refl

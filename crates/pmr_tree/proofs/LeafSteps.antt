@@ -18,7 +18,7 @@ use Rattle.pmr_tree.proofs.Entries.{leaf_is, length_ids}
 use Rattle.pmr_tree.proofs.Steps.{becomes_refilled, becomes_same, becomes_then, becomes_as}
 use Rattle.pmr_tree.proofs.Quarter.{count_some}
 
-key_inside : (b : Block) (id : ℕ) → b.level ≤ COORDINATE_BITS → IsId id → is_inside b (key_of b id) ≡ true
+pub key_inside : (b : Block) (id : ℕ) → b.level ≤ COORDINATE_BITS → IsId id → is_inside b (key_of b id) ≡ true
 key_inside b id h i = lies_inside b (key_of b id) (omega arith, omega (arith, count_some b.level, i.small))
 
 some_keys : (b : Block) (ids : List ℕ) (id : ℕ) → leaf_keys b (add id ids) ≡ map (key_of b) (add id ids)

@@ -7,3 +7,6 @@ pub mod Entries
 pub mod LeafSteps
 pub mod SplitSteps
 pub mod GrowSteps
+pub mod LeaveSteps
+pub mod Unions
+pub mod MergeSteps

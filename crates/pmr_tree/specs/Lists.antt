@@ -1,5 +1,5 @@
 -- Ascending lists of numbers, and what puts numbers into them.
-use Rattle.std.specs.Prelude.{◌≡◌, ℕ, ◌<◌, ◌≤◌, Bool, ◌&&◌, nat_le, nat_lt, List, [], ◌∷◌, filter}
+use Rattle.std.specs.Prelude.{◌≡◌, ℕ, zero, suc, ◌<◌, ◌≤◌, Bool, false, cond, ◌&&◌, nat_le, nat_lt, nat_eq, List, [], ◌∷◌, filter}
 use Rattle.sand_model.specs.Tree.{add, without}
 
 -- a fact holds of each element
@@ -33,3 +33,14 @@ put_all (x ∷ xs) ks = put_all xs (add x ks)
 abbrev pub take_all : List ℕ → List ℕ → List ℕ
 take_all [] ks = ks
 take_all (x ∷ xs) ks = take_all xs (without x ks)
+
+-- how many numbers at the head of a list are below this one
+abbrev pub place_in : ℕ → List ℕ → ℕ
+place_in x [] = 0
+place_in x (y ∷ ys) = cond (nat_lt y x) (suc (place_in x ys)) 0
+
+-- the number stands at the place of a list
+abbrev pub is_at : List ℕ → ℕ → ℕ → Bool
+is_at [] at x = false
+is_at (y ∷ ys) zero x = nat_eq y x
+is_at (y ∷ ys) (suc at) x = is_at ys at x

@@ -30,10 +30,6 @@ pub trait Ground<P> {
     // From the first state calls lead to the second, the last of which had this refusal.
     ghost Leads: { Self → P → Self → P → Option PmrFault → Type 0 };
 
-    /// The number of entries.
-    fn count(&self, pages: &P) -> u64
-        ensures { IsKnown self.now pages.now → result ≡ length (pairs self.now pages.now) };
-
     /// The entries from `low` on and below `high`.
     fn between(
         &self,
@@ -91,5 +87,5 @@ pub trait Ground<P> {
 
     ghost knew: { (a : Self) (p : P) (b : Self) (q : P) → Leads a p b q None → IsKnown b q → IsKnown a p };
 
-    ghost steady: { (a : Self) (p : P) (b : Self) (q : P) → Leads a p b q None → IsKnown a p → (m : Block → ℕ → Bool) (has : ℕ → Bool) → Tells a p m has → Tells b q m has };
+    ghost steady: { (a : Self) (p : P) (b : Self) (q : P) → Leads a p b q None → IsReady a p → IsKnown a p → (m : Block → ℕ → Bool) (has : ℕ → Bool) → Tells a p m has → Tells b q m has };
 }

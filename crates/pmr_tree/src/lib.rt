@@ -14,7 +14,10 @@ mod fill;
 mod ground;
 mod grow;
 mod leaf;
+mod leave;
+mod shrink;
 mod split;
+mod union;
 
 pub use fault::PmrFault;
 pub use ground::Ground;

@@ -10,7 +10,7 @@ loop-kept-preserved g c =
     let lt : c.loop-kept.kept-index < length c.args.list.now = omega arith in record {
       leads = g.met.S.Ground.onward _ _ _ _ _ _ _ here.leads c.in_ok-push_met.ensures.leads;
       found = λ k m has tells all. met_step (m c.args.block) c.args.list.now c.loop-kept.kept-index _ lt _ _ (here.found k m has tells all)
-          (c.in_ok-push_met.ensures.found (g.met.S.Ground.known _ _ _ _ here.leads k) m has (g.met.S.Ground.steady _ _ _ _ here.leads k m has tells) (each_at (λ x. has x.id ≡ true) c.args.list.now c.loop-kept.kept-index _ lt all));
+          (c.in_ok-push_met.ensures.found (g.met.S.Ground.known _ _ _ _ here.leads k) m has (g.met.S.Ground.steady _ _ _ _ here.leads c.requires.ready k m has tells) (each_at (λ x. has x.id ≡ true) c.args.list.now c.loop-kept.kept-index _ lt all));
       values = λ test a. c.in_ok-push_met.ensures.values test (each_at (λ x. test x.id x.value ≡ true) c.args.list.now c.loop-kept.kept-index _ lt a) (here.values test a);
       same = λ k. c.in_ok-push_met.ensures.same (g.met.S.Ground.known _ _ _ _ here.leads k) ∙ here.same k;
     }

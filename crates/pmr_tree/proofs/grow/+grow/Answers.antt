@@ -23,7 +23,7 @@ returns-in-Some-clause-keys g t c = λ k m has tells all one.
     let l1 = g.met.S.Ground.onward _ _ _ _ _ _ _ l0 c.in_ok-list.ensures.leads in
     let same = c.in_ok-list.ensures.same (g.met.S.Ground.known _ _ _ _ l0 k) ∙ c.in_ok-does_meet.ensures.same k in
     becomes_from c.args.block _ _ _ _ (ap firsts same)
-    (c.in_ok-grow_leaf.ensures.keys (g.met.S.Ground.known _ _ _ _ l1 k) m has (g.met.S.Ground.steady _ _ _ _ l1 k m has tells)
+    (c.in_ok-grow_leaf.ensures.keys (g.met.S.Ground.known _ _ _ _ l1 k) m has (g.met.S.Ground.steady _ _ _ _ l1 c.requires.ready k m has tells)
     (subst (Passes (id_test has)) (sym same) all) one (sym (c.in_ok-does_meet.ensures.value k m has tells one) ∙ c.if-not-branch.false))
 
 pub returns-in-Some-clause-values : goal.returns-in-Some-clause-values
@@ -69,7 +69,7 @@ grow-requires g t c κs live =
                   λ known.
                       let k = g.met.S.Ground.knew _ _ _ _ l1 known in
                       let same = c.in_ok-list.ensures.same (g.met.S.Ground.known _ _ _ _ l0 k) ∙ c.in_ok-does_meet.ensures.same k in
-                      told_later _ _ _ _ c.args.newcomer.id (g.met.S.Ground.steady _ _ _ _ l1 k)
+                      told_later _ _ _ _ c.args.newcomer.id (g.met.S.Ground.steady _ _ _ _ l1 c.requires.ready k)
                       (λ has one w.
                       let w0 = subst (Passes (id_test has)) (sym same) w in
                       w0)
@@ -110,12 +110,12 @@ grow-requires-2 g t c κs live =
                       let told = c.requires.shapes k in
                       let w0 = subst (Passes (id_test told.has)) (sym same) told.listed in
                       let w1 = c.in_ok-grow.ensures.values (g.met.S.Ground.known _ _ _ _ l1 k) (id_test told.has) told.one w0 in
-                      let g0 = c.in_ok-grow.ensures.keys (g.met.S.Ground.known _ _ _ _ l1 k) told.meets told.has (g.met.S.Ground.steady _ _ _ _ l1 k told.meets told.has told.told) w0 told.one in
+                      let g0 = c.in_ok-grow.ensures.keys (g.met.S.Ground.known _ _ _ _ l1 k) told.meets told.has (g.met.S.Ground.steady _ _ _ _ l1 c.requires.ready k told.meets told.has told.told) w0 told.one in
                       stands_second c.args.block _ _ _ (λ x. grown_where told.meets c.args.threshold c.args.newcomer.id x) _ _ c.children.ensures.value stands none g0,
                   λ known.
                       let k = g.met.S.Ground.knew _ _ _ _ l2 known in
                       let same = c.in_ok-list.ensures.same (g.met.S.Ground.known _ _ _ _ l0 k) ∙ c.in_ok-does_meet.ensures.same k in
-                      told_later _ _ _ _ c.args.newcomer.id (g.met.S.Ground.steady _ _ _ _ l2 k)
+                      told_later _ _ _ _ c.args.newcomer.id (g.met.S.Ground.steady _ _ _ _ l2 c.requires.ready k)
                       (λ has one w.
                       let w0 = subst (Passes (id_test has)) (sym same) w in
                       let w1 = c.in_ok-grow.ensures.values (g.met.S.Ground.known _ _ _ _ l1 k) (id_test has) one w0 in
@@ -159,13 +159,13 @@ grow-requires-3 g t c κs live =
                       let w0 = subst (Passes (id_test told.has)) (sym same) told.listed in
                       let w1 = c.in_ok-grow.ensures.values (g.met.S.Ground.known _ _ _ _ l1 k) (id_test told.has) told.one w0 in
                       let w2 = c.in_ok-grow-2.ensures.values (g.met.S.Ground.known _ _ _ _ l2 k) (id_test told.has) told.one w1 in
-                      let g0 = c.in_ok-grow.ensures.keys (g.met.S.Ground.known _ _ _ _ l1 k) told.meets told.has (g.met.S.Ground.steady _ _ _ _ l1 k told.meets told.has told.told) w0 told.one in
-                      let g1 = c.in_ok-grow-2.ensures.keys (g.met.S.Ground.known _ _ _ _ l2 k) told.meets told.has (g.met.S.Ground.steady _ _ _ _ l2 k told.meets told.has told.told) w1 told.one in
+                      let g0 = c.in_ok-grow.ensures.keys (g.met.S.Ground.known _ _ _ _ l1 k) told.meets told.has (g.met.S.Ground.steady _ _ _ _ l1 c.requires.ready k told.meets told.has told.told) w0 told.one in
+                      let g1 = c.in_ok-grow-2.ensures.keys (g.met.S.Ground.known _ _ _ _ l2 k) told.meets told.has (g.met.S.Ground.steady _ _ _ _ l2 c.requires.ready k told.meets told.has told.told) w1 told.one in
                       stands_third c.args.block _ _ _ _ (λ x. grown_where told.meets c.args.threshold c.args.newcomer.id x) (λ x. grown_where told.meets c.args.threshold c.args.newcomer.id x) _ _ _ c.children.ensures.value stands none g0 g1,
                   λ known.
                       let k = g.met.S.Ground.knew _ _ _ _ l3 known in
                       let same = c.in_ok-list.ensures.same (g.met.S.Ground.known _ _ _ _ l0 k) ∙ c.in_ok-does_meet.ensures.same k in
-                      told_later _ _ _ _ c.args.newcomer.id (g.met.S.Ground.steady _ _ _ _ l3 k)
+                      told_later _ _ _ _ c.args.newcomer.id (g.met.S.Ground.steady _ _ _ _ l3 c.requires.ready k)
                       (λ has one w.
                       let w0 = subst (Passes (id_test has)) (sym same) w in
                       let w1 = c.in_ok-grow.ensures.values (g.met.S.Ground.known _ _ _ _ l1 k) (id_test has) one w0 in
@@ -212,14 +212,14 @@ grow-requires-4 g t c κs live =
                       let w1 = c.in_ok-grow.ensures.values (g.met.S.Ground.known _ _ _ _ l1 k) (id_test told.has) told.one w0 in
                       let w2 = c.in_ok-grow-2.ensures.values (g.met.S.Ground.known _ _ _ _ l2 k) (id_test told.has) told.one w1 in
                       let w3 = c.in_ok-grow-3.ensures.values (g.met.S.Ground.known _ _ _ _ l3 k) (id_test told.has) told.one w2 in
-                      let g0 = c.in_ok-grow.ensures.keys (g.met.S.Ground.known _ _ _ _ l1 k) told.meets told.has (g.met.S.Ground.steady _ _ _ _ l1 k told.meets told.has told.told) w0 told.one in
-                      let g1 = c.in_ok-grow-2.ensures.keys (g.met.S.Ground.known _ _ _ _ l2 k) told.meets told.has (g.met.S.Ground.steady _ _ _ _ l2 k told.meets told.has told.told) w1 told.one in
-                      let g2 = c.in_ok-grow-3.ensures.keys (g.met.S.Ground.known _ _ _ _ l3 k) told.meets told.has (g.met.S.Ground.steady _ _ _ _ l3 k told.meets told.has told.told) w2 told.one in
+                      let g0 = c.in_ok-grow.ensures.keys (g.met.S.Ground.known _ _ _ _ l1 k) told.meets told.has (g.met.S.Ground.steady _ _ _ _ l1 c.requires.ready k told.meets told.has told.told) w0 told.one in
+                      let g1 = c.in_ok-grow-2.ensures.keys (g.met.S.Ground.known _ _ _ _ l2 k) told.meets told.has (g.met.S.Ground.steady _ _ _ _ l2 c.requires.ready k told.meets told.has told.told) w1 told.one in
+                      let g2 = c.in_ok-grow-3.ensures.keys (g.met.S.Ground.known _ _ _ _ l3 k) told.meets told.has (g.met.S.Ground.steady _ _ _ _ l3 c.requires.ready k told.meets told.has told.told) w2 told.one in
                       stands_fourth c.args.block _ _ _ _ _ (λ x. grown_where told.meets c.args.threshold c.args.newcomer.id x) (λ x. grown_where told.meets c.args.threshold c.args.newcomer.id x) (λ x. grown_where told.meets c.args.threshold c.args.newcomer.id x) _ _ _ _ c.children.ensures.value stands none g0 g1 g2,
                   λ known.
                       let k = g.met.S.Ground.knew _ _ _ _ l4 known in
                       let same = c.in_ok-list.ensures.same (g.met.S.Ground.known _ _ _ _ l0 k) ∙ c.in_ok-does_meet.ensures.same k in
-                      told_later _ _ _ _ c.args.newcomer.id (g.met.S.Ground.steady _ _ _ _ l4 k)
+                      told_later _ _ _ _ c.args.newcomer.id (g.met.S.Ground.steady _ _ _ _ l4 c.requires.ready k)
                       (λ has one w.
                       let w0 = subst (Passes (id_test has)) (sym same) w in
                       let w1 = c.in_ok-grow.ensures.values (g.met.S.Ground.known _ _ _ _ l1 k) (id_test has) one w0 in
@@ -260,10 +260,10 @@ returns-clause-keys g t c = λ k m has tells all one.
     let w2 = c.in_ok-grow-2.ensures.values (g.met.S.Ground.known _ _ _ _ l2 k) (id_test has) one w1 in
     let w3 = c.in_ok-grow-3.ensures.values (g.met.S.Ground.known _ _ _ _ l3 k) (id_test has) one w2 in
     let w4 = c.in_ok-grow-4.ensures.values (g.met.S.Ground.known _ _ _ _ l4 k) (id_test has) one w3 in
-    let g0 = c.in_ok-grow.ensures.keys (g.met.S.Ground.known _ _ _ _ l1 k) m has (g.met.S.Ground.steady _ _ _ _ l1 k m has tells) w0 one in
-    let g1 = c.in_ok-grow-2.ensures.keys (g.met.S.Ground.known _ _ _ _ l2 k) m has (g.met.S.Ground.steady _ _ _ _ l2 k m has tells) w1 one in
-    let g2 = c.in_ok-grow-3.ensures.keys (g.met.S.Ground.known _ _ _ _ l3 k) m has (g.met.S.Ground.steady _ _ _ _ l3 k m has tells) w2 one in
-    let g3 = c.in_ok-grow-4.ensures.keys (g.met.S.Ground.known _ _ _ _ l4 k) m has (g.met.S.Ground.steady _ _ _ _ l4 k m has tells) w3 one in
+    let g0 = c.in_ok-grow.ensures.keys (g.met.S.Ground.known _ _ _ _ l1 k) m has (g.met.S.Ground.steady _ _ _ _ l1 c.requires.ready k m has tells) w0 one in
+    let g1 = c.in_ok-grow-2.ensures.keys (g.met.S.Ground.known _ _ _ _ l2 k) m has (g.met.S.Ground.steady _ _ _ _ l2 c.requires.ready k m has tells) w1 one in
+    let g2 = c.in_ok-grow-3.ensures.keys (g.met.S.Ground.known _ _ _ _ l3 k) m has (g.met.S.Ground.steady _ _ _ _ l3 c.requires.ready k m has tells) w2 one in
+    let g3 = c.in_ok-grow-4.ensures.keys (g.met.S.Ground.known _ _ _ _ l4 k) m has (g.met.S.Ground.steady _ _ _ _ l4 c.requires.ready k m has tells) w3 one in
     becomes_from c.args.block _ _ _ _ (ap firsts same)
     (grow_steps m c.args.threshold c.args.newcomer.id c.args.block _ _ _ _ _ _ _ _ _ _ stands none (sym (c.in_ok-does_meet.ensures.value k m has tells one) ∙ c.if-not-branch.false) c.children.ensures.value g0 g1 g2 g3)
 

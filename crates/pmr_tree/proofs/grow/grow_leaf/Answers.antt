@@ -13,7 +13,7 @@ pub returns-clause-keys : goal.returns-clause-keys
 returns-clause-keys g c = λ k m has tells all one met.
     let l = c.in_ok-enter.ensures.leads in
     becomes_grown_leaf m c.args.threshold c.args.newcomer.id c.args.block _ _ _ (ids_of c.args.list.now) (c.requires.leaf k) met (c.in_ok-enter.ensures.keys k)
-    (c.in_ok-settle.ensures.keys (g.met.S.Ground.known _ _ _ _ l k) m has (g.met.S.Ground.steady _ _ _ _ l k m has tells) (c.in_ok-enter.ensures.values k (id_test has) one all))
+    (c.in_ok-settle.ensures.keys (g.met.S.Ground.known _ _ _ _ l k) m has (g.met.S.Ground.steady _ _ _ _ l c.requires.ready k m has tells) (c.in_ok-enter.ensures.values k (id_test has) one all))
 
 pub returns-clause-values : goal.returns-clause-values
 returns-clause-values g c = λ k test one w.

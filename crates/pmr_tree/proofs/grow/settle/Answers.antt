@@ -17,7 +17,7 @@ pub returns-clause-keys : goal.returns-clause-keys
 returns-clause-keys g c = λ k m has tells all.
     let l = c.in_ok-list.ensures.leads in
     becomes_from c.args.block _ _ _ _ (ap firsts (c.in_ok-list.ensures.same k))
-    (c.in_ok-split.ensures.keys (g.met.S.Ground.known _ _ _ _ l k) m has (g.met.S.Ground.steady _ _ _ _ l k m has tells)
+    (c.in_ok-split.ensures.keys (g.met.S.Ground.known _ _ _ _ l k) m has (g.met.S.Ground.steady _ _ _ _ l c.requires.ready k m has tells)
     (subst (ListPasses (id_test has)) (sym c.deref.ensures.value) (if_found _ _ _ c.in-Some.is (c.in_ok-list.ensures.values k (id_test has) all))))
 
 pub returns-clause-values : goal.returns-clause-values
