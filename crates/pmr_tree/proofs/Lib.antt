@@ -10,3 +10,4 @@ pub mod GrowSteps
 pub mod LeaveSteps
 pub mod Unions
 pub mod MergeSteps
+pub mod ShapeLaws

@@ -2,3 +2,4 @@ pub mod Lists
 pub mod Keys
 pub mod Changes
 pub mod Leaves
+pub mod Laws

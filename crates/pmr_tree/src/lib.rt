@@ -13,6 +13,7 @@ mod fault;
 mod fill;
 mod ground;
 mod grow;
+pub mod laws;
 mod leaf;
 mod leave;
 mod shrink;
