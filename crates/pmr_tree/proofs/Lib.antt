@@ -11,3 +11,13 @@ pub mod LeaveSteps
 pub mod Unions
 pub mod MergeSteps
 pub mod ShapeLaws
+pub mod Counts
+pub mod PairLists
+pub mod OwnPages
+pub mod TreeAt
+pub mod Grown
+pub mod OwnLaws
+pub mod Values
+pub mod Shrunk
+pub mod Ranges
+pub mod Planted

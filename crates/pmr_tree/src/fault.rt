@@ -1,6 +1,8 @@
 ghost use Rattle.std.specs.Prelude.{◌≡◌};
 ghost use Rattle.pmr_tree.specs.declared.fault.PmrFault.TheVariants.{Memory};
+ghost use Rattle.pmr_tree.specs.Plot.{pmr_fault};
 
+use page_pool::PageFault;
 use std::alloc::{AllocError, AllocFailed};
 
 /// Why a quadtree could not be read or changed.
@@ -33,5 +35,17 @@ impl<T: Drop> From<AllocFailed<T>> for PmrFault {
 
     fn from(_: AllocFailed<T>) -> Self {
         PmrFault::Memory
+    }
+}
+
+impl From<PageFault> for PmrFault {
+    ghost from_gives = { λ why fault. fault ≡ pmr_fault why };
+
+    fn from(why: PageFault) -> Self {
+        match why {
+            PageFault::Memory => PmrFault::Memory,
+            PageFault::Device => PmrFault::Device,
+            PageFault::Damaged { page, kept, read } => PmrFault::Damaged { page, kept, read },
+        }
     }
 }

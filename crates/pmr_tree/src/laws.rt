@@ -1,3 +1,4 @@
+ghost use Rattle.pmr_tree.specs.PageLaws.{OwnPagesDecide, IsAlwaysShallow};
 ghost use Rattle.pmr_tree.specs.Laws.{
   ShapesDecide,
   ShapesDecideFit,
@@ -10,10 +11,19 @@ ghost use Rattle.pmr_tree.specs.Laws.{
   FittedIsListedWhereMet,
 };
 
+use code_btree::laws::own_pages_decide;
 use ring_geom::measure_laws;
 
-/// The laws of quadtrees that grow and shrink as values, by rows of shapes, for proofs of the crates above: a call
-/// brings them into scope, and does nothing when it runs.
+/// The laws of quadtrees in pages, for proofs of the crates above: a call brings them into scope, and does nothing
+/// when it runs.
+pub fn page_laws()
+    ensures own { OwnPagesDecide }
+    ensures shallow { IsAlwaysShallow }
+{
+    own_pages_decide();
+}
+
+/// The same of trees that grow and shrink as values, by rows of shapes.
 pub fn growth_laws()
     ensures shapes { ShapesDecide }
     ensures fit { ShapesDecideFit }

@@ -1,0 +1,110 @@
+ghost use Rattle.std.specs.Prelude.{◌≡◌, OnOk, IfOk};
+ghost use Rattle.page_pool.specs.Pool.{IsClosed, IsOpen, IsTold};
+ghost use Rattle.code_btree.specs.Tree.{IsTree, pages_in};
+
+use crate::draws::Draws;
+use code_btree::Tree;
+use page_pool::{PageFault, Pool, SureDisk};
+use std::alloc::Global;
+use std::collections::BTreeMap;
+
+/// How many inserts one command makes.
+pub const COMMAND: u32 = 1_000;
+
+// One command of inserts.
+fn command(pool: &mut Pool<SureDisk>, tree: &mut Tree, draws: &mut Draws) -> Result<(), PageFault>
+    requires closed { IsClosed pool.old }
+    requires tree { IsTold pool.old → IsTree (pages_in pool.old) tree.old }
+    ensures closed { OnOk result (IsClosed pool.new) }
+    ensures tree { OnOk result (IsTold pool.new → IsTree (pages_in pool.new) tree.new) }
+{
+    pool.begin()?;
+    'inserts: for _ in 0..COMMAND {
+        let key = draws.key();
+        tree.insert(pool, key, key)?;
+    }
+    pool.commit();
+    Ok(())
+}
+
+/// A map in pages of so many thousand drawn keys.
+pub fn filled(pool: &mut Pool<SureDisk>, thousands: u32) -> Result<Tree, PageFault>
+    requires { IsClosed pool.old }
+    ensures closed { OnOk result (IsClosed pool.new) }
+    ensures tree { IfOk result (λ tree. IsTold pool.new → IsTree (pages_in pool.new) tree) }
+{
+    pool.begin()?;
+    let mut tree = Tree::plant(pool)?;
+    pool.commit();
+    let mut draws = Draws::begin(1);
+    'commands: for _ in 0..thousands {
+        command(pool, &mut tree, &mut draws)?;
+    }
+    Ok(tree)
+}
+
+/// Looks up the drawn keys again; gives how many were there.
+pub fn looked_up(pool: &mut Pool<SureDisk>, tree: Tree, thousands: u32) -> Result<u64, PageFault>
+    requires { IsTold pool.old → IsTree (pages_in pool.old) tree }
+{
+    let mut draws = Draws::begin(1);
+    let mut there = 0u64;
+    'thousands: for _ in 0..thousands {
+        'keys: for _ in 0..COMMAND {
+            if tree.get(pool, draws.key())?.is_some() {
+                there = there.wrapping_add(1);
+            }
+        }
+    }
+    Ok(there)
+}
+
+/// Runs over all pairs; gives how many there were.
+pub fn run_through(pool: &mut Pool<SureDisk>, tree: Tree) -> u64
+    requires { IsTold pool.old → IsTree (pages_in pool.old) tree }
+{
+    let mut pairs = 0u64;
+    let mut run = tree.run(pool, 0);
+    for _ in &mut run {
+        pairs = pairs.wrapping_add(1);
+    }
+    pairs
+}
+
+/// The same in memory: a map of so many thousand drawn keys, where memory suffices.
+pub fn filled_twin(alloc: Global, thousands: u32) -> Option<BTreeMap<u128, u128>> {
+    let mut twin = BTreeMap::new(alloc);
+    let mut draws = Draws::begin(1);
+    'thousands: for _ in 0..thousands {
+        'keys: for _ in 0..COMMAND {
+            let key = draws.key();
+            twin.insert(key, key).ok()?;
+        }
+    }
+    Some(twin)
+}
+
+/// The keys looked up again in memory; gives how many were there.
+pub fn looked_up_twin(twin: &BTreeMap<u128, u128>, thousands: u32) -> u64 {
+    let mut draws = Draws::begin(1);
+    let mut there = 0u64;
+    'thousands: for _ in 0..thousands {
+        'keys: for _ in 0..COMMAND {
+            if twin.get(&draws.key()).is_some() {
+                there = there.wrapping_add(1);
+            }
+        }
+    }
+    there
+}
+
+/// All pairs in memory; gives how many there were.
+pub fn run_through_twin(twin: &BTreeMap<u128, u128>) -> u64 {
+    let mut pairs = 0u64;
+    for (key, value) in twin.iter() {
+        if *key == *value {
+            pairs = pairs.wrapping_add(1);
+        }
+    }
+    pairs
+}

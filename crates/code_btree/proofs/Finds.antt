@@ -1,0 +1,56 @@
+-- A key looked up, one level after the other.
+use Rattle.std.proofs.Common.{◌≡◌, ℕ, suc, ◌+◌, List, [], ◌∷◌, take, drop, sym, ◌∙◌, ap, subst, arith}
+use Rattle.std.specs.Prelude.{Option, None, Some}
+use Rattle.code_btree.specs.Node.{Pair, Node, leaf, inner, node_of, entries_of, next_of, keys_of, children_of, child_in}
+use Rattle.code_btree.specs.Items.{find_item}
+use Rattle.code_btree.specs.Tree.{Store, node, items, all_items}
+use Rattle.code_btree.specs.Steps.{Subtree, LeadsTo, InnerStep, IsFoundIn, LeafStep}
+use Rattle.code_btree.proofs.Orders.{find_middle, leaf_hit, leaf_miss}
+use Rattle.code_btree.proofs.Moves.{items-three}
+use Rattle.code_btree.proofs.Looks.{entry_is}
+use Rattle.code_btree.proofs.Leaves.{here, ranked, missed, leaf_sound}
+use Rattle.code_btree.proofs.Rises.{one_items}
+use Rattle.code_btree.proofs.Inserts.{At, at_page}
+
+pub find_down : (m : Store) (h n k : ℕ) (p : List ℕ) (count at : ℕ) → At m h n k p count at → find_item k (items m (suc h) n) ≡ find_item k (items m h (child_in p at))
+find_down m h n k p count at t =
+    let xs : List ℕ = take at (children_of (node_of p)) in
+    let ys : List ℕ = drop (at + 1) (children_of (node_of p)) in
+    let c : ℕ = child_in p at in
+    ap (λ (cs : List ℕ). find_item k (all_items m h cs)) t.split
+    ∙ (ap (λ (es : List Pair). find_item k es) (items-three m h xs (c ∷ []) ys)
+    ∙ (find_middle k (all_items m h xs) (all_items m h (c ∷ [])) (all_items m h ys) t.descent.below t.descent.above
+    ∙ ap (λ (es : List Pair). find_item k es) (one_items m h c)))
+
+pub record Led (m : Store) (h n k c : ℕ) : Type 0 where
+  pub child : Subtree m h c
+  pub same : find_item k (items m (suc h) n) ≡ find_item k (items m h c)
+
+pub led : (m : Store) (h n k c : ℕ) → Subtree m (suc h) n → LeadsTo m n k (Some c) → Led m h n k c
+led m h n k c s l =
+    let st : InnerStep l.page k c = l.step in
+    let t = at_page m h n k l.page st.count st.at l.read s st.is st.place st.before st.behind in
+    let S : ℕ → Type 0 = λ x. Subtree m h x in
+    record {
+      child = subst S (sym st.child_is) t.descent.child;
+      same = find_down m h n k l.page st.count st.at t ∙ ap (λ (x : ℕ). find_item k (items m h x)) (sym st.child_is);
+    }
+
+pub led_none : (m : Store) (h n k : ℕ) → Subtree m (suc h) n → LeadsTo m n k None → ⊥
+led_none m h n k s l =
+    let hh : node m n ≡ node_of l.page = here m n l.page l.read in
+    let P : Node → Type 0 = λ o. o ≡ inner (keys_of o) (children_of o) in
+    l.step (subst P hh s.sound.0.is_inner)
+
+found_by : (m : Store) (n k : ℕ) (p : List ℕ) (found : Option ℕ) → m n ≡ Some p → Subtree m 0 n → LeafStep p k found → found ≡ find_item k (entries_of (node_of p))
+found_by m n k p None e s t = sym (leaf_miss k [] (entries_of (node_of p)) t.at (0, 0) (leaf_sound m n p e s) (omega (arith, t.place, t.is.counted)) (λ o. ranked p t.count t.at k t.is t.place t.before o) (λ i. missed p t.count t.at k t.is t.place t.behind t.value i)).1
+found_by m n k p (Some v) e s t =
+    let entry = entry_is p t.count t.at (0, 0) t.is t.value.0 in
+    sym ((leaf_hit k [] (entries_of (node_of p)) t.at (0, 0) (leaf_sound m n p e s) (omega (arith, t.value.0, t.is.counted)) (λ o. ranked p t.count t.at k t.is t.place t.before o) (ap (λ (x : Pair). x.0) entry ∙ t.value.1)).1
+    ∙ ap (λ (x : ℕ). Some x) (ap (λ (x : Pair). x.1) entry ∙ sym t.value.2))
+
+pub found_in : (m : Store) (n k : ℕ) (found : Option ℕ) → Subtree m 0 n → IsFoundIn m n k found → found ≡ find_item k (items m 0 n)
+found_in m n k found s f =
+    let hh : node m n ≡ node_of f.page = here m n f.page f.read in
+    let P : Node → Type 0 = λ o. o ≡ leaf (entries_of o) (next_of o) in
+    found_by m n k f.page found f.read s (f.step (subst P hh s.sound.is_leaf)) ∙ ap (λ (x : Node). find_item k (entries_of x)) (sym hh)

@@ -1,0 +1,42 @@
+-- the child has the key's pair, where there is one
+use Rattle.std.proofs.Common.{◌≡◌, ◌-◌, ℕ, suc, sym, ◌∙◌, ap, subst, arith}
+use Rattle.std.specs.Prelude.{Option}
+use Rattle.page_pool.specs.Pool.{IsTold}
+use Rattle.code_btree.specs.Items.{find_item}
+use Rattle.code_btree.specs.Tree.{Store, items, pages_in}
+use Rattle.code_btree.specs.Steps.{Subtree, LeadsTo}
+use Rattle.code_btree.proofs.Stores.{same_store}
+use Rattle.code_btree.proofs.Finds.{led, found_in}
+use Rattle.code_btree.proofs.look.+find_under.Goals as goal
+
+pub find_under-requires : goal.find_under-requires
+find_under-requires g t c κs within = (omega arith, (within, (λ told. tree (sym c.in_ok-child.ensures.looks.read.told ∙ told))))
+  where
+    tree : IsTold (g.P.Pages.shown c.args.pages.now) → Subtree (pages_in (g.P.Pages.shown c.child_for.new.pages)) (c.args.level - 1) c.in-Some.child
+    tree told =
+        let m : Store = pages_in (g.P.Pages.shown c.args.pages.now) in
+        let l : c.args.level ≡ suc (c.args.level - 1) = omega arith in
+        let S : ℕ → Type 0 = λ x. Subtree m x c.args.n in
+        let C : Option ℕ → Type 0 = λ x. LeadsTo m c.args.n c.args.key x in
+        let M : Store → Type 0 = λ x. Subtree x (c.args.level - 1) c.in-Some.child in
+        let d = led m (c.args.level - 1) c.args.n c.args.key c.in-Some.child (subst S l (c.requires told)) (subst C c.in-Some.is (c.in_ok-child.ensures.value told)) in
+        subst M (sym (same_store (g.P.Pages.shown c.child_for.new.pages) (g.P.Pages.shown c.args.pages.now) c.in_ok-child.ensures.looks.read.pages)) d.child
+
+pub returns-then-level-eq0-clause-value : goal.returns-then-level-eq0-clause-value
+returns-then-level-eq0-clause-value g t c = λ told.
+    let m : Store = pages_in (g.P.Pages.shown c.args.pages.now) in
+    let S : ℕ → Type 0 = λ x. Subtree m x c.args.n in
+    found_in m c.args.n c.args.key c.in_ok-found.found (subst S c.if-level-eq0.true (c.requires told)) (c.in_ok-found.ensures.value told)
+    ∙ ap (λ (x : ℕ). find_item c.args.key (items m x c.args.n)) (sym c.if-level-eq0.true)
+
+pub returns-clause-value : goal.returns-clause-value
+returns-clause-value g t c = λ told.
+    let m : Store = pages_in (g.P.Pages.shown c.args.pages.now) in
+    let l : c.args.level ≡ suc (c.args.level - 1) = omega arith in
+    let S : ℕ → Type 0 = λ x. Subtree m x c.args.n in
+    let C : Option ℕ → Type 0 = λ x. LeadsTo m c.args.n c.args.key x in
+    let d = led m (c.args.level - 1) c.args.n c.args.key c.in-Some.child (subst S l (c.requires told)) (subst C c.in-Some.is (c.in_ok-child.ensures.value told)) in
+    let e = same_store (g.P.Pages.shown c.child_for.new.pages) (g.P.Pages.shown c.args.pages.now) c.in_ok-child.ensures.looks.read.pages in
+    c.in_ok-found-2.ensures.value (c.in_ok-child.ensures.looks.read.told ∙ told)
+    ∙ (ap (λ (x : Store). find_item c.args.key (items x (c.args.level - 1) c.in-Some.child)) e
+    ∙ (sym d.same ∙ ap (λ (x : ℕ). find_item c.args.key (items m x c.args.n)) (sym l)))

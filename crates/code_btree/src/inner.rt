@@ -1,0 +1,141 @@
+ghost use Rattle.std.specs.Prelude.{◌≡◌, ◌+◌, ◌-◌, ◌*◌, ◌/◌, ◌%◌, ◌<◌, ◌≤◌, ◌≢◌, ◌∷◌, ◌++◌, [], length, take, drop, MatchOption};
+ghost use Rattle.code_btree.specs.Node.{IsInnerOf, key_in, child_in, keys_in, children_in, keys_of, children_of, node_of};
+ghost use Rattle.code_btree.specs.Node.Node.{inner};
+
+use crate::bytes::{
+    Page, half_at, number_at, paste, put_half, put_number, put_word, splice, word_at,
+};
+
+// The number of an inner page's keys; other bytes are no inner page.
+pub fn inner_count(page: &Page) -> Option<usize>
+    ensures { MatchOption result (node_of page.now ≢ inner (keys_of (node_of page.now)) (children_of (node_of page.now))) (λ count. IsInnerOf page.now count) }
+{
+    let count = usize::from(half_at(page, 2));
+    if page[0] != 2 {
+        return None;
+    }
+    if count > 169 {
+        return None;
+    }
+    Some(count)
+}
+
+// A key.
+pub fn key_at(page: &Page, at: usize) -> u128
+    requires { at < 169 }
+    ensures { result ≡ key_in page.now at }
+{
+    number_at(page, 32 + 16 * at)
+}
+
+// A child.
+pub fn child_at(page: &Page, at: usize) -> u64
+    requires { at < 170 }
+    ensures { result ≡ child_in page.now at }
+{
+    word_at(page, 2736 + 8 * at)
+}
+
+// The place of the child under which a key belongs, by binary search.
+pub fn place_of(page: &Page, count: usize, key: u128) -> usize
+    requires { count ≤ 169 }
+    ensures bound { result ≤ count }
+    ensures before { 1 ≤ result → key_in page.now (result - 1) ≤ key }
+    ensures behind { result < count → key < key_in page.now result }
+{
+    let mut low = 0;
+    let mut high = count;
+    'halves: while low < high {
+        let middle = low + (high - low) / 2;
+        if key_at(page, middle) <= key {
+            low = middle + 1;
+        } else {
+            high = middle;
+        }
+    }
+    low
+}
+
+// The 16 bytes of a key.
+pub fn key_bytes(key: u128) -> [u8; 16]
+    ensures { keys_in result ≡ key ∷ [] }
+{
+    let mut cell = [0; 16];
+    put_number(&mut cell, 0, key);
+    cell
+}
+
+// The 8 bytes of a child.
+pub fn child_bytes(child: u64) -> [u8; 8]
+    ensures { children_in result ≡ child ∷ [] }
+{
+    let mut cell = [0; 8];
+    put_word(&mut cell, 0, child);
+    cell
+}
+
+// The bytes of the keys from one place to another.
+pub fn keys_at(page: &Page, count: usize, from: usize, to: usize) -> &[u8]
+    requires order { from ≤ to }
+    requires within { to ≤ count }
+    requires fits { count ≤ 169 }
+    ensures size { length result.now ≡ 16 * (to - from) }
+    ensures keys { IsInnerOf page.now count → keys_in result.now ≡ take (to - from) (drop from (keys_of (node_of page.now))) }
+{
+    &page[32 + 16 * from..32 + 16 * to]
+}
+
+// The bytes of the children from one place to another.
+pub fn children_at(page: &Page, count: usize, from: usize, to: usize) -> &[u8]
+    requires order { from ≤ to }
+    requires within { to ≤ count + 1 }
+    requires fits { count ≤ 169 }
+    ensures size { length result.now ≡ 8 * (to - from) }
+    ensures children { IsInnerOf page.now count → children_in result.now ≡ take (to - from) (drop from (children_of (node_of page.now))) }
+{
+    &page[2736 + 8 * from..2736 + 8 * to]
+}
+
+// Keys in the place of those from `from` to `to`, and children in the place of those from `first` to `last`.
+pub fn splice_inner(
+    page: &mut Page,
+    count: usize,
+    from: usize,
+    to: usize,
+    keys: &[u8],
+    first: usize,
+    last: usize,
+    children: &[u8],
+)
+    requires inner { IsInnerOf page.old count }
+    requires order { from ≤ to }
+    requires behind { to ≤ count }
+    requires first_order { first ≤ last }
+    requires last_behind { last ≤ count + 1 }
+    requires whole { length keys.now % 16 ≡ 0 }
+    requires children_whole { length children.now % 8 ≡ 0 }
+    requires room { from + (length keys.now / 16 + (count - to)) ≤ 169 }
+    requires one_more { first + (length children.now / 8 + ((count + 1) - last)) ≡ from + (length keys.now / 16 + (count - to)) + 1 }
+    ensures value { node_of page.new ≡ inner (take from (keys_of (node_of page.old)) ++ (keys_in keys.now ++ drop to (keys_of (node_of page.old)))) (take first (children_of (node_of page.old)) ++ (children_in children.now ++ drop last (children_of (node_of page.old)))) }
+    ensures is { IsInnerOf page.new (from + (length keys.now / 16 + (count - to))) }
+{
+    splice(page, 32 + 16 * from, 32 + 16 * to, 32 + 16 * count, keys);
+    splice(
+        page,
+        2736 + 8 * first,
+        2736 + 8 * last,
+        2744 + 8 * count,
+        children,
+    );
+    put_half(page, 2, (from + (keys.len() / 16 + (count - to))) as u16);
+}
+
+// An inner page of no keys and one child.
+pub fn lone_child(child: u64) -> Page
+    ensures { node_of result ≡ inner [] (child ∷ []) }
+{
+    let mut page = [0; 4096];
+    paste(&mut page, 0, &[2]);
+    put_word(&mut page, 2736, child);
+    page
+}

@@ -1,0 +1,151 @@
+ghost use Rattle.std.specs.Prelude.{◌≡◌, ◌≤◌, ◌<◌, ◌+◌, IfOk, IfSome, Some};
+ghost use Rattle.page_pool.specs.Pool.{IsOpen, IsTold};
+ghost use Rattle.page_pool.specs.Causes.{HasPageCause};
+ghost use Rattle.page_pool.specs.Steps.{InCommand};
+ghost use Rattle.code_btree.specs.Node.{IsLeafOf, IsInnerOf, node_of, entries_of, next_of, keys_of, children_of};
+ghost use Rattle.code_btree.specs.Tree.{live, pages_in};
+ghost use Rattle.code_btree.specs.Steps.{put_at, Subtree, InsertsUnder, SplitsLeaf, Adopts, count_after};
+
+use crate::bytes::Page;
+use crate::inner::{child_at, inner_count, place_of};
+use crate::leaf::{
+    entry_bytes, entry_key_at, leaf_count, rank, set_next, splice_entries, value_found,
+};
+use crate::split::{cut_inner, cut_leaf, put_child, put_entry};
+use crate::store::{gain, read, write};
+use page_pool::{Disk, PageFault, Pool};
+
+/// What became of a page under which a pair was put.
+#[derive(Clone, Copy)]
+pub enum Grown {
+    /// It is whole.
+    Kept,
+    /// It was split: the least key under the new page, and that page's number.
+    Split(u128, u64),
+}
+
+// A full leaf is split, with one entry more.
+fn split_leaf<D: Disk>(
+    pool: &mut Pool<D>,
+    n: u64,
+    mut page: Page,
+    at: usize,
+    key: u128,
+    value: u128,
+) -> Result<(u128, u64), PageFault>
+    requires opened { IsOpen pool.old }
+    requires leaf { IsLeafOf page 127 }
+    requires place { at ≤ 127 }
+    ensures value { IfOk result (λ r. live (pages_in pool.old) n ≡ 1 → SplitsLeaf (pages_in pool.old) (pages_in pool.new) n r.1 r.0 (put_at at (key, value) (entries_of (node_of page))) (next_of (node_of page))) }
+    ensures within { InCommand pool.old pool.new }
+    ensures cause { HasPageCause pool.old pool.new result }
+{
+    let right = cut_leaf(&mut page, at, key, value);
+    let r = gain(pool, &right)?;
+    set_next(&mut page, 64, r);
+    write(pool, n, &page)?;
+    Ok((entry_key_at(&right, 0), r))
+}
+
+// A pair is put into a leaf.
+fn insert_leaf<D: Disk>(
+    pool: &mut Pool<D>,
+    n: u64,
+    key: u128,
+    value: u128,
+) -> Result<(Option<u128>, Grown), PageFault>
+    requires opened { IsOpen pool.old }
+    requires tree { IsTold pool.old → Subtree (pages_in pool.old) 0 n }
+    ensures value { IfOk result (λ r. IsTold pool.old → InsertsUnder (pages_in pool.old) (pages_in pool.new) 0 n key value r.0 r.1) }
+    ensures within { InCommand pool.old pool.new }
+    ensures cause { HasPageCause pool.old pool.new result }
+{
+    let mut page = read(pool, n)?;
+    let Some(count) = leaf_count(&page) else {
+        return Err(PageFault::Memory);
+    };
+    let at = rank(&page, count, key);
+    if let Some(was) = value_found(&page, count, at, key) {
+        splice_entries(&mut page, count, at, at + 1, &entry_bytes(key, value));
+        write(pool, n, &page)?;
+        return Ok((Some(was), Grown::Kept));
+    }
+    if count < 127 {
+        put_entry(&mut page, count, at, key, value);
+        write(pool, n, &page)?;
+        return Ok((None, Grown::Kept));
+    }
+    let (up, right) = split_leaf(pool, n, page, at, key, value)?;
+    Ok((None, Grown::Split(up, right)))
+}
+
+// An inner page takes a child in, behind child `at`.
+fn adopt<D: Disk>(
+    pool: &mut Pool<D>,
+    n: u64,
+    mut page: Page,
+    count: usize,
+    at: usize,
+    key: u128,
+    child: u64,
+) -> Result<Grown, PageFault>
+    requires opened { IsOpen pool.old }
+    requires inner { IsInnerOf page count }
+    requires place { at ≤ count }
+    ensures value { IfOk result (λ grown. live (pages_in pool.old) n ≡ 1 → Adopts (pages_in pool.old) (pages_in pool.new) n (put_at at key (keys_of (node_of page))) (put_at (at + 1) child (children_of (node_of page))) grown) }
+    ensures within { InCommand pool.old pool.new }
+    ensures cause { HasPageCause pool.old pool.new result }
+{
+    if count < 169 {
+        put_child(&mut page, count, at, key, child);
+        write(pool, n, &page)?;
+        return Ok(Grown::Kept);
+    }
+    let (up, right) = cut_inner(&mut page, at, key, child);
+    let r = gain(pool, &right)?;
+    write(pool, n, &page)?;
+    Ok(Grown::Split(up, r))
+}
+
+/// Puts a pair into the tree under page `n`, which stands `level` above the leaves.
+pub fn insert_under<D: Disk>(
+    pool: &mut Pool<D>,
+    level: u32,
+    n: u64,
+    key: u128,
+    value: u128,
+) -> Result<(Option<u128>, Grown), PageFault>
+    requires opened { IsOpen pool.old }
+    requires tree { IsTold pool.old → Subtree (pages_in pool.old) level n }
+    ensures value { IfOk result (λ r. IsTold pool.old → InsertsUnder (pages_in pool.old) (pages_in pool.new) level n key value r.0 r.1) }
+    ensures within { InCommand pool.old pool.new }
+    ensures cause { HasPageCause pool.old pool.new result }
+{
+    if level == 0 {
+        return insert_leaf(pool, n, key, value);
+    }
+    let page = read(pool, n)?;
+    let Some(count) = inner_count(&page) else {
+        return Err(PageFault::Memory);
+    };
+    let at = place_of(&page, count, key);
+    let child = child_at(&page, at);
+    let (was, below) = insert_under(pool, level - 1, child, key, value)?;
+    match below {
+        Grown::Kept => Ok((was, Grown::Kept)),
+        Grown::Split(up, right) => {
+            let grown = adopt(pool, n, page, count, at, up, right)?;
+            Ok((was, grown))
+        }
+    }
+}
+
+/// The number of entries after a pair was put, where it can be told.
+pub fn counted(entries: u64, was: Option<u128>) -> Option<u64>
+    ensures { IfSome result (λ count. count ≡ count_after entries was) }
+{
+    match was {
+        Some(_) => Some(entries),
+        None => entries.checked_add(1),
+    }
+}

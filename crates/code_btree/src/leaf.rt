@@ -1,0 +1,147 @@
+ghost use Rattle.std.specs.Prelude.{◌≡◌, ◌+◌, ◌-◌, ◌*◌, ◌/◌, ◌%◌, ◌<◌, ◌≤◌, ◌≢◌, ◌∷◌, ◌++◌, [], length, take, drop, MatchOption};
+ghost use Rattle.code_btree.specs.Node.{IsLeaf, IsLeafOf, entry_of, entry_key, entry_value, entries_in, entries_of, next_of, node_of};
+ghost use Rattle.code_btree.specs.Node.Node.{leaf};
+ghost use Rattle.code_btree.specs.Items.{Ascending, floor_item};
+
+use crate::bytes::{
+    Page, half_at, number_at, paste, put_half, put_number, put_word, splice, word_at,
+};
+
+// The number of a leaf's entries; other bytes are no leaf.
+pub fn leaf_count(page: &Page) -> Option<usize>
+    ensures { MatchOption result (node_of page.now ≢ leaf (entries_of (node_of page.now)) (next_of (node_of page.now))) (λ count. IsLeafOf page.now count) }
+{
+    let count = usize::from(half_at(page, 2));
+    if page[0] != 1 {
+        return None;
+    }
+    if count > 127 {
+        return None;
+    }
+    Some(count)
+}
+
+// The key of an entry.
+pub fn entry_key_at(page: &Page, at: usize) -> u128
+    requires { at < 127 }
+    ensures { result ≡ entry_key page.now at }
+{
+    number_at(page, 32 + 32 * at)
+}
+
+// The value of an entry.
+pub fn entry_value_at(page: &Page, at: usize) -> u128
+    requires { at < 127 }
+    ensures { result ≡ entry_value page.now at }
+{
+    number_at(page, 48 + 32 * at)
+}
+
+// Where a key stands or would stand, by binary search.
+pub fn rank(page: &Page, count: usize, key: u128) -> usize
+    requires { count ≤ 127 }
+    ensures bound { result ≤ count }
+    ensures before { 1 ≤ result → entry_key page.now (result - 1) < key }
+    ensures behind { result < count → key ≤ entry_key page.now result }
+{
+    let mut low = 0;
+    let mut high = count;
+    'halves: while low < high {
+        let middle = low + (high - low) / 2;
+        if entry_key_at(page, middle) < key {
+            low = middle + 1;
+        } else {
+            high = middle;
+        }
+    }
+    low
+}
+
+// The value of a key, where it stands at this place.
+pub fn value_found(page: &Page, count: usize, at: usize, key: u128) -> Option<u128>
+    requires { count ≤ 127 }
+    ensures { MatchOption result (at < count → entry_key page.now at ≢ key) (λ value. (at < count) × (entry_key page.now at ≡ key) × (value ≡ entry_value page.now at)) }
+{
+    if at >= count {
+        return None;
+    }
+    if entry_key_at(page, at) != key {
+        return None;
+    }
+    Some(entry_value_at(page, at))
+}
+
+// The entry of the greatest key not above this one.
+pub fn floor_of(page: &Page, count: usize, key: u128) -> Option<(u128, u128)>
+    requires { count ≤ 127 }
+    ensures { IsLeafOf page.now count → Ascending (entries_of (node_of page.now)) → result ≡ floor_item key (entries_of (node_of page.now)) }
+{
+    let at = rank(page, count, key);
+    if let Some(value) = value_found(page, count, at, key) {
+        return Some((key, value));
+    }
+    if at == 0 {
+        return None;
+    }
+    Some((entry_key_at(page, at - 1), entry_value_at(page, at - 1)))
+}
+
+// The 32 bytes of an entry.
+pub fn entry_bytes(key: u128, value: u128) -> [u8; 32]
+    ensures { entries_in result ≡ (key, value) ∷ [] }
+{
+    let mut cell = [0; 32];
+    put_number(&mut cell, 0, key);
+    put_number(&mut cell, 16, value);
+    cell
+}
+
+// The bytes of a leaf's entries from one place to another.
+pub fn entries_at(page: &Page, count: usize, from: usize, to: usize) -> &[u8]
+    requires order { from ≤ to }
+    requires within { to ≤ count }
+    requires fits { count ≤ 127 }
+    ensures size { length result.now ≡ 32 * (to - from) }
+    ensures entries { IsLeafOf page.now count → entries_in result.now ≡ take (to - from) (drop from (entries_of (node_of page.now))) }
+{
+    &page[32 + 32 * from..32 + 32 * to]
+}
+
+// Entries in the place of those from `from` to `to`.
+pub fn splice_entries(page: &mut Page, count: usize, from: usize, to: usize, bytes: &[u8])
+    requires leaf { IsLeafOf page.old count }
+    requires order { from ≤ to }
+    requires behind { to ≤ count }
+    requires whole { length bytes.now % 32 ≡ 0 }
+    requires room { from + (length bytes.now / 32 + (count - to)) ≤ 127 }
+    ensures value { node_of page.new ≡ leaf (take from (entries_of (node_of page.old)) ++ (entries_in bytes.now ++ drop to (entries_of (node_of page.old)))) (next_of (node_of page.old)) }
+    ensures is { IsLeafOf page.new (from + (length bytes.now / 32 + (count - to))) }
+{
+    splice(page, 32 + 32 * from, 32 + 32 * to, 32 + 32 * count, bytes);
+    put_half(page, 2, (from + (bytes.len() / 32 + (count - to))) as u16);
+}
+
+// The number of the leaf that follows.
+pub fn next_at(page: &Page) -> u64
+    ensures { IsLeaf page.now → result ≡ next_of (node_of page.now) }
+{
+    word_at(page, 8)
+}
+
+// The leaf that follows.
+pub fn set_next(page: &mut Page, count: usize, next: u64)
+    requires { IsLeafOf page.old count }
+    ensures value { node_of page.new ≡ leaf (entries_of (node_of page.old)) next }
+    ensures is { IsLeafOf page.new count }
+{
+    put_word(page, 8, next);
+}
+
+// A leaf of no entries, the last of its chain.
+pub fn empty_leaf() -> Page
+    ensures { node_of result ≡ leaf [] 0 }
+{
+    let mut page = [0; 4096];
+    paste(&mut page, 0, &[1]);
+    page
+}

@@ -1,0 +1,29 @@
+//! A B+-tree in pages of a pool: a finite map from u128 to u128.
+//!
+//! A leaf page has pairs in the order of their keys and leads to the next leaf; an inner page has children, and
+//! between two of them the least key under the second. A page that is full is cut in two, and the key between the
+//! halves goes up; a page that is short is joined with a neighbour, or gets one entry of it. A run gives the pairs
+//! from a key on, leaf by leaf. Above: the quadtree, tuple files and attribute indexes. Below: `page_pool`.
+//! Contracts see a tree as its pairs in ascending order, and say which pages are its own. Read `specs/Tree.antt`
+//! first, then `specs/Calls.antt` and `specs/Run.antt`; `specs/Node.antt` has the two pages byte by byte.
+//! After R. Bayer and E. McCreight (1972); B+-trees after D. Comer (1979).
+#![tactic(auto)]
+
+mod bytes;
+mod chain;
+mod inner;
+mod insert;
+mod join;
+pub mod laws;
+mod leaf;
+mod leaf_run;
+mod look;
+mod map;
+mod remove;
+mod split;
+mod steps;
+mod store;
+
+pub use leaf_run::{Entry, PageRun, page_run};
+pub use map::Tree;
+pub use steps::Run;
