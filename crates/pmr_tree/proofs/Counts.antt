@@ -1,12 +1,11 @@
 -- The number of entries is that of listings.
-use Rattle.std.proofs.Common.{◌≡◌, ℕ, ◌+◌, List, [], ◌∷◌, ◌++◌, length, map, refl, sym, ◌∙◌, ap, ap₂, arith}
-use Rattle.std.specs.Prelude.{max}
+use Rattle.std.proofs.Common.{◌≡◌, ◌+◌, List, [], ◌∷◌, ◌++◌, length, map, refl, sym, ◌∙◌, ap, ap₂, arith}
 use Rattle.page_pool.specs.Disk.{PageMap}
 use Rattle.z_code.specs.Block.{child}
 use Rattle.z_code.specs.declared.block.Block.{Block}
 use Rattle.sand_model.specs.Tree.{Tree, Leaf, Inner, listings}
-use Rattle.pmr_tree.specs.Keys.{key_of, leaf_keys, keys}
-use Rattle.pmr_tree.specs.Quadtree.{entries_at, keys_at, tree_at, IsPmr}
+use Rattle.pmr_tree.specs.Keys.{key_of, keys}
+use Rattle.pmr_tree.specs.Quadtree.{entries_at, tree_at, IsPmr}
 use Rattle.pmr_tree.specs.declared.quadtree.Pmr.{Pmr}
 
 length_map : {A B : Type 0} (f : A → B) (xs : List A) → length (map f xs) ≡ length xs

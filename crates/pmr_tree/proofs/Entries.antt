@@ -1,5 +1,5 @@
 -- Entries and the keys in them; a leaf's ids and values, as they are read.
-use Rattle.std.proofs.Common.{◌≡◌, ◌≢◌, ℕ, zero, suc, ◌+◌, ◌*◌, ◌^◌, ◌%◌, ◌/◌, ◌<◌, ◌≤◌, Bool, true, false, cond, not, List, [], ◌∷◌, ◌++◌, length, map, refl, sym, ◌∙◌, ap, ap₂, subst, arith, get_or, drop, take, add-one}
+use Rattle.std.proofs.Common.{◌≡◌, ℕ, zero, suc, ◌+◌, ◌^◌, ◌<◌, ◌≤◌, Bool, true, false, cond, not, List, [], ◌∷◌, ◌++◌, length, map, refl, sym, ◌∙◌, ap, subst, arith, get_or, drop, take, add-one}
 use Rattle.std.specs.Prelude.{filter, nat_eq, Option, None, Some, MatchOption, IfSome}
 use Rattle.std.proofs.lemmas.Bool.Decides.{nat_tests}
 use Rattle.z_code.specs.declared.block.Block.{Block}
@@ -10,7 +10,7 @@ use Rattle.pmr_tree.specs.Lists.{Each, is_between, put_all, take_all}
 use Rattle.pmr_tree.specs.Keys.{key_of, mark_of, leaf_keys, own, IsId, Reads, id_in, ids_in}
 use Rattle.pmr_tree.specs.Leaves.{Pair, firsts, Passes, own_pairs, kept_of, ids_of, ListPasses, IsLeafOf}
 use Rattle.pmr_tree.specs.declared.leaf.Kept.{Kept}
-use Rattle.pmr_tree.proofs.Orders.{Test, holds, fails, test, each_filter, each_map, each_of_map, filter_all}
+use Rattle.pmr_tree.proofs.Orders.{holds, fails, test, each_filter}
 use Rattle.pmr_tree.proofs.KeyLists.{own_leaf, own_inner}
 
 pub map_filter : {A B : Type 0} (f : A → B) (p : B → Bool) (xs : List A) → map f (filter (λ x. p (f x)) xs) ≡ filter p (map f xs)

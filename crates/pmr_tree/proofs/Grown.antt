@@ -1,6 +1,6 @@
 -- What the entries of a grown quadtree stand for.
-use Rattle.std.proofs.Common.{◌≡◌, ◌≢◌, ℕ, zero, suc, ◌+◌, ◌<◌, ◌≤◌, ◌^◌, ◌↔◌, Bool, true, false, cond, not, ◌||◌, List, [], ◌∷◌, ◌++◌, length, map, refl, sym, ◌∙◌, ap, ap₂, subst, arith}
-use Rattle.std.specs.Prelude.{filter, find, nat_eq, nat_lt, Contains, IsTrue, Option, None, Some, is_some, option_map}
+use Rattle.std.proofs.Common.{◌≡◌, ℕ, suc, ◌≤◌, ◌↔◌, Bool, true, false, not, ◌||◌, List, [], ◌∷◌, refl, sym, ◌∙◌, ap, ap₂, subst, arith}
+use Rattle.std.specs.Prelude.{nat_eq, Contains, IsTrue, Option, None, Some, is_some}
 use Rattle.std.proofs.lemmas.Bool.{false≢true}
 use Rattle.std.proofs.lemmas.Bool.Decides.{nat_tests}
 use Rattle.page_pool.specs.Disk.{PageMap}
@@ -16,17 +16,17 @@ use Rattle.sand_model.specs.FigureGap.{IsMeeting}
 use Rattle.sand_model.specs.Measure.{Measure, IsMeasure, meets}
 use Rattle.sand_model.specs.Nodes.{rough_figure}
 use Rattle.sand_model.specs.Database.{shape_at, meets_block, tree_with}
-use Rattle.sand_model.specs.Tree.{Tree, root_block, grown, Fits, IsFull}
+use Rattle.sand_model.specs.Tree.{root_block, IsFull}
 use Rattle.ring_geom.specs.MeasureLaws.{ChildrenMeet, TestIsMeeting}
 use Rattle.ring_geom.specs.Laws.{GapExists}
-use Rattle.pmr_tree.specs.Lists.{Each, Rises}
-use Rattle.pmr_tree.specs.Keys.{id_in, keys}
-use Rattle.pmr_tree.specs.Leaves.{Pair, firsts, Passes, id_test, Told}
+use Rattle.pmr_tree.specs.Lists.{Each}
+use Rattle.pmr_tree.specs.Keys.{id_in}
+use Rattle.pmr_tree.specs.Leaves.{Pair, Passes, id_test, Told}
 use Rattle.pmr_tree.specs.Changes.{Becomes, grown_where}
-use Rattle.pmr_tree.specs.Entries.{value_of, KeepsIn}
+use Rattle.pmr_tree.specs.Entries.{value_of}
 use Rattle.pmr_tree.specs.Laws.{AreInPlane}
-use Rattle.pmr_tree.specs.Quadtree.{store_of, entries_at, keys_at, pages_at, tree_at, IsPmr, KeepsShape, FitsOthers}
-use Rattle.pmr_tree.specs.Calls.{Grows, Stays}
+use Rattle.pmr_tree.specs.Quadtree.{store_of, entries_at, keys_at, pages_at, tree_at, IsPmr, FitsOthers}
+use Rattle.pmr_tree.specs.Calls.{Grows}
 use Rattle.pmr_tree.specs.Plot.{TellsOf}
 use Rattle.pmr_tree.specs.declared.quadtree.Pmr.{Pmr}
 use Rattle.pmr_tree.proofs.Orders.{each_map}

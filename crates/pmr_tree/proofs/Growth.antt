@@ -1,5 +1,5 @@
 -- Growing and shrinking a tree: what fits goes on to fit, full trees stay full, and what a shape does not meet stays as it is.
-use Rattle.std.proofs.Common.{◌≡◌, ◌≢◌, ℕ, zero, suc, ◌+◌, ◌<◌, ◌≤◌, ◌⊎◌, Bool, true, false, cond, not, ◌&&◌, ◌||◌, List, [], ◌∷◌, ◌++◌, length, map, refl, sym, ◌∙◌, ap, ap₂, subst, inl, inr, arith}
+use Rattle.std.proofs.Common.{◌≡◌, ◌≢◌, ℕ, suc, ◌<◌, ◌≤◌, Bool, true, false, cond, not, ◌&&◌, ◌||◌, List, [], ◌∷◌, length, refl, sym, ◌∙◌, ap, ap₂, subst, arith}
 use Rattle.std.specs.Prelude.{filter, nat_eq, nat_lt, Contains}
 use Rattle.std.proofs.lemmas.Bool.{false≢true}
 use Rattle.std.proofs.lemmas.Bool.Decides.{nat_tests}
@@ -9,7 +9,7 @@ use Rattle.z_code.specs.declared.block.Block.{Block}
 use Rattle.sand_model.specs.Tree.{Tree, Leaf, Inner, add, union, union_of_four, without, split, settled, grown, merged, shrunk, Fits, IsShallow, HasEnough, IsFull}
 use Rattle.pmr_tree.specs.Lists.{Each, Above, Rises}
 use Rattle.pmr_tree.specs.Changes.{Quarters, grown_where, shrunk_where, ListsWhere}
-use Rattle.pmr_tree.proofs.Orders.{Test, holds, fails, test, each_map, each_add, each_filter, add_first, add_after, add_here, filter_add, filter_swap, filter_weaker, filter_same, filter_all, rises_add, rises_filter, order, below, same, above, add_before}
+use Rattle.pmr_tree.proofs.Orders.{holds, fails, test, each_add, each_filter, add_first, add_after, add_here, filter_add, filter_swap, filter_weaker, filter_same, rises_add, rises_filter, order, below, same, above, add_before}
 use Rattle.pmr_tree.proofs.Quarter.{child_block}
 
 -- a test of what meets

@@ -1,18 +1,16 @@
 -- The keys of a tree: where they lie, and what a list of keys says of the children of a block.
-use Rattle.std.proofs.Common.{◌≡◌, ◌≢◌, ℕ, zero, suc, ◌+◌, ◌*◌, ◌^◌, ◌%◌, ◌<◌, ◌≤◌, ◌⊎◌, Bool, true, false, cond, not, ◌&&◌, List, [], ◌∷◌, ◌++◌, length, map, refl, sym, ◌∙◌, ap, ap₂, subst, inl, inr, arith, append_assoc, append-nil}
-use Rattle.std.specs.Prelude.{filter, nat_eq, nat_lt, nat_le}
-use Rattle.std.proofs.lemmas.Bool.{cases_lt, false≢true}
-use Rattle.std.proofs.lemmas.Bool.Decides.{nat_tests}
+use Rattle.std.proofs.Common.{◌≡◌, ◌≢◌, ℕ, suc, ◌+◌, ◌*◌, ◌^◌, ◌<◌, ◌≤◌, Bool, true, false, List, [], ◌∷◌, ◌++◌, map, refl, sym, ◌∙◌, ap, ap₂, inl, inr, arith, append-nil}
+use Rattle.std.specs.Prelude.{filter}
+use Rattle.std.proofs.lemmas.Bool.{cases_lt}
 use Rattle.std.proofs.lemmas.List.Elements.{filter-append}
 use Rattle.std.proofs.Math.Nat.{mul-le-mul_right}
 use Rattle.sand_base.specs.declared.TheConstants.{COORDINATE_BITS}
 use Rattle.z_code.specs.Block.{code_count, child}
 use Rattle.z_code.specs.declared.block.Block.{Block}
-use Rattle.sand_model.specs.Tree.{Tree, Leaf, Inner, add, without}
-use Rattle.pmr_tree.specs.Lists.{Each, Above, Rises, is_between, part, put_all, take_all}
-use Rattle.pmr_tree.specs.Keys.{key_of, mark_of, end_of, leaf_keys, keys, is_inside, within, outside, own, IsId, IsShaped, Reads, id_in, ids_in}
-use Rattle.pmr_tree.specs.Changes.{Stands, Becomes}
-use Rattle.pmr_tree.proofs.Orders.{each_map, each_append, each_filter, each_of_map, filter_all, filter_none, filter_weaker, filter_swap, rises_append, rises_filter, cut, between_true, between_below, between_above, between_from, between_to, put_all_new, filter_put_all, rises_put_all, put_all_append, take_all_same, take_all_other, filter_take_all, rises_take_all}
+use Rattle.sand_model.specs.Tree.{Tree, Leaf, Inner}
+use Rattle.pmr_tree.specs.Lists.{Each, Rises, is_between, part}
+use Rattle.pmr_tree.specs.Keys.{key_of, mark_of, end_of, leaf_keys, keys, is_inside, within, own, IsId, IsShaped, Reads}
+use Rattle.pmr_tree.proofs.Orders.{each_map, each_append, each_of_map, filter_all, filter_none, filter_weaker, rises_append, cut, between_true, between_below, between_above, between_from, between_to}
 use Rattle.pmr_tree.proofs.Quarter.{quarter_count, count_some}
 
 -- where a key of the tree of a block lies

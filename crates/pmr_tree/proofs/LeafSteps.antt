@@ -1,18 +1,17 @@
 -- What happens to a leaf: an id comes, the leaf splits, or nothing of its block changes.
-use Rattle.std.proofs.Common.{◌≡◌, ◌≢◌, ℕ, zero, suc, ◌+◌, ◌*◌, ◌^◌, ◌<◌, ◌≤◌, Bool, true, false, cond, not, ◌&&◌, List, [], ◌∷◌, ◌++◌, length, map, refl, sym, ◌∙◌, ap, ap₂, subst, arith}
-use Rattle.std.specs.Prelude.{filter, nat_eq, nat_lt}
-use Rattle.std.proofs.lemmas.Bool.{false≢true}
+use Rattle.std.proofs.Common.{◌≡◌, ℕ, ◌<◌, ◌≤◌, Bool, true, false, cond, not, ◌&&◌, List, [], ◌∷◌, ◌++◌, length, map, refl, sym, ◌∙◌, ap, ap₂, subst, arith}
+use Rattle.std.specs.Prelude.{filter, nat_lt}
 use Rattle.std.proofs.lemmas.Bool.Decides.{nat_tests}
 use Rattle.sand_base.specs.declared.TheConstants.{COORDINATE_BITS}
-use Rattle.z_code.specs.Block.{code_count, child}
+use Rattle.z_code.specs.Block.{child}
 use Rattle.z_code.specs.declared.block.Block.{Block}
-use Rattle.sand_model.specs.Tree.{Tree, Leaf, Inner, add, without, split, settled, grown}
+use Rattle.sand_model.specs.Tree.{Tree, Leaf, Inner, add, without, split, settled}
 use Rattle.pmr_tree.specs.Lists.{Each, Rises, put_all, take_all}
-use Rattle.pmr_tree.specs.Keys.{key_of, mark_of, end_of, leaf_keys, keys, is_inside, within, outside, own, IsId, IsShaped, Reads}
+use Rattle.pmr_tree.specs.Keys.{key_of, mark_of, leaf_keys, keys, is_inside, within, outside, own, IsId, IsShaped, Reads}
 use Rattle.pmr_tree.specs.Changes.{Stands, Becomes, grown_where, entered, settling, below_grown}
 use Rattle.pmr_tree.specs.Leaves.{IsLeafOf, ids_of}
 use Rattle.pmr_tree.specs.declared.leaf.Kept.{Kept}
-use Rattle.pmr_tree.proofs.Orders.{Test, holds, fails, test, each_add, each_filter, filter_add, rises_add, rises_filter, put_all_append, map_add, add_some, length_add}
+use Rattle.pmr_tree.proofs.Orders.{each_add, each_filter, filter_add, rises_add, rises_filter, put_all_append, map_add, add_some, length_add}
 use Rattle.pmr_tree.proofs.KeyLists.{lies_inside, own_leaf}
 use Rattle.pmr_tree.proofs.Entries.{leaf_is, length_ids}
 use Rattle.pmr_tree.proofs.Steps.{becomes_refilled, becomes_same, becomes_then, becomes_as}

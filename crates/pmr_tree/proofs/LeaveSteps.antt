@@ -1,18 +1,15 @@
 -- An id leaves a leaf: its key goes, and a mark comes where no id is left.
-use Rattle.std.proofs.Common.{◌≡◌, ◌≢◌, ℕ, zero, suc, ◌+◌, ◌*◌, ◌^◌, ◌<◌, ◌≤◌, Bool, true, false, cond, not, List, [], ◌∷◌, ◌++◌, length, map, refl, sym, ◌∙◌, ap, ap₂, subst, arith, get_or}
-use Rattle.std.specs.Prelude.{filter, nat_eq, nat_lt}
-use Rattle.std.proofs.lemmas.Bool.{false≢true}
+use Rattle.std.proofs.Common.{◌≡◌, ℕ, ◌<◌, Bool, true, false, cond, not, List, [], ◌∷◌, length, map, refl, sym, ◌∙◌, ap, ap₂, subst, arith, get_or}
+use Rattle.std.specs.Prelude.{nat_eq}
 use Rattle.std.proofs.lemmas.Bool.Decides.{nat_tests}
-use Rattle.sand_base.specs.declared.TheConstants.{COORDINATE_BITS}
-use Rattle.z_code.specs.Block.{child}
 use Rattle.z_code.specs.declared.block.Block.{Block}
 use Rattle.sand_model.specs.Tree.{Tree, Leaf, Inner, add, without}
-use Rattle.pmr_tree.specs.Lists.{Each, Rises, put_all, take_all}
-use Rattle.pmr_tree.specs.Keys.{key_of, mark_of, leaf_keys, keys, is_inside, within, outside, own, IsId, IsShaped, Reads}
+use Rattle.pmr_tree.specs.Lists.{Rises, put_all, take_all}
+use Rattle.pmr_tree.specs.Keys.{key_of, mark_of, leaf_keys, keys, is_inside, within, outside, IsId, IsShaped, Reads}
 use Rattle.pmr_tree.specs.Changes.{Stands, Becomes, left, shrunk_where}
 use Rattle.pmr_tree.specs.Leaves.{IsLeafOf, ids_of}
 use Rattle.pmr_tree.specs.declared.leaf.Kept.{Kept}
-use Rattle.pmr_tree.proofs.Orders.{Test, holds, fails, test, each_filter, filter_swap, rises_filter, take_all_other}
+use Rattle.pmr_tree.proofs.Orders.{holds, fails, test, each_filter, filter_swap, rises_filter, take_all_other}
 use Rattle.pmr_tree.proofs.Entries.{leaf_is, length_ids}
 use Rattle.pmr_tree.proofs.LeafSteps.{key_inside}
 use Rattle.pmr_tree.proofs.Steps.{becomes_refilled, becomes_same, becomes_as}

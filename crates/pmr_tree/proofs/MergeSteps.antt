@@ -1,11 +1,10 @@
 -- Four leaves become one, where they have too few ids together; and an inner place whose children have shrunk.
-use Rattle.std.proofs.Common.{◌≡◌, ◌≢◌, ℕ, zero, suc, ◌+◌, ◌<◌, ◌≤◌, Bool, true, false, cond, List, [], ◌∷◌, ◌++◌, length, get_or, refl, sym, ◌∙◌, ap, ap₂, subst, arith}
+use Rattle.std.proofs.Common.{◌≡◌, ℕ, ◌<◌, ◌≤◌, Bool, true, false, cond, List, [], ◌∷◌, ◌++◌, length, get_or, refl, sym, ◌∙◌, ap, ap₂, subst, arith}
 use Rattle.std.specs.Prelude.{nat_lt}
 use Rattle.std.proofs.lemmas.Bool.Decides.{nat_tests}
-use Rattle.sand_base.specs.declared.TheConstants.{COORDINATE_BITS}
 use Rattle.z_code.specs.Block.{child, children_of}
 use Rattle.z_code.specs.declared.block.Block.{Block}
-use Rattle.sand_model.specs.Tree.{Tree, Leaf, Inner, union, union_of_four, merged, HasEnough}
+use Rattle.sand_model.specs.Tree.{Tree, Leaf, Inner, union, union_of_four, merged}
 use Rattle.pmr_tree.specs.Lists.{Each, Rises, put_all, take_all}
 use Rattle.pmr_tree.specs.Keys.{leaf_keys, keys, own, IsId, IsShaped, Reads}
 use Rattle.pmr_tree.specs.Changes.{Stands, Becomes, merging, below_shrunk, shrunk_where}
@@ -13,7 +12,7 @@ use Rattle.pmr_tree.specs.Leaves.{IsLeafOf, ids_of}
 use Rattle.pmr_tree.specs.declared.leaf.Kept.{Kept}
 use Rattle.pmr_tree.proofs.Orders.{take_all_append}
 use Rattle.pmr_tree.proofs.KeyLists.{Parts, reads_children, own_leaf, own_inner}
-use Rattle.pmr_tree.proofs.Entries.{leaf_is, length_ids}
+use Rattle.pmr_tree.proofs.Entries.{leaf_is}
 use Rattle.pmr_tree.proofs.Growth.{merged_full, enough_second, enough_third, enough_fourth}
 use Rattle.pmr_tree.proofs.Unions.{union_nil, rises_union, each_union}
 use Rattle.pmr_tree.proofs.GrowSteps.{at_child}

@@ -1,9 +1,8 @@
 -- Ascending lists of numbers: filters, and numbers put in and taken out.
-use Rattle.std.proofs.Common.{◌≡◌, ◌≢◌, ℕ, zero, suc, ◌+◌, ◌<◌, ◌≤◌, ◌⊎◌, Bool, true, false, cond, not, ◌&&◌, List, [], ◌∷◌, ◌++◌, length, map, refl, sym, ◌∙◌, ap, subst, inl, inr, arith, rules, append_assoc, append-nil}
-use Rattle.std.specs.Prelude.{filter, nat_eq, nat_lt, nat_le}
+use Rattle.std.proofs.Common.{◌≡◌, ℕ, ◌+◌, ◌<◌, ◌≤◌, Bool, true, false, cond, not, List, [], ◌∷◌, ◌++◌, length, map, refl, sym, ◌∙◌, ap, subst, inl, inr, arith, append_assoc, append-nil}
+use Rattle.std.specs.Prelude.{filter, nat_eq, nat_lt}
 use Rattle.std.proofs.lemmas.Bool.{cases_lt, false≢true}
 use Rattle.std.proofs.lemmas.Bool.Decides.{nat_tests}
-use Rattle.std.proofs.lemmas.List.Elements.{filter-append}
 use Rattle.sand_model.specs.Tree.{add, without}
 use Rattle.pmr_tree.specs.Lists.{Each, Above, Rises, is_between, part, put_all, take_all}
 

@@ -1,11 +1,11 @@
 -- A quadtree depends only on its own pages.
-use Rattle.std.proofs.Common.{◌≡◌, ℕ, ◌≤◌, map, refl, sym, ◌∙◌, ap, subst}
+use Rattle.std.proofs.Common.{◌≡◌, map, sym, ◌∙◌, ap, subst}
 use Rattle.page_pool.specs.Disk.{PageMap}
 use Rattle.code_btree.specs.Calls as btree
 use Rattle.sand_base.specs.declared.TheConstants.{COORDINATE_BITS}
-use Rattle.sand_model.specs.Tree.{Tree, root_block, IsFull}
+use Rattle.sand_model.specs.Tree.{root_block, IsFull}
 use Rattle.pmr_tree.specs.Keys.{keys, IsShaped}
-use Rattle.pmr_tree.specs.Quadtree.{store_of, entries_at, pages_at, tree_in, tree_at, IsPmr}
+use Rattle.pmr_tree.specs.Quadtree.{store_of, entries_at, tree_in, tree_at}
 use Rattle.pmr_tree.specs.Calls.{Unmoved}
 use Rattle.pmr_tree.specs.declared.quadtree.Pmr.{Pmr}
 

@@ -1,8 +1,8 @@
 -- Changes of pages, one after another; and what a change of one tree's pages leaves to rows on other pages.
-use Rattle.std.proofs.Common.{◌≡◌, ◌≢◌, ℕ, zero, suc, ◌+◌, ◌<◌, ◌≤◌, Bool, true, false, cond, List, [], ◌∷◌, refl, sym, ◌∙◌, ap, subst, arith}
-use Rattle.std.specs.Prelude.{Option, None, Some, is_some, IsSome, IsTrue, Result, Ok, Err}
+use Rattle.std.proofs.Common.{◌≡◌, ℕ, zero, suc, ◌≤◌, Bool, true, false, cond, List, refl, sym, ◌∙◌, ap, subst, arith}
+use Rattle.std.specs.Prelude.{Option, None, Some, is_some, IsSome, IsTrue, Err}
 use Rattle.page_pool.specs.Disk.{PageMap}
-use Rattle.page_pool.specs.Pool.{PoolState, IsOpen, IsLive, IsTold}
+use Rattle.page_pool.specs.Pool.{PoolState, IsLive, IsTold}
 use Rattle.page_pool.specs.Reads.{IsRead}
 use Rattle.page_pool.specs.Causes.{HasPageCause}
 use Rattle.page_pool.specs.Steps.{InCommand, InCommand-read}

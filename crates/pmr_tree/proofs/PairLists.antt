@@ -1,6 +1,6 @@
 -- Entries in ascending order of their keys, with an entry put in or taken out.
-use Rattle.std.proofs.Common.{◌≡◌, ◌≢◌, ℕ, zero, suc, ◌+◌, ◌<◌, ◌≤◌, Bool, true, false, cond, not, List, [], ◌∷◌, ◌++◌, length, map, refl, sym, ◌∙◌, ap, ap₂, subst, arith}
-use Rattle.std.specs.Prelude.{filter, nat_eq, nat_lt}
+use Rattle.std.proofs.Common.{◌≡◌, ℕ, ◌<◌, ◌≤◌, Bool, true, false, cond, not, List, [], ◌∷◌, refl, sym, ap, subst, arith}
+use Rattle.std.specs.Prelude.{nat_eq, nat_lt}
 use Rattle.std.proofs.lemmas.Bool.Decides.{nat_tests}
 use Rattle.code_btree.specs.Items.{Ascending, items_below, items_above, items_from, put_item, drop_item}
 use Rattle.code_btree.specs.Items as btree
@@ -8,7 +8,7 @@ use Rattle.sand_model.specs.Tree.{add, without}
 use Rattle.pmr_tree.specs.Lists.{Each, Above, Rises}
 use Rattle.pmr_tree.specs.Keys.{id_in}
 use Rattle.pmr_tree.specs.Leaves.{Pair, firsts, Passes}
-use Rattle.pmr_tree.proofs.Orders.{each_map, each_append, each_filter, order, below, same, above, add_before, add_after, add_here}
+use Rattle.pmr_tree.proofs.Orders.{each_append, order, below, same, above}
 
 less_true : (x y : ℕ) → x < y → nat_lt x y ≡ true
 less_true x y h = grind (arith, nat_tests)

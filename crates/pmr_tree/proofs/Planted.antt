@@ -1,13 +1,13 @@
 -- A new quadtree: one entry, the mark of the root.
 use Rattle.std.proofs.Common.{◌≡◌, ℕ, ◌≤◌, List, [], ◌∷◌, refl, sym, ◌∙◌, ap, subst, arith}
 use Rattle.page_pool.specs.Disk.{PageMap}
-use Rattle.code_btree.specs.Tree.{Store, IsTree, tree_items, tree_pages}
+use Rattle.code_btree.specs.Tree.{IsTree, tree_items}
 use Rattle.code_btree.specs.Items.{put_item}
 use Rattle.code_btree.specs.Calls as btree
 use Rattle.sand_base.specs.declared.shape.Shape.{Shape}
 use Rattle.sand_model.specs.Nodes.{rough_figure}
-use Rattle.sand_model.specs.Tree.{Tree, Leaf, root_block, empty_tree, IsFull}
-use Rattle.pmr_tree.specs.Keys.{keys, within, id_in, IsShaped, Reads}
+use Rattle.sand_model.specs.Tree.{Leaf, root_block, empty_tree, IsFull}
+use Rattle.pmr_tree.specs.Keys.{keys, id_in, IsShaped, Reads}
 use Rattle.pmr_tree.specs.Lists.{Each}
 use Rattle.pmr_tree.specs.Leaves.{Pair, firsts}
 use Rattle.pmr_tree.specs.Entries.{value_of}

@@ -1,6 +1,6 @@
 -- The four children of a block are blocks, and their ranges of codes follow one another.
-use Rattle.std.proofs.Common.{◌≡◌, ℕ, zero, suc, ◌+◌, ◌-◌, ◌*◌, ◌/◌, ◌%◌, ◌^◌, ◌<◌, ◌≤◌, refl, sym, ap, ◌∙◌, subst, arith, add-one}
-use Rattle.std.proofs.Math.Nat.{pow-succ', one-le-pow, mul-mod_right, mul_comm, mul-le-mul_right, lt_of_mul-lt-mul_right}
+use Rattle.std.proofs.Common.{◌≡◌, ℕ, suc, ◌+◌, ◌-◌, ◌*◌, ◌/◌, ◌%◌, ◌^◌, ◌<◌, ◌≤◌, ap, ◌∙◌, arith}
+use Rattle.std.proofs.Math.Nat.{pow-succ', mul-mod_right, mul-le-mul_right, lt_of_mul-lt-mul_right}
 use Rattle.std.proofs.lemmas.Nat.{pow-add, pow_pos, div-add-mod'}
 use Rattle.sand_base.specs.declared.TheConstants.{COORDINATE_BITS}
 use Rattle.z_code.specs.Block.{code_count, IsBlock, child}

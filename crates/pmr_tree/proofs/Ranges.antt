@@ -1,11 +1,11 @@
 -- The pairs of a run that are below a key.
-use Rattle.std.proofs.Common.{◌≡◌, ℕ, suc, ◌+◌, ◌<◌, ◌≤◌, Bool, true, false, cond, ◌&&◌, List, [], ◌∷◌, ◌++◌, refl, sym, ◌∙◌, ap, arith, append-nil}
+use Rattle.std.proofs.Common.{◌≡◌, ℕ, ◌+◌, ◌≤◌, true, false, List, [], ◌∷◌, ◌++◌, refl, sym, ◌∙◌, ap, arith, append-nil}
 use Rattle.std.specs.Prelude.{filter, nat_lt, nat_le}
 use Rattle.std.proofs.lemmas.Bool.Decides.{nat_tests}
 use Rattle.code_btree.specs.Items.{items_from}
 use Rattle.pmr_tree.specs.Lists.{is_between}
 use Rattle.pmr_tree.specs.Leaves.{Pair}
-use Rattle.pmr_tree.proofs.Orders.{Test, holds, fails, test}
+use Rattle.pmr_tree.proofs.Orders.{holds, fails, test}
 
 not_below : (high k x : ℕ) → high ≤ k → nat_lt x k ≡ false → nat_lt x high ≡ false
 not_below high k x l h = grind (arith, nat_tests)

@@ -1,6 +1,6 @@
 -- What shapes decide: quarters, fits and growth by rows of shapes.
-use Rattle.std.proofs.Common.{◌≡◌, ◌≢◌, ℕ, zero, suc, ◌+◌, ◌<◌, ◌≤◌, ◌^◌, ◌%◌, Bool, true, false, cond, not, ◌&&◌, ◌||◌, List, [], ◌∷◌, ◌++◌, length, map, refl, sym, ◌∙◌, ap, ap₂, subst, arith}
-use Rattle.std.specs.Prelude.{filter, find, nat_eq, nat_lt, Contains, slice_index_or, Option, None, Some, option_map}
+use Rattle.std.proofs.Common.{◌≡◌, ℕ, zero, suc, ◌<◌, Bool, true, false, cond, ◌&&◌, ◌||◌, List, [], ◌∷◌, length, refl, sym, ◌∙◌, ap, ap₂, subst, arith}
+use Rattle.std.specs.Prelude.{filter, nat_eq, nat_lt, Contains, slice_index_or, Option, None, Some}
 use Rattle.std.proofs.lemmas.Bool.{false≢true}
 use Rattle.std.proofs.lemmas.Bool.Decides.{nat_tests}
 use Rattle.sand_base.specs.Grid.{IsInPlane, IsInClosedPlane}
@@ -9,16 +9,16 @@ use Rattle.sand_base.specs.declared.TheConstants.{COORDINATE_BITS}
 use Rattle.sand_base.specs.declared.point.Point.{Point}
 use Rattle.sand_base.specs.declared.shape.Shape.{Shape}
 use Rattle.sand_base.specs.declared.shape.Shape.TheVariants as shape
-use Rattle.z_code.specs.Block.{IsBlock, child, square_of}
+use Rattle.z_code.specs.Block.{IsBlock, child}
 use Rattle.z_code.specs.declared.block.Block.{Block}
-use Rattle.sand_model.specs.Measure.{Measure, IsMeasure, meets}
+use Rattle.sand_model.specs.Measure.{Measure, IsMeasure}
 use Rattle.sand_model.specs.Database.{shape_at, meets_block}
-use Rattle.sand_model.specs.Tree.{Tree, Leaf, Inner, root_block, add, without, split, settled, grown, merged, shrunk, union_of_four, Fits, IsShallow}
+use Rattle.sand_model.specs.Tree.{Tree, Leaf, Inner, root_block, add, split, settled, grown, merged, shrunk, union_of_four, Fits, IsShallow}
 use Rattle.ring_geom.specs.MeasureLaws.{ChildrenMeet}
-use Rattle.pmr_tree.specs.Lists.{Each, Rises}
+use Rattle.pmr_tree.specs.Lists.{Each}
 use Rattle.pmr_tree.specs.Laws.{AreInPlane}
 use Rattle.pmr_tree.specs.Changes.{Quarters, ListsWhere}
-use Rattle.pmr_tree.proofs.Orders.{Test, holds, fails, test, filter_same}
+use Rattle.pmr_tree.proofs.Orders.{holds, fails, test, filter_same}
 
 -- the plane lies in the closed plane
 in_closed : (p : Point) → IsInPlane p → IsInClosedPlane p

@@ -1,5 +1,5 @@
 -- What the entries of a shrunk quadtree stand for.
-use Rattle.std.proofs.Common.{◌≡◌, ◌≢◌, ℕ, ◌≤◌, Bool, true, List, [], ◌∷◌, refl, sym, ◌∙◌, ap, subst}
+use Rattle.std.proofs.Common.{◌≡◌, ℕ, Bool, true, [], ◌∷◌, sym, ap, subst}
 use Rattle.std.specs.Prelude.{is_some}
 use Rattle.page_pool.specs.Disk.{PageMap}
 use Rattle.code_btree.specs.Tree.{IsTree}
@@ -7,10 +7,9 @@ use Rattle.code_btree.specs.Calls.{Keeps}
 use Rattle.sand_base.specs.Plane.{IsShapeInPlane}
 use Rattle.sand_base.specs.declared.shape.Shape.{Shape}
 use Rattle.z_code.specs.declared.block.Block.{Block}
-use Rattle.sand_model.specs.Measure.{Measure, IsMeasure}
 use Rattle.sand_model.specs.Nodes.{rough_figure}
 use Rattle.sand_model.specs.Database.{meets_block}
-use Rattle.sand_model.specs.Tree.{Tree, root_block, shrunk, IsFull}
+use Rattle.sand_model.specs.Tree.{root_block, IsFull}
 use Rattle.ring_geom.specs.Laws.{GapExists}
 use Rattle.ring_geom.specs.MeasureLaws.{ChildrenMeet, TestIsMeeting}
 use Rattle.pmr_tree.specs.Leaves.{Passes, Told}
@@ -18,7 +17,7 @@ use Rattle.pmr_tree.specs.Changes.{Becomes, shrunk_where}
 use Rattle.pmr_tree.specs.Entries.{value_of}
 use Rattle.pmr_tree.specs.Laws.{AreInPlane}
 use Rattle.pmr_tree.specs.Quadtree.{store_of, entries_at, keys_at, pages_at, tree_at, IsPmr, IsListedWhereMet}
-use Rattle.pmr_tree.specs.Calls.{Shrinks, Stays}
+use Rattle.pmr_tree.specs.Calls.{Shrinks}
 use Rattle.pmr_tree.specs.Plot.{TellsOf}
 use Rattle.pmr_tree.specs.declared.quadtree.Pmr.{Pmr}
 use Rattle.pmr_tree.proofs.Growth.{shrunk_where_same, full_shrunk}

@@ -1,17 +1,16 @@
 -- What each step of growing and shrinking does to the keys of a block.
-use Rattle.std.proofs.Common.{◌≡◌, ◌≢◌, ℕ, zero, suc, ◌+◌, ◌*◌, ◌^◌, ◌%◌, ◌<◌, ◌≤◌, ◌⊎◌, Bool, true, false, cond, not, ◌&&◌, ◌||◌, List, [], ◌∷◌, ◌++◌, length, map, refl, sym, ◌∙◌, ap, ap₂, subst, inl, inr, arith, append_assoc, append-nil}
-use Rattle.std.specs.Prelude.{filter, nat_eq, nat_lt, nat_le, Contains}
-use Rattle.std.proofs.lemmas.Bool.{cases_lt, false≢true}
-use Rattle.std.proofs.lemmas.Bool.Decides.{nat_tests}
+use Rattle.std.proofs.Common.{◌≡◌, ◌≢◌, ℕ, ◌<◌, Bool, true, false, not, List, [], ◌∷◌, refl, sym, ◌∙◌, ap, ap₂, subst, arith}
+use Rattle.std.specs.Prelude.{filter}
+use Rattle.std.proofs.lemmas.Bool.{false≢true}
 use Rattle.sand_base.specs.declared.TheConstants.{COORDINATE_BITS}
-use Rattle.z_code.specs.Block.{code_count, child}
+use Rattle.z_code.specs.Block.{child}
 use Rattle.z_code.specs.declared.block.Block.{Block}
-use Rattle.sand_model.specs.Tree.{Tree, Leaf, Inner, add, without, split, settled, union_of_four, merged}
-use Rattle.pmr_tree.specs.Lists.{Each, Above, Rises, is_between, part, put_all, take_all}
-use Rattle.pmr_tree.specs.Keys.{key_of, mark_of, end_of, leaf_keys, keys, is_inside, within, outside, own, IsId, IsShaped, Reads, id_in, ids_in}
-use Rattle.pmr_tree.specs.Changes.{Stands, Becomes, grown_where, shrunk_where, entered, settling, left, below_shrunk, merging}
-use Rattle.pmr_tree.proofs.Orders.{each_map, each_append, each_filter, each_of_map, each_add, filter_all, filter_none, filter_weaker, filter_swap, filter_add, rises_add, rises_append, rises_filter, cut, put_all_new, filter_put_all, rises_put_all, put_all_append, take_all_append, take_all_same, take_all_other, filter_take_all, rises_take_all, map_add, add_some, length_add}
-use Rattle.pmr_tree.proofs.KeyLists.{Parts, reads_children, reads_inner, own_leaf, own_inner, keys_inside, keys_rise, child_apart, child_inside, lies_inside}
+use Rattle.sand_model.specs.Tree.{Tree, Leaf, Inner}
+use Rattle.pmr_tree.specs.Lists.{Rises, put_all, take_all}
+use Rattle.pmr_tree.specs.Keys.{keys, is_inside, within, outside, own, IsShaped, Reads}
+use Rattle.pmr_tree.specs.Changes.{Stands, Becomes}
+use Rattle.pmr_tree.proofs.Orders.{each_map, filter_all, filter_none, filter_weaker, put_all_new, filter_put_all, rises_put_all, take_all_same, take_all_other, filter_take_all, rises_take_all}
+use Rattle.pmr_tree.proofs.KeyLists.{Parts, reads_children, reads_inner, own_leaf, keys_inside, keys_rise, child_apart, child_inside}
 
 not_true : (b : Bool) → not b ≡ true → b ≡ false
 not_true true h = absurd (false≢true h)

@@ -1,22 +1,20 @@
 -- The tree that keys stand for is the one whose keys they are; and what a change at the root makes of it.
-use Rattle.std.proofs.Common.{◌≡◌, ◌≢◌, ℕ, zero, suc, ◌+◌, ◌<◌, ◌≤◌, ◌^◌, Bool, true, false, cond, not, List, [], ◌∷◌, ◌++◌, length, map, refl, sym, ◌∙◌, ap, ap₂, subst, arith, add-one}
-use Rattle.std.specs.Prelude.{filter, nat_eq, nat_lt, Contains}
-use Rattle.std.proofs.lemmas.Bool.{false≢true}
+use Rattle.std.proofs.Common.{◌≡◌, ℕ, zero, suc, ◌+◌, ◌<◌, ◌≤◌, Bool, true, false, cond, not, List, [], ◌∷◌, ◌++◌, map, refl, sym, ◌∙◌, ap, subst, arith}
+use Rattle.std.specs.Prelude.{nat_lt}
 use Rattle.std.proofs.lemmas.Bool.Decides.{nat_tests}
 use Rattle.page_pool.specs.Disk.{PageMap}
-use Rattle.code_btree.specs.Tree.{IsTree}
 use Rattle.sand_base.specs.declared.TheConstants.{COORDINATE_BITS}
 use Rattle.z_code.specs.Block.{child}
 use Rattle.z_code.specs.declared.block.Block.{Block}
 use Rattle.sand_model.specs.Tree.{Tree, Leaf, Inner, root_block, Fits, IsShallow}
-use Rattle.pmr_tree.specs.Lists.{Each, Rises}
-use Rattle.pmr_tree.specs.Keys.{key_of, mark_of, leaf_keys, keys, is_inside, within, outside, own, id_in, ids_in, IsId, IsShaped, Reads}
+use Rattle.pmr_tree.specs.Lists.{Each}
+use Rattle.pmr_tree.specs.Keys.{key_of, leaf_keys, keys, is_inside, within, outside, own, id_in, ids_in, IsId, IsShaped, Reads}
 use Rattle.pmr_tree.specs.Leaves.{Pair, firsts}
 use Rattle.pmr_tree.specs.Changes.{Stands, Becomes}
 use Rattle.pmr_tree.specs.Quadtree.{entries_at, keys_at, tree_in, tree_at, IsPmr, is_inner}
 use Rattle.pmr_tree.specs.declared.quadtree.Pmr.{Pmr}
-use Rattle.pmr_tree.proofs.Orders.{Test, holds, fails, test, each_map, each_filter, filter_all, filter_none, each_of_map, each_append}
-use Rattle.pmr_tree.proofs.KeyLists.{keys_inside, keys_rise, own_leaf, own_inner, reads_children}
+use Rattle.pmr_tree.proofs.Orders.{each_map, each_filter, filter_all, filter_none, each_append}
+use Rattle.pmr_tree.proofs.KeyLists.{keys_inside, own_leaf, own_inner, reads_children}
 use Rattle.pmr_tree.proofs.Entries.{ids_leaf, id_in_key}
 use Rattle.pmr_tree.proofs.PairLists.{firsts_rise}
 

@@ -1,5 +1,5 @@
 -- An ascending list with one id more, by its place; and with those of another list.
-use Rattle.std.proofs.Common.{◌≡◌, ◌≢◌, ℕ, zero, suc, ◌+◌, ◌-◌, ◌<◌, ◌≤◌, Bool, true, false, cond, not, List, [], ◌∷◌, ◌++◌, length, map, refl, sym, ◌∙◌, ap, ap₂, subst, arith, get_or, drop, take, add-one}
+use Rattle.std.proofs.Common.{◌≡◌, ℕ, zero, suc, ◌+◌, ◌<◌, ◌≤◌, Bool, true, false, cond, List, [], ◌∷◌, length, refl, sym, ◌∙◌, ap, arith, get_or, drop, take, add-one}
 use Rattle.std.specs.Prelude.{nat_eq, nat_lt}
 use Rattle.std.specs.List.{insert}
 use Rattle.std.proofs.Math.Seq.{drop-cons}
@@ -9,7 +9,7 @@ use Rattle.sand_model.specs.Tree.{add, union}
 use Rattle.pmr_tree.specs.Lists.{Each, Rises, place_in, is_at}
 use Rattle.pmr_tree.specs.Leaves.{ids_of, ListPasses}
 use Rattle.pmr_tree.specs.declared.leaf.Kept.{Kept}
-use Rattle.pmr_tree.proofs.Orders.{Test, holds, fails, test, order, below, same, above, add_before, add_after, add_here, add_first, each_append, each_add, rises_add}
+use Rattle.pmr_tree.proofs.Orders.{test, order, below, same, above, add_before, add_after, add_here, add_first, each_append, each_add, rises_add}
 
 -- the end of the search for a place
 pub place_end : (list : List Kept) (at id : ℕ) → length list ≤ at → place_in id (ids_of (drop at list)) ≡ 0

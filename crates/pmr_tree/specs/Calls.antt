@@ -1,5 +1,5 @@
 -- What the calls of a quadtree do, and why they are refused.
-use Rattle.std.specs.Prelude.{◌≡◌, ◌≢◌, ◌⊎◌, ℕ, ◌+◌, ◌≤◌, List, [], ◌∷◌, ◌++◌, Result, Ok, Err, OnOk, MatchResult, All}
+use Rattle.std.specs.Prelude.{◌≡◌, ◌≢◌, ℕ, ◌≤◌, List, [], ◌∷◌, Result, Ok, Err}
 use Rattle.sand_base.specs.declared.shape.Shape.{Shape}
 use Rattle.page_pool.specs.Disk.{PageMap}
 use Rattle.page_pool.specs.Pool.{PoolState}
@@ -9,7 +9,7 @@ use Rattle.page_pool.specs.declared.fault.PageFault.TheVariants as page
 use Rattle.code_btree.specs.Calls.{Keeps}
 use Rattle.sand_model.specs.Measure.{Measure, IsMeasure}
 use Rattle.sand_model.specs.Database.{tree_with}
-use Rattle.sand_model.specs.Tree.{Tree, empty_tree, shrunk}
+use Rattle.sand_model.specs.Tree.{empty_tree, shrunk}
 use Rattle.pmr_tree.specs.Quadtree.{store_of, entries_at, pages_at, tree_at, IsPmr, KeepsShape}
 use Rattle.pmr_tree.specs.declared.fault.PmrFault.{PmrFault}
 use Rattle.pmr_tree.specs.declared.fault.PmrFault.TheVariants.{Memory, Device, Damaged, IndexFull}

@@ -1,5 +1,5 @@
 -- A quadtree as an ascending list of keys, one for each id of each leaf: a linear quadtree after I. Gargantini (1982).
-use Rattle.std.specs.Prelude.{◌≡◌, ℕ, ◌+◌, ◌*◌, ◌^◌, ◌%◌, ◌<◌, ◌≤◌, Bool, not, nat_eq, cond, List, [], ◌∷◌, ◌++◌, map, filter}
+use Rattle.std.specs.Prelude.{◌≡◌, ℕ, ◌+◌, ◌*◌, ◌^◌, ◌%◌, ◌<◌, ◌≤◌, Bool, not, nat_eq, List, [], ◌∷◌, ◌++◌, map, filter}
 use Rattle.sand_base.specs.declared.TheConstants.{COORDINATE_BITS}
 use Rattle.z_code.specs.Block.{child, code_count}
 use Rattle.z_code.specs.declared.block.Block.{Block}

@@ -1,8 +1,7 @@
 -- Laws of quadtrees that grow and shrink as values, by rows of shapes.
-use Rattle.std.specs.Prelude.{◌≡◌, ℕ, ◌≤◌, List, [], ◌∷◌, Some, Option}
+use Rattle.std.specs.Prelude.{◌≡◌, ℕ, List, [], ◌∷◌, Some}
 use Rattle.sand_base.specs.Plane.{IsShapeInPlane}
 use Rattle.sand_base.specs.declared.shape.Shape.{Shape}
-use Rattle.z_code.specs.declared.block.Block.{Block}
 use Rattle.sand_model.specs.Measure.{Measure, IsMeasure}
 use Rattle.sand_model.specs.Database.{shape_at, meets_block, tree_with}
 use Rattle.sand_model.specs.Tree.{Tree, root_block, add, without, shrunk, Fits, IsShallow, IsFull}

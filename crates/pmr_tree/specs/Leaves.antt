@@ -1,5 +1,5 @@
 -- The ids of a leaf with their values, as code reads and writes them; how a call ended.
-use Rattle.std.specs.Prelude.{◌≡◌, ◌≢◌, ℕ, ◌+◌, ◌≤◌, ◌^◌, Bool, true, List, [], ◌∷◌, map, filter, not, nat_eq, Option, None, Some, Result, Ok, Err}
+use Rattle.std.specs.Prelude.{◌≡◌, ◌≢◌, ℕ, ◌+◌, ◌≤◌, ◌^◌, Bool, true, List, [], map, filter, not, nat_eq, Option, None, Some, Result, Ok, Err}
 use Rattle.z_code.specs.declared.block.Block.{Block}
 use Rattle.pmr_tree.specs.Lists.{Each, is_between}
 use Rattle.pmr_tree.specs.Keys.{mark_of, own, id_in, ids_in}

@@ -1,5 +1,5 @@
 -- Ascending lists of numbers, and what puts numbers into them.
-use Rattle.std.specs.Prelude.{◌≡◌, ℕ, zero, suc, ◌<◌, ◌≤◌, Bool, false, cond, ◌&&◌, nat_le, nat_lt, nat_eq, List, [], ◌∷◌, filter}
+use Rattle.std.specs.Prelude.{ℕ, zero, suc, ◌<◌, Bool, false, cond, ◌&&◌, nat_le, nat_lt, nat_eq, List, [], ◌∷◌, filter}
 use Rattle.sand_model.specs.Tree.{add, without}
 
 -- a fact holds of each element

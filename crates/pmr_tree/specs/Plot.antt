@@ -1,6 +1,6 @@
 -- How the calls on a quadtree's entries in pages follow one another. Only proofs need it.
-use Rattle.std.specs.Prelude.{◌≡◌, ◌↔◌, ℕ, Bool, true, IsTrue, List, [], ◌∷◌, Option, None, Some, Result, Ok, Err, refl, ⊤}
-use Rattle.std.proofs.Common.{◌∙◌, ap, sym, subst}
+use Rattle.std.specs.Prelude.{◌≡◌, ◌↔◌, ℕ, Bool, true, IsTrue, List, ◌∷◌, Option, None, Some, Result, Ok, Err, refl, ⊤}
+use Rattle.std.proofs.Common.{◌∙◌, sym, subst}
 use Rattle.page_pool.specs.Disk.{PageMap}
 use Rattle.page_pool.specs.Pool.{PoolState, IsOpen, IsLive, IsTold}
 use Rattle.page_pool.specs.Causes.{HasPageCause}

@@ -1,5 +1,5 @@
 -- A quadtree in pages: the tree that its entries stand for, what makes entries a quadtree, and the rows that it fits.
-use Rattle.std.specs.Prelude.{◌≡◌, ◌≢◌, ℕ, zero, suc, ◌≤◌, List, [], ◌∷◌, map, cond, Bool, true, false, Option, None, Some, is_some, Contains}
+use Rattle.std.specs.Prelude.{◌≡◌, ℕ, zero, suc, List, [], ◌∷◌, map, cond, Bool, true, false, Some, is_some, Contains}
 use Rattle.std.specs.FinMap as fin
 use Rattle.page_pool.specs.Disk.{PageMap}
 use Rattle.code_btree.specs.Tree.{Store, IsTree, tree_items, tree_pages}
@@ -9,7 +9,7 @@ use Rattle.z_code.specs.Block.{child}
 use Rattle.z_code.specs.declared.block.Block.{Block}
 use Rattle.sand_model.specs.Measure.{Measure, IsMeasure}
 use Rattle.sand_model.specs.Database.{shape_at, meets_block}
-use Rattle.sand_model.specs.Tree.{Tree, Leaf, Inner, root_block, Fits, IsFull, IsPlace}
+use Rattle.sand_model.specs.Tree.{Tree, Leaf, Inner, root_block, Fits, IsFull}
 use Rattle.pmr_tree.specs.Lists.{Each, Rises}
 use Rattle.pmr_tree.specs.Keys.{own, ids_in, keys, IsShaped}
 use Rattle.pmr_tree.specs.Changes.{ListsWhere}

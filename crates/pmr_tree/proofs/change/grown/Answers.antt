@@ -1,8 +1,6 @@
 -- The entries are those of the grown tree, and each page that changed is the tree's own.
-use Rattle.std.proofs.Common.{◌≡◌, ℕ, ◌∷◌, true, refl, sym, ◌∙◌, ap, subst}
+use Rattle.std.proofs.Common.{◌≡◌, true, refl, sym, ◌∙◌, subst}
 use Rattle.z_code.specs.declared.block.Block.{Block}
-use Rattle.sand_model.specs.Database.{meets_block}
-use Rattle.sand_model.specs.Tree.{root_block}
 use Rattle.code_btree.specs.Tree.{pages_in, tree_items, tree_pages}
 use Rattle.pmr_tree.specs.Plot.{IsReadyOn}
 use Rattle.pmr_tree.specs.Leaves.{firsts}
@@ -10,7 +8,7 @@ use Rattle.pmr_tree.specs.Changes.{Stands, Becomes, grown_where}
 use Rattle.pmr_tree.specs.Quadtree.{keys_at}
 use Rattle.pmr_tree.proofs.OwnPages.{keeps_none}
 use Rattle.pmr_tree.proofs.TreeAt.{pmr_stands}
-use Rattle.pmr_tree.proofs.Grown.{Premises, Grew, grows, root_is, told_of}
+use Rattle.pmr_tree.proofs.Grown.{grows, root_is, told_of}
 use Rattle.pmr_tree.proofs.change.grown.Goals as goal
 
 pub grow-requires-clause-ready : goal.grow-requires-clause-ready

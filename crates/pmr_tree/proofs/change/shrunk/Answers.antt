@@ -1,7 +1,6 @@
 -- The entries are those of the shrunk tree, and each page that changed is the tree's own.
-use Rattle.std.proofs.Common.{◌≡◌, ℕ, ◌∷◌, true, refl, sym, ◌∙◌, ap, subst}
+use Rattle.std.proofs.Common.{refl, sym, ◌∙◌, subst}
 use Rattle.z_code.specs.declared.block.Block.{Block}
-use Rattle.sand_model.specs.Tree.{root_block}
 use Rattle.code_btree.specs.Tree.{pages_in, tree_items, tree_pages}
 use Rattle.std.specs.Prelude.{⊤}
 use Rattle.pmr_tree.specs.Plot.{IsReadyOn}
@@ -11,7 +10,7 @@ use Rattle.pmr_tree.specs.Quadtree.{keys_at}
 use Rattle.pmr_tree.proofs.OwnPages.{keeps_none}
 use Rattle.pmr_tree.proofs.TreeAt.{pmr_stands}
 use Rattle.pmr_tree.proofs.Grown.{root_is}
-use Rattle.pmr_tree.proofs.Shrunk.{Leaving, Shrank, tells_one, shrinks}
+use Rattle.pmr_tree.proofs.Shrunk.{tells_one, shrinks}
 use Rattle.pmr_tree.proofs.change.shrunk.Goals as goal
 
 pub shrink-requires-clause-ready : goal.shrink-requires-clause-ready

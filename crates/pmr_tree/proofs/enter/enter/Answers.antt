@@ -1,9 +1,5 @@
 -- The mark gives way to the first id; another id comes beside those that are there.
-use Rattle.std.proofs.Common.{◌≡◌, ℕ, ◌<◌, ◌∙◌, sym, ap, length, arith}
-use Rattle.sand_model.specs.Tree.{add, without}
-use Rattle.pmr_tree.specs.Keys.{key_of}
-use Rattle.pmr_tree.specs.Leaves.{ids_of}
-use Rattle.pmr_tree.specs.declared.leaf.Kept.{Kept}
+use Rattle.std.proofs.Common.{◌≡◌, ◌<◌, length, arith}
 use Rattle.pmr_tree.proofs.Entries.{key_passes}
 use Rattle.pmr_tree.proofs.LeafSteps.{first_entered, next_entered}
 use Rattle.pmr_tree.proofs.enter.enter.Goals as goal

@@ -1,6 +1,5 @@
 -- One id more is looked at, and the rest of the list is left.
-use Rattle.std.proofs.Common.{◌≡◌, ℕ, ◌<◌, ◌∙◌, true, length, arith}
-use Rattle.pmr_tree.specs.Leaves.{id_test}
+use Rattle.std.proofs.Common.{◌≡◌, ◌<◌, ◌∙◌, true, length, arith}
 use Rattle.pmr_tree.proofs.Entries.{met_step, each_at}
 use Rattle.pmr_tree.proofs.fill.met.Goals as goal
 

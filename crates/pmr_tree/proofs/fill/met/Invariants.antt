@@ -1,4 +1,4 @@
-use Rattle.std.proofs.Common.{◌≡◌, ℕ, Bool, List, take}
+use Rattle.std.proofs.Common.{◌≡◌, ℕ, Bool, take}
 use Rattle.std.specs.Prelude.{None, filter}
 use Rattle.z_code.specs.declared.block.Block.{Block}
 use Rattle.pmr_tree.specs.Leaves.{ListPasses, id_test}

@@ -1,9 +1,9 @@
 -- What is planted are the ids that meet; the entries were not changed by the look at them.
-use Rattle.std.proofs.Common.{◌≡◌, ℕ, List, refl, sym, ap, ap₂, ◌∙◌, subst}
+use Rattle.std.proofs.Common.{sym, ap, ap₂, ◌∙◌, subst}
 use Rattle.pmr_tree.specs.Lists.{put_all}
 use Rattle.pmr_tree.specs.Keys.{leaf_keys}
 use Rattle.pmr_tree.specs.Leaves.{firsts, ids_of, ListPasses, Passes}
-use Rattle.pmr_tree.proofs.Entries.{ids_met, passes_met}
+use Rattle.pmr_tree.proofs.Entries.{ids_met}
 use Rattle.pmr_tree.proofs.fill.plant_met.Goals as goal
 
 pub returns-clause-keys : goal.returns-clause-keys

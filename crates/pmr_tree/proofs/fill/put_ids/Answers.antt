@@ -1,5 +1,5 @@
 -- One key more is put, with the value of its id, and the rest of the list is left.
-use Rattle.std.proofs.Common.{◌≡◌, ℕ, ◌<◌, ◌∙◌, Bool, true, sym, ap, length, get_or, arith}
+use Rattle.std.proofs.Common.{◌≡◌, ◌<◌, ◌∙◌, true, length, arith}
 use Rattle.pmr_tree.proofs.Entries.{put_step, each_at, key_passes}
 use Rattle.pmr_tree.proofs.fill.put_ids.Goals as goal
 

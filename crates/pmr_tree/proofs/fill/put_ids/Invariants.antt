@@ -1,4 +1,4 @@
-use Rattle.std.proofs.Common.{◌≡◌, ℕ, Bool, List, map, drop}
+use Rattle.std.proofs.Common.{◌≡◌, ℕ, Bool, map, drop}
 use Rattle.std.specs.Prelude.{None}
 use Rattle.pmr_tree.specs.Lists.{put_all}
 use Rattle.pmr_tree.specs.Keys.{key_of}

@@ -1,5 +1,5 @@
 -- One key more is taken, and the rest of the list is left.
-use Rattle.std.proofs.Common.{◌≡◌, ℕ, ◌<◌, ◌∙◌, length, arith}
+use Rattle.std.proofs.Common.{◌<◌, ◌∙◌, length, arith}
 use Rattle.pmr_tree.proofs.Entries.{take_step}
 use Rattle.pmr_tree.proofs.fill.take_ids.Goals as goal
 

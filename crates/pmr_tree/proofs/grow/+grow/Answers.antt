@@ -1,11 +1,10 @@
 -- What the shape does not meet stays; a leaf takes the id; the children of an inner place grow one after another.
-use Rattle.std.proofs.Common.{◌≡◌, ◌<◌, ◌≤◌, ◌+◌, ℕ, Bool, true, List, [], ap, sym, ◌∙◌, subst, arith}
+use Rattle.std.proofs.Common.{◌<◌, ℕ, List, ap, sym, ◌∙◌, subst, arith}
 use Rattle.sand_base.specs.declared.TheConstants.{COORDINATE_BITS}
-use Rattle.z_code.specs.declared.block.Block.{Block}
 use Rattle.pmr_tree.specs.Keys.{own}
-use Rattle.pmr_tree.specs.Leaves.{Pair, firsts, Passes, id_test, Told}
+use Rattle.pmr_tree.specs.Leaves.{firsts, Passes, id_test}
 use Rattle.pmr_tree.specs.Changes.{Stands, Becomes, grown_where}
-use Rattle.pmr_tree.proofs.Entries.{none_found, some_found}
+use Rattle.pmr_tree.proofs.Entries.{none_found}
 use Rattle.pmr_tree.proofs.Steps.{stands_above}
 use Rattle.pmr_tree.proofs.LeafSteps.{becomes_unmet}
 use Rattle.pmr_tree.proofs.GrowSteps.{becomes_from, grow_steps, told_later, stands_first, stands_second, stands_third, stands_fourth, first_block, second_block, third_block, fourth_block}

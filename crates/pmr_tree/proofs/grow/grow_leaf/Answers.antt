@@ -1,5 +1,5 @@
 -- The id enters; fewer ids than the threshold are not too many with it.
-use Rattle.std.proofs.Common.{◌≡◌, ◌<◌, ◌≤◌, ℕ, length, arith}
+use Rattle.std.proofs.Common.{arith}
 use Rattle.pmr_tree.specs.Leaves.{ids_of, id_test}
 use Rattle.pmr_tree.proofs.Entries.{length_ids}
 use Rattle.pmr_tree.proofs.LeafSteps.{becomes_grown_few, becomes_grown_leaf}

@@ -1,5 +1,5 @@
 -- A leaf with too many ids splits; a smaller leaf, a leaf of the finest level and an inner place stay.
-use Rattle.std.proofs.Common.{◌≡◌, ◌<◌, ◌≤◌, ap, sym, subst, arith}
+use Rattle.std.proofs.Common.{ap, sym, subst, arith}
 use Rattle.pmr_tree.specs.Leaves.{firsts, id_test, ListPasses, Passes}
 use Rattle.pmr_tree.proofs.Entries.{none_found, some_found, if_found}
 use Rattle.pmr_tree.proofs.GrowSteps.{settle_inner, settle_kept, becomes_from}

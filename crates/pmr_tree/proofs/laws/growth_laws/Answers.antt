@@ -1,7 +1,6 @@
 -- Each law of trees, for functions that tell of rows of shapes.
 use Rattle.sand_model.specs.Tree.{root_block}
 use Rattle.sand_model.specs.Database.{meets_block}
-use Rattle.pmr_tree.specs.Lists.{Each}
 use Rattle.pmr_tree.proofs.Orders.{each_map}
 use Rattle.sand_model.specs.Database.{shape_at}
 use Rattle.std.proofs.Common.{◌≡◌}

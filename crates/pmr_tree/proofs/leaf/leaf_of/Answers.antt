@@ -1,6 +1,5 @@
 -- The entries of the block itself are those of its leaf, and there are none where it is an inner place.
-use Rattle.std.proofs.Common.{◌≡◌, sym, ◌∙◌, subst, length}
-use Rattle.std.specs.Prelude.{MatchOption}
+use Rattle.std.proofs.Common.{◌∙◌}
 use Rattle.pmr_tree.proofs.Entries.{leaf_read, passes_read}
 use Rattle.pmr_tree.proofs.leaf.leaf_of.Goals as goal
 

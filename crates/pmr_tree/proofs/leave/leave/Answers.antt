@@ -1,5 +1,4 @@
 -- The only id gives way to a mark; of several, the others stay.
-use Rattle.std.proofs.Common.{◌≡◌, ℕ, ◌<◌, ◌≤◌, length, arith}
 use Rattle.pmr_tree.proofs.Entries.{mark_passes}
 use Rattle.pmr_tree.proofs.LeaveSteps.{last_left, others_left, only_one, not_one, not_this}
 use Rattle.pmr_tree.proofs.leave.leave.Goals as goal

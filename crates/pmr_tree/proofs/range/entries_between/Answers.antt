@@ -1,5 +1,5 @@
 -- The run begins at the low key and is cut at the high one.
-use Rattle.std.proofs.Common.{◌≡◌, ◌∙◌, ◌++◌, ap, ap₂}
+use Rattle.std.proofs.Common.{◌∙◌, ◌++◌, ap, ap₂}
 use Rattle.std.specs.Prelude.{filter, nat_lt}
 use Rattle.code_btree.specs.Run.{run_left}
 use Rattle.pmr_tree.proofs.Ranges.{from_filter}

@@ -1,5 +1,5 @@
 -- A pair that is not below the key ends the run: all behind it are above.
-use Rattle.std.proofs.Common.{◌≡◌, ◌∙◌, refl, List}
+use Rattle.std.proofs.Common.{◌∙◌, refl, List}
 use Rattle.std.specs.Prelude.{filter, nat_lt}
 use Rattle.code_btree.specs.Run.{run_view, run_left}
 use Rattle.pmr_tree.specs.Leaves.{Pair}

@@ -1,5 +1,5 @@
 -- What was taken and what is below the key among what is left make up what was there.
-use Rattle.std.proofs.Common.{◌≡◌, ℕ, Bool, false, List, ◌++◌, Ok}
+use Rattle.std.proofs.Common.{◌≡◌, false, ◌++◌, Ok}
 use Rattle.std.specs.Prelude.{filter, nat_lt}
 use Rattle.page_pool.specs.Pool.{IsTold}
 use Rattle.page_pool.specs.Reads.{IsRead}

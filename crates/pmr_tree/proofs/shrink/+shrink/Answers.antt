@@ -1,10 +1,9 @@
 -- What the shape does not meet stays; a leaf loses the id; the children of an inner place shrink one after another, and then it may merge.
-use Rattle.std.proofs.Common.{◌≡◌, ◌<◌, ◌≤◌, ◌+◌, ℕ, Bool, true, List, [], refl, ap, sym, ◌∙◌, subst, arith}
+use Rattle.std.proofs.Common.{◌<◌, ℕ, List, [], refl, ap, sym, ◌∙◌, subst, arith}
 use Rattle.sand_base.specs.declared.TheConstants.{COORDINATE_BITS}
-use Rattle.z_code.specs.declared.block.Block.{Block}
 use Rattle.z_code.specs.Block.{child}
 use Rattle.pmr_tree.specs.Keys.{own}
-use Rattle.pmr_tree.specs.Leaves.{Pair, firsts, Passes, Told}
+use Rattle.pmr_tree.specs.Leaves.{firsts, Passes}
 use Rattle.pmr_tree.specs.Changes.{Stands, Becomes, shrunk_where, below_shrunk}
 use Rattle.pmr_tree.proofs.Entries.{none_found, some_found}
 use Rattle.pmr_tree.proofs.Steps.{stands_above, stands_after}

@@ -1,5 +1,4 @@
 -- Four leaves are cleared, one after another, and one is planted.
-use Rattle.std.proofs.Common.{◌≡◌, ℕ, List}
 use Rattle.z_code.specs.declared.block.Block.{Block}
 use Rattle.pmr_tree.specs.Leaves.{firsts, ids_of}
 use Rattle.pmr_tree.proofs.MergeSteps.{take_four}

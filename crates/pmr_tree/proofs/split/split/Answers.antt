@@ -1,5 +1,4 @@
 -- The leaf is cleared, and the ids that meet each quarter are planted there; no step changes the shapes.
-use Rattle.std.proofs.Common.{◌≡◌, ℕ, List}
 use Rattle.pmr_tree.proofs.SplitSteps.{split_steps}
 use Rattle.pmr_tree.proofs.split.split.Goals as goal
 

@@ -1,5 +1,5 @@
 -- An id that is there stays; another one goes before the first that is above it.
-use Rattle.std.proofs.Common.{◌≡◌, ap, sym, ◌∙◌, subst, arith}
+use Rattle.std.proofs.Common.{ap, sym, ◌∙◌, subst}
 use Rattle.pmr_tree.specs.Lists.{place_in, is_at}
 use Rattle.pmr_tree.specs.Leaves.{ids_of, ListPasses}
 use Rattle.pmr_tree.proofs.Unions.{add_there, add_new, insert_passes}

@@ -1,5 +1,5 @@
 -- What stands at a place, and nothing behind the end.
-use Rattle.std.proofs.Common.{◌<◌, ◌≤◌, arith}
+use Rattle.std.proofs.Common.{arith}
 use Rattle.pmr_tree.proofs.Unions.{at_none, at_some}
 use Rattle.pmr_tree.proofs.union.is_at.Goals as goal
 

@@ -1,5 +1,5 @@
 -- One id more, from the last to the first.
-use Rattle.std.proofs.Common.{◌≡◌, ℕ, suc, ◌-◌, ◌<◌, ◌≤◌, true, length, arith}
+use Rattle.std.proofs.Common.{◌≡◌, suc, ◌-◌, ◌<◌, true, length, arith}
 use Rattle.pmr_tree.proofs.Entries.{each_at}
 use Rattle.pmr_tree.proofs.Unions.{join_step}
 use Rattle.pmr_tree.proofs.union.join.Goals as goal

@@ -1,4 +1,4 @@
-use Rattle.std.proofs.Common.{◌≡◌, ℕ, ◌≤◌, Bool, List, length, drop}
+use Rattle.std.proofs.Common.{◌≡◌, ℕ, ◌≤◌, Bool, length, drop}
 use Rattle.sand_model.specs.Tree.{union}
 use Rattle.pmr_tree.specs.Leaves.{ids_of, ListPasses}
 use Rattle.pmr_tree.proofs.union.join.Given as goal

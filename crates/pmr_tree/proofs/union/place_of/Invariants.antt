@@ -1,4 +1,4 @@
-use Rattle.std.proofs.Common.{◌≡◌, ℕ, ◌+◌, ◌-◌, ◌≤◌, List, length, drop}
+use Rattle.std.proofs.Common.{◌≡◌, ◌+◌, ◌-◌, ◌≤◌, length, drop}
 use Rattle.pmr_tree.specs.Lists.{place_in}
 use Rattle.pmr_tree.specs.Leaves.{ids_of}
 use Rattle.pmr_tree.proofs.union.place_of.Given as goal

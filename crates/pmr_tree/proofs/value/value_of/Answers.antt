@@ -1,5 +1,5 @@
 -- Points and segments are kept whole.
-use Rattle.std.proofs.Common.{◌≡◌, ◌∙◌, sym, ap}
+use Rattle.std.proofs.Common.{◌∙◌, sym, ap}
 use Rattle.sand_model.specs.Nodes.{rough_figure}
 use Rattle.pmr_tree.specs.Entries.{value_of}
 use Rattle.pmr_tree.proofs.Values.{point_value, segment_value}

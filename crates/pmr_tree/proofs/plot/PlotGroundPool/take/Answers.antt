@@ -1,5 +1,5 @@
 -- The map has the entry no more; rows lie on other pages, which stay.
-use Rattle.std.proofs.Common.{◌≡◌, refl, sym, ◌∙◌, ap, subst}
+use Rattle.std.proofs.Common.{refl, sym, ◌∙◌, ap, subst}
 use Rattle.std.specs.Prelude.{None}
 use Rattle.pmr_tree.specs.Leaves.{firsts, Passes}
 use Rattle.pmr_tree.proofs.PairLists.{firsts_drop, drop_passes}

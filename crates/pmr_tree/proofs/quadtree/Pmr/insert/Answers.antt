@@ -1,5 +1,5 @@
 -- The number of entries is that of the grown tree's listings.
-use Rattle.std.proofs.Common.{◌≡◌, ℕ, ◌<◌, ◌≤◌, ap, ◌∙◌, subst, arith}
+use Rattle.std.proofs.Common.{◌<◌, ◌≤◌, ap, ◌∙◌, subst}
 use Rattle.sand_model.specs.Tree.{listings}
 use Rattle.pmr_tree.proofs.Counts.{entries_are_listings}
 use Rattle.pmr_tree.proofs.quadtree.Pmr.insert.Goals as goal

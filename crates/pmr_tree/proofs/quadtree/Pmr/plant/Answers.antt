@@ -1,5 +1,5 @@
 -- The map is planted, and the mark of the root put.
-use Rattle.std.proofs.Common.{◌≡◌, ◌∙◌}
+use Rattle.std.proofs.Common.{◌∙◌}
 use Rattle.pmr_tree.proofs.Planted.{plants}
 use Rattle.pmr_tree.proofs.quadtree.Pmr.plant.Goals as goal
 
