@@ -23,6 +23,8 @@ mod rows;
 mod settle;
 mod step;
 mod take_equal;
+#[cfg(test)]
+mod tests;
 
 pub use counts::Counts;
 pub use engine::BestFirst;

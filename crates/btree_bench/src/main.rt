@@ -1,7 +1,7 @@
 //! A map in pages beside one in memory: the same drawn calls of both, whose answers are compared one by one.
 //!
-//! It prints how many pairs were left each time. With three words, as `pages look 1000`, it makes inserts, look-ups or a
-//! run over so many thousand drawn keys instead, for `bench/btree.py`. Below: `code_btree`. The draws are those of a linear
+//! It prints how many pairs were left each time. With three words, as `pages look 20`, it makes inserts, look-ups or a
+//! run over so many lots of 50,000 drawn keys instead, for `bench/btree.py`. Below: `code_btree`. The draws are those of a linear
 //! congruential generator.
 #![tactic(auto)]
 
@@ -61,22 +61,22 @@ enum Part {
 }
 
 // Makes one kind of calls in pages, after the inserts.
-fn in_pages(alloc: Global, part: Part, thousands: u32) -> Option<u64> {
+fn in_pages(alloc: Global, part: Part, lots: u32) -> Option<u64> {
     let mut pool = Pool::start(alloc, SureDisk::new(alloc), None, 4_096).ok()?;
-    let tree = filled(&mut pool, thousands).ok()?;
+    let tree = filled(&mut pool, lots).ok()?;
     match part {
         Part::Insert => Some(tree.entries),
-        Part::Look => looked_up(&mut pool, tree, thousands).ok(),
+        Part::Look => looked_up(&mut pool, tree, lots).ok(),
         Part::Run => Some(run_through(&mut pool, tree)),
     }
 }
 
 // The same in memory.
-fn in_memory(alloc: Global, part: Part, thousands: u32) -> Option<u64> {
-    let twin = filled_twin(alloc, thousands)?;
+fn in_memory(alloc: Global, part: Part, lots: u32) -> Option<u64> {
+    let twin = filled_twin(alloc, lots)?;
     match part {
         Part::Insert => Some(twin.len() as u64),
-        Part::Look => Some(looked_up_twin(&twin, thousands)),
+        Part::Look => Some(looked_up_twin(&twin, lots)),
         Part::Run => Some(run_through_twin(&twin)),
     }
 }
@@ -91,13 +91,13 @@ fn part_named(word: &str) -> Option<Part> {
     }
 }
 
-// The count of the calls that three words ask for: where, which and how many thousands.
+// The count of the calls that three words ask for: where, which and how many lots.
 fn asked(alloc: Global, place: &str, kind: &str, count: &str) -> Option<u64> {
     let part = part_named(kind)?;
-    let thousands = count.parse().ok()?;
+    let lots = count.parse().ok()?;
     match place {
-        "pages" => in_pages(alloc, part, thousands),
-        "memory" => in_memory(alloc, part, thousands),
+        "pages" => in_pages(alloc, part, lots),
+        "memory" => in_memory(alloc, part, lots),
         _ => None,
     }
 }

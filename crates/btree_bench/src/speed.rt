@@ -9,7 +9,10 @@ use std::alloc::Global;
 use std::collections::BTreeMap;
 
 /// How many inserts one command makes.
-pub const COMMAND: u32 = 1_000;
+pub const LOT: u32 = 50_000;
+
+/// How often each key is looked up.
+pub const ROUNDS: u32 = 10;
 
 // One command of inserts.
 fn command(pool: &mut Pool<SureDisk>, tree: &mut Tree, draws: &mut Draws) -> Result<(), PageFault>
@@ -19,7 +22,7 @@ fn command(pool: &mut Pool<SureDisk>, tree: &mut Tree, draws: &mut Draws) -> Res
     ensures tree { OnOk result (IsTold pool.new → IsTree (pages_in pool.new) tree.new) }
 {
     pool.begin()?;
-    'inserts: for _ in 0..COMMAND {
+    'inserts: for _ in 0..LOT {
         let key = draws.key();
         tree.insert(pool, key, key)?;
     }
@@ -27,8 +30,8 @@ fn command(pool: &mut Pool<SureDisk>, tree: &mut Tree, draws: &mut Draws) -> Res
     Ok(())
 }
 
-/// A map in pages of so many thousand drawn keys.
-pub fn filled(pool: &mut Pool<SureDisk>, thousands: u32) -> Result<Tree, PageFault>
+/// A map in pages of so many lots of drawn keys.
+pub fn filled(pool: &mut Pool<SureDisk>, lots: u32) -> Result<Tree, PageFault>
     requires { IsClosed pool.old }
     ensures closed { OnOk result (IsClosed pool.new) }
     ensures tree { IfOk result (λ tree. IsTold pool.new → IsTree (pages_in pool.new) tree) }
@@ -37,24 +40,36 @@ pub fn filled(pool: &mut Pool<SureDisk>, thousands: u32) -> Result<Tree, PageFau
     let mut tree = Tree::plant(pool)?;
     pool.commit();
     let mut draws = Draws::begin(1);
-    'commands: for _ in 0..thousands {
+    'commands: for _ in 0..lots {
         command(pool, &mut tree, &mut draws)?;
     }
     Ok(tree)
 }
 
-/// Looks up the drawn keys again; gives how many were there.
-pub fn looked_up(pool: &mut Pool<SureDisk>, tree: Tree, thousands: u32) -> Result<u64, PageFault>
+// Looks up the drawn keys again; gives how many were there.
+fn look(pool: &mut Pool<SureDisk>, tree: Tree, lots: u32) -> Result<u64, PageFault>
     requires { IsTold pool.old → IsTree (pages_in pool.old) tree }
+    ensures { OnOk result (IsTold pool.new → IsTree (pages_in pool.new) tree) }
 {
     let mut draws = Draws::begin(1);
     let mut there = 0u64;
-    'thousands: for _ in 0..thousands {
-        'keys: for _ in 0..COMMAND {
+    'lots: for _ in 0..lots {
+        'keys: for _ in 0..LOT {
             if tree.get(pool, draws.key())?.is_some() {
                 there = there.wrapping_add(1);
             }
         }
+    }
+    Ok(there)
+}
+
+/// Looks up each key some rounds; gives how often one was there.
+pub fn looked_up(pool: &mut Pool<SureDisk>, tree: Tree, lots: u32) -> Result<u64, PageFault>
+    requires { IsTold pool.old → IsTree (pages_in pool.old) tree }
+{
+    let mut there = 0u64;
+    'rounds: for _ in 0..ROUNDS {
+        there = there.wrapping_add(look(pool, tree, lots)?);
     }
     Ok(there)
 }
@@ -71,12 +86,12 @@ pub fn run_through(pool: &mut Pool<SureDisk>, tree: Tree) -> u64
     pairs
 }
 
-/// The same in memory: a map of so many thousand drawn keys, where memory suffices.
-pub fn filled_twin(alloc: Global, thousands: u32) -> Option<BTreeMap<u128, u128>> {
+/// The same in memory: a map of so many lots of drawn keys, where memory suffices.
+pub fn filled_twin(alloc: Global, lots: u32) -> Option<BTreeMap<u128, u128>> {
     let mut twin = BTreeMap::new(alloc);
     let mut draws = Draws::begin(1);
-    'thousands: for _ in 0..thousands {
-        'keys: for _ in 0..COMMAND {
+    'lots: for _ in 0..lots {
+        'keys: for _ in 0..LOT {
             let key = draws.key();
             twin.insert(key, key).ok()?;
         }
@@ -84,16 +99,25 @@ pub fn filled_twin(alloc: Global, thousands: u32) -> Option<BTreeMap<u128, u128>
     Some(twin)
 }
 
-/// The keys looked up again in memory; gives how many were there.
-pub fn looked_up_twin(twin: &BTreeMap<u128, u128>, thousands: u32) -> u64 {
+// The keys looked up again in memory; gives how many were there.
+fn look_twin(twin: &BTreeMap<u128, u128>, lots: u32) -> u64 {
     let mut draws = Draws::begin(1);
     let mut there = 0u64;
-    'thousands: for _ in 0..thousands {
-        'keys: for _ in 0..COMMAND {
+    'lots: for _ in 0..lots {
+        'keys: for _ in 0..LOT {
             if twin.get(&draws.key()).is_some() {
                 there = there.wrapping_add(1);
             }
         }
+    }
+    there
+}
+
+/// Each key looked up some rounds in memory; gives how often one was there.
+pub fn looked_up_twin(twin: &BTreeMap<u128, u128>, lots: u32) -> u64 {
+    let mut there = 0u64;
+    'rounds: for _ in 0..ROUNDS {
+        there = there.wrapping_add(look_twin(twin, lots));
     }
     there
 }

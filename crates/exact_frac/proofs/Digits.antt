@@ -24,7 +24,7 @@ length-positive n high =
 -- the last digit goes before what is written, and the tenth of the number is left
 pub digit_written : (bytes : List ℕ) (at n : ℕ) → 10 ≤ n → n < 2 ^ 128 → 1 ≤ at → at ≤ length bytes
     → decimal (n / 10) ++ drop (at - 1) (set bytes (at - 1) (48 + n % 10)) ≡ decimal n ++ drop at bytes
-digit_written bytes at n low high some room =
+digit_written bytes at n low high some within =
     let here : at - 1 < length bytes = omega arith in
     let next : at - 1 + 1 ≡ at = omega arith in
     rw (drop-set bytes (at - 1) (48 + n % 10) here, next, decimal_step_wide n low (omega arith), append_assoc)
@@ -32,7 +32,7 @@ digit_written bytes at n low high some room =
 -- the first digit goes before all the others
 pub first_written : (bytes : List ℕ) (at n : ℕ) → n < 10 → 1 ≤ at → at ≤ length bytes
     → drop (at - 1) (set bytes (at - 1) (48 + n)) ≡ decimal n ++ drop at bytes
-first_written bytes at n low some room =
+first_written bytes at n low some within =
     let here : at - 1 < length bytes = omega arith in
     let next : at - 1 + 1 ≡ at = omega arith in
     rw (drop-set bytes (at - 1) (48 + n) here, next, decimal_digit n low)
@@ -46,9 +46,9 @@ pub length-den : (n : ℕ) → n ≤ MAX_DEN → length (decimal n) ≤ 13
 length-den n h = length-decimal-le_wide 13 n (omega arith) (omega arith) (omega arith)
 
 -- a slash before what is written, and after what comes next
-pub slash_written : (bytes : List ℕ) (at : ℕ) (front back : List ℕ) → 1 ≤ at → at ≤ length bytes → drop at bytes ≡ back
-    → front ++ drop (at - 1) (set bytes (at - 1) 47) ≡ front ++ codes "/" ++ back
-slash_written bytes at front back some room e =
+pub slash_written : (bytes : List ℕ) (at : ℕ) (prefix rest : List ℕ) → 1 ≤ at → at ≤ length bytes → drop at bytes ≡ rest
+    → prefix ++ drop (at - 1) (set bytes (at - 1) 47) ≡ prefix ++ codes "/" ++ rest
+slash_written bytes at prefix rest some within e =
     let here : at - 1 < length bytes = omega arith in
     let next : at - 1 + 1 ≡ at = omega arith in
     rw (drop-set bytes (at - 1) 47 here, next, e, append_assoc)

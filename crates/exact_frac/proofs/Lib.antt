@@ -1,5 +1,6 @@
 mod Digits
 mod Quotients
+pub mod LesserExists
 pub mod LowestTerms
 pub mod PrintedExists
-pub mod PrintedLemmas
+pub mod PrintedIsUnique

@@ -1,7 +1,7 @@
 -- Fractions in the order of their values.
 use Rattle.std.specs.Cmp.{IsTotalOrder}
 use Rattle.std.specs.declared.cmp.Ordering.{Ordering}
-use Rattle.exact_frac.specs.Laws.{by_value_total}
+use Rattle.exact_frac.specs.TotalOrder.{by_value_total}
 use Rattle.exact_frac.specs.Value.{by_value}
 use Rattle.exact_frac.specs.declared.frac.Frac.{Frac}
 

@@ -5,25 +5,25 @@ ghost use Rattle.exact_frac.specs.declared.TheConstants.{MAX_NUM, MAX_DEN};
 
 use std::marker::Model;
 
-// Room for the longest text: 25 digits, the slash and 13 digits, with a byte to spare.
-const ROOM: usize = 40;
+// The capacity for the longest text: 25 digits, the slash and 13 digits, with a byte to spare.
+const CAPACITY: usize = 40;
 
 /// A printed fraction, kept by value; it is seen as the list of its bytes.
 #[derive(Drop)]
 pub struct FracText {
-    bytes: [u8; ROOM],
+    bytes: [u8; CAPACITY],
     start: usize,
 }
 
 impl Model for FracText {
     ghost use Rattle.std.specs.Prelude.{List, ℕ, drop, ◌≤◌};
-    ghost use Rattle.exact_frac.specs.declared.frac_text.TheConstants.{ROOM};
+    ghost use Rattle.exact_frac.specs.declared.frac_text.TheConstants.{CAPACITY};
 
     ghost Value = { List ℕ };
 
     ghost view = { λ t. drop t.start t.bytes };
 
-    ghost invariant = { λ t. t.start ≤ ROOM };
+    ghost invariant = { λ t. t.start ≤ CAPACITY };
 }
 
 impl FracText {
@@ -39,8 +39,8 @@ impl FracText {
         requires { num ≤ MAX_NUM }
         ensures { result ≡ decimal num }
     {
-        let mut bytes = [0; ROOM];
-        let start = write_number(&mut bytes, ROOM, num);
+        let mut bytes = [0; CAPACITY];
+        let start = write_number(&mut bytes, CAPACITY, num);
         FracText { bytes, start }
     }
 
@@ -50,8 +50,8 @@ impl FracText {
         requires den_small { den ≤ MAX_DEN }
         ensures { result ≡ decimal num ++ codes "/" ++ decimal den }
     {
-        let mut bytes = [0; ROOM];
-        let slash = write_number(&mut bytes, ROOM, den) - 1;
+        let mut bytes = [0; CAPACITY];
+        let slash = write_number(&mut bytes, CAPACITY, den) - 1;
         bytes[slash] = b'/';
         let start = write_number(&mut bytes, slash, num);
         FracText { bytes, start }
@@ -60,7 +60,7 @@ impl FracText {
 
 // Writes the digits so that they end at `end`, and returns where they start.
 fn write_number(bytes: &mut [u8], end: usize, number: u128) -> usize
-    requires room { length (decimal number) ≤ end }
+    requires fits { length (decimal number) ≤ end }
     requires within { end ≤ length bytes.old }
     ensures start { result + length (decimal number) ≡ end }
     ensures written { drop result bytes.new ≡ decimal number ++ drop end bytes.old }

@@ -4,7 +4,8 @@
 //! are compared by their cross products, which fit 128 bits, so nothing is rounded and nothing is divided.
 //! Above: `sand_model`, `plane_geom` and all that orders rows by distance. Below: std alone.
 //! Contracts see a `Frac` by its numerator and denominator and a `FracText` as the list of its bytes; read
-//! `specs/Value.antt` first, then `specs/Printed.antt`. Lowest terms by Euclid's algorithm (Elements VII.2).
+//! `specs/Value.antt` first, then `specs/Frac.antt`, `specs/Lesser.antt` and `specs/Printed.antt`. Lowest terms
+//! by Euclid's algorithm (Elements VII.2).
 #![tactic(auto)]
 
 mod frac;

@@ -1,21 +1,20 @@
--- How `ring` is called, what it takes and what it refuses.
+-- How `ring` is called, with names for its variables and without, what it takes and what it refuses.
 use Rattle.std.proofs.Common.{◌≡◌, ℕ, ◌*◌, false, ℤ, pos, ◌+ℤ◌, ◌-ℤ◌, ◌*ℤ◌, neg_ℤ, ◌≤ℤ◌, [], ◌∷◌, refl}
 use Rattle.int_ring.specs.Expr.{var, num, neg, at, ◌⊕◌, ◌⊖◌, ◌⊗◌}
 use Rattle.int_ring.specs.Poly.{same}
 use Rattle.int_ring.proofs.Ring.{ring, ring_using}
 use Rattle.int_ring.proofs.Inequality.{le_ring}
+use Rattle.int_ring.proofs.Named.{identity}
 use Rattle.int_ring.proofs.Squares.{square_nonneg}
 
 -- Lagrange's identity in the plane: (a b + c d)^2 + (a d - c b)^2 = (a^2 + c^2) (b^2 + d^2)
 lagrange : (a b c d : ℤ) → (a *ℤ b +ℤ c *ℤ d) *ℤ (a *ℤ b +ℤ c *ℤ d) +ℤ (a *ℤ d -ℤ c *ℤ b) *ℤ (a *ℤ d -ℤ c *ℤ b) ≡ (a *ℤ a +ℤ c *ℤ c) *ℤ (b *ℤ b +ℤ d *ℤ d)
 lagrange a b c d =
-    let x = var 0 in
-    let y = var 1 in
-    let z = var 2 in
-    let w = var 3 in
-    let dot = x ⊗ y ⊕ z ⊗ w in
-    let cross = x ⊗ w ⊖ z ⊗ y in
-    ring (at (a ∷ b ∷ c ∷ d ∷ [])) (dot ⊗ dot ⊕ cross ⊗ cross) ((x ⊗ x ⊕ z ⊗ z) ⊗ (y ⊗ y ⊕ w ⊗ w)) refl
+    identity (a ∷ b ∷ c ∷ d ∷ [])
+    (λ a b c d.
+    let dot = a ⊗ b ⊕ c ⊗ d in
+    let cross = a ⊗ d ⊖ c ⊗ b in
+    (dot ⊗ dot ⊕ cross ⊗ cross, (a ⊗ a ⊕ c ⊗ c) ⊗ (b ⊗ b ⊕ d ⊗ d))) refl
 
 -- with a known equation: from a d = c b, (a b + c d)^2 = (a^2 + c^2) (b^2 + d^2)
 along_one_line : (a b c d : ℤ) → a *ℤ d ≡ c *ℤ b → (a *ℤ b +ℤ c *ℤ d) *ℤ (a *ℤ b +ℤ c *ℤ d) ≡ (a *ℤ a +ℤ c *ℤ c) *ℤ (b *ℤ b +ℤ d *ℤ d)

@@ -1,7 +1,8 @@
 mod Examples
 pub mod Inequality
-pub mod Laws
+pub mod Named
 pub mod Order
-mod PolyLemmas
+mod PolynomialValues
+pub mod ProductLaws
 pub mod Ring
 pub mod Squares

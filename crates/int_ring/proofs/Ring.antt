@@ -4,7 +4,7 @@ use Rattle.std.proofs.Math.IntN.{*ℤ-zero}
 use Rattle.std.proofs.lemmas.Int.{ints}
 use Rattle.int_ring.specs.Expr.{Expr, minus, value, ◌⊕◌, ◌⊖◌, ◌⊗◌}
 use Rattle.int_ring.specs.Poly.{norm, same}
-use Rattle.int_ring.proofs.PolyLemmas.{is_zero_value, norm_value}
+use Rattle.int_ring.proofs.PolynomialValues.{is_zero_value, norm_value}
 
 -- integers whose difference is 0 are equal
 same_of_difference : (a b : ℤ) → a -ℤ b ≡ pos 0 → a ≡ b

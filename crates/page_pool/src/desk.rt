@@ -1,5 +1,8 @@
 ghost use Rattle.std.specs.Prelude.{◌≡◌, [], ◌∷◌, ◌++◌, OnOk, OnErr};
+ghost use Rattle.std.specs.Borrow.{sem, Lends};
 ghost use Rattle.page_pool.specs.Pool.{IsClosed};
+ghost use Rattle.page_pool.specs.contracts.desk.Desk.{the_row};
+ghost use Rattle.page_pool.specs.contracts.pool.Pool.{the_row as pool_row};
 
 use crate::{Disk, PageFault, Pages, Pool};
 use sand_base::{NoMemory, Visit, VisitLog};
@@ -54,6 +57,14 @@ impl<D: Disk> Desk<D> {
         ensures emptied { self.new ≡ record self.old { visits = [] } }
     {
         mem::replace(&mut self.log, VisitLog::new(self.alloc))
+    }
+
+    /// The pages alone, for a reader that notes its visits itself: the log stays.
+    pub fn pages(&mut self) -> &mut Pool<D>
+        ensures pool { result.now ≡ self.old.pool }
+        ensures* log { sem 𝓛 (Lends (the_row D.row D.Disk) (pool_row D.row D.Disk) self.entry result (λ pool. record self.old { pool = pool })) }
+    {
+        &mut self.pool
     }
 
     /// The pool.

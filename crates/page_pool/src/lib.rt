@@ -22,6 +22,8 @@ mod pages;
 mod pool;
 mod staged;
 mod sure_disk;
+#[cfg(test)]
+mod tests;
 
 pub use desk::Desk;
 pub use disk::{Disk, DiskFault};

@@ -1,5 +1,5 @@
--- Points between two rational points of a segment: the one at which a coordinate has a given value.
-use Rattle.std.proofs.Common.{◌≡◌, ℕ, ◌+◌, ◌*◌, ◌<◌, min, max, ℤ, pos, nat_abs, ◌+ℤ◌, ◌-ℤ◌, ◌*ℤ◌, ◌≤ℤ◌, ◌<ℤ◌, [], ◌∷◌, refl, arith}
+-- Points between two rational points of a segment: the one at a given level of an axis.
+use Rattle.std.proofs.Common.{◌≡◌, ℕ, ◌+◌, ◌*◌, ◌<◌, min, max, ℤ, pos, nat_abs, ◌+ℤ◌, ◌-ℤ◌, ◌*ℤ◌, ◌≤ℤ◌, ◌<ℤ◌, [], ◌∷◌, refl, sym, ◌∙◌, subst, arith}
 use Rattle.std.proofs.lemmas.Int.{ints, by_lt_z}
 use Rattle.sand_base.specs.declared.segment.Segment.{Segment}
 use Rattle.sand_model.specs.Points.{RationalPoint, IsWithin, IsOnSegment}
@@ -7,6 +7,7 @@ use Rattle.int_ring.specs.Expr.{var, at, num, ◌⊕◌, ◌⊖◌, ◌⊗◌}
 use Rattle.int_ring.proofs.Ring.{ring_using_two}
 use Rattle.int_ring.proofs.Order.{difference_nonneg, mul_nonneg, mul_positive, add_nonneg, pos_abs}
 use Rattle.int_ring.proofs.Inequality.{le_ring}
+use Rattle.plane_geom.proofs.Axis.{Axis, horizontal, vertical, numerator}
 use Rattle.plane_geom.proofs.Signs.{natural}
 
 -- the mean of two rational points under two weights
@@ -52,17 +53,18 @@ blend_on s w z q r h hq hr = record {
   y = blend_within (min s.a.y s.b.y) (max s.a.y s.b.y) w z q.n r.n q.y r.y hq.y hr.y;
 }
 
--- two points of a segment on either side of a value of x, and one between them at which x has it
-pub record IsCutX (s : Segment) (level : ℕ) (q r p : RationalPoint) : Type 0 where
-  pub on : IsOnSegment s p
-  pub x : p.x ≡ pos (p.n * level)
-  pub y : (low high : ℕ) → IsWithin low high q.n q.y → IsWithin low high r.n r.y → IsWithin low high p.n p.y
+-- along each axis, its numerator is the mean of theirs
+blended : (axis : Axis) (w z : ℕ) (q r : RationalPoint) (h : 0 < w * q.n + z * r.n)
+    → numerator axis (blend w z q r h) ≡ (pos w *ℤ numerator axis q) +ℤ (pos z *ℤ numerator axis r)
+blended horizontal w z q r h = refl
+blended vertical w z q r h = refl
 
--- the same for a value of y
-pub record IsCutY (s : Segment) (level : ℕ) (q r p : RationalPoint) : Type 0 where
+-- two points of a segment on either side of a level of the axis, and one between them at the level
+pub record IsCut (axis : Axis) (s : Segment) (level : ℕ) (q r p : RationalPoint) : Type 0 where
   pub on : IsOnSegment s p
-  pub y : p.y ≡ pos (p.n * level)
-  pub x : (low high : ℕ) → IsWithin low high q.n q.x → IsWithin low high r.n r.x → IsWithin low high p.n p.x
+  pub at_level : numerator axis p ≡ pos (p.n * level)
+  pub between : (along : Axis) (low high : ℕ) → IsWithin low high q.n (numerator along q) → IsWithin low high r.n (numerator along r)
+      → IsWithin low high p.n (numerator along p)
 
 -- the weights under which a coordinate has the level
 levelled : (w z n m x u l : ℤ) → w ≡ (m *ℤ l) -ℤ u → z ≡ x -ℤ (n *ℤ l) → (w *ℤ x) +ℤ (z *ℤ u) ≡ ((w *ℤ n) +ℤ (z *ℤ m)) *ℤ l
@@ -88,36 +90,24 @@ some_weight w z n m hn hm h =
 sum_positive : (w z : ℕ) (l u x n : ℤ) → pos w ≡ l -ℤ u → pos z ≡ x -ℤ n → (u -ℤ l) <ℤ (x -ℤ n) → 0 < w + z
 sum_positive w z l u x n e f h = omega (arith, ints)
 
--- between two points of a segment, one at least at the level and one at most, x has the level somewhere
-pub cut_x : (s : Segment) (level : ℕ) (q r : RationalPoint) → IsOnSegment s q → IsOnSegment s r → pos (q.n * level) ≤ℤ q.x
-    → r.x ≤ℤ pos (r.n * level) → (r.x -ℤ pos (r.n * level)) <ℤ (q.x -ℤ pos (q.n * level)) → (p : RationalPoint) × IsCutX s level q r p
-cut_x s level q r hq hr high low apart =
-    let w = nat_abs (pos (r.n * level) -ℤ r.x) in
-    let z = nat_abs (q.x -ℤ pos (q.n * level)) in
-    let ew : pos w ≡ pos (r.n * level) -ℤ r.x = pos_abs (pos (r.n * level) -ℤ r.x) (difference_nonneg r.x (pos (r.n * level)) low) in
-    let ez : pos z ≡ q.x -ℤ pos (q.n * level) = pos_abs (q.x -ℤ pos (q.n * level)) (difference_nonneg (pos (q.n * level)) q.x high) in
-    let h = some_weight w z q.n r.n q.positive r.positive (sum_positive w z (pos (r.n * level)) r.x q.x (pos (q.n * level)) ew ez apart) in (
+-- between two points of a segment, one at least at the level and one at most, there is one at it
+pub cut : (axis : Axis) (s : Segment) (level : ℕ) (q r : RationalPoint) → IsOnSegment s q → IsOnSegment s r
+    → pos (q.n * level) ≤ℤ numerator axis q → numerator axis r ≤ℤ pos (r.n * level)
+    → (numerator axis r -ℤ pos (r.n * level)) <ℤ (numerator axis q -ℤ pos (q.n * level)) → (p : RationalPoint) × IsCut axis s level q r p
+cut axis s level q r hq hr high low apart =
+    let x = numerator axis q in
+    let u = numerator axis r in
+    let w = nat_abs (pos (r.n * level) -ℤ u) in
+    let z = nat_abs (x -ℤ pos (q.n * level)) in
+    let ew : pos w ≡ pos (r.n * level) -ℤ u = pos_abs (pos (r.n * level) -ℤ u) (difference_nonneg u (pos (r.n * level)) low) in
+    let ez : pos z ≡ x -ℤ pos (q.n * level) = pos_abs (x -ℤ pos (q.n * level)) (difference_nonneg (pos (q.n * level)) x high) in
+    let h = some_weight w z q.n r.n q.positive r.positive (sum_positive w z (pos (r.n * level)) u x (pos (q.n * level)) ew ez apart) in (
       blend w z q r h,
       record {
         on = blend_on s w z q r h hq hr;
-        x = levelled (pos w) (pos z) (pos q.n) (pos r.n) q.x r.x (pos level) ew ez;
-        y = λ l k hy hz. blend_within l k w z q.n r.n q.y r.y hy hz;
-      },
-    )
-
--- and so has y
-pub cut_y : (s : Segment) (level : ℕ) (q r : RationalPoint) → IsOnSegment s q → IsOnSegment s r → pos (q.n * level) ≤ℤ q.y
-    → r.y ≤ℤ pos (r.n * level) → (r.y -ℤ pos (r.n * level)) <ℤ (q.y -ℤ pos (q.n * level)) → (p : RationalPoint) × IsCutY s level q r p
-cut_y s level q r hq hr high low apart =
-    let w = nat_abs (pos (r.n * level) -ℤ r.y) in
-    let z = nat_abs (q.y -ℤ pos (q.n * level)) in
-    let ew : pos w ≡ pos (r.n * level) -ℤ r.y = pos_abs (pos (r.n * level) -ℤ r.y) (difference_nonneg r.y (pos (r.n * level)) low) in
-    let ez : pos z ≡ q.y -ℤ pos (q.n * level) = pos_abs (q.y -ℤ pos (q.n * level)) (difference_nonneg (pos (q.n * level)) q.y high) in
-    let h = some_weight w z q.n r.n q.positive r.positive (sum_positive w z (pos (r.n * level)) r.y q.y (pos (q.n * level)) ew ez apart) in (
-      blend w z q r h,
-      record {
-        on = blend_on s w z q r h hq hr;
-        y = levelled (pos w) (pos z) (pos q.n) (pos r.n) q.y r.y (pos level) ew ez;
-        x = λ l k hy hz. blend_within l k w z q.n r.n q.x r.x hy hz;
+        at_level = blended axis w z q r h ∙ levelled (pos w) (pos z) (pos q.n) (pos r.n) x u (pos level) ew ez;
+        between = λ along l k hy hz.
+            subst (λ t. IsWithin l k (w * q.n + z * r.n) t) (sym (blended along w z q r h))
+            (blend_within l k w z q.n r.n (numerator along q) (numerator along r) hy hz);
       },
     )

@@ -5,8 +5,9 @@ use Rattle.sand_base.specs.declared.point.Point.{Point}
 use Rattle.int_ring.specs.Expr.{var, at, num, neg, ◌⊕◌, ◌⊖◌, ◌⊗◌}
 use Rattle.int_ring.proofs.Ring.{ring}
 use Rattle.int_ring.proofs.Order.{difference_nonneg, mul_nonneg, mul_positive, mul_le, add_nonneg, chain_le}
-use Rattle.int_ring.proofs.Inequality.{le_ring, le_ring_scaled}
+use Rattle.int_ring.proofs.Named.{inequality, inequality_scaled}
 use Rattle.int_ring.proofs.Squares.{square_nonneg}
+use Rattle.plane_geom.proofs.Forms as form
 use Rattle.plane_geom.proofs.Signs.{weak}
 
 -- the vector (x, y), over the denominator k, is at least as long as the root of m / e
@@ -14,8 +15,8 @@ abbrev pub IsClear : ℤ → ℤ → ℤ → ℤ → ℤ → Type 0
 IsClear m e x y k = (m *ℤ (k *ℤ k)) ≤ℤ (((x *ℤ x) +ℤ (y *ℤ y)) *ℤ e)
 
 -- an equal vector over an equal denominator is as long
-pub along : (m e x y k x' y' k' : ℤ) → IsClear m e x y k → x ≡ x' → y ≡ y' → k ≡ k' → IsClear m e x' y' k'
-along m e x y k x' y' k' h p q r =
+pub as_long : (m e x y k x' y' k' : ℤ) → IsClear m e x y k → x ≡ x' → y ≡ y' → k ≡ k' → IsClear m e x' y' k'
+as_long m e x y k x' y' k' h p q r =
     subst (λ t. IsClear m e x' y' t) r (subst (λ t. IsClear m e x' t k) q (subst (λ t. IsClear m e t y k) p h))
 
 -- so is the opposite vector
@@ -28,18 +29,14 @@ opposite m e x y k h =
 pub shrunk : (m e x y k t s : ℤ) → pos 0 ≤ℤ e → pos 0 ≤ℤ t → t ≤ℤ s → pos 0 <ℤ s
     → IsClear m e (t *ℤ x) (t *ℤ y) (s *ℤ k) → IsClear m e x y k
 shrunk m e x y k t s he ht hts hs h =
-    let vm = var 0 in
-    let ve = var 1 in
-    let vx = var 2 in
-    let vy = var 3 in
-    let vk = var 4 in
-    let vt = var 5 in
-    let vs = var 6 in
-    let long = vx ⊗ vx ⊕ vy ⊗ vy in
-    let scaled_distance = ((vt ⊗ vx) ⊗ (vt ⊗ vx) ⊕ (vt ⊗ vy) ⊗ (vt ⊗ vy)) ⊗ ve in
-    let near = vm ⊗ ((vs ⊗ vk) ⊗ (vs ⊗ vk)) in
-    le_ring_scaled (at (m ∷ e ∷ x ∷ y ∷ k ∷ t ∷ s ∷ [])) (vm ⊗ (vk ⊗ vk)) (long ⊗ ve) (vs ⊗ vs)
-    ((scaled_distance ⊖ near) ⊕ ((vs ⊖ vt) ⊗ (vs ⊕ vt)) ⊗ (long ⊗ ve)) refl
+    inequality_scaled (m ∷ e ∷ x ∷ y ∷ k ∷ t ∷ s ∷ [])
+    (λ m e x y k t s.
+    let long = form.squares x y ⊗ e in (
+      m ⊗ (k ⊗ k),
+      long,
+      s ⊗ s,
+      (form.squares (t ⊗ x) (t ⊗ y) ⊗ e ⊖ m ⊗ ((s ⊗ k) ⊗ (s ⊗ k))) ⊕ ((s ⊖ t) ⊗ (s ⊕ t)) ⊗ long,
+    )) refl
     (mul_positive s s hs hs)
     (add_nonneg _ _ (difference_nonneg _ _ h)
     (mul_nonneg _ _ (mul_nonneg _ _ (difference_nonneg t s hts) (both t s ht hs))
@@ -58,28 +55,21 @@ unscaled m e x y k s he hs h = shrunk m e x y k s s he (weak (pos 0) s hs) (same
 -- a common factor keeps a vector long enough
 pub raised : (m e x y k r : ℤ) → IsClear m e x y k → IsClear m e (r *ℤ x) (r *ℤ y) (r *ℤ k)
 raised m e x y k r h =
-    let vm = var 0 in
-    let ve = var 1 in
-    let vx = var 2 in
-    let vy = var 3 in
-    let vk = var 4 in
-    let vr = var 5 in
-    le_ring (at (m ∷ e ∷ x ∷ y ∷ k ∷ r ∷ [])) (vm ⊗ ((vr ⊗ vk) ⊗ (vr ⊗ vk)))
-    (((vr ⊗ vx) ⊗ (vr ⊗ vx) ⊕ (vr ⊗ vy) ⊗ (vr ⊗ vy)) ⊗ ve)
-    ((vr ⊗ vr) ⊗ ((vx ⊗ vx ⊕ vy ⊗ vy) ⊗ ve ⊖ vm ⊗ (vk ⊗ vk))) refl
+    inequality (m ∷ e ∷ x ∷ y ∷ k ∷ r ∷ [])
+    (λ m e x y k r. (
+      m ⊗ ((r ⊗ k) ⊗ (r ⊗ k)),
+      form.squares (r ⊗ x) (r ⊗ y) ⊗ e,
+      (r ⊗ r) ⊗ (form.squares x y ⊗ e ⊖ m ⊗ (k ⊗ k)),
+    )) refl
     (mul_nonneg _ _ (square_nonneg r) (difference_nonneg _ _ h))
 
 -- what is at least as long as a vector that is long enough is long enough
 pub farther : (m e x y x' y' k : ℤ) → pos 0 ≤ℤ e → IsClear m e x y (pos 1)
     → (((x *ℤ x) +ℤ (y *ℤ y)) *ℤ (k *ℤ k)) ≤ℤ ((x' *ℤ x') +ℤ (y' *ℤ y')) → IsClear m e x' y' k
 farther m e x y x' y' k he h scaled_distance =
-    let vm = var 0 in
-    let ve = var 1 in
-    let vk = var 2 in
-    let vl = var 3 in
     chain_le _ _ _
-    (le_ring (at (m ∷ e ∷ k ∷ ((x *ℤ x) +ℤ (y *ℤ y)) ∷ [])) (vm ⊗ (vk ⊗ vk)) ((vl ⊗ (vk ⊗ vk)) ⊗ ve)
-    ((vk ⊗ vk) ⊗ (vl ⊗ ve ⊖ vm ⊗ (num (pos 1) ⊗ num (pos 1)))) refl
+    (inequality (m ∷ e ∷ k ∷ ((x *ℤ x) +ℤ (y *ℤ y)) ∷ [])
+    (λ m e k l. (m ⊗ (k ⊗ k), (l ⊗ (k ⊗ k)) ⊗ e, (k ⊗ k) ⊗ (l ⊗ e ⊖ m ⊗ (num (pos 1) ⊗ num (pos 1))))) refl
     (mul_nonneg _ _ (square_nonneg k) (difference_nonneg _ _ h)))
     (mul_le _ _ e he scaled_distance)
 
@@ -124,14 +114,14 @@ turned_sums i j u v = ring (at (i ∷ j ∷ u ∷ v ∷ [])) ((var 1 ⊕ var 0) 
 -- the first two points, the other way round
 pub turn_first : (m e : ℤ) (a b c d : Point) → AreClear m e a b c d → AreClear m e b a c d
 turn_first m e a b c d h i j u v wi wu =
-    along m e _ _ _ _ _ _ (h j i u v (turned_weights i j wi) wu) (turned_offset (pos a.x) (pos b.x) (pos c.x) (pos d.x) i j u v)
+    as_long m e _ _ _ _ _ _ (h j i u v (turned_weights i j wi) wu) (turned_offset (pos a.x) (pos b.x) (pos c.x) (pos d.x) i j u v)
     (turned_offset (pos a.y) (pos b.y) (pos c.y) (pos d.y) i j u v) (turned_sums i j u v)
 
 -- the two pairs, exchanged
 pub exchange : (m e : ℤ) (a b c d : Point) → AreClear m e a b c d → AreClear m e c d a b
 exchange m e a b c d h i j u v wi wu =
     opposite m e _ _ _
-    (along _ _ _ _ _ _ _ _ (h u v i j wu wi) (one (pos a.x) (pos b.x) (pos c.x) (pos d.x) i j u v)
+    (as_long _ _ _ _ _ _ _ _ (h u v i j wu wi) (one (pos a.x) (pos b.x) (pos c.x) (pos d.x) i j u v)
     (one (pos a.y) (pos b.y) (pos c.y) (pos d.y) i j u v) (sums i j u v))
   where
     one : (a b c d i j u v : ℤ) → offset a b c d u v i j ≡ neg_ℤ (offset c d a b i j u v)

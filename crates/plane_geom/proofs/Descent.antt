@@ -6,9 +6,10 @@ use Rattle.int_ring.specs.Expr.{var, at, num, ◌⊕◌, ◌⊖◌, ◌⊗◌}
 use Rattle.int_ring.proofs.Ring.{ring}
 use Rattle.int_ring.proofs.Order.{difference_nonneg, mul_nonneg, mul_positive, add_nonneg}
 use Rattle.int_ring.proofs.Inequality.{le_ring}
-use Rattle.plane_geom.proofs.Clear.{IsClear, IsWeights, AreClear, turned_weights, offset, turned_offset, turned_sums, along, shrunk, raised}
+use Rattle.plane_geom.proofs.Clear.{IsClear, IsWeights, AreClear, turned_weights, offset, turned_offset, turned_sums, as_long, shrunk, raised}
 use Rattle.plane_geom.proofs.Signs.{weak, sum_above}
-use Rattle.plane_geom.proofs.Drawing.{drawn, inside_x, inside_y, passing, passes_x, passes_y, seen_back, line_back, foot_back}
+use Rattle.plane_geom.proofs.Axis.{foot_shares}
+use Rattle.plane_geom.proofs.Drawing.{drawn, inside, passing, passes, seen_back, line_back, foot_back}
 
 -- the squared length of the step from a to b
 abbrev pub long : Point → Point → ℤ
@@ -70,12 +71,14 @@ past_first m e a b c d i j u v al be he h p hl line behind =
     let wx = drawn_x a b c d i j u v al be in
     let wy = drawn_y a b c d i j u v al be in
     let k = ((be *ℤ j) *ℤ long a b) *ℤ (u +ℤ v) in
-    let l = pos 0 -ℤ foot a b c d i j u v al be in
+    let f = foot a b c d i j u v al be in
+    let l = pos 0 -ℤ f in
+    let shares = foot_shares dx dy wx wy line in
     let hk : pos 0 ≤ℤ k =
     mul_nonneg ((be *ℤ j) *ℤ long a b) (u +ℤ v)
     (mul_nonneg (be *ℤ j) (long a b) (mul_nonneg be j (weak (pos 0) be p.whole) p.first.second) (weak (pos 0) (long a b) hl))
     (weak (pos 0) (u +ℤ v) p.second.some) in
-    let hp : pos 0 <ℤ l = turned (foot a b c d i j u v al be) behind in
+    let hp : pos 0 <ℤ l = turned f behind in
     let weights : IsWeights ((k *ℤ (u +ℤ v)) +ℤ (l *ℤ u)) (l *ℤ v) = drawn_weights k l u v hk hp p.second in
     let one : IsWeights (pos 1) (pos 0) = record { first = omega (arith, ints); second = omega (arith, ints); some = omega (arith, ints) } in
     shrunk m e (offset (pos a.x) (pos b.x) (pos c.x) (pos d.x) i j u v) (offset (pos a.y) (pos b.y) (pos c.y) (pos d.y) i j u v)
@@ -83,11 +86,11 @@ past_first m e a b c d i j u v al be he h p hl line behind =
     (add_nonneg (k *ℤ al) (l *ℤ be) (mul_nonneg k al hk p.some) (mul_nonneg l be (weak (pos 0) l hp) (weak (pos 0) be p.whole)))
     (at_most k l al be hk p.most)
     (mul_positive be (k +ℤ l) p.whole (sum_above k l hk hp))
-    (along m e _ _ _ _ _ _
+    (as_long m e _ _ _ _ _ _
     (raised m e _ _ _ (be *ℤ (i +ℤ j))
     (h (pos 1) (pos 0) ((k *ℤ (u +ℤ v)) +ℤ (l *ℤ u)) (l *ℤ v) one weights))
-    (passing (pos a.x) (pos b.x) (pos c.x) (pos d.x) i j u v be al k l (passes_x dx dy wx wy be j (u +ℤ v) line))
-    (passing (pos a.y) (pos b.y) (pos c.y) (pos d.y) i j u v be al k l (passes_y dx dy wx wy be j (u +ℤ v) line))
+    (passing (pos a.x) (pos b.x) (pos c.x) (pos d.x) i j u v be al k l (passes (long a b) f dx wx be j (u +ℤ v) shares.0))
+    (passing (pos a.y) (pos b.y) (pos c.y) (pos d.y) i j u v be al k l (passes (long a b) f dy wy be j (u +ℤ v) shares.1))
     (sums be i j u v k l))
   where
     turned : (t : ℤ) → t <ℤ pos 0 → pos 0 <ℤ (pos 0 -ℤ t)
@@ -116,6 +119,7 @@ on_segment m e a b c d i j u v al be he h p hl line ahead within =
     let wy = drawn_y a b c d i j u v al be in
     let k = be *ℤ ((i +ℤ j) *ℤ (u +ℤ v)) in
     let f = foot a b c d i j u v al be in
+    let shares = foot_shares dx dy wx wy line in
     let hk : pos 0 <ℤ k = mul_positive be ((i +ℤ j) *ℤ (u +ℤ v)) p.whole (mul_positive (i +ℤ j) (u +ℤ v) p.first.some p.second.some) in
     let weights : IsWeights ((k *ℤ long a b) -ℤ f) f = record {
       first = within;
@@ -129,10 +133,10 @@ on_segment m e a b c d i j u v al be he h p hl line ahead within =
     (mul_nonneg (long a b) al (weak (pos 0) (long a b) hl) p.some)
     (at_most (long a b) al be (weak (pos 0) (long a b) hl) p.most)
     (mul_positive (long a b) be hl p.whole)
-    (along m e _ _ _ _ _ _
+    (as_long m e _ _ _ _ _ _
     (h ((k *ℤ long a b) -ℤ f) f (pos 1) (pos 0) weights one)
-    (inside_x (pos a.x) (pos b.x) (pos c.x) k al gx dy wy line)
-    (inside_y (pos a.y) (pos b.y) (pos c.y) k al gy dx wx line)
+    (inside (pos a.x) (pos b.x) (pos c.x) k al gx (long a b) f shares.0)
+    (inside (pos a.y) (pos b.y) (pos c.y) k al gy (long a b) f shares.1)
     (sums be ((i +ℤ j) *ℤ (u +ℤ v)) (long a b) f))
   where
     together : (t f : ℤ) → pos 0 <ℤ t → pos 0 <ℤ ((t -ℤ f) +ℤ f)
@@ -176,7 +180,7 @@ past_second m e a b c d i j u v al be he h p hl line beyond =
     (subst (λ t. pos 0 <ℤ t) (sym (long_back a b)) hl)
     (line_back (pos a.x) (pos a.y) (pos b.x) (pos b.y) k wx wy _ _ ex ey line)
     (subst (λ t. t <ℤ pos 0) (sym (foot_back (pos a.x) (pos a.y) (pos b.x) (pos b.y) k wx wy _ _ ex ey)) beyond) in
-    along m e _ _ _ _ _ _ back (turned_offset (pos b.x) (pos a.x) (pos c.x) (pos d.x) i j u v)
+    as_long m e _ _ _ _ _ _ back (turned_offset (pos b.x) (pos a.x) (pos c.x) (pos d.x) i j u v)
     (turned_offset (pos b.y) (pos a.y) (pos c.y) (pos d.y) i j u v) (turned_sums i j u v)
 
 -- a pair of means is far enough apart where its difference can be drawn together along the first segment's line

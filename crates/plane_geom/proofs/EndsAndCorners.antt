@@ -1,27 +1,27 @@
 -- A segment and a rectangle: where the segment doesn't enter it, an end or a corner is nearest.
-use Rattle.std.proofs.Common.{◌≡◌, inl, inr, ℕ, ◌*◌, ◌≤◌, min, max, ℤ, pos, ◌+ℤ◌, ◌-ℤ◌, ◌*ℤ◌, [], ◌∷◌, refl, arith}
-use Rattle.std.proofs.Math.Nat.{mul-le-mul_left, le_refl}
+use Rattle.std.proofs.Common.{◌≡◌, inl, inr, ℕ, ℤ, pos, ◌+ℤ◌, ◌-ℤ◌, ◌*ℤ◌, [], ◌∷◌, refl}
 use Rattle.exact_frac.specs.declared.frac.Frac.{Frac}
 use Rattle.sand_base.specs.declared.point.Point.{Point}
 use Rattle.sand_base.specs.declared.rect.Rect.{Rect}
 use Rattle.sand_base.specs.declared.segment.Segment.{Segment}
-use Rattle.sand_model.specs.Points.{RationalPoint, IsPoint, IsWithin, IsOnSegment, IsInRect}
+use Rattle.sand_model.specs.Points.{RationalPoint, IsPoint, IsOnSegment, IsInRect}
 use Rattle.sand_model.specs.Gap.{IsLeast}
 use Rattle.int_ring.specs.Expr.{var, at, num, ◌⊕◌, ◌⊖◌, ◌⊗◌}
 use Rattle.int_ring.proofs.Ring.{ring}
-use Rattle.int_ring.proofs.Order.{chain_le, pos_le}
 use Rattle.plane_geom.specs.Crossing.{Cross}
-use Rattle.plane_geom.specs.Lesser.{IsAtMost, IsLesser}
+use Rattle.exact_frac.specs.Lesser.{IsLesser}
 use Rattle.plane_geom.specs.Rectangles.{Enters, IsCovered, top_left, bottom_right, left_side, right_side, bottom_side, top_side}
 use Rattle.plane_geom.proofs.Clear.{exchange}
-use Rattle.plane_geom.proofs.Crossing.{crossing_shared, shared_least}
+use Rattle.plane_geom.proofs.CrossingPoint.{crossing_shared, shared_least}
 use Rattle.plane_geom.proofs.Least.{Attained, attained_within, attained_exchanged, clear_of_bound, means_clear}
 use Rattle.plane_geom.proofs.Means.{mean_on, first_end, second_end, point_hull}
 use Rattle.plane_geom.proofs.SegmentHull.{segment_hull}
-use Rattle.plane_geom.proofs.PointLemmas.{points_least}
-use Rattle.plane_geom.proofs.SegmentLemmas.{lesser_attained, at_most_one, uncrossed_clear}
-use Rattle.plane_geom.proofs.Leaving.{IsOrdered, value_within, sides_bound}
-use Rattle.plane_geom.proofs.Sides.{AreApart}
+use Rattle.plane_geom.proofs.GapOfPoints.{points_least}
+use Rattle.plane_geom.proofs.NearestEnd.{lesser_attained, lesser_apart, uncrossed_clear}
+use Rattle.plane_geom.proofs.Apart.{AreApart}
+use Rattle.plane_geom.proofs.Axis.{horizontal, vertical}
+use Rattle.plane_geom.proofs.Leaving.{sides_bound}
+use Rattle.plane_geom.proofs.Sides.{IsOrdered, SidesApart, low_end, high_end, side_in, value_within, corners_covered}
 use Rattle.plane_geom.proofs.Signs.{natural}
 
 -- the distances of both ends from the rectangle and of its four corners from the segment, and the least of them
@@ -37,47 +37,6 @@ pub record IsNearest (s : Segment) (r : Rect) (a b ends low top_left_one left bo
   pub of_right : IsLesser bottom_right_one high right
   pub of_corners : IsLesser left right corners
   pub of_all : IsLesser ends corners least
-
--- what lies between two values of a range lies in the range
-wider : (low high a b n : ℕ) (x : ℤ) → low ≤ a → low ≤ b → a ≤ high → b ≤ high → IsWithin (min a b) (max a b) n x → IsWithin low high n x
-wider low high a b n x la lb ah bh h = record {
-  above = chain_le _ _ _ (pos_le _ _ (mul-le-mul_left n (least low a b la lb))) h.above;
-  below = chain_le _ _ _ h.below (pos_le _ _ (mul-le-mul_left n (greatest high a b ah bh)));
-}
-  where
-    least : (l a b : ℕ) → l ≤ a → l ≤ b → l ≤ min a b
-    least l a b h k = omega arith
-
-    greatest : (g a b : ℕ) → a ≤ g → b ≤ g → max a b ≤ g
-    greatest g a b h k = omega arith
-
--- the left side lies in its rectangle
-left_in : (r : Rect) → IsOrdered r → (z : RationalPoint) → IsOnSegment (left_side r) z → IsInRect r z
-left_in r o z h = record {
-  x = wider r.low.x r.high.x r.low.x r.low.x z.n z.x (le_refl _) (le_refl _) o.x o.x h.x;
-  y = wider r.low.y r.high.y r.low.y r.high.y z.n z.y (le_refl _) o.y o.y (le_refl _) h.y;
-}
-
--- and so does the right one
-right_in : (r : Rect) → IsOrdered r → (z : RationalPoint) → IsOnSegment (right_side r) z → IsInRect r z
-right_in r o z h = record {
-  x = wider r.low.x r.high.x r.high.x r.high.x z.n z.x o.x o.x (le_refl _) (le_refl _) h.x;
-  y = wider r.low.y r.high.y r.low.y r.high.y z.n z.y (le_refl _) o.y o.y (le_refl _) h.y;
-}
-
--- the bottom one
-bottom_in : (r : Rect) → IsOrdered r → (z : RationalPoint) → IsOnSegment (bottom_side r) z → IsInRect r z
-bottom_in r o z h = record {
-  x = wider r.low.x r.high.x r.low.x r.high.x z.n z.x (le_refl _) o.x o.x (le_refl _) h.x;
-  y = wider r.low.y r.high.y r.low.y r.low.y z.n z.y (le_refl _) (le_refl _) o.y o.y h.y;
-}
-
--- and the top one
-top_in : (r : Rect) → IsOrdered r → (z : RationalPoint) → IsOnSegment (top_side r) z → IsInRect r z
-top_in r o z h = record {
-  x = wider r.low.x r.high.x r.low.x r.high.x z.n z.x (le_refl _) o.x o.x (le_refl _) h.x;
-  y = wider r.low.y r.high.y r.high.y r.high.y z.n z.y o.y o.y (le_refl _) (le_refl _) h.y;
-}
 
 -- what stands for a grid point in the rectangle lies in it
 covered_in : (p : Point) (r : Rect) → IsCovered p r → (q : RationalPoint) → IsPoint p q → IsInRect r q
@@ -96,25 +55,18 @@ nearest_attained : (s : Segment) (r : Rect) (a b ends low top_left_one left bott
     → IsNearest s r a b ends low top_left_one left bottom_right_one high right corners least
     → Attained (IsOnSegment s) (IsInRect r) least.num least.den
 nearest_attained s r a b ends low top_left_one left bottom_right_one high right corners least o h =
+    let covered = corners_covered r o in
     lesser_attained ends corners least h.of_all
     (lesser_attained a b ends h.of_ends
     (attained_within a.num a.den (λ q hq. mean_on s q (first_end s.a s.b q hq)) (λ z hz. hz) h.from_a.attained)
     (attained_within b.num b.den (λ q hq. mean_on s q (second_end s.a s.b q hq)) (λ z hz. hz) h.from_b.attained))
     (lesser_attained left right corners h.of_corners
     (lesser_attained low top_left_one left h.of_left
-    (corner_attained s r r.low low.num low.den
-    (record { left = le_refl _; right = o.x; bottom = le_refl _; top = o.y }) h.from_low)
-    (corner_attained s r (top_left r) top_left_one.num top_left_one.den
-    (record { left = le_refl _; right = o.x; bottom = o.y; top = le_refl _ }) h.from_top_left))
+    (corner_attained s r r.low low.num low.den covered.low h.from_low)
+    (corner_attained s r (top_left r) top_left_one.num top_left_one.den covered.top_left_one h.from_top_left))
     (lesser_attained bottom_right_one high right h.of_right
-    (corner_attained s r (bottom_right r) bottom_right_one.num bottom_right_one.den
-    (record { left = o.x; right = le_refl _; bottom = le_refl _; top = o.y }) h.from_bottom_right)
-    (corner_attained s r r.high high.num high.den
-    (record { left = o.x; right = le_refl _; bottom = o.y; top = le_refl _ }) h.from_high)))
-
--- points as far apart as one fraction says are as far apart as each fraction says that is at most it
-lesser_apart : (f g : Frac) (q z : RationalPoint) → IsAtMost g f → AreApart f.num f.den q z → AreApart g.num g.den q z
-lesser_apart f g q z le h = at_most_one f g _ _ (pos (q.n * z.n)) le h
+    (corner_attained s r (bottom_right r) bottom_right_one.num bottom_right_one.den covered.bottom_right_one h.from_bottom_right)
+    (corner_attained s r r.high high.num high.den covered.high h.from_high)))
 
 -- no end is nearer to the rectangle, and no corner to the segment, than the root of m / e
 record IsBound (m e : ℕ) (s : Segment) (r : Rect) : Type 0 where
@@ -163,6 +115,17 @@ side_apart m e s t r h side ha hb apart q z hq hz =
     }) apart)
     ((segment_hull s).into q hq) ((segment_hull t).into z hz)
 
+-- and so are all sides of a rectangle that the segment doesn't enter
+sides_apart : (m e : ℕ) (s : Segment) (r : Rect) → IsOrdered r → IsBound m e s r → ¬ Enters s r → SidesApart m e s r
+sides_apart m e s r o h outside horizontal low_end =
+    side_apart m e s (left_side r) r h (side_in horizontal low_end r o) h.low h.top_left (λ x. outside (inr (inl (inl x))))
+sides_apart m e s r o h outside horizontal high_end =
+    side_apart m e s (right_side r) r h (side_in horizontal high_end r o) h.bottom_right h.high (λ x. outside (inr (inl (inr x))))
+sides_apart m e s r o h outside vertical low_end =
+    side_apart m e s (bottom_side r) r h (side_in vertical low_end r o) h.low h.bottom_right (λ x. outside (inr (inr (inl x))))
+sides_apart m e s r o h outside vertical high_end =
+    side_apart m e s (top_side r) r h (side_in vertical high_end r o) h.top_left h.high (λ x. outside (inr (inr (inr x))))
+
 -- the least distance of the ends and the corners is that of a segment that doesn't enter the rectangle
 pub nearest_least : (s : Segment) (r : Rect) (a b ends low top_left_one left bottom_right_one high right corners least : Frac)
     → IsOrdered r → IsNearest s r a b ends low top_left_one left bottom_right_one high right corners least → ¬ Enters s r
@@ -171,18 +134,7 @@ nearest_least s r a b ends low top_left_one left bottom_right_one high right cor
     let bound = nearest_bound s r a b ends low top_left_one left bottom_right_one high right corners least h in
     record {
       attained = nearest_attained s r a b ends low top_left_one left bottom_right_one high right corners least o h;
-      least = sides_bound least.num least.den s r o
-          (record {
-            left = side_apart least.num least.den s (left_side r) r bound (left_in r o) bound.low bound.top_left
-                (λ x. outside (inr (inl (inl x))));
-            right = side_apart least.num least.den s (right_side r) r bound (right_in r o) bound.bottom_right bound.high
-                (λ x. outside (inr (inl (inr x))));
-            bottom = side_apart least.num least.den s (bottom_side r) r bound (bottom_in r o) bound.low bound.bottom_right
-                (λ x. outside (inr (inr (inl x))));
-            top = side_apart least.num least.den s (top_side r) r bound (top_in r o) bound.top_left bound.high
-                (λ x. outside (inr (inr (inr x))));
-          })
-          (λ x. outside (inl x));
+      least = sides_bound least.num least.den s r o (sides_apart least.num least.den s r o bound outside) (λ x. outside (inl x));
     }
 
 -- a segment that begins in the rectangle shares that end with it
@@ -208,12 +160,12 @@ entering_least s r m e o hm he h =
       | inl a ↦ begun_shared s r a
       | inr x ↦ elim x [
         | inl y ↦ elim y [
-          | inl c ↦ crossed_shared s (left_side r) r (left_in r o) c
-          | inr c ↦ crossed_shared s (right_side r) r (right_in r o) c
+          | inl c ↦ crossed_shared s (left_side r) r (side_in horizontal low_end r o) c
+          | inr c ↦ crossed_shared s (right_side r) r (side_in horizontal high_end r o) c
         ]
         | inr y ↦ elim y [
-          | inl c ↦ crossed_shared s (bottom_side r) r (bottom_in r o) c
-          | inr c ↦ crossed_shared s (top_side r) r (top_in r o) c
+          | inl c ↦ crossed_shared s (bottom_side r) r (side_in vertical low_end r o) c
+          | inr c ↦ crossed_shared s (top_side r) r (side_in vertical high_end r o) c
         ]
       ]
     ])

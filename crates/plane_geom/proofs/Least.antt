@@ -4,10 +4,11 @@ use Rattle.std.proofs.lemmas.Int.{ints}
 use Rattle.sand_base.specs.declared.point.Point.{Point}
 use Rattle.sand_model.specs.Points.{RationalPoint}
 use Rattle.sand_model.specs.Gap.{IsLeast, scaled_distance, common_square}
-use Rattle.int_ring.specs.Expr.{var, at, ◌⊕◌, ◌⊖◌, ◌⊗◌}
+use Rattle.int_ring.specs.Expr.{var, at, ◌⊖◌, ◌⊗◌}
 use Rattle.int_ring.proofs.Ring.{ring}
 use Rattle.int_ring.proofs.Order.{mul_positive}
-use Rattle.plane_geom.proofs.Clear.{IsClear, AreClear, offset, along, unscaled}
+use Rattle.plane_geom.proofs.Apart.{distance_exchanged, common_exchanged, apart_exchanged}
+use Rattle.plane_geom.proofs.Clear.{IsClear, AreClear, offset, as_long, unscaled}
 use Rattle.plane_geom.proofs.Means.{IsMean, IsHull}
 use Rattle.plane_geom.proofs.Signs.{natural, once}
 
@@ -35,7 +36,7 @@ pub means_clear : (m e : ℤ) (a b c d : Point) (q r : RationalPoint) → pos 0 
     → IsClear m e ((q.x *ℤ pos r.n) -ℤ (r.x *ℤ pos q.n)) ((q.y *ℤ pos r.n) -ℤ (r.y *ℤ pos q.n)) (pos q.n *ℤ pos r.n)
 means_clear m e a b c d q r he h p s =
     unscaled m e _ _ _ (p.k *ℤ s.k) he (mul_positive p.k s.k p.positive s.positive)
-    (along m e _ _ _ _ _ _ (h p.i p.j s.i s.j p.weights s.weights)
+    (as_long m e _ _ _ _ _ _ (h p.i p.j s.i s.j p.weights s.weights)
     (sym (offset_is p.k s.k (pos q.n) (pos r.n) q.x r.x _ _ _ _ p.i p.j s.i s.j p.total s.total p.x s.x))
     (sym (offset_is p.k s.k (pos q.n) (pos r.n) q.y r.y _ _ _ _ p.i p.j s.i s.j p.total s.total p.y s.y))
     (sym (sums_are p.k s.k (pos q.n) (pos r.n) p.i p.j s.i s.j p.total s.total)))
@@ -107,22 +108,25 @@ attained_exchanged m e t = (
   t.0,
   t.3,
   t.2,
-  ap (λ s. s *ℤ pos e) (far_exchanged t.1 t.0) ∙ t.4 ∙ ap (λ s. pos m *ℤ s) (common_exchanged t.0 t.1),
+  ap (λ s. s *ℤ pos e) (distance_exchanged t.1 t.0) ∙ t.4 ∙ ap (λ s. pos m *ℤ s) (common_exchanged t.0 t.1),
 )
-  where
-    far_exchanged : (q r : RationalPoint) → scaled_distance q r ≡ scaled_distance r q
-    far_exchanged q r =
-        let vx = var 0 ⊗ var 5 ⊖ var 3 ⊗ var 2 in
-        let vy = var 1 ⊗ var 5 ⊖ var 4 ⊗ var 2 in
-        let wx = var 3 ⊗ var 2 ⊖ var 0 ⊗ var 5 in
-        let wy = var 4 ⊗ var 2 ⊖ var 1 ⊗ var 5 in
-        ring (at (q.x ∷ q.y ∷ pos q.n ∷ r.x ∷ r.y ∷ pos r.n ∷ [])) (vx ⊗ vx ⊕ vy ⊗ vy) (wx ⊗ wx ⊕ wy ⊗ wy) refl
-
-    common_exchanged : (q r : RationalPoint) → common_square q r ≡ common_square r q
-    common_exchanged q r =
-        ring (at (pos q.n ∷ pos r.n ∷ [])) ((var 0 ⊗ var 1) ⊗ (var 0 ⊗ var 1)) ((var 1 ⊗ var 0) ⊗ (var 1 ⊗ var 0)) refl
 
 -- a pair of points of two sets is one of any sets that hold them
 pub attained_within : {A B C D : RationalPoint → Type 0} (m e : ℕ) → ((q : RationalPoint) → A q → C q)
     → ((q : RationalPoint) → B q → D q) → Attained A B m e → Attained C D m e
 attained_within m e f g t = (t.0, t.1, f t.0 t.2, g t.1 t.3, t.4)
+
+-- the least distance of two sets is that of the two exchanged
+pub least_exchanged : {A B : RationalPoint → Type 0} (m e : ℕ) → IsLeast A B m e → IsLeast B A m e
+least_exchanged m e h = record {
+  attained = attained_exchanged m e h.attained;
+  least = λ q r hq hr. apart_exchanged m e r q (h.least r q hr hq);
+}
+
+-- and that of another set with the same points
+pub least_same : {A B C : RationalPoint → Type 0} (m e : ℕ) → ((q : RationalPoint) → A q → C q) → ((q : RationalPoint) → C q → A q)
+    → IsLeast A B m e → IsLeast C B m e
+least_same m e f g h = record {
+  attained = attained_within m e f (λ r hr. hr) h.attained;
+  least = λ q r hq hr. h.least q r (g q hq) hr;
+}

@@ -9,7 +9,7 @@ use Rattle.int_ring.specs.Expr.{var, at, num, ◌⊖◌, ◌⊗◌}
 use Rattle.int_ring.proofs.Ring.{ring_using_two}
 use Rattle.plane_geom.specs.Incidence.{IsBetween, IsInBox, LiesOn}
 use Rattle.plane_geom.specs.Vectors.{cross_of}
-use Rattle.plane_geom.proofs.PointLemmas.{spot, spot_is}
+use Rattle.plane_geom.proofs.GapOfPoints.{spot, spot_is}
 use Rattle.plane_geom.proofs.Signs.{once}
 
 -- the cross product at what stands for p is the one at p, times the denominator

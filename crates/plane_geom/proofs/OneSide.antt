@@ -3,12 +3,14 @@ use Rattle.std.proofs.Common.{◌≡◌, ℤ, pos, ◌+ℤ◌, ◌-ℤ◌, ◌*�
 use Rattle.std.proofs.lemmas.Int.{ints, by_lt_z}
 use Rattle.sand_base.specs.declared.point.Point.{Point}
 use Rattle.int_ring.specs.Expr.{var, at, num, ◌⊕◌, ◌⊖◌, ◌⊗◌}
+use Rattle.int_ring.proofs.Named.{identity}
 use Rattle.int_ring.proofs.Ring.{ring, ring_using_two}
 use Rattle.int_ring.proofs.Order.{difference_nonneg, mul_nonneg, mul_positive, chain_le, both_le, apart}
 use Rattle.int_ring.proofs.Inequality.{le_ring}
 use Rattle.int_ring.proofs.Squares.{square_nonneg, squares_zero}
 use Rattle.plane_geom.specs.Vectors.{cross_of}
-use Rattle.plane_geom.proofs.Clear.{AreClear, offset, along, turn_first, turn_second, exchange}
+use Rattle.plane_geom.proofs.Forms as form
+use Rattle.plane_geom.proofs.Clear.{AreClear, offset, as_long, turn_first, turn_second, exchange}
 use Rattle.plane_geom.proofs.Descent.{OnLine, long, drawn_together}
 use Rattle.plane_geom.proofs.Signs.{weak, sum_zero, no_step}
 
@@ -53,26 +55,11 @@ tilt : (ax ay bx by cx cy dx dy i j u v : ℤ)
     *ℤ ((u *ℤ (((bx -ℤ ax) *ℤ (cy -ℤ ay)) -ℤ ((by -ℤ ay) *ℤ (cx -ℤ ax))))
     +ℤ (v *ℤ (((bx -ℤ ax) *ℤ (dy -ℤ ay)) -ℤ ((by -ℤ ay) *ℤ (dx -ℤ ax))))))
 tilt ax ay bx by cx cy dx dy i j u v =
-    let vax = var 0 in
-    let vay = var 1 in
-    let vbx = var 2 in
-    let vby = var 3 in
-    let vcx = var 4 in
-    let vcy = var 5 in
-    let vdx = var 6 in
-    let vdy = var 7 in
-    let vi = var 8 in
-    let vj = var 9 in
-    let vu = var 10 in
-    let vv = var 11 in
-    let x = vbx ⊖ vax in
-    let y = vby ⊖ vay in
-    let gx = (vi ⊗ vax ⊕ vj ⊗ vbx) ⊗ (vu ⊕ vv) ⊖ (vu ⊗ vcx ⊕ vv ⊗ vdx) ⊗ (vi ⊕ vj) in
-    let gy = (vi ⊗ vay ⊕ vj ⊗ vby) ⊗ (vu ⊕ vv) ⊖ (vu ⊗ vcy ⊕ vv ⊗ vdy) ⊗ (vi ⊕ vj) in
-    let hc = x ⊗ (vcy ⊖ vay) ⊖ y ⊗ (vcx ⊖ vax) in
-    let hd = x ⊗ (vdy ⊖ vay) ⊖ y ⊗ (vdx ⊖ vax) in
-    ring (at (ax ∷ ay ∷ bx ∷ by ∷ cx ∷ cy ∷ dx ∷ dy ∷ i ∷ j ∷ u ∷ v ∷ []))
-    (x ⊗ gy ⊖ y ⊗ gx) (num (pos 0) ⊖ (vi ⊕ vj) ⊗ (vu ⊗ hc ⊕ vv ⊗ hd)) refl
+    identity (ax ∷ ay ∷ bx ∷ by ∷ cx ∷ cy ∷ dx ∷ dy ∷ i ∷ j ∷ u ∷ v ∷ [])
+    (λ ax ay bx by cx cy dx dy i j u v. (
+      (bx ⊖ ax) ⊗ form.offset ay by cy dy i j u v ⊖ (by ⊖ ay) ⊗ form.offset ax bx cx dx i j u v,
+      num (pos 0) ⊖ (i ⊕ j) ⊗ (u ⊗ form.cross ax ay bx by cx cy ⊕ v ⊗ form.cross ax ay bx by dx dy),
+    )) refl
 
 -- the drawn point's height is the drawn sum of two heights
 level : (x y k al cx cy gx gy : ℤ)
@@ -145,7 +132,7 @@ flat_pair : (m e : ℤ) (a b c d : Point) → AreClear m e a a c d → long a b 
 flat_pair m e a b c d h hl i j u v wi wu =
     let flat = squares_zero (pos b.x -ℤ pos a.x) (pos b.y -ℤ pos a.y)
     (sum_zero _ _ (square_nonneg (pos b.x -ℤ pos a.x)) (square_nonneg (pos b.y -ℤ pos a.y)) hl) in
-    along m e _ _ _ _ _ _ (h i j u v wi wu)
+    as_long m e _ _ _ _ _ _ (h i j u v wi wu)
     (ap (λ t. offset (pos a.x) t (pos c.x) (pos d.x) i j u v) (no_step (pos a.x) (pos b.x) flat.0))
     (ap (λ t. offset (pos a.y) t (pos c.y) (pos d.y) i j u v) (no_step (pos a.y) (pos b.y) flat.1)) refl
 

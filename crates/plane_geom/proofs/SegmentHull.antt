@@ -7,6 +7,8 @@ use Rattle.int_ring.specs.Expr.{var, at, num, ◌⊕◌, ◌⊖◌, ◌⊗◌}
 use Rattle.int_ring.proofs.Ring.{ring, ring_using_two}
 use Rattle.int_ring.proofs.Order.{difference_nonneg, mul_nonneg, mul_positive, add_nonneg, both_le}
 use Rattle.int_ring.proofs.Squares.{square_nonneg, squares_zero}
+use Rattle.int_ring.proofs.Named.{identity_using}
+use Rattle.plane_geom.proofs.Axis.{foot_shares}
 use Rattle.plane_geom.proofs.Signs.{sum_zero}
 use Rattle.plane_geom.proofs.Means.{IsMean, IsHull, first_end, mean_on}
 
@@ -46,27 +48,11 @@ along_step n x a b h =
     step_up (pos n) x (pos a) (pos b) l
     (subst (λ (t : ℕ). pos (n * t) ≤ℤ x) e h.above) (subst (λ (t : ℕ). x ≤ℤ pos (n * t)) f h.below))
 
--- along one axis: the foot's share of a step, for a point on the step's line
-foot_x : (dx dy u v n a b : ℤ) → b -ℤ a ≡ dx → (dx *ℤ v) -ℤ (dy *ℤ u) ≡ pos 0
-    → ((dx *ℤ dx) +ℤ (dy *ℤ dy)) *ℤ (u +ℤ n *ℤ a)
-    ≡ (((n *ℤ ((dx *ℤ dx) +ℤ (dy *ℤ dy))) -ℤ ((dx *ℤ u) +ℤ (dy *ℤ v))) *ℤ a) +ℤ (((dx *ℤ u) +ℤ (dy *ℤ v)) *ℤ b)
-foot_x dx dy u v n a b e h =
-    let long = var 0 ⊗ var 0 ⊕ var 1 ⊗ var 1 in
-    let foot = var 0 ⊗ var 2 ⊕ var 1 ⊗ var 3 in
-    ring_using_two (at (dx ∷ dy ∷ u ∷ v ∷ n ∷ a ∷ b ∷ [])) (long ⊗ (var 2 ⊕ var 4 ⊗ var 5)) ((var 4 ⊗ long ⊖ foot) ⊗ var 5 ⊕ foot ⊗ var 6)
-    (num (pos 0) ⊖ var 1) (var 0 ⊗ var 3 ⊖ var 1 ⊗ var 2) (num (pos 0))
-    (num (pos 0) ⊖ foot) (var 6 ⊖ var 5) (var 0) h e refl
-
--- the same along the other axis
-foot_y : (dx dy u v n a b : ℤ) → b -ℤ a ≡ dy → (dx *ℤ v) -ℤ (dy *ℤ u) ≡ pos 0
-    → ((dx *ℤ dx) +ℤ (dy *ℤ dy)) *ℤ (v +ℤ n *ℤ a)
-    ≡ (((n *ℤ ((dx *ℤ dx) +ℤ (dy *ℤ dy))) -ℤ ((dx *ℤ u) +ℤ (dy *ℤ v))) *ℤ a) +ℤ (((dx *ℤ u) +ℤ (dy *ℤ v)) *ℤ b)
-foot_y dx dy u v n a b e h =
-    let long = var 0 ⊗ var 0 ⊕ var 1 ⊗ var 1 in
-    let foot = var 0 ⊗ var 2 ⊕ var 1 ⊗ var 3 in
-    ring_using_two (at (dx ∷ dy ∷ u ∷ v ∷ n ∷ a ∷ b ∷ [])) (long ⊗ (var 3 ⊕ var 4 ⊗ var 5)) ((var 4 ⊗ long ⊖ foot) ⊗ var 5 ⊕ foot ⊗ var 6)
-    (var 0) (var 0 ⊗ var 3 ⊖ var 1 ⊗ var 2) (num (pos 0))
-    (num (pos 0) ⊖ foot) (var 6 ⊖ var 5) (var 1) h e refl
+-- along each axis, what has the foot's share of a step is the mean under the foot's weights
+foot_mean : (l f u n a b : ℤ) → l *ℤ u ≡ f *ℤ (b -ℤ a) → l *ℤ (u +ℤ (n *ℤ a)) ≡ (((n *ℤ l) -ℤ f) *ℤ a) +ℤ (f *ℤ b)
+foot_mean l f u n a b h =
+    identity_using (l ∷ f ∷ u ∷ n ∷ a ∷ b ∷ [])
+    (λ l f u n a b. (l ⊗ (u ⊕ n ⊗ a), (n ⊗ l ⊖ f) ⊗ a ⊕ f ⊗ b, num (pos 1), l ⊗ u, f ⊗ (b ⊖ a))) h refl
 
 -- a point of a segment that has a length is a mean of its ends
 long_mean : (s : Segment) (q : RationalPoint) → IsOnSegment s q
@@ -80,6 +66,7 @@ long_mean s q h l =
     let v = q.y -ℤ (n *ℤ pos s.a.y) in
     let long = (dx *ℤ dx) +ℤ (dy *ℤ dy) in
     let foot = (dx *ℤ u) +ℤ (dy *ℤ v) in
+    let shares = foot_shares dx dy u v h.line in
     let wx = along_step q.n q.x s.a.x s.b.x h.x in
     let wy = along_step q.n q.y s.a.y s.b.y h.y in
     record {
@@ -93,8 +80,8 @@ long_mean s q h l =
         some = all_some n long foot (subst (λ t. pos 0 <ℤ t) refl (times_positive q.n long q.positive l));
       };
       total = whole long n foot;
-      x = ap (λ t. long *ℤ t) (back q.x (n *ℤ pos s.a.x)) ∙ foot_x dx dy u v n (pos s.a.x) (pos s.b.x) refl h.line;
-      y = ap (λ t. long *ℤ t) (back q.y (n *ℤ pos s.a.y)) ∙ foot_y dx dy u v n (pos s.a.y) (pos s.b.y) refl h.line;
+      x = ap (λ t. long *ℤ t) (back q.x (n *ℤ pos s.a.x)) ∙ foot_mean long foot u n (pos s.a.x) (pos s.b.x) shares.0;
+      y = ap (λ t. long *ℤ t) (back q.y (n *ℤ pos s.a.y)) ∙ foot_mean long foot v n (pos s.a.y) (pos s.b.y) shares.1;
     }
   where
     back : (x t : ℤ) → x ≡ (x -ℤ t) +ℤ t

@@ -24,7 +24,7 @@ product_short a b m ha hb =
     omega arith
 
 -- a sum is at most as large as the bounds of its parts
-sum_short : (a b : ℤ) (m : ℕ) → unsigned_abs a ≤ m → unsigned_abs b ≤ m → unsigned_abs (a +ℤ b) ≤ 2 * m
+pub sum_short : (a b : ℤ) (m : ℕ) → unsigned_abs a ≤ m → unsigned_abs b ≤ m → unsigned_abs (a +ℤ b) ≤ 2 * m
 sum_short a b m ha hb = omega (arith, ints)
 
 -- so is a difference

@@ -1,4 +1,4 @@
--- When two segments cross in the midst of both, so that no end lies on the other segment.
+-- When two segments cross properly: no end of either lies on the other.
 use Rattle.std.specs.Prelude.{◌⊎◌, ℤ, pos, ◌<ℤ◌}
 use Rattle.sand_base.specs.declared.segment.Segment.{Segment}
 use Rattle.plane_geom.specs.Vectors.{cross_of}
@@ -11,7 +11,7 @@ AreOpposed x y = ((x <ℤ pos 0) × (pos 0 <ℤ y)) ⊎ ((pos 0 <ℤ x) × (y <�
 abbrev pub Splits : Segment → Segment → Type 0
 Splits s t = AreOpposed (cross_of s.a s.b t.a) (cross_of s.a s.b t.b)
 
--- each segment splits the other
+-- the segments cross properly: each splits the other
 pub record Cross (s t : Segment) : Type 0 where
   pub first : Splits s t
   pub second : Splits t s

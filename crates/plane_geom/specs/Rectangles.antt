@@ -40,7 +40,7 @@ bottom_side r = record { a = r.low; b = bottom_right r }
 abbrev pub top_side : Rect → Segment
 top_side r = record { a = top_left r; b = r.high }
 
--- the segment begins in the rectangle, or it crosses a side in the midst of both
+-- the segment begins in the rectangle, or it properly crosses a side
 abbrev pub Enters : Segment → Rect → Type 0
 Enters s r =
     IsCovered s.a r ⊎ ((Cross s (left_side r) ⊎ Cross s (right_side r)) ⊎ (Cross s (bottom_side r) ⊎ Cross s (top_side r)))

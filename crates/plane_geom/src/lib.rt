@@ -4,7 +4,7 @@
 //! is the least value over all rational points of both shapes. Above: `ring_geom`, and whoever ranks by
 //! distance. Below: `exact_frac` for the answers, `sand_model` for what a gap is, `int_ring` for the proofs.
 //! Contracts see a shape as the set of its rational points; read `specs/Points.antt` and `specs/Gap.antt` of
-//! `sand_model` first, then `specs/Vectors.antt` here.
+//! `sand_model` first, then `specs/Vectors.antt`, `Incidence.antt`, `Crossing.antt` and `Rectangles.antt` here.
 //! After J. O'Rourke, Computational Geometry in C (1998), and V. Lumelsky, On fast computation of distance
 //! between line segments (1985).
 #![tactic(auto)]

@@ -32,8 +32,8 @@ pub fn gap_point_rect(p: Point, r: Rect) -> Frac
 fn between_ranges(low: u32, high: u32, other_low: u32, other_high: u32) -> u32
     requires order { low ≤ high }
     requires other_order { other_low ≤ other_high }
-    requires reach { high ≤ 2 ^ COORDINATE_BITS }
-    requires other_reach { other_high ≤ 2 ^ COORDINATE_BITS }
+    requires in_closed_plane { high ≤ 2 ^ COORDINATE_BITS }
+    requires other_in_closed_plane { other_high ≤ 2 ^ COORDINATE_BITS }
     ensures value { result ≡ range_gap low high other_low other_high }
     ensures short { result ≤ 2 ^ COORDINATE_BITS }
 {

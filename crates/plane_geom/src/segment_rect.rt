@@ -30,21 +30,21 @@ fn nearest_end_or_corner(s: Segment, r: Rect) -> Frac
     requires r { IsRectInClosedPlane r }
     ensures { ¬ Enters s r → IsLeast (IsOnSegment s) (IsInRect r) result.num result.den }
 {
-    let (left, right) = upright_sides(r);
+    let (left, right) = vertical_sides(r);
     let of_ends = nearer(gap_point_rect(s.a, r), gap_point_rect(s.b, r));
     let of_left = nearer(gap_point_segment(left.a, s), gap_point_segment(left.b, s));
     let of_right = nearer(gap_point_segment(right.a, s), gap_point_segment(right.b, s));
     nearer(of_ends, nearer(of_left, of_right))
 }
 
-/// Whether the segment begins in the rectangle, or crosses a side of it in the midst of both.
+/// Whether the segment begins in the rectangle, or properly crosses a side of it.
 fn enters(s: Segment, r: Rect) -> bool
     requires s { IsSegmentInClosedPlane s }
     requires r { IsRectInClosedPlane r }
     ensures { IsTrue result ↔ Enters s r }
 {
-    let (left, right) = upright_sides(r);
-    let (bottom, top) = level_sides(r);
+    let (left, right) = vertical_sides(r);
+    let (bottom, top) = horizontal_sides(r);
     is_covered(s.a, r) || crosses_either(s, left, right) || crosses_either(s, bottom, top)
 }
 
@@ -59,12 +59,12 @@ fn crosses_either(s: Segment, t: Segment, u: Segment) -> bool
 }
 
 /// The left side and the right one. Their ends are the four corners.
-fn upright_sides(r: Rect) -> (Segment, Segment)
+fn vertical_sides(r: Rect) -> (Segment, Segment)
     requires { IsRectInClosedPlane r }
     ensures left { result.0 ≡ left_side r }
     ensures right { result.1 ≡ right_side r }
-    ensures left_reach { IsSegmentInClosedPlane result.0 }
-    ensures right_reach { IsSegmentInClosedPlane result.1 }
+    ensures left_in_closed_plane { IsSegmentInClosedPlane result.0 }
+    ensures right_in_closed_plane { IsSegmentInClosedPlane result.1 }
 {
     let left = Segment {
         a: r.low,
@@ -84,12 +84,12 @@ fn upright_sides(r: Rect) -> (Segment, Segment)
 }
 
 /// The bottom side and the top one.
-fn level_sides(r: Rect) -> (Segment, Segment)
+fn horizontal_sides(r: Rect) -> (Segment, Segment)
     requires { IsRectInClosedPlane r }
     ensures bottom { result.0 ≡ bottom_side r }
     ensures top { result.1 ≡ top_side r }
-    ensures bottom_reach { IsSegmentInClosedPlane result.0 }
-    ensures top_reach { IsSegmentInClosedPlane result.1 }
+    ensures bottom_in_closed_plane { IsSegmentInClosedPlane result.0 }
+    ensures top_in_closed_plane { IsSegmentInClosedPlane result.1 }
 {
     let bottom = Segment {
         a: r.low,

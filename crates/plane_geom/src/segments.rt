@@ -3,7 +3,7 @@ ghost use Rattle.sand_base.specs.Plane.{IsSegmentInClosedPlane};
 ghost use Rattle.sand_model.specs.Points.{IsOnSegment};
 ghost use Rattle.sand_model.specs.Gap.{IsLeast};
 ghost use Rattle.plane_geom.specs.Crossing.{AreOpposed, Cross, Splits};
-ghost use Rattle.plane_geom.specs.Lesser.{IsLesser};
+ghost use Rattle.exact_frac.specs.Lesser.{IsLesser};
 
 use crate::point_segment::gap_point_segment;
 use crate::vectors::cross;
@@ -41,7 +41,7 @@ pub fn nearer(a: Frac, b: Frac) -> Frac
     if a.compare(&b).is_le() { a } else { b }
 }
 
-/// Whether the segments cross in the midst of both.
+/// Whether the segments cross properly: neither has an end on the other.
 pub fn crosses(s: Segment, t: Segment) -> bool
     requires s { IsSegmentInClosedPlane s }
     requires t { IsSegmentInClosedPlane t }

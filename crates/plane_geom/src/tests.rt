@@ -8,7 +8,7 @@ use crate::{
 use exact_frac::Frac;
 use sand_base::{COORDINATE_BITS, Point, Rect, Segment};
 
-const REACH: u32 = 1 << COORDINATE_BITS;
+const WIDTH: u32 = 1 << COORDINATE_BITS;
 
 const FAR: u32 = 65_536;
 
@@ -30,22 +30,22 @@ fn area([low_x, low_y, high_x, high_y]: [u32; 4]) -> Rect {
     }
 }
 
-fn in_reach(p: Point) -> bool
+fn in_closed_plane(p: Point) -> bool
     ensures { IsTrue result → IsInClosedPlane p }
 {
-    p.x <= REACH && p.y <= REACH
+    p.x <= WIDTH && p.y <= WIDTH
 }
 
-fn segment_in_reach(s: Segment) -> bool
+fn segment_in_closed_plane(s: Segment) -> bool
     ensures { IsTrue result → IsSegmentInClosedPlane s }
 {
-    in_reach(s.a) && in_reach(s.b)
+    in_closed_plane(s.a) && in_closed_plane(s.b)
 }
 
-fn rect_in_reach(r: Rect) -> bool
+fn rect_in_closed_plane(r: Rect) -> bool
     ensures { IsTrue result → IsRectInClosedPlane r }
 {
-    in_reach(r.low) && in_reach(r.high) && r.low.x <= r.high.x && r.low.y <= r.high.y
+    in_closed_plane(r.low) && in_closed_plane(r.high) && r.low.x <= r.high.x && r.low.y <= r.high.y
 }
 
 /// The parts in lowest terms.
@@ -55,7 +55,7 @@ fn parts(gap: Frac) -> (u128, u128) {
 }
 
 fn of_points(a: Point, b: Point) -> Option<(u128, u128)> {
-    if in_reach(a) && in_reach(b) {
+    if in_closed_plane(a) && in_closed_plane(b) {
         Some(parts(gap_points(a, b)))
     } else {
         None
@@ -63,7 +63,7 @@ fn of_points(a: Point, b: Point) -> Option<(u128, u128)> {
 }
 
 fn of_point_and_segment(p: Point, s: Segment) -> Option<((u128, u128), bool)> {
-    if in_reach(p) && segment_in_reach(s) {
+    if in_closed_plane(p) && segment_in_closed_plane(s) {
         Some((parts(gap_point_segment(p, s)), on_segment(p, s)))
     } else {
         None
@@ -71,7 +71,7 @@ fn of_point_and_segment(p: Point, s: Segment) -> Option<((u128, u128), bool)> {
 }
 
 fn of_segments(s: Segment, t: Segment) -> Option<(u128, u128)> {
-    if segment_in_reach(s) && segment_in_reach(t) {
+    if segment_in_closed_plane(s) && segment_in_closed_plane(t) {
         Some(parts(gap_segments(s, t)))
     } else {
         None
@@ -79,7 +79,7 @@ fn of_segments(s: Segment, t: Segment) -> Option<(u128, u128)> {
 }
 
 fn of_point_and_rect(p: Point, r: Rect) -> Option<(u128, u128)> {
-    if in_reach(p) && rect_in_reach(r) {
+    if in_closed_plane(p) && rect_in_closed_plane(r) {
         Some(parts(gap_point_rect(p, r)))
     } else {
         None
@@ -87,7 +87,7 @@ fn of_point_and_rect(p: Point, r: Rect) -> Option<(u128, u128)> {
 }
 
 fn of_segment_and_rect(s: Segment, r: Rect) -> Option<(u128, u128)> {
-    if segment_in_reach(s) && rect_in_reach(r) {
+    if segment_in_closed_plane(s) && rect_in_closed_plane(r) {
         Some(parts(gap_segment_rect(s, r)))
     } else {
         None
@@ -95,7 +95,7 @@ fn of_segment_and_rect(s: Segment, r: Rect) -> Option<(u128, u128)> {
 }
 
 fn of_rects(a: Rect, b: Rect) -> Option<(u128, u128)> {
-    if rect_in_reach(a) && rect_in_reach(b) {
+    if rect_in_closed_plane(a) && rect_in_closed_plane(b) {
         Some(parts(gap_rects(a, b)))
     } else {
         None

@@ -1,5 +1,5 @@
 -- What lies in a rectangle that holds all vertices of a shape: its points, and the grid points inside its ring.
-use Rattle.std.proofs.Common.{◌≡◌, inl, inr, ℕ, ◌+◌, ◌*◌, ◌<◌, ◌≤◌, min, max, ℤ, pos, ◌≤ℤ◌, Bool, true, false, List, [], ◌∷◌, refl, ap₂, sym, ◌∙◌, arith}
+use Rattle.std.proofs.Common.{◌≡◌, inl, inr, ℕ, ◌+◌, ◌*◌, ◌<◌, ◌≤◌, ℤ, pos, ◌≤ℤ◌, Bool, true, false, List, [], ◌∷◌, refl, ap₂, sym, ◌∙◌, arith}
 use Rattle.std.specs.Prelude.{IsTrue, nat_lt, int_lt}
 use Rattle.std.proofs.Math.Nat.{mul-le-mul_left}
 use Rattle.std.proofs.lemmas.Bool.{cases_Bool, cases_lt, lt-ltb, le-ltb, false≢true}
@@ -9,40 +9,15 @@ use Rattle.sand_base.specs.declared.rect.Rect.{Rect}
 use Rattle.sand_base.specs.declared.segment.Segment.{Segment}
 use Rattle.sand_base.specs.declared.shape.Shape.{Shape}
 use Rattle.sand_base.specs.declared.shape.Shape.TheVariants as shape
-use Rattle.sand_model.specs.Points.{RationalPoint, IsWithin, IsOnSegment, IsInRect}
+use Rattle.sand_model.specs.Points.{RationalPoint, IsOnSegment, IsInRect}
 use Rattle.sand_model.specs.Figures.{IsPointOf, Holds, corners_of}
 use Rattle.sand_model.specs.Rings.{SomeOf, EachOf, chain, last_of, edges, grid, is_crossed, is_odd, differ, IsInside}
-use Rattle.int_ring.proofs.Order.{chain_le, pos_le}
+use Rattle.int_ring.proofs.Order.{pos_le}
 use Rattle.plane_geom.specs.Rectangles.{IsCovered}
-use Rattle.plane_geom.proofs.Leaving.{value_within}
+use Rattle.plane_geom.proofs.Sides.{EndsCovered, segment_in, value_within}
 use Rattle.ring_geom.specs.Bounding.{AreCovered}
 use Rattle.ring_geom.proofs.Crossed.{crossing, uncrossed}
 use Rattle.ring_geom.proofs.Parity.{at_ends, ring_even}
-
--- what lies between two values of a range lies in the range
-wider : (low high a b n : ℕ) (x : ℤ) → low ≤ a → low ≤ b → a ≤ high → b ≤ high → IsWithin (min a b) (max a b) n x → IsWithin low high n x
-wider low high a b n x la lb ah bh h = record {
-  above = chain_le _ _ _ (pos_le _ _ (mul-le-mul_left n (least low a b la lb))) h.above;
-  below = chain_le _ _ _ h.below (pos_le _ _ (mul-le-mul_left n (greatest high a b ah bh)));
-}
-  where
-    least : (l a b : ℕ) → l ≤ a → l ≤ b → l ≤ min a b
-    least l a b h k = omega arith
-
-    greatest : (g a b : ℕ) → a ≤ g → b ≤ g → max a b ≤ g
-    greatest g a b h k = omega arith
-
--- both ends of a segment lie in the rectangle
-record EndsCovered (r : Rect) (e : Segment) : Type 0 where
-  a : IsCovered e.a r
-  b : IsCovered e.b r
-
--- and so does each point of it
-segment_in : (r : Rect) (e : Segment) (q : RationalPoint) → EndsCovered r e → IsOnSegment e q → IsInRect r q
-segment_in r e q h on = record {
-  x = wider r.low.x r.high.x e.a.x e.b.x q.n q.x h.a.left h.b.left h.a.right h.b.right on.x;
-  y = wider r.low.y r.high.y e.a.y e.b.y q.n q.y h.a.bottom h.b.bottom h.a.top h.b.top on.y;
-}
 
 -- the last of some points in a rectangle lies in it
 last_covered : (r : Rect) (first : Point) (rest : List Point) → IsCovered first r → AreCovered rest r → IsCovered (last_of first rest) r

@@ -10,9 +10,10 @@ use Rattle.sand_model.specs.Rings.{grid, is_crossed, differ}
 use Rattle.int_ring.specs.Expr.{var, num, at, ◌⊖◌, ◌⊗◌}
 use Rattle.int_ring.proofs.Ring.{ring_using_two}
 use Rattle.int_ring.proofs.Order.{mul_lt, lt_from_mul, difference_positive}
-use Rattle.plane_geom.proofs.Blend.{cut_y}
+use Rattle.plane_geom.proofs.Axis.{vertical}
+use Rattle.plane_geom.proofs.Blend.{cut}
 use Rattle.plane_geom.proofs.Means.{mean_on, first_end, second_end}
-use Rattle.plane_geom.proofs.PointLemmas.{spot_is}
+use Rattle.plane_geom.proofs.GapOfPoints.{spot_is}
 use Rattle.plane_geom.proofs.Signs.{weak, above_zero}
 
 -- a point of the segment at the level, which lies to the right of each column from which the segment is crossed there
@@ -150,17 +151,17 @@ rising_crosses : (s : Segment) (y : ℕ) → nat_lt y s.a.y ≡ false → nat_lt
 rising_crosses s y e f =
     let low = ltb-false y s.a.y e in
     let high = ltb-true y s.b.y f in
-    let cut = cut_y s y (grid s.b) (grid s.a) (second_on s) (first_on s) (weak _ _ (above_level y s.b.y high)) (below_level y s.a.y low)
+    let c = cut vertical s y (grid s.b) (grid s.a) (second_on s) (first_on s) (weak _ _ (above_level y s.b.y high)) (below_level y s.a.y low)
     (spread _ _ _ _ (above_level y s.b.y high) (below_level y s.a.y low)) in
     record {
-      q = cut.0;
-      on = cut.1.on;
-      level = cut.1.y;
+      q = c.0;
+      on = c.1.on;
+      level = c.1.at_level;
       side = λ x.
           up_tests (nat_lt y s.a.y) (nat_lt y s.b.y) (is_right s.a x y s.b) (is_right s.b x y s.a) e f
-          ∙ same_side (run s.a x y s.b) (rise s.a x y s.b) (pos (cut.0.n * x)) cut.0.x (pos s.b.y -ℤ pos s.a.y) (pos cut.0.n) (height y s.a.y s.b.y low high)
-          (above_zero cut.0.n cut.0.positive)
-          (rising (pos s.a.x) (pos s.a.y) (pos s.b.x) (pos s.b.y) (pos x) (pos y) cut.0.x cut.0.y (pos cut.0.n) cut.1.on.line cut.1.y);
+          ∙ same_side (run s.a x y s.b) (rise s.a x y s.b) (pos (c.0.n * x)) c.0.x (pos s.b.y -ℤ pos s.a.y) (pos c.0.n) (height y s.a.y s.b.y low high)
+          (above_zero c.0.n c.0.positive)
+          (rising (pos s.a.x) (pos s.a.y) (pos s.b.x) (pos s.b.y) (pos x) (pos y) c.0.x c.0.y (pos c.0.n) c.1.on.line c.1.at_level);
     }
 
 -- an edge from above the level to below it
@@ -168,17 +169,17 @@ falling_crosses : (s : Segment) (y : ℕ) → nat_lt y s.a.y ≡ true → nat_lt
 falling_crosses s y e f =
     let high = ltb-true y s.a.y e in
     let low = ltb-false y s.b.y f in
-    let cut = cut_y s y (grid s.a) (grid s.b) (first_on s) (second_on s) (weak _ _ (above_level y s.a.y high)) (below_level y s.b.y low)
+    let c = cut vertical s y (grid s.a) (grid s.b) (first_on s) (second_on s) (weak _ _ (above_level y s.a.y high)) (below_level y s.b.y low)
     (spread _ _ _ _ (above_level y s.a.y high) (below_level y s.b.y low)) in
     record {
-      q = cut.0;
-      on = cut.1.on;
-      level = cut.1.y;
+      q = c.0;
+      on = c.1.on;
+      level = c.1.at_level;
       side = λ x.
           down_tests (nat_lt y s.a.y) (nat_lt y s.b.y) (is_right s.a x y s.b) (is_right s.b x y s.a) e f
-          ∙ same_side (run s.b x y s.a) (rise s.b x y s.a) (pos (cut.0.n * x)) cut.0.x (pos s.a.y -ℤ pos s.b.y) (pos cut.0.n) (height y s.b.y s.a.y low high)
-          (above_zero cut.0.n cut.0.positive)
-          (falling (pos s.a.x) (pos s.a.y) (pos s.b.x) (pos s.b.y) (pos x) (pos y) cut.0.x cut.0.y (pos cut.0.n) cut.1.on.line cut.1.y);
+          ∙ same_side (run s.b x y s.a) (rise s.b x y s.a) (pos (c.0.n * x)) c.0.x (pos s.a.y -ℤ pos s.b.y) (pos c.0.n) (height y s.b.y s.a.y low high)
+          (above_zero c.0.n c.0.positive)
+          (falling (pos s.a.x) (pos s.a.y) (pos s.b.x) (pos s.b.y) (pos x) (pos y) c.0.x c.0.y (pos c.0.n) c.1.on.line c.1.at_level);
     }
 
 -- an edge with just one end above the level has such a point

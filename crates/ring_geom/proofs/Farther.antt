@@ -17,7 +17,7 @@ use Rattle.int_ring.specs.Expr.{var, num, at, ◌⊖◌, ◌⊗◌}
 use Rattle.int_ring.proofs.Ring.{ring_using}
 use Rattle.int_ring.proofs.Order.{le_by, le_from_mul, le_pos, mul_nonneg, difference_nonneg, chain_le, pos_le}
 use Rattle.plane_geom.specs.Rectangles.{IsCovered}
-use Rattle.plane_geom.proofs.PointLemmas.{spot_is}
+use Rattle.plane_geom.proofs.GapOfPoints.{spot_is}
 use Rattle.plane_geom.proofs.Signs.{natural}
 use Rattle.ring_geom.specs.Bounding.{AreCovered, IsPartOf}
 use Rattle.ring_geom.proofs.Boxes.{points_in, held_in, some_each}

@@ -13,9 +13,9 @@ use Rattle.sand_model.specs.Figures.{IsPointOf, IsPointOfFigure, Holds, HoldsIns
 use Rattle.sand_model.specs.Gap.{IsLeast}
 use Rattle.sand_model.specs.Rings.{SomeOf, edges, IsOnRing, IsInside}
 use Rattle.plane_geom.specs.Rectangles.{IsCovered, top_left, bottom_right}
+use Rattle.plane_geom.proofs.Least.{least_exchanged}
 use Rattle.ring_geom.proofs.Region.{all_inside}
 use Rattle.ring_geom.proofs.Touch.{ring_shared, shared_none, low_covered}
-use Rattle.ring_geom.proofs.Unions.{least_exchanged}
 
 -- what holds of no term holds of none
 pub none_of : {A : Type 0} {P : A → Type 0} → ((x : A) → ¬ P x) → (xs : List A) → ¬ SomeOf P xs

@@ -1,7 +1,6 @@
--- Distances of grid points in the closed square are fractions that fit, and of two fractions there is a lesser one.
-use Rattle.std.proofs.Common.{inl, inr, ℕ, ◌*◌, ◌^◌, ◌<◌, ◌≤◌, ℤ, pos, ◌+ℤ◌, ◌-ℤ◌, ◌*ℤ◌, refl, lit≤, arith}
+-- Distances of grid points in the closed square are fractions that fit.
+use Rattle.std.proofs.Common.{ℕ, ◌*◌, ◌^◌, ◌≤◌, pos, ◌-ℤ◌, ◌*ℤ◌, lit≤, arith}
 use Rattle.std.proofs.Math.Nat.{mul-le-mul}
-use Rattle.std.proofs.lemmas.Bool.{cases_lt}
 use Rattle.std.proofs.lemmas.Int.{ints}
 use Rattle.std.specs.Int.RustNames.{unsigned_abs}
 use Rattle.exact_frac.specs.declared.TheConstants.{MAX_NUM, MAX_DEN}
@@ -9,9 +8,8 @@ use Rattle.exact_frac.specs.declared.frac.Frac.{Frac}
 use Rattle.sand_base.specs.Grid.{IsInClosedPlane}
 use Rattle.sand_base.specs.declared.TheConstants.{COORDINATE_BITS}
 use Rattle.sand_base.specs.declared.point.Point.{Point}
-use Rattle.plane_geom.specs.Lesser.{IsLesser}
 use Rattle.plane_geom.specs.Vectors.{dot_of, cross_of}
-use Rattle.plane_geom.proofs.SignedWords.{product_short}
+use Rattle.plane_geom.proofs.SignedWords.{product_short, sum_short, difference_short}
 
 -- the width of the closed square
 abbrev width : ℕ
@@ -20,13 +18,6 @@ width = 2 ^ COORDINATE_BITS
 -- a step inside it is at most as long as it is wide
 step_short : (a b m : ℕ) → a ≤ m → b ≤ m → unsigned_abs (pos b -ℤ pos a) ≤ m
 step_short a b m ha hb = omega (arith, ints)
-
--- sums and differences of two short numbers
-sum_short : (a b : ℤ) (m : ℕ) → unsigned_abs a ≤ m → unsigned_abs b ≤ m → unsigned_abs (a +ℤ b) ≤ 2 * m
-sum_short a b m ha hb = omega (arith, ints)
-
-difference_short : (a b : ℤ) (m : ℕ) → unsigned_abs a ≤ m → unsigned_abs b ≤ m → unsigned_abs (a -ℤ b) ≤ 2 * m
-difference_short a b m ha hb = omega (arith, ints)
 
 -- twice the square of the width is no more than a denominator may be
 room : 2 * (width * width) ≤ MAX_DEN
@@ -73,17 +64,3 @@ square_fits n h = through (n * n) (MAX_DEN * MAX_DEN) MAX_NUM (mul-le-mul h h) (
 -- a whole number as a fraction
 abbrev pub whole : (n : ℕ) → n ≤ MAX_DEN → Frac
 whole n h = record { num = n; den = 1; small = den_fits n h; positive = lit≤ tt; fits = lit≤ tt }
-
--- the lesser of two fractions
-pub lesser : (f g : Frac) → (h : Frac) × IsLesser f g h
-lesser f g =
-    elim (cases_lt (f.num * g.den) (g.num * f.den)) [
-      | inl l ↦ (f, record { one = inl refl; first = same (f.num * f.den); second = weak _ _ l })
-      | inr l ↦ (g, record { one = inr refl; first = l; second = same (g.num * g.den) })
-    ]
-  where
-    same : (n : ℕ) → n ≤ n
-    same n = omega arith
-
-    weak : (m n : ℕ) → m < n → m ≤ n
-    weak m n h = omega arith

@@ -11,7 +11,7 @@ use Rattle.int_ring.specs.Expr.{var, num, at, ◌⊖◌, ◌⊗◌}
 use Rattle.int_ring.proofs.Ring.{ring_using}
 use Rattle.plane_geom.specs.Incidence.{IsBetween, LiesOn}
 use Rattle.plane_geom.proofs.OnSegment.{lies_on}
-use Rattle.plane_geom.proofs.PointLemmas.{spot_is}
+use Rattle.plane_geom.proofs.GapOfPoints.{spot_is}
 
 -- the point lies on an edge that is left, or the edges so far and those left are crossed an odd number of times
 abbrev pub IsInsideFrom : Point → Bool → List Segment → Type 0

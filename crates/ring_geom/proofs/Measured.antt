@@ -4,6 +4,7 @@ use Rattle.std.specs.Prelude.{All}
 use Rattle.std.proofs.lemmas.Bool.{cases_lt}
 use Rattle.std.proofs.lemmas.List.Elements.{All-nil, All-cons, All-head, All-tail}
 use Rattle.exact_frac.specs.declared.frac.Frac.{Frac}
+use Rattle.exact_frac.proofs.LesserExists.{lesser}
 use Rattle.sand_base.specs.Grid.{IsInPlane, IsInClosedPlane, IsRing}
 use Rattle.sand_base.specs.Plane.{IsGoalInClosedPlane, IsRectInClosedPlane, IsSegmentInClosedPlane, IsShapeInClosedPlane}
 use Rattle.sand_base.specs.declared.TheConstants.{COORDINATE_BITS}
@@ -19,12 +20,13 @@ use Rattle.sand_model.specs.FigureGap.{IsFigureGap}
 use Rattle.sand_model.specs.Figures.{IsPointOf, IsPointOfFigure}
 use Rattle.sand_model.specs.Measure.{Measure, IsMeasure}
 use Rattle.sand_model.specs.Rings.{EachOf, chain, last_of, IsOnRing}
+use Rattle.plane_geom.proofs.Least.{least_exchanged, least_same}
 use Rattle.ring_geom.proofs.Decide.{Dec, decide_covering}
 use Rattle.ring_geom.proofs.EdgeLemmas.{corner_of_plane}
 use Rattle.ring_geom.proofs.FigureGaps.{covering_gap, least_gap}
-use Rattle.ring_geom.proofs.Fractions.{whole, lesser}
+use Rattle.ring_geom.proofs.Fractions.{whole}
 use Rattle.ring_geom.proofs.PieceGaps.{HasLeast, point_point, point_segment, segment_segment, point_rect, segment_rect, rect_rect}
-use Rattle.ring_geom.proofs.Unions.{IsOnAny, least_exchanged, least_same, least_union}
+use Rattle.ring_geom.proofs.Unions.{IsOnAny, least_union}
 
 -- the two sets exchanged
 turned : {A B : RationalPoint → Type 0} → HasLeast A B → HasLeast B A

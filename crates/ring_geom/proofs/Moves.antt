@@ -10,8 +10,9 @@ use Rattle.sand_base.specs.declared.segment.Segment.{Segment}
 use Rattle.sand_model.specs.Points.{RationalPoint, IsWithin, IsOnSegment, IsInRect}
 use Rattle.sand_model.specs.Rings.{grid, is_crossed, differ}
 use Rattle.int_ring.proofs.Order.{pos_le, chain_le}
-use Rattle.plane_geom.proofs.Blend.{cut_x}
-use Rattle.plane_geom.proofs.Leaving.{value_within}
+use Rattle.plane_geom.proofs.Axis.{horizontal, vertical}
+use Rattle.plane_geom.proofs.Blend.{cut}
+use Rattle.plane_geom.proofs.Sides.{value_within}
 use Rattle.plane_geom.proofs.Signs.{weak}
 use Rattle.ring_geom.proofs.Crossed.{crossing, uncrossed, first_on, second_on}
 use Rattle.ring_geom.proofs.Parity.{at_ends, differ_self, differ_none}
@@ -40,12 +41,12 @@ divided : (s : Segment) (r : Rect) (x : ℕ) → r.low.x ≤ x → x ≤ r.high.
 divided s r x l h a b ea eb p q =
     let right = is_lt (pos (p.q.n * x)) p.q.x (sym p.side ∙ ea) in
     let left = is_le (pos (q.q.n * x)) q.q.x (sym q.side ∙ eb) in
-    let cut = cut_x s x p.q q.q p.on q.on (weak _ _ right) left (spread _ _ _ _ right left) in (
-      cut.0,
-      cut.1.on,
+    let c = cut horizontal s x p.q q.q p.on q.on (weak _ _ right) left (spread _ _ _ _ right left) in (
+      c.0,
+      c.1.on,
       record {
-        x = value_within r.low.x r.high.x x cut.0.n cut.0.x cut.1.x l h;
-        y = cut.1.y r.low.y r.high.y p.y q.y;
+        x = value_within r.low.x r.high.x x c.0.n c.0.x c.1.at_level l h;
+        y = c.1.between vertical r.low.y r.high.y p.y q.y;
       },
     )
   where

@@ -5,6 +5,7 @@ use Rattle.std.proofs.lemmas.Bool.{cases_lt}
 use Rattle.std.proofs.lemmas.Int.{ints, by_lt_z}
 use Rattle.std.specs.Int.RustNames.{unsigned_abs}
 use Rattle.exact_frac.specs.declared.TheConstants.{MAX_DEN}
+use Rattle.exact_frac.proofs.LesserExists.{lesser}
 use Rattle.exact_frac.specs.declared.frac.Frac.{Frac}
 use Rattle.sand_base.specs.Grid.{IsInClosedPlane}
 use Rattle.sand_base.specs.Plane.{IsSegmentInClosedPlane, IsRectInClosedPlane}
@@ -19,15 +20,15 @@ use Rattle.int_ring.proofs.Squares.{square_nonneg, square_abs}
 use Rattle.plane_geom.specs.Crossing.{AreOpposed, Cross}
 use Rattle.plane_geom.specs.Rectangles.{range_gap, IsCovered, Enters, left_side, right_side, bottom_side, top_side, top_left, bottom_right}
 use Rattle.plane_geom.specs.Vectors.{dot_of, cross_of}
-use Rattle.plane_geom.proofs.Crossing.{crossing_least}
+use Rattle.plane_geom.proofs.CrossingPoint.{crossing_least}
 use Rattle.plane_geom.proofs.EndsAndCorners as corners
-use Rattle.plane_geom.proofs.PointLemmas.{points_least}
-use Rattle.plane_geom.proofs.PointSegment.{behind_least, beyond_least, foot_least}
-use Rattle.plane_geom.proofs.RectLemmas.{rects_least, point_rect_least}
-use Rattle.plane_geom.proofs.SegmentLemmas as segments
+use Rattle.plane_geom.proofs.GapOfPoints.{points_least}
+use Rattle.plane_geom.proofs.GapOfPointAndSegment.{behind_least, beyond_least, foot_least}
+use Rattle.plane_geom.proofs.GapOfRectangles.{rects_least, point_rect_least}
+use Rattle.plane_geom.proofs.NearestEnd as segments
 use Rattle.plane_geom.proofs.Signs.{weak}
 use Rattle.ring_geom.proofs.Decide.{Dec, decide_either}
-use Rattle.ring_geom.proofs.Fractions.{dot_short, cross_short, square_fits, whole, lesser}
+use Rattle.ring_geom.proofs.Fractions.{dot_short, cross_short, square_fits, whole}
 
 -- some fraction is the least distance
 abbrev pub HasLeast : (RationalPoint → Type 0) → (RationalPoint → Type 0) → Type 0

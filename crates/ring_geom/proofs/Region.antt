@@ -6,7 +6,7 @@ use Rattle.sand_base.specs.declared.rect.Rect.{Rect}
 use Rattle.sand_model.specs.Points.{IsOnSegment, IsInRect}
 use Rattle.sand_model.specs.Rings.{SomeOf, edges, grid, is_crossed, is_odd, differ, IsInside}
 use Rattle.plane_geom.specs.Rectangles.{IsCovered}
-use Rattle.plane_geom.proofs.Leaving.{value_within}
+use Rattle.plane_geom.proofs.Sides.{value_within}
 use Rattle.ring_geom.proofs.Parity.{at_ends, same_or_some, same_round}
 use Rattle.ring_geom.proofs.Moves.{Meets, marks, along_row, along_column}
 

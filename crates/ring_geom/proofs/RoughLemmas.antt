@@ -11,7 +11,7 @@ use Rattle.sand_base.specs.declared.shape.Shape.TheVariants as shape
 use Rattle.sand_model.specs.Measure.{Measure, IsMeasure}
 use Rattle.sand_model.specs.Nodes.{rough_figure, bound_from}
 use Rattle.sand_model.specs.Rings.{EachOf}
-use Rattle.plane_geom.specs.Lesser.{IsAtMost}
+use Rattle.exact_frac.specs.Lesser.{IsAtMost}
 use Rattle.ring_geom.specs.Bounding.{AreCovered, IsBounding}
 use Rattle.ring_geom.proofs.BlockLemmas.{same_rect}
 use Rattle.ring_geom.proofs.BoundingLemmas.{bounding_point}

@@ -1,6 +1,6 @@
 -- A figure meets a rectangle exactly where a vertex of one is inside the other or they share a point.
-use Rattle.std.proofs.Common.{◌≡◌, ◌⊎◌, inl, inr, ℕ, ◌*◌, ◌<◌, ◌≤◌, ℤ, pos, ◌+ℤ◌, ◌-ℤ◌, ◌*ℤ◌, ◌≤ℤ◌, ◌<ℤ◌, List, [], ◌∷◌, refl, sym, ◌∙◌, subst, arith}
-use Rattle.std.proofs.lemmas.Int.{ints, by_lt_z}
+use Rattle.std.proofs.Common.{◌≡◌, ◌⊎◌, inl, inr, ℕ, ◌*◌, ◌<◌, ◌≤◌, ℤ, pos, ◌-ℤ◌, ◌*ℤ◌, ◌≤ℤ◌, ◌<ℤ◌, List, [], ◌∷◌, refl, sym, ◌∙◌, subst, arith}
+use Rattle.std.proofs.lemmas.Int.{ints}
 use Rattle.sand_base.specs.declared.goal.Goal.{Goal}
 use Rattle.sand_base.specs.declared.goal.Goal.TheVariants as goal
 use Rattle.sand_base.specs.declared.point.Point.{Point}
@@ -12,12 +12,13 @@ use Rattle.sand_model.specs.FigureGap.{IsCovering, IsGapOf, IsMeeting}
 use Rattle.sand_model.specs.Figures.{IsPointOfFigure, HoldsInside}
 use Rattle.sand_model.specs.Gap.{IsLeast, scaled_distance, common_square}
 use Rattle.sand_model.specs.Rings.{SomeOf, edges}
-use Rattle.int_ring.specs.Expr.{var, at, num, ◌⊕◌, ◌⊖◌, ◌⊗◌}
+use Rattle.int_ring.specs.Expr.{var, at, ◌⊗◌}
 use Rattle.int_ring.proofs.Ring.{ring}
-use Rattle.int_ring.proofs.Order.{mul_le, le_from_mul, same_from_mul, mul_positive}
+use Rattle.int_ring.proofs.Order.{mul_le, le_from_mul, same_from_mul}
 use Rattle.int_ring.proofs.Squares.{squares_zero}
 use Rattle.plane_geom.specs.Rectangles.{IsCovered}
-use Rattle.plane_geom.proofs.Crossing.{shared_least}
+use Rattle.plane_geom.proofs.Apart.{itself, met}
+use Rattle.plane_geom.proofs.CrossingPoint.{shared_least}
 use Rattle.plane_geom.proofs.Signs.{natural, above_zero}
 use Rattle.ring_geom.proofs.Decide.{decide_covering}
 use Rattle.ring_geom.proofs.Moves.{Meets}
@@ -26,17 +27,6 @@ use Rattle.ring_geom.proofs.Region.{all_inside}
 -- two sets have a rational point in common
 abbrev pub Shared : (RationalPoint → Type 0) → (RationalPoint → Type 0) → Type 0
 Shared A B = (q : RationalPoint) × A q × B q
-
--- a point is no way from itself
-itself : (q : RationalPoint) (e : ℤ) → scaled_distance q q *ℤ e ≡ pos 0
-itself q e = plain q.x q.y (pos q.n) e
-  where
-    plain : (x y n e : ℤ)
-        → ((((x *ℤ n) -ℤ (x *ℤ n)) *ℤ ((x *ℤ n) -ℤ (x *ℤ n))) +ℤ (((y *ℤ n) -ℤ (y *ℤ n)) *ℤ ((y *ℤ n) -ℤ (y *ℤ n)))) *ℤ e ≡ pos 0
-    plain x y n e =
-        let u = var 0 ⊗ var 2 ⊖ var 0 ⊗ var 2 in
-        let v = var 1 ⊗ var 2 ⊖ var 1 ⊗ var 2 in
-        ring (at (x ∷ y ∷ n ∷ e ∷ [])) ((u ⊗ u ⊕ v ⊗ v) ⊗ var 3) (num (pos 0)) refl
 
 -- nothing, times something
 nothing : (k : ℤ) → pos 0 *ℤ k ≡ pos 0
@@ -48,21 +38,7 @@ shared_zero h = shared_least 0 1 refl refl (h.0, h.0, h.1, h.2, itself h.0 (pos 
 
 -- a least distance of sets with a common point is 0
 pub shared_none : {A B : RationalPoint → Type 0} (m e : ℕ) → Shared A B → IsLeast A B m e → m ≡ 0
-shared_none m e h least =
-    by_lt_z (pos 0) (pos m)
-    (λ l.
-    absurd (against _ (mul_positive (pos m) (common_square h.0 h.0) l (mul_positive _ _ (square_above h.0.n h.0.positive) (square_above h.0.n h.0.positive)))
-    (subst (λ t. (pos m *ℤ common_square h.0 h.0) ≤ℤ t) (itself h.0 (pos e)) (least.least h.0 h.0 h.1 h.2))))
-    (λ l. none m l)
-  where
-    square_above : (n : ℕ) → 0 < n → pos 0 <ℤ pos (n * n)
-    square_above n h = mul_positive (pos n) (pos n) (above_zero n h) (above_zero n h)
-
-    against : (p : ℤ) → pos 0 <ℤ p → p ≤ℤ pos 0 → ⊥
-    against p h k = omega (arith, ints)
-
-    none : (m : ℕ) → pos m ≤ℤ pos 0 → m ≡ 0
-    none m h = omega (arith, ints)
+shared_none m e h least = met m e h.0 (least.least h.0 h.0 h.1 h.2)
 
 -- a range holds for a place whatever the denominator under which it is told
 carried : (low high n m : ℕ) (x u : ℤ) → 0 < n → 0 < m → x *ℤ pos m ≡ u *ℤ pos n → IsWithin low high m u → IsWithin low high n x

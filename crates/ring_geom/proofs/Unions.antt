@@ -1,51 +1,16 @@
 -- The least distance from a union of sets is the lesser of theirs, so that a loop over the edges of a ring gives the ring's.
-use Rattle.std.proofs.Common.{◌≡◌, ◌⊎◌, inl, inr, ℕ, zero, suc, ◌+◌, ◌*◌, ◌≤◌, pos, ◌*ℤ◌, ◌≤ℤ◌, List, [], ◌∷◌, length, take, drop, refl, sym, subst}
+use Rattle.std.proofs.Common.{◌≡◌, ◌⊎◌, inl, inr, ℕ, zero, suc, ◌+◌, ◌≤◌, List, [], ◌∷◌, length, take, drop, sym, subst}
 use Rattle.std.proofs.lemmas.List.{take_all}
 use Rattle.std.proofs.Math.Numerals.{add-one}
 use Rattle.exact_frac.specs.declared.frac.Frac.{Frac}
 use Rattle.sand_base.specs.declared.segment.Segment.{Segment}
 use Rattle.sand_model.specs.Points.{RationalPoint, IsOnSegment}
-use Rattle.sand_model.specs.Gap.{IsLeast, scaled_distance, common_square}
+use Rattle.sand_model.specs.Gap.{IsLeast}
 use Rattle.sand_model.specs.Rings.{SomeOf}
-use Rattle.int_ring.specs.Expr.{var, at, ◌⊕◌, ◌⊖◌, ◌⊗◌}
-use Rattle.int_ring.proofs.Ring.{ring}
-use Rattle.plane_geom.specs.Lesser.{IsAtMost, IsLesser}
-use Rattle.plane_geom.proofs.Least.{attained_within, attained_exchanged}
-use Rattle.plane_geom.proofs.SegmentLemmas.{lesser_attained, at_most_one}
-use Rattle.plane_geom.proofs.Sides.{AreApart}
-
--- the two sets exchanged
-pub least_exchanged : {A B : RationalPoint → Type 0} (m e : ℕ) → IsLeast A B m e → IsLeast B A m e
-least_exchanged m e h = record {
-  attained = attained_exchanged m e h.attained;
-  least = λ q r hq hr.
-      subst (λ t. (pos m *ℤ common_square q r) ≤ℤ (t *ℤ pos e)) (far_turned r q)
-      (subst (λ t. (pos m *ℤ t) ≤ℤ (scaled_distance r q *ℤ pos e)) (common_turned r q) (h.least r q hr hq));
-}
-  where
-    far_turned : (q r : RationalPoint) → scaled_distance q r ≡ scaled_distance r q
-    far_turned q r =
-        let vx = var 0 ⊗ var 5 ⊖ var 3 ⊗ var 2 in
-        let vy = var 1 ⊗ var 5 ⊖ var 4 ⊗ var 2 in
-        let wx = var 3 ⊗ var 2 ⊖ var 0 ⊗ var 5 in
-        let wy = var 4 ⊗ var 2 ⊖ var 1 ⊗ var 5 in
-        ring (at (q.x ∷ q.y ∷ pos q.n ∷ r.x ∷ r.y ∷ pos r.n ∷ [])) (vx ⊗ vx ⊕ vy ⊗ vy) (wx ⊗ wx ⊕ wy ⊗ wy) refl
-
-    common_turned : (q r : RationalPoint) → common_square q r ≡ common_square r q
-    common_turned q r =
-        ring (at (pos q.n ∷ pos r.n ∷ [])) ((var 0 ⊗ var 1) ⊗ (var 0 ⊗ var 1)) ((var 1 ⊗ var 0) ⊗ (var 1 ⊗ var 0)) refl
-
--- another set with the same points
-pub least_same : {A B C : RationalPoint → Type 0} (m e : ℕ) → ((q : RationalPoint) → A q → C q) → ((q : RationalPoint) → C q → A q)
-    → IsLeast A B m e → IsLeast C B m e
-least_same m e f g h = record {
-  attained = attained_within m e f (λ r hr. hr) h.attained;
-  least = λ q r hq hr. h.least q r (g q hq) hr;
-}
-
--- points as far apart as one fraction says are as far apart as each fraction says that is at most it
-lesser_apart : (f g : Frac) (q z : RationalPoint) → IsAtMost g f → AreApart f.num f.den q z → AreApart g.num g.den q z
-lesser_apart f g q z le h = at_most_one f g _ _ (pos (q.n * z.n)) le h
+use Rattle.int_ring.specs.Expr.{at}
+use Rattle.exact_frac.specs.Lesser.{IsLesser}
+use Rattle.plane_geom.proofs.Least.{attained_within, least_same}
+use Rattle.plane_geom.proofs.NearestEnd.{lesser_attained, lesser_apart}
 
 -- the lesser of two distances is that of the union
 pub least_union : {A A' B : RationalPoint → Type 0} (f g h : Frac) → IsLeast A B f.num f.den → IsLeast A' B g.num g.den → IsLesser f g h

@@ -14,7 +14,7 @@ use Rattle.sand_model.specs.FigureGap.{IsFigureGap, IsMeeting}
 use Rattle.sand_model.specs.Measure.{Measure, IsMeasure}
 use Rattle.sand_model.specs.Figures.{corners_of}
 use Rattle.sand_model.specs.Rings.{SomeOf, edges, IsInside}
-use Rattle.plane_geom.specs.Lesser.{IsAtMost}
+use Rattle.exact_frac.specs.Lesser.{IsAtMost}
 use Rattle.plane_geom.specs.Rectangles.{IsCovered}
 use Rattle.ring_geom.specs.Bounding.{AreCovered, IsPartOf, whole_square}
 use Rattle.ring_geom.specs.Quarters.{low_low, high_low, low_high, high_high, MeetsAQuarter, Tiles}

@@ -15,7 +15,7 @@ use Rattle.sand_model.specs.Measure.{Measure, IsMeasure, meets}
 use Rattle.sand_model.specs.Nodes.{rough_figure, square_figure}
 use Rattle.sand_model.specs.Rings.{SomeOf}
 use Rattle.sand_model.specs.Tree.{Tree, IsShallow, leaves, root_block}
-use Rattle.plane_geom.specs.Lesser.{IsAtMost}
+use Rattle.exact_frac.specs.Lesser.{IsAtMost}
 use Rattle.ring_geom.specs.Bounding.{IsPartOf, IsBounding, whole_square}
 
 -- the test of a measure says whether the shape and the rectangle meet

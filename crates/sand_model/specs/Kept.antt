@@ -1,5 +1,5 @@
 -- What holds of every database that the four changes make from the empty one.
-use Rattle.std.specs.Prelude.{◌≡◌, ℕ, nat_eq, ◌<◌, ◌≤◌, Bool, true, false, ◌||◌, List, [], ◌∷◌, length, map, All, Some, ⊤}
+use Rattle.std.specs.Prelude.{◌≡◌, ℕ, ◌+◌, nat_eq, ◌<◌, ◌≤◌, Bool, true, false, ◌||◌, List, [], ◌∷◌, length, map, All, Some, ⊤}
 use Rattle.std.specs.List.{list_any}
 use Rattle.sand_base.specs.declared.kind.Kind.{Kind}
 use Rattle.sand_base.specs.declared.limits.Limits.{Limits}
@@ -8,11 +8,16 @@ use Rattle.sand_base.specs.InRange.{IsRowOf, IsRowInRange, IsSchemaInRange}
 use Rattle.sand_base.specs.Shape.{is_spatial}
 use Rattle.sand_model.specs.Database.{Database, Relation, Index, Quadtree, Attribute, same_name, element, shapes_of, meets_block}
 use Rattle.sand_model.specs.Measure.{Measure}
+use Rattle.sand_model.specs.RowSize.{row_size}
 use Rattle.sand_model.specs.Tree.{Tree, root_block, Fits, IsShallow, IsFull, listings}
 
 -- the most relations that there may be
 abbrev pub most_relations : ℕ
 most_relations = 64
+
+-- the most bytes that a row takes where it is kept
+abbrev pub longest_row : ℕ
+longest_row = 3900
 
 -- the name is in the list
 abbrev pub has_same : List ℕ → List (List ℕ) → Bool
@@ -38,8 +43,9 @@ has_number_twice (n ∷ ns) = list_any (nat_eq n) ns || has_number_twice ns
 abbrev pub HasColumn : Relation → ℕ → Bool → Type 0
 HasColumn relation at spatial = (name : List ℕ) × (kind : Kind) × (element relation.schema at ≡ Some (name, kind)) × (is_spatial kind ≡ spatial)
 
--- The quadtree of a column: it fits the rows, no level is below the finest, no deletion would have merged a place, and its listings are within the limit.
+-- The quadtree of a column: its threshold is from 1 to 64, it fits the rows, no level is below the finest, no deletion would have merged a place, and its listings are within the limit.
 pub record IsQuadtree (gap : Measure) (limits : Limits) (relation : Relation) (column threshold : ℕ) (tree : Tree) : Type 0 where
+  pub split : (1 ≤ threshold) × (threshold ≤ 64)
   pub fits : Fits (meets_block gap (shapes_of column relation.rows)) (map (λ s. s.0) (shapes_of column relation.rows)) root_block tree
   pub shallow : IsShallow root_block tree
   pub full : IsFull threshold tree
@@ -55,8 +61,10 @@ IsIndex gap limits relation (column, Attribute) = HasColumn relation column fals
 pub record IsRelation (gap : Measure) (limits : Limits) (relation : Relation) : Type 0 where
   pub schema : IsSchemaInRange relation.schema
   pub columns : has_twice (map (λ column. column.0) relation.schema) ≡ false
-  pub rows : All (λ row. IsRowOf relation.schema row.1 × IsRowInRange row.1) relation.rows
+  pub rows : All (λ row. IsRowOf relation.schema row.1 × IsRowInRange row.1 × (row_size row.1 ≤ longest_row)) relation.rows
   pub ids : IsAscending (map (λ row. row.0) relation.rows)
+  pub begun : 1 ≤ relation.next
+  pub few : relation.next ≤ limits.ids + 1
   pub given_out : All (λ row. (1 ≤ row.0) × (row.0 < relation.next)) relation.rows
   pub indexed : has_number_twice (map (λ index. index.0) relation.indexes) ≡ false
   pub indexes : All (IsIndex gap limits relation) relation.indexes

@@ -4,8 +4,7 @@ use Rattle.sand_base.specs.declared.refusal.Refusal.{Refusal}
 use Rattle.sand_base.specs.declared.refusal.Refusal.TheVariants as why
 use Rattle.sand_model.specs.Checks.{first_refusal}
 use Rattle.sand_model.specs.Cursor.{State, Cursor, OutputLine, Accepted, Id, Loaded, Stats as StatsOf, LeafOf, Refused, new_cursor, Steps}
-use Rattle.sand_model.specs.Database.{Database, Relation, Index, Quadtree, Attribute, relation_named, same_name, changed_at, with_relation, new_relation, with_row, without_row, column_named, index_at}
-use Rattle.sand_model.specs.Plan.{Column}
+use Rattle.sand_model.specs.Database.{Database, Relation, Index, Quadtree, relation_named, same_name, changed_at, with_relation, new_relation, with_row, without_row, column_named, index_at}
 use Rattle.sand_model.specs.Statement.{Statement, Create, Insert, Delete, Load, Index as IndexOn, OpenCursor, Next, CloseCursor, Show, Stats, Blocks}
 use Rattle.sand_model.specs.StatementChecks.{Setting, early, late, check_load, cursor_named, entered, file_rows, indexed_by}
 use Rattle.sand_model.specs.Tree.{Tree, root_block, leaves}
@@ -31,12 +30,12 @@ ReachesFile state _ = ⊥
 abbrev pub ReachesPages : Setting → State → Statement → Type 0
 ReachesPages setting state statement = (uses_pages statement ≡ true) × (early setting state statement ≡ None)
 
--- The outside may refuse: memory at any point; the disk where its count rose; a damaged page only over a disk that doesn't tell; the shelf where its count rose.
+-- The outside may refuse: memory at any point; the disk where its count rose; a page that differs from what was written, only over a disk that doesn't tell; the shelf where its count rose.
 abbrev pub IsLicensed : Setting → Rises → State → Statement → Refusal → Type 0
 IsLicensed setting rises state statement why.Memory = ⊤
 IsLicensed setting rises state statement why.Device = ReachesPages setting state statement × (0 < rises.disk)
 IsLicensed setting rises state statement (why.Damaged page kept read) =
-    ReachesPages setting state statement × (setting.tells ≡ false)
+    ReachesPages setting state statement × (setting.tells ≡ false) × ¬ (kept ≡ read)
 IsLicensed setting rises state statement why.File = ReachesFile state statement × (0 < rises.shelf)
 IsLicensed setting rises state statement _ = ⊥
 

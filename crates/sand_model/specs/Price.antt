@@ -1,5 +1,5 @@
 -- Prices in page gets of what a search and an operator do. A height is that of the B-tree concerned.
-use Rattle.std.specs.Prelude.{ℕ, ◌+◌, ◌*◌}
+use Rattle.std.specs.Prelude.{ℕ, ◌+◌, ◌*◌, List, sum_by}
 
 -- to visit a block whose leaf lists so many ids, an inner place none
 abbrev pub block_price : ℕ → ℕ → ℕ
@@ -28,3 +28,23 @@ text_lookup_price height entries rows_height = lookup_price height entries + ent
 -- one step of a scan, that at its end included
 abbrev pub scan_price : ℕ → ℕ
 scan_price height = height + 1
+
+-- one step of a pick of whole numbers, that at its end included: a look-up with the entries that it passed
+abbrev pub pick_price : ℕ → ℕ → ℕ
+pick_price height passed = lookup_price height passed
+
+-- one step of a pick of a text
+abbrev pub text_pick_price : ℕ → ℕ → ℕ → ℕ
+text_pick_price height passed rows_height = text_lookup_price height passed rows_height
+
+-- to handle a row at an operator: a tuple for each place that a filter tests, a fetch adds or a sort compares, each of its own relation
+abbrev pub places_price : List ℕ → ℕ
+places_price heights = sum_by tuple_price heights
+
+-- to handle a row at a match: its tuple and the look-up of its value, of whole numbers and of texts
+abbrev pub match_price : ℕ → ℕ → ℕ → ℕ
+match_price rows_height height entries = tuple_price rows_height + lookup_price height entries
+
+abbrev pub text_match_price : ℕ → ℕ → ℕ → ℕ → ℕ
+text_match_price rows_height height entries others_height =
+    tuple_price rows_height + text_lookup_price height entries others_height

@@ -1,8 +1,10 @@
 -- A run: each line of a script has its outcome on the state that the lines before it left.
-use Rattle.std.specs.Prelude.{◌≡◌, ◌⊎◌, ℕ, ◌+◌, ◌≤◌, List, [], ◌∷◌, ◌++◌, Option, Some, None}
+use Rattle.std.specs.Prelude.{◌≡◌, ◌⊎◌, ℕ, ◌+◌, ◌≤◌, Bool, List, [], ◌∷◌, ◌++◌}
+use Rattle.std.specs.List.{list_any}
 use Rattle.sand_base.specs.declared.refusal.Refusal.TheVariants as why
 use Rattle.sand_model.specs.Cursor.{State, OutputLine}
 use Rattle.sand_model.specs.Outcome.{Rises, Outcome, IsRefusedBy}
+use Rattle.sand_model.specs.OutputText.{IsText, is_refused}
 use Rattle.sand_model.specs.Statement.{ScriptLine, Blank, TooLong, BadToken, OutOfRange, Says}
 use Rattle.sand_model.specs.StatementChecks.{Setting}
 
@@ -40,3 +42,12 @@ abbrev pub Run : Setting → State → List ScriptLine → Rises → List Output
 Run setting old [] rises printed new = (printed ≡ []) × (new ≡ old)
 Run setting old (line ∷ lines) rises printed new =
     Begins (λ others more mid. Run setting mid lines others more new) setting old line rises printed
+
+-- The text of a run over the lines of a script, from no relations and no cursors, and whether a line was refused.
+-- It is claimed over a disk that tells its pages.
+pub record IsRunText (setting : Setting) (script : List ScriptLine) (rises : Rises) (text : List ℕ) (some_refused : Bool) : Type 0 where
+  pub printed : List OutputLine
+  pub last : State
+  pub ran : Run setting no_state script rises printed last
+  pub told : IsText printed text
+  pub refused : some_refused ≡ list_any is_refused printed

@@ -1,17 +1,18 @@
 -- The checks of each statement in their order. Those of `early` come before any page is touched, those of `late` with the change.
-use Rattle.std.specs.Prelude.{ℕ, ◌-◌, Bool, true, false, cond, nat_eq, nat_le, nat_lt, not, ◌&&◌, ◌||◌, List, [], ◌∷◌, length, map, drop, find, Option, Some, None}
+use Rattle.std.specs.Prelude.{◌≡◌, ℕ, ◌-◌, Bool, true, false, cond, nat_le, nat_lt, not, ◌&&◌, ◌||◌, List, [], ◌∷◌, length, map, find, All, Option, Some, None}
 use Rattle.std.specs.List.{list_any}
 use Rattle.sand_base.specs.declared.kind.Kind.{Kind}
 use Rattle.sand_base.specs.declared.limits.Limits.{Limits}
 use Rattle.sand_base.specs.declared.refusal.Refusal.{Refusal}
 use Rattle.sand_base.specs.declared.refusal.Refusal.TheVariants as why
 use Rattle.sand_base.specs.declared.value.Value.{Value}
+use Rattle.sand_base.specs.InRange.{IsRowOf, IsRowInRange}
 use Rattle.sand_base.specs.Shape.{value_kind, same_kind, is_spatial}
 use Rattle.sand_model.specs.Checks.{first_refusal, check_relation, check_operators, kind_named, is_indexed, most_operators}
 use Rattle.sand_model.specs.Cursor.{State, Cursor}
 use Rattle.sand_model.specs.Database.{Database, Relation, Index, Quadtree, Attribute, relation_named, same_name, column_named, row_at, with_row, with_index}
-use Rattle.sand_model.specs.Kept.{has_twice, most_relations}
-use Rattle.sand_model.specs.Measure.{Measure}
+use Rattle.sand_model.specs.Kept.{has_twice, most_relations, longest_row}
+use Rattle.sand_model.specs.Measure.{Measure, IsMeasure}
 use Rattle.sand_model.specs.Plan.{Plan, Column, depth}
 use Rattle.sand_model.specs.RowSize.{row_size}
 use Rattle.sand_model.specs.Statement.{Statement, Create, Insert, Delete, Load, Index as IndexOn, OpenCursor, Next, CloseCursor, Show, Stats, Blocks}
@@ -31,9 +32,13 @@ pub record Setting : Type 0 where
   pub rows_of : List ℕ → List (List ℕ × Kind) → Bool → FileRows
   pub tells : Bool
 
--- the longest encoding of a row, the longest data file, the most open cursors, and the threshold where none is given
-abbrev pub longest_row : ℕ
-longest_row = 3900
+-- how far figures are apart is the gap, and a file's rows are rows of the schema
+pub record IsSetting (setting : Setting) : Type 0 where
+  pub gap : IsMeasure setting.gap
+  pub rows_of : (bytes : List ℕ) (schema : List (List ℕ × Kind)) (header : Bool) (rows : List (List Value))
+      → setting.rows_of bytes schema header ≡ AreRows rows → All (λ row. IsRowOf schema row × IsRowInRange row) rows
+
+-- the longest data file, the most open cursors, and the threshold where none is given
 
 abbrev pub longest_file : ℕ
 longest_file = 67108864

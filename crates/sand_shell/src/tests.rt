@@ -148,7 +148,16 @@ fn scripts_are_answered(rt: HostRuntime) -> Result<(), Fail> {
             "create p (at point)\nindex p.at\ninsert p (1 1)-(2 2)\ninsert p (70000 1)\nshow 0 rank p.at from (0 0)\n\
              show 3 rnk p.at from (0 0)\ninsert p (0\ninsert p 5\ninsert p (1 1)\n",
             "ok\nok\nrefused 10 WrongKind\nrefused 7 Range\nrefused 7 Range\n\
-             refused 6 Syntax 8\nrefused 6 Syntax 12\nrefused 6 Syntax 10\nid 1\n",
+             refused 6 Syntax 8\nrefused 6 Syntax 12\nrefused 10 WrongKind\nid 1\n",
+            Status::SomeRefused,
+        ),
+        plain(
+            "a polygon, and what isn't carried out yet",
+            "create r (area polygon)\nindex r.area 4\ninsert r ((2 2) (6 2) (6 6) (2 6))\nshow 2 rank r.area from (4 4)\n\
+             show 1 rank r.area from (0 0)\ndelete r 1\ncreate t (n int, at point)\nshow 1 scan r\n\
+             show 1 rank r.area from (0 0) within 5\ninsert r \"a\", (1 1)\n",
+            "ok\nok\nid 1\n0\t1\nend\n8\t1\nrefused 26 NotBuilt\nrefused 26 NotBuilt\nrefused 26 NotBuilt\n\
+             refused 26 NotBuilt\nrefused 10 WrongKind\n",
             Status::SomeRefused,
         ),
         plain(

@@ -1,25 +1,28 @@
 -- What a line says, by what the lexer and the reader made of it.
-use Rattle.std.proofs.Common.{◌≡◌, ℕ, ◌+◌, ◌≤◌, Bool, true, false, ◌&&◌, cond, eqb, List, [], ◌∷◌, ◌++◌, length, drop, Some, None, Result, Ok, Err, refl, sym, ap, subst, ◌∙◌, inl, inr, arith, append_assoc, length-append}
+use Rattle.std.proofs.Common.{◌≡◌, ℕ, ◌+◌, ◌≤◌, Bool, true, false, cond, eqb, List, [], ◌∷◌, ◌++◌, length, drop, Some, None, Result, Ok, Err, refl, sym, ap, subst, ◌∙◌, inl, inr, arith, append_assoc, length-append}
 use Rattle.std.specs.Prelude.{◌⊎◌}
 use Rattle.std.proofs.Math.Numerals.{one-add}
-use Rattle.std.proofs.lemmas.Bool.{and_parts, eqb-true, false≢true}
-use Rattle.std.proofs.lemmas.List.{append-nil}
+use Rattle.std.proofs.lemmas.Bool.{eqb-true}
 use Rattle.std.specs.List.{prefix_len, slice_get}
 use Rattle.script_text.specs.declared.parse.LineFault.{LineFault}
 use Rattle.script_text.specs.declared.parse.LineFault.TheVariants.{Syntax}
-use Rattle.script_text.specs.declared.statement.Statement.{Statement}
-use Rattle.script_text.specs.Grammar.{Writes, IsOfGrammar, IsFront, GoesWrong, IsFirstBad, room_at, words}
-use Rattle.script_text.specs.Lexical.{Placed, ArePieces, IsCut, IsLexed, IsFault, IsColumn, is_blank, skip_blanks}
-use Rattle.script_text.specs.Lexing.{first_cut, pieces, unread}
+use Rattle.script_text.specs.Grammar.{IsOf, room_at, whole}
+use Rattle.script_text.specs.Lexical.{Placed, IsCut, IsLexed, IsFault, IsColumn, is_blank, skip_blanks}
+use Rattle.script_text.specs.Lexing.{first_cut, pieces, unread, fault_room}
 use Rattle.script_text.specs.Line.{is_passed_over, IsReadAs, HasBadByte, HasBadToken, IsOutOfRange, Reads}
-use Rattle.script_text.specs.Reading.{State, start, whole_in}
-use Rattle.script_text.specs.Statement.{IsInRange}
+use Rattle.script_text.specs.Reading.{State, at, start}
+use Rattle.script_text.specs.Rules.{statement_form}
+use Rattle.script_text.specs.Statement.{StatementValue}
 use Rattle.script_text.specs.Token.{Piece, IsToken}
-use Rattle.script_text.proofs.CutLaws.{IsEnd, pieces-cut, unread-end, cut-are, skip-within}
-use Rattle.script_text.proofs.ReaderLaws.{at, Nothing, Takes, IsTaken, IsStuck}
-use Rattle.script_text.proofs.RuleLaws.{Spells, whole-reader}
+use Rattle.script_text.proofs.CutLaws.{IsEnd, cut-are, pieces-cut, unread-end, skip-within}
+use Rattle.script_text.proofs.Predictive.{is_decided}
+use Rattle.script_text.proofs.Ranged.{statement-in_range}
 use Rattle.script_text.proofs.TokenLemmas.{first_cut-fault}
-use Rattle.script_text.proofs.WholeLaws.{accept-whole, read-whole}
+use Rattle.script_text.proofs.Whole.{whole-of, whole-first_bad}
+
+-- one token in hand decides a statement
+pub statement-decided : is_decided statement_form ≡ true
+statement-decided = refl
 
 -- there is no byte, or the first one is `#`
 abbrev is_comment : List ℕ → Bool
@@ -61,82 +64,6 @@ token-no_comment (b ∷ bytes) p after token =
 pub token-counts : (line : List ℕ) (p : Piece) (after : List ℕ) → IsToken (skip_blanks line) p after → is_passed_over line ≡ false
 token-counts line p after token = passed-skip line ∙ token-no_comment (skip_blanks line) p after token
 
--- a reading has one outcome
-same-outcome : (r : Result (Statement × State) (List Placed)) (x s : Statement) (t u : State) → r ≡ Ok (x, t) → r ≡ Ok (s, u) → (x ≡ s) × (t ≡ u)
-same-outcome r x s t u e f =
-    let one : Statement × State = (x, t) in
-    let two : Statement × State = (s, u) in
-    let g : one ≡ two = cc in
-    (ap (λ p. p.0) g, ap (λ p. p.1) g)
-
--- a reading that is stuck gives nothing
-not-stuck : (r : Result (Statement × State) (List Placed)) (bad : List Placed) (y : Statement × State) → r ≡ Err bad → r ≡ Ok y → ⊥
-not-stuck r bad y e f = cc
-
--- what a step takes where nothing follows
-takes-all : (used : List Placed) (x : Statement) (flag : Bool) → Takes Nothing whole_in used x flag → whole_in (at used true) ≡ Ok (x, at [] (flag && true))
-takes-all used x flag takes = ap (λ ps. whole_in (at ps true)) (sym (append-nil used)) ∙ takes.gives [] true refl
-
--- all pieces were taken
-taken-all : {P : List Placed → Statement → Bool → Type 0} {s : State} {y : Statement × State} → (taken : IsTaken Nothing whole_in P s y) → taken.used ≡ s.left
-taken-all {P} {s} {y} taken = sym (taken.split ∙ ap (λ ps. taken.used ++ ps) taken.follow ∙ append-nil taken.used)
-
--- a reading that gives a statement takes a line of the grammar
-pub read-grammar : (tokens : List Placed) (y : Statement × State) → whole_in (at tokens true) ≡ Ok y → IsOfGrammar tokens
-read-grammar tokens y e =
-    let taken = whole-reader.ok (at tokens true) y e in
-    subst IsOfGrammar (taken-all taken) (record { statement = y.0; fits = taken.says.fits })
-
--- tokens that are read whole are a line of the grammar
-takes-grammar : (used : List Placed) (x : Statement) (flag : Bool) → Takes Nothing whole_in used x flag → IsOfGrammar used
-takes-grammar used x flag takes = read-grammar used (x, at [] (flag && true)) (takes-all used x flag takes)
-
--- a reading of all tokens
-pub record IsReadWhole (tokens : List Placed) : Type 0 where
-  pub value : Statement
-  pub flag : Bool
-  pub gives : whole_in (at tokens true) ≡ Ok (value, at [] (flag && true))
-
--- a line of the grammar is read whole
-pub grammar-read : (tokens : List Placed) → IsOfGrammar tokens → IsReadWhole tokens
-grammar-read tokens g =
-    let taken = (accept-whole g.statement).taken tokens g.fits in
-    record { value = taken.value; flag = taken.flag; gives = takes-all tokens taken.value taken.flag taken.takes }
-
--- where no token is bad, the good ones are no line of the grammar
-wrong-end : (tokens good : List Placed) → whole_in (at tokens true) ≡ Err [] → tokens ≡ good ++ [] → ¬ IsOfGrammar good
-wrong-end tokens good e split g =
-    let read = grammar-read good g in
-    not-stuck (whole_in (at good true)) [] (read.value, at [] (read.flag && true))
-    (ap (λ ps. whole_in (at ps true)) (sym (split ∙ append-nil good)) ∙ e) read.gives
-
--- with the first bad token no line of the grammar goes on
-wrong-token : (good : List Placed) (p : Placed) → ((more : List Placed) → whole_in (at (good ++ p ∷ more) true) ≡ Err (p ∷ more)) → ¬ IsFront (good ++ p ∷ [])
-wrong-token good p again front =
-    let read = grammar-read ((good ++ p ∷ []) ++ front.more) front.whole in
-    not-stuck (whole_in (at ((good ++ p ∷ []) ++ front.more) true)) (p ∷ front.more) (read.value, at [] (read.flag && true))
-    (ap (λ ps. whole_in (at ps true)) (append_assoc good (p ∷ []) front.more) ∙ again front.more) read.gives
-
--- the reader is stuck at the first bad token
-goes-wrong : (tokens bad : List Placed) (stuck : IsStuck Nothing whole_in (at tokens true) bad) → whole_in (at tokens true) ≡ Err bad → GoesWrong stuck.good bad
-goes-wrong tokens [] stuck e = wrong-end tokens stuck.good e stuck.split
-goes-wrong tokens (p ∷ bad) stuck e = wrong-token stuck.good p (λ more. stuck.again p bad more true refl)
-
--- the reader is stuck at the first bad token
-pub stuck-first_bad : (tokens bad : List Placed) → whole_in (at tokens true) ≡ Err bad → IsFirstBad tokens bad
-stuck-first_bad tokens bad e =
-    let stuck = whole-reader.bad (at tokens true) bad e in
-    record {
-      good = stuck.good;
-      split = stuck.split;
-      front = record { more = stuck.longer.other; pieces = stuck.longer.are; whole = takes-grammar (stuck.good ++ stuck.longer.other) stuck.longer.value stuck.longer.flag stuck.longer.on };
-      wrong = goes-wrong tokens bad stuck e;
-    }
-
--- tokens that write a statement in range are read as that statement
-pub read-written : (tokens : List Placed) (t : Statement) → IsInRange t → Writes tokens (words t) → whole_in (at tokens true) ≡ Ok (t, at [] true)
-read-written tokens t h w = takes-all tokens t true ((read-whole t h).taken tokens w)
-
 -- what follows a token is no longer than the bytes that it stands in
 after-within : (bytes text after : List ℕ) → skip_blanks bytes ≡ text ++ after → length after ≤ length bytes
 after-within bytes text after e =
@@ -171,7 +98,7 @@ fault-some [] end some = absurd (some refl)
 fault-some (b ∷ bytes) end some = end
 
 -- what is left of a line begins with its first bad byte
-pub bad-byte : (line left : List ℕ) → left ≡ unread line → (length left ≡ 0 → ⊥) → (column : ℕ) → IsColumn line (length left) column → HasBadByte line column ⊎ HasBadToken line column
+pub bad-byte : (line left : List ℕ) → left ≡ unread line → (length left ≡ 0 → ⊥) → (column : ℕ) → IsColumn line (fault_room left) column → HasBadByte line column ⊎ HasBadToken line column
 bad-byte line left e some column place = inl (record {
   tokens = pieces line;
   rest = left;
@@ -186,48 +113,32 @@ module _ (line : List ℕ) (first : State) (begins : first ≡ start line) (lexe
   is-lexed : IsLexed line (pieces line)
   is-lexed = subst (IsCut line (pieces line)) lexed (pieces-cut line)
 
-  -- what was taken, where the line is read whole
-  taken : (x : Statement) (s : State) → whole_in first ≡ Ok (x, s) → IsTaken Nothing whole_in (λ used x b. Spells used b (words x) (IsInRange x)) (start line) (x, s)
-  taken x s e = whole-reader.ok (start line) (x, s) (ap whole_in (sym begins) ∙ e)
+  -- what was read is written
+  is-of : (x : StatementValue) (s : State) (flag : Bool) → whole statement_form first ≡ Ok (x, s) → s.in_range ≡ flag → IsOf statement_form x flag (pieces line)
+  is-of x s flag e h =
+      subst (λ b. IsOf statement_form x b (pieces line)) h
+      (whole-of statement_form statement-decided (pieces line) (x, s) (ap (whole statement_form) (sym begins) ∙ e)).1
 
-  -- where every number is in its range the line is read as the statement
-  pub is-read : (x : Statement) (s : State) → whole_in first ≡ Ok (x, s) → s.in_range ≡ true → IsReadAs line x
-  is-read x s e h =
-      let all = taken x s e in
-      let flag = (and_parts all.flag true (sym all.ranged ∙ h)).0 in
-      let used = taken-all all in
-      record {
-        in_range = all.says.range flag (subst ArePieces (sym used) (cut-are line (pieces line) [] is-lexed));
-        tokens = pieces line;
-        lexed = is-lexed;
-        written = subst (λ ps. Writes ps (words x)) used (all.says.writes flag);
-      }
+  -- where all is in range the line is read as the statement
+  pub is-read : (x : StatementValue) (s : State) → whole statement_form first ≡ Ok (x, s) → s.in_range ≡ true → IsReadAs line x
+  is-read x s e h = record { tokens = pieces line; lexed = is-lexed; written = is-of x s true e h; in_range = statement-in_range x (pieces line) (cut-are line (pieces line) [] is-lexed) (is-of x s true e h) }
 
-  -- where one isn't the line writes no statement in range
-  pub is-out : (x : Statement) (s : State) → whole_in first ≡ Ok (x, s) → s.in_range ≡ false → IsOutOfRange line
-  is-out x s e h =
-      let all = taken x s e in
-      record {
-        tokens = pieces line;
-        lexed = is-lexed;
-        grammar = subst IsOfGrammar (taken-all all) (record { statement = x; fits = all.says.fits });
-        out = λ t in_range written.
-            let same = same-outcome (whole_in first) x t s (at [] true) e (ap whole_in begins ∙ read-written (pieces line) t in_range written) in
-            false≢true (sym h ∙ ap (λ s. s.in_range) same.1);
-      }
+  -- where something isn't the line is out of range
+  pub is-out : (x : StatementValue) (s : State) → whole statement_form first ≡ Ok (x, s) → s.in_range ≡ false → IsOutOfRange line
+  is-out x s e h = record { tokens = pieces line; lexed = is-lexed; statement = x; out = is-of x s false e h }
 
   -- where the reader is stuck it is within the line
-  pub stuck-within : (bad : List Placed) → whole_in first ≡ Err bad → room_at bad ≤ length line
+  pub stuck-within : (bad : List Placed) → whole statement_form first ≡ Err bad → room_at bad ≤ length line
   stuck-within bad e =
-      let stuck = whole-reader.bad (start line) bad (ap whole_in (sym begins) ∙ e) in
+      let stuck = whole-first_bad statement_form statement-decided (pieces line) bad (ap (whole statement_form) (sym begins) ∙ e) in
       room-within line stuck.good bad [] (subst (λ ps. IsCut line ps []) stuck.split is-lexed)
 
   -- and at the first bad token
-  pub bad-token : (bad : List Placed) (room : ℕ) → whole_in first ≡ Err bad → room ≡ room_at bad → (column : ℕ) → IsColumn line room column → HasBadByte line column ⊎ HasBadToken line column
+  pub bad-token : (bad : List Placed) (room : ℕ) → whole statement_form first ≡ Err bad → room ≡ room_at bad → (column : ℕ) → IsColumn line room column → HasBadByte line column ⊎ HasBadToken line column
   bad-token bad room e same column place = inr (record {
     tokens = pieces line;
     lexed = is-lexed;
     bad = bad;
-    first = stuck-first_bad (pieces line) bad (ap whole_in (sym begins) ∙ e);
+    first = whole-first_bad statement_form statement-decided (pieces line) bad (ap (whole statement_form) (sym begins) ∙ e);
     place = subst (λ room. IsColumn line room column) same place;
   })

@@ -1,5 +1,5 @@
 -- A number that the machine's integers don't hold is out of every range of the language.
-use Rattle.std.proofs.Common.{◌≡◌, ℕ, zero, suc, ◌<◌, ◌≤◌, ◌^◌, Bool, true, false, not, ◌&&◌, ◌||◌, cond, eqb, ltb, leb, List, [], ◌∷◌, length, Some, None, Err, refl, sym, ap, subst, ◌∙◌, arith, rules}
+use Rattle.std.proofs.Common.{◌≡◌, ℕ, zero, suc, ◌-◌, ◌<◌, ◌≤◌, ◌^◌, Bool, true, false, not, ◌&&◌, ◌||◌, cond, eqb, ltb, leb, List, [], ◌∷◌, length, Some, None, Err, refl, sym, ap, subst, ◌∙◌, arith, rules}
 use Rattle.std.proofs.lemmas.Bool.{and_parts, and_from, le-leb, cond-true, cond-false, false_from_ne_true, leb-true, eqb-true, eqb-false, ltb-true, false≢true}
 use Rattle.std.proofs.lemmas.Bool.Decides.{nat_tests}
 use Rattle.std.proofs.lemmas.Str.Parse.{IsDigitsTest, IsNumeralModel, numerals_by_value, parse_signed_minus, parse_signed_plain}
@@ -8,8 +8,8 @@ use Rattle.std.specs.Char.{is_ascii_digit}
 use Rattle.std.specs.List.{list_all}
 use Rattle.std.specs.Str.Parse.{ParsesSigned, digits_value}
 use mir.Syntax.{w64}
-use Rattle.script_text.specs.Grammar.{value_of}
-use Rattle.script_text.specs.Reading.{is_natural, magnitude, is_between, natural}
+use Rattle.script_text.specs.Number.{value_of}
+use Rattle.script_text.specs.Number.{is_natural, magnitude, is_between, natural, int}
 use Rattle.script_text.specs.Token.{is_number, is_digits}
 
 -- the language's digits are those of `parse`
@@ -102,3 +102,23 @@ natural-from least most text n e low high =
     let within : is_between least most text ≡ true =
     and_from (is_natural text) _ two.0 (rw two.1 (and_from _ _ (le-leb least n low) (le-leb n most high))) in
     cond-true _ _ _ within ∙ ap Some two.1
+
+-- where `parse` fails at a number, 64 bits don't hold it
+pub int-none : {E : Type 0} (text : List ℕ) (e : E) → is_number text ≡ true → ParsesSigned {E = E} w64 10 text (Err e) → None ≡ int text
+int-none {E} [] e h fails = absurd (false≢true h)
+int-none {E} (b ∷ bytes) e h fails =
+    let go : (t : Bool) → eqb b 45 ≡ t → cond t (is_digits bytes) (is_digits (b ∷ bytes)) ≡ true → leb (magnitude (b ∷ bytes)) (cond t (2 ^ 63) (2 ^ 63 - 1)) ≡ true → ⊥ =
+    elim [
+      | true ↦ λ m d le.
+          let digits : magnitude (b ∷ bytes) ≡ digits_value 10 bytes = cond-true _ _ _ m in
+          let two = and_parts (ltb 0 (length bytes)) (list_all is_ascii_digit bytes) d in
+          let most : magnitude (b ∷ bytes) ≤ 2 ^ 63 = leb-true _ _ le in
+          parse_signed_minus numerals w64 (b ∷ bytes) (Err e) fails (eqb-true b 45 m) (two.1, ltb-true _ _ two.0, omega arith)
+      | false ↦ λ m d le.
+          let digits : magnitude (b ∷ bytes) ≡ digits_value 10 (b ∷ bytes) = cond-false _ _ _ m in
+          let two = and_parts (ltb 0 (length (b ∷ bytes))) (list_all is_ascii_digit (b ∷ bytes)) d in
+          let digit = (and_parts (is_ascii_digit b) (list_all is_ascii_digit bytes) two.1).0 in
+          let most : magnitude (b ∷ bytes) ≤ 2 ^ 63 - 1 = leb-true _ _ le in
+          parse_signed_plain numerals w64 (b ∷ bytes) (Err e) fails (λ is. grind (arith, nat_tests)) (eqb-false b 45 m) (two.1, omega arith, omega arith)
+    ] in
+    sym (cond-false _ _ _ (false_from_ne_true _ (λ within. go _ refl h within)))

@@ -33,7 +33,7 @@ digit-ascii : (b : ℕ) → is_ascii_digit b ≡ true → b < 128
 digit-ascii b h = grind (arith, nat_tests)
 
 -- bytes that each pass a test of bytes below 128 are text
-IsAscii-list_all : (p : ℕ → Bool) → ((b : ℕ) → p b ≡ true → b < 128) → (bytes : List ℕ) → list_all p bytes ≡ true → IsAscii bytes
+pub IsAscii-list_all : (p : ℕ → Bool) → ((b : ℕ) → p b ≡ true → b < 128) → (bytes : List ℕ) → list_all p bytes ≡ true → IsAscii bytes
 IsAscii-list_all p below [] h = IsAscii-nil
 IsAscii-list_all p below (b ∷ bytes) h =
     let both = and_parts (p b) (list_all p bytes) h in

@@ -1,17 +1,20 @@
 -- A piece that is spelled, where it ends, is the next one.
-use Rattle.std.proofs.Common.{◌≡◌, ℕ, suc, ◌+◌, ◌≤◌, Bool, true, false, cond, eqb, ltb, leb, List, [], ◌∷◌, ◌++◌, length, take, drop, Some, refl, ap, ◌∙◌, arith}
+use Rattle.std.proofs.Common.{◌≡◌, ℕ, suc, ◌+◌, ◌≤◌, Bool, true, false, cond, eqb, ltb, leb, List, [], ◌∷◌, ◌++◌, length, take, drop, Some, refl, sym, ap, ◌∙◌, arith}
 use Rattle.std.proofs.Math.Numerals.{one-add}
 use Rattle.std.proofs.Math.Seq.{take-append_seam, drop-append_seam}
+use Rattle.std.proofs.lemmas.List.{drop-drop}
 use Rattle.std.proofs.lemmas.Bool.{and_parts, cond-true, cond-false, le-leb, false≢true}
 use Rattle.std.proofs.lemmas.Bool.Decides.{nat_tests}
 use Rattle.std.specs.Char.{is_ascii_digit}
 use Rattle.std.specs.List.{prefix_len, list_all}
 use Rattle.script_text.specs.declared.TheConstants.{LONGEST_NAME}
 use Rattle.script_text.specs.Lexical.{is_blank}
-use Rattle.script_text.specs.Lexing.{Cut, first_cut, name_cut, number_cut, begins_number, put, lex}
+use Rattle.script_text.specs.Lexing.{Cut, first_cut, name_cut, number_cut, text_cut, begins_number, put, lex}
 use Rattle.script_text.specs.Name.{starts_name, continues_name, IsName}
-use Rattle.script_text.specs.Token.{name, number, is_number, is_digits}
+use Rattle.script_text.specs.Text.{IsInside, begins_quote, text_run}
+use Rattle.script_text.specs.Token.{name, number, text, is_number, is_digits}
 use Rattle.script_text.proofs.LexLemmas.{lex-cut}
+use Rattle.script_text.proofs.TextRuns.{text-front}
 
 -- a run of bytes that pass a test ends before bytes of which the first doesn't
 run-seam : (p : ℕ → Bool) (xs more : List ℕ) → list_all p xs ≡ true → prefix_len p more ≡ 0 → prefix_len p (xs ++ more) ≡ length xs
@@ -94,3 +97,21 @@ lex-number (b ∷ bytes) more h ends =
     let cut : Cut = record { piece = number (b ∷ bytes); len = 1 + length bytes } in
     lex-cut b (bytes ++ more) cut (number-split b bytes h).no_blank (first_cut-number b bytes more h ends) (omega arith)
     ∙ ap (λ xs. put (record { piece = number (b ∷ bytes); room = length (b ∷ (bytes ++ more)) }) (lex xs)) (drop-seam b bytes more)
+
+-- a text that is spelled, and not followed by a quote, is cut
+pub first_cut-text : (bytes left : List ℕ) → IsInside bytes → begins_quote left ≡ false
+    → first_cut (34 ∷ (bytes ++ 34 ∷ left)) ≡ Some (record { piece = text bytes; len = length bytes + 2 })
+first_cut-text bytes left inside ends =
+    ap (λ n. text_cut n (bytes ++ 34 ∷ left)) (text-front bytes left inside ends)
+    ∙ cond-true (begins_quote (drop (length bytes) (bytes ++ 34 ∷ left))) _ _ (ap begins_quote (drop-append_seam bytes (34 ∷ left)))
+    ∙ ap (λ xs. Some (record { piece = text xs; len = length bytes + 2 })) (take-append_seam bytes (34 ∷ left))
+
+-- and is the next piece
+pub lex-text : (bytes left : List ℕ) → IsInside bytes → begins_quote left ≡ false
+    → lex (34 ∷ (bytes ++ 34 ∷ left)) ≡ put (record { piece = text bytes; room = length (34 ∷ (bytes ++ 34 ∷ left)) }) (lex left)
+lex-text bytes left inside ends =
+    let cut : Cut = record { piece = text bytes; len = length bytes + 2 } in
+    let rest : drop (length bytes + 2) (34 ∷ (bytes ++ 34 ∷ left)) ≡ left =
+    (let e : length bytes + 2 ≡ suc (length bytes + 1) = omega arith in rw e (sym (drop-drop 1 (length bytes) (bytes ++ 34 ∷ left)) ∙ ap (drop 1) (drop-append_seam bytes (34 ∷ left)))) in
+    lex-cut 34 (bytes ++ 34 ∷ left) cut refl (first_cut-text bytes left inside ends) (omega arith)
+    ∙ ap (λ xs. put (record { piece = text bytes; room = length (34 ∷ (bytes ++ 34 ∷ left)) }) (lex xs)) rest

@@ -1,27 +1,31 @@
 -- What the lexer cuts is the longest token that stands there, and where it cuts nothing none does.
-use Rattle.std.proofs.Common.{◌≡◌, ℕ, ◌+◌, ◌<◌, ◌≤◌, Bool, true, false, cond, eqb, leb, List, [], ◌∷◌, ◌++◌, length, take, drop, Option, Some, None, refl, sym, ap, subst, ◌∙◌, arith, length-take}
+use Rattle.std.proofs.Common.{◌≡◌, ℕ, ◌+◌, ◌<◌, ◌≤◌, Bool, true, false, cond, eqb, leb, List, [], ◌∷◌, ◌++◌, length, take, drop, Option, Some, None, refl, sym, ap, subst, ◌∙◌, suc, append_assoc, length-append, arith, length-take}
 use Rattle.std.specs.Prelude.{⊤}
 use Rattle.std.proofs.lemmas.Bool.{and_parts, cond-true, cond-false, cond_both, eqb-true, leb-false, false≢true}
 use Rattle.std.proofs.lemmas.Bool.Decides.{nat_tests}
-use Rattle.std.proofs.lemmas.List.{append-nil, take-append-drop, take_at, drop_at}
+use Rattle.std.proofs.lemmas.List.{append-nil, take-append-drop, take_at, drop_at, length-take-le}
 use Rattle.std.proofs.lemmas.List.Folds.{length-prefix_len}
 use Rattle.std.specs.Char.{is_ascii_digit}
 use Rattle.std.specs.List.{prefix_len, list_all}
 use Rattle.script_text.specs.declared.TheConstants.{LONGEST_NAME}
 use Rattle.script_text.specs.declared.token.Symbol.{Symbol}
 use Rattle.script_text.specs.declared.token.Symbol.TheVariants.{Open, Close, Comma, Dot, Minus, Equal, NotEqual, Less, AtMost, Greater, AtLeast}
-use Rattle.script_text.specs.Lexing.{Cut, first_cut, name_cut, number_cut, symbol_cut, longest_symbol, begins_equal, short_symbol, long_symbol, begins_number}
+use Rattle.script_text.specs.Lexing.{Cut, first_cut, name_cut, number_cut, text_cut, symbol_cut, longest_symbol, begins_equal, short_symbol, long_symbol, begins_number}
 use Rattle.script_text.specs.Name.{starts_name, continues_name, is_name}
-use Rattle.script_text.specs.Token.{Piece, name, number, mark, symbol_text, spelling, is_number, IsPiece, IsShaped, IsToken}
+use Rattle.script_text.specs.Token.{Piece, name, number, mark, symbol_text, spelling, is_number, IsPiece, IsShaped, EndsBefore, IsToken}
 use Rattle.script_text.proofs.CutLemmas.{IsPiece-first_cut}
 use Rattle.script_text.proofs.RunLemmas.{is_name-cut}
-use Rattle.script_text.proofs.SpelledLemmas.{first_cut-name, first_cut-number, number-split}
-use Rattle.script_text.proofs.WordLemmas.{symbol-cut, same-piece}
+use Rattle.script_text.proofs.SpelledLemmas.{first_cut-name, first_cut-number, first_cut-text, number-split}
+use Rattle.script_text.proofs.SymbolLemmas.{symbol-cut, same-piece}
+use Rattle.script_text.proofs.TextRuns.{text-cut, text-least}
+use Rattle.script_text.specs.Token as piece
+use Rattle.script_text.specs.Text.{IsInside, begins_quote, text_run}
 
 -- a piece of the language is of its shape
 pub shaped-piece : (p : Piece) → IsPiece p → IsShaped p
 shaped-piece (name bytes) h = h.spelled
 shaped-piece (number bytes) h = h
+shaped-piece (piece.text bytes) h = h
 shaped-piece (mark s) h = tt
 
 -- the text of a piece is cut as that piece
@@ -30,6 +34,7 @@ spelled-cut (name []) h = absurd (false≢true h.spelled)
 spelled-cut (name (b ∷ bytes)) h = (1 + length bytes, ap (λ xs. first_cut (b ∷ xs)) (sym (append-nil bytes)) ∙ first_cut-name b bytes [] h refl)
 spelled-cut (number []) h = absurd (false≢true h)
 spelled-cut (number (b ∷ bytes)) h = (1 + length bytes, ap (λ xs. first_cut (b ∷ xs)) (sym (append-nil bytes)) ∙ first_cut-number b bytes [] h refl)
+spelled-cut (piece.text bytes) h = (length bytes + 2, first_cut-text bytes [] h refl)
 spelled-cut (mark s) h = symbol-cut s
 
 -- pieces of one text are the same
@@ -59,6 +64,7 @@ spelled-some (name []) h = absurd (false≢true h)
 spelled-some (name (b ∷ bytes)) h = omega arith
 spelled-some (number []) h = absurd (false≢true h)
 spelled-some (number (b ∷ bytes)) h = omega arith
+spelled-some (piece.text bytes) h = omega arith
 spelled-some (mark s) h = symbol-some s
 
 -- a run is no longer than the bytes
@@ -100,6 +106,10 @@ short-text b s =
 long-text : (b : ℕ) (s : Symbol) → long_symbol b ≡ Some s → symbol_text s ≡ b ∷ 61 ∷ []
 long-text b s = found-symbol b 33 (61 ∷ []) NotEqual s _ refl (found-symbol b 60 (61 ∷ []) AtMost s _ refl (found-symbol b 62 (61 ∷ []) AtLeast s _ refl (λ e. absurd cc)))
 
+-- a list and one more, and others
+append-one : (xs ys : List ℕ) → xs ++ 34 ∷ ys ≡ (xs ++ 34 ∷ []) ++ ys
+append-one xs ys = sym (append_assoc xs (34 ∷ []) ys)
+
 -- a symbol of one byte at the front
 short-at : (b : ℕ) (bytes : List ℕ) (o : Option Symbol) → short_symbol b ≡ o → IsTextAt (b ∷ bytes) (symbol_cut 1 o)
 short-at b bytes None e = tt
@@ -115,16 +125,30 @@ symbol-text : (b : ℕ) (bytes : List ℕ) (o : Option Symbol) → long_symbol b
 symbol-text b bytes None e = short-at b bytes (short_symbol b) refl
 symbol-text b bytes (Some s) e = cond_both (begins_equal bytes) _ _ (IsTextAt (b ∷ bytes)) (λ h. long-at b bytes s e h) (λ h. short-at b bytes (short_symbol b) refl)
 
+-- a text's quotes and what they hold stand at the front
+text-at : (b : ℕ) (bytes : List ℕ) → b ≡ 34 → IsTextAt (b ∷ bytes) (text_cut (text_run bytes) bytes)
+text-at b bytes e =
+    let n = text_run bytes in
+    cond_both (begins_quote (drop n bytes)) _ _ (IsTextAt (b ∷ bytes))
+    (λ q.
+    let cut = text-cut bytes q in
+    let more : n + 2 ≡ suc (n + 1) = omega arith in
+    let len : length (take n bytes) ≡ n = length-take-le n bytes (omega (arith, cut.within)) in
+    let front : take (n + 1) bytes ≡ take n bytes ++ 34 ∷ [] =
+    ap (take (n + 1)) (cut.whole ∙ append-one (take n bytes) cut.left) ∙ take_at (take n bytes ++ 34 ∷ []) cut.left (n + 1) (omega (arith, length-append (take n bytes) (34 ∷ []), len)) in
+    (rw more (λ i. sym e i ∷ sym front i), omega (arith, cut.within)))
+    (λ q. tt)
+
 -- a cut's text stands at the front
-first_cut-text : (bytes : List ℕ) → IsTextAt bytes (first_cut bytes)
-first_cut-text [] = tt
-first_cut-text (b ∷ bytes) =
+first_cut-front : (bytes : List ℕ) → IsTextAt bytes (first_cut bytes)
+first_cut-front [] = tt
+first_cut-front (b ∷ bytes) =
     let names = run-within continues_name bytes in
     let digits = run-within is_ascii_digit bytes in
     cond_both (starts_name b) _ _ (IsTextAt (b ∷ bytes))
     (λ h. cond_both (leb (1 + prefix_len continues_name bytes) LONGEST_NAME) _ _ (IsTextAt (b ∷ bytes)) (λ s. (refl, omega arith)) (λ s. tt))
     (λ h. cond_both (begins_number b (prefix_len is_ascii_digit bytes)) _ _ (IsTextAt (b ∷ bytes)) (λ d. (refl, omega arith))
-    (λ d. symbol-text b bytes (long_symbol b) refl))
+    (λ d. cond_both (eqb b 34) _ _ (IsTextAt (b ∷ bytes)) (λ q. text-at b bytes (eqb-true b 34 q)) (λ q. symbol-text b bytes (long_symbol b) refl)))
 
 -- the symbol that is cut is no shorter than one that stands there
 abbrev Reaches : ℕ → Option Cut → Type 0
@@ -163,6 +187,21 @@ number-front (b ∷ bytes) left h =
     cond-false (starts_name b) _ _ split.no_name ∙ cond-true (begins_number b (prefix_len is_ascii_digit (bytes ++ left))) _ _ (begins-more b (length bytes) _ split.begins run) in
     let reach : Reaches (length (b ∷ bytes)) (number_cut (1 + prefix_len is_ascii_digit (bytes ++ left)) (b ∷ (bytes ++ left))) = omega (arith, run) in
     subst (Reaches (length (b ∷ bytes))) (sym same) reach
+
+-- the text that is cut where this one stands
+text-reaches : (n : ℕ) (bytes rest : List ℕ) (c : Cut) → n ≤ text_run rest → text_cut (text_run rest) rest ≡ Some c → n + 2 ≤ c.len
+text-reaches n bytes rest c le e =
+    let d : Cut = record { piece = piece.text (take (text_run rest) rest); len = text_run rest + 2 } in
+    let go : (t : Bool) → cond t (Some d) None ≡ Some c → n + 2 ≤ c.len =
+    elim [
+      | true ↦ λ e. let same : d ≡ c = cc in let len : text_run rest + 2 ≡ c.len = ap (λ c. c.len) same in omega (arith, le, len)
+      | false ↦ λ e. absurd cc
+    ] in
+    go (begins_quote (drop (text_run rest) rest)) e
+
+-- bytes of a text, its quote and others
+regroup-text : (bytes left : List ℕ) → (34 ∷ bytes ++ 34 ∷ []) ++ left ≡ 34 ∷ (bytes ++ 34 ∷ left)
+regroup-text bytes left = ap (λ xs. 34 ∷ xs) (append_assoc bytes (34 ∷ []) left)
 
 -- the run of bytes where a name stands, which is cut where it isn't too long
 record IsNameRun (text left : List ℕ) : Type 0 where
@@ -211,20 +250,68 @@ name_cut-none n bytes e =
 first_cut-longest : (bytes : List ℕ) (c : Cut) → first_cut bytes ≡ Some c → (p : Piece) (left : List ℕ) → IsShaped p → bytes ≡ spelling p ++ left → length (spelling p) ≤ c.len
 first_cut-longest bytes c e (mark s) left h split = subst (Reaches (length (symbol_text s))) (ap first_cut (sym split) ∙ e) (symbol-front s left)
 first_cut-longest bytes c e (number text) left h split = subst (Reaches (length text)) (ap first_cut (sym split) ∙ e) (number-front text left h)
+first_cut-longest bytes c e (piece.text inside) left h split =
+    let least = text-least inside (34 ∷ left) h in
+    let cut : text_cut (text_run (inside ++ 34 ∷ left)) (inside ++ 34 ∷ left) ≡ Some c = ap first_cut (sym (split ∙ regroup-text inside left)) ∙ e in
+    let reach = text-reaches (length inside) inside (inside ++ 34 ∷ left) c (omega (arith, least)) cut in
+    omega (arith, reach, length-append inside (34 ∷ []))
 first_cut-longest bytes c e (name text) left h split =
     let front = name-front text left h in
     let len : c.len ≡ front.run = name_cut-some front.run (text ++ left) c (sym front.cut ∙ ap first_cut (sym split) ∙ e) in
     omega (arith, front.reaches, len)
 
+-- nothing is not something
+none-some : (o : Option Cut) (c : Cut) → o ≡ None → o ≡ Some c → ⊥
+none-some o c e f = let g : None ≡ Some c = sym e ∙ f in absurd cc
+
 -- where nothing is cut no token stands
 pub first_cut-fault : (bytes : List ℕ) → first_cut bytes ≡ None → (p : Piece) (after : List ℕ) → ¬ IsToken bytes p after
 first_cut-fault bytes e (mark s) after token = subst (Reaches (length (symbol_text s))) (ap first_cut (sym token.split) ∙ e) (symbol-front s after)
 first_cut-fault bytes e (number text) after token = subst (Reaches (length text)) (ap first_cut (sym token.split) ∙ e) (number-front text after token.shape)
+first_cut-fault bytes e (piece.text inside) after token =
+    absurd (none-some (first_cut bytes) (record { piece = piece.text inside; len = length inside + 2 }) e
+    (ap first_cut (token.split ∙ regroup-text inside after) ∙ first_cut-text inside after token.shape token.closed))
 first_cut-fault bytes e (name text) after token =
     let front = name-front text after token.shape.spelled in
     let long = name_cut-none front.run (text ++ after) (sym front.cut ∙ ap first_cut (sym token.split) ∙ e) in
     let most = token.longest (name (take front.run (text ++ after))) (drop front.run (text ++ after)) front.name (token.split ∙ sym (take-append-drop front.run (text ++ after))) in
     absurd (omega (arith, long, most, front.within, token.shape.short, length-take front.run (text ++ after)))
+
+-- a text that is cut is followed by no quote
+abbrev IsClosed : List ℕ → Option Cut → Type 0
+IsClosed bytes None = ⊤
+IsClosed bytes (Some c) = EndsBefore c.piece (drop c.len bytes)
+
+-- so it is with symbols
+symbol-closed : (n : ℕ) (o : Option Symbol) (bytes : List ℕ) → IsClosed bytes (symbol_cut n o)
+symbol-closed n None bytes = tt
+symbol-closed n (Some s) bytes = tt
+
+longest-closed : (o : Option Symbol) (b : ℕ) (bytes : List ℕ) → IsClosed (b ∷ bytes) (longest_symbol o b bytes)
+longest-closed None b bytes = symbol-closed 1 (short_symbol b) (b ∷ bytes)
+longest-closed (Some s) b bytes = cond_both (begins_equal bytes) _ _ (IsClosed (b ∷ bytes)) (λ h. tt) (λ h. symbol-closed 1 (short_symbol b) (b ∷ bytes))
+
+-- with texts
+text-closed : (b : ℕ) (bytes : List ℕ) → IsClosed (b ∷ bytes) (text_cut (text_run bytes) bytes)
+text-closed b bytes =
+    cond_both (begins_quote (drop (text_run bytes) bytes)) _ _ (IsClosed (b ∷ bytes))
+    (λ q.
+    let cut = text-cut bytes q in
+    let more : text_run bytes + 2 ≡ suc (text_run bytes + 1) = omega arith in
+    rw more (ap begins_quote cut.rest ∙ cut.single))
+    (λ q. tt)
+
+-- and with all cuts
+cuts-closed : (bytes : List ℕ) → IsClosed bytes (first_cut bytes)
+cuts-closed [] = tt
+cuts-closed (b ∷ bytes) =
+    cond_both (starts_name b) _ _ (IsClosed (b ∷ bytes))
+    (λ h. cond_both (leb (1 + prefix_len continues_name bytes) LONGEST_NAME) _ _ (IsClosed (b ∷ bytes)) (λ s. tt) (λ s. tt))
+    (λ h. cond_both (begins_number b (prefix_len is_ascii_digit bytes)) _ _ (IsClosed (b ∷ bytes)) (λ d. tt)
+    (λ d. cond_both (eqb b 34) _ _ (IsClosed (b ∷ bytes)) (λ q. text-closed b bytes) (λ q. longest-closed (long_symbol b) b bytes)))
+
+first_cut-closed : (bytes : List ℕ) (c : Cut) → first_cut bytes ≡ Some c → EndsBefore c.piece (drop c.len bytes)
+first_cut-closed bytes c e = subst (IsClosed bytes) e (cuts-closed bytes)
 
 -- a cut is the token that stands at the front
 pub record IsCutToken (bytes : List ℕ) (c : Cut) : Type 0 where
@@ -236,7 +323,7 @@ pub record IsCutToken (bytes : List ℕ) (c : Cut) : Type 0 where
 -- what is cut is the token that stands there
 pub first_cut-token : (bytes : List ℕ) (c : Cut) → first_cut bytes ≡ Some c → IsCutToken bytes c
 first_cut-token bytes c e =
-    let text = subst (IsTextAt bytes) e (first_cut-text bytes) in
+    let text = subst (IsTextAt bytes) e (first_cut-front bytes) in
     let shape = IsPiece-first_cut bytes c e in
     let len : c.len ≡ length (spelling c.piece) = sym (ap length text.0 ∙ omega (arith, length-take c.len bytes, text.1)) in
     let some = spelled-some c.piece (shaped-piece c.piece shape) in
@@ -244,6 +331,7 @@ first_cut-token bytes c e =
       token = record {
         shape = shape;
         split = sym (ap (λ xs. xs ++ drop c.len bytes) text.0 ∙ take-append-drop c.len bytes);
+        closed = first_cut-closed bytes c e;
         longest = λ p left h split. subst (λ n. length (spelling p) ≤ n) len (first_cut-longest bytes c e p left h split);
       };
       len = len;

@@ -1,5 +1,5 @@
 -- How a line falls into pieces, from the left, each as long as can be.
-use Rattle.std.specs.Prelude.{◌≡◌, ℕ, zero, suc, ◌+◌, ◌-◌, ◌<◌, Bool, false, ◌&&◌, ◌||◌, ◌==◌, cond, nat_lt, nat_le, List, [], ◌∷◌, length, take, Option, Some, None}
+use Rattle.std.specs.Prelude.{◌≡◌, ℕ, zero, suc, ◌+◌, ◌-◌, ◌<◌, Bool, false, ◌&&◌, ◌||◌, ◌==◌, cond, nat_lt, nat_le, List, [], ◌∷◌, length, take, drop, Option, Some, None}
 use Rattle.std.specs.Char.{is_ascii_digit}
 use Rattle.std.specs.List.{prefix_len}
 use Rattle.script_text.specs.declared.TheConstants.{LONGEST_NAME}
@@ -8,7 +8,8 @@ use Rattle.script_text.specs.declared.token.Symbol.{Symbol}
 use Rattle.script_text.specs.declared.token.Symbol.TheVariants.{Open, Close, Comma, Dot, Minus, Equal, NotEqual, Less, AtMost, Greater, AtLeast}
 use Rattle.script_text.specs.Lexical.{Placed, is_blank, skip_blanks}
 use Rattle.script_text.specs.Name.{starts_name, continues_name}
-use Rattle.script_text.specs.Token.{Piece, name, number, mark, piece_of, IsPiece}
+use Rattle.script_text.specs.Token.{Piece, name, number, text, mark, piece_of, IsPiece}
+use Rattle.script_text.specs.Text.{begins_quote, text_run}
 
 -- the symbol of one byte
 abbrev pub short_symbol : ℕ → Option Symbol
@@ -59,13 +60,17 @@ number_cut n bytes = Some (record { piece = number (take n bytes); len = n })
 abbrev pub begins_number : ℕ → ℕ → Bool
 begins_number b digits = is_ascii_digit b || (b == 45) && nat_lt 0 digits
 
+-- the text whose characters take so many bytes after its first quote, where a quote closes it
+abbrev pub text_cut : ℕ → List ℕ → Option Cut
+text_cut n bytes = cond (begins_quote (drop n bytes)) (Some (record { piece = text (take n bytes); len = n + 2 })) None
+
 -- the longest piece at the front of the bytes; none where no piece begins there, or a name there is too long
 abbrev pub first_cut : List ℕ → Option Cut
 first_cut [] = None
 first_cut (b ∷ bytes) =
     cond (starts_name b) (name_cut (1 + prefix_len continues_name bytes) (b ∷ bytes))
     (cond (begins_number b (prefix_len is_ascii_digit bytes)) (number_cut (1 + prefix_len is_ascii_digit bytes) (b ∷ bytes))
-    (symbol_at b bytes))
+    (cond (b == 34) (text_cut (text_run bytes) bytes) (symbol_at b bytes)))
 
 -- the pieces of some bytes, and what is left after them and the blanks
 pub record Lexed : Type 0 where
@@ -112,3 +117,9 @@ pub record IsNext (bytes : List ℕ) (piece : Piece) (after : List ℕ) : Type 0
 pub record IsLast (bytes : List ℕ) : Type 0 where
   pub place : pieces bytes ≡ []
   pub rest : unread bytes ≡ skip_blanks bytes
+
+-- How many bytes there are from the fault on of bytes at which no piece begins: all, or, where they begin with a quote,
+-- those after the characters of a text that is not closed.
+abbrev pub fault_room : List ℕ → ℕ
+fault_room [] = 0
+fault_room (b ∷ bytes) = cond (b == 34) (length bytes - text_run bytes) (length (b ∷ bytes))

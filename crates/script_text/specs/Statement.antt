@@ -1,55 +1,36 @@
--- Statements: which are in range, and their one printed form.
-use Rattle.std.specs.Prelude.{ℕ, ◌≤◌, List, ◌++◌, codes}
-use Rattle.std.specs.Fmt.{decimal}
-use Rattle.sand_base.specs.declared.point.Point.{Point}
-use Rattle.script_text.specs.declared.shape.Shape.{Shape}
-use Rattle.script_text.specs.declared.shape.Shape.TheVariants as shape
-use Rattle.script_text.specs.Shape.{IsShapeInPlane}
-use Rattle.script_text.specs.declared.TheConstants.{MOST_ROWS}
-use Rattle.script_text.specs.declared.statement.Column.{Column}
-use Rattle.script_text.specs.declared.statement.Plan.{Plan}
-use Rattle.script_text.specs.declared.statement.Plan.TheVariants.{Rank}
-use Rattle.script_text.specs.declared.statement.Statement.{Statement}
-use Rattle.script_text.specs.declared.statement.Statement.TheVariants.{Create, Insert, Index, Show}
-use Rattle.script_text.specs.KindWord.{kind_word}
-use Rattle.script_text.specs.Name.{IsName}
+-- Statements with their plans as trees: what contracts see of a statement.
+use Rattle.std.specs.Prelude.{ℕ, Bool, List, Option}
+use Rattle.sand_base.specs.declared.kind.Kind.{Kind}
+use Rattle.sand_base.specs.declared.value.Value.{Value}
+use Rattle.script_text.specs.declared.column.Column.{Column}
+use Rattle.script_text.specs.declared.statement.Statement as declared
+use Rattle.script_text.specs.declared.statement.Statement.TheVariants as statement
+use Rattle.script_text.specs.Plan.{PlanValue, plan_value}
 
--- both names of the column are names
-abbrev pub IsColumnInRange : Column → Type 0
-IsColumnInRange c = IsName c.relation × IsName c.column
+-- a statement, with the fields of the code's in their order
+pub data StatementValue : Type 0 where
+  Create : List ℕ → List (List ℕ × Kind) → StatementValue
+  Insert : List ℕ → List Value → StatementValue
+  Delete : List ℕ → ℕ → StatementValue
+  Load : List ℕ → List ℕ → Bool → StatementValue
+  Index : Column → Option ℕ → StatementValue
+  OpenCursor : List ℕ → PlanValue → StatementValue
+  Next : List ℕ → ℕ → StatementValue
+  CloseCursor : List ℕ → StatementValue
+  Show : ℕ → PlanValue → StatementValue
+  Stats : List ℕ → StatementValue
+  Blocks : Column → StatementValue
 
--- a plan that the language can write
-abbrev pub IsPlanInRange : Plan → Type 0
-IsPlanInRange (Rank column goal) = IsColumnInRange column × IsShapeInPlane goal
-
--- a statement that the language can write
-abbrev pub IsInRange : Statement → Type 0
-IsInRange (Create relation column kind) = IsName relation × IsName column
-IsInRange (Insert relation value) = IsName relation × IsShapeInPlane value
-IsInRange (Index column) = IsColumnInRange column
-IsInRange (Show count plan) = (1 ≤ count) × (count ≤ MOST_ROWS) × IsPlanInRange plan
-
--- `(x y)`
-abbrev pub spot_text : Point → List ℕ
-spot_text p = codes "(" ++ decimal p.x ++ codes " " ++ decimal p.y ++ codes ")"
-
--- a shape as it is written
-abbrev pub shape_text : Shape → List ℕ
-shape_text (shape.Point p) = spot_text p
-shape_text (shape.Segment s) = spot_text s.a ++ codes "-" ++ spot_text s.b
-
--- `relation.column`
-abbrev pub column_text : Column → List ℕ
-column_text c = c.relation ++ codes "." ++ c.column
-
--- a plan as it is written
-abbrev pub plan_text : Plan → List ℕ
-plan_text (Rank column goal) = codes "rank " ++ column_text column ++ codes " from " ++ shape_text goal
-
--- The printed form of a statement: its tokens with one space between two, but none after `(`, before `)`
--- and on either side of `.` and of the `-` of a segment, and numbers without leading zeros.
-abbrev pub printed : Statement → List ℕ
-printed (Create relation column kind) = codes "create " ++ relation ++ codes " (" ++ column ++ codes " " ++ kind_word kind ++ codes ")"
-printed (Insert relation value) = codes "insert " ++ relation ++ codes " " ++ shape_text value
-printed (Index column) = codes "index " ++ column_text column
-printed (Show count plan) = codes "show " ++ decimal count ++ codes " " ++ plan_text plan
+-- a statement with the tree of its plan
+abbrev pub statement_value : declared.Statement → StatementValue
+statement_value (statement.Create relation columns) = Create relation columns
+statement_value (statement.Insert relation values) = Insert relation values
+statement_value (statement.Delete relation id) = Delete relation id
+statement_value (statement.Load relation file header) = Load relation file header
+statement_value (statement.Index column threshold) = Index column threshold
+statement_value (statement.OpenCursor cursor plan) = OpenCursor cursor (plan_value plan)
+statement_value (statement.Next cursor count) = Next cursor count
+statement_value (statement.CloseCursor cursor) = CloseCursor cursor
+statement_value (statement.Show count plan) = Show count (plan_value plan)
+statement_value (statement.Stats cursor) = Stats cursor
+statement_value (statement.Blocks column) = Blocks column

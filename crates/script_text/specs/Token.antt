@@ -3,21 +3,24 @@ use Rattle.std.specs.Prelude.{◌≡◌, ℕ, ◌≤◌, Bool, true, false, ◌&
 use Rattle.std.specs.Char.{is_ascii_digit}
 use Rattle.std.specs.List.{list_all}
 use Rattle.script_text.specs.Name.{IsName, is_name}
+use Rattle.script_text.specs.Text.{IsInside, begins_quote}
 use Rattle.script_text.specs.declared.token.Symbol.{Symbol}
 use Rattle.script_text.specs.declared.token.Symbol.TheVariants as symbol
 use Rattle.script_text.specs.declared.token.Token.{Token}
 use Rattle.script_text.specs.declared.token.Token.TheVariants as read
 
--- a name, a number by its bytes, or a symbol
+-- a name, a number by its bytes, a text by the bytes between its quotes, or a symbol
 pub data Piece : Type 0 where
   name : List ℕ → Piece
   number : List ℕ → Piece
+  text : List ℕ → Piece
   mark : Symbol → Piece
 
 -- the piece that a token of the reader stands for
 abbrev pub piece_of : Token → Piece
-piece_of (read.Name text) = name text.now
-piece_of (read.Number text) = number text.now
+piece_of (read.Name bytes) = name bytes.now
+piece_of (read.Number bytes) = number bytes.now
+piece_of (read.Text bytes) = text bytes.now
 piece_of (read.Mark s) = mark s
 
 -- the bytes of a symbol
@@ -47,23 +50,32 @@ is_number (b ∷ bytes) = cond (b == 45) (is_digits bytes) (is_digits (b ∷ byt
 abbrev pub spelling : Piece → List ℕ
 spelling (name bytes) = bytes
 spelling (number bytes) = bytes
+spelling (text bytes) = 34 ∷ bytes ++ 34 ∷ []
 spelling (mark s) = symbol_text s
 
 -- the piece is one of the language: names and numbers are of their shape, and names not too long
 abbrev pub IsPiece : Piece → Type 0
 IsPiece (name bytes) = IsName bytes
 IsPiece (number bytes) = is_number bytes ≡ true
+IsPiece (text bytes) = IsInside bytes
 IsPiece (mark s) = Unit {0}
 
 -- the piece is of its shape; a name may have any length
 abbrev pub IsShaped : Piece → Type 0
 IsShaped (name bytes) = is_name bytes ≡ true
 IsShaped (number bytes) = is_number bytes ≡ true
+IsShaped (text bytes) = IsInside bytes
 IsShaped (mark s) = Unit {0}
 
+-- a text ends at a quote that no other one follows
+abbrev pub EndsBefore : Piece → List ℕ → Type 0
+EndsBefore (text bytes) after = begins_quote after ≡ false
+EndsBefore _ after = Unit {0}
+
 -- The piece is one of the language, the bytes are its spelling and then the others, and nothing longer that has the
--- shape of a piece stands at their front.
+-- shape of a piece stands at their front; the quote that closes a text is not doubled.
 pub record IsToken (bytes : List ℕ) (piece : Piece) (after : List ℕ) : Type 0 where
   pub shape : IsPiece piece
   pub split : bytes ≡ spelling piece ++ after
+  pub closed : EndsBefore piece after
   pub longest : (other : Piece) (left : List ℕ) → IsShaped other → bytes ≡ spelling other ++ left → length (spelling other) ≤ length (spelling piece)

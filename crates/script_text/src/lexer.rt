@@ -5,11 +5,13 @@ ghost use Rattle.std.specs.Char.{is_ascii_digit};
 ghost use Rattle.std.specs.List.{prefix_len};
 ghost use Rattle.script_text.specs.Lexical.{is_blank, skip_blanks};
 ghost use Rattle.script_text.specs.Name.{starts_name, continues_name};
-ghost use Rattle.script_text.specs.Lexing.{first_cut, cut_of, begins_number, short_symbol, long_symbol, symbol_at};
-ghost use Rattle.script_text.specs.Lexing.{unread, IsNext, IsLast};
+ghost use Rattle.script_text.specs.Lexing.{first_cut, cut_of, text_cut, begins_number, short_symbol, long_symbol, symbol_at};
+ghost use Rattle.script_text.specs.Lexing.{unread, fault_room, IsNext, IsLast};
 ghost use Rattle.script_text.specs.Token.{piece_of};
+ghost use Rattle.script_text.specs.Text.{text_run, begins_quote};
 
 use crate::LONGEST_NAME;
+use crate::text::text_run;
 use crate::token::{Symbol, Token};
 use std::str;
 
@@ -38,7 +40,7 @@ fn is_blank(b: u8) -> bool
     b == b' ' || b == b'\t'
 }
 
-/// How many blanks stand at the front.
+// How many blanks stand at the front.
 fn blank_run(bytes: &[u8]) -> usize
     ensures run { result ≡ prefix_len is_blank bytes.now }
     ensures bound { result ≤ length bytes.now }
@@ -54,7 +56,7 @@ pub fn skip_blanks(bytes: &[u8]) -> &[u8]
     bytes.split_at(blanks).1
 }
 
-/// How many bytes at the front go on a name.
+// How many bytes at the front go on a name.
 fn name_run(bytes: &[u8]) -> usize
     ensures run { result ≡ prefix_len continues_name bytes.now }
     ensures bound { result ≤ length bytes.now }
@@ -62,7 +64,7 @@ fn name_run(bytes: &[u8]) -> usize
     bytes.iter().take_while(|b| continues_name(**b)).count()
 }
 
-/// How many digits stand at the front.
+// How many digits stand at the front.
 fn digit_run(bytes: &[u8]) -> usize
     ensures run { result ≡ prefix_len is_ascii_digit bytes.now }
     ensures bound { result ≤ length bytes.now }
@@ -70,14 +72,14 @@ fn digit_run(bytes: &[u8]) -> usize
     bytes.iter().take_while(|b| b.is_ascii_digit()).count()
 }
 
-/// Whether the byte and so many digits after it are a number.
+// Whether the byte and so many digits after it are a number.
 fn begins_number(b: u8, digits: usize) -> bool
     ensures { result ≡ begins_number b digits }
 {
     b.is_ascii_digit() || b == b'-' && digits > 0
 }
 
-/// The symbol of one byte.
+// The symbol of one byte.
 fn short_symbol(b: u8) -> Option<Symbol>
     ensures { result ≡ short_symbol b }
 {
@@ -94,7 +96,7 @@ fn short_symbol(b: u8) -> Option<Symbol>
     }
 }
 
-/// The symbol of this byte and a `=` after it.
+// The symbol of this byte and a `=` after it.
 fn long_symbol(b: u8) -> Option<Symbol>
     ensures { result ≡ long_symbol b }
 {
@@ -106,7 +108,7 @@ fn long_symbol(b: u8) -> Option<Symbol>
     }
 }
 
-/// The longest symbol at the front of the byte and those after it.
+// The longest symbol at the front of the byte and those after it.
 fn symbol_cut(b: u8, after: &[u8]) -> Option<Cut<'_>>
     ensures cut { option_map cut_of result ≡ symbol_at b after.now }
     ensures within { IfSome result (λ c. (1 ≤ c.len) × (c.len ≤ 1 + length after.now)) }
@@ -127,7 +129,7 @@ fn symbol_cut(b: u8, after: &[u8]) -> Option<Cut<'_>>
 }
 
 /// The text of bytes below 128.
-fn text_of(bytes: &[u8]) -> &str
+pub fn text_of(bytes: &[u8]) -> &str
     requires { IsAscii bytes.now }
     ensures { result.now ≡ bytes.now }
 {
@@ -137,8 +139,24 @@ fn text_of(bytes: &[u8]) -> &str
     }
 }
 
-/// The longest token at the front of the bytes, which is no blank. None where no token begins there, or a name
-/// there is too long.
+// The text whose characters follow these bytes' first quote, which stands before them.
+fn text_cut(after: &[u8]) -> Option<Cut<'_>>
+    ensures cut { option_map cut_of result ≡ text_cut (text_run after.now) after.now }
+    ensures within { IfSome result (λ c. (1 ≤ c.len) × (c.len ≤ 1 + length after.now)) }
+{
+    let len = text_run(after);
+    let (inside, rest) = after.split_at(len);
+    let [b'"', ..] = rest else {
+        return None;
+    };
+    Some(Cut {
+        token: Token::Text(inside),
+        len: len + 2,
+    })
+}
+
+// The longest token at the front of the bytes, which is no blank. None where no token begins there, a name
+// there is too long, or a text is not closed.
 fn first_cut(bytes: &[u8]) -> Option<Cut<'_>>
     ensures cut { option_map cut_of result ≡ first_cut bytes.now }
     ensures within { IfSome result (λ c. (1 ≤ c.len) × (c.len ≤ length bytes.now)) }
@@ -165,6 +183,9 @@ fn first_cut(bytes: &[u8]) -> Option<Cut<'_>>
             len: 1 + digits,
         });
     }
+    if *b == b'"' {
+        return text_cut(after);
+    }
     symbol_cut(*b, after)
 }
 
@@ -189,4 +210,16 @@ pub fn unread(line: &[u8]) -> &[u8]
         rest = after;
     }
     skip_blanks(rest)
+}
+
+/// How many bytes there are from the fault on of bytes at which no token begins: all of them, or, where they begin with
+/// a quote, those after the characters of a text that is not closed.
+pub fn fault_room(bytes: &[u8]) -> usize
+    ensures room { result ≡ fault_room bytes.now }
+    ensures within { result ≤ length bytes.now }
+{
+    match bytes {
+        [b'"', after @ ..] => after.len() - text_run(after),
+        _ => bytes.len(),
+    }
 }

@@ -1,37 +1,62 @@
-//! The script language: statements as values, their printed form, and reading a line.
+//! The script language: statements and plans as values, reading a line, and printing a statement.
 //!
-//! A line is cut into tokens that borrow it, each the longest that stands there (`lexer`): once for the first byte
-//! at which none begins, and once for a cursor that takes them one by one (`cursor`) under the grammar, which has a
-//! method for each rule (`reader`). `parse_line` gives the statement, or the column of the first fault. Above:
-//! `session`, which carries statements out. Below: `sand_base`. Contracts see a statement as plain data, its names
-//! as lists of bytes; read `specs/Statement.antt` first, then `specs/Lexical.antt`, `specs/Grammar.antt` and
-//! `specs/Line.antt`. After P. M. Lewis and R. E. Stearns (1968), reading from the left with one token in hand.
+//! A line is cut into tokens that borrow it, each the longest that stands there (`lexer`, `text`): once for the first
+//! byte at which none begins, and once for a cursor that takes them one by one (`cursor`) under the grammar, which has a
+//! method for each rule (`reader`, `plan_reader`, `statement_reader`). `parse_line` gives the statement, or the column
+//! of the first fault. The grammar is said once, as data: forms typed by their value (`specs/Form.antt`,
+//! `specs/Rules.antt`), with one theorem over all forms that what is read is written and what is written is read, and
+//! that the reader is stuck at the first bad token. `print_statement` writes the tokens of a statement under one rule for
+//! the spaces between them (`printer`, `value_printer`, `plan_printer`, `print`), and `read_field` reads what a data file
+//! holds in one column (`field`). Above: `session`, which carries statements out. Below: `sand_base`.
+//! Contracts see a statement as a tree without pointers, its names as lists of bytes; read `specs/Plan.antt` and
+//! `specs/Statement.antt` first, then `specs/Lexical.antt`, `specs/Form.antt`, `specs/Rules.antt`, `specs/Line.antt`
+//! and `specs/Printing.antt`.
+//! After P. M. Lewis and R. E. Stearns (1968), reading from the left with one token in hand.
 #![tactic(auto)]
 
+mod column;
+mod copy;
 mod cursor;
-mod keyword;
-mod kinds;
+mod field;
 mod laws;
 mod lexer;
+mod lists;
 mod parse;
+mod plan;
+mod plan_printer;
+mod plan_reader;
 mod print;
+mod printer;
 mod reader;
-mod shape;
 mod statement;
+mod statement_reader;
 mod stuck;
+mod test;
+#[cfg(test)]
+mod tests;
+mod text;
 mod token;
+mod value_printer;
 
-pub use laws::{a_line_has_one_reading, printed_forms_are_read};
+pub use column::{Column, Place};
+pub use field::read_field;
+pub use laws::{a_line_has_one_reading, printed_statements_are_read_back, the_limits};
+pub use lists::{Places, Tests};
 pub use parse::{LineFault, parse_line};
+pub use plan::Plan;
 pub use print::print_statement;
-pub use shape::{Kind, Shape};
-pub use statement::{Column, Plan, Statement};
+use sand_base::COORDINATE_BITS;
+pub use statement::Statement;
+pub use test::{Op, Test};
 
 /// The longest name, in bytes.
 pub const LONGEST_NAME: usize = 32;
 
-/// The most rows that one `show` may ask for.
+/// The most rows that one statement may ask for.
 pub const MOST_ROWS: u32 = 1_000_000;
+
+/// The greatest distance that `within` may name: more than that between any two points of the plane.
+pub const MOST_WITHIN: u32 = (2 << COORDINATE_BITS) - 1;
 
 /// The longest line, in bytes.
 pub const LONGEST_LINE: usize = 8_192;

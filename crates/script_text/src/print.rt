@@ -1,117 +1,146 @@
 ghost use Rattle.std.specs.Prelude.{◌≡◌, IfOk};
-ghost use Rattle.script_text.specs.Statement.{printed};
+ghost use Rattle.script_text.specs.Page.{put_all};
+ghost use Rattle.script_text.specs.Plan.{plan_value};
+ghost use Rattle.script_text.specs.Printing.{printed, words};
+ghost use Rattle.script_text.specs.Statement.{statement_value, Create, Insert, Delete, Load, Index, OpenCursor, Next, Show};
 
-use crate::kinds::kind_word;
-use crate::shape::Shape;
+use crate::printer::Printer;
+use crate::token::Symbol;
 use crate::{Column, Plan, Statement};
-use sand_base::{NoMemory, Point};
+use sand_base::{Label, NoMemory, Row, Schema};
 use std::alloc::Global;
-use std::fmt;
 
-impl fmt::Display for Column {
-    ghost use Rattle.std.specs.Prelude.{Some};
-    ghost use Rattle.script_text.specs.Statement.{column_text};
-
-    ghost output = { λ column. Some (column_text column) };
-
-    fn fmt<W: fmt::Write>(&self, f: &mut fmt::Formatter<W>) -> fmt::Result {
-        let relation = self.relation.as_str();
-        let column = self.column.as_str();
-        write!(f, "{relation}.{column}")
+#[tactic(auto, using(crate::proofs::Pages::put_append), unfolding(crate::specs::Page::put_all))]
+impl Printer {
+    // Writes a `create`.
+    fn create(&mut self, relation: &Label, columns: &Schema) -> Result<(), NoMemory>
+        ensures { IfOk result (λ _. self.new ≡ put_all self.old (words (Create relation.now columns.now))) }
+    {
+        self.name("create")?;
+        self.name(relation.as_str())?;
+        self.mark(Symbol::Open)?;
+        self.fields(columns.columns())?;
+        self.mark(Symbol::Close)?;
+        Ok(())
     }
-}
 
-/// A point as the language writes it.
-#[derive(Drop)]
-struct Spot<'p>(&'p Point);
-
-impl<'p> fmt::Display for Spot<'p> {
-    ghost use Rattle.std.specs.Prelude.{Some};
-    ghost use Rattle.script_text.specs.Statement.{spot_text};
-
-    ghost output = { λ spot. Some (spot_text spot.0.now) };
-
-    fn fmt<W: fmt::Write>(&self, f: &mut fmt::Formatter<W>) -> fmt::Result {
-        let x = self.0.x;
-        let y = self.0.y;
-        write!(f, "({x} {y})")
+    // Writes an `insert`.
+    fn insert(&mut self, relation: &Label, values: &Row) -> Result<(), NoMemory>
+        ensures { IfOk result (λ _. self.new ≡ put_all self.old (words (Insert relation.now values.now))) }
+    {
+        self.name("insert")?;
+        self.name(relation.as_str())?;
+        self.values(values.values())?;
+        Ok(())
     }
-}
 
-/// A shape as the language writes it.
-#[derive(Drop)]
-struct Written<'s>(&'s Shape);
+    // Writes a `delete`.
+    fn delete(&mut self, relation: &Label, id: u32) -> Result<(), NoMemory>
+        ensures { IfOk result (λ _. self.new ≡ put_all self.old (words (Delete relation.now id))) }
+    {
+        self.name("delete")?;
+        self.name(relation.as_str())?;
+        self.natural(id)?;
+        Ok(())
+    }
 
-impl<'s> fmt::Display for Written<'s> {
-    ghost use Rattle.std.specs.Prelude.{Some};
-    ghost use Rattle.script_text.specs.Statement.{shape_text};
-
-    ghost output = { λ written. Some (shape_text written.0.now) };
-
-    fn fmt<W: fmt::Write>(&self, f: &mut fmt::Formatter<W>) -> fmt::Result {
-        match self.0 {
-            Shape::Point(at) => {
-                let at = Spot(at);
-                write!(f, "{at}")
-            }
-            Shape::Segment(way) => {
-                let a = Spot(&way.a);
-                let b = Spot(&way.b);
-                write!(f, "{a}-{b}")
-            }
+    // Writes a `load`.
+    fn load(&mut self, relation: &Label, file: &Label, header: bool) -> Result<(), NoMemory>
+        ensures { IfOk result (λ _. self.new ≡ put_all self.old (words (Load relation.now file.now header))) }
+    {
+        self.name("load")?;
+        self.name(relation.as_str())?;
+        self.text(file)?;
+        if header {
+            self.name("header")?;
         }
+        Ok(())
     }
-}
 
-impl fmt::Display for Plan {
-    ghost use Rattle.std.specs.Prelude.{Some};
-    ghost use Rattle.script_text.specs.Statement.{plan_text};
-
-    ghost output = { λ plan. Some (plan_text plan) };
-
-    fn fmt<W: fmt::Write>(&self, f: &mut fmt::Formatter<W>) -> fmt::Result {
-        match self {
-            Plan::Rank { column, goal } => {
-                let goal = Written(goal);
-                write!(f, "rank {column} from {goal}")
-            }
+    // Writes an `index`.
+    fn index(&mut self, column: &Column, threshold: Option<u8>) -> Result<(), NoMemory>
+        ensures { IfOk result (λ _. self.new ≡ put_all self.old (words (Index column.now threshold))) }
+    {
+        self.name("index")?;
+        self.column(column)?;
+        if let Some(threshold) = threshold {
+            self.natural(u32::from(threshold))?;
         }
+        Ok(())
     }
-}
 
-impl fmt::Display for Statement {
-    ghost use Rattle.std.specs.Prelude.{Some};
-    ghost use Rattle.script_text.specs.Statement.{printed};
+    // Writes an `open`.
+    fn open(&mut self, cursor: &Label, plan: &Plan) -> Result<(), NoMemory>
+        ensures { IfOk result (λ _. self.new ≡ put_all self.old (words (OpenCursor cursor.now (plan_value plan.now)))) }
+    {
+        self.name("open")?;
+        self.name(cursor.as_str())?;
+        self.mark(Symbol::Equal)?;
+        self.plan(plan)?;
+        Ok(())
+    }
 
-    ghost output = { λ statement. Some (printed statement) };
+    // Writes a `next`.
+    fn next(&mut self, cursor: &Label, count: u32) -> Result<(), NoMemory>
+        ensures { IfOk result (λ _. self.new ≡ put_all self.old (words (Next cursor.now count))) }
+    {
+        self.name("next")?;
+        self.name(cursor.as_str())?;
+        self.natural(count)?;
+        Ok(())
+    }
 
-    fn fmt<W: fmt::Write>(&self, f: &mut fmt::Formatter<W>) -> fmt::Result {
-        match self {
-            Statement::Create {
+    // Writes a `show`.
+    fn show(&mut self, count: u32, plan: &Plan) -> Result<(), NoMemory>
+        ensures { IfOk result (λ _. self.new ≡ put_all self.old (words (Show count (plan_value plan.now)))) }
+    {
+        self.name("show")?;
+        self.natural(count)?;
+        self.plan(plan)?;
+        Ok(())
+    }
+
+    // Writes a statement.
+    fn statement(&mut self, statement: &Statement) -> Result<(), NoMemory>
+        ensures { IfOk result (λ _. self.new ≡ put_all self.old (words (statement_value statement.now))) }
+    {
+        match statement {
+            Statement::Create { relation, columns } => self.create(relation, columns)?,
+            Statement::Insert { relation, values } => self.insert(relation, values)?,
+            Statement::Delete { relation, id } => self.delete(relation, *id)?,
+            Statement::Load {
                 relation,
-                column,
-                kind,
-            } => {
-                let relation = relation.as_str();
-                let column = column.as_str();
-                let kind = kind_word(*kind);
-                write!(f, "create {relation} ({column} {kind})")
+                file,
+                header,
+            } => self.load(relation, file, *header)?,
+            Statement::Index { column, threshold } => self.index(column, *threshold)?,
+            Statement::OpenCursor { cursor, plan } => self.open(cursor, plan)?,
+            Statement::Next { cursor, count } => self.next(cursor, *count)?,
+            Statement::CloseCursor { cursor } => {
+                self.name("close")?;
+                self.name(cursor.as_str())?;
             }
-            Statement::Insert { relation, value } => {
-                let relation = relation.as_str();
-                let value = Written(value);
-                write!(f, "insert {relation} {value}")
+            Statement::Show { count, plan } => self.show(*count, plan)?,
+            Statement::Stats { cursor } => {
+                self.name("stats")?;
+                self.name(cursor.as_str())?;
             }
-            Statement::Index { column } => write!(f, "index {column}"),
-            Statement::Show { count, plan } => write!(f, "show {count} {plan}"),
+            Statement::Blocks { column } => {
+                self.name("blocks")?;
+                self.column(column)?;
+            }
         }
+        Ok(())
     }
 }
 
-/// The printed form of a statement, without a line feed.
+/// The printed form of a statement: its tokens, with one space between two of them but beside brackets, commas, dots and
+/// the minus of a segment.
+#[tactic(auto, using(crate::proofs::Pages::print_all))]
 pub fn print_statement(alloc: Global, statement: &Statement) -> Result<Vec<u8>, NoMemory>
-    ensures { IfOk result (λ bytes. bytes.items ≡ printed statement.now) }
+    ensures { IfOk result (λ text. text.items ≡ printed (statement_value statement.now)) }
 {
-    let text = statement.to_string(alloc)?;
-    Ok(text.into_bytes())
+    let mut printer = Printer::new(alloc);
+    printer.statement(statement)?;
+    Ok(printer.into_bytes())
 }

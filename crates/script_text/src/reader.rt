@@ -1,19 +1,41 @@
-ghost use Rattle.script_text.specs.Reading.{Gives, column_in, coordinate_in, create_in, index_in, insert_in, plan_in};
-ghost use Rattle.script_text.specs.Reading.{rest_in, shape_in, show_in, spot_in, statement_in, whole_in};
+ghost use Rattle.std.specs.Prelude.{◌≡◌, ◌<◌, IfOk, codes, length};
+ghost use Rattle.script_text.specs.declared.token.Symbol.TheVariants.{Comma, Open};
+ghost use Rattle.script_text.specs.Grammar.{reading, whole};
+ghost use Rattle.script_text.specs.Reading.{Gives, GivesAs};
+ghost use Rattle.script_text.specs.Rules.{after_sign, after_word, column_form, columns_form, coordinate_form, corner_form};
+ghost use Rattle.script_text.specs.Rules.{field_form, kind_form, op_form, place_form, places_form, plain_form, rect_form};
+ghost use Rattle.script_text.specs.Rules.{shape_form, spatial_form, spot_form, spots_form, test_form, tests_form, value_form, values_form};
+ghost use Rattle.script_text.specs.Rules.{is_ordered, is_ring, point_or_segment_form, polygon, polygon_form, way_form, within_form};
 
 use crate::cursor::Cursor;
-use crate::keyword::Keyword;
-use crate::shape::Shape;
 use crate::stuck::Stuck;
 use crate::token::Symbol;
-use crate::{Column, MOST_ROWS, Plan, Statement};
-use sand_base::{COORDINATE_BITS, Point, Segment};
+use crate::{Column, MOST_WITHIN, Op, Place, Test};
+use sand_base::{COORDINATE_BITS, Kind, Label, Point, Rect, Ring, Segment, Shape, Value};
 use std::alloc::Global;
+
+// Whether the low corner is at most the high one.
+fn is_ordered(window: &Rect) -> bool
+    ensures { result ≡ is_ordered window.now }
+{
+    window.low.x <= window.high.x && window.low.y <= window.high.y
+}
+
+// The polygon with this border, and whether it can be one; else a point stands for it.
+fn polygon(corners: Vec<Point>) -> (Shape, bool)
+    ensures shape { result.0 ≡ polygon corners.items }
+    ensures can { result.1 ≡ is_ring corners.items }
+{
+    match Ring::new(corners) {
+        Ok(ring) => (Shape::Polygon(ring), true),
+        Err(_) => (Shape::Point(Point { x: 0, y: 0 }), false),
+    }
+}
 
 impl<'t> Cursor<'t> {
     /// Reads `relation.column`.
-    fn column(&mut self, alloc: Global) -> Result<Column, Stuck>
-        ensures { Gives column_in self.old self.new result }
+    pub fn column(&mut self, alloc: Global) -> Result<Column, Stuck>
+        ensures { Gives (reading column_form) self.old self.new result }
     {
         let relation = self.name(alloc)?;
         self.mark(Symbol::Dot)?;
@@ -21,16 +43,27 @@ impl<'t> Cursor<'t> {
         Ok(Column { relation, column })
     }
 
-    /// Reads a coordinate.
+    /// Reads `k.column`.
+    pub fn place(&mut self, alloc: Global) -> Result<Place, Stuck>
+        ensures { Gives (reading place_form) self.old self.new result }
+    {
+        let k = self.natural(1, 255)?;
+        self.mark(Symbol::Dot)?;
+        let column = self.name(alloc)?;
+        Ok(Place { k, column })
+    }
+
+    // Reads a coordinate.
     fn coordinate(&mut self) -> Result<u32, Stuck>
-        ensures { Gives coordinate_in self.old self.new result }
+        ensures { Gives (reading coordinate_form) self.old self.new result }
     {
         self.natural(0, (1 << COORDINATE_BITS) - 1)
     }
 
-    /// Reads `(x y)`.
+    // Reads `(x y)`.
     fn spot(&mut self) -> Result<Point, Stuck>
-        ensures { Gives spot_in self.old self.new result }
+        ensures gives { Gives (reading spot_form) self.old self.new result }
+        ensures falls { IfOk result (λ _. length self.new.left < length self.old.left) }
     {
         self.mark(Symbol::Open)?;
         let x = self.coordinate()?;
@@ -39,97 +72,302 @@ impl<'t> Cursor<'t> {
         Ok(Point { x, y })
     }
 
-    /// Reads a shape: a spot, or two with a `-` between them.
-    fn shape(&mut self) -> Result<Shape, Stuck>
-        ensures { Gives shape_in self.old self.new result }
+    // Reads what may follow a spot: a minus and another one.
+    fn way(&mut self) -> Result<Option<Point>, Stuck>
+        ensures { Gives (reading way_form) self.old self.new result }
     {
-        let a = self.spot()?;
-        if !self.takes(Symbol::Minus) {
-            return Ok(Shape::Point(a));
+        if !self.is_mark(Symbol::Minus) {
+            return Ok(None);
         }
+        self.mark(Symbol::Minus)?;
         let b = self.spot()?;
-        Ok(Shape::Segment(Segment { a, b }))
+        Ok(Some(b))
     }
 
-    /// Reads a plan.
-    fn plan(&mut self, alloc: Global) -> Result<Plan, Stuck>
-        ensures { Gives plan_in self.old self.new result }
+    // Reads the spots of a polygon.
+    #[tactic(auto, using(crate::proofs::ListReading::spots_end, crate::proofs::ListReading::spots_step, crate::proofs::ListReading::spots_stuck))]
+    fn spots(&mut self, alloc: Global) -> Result<Vec<Point>, Stuck>
+        ensures { GivesAs (λ list. list.items) (reading spots_form) self.old self.new result }
     {
-        self.word("rank")?;
-        let column = self.column(alloc)?;
-        self.word("from")?;
-        let goal = self.shape()?;
-        Ok(Plan::Rank { column, goal })
+        let mut items = Vec::new(alloc);
+        items.push(self.spot()?)?;
+        'spots: while self.is_mark(Symbol::Open) {
+            items.push(self.spot()?)?;
+        }
+        Ok(items)
     }
 
-    /// Reads what follows `create`.
-    fn create(&mut self, alloc: Global) -> Result<Statement, Stuck>
-        ensures { Gives create_in self.old self.new result }
+    // Reads a point or a segment, after its first bracket.
+    fn point_or_segment(&mut self) -> Result<Shape, Stuck>
+        ensures { Gives (reading point_or_segment_form) self.old self.new result }
     {
-        let relation = self.name(alloc)?;
-        self.mark(Symbol::Open)?;
-        let column = self.name(alloc)?;
-        let kind = self.kind()?;
+        let x = self.coordinate()?;
+        let y = self.coordinate()?;
         self.mark(Symbol::Close)?;
-        Ok(Statement::Create {
-            relation,
-            column,
-            kind,
-        })
-    }
-
-    /// Reads what follows `insert`.
-    fn insert(&mut self, alloc: Global) -> Result<Statement, Stuck>
-        ensures { Gives insert_in self.old self.new result }
-    {
-        let relation = self.name(alloc)?;
-        let value = self.shape()?;
-        Ok(Statement::Insert { relation, value })
-    }
-
-    /// Reads what follows `index`.
-    fn index(&mut self, alloc: Global) -> Result<Statement, Stuck>
-        ensures { Gives index_in self.old self.new result }
-    {
-        let column = self.column(alloc)?;
-        Ok(Statement::Index { column })
-    }
-
-    /// Reads what follows `show`.
-    fn show(&mut self, alloc: Global) -> Result<Statement, Stuck>
-        ensures { Gives show_in self.old self.new result }
-    {
-        let count = self.natural(1, MOST_ROWS)?;
-        let plan = self.plan(alloc)?;
-        Ok(Statement::Show { count, plan })
-    }
-
-    /// Reads what follows a keyword.
-    fn rest(&mut self, alloc: Global, keyword: Keyword) -> Result<Statement, Stuck>
-        ensures { Gives (rest_in keyword) self.old self.new result }
-    {
-        match keyword {
-            Keyword::Create => self.create(alloc),
-            Keyword::Insert => self.insert(alloc),
-            Keyword::Index => self.index(alloc),
-            Keyword::Show => self.show(alloc),
+        match self.way()? {
+            None => Ok(Shape::Point(Point { x, y })),
+            Some(b) => Ok(Shape::Segment(Segment {
+                a: Point { x, y },
+                b,
+            })),
         }
     }
 
-    /// Reads a statement.
-    fn statement(&mut self, alloc: Global) -> Result<Statement, Stuck>
-        ensures { Gives statement_in self.old self.new result }
+    // Reads a polygon, after its first bracket.
+    fn polygon(&mut self, alloc: Global) -> Result<Shape, Stuck>
+        ensures { Gives (reading polygon_form) self.old self.new result }
     {
-        let keyword = self.keyword()?;
-        self.rest(alloc, keyword)
+        let corners = self.spots(alloc)?;
+        let (shape, is_ring) = polygon(corners);
+        self.note(is_ring);
+        self.mark(Symbol::Close)?;
+        Ok(shape)
     }
 
-    /// Reads a statement, which is all that is left.
-    pub fn whole(&mut self, alloc: Global) -> Result<Statement, Stuck>
-        ensures { Gives whole_in self.old self.new result }
+    /// Reads a shape.
+    pub fn shape(&mut self, alloc: Global) -> Result<Shape, Stuck>
+        ensures { Gives (reading shape_form) self.old self.new result }
     {
-        let statement = self.statement(alloc)?;
+        self.mark(Symbol::Open)?;
+        if self.is_number() {
+            return self.point_or_segment();
+        }
+        self.polygon(alloc)
+    }
+
+    /// Reads a shape, which is all that is left.
+    #[tactic(auto, unfolding(crate::specs::Grammar::whole))]
+    pub fn whole_shape(&mut self, alloc: Global) -> Result<Shape, Stuck>
+        ensures { Gives (whole shape_form) self.old self.new result }
+    {
+        let shape = self.shape(alloc)?;
         self.end()?;
-        Ok(statement)
+        Ok(shape)
+    }
+
+    /// Reads an int or a text.
+    pub fn plain(&mut self, alloc: Global) -> Result<Value, Stuck>
+        ensures { Gives (reading plain_form) self.old self.new result }
+    {
+        if self.is_number() {
+            let number = self.int()?;
+            return Ok(Value::Int(number));
+        }
+        let text = self.text(alloc)?;
+        Ok(Value::Text(text))
+    }
+
+    // Reads a value.
+    fn value(&mut self, alloc: Global) -> Result<Value, Stuck>
+        ensures { Gives (reading value_form) self.old self.new result }
+    {
+        if self.is_number() {
+            let number = self.int()?;
+            return Ok(Value::Int(number));
+        }
+        if self.is_text() {
+            let text = self.text(alloc)?;
+            return Ok(Value::Text(text));
+        }
+        let shape = self.shape(alloc)?;
+        Ok(Value::Shape(shape))
+    }
+
+    // Reads a comma and a value.
+    fn next_value(&mut self, alloc: Global) -> Result<Value, Stuck>
+        ensures gives { Gives (reading (after_sign Comma value_form)) self.old self.new result }
+        ensures falls { IfOk result (λ _. length self.new.left < length self.old.left) }
+    {
+        self.mark(Symbol::Comma)?;
+        self.value(alloc)
+    }
+
+    /// Reads the values of a row.
+    #[tactic(auto, using(crate::proofs::ListReading::values_end, crate::proofs::ListReading::values_step, crate::proofs::ListReading::values_stuck))]
+    pub fn values(&mut self, alloc: Global) -> Result<Vec<Value>, Stuck>
+        ensures { GivesAs (λ list. list.items) (reading values_form) self.old self.new result }
+    {
+        let mut items = Vec::new(alloc);
+        items.push(self.value(alloc)?)?;
+        'values: while self.is_mark(Symbol::Comma) {
+            items.push(self.next_value(alloc)?)?;
+        }
+        Ok(items)
+    }
+
+    // Reads the word of a kind that shapes have.
+    fn spatial_kind(&mut self) -> Result<Kind, Stuck>
+        ensures { Gives (reading spatial_form) self.old self.new result }
+    {
+        if self.is_word("point") {
+            self.word("point")?;
+            return Ok(Kind::Point);
+        }
+        if self.is_word("segment") {
+            self.word("segment")?;
+            return Ok(Kind::Segment);
+        }
+        self.word("polygon")?;
+        Ok(Kind::Polygon)
+    }
+
+    // Reads the word of a kind.
+    fn kind(&mut self) -> Result<Kind, Stuck>
+        ensures { Gives (reading kind_form) self.old self.new result }
+    {
+        if self.is_word("int") {
+            self.word("int")?;
+            return Ok(Kind::Int);
+        }
+        if self.is_word("text") {
+            self.word("text")?;
+            return Ok(Kind::Text);
+        }
+        self.spatial_kind()
+    }
+
+    // Reads a column's name and its kind.
+    fn field(&mut self, alloc: Global) -> Result<(Label, Kind), Stuck>
+        ensures { Gives (reading field_form) self.old self.new result }
+    {
+        let name = self.name(alloc)?;
+        let kind = self.kind()?;
+        Ok((name, kind))
+    }
+
+    // Reads a comma, a column's name and its kind.
+    fn next_field(&mut self, alloc: Global) -> Result<(Label, Kind), Stuck>
+        ensures gives { Gives (reading (after_sign Comma field_form)) self.old self.new result }
+        ensures falls { IfOk result (λ _. length self.new.left < length self.old.left) }
+    {
+        self.mark(Symbol::Comma)?;
+        self.field(alloc)
+    }
+
+    /// Reads the columns of a relation.
+    #[tactic(auto, using(crate::proofs::ListReading::columns_end, crate::proofs::ListReading::columns_step, crate::proofs::ListReading::columns_stuck))]
+    pub fn columns(&mut self, alloc: Global) -> Result<Vec<(Label, Kind)>, Stuck>
+        ensures { GivesAs (λ list. list.items) (reading columns_form) self.old self.new result }
+    {
+        let mut items = Vec::new(alloc);
+        items.push(self.field(alloc)?)?;
+        'columns: while self.is_mark(Symbol::Comma) {
+            items.push(self.next_field(alloc)?)?;
+        }
+        Ok(items)
+    }
+
+    // Reads how a test compares.
+    fn op(&mut self) -> Result<Op, Stuck>
+        ensures { Gives (reading op_form) self.old self.new result }
+    {
+        if self.is_mark(Symbol::Equal) {
+            self.mark(Symbol::Equal)?;
+            return Ok(Op::Equal);
+        }
+        if self.is_mark(Symbol::NotEqual) {
+            self.mark(Symbol::NotEqual)?;
+            return Ok(Op::NotEqual);
+        }
+        if self.is_mark(Symbol::Less) {
+            self.mark(Symbol::Less)?;
+            return Ok(Op::Less);
+        }
+        if self.is_mark(Symbol::AtMost) {
+            self.mark(Symbol::AtMost)?;
+            return Ok(Op::AtMost);
+        }
+        if self.is_mark(Symbol::Greater) {
+            self.mark(Symbol::Greater)?;
+            return Ok(Op::Greater);
+        }
+        self.mark(Symbol::AtLeast)?;
+        Ok(Op::AtLeast)
+    }
+
+    // Reads a test.
+    fn test(&mut self, alloc: Global) -> Result<Test, Stuck>
+        ensures { Gives (reading test_form) self.old self.new result }
+    {
+        let place = self.place(alloc)?;
+        let op = self.op()?;
+        let value = self.plain(alloc)?;
+        Ok(Test { place, op, value })
+    }
+
+    // Reads `and` and a test.
+    fn next_test(&mut self, alloc: Global) -> Result<Test, Stuck>
+        ensures gives { Gives (reading (after_word (codes "and") test_form)) self.old self.new result }
+        ensures falls { IfOk result (λ _. length self.new.left < length self.old.left) }
+    {
+        self.word("and")?;
+        self.test(alloc)
+    }
+
+    /// Reads the tests of a `filter`.
+    #[tactic(auto, using(crate::proofs::ListReading::tests_end, crate::proofs::ListReading::tests_step, crate::proofs::ListReading::tests_stuck))]
+    pub fn tests(&mut self, alloc: Global) -> Result<Vec<Test>, Stuck>
+        ensures { GivesAs (λ list. list.items) (reading tests_form) self.old self.new result }
+    {
+        let mut items = Vec::new(alloc);
+        items.push(self.test(alloc)?)?;
+        'tests: while self.is_word("and") {
+            items.push(self.next_test(alloc)?)?;
+        }
+        Ok(items)
+    }
+
+    // Reads a comma and a place.
+    fn next_place(&mut self, alloc: Global) -> Result<Place, Stuck>
+        ensures gives { Gives (reading (after_sign Comma place_form)) self.old self.new result }
+        ensures falls { IfOk result (λ _. length self.new.left < length self.old.left) }
+    {
+        self.mark(Symbol::Comma)?;
+        self.place(alloc)
+    }
+
+    /// Reads the places of a `fetch`.
+    #[tactic(auto, using(crate::proofs::ListReading::places_end, crate::proofs::ListReading::places_step, crate::proofs::ListReading::places_stuck))]
+    pub fn places(&mut self, alloc: Global) -> Result<Vec<Place>, Stuck>
+        ensures { GivesAs (λ list. list.items) (reading places_form) self.old self.new result }
+    {
+        let mut items = Vec::new(alloc);
+        items.push(self.place(alloc)?)?;
+        'places: while self.is_mark(Symbol::Comma) {
+            items.push(self.next_place(alloc)?)?;
+        }
+        Ok(items)
+    }
+
+    /// Reads `within` and a distance, where they stand.
+    pub fn within(&mut self) -> Result<Option<u32>, Stuck>
+        ensures { Gives (reading within_form) self.old self.new result }
+    {
+        if !self.is_word("within") {
+            return Ok(None);
+        }
+        self.word("within")?;
+        let distance = self.natural(0, MOST_WITHIN)?;
+        Ok(Some(distance))
+    }
+
+    // Reads a corner of a window.
+    fn corner(&mut self) -> Result<Point, Stuck>
+        ensures { Gives (reading corner_form) self.old self.new result }
+    {
+        let x = self.coordinate()?;
+        let y = self.coordinate()?;
+        Ok(Point { x, y })
+    }
+
+    /// Reads a window.
+    pub fn rect(&mut self) -> Result<Rect, Stuck>
+        ensures { Gives (reading rect_form) self.old self.new result }
+    {
+        let low = self.corner()?;
+        let high = self.corner()?;
+        let window = Rect { low, high };
+        self.note(is_ordered(&window));
+        Ok(window)
     }
 }

@@ -1,41 +1,60 @@
-use crate::shape::{Kind, Shape};
-use sand_base::Label;
-
-/// A column of a relation, written `relation.column`.
-#[derive(Drop)]
-pub struct Column {
-    pub relation: Label,
-    pub column: Label,
-}
-
-/// Which rows a query gives, and in which order.
-#[derive(Drop)]
-pub enum Plan {
-    /// All rows with their gap from the goal, nearest first, equal gaps by id.
-    Rank { column: Column, goal: Shape },
-}
+use crate::{Column, Plan};
+use sand_base::{Label, Row, Schema};
 
 /// What a line of a script says.
 #[derive(Drop)]
 pub enum Statement {
-    /// `create RELATION (COLUMN KIND)`: an empty relation with one column, of shapes of the kind.
+    /// `create RELATION (COLUMN KIND, ..)`: an empty relation with these columns.
     Create {
         relation: Label,
-        column: Label,
-        kind: Kind,
+        columns: Schema,
     },
-    /// `insert RELATION SHAPE`: one more row.
+    /// `insert RELATION VALUE, ..`: one more row.
     Insert {
         relation: Label,
-        value: Shape,
+        values: Row,
     },
-    /// `index RELATION.COLUMN`: an index on the column.
+    /// `delete RELATION ID`: one row fewer.
+    Delete {
+        relation: Label,
+        id: u32,
+    },
+    /// `load RELATION "FILE" [header]`: the rows of a file, whose first record may be passed over.
+    Load {
+        relation: Label,
+        file: Label,
+        header: bool,
+    },
+    /// `index RELATION.COLUMN [THRESHOLD]`: an index on the column.
     Index {
         column: Column,
+        threshold: Option<u8>,
+    },
+    /// `open CURSOR = PLAN`: a cursor over the rows of a plan.
+    OpenCursor {
+        cursor: Label,
+        plan: Plan,
+    },
+    /// `next CURSOR COUNT`: its next rows, at most as many as the count.
+    Next {
+        cursor: Label,
+        count: u32,
+    },
+    /// `close CURSOR`.
+    CloseCursor {
+        cursor: Label,
     },
     /// `show COUNT PLAN`: the first rows of a plan, at most as many as the count.
     Show {
         count: u32,
         plan: Plan,
+    },
+    /// `stats CURSOR`: what the cursor has spent so far.
+    Stats {
+        cursor: Label,
+    },
+    /// `blocks RELATION.COLUMN`: the leaves of a column's quadtree.
+    Blocks {
+        column: Column,
     },
 }

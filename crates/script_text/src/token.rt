@@ -14,10 +14,12 @@ pub enum Symbol {
     AtLeast,
 }
 
-/// What a line is made of. Names and numbers borrow the line.
+/// What a line is made of. Names, numbers and texts borrow the line.
 #[derive(Clone, Copy, Debug)]
 pub enum Token<'t> {
     Name(&'t str),
     Number(&'t str),
+    /// What stands between the quotes, where each quote is doubled.
+    Text(&'t [u8]),
     Mark(Symbol),
 }

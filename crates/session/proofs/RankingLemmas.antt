@@ -1,53 +1,25 @@
 -- Rows measured one after the other.
 use Rattle.std.proofs.Common.{◌≡◌, ℕ, zero, suc, arith, ◌+◌, ◌<◌, pos, ◌*ℤ◌, ◌≤ℤ◌, List, [], ◌∷◌, ◌++◌, length, get_or, take, subst, sym, ap, ◌∙◌, refl, mul_comm}
 use Rattle.std.proofs.lemmas.List.{take_more}
-use Rattle.int_ring.specs.Expr.{var, at, ◌⊕◌, ◌⊖◌, ◌⊗◌}
-use Rattle.int_ring.proofs.Ring.{ring}
 use Rattle.exact_frac.specs.declared.frac.Frac.{Frac}
-use Rattle.script_text.specs.Shape.{IsShapeInPlane}
-use Rattle.script_text.specs.declared.shape.Shape.{Shape}
-use Rattle.sand_model.specs.Points.{RationalPoint}
-use Rattle.session.specs.ShapeGap.{IsOf}
-use Rattle.sand_model.specs.Gap.{IsLeast, scaled_distance, common_square, square}
-use Rattle.session.specs.ShapeGap.{IsGap}
+use Rattle.sand_base.specs.Plane.{IsInPlane, IsInClosedPlane, IsShapeInPlane, IsShapeInClosedPlane}
+use Rattle.sand_base.specs.declared.point.Point.{Point}
+use Rattle.sand_base.specs.declared.shape.Shape.TheVariants as shape
+use Rattle.sand_base.specs.declared.shape.Shape.{Shape}
+use Rattle.sand_model.specs.FigureGap.{IsGap}
 use Rattle.session.specs.Ranked.{Measures}
 use Rattle.session.specs.Rows.{AreInPlane}
 
--- the gap of two shapes is told by what they are
-pub IsGap-of : (value goal v g : Shape) (gap : Frac) → value ≡ v → goal ≡ g → IsLeast (IsOf v) (IsOf g) gap.num gap.den → IsGap value goal gap
-IsGap-of value goal v g gap value-is goal-is least =
-    subst (λ w. IsGap w goal gap) (sym value-is) (subst (λ w. IsGap v w gap) (sym goal-is) least)
+-- a grid point of the plane lies in the closed square round it
+IsInClosedPlane-from_plane : (p : Point) → IsInPlane p → IsInClosedPlane p
+IsInClosedPlane-from_plane p h = record { x = omega (arith, h.x); y = omega (arith, h.y) }
 
--- two points are as far apart either way
-scaled_distance-swap : (q r : RationalPoint) → scaled_distance q r ≡ scaled_distance r q
-scaled_distance-swap q r =
-    ring (at (q.x ∷ q.y ∷ pos q.n ∷ r.x ∷ r.y ∷ pos r.n ∷ []))
-    ((var 0 ⊗ var 5 ⊖ var 3 ⊗ var 2) ⊗ (var 0 ⊗ var 5 ⊖ var 3 ⊗ var 2) ⊕ (var 1 ⊗ var 5 ⊖ var 4 ⊗ var 2) ⊗ (var 1 ⊗ var 5 ⊖ var 4 ⊗ var 2))
-    ((var 3 ⊗ var 2 ⊖ var 0 ⊗ var 5) ⊗ (var 3 ⊗ var 2 ⊖ var 0 ⊗ var 5) ⊕ (var 4 ⊗ var 2 ⊖ var 1 ⊗ var 5) ⊗ (var 4 ⊗ var 2 ⊖ var 1 ⊗ var 5))
-    refl
-
--- and their denominators have one product
-common_square-swap : (q r : RationalPoint) → common_square q r ≡ common_square r q
-common_square-swap q r = ap (λ n. square (pos n)) (mul_comm q.n r.n)
-
--- the least squared distance of two sets is that of the other way
-pub IsLeast-swap : (A B : RationalPoint → Type 0) (num den : ℕ) → IsLeast A B num den → IsLeast B A num den
-IsLeast-swap A B num den least =
-    let pair = least.attained in
-    let q = pair.0 in
-    let r = pair.1 in
-    record {
-      attained = (
-        r,
-        q,
-        pair.3,
-        pair.2,
-        ap (λ f. f *ℤ pos den) (scaled_distance-swap r q) ∙ pair.4 ∙ ap (λ c. pos num *ℤ c) (common_square-swap q r),
-      );
-      least = λ u v in_b in_a.
-          subst (λ f. (pos num *ℤ common_square u v) ≤ℤ (f *ℤ pos den)) (scaled_distance-swap v u)
-          (subst (λ c. (pos num *ℤ c) ≤ℤ (scaled_distance v u *ℤ pos den)) (common_square-swap v u) (least.least v u in_a in_b));
-    }
+-- a shape of the plane lies in the closed square round it
+pub IsShapeInClosedPlane-from_plane : (s : Shape) → IsShapeInPlane s → IsShapeInClosedPlane s
+IsShapeInClosedPlane-from_plane (shape.Point p) h = IsInClosedPlane-from_plane p h
+IsShapeInClosedPlane-from_plane (shape.Segment s) h =
+    record { a = IsInClosedPlane-from_plane s.a h.a; b = IsInClosedPlane-from_plane s.b h.b }
+IsShapeInClosedPlane-from_plane (shape.Polygon ring) h = h
 
 -- one more row is measured at the end
 pub Measures-append : (goal : Shape) (rows : List (ℕ × Shape)) (hits : List (Frac × ℕ)) (row : ℕ × Shape) (hit : Frac × ℕ)
@@ -70,3 +42,16 @@ pub Measures-more : (goal : Shape) (rows : List (ℕ × Shape)) (at : ℕ) (hits
     → hits' ≡ hits ++ (gap, (get_or rows at d).0) ∷ [] → Measures goal (take (at + 1) rows) hits'
 Measures-more goal rows at hits hits' d gap below before is-gap pushed =
     rw (take_more rows at d below, pushed) (Measures-append goal (take at rows) hits (get_or rows at d) (gap, (get_or rows at d).0) before refl is-gap)
+
+-- a row of the list lies in the plane
+pub AreInPlane-item : (rows : List (ℕ × Shape)) (at : ℕ) (row : ℕ × Shape) → row ≡ get_or rows at row → AreInPlane rows → at < length rows
+    → IsShapeInPlane row.1
+AreInPlane-item rows at row is all below = subst (λ (r : ℕ × Shape). IsShapeInPlane r.1) (sym is) (AreInPlane-at rows at row all below)
+
+-- the row at hand is measured
+pub Measures-item : (goal : Shape) (rows : List (ℕ × Shape)) (at : ℕ) (hits hits' : List (Frac × ℕ)) (row : ℕ × Shape) (gap : Frac)
+    → row ≡ get_or rows at row → at < length rows → Measures goal (take at rows) hits → IsGap row.1 goal gap
+    → hits' ≡ hits ++ (gap, row.0) ∷ [] → Measures goal (take (at + 1) rows) hits'
+Measures-item goal rows at hits hits' row gap is below before is-gap pushed =
+    Measures-more goal rows at hits hits' row gap below before (subst (λ (r : ℕ × Shape). IsGap r.1 goal gap) is is-gap)
+    (pushed ∙ ap (λ (r : ℕ × Shape). hits ++ (gap, r.0) ∷ []) is)

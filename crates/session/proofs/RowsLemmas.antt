@@ -1,7 +1,7 @@
 -- Rows in the plane stay so when one is added.
 use Rattle.std.proofs.Common.{ℕ, List, [], ◌∷◌, ◌++◌}
-use Rattle.script_text.specs.Shape.{IsShapeInPlane}
-use Rattle.script_text.specs.declared.shape.Shape.{Shape}
+use Rattle.sand_base.specs.Plane.{IsShapeInPlane}
+use Rattle.sand_base.specs.declared.shape.Shape.{Shape}
 use Rattle.session.specs.Rows.{AreInPlane}
 
 -- a row in the plane may be added

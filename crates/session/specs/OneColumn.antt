@@ -1,8 +1,8 @@
 -- Relations with one spatial column, and their changes.
 use Rattle.std.specs.Prelude.{ℕ, ◌+◌, Bool, true, false, cond, nat_eq, List, [], ◌∷◌, ◌++◌}
 use Rattle.std.specs.Cmp.Lexicographic.{pointwise}
-use Rattle.script_text.specs.declared.shape.Kind.{Kind}
-use Rattle.script_text.specs.declared.shape.Shape.{Shape}
+use Rattle.sand_base.specs.declared.kind.Kind.{Kind}
+use Rattle.sand_base.specs.declared.shape.Shape.{Shape}
 
 -- A relation: its name, its column's name and kind, its rows as ids with their values, by ascending id, the id that the
 -- next row gets, and whether the column has an index.

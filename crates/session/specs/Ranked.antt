@@ -4,8 +4,8 @@ use Rattle.std.specs.Ordering.{nat_cmp, ordering_then}
 use Rattle.std.specs.declared.cmp.Ordering.{Ordering}
 use Rattle.exact_frac.specs.Frac.{value_cmp}
 use Rattle.exact_frac.specs.declared.frac.Frac.{Frac}
-use Rattle.script_text.specs.declared.shape.Shape.{Shape}
-use Rattle.session.specs.ShapeGap.{IsGap}
+use Rattle.sand_base.specs.declared.shape.Shape.{Shape}
+use Rattle.sand_model.specs.FigureGap.{IsGap}
 
 -- each row with its gap from the goal, in the order of the rows
 abbrev pub Measures : Shape → List (ℕ × Shape) → List (Frac × ℕ) → Type 0

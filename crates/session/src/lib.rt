@@ -2,7 +2,7 @@
 //!
 //! The promise of the whole system is the contract of `run`: however the lines go, what is written is the
 //! text of a run over the lines of the script, each line answered from the relations as they stood.
-//! Above: `sand_shell`, which passes the real streams. Below: `script_text` for statements, `plane_geom` and
+//! Above: `sand_shell`, which passes the real streams. Below: `script_text` for statements, `ring_geom` and
 //! `exact_frac` for distances, `sand_model` for what the answers mean. Contracts see a relation as its name,
 //! rows and mark, and a line in hand as its bytes. Read `specs/Outcome.antt` first, then `specs/Run.antt`.
 #![tactic(auto)]

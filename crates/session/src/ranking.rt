@@ -1,13 +1,12 @@
 ghost use Rattle.std.specs.Prelude.{◌≡◌, IfOk};
-ghost use Rattle.script_text.specs.Shape.{IsShapeInPlane};
-ghost use Rattle.session.specs.ShapeGap.{IsGap};
+ghost use Rattle.sand_base.specs.Plane.{IsShapeInPlane};
+ghost use Rattle.sand_model.specs.FigureGap.{IsGap};
 ghost use Rattle.session.specs.Ranked.{IsRanking, Measures};
 ghost use Rattle.session.specs.Rows.{AreInPlane};
 
 use exact_frac::Frac;
-use plane_geom::{gap_point_segment, gap_points, gap_segments};
-use sand_base::NoMemory;
-use script_text::Shape;
+use ring_geom::gap_shapes;
+use sand_base::{NoMemory, Shape};
 use std::alloc::Global;
 
 // The gap of two shapes.
@@ -16,12 +15,7 @@ fn gap_of(value: &Shape, goal: &Shape) -> Frac
     requires goal { IsShapeInPlane goal.now }
     ensures { IsGap value.now goal.now result }
 {
-    match (value, goal) {
-        (Shape::Point(at), Shape::Point(from)) => gap_points(*at, *from),
-        (Shape::Point(at), Shape::Segment(from)) => gap_point_segment(*at, *from),
-        (Shape::Segment(way), Shape::Point(from)) => gap_point_segment(*from, *way),
-        (Shape::Segment(way), Shape::Segment(from)) => gap_segments(*way, *from),
-    }
+    gap_shapes(value, goal)
 }
 
 // Each row's gap from the goal, with its id.

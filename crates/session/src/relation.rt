@@ -1,6 +1,6 @@
 ghost use Rattle.std.specs.Prelude.{◌≡◌, ◌≤◌, nat_lt, IfOk, OnErr};
-ghost use Rattle.script_text.specs.Shape.{IsShapeInPlane};
-ghost use Rattle.script_text.specs.Shape.{kind_of, same_kind};
+ghost use Rattle.sand_base.specs.Plane.{IsShapeInPlane};
+ghost use Rattle.sand_base.specs.Shape.{kind_of, same_kind};
 ghost use Rattle.session.specs.Ranked.{IsRanking};
 ghost use Rattle.session.specs.OneColumn.{new_relation, with_row, with_index};
 ghost use Rattle.session.specs.declared.TheConstants.{MOST_IDS};
@@ -8,8 +8,7 @@ ghost use Rattle.session.specs.declared.TheConstants.{MOST_IDS};
 use crate::MOST_IDS;
 use crate::ranking::ranking;
 use exact_frac::Frac;
-use sand_base::{Label, NoMemory};
-use script_text::{Kind, Shape};
+use sand_base::{Kind, Label, NoMemory, Shape};
 use std::alloc::Global;
 use std::marker::Model;
 
@@ -75,9 +74,13 @@ impl Relation {
     pub fn takes(&self, value: &Shape) -> bool
         ensures { result ≡ same_kind (kind_of value.now) self.now.kind }
     {
-        match (value, self.kind) {
-            (Shape::Point(_), Kind::Point) | (Shape::Segment(_), Kind::Segment) => true,
-            (Shape::Point(_), Kind::Segment) | (Shape::Segment(_), Kind::Point) => false,
+        match (value.kind(), self.kind) {
+            (Kind::Int, Kind::Int)
+            | (Kind::Text, Kind::Text)
+            | (Kind::Point, Kind::Point)
+            | (Kind::Segment, Kind::Segment)
+            | (Kind::Polygon, Kind::Polygon) => true,
+            _ => false,
         }
     }
 

@@ -16,6 +16,8 @@ mod figures;
 mod laws;
 mod reader;
 mod size;
+#[cfg(test)]
+mod tests;
 mod text;
 mod values;
 mod write;

@@ -9,7 +9,7 @@ use Rattle.z_code.specs.Block.{code_count, IsBlock, square_of, HasPoint, HasCode
 use Rattle.z_code.specs.declared.block.Block.{Block}
 use Rattle.z_code.proofs.Powers.{four_pow, four_pow_pos, quotient_is, in_run, run_fits, run_number}
 use Rattle.z_code.proofs.Codes.{even_bits-lt, in_square, from_square}
-use Rattle.z_code.proofs.Points.{code_of-lt, point_of-in_plane, code_of-point_of}
+use Rattle.z_code.proofs.CodesOfPoints.{code_of-lt, point_of-in_plane, code_of-point_of}
 use Rattle.z_code.proofs.Places.{block, place_of, block_at, height, number_of}
 
 -- the square of a block ends in the plane
@@ -29,7 +29,7 @@ range_fits b h =
     let end = run_fits 4 COORDINATE_BITS (height b) b.level (number_of b) at.levels at.number in
     omega (arith, at.first, at.count, end)
 
--- a block's square is a rectangle within reach
+-- a block's square is a rectangle in the closed plane
 pub square_in_reach : (b : Block) → IsBlock b → IsRectInClosedPlane (square_of b)
 square_in_reach b h =
     let ends = square_fits b h in record {

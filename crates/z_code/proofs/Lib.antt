@@ -1,8 +1,8 @@
 pub mod Powers
 pub mod Codes
 pub mod Loops
-pub mod Points
+pub mod CodesOfPoints
 pub mod Places
 pub mod Blocks
 pub mod Children
-pub mod Inside
+pub mod Containment

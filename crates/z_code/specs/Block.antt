@@ -1,5 +1,5 @@
 -- Blocks of the quadtree, as squares of the plane and as ranges of Morton codes. After I. Gargantini (1982) and H. Samet (2006).
-use Rattle.std.specs.Prelude.{◌≡◌, ℕ, ◌+◌, ◌-◌, ◌*◌, ◌/◌, ◌%◌, ◌^◌, ◌<◌, ◌≤◌, List, [], ◌∷◌}
+use Rattle.std.specs.Prelude.{◌≡◌, ℕ, ◌+◌, ◌-◌, ◌*◌, ◌/◌, ◌%◌, ◌^◌, ◌<◌, ◌≤◌, ◌↔◌, List, [], ◌∷◌}
 use Rattle.sand_base.specs.Plane.{IsInPlane}
 use Rattle.sand_base.specs.declared.TheConstants.{COORDINATE_BITS}
 use Rattle.sand_base.specs.declared.point.Point.{Point}
@@ -86,3 +86,9 @@ pub record HoldsSquare (b other : Block) : Type 0 where
 pub record HoldsRange (b other : Block) : Type 0 where
   pub from_first : b.z ≤ other.z
   pub to_last : other.z + code_count other.level ≤ b.z + code_count b.level
+
+-- what is told holds where the other block lies in this one, by their closed squares, by their codes and by their ranges alike
+pub record IsContainment (Told : Type 0) (b other : Block) : Type 0 where
+  pub squares : Told ↔ HoldsSquare b other
+  pub codes : Told ↔ ((z : ℕ) → HasCode other z → HasCode b z)
+  pub ranges : Told ↔ HoldsRange b other

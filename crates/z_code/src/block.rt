@@ -3,7 +3,7 @@ ghost use Rattle.std.specs.List.{Contains};
 ghost use Rattle.sand_base.specs.Plane.{IsInPlane, IsRectInClosedPlane};
 ghost use Rattle.z_code.specs.Code.{code_of, Interleaves};
 ghost use Rattle.z_code.specs.Block.{IsBlock, side_length, code_count, square_of, HasPoint, HasCode, IsCodeOfPointIn};
-ghost use Rattle.z_code.specs.Block.{children_of, IsQuarter, IsDivided, HoldsSquare, HoldsRange};
+ghost use Rattle.z_code.specs.Block.{children_of, IsQuarter, IsDivided, IsContainment};
 
 use crate::code::{code_of, point_of};
 use sand_base::{COORDINATE_BITS, Point, Rect};
@@ -75,7 +75,7 @@ impl Block {
     pub fn rect(self) -> Rect
         requires { IsBlock self }
         ensures square { result ≡ square_of self }
-        ensures in_reach { IsRectInClosedPlane result }
+        ensures in_closed_plane { IsRectInClosedPlane result }
         ensures corner { IsInPlane result.low }
         ensures code { code_of result.low ≡ self.z }
         ensures bits { Interleaves self.z result.low }
@@ -122,9 +122,7 @@ impl Block {
     pub fn holds(self, other: Block) -> bool
         requires block { IsBlock self }
         requires other { IsBlock other }
-        ensures squares { IsTrue result ↔ HoldsSquare self other }
-        ensures codes { IsTrue result ↔ ((z : ℕ) → HasCode other z → HasCode self z) }
-        ensures ranges { IsTrue result ↔ HoldsRange self other }
+        ensures { IsContainment (IsTrue result) self other }
     {
         self.level <= other.level && first_code(other.z, self.level) == self.z
     }

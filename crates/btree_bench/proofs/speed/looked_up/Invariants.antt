@@ -3,8 +3,5 @@ use Rattle.page_pool.specs.Pool.{IsTold}
 use Rattle.code_btree.specs.Tree.{IsTree, pages_in}
 use Rattle.btree_bench.proofs.speed.looked_up.Given as goal
 
-abbrev pub invariant-thousands : goal.invariant-thousands
-invariant-thousands l = IsTold l.pool → IsTree (pages_in l.pool) l.tree
-
-abbrev pub invariant-keys : goal.invariant-keys
-invariant-keys l = IsTold l.pool → IsTree (pages_in l.pool) l.tree
+abbrev pub invariant-rounds : goal.invariant-rounds
+invariant-rounds l = IsTold l.pool → IsTree (pages_in l.pool) l.tree

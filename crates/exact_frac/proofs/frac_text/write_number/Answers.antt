@@ -9,7 +9,7 @@ digits-preserved c =
     let l = c.digits in
     let shorter = length-step l.left c.digits-test.true l.auto.left-fits.fits in
     record {
-      room = omega arith;
+      fits = omega arith;
       within = omega (arith, length-set l.bytes (l.at - 1) (48 + l.left % 10));
       start = omega arith;
       written = digit_written l.bytes l.at l.left c.digits-test.true l.auto.left-fits.fits (omega arith) l.invariant.within ∙ l.invariant.written;
@@ -27,18 +27,18 @@ returns-clause-written c =
     c.digits.invariant.within
     ∙ c.digits.invariant.written
 
--- no number is without a digit, so there is room for one
+-- no number is without a digit, so one byte is left for it
 pub overflow_sub-at : goal.overflow_sub-at
 overflow_sub-at c = omega (arith, length-positive c.digits.left c.digits.auto.left-fits.fits)
 
--- the same room
+-- the same byte
 pub bounds-bytes-at : goal.bounds-bytes-at
 bounds-bytes-at c = omega (arith, length-positive c.digits.left c.digits.auto.left-fits.fits)
 
--- the same room
+-- the same byte
 pub overflow_sub-at-2 : goal.overflow_sub-at-2
 overflow_sub-at-2 c = omega (arith, length-positive c.digits.left c.digits.auto.left-fits.fits)
 
--- the same room
+-- the same byte
 pub bounds-bytes-at-2 : goal.bounds-bytes-at-2
 bounds-bytes-at-2 c = omega (arith, length-positive c.digits.left c.digits.auto.left-fits.fits)

@@ -6,7 +6,7 @@ use Rattle.exact_frac.proofs.frac_text.write_number.Given as goal
 -- the digits that are left go before those that are written
 abbrev pub invariant-digits : goal.invariant-digits
 invariant-digits l = record {
-  room : length (decimal l.left) ≤ l.at;
+  fits : length (decimal l.left) ≤ l.at;
   within : l.at ≤ length l.bytes;
   start : l.at + length (decimal l.number) ≡ l.end + length (decimal l.left);
   written : decimal l.left ++ drop l.at l.bytes ≡ decimal l.number ++ drop l.end l.fn.bytes;

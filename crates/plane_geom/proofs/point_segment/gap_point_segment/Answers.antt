@@ -4,7 +4,7 @@ use Rattle.std.proofs.lemmas.Int.{ints}
 use Rattle.exact_frac.specs.declared.TheConstants.{MAX_DEN}
 use Rattle.plane_geom.specs.Vectors.{dot_of}
 use Rattle.plane_geom.proofs.point_segment.gap_point_segment.Goals as goal
-use Rattle.plane_geom.proofs.PointSegment.{behind_least, beyond_least, foot_least}
+use Rattle.plane_geom.proofs.GapOfPointAndSegment.{behind_least, beyond_least, foot_least}
 use Rattle.plane_geom.proofs.SignedWords.{word_is, passed, failed}
 
 -- the point lies behind the first end

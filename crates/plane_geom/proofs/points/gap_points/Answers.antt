@@ -1,7 +1,7 @@
 -- The squared length is the gap of the two points.
 use Rattle.std.proofs.Common.{◌∙◌, ap, pos}
 use Rattle.plane_geom.proofs.points.gap_points.Goals as goal
-use Rattle.plane_geom.proofs.PointLemmas.{points_least}
+use Rattle.plane_geom.proofs.GapOfPoints.{points_least}
 
 -- the fraction is the whole squared length, over 1
 pub returns-clause-least : goal.returns-clause-least

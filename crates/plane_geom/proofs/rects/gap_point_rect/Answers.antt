@@ -1,6 +1,6 @@
 -- A point is the rectangle with it as both corners.
 use Rattle.plane_geom.proofs.rects.gap_point_rect.Goals as goal
-use Rattle.plane_geom.proofs.RectLemmas.{point_rect_least}
+use Rattle.plane_geom.proofs.GapOfRectangles.{point_rect_least}
 
 -- the call answers for that rectangle
 pub returns : goal.returns

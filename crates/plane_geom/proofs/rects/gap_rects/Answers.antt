@@ -1,7 +1,7 @@
 -- The squared gaps of the ranges along both axes add up.
 use Rattle.std.proofs.Common.{ℕ, ◌*◌, ◌+◌, pos, ◌∙◌, ap, ap₂}
 use Rattle.plane_geom.proofs.rects.gap_rects.Goals as goal
-use Rattle.plane_geom.proofs.RectLemmas.{rects_least}
+use Rattle.plane_geom.proofs.GapOfRectangles.{rects_least}
 
 -- each factor is the gap of two ranges
 pub returns : goal.returns

@@ -2,7 +2,7 @@
 use Rattle.std.proofs.Common.{refl}
 use Rattle.std.proofs.lemmas.Bool.{false≢true}
 use Rattle.plane_geom.proofs.segments.gap_segments.Goals as goal
-use Rattle.plane_geom.proofs.Crossing.{crossing_least}
+use Rattle.plane_geom.proofs.CrossingPoint.{crossing_least}
 
 -- the segments cross
 pub returns-then-crosses : goal.returns-then-crosses

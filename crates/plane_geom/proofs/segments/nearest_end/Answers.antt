@@ -1,6 +1,6 @@
 -- The least of the four ends' distances is that of segments that don't cross.
 use Rattle.plane_geom.proofs.segments.nearest_end.Goals as goal
-use Rattle.plane_geom.proofs.SegmentLemmas.{nearest_least}
+use Rattle.plane_geom.proofs.NearestEnd.{nearest_least}
 
 -- each call gives one of the four distances, or the lesser of two
 pub returns : goal.returns

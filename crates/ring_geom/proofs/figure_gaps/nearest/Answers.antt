@@ -6,7 +6,7 @@ use Rattle.sand_model.specs.Points.{RationalPoint, IsPoint, IsOnSegment}
 use Rattle.sand_model.specs.Figures.{IsPointOf}
 use Rattle.sand_model.specs.Gap.{IsLeast}
 use Rattle.sand_model.specs.Rings.{IsOnRing}
-use Rattle.ring_geom.proofs.Unions.{least_exchanged}
+use Rattle.plane_geom.proofs.Least.{least_exchanged}
 use Rattle.ring_geom.proofs.figure_gaps.nearest.Goals as goal
 
 -- what holds of two shapes holds of equal ones

@@ -1,8 +1,9 @@
 -- The first edge, one edge more, and all of them.
 use Rattle.sand_model.specs.Points.{IsOnSegment}
 use Rattle.sand_model.specs.Rings.{edges, IsOnRing}
+use Rattle.plane_geom.proofs.Least.{least_exchanged}
 use Rattle.ring_geom.proofs.InsideLoop.{no_more_edges}
-use Rattle.ring_geom.proofs.Unions.{least_first, least_next, least_of_all, least_exchanged}
+use Rattle.ring_geom.proofs.Unions.{least_first, least_next, least_of_all}
 use Rattle.ring_geom.proofs.ring_gaps.ring_to_ring.Goals as goal
 
 -- the edge that ends at the first vertex

@@ -1,7 +1,7 @@
 -- The code of a point, against its definition.
 use Rattle.std.proofs.Common.{◌≡◌, ◌+◌, ◌*◌, ap₂, subst, sym}
 use Rattle.z_code.specs.Code.{code_of, Interleaves}
-use Rattle.z_code.proofs.Points.{Interleaves-code_of}
+use Rattle.z_code.proofs.CodesOfPoints.{Interleaves-code_of}
 use Rattle.z_code.proofs.code.code_of.Goals as goal
 use Rattle.z_code.proofs.code.code_of.Goals.{After-spread_bits-2}
 

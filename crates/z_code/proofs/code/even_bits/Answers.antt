@@ -7,8 +7,8 @@ use Rattle.z_code.proofs.code.even_bits.Goals as goal
 use Rattle.z_code.proofs.code.even_bits.Goals.{In-places}
 
 -- what is done so far is below the count of coordinates
-room : (c : In-places) → c.places.coordinate < 2 ^ COORDINATE_BITS
-room c = even_bits-so_far COORDINATE_BITS c.places.place c.args.z c.places.coordinate c.places.invariant
+short : (c : In-places) → c.places.coordinate < 2 ^ COORDINATE_BITS
+short c = even_bits-so_far COORDINATE_BITS c.places.place c.args.z c.places.coordinate c.places.invariant
 
 -- nothing is done at the highest place
 pub places-init : goal.places-init
@@ -16,11 +16,11 @@ places-init c = even_bits-none _
 
 -- twice that fits
 pub overflow_mul-coordinate : goal.overflow_mul-coordinate
-overflow_mul-coordinate c = omega (arith, room c)
+overflow_mul-coordinate c = omega (arith, short c)
 
 -- likewise with the bit
 pub overflow_add-coordinate : goal.overflow_add-coordinate
-overflow_add-coordinate c = omega (arith, room c)
+overflow_add-coordinate c = omega (arith, short c)
 
 -- one more bit is done
 pub places-preserved : goal.places-preserved

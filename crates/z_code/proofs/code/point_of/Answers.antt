@@ -1,7 +1,7 @@
 -- The point of a code, against its definition.
 use Rattle.std.proofs.Common.{◌≡◌, ap₂, subst, sym}
 use Rattle.z_code.specs.Code.{point_of, Interleaves}
-use Rattle.z_code.proofs.Points.{point, Interleaves-point_of}
+use Rattle.z_code.proofs.CodesOfPoints.{point, Interleaves-point_of}
 use Rattle.z_code.proofs.code.point_of.Goals as goal
 use Rattle.z_code.proofs.code.point_of.Goals.{After-even_bits-2}
 

@@ -6,8 +6,8 @@ use Rattle.z_code.proofs.code.spread_bits.Goals as goal
 use Rattle.z_code.proofs.code.spread_bits.Goals.{In-places}
 
 -- what is done so far is below the count of codes
-room : (c : In-places) → c.places.code < 4 ^ COORDINATE_BITS
-room c = spread_bits-so_far COORDINATE_BITS c.places.place c.args.coordinate c.places.code c.places.invariant
+short : (c : In-places) → c.places.code < 4 ^ COORDINATE_BITS
+short c = spread_bits-so_far COORDINATE_BITS c.places.place c.args.coordinate c.places.code c.places.invariant
 
 -- nothing is done at the highest place
 pub places-init : goal.places-init
@@ -15,11 +15,11 @@ places-init c = spread_bits-none _
 
 -- four times that fits
 pub overflow_mul-code : goal.overflow_mul-code
-overflow_mul-code c = omega (arith, room c)
+overflow_mul-code c = omega (arith, short c)
 
 -- likewise with the bit
 pub overflow_add-code : goal.overflow_add-code
-overflow_add-code c = omega (arith, room (goal.at.overflow_add-code c).In-places)
+overflow_add-code c = omega (arith, short (goal.at.overflow_add-code c).In-places)
 
 -- one more bit is done
 pub places-preserved : goal.places-preserved

@@ -4,5 +4,5 @@ use Rattle.exact_frac.proofs.Digits.{length-num}
 use Rattle.exact_frac.proofs.frac_text.FracText.whole.Goals as goal
 
 -- a numerator has at most 25 digits
-pub write_number-start-requires-clause-room : goal.write_number-start-requires-clause-room
-write_number-start-requires-clause-room c = omega (arith, length-num c.args.num c.requires)
+pub write_number-start-requires-clause-fits : goal.write_number-start-requires-clause-fits
+write_number-start-requires-clause-fits c = omega (arith, length-num c.args.num c.requires)

@@ -2,7 +2,7 @@
 use Rattle.std.proofs.Common.{◌≡◌, ℕ, ◌*◌, ◌/◌, ap, ◌∙◌}
 use Rattle.z_code.specs.Code.{code_of}
 use Rattle.z_code.specs.Block.{code_count}
-use Rattle.z_code.proofs.Points.{code_of-lt}
+use Rattle.z_code.proofs.CodesOfPoints.{code_of-lt}
 use Rattle.z_code.proofs.Places.{block}
 use Rattle.z_code.proofs.Blocks.{block_of, HasCode-block_of, HasPoint-from_code, HasCode-from_point, same_block}
 use Rattle.z_code.proofs.block.Block.of_point.Goals as goal

@@ -5,7 +5,7 @@ use Rattle.sand_base.specs.declared.point.Point.{Point}
 use Rattle.sand_base.specs.declared.rect.Rect.{Rect}
 use Rattle.z_code.specs.Code.{code_of}
 use Rattle.z_code.specs.Block.{square_of}
-use Rattle.z_code.proofs.Points.{code_of-point_of}
+use Rattle.z_code.proofs.CodesOfPoints.{code_of-point_of}
 use Rattle.z_code.proofs.Blocks.{square_in_reach}
 use Rattle.z_code.proofs.block.Block.rect.Goals as goal
 use Rattle.z_code.proofs.block.Block.rect.Goals.{After-side_length-side}
@@ -22,10 +22,10 @@ square c = ap₂ square_at c.point_of-low.ensures.value c.side_length-side.ensur
 pub returns-clause-square : goal.returns-clause-square
 returns-clause-square c = square (goal.at.returns-clause-square c).After-side_length-side
 
--- which lies within reach
-pub returns-clause-in_reach : goal.returns-clause-in_reach
-returns-clause-in_reach c =
-    subst IsRectInClosedPlane (sym (square (goal.at.returns-clause-in_reach c).After-side_length-side)) (square_in_reach c.args.self c.requires)
+-- which lies in the closed plane
+pub returns-clause-in_closed_plane : goal.returns-clause-in_closed_plane
+returns-clause-in_closed_plane c =
+    subst IsRectInClosedPlane (sym (square (goal.at.returns-clause-in_closed_plane c).After-side_length-side)) (square_in_reach c.args.self c.requires)
 
 -- and whose corner has the block's code
 pub returns-clause-code : goal.returns-clause-code

@@ -1,0 +1,3 @@
+mod damage;
+mod faults;
+mod flipping_disk;

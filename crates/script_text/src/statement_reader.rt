@@ -1,0 +1,204 @@
+ghost use Rattle.std.specs.Prelude.{◌≡◌, codes};
+ghost use Rattle.script_text.specs.Grammar.{reading, whole};
+ghost use Rattle.script_text.specs.Statement.{statement_value};
+ghost use Rattle.script_text.specs.Reading.{GivesAs};
+ghost use Rattle.script_text.specs.Rules.{after_word, create_rest, insert_rest, delete_rest, load_rest, index_rest, open_rest};
+ghost use Rattle.script_text.specs.Rules.{next_rest, close_rest, show_rest, stats_rest, blocks_rest, query_form, statement_form};
+
+use crate::cursor::Cursor;
+use crate::stuck::Stuck;
+use crate::token::Symbol;
+use crate::{MOST_ROWS, Statement};
+use sand_base::{Row, Schema};
+use std::alloc::Global;
+
+impl<'t> Cursor<'t> {
+    // Reads a `create`.
+    fn create(&mut self, alloc: Global) -> Result<Statement, Stuck>
+        ensures { GivesAs statement_value (reading (after_word (codes "create") create_rest)) self.old self.new result }
+    {
+        self.word("create")?;
+        let relation = self.name(alloc)?;
+        self.mark(Symbol::Open)?;
+        let columns = self.columns(alloc)?;
+        self.note(columns.len() <= 12);
+        self.mark(Symbol::Close)?;
+        Ok(Statement::Create {
+            relation,
+            columns: Schema::new(columns),
+        })
+    }
+
+    // Reads an `insert`.
+    fn insert(&mut self, alloc: Global) -> Result<Statement, Stuck>
+        ensures { GivesAs statement_value (reading (after_word (codes "insert") insert_rest)) self.old self.new result }
+    {
+        self.word("insert")?;
+        let relation = self.name(alloc)?;
+        let values = Row::new(self.values(alloc)?);
+        Ok(Statement::Insert { relation, values })
+    }
+
+    // Reads a `delete`.
+    fn delete(&mut self, alloc: Global) -> Result<Statement, Stuck>
+        ensures { GivesAs statement_value (reading (after_word (codes "delete") delete_rest)) self.old self.new result }
+    {
+        self.word("delete")?;
+        let relation = self.name(alloc)?;
+        let id = self.natural(0, u32::MAX)?;
+        Ok(Statement::Delete { relation, id })
+    }
+
+    // Reads a `load`.
+    fn load(&mut self, alloc: Global) -> Result<Statement, Stuck>
+        ensures { GivesAs statement_value (reading (after_word (codes "load") load_rest)) self.old self.new result }
+    {
+        self.word("load")?;
+        let relation = self.name(alloc)?;
+        let file = self.text(alloc)?;
+        if !self.is_word("header") {
+            return Ok(Statement::Load {
+                relation,
+                file,
+                header: false,
+            });
+        }
+        self.word("header")?;
+        Ok(Statement::Load {
+            relation,
+            file,
+            header: true,
+        })
+    }
+
+    // Reads an `index`.
+    fn index(&mut self, alloc: Global) -> Result<Statement, Stuck>
+        ensures { GivesAs statement_value (reading (after_word (codes "index") index_rest)) self.old self.new result }
+    {
+        self.word("index")?;
+        let column = self.column(alloc)?;
+        if !self.is_number() {
+            return Ok(Statement::Index {
+                column,
+                threshold: None,
+            });
+        }
+        let threshold = self.natural(1, 64)?;
+        Ok(Statement::Index {
+            column,
+            threshold: Some(threshold as u8),
+        })
+    }
+
+    // Reads an `open`.
+    fn open(&mut self, alloc: Global) -> Result<Statement, Stuck>
+        ensures { GivesAs statement_value (reading (after_word (codes "open") open_rest)) self.old self.new result }
+    {
+        self.word("open")?;
+        let cursor = self.name(alloc)?;
+        self.mark(Symbol::Equal)?;
+        let plan = self.plan(alloc)?;
+        Ok(Statement::OpenCursor { cursor, plan })
+    }
+
+    // Reads a `next`.
+    fn next(&mut self, alloc: Global) -> Result<Statement, Stuck>
+        ensures { GivesAs statement_value (reading (after_word (codes "next") next_rest)) self.old self.new result }
+    {
+        self.word("next")?;
+        let cursor = self.name(alloc)?;
+        let count = self.natural(1, MOST_ROWS)?;
+        Ok(Statement::Next { cursor, count })
+    }
+
+    // Reads a `close`.
+    fn close(&mut self, alloc: Global) -> Result<Statement, Stuck>
+        ensures { GivesAs statement_value (reading (after_word (codes "close") close_rest)) self.old self.new result }
+    {
+        self.word("close")?;
+        let cursor = self.name(alloc)?;
+        Ok(Statement::CloseCursor { cursor })
+    }
+
+    // Reads a `show`.
+    fn show(&mut self, alloc: Global) -> Result<Statement, Stuck>
+        ensures { GivesAs statement_value (reading (after_word (codes "show") show_rest)) self.old self.new result }
+    {
+        self.word("show")?;
+        let count = self.natural(1, MOST_ROWS)?;
+        let plan = self.plan(alloc)?;
+        Ok(Statement::Show { count, plan })
+    }
+
+    // Reads a `stats`.
+    fn stats(&mut self, alloc: Global) -> Result<Statement, Stuck>
+        ensures { GivesAs statement_value (reading (after_word (codes "stats") stats_rest)) self.old self.new result }
+    {
+        self.word("stats")?;
+        let cursor = self.name(alloc)?;
+        Ok(Statement::Stats { cursor })
+    }
+
+    // Reads a `blocks`.
+    fn blocks(&mut self, alloc: Global) -> Result<Statement, Stuck>
+        ensures { GivesAs statement_value (reading (after_word (codes "blocks") blocks_rest)) self.old self.new result }
+    {
+        self.word("blocks")?;
+        let column = self.column(alloc)?;
+        Ok(Statement::Blocks { column })
+    }
+
+    // Reads a statement that changes no relation.
+    fn query(&mut self, alloc: Global) -> Result<Statement, Stuck>
+        ensures { GivesAs statement_value (reading query_form) self.old self.new result }
+    {
+        if self.is_word("open") {
+            return self.open(alloc);
+        }
+        if self.is_word("next") {
+            return self.next(alloc);
+        }
+        if self.is_word("close") {
+            return self.close(alloc);
+        }
+        if self.is_word("show") {
+            return self.show(alloc);
+        }
+        if self.is_word("stats") {
+            return self.stats(alloc);
+        }
+        self.blocks(alloc)
+    }
+
+    // Reads a statement.
+    fn statement(&mut self, alloc: Global) -> Result<Statement, Stuck>
+        ensures { GivesAs statement_value (reading statement_form) self.old self.new result }
+    {
+        if self.is_word("create") {
+            return self.create(alloc);
+        }
+        if self.is_word("insert") {
+            return self.insert(alloc);
+        }
+        if self.is_word("delete") {
+            return self.delete(alloc);
+        }
+        if self.is_word("load") {
+            return self.load(alloc);
+        }
+        if self.is_word("index") {
+            return self.index(alloc);
+        }
+        self.query(alloc)
+    }
+
+    /// Reads a statement, which is all that is left.
+    #[tactic(auto, unfolding(crate::specs::Grammar::whole))]
+    pub fn whole_statement(&mut self, alloc: Global) -> Result<Statement, Stuck>
+        ensures { GivesAs statement_value (whole statement_form) self.old self.new result }
+    {
+        let statement = self.statement(alloc)?;
+        self.end()?;
+        Ok(statement)
+    }
+}

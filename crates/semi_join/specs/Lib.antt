@@ -1,0 +1,4 @@
+pub mod LeftRows
+pub mod FirstPairs
+pub mod Visits
+pub mod Listed

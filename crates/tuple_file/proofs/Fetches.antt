@@ -1,0 +1,57 @@
+-- A row that is fetched, and the least id.
+use Rattle.std.proofs.Common.{◌≡◌, ℕ, List, sym, ◌∙◌, ap, subst}
+use Rattle.std.specs.Prelude.{Option, None, Some, option_map, IfSome}
+use Rattle.sand_base.specs.declared.kind.Kind.{Kind}
+use Rattle.sand_base.specs.declared.value.Value.{Value}
+use Rattle.tuple_codec.specs.Decoding.{IsEncodingOf}
+use Rattle.code_btree.specs.Node.{Pair}
+use Rattle.code_btree.specs.Items.{find_item, ceiling_item}
+use Rattle.code_btree.specs.Tree.{Store, tree_items}
+use Rattle.tuple_file.specs.declared.file.TupleFile.{TupleFile}
+use Rattle.tuple_file.specs.Page.{tuple_at}
+use Rattle.tuple_file.specs.Rows.{of_id, least_from}
+use Rattle.tuple_file.specs.File.{bytes_of, page_of, slot_of, tuple_of, file_rows}
+use Rattle.tuple_file.specs.Calls.{IsDecoded, IsRowAt}
+use Rattle.tuple_file.proofs.Counts.{none_some}
+use Rattle.tuple_file.proofs.Lists.{tuples_find, tuples_least}
+use Rattle.tuple_file.proofs.Houses.{tuple_here}
+
+-- the answer of decode
+pub decoded : (schema : List (List ℕ × Kind)) (bytes tuple : List ℕ) (found : Option (List Value)) → bytes ≡ tuple
+    → IfSome found (λ row. IsEncodingOf schema row bytes) → ((row : List Value) → IsEncodingOf schema row bytes → found ≡ Some row) → IsDecoded schema tuple found
+decoded schema bytes tuple None e h k = λ row is.
+    let P : List ℕ → Type 0 = λ b. IsEncodingOf schema row b in
+    none_some row (sym (k row (subst P (sym e) is)))
+decoded schema bytes tuple (Some row) e h k = let P : List ℕ → Type 0 = λ b. IsEncodingOf schema row b in subst P e h
+
+row_here : (schema : List (List ℕ × Kind)) (rows : List (ℕ × List ℕ)) (id : ℕ) (tuple : List ℕ) (found : Option (List Value)) → of_id id rows ≡ Some tuple → IsDecoded schema tuple found → IsRowAt schema rows id found
+row_here schema rows id tuple None e h = λ bytes row at is.
+    let P : Option (List ℕ) → Type 0 = λ o. IfSome o (λ b. IsEncodingOf schema row b) in
+    h row (subst P (sym at ∙ e) is)
+row_here schema rows id tuple (Some row) e h = (tuple, (e, h))
+
+pub row_found : (schema : List (List ℕ × Kind)) (m : Store) (f : TupleFile) (id v n slot : ℕ) (found : Option (List Value))
+    → Some v ≡ find_item id (tree_items m f.tree) → n ≡ page_of v → slot ≡ slot_of v → IsDecoded schema (tuple_at (bytes_of (m n)) slot) found → IsRowAt schema (file_rows m f) id found
+row_found schema m f id v n slot found e en es h =
+    row_here schema (file_rows m f) id (tuple_at (bytes_of (m n)) slot) found
+    (tuples_find m id (tree_items m f.tree) ∙ (ap (λ (o : Option ℕ). option_map (λ k. tuple_of m k) o) (sym e) ∙ ap (λ (b : List ℕ). Some b) (tuple_here m v n slot (sym en) (sym es)))) h
+
+pub row_absent : (schema : List (List ℕ × Kind)) (m : Store) (f : TupleFile) (id : ℕ) → None ≡ find_item id (tree_items m f.tree) → IsRowAt schema (file_rows m f) id None
+row_absent schema m f id e = λ bytes row at is.
+    none_some bytes (sym at ∙ (tuples_find m id (tree_items m f.tree) ∙ ap (λ (o : Option ℕ). option_map (λ k. tuple_of m k) o) (sym e)))
+
+pub least_is : (m : Store) (f : TupleFile) (from : ℕ) (o : Option Pair) → o ≡ ceiling_item from (tree_items m f.tree) → option_map (λ (e : Pair). e.0) o ≡ least_from from (file_rows m f)
+least_is m f from o e = ap (λ (p : Option Pair). option_map (λ (i : Pair). i.0) p) e ∙ sym (tuples_least m from (tree_items m f.tree))
+
+-- the same with what the code has: the key, the answer of the tree, and pages that stay
+pub row_found_by : (schema : List (List ℕ × Kind)) (m x : Store) (f : TupleFile) (id key v n slot : ℕ) (place : Option ℕ) (found : Option (List Value)) → key ≡ id → x ≡ m
+    → place ≡ find_item key (tree_items m f.tree) → place ≡ Some v → n ≡ page_of v → slot ≡ slot_of v → IsDecoded schema (tuple_at (bytes_of (x n)) slot) found → IsRowAt schema (file_rows m f) id found
+row_found_by schema m x f id key v n slot place found ek ex e is en es h =
+    let D : Store → Type 0 = λ s. IsDecoded schema (tuple_at (bytes_of (s n)) slot) found in
+    row_found schema m f id v n slot found (sym is ∙ (e ∙ ap (λ (k : ℕ). find_item k (tree_items m f.tree)) ek)) en es (subst D ex h)
+
+pub row_absent_by : (schema : List (List ℕ × Kind)) (m : Store) (f : TupleFile) (id key : ℕ) (place : Option ℕ) → key ≡ id → place ≡ find_item key (tree_items m f.tree) → place ≡ None → IsRowAt schema (file_rows m f) id None
+row_absent_by schema m f id key place ek e is = row_absent schema m f id (sym is ∙ (e ∙ ap (λ (k : ℕ). find_item k (tree_items m f.tree)) ek))
+
+pub least_by : (m : Store) (f : TupleFile) (from key : ℕ) (o : Option Pair) (given : Option ℕ) → key ≡ from → o ≡ ceiling_item key (tree_items m f.tree) → option_map (λ (e : Pair). e.0) o ≡ given → given ≡ least_from from (file_rows m f)
+least_by m f from key o given ek e is = sym is ∙ least_is m f from o (e ∙ ap (λ (k : ℕ). ceiling_item k (tree_items m f.tree)) ek)

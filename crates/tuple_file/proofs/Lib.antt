@@ -1,0 +1,14 @@
+-- bytes pasted into a page
+pub mod Pastes
+-- places, pages and ids, counted and listed
+pub mod Counts
+pub mod Lists
+-- a file and its pages
+pub mod Houses
+-- the writing calls
+pub mod Settles
+pub mod Puts
+pub mod Takes
+-- the reading calls, and rows in place of bytes
+pub mod Fetches
+pub mod Tables

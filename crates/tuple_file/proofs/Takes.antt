@@ -1,0 +1,245 @@
+-- A tuple is taken: out of a page, and out of the file.
+use Rattle.std.proofs.Common.{◌≡◌, ◌≢◌, ℕ, ◌+◌, ◌*◌, ◌<◌, ◌≤◌, Bool, true, false, List, [], ◌∷◌, refl, sym, ◌∙◌, ap, ap₂, subst, inl, inr, arith}
+use Rattle.std.specs.Prelude.{Option, None, Some, is_some, option_map, IfSome}
+use Rattle.std.proofs.lemmas.Bool.Decides.{eqb_tells}
+use Rattle.code_btree.specs.declared.map.Tree.{Tree}
+use Rattle.code_btree.specs.Node.{Pair}
+use Rattle.code_btree.specs.Items.{find_item, drop_item}
+use Rattle.code_btree.specs.Tree.{Store, same, times, live, tree_items, tree_pages}
+use Rattle.code_btree.specs.Calls.{Removed}
+use Rattle.code_btree.proofs.Lists.{same_cases, same_self, live_none, live_same}
+use Rattle.code_btree.proofs.Roots.{keeps_of}
+use Rattle.code_btree.proofs.Frame.{frame}
+use Rattle.tuple_file.specs.declared.file.TupleFile.{TupleFile}
+use Rattle.tuple_file.specs.Page.{IsTuples, tuple_at, some}
+use Rattle.tuple_file.specs.File.{bytes_of, page_of, slot_of, tuple_of, tuples, places, homes, file_pages, IsHoused, IsFile}
+use Rattle.tuple_file.specs.Calls.{Taken}
+use Rattle.tuple_file.specs.Steps.{Left, Gone, Emptied}
+use Rattle.tuple_file.proofs.Counts.{times-up, times-drop, times-drop_none, none_home, found_leads, page_back, slot_back, some_same, none_some}
+use Rattle.tuple_file.proofs.Lists.{tuples_drop, tuples_find, tuples_same}
+use Rattle.tuple_file.proofs.Houses.{by_test, tuple_here, tuple_same, pages_count, home_live, owns_then}
+use Rattle.tuple_file.proofs.Puts.{one_place, apart_slots, apart_pages}
+
+-- The tuple at place v was taken, page n has others or is freed, and no other tuple of the file was touched.
+record Vacated (m w : Store) (es fs : List Pair) (n slot v : ℕ) (freed : Bool) : Type 0 where
+  page_is : page_of v ≡ n
+  slot_is : slot_of v ≡ slot
+  home : (q : ℕ) → 1 ≤ times q (homes es) → same q n ≡ 0 → w q ≡ m q
+  left : freed ≡ false → Left m w n slot
+  gone : freed ≡ true → Gone m w n slot
+  page_count : (q : ℕ) → times q (homes es) ≡ same q n + times q (homes fs)
+  place_count : (y : ℕ) → times y (places es) ≡ same y v + times y (places fs)
+
+-- page n was one of the file
+own : (m w : Store) (es fs : List Pair) (n slot v : ℕ) (freed : Bool) → Vacated m w es fs n slot v freed → (y : ℕ) → page_of y ≡ n → 1 ≤ times (page_of y) (homes es)
+own m w es fs n slot v freed p y e = omega (arith, p.page_count n, same_self n, ap (λ (k : ℕ). times k (homes es)) e)
+
+-- no id leads to the place any more
+unled : (m w : Store) (es fs : List Pair) (n slot v : ℕ) (freed : Bool) → IsHoused m es → Vacated m w es fs n slot v freed → times v (places fs) ≡ 0
+unled m w es fs n slot v freed h p = omega (arith, p.place_count v, same_self v, h.led v (own m w es fs n slot v freed p v p.page_is), some_small (tuple_of m v))
+  where
+    some_small : (xs : List ℕ) → some xs ≤ 1
+    some_small [] = omega arith
+    some_small (x ∷ xs) = omega arith
+
+-- a page with a tuple left is still one of the file
+home_left : (m w : Store) (es fs : List Pair) (n slot v : ℕ) (freed : Bool) → IsHoused m es → Vacated m w es fs n slot v freed → Left m w n slot → 1 ≤ times n (homes fs)
+home_left m w es fs n slot v freed h p l =
+    let k : ℕ = l.one.0 in
+    let y : ℕ = n * 65536 + k in
+    let small : k < 65536 = omega (arith, l.one.1.0) in
+    let page_is : page_of y ≡ n = page_back n k small in
+    let slot_is : slot_of y ≡ k = slot_back n k small in
+    let has = l.one.1.1 in
+    let d : k ≢ slot = λ e. absurd (omega (arith, has, ap (λ (b : List ℕ). some b) (ap (λ (j : ℕ). tuple_at (bytes_of (w n)) j) e ∙ l.cleared.here))) in
+    let one : some (tuple_of m y) ≡ 1 = ap (λ (b : List ℕ). some b) (tuple_here m y n k page_is slot_is ∙ sym (l.cleared.others k d)) ∙ has in
+    let far : slot_of y ≢ slot = λ e. d (sym slot_is ∙ e) in
+    omega (arith, one, h.led y (own m w es fs n slot v freed p y page_is), p.place_count y, apart_slots y v slot p.slot_is far, times-up y fs, ap (λ (j : ℕ). times j (homes fs)) page_is)
+
+-- a page without a tuple is none of the file
+home_gone : (m w : Store) (es fs : List Pair) (n slot v : ℕ) (freed : Bool) → IsHoused m es → Vacated m w es fs n slot v freed → Gone m w n slot → times n (homes fs) ≡ 0
+home_gone m w es fs n slot v freed h p g =
+    none_home n fs (λ y e. elim (eqb_tells (slot_of y) slot) [
+      | inl z ↦ ap (λ (k : ℕ). times k (places fs)) (one_place y v n slot e z.1 p.page_is p.slot_is) ∙ unled m w es fs n slot v freed h p
+      | inr z ↦ omega (arith, h.led y (own m w es fs n slot v freed p y e), p.place_count y, ap (λ (b : List ℕ). some b) (tuple_here m y n (slot_of y) e refl ∙ g.bare (slot_of y) z.1))
+    ])
+
+other_place : (m w : Store) (n slot : ℕ) → Left m w n slot → (y : ℕ) → page_of y ≡ n → slot_of y ≢ slot → tuple_of w y ≡ tuple_of m y
+other_place m w n slot l y e d = tuple_here w y n (slot_of y) e refl ∙ (l.cleared.others (slot_of y) d ∙ sym (tuple_here m y n (slot_of y) e refl))
+
+-- where an id still leads to page n, it was not freed
+still : (m w : Store) (es fs : List Pair) (n slot v : ℕ) (freed : Bool) → IsHoused m es → Vacated m w es fs n slot v freed → 1 ≤ times n (homes fs) → Left m w n slot
+still m w es fs n slot v freed h p l = by_test freed p.left (λ e. absurd (omega (arith, l, home_gone m w es fs n slot v freed h p (p.gone e))))
+
+tuples_stay : (m w : Store) (es fs : List Pair) (n slot v : ℕ) (freed : Bool) → IsHoused m es → Vacated m w es fs n slot v freed → (y : ℕ) → 1 ≤ times y (places fs) → tuple_of w y ≡ tuple_of m y
+tuples_stay m w es fs n slot v freed h p y l = elim (same_cases (page_of y) n) [
+  | inl j ↦ elim (eqb_tells (slot_of y) slot) [
+    | inl z ↦ absurd (omega (arith, l, unled m w es fs n slot v freed h p, ap (λ (k : ℕ). times k (places fs)) (one_place y v n slot j.1 z.1 p.page_is p.slot_is)))
+    | inr z ↦ other_place m w n slot (still m w es fs n slot v freed h p (omega (arith, l, times-up y fs, ap (λ (k : ℕ). times k (homes fs)) j.1))) y j.1 z.1
+  ]
+  | inr j ↦ tuple_same m w y (p.home (page_of y) (omega (arith, l, times-up y fs, p.page_count (page_of y))) j.0)
+]
+
+houses_take : (m w : Store) (es fs : List Pair) (n slot v : ℕ) (freed : Bool) → IsHoused m es → Vacated m w es fs n slot v freed → IsHoused w fs
+houses_take m w es fs n slot v freed h p = record {
+  sound = λ q l.
+      let P : Option (List ℕ) → Type 0 = λ o. IsTuples (bytes_of o) in
+      let Q : ℕ → Type 0 = λ k. IsTuples (bytes_of (w k)) in
+      elim (same_cases q n) [
+        | inl j ↦ subst Q (sym j.1) (still m w es fs n slot v freed h p (omega (arith, l, ap (λ (k : ℕ). times k (homes fs)) j.1))).cleared.sound
+        | inr j ↦ let k : 1 ≤ times q (homes es) = omega (arith, l, p.page_count q) in subst P (sym (p.home q k j.0)) (h.sound q k)
+      ];
+  led = λ y l. elim (same_cases (page_of y) n) [
+    | inl j ↦
+        let t : Left m w n slot = still m w es fs n slot v freed h p (omega (arith, l, ap (λ (k : ℕ). times k (homes fs)) j.1)) in
+        elim (eqb_tells (slot_of y) slot) [
+          | inl z ↦
+              omega (
+                arith,
+                unled m w es fs n slot v freed h p,
+                ap (λ (k : ℕ). times k (places fs)) (one_place y v n slot j.1 z.1 p.page_is p.slot_is),
+                ap (λ (b : List ℕ). some b) (tuple_here w y n slot j.1 z.1 ∙ t.cleared.here),
+              )
+          | inr z ↦
+              omega (arith, p.place_count y, apart_slots y v slot p.slot_is z.1, h.led y (own m w es fs n slot v freed p y j.1), ap (λ (b : List ℕ). some b) (other_place m w n slot t y j.1 z.1))
+        ]
+    | inr j ↦
+        let k : 1 ≤ times (page_of y) (homes es) = omega (arith, l, p.page_count (page_of y)) in
+        omega (arith, p.place_count y, apart_pages y v n p.page_is j.0, h.led y k, ap (λ (b : List ℕ). some b) (tuple_same m w y (p.home (page_of y) k j.0)))
+  ];
+}
+
+-- The newest page is as before, or none; and it isn't one that was freed.
+pub record IsNewest (old new : Option ℕ) (n : ℕ) (freed : Bool) : Type 0 where
+  pub same_page : (q : ℕ) → new ≡ Some q → old ≡ Some q
+  pub is_left : (q : ℕ) → freed ≡ true → new ≡ Some q → q ≢ n
+  pub kept : (q : ℕ) → old ≡ Some q → (freed ≡ true → q ≢ n) → new ≡ Some q
+
+pub take_done : (m x w : Store) (f : TupleFile) (u : Tree) (id n slot v : ℕ) (freed : Bool) (newest : Option ℕ) → IsFile m f → Removed m x f.tree u id (Some v)
+    → n ≡ page_of v → slot ≡ slot_of v → Emptied x w n slot freed → IsNewest f.newest newest n freed → Taken m w f (record { tree = u; newest = newest }) id true
+take_done m x w f u id n slot v freed newest file r en es' e last =
+    let es : List Pair = tree_items m f.tree in
+    let ts : List ℕ = tree_pages m f.tree in
+    let fs : List Pair = tree_items w u in
+    let g : TupleFile = record { tree = u; newest = newest } in
+    let found : find_item id es ≡ Some v = sym r.found in
+    let asc = file.tree.at.ascending in
+    let home_n : 1 ≤ times n (homes es) = omega (arith, found_leads id v es found, times-up v es, ap (λ (k : ℕ). times k (homes es)) en) in
+    let kn = home_live m f n file home_n in
+    let xm : (q : ℕ) → 1 ≤ times q (homes es) → x q ≡ m q = λ q l. (let k = home_live m f q file l in r.keeps.others q k.0 k.1) in
+    let xn : x n ≡ m n = xm n home_n in
+    let un : times n (tree_pages x u) ≡ 0 = omega (arith, r.keeps.moved n, kn.0, kn.1, live_same m x n xn) in
+    let t = frame x w u (λ q l. e.others q (elim (same_cases q n) [ inl j ↦ absurd (omega (arith, un, l, ap (λ (k : ℕ). times k (tree_pages x u)) j.1)) | inr j ↦ j.0 ])) in
+    let items : fs ≡ drop_item id es = t.items ∙ r.items in
+    let up : (q : ℕ) → times q (tree_pages w u) ≡ times q (tree_pages x u) = λ q. ap (λ (ps : List ℕ). times q ps) t.pages in
+    let hc : (q : ℕ) → times q (homes es) ≡ same q n + times q (homes fs) = λ q. times-drop (λ i. page_of i.1) q id v es asc found
+    ∙ ap₂ (λ (k : ℕ) (xs : List Pair). same q k + times q (homes xs)) (sym en) (sym items) in
+    let pc : (y : ℕ) → times y (places es) ≡ same y v + times y (places fs) = λ y. times-drop (λ i. i.1) y id v es asc found ∙ ap (λ (xs : List Pair). same y v + times y (places xs)) (sym items) in
+    let p : Vacated m w es fs n slot v freed = record {
+      page_is = sym en;
+      slot_is = sym es';
+      home = λ q l d. e.others q d ∙ xm q l;
+      left = λ k. left_from x m w n slot xn (e.left k);
+      gone = λ k. gone_from x m w n slot xn (e.gone k);
+      page_count = hc;
+      place_count = pc;
+    } in
+    let moved : (q : ℕ) → live w q + times q (file_pages m f) ≡ live m q + times q (file_pages w g) = λ q. elim (same_cases q n) [
+      | inl j ↦ by_test freed
+          (λ k. (let l = home_left m w es fs n slot v freed file.housed p (p.left k) in
+          omega (arith, r.keeps.moved q, up q, pages_count m f q, pages_count w g q, l, home_n, (p.left k).is_live, live_same m x n xn, kn.0, ap (λ (i : ℕ). live x i) j.1, ap (λ (i : ℕ). live w i) j.1, ap (λ (i : ℕ). times i (homes es)) j.1, ap (λ (i : ℕ). times i (homes fs)) j.1)))
+          (λ k. (let l = home_gone m w es fs n slot v freed file.housed p (p.gone k) in
+          omega (arith, r.keeps.moved q, up q, pages_count m f q, pages_count w g q, l, home_n, live_none w n (p.gone k).freed, live_same m x n xn, kn.0, ap (λ (i : ℕ). live x i) j.1, ap (λ (i : ℕ). live w i) j.1, ap (λ (i : ℕ). times i (homes es)) j.1, ap (λ (i : ℕ). times i (homes fs)) j.1)))
+      | inr j ↦ omega (arith, r.keeps.moved q, up q, pages_count m f q, pages_count w g q, hc q, j.0, live_same x w q (e.others q j.0))
+    ] in
+    let owns = owns_then m w (file_pages m f) (file_pages w g) file.owns moved in
+    record {
+      file = record {
+        tree = t.tree r.tree;
+        owns = owns;
+        housed = houses_take m w es fs n slot v freed file.housed p;
+        newest = λ q k.
+            let l : 1 ≤ times q (homes es) = file.newest q (last.same_page q k) in
+            elim (same_cases q n) [
+              | inl j ↦ by_test freed
+                  (λ b. omega (arith, home_left m w es fs n slot v freed file.housed p (p.left b), ap (λ (i : ℕ). times i (homes fs)) j.1))
+                  (λ b. absurd (last.is_left q b k j.1))
+              | inr j ↦ omega (arith, l, hc q, j.0)
+            ];
+      };
+      rows = tuples_same m w fs (tuples_stay m w es fs n slot v freed file.housed p) ∙ (ap (λ (xs : List Pair). tuples m xs) items ∙ tuples_drop m id es asc);
+      found = sym (ap (λ (o : Option (List ℕ)). is_some o) (tuples_find m id es ∙ ap (λ (o : Option ℕ). option_map (λ k. tuple_of m k) o) found));
+      stays = λ q k l. last.kept q k (λ b z. absurd (omega (arith, l, owns q, ap (λ (i : ℕ). live w i) z, live_none w n (p.gone b).freed)));
+      keeps = keeps_of m w (file_pages m f) (file_pages w g)
+          (λ q l z.
+          let c = pages_count m f q in
+          let d : same q n ≡ 0 = elim (same_cases q n) [ inl j ↦ absurd (omega (arith, z, c, home_n, ap (λ (k : ℕ). times k (homes es)) j.1)) | inr j ↦ j.0 ] in
+          e.others q d ∙ r.keeps.others q l (omega (arith, z, c)))
+          moved;
+    }
+  where
+    left_from : (x m w : Store) (n slot : ℕ) → x n ≡ m n → Left x w n slot → Left m w n slot
+    left_from x m w n slot k l =
+        let P : Option (List ℕ) → Type 0 = λ o. Rattle.tuple_file.specs.Page.Cleared (bytes_of o) (bytes_of (w n)) slot in
+        record { is_live = l.is_live; cleared = subst P k l.cleared; one = l.one }
+
+    gone_from : (x m w : Store) (n slot : ℕ) → x n ≡ m n → Gone x w n slot → Gone m w n slot
+    gone_from x m w n slot k l =
+        let P : Option (List ℕ) → Type 0 = λ o. (i : ℕ) → i ≢ slot → tuple_at (bytes_of o) i ≡ [] in
+        record { freed = l.freed; bare = subst P k l.bare }
+
+-- the id wasn't there: the file is as it was, though its tree may lie elsewhere
+pub take_none : (m w : Store) (f : TupleFile) (u : Tree) (id : ℕ) → IsFile m f → Removed m w f.tree u id None → Taken m w f (record { tree = u; newest = f.newest }) id false
+take_none m w f u id file r =
+    let es : List Pair = tree_items m f.tree in
+    let fs : List Pair = tree_items w u in
+    let g : TupleFile = record { tree = u; newest = f.newest } in
+    let found : find_item id es ≡ None = sym r.found in
+    let hc : (q : ℕ) → times q (homes fs) ≡ times q (homes es) = λ q. ap (λ (xs : List Pair). times q (homes xs)) r.items ∙ times-drop_none (λ i. page_of i.1) q id es found in
+    let pc : (y : ℕ) → times y (places fs) ≡ times y (places es) = λ y. ap (λ (xs : List Pair). times y (places xs)) r.items ∙ times-drop_none (λ i. i.1) y id es found in
+    let home : (q : ℕ) → 1 ≤ times q (homes es) → w q ≡ m q = λ q l. (let k = home_live m f q file l in r.keeps.others q k.0 k.1) in
+    let moved : (q : ℕ) → live w q + times q (file_pages m f) ≡ live m q + times q (file_pages w g) = λ q. omega (arith, r.keeps.moved q, pages_count m f q, pages_count w g q, hc q) in
+    record {
+      file = record {
+        tree = r.tree;
+        owns = owns_then m w (file_pages m f) (file_pages w g) file.owns moved;
+        housed = record {
+          sound = λ q l.
+              let k : 1 ≤ times q (homes es) = omega (arith, l, hc q) in
+              let P : Option (List ℕ) → Type 0 = λ o. IsTuples (bytes_of o) in
+              subst P (sym (home q k)) (file.housed.sound q k);
+          led = λ v l.
+              let k : 1 ≤ times (page_of v) (homes es) = omega (arith, l, hc (page_of v)) in
+              omega (arith, pc v, file.housed.led v k, ap (λ (b : List ℕ). some b) (tuple_same m w v (home (page_of v) k)));
+        };
+        newest = λ q e. omega (arith, file.newest q e, hc q);
+      };
+      rows = tuples_same m w fs (λ v l. tuple_same m w v (home (page_of v) (omega (arith, l, pc v, times-up v es)))) ∙ (ap (λ (xs : List Pair). tuples m xs) r.items ∙ tuples_drop m id es file.tree.at.ascending);
+      found = sym (ap (λ (o : Option (List ℕ)). is_some o) (tuples_find m id es ∙ ap (λ (o : Option ℕ). option_map (λ k. tuple_of m k) o) found));
+      stays = λ q k l. k;
+      keeps = keeps_of m w (file_pages m f) (file_pages w g) (λ q l z. r.keeps.others q l (omega (arith, z, pages_count m f q))) moved;
+    }
+
+-- the tuple that is to be taken lies in a page of tuples
+pub taken_sound : (m x : Store) (f : TupleFile) (u : Tree) (id n v : ℕ) → IsFile m f → Removed m x f.tree u id (Some v) → n ≡ page_of v → IsTuples (bytes_of (x n))
+taken_sound m x f u id n v file r en =
+    let es : List Pair = tree_items m f.tree in
+    let l : 1 ≤ times n (homes es) = omega (arith, found_leads id v es (sym r.found), times-up v es, ap (λ (k : ℕ). times k (homes es)) en) in
+    let k = home_live m f n file l in
+    let P : Option (List ℕ) → Type 0 = λ o. IsTuples (bytes_of o) in
+    subst P (sym (r.keeps.others n k.0 k.1)) (file.housed.sound n l)
+
+kept_of : (old new : Option ℕ) (q n : ℕ) (freed : Bool) → old ≡ Some q → IfSome old (λ k. (freed ≡ true → k ≢ n) → new ≡ Some k) → (freed ≡ true → q ≢ n) → new ≡ Some q
+kept_of old new q n freed e l = let P : Option ℕ → Type 0 = λ o. IfSome o (λ k. (freed ≡ true → k ≢ n) → new ≡ Some k) in subst P e l
+
+pub newest_is : (old new : Option ℕ) (n : ℕ) (freed : Bool) → IfSome new (λ k. old ≡ Some k) → (freed ≡ true → IfSome new (λ k. k ≢ n)) → IfSome old (λ k. (freed ≡ true → k ≢ n) → new ≡ Some k) → IsNewest old new n freed
+newest_is old None n freed h k l = record { same_page = λ q e. absurd (none_some q (sym e)); is_left = λ q b e. absurd (none_some q (sym e)); kept = λ q e. kept_of old None q n freed e l }
+newest_is old (Some p) n freed h k l = record {
+  same_page = λ q e. h ∙ e;
+  is_left = λ q b e z. k b (some_same p q e ∙ z);
+  kept = λ q e. kept_of old (Some p) q n freed e l;
+}
+
+-- the same removal, by the id that was asked for and the answer that came
+pub removed_as : (m x : Store) (t u : Tree) (key id : ℕ) (was is : Option ℕ) → key ≡ id → was ≡ is → Removed m x t u key was → Removed m x t u id is
+removed_as m x t u key id was is ek ew r = let R : ℕ → Type 0 = λ k. Removed m x t u k was in let S : Option ℕ → Type 0 = λ o. Removed m x t u id o in subst S ew (subst R ek r)

@@ -1,0 +1,150 @@
+ghost use Rattle.std.specs.Prelude.{◌≡◌, ◌+◌, ◌≤◌, ◌≢◌, length, true, Some, None, IfOk, IfSome, OnOk, OnErr};
+ghost use Rattle.page_pool.specs.Pool.{IsOpen, IsTold};
+ghost use Rattle.page_pool.specs.Causes.{HasPageCause};
+ghost use Rattle.page_pool.specs.Steps.{InCommand};
+ghost use Rattle.code_btree.specs.Tree.{pages_in};
+ghost use Rattle.code_btree.specs.Calls.{Looks};
+ghost use Rattle.tuple_file.specs.Rows.{of_id, least_from};
+ghost use Rattle.tuple_file.specs.File.{IsFile, file_rows};
+ghost use Rattle.tuple_file.specs.Calls.{Planted, Put, Taken, IsRowAt};
+
+use crate::place::{place_of, spot_of};
+use crate::row::row_at;
+use crate::steps::{empty, settle};
+use code_btree::Tree;
+use page_pool::{Disk, PageFault, Pages, Pool};
+use sand_base::{Row, Schema};
+use std::alloc::Global;
+
+/// A list of (id, bytes) by id in pages: the tree from the ids to the places of the tuples, and the page into
+/// which tuples go, until it is full or freed.
+#[derive(Clone, Copy, Debug, PartialEq, Eq)]
+pub struct TupleFile {
+    pub tree: Tree,
+    pub newest: Option<u64>,
+}
+
+impl TupleFile {
+    /// The empty list.
+    pub fn plant<D: Disk>(pool: &mut Pool<D>) -> Result<TupleFile, PageFault>
+        requires { IsOpen pool.old }
+        ensures value { IfOk result (λ file. IsTold pool.old → Planted (pages_in pool.old) (pages_in pool.new) file) }
+        ensures within { InCommand pool.old pool.new }
+        ensures cause { HasPageCause pool.old pool.new result }
+    {
+        let tree = Tree::plant(pool)?;
+        Ok(TupleFile { tree, newest: None })
+    }
+
+    /// Puts the bytes of a new id into the list, 1 to 3,900 of them. After a refusal the command is to be
+    /// aborted; the file is the one of before.
+    pub fn put<D: Disk>(
+        &mut self,
+        pool: &mut Pool<D>,
+        id: u32,
+        bytes: &[u8],
+    ) -> Result<(), PageFault>
+        requires opened { IsOpen pool.old }
+        requires some { 1 ≤ length bytes.now }
+        requires short { length bytes.now ≤ 3900 }
+        requires file { IsTold pool.old → IsFile (pages_in pool.old) self.old }
+        requires fresh { IsTold pool.old → of_id id (file_rows (pages_in pool.old) self.old) ≡ None }
+        ensures value { OnOk result (IsTold pool.old → Put (pages_in pool.old) (pages_in pool.new) self.old self.new id bytes.now) }
+        ensures unchanged { OnErr result (self.new ≡ self.old) }
+        ensures within { InCommand pool.old pool.new }
+        ensures cause { HasPageCause pool.old pool.new result }
+    {
+        let mut tree = self.tree;
+        let (page, slot) = settle(pool, self.newest, bytes)?;
+        let _was = tree.insert(pool, u128::from(id), place_of(page, slot))?;
+        *self = TupleFile {
+            tree,
+            newest: Some(page),
+        };
+        Ok(())
+    }
+
+    /// Takes an id out of the list, and says whether it was there. A page whose last tuple goes is freed. After a
+    /// refusal the command is to be aborted; the file is the one of before.
+    pub fn take<D: Disk>(&mut self, pool: &mut Pool<D>, id: u32) -> Result<bool, PageFault>
+        requires opened { IsOpen pool.old }
+        requires file { IsTold pool.old → IsFile (pages_in pool.old) self.old }
+        ensures value { IfOk result (λ was. IsTold pool.old → Taken (pages_in pool.old) (pages_in pool.new) self.old self.new id was) }
+        ensures unchanged { OnErr result (self.new ≡ self.old) }
+        ensures within { InCommand pool.old pool.new }
+        ensures cause { HasPageCause pool.old pool.new result }
+    {
+        let mut tree = self.tree;
+        let Some(place) = tree.remove(pool, u128::from(id))? else {
+            *self = TupleFile {
+                tree,
+                newest: self.newest,
+            };
+            return Ok(false);
+        };
+        let Some((page, slot)) = spot_of(place) else {
+            return Err(PageFault::Memory);
+        };
+        let freed = empty(pool, page, slot)?;
+        *self = TupleFile {
+            tree,
+            newest: unless_freed(self.newest, page, freed),
+        };
+        Ok(true)
+    }
+
+    /// The row of the schema of which the bytes of the id are the encoding. `None` comes where the id isn't
+    /// there, or its bytes are the encoding of no row.
+    pub fn fetch<P: Pages>(
+        &self,
+        alloc: Global,
+        pages: &mut P,
+        schema: &Schema,
+        id: u32,
+    ) -> Result<Option<Row>, PageFault>
+        requires { IsTold (P.shown pages.old) → IsFile (pages_in (P.shown pages.old)) self.now }
+        ensures value { IfOk result (λ row. IsTold (P.shown pages.old) → IsRowAt schema.now (file_rows (pages_in (P.shown pages.old)) self.now) id row) }
+        ensures looks { Looks (P.shown pages.old) (P.shown pages.new) (self.now.tree.height + 1) result }
+    {
+        let Some(place) = self.tree.get(pages, u128::from(id))? else {
+            return Ok(None);
+        };
+        let Some((page, slot)) = spot_of(place) else {
+            return Err(PageFault::Memory);
+        };
+        let row = row_at(alloc, pages, schema, page, slot)?;
+        Ok(row)
+    }
+
+    /// The least id not below this one.
+    pub fn scan<P: Pages>(&self, pages: &mut P, from: u32) -> Result<Option<u32>, PageFault>
+        requires { IsTold (P.shown pages.old) → IsFile (pages_in (P.shown pages.old)) self.now }
+        ensures value { IfOk result (λ id. IsTold (P.shown pages.old) → id ≡ least_from from (file_rows (pages_in (P.shown pages.old)) self.now)) }
+        ensures rises { IfOk result (λ id. IfSome id (λ id. from ≤ id)) }
+        ensures looks { Looks (P.shown pages.old) (P.shown pages.new) (self.now.tree.height + 1) result }
+    {
+        let Some((key, _)) = self.tree.ceiling(pages, u128::from(from))? else {
+            return Ok(None);
+        };
+        let Ok(id) = u32::try_from(key) else {
+            return Err(PageFault::Memory);
+        };
+        if id < from {
+            return Err(PageFault::Memory);
+        }
+        Ok(Some(id))
+    }
+}
+
+// The newest page, unless it is this one, which was freed.
+fn unless_freed(newest: Option<u64>, page: u64, freed: bool) -> Option<u64>
+    ensures same { IfSome result (λ n. newest ≡ Some n) }
+    ensures live { freed ≡ true → IfSome result (λ n. n ≢ page) }
+    ensures kept { IfSome newest (λ n. (freed ≡ true → n ≢ page) → result ≡ Some n) }
+{
+    let n = newest?;
+    if freed && n == page {
+        return None;
+    }
+    Some(n)
+}

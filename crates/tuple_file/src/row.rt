@@ -1,0 +1,32 @@
+ghost use Rattle.std.specs.Prelude.{IfOk};
+ghost use Rattle.page_pool.specs.Pool.{IsTold};
+ghost use Rattle.code_btree.specs.Tree.{pages_in};
+ghost use Rattle.code_btree.specs.Calls.{Looks};
+ghost use Rattle.tuple_file.specs.Page.{tuple_at};
+ghost use Rattle.tuple_file.specs.File.{bytes_of};
+ghost use Rattle.tuple_file.specs.Calls.{IsDecoded};
+
+use crate::page::tuple_of;
+use page_pool::{PageFault, Pages};
+use sand_base::{Row, Schema};
+use std::alloc::Global;
+use tuple_codec::decode;
+
+/// The row of which the tuple of a slot of page `n` is the encoding: one get.
+pub fn row_at<P: Pages>(
+    alloc: Global,
+    pages: &mut P,
+    schema: &Schema,
+    n: u64,
+    slot: u16,
+) -> Result<Option<Row>, PageFault>
+    ensures value { IfOk result (λ row. IsTold (P.shown pages.old) → IsDecoded schema.now (tuple_at (bytes_of (pages_in (P.shown pages.old) n)) slot) row) }
+    ensures looks { Looks (P.shown pages.old) (P.shown pages.new) 1 result }
+{
+    if !pages.is_live(n) {
+        return Err(PageFault::Memory);
+    }
+    let page = pages.page(n)?;
+    let row = decode(alloc, schema, tuple_of(page, slot))?;
+    Ok(row)
+}
