@@ -1,0 +1,159 @@
+-- Entries and the keys in them; a leaf's ids and values, as they are read.
+use Rattle.std.proofs.Common.{◌≡◌, ℕ, zero, suc, ◌+◌, ◌^◌, ◌<◌, ◌≤◌, Bool, true, false, cond, not, List, [], ◌∷◌, ◌++◌, length, map, refl, sym, ◌∙◌, ap, subst, arith, get_or, drop, take, add-one}
+use Rattle.std.specs.Prelude.{filter, nat_eq, Option, None, Some, MatchOption, IfSome}
+use Rattle.std.proofs.lemmas.Bool.Decides.{nat_tests}
+use Rattle.z_code.specs.declared.block.Block.{Block}
+use Rattle.std.proofs.Math.Seq.{drop-cons}
+use Rattle.std.proofs.lemmas.List.Elements.{filter-append}
+use Rattle.sand_model.specs.Tree.{Tree, Leaf, Inner, add, without}
+use Rattle.pmr_tree.specs.Lists.{Each, is_between, put_all, take_all}
+use Rattle.pmr_tree.specs.Keys.{key_of, mark_of, leaf_keys, own, IsId, Reads, id_in, ids_in}
+use Rattle.pmr_tree.specs.Leaves.{Pair, firsts, Passes, own_pairs, kept_of, ids_of, ListPasses, IsLeafOf}
+use Rattle.pmr_tree.specs.declared.leaf.Kept.{Kept}
+use Rattle.pmr_tree.proofs.Orders.{holds, fails, test, each_filter}
+use Rattle.pmr_tree.proofs.KeyLists.{own_leaf, own_inner}
+
+pub map_filter : {A B : Type 0} (f : A → B) (p : B → Bool) (xs : List A) → map f (filter (λ x. p (f x)) xs) ≡ filter p (map f xs)
+map_filter f p [] = refl
+map_filter f p (x ∷ xs) = elim (test (p (f x))) [ holds h ↦ rw h (ap (λ t. f x ∷ t) (map_filter f p xs)) | fails h ↦ rw h (map_filter f p xs) ]
+
+map_map : {A B C : Type 0} (f : B → C) (h : A → B) (xs : List A) → map f (map h xs) ≡ map (λ x. f (h x)) xs
+map_map f h [] = refl
+map_map f h (x ∷ xs) = ap (λ t. f (h x) ∷ t) (map_map f h xs)
+
+-- the keys of a block's own entries
+pub firsts_own : (b : Block) (es : List Pair) → firsts (own_pairs b es) ≡ own b (firsts es)
+firsts_own b es = map_filter (λ e. e.0) (is_between (mark_of b) (mark_of b + 2 ^ 32)) es
+
+abbrev mk_of : Pair → Kept
+mk_of e = record { id = id_in e.0; value = e.1 }
+
+pub ids_kept : (es : List Pair) → ids_of (kept_of es) ≡ ids_in (firsts es)
+ids_kept es =
+    map_filter (λ k. k.id) (λ i. not (nat_eq i 0)) (map mk_of es)
+    ∙ ap (filter (λ i. not (nat_eq i 0))) (map_map (λ k. k.id) mk_of es ∙ sym (map_map id_in (λ e. e.0) es))
+
+some_id : (i : ℕ) → not (nat_eq i 0) ≡ true → 1 ≤ i
+some_id i h = grind (arith, nat_tests)
+
+pub passes_kept : (test : ℕ → ℕ → Bool) (es : List Pair) → Passes test es → ListPasses test (kept_of es)
+passes_kept test [] h = tt
+passes_kept test (e ∷ es) h =
+    let go : (b : Bool) → not (nat_eq (id_in e.0) 0) ≡ b → ListPasses test (cond b (mk_of e ∷ kept_of es) (kept_of es)) =
+    elim [ true ↦ λ some. (h.0 (some_id (id_in e.0) some), passes_kept test es h.1) | false ↦ λ none. passes_kept test es h.1 ] in
+    go (not (nat_eq (id_in e.0) 0)) refl
+
+pub leaf_found : (b : Block) (es pairs : List Pair) → pairs ≡ own_pairs b es → 0 < length pairs → IsLeafOf b (firsts es) (ids_of (kept_of pairs))
+leaf_found b es pairs is some = record {
+  some = λ none. (let z = no_pairs pairs (ap firsts is ∙ firsts_own b es ∙ none) in absurd (omega arith));
+  ids_are = ids_kept pairs ∙ ap ids_in (ap firsts is ∙ firsts_own b es);
+} where
+  no_pairs : (xs : List Pair) → firsts xs ≡ [] → length xs ≡ 0
+  no_pairs [] h = refl
+  no_pairs (x ∷ xs) h = cc
+
+pub no_leaf_found : (b : Block) (es pairs : List Pair) → pairs ≡ own_pairs b es → length pairs ≡ 0 → own b (firsts es) ≡ []
+no_leaf_found b es pairs is none = sym (firsts_own b es) ∙ sym (ap firsts is) ∙ ap firsts (nil pairs none) where
+  nil : (xs : List Pair) → length xs ≡ 0 → xs ≡ []
+  nil [] h = refl
+  nil (x ∷ xs) h = absurd (omega arith)
+
+pub found_passes : (test : ℕ → ℕ → Bool) (b : Block) (es pairs : List Pair) → pairs ≡ own_pairs b es → Passes test es → ListPasses test (kept_of pairs)
+found_passes test b es pairs is h = passes_kept test pairs (subst (Passes test) (sym is) (each_filter (λ e. 1 ≤ id_in e.0 → test (id_in e.0) e.1 ≡ true) (λ e. is_between (mark_of b) (mark_of b + 2 ^ 32) e.0) es h))
+
+-- a leaf's keys have its ids
+pub id_in_key : (b : Block) (id : ℕ) → id < 2 ^ 32 → id_in (key_of b id) ≡ id
+id_in_key b id h = omega arith
+
+pub ids_leaf : (b : Block) (ids : List ℕ) → Each IsId ids → ids_in (leaf_keys b ids) ≡ ids
+ids_leaf b [] h = ap (λ t. filter (λ i. not (nat_eq i 0)) (t ∷ [])) (id_in_key b 0 (omega arith))
+ids_leaf b (id ∷ ids) h = each_in (id ∷ ids) h where
+  each_in : (xs : List ℕ) → Each IsId xs → ids_in (map (key_of b) xs) ≡ xs
+  each_in [] h = refl
+  each_in (x ∷ xs) h =
+      let e = id_in_key b x h.0.small in
+      let some : not (nat_eq x 0) ≡ true = not_mark x h.0.above_mark in
+      rw (e, some) (ap (λ t. x ∷ t) (each_in xs h.1))
+    where
+      not_mark : (x : ℕ) → 1 ≤ x → not (nat_eq x 0) ≡ true
+      not_mark x l = grind (arith, nat_tests)
+
+-- a block with keys of its own is a leaf
+pub leaf_is : (b : Block) (ks ids : List ℕ) (t : Tree) → Reads b ks t → IsLeafOf b ks ids → t ≡ Leaf ids
+leaf_is b ks ids (Leaf listed) reads h = ap Leaf (sym (h.ids_are ∙ ap ids_in (own_leaf b ks listed reads) ∙ ids_leaf b listed reads.shaped.1.1))
+leaf_is b ks ids (Inner p q r s) reads h = absurd (h.some (own_inner b ks p q r s reads))
+
+-- what an id passes, the entry of its key passes
+pub same_id : (b : Block) (id : ℕ) → id < 2 ^ 32 → id_in (key_of b id) ≡ id
+same_id b id h = omega arith
+
+pub key_passes : (test : ℕ → ℕ → Bool) (b : Block) (id value key : ℕ) → id < 2 ^ 32 → key ≡ key_of b id → test id value ≡ true → 1 ≤ id_in key → test (id_in key) value ≡ true
+key_passes test b id value key small is h some = ap (λ i. test i value) (ap id_in is ∙ same_id b id small) ∙ h
+
+pub mark_passes : (test : ℕ → ℕ → Bool) (b : Block) (value key : ℕ) → key ≡ mark_of b → 1 ≤ id_in key → test (id_in key) value ≡ true
+mark_passes test b value key is some = (let none : id_in key ≡ 0 = ap id_in is ∙ same_id b 0 (omega arith) in absurd (omega (arith, none, some)))
+
+-- one step of a loop over the ids of a leaf
+pub take_step : (b : Block) (list : List Kept) (i : ℕ) (d : Kept) → i < length list → (key : ℕ) → key ≡ key_of b (get_or list i d).id → (ks new : List ℕ) → new ≡ without key ks
+    → take_all (map (key_of b) (ids_of (drop (i + 1) list))) new ≡ take_all (map (key_of b) (ids_of (drop i list))) ks
+take_step b list i d h key k ks new e = rw (e, k, add-one, drop-cons list i d) refl
+
+pub put_step : (b : Block) (list : List Kept) (i : ℕ) (d : Kept) → i < length list → (key : ℕ) → key ≡ key_of b (get_or list i d).id → (ks new : List ℕ) → new ≡ add key ks
+    → put_all (map (key_of b) (ids_of (drop (i + 1) list))) new ≡ put_all (map (key_of b) (ids_of (drop i list))) ks
+put_step b list i d h key k ks new e = rw (e, k, add-one, drop-cons list i d) refl
+
+-- what holds of each element holds of the one at an index
+pub each_at : {A : Type 0} (P : A → Type 0) (xs : List A) (i : ℕ) (d : A) → i < length xs → Each P xs → P (get_or xs i d)
+each_at P [] i d h e = absurd (omega arith)
+each_at P (x ∷ xs) zero d h e = e.0
+each_at P (x ∷ xs) (suc i) d h e = each_at P xs i d (omega arith) e.1
+
+-- one step of a loop over the ids that meet
+take_next : {A : Type 0} (xs : List A) (i : ℕ) (d : A) → i < length xs → take (suc i) xs ≡ take i xs ++ (get_or xs i d ∷ [])
+take_next [] i d h = absurd (omega arith)
+take_next (x ∷ xs) zero d h = refl
+take_next (x ∷ xs) (suc i) d h = ap (λ t. x ∷ t) (take_next xs i d (omega arith))
+
+pub met_step : (f : ℕ → Bool) (list : List Kept) (i : ℕ) (d : Kept) → i < length list → (old new : List Kept) → old ≡ filter (λ k. f k.id) (take i list)
+    → new ≡ old ++ filter (λ k. f k.id) (get_or list i d ∷ []) → new ≡ filter (λ k. f k.id) (take (i + 1) list)
+met_step f list i d h old new e n =
+    n ∙ ap (λ t. t ++ filter (λ k. f k.id) (get_or list i d ∷ [])) e
+    ∙ sym (filter-append (λ k. f k.id) (take i list) (get_or list i d ∷ []))
+    ∙ ap (filter (λ k. f k.id)) (sym (take_next list i d h))
+    ∙ ap (λ t. filter (λ k. f k.id) (take t list)) (sym (add-one i))
+
+pub pushed : (b mb : Bool) (k : Kept) (old new : List Kept) → new ≡ old ++ (k ∷ []) → b ≡ true → b ≡ mb → new ≡ old ++ cond mb (k ∷ []) []
+pushed b mb k old new e h same = e ∙ ap (λ c. old ++ cond c (k ∷ []) []) (sym h ∙ same)
+
+pub ids_met : (f : ℕ → Bool) (list found : List Kept) → found ≡ filter (λ k. f k.id) list → ids_of found ≡ filter f (ids_of list)
+ids_met f list found e = ap ids_of e ∙ map_filter (λ k. k.id) f list
+
+pub passes_met : (test : ℕ → ℕ → Bool) (f : ℕ → Bool) (list found : List Kept) → found ≡ filter (λ k. f k.id) list → ListPasses test list → ListPasses test found
+passes_met test f list found e h = subst (ListPasses test) (sym e) (each_filter (λ k. test k.id k.value ≡ true) (λ k. f k.id) list h)
+
+-- a read of a block's own entries
+pub leaf_read : {V : Type 0} (items : V → List Kept) (b : Block) (es pairs : List Pair) (found : Option V) → pairs ≡ own_pairs b es
+    → MatchOption found (length pairs ≡ 0) (λ list. (0 < length pairs) × (items list ≡ kept_of pairs))
+    → MatchOption found (own b (firsts es) ≡ []) (λ list. IsLeafOf b (firsts es) (ids_of (items list)))
+leaf_read items b es pairs None is h = no_leaf_found b es pairs is h
+leaf_read items b es pairs (Some list) is h = subst (λ t. IsLeafOf b (firsts es) (ids_of t)) (sym h.1) (leaf_found b es pairs is h.0)
+
+pub passes_read : {V : Type 0} (items : V → List Kept) (test : ℕ → ℕ → Bool) (b : Block) (es pairs : List Pair) (found : Option V) → pairs ≡ own_pairs b es → Passes test es
+    → MatchOption found (length pairs ≡ 0) (λ list. (0 < length pairs) × (items list ≡ kept_of pairs))
+    → IfSome found (λ list. ListPasses test (items list))
+passes_read items test b es pairs None is w h = tt
+passes_read items test b es pairs (Some list) is w h = subst (ListPasses test) (sym h.1) (found_passes test b es pairs is w)
+
+-- what an answer says, where it is known which it is
+pub none_found : {V : Type 0} (found : Option V) (A : Type 0) (B : V → Type 0) → found ≡ None → MatchOption found A B → A
+none_found found A B e h = subst (λ f. MatchOption f A B) e h
+
+pub some_found : {V : Type 0} (found : Option V) (A : Type 0) (B : V → Type 0) (x : V) → found ≡ Some x → MatchOption found A B → B x
+some_found found A B x e h = subst (λ f. MatchOption f A B) e h
+
+pub if_found : {V : Type 0} (found : Option V) (B : V → Type 0) (x : V) → found ≡ Some x → IfSome found B → B x
+if_found found B x e h = subst (λ f. IfSome f B) e h
+
+pub length_ids : (list : List Kept) → length (ids_of list) ≡ length list
+length_ids [] = refl
+length_ids (k ∷ ks) = ap suc (length_ids ks)

@@ -1,0 +1,199 @@
+-- Four leaves become one, where they have too few ids together; and an inner place whose children have shrunk.
+use Rattle.std.proofs.Common.{◌≡◌, ℕ, ◌<◌, ◌≤◌, Bool, true, false, cond, List, [], ◌∷◌, ◌++◌, length, get_or, refl, sym, ◌∙◌, ap, ap₂, subst, arith}
+use Rattle.std.specs.Prelude.{nat_lt}
+use Rattle.std.proofs.lemmas.Bool.Decides.{nat_tests}
+use Rattle.z_code.specs.Block.{child, children_of}
+use Rattle.z_code.specs.declared.block.Block.{Block}
+use Rattle.sand_model.specs.Tree.{Tree, Leaf, Inner, union, union_of_four, merged}
+use Rattle.pmr_tree.specs.Lists.{Each, Rises, put_all, take_all}
+use Rattle.pmr_tree.specs.Keys.{leaf_keys, keys, own, IsId, IsShaped, Reads}
+use Rattle.pmr_tree.specs.Changes.{Stands, Becomes, merging, below_shrunk, shrunk_where}
+use Rattle.pmr_tree.specs.Leaves.{IsLeafOf, ids_of}
+use Rattle.pmr_tree.specs.declared.leaf.Kept.{Kept}
+use Rattle.pmr_tree.proofs.Orders.{take_all_append}
+use Rattle.pmr_tree.proofs.KeyLists.{Parts, reads_children, own_leaf, own_inner}
+use Rattle.pmr_tree.proofs.Entries.{leaf_is}
+use Rattle.pmr_tree.proofs.Growth.{merged_full, enough_second, enough_third, enough_fourth}
+use Rattle.pmr_tree.proofs.Unions.{union_nil, rises_union, each_union}
+use Rattle.pmr_tree.proofs.GrowSteps.{at_child}
+use Rattle.pmr_tree.proofs.Steps.{becomes_refilled, becomes_same, becomes_as, becomes_then, becomes_four, stands_parts}
+
+no_keys : {A : Type 0} {x : A} {xs : List A} → [] ≡ x ∷ xs → ⊥
+no_keys e = cc
+
+-- a block with no keys of its own is no leaf
+leaf_no : (b : Block) (ks ids : List ℕ) → Reads b ks (Leaf ids) → own b ks ≡ [] → ⊥
+leaf_no b ks [] r none = no_keys (sym none ∙ own_leaf b ks [] r)
+leaf_no b ks (x ∷ xs) r none = no_keys (sym none ∙ own_leaf b ks (x ∷ xs) r)
+
+-- a place with an inner place among its children is not merged
+merged_first : (n : ℕ) (b : Block) (ks : List ℕ) (p q r s : Tree) → Reads b ks p → own b ks ≡ [] → merged n p q r s ≡ Inner p q r s
+merged_first n b ks (Leaf p) q r s h none = absurd (leaf_no b ks p h none)
+merged_first n b ks (Inner a c d e) q r s h none = refl
+
+merged_second : (n : ℕ) (b : Block) (ks : List ℕ) (p q r s : Tree) → Reads b ks q → own b ks ≡ [] → merged n p q r s ≡ Inner p q r s
+merged_second n b ks p (Leaf q) r s h none = absurd (leaf_no b ks q h none)
+merged_second n b ks p (Inner a c d e) r s h none = merged_full n p (Inner a c d e) r s (enough_second n p a c d e r s)
+
+merged_third : (n : ℕ) (b : Block) (ks : List ℕ) (p q r s : Tree) → Reads b ks r → own b ks ≡ [] → merged n p q r s ≡ Inner p q r s
+merged_third n b ks p q (Leaf r) s h none = absurd (leaf_no b ks r h none)
+merged_third n b ks p q (Inner a c d e) s h none = merged_full n p q (Inner a c d e) s (enough_third n p q a c d e s)
+
+merged_fourth : (n : ℕ) (b : Block) (ks : List ℕ) (p q r s : Tree) → Reads b ks s → own b ks ≡ [] → merged n p q r s ≡ Inner p q r s
+merged_fourth n b ks p q r (Leaf s) h none = absurd (leaf_no b ks s h none)
+merged_fourth n b ks p q r (Inner a c d e) h none = merged_full n p q r (Inner a c d e) (enough_fourth n p q r a c d e)
+
+-- nothing is merged where the inner place has such a child
+kept_inner : (n : ℕ) (b : Block) (k0 k1 : List ℕ) → Stands b k0 → own b k0 ≡ [] → ((p q r s : Tree) → Parts b k0 p q r s → merged n p q r s ≡ Inner p q r s) → k1 ≡ k0 → Becomes b (merging n) k0 k1
+kept_inner n b k0 k1 stands none h same = subst (Becomes b (merging n) k0) (sym same) (becomes_same b (merging n) k0 stands.rises here) where
+  here : (t : Tree) → Reads b k0 t → t ≡ merging n t
+  here (Leaf ids) r = absurd (leaf_no b k0 ids r none)
+  here (Inner p q r s) read = sym (h p q r s (reads_children b k0 p q r s read))
+
+pub first_inner : (n : ℕ) (b : Block) (cs : List Block) (d : Block) (k0 k1 : List ℕ) → cs ≡ children_of b → Stands b k0 → own b k0 ≡ [] → own (get_or cs 0 d) k0 ≡ [] → k1 ≡ k0 → Becomes b (merging n) k0 k1
+first_inner n b cs d k0 k1 is stands none inner same =
+    kept_inner n b k0 k1 stands none (λ p q r s parts. merged_first n (child b 0) k0 p q r s parts.first (at_child b cs 0 d (λ x. own x k0 ≡ []) is inner)) same
+
+pub second_inner : (n : ℕ) (b : Block) (cs : List Block) (d : Block) (k0 k1 : List ℕ) → cs ≡ children_of b → Stands b k0 → own b k0 ≡ [] → own (get_or cs 1 d) k0 ≡ [] → k1 ≡ k0 → Becomes b (merging n) k0 k1
+second_inner n b cs d k0 k1 is stands none inner same =
+    kept_inner n b k0 k1 stands none (λ p q r s parts. merged_second n (child b 1) k0 p q r s parts.second (at_child b cs 1 d (λ x. own x k0 ≡ []) is inner)) same
+
+pub third_inner : (n : ℕ) (b : Block) (cs : List Block) (d : Block) (k0 k1 : List ℕ) → cs ≡ children_of b → Stands b k0 → own b k0 ≡ [] → own (get_or cs 2 d) k0 ≡ [] → k1 ≡ k0 → Becomes b (merging n) k0 k1
+third_inner n b cs d k0 k1 is stands none inner same =
+    kept_inner n b k0 k1 stands none (λ p q r s parts. merged_third n (child b 2) k0 p q r s parts.third (at_child b cs 2 d (λ x. own x k0 ≡ []) is inner)) same
+
+pub fourth_inner : (n : ℕ) (b : Block) (cs : List Block) (d : Block) (k0 k1 : List ℕ) → cs ≡ children_of b → Stands b k0 → own b k0 ≡ [] → own (get_or cs 3 d) k0 ≡ [] → k1 ≡ k0 → Becomes b (merging n) k0 k1
+fourth_inner n b cs d k0 k1 is stands none inner same =
+    kept_inner n b k0 k1 stands none (λ p q r s parts. merged_fourth n (child b 3) k0 p q r s parts.fourth (at_child b cs 3 d (λ x. own x k0 ≡ []) is inner)) same
+
+-- the four leaves of a place
+pub record Four (b : Block) (ks p q r s : List ℕ) : Type 0 where
+  pub first : IsLeafOf (child b 0) ks p
+  pub second : IsLeafOf (child b 1) ks q
+  pub third : IsLeafOf (child b 2) ks r
+  pub fourth : IsLeafOf (child b 3) ks s
+
+pub four_leaves : (b : Block) (cs : List Block) (d0 d1 d2 d3 : Block) (ks p q r s : List ℕ) → cs ≡ children_of b
+    → IsLeafOf (get_or cs 0 d0) ks p → IsLeafOf (get_or cs 1 d1) ks q → IsLeafOf (get_or cs 2 d2) ks r → IsLeafOf (get_or cs 3 d3) ks s → Four b ks p q r s
+four_leaves b cs d0 d1 d2 d3 ks p q r s is a c d e = record {
+  first = at_child b cs 0 d0 (λ x. IsLeafOf x ks p) is a;
+  second = at_child b cs 1 d1 (λ x. IsLeafOf x ks q) is c;
+  third = at_child b cs 2 d2 (λ x. IsLeafOf x ks r) is d;
+  fourth = at_child b cs 3 d3 (λ x. IsLeafOf x ks s) is e;
+}
+
+inner_same : (p q r s p' q' r' s' : Tree) → p ≡ p' → q ≡ q' → r ≡ r' → s ≡ s' → Inner p q r s ≡ Inner p' q' r' s'
+inner_same p q r s p' q' r' s' a b c d = cc
+
+four_is : (b : Block) (ks p q r s : List ℕ) → own b ks ≡ [] → Four b ks p q r s → (t : Tree) → Reads b ks t → t ≡ Inner (Leaf p) (Leaf q) (Leaf r) (Leaf s)
+four_is b ks p q r s none four (Leaf ids) read = absurd (leaf_no b ks ids read none)
+four_is b ks p q r s none four (Inner t u v w) read =
+    let parts = reads_children b ks t u v w read in
+    inner_same t u v w (Leaf p) (Leaf q) (Leaf r) (Leaf s) (leaf_is (child b 0) ks p t parts.first four.first) (leaf_is (child b 1) ks q u parts.second four.second)
+    (leaf_is (child b 2) ks r v parts.third four.third) (leaf_is (child b 3) ks s w parts.fourth four.fourth)
+
+-- the ids of four leaves, joined one list after another
+pub joined : (b : Block) (ks p q r s : List ℕ) → Stands b ks → own b ks ≡ [] → Four b ks p q r s → union p (union q (union r (union s []))) ≡ union_of_four p q r s
+joined b ks p q r s stands none four =
+    let at = subst (Reads b ks) (four_is b ks p q r s none four stands.tree stands.reads) stands.reads in
+    ap (λ t. union p (union q (union r t))) (union_nil s at.shaped.1.1.1.1.1.0)
+
+not_less : (x y : ℕ) → y ≤ x → nat_lt x y ≡ false
+not_less x y h = grind (arith, nat_tests)
+
+is_less : (x y : ℕ) → x < y → nat_lt x y ≡ true
+is_less x y h = grind (arith, nat_tests)
+
+-- enough ids: they stay apart
+pub merge_enough : (n : ℕ) (b : Block) (k0 k1 p q r s all : List ℕ) → Stands b k0 → own b k0 ≡ [] → Four b k0 p q r s → all ≡ union p (union q (union r (union s []))) → n ≤ length all → k1 ≡ k0
+    → Becomes b (merging n) k0 k1
+merge_enough n b k0 k1 p q r s all stands none four is many same = subst (Becomes b (merging n) k0) (sym same) (becomes_same b (merging n) k0 stands.rises here) where
+  enough : nat_lt (length (union_of_four p q r s)) n ≡ false
+  enough = not_less (length (union_of_four p q r s)) n (subst (λ t. n ≤ length t) (is ∙ joined b k0 p q r s stands none four) many)
+
+  here : (t : Tree) → Reads b k0 t → t ≡ merging n t
+  here t read =
+      subst (λ t. t ≡ merging n t) (sym (four_is b k0 p q r s none four t read)) (sym (ap (λ c. cond c (Leaf (union_of_four p q r s)) (Inner (Leaf p) (Leaf q) (Leaf r) (Leaf s))) enough))
+
+-- too few ids: one leaf has them
+pub merge_few : (n : ℕ) (b : Block) (k0 k1 p q r s all : List ℕ) → Stands b k0 → own b k0 ≡ [] → Four b k0 p q r s → all ≡ union p (union q (union r (union s []))) → length all < n
+    → k1 ≡ put_all (leaf_keys b all) (take_all (leaf_keys (child b 3) s) (take_all (leaf_keys (child b 2) r) (take_all (leaf_keys (child b 1) q) (take_all (leaf_keys (child b 0) p) k0))))
+    → Becomes b (merging n) k0 k1
+merge_few n b k0 k1 p q r s all stands none four is few new = becomes_refilled b (merging n) k0 k1 stands.rises here stands where
+  whole : all ≡ union_of_four p q r s
+  whole = is ∙ joined b k0 p q r s stands none four
+
+  merges : Leaf all ≡ merged n (Leaf p) (Leaf q) (Leaf r) (Leaf s)
+  merges =
+      ap Leaf whole
+      ∙ sym (ap (λ c. cond c (Leaf (union_of_four p q r s)) (Inner (Leaf p) (Leaf q) (Leaf r) (Leaf s))) (is_less (length (union_of_four p q r s)) n (subst (λ t. length t < n) whole few)))
+
+  apart : take_all (leaf_keys (child b 3) s) (take_all (leaf_keys (child b 2) r) (take_all (leaf_keys (child b 1) q) (take_all (leaf_keys (child b 0) p) k0)))
+      ≡ take_all (keys b (Inner (Leaf p) (Leaf q) (Leaf r) (Leaf s))) k0
+  apart = sym (take_all_append (leaf_keys (child b 0) p) (leaf_keys (child b 1) q ++ (leaf_keys (child b 2) r ++ leaf_keys (child b 3) s)) k0
+      ∙ take_all_append (leaf_keys (child b 1) q) (leaf_keys (child b 2) r ++ leaf_keys (child b 3) s) (take_all (leaf_keys (child b 0) p) k0)
+      ∙ take_all_append (leaf_keys (child b 2) r) (leaf_keys (child b 3) s) (take_all (leaf_keys (child b 1) q) (take_all (leaf_keys (child b 0) p) k0)))
+
+  here : (t : Tree) → Reads b k0 t → IsShaped b (merging n t) × (k1 ≡ put_all (keys b (merging n t)) (take_all (keys b t) k0))
+  here t read =
+      let e = four_is b k0 p q r s none four t read in
+      let at = subst (Reads b k0) e read in
+      let sh = at.shaped in
+      let rise : Rises (union_of_four p q r s) = rises_union p (union q (union r s)) (rises_union q (union r s) (rises_union r s sh.1.1.1.1.1.0)) in
+      let each : Each IsId (union_of_four p q r s) = each_union IsId p (union q (union r s)) sh.1.0.1.1 (each_union IsId q (union r s) sh.1.1.0.1.1 (each_union IsId r s sh.1.1.1.0.1.1 sh.1.1.1.1.1.1)) in
+      let one : IsShaped b (Leaf all) × (k1 ≡ put_all (keys b (Leaf all)) (take_all (keys b (Inner (Leaf p) (Leaf q) (Leaf r) (Leaf s))) k0)) =
+      ((omega (arith, sh.0), (subst Rises (sym whole) rise, subst (Each IsId) (sym whole) each)), new ∙ ap (put_all (leaf_keys b all)) apart) in
+      subst (λ t. IsShaped b (merging n t) × (k1 ≡ put_all (keys b (merging n t)) (take_all (keys b t) k0))) (sym e)
+      (subst (λ u. IsShaped b u × (k1 ≡ put_all (keys b u) (take_all (keys b (Inner (Leaf p) (Leaf q) (Leaf r) (Leaf s))) k0))) merges one)
+
+-- the keys of the four leaves, as an array has the children
+pub take_four : (b : Block) (cs : List Block) (d0 d1 d2 d3 d : Block) (k0 k1 k2 k3 k4 k5 p q r s all : List ℕ) → cs ≡ children_of b
+    → k1 ≡ take_all (leaf_keys (get_or cs 0 d0) p) k0 → k2 ≡ take_all (leaf_keys (get_or cs 1 d1) q) k1 → k3 ≡ take_all (leaf_keys (get_or cs 2 d2) r) k2 → k4 ≡ take_all (leaf_keys (get_or cs 3 d3) s) k3
+    → k5 ≡ put_all (leaf_keys b all) k4
+    → k5 ≡ put_all (leaf_keys b all) (take_all (leaf_keys (child b 3) s) (take_all (leaf_keys (child b 2) r) (take_all (leaf_keys (child b 1) q) (take_all (leaf_keys (child b 0) p) k0))))
+take_four b cs d0 d1 d2 d3 d k0 k1 k2 k3 k4 k5 p q r s all is e0 e1 e2 e3 e4 =
+    let f0 = at_child b cs 0 d0 (λ x. k1 ≡ take_all (leaf_keys x p) k0) is e0 in
+    let f1 = at_child b cs 1 d1 (λ x. k2 ≡ take_all (leaf_keys x q) k1) is e1 in
+    let f2 = at_child b cs 2 d2 (λ x. k3 ≡ take_all (leaf_keys x r) k2) is e2 in
+    let f3 = at_child b cs 3 d3 (λ x. k4 ≡ take_all (leaf_keys x s) k3) is e3 in
+    e4 ∙ ap (put_all (leaf_keys b all)) (f3 ∙ ap (take_all (leaf_keys (child b 3) s)) (f2 ∙ ap (take_all (leaf_keys (child b 2) r)) (f1 ∙ ap (take_all (leaf_keys (child b 1) q)) f0)))
+
+-- the keys after one leaf took the place of four, by the lists that were read
+pub replaced : (b : Block) (k0 k4 k5 : List ℕ) (p p' q q' r r' s s' all all' : List Kept) → p' ≡ p → q' ≡ q → r' ≡ r → s' ≡ s → all' ≡ all → k4 ≡ k0
+    → k5 ≡ put_all (leaf_keys b (ids_of all')) (take_all (leaf_keys (child b 3) (ids_of s')) (take_all (leaf_keys (child b 2) (ids_of r')) (take_all (leaf_keys (child b 1) (ids_of q')) (take_all (leaf_keys (child b 0) (ids_of p')) k4))))
+    → k5 ≡ put_all (leaf_keys b (ids_of all)) (take_all (leaf_keys (child b 3) (ids_of s)) (take_all (leaf_keys (child b 2) (ids_of r)) (take_all (leaf_keys (child b 1) (ids_of q)) (take_all (leaf_keys (child b 0) (ids_of p)) k0))))
+replaced b k0 k4 k5 p p' q q' r r' s s' all all' ep eq er es ea ek e =
+    e ∙ ap₂ (λ x y. put_all (leaf_keys b (ids_of x)) y) ea (ap₂ (λ x y. take_all (leaf_keys (child b 3) (ids_of x)) y) es (ap₂ (λ x y. take_all (leaf_keys (child b 2) (ids_of x)) y) er
+    (ap₂ (λ x y. take_all (leaf_keys (child b 1) (ids_of x)) y) eq (ap₂ (λ x y. take_all (leaf_keys (child b 0) (ids_of x)) y) ep ek))))
+
+-- an inner place whose children have changed is one still
+pub still_inner : (b : Block) (f : Tree → Tree) (g h k l : Tree → Tree) (k0 k1 : List ℕ) → ((p q r s : Tree) → f (Inner p q r s) ≡ Inner (g p) (h q) (k r) (l s)) → Stands b k0 → own b k0 ≡ [] → Becomes b f k0 k1 → own b k1 ≡ []
+still_inner b f g h k l k0 k1 is stands none change =
+    let parts = stands_parts b k0 stands none in
+    go stands.tree stands.reads
+  where
+    go : (t : Tree) → Reads b k0 t → own b k1 ≡ []
+    go (Leaf ids) read = absurd (leaf_no b k0 ids read none)
+    go (Inner p q r s) read = own_inner b k1 (g p) (h q) (k r) (l s) (subst (Reads b k1) (is p q r s) (change.here (Inner p q r s) read))
+
+pub shrink_steps : (m : Block → ℕ → Bool) (n id : ℕ) (b : Block) (cs : List Block) (d0 d1 d2 d3 : Block) (k0 k1 k2 k3 k4 : List ℕ)
+    → Stands b k0 → own b k0 ≡ [] → cs ≡ children_of b
+    → Becomes (get_or cs 0 d0) (shrunk_where m n id (get_or cs 0 d0)) k0 k1
+    → Becomes (get_or cs 1 d1) (shrunk_where m n id (get_or cs 1 d1)) k1 k2
+    → Becomes (get_or cs 2 d2) (shrunk_where m n id (get_or cs 2 d2)) k2 k3
+    → Becomes (get_or cs 3 d3) (shrunk_where m n id (get_or cs 3 d3)) k3 k4
+    → Becomes b (below_shrunk m n id b) k0 k4
+shrink_steps m n id b cs d0 d1 d2 d3 k0 k1 k2 k3 k4 stands none is g0 g1 g2 g3 =
+    becomes_four b (shrunk_where m n id (child b 0)) (shrunk_where m n id (child b 1)) (shrunk_where m n id (child b 2)) (shrunk_where m n id (child b 3)) k0 k1 k2 k3 k4 (below_shrunk m n id b) (λ p q r s. refl) stands none
+    (at_child b cs 0 d0 (λ x. Becomes x (shrunk_where m n id x) k0 k1) is g0)
+    (at_child b cs 1 d1 (λ x. Becomes x (shrunk_where m n id x) k1 k2) is g1)
+    (at_child b cs 2 d2 (λ x. Becomes x (shrunk_where m n id x) k2 k3) is g2)
+    (at_child b cs 3 d3 (λ x. Becomes x (shrunk_where m n id x) k3 k4) is g3)
+
+pub shrunk_inner : (m : Block → ℕ → Bool) (n id : ℕ) (b : Block) (k0 k1 k2 : List ℕ) → own b k0 ≡ [] → m b id ≡ true → Becomes b (below_shrunk m n id b) k0 k1 → Becomes b (merging n) k1 k2 → Becomes b (shrunk_where m n id b) k0 k2
+shrunk_inner m n id b k0 k1 k2 none h below merge =
+    becomes_as b (λ t. merging n (below_shrunk m n id b t)) (shrunk_where m n id b) k0 k2 same (becomes_then b (below_shrunk m n id b) (merging n) k0 k1 k2 below merge)
+  where
+    same : (t : Tree) → Reads b k0 t → merging n (below_shrunk m n id b t) ≡ shrunk_where m n id b t
+    same (Leaf ids) read = absurd (leaf_no b k0 ids read none)
+    same (Inner p q r s) read = rw h refl

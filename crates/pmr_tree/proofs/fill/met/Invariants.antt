@@ -1,0 +1,13 @@
+use Rattle.std.proofs.Common.{◌≡◌, ℕ, Bool, take}
+use Rattle.std.specs.Prelude.{None, filter}
+use Rattle.z_code.specs.declared.block.Block.{Block}
+use Rattle.pmr_tree.specs.Leaves.{ListPasses, id_test}
+use Rattle.pmr_tree.proofs.fill.met.Given as goal
+
+abbrev pub invariant-loop-kept : goal.invariant-loop-kept
+invariant-loop-kept g l = record {
+  leads : g.S.Ground.Leads l.ground l.fn.pages l.ground l.pages None;
+  found : g.S.Ground.IsKnown l.ground l.fn.pages → (m : Block → ℕ → Bool) (has : ℕ → Bool) → g.S.Ground.Tells l.ground l.fn.pages m has → ListPasses (id_test has) l.list → l.found.items ≡ filter (λ k. m l.block k.id) (take l.kept-index l.list);
+  values : (test : ℕ → ℕ → Bool) → ListPasses test l.list → ListPasses test l.found.items;
+  same : g.S.Ground.IsKnown l.ground l.fn.pages → g.S.Ground.pairs l.ground l.pages ≡ g.S.Ground.pairs l.ground l.fn.pages;
+}

@@ -1,0 +1,62 @@
+-- What the calls of a quadtree do, and why they are refused.
+use Rattle.std.specs.Prelude.{◌≡◌, ◌≢◌, ℕ, ◌≤◌, List, [], ◌∷◌, Result, Ok, Err}
+use Rattle.sand_base.specs.declared.shape.Shape.{Shape}
+use Rattle.page_pool.specs.Disk.{PageMap}
+use Rattle.page_pool.specs.Pool.{PoolState}
+use Rattle.page_pool.specs.Causes.{HasPageCause}
+use Rattle.page_pool.specs.declared.fault.PageFault.{PageFault}
+use Rattle.page_pool.specs.declared.fault.PageFault.TheVariants as page
+use Rattle.code_btree.specs.Calls.{Keeps}
+use Rattle.sand_model.specs.Measure.{Measure, IsMeasure}
+use Rattle.sand_model.specs.Database.{tree_with}
+use Rattle.sand_model.specs.Tree.{empty_tree, shrunk}
+use Rattle.pmr_tree.specs.Quadtree.{store_of, entries_at, pages_at, tree_at, IsPmr, KeepsShape}
+use Rattle.pmr_tree.specs.declared.fault.PmrFault.{PmrFault}
+use Rattle.pmr_tree.specs.declared.fault.PmrFault.TheVariants.{Memory, Device, Damaged, IndexFull}
+use Rattle.pmr_tree.specs.declared.quadtree.Pmr.{Pmr}
+
+-- a refusal as the pages have it; a full index is none of theirs
+abbrev pub of_pages : {T : Type 0} → Result T PmrFault → Result (Unit {0}) PageFault
+of_pages (Ok x) = Ok tt
+of_pages (Err Memory) = Err page.Memory
+of_pages (Err Device) = Err page.Device
+of_pages (Err (Damaged n kept read)) = Err (page.Damaged n kept read)
+of_pages (Err IndexFull) = Ok tt
+
+-- A call has its cause: that of the pages, or that the index is full.
+abbrev pub HasPmrCause : {T : Type 0} → PoolState → PoolState → Result T PmrFault → Type 0
+HasPmrCause old new result = HasPageCause old new (of_pages result)
+
+-- a new quadtree of one empty leaf, on pages that weren't live
+pub record Plants (m w : PageMap) (t : Pmr) : Type 0 where
+  pub is : IsPmr w t
+  pub empty : tree_at w t ≡ empty_tree
+  pub entries : (id : ℕ) (s : Shape) → 1 ≤ id → KeepsShape w t id s
+  pub keeps : Keeps (store_of m) (store_of w) [] (pages_at w t)
+
+-- what both changes keep: the threshold and the number, and all pages but those of the quadtree
+pub record Stays (m w : PageMap) (t u : Pmr) : Type 0 where
+  pub is : IsPmr w u
+  pub threshold : u.threshold ≡ t.threshold
+  pub number : u.number ≡ t.number
+  pub keeps : Keeps (store_of m) (store_of w) (pages_at m t) (pages_at w u)
+
+-- The quadtree has grown by the id with this shape, among these rows. It keeps the rough shape, and those of all other ids.
+pub record Grows (m w : PageMap) (t u : Pmr) (rows : List (ℕ × Shape)) (id : ℕ) (s : Shape) : Type 0 where
+  pub stays : Stays m w t u
+  pub grown : (gap : Measure) → IsMeasure gap → tree_at w u ≡ tree_with gap ((id, s) ∷ rows) t.threshold id (tree_at m t)
+  pub rough : KeepsShape w u id s
+  pub others : (other : ℕ) (o : Shape) → 1 ≤ other → other ≢ id → KeepsShape m t other o → KeepsShape w u other o
+
+-- The quadtree has shrunk by the id, and keeps the rough shapes of all ids that are left.
+pub record Shrinks (m w : PageMap) (t u : Pmr) (id : ℕ) : Type 0 where
+  pub stays : Stays m w t u
+  pub shrunk : tree_at w u ≡ shrunk t.threshold id (tree_at m t)
+  pub roughs : (other : ℕ) (o : Shape) → 1 ≤ other → KeepsShape m t other o → KeepsShape w u other o
+
+-- the quadtree is in w what it is in m: its entries, its tree, its pages, and that it is one
+pub record Unmoved (m w : PageMap) (t : Pmr) : Type 0 where
+  pub entries : entries_at w t ≡ entries_at m t
+  pub tree : tree_at w t ≡ tree_at m t
+  pub pages : pages_at w t ≡ pages_at m t
+  pub is : IsPmr m t → IsPmr w t

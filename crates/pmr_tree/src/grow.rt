@@ -1,0 +1,106 @@
+ghost use Rattle.std.specs.Prelude.{◌≡◌, ℕ, ◌+◌, ◌-◌, ◌<◌, ◌≤◌, Bool, true, length, OnOk};
+ghost use Rattle.sand_base.specs.declared.TheConstants.{COORDINATE_BITS};
+ghost use Rattle.z_code.specs.Block.{IsBlock};
+ghost use Rattle.z_code.specs.declared.block.Block.{Block};
+ghost use Rattle.pmr_tree.specs.Keys.{IsId};
+ghost use Rattle.pmr_tree.specs.Leaves.{firsts, ids_of, Passes, ListPasses, id_test, IsLeafOf, Told, fault_of};
+ghost use Rattle.pmr_tree.specs.Changes.{Stands, Becomes, grown_where, settling};
+
+use crate::enter::enter;
+use crate::leaf::leaf_of;
+use crate::split::split;
+use crate::{Ground, Kept, PmrFault};
+use sand_base::COORDINATE_BITS;
+use std::alloc::Global;
+use z_code::Block;
+
+// Splits a leaf once where it has more ids than the threshold and isn't of the finest level.
+fn settle<P, S: Ground<P>>(
+    alloc: Global,
+    ground: &mut S,
+    pages: &mut P,
+    threshold: u8,
+    block: Block,
+) -> Result<(), PmrFault>
+    requires ready { S.IsReady ground.old pages.old }
+    requires block { IsBlock block }
+    requires stands { S.IsKnown ground.old pages.old → Stands block (firsts (S.pairs ground.old pages.old)) }
+    ensures leads { S.Leads ground.old pages.old ground.new pages.new (fault_of result) }
+    ensures keys { OnOk result (S.IsKnown ground.old pages.old → (m : Block → ℕ → Bool) (has : ℕ → Bool) → S.Tells ground.old pages.old m has → Passes (id_test has) (S.pairs ground.old pages.old) → Becomes block (settling m threshold block) (firsts (S.pairs ground.old pages.old)) (firsts (S.pairs ground.new pages.new))) }
+    ensures values { OnOk result (S.IsKnown ground.old pages.old → (test : ℕ → ℕ → Bool) → Passes test (S.pairs ground.old pages.old) → Passes test (S.pairs ground.new pages.new)) }
+{
+    let Some(list) = leaf_of(alloc, &*ground, pages, block)? else {
+        return Ok(());
+    };
+    if list.len() <= threshold as usize {
+        return Ok(());
+    }
+    if u32::from(block.level) >= COORDINATE_BITS {
+        return Ok(());
+    }
+    split(alloc, ground, pages, threshold, block, &list)?;
+    Ok(())
+}
+
+// Brings an id into a leaf that has the ids of the list, which splits where it has too many then.
+fn grow_leaf<P, S: Ground<P>>(
+    alloc: Global,
+    ground: &mut S,
+    pages: &mut P,
+    threshold: u8,
+    block: Block,
+    newcomer: Kept,
+    list: &[Kept],
+) -> Result<(), PmrFault>
+    requires ready { S.IsReady ground.old pages.old }
+    requires block { IsBlock block }
+    requires id { IsId newcomer.id }
+    requires stands { S.IsKnown ground.old pages.old → Stands block (firsts (S.pairs ground.old pages.old)) }
+    requires leaf { S.IsKnown ground.old pages.old → IsLeafOf block (firsts (S.pairs ground.old pages.old)) (ids_of list.now) }
+    ensures leads { S.Leads ground.old pages.old ground.new pages.new (fault_of result) }
+    ensures keys { OnOk result (S.IsKnown ground.old pages.old → (m : Block → ℕ → Bool) (has : ℕ → Bool) → S.Tells ground.old pages.old m has → Passes (id_test has) (S.pairs ground.old pages.old) → has newcomer.id ≡ true → m block newcomer.id ≡ true → Becomes block (grown_where m threshold newcomer.id block) (firsts (S.pairs ground.old pages.old)) (firsts (S.pairs ground.new pages.new))) }
+    ensures values { OnOk result (S.IsKnown ground.old pages.old → (test : ℕ → ℕ → Bool) → test newcomer.id newcomer.value ≡ true → Passes test (S.pairs ground.old pages.old) → Passes test (S.pairs ground.new pages.new)) }
+{
+    enter(ground, pages, block, newcomer, list)?;
+    if list.len() < threshold as usize {
+        return Ok(());
+    }
+    settle(alloc, ground, pages, threshold, block)?;
+    Ok(())
+}
+
+// Brings an id into each leaf below the block whose square its shape meets; those that are too full then split once.
+pub fn grow<P, S: Ground<P>>(
+    alloc: Global,
+    ground: &mut S,
+    pages: &mut P,
+    threshold: u8,
+    block: Block,
+    newcomer: Kept,
+) -> Result<(), PmrFault>
+    requires ready { S.IsReady ground.old pages.old }
+    requires block { IsBlock block }
+    requires id { IsId newcomer.id }
+    requires stands { S.IsKnown ground.old pages.old → Stands block (firsts (S.pairs ground.old pages.old)) }
+    requires shapes { S.IsKnown ground.old pages.old → Told (S.Tells ground.old pages.old) (S.pairs ground.old pages.old) newcomer.id }
+    ensures leads { S.Leads ground.old pages.old ground.new pages.new (fault_of result) }
+    ensures keys { OnOk result (S.IsKnown ground.old pages.old → (m : Block → ℕ → Bool) (has : ℕ → Bool) → S.Tells ground.old pages.old m has → Passes (id_test has) (S.pairs ground.old pages.old) → has newcomer.id ≡ true → Becomes block (grown_where m threshold newcomer.id block) (firsts (S.pairs ground.old pages.old)) (firsts (S.pairs ground.new pages.new))) }
+    ensures values { OnOk result (S.IsKnown ground.old pages.old → (test : ℕ → ℕ → Bool) → test newcomer.id newcomer.value ≡ true → Passes test (S.pairs ground.old pages.old) → Passes test (S.pairs ground.new pages.new)) }
+{
+    if !ground.does_meet(alloc, pages, block, newcomer.id)? {
+        return Ok(());
+    }
+    if let Some(list) = leaf_of(alloc, &*ground, pages, block)? {
+        grow_leaf(alloc, ground, pages, threshold, block, newcomer, &list)?;
+        return Ok(());
+    }
+    if u32::from(block.level) >= COORDINATE_BITS {
+        return Ok(());
+    }
+    let [first, second, third, fourth] = block.children();
+    grow(alloc, ground, pages, threshold, first, newcomer)?;
+    grow(alloc, ground, pages, threshold, second, newcomer)?;
+    grow(alloc, ground, pages, threshold, third, newcomer)?;
+    grow(alloc, ground, pages, threshold, fourth, newcomer)?;
+    Ok(())
+}

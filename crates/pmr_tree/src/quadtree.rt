@@ -1,0 +1,137 @@
+ghost use Rattle.std.specs.Prelude.{◌≡◌, ℕ, ◌+◌, ◌≤◌, ◌<◌, ◌*◌, ◌^◌, [], ◌∷◌, map, length, All, IfOk, IfErr, OnOk, OnErr, Some};
+ghost use Rattle.sand_base.specs.Plane.{IsShapeInPlane};
+ghost use Rattle.sand_base.specs.declared.shape.Shape.{Shape};
+ghost use Rattle.sand_model.specs.Measure.{Measure, IsMeasure};
+ghost use Rattle.sand_model.specs.Database.{tree_with};
+ghost use Rattle.sand_model.specs.Tree.{listings};
+ghost use Rattle.page_pool.specs.Disk.{PageMap};
+ghost use Rattle.page_pool.specs.Pool.{IsOpen, IsLive, IsTold};
+ghost use Rattle.page_pool.specs.Causes.{HasPageCause};
+ghost use Rattle.page_pool.specs.Steps.{InCommand};
+ghost use Rattle.code_btree.specs.Tree.{times};
+ghost use Rattle.pmr_tree.specs.Quadtree.{pages_at, tree_at, IsPmr, FitsOthers, IsListedWhereMet};
+ghost use Rattle.pmr_tree.specs.Calls.{HasPmrCause, Plants, Grows, Shrinks};
+ghost use Rattle.pmr_tree.specs.declared.fault.PmrFault.TheVariants.{IndexFull};
+
+use crate::change::{grown, of_pages, shrunk};
+use crate::{PmrFault, ShapeOf};
+use code_btree::Tree;
+use page_pool::{Disk, PageFault, Pool};
+use sand_base::Shape;
+use std::alloc::Global;
+
+/// A PMR quadtree in pages of a pool, as plain numbers: the map of its entries, its splitting threshold, and the
+/// number by which visits name it. Each entry is an id of a leaf with its rough shape.
+#[derive(Clone, Copy, Debug, PartialEq, Eq)]
+pub struct Pmr {
+    pub map: Tree,
+    pub threshold: u8,
+    pub number: u32,
+}
+
+impl Pmr {
+    /// One empty leaf, with a threshold of 1 to 64 ids.
+    pub fn plant<D: Disk>(pool: &mut Pool<D>, threshold: u8, number: u32) -> Result<Pmr, PageFault>
+        requires opened { IsOpen pool.old }
+        requires least { 1 ≤ threshold }
+        requires most { threshold ≤ 64 }
+        ensures planted { IfOk result (λ tree. IsTold pool.old → Plants pool.old.pages pool.new.pages tree) }
+        ensures threshold { IfOk result (λ tree. tree.threshold ≡ threshold) }
+        ensures number { IfOk result (λ tree. tree.number ≡ number) }
+        ensures within { InCommand pool.old pool.new }
+        ensures cause { HasPageCause pool.old pool.new result }
+    {
+        let mut map = Tree::plant(pool)?;
+        map.insert(pool, 0, 0)?;
+        Ok(Pmr {
+            map,
+            threshold,
+            number,
+        })
+    }
+
+    /// Brings an id into each leaf whose square the shape meets; a leaf that then has more ids than the threshold
+    /// splits once, for which the shapes of its other ids are read. `IndexFull` comes exactly where the tree would
+    /// have more listings than the limit. After a refusal the command is to be aborted; the tree is the one of before.
+    pub fn insert<D: Disk, G: ShapeOf>(
+        &mut self,
+        alloc: Global,
+        pool: &mut Pool<D>,
+        shapes: &G,
+        id: u32,
+        shape: &Shape,
+        limit: u64,
+    ) -> Result<(), PmrFault>
+        requires opened { IsOpen pool.old }
+        requires id { 1 ≤ id }
+        requires plane { IsShapeInPlane shape.now }
+        requires tree { IsTold pool.old → IsPmr pool.old.pages self.old }
+        requires shapes { IsTold pool.old → G.Stands shapes.now pool.old.pages }
+        requires apart { IsTold pool.old → (n : ℕ) → G.Owns shapes.now pool.old.pages n → IsLive pool.old n × (times n (pages_at pool.old.pages self.old) ≡ 0) }
+        requires fits { IsTold pool.old → (gap : Measure) → IsMeasure gap → FitsOthers gap (G.rows shapes.now pool.old.pages) id (tree_at pool.old.pages self.old) }
+        ensures grown { OnOk result (IsTold pool.old → Grows pool.old.pages pool.new.pages self.old self.new (G.rows shapes.now pool.old.pages) id shape.now) }
+        ensures few { OnOk result (IsTold pool.old → listings (tree_at pool.new.pages self.new) ≤ limit) }
+        ensures full { IfErr result (λ e. e ≡ IndexFull → IsTold pool.old → (gap : Measure) → IsMeasure gap → limit < listings (tree_with gap ((id, shape.now) ∷ G.rows shapes.now pool.old.pages) self.old.threshold id (tree_at pool.old.pages self.old))) }
+        ensures unchanged { OnErr result (self.new ≡ self.old) }
+        ensures within { InCommand pool.old pool.new }
+        ensures cause { HasPmrCause pool.old pool.new result }
+    {
+        let tree = grown(alloc, pool, *self, shapes, id, shape)?;
+        if tree.map.entries > limit {
+            return Err(PmrFault::IndexFull);
+        }
+        *self = tree;
+        Ok(())
+    }
+
+    /// Takes an id out of every leaf; from the bottom up, four leaves with fewer ids together than the threshold
+    /// become one. The shape is that with which the id is listed. After a refusal the command is to be aborted; the
+    /// tree is the one of before.
+    pub fn delete<D: Disk>(
+        &mut self,
+        alloc: Global,
+        pool: &mut Pool<D>,
+        id: u32,
+        shape: &Shape,
+    ) -> Result<(), PageFault>
+        requires opened { IsOpen pool.old }
+        requires id { 1 ≤ id }
+        requires plane { IsShapeInPlane shape.now }
+        requires tree { IsTold pool.old → IsPmr pool.old.pages self.old }
+        requires listed { IsTold pool.old → IsListedWhereMet (tree_at pool.old.pages self.old) id shape.now }
+        ensures shrunk { OnOk result (IsTold pool.old → Shrinks pool.old.pages pool.new.pages self.old self.new id) }
+        ensures unchanged { OnErr result (self.new ≡ self.old) }
+        ensures within { InCommand pool.old pool.new }
+        ensures cause { HasPageCause pool.old pool.new result }
+    {
+        match shrunk(alloc, pool, *self, id, shape) {
+            Ok(tree) => {
+                *self = tree;
+                Ok(())
+            }
+            Err(fault) => Err(of_pages(fault)),
+        }
+    }
+
+    /// The greatest number of ids that a leaf takes without a split.
+    pub fn threshold(&self) -> u8
+        ensures { result ≡ self.now.threshold }
+    {
+        self.threshold
+    }
+
+    /// The number by which visits name the tree.
+    pub fn number(&self) -> u32
+        ensures { result ≡ self.now.number }
+    {
+        self.number
+    }
+
+    /// The number of ids of all leaves together, an empty leaf counting 1.
+    pub fn listings(&self) -> u64
+        ensures entries { result ≡ self.now.map.entries }
+        ensures listings { (pages : PageMap) → IsPmr pages self.now → result ≡ listings (tree_at pages self.now) }
+    {
+        self.map.entries
+    }
+}
