@@ -1,18 +1,17 @@
 -- The least entry of an int within bounds, after another one.
-use Rattle.std.proofs.Common.{◌≡◌, ℕ, suc, ◌+◌, ◌*◌, ◌/◌, ◌%◌, ◌^◌, ◌<◌, ◌≤◌, max, Bool, true, false, List, refl, sym, ◌∙◌, ap, ap₂, subst, inl, inr, arith}
-use Rattle.std.specs.Prelude.{ℤ, ◌≤ℤ◌, ◌<ℤ◌, int_lt, int_le, Option, None, Some, IfSome, FitsSigned, nat_lt, ◌&&◌, ◌||◌, option_map}
+use Rattle.std.proofs.Common.{◌≡◌, ℕ, ◌+◌, ◌*◌, ◌/◌, ◌%◌, ◌^◌, ◌<◌, ◌≤◌, Bool, true, false, List, sym, ◌∙◌, ap, ap₂, subst, inl, inr, arith}
+use Rattle.std.specs.Prelude.{ℤ, ◌≤ℤ◌, ◌<ℤ◌, int_le, Option, None, Some, IfSome, FitsSigned, nat_lt, ◌&&◌, ◌||◌, option_map}
 use Rattle.std.specs.List.{find}
 use Rattle.std.proofs.lemmas.Bool.Decides.{leb_tells}
 use Rattle.std.specs.Int.{w64, cast_signed, cast_unsigned}
 use Rattle.std.proofs.lemmas.Int.{by_lt_z, to_z-of_z}
-use Rattle.sand_base.specs.declared.value.Value.TheVariants as value
 use Rattle.sand_base.specs.InRange.{IsIntInRange}
 use Rattle.code_btree.specs.Node.{Pair}
 use Rattle.code_btree.specs.Items.{Each, ceiling_item}
 use Rattle.code_btree.specs.Tree.{Store, tree_items}
 use Rattle.code_btree.proofs.Orders.{lt_not}
 use Rattle.attr_index.specs.declared.index.AttrIndex.{AttrIndex}
-use Rattle.attr_index.specs.Key.{offset, int_from, int_of, key_of, IsIntKey}
+use Rattle.attr_index.specs.Key.{offset, int_from, int_of, IsIntKey}
 use Rattle.attr_index.specs.Entries.{Entry, IntEntry, int_entries, is_within, is_after, between_entry}
 use Rattle.attr_index.specs.Index.{IsIntIndex, entry_of, entries, entries_at}
 use Rattle.attr_index.specs.Steps.{least_place}

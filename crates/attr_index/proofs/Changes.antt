@@ -1,5 +1,5 @@
 -- The writing calls, by those of the tree.
-use Rattle.std.proofs.Common.{◌≡◌, ℕ, ◌^◌, ◌<◌, ◌≤◌, List, ◌∷◌, ◌++◌, refl, sym, ◌∙◌, ap, ap₂, subst, true, false, true≢false}
+use Rattle.std.proofs.Common.{◌≡◌, ℕ, ◌^◌, ◌<◌, ◌≤◌, List, ◌∷◌, refl, sym, ◌∙◌, ap, ap₂, subst, false, true≢false}
 use Rattle.std.specs.Prelude.{Option, nat_lt, nat_eq, not}
 use Rattle.std.specs.List.{filter}
 use Rattle.sand_base.specs.declared.kind.Kind.TheVariants as kind
@@ -11,15 +11,15 @@ use Rattle.sand_base.specs.Shape.{kind_of, value_kind, same_kind}
 use Rattle.code_btree.specs.declared.map.Tree.{Tree}
 use Rattle.code_btree.specs.Node.{Pair}
 use Rattle.code_btree.specs.Items.{Each, put_item, drop_item}
-use Rattle.code_btree.specs.Tree.{Store, tree_items, tree_pages, times}
+use Rattle.code_btree.specs.Tree.{Store, tree_items, times}
 use Rattle.code_btree.specs.Calls as of_tree
 use Rattle.code_btree.proofs.Frame.{frame}
 use Rattle.code_btree.proofs.Lists.{Each-append}
 use Rattle.attr_index.specs.declared.index.AttrIndex.{AttrIndex}
 use Rattle.attr_index.specs.Key.{key_of, text_length, IsAttribute, IsFit, IsKey, IsIntKey}
 use Rattle.attr_index.specs.Entries.{Entry, entry_number, with_entry, without_entry}
-use Rattle.attr_index.specs.Index.{IsAttrIndex, IsIntIndex, entries, entries_at, index_pages}
-use Rattle.attr_index.specs.Calls.{Planted, Added, Dropped, Unmoved}
+use Rattle.attr_index.specs.Index.{IsAttrIndex, entries, entries_at, index_pages}
+use Rattle.attr_index.specs.Calls.{Added, Dropped, Unmoved}
 use Rattle.attr_index.proofs.Pairs.{entries_put, entries_drop, Each-filter}
 
 each_with : (P : Entry → Type 0) (e : Entry) (es : List Entry) → P e → Each P es → Each P (with_entry e es)

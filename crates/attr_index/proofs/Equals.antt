@@ -1,10 +1,10 @@
 -- The least id of a key above another one.
-use Rattle.std.proofs.Common.{◌≡◌, ◌≢◌, ℕ, suc, ◌+◌, ◌*◌, ◌/◌, ◌%◌, ◌^◌, ◌<◌, ◌≤◌, Bool, true, false, List, refl, sym, ◌∙◌, ap, ap₂, subst, inl, inr, arith}
+use Rattle.std.proofs.Common.{◌≡◌, ◌≢◌, ℕ, ◌+◌, ◌/◌, ◌%◌, ◌^◌, ◌<◌, ◌≤◌, Bool, true, false, List, refl, sym, ◌∙◌, ap, inl, inr, arith}
 use Rattle.std.specs.Prelude.{Option, None, Some, nat_lt, nat_eq, ◌&&◌, option_map}
 use Rattle.std.specs.List.{find}
-use Rattle.std.proofs.lemmas.Bool.Decides.{leb_tells, eqb_tells}
+use Rattle.std.proofs.lemmas.Bool.Decides.{eqb_tells}
 use Rattle.code_btree.specs.Node.{Pair}
-use Rattle.code_btree.specs.Items.{Each, ceiling_item}
+use Rattle.code_btree.specs.Items.{ceiling_item}
 use Rattle.code_btree.specs.Tree.{Store, tree_items}
 use Rattle.code_btree.proofs.Orders.{lt_is, lt_not, eq_is, eq_not}
 use Rattle.attr_index.specs.declared.index.AttrIndex.{AttrIndex}

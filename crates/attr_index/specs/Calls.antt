@@ -1,5 +1,5 @@
 -- What the calls of an attribute index do.
-use Rattle.std.specs.Prelude.{◌≡◌, ℕ, List, []}
+use Rattle.std.specs.Prelude.{◌≡◌, ℕ, []}
 use Rattle.sand_base.specs.declared.kind.Kind.TheVariants as kind
 use Rattle.sand_base.specs.declared.value.Value.{Value}
 use Rattle.sand_base.specs.Shape.{value_kind}

@@ -1,4 +1,4 @@
--- The key of a value in an index: 12 bytes, that is a number of 96 bits. Ints stand in the order of their values, texts in that of their first 12 bytes.
+-- The key of a value in an index: 12 bytes, that is a number of 96 bits. Ints are in the order of their keys.
 use Rattle.std.specs.Prelude.{◌≡◌, ℕ, ◌+◌, ◌-◌, ◌*◌, ◌/◌, ◌^◌, ℤ, pos, negsuc, nat_lt, cond, List, [], ◌++◌, take, drop, length, replicate, ⊤}
 use Rattle.std.specs.Int.{w32, w64, to_be_bytes, from_be_bytes}
 use Rattle.sand_base.specs.declared.value.Value.{Value}

@@ -8,8 +8,8 @@ use sand_base::Value;
 /// 2 to the 63.
 const SIGN: u64 = 9_223_372_036_854_775_808;
 
-/// What an index keeps of a value: 96 bits, in whose order ints stand in the order of their values and texts in
-/// that of their first 12 bytes.
+/// What an index keeps of a value: 96 bits. Ints are in the order of their keys, and texts that share 12 bytes
+/// have one key.
 #[derive(Clone, Copy, Debug, PartialEq, Eq)]
 pub struct AttrKey(pub [u8; 12]);
 

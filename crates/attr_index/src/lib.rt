@@ -13,8 +13,6 @@ mod index;
 mod key;
 pub mod laws;
 mod place;
-#[cfg(test)]
-mod tests;
 
 pub use index::AttrIndex;
 pub use key::{AttrKey, key_of};

@@ -1,5 +1,5 @@
 -- the least place from the first one on is that of an int within the bounds, or none is
-use Rattle.std.proofs.Common.{◌≡◌, ◌∙◌, ℕ, ◌/◌, ◌^◌, subst, sym}
+use Rattle.std.proofs.Common.{subst, sym}
 use Rattle.std.specs.Prelude.{ℤ, ◌<ℤ◌}
 use Rattle.code_btree.specs.Tree.{pages_in}
 use Rattle.attr_index.proofs.Ints.{int_in_range, int_fits, test_lt, test_le}
