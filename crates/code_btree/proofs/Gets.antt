@@ -17,13 +17,14 @@ next_mono a b h = omega arith
 
 -- a refusal before any get
 pub looks_refused : {T : Type 0} (a : PoolState) (k : ℕ) → Looks {T = T} a a k (Err Memory)
-looks_refused a k = record { read = IsRead-refl a; within = omega arith; some = tt; cause = HasPageCause-memory a a refl }
+looks_refused a k = record { read = IsRead-refl a; within = omega arith; up = omega arith; some = tt; cause = HasPageCause-memory a a refl }
 
 -- one get, accepted
 pub looked : {T U : Type 0} (a b : PoolState) (n : ℕ) (x : T) (y : U) → Gets a b n (Ok x) → Looks a b 1 (Ok y)
 looked a b n x y g = record {
   read = g.read;
   within = omega (arith, g.gets, next_small a.gets);
+  up = omega (arith, g.gets);
   some = omega (arith, g.gets);
   cause = HasPageCause-done a b y g.cause.counted;
 }
@@ -33,27 +34,29 @@ pub looks_failed : {T U : Type 0} (a b : PoolState) (n : ℕ) (why : PageFault) 
 looks_failed {T = T} {U = U} a b n why g = record {
   read = g.read;
   within = omega (arith, g.gets, next_small a.gets);
+  up = omega (arith, g.gets);
   some = tt;
   cause = HasPageCause-passed {T = T} {U = U} a b why g.cause;
 }
 
 -- fewer gets than allowed
 pub looks_more : {T : Type 0} (a b : PoolState) (k l : ℕ) (r : Result T PageFault) → k ≤ l → Looks a b k r → Looks a b l r
-looks_more a b k l r h g = record { read = g.read; within = omega (arith, g.within); some = g.some; cause = g.cause }
+looks_more a b k l r h g = record { read = g.read; within = omega (arith, g.within); up = g.up; some = g.some; cause = g.cause }
 
 -- a refusal passed on
 pub looks_passed : {T U : Type 0} (a b : PoolState) (k : ℕ) (why : PageFault) → Looks {T = T} a b k (Err why) → Looks {T = U} a b k (Err why)
-looks_passed {T = T} {U = U} a b k why g = record { read = g.read; within = g.within; some = tt; cause = HasPageCause-passed {T = T} {U = U} a b why g.cause }
+looks_passed {T = T} {U = U} a b k why g = record { read = g.read; within = g.within; up = g.up; some = tt; cause = HasPageCause-passed {T = T} {U = U} a b why g.cause }
 
 -- one answer for another
 pub looks_given : {T U : Type 0} (a b : PoolState) (k : ℕ) (x : T) (y : U) → Looks a b k (Ok x) → Looks a b k (Ok y)
-looks_given a b k x y g = record { read = g.read; within = g.within; some = g.some; cause = HasPageCause-done a b y g.cause.counted }
+looks_given a b k x y g = record { read = g.read; within = g.within; up = g.up; some = g.some; cause = HasPageCause-done a b y g.cause.counted }
 
 -- gets after gets
 pub looks_then : {T U : Type 0} (a b c : PoolState) (k l : ℕ) (x : T) (r : Result U PageFault) → Looks a b k (Ok x) → Looks b c l r → OnOk r (next_count a.gets ≤ c.gets) → Looks a c (k + l) r
 looks_then a b c k l x r g h some = record {
   read = IsRead-trans a b c g.read h.read;
   within = omega (arith, g.within, h.within);
+  up = omega (arith, g.up, h.up);
   some = some;
   cause = HasPageCause-before a b c r g.cause.counted h.cause;
 }
@@ -63,14 +66,15 @@ pub looks_peek : {T U : Type 0} (a b c : PoolState) (k l : ℕ) (x : T) (y : U) 
 looks_peek a b c k l x y g h = record {
   read = IsRead-trans a b c g.read h.read;
   within = omega (arith, g.within, h.within);
-  some = omega (arith, g.some, h.later);
+  up = omega (arith, g.up, h.up);
+  some = omega (arith, g.some, h.up);
   cause = HasPageCause-before a b c (Ok y) g.cause.counted h.cause;
 }
 
 -- no get at all
 pub peeks_none : {T : Type 0} (a : PoolState) (k : ℕ) (x : T) → Peeks a a k (Ok x)
-peeks_none a k x = record { read = IsRead-refl a; within = omega arith; later = omega arith; cause = HasPageCause-done a a x refl }
+peeks_none a k x = record { read = IsRead-refl a; within = omega arith; up = omega arith; cause = HasPageCause-done a a x refl }
 
 pub looks_peeks : {T : Type 0} (a b : PoolState) (k : ℕ) (r : Result T PageFault) → Looks a b k r → Peeks a b k r
-looks_peeks a b k (Ok x) g = record { read = g.read; within = g.within; later = omega (arith, g.some); cause = g.cause }
-looks_peeks a b k (Err e) g = record { read = g.read; within = g.within; later = tt; cause = g.cause }
+looks_peeks a b k (Ok x) g = record { read = g.read; within = g.within; up = g.up; cause = g.cause }
+looks_peeks a b k (Err e) g = record { read = g.read; within = g.within; up = g.up; cause = g.cause }

@@ -37,6 +37,7 @@ run_gave old new s after e o x ok h p some =
         tree = h.tree;
         read = p.read;
         gets = p.within;
+        up = p.up;
         some = λ b. let Q : Result Bool PageFault → Type 0 = λ y. Rattle.std.specs.Prelude.OnOk y (next_count old.gets ≤ new.gets) in subst Q (sym ok) (some b);
         cause = subst H (sym ok) (HasPageCause-done old new false p.cause.counted);
         can = λ told _. subst S (sym same) (h.told (sym p.read.told ∙ told)).1;

@@ -36,10 +36,11 @@ pub record Removed (m w : Store) (t u : Tree) (key : ℕ) (was : Option ℕ) : T
   pub found : was ≡ find_item key (tree_items m t)
   pub keeps : Keeps m w (tree_pages m t) (tree_pages w u)
 
--- A reading call of at most so many gets: it changes nothing, and it makes at least one get where it isn't refused.
+-- A reading call of at most so many gets: it changes nothing, and it makes at least one get where it isn't refused. Even where it is, the number of gets doesn't fall.
 pub record Looks {T : Type 0} (old new : PoolState) (limit : ℕ) (result : Result T PageFault) : Type 0 where
   pub read : IsRead old new
   pub within : new.gets ≤ old.gets + limit
+  pub up : min old.gets last_count ≤ new.gets
   pub some : OnOk result (next_count old.gets ≤ new.gets)
   pub cause : HasPageCause old new result
 
@@ -47,7 +48,7 @@ pub record Looks {T : Type 0} (old new : PoolState) (limit : ℕ) (result : Resu
 pub record Peeks {T : Type 0} (old new : PoolState) (limit : ℕ) (result : Result T PageFault) : Type 0 where
   pub read : IsRead old new
   pub within : new.gets ≤ old.gets + limit
-  pub later : OnOk result (min old.gets last_count ≤ new.gets)
+  pub up : min old.gets last_count ≤ new.gets
   pub cause : HasPageCause old new result
 
 -- the tree is in w what it is in m: its pairs, its pages, and that it is a tree

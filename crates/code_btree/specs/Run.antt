@@ -1,7 +1,7 @@
 -- A run over a tree's pairs from a key on: what it has still to give, and what a step does.
-use Rattle.std.specs.Prelude.{◌≡◌, ℕ, ◌+◌, ◌-◌, ◌≤◌, ◌<◌, ◌^◌, OnOk, List, [], ◌∷◌, ◌++◌, Bool, true, false, cond, length, drop, Option, None, Result, Ok, IfSome}
+use Rattle.std.specs.Prelude.{◌≡◌, ℕ, ◌+◌, ◌-◌, ◌≤◌, ◌<◌, ◌^◌, OnOk, List, [], ◌∷◌, ◌++◌, Bool, true, false, cond, length, drop, Option, None, Result, Ok, IfSome, min}
 use Rattle.std.specs.List.{flat_map}
-use Rattle.sand_base.specs.Faults.{next_count}
+use Rattle.sand_base.specs.Faults.{next_count, last_count}
 use Rattle.page_pool.specs.declared.fault.PageFault.{PageFault}
 use Rattle.page_pool.specs.Pool.{PoolState, IsTold}
 use Rattle.page_pool.specs.Reads.{IsRead}
@@ -74,7 +74,7 @@ pub record Rested (a : RunView) (r : Option Pair) (b : RunView) : Type 0 where
   pub none : r ≡ None
   pub stays : b ≡ a
 
--- A step of a run that hadn't ended. Where the disk tells, a pair is the first of those left, and without a fault None comes exactly where none was left. Over any disk keys rise. A first step without a fault makes at least one get.
+-- A step of a run that hadn't ended. Where the disk tells, a pair is the first of those left, and without a fault None comes exactly where none was left. Over any disk keys rise. The number of gets doesn't fall, and a first step without a fault makes at least one.
 pub record Stepped (a : RunView) (r : Option Pair) (b : RunView) : Type 0 where
   pub given : IfSome r (λ e. IsTold a.pool → run_left a ≡ e ∷ run_left b)
   pub rises : IfSome r (λ e. (least_left a.spot ≤ e.0) × (least_left b.spot ≡ e.0 + 1))
@@ -84,6 +84,7 @@ pub record Stepped (a : RunView) (r : Option Pair) (b : RunView) : Type 0 where
   pub tree : b.spot.tree ≡ a.spot.tree
   pub read : IsRead a.pool b.pool
   pub gets : b.pool.gets ≤ a.pool.gets + step_gets a.spot
+  pub up : min a.pool.gets last_count ≤ b.pool.gets
   pub some : a.spot.begun ≡ false → OnOk b.outcome (next_count a.pool.gets ≤ b.pool.gets)
   pub cause : HasPageCause a.pool b.pool b.outcome
   pub can : CanRun b

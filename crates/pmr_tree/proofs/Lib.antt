@@ -21,3 +21,7 @@ pub mod Values
 pub mod Shrunk
 pub mod Ranges
 pub mod Planted
+pub mod Places
+pub mod Roughs
+pub mod Looked
+pub mod LeafOfCode

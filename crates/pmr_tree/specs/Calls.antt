@@ -1,15 +1,24 @@
 -- What the calls of a quadtree do, and why they are refused.
-use Rattle.std.specs.Prelude.{◌≡◌, ◌≢◌, ℕ, ◌≤◌, List, [], ◌∷◌, Result, Ok, Err}
+use Rattle.std.specs.Prelude.{◌≡◌, ◌≢◌, ◌⊎◌, ℕ, ◌+◌, ◌≤◌, List, [], ◌∷◌, ◌++◌, Result, Ok, Err, OnOk, MatchResult, All}
+use Rattle.sand_base.specs.Faults.{next_count}
 use Rattle.sand_base.specs.declared.shape.Shape.{Shape}
+use Rattle.sand_base.specs.declared.visit.Visit.{Visit}
 use Rattle.page_pool.specs.Disk.{PageMap}
 use Rattle.page_pool.specs.Pool.{PoolState}
+use Rattle.page_pool.specs.Desk.{DeskState}
 use Rattle.page_pool.specs.Causes.{HasPageCause}
 use Rattle.page_pool.specs.declared.fault.PageFault.{PageFault}
 use Rattle.page_pool.specs.declared.fault.PageFault.TheVariants as page
 use Rattle.code_btree.specs.Calls.{Keeps}
 use Rattle.sand_model.specs.Measure.{Measure, IsMeasure}
 use Rattle.sand_model.specs.Database.{tree_with}
-use Rattle.sand_model.specs.Tree.{empty_tree, shrunk}
+use Rattle.sand_model.specs.Nodes.{rough_figure}
+use Rattle.sand_model.specs.Price.{block_price}
+use Rattle.sand_model.specs.Tree.{Tree, empty_tree, shrunk, IsPlace}
+use Rattle.sand_base.specs.Plane.{IsShapeInPlane}
+use Rattle.z_code.specs.declared.block.Block.{Block}
+use Rattle.pmr_tree.specs.Entries.{listed_of, figure_of, IsRoughInPlane, IsNodeOf, id_count}
+use Rattle.pmr_tree.specs.declared.listed.Node.{Node}
 use Rattle.pmr_tree.specs.Quadtree.{store_of, entries_at, pages_at, tree_at, IsPmr, KeepsShape}
 use Rattle.pmr_tree.specs.declared.fault.PmrFault.{PmrFault}
 use Rattle.pmr_tree.specs.declared.fault.PmrFault.TheVariants.{Memory, Device, Damaged, IndexFull}
@@ -60,3 +69,29 @@ pub record Unmoved (m w : PageMap) (t : Pmr) : Type 0 where
   pub tree : tree_at w t ≡ tree_at m t
   pub pages : pages_at w t ≡ pages_at m t
   pub is : IsPmr m t → IsPmr w t
+
+-- what was found is the place of the block
+abbrev pub Finds : Tree → Block → Node → Type 0
+Finds tree b found = (place : Tree) → IsPlace tree b place → IsNodeOf place found
+
+-- each id of what was found has its rough shape with it
+abbrev pub HasRoughs : PageMap → Pmr → Node → Type 0
+HasRoughs pages t found = All (λ l. (s : Shape) → IsShapeInPlane s → KeepsShape pages t l.id s → figure_of l.rough ≡ rough_figure s) (listed_of found)
+
+-- what was found has ids of rows and rough shapes in the plane, over any disk
+abbrev pub IsFoundInRange : Node → Type 0
+IsFoundInRange found = All (λ l. (1 ≤ l.id) × IsRoughInPlane l.rough) (listed_of found)
+
+-- no more gets were made than a visit of the block may cost
+abbrev pub IsWithinPrice : PageMap → Pmr → Block → PoolState → PoolState → Type 0
+IsWithinPrice pages t b old new = (place : Tree) → IsPlace (tree_at pages t) b place → new.gets ≤ old.gets + block_price t.map.height (id_count place)
+
+-- the call made at least one get where it was accepted
+abbrev pub GetsSome : {T E : Type 0} → PoolState → PoolState → Result T E → Type 0
+GetsSome old new result = OnOk result (next_count old.gets ≤ new.gets)
+
+-- the visit was noted where the call was accepted; where it was refused, it was noted, or nothing was done
+abbrev pub NotesVisit : {T : Type 0} → Visit → DeskState → DeskState → Result T PageFault → Type 0
+NotesVisit visit old new result = MatchResult result
+    (λ _. new.visits ≡ old.visits ++ visit ∷ [])
+    (λ _. (new.visits ≡ old.visits ++ visit ∷ []) ⊎ ((new.visits ≡ old.visits) × (new.pool ≡ old.pool)))

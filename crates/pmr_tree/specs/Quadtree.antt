@@ -9,7 +9,7 @@ use Rattle.z_code.specs.Block.{child}
 use Rattle.z_code.specs.declared.block.Block.{Block}
 use Rattle.sand_model.specs.Measure.{Measure, IsMeasure}
 use Rattle.sand_model.specs.Database.{shape_at, meets_block}
-use Rattle.sand_model.specs.Tree.{Tree, Leaf, Inner, root_block, Fits, IsFull}
+use Rattle.sand_model.specs.Tree.{Tree, Leaf, Inner, root_block, Fits, IsFull, IsPlace}
 use Rattle.pmr_tree.specs.Lists.{Each, Rises}
 use Rattle.pmr_tree.specs.Keys.{own, ids_in, keys, IsShaped}
 use Rattle.pmr_tree.specs.Changes.{ListsWhere}
@@ -77,3 +77,7 @@ pub record FitsRows (pages : PageMap) (t : Pmr) (rows : List (ℕ × Shape)) : T
 -- every leaf that lists the id has a square that the shape meets
 abbrev pub IsListedWhereMet : Tree → ℕ → Shape → Type 0
 IsListedWhereMet tree id s = (gap : Measure) → IsMeasure gap → ListsWhere (meets_block gap ((id, s) ∷ [])) id root_block tree
+
+-- the block is a place of the tree
+abbrev pub HasPlace : Tree → Block → Type 0
+HasPlace tree b = (place : Tree) × IsPlace tree b place

@@ -11,6 +11,7 @@
 #![tactic(auto)]
 
 mod change;
+mod code_leaf;
 mod enter;
 mod fault;
 mod fill;
@@ -19,6 +20,7 @@ mod grow;
 pub mod laws;
 mod leaf;
 mod leave;
+mod listed;
 mod no_shapes;
 mod plot;
 mod quadtree;
@@ -26,11 +28,14 @@ mod range;
 mod shapes;
 mod shrink;
 mod split;
+#[cfg(test)]
+mod tests;
 mod union;
 mod value;
 
 pub use fault::PmrFault;
 use ground::Ground;
 use leaf::Kept;
+pub use listed::{LeafList, Listed, Node};
 pub use quadtree::Pmr;
 pub use shapes::ShapeOf;

@@ -1,24 +1,33 @@
 ghost use Rattle.std.specs.Prelude.{◌≡◌, ℕ, ◌+◌, ◌≤◌, ◌<◌, ◌*◌, ◌^◌, [], ◌∷◌, map, length, All, IfOk, IfErr, OnOk, OnErr, Some};
 ghost use Rattle.sand_base.specs.Plane.{IsShapeInPlane};
+ghost use Rattle.sand_base.specs.declared.TheConstants.{COORDINATE_BITS};
 ghost use Rattle.sand_base.specs.declared.shape.Shape.{Shape};
+ghost use Rattle.sand_base.specs.declared.visit.Visit.TheVariants as visit;
+ghost use Rattle.z_code.specs.Block.{IsBlock, HasCode};
 ghost use Rattle.sand_model.specs.Measure.{Measure, IsMeasure};
 ghost use Rattle.sand_model.specs.Database.{tree_with};
-ghost use Rattle.sand_model.specs.Tree.{listings};
+ghost use Rattle.sand_model.specs.Tree.{Leaf, listings, IsPlace};
 ghost use Rattle.page_pool.specs.Disk.{PageMap};
 ghost use Rattle.page_pool.specs.Pool.{IsOpen, IsLive, IsTold};
+ghost use Rattle.page_pool.specs.Reads.{IsRead};
 ghost use Rattle.page_pool.specs.Causes.{HasPageCause};
 ghost use Rattle.page_pool.specs.Steps.{InCommand};
 ghost use Rattle.code_btree.specs.Tree.{times};
-ghost use Rattle.pmr_tree.specs.Quadtree.{pages_at, tree_at, IsPmr, FitsOthers, IsListedWhereMet};
-ghost use Rattle.pmr_tree.specs.Calls.{HasPmrCause, Plants, Grows, Shrinks};
+ghost use Rattle.pmr_tree.specs.Quadtree.{pages_at, tree_at, IsPmr, FitsOthers, IsListedWhereMet, HasPlace};
+ghost use Rattle.pmr_tree.specs.Calls.{HasPmrCause, Plants, Grows, Shrinks, Finds, HasRoughs, IsFoundInRange, IsWithinPrice, GetsSome, NotesVisit};
 ghost use Rattle.pmr_tree.specs.declared.fault.PmrFault.TheVariants.{IndexFull};
+ghost use Rattle.pmr_tree.specs.declared.listed.Node.TheVariants as node;
 
 use crate::change::{grown, of_pages, shrunk};
-use crate::{PmrFault, ShapeOf};
+use crate::code_leaf::{block_with, last_key, level_in};
+use crate::listed::{ids_at, node_in};
+use crate::range::own_entries;
+use crate::{Node, PmrFault, ShapeOf};
 use code_btree::Tree;
-use page_pool::{Disk, PageFault, Pool};
-use sand_base::Shape;
+use page_pool::{Desk, Disk, PageFault, Pages, Pool};
+use sand_base::{Ids, Shape, Visit};
 use std::alloc::Global;
+use z_code::Block;
 
 /// A PMR quadtree in pages of a pool, as plain numbers: the map of its entries, its splitting threshold, and the
 /// number by which visits name it. Each entry is an id of a leaf with its rough shape.
@@ -111,6 +120,91 @@ impl Pmr {
             }
             Err(fault) => Err(of_pages(fault)),
         }
+    }
+
+    /// The place of the block: an inner one, or a leaf with its ids in ascending order, each with its rough shape.
+    /// It makes at most as many page gets as the map's height times two more than the ids.
+    pub fn look<P: Pages>(
+        &self,
+        alloc: Global,
+        pages: &mut P,
+        block: Block,
+    ) -> Result<Node, PageFault>
+        requires block { IsBlock block }
+        requires tree { IsTold (P.shown pages.old) → IsPmr (P.shown pages.old).pages self.now }
+        requires place { IsTold (P.shown pages.old) → HasPlace (tree_at (P.shown pages.old).pages self.now) block }
+        ensures place { IfOk result (λ found. IsTold (P.shown pages.old) → Finds (tree_at (P.shown pages.old).pages self.now) block found) }
+        ensures roughs { IfOk result (λ found. IsTold (P.shown pages.old) → HasRoughs (P.shown pages.old).pages self.now found) }
+        ensures plane { IfOk result IsFoundInRange }
+        ensures above_points { IfOk result (λ found. found ≡ node.Inner → block.level < COORDINATE_BITS) }
+        ensures read { IsRead (P.shown pages.old) (P.shown pages.new) }
+        ensures cause { HasPageCause (P.shown pages.old) (P.shown pages.new) result }
+        ensures up { (P.shown pages.old).gets ≤ (P.shown pages.new).gets }
+        ensures some { GetsSome (P.shown pages.old) (P.shown pages.new) result }
+        ensures price { IsTold (P.shown pages.old) → IsWithinPrice (P.shown pages.old).pages self.now block (P.shown pages.old) (P.shown pages.new) }
+    {
+        // For the proof alone: a count of gets is at most the greatest u64, so it doesn't fall.
+        let _before = pages.gets();
+        let pairs = own_entries(alloc, self.map, pages, block)?;
+        let node = node_in(alloc, block, &pairs)?;
+        Ok(node)
+    }
+
+    /// Notes the block in the log, then looks at it. A visit that was noted stays so where the look is refused.
+    pub fn visit<D: Disk>(
+        &self,
+        alloc: Global,
+        desk: &mut Desk<D>,
+        block: Block,
+    ) -> Result<Node, PageFault>
+        requires block { IsBlock block }
+        requires tree { IsTold desk.old.pool → IsPmr desk.old.pool.pages self.now }
+        requires place { IsTold desk.old.pool → HasPlace (tree_at desk.old.pool.pages self.now) block }
+        ensures noted { NotesVisit (visit.Block self.now.number block.z block.level) desk.old desk.new result }
+        ensures place { IfOk result (λ found. IsTold desk.old.pool → Finds (tree_at desk.old.pool.pages self.now) block found) }
+        ensures roughs { IfOk result (λ found. IsTold desk.old.pool → HasRoughs desk.old.pool.pages self.now found) }
+        ensures plane { IfOk result IsFoundInRange }
+        ensures above_points { IfOk result (λ found. found ≡ node.Inner → block.level < COORDINATE_BITS) }
+        ensures read { IsRead desk.old.pool desk.new.pool }
+        ensures cause { HasPageCause desk.old.pool desk.new.pool result }
+        ensures up { desk.old.pool.gets ≤ desk.new.pool.gets }
+        ensures some { GetsSome desk.old.pool desk.new.pool result }
+        ensures price { IsTold desk.old.pool → IsWithinPrice desk.old.pool.pages self.now block desk.old.pool desk.new.pool }
+    {
+        desk.note(Visit::Block {
+            tree: self.number,
+            z: block.z,
+            level: block.level,
+        })?;
+        let node = self.look(alloc, desk.pages(), block)?;
+        Ok(node)
+    }
+
+    /// The leaf that has the code in its range, with its ids in ascending order. It makes page gets of one descent
+    /// more than looking at that leaf.
+    pub fn leaf_at<P: Pages>(
+        &self,
+        alloc: Global,
+        pages: &mut P,
+        z: u64,
+    ) -> Result<(Block, Ids), PageFault>
+        requires code { z < 2 ^ (2 * COORDINATE_BITS) }
+        requires tree { IsTold (P.shown pages.old) → IsPmr (P.shown pages.old).pages self.now }
+        ensures leaf { IfOk result (λ found. IsTold (P.shown pages.old) → IsPlace (tree_at (P.shown pages.old).pages self.now) found.0 (Leaf found.1)) }
+        ensures block { IfOk result (λ found. IsBlock found.0) }
+        ensures code { IfOk result (λ found. HasCode found.0 z) }
+        ensures read { IsRead (P.shown pages.old) (P.shown pages.new) }
+        ensures cause { HasPageCause (P.shown pages.old) (P.shown pages.new) result }
+        ensures up { (P.shown pages.old).gets ≤ (P.shown pages.new).gets }
+        ensures some { GetsSome (P.shown pages.old) (P.shown pages.new) result }
+    {
+        // For the proof alone: a count of gets is at most the greatest u64, so it doesn't fall.
+        let _before = pages.gets();
+        let found = self.map.floor(pages, last_key(z))?;
+        let block = block_with(z, level_in(found));
+        let pairs = own_entries(alloc, self.map, pages, block)?;
+        let ids = ids_at(alloc, &pairs)?;
+        Ok((block, Ids::new(ids)))
     }
 
     /// The greatest number of ids that a leaf takes without a split.

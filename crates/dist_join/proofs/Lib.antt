@@ -1,0 +1,14 @@
+-- the pairs of places, and the laws
+pub mod PairPlaces
+pub mod JoinLaws
+-- the rows
+pub mod JoinedRows
+-- the counts
+pub mod Counterparts
+pub mod CountedPairs
+pub mod Lawful
+-- the code
+pub mod FoundPairs
+pub mod Expanding
+-- examples
+mod WorkedCases

@@ -1,0 +1,91 @@
+ghost use Rattle.dist_join.specs.Exact.{pair_exact};
+ghost use Rattle.dist_join.specs.Joining.{join_meaning};
+ghost use Rattle.dist_join.specs.OverPages.{paged, joining_over, visit_of, pair_weight};
+
+use crate::PairTree;
+use crate::blocks::are_blocks;
+use crate::figures::{figures_gap, squares_gap};
+use crate::looks::{fetch_both, look_at_both};
+use crate::places::add_found;
+use best_first::{Hierarchy, Item};
+use exact_frac::Frac;
+use page_pool::{Desk, Disk, PageFault};
+use pmr_tree::ShapeOf;
+use sand_base::{Goal, NoMemory, Visit};
+use std::alloc::Global;
+use z_code::Block;
+
+impl<'s, G: ShapeOf + Drop> Hierarchy for PairTree<'s, G> {
+    type Node = (Block, Block);
+
+    ghost meaning = { λ t pages. join_meaning (joining_over (paged (G.rows t.left_shapes) (G.Stands t.left_shapes) (G.price t.left_shapes) t.left) (paged (G.rows t.right_shapes) (G.Stands t.right_shapes) (G.price t.right_shapes) t.right) t.ceiling pages) };
+
+    ghost note = { λ t item. visit_of t.left.number t.right.number item };
+
+    ghost weight = { λ t pair. pair_weight pair };
+
+    fn root(&self) -> (Frac, (Block, Block)) {
+        let block = Block::root();
+        (squares_gap(block, block), (block, block))
+    }
+
+    fn ceiling(&self) -> Option<u32> {
+        self.ceiling
+    }
+
+    fn expand<D: Disk>(
+        &self,
+        alloc: Global,
+        desk: &mut Desk<D>,
+        gap: Frac,
+        node: (Block, Block),
+        found: &mut Vec<Item<(Block, Block)>>,
+    ) -> Result<(), PageFault> {
+        let (block, other) = node;
+        // Over a disk that doesn't tell its pages any value may come.
+        if !are_blocks(block, other) {
+            return Ok(());
+        }
+        let visit = Visit::Pair {
+            left: (self.left.number, block.z, block.level),
+            right: (self.right.number, other.z, other.level),
+        };
+        match desk.note(visit) {
+            Ok(()) => {}
+            Err(NoMemory {}) => return Err(PageFault::Memory),
+        }
+        match look_at_both(alloc, desk.pages(), &self.left, block, &self.right, other) {
+            Ok((place, second)) => match add_found(alloc, gap, node, &place, &second, found) {
+                Ok(()) => Ok(()),
+                Err(NoMemory {}) => Err(PageFault::Memory),
+            },
+            Err(fault) => Err(fault),
+        }
+    }
+
+    fn resolve<D: Disk>(
+        &self,
+        alloc: Global,
+        desk: &mut Desk<D>,
+        left: u32,
+        right: u32,
+    ) -> Result<Frac, PageFault> {
+        match desk.note(Visit::GeometryPair { left, right }) {
+            Ok(()) => {}
+            Err(NoMemory {}) => return Err(PageFault::Memory),
+        }
+        match fetch_both(
+            alloc,
+            desk.pages(),
+            &self.left_shapes,
+            left,
+            &self.right_shapes,
+            right,
+        ) {
+            Ok((shape, second)) => Ok(figures_gap(&Goal::Shape(shape), &Goal::Shape(second))),
+            Err(fault) => Err(fault),
+        }
+    }
+
+    ghost exact = { pair_exact };
+}

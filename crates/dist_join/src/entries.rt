@@ -1,0 +1,105 @@
+ghost use Rattle.std.specs.Prelude.{◌≡◌, ◌||◌, flat_map, All, option_to_list, OnOk};
+ghost use Rattle.std.specs.List.{AllZip};
+ghost use Rattle.sand_model.specs.Nodes.{greater};
+ghost use Rattle.pmr_tree.specs.Entries.{IsRoughInPlane};
+ghost use Rattle.best_first.specs.declared.item.Item.{Item};
+ghost use Rattle.best_first.specs.Hierarchy.{FindsAlike};
+ghost use Rattle.best_first.specs.Item.{IsAlike};
+ghost use Rattle.dist_join.specs.OverPages.{is_bound as bounds, exact_found, entry_found, row_found};
+
+use crate::figures::{figure, figures_gap, is_bound};
+use best_first::Item;
+use exact_frac::Frac;
+use pmr_tree::Listed;
+use sand_base::NoMemory;
+use z_code::Block;
+
+// An exact item, unless it is nearer than its leaves: then it was given already.
+fn exact_item(leaf: Frac, left: u32, right: u32, gap: Frac) -> Option<Item<(Block, Block)>>
+    ensures { option_to_list result ≡ exact_found leaf left right gap }
+{
+    if gap < leaf {
+        return None;
+    }
+    Some(Item::Row { gap, left, right })
+}
+
+// A rough item, at the greater of the gap of the rough shapes and of its leaves.
+fn rough_item(leaf: Frac, left: u32, right: u32, gap: Frac) -> Item<(Block, Block)>
+    ensures { result ≡ Item.Rough (greater gap leaf) left right }
+{
+    let gap = if gap < leaf { leaf } else { gap };
+    Item::Rough { gap, left, right }
+}
+
+// Whether one of two entries is a polygon's.
+fn is_rough(left: Listed, right: Listed) -> bool
+    ensures { result ≡ (bounds left.rough || bounds right.rough) }
+{
+    is_bound(left.rough) || is_bound(right.rough)
+}
+
+// What two entries of two leaves give.
+fn entry_item(leaf: Frac, left: Listed, right: Listed) -> Option<Item<(Block, Block)>>
+    requires left { IsRoughInPlane left.rough }
+    requires right { IsRoughInPlane right.rough }
+    ensures { AllZip IsAlike (option_to_list result) (entry_found leaf left right) }
+{
+    let gap = figures_gap(&figure(left.rough), &figure(right.rough));
+    if is_rough(left, right) {
+        return Some(rough_item(leaf, left.id, right.id, gap));
+    }
+    exact_item(leaf, left.id, right.id, gap)
+}
+
+// Adds what two entries give at the end of the list.
+fn push_entry(
+    leaf: Frac,
+    left: Listed,
+    right: Listed,
+    items: &mut Vec<Item<(Block, Block)>>,
+) -> Result<(), NoMemory>
+    requires left { IsRoughInPlane left.rough }
+    requires right { IsRoughInPlane right.rough }
+    ensures { OnOk result (FindsAlike (entry_found leaf left right) items.old.items items.new.items) }
+{
+    let Some(item) = entry_item(leaf, left, right) else {
+        return Ok(());
+    };
+    items.push(item)?;
+    Ok(())
+}
+
+// Adds what an entry gives with those of the other leaf.
+fn push_row(
+    leaf: Frac,
+    left: Listed,
+    rights: &[Listed],
+    items: &mut Vec<Item<(Block, Block)>>,
+) -> Result<(), NoMemory>
+    requires left { IsRoughInPlane left.rough }
+    requires rights { All (λ r. IsRoughInPlane r.rough) rights.now }
+    ensures { OnOk result (FindsAlike (row_found leaf rights.now left) items.old.items items.new.items) }
+{
+    'rights: for right in rights {
+        push_entry(leaf, left, *right, items)?;
+    }
+    Ok(())
+}
+
+// Adds the items of two leaves.
+pub fn push_leaves(
+    leaf: Frac,
+    lefts: &[Listed],
+    rights: &[Listed],
+    items: &mut Vec<Item<(Block, Block)>>,
+) -> Result<(), NoMemory>
+    requires lefts { All (λ l. IsRoughInPlane l.rough) lefts.now }
+    requires rights { All (λ r. IsRoughInPlane r.rough) rights.now }
+    ensures { OnOk result (FindsAlike (flat_map (row_found leaf rights.now) lefts.now) items.old.items items.new.items) }
+{
+    'lefts: for left in lefts {
+        push_row(leaf, *left, rights, items)?;
+    }
+    Ok(())
+}

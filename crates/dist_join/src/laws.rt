@@ -1,0 +1,7 @@
+ghost use Rattle.dist_join.specs.Laws.{NothingIsCounted};
+
+/// What a join counts before anything was taken, for proofs of the crates above: a call brings the law into scope,
+/// and does nothing when it runs.
+pub fn join_laws()
+    ensures { NothingIsCounted }
+{}

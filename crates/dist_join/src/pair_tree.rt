@@ -1,0 +1,56 @@
+ghost use Rattle.std.specs.Prelude.{◌≡◌, ℕ, ◌<◌, ◌^◌, IfSome};
+ghost use Rattle.std.proofs.Props.{props};
+
+use pmr_tree::{Pmr, ShapeOf};
+use std::marker::PhantomData;
+
+/// Two quadtrees and the rows that they index, joined by distance. Its nodes are pairs of blocks, one of each tree;
+/// the two may be one, where a relation is joined with itself.
+#[derive(Drop)]
+pub struct PairTree<'s, G> {
+    pub(crate) left: Pmr,
+    pub(crate) left_shapes: G,
+    pub(crate) right: Pmr,
+    pub(crate) right_shapes: G,
+    pub(crate) ceiling: Option<u32>,
+    borrow: PhantomData<&'s Pmr>,
+    ghost small: { IfSome ceiling (λ most. most < 2 ^ 22) } by { Prim.hlevel props },
+}
+
+impl<'s, G: ShapeOf> PairTree<'s, G> {
+    ghost use Rattle.dist_join.specs.OverPages.{paged, IsLawfulOver};
+
+    /// The join of both sides, with a greatest distance where there is a ceiling. No page is read.
+    pub fn over(
+        left: &'s Pmr,
+        left_shapes: G,
+        right: &'s Pmr,
+        right_shapes: G,
+        ceiling: Option<u32>,
+    ) -> PairTree<'s, G>
+        requires small { IfSome ceiling (λ most. most < 2 ^ 22) }
+        ensures left { result.left ≡ left.now }
+        ensures left_shapes { result.left_shapes ≡ left_shapes }
+        ensures right { result.right ≡ right.now }
+        ensures right_shapes { result.right_shapes ≡ right_shapes }
+        ensures ceiling { result.ceiling ≡ ceiling }
+        ensures laws { IsLawfulOver (paged (G.rows left_shapes) (G.Stands left_shapes) (G.price left_shapes) left.now) (paged (G.rows right_shapes) (G.Stands right_shapes) (G.price right_shapes) right.now) ceiling }
+    {
+        let tree = PairTree {
+            left: *left,
+            left_shapes,
+            right: *right,
+            right_shapes,
+            ceiling,
+            borrow: PhantomData,
+        };
+        tree.laws();
+        tree
+    }
+
+    /// The laws of this join, for proofs of callers: over all pages where both quadtrees fit their rows it is a
+    /// hierarchy, gives the joined rows and counts as it should. A call does nothing when it runs.
+    pub fn laws(&self)
+        ensures { IsLawfulOver (paged (G.rows self.now.left_shapes) (G.Stands self.now.left_shapes) (G.price self.now.left_shapes) self.now.left) (paged (G.rows self.now.right_shapes) (G.Stands self.now.right_shapes) (G.price self.now.right_shapes) self.now.right) self.now.ceiling }
+    {}
+}

@@ -1,0 +1,73 @@
+ghost use Rattle.rank_cursor.specs.Cursor.{ranking_over, visit_of, block_weight};
+ghost use Rattle.rank_cursor.specs.Exact.{block_exact};
+ghost use Rattle.rank_cursor.specs.Ranking.{rank_meaning};
+
+use crate::RankTree;
+use crate::blocks::is_block;
+use crate::entries::{add_found, rect_gap, shape_gap};
+use best_first::{Hierarchy, Item};
+use exact_frac::Frac;
+use page_pool::{Desk, Disk, PageFault};
+use pmr_tree::ShapeOf;
+use sand_base::{NoMemory, Visit};
+use std::alloc::Global;
+use z_code::Block;
+
+impl<'s, G: ShapeOf + Drop> Hierarchy for RankTree<'s, G> {
+    type Node = Block;
+
+    ghost meaning = { λ t pages. rank_meaning (ranking_over (G.rows t.shapes) (G.Stands t.shapes) (G.price t.shapes) t.pmr t.goal t.ceiling pages) };
+
+    ghost note = { λ t item. visit_of t.pmr.number item };
+
+    ghost weight = { λ t b. block_weight b };
+
+    fn root(&self) -> (Frac, Block) {
+        let block = Block::root();
+        (rect_gap(&self.goal, block.rect()), block)
+    }
+
+    fn ceiling(&self) -> Option<u32> {
+        self.ceiling
+    }
+
+    fn expand<D: Disk>(
+        &self,
+        alloc: Global,
+        desk: &mut Desk<D>,
+        gap: Frac,
+        node: Block,
+        found: &mut Vec<Item<Block>>,
+    ) -> Result<(), PageFault> {
+        // Over a disk that doesn't tell its pages any value may come.
+        if !is_block(node) {
+            return Ok(());
+        }
+        match self.pmr.visit(alloc, desk, node) {
+            Ok(place) => match add_found(alloc, &self.goal, gap, node, &place, found) {
+                Ok(()) => Ok(()),
+                Err(NoMemory {}) => Err(PageFault::Memory),
+            },
+            Err(fault) => Err(fault),
+        }
+    }
+
+    fn resolve<D: Disk>(
+        &self,
+        alloc: Global,
+        desk: &mut Desk<D>,
+        left: u32,
+        _right: u32,
+    ) -> Result<Frac, PageFault> {
+        match desk.note(Visit::Geometry { id: left }) {
+            Ok(()) => {}
+            Err(NoMemory {}) => return Err(PageFault::Memory),
+        }
+        match self.shapes.shape_of(alloc, desk.pages(), left) {
+            Ok(shape) => Ok(shape_gap(&self.goal, &shape)),
+            Err(fault) => Err(fault),
+        }
+    }
+
+    ghost exact = { block_exact };
+}

@@ -1,0 +1,184 @@
+ghost use Rattle.std.specs.Prelude.{◌≡◌, ◌<◌, List, map, flat_map, All, Option, option_to_list, IfOk, OnOk, OnErr};
+ghost use Rattle.std.specs.List.{AllZip};
+ghost use Rattle.sand_base.specs.Plane.{IsGoalInClosedPlane, IsRectInClosedPlane, IsShapeInClosedPlane};
+ghost use Rattle.sand_base.specs.declared.TheConstants.{COORDINATE_BITS};
+ghost use Rattle.sand_base.specs.declared.goal.Goal.TheVariants as figure;
+ghost use Rattle.z_code.specs.Block.{IsBlock, children_of};
+ghost use Rattle.z_code.specs.declared.block.Block.{Block};
+ghost use Rattle.pmr_tree.specs.Calls.{IsFoundInRange};
+ghost use Rattle.pmr_tree.specs.Entries.{IsRoughInPlane};
+ghost use Rattle.pmr_tree.specs.declared.listed.Node.TheVariants as of_tree;
+ghost use Rattle.best_first.specs.declared.item.Item.{Item};
+ghost use Rattle.sand_model.specs.Nodes.{greater};
+ghost use Rattle.best_first.specs.Hierarchy.{FindsAlike};
+ghost use Rattle.best_first.specs.Item.{IsAlike};
+ghost use Rattle.best_first.specs.Reach.{IsSameGap};
+ghost use Rattle.rank_cursor.specs.Cursor.{goal_gap, block_found, exact_found, entry_found, place_found};
+
+use best_first::Item;
+use exact_frac::Frac;
+use pmr_tree::{Listed, Node};
+use ring_geom::{gap_goal, gap_goal_rect};
+use sand_base::{Goal, NoMemory, Rect, Rough, Shape};
+use std::alloc::Global;
+use z_code::Block;
+
+// The gap of a rectangle from the goal.
+pub fn rect_gap(goal: &Goal, r: Rect) -> Frac
+    requires goal { IsGoalInClosedPlane goal.now }
+    requires rect { IsRectInClosedPlane r }
+    ensures { IsSameGap result (goal_gap goal.now (figure.Rect r)) }
+{
+    gap_goal_rect(goal, r)
+}
+
+// The gap of a shape from the goal.
+pub fn shape_gap(goal: &Goal, shape: &Shape) -> Frac
+    requires goal { IsGoalInClosedPlane goal.now }
+    requires shape { IsShapeInClosedPlane shape.now }
+    ensures { IsSameGap result (goal_gap goal.now (figure.Shape shape.now)) }
+{
+    gap_goal(goal, shape)
+}
+
+// A block as the frontier holds it.
+fn block_item(goal: &Goal, block: Block) -> Item<Block>
+    requires goal { IsGoalInClosedPlane goal.now }
+    requires block { IsBlock block }
+    ensures { IsAlike result (block_found goal.now block) }
+{
+    let gap = rect_gap(goal, block.rect());
+    Item::Node { gap, node: block }
+}
+
+// An exact item, unless it is nearer than its leaf: then it was given already.
+fn exact_item(leaf: Frac, id: u32, gap: Frac) -> Option<Item<Block>>
+    ensures { option_to_list result ≡ exact_found leaf id gap }
+{
+    if gap < leaf {
+        return None;
+    }
+    Some(Item::Row {
+        gap,
+        left: id,
+        right: 0,
+    })
+}
+
+// A rough item, at the greater of the gap of its bounding rectangle and of its leaf.
+fn rough_item(leaf: Frac, id: u32, gap: Frac) -> Item<Block>
+    ensures { result ≡ Item.Rough (greater gap leaf) id 0 }
+{
+    let gap = if gap < leaf { leaf } else { gap };
+    Item::Rough {
+        gap,
+        left: id,
+        right: 0,
+    }
+}
+
+// What an entry of a leaf gives.
+fn entry_item(goal: &Goal, leaf: Frac, listed: Listed) -> Option<Item<Block>>
+    requires goal { IsGoalInClosedPlane goal.now }
+    requires rough { IsRoughInPlane listed.rough }
+    ensures { AllZip IsAlike (option_to_list result) (entry_found goal.now leaf listed.id listed.rough) }
+{
+    match listed.rough {
+        Rough::Point(p) => exact_item(leaf, listed.id, shape_gap(goal, &Shape::Point(p))),
+        Rough::Segment(s) => exact_item(leaf, listed.id, shape_gap(goal, &Shape::Segment(s))),
+        Rough::Bound(r) => Some(rough_item(leaf, listed.id, rect_gap(goal, r))),
+    }
+}
+
+// Adds what an entry of a leaf gives at the end of the list.
+fn push_entry(
+    goal: &Goal,
+    leaf: Frac,
+    listed: Listed,
+    items: &mut Vec<Item<Block>>,
+) -> Result<(), NoMemory>
+    requires goal { IsGoalInClosedPlane goal.now }
+    requires rough { IsRoughInPlane listed.rough }
+    ensures { OnOk result (FindsAlike (entry_found goal.now leaf listed.id listed.rough) items.old.items items.new.items) }
+{
+    let Some(item) = entry_item(goal, leaf, listed) else {
+        return Ok(());
+    };
+    items.push(item)?;
+    Ok(())
+}
+
+// The four children.
+fn child_items(alloc: Global, goal: &Goal, block: Block) -> Result<Vec<Item<Block>>, NoMemory>
+    requires goal { IsGoalInClosedPlane goal.now }
+    requires block { IsBlock block }
+    requires above_points { block.level < COORDINATE_BITS }
+    ensures { IfOk result (λ items. AllZip IsAlike items.items (map (block_found goal.now) (children_of block))) }
+{
+    let mut items = Vec::with_capacity(alloc, 4)?;
+    let [first, second, third, fourth] = block.children();
+    items.push(block_item(goal, first))?;
+    items.push(block_item(goal, second))?;
+    items.push(block_item(goal, third))?;
+    items.push(block_item(goal, fourth))?;
+    Ok(items)
+}
+
+// The items of a leaf.
+fn leaf_items(
+    alloc: Global,
+    goal: &Goal,
+    leaf: Frac,
+    list: &[Listed],
+) -> Result<Vec<Item<Block>>, NoMemory>
+    requires goal { IsGoalInClosedPlane goal.now }
+    requires roughs { All (λ l. IsRoughInPlane l.rough) list.now }
+    ensures { IfOk result (λ items. AllZip IsAlike items.items (flat_map (λ l. entry_found goal.now leaf l.id l.rough) list.now)) }
+{
+    let mut items = Vec::new(alloc);
+    'entries: for listed in list {
+        push_entry(goal, leaf, *listed, &mut items)?;
+    }
+    Ok(items)
+}
+
+// What a place gives.
+fn place_items(
+    alloc: Global,
+    goal: &Goal,
+    leaf: Frac,
+    block: Block,
+    place: &Node,
+) -> Result<Vec<Item<Block>>, NoMemory>
+    requires goal { IsGoalInClosedPlane goal.now }
+    requires block { IsBlock block }
+    requires above_points { place.now ≡ of_tree.Inner → block.level < COORDINATE_BITS }
+    requires range { IsFoundInRange place.now }
+    ensures { IfOk result (λ items. AllZip IsAlike items.items (place_found goal.now leaf block place.now)) }
+{
+    match place {
+        Node::Inner => child_items(alloc, goal, block),
+        Node::Leaf(list) => leaf_items(alloc, goal, leaf, list.as_slice()),
+    }
+}
+
+// Adds what a place gives at the end of the list, all or nothing.
+pub fn add_found(
+    alloc: Global,
+    goal: &Goal,
+    leaf: Frac,
+    block: Block,
+    place: &Node,
+    found: &mut Vec<Item<Block>>,
+) -> Result<(), NoMemory>
+    requires goal { IsGoalInClosedPlane goal.now }
+    requires block { IsBlock block }
+    requires above_points { place.now ≡ of_tree.Inner → block.level < COORDINATE_BITS }
+    requires range { IsFoundInRange place.now }
+    ensures added { OnOk result (FindsAlike (place_found goal.now leaf block place.now) found.old.items found.new.items) }
+    ensures unchanged { OnErr result (found.new.items ≡ found.old.items) }
+{
+    let items = place_items(alloc, goal, leaf, block, place)?;
+    found.extend_from_slice(&items)?;
+    Ok(())
+}
