@@ -8,7 +8,7 @@ ghost use Rattle.code_btree.specs.Steps.{Wrote, Gained, Freed};
 use crate::bytes::Page;
 use page_pool::{Disk, PageFault, Pages, Pool};
 
-// A copy of page `n`. A number that isn't live is want of memory: no tree over a disk that tells leads there.
+// A copy of page `n`. A number that isn't live is refused as out of memory: no tree over a disk that tells leads there.
 pub fn read<D: Disk>(pool: &mut Pool<D>, n: u64) -> Result<Page, PageFault>
     ensures value { IfOk result (λ page. IsTold pool.old → pages_in pool.old n ≡ Some page) }
     ensures same { pool.new.pages ≡ pool.old.pages }

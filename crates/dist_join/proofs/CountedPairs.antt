@@ -10,14 +10,14 @@ use Rattle.sand_base.specs.declared.goal.Goal.TheVariants as figure
 use Rattle.sand_base.specs.declared.shape.Shape.{Shape}
 use Rattle.z_code.specs.Block.{IsBlock}
 use Rattle.z_code.specs.declared.block.Block.{Block}
-use Rattle.z_code.proofs.Blocks.{square_in_reach}
+use Rattle.z_code.proofs.Blocks.{square_in_closed_plane}
 use Rattle.sand_model.specs.Database.{shape_at}
 use Rattle.sand_model.specs.Measure.{Measure, IsMeasure}
 use Rattle.sand_model.specs.Nodes.{LeafItem, PairNode, pair_gap, pair_item, is_queued, is_rough, greater, rough_figure, square_figure, join_items}
 use Rattle.sand_model.specs.Reach.{Reach, Nothing, reaches, distinct}
 use Rattle.sand_model.specs.Tree.{Tree, places, root_block}
 use Rattle.ring_geom.proofs.BlockLemmas.{root_is_block}
-use Rattle.ring_geom.proofs.RoughLemmas.{rough_in_reach}
+use Rattle.ring_geom.proofs.RoughLemmas.{rough_in_closed_plane}
 use Rattle.best_first.specs.Hierarchy.{Meaning, nodes_within, roughs_within}
 use Rattle.best_first.specs.Item.{gap_of, roughs_of}
 use Rattle.best_first.specs.Reach.{IsSameGap}
@@ -143,7 +143,7 @@ module _ (j : Joining) (sound : IsSound j) (gap : Measure) (is : IsMeasure gap) 
   right_block c place at = (inside root_block j.right.tree root_is_block sound.right.shallow c place at).block
 
   same_squares : (b c : Block) → IsBlock b → IsBlock c → IsSameGap (squares_gap j (b, c)) (squares_gap other_joining (b, c))
-  same_squares b c h k = same_measures j.measure gap sound.measure is (square_figure b) (square_figure c) (square_in_reach b h) (square_in_reach c k)
+  same_squares b c h k = same_measures j.measure gap sound.measure is (square_figure b) (square_figure c) (square_in_closed_plane b h) (square_in_closed_plane c k)
 
   -- ---- pairs of places
 
@@ -169,7 +169,7 @@ module _ (j : Joining) (sound : IsSound j) (gap : Measure) (is : IsMeasure gap) 
       elim [
         | true ↦
             same_greater rough (squares_gap j (b, c)) rough' (squares_gap other_joining (b, c))
-            (same_measures j.measure gap sound.measure is (rough_figure s) (rough_figure t) (rough_in_reach s in_left) (rough_in_reach t in_right)) (same_squares b c h k)
+            (same_measures j.measure gap sound.measure is (rough_figure s) (rough_figure t) (rough_in_closed_plane s in_left) (rough_in_closed_plane t in_right)) (same_squares b c h k)
         | false ↦ same_measures j.measure gap sound.measure is (figure.Shape s) (figure.Shape t) in_left in_right
       ] in
       go (is_rough s || is_rough t)

@@ -14,7 +14,7 @@ use Rattle.sand_base.specs.declared.visit.Visit.{Visit}
 use Rattle.sand_base.specs.declared.visit.Visit.TheVariants as visit
 use Rattle.z_code.specs.Block.{IsBlock, children_of, square_of}
 use Rattle.z_code.specs.declared.block.Block.{Block}
-use Rattle.z_code.proofs.Blocks.{square_in_reach}
+use Rattle.z_code.proofs.Blocks.{square_in_closed_plane}
 use Rattle.sand_model.specs.Database.{shape_at, meets_block}
 use Rattle.sand_model.specs.Measure.{meets}
 use Rattle.sand_model.specs.Nodes.{pairs_of, pair_nodes, rough_figure, square_figure}
@@ -158,7 +158,7 @@ each_row P (x ∷ xs) row h at = ⊎_elim (λ e. subst P e h.0) (λ m. each_row 
 module _ (side : PageSide) (in_plane : (p : PageMap) → side.Stands p → AreInPlane (side.rows p)) (p : PageMap) (fitted : IsFitted side p) where
   pub side_sound : IsSoundSide the_measure (side_at side p)
   side_sound =
-      let s = sound_over p side.pmr (side.rows p) fitted.0 (in_plane p fitted.1) (square_figure root_block) (square_in_reach root_block root_is_block) (side.Stands p) fitted.1 0 None in
+      let s = sound_over p side.pmr (side.rows p) fitted.0 (in_plane p fitted.1) (square_figure root_block) (square_in_closed_plane root_block root_is_block) (side.Stands p) fitted.1 0 None in
       record { plane = s.plane; apart = s.apart; fits = s.fits; shallow = s.shallow }
 
   -- a listed id is that of a row that meets the leaf

@@ -12,7 +12,7 @@ use Rattle.sand_base.specs.declared.goal.Goal.TheVariants as figure
 use Rattle.sand_base.specs.declared.shape.Shape.{Shape}
 use Rattle.z_code.specs.Block.{IsBlock, child, children_of, square_of}
 use Rattle.z_code.specs.declared.block.Block.{Block}
-use Rattle.z_code.proofs.Blocks.{square_in_reach}
+use Rattle.z_code.proofs.Blocks.{square_in_closed_plane}
 use Rattle.z_code.proofs.Children.{child_block}
 use Rattle.sand_model.specs.Database.{shape_at, meets_block}
 use Rattle.sand_model.specs.Measure.{Measure, meets}
@@ -340,8 +340,8 @@ module _ (j : Joining) (sound : IsSound j) where
       pair_no_farther (square_figure x.0) (square_figure x.1) (square_of b) (square_of c)
       (squares_gap j x).num (squares_gap j x).den (squares_gap j (b, c)).num (squares_gap j (b, c)).den
       (part_held (square_of x.0) (square_of b) lies.part) (part_held (square_of x.1) (square_of c) too.part)
-      (sound.measure (square_figure x.0) (square_figure x.1) (square_in_reach x.0 lies.block) (square_in_reach x.1 too.block))
-      (sound.measure (square_figure b) (square_figure c) (square_in_reach b k.block) (square_in_reach c l.block))
+      (sound.measure (square_figure x.0) (square_figure x.1) (square_in_closed_plane x.0 lies.block) (square_in_closed_plane x.1 too.block))
+      (sound.measure (square_figure b) (square_figure c) (square_in_closed_plane b k.block) (square_in_closed_plane c l.block))
 
   -- the row of an exact item
   exact_row : (row other : ℕ × Shape) → Contains j.left.shapes row → Contains j.right.shapes other → HasRow m (row_of_pair j row other)

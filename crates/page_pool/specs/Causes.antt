@@ -49,12 +49,12 @@ Names n Memory = ⊤
 Names n Device = ⊤
 Names n (Damaged page kept read) = page ≡ n
 
--- the fault is want of memory, or the disk's
+-- memory was refused, or the disk failed
 abbrev pub IsNoDamage : PageFault → Type 0
 IsNoDamage Memory = ⊤
 IsNoDamage Device = ⊤
 IsNoDamage (Damaged page kept read) = ⊥
 
--- the fault is want of memory
+-- memory was refused
 abbrev pub IsMemory : PageFault → Type 0
 IsMemory fault = fault ≡ Memory

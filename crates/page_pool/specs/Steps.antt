@@ -70,7 +70,7 @@ HasPageCause-before a b c result same h = record { counted = h.counted ∙ ap (�
 pub HasPageCause-passed : {T U : Type 0} (a b : PoolState) (fault : PageFault) → HasPageCause {T = T} a b (Err fault) → HasPageCause {T = U} a b (Err fault)
 HasPageCause-passed a b fault h = record { counted = h.counted; damaged = h.damaged }
 
--- want of memory is a cause of its own
+-- a refusal of memory is a cause of its own
 pub HasPageCause-memory : {T : Type 0} (a b : PoolState) → b.disk.faults ≡ a.disk.faults → HasPageCause {T = T} a b (Err Memory)
 HasPageCause-memory a b same = record { counted = same; damaged = tt }
 

@@ -11,7 +11,7 @@ use Rattle.sand_base.specs.declared.goal.Goal.TheVariants as figure
 use Rattle.sand_base.specs.declared.shape.Shape.{Shape}
 use Rattle.z_code.specs.Block.{IsBlock, square_of}
 use Rattle.z_code.specs.declared.block.Block.{Block}
-use Rattle.z_code.proofs.Blocks.{square_in_reach}
+use Rattle.z_code.proofs.Blocks.{square_in_closed_plane}
 use Rattle.sand_model.specs.FigureGap.{IsMeeting}
 use Rattle.sand_model.specs.Measure.{Measure, IsMeasure, meets}
 use Rattle.sand_model.specs.Nodes.{rough_figure}
@@ -47,7 +47,7 @@ measure_tells law gap measure rows plane id has = go (shape_at rows id) refl whe
   go : (o : Option Shape) → shape_at rows id ≡ o
       → (s : Shape) × ((shape_at rows id ≡ Some s) × ((b : Block) → IsBlock b → IsTrue (meets_block gap rows b id) ↔ IsMeeting (figure.Shape s) (figure.Rect (square_of b))))
   go None e = absurd (false≢true (sym (ap is_some e) ∙ has))
-  go (Some s) e = (s, (e, λ b block. subst (λ t. IsTrue t ↔ IsMeeting (figure.Shape s) (figure.Rect (square_of b))) (sym (meets_is b s e)) (law gap measure s (square_of b) (shape_in_closed s (row_in_plane rows id s plane e)) (square_in_reach b block))))
+  go (Some s) e = (s, (e, λ b block. subst (λ t. IsTrue t ↔ IsMeeting (figure.Shape s) (figure.Rect (square_of b))) (sym (meets_is b s e)) (law gap measure s (square_of b) (shape_in_closed s (row_in_plane rows id s plane e)) (square_in_closed_plane b block))))
     where
       meets_is : (b : Block) (s : Shape) → shape_at rows id ≡ Some s → meets_block gap rows b id ≡ meets gap s (square_of b)
       meets_is b s e = rw e refl

@@ -73,7 +73,7 @@ LeadsOn-still rows s Stands Owns t p = record {
   keeps = λ e k h m before keep. keep;
 }
 
--- want of memory
+-- memory is refused
 pub LeadsOn-spent : (rows : PageMap → List (ℕ × Shape)) (s : Shape) (Stands : PageMap → Type 0) (Owns : PageMap → ℕ → Type 0) (t : Tree) (p : PoolState) → LeadsOn rows s Stands Owns t p t p (Some Memory)
 LeadsOn-spent rows s Stands Owns t p = record {
   within = InCommand-refl p;

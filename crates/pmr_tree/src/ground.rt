@@ -74,7 +74,7 @@ pub trait Ground<P> {
     // No call at all.
     ghost still: { (a : Self) (p : P) → Leads a p a p None };
 
-    // Want of memory.
+    // Memory is refused.
     ghost spent: { (a : Self) (p : P) → Leads a p a p (Some Memory) };
 
     // One call after another.

@@ -13,14 +13,14 @@ use Rattle.sand_base.specs.declared.goal.Goal.TheVariants as figure
 use Rattle.sand_base.specs.declared.shape.Shape.{Shape}
 use Rattle.z_code.specs.Block.{IsBlock, child, children_of}
 use Rattle.z_code.specs.declared.block.Block.{Block}
-use Rattle.z_code.proofs.Blocks.{square_in_reach}
+use Rattle.z_code.proofs.Blocks.{square_in_closed_plane}
 use Rattle.sand_model.specs.Database.{shape_at}
 use Rattle.sand_model.specs.Measure.{Measure, IsMeasure}
 use Rattle.sand_model.specs.Nodes.{LeafItem, single_item, is_queued, is_rough, greater, rough_figure, square_figure, rank_items, rank_gaps}
 use Rattle.sand_model.specs.Reach.{Reach, Nothing, UpTo, Ceiling, reaches, same_item, distinct, roughs_within}
 use Rattle.sand_model.specs.Tree.{Tree, Leaf, Inner, places, leaves, root_block}
 use Rattle.ring_geom.proofs.BlockLemmas.{root_is_block}
-use Rattle.ring_geom.proofs.RoughLemmas.{rough_in_reach}
+use Rattle.ring_geom.proofs.RoughLemmas.{rough_in_closed_plane}
 use Rattle.ring_geom.proofs.TreeLaws.{same_compares}
 use Rattle.best_first.specs.Frontier.{IsOnce, HasAlike}
 use Rattle.best_first.specs.Hierarchy.{Meaning}
@@ -249,7 +249,7 @@ module _ (r : Ranking) (sound : IsSound r) (gap : Measure) (is : IsMeasure gap) 
   place_block c place at = (inside root_block r.tree root_is_block sound.shallow c place at).block
 
   same_block_gap : (c : Block) → IsBlock c → IsSameGap (block_gap r c) (gap r.goal (square_figure c))
-  same_block_gap c h = same_measures r.measure gap sound.measure is r.goal (square_figure c) sound.goal (square_in_reach c h)
+  same_block_gap c h = same_measures r.measure gap sound.measure is r.goal (square_figure c) sound.goal (square_in_closed_plane c h)
 
   -- ---- places
 
@@ -268,7 +268,7 @@ module _ (r : Ranking) (sound : IsSound r) (gap : Measure) (is : IsMeasure gap) 
       elim [
         | true ↦
             same_greater (r.measure r.goal (rough_figure s)) (block_gap r c) (gap r.goal (rough_figure s)) (gap r.goal (square_figure c))
-            (same_measures r.measure gap sound.measure is r.goal (rough_figure s) sound.goal (rough_in_reach s plane)) (same_block_gap c h)
+            (same_measures r.measure gap sound.measure is r.goal (rough_figure s) sound.goal (rough_in_closed_plane s plane)) (same_block_gap c h)
         | false ↦ same_measures r.measure gap sound.measure is r.goal (figure.Shape s) sound.goal plane
       ] in
       go (is_rough s)

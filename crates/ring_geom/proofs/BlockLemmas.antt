@@ -13,7 +13,7 @@ use Rattle.sand_base.specs.declared.shape.Shape.{Shape}
 use Rattle.z_code.specs.Block.{IsBlock, child, corner_of, square_of}
 use Rattle.z_code.specs.Code.{even_bits}
 use Rattle.z_code.specs.declared.block.Block.{Block}
-use Rattle.z_code.proofs.Blocks.{square_in_reach}
+use Rattle.z_code.proofs.Blocks.{square_in_closed_plane}
 use Rattle.z_code.proofs.Children.{quarter, child_block}
 use Rattle.sand_model.specs.FigureGap.{IsMeeting}
 use Rattle.sand_model.specs.Measure.{Measure, IsMeasure, meets}
@@ -169,7 +169,7 @@ module _ (gap : Measure) (m : IsMeasure gap) where
       (Decides-or _ _ (there 0 (omega arith)) (Decides-or _ _ (there 1 (omega arith)) (Decides-or _ _ (there 2 (omega arith)) (there 3 (omega arith))))))
     where
       here : (c : Block) → IsBlock c → Decides (meets gap s (square_of c)) (IsMeeting (goal.Shape s) (goal.Rect (square_of c)))
-      here c k = meets_is_meeting s (square_of c) hs (square_in_reach c k)
+      here c k = meets_is_meeting s (square_of c) hs (square_in_closed_plane c k)
 
       there : (number : ℕ) → number < 4 → Decides (meets gap s (square_of (child b number))) (IsMeeting (goal.Shape s) (goal.Rect (square_of (child b number))))
       there number small = here (child b number) (child_block b h above number small)

@@ -48,32 +48,32 @@ any_least {B} f e (d ∷ es) h hs =
     (least.0, least_union {A = IsOnSegment e} {A' = IsOnAny (d ∷ es)} {B = B} one.0 rest.0 least.0 one.1 rest.1 least.1)
 
 -- the edges of a ring lie in the closed square
-chain_in_reach : (from : Point) (ps : List Point) → IsInClosedPlane from → EachOf IsInClosedPlane ps → EachOf IsSegmentInClosedPlane (chain from ps)
-chain_in_reach from [] h hs = tt
-chain_in_reach from (to ∷ rest) h hs = (record { a = h; b = hs.0 }, chain_in_reach to rest hs.0 hs.1)
+chain_in_closed_plane : (from : Point) (ps : List Point) → IsInClosedPlane from → EachOf IsInClosedPlane ps → EachOf IsSegmentInClosedPlane (chain from ps)
+chain_in_closed_plane from [] h hs = tt
+chain_in_closed_plane from (to ∷ rest) h hs = (record { a = h; b = hs.0 }, chain_in_closed_plane to rest hs.0 hs.1)
 
-last_in_reach : (first : Point) (rest : List Point) → IsInClosedPlane first → EachOf IsInClosedPlane rest → IsInClosedPlane (last_of first rest)
-last_in_reach first [] h hs = h
-last_in_reach first (next ∷ rest) h hs = last_in_reach next rest hs.0 hs.1
+last_in_closed_plane : (first : Point) (rest : List Point) → IsInClosedPlane first → EachOf IsInClosedPlane rest → IsInClosedPlane (last_of first rest)
+last_in_closed_plane first [] h hs = h
+last_in_closed_plane first (next ∷ rest) h hs = last_in_closed_plane next rest hs.0 hs.1
 
-pub corners_in_reach : (ps : List Point) → All IsInPlane ps → EachOf IsInClosedPlane ps
-corners_in_reach [] h = tt
-corners_in_reach (p ∷ ps) h = (corner_of_plane p (All-head IsInPlane p ps h), corners_in_reach ps (All-tail IsInPlane p ps h))
+pub corners_in_closed_plane : (ps : List Point) → All IsInPlane ps → EachOf IsInClosedPlane ps
+corners_in_closed_plane [] h = tt
+corners_in_closed_plane (p ∷ ps) h = (corner_of_plane p (All-head IsInPlane p ps h), corners_in_closed_plane ps (All-tail IsInPlane p ps h))
 
 -- a ring
 ring_least : {B : RationalPoint → Type 0} → ((e : Segment) → IsSegmentInClosedPlane e → HasLeast (IsOnSegment e) B) → (ring : List Point)
     → 3 ≤ length ring → EachOf IsInClosedPlane ring → HasLeast (IsOnRing ring) B
 ring_least {B} f [] l h = absurd (omega arith)
 ring_least {B} f (first ∷ rest) l h =
-    let last = last_in_reach first rest h.0 h.1 in
-    any_least {B = B} f (record { a = last_of first rest; b = first }) (chain first rest) (record { a = last; b = h.0 }) (chain_in_reach first rest h.0 h.1)
+    let last = last_in_closed_plane first rest h.0 h.1 in
+    any_least {B = B} f (record { a = last_of first rest; b = first }) (chain first rest) (record { a = last; b = h.0 }) (chain_in_closed_plane first rest h.0 h.1)
 
 -- a shape
 shape_least : {B : RationalPoint → Type 0} → ((p : Point) → IsInClosedPlane p → HasLeast (IsPoint p) B)
     → ((e : Segment) → IsSegmentInClosedPlane e → HasLeast (IsOnSegment e) B) → (s : Shape) → IsShapeInClosedPlane s → HasLeast (IsPointOf s) B
 shape_least {B} of_point of_segment (shape.Point p) h = of_point p h
 shape_least {B} of_point of_segment (shape.Segment s) h = of_segment s h
-shape_least {B} of_point of_segment (shape.Polygon ring) h = ring_least {B = B} of_segment ring h.fewest (corners_in_reach ring h.in_plane)
+shape_least {B} of_point of_segment (shape.Polygon ring) h = ring_least {B = B} of_segment ring h.fewest (corners_in_closed_plane ring h.in_plane)
 
 -- two shapes
 two_shapes : (s t : Shape) → IsShapeInClosedPlane s → IsShapeInClosedPlane t → HasLeast (IsPointOf s) (IsPointOf t)

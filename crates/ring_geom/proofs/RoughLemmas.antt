@@ -17,7 +17,7 @@ use Rattle.ring_geom.proofs.BlockLemmas.{same_rect}
 use Rattle.ring_geom.proofs.BoundingLemmas.{bounding_point}
 use Rattle.ring_geom.proofs.Farther.{shape_held, no_farther, pair_no_farther}
 use Rattle.ring_geom.proofs.FigureGaps.{gap_exchanged}
-use Rattle.ring_geom.proofs.Measured.{corners_in_reach}
+use Rattle.ring_geom.proofs.Measured.{corners_in_closed_plane}
 
 -- the model's rectangle is the bounding one
 bound_is : (first : Point) (more : List Point) → IsBounding (first ∷ more) (bound_from first more)
@@ -110,12 +110,12 @@ rough_is_bounding (first ∷ more) r h k =
     ap (λ (t : Rect). goal.Rect t) (bounding_unique (first ∷ more) (bound_from first more) r (bound_is first more) k)
 
 -- the bounding rectangle of vertices in the closed square lies in it
-bound_in_reach : (first : Point) (more : List Point) → IsInClosedPlane first → EachOf IsInClosedPlane more → IsRectInClosedPlane (bound_from first more)
-bound_in_reach first [] h hs = record { low = h; high = h; x = same first.x; y = same first.y }
+bound_in_closed_plane : (first : Point) (more : List Point) → IsInClosedPlane first → EachOf IsInClosedPlane more → IsRectInClosedPlane (bound_from first more)
+bound_in_closed_plane first [] h hs = record { low = h; high = h; x = same first.x; y = same first.y }
   where
     same : (n : ℕ) → n ≤ n
     same n = omega arith
-bound_in_reach first (next ∷ more) h hs = let rest = bound_in_reach next more hs.0 hs.1 in record {
+bound_in_closed_plane first (next ∷ more) h hs = let rest = bound_in_closed_plane next more hs.0 hs.1 in record {
   low = record { x = some_least _ _ _ h.x; y = some_least _ _ _ h.y };
   high = record { x = both_greatest _ _ _ h.x rest.high.x; y = both_greatest _ _ _ h.y rest.high.y };
   x = ordered first.x (bound_from next more).low.x (bound_from next more).high.x;
@@ -132,11 +132,11 @@ bound_in_reach first (next ∷ more) h hs = let rest = bound_in_reach next more 
     ordered a l g = omega arith
 
 -- a rough shape lies in the closed square where its shape does
-pub rough_in_reach : (s : Shape) → IsShapeInClosedPlane s → IsGoalInClosedPlane (rough_figure s)
-rough_in_reach (shape.Point p) h = h
-rough_in_reach (shape.Segment s) h = h
-rough_in_reach (shape.Polygon []) h = h
-rough_in_reach (shape.Polygon (first ∷ more)) h = let cs = corners_in_reach (first ∷ more) h.in_plane in bound_in_reach first more cs.0 cs.1
+pub rough_in_closed_plane : (s : Shape) → IsShapeInClosedPlane s → IsGoalInClosedPlane (rough_figure s)
+rough_in_closed_plane (shape.Point p) h = h
+rough_in_closed_plane (shape.Segment s) h = h
+rough_in_closed_plane (shape.Polygon []) h = h
+rough_in_closed_plane (shape.Polygon (first ∷ more)) h = let cs = corners_in_closed_plane (first ∷ more) h.in_plane in bound_in_closed_plane first more cs.0 cs.1
 
 module _ (gap : Measure) (m : IsMeasure gap) where
   -- the gap from itself is at most itself
@@ -155,7 +155,7 @@ module _ (gap : Measure) (m : IsMeasure gap) where
       no_farther g (goal.Shape (shape.Polygon (first ∷ more))) (bound_from first more) _ _ _ _ hg
       (shape_held (shape.Polygon (first ∷ more)) (bound_from first more) (bound_is first more).holds)
       (m g (goal.Shape (shape.Polygon (first ∷ more))) hg hs)
-      (m g (goal.Rect (bound_from first more)) hg (rough_in_reach (shape.Polygon (first ∷ more)) hs))
+      (m g (goal.Rect (bound_from first more)) hg (rough_in_closed_plane (shape.Polygon (first ∷ more)) hs))
 
   -- a rough polygon and a shape
   rough_first : (first : Point) (more : List Point) (b : Shape) → IsRing (first ∷ more) → IsShapeInClosedPlane b
@@ -165,7 +165,7 @@ module _ (gap : Measure) (m : IsMeasure gap) where
       (shape_held (shape.Polygon (first ∷ more)) (bound_from first more) (bound_is first more).holds)
       (gap_exchanged (goal.Shape (shape.Polygon (first ∷ more))) (goal.Shape b) _ _ (m (goal.Shape (shape.Polygon (first ∷ more))) (goal.Shape b) ha hb))
       (gap_exchanged (goal.Rect (bound_from first more)) (goal.Shape b) _ _
-      (m (goal.Rect (bound_from first more)) (goal.Shape b) (rough_in_reach (shape.Polygon (first ∷ more)) ha) hb))
+      (m (goal.Rect (bound_from first more)) (goal.Shape b) (rough_in_closed_plane (shape.Polygon (first ∷ more)) ha) hb))
 
   -- two rough shapes are no farther apart than their shapes
   pub roughs_no_farther : (a b : Shape) → IsShapeInClosedPlane a → IsShapeInClosedPlane b
@@ -182,5 +182,5 @@ module _ (gap : Measure) (m : IsMeasure gap) where
       (shape_held (shape.Polygon (first ∷ more)) (bound_from first more) (bound_is first more).holds)
       (shape_held (shape.Polygon (other ∷ others)) (bound_from other others) (bound_is other others).holds)
       (m (goal.Shape (shape.Polygon (first ∷ more))) (goal.Shape (shape.Polygon (other ∷ others))) ha hb)
-      (m (goal.Rect (bound_from first more)) (goal.Rect (bound_from other others)) (rough_in_reach (shape.Polygon (first ∷ more)) ha)
-      (rough_in_reach (shape.Polygon (other ∷ others)) hb))
+      (m (goal.Rect (bound_from first more)) (goal.Rect (bound_from other others)) (rough_in_closed_plane (shape.Polygon (first ∷ more)) ha)
+      (rough_in_closed_plane (shape.Polygon (other ∷ others)) hb))

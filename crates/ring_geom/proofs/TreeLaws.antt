@@ -10,7 +10,7 @@ use Rattle.sand_base.specs.declared.goal.Goal.TheVariants as goal
 use Rattle.sand_base.specs.declared.rect.Rect.{Rect}
 use Rattle.sand_base.specs.declared.shape.Shape.{Shape}
 use Rattle.z_code.specs.Block.{IsBlock, child, square_of}
-use Rattle.z_code.proofs.Blocks.{square_in_reach}
+use Rattle.z_code.proofs.Blocks.{square_in_closed_plane}
 use Rattle.z_code.proofs.Children.{child_block}
 use Rattle.sand_model.specs.Figures.{corners_of}
 use Rattle.sand_model.specs.Rings.{SomeOf}
@@ -32,7 +32,7 @@ root_holds s h = subst (λ (r : Rect). AreCovered (corners_of s) r) (sym root_sq
 -- so it meets each
 pub root_meets : RootMeetsAll
 root_meets gap m s h =
-    (meets_is_meeting gap m s (square_of root_block) h (square_in_reach root_block root_is_block)).1
+    (meets_is_meeting gap m s (square_of root_block) h (square_in_closed_plane root_block root_is_block)).1
     (holder_meets s (square_of root_block) h (root_holds s h))
 
 -- a block is no farther than its child
@@ -40,8 +40,8 @@ pub block_no_farther : BlockIsNoFarther
 block_no_farther gap m g b number hg hb above small =
     no_farther g (goal.Rect (square_of (child b number))) (square_of b) _ _ _ _ hg
     (part_held (square_of (child b number)) (square_of b) (child_part b hb above number small))
-    (m g (goal.Rect (square_of (child b number))) hg (square_in_reach (child b number) (child_block b hb above number small)))
-    (m g (goal.Rect (square_of b)) hg (square_in_reach b hb))
+    (m g (goal.Rect (square_of (child b number))) hg (square_in_closed_plane (child b number) (child_block b hb above number small)))
+    (m g (goal.Rect (square_of b)) hg (square_in_closed_plane b hb))
 
 -- some leaf is reached
 pub leaves_cover : LeavesCover
@@ -49,8 +49,8 @@ leaves_cover gap m g s tree hg hs shallow =
     let f = gap g (goal.Shape s) in
     some_with_each {P = λ leaf. IsBlock leaf.0} {Q = λ leaf. IsReached g s f.num f.den (square_of leaf.0)}
     (λ leaf h k. (
-      (meets_is_meeting gap m s (square_of leaf.0) hs (square_in_reach leaf.0 h)).1 k.0,
-      k.1 _ _ (m g (goal.Rect (square_of leaf.0)) hg (square_in_reach leaf.0 h)),
+      (meets_is_meeting gap m s (square_of leaf.0) hs (square_in_closed_plane leaf.0 h)).1 k.0,
+      k.1 _ _ (m g (goal.Rect (square_of leaf.0)) hg (square_in_closed_plane leaf.0 h)),
     )) (leaves root_block tree) (leaf_blocks root_block tree root_is_block shallow)
     (some_unmapped (IsReached g s f.num f.den) (λ leaf. square_of leaf.0) (leaves root_block tree)
     (tiles_cover g s (square_of root_block) _ f.num f.den hg (root_holds s hs) (leaves_tile root_block tree root_is_block shallow)
@@ -65,9 +65,9 @@ leaf_pairs_cover gap m a b tree other ha hb shallow flat =
     (λ p hp kp.
     some_with_each {P = λ o. IsBlock o.0} {Q = λ o. IsPairReached a b f.num f.den (square_of p.0) (square_of o.0)}
     (λ o ho ko. (
-      (meets_is_meeting gap m a (square_of p.0) ha (square_in_reach p.0 hp)).1 ko.0,
-      (meets_is_meeting gap m b (square_of o.0) hb (square_in_reach o.0 ho)).1 ko.1,
-      ko.2 _ _ (m (goal.Rect (square_of p.0)) (goal.Rect (square_of o.0)) (square_in_reach p.0 hp) (square_in_reach o.0 ho)),
+      (meets_is_meeting gap m a (square_of p.0) ha (square_in_closed_plane p.0 hp)).1 ko.0,
+      (meets_is_meeting gap m b (square_of o.0) hb (square_in_closed_plane o.0 ho)).1 ko.1,
+      ko.2 _ _ (m (goal.Rect (square_of p.0)) (goal.Rect (square_of o.0)) (square_in_closed_plane p.0 hp) (square_in_closed_plane o.0 ho)),
     )) (leaves root_block other) (leaf_blocks root_block other root_is_block flat)
     (some_unmapped (IsPairReached a b f.num f.den (square_of p.0)) (λ leaf. square_of leaf.0) (leaves root_block other) kp))
     (leaves root_block tree) (leaf_blocks root_block tree root_is_block shallow)

@@ -331,7 +331,7 @@ fn at([x, y]: [u32; 2]) -> Point {
     Point { x, y }
 }
 
-fn in_reach(p: Point) -> bool
+fn in_closed_plane(p: Point) -> bool
     ensures { IsTrue result → IsInClosedPlane p }
 {
     p.x <= REACH && p.y <= REACH
@@ -343,7 +343,7 @@ fn area(bounds: [u32; 4]) -> Option<Rect>
     let [low_x, low_y, high_x, high_y] = bounds;
     let low = at([low_x, low_y]);
     let high = at([high_x, high_y]);
-    if in_reach(low) && in_reach(high) && low.x <= high.x && low.y <= high.y {
+    if in_closed_plane(low) && in_closed_plane(high) && low.x <= high.x && low.y <= high.y {
         Some(Rect { low, high })
     } else {
         None
@@ -379,7 +379,7 @@ fn figure(alloc: Global, vertices: &[[u32; 2]]) -> Option<Shape>
     match vertices {
         [p] => {
             let p = at(*p);
-            if in_reach(p) {
+            if in_closed_plane(p) {
                 Some(Shape::Point(p))
             } else {
                 None
@@ -387,7 +387,7 @@ fn figure(alloc: Global, vertices: &[[u32; 2]]) -> Option<Shape>
         }
         [a, b] => {
             let (a, b) = (at(*a), at(*b));
-            if in_reach(a) && in_reach(b) {
+            if in_closed_plane(a) && in_closed_plane(b) {
                 Some(Shape::Segment(Segment { a, b }))
             } else {
                 None

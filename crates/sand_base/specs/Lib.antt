@@ -12,3 +12,5 @@ pub mod Calls
 pub mod SureSource
 pub mod MemSource
 pub mod MemSink
+pub mod Shelf
+pub mod MemShelf

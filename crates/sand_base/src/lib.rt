@@ -1,7 +1,7 @@
-//! The plain types that every layer of SAND shares, and the two streams that a run reads and writes.
+//! The plain types that every layer of SAND shares, and what a run reads and writes.
 //!
-//! Points of the plane, shapes, values, rows, names, visits, refusals, and the traits `Source` and `Sink` with
-//! their implementations in memory. Nothing here computes an answer. Above: all other crates. Below: std.
+//! Points of the plane, shapes, values, rows, names, visits, refusals, and the traits `Source`, `Shelf` and
+//! `Sink` with their implementations in memory. Nothing here computes an answer. Above: all other crates. Below: std.
 //! Contracts see plain data: a `Label` as the list of its bytes, a `Ring` as that of its vertices, a `Source` by the
 //! bytes that it has left, and a `Sink` by a relation to the bytes that it took. A stream in memory is the record
 //! of all that decides its next call, so a list of failing calls (fault injection) makes any run of faults, and
@@ -10,11 +10,13 @@
 #![tactic(auto)]
 
 mod calls;
+mod files;
 mod goal;
 mod ids;
 mod kind;
 mod label;
 mod limits;
+mod mem_shelf;
 mod mem_sink;
 mod mem_source;
 mod memory;
@@ -27,8 +29,10 @@ mod row;
 mod schema;
 mod segment;
 mod shape;
+mod shelf;
 mod sink;
 mod source;
+mod sure_shelf;
 mod sure_source;
 #[cfg(test)]
 mod tests;
@@ -41,6 +45,7 @@ pub use ids::Ids;
 pub use kind::Kind;
 pub use label::Label;
 pub use limits::Limits;
+pub use mem_shelf::MemShelf;
 pub use mem_sink::MemSink;
 pub use mem_source::MemSource;
 pub use memory::NoMemory;
@@ -53,8 +58,10 @@ pub use row::Row;
 pub use schema::Schema;
 pub use segment::Segment;
 pub use shape::Shape;
+pub use shelf::Shelf;
 pub use sink::Sink;
 pub use source::{Failed, Source};
+pub use sure_shelf::SureShelf;
 pub use sure_source::SureSource;
 pub use value::Value;
 pub use visit::{Visit, VisitLog};

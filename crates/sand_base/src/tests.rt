@@ -1,6 +1,6 @@
 use crate::{
-    Calls, Failed, Label, MemSink, MemSource, NoMemory, Point, Ring, Row, Shape, Sink, Source,
-    SureSource, Value,
+    Calls, Failed, Label, MemShelf, MemSink, MemSource, NoMemory, Point, Ring, Row, Shape, Shelf,
+    Sink, Source, SureSource, Value,
 };
 use std::alloc::AllocError;
 use std::process::Abort;
@@ -103,5 +103,26 @@ fn names_and_shapes_are_copied_where_memory_is_left(rt: HostRuntime) -> Result<(
     };
     assert_eq!(rt; name.as_str(), "north");
     assert_eq!(rt; copied.corners(), [at; 3].as_slice());
+    Ok(())
+}
+
+#[test]
+fn a_shelf_opens_the_first_of_equal_names_and_none_after_a_fault(
+    rt: HostRuntime,
+) -> Result<(), NoMemory> {
+    let alloc = rt.alloc();
+    let mut files = Vec::new(alloc);
+    for (name, bytes) in [("a", [1; 3]), ("b", [2; 3]), ("a", [3; 3])] {
+        files.push((Label::new(alloc, name)?, Vec::from_slice(alloc, &bytes)?))?;
+    }
+    let mut shelf = MemShelf::new(alloc, files, vec![in alloc; 4]?);
+    let mut piece = [0; 2];
+    assert_eq!(rt; shelf.choose("c"), Err(Failed {}));
+    assert_eq!(rt; shelf.choose("a"), Ok(()));
+    assert_eq!(rt; shelf.read(&mut piece), Ok(2));
+    assert_eq!(rt; piece, [1, 1]);
+    assert_eq!(rt; shelf.read(&mut piece), Err(Failed {}));
+    assert_eq!(rt; shelf.read(&mut piece), Ok(1));
+    assert_eq!(rt; shelf.read(&mut piece), Ok(0));
     Ok(())
 }

@@ -37,11 +37,13 @@ pick_price height passed = lookup_price height passed
 abbrev pub text_pick_price : ℕ → ℕ → ℕ → ℕ
 text_pick_price height passed rows_height = text_lookup_price height passed rows_height
 
--- to handle a row at an operator: a tuple for each place that a filter tests, a fetch adds or a sort compares, each of its own relation
+-- To handle a row at an operator: a tuple for each place that a filter tests, a fetch adds or a sort compares, each of its own
+-- relation. In a call it handles the rows that it takes, and the row that it has held since a call that was refused.
 abbrev pub places_price : List ℕ → ℕ
 places_price heights = sum_by tuple_price heights
 
--- to handle a row at a match: its tuple and the look-up of its value, of whole numbers and of texts
+-- To handle a row at a match: its tuple and the look-up of its value, of whole numbers and of texts. In each call it handles
+-- the row whose matches it goes on looking for, too.
 abbrev pub match_price : ℕ → ℕ → ℕ → ℕ
 match_price rows_height height entries = tuple_price rows_height + lookup_price height entries
 

@@ -44,7 +44,8 @@ Run setting old (line ∷ lines) rises printed new =
     Begins (λ others more mid. Run setting mid lines others more new) setting old line rises printed
 
 -- The text of a run over the lines of a script, from no relations and no cursors, and whether a line was refused.
--- It is claimed over a disk that tells its pages.
+-- It is claimed where the source, the shelf and the sink tell what they hold, the disk tells its pages, and no count of
+-- faults reaches its greatest value.
 pub record IsRunText (setting : Setting) (script : List ScriptLine) (rises : Rises) (text : List ℕ) (some_refused : Bool) : Type 0 where
   pub printed : List OutputLine
   pub last : State

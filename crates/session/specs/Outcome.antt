@@ -115,6 +115,6 @@ Outcome old None reply new = Refuses why.LineTooLong old reply new
 Outcome old (Some line) reply new =
     (read : Result (Option StatementValue) LineFault) × Reads (chopped line) read × Meets old read reply new
 
--- A line is carried out: it is refused for want of memory, which may come at any line, or has its outcome.
+-- A line is carried out: it is refused as out of memory, which may come at any line, or has its outcome.
 abbrev pub Step : List Relation → Option (List ℕ) → Reply → List Relation → Type 0
 Step old line reply new = Refuses why.Memory old reply new ⊎ Outcome old line reply new

@@ -30,8 +30,8 @@ range_fits b h =
     omega (arith, at.first, at.count, end)
 
 -- a block's square is a rectangle in the closed plane
-pub square_in_reach : (b : Block) → IsBlock b → IsRectInClosedPlane (square_of b)
-square_in_reach b h =
+pub square_in_closed_plane : (b : Block) → IsBlock b → IsRectInClosedPlane (square_of b)
+square_in_closed_plane b h =
     let ends = square_fits b h in record {
       low = record { x = omega (arith, ends.0); y = omega (arith, ends.1) };
       high = record { x = ends.0; y = ends.1 };

@@ -6,7 +6,7 @@ use Rattle.sand_base.specs.declared.rect.Rect.{Rect}
 use Rattle.z_code.specs.Code.{code_of}
 use Rattle.z_code.specs.Block.{square_of}
 use Rattle.z_code.proofs.CodesOfPoints.{code_of-point_of}
-use Rattle.z_code.proofs.Blocks.{square_in_reach}
+use Rattle.z_code.proofs.Blocks.{square_in_closed_plane}
 use Rattle.z_code.proofs.block.Block.rect.Goals as goal
 use Rattle.z_code.proofs.block.Block.rect.Goals.{After-side_length-side}
 
@@ -25,7 +25,7 @@ returns-clause-square c = square (goal.at.returns-clause-square c).After-side_le
 -- which lies in the closed plane
 pub returns-clause-in_closed_plane : goal.returns-clause-in_closed_plane
 returns-clause-in_closed_plane c =
-    subst IsRectInClosedPlane (sym (square (goal.at.returns-clause-in_closed_plane c).After-side_length-side)) (square_in_reach c.args.self c.requires)
+    subst IsRectInClosedPlane (sym (square (goal.at.returns-clause-in_closed_plane c).After-side_length-side)) (square_in_closed_plane c.args.self c.requires)
 
 -- and whose corner has the block's code
 pub returns-clause-code : goal.returns-clause-code

@@ -1,0 +1,2 @@
+-- the first data file of a name
+pub mod NamedFiles
