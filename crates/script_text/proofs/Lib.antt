@@ -1,9 +1,9 @@
-mod CutLaws
+pub mod CutLaws
 mod CutLemmas
 mod Depth
 mod Doubled
 mod Falls
-mod Fields
+pub mod Fields
 mod FormLaws
 mod LexLemmas
 mod LineLemmas
@@ -16,7 +16,7 @@ mod PrintedIsRead
 mod PrintedLexes
 mod PrintedNumbers
 mod PrintedTexts
-mod Ranged
+pub mod Ranged
 mod RingLemmas
 mod RunLemmas
 mod SpelledLemmas
@@ -26,5 +26,5 @@ mod TextLemmas
 mod TextRuns
 mod TokenLemmas
 mod Unfold
-mod Whole
+pub mod Whole
 mod Writes

@@ -1,0 +1,6 @@
+-- numbers in decimal
+pub mod Decimals
+-- bytes in hexadecimal
+pub mod Hexadecimals
+-- the lines of a summary
+pub mod FourLines

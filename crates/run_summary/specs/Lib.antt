@@ -1,0 +1,4 @@
+-- the four lines
+pub mod Summary
+-- what a sink took of which it keeps the digest
+pub mod Taken

@@ -1,0 +1,10 @@
+-- What a sink took of which it keeps the length and the digest: a relation, since the digest tells no text.
+use Rattle.std.specs.Prelude.{◌≡◌, ℕ, List}
+use Rattle.sha2.specs.Hashers.{Holds256}
+use Rattle.run_summary.specs.Summary.{byte_count}
+use Rattle.run_summary.specs.declared.digest_sink.DigestSink.{DigestSink}
+
+-- the sink has taken the text: its hasher holds it, and its bytes were counted
+pub record HasTaken (sink : DigestSink) (text : List ℕ) : Type 0 where
+  pub held : Holds256 sink.hasher text
+  pub counted : sink.bytes ≡ byte_count text

@@ -1,0 +1,4 @@
+-- the value of an option passed its parser
+pub mod OptionalValues
+-- the matches of the command
+pub mod SandMatches

@@ -1,0 +1,4 @@
+-- the command
+pub mod Command
+-- what words ask for
+pub mod Asked
