@@ -1,0 +1,6 @@
+pub mod Decimals
+pub mod Forming
+pub mod Lines
+pub mod Listed
+pub mod Parts
+pub mod WrittenPrefix

@@ -1,0 +1,101 @@
+-- Rows and lines whose texts are formed or broke off.
+use Rattle.std.proofs.Common.{◌≡◌, ℕ, List, [], ◌∷◌, ◌++◌, map, refl, sym, ap, ◌∙◌, subst, append_assoc}
+use Rattle.std.specs.Prelude.{Some}
+use Rattle.std.specs.Fmt.{decimal}
+use Rattle.exact_frac.specs.Printed.{IsPrinted}
+use Rattle.exact_frac.specs.declared.frac.Frac.{Frac}
+use Rattle.sand_base.specs.Streams.{Adds}
+use Rattle.sand_base.specs.declared.value.Value.{Value}
+use Rattle.sand_model.specs.Cursor.{OutputLine}
+use Rattle.sand_model.specs.Operators.{PlanRow}
+use Rattle.sand_model.specs.OutputText.{IsText, PrintsLine, PrintsRow, value_text}
+use Rattle.output_text.specs.Forming.{BreaksSome, Forms, FormsSome}
+use Rattle.output_text.specs.Joined.{led}
+use Rattle.output_text.specs.Writing.{AddsPrefix, Writes, WritesPrefix}
+use Rattle.output_text.proofs.Forming.{Forms-both, AddsPrefix-second, AddsPrefix-more}
+use Rattle.output_text.proofs.Listed.{joined-led}
+use Rattle.output_text.proofs.WrittenPrefix.{Adds-trans}
+
+-- the row with a gap
+abbrev measured : Frac → List ℕ → List Value → PlanRow
+measured gap ids values = record { gap = Some gap; ids = ids; values = values }
+
+-- its text: that of the gap, and the others behind tabs
+abbrev rest_text : List ℕ → List Value → List ℕ
+rest_text ids values = led (9 ∷ []) (map decimal ids ++ map value_text values)
+
+row-printed : (gap : Frac) (ids : List ℕ) (values : List Value) (text shown : List ℕ) → IsPrinted gap.num gap.den text → shown ≡ text
+    → PrintsRow (measured gap ids values) (shown ++ rest_text ids values)
+row-printed gap ids values text shown printed is = (
+  text ∷ [],
+  (text, printed, refl),
+  ap (λ t. t ++ rest_text ids values) is ∙ sym (joined-led (9 ∷ []) text (map decimal ids ++ map value_text values)),
+)
+
+-- a row is formed
+pub row-formed : (gap : Frac) (ids : List ℕ) (values : List Value) (text shown old held new : List ℕ) (before mid now : List ℕ → Type 0)
+    → IsPrinted gap.num gap.den text → shown ≡ text → Forms before mid old held shown → Forms mid now held new (rest_text ids values)
+    → FormsSome (PrintsRow (measured gap ids values)) before now old new
+row-formed gap ids values text shown old held new before mid now printed is first second = record {
+  text = shown ++ rest_text ids values;
+  holds = row-printed gap ids values text shown printed is;
+  formed = Forms-both before mid now old held new shown (rest_text ids values) _ first second refl;
+}
+
+-- the gap of a row broke off
+pub row-first : (gap : Frac) (ids : List ℕ) (values : List Value) (text shown old : List ℕ) (before now : List ℕ → Type 0)
+    → IsPrinted gap.num gap.den text → shown ≡ text → AddsPrefix before now (old ++ shown)
+    → BreaksSome (PrintsRow (measured gap ids values)) before now old
+row-first gap ids values text shown old before now printed is broken = record {
+  text = shown ++ rest_text ids values;
+  holds = row-printed gap ids values text shown printed is;
+  prefix = AddsPrefix-more before now old shown (rest_text ids values) broken;
+}
+
+-- a row broke off behind its gap
+pub row-second : (gap : Frac) (ids : List ℕ) (values : List Value) (text shown old held : List ℕ) (before mid now : List ℕ → Type 0)
+    → IsPrinted gap.num gap.den text → shown ≡ text → Forms before mid old held shown → AddsPrefix mid now (held ++ rest_text ids values)
+    → BreaksSome (PrintsRow (measured gap ids values)) before now old
+row-second gap ids values text shown old held before mid now printed is first broken = record {
+  text = shown ++ rest_text ids values;
+  holds = row-printed gap ids values text shown printed is;
+  prefix = AddsPrefix-second before mid now old held shown (rest_text ids values) _ first broken refl;
+}
+
+-- the text of a line with its line feed
+line-text : (o : OutputLine) (text : List ℕ) → PrintsLine o text → IsText (o ∷ []) (text ++ 10 ∷ [])
+line-text o text prints = (text, [], prints, refl, refl)
+
+-- a line is formed, and its line feed behind it is written
+pub line-written : (o : OutputLine) (start held : List ℕ) (before mid now : List ℕ → Type 0) → start ≡ []
+    → FormsSome (PrintsLine o) before mid start held → Adds mid now (held ++ 10 ∷ []) → Writes (IsText (o ∷ [])) before now
+line-written o start held before mid now empty line added =
+    let same : line.text ≡ line.formed.out ++ held = ap (λ s. s ++ line.text) (sym empty) ∙ line.formed.same in record {
+      text = line.text ++ 10 ∷ [];
+      holds = line-text o line.text line.holds;
+      written = subst (Adds before now) (sym (append_assoc line.formed.out held (10 ∷ [])) ∙ ap (λ t. t ++ 10 ∷ []) (sym same))
+          (Adds-trans before mid now line.formed.out (held ++ 10 ∷ []) line.formed.written added);
+    }
+
+-- a prefix behind nothing
+behind-nothing : (start text : List ℕ) (before now : List ℕ → Type 0) → start ≡ [] → AddsPrefix before now (start ++ text) → AddsPrefix before now text
+behind-nothing start text before now empty broken = subst (λ s. AddsPrefix before now (s ++ text)) empty broken
+
+-- a line broke off
+pub line-prefix : (o : OutputLine) (start : List ℕ) (before now : List ℕ → Type 0) → start ≡ [] → BreaksSome (PrintsLine o) before now start
+    → WritesPrefix (IsText (o ∷ [])) before now
+line-prefix o start before now empty line = record {
+  text = line.text ++ 10 ∷ [];
+  holds = line-text o line.text line.holds;
+  prefix = behind-nothing start (line.text ++ 10 ∷ []) before now empty (AddsPrefix-more before now start line.text (10 ∷ []) line.prefix);
+}
+
+-- a line is formed, and broke off as it was written
+pub line-cut : (o : OutputLine) (start held : List ℕ) (before mid now : List ℕ → Type 0) → start ≡ []
+    → FormsSome (PrintsLine o) before mid start held → AddsPrefix mid now (held ++ 10 ∷ []) → WritesPrefix (IsText (o ∷ [])) before now
+line-cut o start held before mid now empty line broken = record {
+  text = line.text ++ 10 ∷ [];
+  holds = line-text o line.text line.holds;
+  prefix = behind-nothing start (line.text ++ 10 ∷ []) before now empty
+      (AddsPrefix-second before mid now start held line.text (10 ∷ []) (line.text ++ 10 ∷ []) line.formed broken refl);
+}
