@@ -1,0 +1,44 @@
+-- what a change doesn't touch stays
+pub mod Frames
+pub mod Stays
+-- rows as bytes
+pub mod Decodes
+pub mod ColumnsOfShapes
+pub mod RowLists
+pub mod TreeGrowth
+pub mod IndexGrowth
+pub mod RowsLeft
+pub mod PathLoss
+-- the relation of a name
+pub mod RowKinds
+pub mod Names
+pub mod Places
+pub mod Found
+-- a relation changed in its place
+pub mod Databases
+pub mod PathSteps
+pub mod Midway
+pub mod RowGrowth
+pub mod RowLoss
+pub mod Changes
+pub mod Inserts
+pub mod InsertCall
+-- the calls
+pub mod Refusals
+pub mod Creates
+pub mod DeleteCall
+-- a load
+pub mod RowChecks
+pub mod SchemaRows
+pub mod Loads
+-- what a relation tells
+pub mod ColumnPaths
+pub mod RelationFound
+pub mod RowCounts
+-- an index of rows that are there
+pub mod Listings
+pub mod TreeFill
+pub mod IndexFill
+pub mod Filling
+pub mod Planting
+pub mod IndexCall

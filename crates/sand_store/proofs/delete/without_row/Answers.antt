@@ -1,0 +1,28 @@
+-- the file loses the tuple, then each index can lose the row, and all have
+use Rattle.std.proofs.Common.{◌∙◌, sym, subst}
+use Rattle.sand_store.specs.Catalog.{RelationView}
+use Rattle.sand_store.specs.Standing.{RelationStands}
+use Rattle.sand_store.proofs.RowLoss.{loss_asks, loss_got, loss_places}
+use Rattle.sand_store.proofs.delete.without_row.Goals as goal
+
+pub take-requires-clause-file : goal.take-requires-clause-file
+take-requires-clause-file g c = λ told.
+    let H : RelationView → Type 0 = λ y. RelationStands c.args.pool.now.pages (c.requires.can told).0 y in
+    (subst H (sym c.relation.view_is) (c.requires.can told).1.stands).table.file
+
+pub shrunk_paths-requires-clause-can : goal.shrunk_paths-requires-clause-can
+shrunk_paths-requires-clause-can g c = λ after.
+    let told = sym c.in-Ok.ensures.within.told ∙ after in (
+      _,
+      loss_asks c.args.pool.now.pages c.take.new.pool.pages (c.requires.can told).0 _ c.args.relation.now c.take.new.self c.args.id c.args.row.now _ c.deref.result.now c.relation.view_is c.deref.ensures.value
+          (c.requires.can told).1 (c.in-Ok.ensures.value told),
+    )
+
+pub returns-in-Ok-shrunk_paths-clause-became : goal.returns-in-Ok-shrunk_paths-clause-became
+returns-in-Ok-shrunk_paths-clause-became g c = λ told bounds can.
+    loss_got c.args.pool.now.pages c.take.new.pool.pages c.shrunk_paths.new.pool.pages bounds _ c.args.relation.now c.take.new.self c.args.id c.args.row.now _ c.deref.result.now c.in-Ok-shrunk_paths.paths.items
+    c.relation.view_is c.deref.ensures.value can (c.in-Ok.ensures.value told) (c.in-Ok-shrunk_paths.ensures.lost (c.in-Ok.ensures.within.told ∙ told))
+
+pub returns-in-Ok-shrunk_paths-clause-places : goal.returns-in-Ok-shrunk_paths-clause-places
+returns-in-Ok-shrunk_paths-clause-places g c = λ of.
+    loss_places _ c.args.relation.now c.deref.result.now c.in-Ok-shrunk_paths.paths.items c.relation.view_is c.deref.ensures.value c.in-Ok-shrunk_paths.ensures.places of

@@ -1,0 +1,27 @@
+-- a row has a byte at least, and the relation that took it in is described
+use Rattle.std.proofs.Common.{ℕ, ◌≤◌, List, length, sym, ◌∙◌, subst}
+use Rattle.page_pool.specs.Pool.{IsTold}
+use Rattle.sand_store.specs.Catalog.{RelationView}
+use Rattle.sand_store.specs.Loads.{Counts}
+use Rattle.sand_store.proofs.Loads.{counts_one}
+use Rattle.sand_store.proofs.RowChecks.{check_stops}
+use Rattle.sand_store.proofs.RowGrowth.{row_some}
+use Rattle.sand_store.proofs.load.enter.Goals as goal
+
+pub with_row-requires-clause-some : goal.with_row-requires-clause-some
+with_row-requires-clause-some g c =
+    let Some : List ℕ → Type 0 = λ bytes. 1 ≤ length bytes in
+    subst Some (sym (c.deref.ensures.value ∙ c.in-Ok.ensures.bytes))
+    (row_some c.args.relation.now.schema c.args.row.now c.requires.described.schema.some c.in-Ok.ensures.of.of_schema)
+
+pub returns-in-Ok-with_row-clause-counts : goal.returns-in-Ok-with_row-clause-counts
+returns-in-Ok-with_row-clause-counts g c =
+    let P : RelationView → Type 0 = λ u. Counts c.args.limits c.args.relation.now u 1 in
+    subst P (sym c.take_over.ensures)
+    (counts_one c.args.limits c.args.relation.now c.in-Ok-with_row.roots.file c.in-Ok-with_row.roots.paths.items c.args.row.now c.requires.described
+    c.in-Ok.ensures.passes c.in-Ok-with_row.ensures.places)
+
+-- a check of the row fails
+pub returns-in-Err-clause-stops : goal.returns-in-Err-clause-stops
+returns-in-Err-clause-stops g c =
+    check_stops (IsTold c.args.pool.now) c.args.pool.now.pages c.args.limits c.args.relation.now c.args.row.now c.in-Err.why c.in-Err.ensures.refused

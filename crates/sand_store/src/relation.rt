@@ -1,0 +1,113 @@
+ghost use Rattle.std.specs.Prelude.{◌≡◌, ◌<◌, find, position, option_map};
+ghost use Rattle.sand_store.specs.Catalog.{is_named};
+
+use crate::AccessPath;
+use sand_base::{Label, Schema};
+use std::alloc::Global;
+use std::marker::Model;
+use tuple_file::TupleFile;
+
+/// A relation of the catalog: its columns, and the numbers that lead to its rows and indexes.
+#[derive(Drop)]
+pub struct Relation {
+    pub(crate) name: Label,
+    pub(crate) schema: Schema,
+    pub(crate) next: u32,
+    pub(crate) file: TupleFile,
+    pub(crate) paths: Vec<(usize, AccessPath)>,
+}
+
+/// The numbers that lead to a relation's rows and indexes, as a change makes them.
+#[derive(Drop)]
+pub(crate) struct Roots {
+    pub(crate) file: TupleFile,
+    pub(crate) paths: Vec<(usize, AccessPath)>,
+}
+
+impl Model for Relation {
+    ghost use Rattle.sand_store.specs.Catalog.{RelationView};
+
+    ghost Value = { RelationView };
+
+    ghost view = { λ r. record {
+      name = r.name;
+      schema = r.schema;
+      next = r.next;
+      file = r.file;
+      paths = r.paths.items;
+    } };
+}
+
+impl Relation {
+    ghost use Rattle.sand_store.specs.Catalog.{new_view};
+    ghost use Rattle.sand_store.specs.Steps.{grown_view};
+    ghost use Rattle.sand_store.specs.Leaving.{shrunk_view};
+
+    /// A relation without access paths, whose ids begin at 1.
+    pub fn new(alloc: Global, name: Label, schema: Schema, file: TupleFile) -> Relation
+        ensures { result ≡ new_view name schema file }
+    {
+        Relation {
+            name,
+            schema,
+            next: 1,
+            file,
+            paths: Vec::new(alloc),
+        }
+    }
+
+    /// The relation with the numbers that a new row gave it, under the id that was its next one.
+    pub(crate) fn take_over(&mut self, roots: Roots)
+        requires { self.old.next < 4294967295 }
+        ensures { self.new ≡ grown_view self.old roots.file roots.paths.items }
+    {
+        self.next += 1;
+        self.file = roots.file;
+        self.paths = roots.paths;
+    }
+
+    /// The relation with the numbers that the loss of a row gave it.
+    pub(crate) fn lead_to(&mut self, roots: Roots)
+        ensures { self.new ≡ shrunk_view self.old roots.file roots.paths.items }
+    {
+        self.file = roots.file;
+        self.paths = roots.paths;
+    }
+
+    /// The name.
+    pub fn name(&self) -> &str
+        ensures { result.now ≡ self.now.name }
+    {
+        self.name.as_str()
+    }
+
+    /// The columns.
+    pub fn schema(&self) -> &Schema
+        ensures { result.now ≡ self.now.schema }
+    {
+        &self.schema
+    }
+
+    /// The file of the rows.
+    pub fn file(&self) -> &TupleFile
+        ensures { result.now ≡ self.now.file }
+    {
+        &self.file
+    }
+}
+
+/// The first relation of the name; `None` exactly where none has it.
+pub fn named<'a>(relations: &'a [Relation], name: &str) -> Option<&'a Relation>
+    ensures { option_map (λ r. r.now) result ≡ find (is_named name.now) relations.now }
+{
+    relations.iter().find(|relation| relation.name() == name)
+}
+
+/// The place of the first relation of the name.
+pub fn place_of(relations: &[Relation], name: &str) -> Option<usize>
+    ensures { result ≡ position (is_named name.now) relations.now }
+{
+    relations
+        .iter()
+        .position(|relation| relation.name() == name)
+}

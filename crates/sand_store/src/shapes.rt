@@ -1,0 +1,117 @@
+// Where trees read the shapes of rows, in the middle of a change and for readers.
+ghost use Rattle.std.specs.Prelude.{◌≡◌, ◌↔◌, List, true, Some, IfOk, IfErr, option_map};
+ghost use Rattle.sand_base.specs.Grid.{IsInPlane};
+ghost use Rattle.sand_base.specs.Plane.{IsShapeInPlane};
+ghost use Rattle.sand_base.specs.declared.value.Value.{Value as Held};
+ghost use Rattle.sand_model.specs.Database.{element, shape_in};
+ghost use Rattle.page_pool.specs.Causes.{IsMemory};
+
+use page_pool::{PageFault, Pages};
+use pmr_tree::ShapeOf;
+use sand_base::{COORDINATE_BITS, Point, Row, Schema, Shape, Value};
+use std::alloc::Global;
+use tuple_file::TupleFile;
+
+// Whether the point is a grid point of the plane.
+fn is_in_plane(at: Point) -> bool
+    ensures { (result ≡ true) ↔ IsInPlane at }
+{
+    at.x < 1 << COORDINATE_BITS && at.y < 1 << COORDINATE_BITS
+}
+
+/// Whether the shape lies in the plane. A ring does.
+pub fn is_shape_in_plane(shape: &Shape) -> bool
+    ensures { result ≡ true → IsShapeInPlane shape.now }
+{
+    match shape {
+        Shape::Point(at) => is_in_plane(*at),
+        Shape::Segment(way) => is_in_plane(way.a) && is_in_plane(way.b),
+        Shape::Polygon(ring) => ring.corners().len() >= 3,
+    }
+}
+
+/// The value that a row has in a column.
+pub fn value_at<'r>(row: &'r Row, column: usize) -> Option<&'r Value>
+    ensures { option_map (λ v. v.now) result ≡ element row.now column }
+{
+    row.values().get(column)
+}
+
+/// The shape that a row has in a column.
+pub fn shape_at<'r>(row: &'r Row, column: usize) -> Option<&'r Shape>
+    ensures { option_map (λ s. s.now) result ≡ shape_in column row.now }
+{
+    match row.values().get(column) {
+        Some(Value::Shape(shape)) => Some(shape),
+        _ => None,
+    }
+}
+
+// A copy of the shape that a row has in a column. Where there is none, or it lies outside the plane, it is out of
+// memory: no row of a store over a disk that tells is so.
+fn shape_of_row(alloc: Global, row: Option<Row>, column: usize) -> Result<Shape, PageFault>
+    ensures value { IfOk result (λ shape. (values : List Held) × ((row ≡ Some values) × (shape_in column values ≡ Some shape))) }
+    ensures plane { IfOk result IsShapeInPlane }
+    ensures memory { IfErr result IsMemory }
+{
+    let Some(row) = row else {
+        return Err(PageFault::Memory);
+    };
+    let Some(Value::Shape(shape)) = row.values().get(column) else {
+        return Err(PageFault::Memory);
+    };
+    if !is_shape_in_plane(shape) {
+        return Err(PageFault::Memory);
+    }
+    Ok(shape.copy(alloc)?)
+}
+
+/// The shapes that the rows of a file have in a column.
+#[derive(Clone, Copy)]
+pub struct FileShapes<'s> {
+    pub file: TupleFile,
+    pub schema: &'s Schema,
+    pub column: usize,
+}
+
+impl<'s> ShapeOf for FileShapes<'s> {
+    ghost use Rattle.std.specs.Prelude.{◌+◌, ◌≤◌};
+    ghost use Rattle.code_btree.specs.Tree.{times};
+    ghost use Rattle.pmr_tree.specs.Quadtree.{store_of};
+    ghost use Rattle.sand_model.specs.Database.{shapes_of};
+    ghost use Rattle.tuple_file.specs.File.{file_pages};
+    ghost use Rattle.sand_store.specs.Contents.{rows_at};
+    ghost use Rattle.sand_store.specs.Standing.{TableStands};
+    ghost use Rattle.sand_store.specs.TableLaws.{table_same, shapes_same, pages_same, shapes_plane};
+
+    ghost rows = { λ s pages. shapes_of s.column (rows_at pages s.schema.now s.file) };
+
+    ghost Stands = { λ s pages. TableStands pages s.schema.now s.file };
+
+    ghost Owns = { λ s pages n. 1 ≤ times n (file_pages (store_of pages) s.file) };
+
+    ghost price = { λ s. s.file.tree.height + 1 };
+
+    fn shape_of<P: Pages>(
+        &self,
+        alloc: Global,
+        pages: &mut P,
+        id: u32,
+    ) -> Result<Shape, PageFault> {
+        // For the proof alone: a count of gets is at most the greatest u64, so it doesn't fall.
+        let _before = pages.gets();
+        let row = self.file.fetch(alloc, pages, self.schema, id)?;
+        match shape_of_row(alloc, row, self.column) {
+            Ok(shape) => Ok(shape),
+            Err(why) => Err(why),
+        }
+    }
+
+    ghost in_plane = { λ s pages h. shapes_plane s.schema.now s.column (rows_at pages s.schema.now s.file) h.rows };
+
+    ghost own_stands = { λ s m w h same. table_same m w s.schema.now s.file same h };
+
+    ghost own_rows = { λ s m w h same. shapes_same m w s.schema.now s.file s.column same };
+
+    ghost own_pages = { λ s m w h same. pages_same m w s.file same };
+}

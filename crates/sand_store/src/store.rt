@@ -1,0 +1,226 @@
+ghost use Rattle.std.specs.Prelude.{◌≡◌, ◌≤◌, [], IfOk, IfErr, OnOk, OnErr, IfSome, option_map};
+ghost use Rattle.sand_base.specs.InRange.{IsRowInRange, IsSchemaInRange};
+ghost use Rattle.std.specs.List.{All};
+ghost use Rattle.page_pool.specs.Pool.{new_pool, IsTold};
+ghost use Rattle.page_pool.specs.Causes.{IsNoDamage, faults_at};
+ghost use Rattle.page_pool.specs.Desk.{DeskState};
+ghost use Rattle.sand_model.specs.Kept.{IsDatabase};
+ghost use Rattle.sand_model.specs.Measure.{Measure, IsMeasure};
+ghost use Rattle.sand_model.specs.Statement.{Create, Insert, Delete, Index};
+ghost use Rattle.sand_store.specs.Catalog.{IsLimits, new_catalog};
+ghost use Rattle.sand_store.specs.Contents.{database};
+ghost use Rattle.sand_store.specs.Standing.{IsStore};
+ghost use Rattle.sand_store.specs.Calls.{Carries, IsUnchanged, HasCause, Created, Inserted, Deleted, Indexed, Loaded, IsRefusedBy, LoadIsRefusedBy, is_none, is_full, is_missing};
+
+use crate::Catalog;
+use crate::create::create;
+use crate::delete::delete;
+use crate::index::index;
+use crate::insert::insert;
+use crate::load::load_rows;
+use page_pool::{Desk, Disk, PageFault, Pool};
+use sand_base::{Limits, Refusal, Row, Schema};
+use std::alloc::Global;
+use std::marker::Model;
+
+/// Relations with their rows and indexes in the pages of a pool. Each writing call is one command of the pool: it is
+/// carried out, or refused and all is as it was.
+#[derive(Drop)]
+pub struct Store<D: Disk> {
+    catalog: Catalog,
+    pool: Pool<D>,
+    alloc: Global,
+}
+
+impl<D: Disk> Model for Store<D> {
+    ghost use Rattle.sand_store.specs.Catalog.{StoreState, CatalogView};
+    ghost use Rattle.sand_store.specs.Standing.{IsStore};
+    ghost use Rattle.std.specs.Coded.{codes};
+    ghost use Rattle.page_pool.specs.Inside.{pool_code};
+
+    ghost Value = { StoreState };
+
+    ghost coded = { Prim.hlevel (codes, pool_code) };
+
+    ghost view = { λ s. record { catalog = s.catalog; pool = s.pool } };
+
+    ghost invariant = { λ s. IsStore s.catalog s.pool };
+}
+
+impl<D: Disk> Store<D> {
+    /// A store of no relations over the disk, which it starts with the name. After a refusal the disk comes back.
+    pub fn start(
+        alloc: Global,
+        disk: D,
+        name: Option<&str>,
+        frames: u32,
+        limits: Limits,
+    ) -> Result<Store<D>, (PageFault, D)>
+        requires least { 16 ≤ frames }
+        requires most { frames ≤ 4096 }
+        requires limits { IsLimits limits }
+        ensures begun { IfOk result (λ store. store ≡ record { catalog = new_catalog limits; pool = new_pool store.pool.disk frames }) }
+        ensures counted { IfOk result (λ store. store.pool.disk.faults ≡ (D.seen disk).faults) }
+        ensures refused { IfErr result (λ e. (D.seen e.1).faults ≡ faults_at (D.seen disk).faults e.0) }
+        ensures undamaged { IfErr result (λ e. IsNoDamage e.0) }
+    {
+        match Pool::start(alloc, disk, name, frames) {
+            Ok(pool) => Ok(Store {
+                catalog: Catalog {
+                    relations: Vec::new(alloc),
+                    limits,
+                },
+                pool,
+                alloc,
+            }),
+            Err(refused) => Err(refused),
+        }
+    }
+
+    /// A new relation of these columns, the last one.
+    pub fn create(&mut self, name: &str, schema: Schema) -> Result<(), Refusal>
+        requires { IsSchemaInRange schema }
+        ensures created { OnOk result (Created self.old self.new name.now schema) }
+        ensures unchanged { OnErr result (IsUnchanged self.old self.new) }
+        ensures refused { IfErr result (IsRefusedBy is_none self.old (Create name.now schema)) }
+        ensures carries { Carries self.old self.new }
+        ensures cause { HasCause self.old.pool self.new.pool result }
+    {
+        create(
+            self.alloc,
+            &mut self.pool,
+            &mut self.catalog.relations,
+            self.catalog.limits,
+            name,
+            schema,
+        )
+    }
+
+    /// Adds a row to the relation and to each of its indexes, and gives its id.
+    pub fn insert(&mut self, relation: &str, row: Row) -> Result<u32, Refusal>
+        requires { IsRowInRange row }
+        ensures inserted { IfOk result (λ id. Inserted self.old self.new relation.now row id) }
+        ensures unchanged { OnErr result (IsUnchanged self.old self.new) }
+        ensures refused { IfErr result (IsRefusedBy is_full self.old (Insert relation.now row)) }
+        ensures carries { Carries self.old self.new }
+        ensures cause { HasCause self.old.pool self.new.pool result }
+    {
+        insert(
+            self.alloc,
+            &mut self.pool,
+            &mut self.catalog.relations,
+            self.catalog.limits,
+            relation,
+            &row,
+        )
+    }
+
+    /// Removes the row of the id from the relation and from each of its indexes.
+    pub fn delete(&mut self, relation: &str, id: u32) -> Result<(), Refusal>
+        ensures deleted { OnOk result (Deleted self.old self.new relation.now id) }
+        ensures unchanged { OnErr result (IsUnchanged self.old self.new) }
+        ensures refused { IfErr result (IsRefusedBy is_missing self.old (Delete relation.now id)) }
+        ensures carries { Carries self.old self.new }
+        ensures cause { HasCause self.old.pool self.new.pool result }
+    {
+        delete(
+            self.alloc,
+            &mut self.pool,
+            &mut self.catalog.relations,
+            self.catalog.limits,
+            relation,
+            id,
+        )
+    }
+
+    /// Gives a column an index, with the rows that are there: a quadtree of this threshold (8 where none is given) for
+    /// a column of shapes, and else an attribute index.
+    pub fn index(
+        &mut self,
+        relation: &str,
+        column: &str,
+        threshold: Option<u8>,
+    ) -> Result<(), Refusal>
+        requires { IfSome threshold (λ t. (1 ≤ t) × (t ≤ 64)) }
+        ensures indexed { OnOk result (Indexed self.old self.new (record { relation = relation.now; column = column.now }) threshold) }
+        ensures unchanged { OnErr result (IsUnchanged self.old self.new) }
+        ensures refused { IfErr result (IsRefusedBy is_full self.old (Index (record { relation = relation.now; column = column.now }) threshold)) }
+        ensures carries { Carries self.old self.new }
+        ensures cause { HasCause self.old.pool self.new.pool result }
+    {
+        index(
+            self.alloc,
+            &mut self.pool,
+            &mut self.catalog.relations,
+            self.catalog.limits,
+            relation,
+            column,
+            threshold,
+        )
+    }
+
+    /// Adds rows in their order, all or none, and gives their number. The first row that is refused decides.
+    pub fn load_rows(&mut self, relation: &str, rows: Vec<Row>) -> Result<u32, Refusal>
+        requires { All IsRowInRange rows.items }
+        ensures loaded { IfOk result (λ count. Loaded self.old self.new relation.now rows.items count) }
+        ensures unchanged { OnErr result (IsUnchanged self.old self.new) }
+        ensures refused { IfErr result (LoadIsRefusedBy self.old relation.now rows.items) }
+        ensures carries { Carries self.old self.new }
+        ensures cause { HasCause self.old.pool self.new.pool result }
+    {
+        load_rows(
+            self.alloc,
+            &mut self.pool,
+            &mut self.catalog.relations,
+            self.catalog.limits,
+            relation,
+            &rows,
+        )
+    }
+
+    /// The catalog and the pages, for reading. It takes no memory.
+    pub fn part(self) -> (Catalog, Desk<D>)
+        ensures catalog { result.0 ≡ self.catalog }
+        ensures desk { result.1 ≡ record { pool = self.pool; visits = [] } }
+        ensures whole { IsStore self.catalog self.pool }
+    {
+        let Store {
+            catalog,
+            pool,
+            alloc,
+        } = self;
+        (catalog, Desk::over(alloc, pool))
+    }
+
+    /// The store of a catalog and a desk that one `part` gave. Visits that were noted are gone. It takes no memory.
+    pub fn rejoin(alloc: Global, catalog: Catalog, desk: Desk<D>) -> Store<D>
+        requires { IsStore catalog desk.pool }
+        ensures { result ≡ record { catalog = catalog; pool = desk.pool } }
+    {
+        Store {
+            catalog,
+            pool: desk.close(),
+            alloc,
+        }
+    }
+
+    /// The disk. It takes no memory.
+    pub fn into_disk(self) -> D
+        ensures { D.seen result ≡ self.pool.disk }
+    {
+        let Store {
+            catalog: _,
+            pool,
+            alloc: _,
+        } = self;
+        pool.into_disk()
+    }
+
+    /// The catalog. It takes no memory.
+    pub fn catalog(&self) -> &Catalog
+        ensures catalog { result.now ≡ self.now.catalog }
+        ensures whole { IsStore self.now.catalog self.now.pool }
+    {
+        &self.catalog
+    }
+}
