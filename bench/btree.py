@@ -1,15 +1,15 @@
 #!/usr/bin/env python3
 """Times a map in pages beside one in memory: inserts, look-ups and the steps of a run, by processor time. It gives no verdict.
 
-  bench/btree.py [LOTS]     (after `rt run` in crates/btree_bench, which builds it; a lot is 50,000 keys and one command, and 4 is the default)
+  bench/btree.py [LOTS]     (after `rt run` in crates/page_bench, which builds it; a lot is 50,000 keys and one command, and 4 is the default)
 """
 import os
 import subprocess
 import sys
 
-PROGRAM = os.path.join(os.path.dirname(os.path.abspath(__file__)), "..", "crates", "btree_bench", "out", "btree_bench")
+PROGRAM = os.path.join(os.path.dirname(os.path.abspath(__file__)), "..", "crates", "page_bench", "out", "page_bench")
 if not os.access(PROGRAM, os.X_OK):
-    sys.exit("bench: build the program first (rt run in crates/btree_bench)")
+    sys.exit("bench: build the program first (rt run in crates/page_bench)")
 lots = sys.argv[1] if len(sys.argv) > 1 else "4"
 
 

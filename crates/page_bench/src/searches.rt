@@ -1,0 +1,155 @@
+// Small searches that were worked out by hand.
+ghost use Rattle.std.specs.Prelude.{◌≤◌, ◌<◌, ◌^◌, IfSome};
+ghost use Rattle.sand_base.specs.Grid.{IsInClosedPlane};
+
+use crate::open_pool::OpenPool;
+use crate::readers::{Found, Readers};
+use crate::shapes::Shapes;
+use crate::trees::planted;
+use page_pool::PageFault;
+use pmr_tree::Pmr;
+use sand_base::{Goal, Point, Rect, Shape};
+use std::alloc::Global;
+
+const TIE: Shapes = Shapes::Listed(&[[32768, 32772], [32768, 32768]]);
+
+const TWO: Shapes = Shapes::Listed(&[[0, 0], [3, 4]]);
+
+const ONE: Shapes = Shapes::Listed(&[[10, 10]]);
+
+const ABOVE_AND_BELOW: Shapes = Shapes::Listed(&[[10, 12], [10, 8]]);
+
+const SPREAD: Shapes = Shapes::Listed(&[[0, 0], [60000, 60000], [100, 0]]);
+
+const THREE: Shapes = Shapes::Listed(&[[0, 0], [10, 10], [11, 10]]);
+
+const REGIONS: Shapes = Shapes::Polygons(&[
+    &[[0, 0], [60000, 0], [60000, 60000], [0, 60000]],
+    &[[40000, 40000], [50000, 40000], [50000, 50000]],
+    &[[1000, 1000], [2000, 1000], [2000, 2000]],
+]);
+
+/// A search that is looked at.
+#[derive(Clone, Copy, PartialEq, Eq)]
+pub enum Search {
+    TieFromBetween,
+    PolygonsFromInside,
+    TwoWithThemselves,
+    OneToTwo,
+    SpreadFromTheOrigin,
+    SpreadFirst,
+    InWindow,
+    Within14,
+    Within15,
+}
+
+// A tree of the shapes, and the pages with it.
+fn grown(
+    alloc: Global,
+    threshold: u8,
+    shapes: Shapes,
+    ids: u32,
+) -> Result<(Readers, Pmr), PageFault>
+    requires least { 1 ≤ threshold }
+    requires most { threshold ≤ 64 }
+{
+    let mut pool = OpenPool::start(alloc, 64)?;
+    let tree = planted(alloc, &mut pool, threshold, shapes, ids)?;
+    Ok((pool.close(alloc), tree))
+}
+
+// The first rows of a ranking from a point.
+fn from_point(
+    alloc: Global,
+    threshold: u8,
+    shapes: Shapes,
+    ids: u32,
+    goal: Point,
+    ceiling: Option<u32>,
+    most: u32,
+) -> Result<Found, PageFault>
+    requires least { 1 ≤ threshold }
+    requires all { threshold ≤ 64 }
+    requires plane { IsInClosedPlane goal }
+    requires small { IfSome ceiling (λ most. most < 2 ^ 22) }
+{
+    let (mut pages, tree) = grown(alloc, threshold, shapes, ids)?;
+    let goal = Goal::Shape(Shape::Point(goal));
+    pages.rank(alloc, &tree, shapes, goal, ceiling, most)
+}
+
+// The first rows of a ranking from a rectangle.
+fn in_window(alloc: Global, low: Point, high: Point) -> Result<Found, PageFault>
+    requires low { IsInClosedPlane low }
+    requires high { IsInClosedPlane high }
+    requires x { low.x ≤ high.x }
+    requires y { low.y ≤ high.y }
+{
+    let (mut pages, tree) = grown(alloc, 8, THREE, 3)?;
+    let goal = Goal::Rect(Rect { low, high });
+    pages.rank(alloc, &tree, THREE, goal, Some(0), 5)
+}
+
+// All pairs of two points with themselves.
+fn joined(alloc: Global) -> Result<Found, PageFault> {
+    let (mut pages, tree) = grown(alloc, 8, TWO, 2)?;
+    pages.join(alloc, (&tree, TWO), (&tree, TWO), 5)
+}
+
+// The first pair of one point with two others.
+fn first_pair(alloc: Global) -> Result<Found, PageFault> {
+    let mut pool = OpenPool::start(alloc, 64)?;
+    let left = planted(alloc, &mut pool, 8, ONE, 1)?;
+    let right = planted(alloc, &mut pool, 8, ABOVE_AND_BELOW, 2)?;
+    let mut pages = pool.close(alloc);
+    pages.semi(alloc, (&left, ONE), (&right, ABOVE_AND_BELOW), 1, 3)
+}
+
+const ORIGIN: Point = Point { x: 0, y: 0 };
+
+/// What a search finds.
+pub fn found(alloc: Global, search: Search) -> Result<Found, PageFault> {
+    match search {
+        Search::TieFromBetween => {
+            from_point(alloc, 1, TIE, 2, Point { x: 32768, y: 32770 }, None, 3)
+        }
+        Search::PolygonsFromInside => {
+            from_point(alloc, 1, REGIONS, 3, Point { x: 20000, y: 20000 }, None, 4)
+        }
+        Search::TwoWithThemselves => joined(alloc),
+        Search::OneToTwo => first_pair(alloc),
+        Search::SpreadFirst => from_point(alloc, 1, SPREAD, 3, ORIGIN, None, 2),
+        Search::SpreadFromTheOrigin => from_point(alloc, 1, SPREAD, 3, ORIGIN, None, 4),
+        Search::InWindow => in_window(alloc, ORIGIN, Point { x: 10, y: 10 }),
+        Search::Within14 => from_point(alloc, 8, THREE, 3, ORIGIN, Some(14), 5),
+        Search::Within15 => from_point(alloc, 8, THREE, 3, ORIGIN, Some(15), 5),
+    }
+}
+
+/// Each search with its name.
+pub const SEARCHES: [(&str, Search); 9] = [
+    (
+        "two points at the corner of four blocks, from between them",
+        Search::TieFromBetween,
+    ),
+    (
+        "polygons, from a point inside the first",
+        Search::PolygonsFromInside,
+    ),
+    (
+        "two points joined with themselves",
+        Search::TwoWithThemselves,
+    ),
+    ("the nearest of two to one", Search::OneToTwo),
+    (
+        "spread points from the origin, two of them",
+        Search::SpreadFirst,
+    ),
+    (
+        "spread points from the origin, all of them",
+        Search::SpreadFromTheOrigin,
+    ),
+    ("three points within a window", Search::InWindow),
+    ("three points within 14", Search::Within14),
+    ("three points within 15", Search::Within15),
+];

@@ -1,0 +1,108 @@
+// Quadtrees: mixed inserts and deletes, and their leaves.
+ghost use Rattle.std.specs.Prelude.{◌≤◌};
+
+use crate::draws::Draws;
+use crate::open_pool::OpenPool;
+use crate::shapes::Shapes;
+use page_pool::PageFault;
+use pmr_tree::Pmr;
+use std::alloc::Global;
+use std::collections::BTreeSet;
+use z_code::Block;
+
+/// The number of leaves of a tree, and a number that tells their blocks and ids in their order.
+#[derive(Clone, Copy)]
+pub struct LeafDigest {
+    pub count: u64,
+    pub digest: u64,
+}
+
+// The number with one more told.
+fn told(digest: u64, number: u64) -> u64 {
+    digest.wrapping_mul(1_000_003).wrapping_add(number)
+}
+
+// The code behind a block's.
+fn behind(block: Block) -> u64 {
+    let bits = 32u32.saturating_sub(u32::from(block.level) * 2);
+    block.z.saturating_add(1u64 << bits)
+}
+
+/// The leaves of a tree, in the order of their codes.
+pub fn leaves(alloc: Global, pool: &mut OpenPool, tree: &Pmr) -> Result<LeafDigest, PageFault> {
+    let mut count = 0u64;
+    let mut digest = 0u64;
+    let mut z = 0u64;
+    'leaves: for _ in 0..1_000_000u32 {
+        if z >= 4_294_967_296 {
+            break;
+        }
+        let (block, ids) = pool.leaf(alloc, tree, z)?;
+        digest = told(told(digest, block.z), u64::from(block.level));
+        'ids: for id in ids.as_slice() {
+            digest = told(digest, u64::from(*id));
+        }
+        count = count.wrapping_add(1);
+        z = behind(block);
+    }
+    Ok(LeafDigest { count, digest })
+}
+
+// Inserts an id that isn't there, and deletes one that is.
+fn toggle(
+    alloc: Global,
+    pool: &mut OpenPool,
+    tree: &mut Pmr,
+    there: &mut BTreeSet<u32>,
+    id: u32,
+) -> Result<(), PageFault>
+    requires { 1 ≤ id }
+{
+    if there.remove(&id) {
+        return pool.delete(alloc, tree, Shapes::Mixed, id);
+    }
+    let Ok(_new) = there.insert(id) else {
+        return Err(PageFault::Memory);
+    };
+    pool.insert(alloc, tree, Shapes::Mixed, id)
+}
+
+/// So many drawn inserts and deletes of points, segments and triangles, with ids up to this one.
+pub fn mixed(
+    alloc: Global,
+    pool: &mut OpenPool,
+    threshold: u8,
+    calls: u32,
+    ids: u32,
+) -> Result<Pmr, PageFault>
+    requires least { 1 ≤ threshold }
+    requires most { threshold ≤ 64 }
+    requires some { 1 ≤ ids }
+{
+    let mut tree = pool.plant_tree(threshold, 1)?;
+    let mut draws = Draws::begin(calls.into());
+    let mut there = BTreeSet::new(alloc);
+    'calls: for _ in 0..calls {
+        let id = (draws.word() % u64::from(ids)) as u32 + 1;
+        toggle(alloc, pool, &mut tree, &mut there, id)?;
+    }
+    Ok(tree)
+}
+
+/// A tree of the shapes of the ids up to this one.
+pub fn planted(
+    alloc: Global,
+    pool: &mut OpenPool,
+    threshold: u8,
+    shapes: Shapes,
+    ids: u32,
+) -> Result<Pmr, PageFault>
+    requires least { 1 ≤ threshold }
+    requires most { threshold ≤ 64 }
+{
+    let mut tree = pool.plant_tree(threshold, 1)?;
+    'ids: for id in 1..=ids {
+        pool.insert(alloc, &mut tree, shapes, id)?;
+    }
+    Ok(tree)
+}
