@@ -1,0 +1,9 @@
+-- plans as the model's
+pub mod PlanValue
+-- kinds that are asked
+pub mod Asked
+-- one column, one operator
+pub mod ColumnCheck
+pub mod OperatorCheck
+-- the names of a plan's relations
+pub mod Search
