@@ -1,0 +1,65 @@
+-- A call of a source: it gives the next row of its list, and its visits lie within the reach of what it then has taken.
+use Rattle.std.specs.Prelude.{◌≡◌, ℕ, ◌+◌, ◌-◌, ◌≤◌, ◌<◌, min, true, false, cond, nat_lt, List, ◌++◌, length, All, Option, None, Some, Result, Ok, Err, OnOk, ⊤}
+use Rattle.sand_base.specs.Faults.{last_count}
+use Rattle.sand_base.specs.declared.visit.Visit.{Visit}
+use Rattle.page_pool.specs.Desk.{DeskState}
+use Rattle.page_pool.specs.declared.fault.PageFault.{PageFault}
+use Rattle.sand_model.specs.Answer.{source}
+use Rattle.sand_model.specs.Cursor.{AreBetween}
+use Rattle.sand_model.specs.Database.{Database, element}
+use Rattle.sand_model.specs.Plan.{Plan}
+use Rattle.sand_model.specs.Reach.{Counts, reach, counts_at, innermost}
+use Rattle.sand_model.specs.Taken.{Taken}
+use Rattle.plan_rows.specs.Rows.{plan_measure, row_of}
+use Rattle.plan_rows.specs.Visited.{LiesWithin}
+use Rattle.plan_rows.specs.declared.answer.Answer.{Answer}
+
+-- nothing was taken
+abbrev pub nothing_taken : Taken
+nothing_taken = record { rows = 0; is_ended = false }
+
+-- what is taken after one more call: the next row, or the end where no row is left
+abbrev pub next_taken : Database → Plan → Taken → Taken
+next_taken d p t =
+    cond (nat_lt t.rows (length (source plan_measure d p))) (record { rows = t.rows + 1; is_ended = false })
+    (record { rows = t.rows; is_ended = true })
+
+-- what is taken after a call: a refused one takes nothing
+abbrev pub taken_after : Database → Plan → Taken → Result (Option Answer) PageFault → Taken
+taken_after d p t (Ok given) = next_taken d p t
+taken_after d p t (Err fault) = t
+
+-- a row that is given is the next one of the source, and at the end none is left
+abbrev pub GivesRow : Database → Plan → Taken → Result (Option Answer) PageFault → Type 0
+GivesRow d p t (Ok (Some a)) = element (source plan_measure d p) t.rows ≡ Some (row_of a)
+GivesRow d p t (Ok None) = element (source plan_measure d p) t.rows ≡ None
+GivesRow d p t (Err fault) = ⊤
+
+-- the counts of the source when so much was taken
+abbrev pub counts_taken : Database → Plan → Taken → Counts
+counts_taken d p t = counts_at plan_measure d (innermost p) (reach plan_measure d p t)
+
+-- all nodes, blocks and pairs of blocks
+abbrev pub node_count : Counts → ℕ
+node_count c = c.blocks + c.pairs
+
+-- The visits of a call: they were noted behind those before, each lies within the reach of what would be taken next; the counts don't fall, rise to at most those of that reach, and are these after a row and at the end. At least one page get was made for each node that was counted.
+pub record MakesVisits (d : Database) (p : Plan) (t : Taken) (before now : Counts) (old new : DeskState) (result : Result (Option Answer) PageFault) : Type 0 where
+  pub noted : List Visit
+  pub log : new.visits ≡ old.visits ++ noted
+  pub near : All (LiesWithin plan_measure d p (reach plan_measure d p (next_taken d p t))) noted
+  pub between : AreBetween before (counts_taken d p (next_taken d p t)) now
+  pub exact : OnOk result (now ≡ counts_taken d p (next_taken d p t))
+  pub rose : min (old.pool.gets + (node_count now - node_count before)) last_count ≤ new.pool.gets
+
+-- A call of a source of which so much was taken.
+pub record SourceStep (d : Database) (p : Plan) (t : Taken) (before now : Counts) (old new : DeskState) (result : Result (Option Answer) PageFault) (At : Taken → Type 0) : Type 0 where
+  pub row : GivesRow d p t result
+  pub at : At (taken_after d p t result)
+  pub visits : MakesVisits d p t before now old new result
+
+-- a row lowers the number, and no answer raises it
+abbrev pub Falls : ℕ → ℕ → Result (Option Answer) PageFault → Type 0
+Falls old new (Ok (Some a)) = new < old
+Falls old new (Ok None) = new ≤ old
+Falls old new (Err fault) = new ≤ old

@@ -1,0 +1,71 @@
+-- Whether a visit of a plan's source lies within a reach: its node's gap does, or the gap of a rough item that a leaf lists.
+use Rattle.std.specs.Prelude.{◌≡◌, ℕ, true, List, Contains}
+use Rattle.sand_base.specs.declared.goal.Goal.{Goal}
+use Rattle.sand_base.specs.declared.goal.Goal.TheVariants as figure
+use Rattle.sand_base.specs.declared.visit.Visit.{Visit}
+use Rattle.sand_base.specs.declared.visit.Visit.TheVariants as visit
+use Rattle.z_code.specs.declared.block.Block.{Block}
+use Rattle.sand_model.specs.Database.{Database}
+use Rattle.sand_model.specs.Measure.{Measure}
+use Rattle.sand_model.specs.Nodes.{LeafItem, PairNode, rank_items, pair_nodes, pair_gap, join_items, square_figure}
+use Rattle.sand_model.specs.Plan as plan
+use Rattle.sand_model.specs.Plan.{Plan, Column}
+use Rattle.sand_model.specs.Reach.{Reach, reaches, quadtree_of, innermost}
+use Rattle.sand_model.specs.Sources.{column_shapes}
+use Rattle.sand_model.specs.Tree.{Tree, places, root_block}
+
+-- a place of the tree stands at the block, and its gap from the goal lies within the reach
+pub record IsBlockWithin (gap : Measure) (goal : Goal) (tree : Tree) (to : Reach) (z level : ℕ) : Type 0 where
+  pub place : Block × Tree
+  pub among : Contains (places root_block tree) place
+  pub code : place.0.z ≡ z
+  pub size : place.0.level ≡ level
+  pub near : reaches to (gap goal (square_figure place.0)) ≡ true
+
+-- some leaf lists the rough object of these ids within the reach
+pub record IsRoughWithin (items : List LeafItem) (to : Reach) (left right : ℕ) : Type 0 where
+  pub item : LeafItem
+  pub among : Contains items item
+  pub rough : item.is_rough ≡ true
+  pub left_id : item.left ≡ left
+  pub right_id : item.right ≡ right
+  pub near : reaches to item.gap ≡ true
+
+-- the two trees have this pair of places, and its gap lies within the reach
+pub record IsPairWithin (gap : Measure) (nodes : List PairNode) (to : Reach) (left right : ℕ × ℕ) : Type 0 where
+  pub node : PairNode
+  pub among : Contains nodes node
+  pub left_block : (node.left.z ≡ left.0) × (node.left.level ≡ left.1)
+  pub right_block : (node.right.z ≡ right.0) × (node.right.level ≡ right.1)
+  pub near : reaches to (pair_gap gap node) ≡ true
+
+-- a visit of a ranking
+abbrev pub IsRankVisit : Measure → Database → Column → Goal → Reach → Visit → Type 0
+IsRankVisit gap d column goal to (visit.Block number z level) = IsBlockWithin gap goal (quadtree_of d column) to z level
+IsRankVisit gap d column goal to (visit.Geometry id) =
+    IsRoughWithin (rank_items gap goal (column_shapes d column) (quadtree_of d column)) to id 0
+IsRankVisit gap d column goal to _ = ⊥
+
+-- the pairs of places of the quadtrees of two columns
+abbrev pub nodes_of_columns : Database → Column → Column → List PairNode
+nodes_of_columns d left right = pair_nodes root_block (quadtree_of d left) root_block (quadtree_of d right)
+
+-- a visit of a join
+abbrev pub IsJoinVisit : Measure → Database → Column → Column → Reach → Visit → Type 0
+IsJoinVisit gap d left right to (visit.Pair b c) =
+    IsPairWithin gap (nodes_of_columns d left right) to (b.1, b.2) (c.1, c.2)
+IsJoinVisit gap d left right to (visit.GeometryPair l r) =
+    IsRoughWithin (join_items gap (column_shapes d left) (column_shapes d right) (nodes_of_columns d left right)) to l r
+IsJoinVisit gap d left right to _ = ⊥
+
+-- a visit of a source; a scan and a pick make none
+abbrev pub IsSourceVisit : Measure → Database → Plan → Reach → Visit → Type 0
+IsSourceVisit gap d (plan.Rank column goal within) to v = IsRankVisit gap d column (figure.Shape goal) to v
+IsSourceVisit gap d (plan.Window column window) to v = IsRankVisit gap d column (figure.Rect window) to v
+IsSourceVisit gap d (plan.Join left right within) to v = IsJoinVisit gap d left right to v
+IsSourceVisit gap d (plan.Semi left right within) to v = IsJoinVisit gap d left right to v
+IsSourceVisit gap d _ to v = ⊥
+
+-- the visit of a plan's source lies within the reach
+abbrev pub LiesWithin : Measure → Database → Plan → Reach → Visit → Type 0
+LiesWithin gap d p to v = IsSourceVisit gap d (innermost p) to v
