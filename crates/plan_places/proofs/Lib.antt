@@ -1,0 +1,12 @@
+-- values, and pairs of ids and values
+pub mod SameValues
+pub mod Above
+pub mod ColumnValues
+-- names
+pub mod Naming
+-- rows that are read
+pub mod RowsRead
+-- look-ups
+pub mod EqualIds
+pub mod LookedUp
+pub mod LookUps

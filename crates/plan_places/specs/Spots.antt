@@ -1,0 +1,44 @@
+-- Columns of a database and places of a plan's rows, and where they stand in a catalog.
+use Rattle.std.specs.Prelude.{◌≡◌, ℕ, List, None, Some}
+use Rattle.page_pool.specs.Disk.{PageMap}
+use Rattle.sand_base.specs.declared.limits.Limits.{Limits}
+use Rattle.sand_model.specs.Database.{Database, Relation, relation_named, column_named}
+use Rattle.sand_model.specs.Operators.{kth}
+use Rattle.sand_model.specs.Plan.{Column, Place}
+use Rattle.sand_store.specs.Catalog.{RelationView}
+use Rattle.sand_store.specs.Contents.{relation_in}
+use Rattle.sand_store.specs.Standing.{RelationStands}
+use Rattle.plan_places.specs.declared.column.ColumnSpot.{ColumnSpot}
+use Rattle.plan_places.specs.declared.spot.Spot.{Spot}
+
+-- over these pages the relation stands, within some limits
+abbrev pub Stands : PageMap → RelationView → Type 0
+Stands pages relation = (limits : Limits) × RelationStands pages limits relation
+
+-- the names lead to the relation of the catalog and the place of its column
+pub record LeadsTo (d : Database) (column : Column) (spot : ColumnSpot) (pages : PageMap) : Type 0 where
+  pub relation : relation_named d column.relation ≡ Some (relation_in pages spot.relation.now)
+  pub at : column_named spot.relation.now.schema column.column ≡ Some spot.column
+
+-- the column is that of the relation of the catalog, which stands over these pages
+pub record IsColumn (d : Database) (column : Column) (spot : ColumnSpot) (pages : PageMap) : Type 0 where
+  pub relation : relation_named d column.relation ≡ Some (relation_in pages spot.relation.now)
+  pub at : column_named spot.relation.now.schema column.column ≡ Some spot.column
+  pub stands : Stands pages spot.relation.now
+
+-- the place of a row is a column of the relation of the catalog of which its k-th id is, and this stands over these pages
+pub record IsSpot (d : Database) (names : List (List ℕ)) (place : Place) (spot : Spot) (pages : PageMap) : Type 0 where
+  pub name : List ℕ
+  pub named : kth names place.k ≡ Some name
+  pub number : spot.k ≡ place.k
+  pub relation : relation_named d name ≡ Some (relation_in pages spot.relation.now)
+  pub at : column_named spot.relation.now.schema place.column ≡ Some spot.column
+  pub stands : Stands pages spot.relation.now
+
+-- the column of these names
+abbrev pub names_of : List ℕ → List ℕ → Column
+names_of relation column = record { relation = relation; column = column }
+
+-- the database has no such column
+abbrev pub HasNoColumn : Database → Column → Type 0
+HasNoColumn d column = (r : Relation) → relation_named d column.relation ≡ Some r → column_named r.schema column.column ≡ None

@@ -1,0 +1,133 @@
+ghost use Rattle.std.specs.Prelude.{◌≡◌, ◌<◌, ◌≤◌, min, false, None, IfOk, IfSome};
+ghost use Rattle.sand_base.specs.Faults.{last_count};
+ghost use Rattle.page_pool.specs.Disk.{PageMap};
+ghost use Rattle.page_pool.specs.Pool.{IsTold};
+ghost use Rattle.page_pool.specs.Reads.{IsRead};
+ghost use Rattle.page_pool.specs.Causes.{HasPageCause};
+ghost use Rattle.sand_model.specs.Database.{Database};
+ghost use Rattle.sand_model.specs.Plan.{Column};
+ghost use Rattle.plan_places.specs.Equals.{equals, GivesFirst};
+ghost use Rattle.sand_store.specs.Catalog.{IsCatalog};
+ghost use Rattle.sand_store.specs.Contents.{database_in};
+ghost use Rattle.sand_store.specs.Standing.{CatalogStands};
+ghost use Rattle.plan_places.specs.Spots.{names_of};
+ghost use Rattle.plan_places.specs.Indexed.{Holds, IsLookUp, LacksIndex};
+ghost use Rattle.attr_index.specs.Key.{IsAttribute};
+ghost use Rattle.plan_places.specs.Steps.{has_equal, found_in, GivesCandidate};
+
+use crate::ColumnSpot;
+use crate::row::{is_same, row_of, value_in};
+use attr_index::{AttrIndex, key_of};
+use page_pool::{PageFault, Pages};
+use sand_base::{Row, Value};
+use sand_store::Catalog;
+use std::alloc::Global;
+
+/// A column of ints or texts with its index, in which rows are looked up by their value.
+#[derive(Clone, Copy)]
+pub struct LookUp<'s> {
+    pub spot: ColumnSpot<'s>,
+    pub index: AttrIndex,
+}
+
+// A row to which an entry leads, and whether it has the value.
+#[derive(Clone, Copy)]
+struct Candidate {
+    id: u32,
+    is_equal: bool,
+}
+
+// Whether the row has an equal value in the column.
+fn has_equal(row: &Option<Row>, column: usize, value: &Value) -> bool
+    ensures { result ≡ has_equal column value.now row.now }
+{
+    let Some(row) = row else {
+        return false;
+    };
+    match value_in(row, column) {
+        Some(held) => is_same(held, value),
+        None => false,
+    }
+}
+
+impl<'s> LookUp<'s> {
+    /// The column of these names with its attribute index. `None` comes where there is no such column, or it has no
+    /// such index.
+    pub fn named(catalog: &'s Catalog, relation: &str, column: &str) -> Option<LookUp<'s>>
+        ensures found { IfSome result (λ l. (pages : PageMap) → CatalogStands pages catalog.now → IsLookUp (database_in pages catalog.now.relations) (names_of relation.now column.now) l pages) }
+        ensures none { result ≡ None → IsCatalog catalog.now → (pages : PageMap) → LacksIndex (database_in pages catalog.now.relations) (names_of relation.now column.now) false }
+    {
+        let spot = ColumnSpot::named(catalog, relation, column)?;
+        let index = spot.relation.attribute(spot.column)?;
+        Some(LookUp {
+            spot,
+            index: *index,
+        })
+    }
+
+    // The next entry above an id, and whether its row has an equal value.
+    fn candidate<P: Pages>(
+        &self,
+        alloc: Global,
+        pages: &mut P,
+        value: &Value,
+        last: u32,
+    ) -> Result<Option<Candidate>, PageFault>
+        requires attribute { IsAttribute value.now }
+        requires small { self.now.spot.relation.now.next ≤ 4294967296 }
+        requires holds { IsTold (P.shown pages.old) → Holds (P.shown pages.old).pages self.now }
+        ensures candidate { IfOk result (λ found. IsTold (P.shown pages.old) → GivesCandidate last (found_in (P.shown pages.old).pages self.now value.now) found) }
+        ensures rises { IfOk result (λ found. IfSome found (λ c. last < c.id)) }
+        ensures read { IsRead (P.shown pages.old) (P.shown pages.new) }
+        ensures up { min (P.shown pages.old).gets last_count ≤ (P.shown pages.new).gets }
+        ensures cause { HasPageCause (P.shown pages.old) (P.shown pages.new) result }
+    {
+        let Some(id) = self.index.equal(pages, key_of(value), last)? else {
+            return Ok(None);
+        };
+        match row_of(alloc, pages, self.spot.relation, id) {
+            Ok(row) => Ok(Some(Candidate {
+                id,
+                is_equal: has_equal(&row, self.spot.column, value),
+            })),
+            Err(fault) => Err(fault),
+        }
+    }
+
+    /// The least id above `after` of a row whose value in the column equals this one, `None` where there is none. The
+    /// index leads to rows by an int, or by the first 12 bytes of a text, so the row of each id that it gives is read,
+    /// until one has the value.
+    pub fn next<P: Pages>(
+        &self,
+        alloc: Global,
+        pages: &mut P,
+        value: &Value,
+        after: u32,
+    ) -> Result<Option<u32>, PageFault>
+        requires { IsTold (P.shown pages.old) → Holds (P.shown pages.old).pages self.now }
+        ensures first { IfOk result (λ found. IsTold (P.shown pages.old) → (d : Database) (column : Column) → IsLookUp d column self.now (P.shown pages.old).pages → GivesFirst after (equals d column value.now) found) }
+        ensures rises { IfOk result (λ found. IfSome found (λ id. after < id)) }
+        ensures read { IsRead (P.shown pages.old) (P.shown pages.new) }
+        ensures up { min (P.shown pages.old).gets last_count ≤ (P.shown pages.new).gets }
+        ensures cause { HasPageCause (P.shown pages.old) (P.shown pages.new) result }
+    {
+        if let Value::Shape(_) = value {
+            return Ok(None);
+        }
+        let greatest = self.spot.relation.greatest();
+        let mut last = after;
+        'entries: while last < greatest {
+            match self.candidate(alloc, pages, value, last) {
+                Ok(Some(found)) => {
+                    if found.is_equal {
+                        return Ok(Some(found.id));
+                    }
+                    last = found.id;
+                }
+                Ok(None) => return Ok(None),
+                Err(fault) => return Err(fault),
+            }
+        }
+        Ok(None)
+    }
+}
