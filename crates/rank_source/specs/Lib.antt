@@ -1,0 +1,2 @@
+-- a ranking as the source of a plan
+pub mod Rankings

@@ -1,0 +1,99 @@
+-- The source of a plan that ranks a column: where it stands when so much of it was taken.
+use Rattle.std.specs.Prelude.{◌≡◌, ℕ, ◌+◌, ◌≤◌, true, List, length, Option, Some}
+use Rattle.std.specs.Ordering.{nat_cmp, ordering_then}
+use Rattle.std.specs.declared.cmp.Ordering.{Ordering}
+use Rattle.sand_base.specs.declared.goal.Goal.{Goal}
+use Rattle.sand_base.specs.declared.goal.Goal.TheVariants as figure
+use Rattle.sand_base.specs.declared.limits.Limits.{Limits}
+use Rattle.z_code.specs.declared.block.Block.{Block}
+use Rattle.sand_model.specs.Database.{Database, shapes_of, relation_named, column_named}
+use Rattle.sand_model.specs.Plan as plan
+use Rattle.sand_model.specs.Plan.{Plan, Column}
+use Rattle.sand_model.specs.Reach.{quadtree_of}
+use Rattle.sand_model.specs.Sources.{column_shapes, ranked}
+use Rattle.sand_model.specs.Taken.{Taken}
+use Rattle.sand_model.specs.Tree.{listings}
+use Rattle.page_pool.specs.Disk.{PageMap}
+use Rattle.pair_heap.specs.Queued.{Queued}
+use Rattle.pmr_tree.specs.declared.quadtree.Pmr.{Pmr}
+use Rattle.sand_store.specs.declared.column.ColumnShapes.{ColumnShapes}
+use Rattle.sand_store.specs.Catalog.{RelationView, IsLimits, most_listings}
+use Rattle.sand_store.specs.Contents.{rows_in, relation_in}
+use Rattle.sand_store.specs.Paths.{IsTreeOf}
+use Rattle.sand_store.specs.Standing.{TableStands, RelationStands}
+use Rattle.best_first.specs.Frontier.{Stands}
+use Rattle.best_first.specs.Visits.{IsCounted}
+use Rattle.best_first.specs.declared.engine.BestFirst.{BestFirst}
+use Rattle.best_first.specs.declared.counts.Counts.{Counts}
+use Rattle.best_first.specs.declared.hit.Hit.{Hit}
+use Rattle.best_first.specs.declared.item.Item.{Item}
+use Rattle.rank_cursor.specs.Answers.{AreGiven}
+use Rattle.rank_cursor.specs.Cursor.{ranking_over}
+use Rattle.rank_cursor.specs.declared.rank_tree.RankTree.{RankTree}
+use Rattle.rank_cursor.specs.Ranking.{Ranking, IsSound, rank_meaning}
+use Rattle.plan_rows.specs.Rows.{plan_measure}
+use Rattle.plan_rows.specs.SourceSteps.{nothing_taken}
+
+-- ---- what is ranked
+
+-- the plan ranks this column from this goal within this ceiling; a window ranks from its rectangle within the distance 0
+abbrev pub Ranks : Plan → Column → Goal → Option ℕ → Type 0
+Ranks (plan.Rank column goal within) c g ceiling = (column ≡ c) × (figure.Shape goal ≡ g) × (within ≡ ceiling)
+Ranks (plan.Window column window) c g ceiling = (column ≡ c) × (figure.Rect window ≡ g) × (Some 0 ≡ ceiling)
+Ranks _ c g ceiling = ⊥
+
+-- the column of this name stands at this place of the relation, which the database has
+abbrev pub IsColumnOf : PageMap → RelationView → ℕ → Database → Column → Type 0
+IsColumnOf pages relation at d column =
+    (relation_named d column.relation ≡ Some (relation_in pages relation)) × (column_named relation.schema column.column ≡ Some at)
+
+-- the ranking of a relation's column over pages, by its quadtree
+abbrev pub ranking_in : PageMap → RelationView → ℕ → Pmr → Goal → Option ℕ → Ranking
+ranking_in pages relation at tree goal ceiling =
+    ranking_over (λ m. shapes_of at (rows_in m relation)) (λ m. TableStands m relation.schema relation.file) (relation.file.tree.height + 1) tree goal ceiling pages
+
+-- The plan ranks a column of the database: the ranking has the column's shapes and its quadtree, with no more listings than a quadtree may have.
+pub record RanksColumn (r : Ranking) (d : Database) (p : Plan) : Type 0 where
+  pub column : Column
+  pub ranks : Ranks p column r.goal r.ceiling
+  pub shapes : column_shapes d column ≡ r.shapes
+  pub tree : quadtree_of d column ≡ r.tree
+  pub few : listings r.tree ≤ most_listings
+
+-- ---- the search
+
+-- the search of a source: over the quadtree of a column of shapes, its frontier in a pairing heap
+abbrev pub Search : Type 0
+Search = BestFirst (RankTree ColumnShapes) (Queued (Item Block))
+
+-- the order of its nodes, by code and then by level
+abbrev pub by_code : Block → Block → Ordering
+by_code a b = ordering_then (nat_cmp a.z b.z) (nat_cmp a.level b.level)
+
+-- the ranking that its hierarchy is over pages
+abbrev pub ranking_of : RankTree ColumnShapes → PageMap → Ranking
+ranking_of tree pages =
+    ranking_in pages tree.shapes.relation.now tree.shapes.column tree.pmr tree.goal tree.ceiling
+
+-- ---- where it stands
+
+-- So much was taken of the plan's source: the ranking can be searched, the search stands where it has taken all that its counts count, its rows are the first of the ranked ones, and at its end all.
+pub record HasTaken (cmp : Block → Block → Ordering) (r : Ranking) (held : List (Item Block)) (last : Option Hit) (counts : Counts) (d : Database) (p : Plan) (t : Taken) : Type 0 where
+  pub ranks : RanksColumn r d p
+  pub sound : IsSound r
+  pub done : List (Item Block)
+  pub stands : Stands cmp (rank_meaning r) held last done
+  pub counted : IsCounted done counts
+  pub rows : AreGiven (ranked plan_measure r.goal r.ceiling r.shapes) t.rows last
+  pub ended : t.is_ended ≡ true → t.rows ≡ length (ranked plan_measure r.goal r.ceiling r.shapes)
+
+-- so much was taken of the plan's source, over these pages
+abbrev pub IsAt : Search → PageMap → Database → Plan → Taken → Type 0
+IsAt s pages d p t =
+    HasTaken by_code (ranking_of s.hierarchy pages) s.frontier.queue.items s.frontier.last s.frontier.counts d p t
+
+-- Nothing was taken of a ranking's source: over all pages where the relation stands, the tree is that of its column, and the plan ranks this column.
+abbrev pub Begins : (PageMap → Database → Plan → Taken → Type 0) → RelationView → ℕ → Pmr → Goal → Option ℕ → Type 0
+Begins At relation at tree goal ceiling =
+    IsTreeOf relation at tree → (pages : PageMap) (limits : Limits) → IsLimits limits → RelationStands pages limits relation
+    → (d : Database) (column : Column) → IsColumnOf pages relation at d column → (p : Plan) → Ranks p column goal ceiling → At pages d p nothing_taken

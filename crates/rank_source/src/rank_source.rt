@@ -1,0 +1,90 @@
+ghost use Rattle.std.specs.Prelude.{◌≡◌, ◌<◌, ◌^◌, [], ◌∷◌, length, Some, IfSome, IfOk};
+ghost use Rattle.sand_base.specs.Plane.{IsGoalInClosedPlane};
+ghost use Rattle.sand_model.specs.Reach.{no_counts};
+ghost use Rattle.best_first.specs.Steps.{steps};
+ghost use Rattle.rank_cursor.specs.Cursor.{block_weight};
+ghost use Rattle.plan_rows.specs.Rows.{counts_of};
+ghost use Rattle.rank_source.specs.Rankings.{IsAt, Begins};
+
+use crate::TreeColumn;
+use best_first::{BestFirst, Hit, Item};
+use page_pool::{Desk, Disk, PageFault};
+use plan_rows::{Answer, RowSource, SourceCounts};
+use rank_cursor::RankTree;
+use rank_queue::{PairQueue, Queue};
+use sand_base::{Goal, Ids, NoMemory, Row};
+use sand_store::ColumnShapes;
+use std::alloc::Global;
+use z_code::Block;
+
+/// The rows of a column by their distance from a goal, nearest first.
+#[derive(Drop)]
+pub struct RankSource<'s> {
+    search: BestFirst<RankTree<'s, ColumnShapes<'s>>, PairQueue<Item<Block>>>,
+}
+
+impl<'s> RankSource<'s> {
+    /// The ranking of a column from a goal, with a greatest distance where there is a ceiling. No page is read.
+    pub fn start(
+        alloc: Global,
+        column: TreeColumn<'s>,
+        goal: Goal,
+        ceiling: Option<u32>,
+    ) -> Result<RankSource<'s>, NoMemory>
+        requires plane { IsGoalInClosedPlane goal }
+        requires small { IfSome ceiling (λ most. most < 2 ^ 22) }
+        ensures counts { IfOk result (λ s. counts_of (⟦<RankSource<'s> as RowSource>⟧.seen s) ≡ no_counts) }
+        ensures begun { IfOk result (λ s. Begins (⟦<RankSource<'s> as RowSource>⟧.At s) column.entry.relation.now column.entry.column column.entry.tree.now goal ceiling) }
+    {
+        let hierarchy = RankTree::over(column.tree, column.shapes(), goal, ceiling);
+        let search = BestFirst::start(alloc, hierarchy, PairQueue::empty(alloc))?;
+        Ok(RankSource { search })
+    }
+}
+
+// A row that was found by its gap, its id in the room for it.
+fn answer_of(alloc: Global, mut ids: Vec<u32>, hit: Hit) -> Answer
+    requires { length ids.items ≡ 1 }
+    ensures gap { result.gap ≡ Some hit.gap }
+    ensures ids { result.ids ≡ hit.left ∷ [] }
+    ensures values { result.values ≡ [] }
+{
+    ids[0] = hit.left;
+    Answer {
+        gap: Some(hit.gap),
+        ids: Ids::new(ids),
+        values: Row::new(Vec::new(alloc)),
+    }
+}
+
+impl<'s> RowSource for RankSource<'s> {
+    ghost At = { λ s pages d p t. IsAt s.search pages d p t };
+
+    ghost seen = { λ s. record { blocks = s.search.frontier.counts.visited; pairs = 0; geometries = s.search.frontier.counts.fetched } };
+
+    ghost steps = { λ s. steps block_weight s.search.frontier.queue.items };
+
+    fn next<D: Disk>(
+        &mut self,
+        alloc: Global,
+        desk: &mut Desk<D>,
+    ) -> Result<Option<Answer>, PageFault> {
+        // Room for the id comes first: where memory is refused for it, nothing is taken.
+        let Ok(ids) = vec![in alloc; 0u32; 1] else {
+            return Err(PageFault::Memory);
+        };
+        match self.search.next(desk) {
+            Ok(Some(hit)) => Ok(Some(answer_of(alloc, ids, hit))),
+            Ok(None) => Ok(None),
+            Err(fault) => Err(fault),
+        }
+    }
+
+    fn counts(&self) -> SourceCounts {
+        SourceCounts {
+            blocks: self.search.visited(),
+            pairs: 0,
+            geometries: self.search.fetched(),
+        }
+    }
+}
