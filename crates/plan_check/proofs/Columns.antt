@@ -96,7 +96,7 @@ abbrev pub kind_in : List ℕ → Option Relation → Option Kind
 kind_in name (Some r) = kind_named r name
 kind_in name None = None
 
-abbrev kind_of_place : Database → List ℕ → Option (List ℕ) → Option Kind
+abbrev pub kind_of_place : Database → List ℕ → Option (List ℕ) → Option Kind
 kind_of_place d column (Some name) = kind_in column (relation_named d name)
 kind_of_place d column None = None
 

@@ -7,3 +7,5 @@ pub mod Operators
 pub mod Depths
 -- what is left of a list
 pub mod Rests
+-- where the checks pass
+pub mod Passed

@@ -1,0 +1,2 @@
+-- rows with keys
+pub mod Keyed
