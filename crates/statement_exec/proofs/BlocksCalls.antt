@@ -1,0 +1,112 @@
+-- What printing the leaves of a column is of the model's outcome.
+use Rattle.std.proofs.Common.{◌≡◌, ℕ, ◌<◌, false, List, [], ◌∷◌, ◌++◌, Option, Some, None, refl, sym, ◌∙◌, ap, subst, inl, inr, true≢false}
+use Rattle.std.specs.Prelude.{Err}
+use Rattle.std.specs.List.{list_any}
+use Rattle.std.proofs.lemmas.List.{append-nil, map-append}
+use Rattle.page_pool.specs.Causes.{HasPageCause, IsDamage}
+use Rattle.page_pool.specs.Pool.{PoolState, IsTold}
+use Rattle.page_pool.specs.Reads.{IsRead}
+use Rattle.page_pool.specs.declared.fault.PageFault.{PageFault}
+use Rattle.page_pool.specs.declared.fault.PageFault.TheVariants as page
+use Rattle.pmr_tree.specs.Quadtree.{tree_at}
+use Rattle.pmr_tree.specs.declared.quadtree.Pmr.{Pmr}
+use Rattle.sand_base.specs.Faults.{last_count}
+use Rattle.sand_base.specs.Shelf.{Files}
+use Rattle.sand_base.specs.declared.refusal.Refusal.{Refusal}
+use Rattle.sand_base.specs.declared.refusal.Refusal.TheVariants as why
+use Rattle.z_code.specs.declared.block.Block.{Block}
+use Rattle.sand_model.specs.Cursor.{Cursor, OutputLine, LeafOf, Refused}
+use Rattle.sand_model.specs.Outcome.{Rises, IsLicensed, leaf_lines}
+use Rattle.sand_model.specs.OutputText.{is_refused}
+use Rattle.sand_model.specs.Plan.{Column}
+use Rattle.sand_model.specs.Statement.{Blocks}
+use Rattle.sand_model.specs.StatementChecks.{Setting, early}
+use Rattle.sand_model.specs.Tree.{leaves, root_block}
+use Rattle.sand_store.specs.Calls.{refusal_of}
+use Rattle.sand_store.specs.Catalog.{CatalogView}
+use Rattle.output_text.specs.Writing.{WritesPrefix}
+use Rattle.statement_exec.specs.Ending.{Reads, WritesUpTo}
+use Rattle.statement_exec.specs.LeafLines.{state_of, HasTree, LacksTree, IsOfCheck}
+use Rattle.statement_exec.specs.LeafWalk.{Leaves, lines_of, AreFirst, WritesAll, WritesSome, BreaksSome}
+use Rattle.statement_exec.specs.Moment.{beside, rises_between}
+use Rattle.statement_exec.specs.Printing.{PrintsSome}
+use Rattle.statement_exec.proofs.Outcomes.{outcome_done, outcome_early}
+use Rattle.statement_exec.proofs.Refusals.{caused, rose}
+use Rattle.statement_exec.proofs.Texts.{breaks_with, writes_none}
+
+none_refused : (visited : Leaves) → list_any is_refused (lines_of visited) ≡ false
+none_refused [] = refl
+none_refused (leaf ∷ visited) = none_refused visited
+
+module _ (catalog : CatalogView) (column : Column) (old new : PoolState) (read : IsRead old new) where
+  same_state : (cursors : List Cursor) → state_of catalog new.pages cursors ≡ state_of catalog old.pages cursors
+  same_state cursors = ap (λ m. state_of catalog m cursors) read.pages
+
+  abbrev rises : List Cursor → Option Files → ℕ → Rises
+  rises cursors files shelf = rises_between (beside cursors catalog old files shelf) (beside cursors catalog new files shelf)
+
+  -- all leaves
+  blocks_done : (tree : Pmr) (visited : Leaves) → HasTree catalog column tree old.pages → (IsTold old → leaves root_block (tree_at old.pages tree) ≡ visited)
+      → Reads (Blocks column) catalog old new (lines_of visited)
+  blocks_done tree visited h all = λ cursors files shelf told disk few setting s.
+      let lines : lines_of visited ≡ leaf_lines h.relation column.column = sym (h.lines ∙ ap lines_of (all told)) in
+      outcome_done setting (rises cursors files shelf) (state_of catalog old.pages cursors) (Blocks column) (lines_of visited) (state_of catalog new.pages cursors)
+      (h.passes setting cursors) refl (h.relation, h.named, (inl lines, same_state cursors))
+
+  -- a fault of a page is licensed
+  licensed : {T : Type 0} (cursors : List Cursor) (files : Option Files) (shelf : ℕ) (setting : Setting) (fault : PageFault) → HasPageCause {T = T} old new (Err fault) → IsTold old
+      → new.disk.faults < last_count → early setting (state_of catalog old.pages cursors) (Blocks column) ≡ None
+      → IsLicensed setting (rises cursors files shelf) (state_of catalog old.pages cursors) (Blocks column) (refusal_of fault)
+  licensed cursors files shelf setting page.Memory c t l e = tt
+  licensed cursors files shelf setting page.Device c t l e = ((refl, e), rose old.disk.faults new.disk.faults c.counted l)
+  licensed cursors files shelf setting (page.Damaged n kept read') c t l e =
+      let d : IsDamage new n kept read' = c.damaged in absurd (true≢false (sym (read.told ∙ t) ∙ d.untold))
+
+  -- the first leaves, and a refusal that may come
+  blocks_stopped : (tree : Pmr) (visited : Leaves) (w : Refusal) → HasTree catalog column tree old.pages → (IsTold old → AreFirst (leaves root_block (tree_at old.pages tree)) visited)
+      → ((cursors : List Cursor) (files : Option Files) (shelf : ℕ) (setting : Setting) → IsTold old → new.disk.faults < last_count
+      → IsLicensed setting (rises cursors files shelf) (state_of catalog old.pages cursors) (Blocks column) w)
+      → Reads (Blocks column) catalog old new (lines_of visited ++ Refused w ∷ [])
+  blocks_stopped tree visited w h first may = λ cursors files shelf told disk few setting s.
+      let f : AreFirst (leaves root_block (tree_at old.pages tree)) visited = first told in
+      let split : leaf_lines h.relation column.column ≡ lines_of visited ++ lines_of f.rest =
+      h.lines ∙ (ap lines_of f.all_are ∙ map-append (λ (l : Block × List ℕ). LeafOf l.0 l.1) visited f.rest) in
+      outcome_done setting (rises cursors files shelf) (state_of catalog old.pages cursors) (Blocks column) (lines_of visited ++ Refused w ∷ []) (state_of catalog new.pages cursors)
+      (h.passes setting cursors) refl
+      (h.relation, h.named, (inr (lines_of visited, lines_of f.rest, w, may cursors files shelf setting told disk, split, refl), same_state cursors))
+
+  pub up_to_end : (tree : Pmr) (a b : List ℕ → Type 0) → HasTree catalog column tree old.pages → WritesAll (IsTold old) (leaves root_block (tree_at old.pages tree)) a b
+      → WritesUpTo (Reads (Blocks column) catalog old new) None a b
+  up_to_end tree a b h k = record {
+    lines = lines_of k.visited;
+    written = k.written;
+    accepted = none_refused k.visited;
+    holds = subst (λ (xs : List OutputLine). Reads (Blocks column) catalog old new xs) (sym (append-nil (lines_of k.visited))) (blocks_done tree k.visited h k.are_all);
+  }
+
+  pub up_to_fault : {T : Type 0} (tree : Pmr) (a b : List ℕ → Type 0) (fault : PageFault) → HasTree catalog column tree old.pages → HasPageCause {T = T} old new (Err fault)
+      → WritesSome (IsTold old) (leaves root_block (tree_at old.pages tree)) a b → WritesUpTo (Reads (Blocks column) catalog old new) (Some (refusal_of fault)) a b
+  up_to_fault {T} tree a b fault h cause k = record {
+    lines = lines_of k.visited;
+    written = k.written;
+    accepted = none_refused k.visited;
+    holds = blocks_stopped tree k.visited (refusal_of fault) h k.first
+        (λ cursors files shelf setting told disk. licensed {T = T} cursors files shelf setting fault cause told disk (h.passes setting cursors));
+  }
+
+  pub broken_off : (tree : Pmr) (a b : List ℕ → Type 0) → HasTree catalog column tree old.pages → BreaksSome (IsTold old) (leaves root_block (tree_at old.pages tree)) a b
+      → WritesPrefix (PrintsSome (Reads (Blocks column) catalog old new)) a b
+  broken_off tree a b h k =
+      breaks_with (Reads (Blocks column) catalog old new) a b (lines_of k.visited) why.Memory (blocks_stopped tree k.visited why.Memory h k.first (λ cursors files shelf setting told disk. tt)) k.broken
+
+-- an early check refuses
+pub up_to_check : (catalog : CatalogView) (column : Column) (old : PoolState) (a : List ℕ → Type 0) (w : Refusal) → LacksTree catalog column w old.pages → IsOfCheck w
+    → WritesUpTo (Reads (Blocks column) catalog old old) (Some w) a a
+up_to_check catalog column old a w h o = record {
+  lines = [];
+  written = writes_none a;
+  accepted = refl;
+  holds = λ cursors files shelf told disk few setting s.
+      outcome_early setting (rises_between (beside cursors catalog old files shelf) (beside cursors catalog old files shelf)) (state_of catalog old.pages cursors) (Blocks column) (Refused w ∷ []) (state_of catalog old.pages cursors)
+      w (h setting cursors) (caused (rises_between (beside cursors catalog old files shelf) (beside cursors catalog old files shelf)) w o) (refl, refl);
+}

@@ -1,0 +1,61 @@
+-- The lines of a statement with the line of its refusal behind them.
+use Rattle.std.proofs.Common.{◌≡◌, ℕ, Bool, true, false, List, [], ◌∷◌, ◌++◌, Option, Some, None, refl, sym, ◌∙◌, inl, inr, true≢false}
+use Rattle.std.specs.Prelude.{⊤, Ok, Err}
+use Rattle.std.specs.List.{list_any}
+use Rattle.page_pool.specs.Pool.{PoolState}
+use Rattle.sand_base.specs.declared.refusal.Refusal.{Refusal}
+use Rattle.sand_base.specs.declared.refusal.Refusal.TheVariants as why
+use Rattle.sand_model.specs.Cursor.{OutputLine}
+use Rattle.sand_model.specs.OutputText.{IsText, is_refused}
+use Rattle.sand_store.specs.Calls.{HasCause}
+use Rattle.output_text.specs.Writing.{Writes, WritesPrefix}
+use Rattle.statement_exec.specs.Ending.{WritesUpTo, RisesByOne, PagesHaveCause, refused_line, is_refusal}
+use Rattle.statement_exec.specs.Printing.{Prints, PrintsSome}
+use Rattle.statement_exec.proofs.Texts.{writes_more, breaks_more}
+
+accepted_then : (xs ys : List OutputLine) → list_any is_refused xs ≡ false → list_any is_refused (xs ++ ys) ≡ list_any is_refused ys
+accepted_then [] ys h = refl
+accepted_then (x ∷ xs) ys h =
+    let go : (b : Bool) → is_refused x ≡ b → list_any is_refused ((x ∷ xs) ++ ys) ≡ list_any is_refused ys = elim [
+      | true ↦ λ e. absurd (true≢false (rw e at h))
+      | false ↦ λ e. rw e (accepted_then xs ys (rw e at h))
+    ] in
+    go (is_refused x) refl
+
+ending : (end : Option Refusal) → is_refusal end ≡ list_any is_refused (refused_line end)
+ending None = refl
+ending (Some w) = refl
+
+module _ (P : List OutputLine → Type 0) (end : Option Refusal) (a b c : List ℕ → Type 0) where
+  -- all lines were written
+  pub printed : WritesUpTo P end a b → Writes (IsText (refused_line end)) b c → Writes (Prints P (is_refusal end)) a c
+  printed h k =
+      let all : Writes (IsText (h.lines ++ refused_line end)) a c = writes_more a b c h.lines (refused_line end) h.written k in
+      record {
+        text = all.text;
+        holds = record {
+          lines = h.lines ++ refused_line end;
+          holds = h.holds;
+          told = all.holds;
+          refused = ending end ∙ sym (accepted_then h.lines (refused_line end) h.accepted);
+        };
+        written = all.written;
+      }
+
+  -- a prefix of the last line was written
+  pub broken : WritesUpTo P end a b → WritesPrefix (IsText (refused_line end)) b c → WritesPrefix (PrintsSome P) a c
+  broken h k =
+      let all : WritesPrefix (IsText (h.lines ++ refused_line end)) a c = breaks_more a b c h.lines (refused_line end) h.written k in
+      record {
+        text = all.text;
+        holds = (list_any is_refused (h.lines ++ refused_line end), record { lines = h.lines ++ refused_line end; holds = h.holds; told = all.holds; refused = refl });
+        prefix = all.prefix;
+      }
+
+-- one fault at most was counted before the sink failed
+pub at_most_one : (E : Type 0) (old new : PoolState) (end : Option Refusal) → PagesHaveCause {E = E} old new (Ok end) → RisesByOne old.disk.faults new.disk.faults
+at_most_one E old new None h = inl h.counted
+at_most_one E old new (Some w) h = by_refusal w h where
+  by_refusal : (w : Refusal) → HasCause {T = ⊤} old new (Err w) → RisesByOne old.disk.faults new.disk.faults
+  by_refusal why.Device h = inr h.counted
+  by_refusal _ h = inl h.counted

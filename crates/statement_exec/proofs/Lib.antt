@@ -1,0 +1,17 @@
+-- an outcome from its checks
+pub mod Outcomes
+pub mod Refusals
+-- what the calls of a store do
+pub mod StoreCalls
+-- a load
+pub mod FileFaults
+pub mod LoadChecks
+pub mod LoadCalls
+-- the leaves side by side, and their lines
+pub mod LeafSteps
+pub mod Texts
+pub mod LeafLoop
+-- the leaves of a column
+pub mod ColumnTrees
+pub mod BlocksCalls
+pub mod Endings

@@ -1,0 +1,143 @@
+-- What a load does is the outcome of the model.
+use Rattle.std.proofs.Common.{◌≡◌, ℕ, ◌<◌, Bool, true, false, cond, List, [], ◌∷◌, length, Option, Some, None, refl, sym, ◌∙◌, ap, subst, true≢false}
+use Rattle.std.specs.Prelude.{Err, is_some}
+use Rattle.sand_base.specs.Faults.{last_count}
+use Rattle.sand_base.specs.Shelf.{Files}
+use Rattle.sand_base.specs.declared.refusal.Refusal.{Refusal}
+use Rattle.sand_base.specs.declared.refusal.Refusal.TheVariants as why
+use Rattle.sand_base.specs.declared.value.Value.{Value}
+use Rattle.page_pool.specs.Pool.{IsTold}
+use Rattle.sand_model.specs.Cursor.{Loaded as LoadedLine, Refused}
+use Rattle.sand_model.specs.Database.{Database, Relation, relation_named, changed_at, has_name}
+use Rattle.sand_model.specs.Outcome.{Rises, Outcome}
+use Rattle.sand_model.specs.Statement.{Statement, Load}
+use Rattle.sand_model.specs.StatementChecks.{Setting, IsSetting, FileRows, AreRows, HasBad, early, late, entered, file_rows, in_relation}
+use Rattle.ring_geom.proofs.Measured.{measured}
+use Rattle.sand_store.proofs.SchemaRows.{loaded_entered}
+use Rattle.sand_store.specs.Calls.{Refuses, HasCause, IsUnchanged, Loaded, LoadIsRefusedBy, loaded, load_early, load_late, alone, is_of_a_row}
+use Rattle.sand_store.specs.Catalog.{StoreState}
+use Rattle.sand_store.specs.Contents.{database}
+use Rattle.statement_exec.specs.Loading.{LoadOf, Yields, InSettings, IsRefusedEarly, shelf_at}
+use Rattle.statement_exec.specs.Moment.{moment_of, rises_between}
+use Rattle.statement_exec.specs.Performing.{Performs}
+use Rattle.statement_exec.proofs.Outcomes.{outcome_done, outcome_outside, outcome_early}
+use Rattle.statement_exec.proofs.Refusals.{refused, allowed, rose, Never, never_relation, no_file}
+use Rattle.statement_exec.proofs.StoreCalls.{same_database}
+
+-- a relation that is changed alike is the same afterwards
+changed_alike : (f g : Relation → Relation) (name : List ℕ) (d : Database) (r : Relation) → relation_named d name ≡ Some r → f r ≡ g r → changed_at name f d ≡ changed_at name g d
+changed_alike f g name [] r named same = refl
+changed_alike f g name (x ∷ d) r named same =
+    let go : (b : Bool) → cond b (Some x) (relation_named d name) ≡ Some r → cond b (f x ∷ d) (x ∷ changed_at name f d) ≡ cond b (g x ∷ d) (x ∷ changed_at name g d) =
+    elim [
+      | true ↦ λ e. let is : x ≡ r = some_same x r e in
+          ap (λ (y : Relation). y ∷ d) (subst (λ (y : Relation). f y ≡ g y) (sym is) same)
+      | false ↦ λ e. ap (λ (rest : Database). x ∷ rest) (changed_alike f g name d r e same)
+    ] in
+    go (has_name name x) named where
+      some_same : (x y : Relation) → Some x ≡ Some y → x ≡ y
+      some_same x y e = ap value e where
+        value : Option Relation → Relation
+        value None = x
+        value (Some a) = a
+
+-- the statement of a load
+abbrev pub load_statement : LoadOf → Statement
+load_statement load = Load load.relation load.file load.header
+
+module _ (old new : StoreState) (load : LoadOf) (files files' : Option Files) (shelf shelf' : ℕ) where
+  abbrev rises : Rises
+  rises = rises_between (moment_of old files shelf) (moment_of new files' shelf')
+
+  -- the late checks of the store are those of the model
+  late_is : (setting : Setting) (rows : List (List Value)) → Yields setting (alone (database old)) load rows
+      → load_late setting old load.relation rows ≡ late setting (alone (database old)) (load_statement load)
+  late_is setting rows y =
+      let of_model : late setting (alone (database old)) (load_statement load) ≡ (entered setting (file_rows setting load.file load.header y.relation) y.relation).0 = rw y.named refl in
+      let of_store : load_late setting old load.relation rows ≡ (loaded setting rows y.relation).0 = rw y.named refl in
+      let rows_are : (entered setting (file_rows setting load.file load.header y.relation) y.relation).0 ≡ (entered setting rows y.relation).0 =
+      ap (λ (xs : List (List Value)). (entered setting xs y.relation).0) y.rows_are in
+      of_store ∙ (ap (λ (p : Option Refusal × Relation). p.0) (loaded_entered setting rows y.relation y.of_schema) ∙ sym (of_model ∙ rows_are))
+
+  -- the rows were added
+  pub loaded_call : (rows : List (List Value)) (count : ℕ) → InSettings old.catalog files (λ setting state. Yields setting state load rows)
+      → Loaded old new load.relation rows count → Performs (load_statement load) (moment_of old files shelf) (moment_of new files' shelf') (LoadedLine count ∷ [])
+  loaded_call rows count given h = λ told disk few setting s.
+      let y : Yields setting (alone (database old)) load rows = given old.pool shelf setting s in
+      let passes : late setting (alone (database old)) (load_statement load) ≡ None = sym (late_is setting rows y) ∙ h.late told setting s.is s.limits in
+      let d : Database = database old in
+      let by_rows : (Relation → Relation) = λ r. (loaded setting rows r).1 in
+      let by_file : (Relation → Relation) = λ r. (entered setting (file_rows setting load.file load.header y.relation) r).1 in
+      let same : by_rows y.relation ≡ by_file y.relation =
+      ap (λ (p : Option Refusal × Relation). p.1) (loaded_entered setting rows y.relation y.of_schema)
+      ∙ sym (ap (λ (xs : List (List Value)). (entered setting xs y.relation).1) y.rows_are) in
+      let becomes : database new ≡ changed_at load.relation by_file d = h.becomes told setting s.is s.limits ∙ changed_alike by_rows by_file load.relation d y.relation y.named same in
+      let counted : count ≡ length (file_rows setting load.file load.header y.relation) = h.counted ∙ sym (ap (λ (xs : List (List Value)). length xs) y.rows_are) in
+      outcome_done setting rises (alone d) (load_statement load) (LoadedLine count ∷ []) (alone (database new)) y.passes passes
+      (y.relation, y.named, (ap (λ (n : ℕ). LoadedLine n ∷ []) counted, ap alone becomes))
+
+  -- a row was refused, or the outside refused
+  pub refused_load : {T : Type 0} (rows : List (List Value)) (w : Refusal) → InSettings old.catalog files (λ setting state. Yields setting state load rows)
+      → LoadIsRefusedBy old load.relation rows w → IsUnchanged old new → HasCause {T = T} old.pool new.pool (Err w)
+      → Performs (load_statement load) (moment_of old files shelf) (moment_of new files' shelf') (Refused w ∷ [])
+  refused_load {T} rows w given h same cause = λ told disk few setting s.
+      let y : Yields setting (alone (database old)) load rows = given old.pool shelf setting s in
+      let before : load_early old load.relation ≡ None = rw y.named refl in
+      let r : Refuses (IsTold old.pool) is_of_a_row (early setting (alone (database old)) (load_statement load)) (late setting (alone (database old)) (load_statement load)) w =
+      subst (λ (b : Option Refusal). Refuses (IsTold old.pool) is_of_a_row b (late setting (alone (database old)) (load_statement load)) w) (before ∙ sym y.passes)
+      (subst (λ (b : Option Refusal). Refuses (IsTold old.pool) is_of_a_row (load_early old load.relation) b w) (late_is setting rows y) (h setting s.is s.limits)) in
+      let told' : IsTold new.pool = same.told ∙ told in
+      let n : w ≡ why.File → ⊥ = λ e.
+      let k : Refuses (IsTold old.pool) is_of_a_row (early setting (alone (database old)) (load_statement load)) (late setting (alone (database old)) (load_statement load)) why.File = rw e at r in
+      true≢false (sym (ap (λ (o : Option Refusal). is_some o) k) ∙ ap (λ (o : Option Refusal). is_some o) y.passes) in
+      refused setting rises (alone (database old)) (load_statement load) (Refused w ∷ []) (alone (database new)) (IsTold old.pool) told is_of_a_row refl w
+      (allowed {T = T} rises old.pool new.pool w cause told' disk refl n) r (refl, ap alone (same_database old new same told))
+
+-- a setting of the store, whose files' rows are none
+abbrev some_setting : StoreState → Setting
+some_setting old = record {
+  gap = measured.0;
+  limits = old.catalog.limits;
+  files = λ name. None;
+  rows_of = λ bytes schema header. HasBad 0 0;
+  tells = false;
+}
+
+abbrev is_records : FileRows → Bool
+is_records (AreRows rows) = true
+is_records (HasBad row column) = false
+
+is_some_setting : (old : StoreState) → IsSetting (some_setting old)
+is_some_setting old = record {
+  gap = measured.1;
+  rows_of = λ bytes schema header rows e. absurd (true≢false (sym (ap is_records e)));
+}
+
+never_early : (d : Database) (name : List ℕ) → Never (in_relation d name (λ relation. None))
+never_early d name = never_relation d name (λ relation. None) (λ r. refl)
+
+-- the store's load of rows asks for no file
+pub not_of_file : (old : StoreState) (name : List ℕ) (rows : List (List Value)) (w : Refusal) → LoadIsRefusedBy old name rows w → w ≡ why.File → ⊥
+not_of_file old name rows w h =
+    no_file (IsTold old.pool) is_of_a_row (load_early old name) (load_late (some_setting old) old name rows) w refl (never_early (database old) name)
+    (h (some_setting old) (is_some_setting old) refl)
+
+pub shelf_stays : (shelf : ℕ) (w : Refusal) → (w ≡ why.File → ⊥) → shelf ≡ shelf_at shelf w
+shelf_stays shelf why.File n = absurd (n refl)
+shelf_stays shelf _ n = refl
+
+module _ (old : StoreState) (load : LoadOf) (files files' : Option Files) (shelf shelf' : ℕ) where
+  abbrev reading : Rises
+  reading = rises_between (moment_of old files shelf) (moment_of old files' shelf')
+
+  by_refusal : (setting : Setting) (w : Refusal) → IsRefusedEarly setting (alone (database old)) load w → shelf' ≡ shelf_at shelf w → shelf' < last_count
+      → Outcome setting reading (alone (database old)) (load_statement load) (Refused w ∷ []) (alone (database old))
+  by_refusal setting why.Memory h e few = outcome_outside setting reading (alone (database old)) (load_statement load) (Refused why.Memory ∷ []) (alone (database old)) why.Memory tt (refl, refl)
+  by_refusal setting why.File h e few =
+      outcome_outside setting reading (alone (database old)) (load_statement load) (Refused why.File ∷ []) (alone (database old)) why.File (h, rose shelf shelf' e few) (refl, refl)
+  by_refusal setting w h e few = outcome_early setting reading (alone (database old)) (load_statement load) (Refused w ∷ []) (alone (database old)) w h tt (refl, refl)
+
+  -- an early check refuses, or the shelf fails
+  pub refused_early : (w : Refusal) → InSettings old.catalog files (λ setting state. IsRefusedEarly setting state load w) → shelf' ≡ shelf_at shelf w
+      → Performs (load_statement load) (moment_of old files shelf) (moment_of old files' shelf') (Refused w ∷ [])
+  refused_early w given counted = λ told disk few setting s. by_refusal setting w (given old.pool shelf setting s) counted few

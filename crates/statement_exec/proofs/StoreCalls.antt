@@ -1,0 +1,113 @@
+-- What the calls of a store do is the outcome of the model.
+use Rattle.std.proofs.Common.{◌≡◌, ◌||◌, ◌&&◌, not, ℕ, Bool, true, false, List, [], ◌∷◌, length, map, Option, Some, None, refl, ◌∙◌, ap}
+use Rattle.std.specs.Prelude.{◌-◌, nat_le, nat_lt, Ok, Err}
+use Rattle.sand_base.specs.declared.kind.Kind.{Kind}
+use Rattle.sand_base.specs.declared.refusal.Refusal.{Refusal}
+use Rattle.sand_base.specs.declared.refusal.Refusal.TheVariants as why
+use Rattle.sand_base.specs.declared.value.Value.{Value}
+use Rattle.sand_base.specs.Shape.{is_spatial}
+use Rattle.sand_model.specs.Checks.{check_relation, is_indexed}
+use Rattle.sand_model.specs.Cursor.{Accepted, Id, Refused}
+use Rattle.sand_model.specs.Database.{Database, Relation, relation_named}
+use Rattle.sand_model.specs.Kept.{has_twice, most_relations, longest_row}
+use Rattle.sand_model.specs.Outcome.{Rises, uses_pages}
+use Rattle.sand_model.specs.Plan.{Column}
+use Rattle.sand_model.specs.RowSize.{row_size}
+use Rattle.sand_model.specs.Statement.{Statement, Create, Insert, Delete, Index}
+use Rattle.sand_model.specs.StatementChecks.{Setting, refused_where, is_there, in_relation, in_column, is_row_of, no_cursor, check_length, check_ids}
+use Rattle.sand_store.specs.Calls.{HasCause, IsUnchanged, IsRefusedBy, Created, Inserted, Deleted, Indexed, early_at, late_at, alone}
+use Rattle.sand_store.specs.Catalog.{StoreState}
+use Rattle.sand_store.specs.Contents.{database}
+use Rattle.page_pool.specs.Pool.{IsTold}
+use Rattle.statement_exec.specs.Moment.{moment_of, rises_between}
+use Rattle.statement_exec.specs.Performing.{Changes}
+use Rattle.statement_exec.specs.declared.reply.Reply.TheVariants as reply
+use Rattle.statement_exec.proofs.Outcomes.{outcome_done}
+use Rattle.statement_exec.proofs.Refusals.{refused, allowed, no_file, Never, never_where, never_first, never_relation, never_column}
+
+pub created : (old new : StoreState) (name : List ℕ) (schema : List (List ℕ × Kind)) → Created old new name schema
+    → Changes (Create name schema) old new (Ok reply.Accepted)
+created old new name schema h = λ files shelf told disk few setting s.
+    let p = h.passes setting s.is s.limits in
+    outcome_done setting (rises_between (moment_of old files shelf) (moment_of new files shelf)) (alone (database old)) (Create name schema) (Accepted ∷ []) (alone (database new))
+    p.0 (p.1 told) (refl, ap alone (h.becomes told setting.gap s.is.gap))
+
+pub inserted : (old new : StoreState) (name : List ℕ) (row : List Value) (id : ℕ) → Inserted old new name row id
+    → Changes (Insert name row) old new (Ok (reply.Id id))
+inserted old new name row id h = λ files shelf told disk few setting s.
+    let p = h.passes setting s.is s.limits in
+    outcome_done setting (rises_between (moment_of old files shelf) (moment_of new files shelf)) (alone (database old)) (Insert name row) (Id id ∷ []) (alone (database new))
+    p.0 (p.1 told) (h.next.0, h.next.1.0, (ap (λ (n : ℕ). Id n ∷ []) h.next.1.1, ap alone (h.becomes told setting.gap s.is.gap)))
+
+pub deleted : (old new : StoreState) (name : List ℕ) (id : ℕ) → Deleted old new name id
+    → Changes (Delete name id) old new (Ok reply.Accepted)
+deleted old new name id h = λ files shelf told disk few setting s.
+    let p = h.passes setting s.is s.limits in
+    outcome_done setting (rises_between (moment_of old files shelf) (moment_of new files shelf)) (alone (database old)) (Delete name id) (Accepted ∷ []) (alone (database new))
+    p.0 (p.1 told) (refl, ap alone (h.becomes told setting.gap s.is.gap))
+
+pub indexed : (old new : StoreState) (column : Column) (threshold : Option ℕ) → Indexed old new column threshold
+    → Changes (Index column threshold) old new (Ok reply.Accepted)
+indexed old new column threshold h = λ files shelf told disk few setting s.
+    let p = h.passes setting s.is s.limits in
+    outcome_done setting (rises_between (moment_of old files shelf) (moment_of new files shelf)) (alone (database old)) (Index column threshold) (Accepted ∷ []) (alone (database new))
+    p.0 (p.1 told) (refl, ap alone (h.becomes told setting.gap s.is.gap))
+
+-- a database whose pages and catalog are as before is as before
+pub same_database : (old new : StoreState) → IsUnchanged old new → IsTold old.pool → database new ≡ database old
+same_database old new h told = rw (h.catalog, h.pages told) refl
+
+-- a refusal of a call is one of its statement
+pub refused_call : {T : Type 0} (old new : StoreState) (statement : Statement) (is_late : Refusal → Bool) (w : Refusal) → uses_pages statement ≡ true
+    → is_late why.File ≡ false → ((setting : Setting) → Never (early_at setting old statement)) → IsUnchanged old new
+    → IsRefusedBy is_late old statement w → HasCause {T = T} old.pool new.pool (Err w) → Changes statement old new (Err w)
+refused_call {T} old new statement is_late w uses late_file never same h cause = λ files shelf told disk few setting s.
+    let told' : IsTold new.pool = same.told ∙ told in
+    let rises : Rises = rises_between (moment_of old files shelf) (moment_of new files shelf) in
+    let r = h setting s.is s.limits in
+    let n : w ≡ why.File → ⊥ = no_file (IsTold old.pool) is_late (early_at setting old statement) (late_at setting old statement) w late_file (never setting) r in
+    refused setting rises (alone (database old)) statement (Refused w ∷ []) (alone (database new)) (IsTold old.pool) told is_late uses w
+    (allowed {T = T} rises old.pool new.pool w cause told' disk refl n) r (refl, ap alone (same_database old new same told))
+
+-- no check of these statements asks for a file
+
+never_cursor : (d : Database) → Never (no_cursor (alone d))
+never_cursor d = refl
+
+-- the check of a relation's name, which is its own
+never_known : (d : Database) (name : List ℕ) → Never (check_relation d name)
+never_known d name =
+    let go : (o : Option Relation) → relation_named d name ≡ o → Never (check_relation d name) = elim [ None ↦ λ e. rw e refl | Some r ↦ λ e. rw e refl ] in
+    go (relation_named d name) refl
+
+pub never_create : (old : StoreState) (name : List ℕ) (schema : List (List ℕ × Kind)) (setting : Setting) → Never (early_at setting old (Create name schema))
+never_create old name schema setting =
+    let taken : Bool = is_there (relation_named (database old) name) || has_twice (map (λ (column : List ℕ × Kind). column.0) schema) in
+    let many : Bool = nat_le most_relations (length (database old)) in
+    never_first (refused_where taken why.NameTaken) (refused_where many why.TooManyRelations ∷ no_cursor (alone (database old)) ∷ []) (never_where taken why.NameTaken refl)
+    (never_first (refused_where many why.TooManyRelations) (no_cursor (alone (database old)) ∷ []) (never_where many why.TooManyRelations refl) refl)
+
+pub never_delete : (old : StoreState) (name : List ℕ) (id : ℕ) (setting : Setting) → Never (early_at setting old (Delete name id))
+never_delete old name id setting =
+    never_first (check_relation (database old) name) (no_cursor (alone (database old)) ∷ []) (never_known (database old) name) refl
+
+pub never_insert : (old : StoreState) (name : List ℕ) (row : List Value) (setting : Setting) → Never (early_at setting old (Insert name row))
+never_insert old name row setting =
+    let d : Database = database old in
+    let of_kinds : Option Refusal = in_relation d name (λ relation. refused_where (not (is_row_of relation.schema row)) why.WrongKind) in
+    let long : Bool = nat_lt longest_row (row_size row) in
+    let ids : Option Refusal = in_relation d name (check_ids setting.limits) in
+    never_first of_kinds (no_cursor (alone d) ∷ check_length row ∷ ids ∷ [])
+    (never_relation d name (λ relation. refused_where (not (is_row_of relation.schema row)) why.WrongKind) (λ r. never_where (not (is_row_of r.schema row)) why.WrongKind refl))
+    (never_first (check_length row) (ids ∷ []) (never_where long why.TupleTooLong refl)
+    (never_first ids [] (never_relation d name (check_ids setting.limits) (λ r. never_where (nat_le setting.limits.ids (r.next - 1)) why.IdsSpent refl)) refl))
+
+pub never_index : (old : StoreState) (column : Column) (threshold : Option ℕ) (setting : Setting) → Never (early_at setting old (Index column threshold))
+never_index old column threshold setting =
+    let d : Database = database old in
+    let spatial : Relation → Kind → Option Refusal = λ relation kind. refused_where (is_there threshold && not (is_spatial kind)) why.WrongKind in
+    let there : Relation → Kind → Option Refusal = λ relation kind. refused_where (is_indexed relation column.column) why.IndexThere in
+    never_first (in_column d column spatial) (in_column d column there ∷ no_cursor (alone d) ∷ [])
+    (never_column d column spatial (λ r k. never_where (is_there threshold && not (is_spatial k)) why.WrongKind refl))
+    (never_first (in_column d column there) (no_cursor (alone d) ∷ [])
+    (never_column d column there (λ r k. never_where (is_indexed r column.column) why.IndexThere refl)) refl)

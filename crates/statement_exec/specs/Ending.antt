@@ -1,0 +1,47 @@
+-- A statement whose lines are printed as they come, up to its end or to a refusal, whose line is still to be printed.
+use Rattle.std.specs.Prelude.{◌≡◌, ◌⊎◌, ⊤, ℕ, Bool, true, false, List, [], ◌∷◌, ◌++◌, Option, Some, None, Result, Ok, Err}
+use Rattle.std.specs.List.{list_any}
+use Rattle.sand_base.specs.Faults.{next_count}
+use Rattle.sand_base.specs.Shelf.{Files}
+use Rattle.sand_base.specs.declared.refusal.Refusal.{Refusal}
+use Rattle.page_pool.specs.Pool.{PoolState}
+use Rattle.sand_model.specs.Cursor.{Cursor, OutputLine, Refused}
+use Rattle.sand_model.specs.OutputText.{IsText, is_refused}
+use Rattle.sand_model.specs.Statement.{Statement}
+use Rattle.output_text.specs.Writing.{Writes}
+use Rattle.sand_store.specs.Calls.{HasCause}
+use Rattle.sand_store.specs.Catalog.{CatalogView}
+use Rattle.statement_exec.specs.Moment.{beside}
+use Rattle.statement_exec.specs.Performing.{Performs}
+
+-- a statement that changes no relation was carried out over a catalog, beside any cursors and whatever the shelf
+abbrev pub Reads : Statement → CatalogView → PoolState → PoolState → List OutputLine → Type 0
+Reads statement catalog old new lines =
+    (cursors : List Cursor) (files : Option Files) (shelf : ℕ) → Performs statement (beside cursors catalog old files shelf) (beside cursors catalog new files shelf) lines
+
+-- the line of a refusal, where there is one
+abbrev pub refused_line : Option Refusal → List OutputLine
+refused_line None = []
+refused_line (Some refusal) = Refused refusal ∷ []
+
+-- lines without a refusal were written, and with the line that is still to be written P holds of them
+pub record WritesUpTo (P : List OutputLine → Type 0) (end : Option Refusal) (before now : List ℕ → Type 0) : Type 0 where
+  pub lines : List OutputLine
+  pub written : Writes (IsText lines) before now
+  pub accepted : list_any is_refused lines ≡ false
+  pub holds : P (lines ++ refused_line end)
+
+-- something is refused
+abbrev pub is_refusal : Option Refusal → Bool
+is_refusal None = false
+is_refusal (Some refusal) = true
+
+-- the count stays, or one fault was counted
+abbrev pub RisesByOne : ℕ → ℕ → Type 0
+RisesByOne before now = (now ≡ before) ⊎ (now ≡ next_count before)
+
+-- The pages have their cause: that of the refusal, where there is one. Where the sink failed, the disk may have failed before.
+abbrev pub PagesHaveCause : {E : Type 0} → PoolState → PoolState → Result (Option Refusal) E → Type 0
+PagesHaveCause old new (Ok None) = HasCause {T = ⊤} old new (Ok tt)
+PagesHaveCause old new (Ok (Some refusal)) = HasCause {T = ⊤} old new (Err refusal)
+PagesHaveCause old new (Err e) = RisesByOne old.disk.faults new.disk.faults

@@ -1,0 +1,58 @@
+-- What reading the rows of a data file tells of the shelf's files.
+use Rattle.std.specs.Prelude.{◌≡◌, ⊤, ℕ, ◌<◌, ◌≤◌, Bool, List, length, Option, Some, Result, Ok, Err}
+use Rattle.csv_load.specs.FileRows.{file_rows}
+use Rattle.csv_load.specs.declared.fault.LoadFault.{LoadFault}
+use Rattle.csv_load.specs.declared.fault.LoadFault.TheVariants as fault
+use Rattle.sand_base.specs.declared.kind.Kind.{Kind}
+use Rattle.sand_base.specs.declared.refusal.Refusal.{Refusal}
+use Rattle.sand_base.specs.declared.refusal.Refusal.TheVariants as why
+use Rattle.sand_base.specs.Faults.{next_count}
+use Rattle.sand_base.specs.Shelf.{Files}
+use Rattle.sand_model.specs.StatementChecks.{FileRows, HasBad, longest_file}
+
+-- a data file, by its name, the columns of its rows, and whether a header stands before them
+pub record DataFile : Type 0 where
+  pub name : List ℕ
+  pub schema : List (List ℕ × Kind)
+  pub header : Bool
+
+-- the file is there, isn't too long, and its records are these
+pub record HasRecords (file : DataFile) (rows : FileRows) (files : Files) : Type 0 where
+  pub bytes : List ℕ
+  pub there : files file.name ≡ Some bytes
+  pub short : length bytes ≤ longest_file
+  pub records : file_rows bytes file.schema file.header ≡ rows
+
+-- the file is there, and too long
+pub record IsTooLong (file : DataFile) (files : Files) : Type 0 where
+  pub bytes : List ℕ
+  pub there : files file.name ≡ Some bytes
+  pub long : longest_file < length bytes
+
+-- of the files that the shelf tells
+abbrev pub OfTold : Option Files → (Files → Type 0) → Type 0
+OfTold files P = (told : Files) → files ≡ Some told → P told
+
+-- why a file gives no rows: a fault of the shelf or of memory says nothing of it
+abbrev pub GivesNone : Option Files → DataFile → LoadFault → Type 0
+GivesNone files file fault.Memory = ⊤
+GivesNone files file fault.File = ⊤
+GivesNone files file fault.FileTooLong = OfTold files (IsTooLong file)
+GivesNone files file (fault.BadRecord row column) = OfTold files (HasRecords file (HasBad row column))
+
+-- the shelf's count after this fault: one more where the shelf failed
+abbrev pub shelf_at : ℕ → LoadFault → ℕ
+shelf_at before fault.File = next_count before
+shelf_at before _ = before
+
+-- the shelf's count after a file was read: the same at Ok
+abbrev pub shelf_after : {A : Type 0} → ℕ → Result A LoadFault → ℕ
+shelf_after before (Ok a) = before
+shelf_after before (Err fault) = shelf_at before fault
+
+-- a fault of a file, as a statement is refused by it
+abbrev pub refusal_of : LoadFault → Refusal
+refusal_of fault.Memory = why.Memory
+refusal_of fault.File = why.File
+refusal_of fault.FileTooLong = why.FileTooLong
+refusal_of (fault.BadRecord row column) = why.BadRecord row column

@@ -1,0 +1,12 @@
+-- Read in this order. What statements are carried out on.
+pub mod Moment
+-- What carrying one out does, and what is printed of it.
+pub mod Performing
+pub mod Printing
+pub mod Ending
+-- What a load reads before it touches a page.
+pub mod FileReading
+pub mod Loading
+-- The leaves of a quadtree.
+pub mod LeafLines
+pub mod LeafWalk

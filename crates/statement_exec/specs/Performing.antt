@@ -1,0 +1,35 @@
+-- What carrying a statement out does: the outcome of the model, where the disk and the shelf tell and no count of faults is at its end.
+use Rattle.std.specs.Prelude.{ℕ, ◌<◌, IsTrue, List, [], ◌∷◌, Option, Result, Ok, Err}
+use Rattle.sand_base.specs.Faults.{last_count}
+use Rattle.sand_base.specs.Shelf.{Files}
+use Rattle.sand_base.specs.declared.refusal.Refusal.{Refusal}
+use Rattle.sand_model.specs.Cursor.{OutputLine, Accepted, Id, Loaded, Refused}
+use Rattle.sand_model.specs.Outcome.{Outcome}
+use Rattle.sand_model.specs.Statement.{Statement}
+use Rattle.sand_model.specs.StatementChecks.{Setting}
+use Rattle.sand_store.specs.Catalog.{StoreState}
+use Rattle.statement_exec.specs.Moment.{Moment, moment_of, rises_between, IsSettingOf}
+use Rattle.statement_exec.specs.declared.reply.Reply.{Reply}
+use Rattle.statement_exec.specs.declared.reply.Reply.TheVariants as reply
+
+-- the statement led from one moment to another and gave these lines, as the outcome of the model says, in every setting of the first
+abbrev pub Performs : Statement → Moment → Moment → List OutputLine → Type 0
+Performs statement old new lines =
+    IsTrue old.told → new.disk < last_count → new.shelf < last_count → (setting : Setting) → IsSettingOf old setting
+    → Outcome setting (rises_between old new) old.state statement lines new.state
+
+-- the line of a reply
+abbrev pub line_of : Reply → OutputLine
+line_of reply.Accepted = Accepted
+line_of (reply.Id id) = Id id
+line_of (reply.Loaded rows) = Loaded rows
+
+-- the line of a statement that changes relations: that of its reply, or of its refusal
+abbrev pub line_of_answer : Result Reply Refusal → OutputLine
+line_of_answer (Ok reply) = line_of reply
+line_of_answer (Err refusal) = Refused refusal
+
+-- a statement that touches no data file was carried out on a store and was answered so, whatever the shelf
+abbrev pub Changes : Statement → StoreState → StoreState → Result Reply Refusal → Type 0
+Changes statement old new answer =
+    (files : Option Files) (shelf : ℕ) → Performs statement (moment_of old files shelf) (moment_of new files shelf) (line_of_answer answer ∷ [])

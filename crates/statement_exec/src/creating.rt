@@ -1,0 +1,26 @@
+ghost use Rattle.sand_base.specs.InRange.{IsSchemaInRange};
+ghost use Rattle.sand_model.specs.Statement.{Create};
+ghost use Rattle.sand_store.specs.Calls.{Carries, HasCause};
+ghost use Rattle.statement_exec.specs.Performing.{Changes};
+
+use crate::Reply;
+use page_pool::Disk;
+use sand_base::{Label, Refusal, Schema};
+use sand_store::Store;
+
+/// `create`: an empty relation, the last one. After a refusal all is as it was.
+pub fn create<D: Disk>(
+    store: &mut Store<D>,
+    name: &Label,
+    columns: Schema,
+) -> Result<Reply, Refusal>
+    requires { IsSchemaInRange columns }
+    ensures performs { Changes (Create name.now columns) store.old store.new result }
+    ensures carries { Carries store.old store.new }
+    ensures cause { HasCause store.old.pool store.new.pool result }
+{
+    match store.create(name.as_str(), columns) {
+        Ok(()) => Ok(Reply::Accepted),
+        Err(why) => Err(why),
+    }
+}

@@ -1,0 +1,20 @@
+ghost use Rattle.sand_model.specs.Statement.{Delete};
+ghost use Rattle.sand_store.specs.Calls.{Carries, HasCause};
+ghost use Rattle.statement_exec.specs.Performing.{Changes};
+
+use crate::Reply;
+use page_pool::Disk;
+use sand_base::{Label, Refusal};
+use sand_store::Store;
+
+/// `delete`: one row fewer. After a refusal all is as it was.
+pub fn delete<D: Disk>(store: &mut Store<D>, name: &Label, id: u32) -> Result<Reply, Refusal>
+    ensures performs { Changes (Delete name.now id) store.old store.new result }
+    ensures carries { Carries store.old store.new }
+    ensures cause { HasCause store.old.pool store.new.pool result }
+{
+    match store.delete(name.as_str(), id) {
+        Ok(()) => Ok(Reply::Accepted),
+        Err(why) => Err(why),
+    }
+}

@@ -1,0 +1,27 @@
+ghost use Rattle.std.specs.Prelude.{◌≤◌, IfSome};
+ghost use Rattle.sand_model.specs.Statement.{Index};
+ghost use Rattle.sand_store.specs.Calls.{Carries, HasCause};
+ghost use Rattle.statement_exec.specs.Performing.{Changes};
+
+use crate::Reply;
+use page_pool::Disk;
+use sand_base::{Label, Refusal};
+use sand_store::Store;
+
+/// `index`: a column gets an index, with the rows that are there. After a refusal all is as it was.
+pub fn index<D: Disk>(
+    store: &mut Store<D>,
+    relation: &Label,
+    column: &Label,
+    threshold: Option<u8>,
+) -> Result<Reply, Refusal>
+    requires { IfSome threshold (λ t. (1 ≤ t) × (t ≤ 64)) }
+    ensures performs { Changes (Index (record { relation = relation.now; column = column.now }) threshold) store.old store.new result }
+    ensures carries { Carries store.old store.new }
+    ensures cause { HasCause store.old.pool store.new.pool result }
+{
+    match store.index(relation.as_str(), column.as_str(), threshold) {
+        Ok(()) => Ok(Reply::Accepted),
+        Err(why) => Err(why),
+    }
+}

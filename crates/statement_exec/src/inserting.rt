@@ -1,0 +1,22 @@
+ghost use Rattle.sand_base.specs.InRange.{IsRowInRange};
+ghost use Rattle.sand_model.specs.Statement.{Insert};
+ghost use Rattle.sand_store.specs.Calls.{Carries, HasCause};
+ghost use Rattle.statement_exec.specs.Performing.{Changes};
+
+use crate::Reply;
+use page_pool::Disk;
+use sand_base::{Label, Refusal, Row};
+use sand_store::Store;
+
+/// `insert`: one more row, which is told its id. After a refusal all is as it was.
+pub fn insert<D: Disk>(store: &mut Store<D>, name: &Label, values: Row) -> Result<Reply, Refusal>
+    requires { IsRowInRange values }
+    ensures performs { Changes (Insert name.now values) store.old store.new result }
+    ensures carries { Carries store.old store.new }
+    ensures cause { HasCause store.old.pool store.new.pool result }
+{
+    match store.insert(name.as_str(), values) {
+        Ok(id) => Ok(Reply::Id(id)),
+        Err(why) => Err(why),
+    }
+}
