@@ -1,0 +1,63 @@
+-- Each answer of the search is one of the source: its row, the end, or a refusal. A want of memory for the row takes nothing.
+use Rattle.best_first.specs.Visits.{told_pages, state}
+use Rattle.pair_source.specs.Joins.{join_view}
+use Rattle.pair_source.proofs.JoinOverPages.{asked, row_over, end_over, fault_over, still_over}
+use Rattle.pair_source.proofs.join_source.JoinSourceRowSource.next.Goals as goal
+
+-- memory is refused for the row, and the search is not asked
+pub returns-in_default-clause-step : goal.returns-in_default-clause-step
+returns-in_default-clause-step g c =
+    let s = c.args.self.now.search in
+    still_over s.hierarchy.left.number s.hierarchy.right.number (told_pages c.args.desk.now)
+    (join_view s.hierarchy.left_shapes.relation.now s.hierarchy.left_shapes.column s.hierarchy.left s.hierarchy.right_shapes.relation.now s.hierarchy.right_shapes.column s.hierarchy.right s.hierarchy.ceiling)
+    (state s.frontier.queue.items s.frontier.last s.frontier.counts c.args.desk.now) _
+
+-- where something was taken the search stands
+pub next-requires : goal.next-requires
+next-requires g c =
+    let s = c.args.self.now.search in
+    asked (told_pages c.args.desk.now)
+    (join_view s.hierarchy.left_shapes.relation.now s.hierarchy.left_shapes.column s.hierarchy.left s.hierarchy.right_shapes.relation.now s.hierarchy.right_shapes.column s.hierarchy.right s.hierarchy.ceiling)
+    (state s.frontier.queue.items s.frontier.last s.frontier.counts c.args.desk.now) c.requires.stands
+
+-- a row
+pub returns-in-Ok-Some-clause-step : goal.returns-in-Ok-Some-clause-step
+returns-in-Ok-Some-clause-step g c =
+    let s = c.args.self.now.search in
+    let n = c.next.new.self in
+    row_over s.hierarchy.left.number s.hierarchy.right.number (told_pages c.args.desk.now)
+    (join_view s.hierarchy.left_shapes.relation.now s.hierarchy.left_shapes.column s.hierarchy.left s.hierarchy.right_shapes.relation.now s.hierarchy.right_shapes.column s.hierarchy.right s.hierarchy.ceiling)
+    (join_view n.hierarchy.left_shapes.relation.now n.hierarchy.left_shapes.column n.hierarchy.left n.hierarchy.right_shapes.relation.now n.hierarchy.right_shapes.column n.hierarchy.right n.hierarchy.ceiling)
+    (state s.frontier.queue.items s.frontier.last s.frontier.counts c.args.desk.now)
+    (state n.frontier.queue.items n.frontier.last n.frontier.counts c.next.new.desk)
+    c.in-Ok-Some.hit c.pair_answer.result
+    (λ i. let h = c.next.ensures.hierarchy i in join_view h.left_shapes.relation.now h.left_shapes.column h.left h.right_shapes.relation.now h.right_shapes.column h.right h.ceiling)
+    (c.pair_answer.ensures.gap, c.pair_answer.ensures.ids, c.pair_answer.ensures.values)
+    (rw c.in-Ok-Some.field-0-is at c.in-Ok-Some.ensures.last) (rw c.in-Ok-Some.field-0-is at c.in-Ok-Some.ensures.row) (rw c.in-Ok-Some.field-0-is at c.in-Ok-Some.ensures.visits)
+
+-- the end
+pub returns-in-Ok-None-clause-step : goal.returns-in-Ok-None-clause-step
+returns-in-Ok-None-clause-step g c =
+    let s = c.args.self.now.search in
+    let n = c.next.new.self in
+    end_over s.hierarchy.left.number s.hierarchy.right.number (told_pages c.args.desk.now)
+    (join_view s.hierarchy.left_shapes.relation.now s.hierarchy.left_shapes.column s.hierarchy.left s.hierarchy.right_shapes.relation.now s.hierarchy.right_shapes.column s.hierarchy.right s.hierarchy.ceiling)
+    (join_view n.hierarchy.left_shapes.relation.now n.hierarchy.left_shapes.column n.hierarchy.left n.hierarchy.right_shapes.relation.now n.hierarchy.right_shapes.column n.hierarchy.right n.hierarchy.ceiling)
+    (state s.frontier.queue.items s.frontier.last s.frontier.counts c.args.desk.now)
+    (state n.frontier.queue.items n.frontier.last n.frontier.counts c.next.new.desk)
+    (λ i. let h = c.next.ensures.hierarchy i in join_view h.left_shapes.relation.now h.left_shapes.column h.left h.right_shapes.relation.now h.right_shapes.column h.right h.ceiling)
+    (rw c.in-Ok-None.field-0-is at c.in-Ok-None.ensures.last) (rw c.in-Ok-None.field-0-is at c.in-Ok-None.ensures.row) (rw c.in-Ok-None.field-0-is at c.in-Ok-None.ensures.visits)
+
+-- a refusal
+pub returns-in-Err-clause-step : goal.returns-in-Err-clause-step
+returns-in-Err-clause-step g c =
+    let s = c.args.self.now.search in
+    let n = c.next.new.self in
+    fault_over s.hierarchy.left.number s.hierarchy.right.number (told_pages c.args.desk.now)
+    (join_view s.hierarchy.left_shapes.relation.now s.hierarchy.left_shapes.column s.hierarchy.left s.hierarchy.right_shapes.relation.now s.hierarchy.right_shapes.column s.hierarchy.right s.hierarchy.ceiling)
+    (join_view n.hierarchy.left_shapes.relation.now n.hierarchy.left_shapes.column n.hierarchy.left n.hierarchy.right_shapes.relation.now n.hierarchy.right_shapes.column n.hierarchy.right n.hierarchy.ceiling)
+    (state s.frontier.queue.items s.frontier.last s.frontier.counts c.args.desk.now)
+    (state n.frontier.queue.items n.frontier.last n.frontier.counts c.next.new.desk)
+    c.in-Err.fault
+    (λ i. let h = c.next.ensures.hierarchy i in join_view h.left_shapes.relation.now h.left_shapes.column h.left h.right_shapes.relation.now h.right_shapes.column h.right h.ceiling)
+    c.in-Err.ensures.last c.in-Err.ensures.visits

@@ -1,0 +1,137 @@
+-- The sources of plans that join two columns: where they stand when so much of them was taken.
+use Rattle.std.specs.Prelude.{◌≡◌, ℕ, ◌+◌, ◌≤◌, List, length, take, drop, true, Option}
+use Rattle.std.specs.declared.cmp.Ordering.{Ordering}
+use Rattle.z_code.specs.declared.block.Block.{Block}
+use Rattle.sand_model.specs.Answer.{source}
+use Rattle.sand_model.specs.Database.{Database, shapes_of}
+use Rattle.sand_model.specs.Plan as plan
+use Rattle.sand_model.specs.Plan.{Plan, Column}
+use Rattle.sand_model.specs.Reach.{Counts, quadtree_of, counts_at, innermost, reach_of_last}
+use Rattle.sand_model.specs.Sources.{Found, column_shapes, joined, first_of_each}
+use Rattle.sand_model.specs.Taken.{Taken}
+use Rattle.sand_model.specs.Tree.{listings}
+use Rattle.page_pool.specs.Disk.{PageMap}
+use Rattle.pmr_tree.specs.declared.quadtree.Pmr.{Pmr}
+use Rattle.sand_base.specs.declared.limits.Limits.{Limits}
+use Rattle.sand_store.specs.Catalog.{RelationView, IsLimits, IsColumnAt, most_listings}
+use Rattle.sand_store.specs.Contents.{rows_in}
+use Rattle.sand_store.specs.Paths.{IsTreeOf}
+use Rattle.sand_store.specs.Standing.{TableStands, RelationStands}
+use Rattle.best_first.specs.Frontier.{Stands}
+use Rattle.best_first.specs.Visits.{IsCounted}
+use Rattle.best_first.specs.declared.counts.Counts.{Counts as Numbers}
+use Rattle.best_first.specs.declared.hit.Hit.{Hit}
+use Rattle.best_first.specs.declared.item.Item.{Item}
+use Rattle.rank_cursor.specs.Answers.{AreGiven}
+use Rattle.semi_join.specs.FirstPairs.{AreGivenUpTo}
+use Rattle.semi_join.specs.LeftRows.{LeftRows}
+use Rattle.semi_join.specs.Listed.{pairs_left}
+use Rattle.dist_join.specs.Joining.{Side, Joining, IsSound, join_meaning}
+use Rattle.dist_join.specs.OverPages.{PageSide, paged, joining_over}
+use Rattle.plan_rows.specs.Rows.{plan_measure}
+use Rattle.plan_rows.specs.SourceSteps.{nothing_taken}
+use Rattle.rank_source.specs.Rankings.{IsColumnOf}
+
+-- ---- what is joined
+
+-- a column of shapes: its relation, its place there, and its quadtree
+pub record ColumnView : Type 0 where
+  pub relation : RelationView
+  pub at : ℕ
+  pub tree : Pmr
+
+-- two columns that are joined, with the ceiling
+pub record JoinView : Type 0 where
+  pub left : ColumnView
+  pub right : ColumnView
+  pub ceiling : Option ℕ
+
+-- the join of two columns, each by its relation, its place and its quadtree
+abbrev pub join_view : RelationView → ℕ → Pmr → RelationView → ℕ → Pmr → Option ℕ → JoinView
+join_view one at tree two place other ceiling = record {
+  left = record { relation = one; at = at; tree = tree };
+  right = record { relation = two; at = place; tree = other };
+  ceiling = ceiling;
+}
+
+-- the shapes of a column over pages, with its quadtree
+abbrev pub side_in : ColumnView → PageSide
+side_in c =
+    paged (λ pages. shapes_of c.at (rows_in pages c.relation)) (λ pages. TableStands pages c.relation.schema c.relation.file) (c.relation.file.tree.height + 1) c.tree
+
+-- the join of the columns over pages
+abbrev pub joining_in : JoinView → PageMap → Joining
+joining_in v pages = joining_over (side_in v.left) (side_in v.right) v.ceiling pages
+
+-- A side of a join has the column's shapes and its quadtree, with no more listings than a quadtree may have.
+pub record IsSideOf (side : Side) (d : Database) (column : Column) : Type 0 where
+  pub shapes : column_shapes d column ≡ side.shapes
+  pub tree : quadtree_of d column ≡ side.tree
+  pub few : listings side.tree ≤ most_listings
+
+-- the pairs of rows of a join, told in lowest terms
+abbrev pub pairs_in : Joining → List Found
+pairs_in j = joined plan_measure j.ceiling j.left.shapes j.right.shapes
+
+-- the counts of the model, of so many pairs of places and rough pairs
+abbrev pub counts_by : Numbers → Counts
+counts_by n = record { blocks = 0; pairs = n.visited; geometries = n.fetched }
+
+-- A search over a join stands where it has taken all that its counts count.
+pub record IsSearched (cmp : Block × Block → Block × Block → Ordering) (j : Joining) (held : List (Item (Block × Block))) (last : Option Hit) (counts : Numbers) : Type 0 where
+  pub sound : IsSound j
+  pub done : List (Item (Block × Block))
+  pub stands : Stands cmp (join_meaning j) held last done
+  pub counted : IsCounted done counts
+
+-- ---- where a source stands
+
+-- So much was taken of a join: it is that of two columns, the search stands, and its rows are the first of the joined ones.
+pub record HasTaken (cmp : Block × Block → Block × Block → Ordering) (j : Joining) (held : List (Item (Block × Block))) (last : Option Hit) (counts : Numbers) (d : Database) (p : Plan) (t : Taken) : Type 0 where
+  pub left : Column
+  pub right : Column
+  pub is : p ≡ plan.Join left right j.ceiling
+  pub left_side : IsSideOf j.left d left
+  pub right_side : IsSideOf j.right d right
+  pub searched : IsSearched cmp j held last counts
+  pub rows : AreGiven (pairs_in j) t.rows last
+
+-- So much was taken of a semi-join: it is that of two columns, the search stands, the rows were the first of the first pairs, as many left rows as are not given wait, and where none waits the counts are those of the last row.
+pub record HasTakenFirsts (cmp : Block × Block → Block × Block → Ordering) (j : Joining) (held : List (Item (Block × Block))) (last : Option Hit) (counts : Numbers) (lefts : LeftRows) (d : Database) (p : Plan) (t : Taken) : Type 0 where
+  pub left : Column
+  pub right : Column
+  pub is : p ≡ plan.Semi left right j.ceiling
+  pub left_side : IsSideOf j.left d left
+  pub right_side : IsSideOf j.right d right
+  pub searched : IsSearched cmp j held last counts
+  pub given : AreGivenUpTo (join_meaning j) last lefts
+  pub rows : pairs_left lefts.given (pairs_in j) ≡ drop t.rows (first_of_each (pairs_in j))
+  pub few : t.rows ≤ length (first_of_each (pairs_in j))
+  pub waiting : t.rows + lefts.waiting ≡ length j.left.shapes
+  pub spent : lefts.waiting ≡ 0 → counts_by counts ≡ counts_at plan_measure d (innermost p) (reach_of_last (take t.rows (source plan_measure d p)))
+
+-- ---- how a source begins
+
+-- both relations stand over the pages, within limits, and the database has their columns under these names
+pub record AreColumnsOf (v : JoinView) (pages : PageMap) (d : Database) (left right : Column) : Type 0 where
+  pub limits : Limits
+  pub small : IsLimits limits
+  pub left_stands : RelationStands pages limits v.left.relation
+  pub right_stands : RelationStands pages limits v.right.relation
+  pub left_column : IsColumnOf pages v.left.relation v.left.at d left
+  pub right_column : IsColumnOf pages v.right.relation v.right.at d right
+
+-- the quadtrees are those of the columns
+abbrev pub HaveTrees : JoinView → Type 0
+HaveTrees v = IsTreeOf v.left.relation v.left.at v.left.tree × IsTreeOf v.right.relation v.right.at v.right.tree
+
+-- Nothing was taken of a join, over all pages where its relations stand.
+abbrev pub Begins : (PageMap → Database → Plan → Taken → Type 0) → JoinView → Type 0
+Begins At v =
+    HaveTrees v → (pages : PageMap) (d : Database) (left right : Column) → AreColumnsOf v pages d left right → At pages d (plan.Join left right v.ceiling) nothing_taken
+
+-- Nothing was taken of a semi-join, over all pages where its relations stand; its left column is one of shapes.
+abbrev pub BeginsFirsts : (PageMap → Database → Plan → Taken → Type 0) → JoinView → Type 0
+BeginsFirsts At v =
+    HaveTrees v → IsColumnAt v.left.relation.schema v.left.at true → (pages : PageMap) (d : Database) (left right : Column) → AreColumnsOf v pages d left right
+    → At pages d (plan.Semi left right v.ceiling) nothing_taken

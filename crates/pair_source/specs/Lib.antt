@@ -1,0 +1,2 @@
+-- joins and semi-joins as the sources of plans
+pub mod Joins

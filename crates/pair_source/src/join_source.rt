@@ -1,0 +1,74 @@
+ghost use Rattle.std.specs.Prelude.{◌≡◌, ℕ, ◌<◌, ◌^◌, IfSome, IfOk};
+ghost use Rattle.best_first.specs.Steps.{steps};
+ghost use Rattle.dist_join.specs.OverPages.{pair_weight};
+ghost use Rattle.sand_model.specs.Reach.{no_counts};
+ghost use Rattle.plan_rows.specs.Rows.{counts_of};
+ghost use Rattle.pair_source.specs.Joins.{join_view, joining_in, HasTaken, Begins};
+
+use crate::pair_answer::{pair_answer, room};
+use crate::pair_search::pair_search;
+use best_first::{BestFirst, Item};
+use dist_join::PairTree;
+use page_pool::{Desk, Disk, PageFault};
+use plan_rows::{Answer, RowSource, SourceCounts};
+use rank_queue::PairQueue;
+use rank_source::TreeColumn;
+use sand_base::NoMemory;
+use sand_store::ColumnShapes;
+use std::alloc::Global;
+use z_code::Block;
+
+/// The pairs of rows of two columns by their distance, nearest first.
+#[derive(Drop)]
+pub struct JoinSource<'s> {
+    search: BestFirst<PairTree<'s, ColumnShapes<'s>>, PairQueue<Item<(Block, Block)>>>,
+}
+
+impl<'s> JoinSource<'s> {
+    /// The join of two columns, with a greatest distance where there is a ceiling. No page is read.
+    pub fn start(
+        alloc: Global,
+        left: TreeColumn<'s>,
+        right: TreeColumn<'s>,
+        ceiling: Option<u32>,
+    ) -> Result<JoinSource<'s>, NoMemory>
+        requires small { IfSome ceiling (λ most. most < 2 ^ 22) }
+        ensures counts { IfOk result (λ s. counts_of (⟦<JoinSource<'s> as RowSource>⟧.seen s) ≡ no_counts) }
+        ensures begun { IfOk result (λ s. Begins (⟦<JoinSource<'s> as RowSource>⟧.At s) (join_view left.entry.relation.now left.entry.column left.entry.tree.now right.entry.relation.now right.entry.column right.entry.tree.now ceiling)) }
+    {
+        let search = pair_search(alloc, left, right, ceiling)?;
+        Ok(JoinSource { search })
+    }
+}
+
+impl<'s> RowSource for JoinSource<'s> {
+    ghost At = { λ s pages d p t. HasTaken ⟦<(Block, Block) as Ord>⟧.cmp (joining_in (join_view s.search.hierarchy.left_shapes.relation.now s.search.hierarchy.left_shapes.column s.search.hierarchy.left s.search.hierarchy.right_shapes.relation.now s.search.hierarchy.right_shapes.column s.search.hierarchy.right s.search.hierarchy.ceiling) pages) s.search.frontier.queue.items s.search.frontier.last s.search.frontier.counts d p t };
+
+    ghost seen = { λ s. record { blocks = 0; pairs = s.search.frontier.counts.visited; geometries = s.search.frontier.counts.fetched } };
+
+    ghost steps = { λ s. steps pair_weight s.search.frontier.queue.items };
+
+    fn next<D: Disk>(
+        &mut self,
+        alloc: Global,
+        desk: &mut Desk<D>,
+    ) -> Result<Option<Answer>, PageFault> {
+        // Room for the ids comes first: where memory is refused for it, nothing is taken.
+        let Ok(ids) = room(alloc) else {
+            return Err(PageFault::Memory);
+        };
+        match self.search.next(desk) {
+            Ok(Some(hit)) => Ok(Some(pair_answer(alloc, ids, hit))),
+            Ok(None) => Ok(None),
+            Err(fault) => Err(fault),
+        }
+    }
+
+    fn counts(&self) -> SourceCounts {
+        SourceCounts {
+            blocks: 0,
+            pairs: self.search.visited(),
+            geometries: self.search.fetched(),
+        }
+    }
+}

@@ -1,0 +1,83 @@
+ghost use Rattle.std.specs.Prelude.{◌≡◌, ◌<◌, ◌^◌, IfSome, IfOk};
+ghost use Rattle.sand_model.specs.Reach.{no_counts};
+ghost use Rattle.best_first.specs.Steps.{steps};
+ghost use Rattle.dist_join.specs.OverPages.{pair_weight};
+ghost use Rattle.plan_rows.specs.Rows.{counts_of};
+ghost use Rattle.pair_source.specs.Joins.{join_view, joining_in, HasTakenFirsts, BeginsFirsts};
+
+use crate::pair_answer::{pair_answer, room};
+use crate::pair_search::pair_search;
+use best_first::Item;
+use dist_join::PairTree;
+use page_pool::{Desk, Disk, PageFault};
+use plan_rows::{Answer, RowSource, SourceCounts};
+use rank_queue::PairQueue;
+use rank_source::TreeColumn;
+use sand_base::NoMemory;
+use sand_store::ColumnShapes;
+use semi_join::Semi;
+use std::alloc::Global;
+use z_code::Block;
+
+/// The first pair of each row of the left column, the one with the nearest row of the right column, nearest first.
+#[derive(Drop)]
+pub struct SemiSource<'s> {
+    semi: Semi<PairTree<'s, ColumnShapes<'s>>, PairQueue<Item<(Block, Block)>>>,
+}
+
+impl<'s> SemiSource<'s> {
+    /// The semi-join of two columns, with a greatest distance where there is a ceiling. It takes one bit for each id
+    /// of the left relation. No page is read.
+    pub fn start(
+        alloc: Global,
+        left: TreeColumn<'s>,
+        right: TreeColumn<'s>,
+        ceiling: Option<u32>,
+    ) -> Result<SemiSource<'s>, NoMemory>
+        requires small { IfSome ceiling (λ most. most < 2 ^ 22) }
+        ensures counts { IfOk result (λ s. counts_of (⟦<SemiSource<'s> as RowSource>⟧.seen s) ≡ no_counts) }
+        ensures begun { IfOk result (λ s. BeginsFirsts (⟦<SemiSource<'s> as RowSource>⟧.At s) (join_view left.entry.relation.now left.entry.column left.entry.tree.now right.entry.relation.now right.entry.column right.entry.tree.now ceiling)) }
+    {
+        let search = pair_search(alloc, left, right, ceiling)?;
+        let semi = Semi::start(
+            alloc,
+            search,
+            left.relation.rows(),
+            left.relation.greatest(),
+        )?;
+        Ok(SemiSource { semi })
+    }
+}
+
+impl<'s> RowSource for SemiSource<'s> {
+    ghost At = { λ s pages d p t. HasTakenFirsts ⟦<(Block, Block) as Ord>⟧.cmp (joining_in (join_view s.semi.engine.hierarchy.left_shapes.relation.now s.semi.engine.hierarchy.left_shapes.column s.semi.engine.hierarchy.left s.semi.engine.hierarchy.right_shapes.relation.now s.semi.engine.hierarchy.right_shapes.column s.semi.engine.hierarchy.right s.semi.engine.hierarchy.ceiling) pages) s.semi.engine.frontier.queue.items s.semi.engine.frontier.last s.semi.engine.frontier.counts s.semi.lefts d p t };
+
+    ghost seen = { λ s. record { blocks = 0; pairs = s.semi.engine.frontier.counts.visited; geometries = s.semi.engine.frontier.counts.fetched } };
+
+    ghost steps = { λ s. steps pair_weight s.semi.engine.frontier.queue.items };
+
+    fn next<D: Disk>(
+        &mut self,
+        alloc: Global,
+        desk: &mut Desk<D>,
+    ) -> Result<Option<Answer>, PageFault> {
+        // Room for the ids comes first: where memory is refused for it, nothing is taken.
+        let Ok(ids) = room(alloc) else {
+            return Err(PageFault::Memory);
+        };
+        match self.semi.next(desk) {
+            Ok(Some(hit)) => Ok(Some(pair_answer(alloc, ids, hit))),
+            Ok(None) => Ok(None),
+            Err(fault) => Err(fault),
+        }
+    }
+
+    fn counts(&self) -> SourceCounts {
+        let search = self.semi.engine();
+        SourceCounts {
+            blocks: 0,
+            pairs: search.visited(),
+            geometries: search.fetched(),
+        }
+    }
+}
