@@ -35,12 +35,12 @@ rises_rows (row ∷ rows) h = (behind rows h.0, rises_rows rows h.1) where
   behind [] a = tt
   behind (other ∷ others) a = (a.0, behind others a.1)
 
-each_all : (P : ℕ × List Value → Type 0) (rows : Rows) → All P rows → Each P rows
+pub each_all : (P : ℕ × List Value → Type 0) (rows : Rows) → All P rows → Each P rows
 each_all P [] h = tt
 each_all P (row ∷ rows) h = (All-head P row rows h, each_all P rows (All-tail P row rows h))
 
 -- the index has the entries of the rows
-keeps_of : (m : PageMap) (l : LookUp) → Holds m l → l.spot.relation.now.next ≤ 4294967296 → Keeps (store_of m) l.spot.column (rows_in m l.spot.relation.now) l.index
+pub keeps_of : (m : PageMap) (l : LookUp) → Holds m l → l.spot.relation.now.next ≤ 4294967296 → Keeps (store_of m) l.spot.column (rows_in m l.spot.relation.now) l.index
 keeps_of m l h s = record {
   is = h.index.is;
   entries = h.index.entries;

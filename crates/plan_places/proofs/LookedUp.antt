@@ -38,7 +38,7 @@ pub record Keeps (m : Store) (at : ℕ) (rows : Rows) (index : AttrIndex) : Type
   pub small : Each (λ row. row.0 < 2 ^ 32) rows
 
 -- so do the values of a column
-in_order : (at : ℕ) (rows : Rows) → RowsRise rows → InOrder (values_at at rows)
+pub in_order : (at : ℕ) (rows : Rows) → RowsRise rows → InOrder (values_at at rows)
 in_order at [] h = tt
 in_order at (row ∷ rows) h =
     let rest = in_order at rows h.1 in
@@ -48,7 +48,7 @@ in_order at (row ∷ rows) h =
     go (element row.1 at) refl
 
 -- the numbers of the entries of a column
-numbers_are : (at : ℕ) (rows : Rows) → map entry_number (entries_of at rows) ≡ map (λ (p : ℕ × Value). key_of p.1 * 2 ^ 32 + p.0) (values_at at rows)
+pub numbers_are : (at : ℕ) (rows : Rows) → map entry_number (entries_of at rows) ≡ map (λ (p : ℕ × Value). key_of p.1 * 2 ^ 32 + p.0) (values_at at rows)
 numbers_are at [] = refl
 numbers_are at (row ∷ rows) =
     let rest = numbers_are at rows in

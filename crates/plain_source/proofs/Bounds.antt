@@ -1,0 +1,237 @@
+-- The rows of a column of ints within bounds, one after another.
+use Rattle.std.proofs.Common.{◌≡◌, ℕ, ℤ, zero, suc, ◌+◌, ◌-◌, ◌*◌, ◌/◌, ◌%◌, ◌^◌, ◌<◌, ◌≤◌, ◌<ℤ◌, ◌≤ℤ◌, Bool, true, false, ◌&&◌, ◌||◌, cond, List, [], ◌∷◌, map, filter, refl, sym, ◌∙◌, ap, ap₂, subst, inl, inr, arith, true≢false, All}
+use Rattle.std.specs.Prelude.{Option, Some, None, Ok, Err, IfSome, pos, negsuc, nat_lt, nat_le, is_some, int_lt, int_le, IsTrue}
+use Rattle.std.specs.Cmp.{int_ranks}
+use Rattle.std.specs.Ordering.{int_cmp, MatchOrdering}
+use Rattle.std.specs.declared.cmp.Ordering.{Ordering}
+use Rattle.std.specs.declared.cmp.Ordering.TheVariants as ordering
+use Rattle.std.specs.Int.{w64}
+use Rattle.std.proofs.Common.{to_z, of_z, FitsSigned}
+use Rattle.std.proofs.lemmas.Int.{ints, to_z-of_z}
+use Rattle.std.proofs.lemmas.Bool.Decides.{leb_tells}
+use Rattle.std.proofs.lemmas.List.Elements.{All-head, All-tail}
+use Rattle.code_btree.specs.Items.{Each}
+use Rattle.code_btree.specs.Tree.{tree_items, times}
+use Rattle.code_btree.proofs.Lists.{Each-map, Each-zip}
+use Rattle.code_btree.proofs.Orders.{lt_is, lt_not}
+use Rattle.page_pool.specs.Desk.{DeskState}
+use Rattle.page_pool.specs.Disk.{PageMap}
+use Rattle.page_pool.specs.Pool.{PoolState, IsTold}
+use Rattle.page_pool.specs.declared.fault.PageFault.{PageFault}
+use Rattle.pmr_tree.specs.Quadtree.{store_of}
+use Rattle.sand_base.specs.InRange.{IsIntInRange, IsValueInRange, IsRowInRange}
+use Rattle.sand_base.specs.Shape.{value_kind, same_kind}
+use Rattle.sand_base.specs.declared.kind.Kind.{Kind}
+use Rattle.sand_base.specs.declared.kind.Kind.TheVariants as kind
+use Rattle.sand_base.specs.declared.shape.Shape.TheVariants as shape
+use Rattle.sand_base.specs.declared.value.Value.{Value}
+use Rattle.sand_base.specs.declared.value.Value.TheVariants as value
+use Rattle.sand_model.specs.Answer.{number_cmp, is_between, plain_row}
+use Rattle.sand_model.specs.Database.{Database, element}
+use Rattle.sand_model.specs.Operators.{PlanRow}
+use Rattle.sand_model.specs.Plan as plan
+use Rattle.sand_model.specs.Plan.{Plan, Column}
+use Rattle.sand_model.specs.Reach.{no_counts}
+use Rattle.sand_model.specs.Sources.{sorted}
+use Rattle.sand_model.specs.Taken.{Taken}
+use Rattle.tuple_codec.specs.Decoding.{IsRowFor}
+use Rattle.attr_index.specs.Entries.{Entry, IntEntry, entry_number, int_entries, is_after, between_entry}
+use Rattle.attr_index.specs.Index.{IsIntIndex, entries_at}
+use Rattle.attr_index.specs.Key.{IsIntKey}
+use Rattle.attr_index.proofs.Ints.{int_lt_not, int_le_not, int_le_is}
+use Rattle.attr_index.proofs.Pairs.{Each-filter, entries_in_order}
+use Rattle.sand_store.specs.Contents.{rows_in, relation_in}
+use Rattle.sand_store.specs.Standing.{kind_at, entries_of}
+use Rattle.sand_store.proofs.IndexGrowth.{kind_of_value}
+use Rattle.best_first.specs.Visits.{told_pages}
+use Rattle.plan_places.specs.Indexed.{IsLookUp}
+use Rattle.plan_places.specs.Steps.{values_at}
+use Rattle.plan_places.specs.declared.look_up.LookUp.{LookUp}
+use Rattle.plan_places.proofs.Above.{Pairs, InOrder}
+use Rattle.plan_places.proofs.ColumnValues.{values_are, each_value}
+use Rattle.plan_places.proofs.EqualIds.{small_ids}
+use Rattle.plan_places.proofs.LookedUp.{Keeps, in_order, numbers_are}
+use Rattle.plan_places.proofs.LookUps.{keeps_of, each_all}
+use Rattle.plan_rows.specs.Rows.{row_of}
+use Rattle.plan_rows.specs.SourceSteps.{SourceStep, nothing_taken}
+use Rattle.plan_rows.specs.declared.answer.Answer.{Answer}
+use Rattle.plain_source.specs.Plain.{left_of, HasInts, lies_within, row_of_number, place_after, left_from, below_by, steps_left, IsPickBetween}
+use Rattle.plain_source.proofs.PlainSteps.{IsPlain, Reads, row_step, end_step, fault_step, where_told}
+use Rattle.plain_source.proofs.Sorting.{IsIntPair, numbers, each_sorted}
+use Rattle.plain_source.proofs.Between.{sorted_numbers, rows_of_pairs, IsIntEntry, filter_none, left_none, IsLeft, left_some}
+
+-- ---- the values of a column of ints
+
+-- a value of the kind of ints is one
+int_of_kind : (v : Value) → value_kind v ≡ kind.Int → (n : ℤ) × (v ≡ value.Int n)
+int_of_kind (value.Int n) e = (n, refl)
+int_of_kind (value.Text bytes) e = absurd (true≢false (sym (ap (λ (k : Kind). same_kind k kind.Int) e)))
+int_of_kind (value.Shape (shape.Point p)) e = absurd (true≢false (sym (ap (λ (k : Kind). same_kind k kind.Int) e)))
+int_of_kind (value.Shape (shape.Segment s)) e = absurd (true≢false (sym (ap (λ (k : Kind). same_kind k kind.Int) e)))
+int_of_kind (value.Shape (shape.Polygon r)) e = absurd (true≢false (sym (ap (λ (k : Kind). same_kind k kind.Int) e)))
+
+some_is : (x y : Value) → Some x ≡ Some y → x ≡ y
+some_is x y e = ap value_or e where
+  value_or : Option Value → Value
+  value_or None = x
+  value_or (Some n) = n
+
+none_some : {A : Type 0} (x : A) → None ≡ Some x → ⊥
+none_some x e = true≢false (sym (ap (λ o. is_some o) e))
+
+range_of : (row : List Value) (at : ℕ) (v : Value) → IsRowInRange row → element row at ≡ Some v → IsValueInRange v
+range_of [] at v h e = absurd (none_some v e)
+range_of (x ∷ row) zero v h e = subst IsValueInRange (some_is x v e) (All-head IsValueInRange x row h)
+range_of (x ∷ row) (suc at) v h e = range_of row at v (All-tail IsValueInRange x row h) e
+
+int_pair : (schema : List (List ℕ × Kind)) (at : ℕ) (row : ℕ × List Value) (v : Value) → IsRowFor schema row.1 → kind_at schema at ≡ Some kind.Int → row.0 < 2 ^ 32 → element row.1 at ≡ Some v → IsIntPair (row.0, v)
+int_pair schema at row v h k s e =
+    let number = int_of_kind v (kind_of_value schema row.1 at v kind.Int h.of_schema e k) in
+    (number.0, (number.1, (subst IsValueInRange number.1 (range_of row.1 at v h.in_range e), s)))
+
+-- the entries of an index of ints
+int_entries_of : (m : PageMap) (l : LookUp) → IsIntIndex (store_of m) l.index → Each IsIntEntry (entries_at (store_of m) l.index)
+int_entries_of m l h = Each-zip (λ e. IsIntKey e.0) (λ e. e.1 < 2 ^ 32) IsIntEntry (λ e k s. (k, s)) (entries_at (store_of m) l.index) h.ints (small_ids (tree_items (store_of m) l.index.tree))
+
+ints_index : (low high : ℤ) (last : Option IntEntry) (l : LookUp) (m : PageMap) (d : Database) (p : Plan) (t : Taken) → IsPickBetween l low high last m d p t → IsIntIndex (store_of m) l.index
+ints_index low high last l m d p t h = h.look_up.holds.index.ints h.ints
+
+-- what was asked where the desk tells its pages
+asked : (desk : DeskState) (F : PageMap → Type 0) → IfSome (told_pages desk) F → IsTold desk.pool → F desk.pool.pages
+asked desk F =
+    let go : (b : Bool) → desk.pool.disk.told ≡ b → IfSome (cond b (Some desk.pool.pages) None) F → b ≡ true → F desk.pool.pages = elim [ true ↦ λ e f t. f | false ↦ λ e f t. absurd (true≢false (sym t)) ] in
+    go desk.pool.disk.told refl
+
+-- where nothing was taken all rows within the bounds are left
+pub between_begun : (m : PageMap) (l : LookUp) (d : Database) (column : Column) (low high : ℤ) (greatest : ℕ) → IsLookUp d column l m → HasInts l → FitsSigned w64 low → FitsSigned w64 high → greatest ≡ l.spot.relation.now.next - 1 → greatest < 2 ^ 32
+    → IsPickBetween l low high None m d (plan.PickBetween column low high) nothing_taken
+between_begun m l d column low high greatest h i lf hf g s =
+    let rows : List (ℕ × List Value) = rows_in m l.spot.relation.now in
+    let at : ℕ = l.spot.column in
+    let ps : Pairs = values_at at rows in
+    let es : List Entry = entries_at (store_of m) l.index in
+    let kept = keeps_of m l h.holds (omega (arith, g, s)) in
+    let fitting : Each (λ (row : ℕ × List Value). IsRowFor l.spot.relation.now.schema row.1) rows = each_all (λ row. IsRowFor l.spot.relation.now.schema row.1) rows h.holds.stands.1.table.rows in
+    let pairs : Each IsIntPair ps =
+    each_value IsIntPair at rows (Each-zip (λ row. IsRowFor l.spot.relation.now.schema row.1) (λ row. row.0 < 2 ^ 32) (λ row. (v : Value) → element row.1 at ≡ Some v → IsIntPair (row.0, v))
+    (λ row f b v e. int_pair l.spot.relation.now.schema at row v f i b e) rows fitting kept.small) in
+    let counted : (n : ℕ) → times n (map entry_number es) ≡ times n (numbers ps) = λ n. kept.entries n ∙ ap (λ (ns : List ℕ). times n ns) (numbers_are at rows) in
+    let part : Pairs = filter (λ p. is_between low high p.1) ps in
+    let small : Each (λ (p : ℕ × Value). p.0 < 2 ^ 32) (sorted number_cmp part) =
+    each_sorted (λ p. p.0 < 2 ^ 32) part (Each-filter (λ p. p.0 < 2 ^ 32) (λ p. is_between low high p.1) ps (Each-map IsIntPair (λ p. p.0 < 2 ^ 32) (λ p k. k.1.1.1) ps pairs)) in
+    let kept_numbers : List ℕ = filter (lies_within low high) (map entry_number es) in
+    let all : Each (λ n. 0 ≤ n) kept_numbers = each_any kept_numbers in record {
+      column = column;
+      is = refl;
+      look_up = h;
+      ints = i;
+      low_fits = lf;
+      high_fits = hf;
+      last_fits = tt;
+      left =
+        ap (λ (xs : Pairs). map (λ (p : ℕ × Value). plain_row p.0) (sorted number_cmp (filter (λ p. is_between low high p.1) xs))) (values_are d column (relation_in m l.spot.relation.now) at h.is.relation h.is.at)
+        ∙ (rows_of_pairs (sorted number_cmp part) small
+        ∙ ap (λ (ns : List ℕ). map row_of_number ns) (sorted_numbers low high ps es pairs (in_order at rows kept.rise) (entries_in_order (tree_items (store_of m) l.index.tree) kept.is.tree.at.ascending) counted
+        ∙ sym (filter_none 0 kept_numbers all)));
+    }
+  where
+    each_any : (ns : List ℕ) → Each (λ n. 0 ≤ n) ns
+    each_any [] = tt
+    each_any (n ∷ ns) = (omega arith, each_any ns)
+
+-- ---- a call
+
+plain : (l : LookUp) (low high : ℤ) (last : Option IntEntry) (m : PageMap) (d : Database) (p : Plan) (t : Taken) → IsPickBetween l low high last m d p t → IsPlain p
+plain l low high last m d p t h = (let P : Plan → Type 0 = IsPlain in let one : P (plan.PickBetween h.column low high) = tt in subst P (sym h.is) one)
+
+-- what the index gives, for bounds as an i64 holds them
+abbrev pub Finds : LookUp → ℤ → ℤ → Option IntEntry → PageMap → Option IntEntry → Type 0
+Finds l low high last pages found = found ≡ between_entry (to_z w64 (of_z w64 low)) (to_z w64 (of_z w64 high)) last (int_entries (entries_at (store_of pages) l.index))
+
+-- which is the entry for these bounds, where they are in range
+finds : (l : LookUp) (low high : ℤ) (last : Option IntEntry) (m : PageMap) (found : Option IntEntry) → FitsSigned w64 low → FitsSigned w64 high → Finds l low high last m found
+    → between_entry low high last (int_entries (entries_at (store_of m) l.index)) ≡ found
+finds l low high last m found a b e =
+    sym (e ∙ ap₂ (λ (x y : ℤ). between_entry x y last (int_entries (entries_at (store_of m) l.index))) (to_z-of_z w64 low a) (to_z-of_z w64 high b))
+
+-- a row
+pub between_row : (l : LookUp) (low high : ℤ) (last : Option IntEntry) (x : IntEntry) (a : Answer) (old new : DeskState) → (IsTold old.pool → Finds l low high last old.pool.pages (Some x)) → row_of a ≡ plain_row x.1 → Reads old new
+    → IfSome (told_pages old) (λ pages. (d : Database) (p : Plan) (t : Taken) → IsPickBetween l low high last pages d p t → SourceStep d p t no_counts no_counts old new (Ok (Some a)) (λ u. IsPickBetween l low high (Some x) pages d p u))
+between_row l low high last x a old new gives is reads =
+    let F : PageMap → Type 0 = λ pages. (d : Database) (p : Plan) (t : Taken) → IsPickBetween l low high last pages d p t → SourceStep d p t no_counts no_counts old new (Ok (Some a)) (λ u. IsPickBetween l low high (Some x) pages d p u) in
+    where_told old F (λ told d p t h.
+        let m : PageMap = old.pool.pages in
+        let es : List Entry = entries_at (store_of m) l.index in
+        let ints = ints_index low high last l m d p t h in
+        let first : IsLeft low high (place_after last) x es =
+        left_some low high last x es h.last_fits (int_entries_of m l ints) (entries_in_order (tree_items (store_of m) l.index.tree) ints.index.tree.at.ascending) (finds l low high last m (Some x) h.low_fits h.high_fits (gives told)) in
+        row_step d p t a (row_of_number first.number) (map row_of_number (left_from low high (place_after (Some x)) es)) old new (λ u. IsPickBetween l low high (Some x) m d p u) (plain l low high last m d p t h)
+        (h.left ∙ ap (λ (ns : List ℕ). map row_of_number ns) first.first) (is ∙ ap plain_row (sym first.id)) reads
+        (λ u left. record { column = h.column; is = h.is; look_up = h.look_up; ints = h.ints; low_fits = h.low_fits; high_fits = h.high_fits; last_fits = first.fit; left = left }))
+
+-- the end
+pub between_end : (l : LookUp) (low high : ℤ) (last : Option IntEntry) (old new : DeskState) → (IsTold old.pool → Finds l low high last old.pool.pages None) → Reads old new
+    → IfSome (told_pages old) (λ pages. (d : Database) (p : Plan) (t : Taken) → IsPickBetween l low high last pages d p t → SourceStep d p t no_counts no_counts old new (Ok None) (λ u. IsPickBetween l low high last pages d p u))
+between_end l low high last old new gives reads =
+    let F : PageMap → Type 0 = λ pages. (d : Database) (p : Plan) (t : Taken) → IsPickBetween l low high last pages d p t → SourceStep d p t no_counts no_counts old new (Ok None) (λ u. IsPickBetween l low high last pages d p u) in
+    where_told old F (λ told d p t h.
+        let m : PageMap = old.pool.pages in
+        let es : List Entry = entries_at (store_of m) l.index in
+        let none : map row_of_number (left_from low high (place_after last) es) ≡ [] =
+        ap (λ (ns : List ℕ). map row_of_number ns) (left_none low high last es h.last_fits (int_entries_of m l (ints_index low high last l m d p t h)) (finds l low high last m None h.low_fits h.high_fits (gives told))) in
+        end_step d p t old new (λ u. IsPickBetween l low high last m d p u) (plain l low high last m d p t h) (h.left ∙ none) reads
+        (λ u left. record { column = h.column; is = h.is; look_up = h.look_up; ints = h.ints; low_fits = h.low_fits; high_fits = h.high_fits; last_fits = h.last_fits; left = left ∙ sym none }))
+
+-- ---- how many steps there may be
+
+below_le : (x y h : ℤ) → x ≤ℤ y → below_by y h ≤ below_by x h
+below_le (pos x) (pos y) (pos h) l = omega (arith, ints)
+below_le (pos x) (pos y) (negsuc h) l = omega arith
+below_le (pos x) (negsuc y) h l = absurd (omega (arith, ints))
+below_le (negsuc x) (pos y) (pos h) l = omega (arith, ints)
+below_le (negsuc x) (pos y) (negsuc h) l = omega arith
+below_le (negsuc x) (negsuc y) (pos h) l = omega (arith, ints)
+below_le (negsuc x) (negsuc y) (negsuc h) l = omega (arith, ints)
+
+below_lt : (x y h : ℤ) → x <ℤ y → y ≤ℤ h → below_by y h < below_by x h
+below_lt (pos x) (pos y) (pos h) l k = omega (arith, ints)
+below_lt (pos x) (pos y) (negsuc h) l k = absurd (omega (arith, ints))
+below_lt (pos x) (negsuc y) h l k = absurd (omega (arith, ints))
+below_lt (negsuc x) (pos y) (pos h) l k = omega (arith, ints)
+below_lt (negsuc x) (pos y) (negsuc h) l k = absurd (omega (arith, ints))
+below_lt (negsuc x) (negsuc y) (pos h) l k = omega (arith, ints)
+below_lt (negsuc x) (negsuc y) (negsuc h) l k = omega (arith, ints)
+
+-- an entry within the bounds after the last one leaves fewer
+pub steps_fall : (low high : ℤ) (last : Option IntEntry) (x : IntEntry) → low ≤ℤ x.0 → x.0 ≤ℤ high → is_after last x ≡ true → x.1 < 2 ^ 32 → steps_left low high (Some x) < steps_left low high last
+steps_fall low high None x l k a s = (let b = below_le low x.0 high l in omega (arith, b))
+steps_fall low high (Some a) x l k after s = go (int_cmp a.0 x.0) refl (int_ranks a.0 x.0) where
+  go : (o : Ordering) → int_cmp a.0 x.0 ≡ o → MatchOrdering o (a.0 <ℤ x.0) (a.0 ≡ x.0) (x.0 <ℤ a.0) → steps_left low high (Some x) < steps_left low high (Some a)
+  go ordering.Less e r = (let b = below_lt a.0 x.0 high r k in omega (arith, b))
+  go ordering.Equal e r =
+      let same : a.0 ≡ x.0 = r in
+      let b : below_by a.0 high ≡ below_by x.0 high = ap (λ (n : ℤ). below_by n high) same in
+      let test : nat_lt a.1 x.1 ≡ true = sym (rw (int_lt_not a.0 x.0 (omega (arith, ints, same)), int_le_is a.0 x.0 (omega (arith, ints, same))) refl) ∙ after in
+      elim (leb_tells (suc a.1) x.1) [
+        | inl z ↦ omega (arith, b, z.1, s)
+        | inr z ↦ absurd (true≢false (sym test ∙ z.0))
+      ]
+  go ordering.Greater e r =
+      let less : x.0 <ℤ a.0 = r in
+      let test : false ≡ true = sym (rw (int_lt_not a.0 x.0 (omega (arith, ints, less)), int_le_not a.0 x.0 less) refl) ∙ after in
+      absurd (true≢false (sym test))
+
+-- what holds of the pages that are lent holds of the desk's
+pub index_asked : (low high : ℤ) (last : Option IntEntry) (l : LookUp) (desk : DeskState) (pool : PoolState) → pool ≡ desk.pool
+    → IfSome (told_pages desk) (λ pages. (d : Database) × ((p : Plan) × ((t : Taken) × IsPickBetween l low high last pages d p t))) → IsTold pool → IsIntIndex (store_of pool.pages) l.index
+index_asked low high last l desk pool e h =
+    let P : PoolState → Type 0 = λ s. IsTold s → IsIntIndex (store_of s.pages) l.index in
+    let F : PageMap → Type 0 = λ pages. (d : Database) × ((p : Plan) × ((t : Taken) × IsPickBetween l low high last pages d p t)) in
+    subst P (sym e) (λ told. (let k = asked desk F h told in ints_index low high last l desk.pool.pages k.0 k.1.0 k.1.1.0 k.1.1.1))
+
+-- where memory is refused for a row, nothing is taken
+pub between_refused : (l : LookUp) (low high : ℤ) (last : Option IntEntry) (fault : PageFault) (old new : DeskState) → Reads old new
+    → IfSome (told_pages old) (λ pages. (d : Database) (p : Plan) (t : Taken) → IsPickBetween l low high last pages d p t → SourceStep d p t no_counts no_counts old new (Err fault) (λ u. IsPickBetween l low high last pages d p u))
+between_refused l low high last fault old new reads =
+    let F : PageMap → Type 0 = λ pages. (d : Database) (p : Plan) (t : Taken) → IsPickBetween l low high last pages d p t → SourceStep d p t no_counts no_counts old new (Err fault) (λ u. IsPickBetween l low high last pages d p u) in
+    where_told old F (λ told d p t h. fault_step d p t fault old new (λ u. IsPickBetween l low high last old.pool.pages d p u) (plain l low high last old.pool.pages d p t h) reads h)

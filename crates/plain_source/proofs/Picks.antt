@@ -1,0 +1,64 @@
+-- The rows of a value, one after another.
+use Rattle.std.proofs.Common.{◌≡◌, ℕ, List, [], ◌∷◌, map, refl, sym, ◌∙◌, ap, subst}
+use Rattle.std.specs.Prelude.{Option, Some, None, Ok, IfSome}
+use Rattle.page_pool.specs.Desk.{DeskState}
+use Rattle.page_pool.specs.Disk.{PageMap}
+use Rattle.page_pool.specs.Pool.{IsTold}
+use Rattle.sand_base.specs.declared.value.Value.{Value}
+use Rattle.sand_model.specs.Answer.{plain_row}
+use Rattle.sand_model.specs.Database.{Database}
+use Rattle.sand_model.specs.Operators.{PlanRow}
+use Rattle.sand_model.specs.Plan as plan
+use Rattle.sand_model.specs.Plan.{Plan, Column}
+use Rattle.sand_model.specs.Reach.{no_counts}
+use Rattle.sand_model.specs.Taken.{Taken}
+use Rattle.best_first.specs.Visits.{told_pages}
+use Rattle.plan_places.specs.Equals.{equals, above, GivesFirst}
+use Rattle.plan_places.specs.Indexed.{IsLookUp}
+use Rattle.plan_places.specs.declared.look_up.LookUp.{LookUp}
+use Rattle.plan_places.proofs.LookUps.{all_above_zero}
+use Rattle.plan_rows.specs.Rows.{row_of}
+use Rattle.plan_rows.specs.SourceSteps.{SourceStep, nothing_taken}
+use Rattle.plan_rows.specs.declared.answer.Answer.{Answer}
+use Rattle.plain_source.specs.Plain.{left_of, IsPickEqual}
+use Rattle.plain_source.proofs.PlainSteps.{IsPlain, Reads, row_step, end_step, where_told}
+
+-- the rows of pairs
+abbrev rows_of : List (ℕ × Value) → List PlanRow
+rows_of pairs = map (λ pair. plain_row pair.0) pairs
+
+-- where nothing was taken all rows with an equal value are left
+pub pick_begun : (m : PageMap) (l : LookUp) (d : Database) (column : Column) (v : Value) → IsLookUp d column l m → IsPickEqual l v 0 m d (plan.PickEqual column v) nothing_taken
+pick_begun m l d column v h = record {
+  column = column;
+  is = refl;
+  look_up = h;
+  left = ap rows_of (sym (all_above_zero d column l m v h));
+}
+
+plain : (l : LookUp) (v : Value) (last : ℕ) (m : PageMap) (d : Database) (p : Plan) (t : Taken) → IsPickEqual l v last m d p t → IsPlain p
+plain l v last m d p t h = (let P : Plan → Type 0 = IsPlain in let one : P (plan.PickEqual h.column v) = tt in subst P (sym h.is) one)
+
+-- what a look-up gives
+abbrev pub Looks : LookUp → Value → ℕ → PageMap → Option ℕ → Type 0
+Looks l v last pages found = (d : Database) (column : Column) → IsLookUp d column l pages → GivesFirst last (equals d column v) found
+
+-- a row
+pub pick_row : (l : LookUp) (v : Value) (last id : ℕ) (a : Answer) (old new : DeskState) → (IsTold old.pool → Looks l v last old.pool.pages (Some id)) → row_of a ≡ plain_row id → Reads old new
+    → IfSome (told_pages old) (λ pages. (d : Database) (p : Plan) (t : Taken) → IsPickEqual l v last pages d p t → SourceStep d p t no_counts no_counts old new (Ok (Some a)) (λ u. IsPickEqual l v id pages d p u))
+pick_row l v last id a old new gives is reads =
+    let F : PageMap → Type 0 = λ pages. (d : Database) (p : Plan) (t : Taken) → IsPickEqual l v last pages d p t → SourceStep d p t no_counts no_counts old new (Ok (Some a)) (λ u. IsPickEqual l v id pages d p u) in
+    where_told old F (λ told d p t h.
+        let first = gives told d h.column h.look_up in
+        row_step d p t a (plain_row id) (rows_of (above id (equals d h.column v))) old new (λ u. IsPickEqual l v id old.pool.pages d p u) (plain l v last old.pool.pages d p t h)
+        (h.left ∙ ap rows_of first.1) is reads (λ u left. record { column = h.column; is = h.is; look_up = h.look_up; left = left }))
+
+-- the end
+pub pick_end : (l : LookUp) (v : Value) (last : ℕ) (old new : DeskState) → (IsTold old.pool → Looks l v last old.pool.pages None) → Reads old new
+    → IfSome (told_pages old) (λ pages. (d : Database) (p : Plan) (t : Taken) → IsPickEqual l v last pages d p t → SourceStep d p t no_counts no_counts old new (Ok None) (λ u. IsPickEqual l v last pages d p u))
+pick_end l v last old new gives reads =
+    let F : PageMap → Type 0 = λ pages. (d : Database) (p : Plan) (t : Taken) → IsPickEqual l v last pages d p t → SourceStep d p t no_counts no_counts old new (Ok None) (λ u. IsPickEqual l v last pages d p u) in
+    where_told old F (λ told d p t h.
+        let none : rows_of (above last (equals d h.column v)) ≡ [] = ap rows_of (gives told d h.column h.look_up) in
+        end_step d p t old new (λ u. IsPickEqual l v last old.pool.pages d p u) (plain l v last old.pool.pages d p t h) (h.left ∙ none) reads
+        (λ u left. record { column = h.column; is = h.is; look_up = h.look_up; left = left ∙ sym none }))

@@ -1,0 +1,32 @@
+-- the entry that follows, or the end
+use Rattle.std.proofs.Common.{subst}
+use Rattle.std.specs.Prelude.{None, Some}
+use Rattle.page_pool.specs.Pool.{PoolState, IsTold}
+use Rattle.plain_source.proofs.PlainSteps.{reads_of}
+use Rattle.plain_source.proofs.Bounds.{Finds, index_asked, between_row, between_end, between_refused}
+use Rattle.plain_source.proofs.pick_between.PickBetweenRowSource.next.Goals as goal
+
+pub between-requires : goal.between-requires
+between-requires g c =
+    let s = c.args.self.now in
+    index_asked s.low s.high s.last s.look_up c.args.desk.now c.pages.result.now c.pages.ensures.pool c.requires.stands
+
+pub returns-in-Ok-clause-step : goal.returns-in-Ok-clause-step
+returns-in-Ok-clause-step g c =
+    let s = c.args.self.now in
+    let P : PoolState → Type 0 = λ pool. IsTold pool → Finds s.look_up s.low s.high s.last pool.pages (Some c.in-Ok-Some.entry) in
+    between_row s.look_up s.low s.high s.last c.in-Ok-Some.entry c.in-Ok.answer c.args.desk.now _ (subst P c.pages.ensures.pool (rw c.in-Ok-Some.field-0-is at c.in-Ok-Some.ensures.value))
+    c.in-Ok.ensures.row (reads_of c.args.desk.now c.pages.result.now c.between.new.pages c.pages.ensures.pool c.in-Ok-Some.ensures.peeks.up)
+
+pub returns-in-Err-plain_answer-clause-step : goal.returns-in-Err-plain_answer-clause-step
+returns-in-Err-plain_answer-clause-step g c =
+    let s = c.args.self.now in
+    between_refused s.look_up s.low s.high s.last c.in-Err-plain_answer.fault c.args.desk.now _
+    (reads_of c.args.desk.now c.pages.result.now c.between.new.pages c.pages.ensures.pool c.in-Ok-Some.ensures.peeks.up)
+
+pub returns-in-Ok-None-clause-step : goal.returns-in-Ok-None-clause-step
+returns-in-Ok-None-clause-step g c =
+    let s = c.args.self.now in
+    let P : PoolState → Type 0 = λ pool. IsTold pool → Finds s.look_up s.low s.high s.last pool.pages None in
+    between_end s.look_up s.low s.high s.last c.args.desk.now _ (subst P c.pages.ensures.pool (rw c.in-Ok-None.field-0-is at c.in-Ok-None.ensures.value))
+    (reads_of c.args.desk.now c.pages.result.now c.between.new.pages c.pages.ensures.pool c.in-Ok-None.ensures.peeks.up)

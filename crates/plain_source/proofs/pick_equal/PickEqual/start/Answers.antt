@@ -1,0 +1,9 @@
+-- nothing was taken
+use Rattle.sand_store.specs.Contents.{database_in}
+use Rattle.plan_places.specs.Spots.{names_of}
+use Rattle.plain_source.proofs.Picks.{pick_begun}
+use Rattle.plain_source.proofs.pick_equal.PickEqual.start.Goals as goal
+
+pub returns-clause-begun : goal.returns-clause-begun
+returns-clause-begun c = λ pages h.
+    pick_begun pages c.in_ok-look_up.look_up (database_in pages c.args.catalog.now.relations) (names_of c.args.relation.now c.args.column.now) c.args.value (c.in_ok-look_up.ensures.found pages h)

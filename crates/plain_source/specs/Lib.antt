@@ -1,0 +1,2 @@
+-- sources of rows without distance
+pub mod Plain

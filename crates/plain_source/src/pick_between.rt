@@ -1,0 +1,99 @@
+ghost use Rattle.std.specs.Prelude.{◌≡◌, true, false, None, IfSome};
+ghost use Rattle.page_pool.specs.Disk.{PageMap};
+ghost use Rattle.sand_model.specs.Plan.{PickBetween as of_column};
+ghost use Rattle.sand_model.specs.Reach.{no_counts};
+ghost use Rattle.sand_store.specs.Catalog.{IsCatalog};
+ghost use Rattle.sand_store.specs.Contents.{database_in};
+ghost use Rattle.sand_store.specs.Standing.{CatalogStands};
+ghost use Rattle.plan_places.specs.Spots.{names_of};
+ghost use Rattle.plan_rows.specs.Rows.{counts_of};
+ghost use Rattle.plan_rows.specs.SourceSteps.{nothing_taken};
+ghost use Rattle.plain_source.specs.Plain.{IsPickBetween, LacksInts, HasInts, steps_left};
+
+use crate::answer::{NO_VISITS, plain_answer};
+use page_pool::{Desk, Disk, PageFault};
+use plan_places::LookUp;
+use plan_rows::{Answer, RowSource, SourceCounts};
+use sand_base::Kind;
+use sand_store::Catalog;
+use std::alloc::Global;
+
+/// The rows of a column of ints whose int lies within bounds, both included, by the int and then by id.
+#[derive(Clone, Copy)]
+pub struct PickBetween<'s> {
+    look_up: LookUp<'s>,
+    low: i64,
+    high: i64,
+    last: Option<(i64, u32)>,
+}
+
+// Whether the column is one of ints.
+fn has_ints(look_up: &LookUp) -> bool
+    ensures ints { result ≡ true → HasInts look_up.now }
+    ensures other { result ≡ false → HasInts look_up.now → ⊥ }
+{
+    match look_up.spot.relation.schema().columns().get(look_up.spot.column) {
+        Some((_, Kind::Int)) => true,
+        _ => false,
+    }
+}
+
+impl<'s> PickBetween<'s> {
+    /// The pick of the ints within bounds from the column of these names. `None` comes where there is no such column,
+    /// or it is not one of ints, or it has no index. No page is read.
+    pub fn start(
+        catalog: &'s Catalog,
+        relation: &str,
+        column: &str,
+        low: i64,
+        high: i64,
+    ) -> Option<PickBetween<'s>>
+        ensures counts { IfSome result (λ s. counts_of (⟦<PickBetween<'s> as RowSource>⟧.seen s) ≡ no_counts) }
+        ensures begun { IfSome result (λ s. (pages : PageMap) → CatalogStands pages catalog.now → ⟦<PickBetween<'s> as RowSource>⟧.At s pages (database_in pages catalog.now.relations) (of_column (names_of relation.now column.now) low high) nothing_taken) }
+        ensures none { result ≡ None → IsCatalog catalog.now → (pages : PageMap) → CatalogStands pages catalog.now → LacksInts (database_in pages catalog.now.relations) (names_of relation.now column.now) }
+    {
+        let look_up = LookUp::named(catalog, relation, column)?;
+        if !has_ints(&look_up) {
+            return None;
+        }
+        // For the proof alone: ids have 32 bits.
+        let _greatest = look_up.spot.relation.greatest();
+        Some(PickBetween {
+            look_up,
+            low,
+            high,
+            last: None,
+        })
+    }
+}
+
+impl<'s> RowSource for PickBetween<'s> {
+    ghost At = { λ s pages d p t. IsPickBetween s.look_up s.low s.high s.last pages d p t };
+
+    ghost seen = { λ s. record { blocks = 0; pairs = 0; geometries = 0 } };
+
+    ghost steps = { λ s. steps_left s.low s.high s.last };
+
+    fn next<D: Disk>(
+        &mut self,
+        alloc: Global,
+        desk: &mut Desk<D>,
+    ) -> Result<Option<Answer>, PageFault> {
+        let index = self.look_up.index;
+        match index.between(desk.pages(), self.low, self.high, self.last) {
+            Ok(Some(entry)) => match plain_answer(alloc, entry.1) {
+                Ok(answer) => {
+                    self.last = Some(entry);
+                    Ok(Some(answer))
+                }
+                Err(fault) => Err(fault),
+            },
+            Ok(None) => Ok(None),
+            Err(fault) => Err(fault),
+        }
+    }
+
+    fn counts(&self) -> SourceCounts {
+        NO_VISITS
+    }
+}

@@ -1,0 +1,81 @@
+ghost use Rattle.std.specs.Prelude.{◌≡◌, ◌-◌, false, None, IfSome};
+ghost use Rattle.page_pool.specs.Disk.{PageMap};
+ghost use Rattle.sand_model.specs.Plan.{PickEqual as of_column};
+ghost use Rattle.sand_model.specs.Reach.{no_counts};
+ghost use Rattle.sand_store.specs.Catalog.{IsCatalog};
+ghost use Rattle.sand_store.specs.Contents.{database_in};
+ghost use Rattle.sand_store.specs.Standing.{CatalogStands};
+ghost use Rattle.plan_places.specs.Indexed.{LacksIndex};
+ghost use Rattle.plan_places.specs.Spots.{names_of};
+ghost use Rattle.plan_rows.specs.Rows.{counts_of};
+ghost use Rattle.plan_rows.specs.SourceSteps.{nothing_taken};
+ghost use Rattle.plain_source.specs.Plain.{IsPickEqual};
+
+use crate::answer::{NO_VISITS, plain_answer};
+use page_pool::{Desk, Disk, PageFault};
+use plan_places::LookUp;
+use plan_rows::{Answer, RowSource, SourceCounts};
+use sand_base::Value;
+use sand_store::Catalog;
+use std::alloc::Global;
+
+/// The rows of a column whose value equals a given one, by id.
+#[derive(Drop)]
+pub struct PickEqual<'s> {
+    look_up: LookUp<'s>,
+    value: Value,
+    last: u32,
+}
+
+impl<'s> PickEqual<'s> {
+    /// The pick of a value from the column of these names. `None` comes where there is no such column, or it has no
+    /// attribute index. No page is read.
+    pub fn start(
+        catalog: &'s Catalog,
+        relation: &str,
+        column: &str,
+        value: Value,
+    ) -> Option<PickEqual<'s>>
+        ensures counts { IfSome result (λ s. counts_of (⟦<PickEqual<'s> as RowSource>⟧.seen s) ≡ no_counts) }
+        ensures begun { IfSome result (λ s. (pages : PageMap) → CatalogStands pages catalog.now → ⟦<PickEqual<'s> as RowSource>⟧.At s pages (database_in pages catalog.now.relations) (of_column (names_of relation.now column.now) value) nothing_taken) }
+        ensures none { result ≡ None → IsCatalog catalog.now → (pages : PageMap) → LacksIndex (database_in pages catalog.now.relations) (names_of relation.now column.now) false }
+    {
+        let look_up = LookUp::named(catalog, relation, column)?;
+        Some(PickEqual {
+            look_up,
+            value,
+            last: 0,
+        })
+    }
+}
+
+impl<'s> RowSource for PickEqual<'s> {
+    ghost At = { λ s pages d p t. IsPickEqual s.look_up s.value s.last pages d p t };
+
+    ghost seen = { λ s. record { blocks = 0; pairs = 0; geometries = 0 } };
+
+    ghost steps = { λ s. 4294967296 - s.last };
+
+    fn next<D: Disk>(
+        &mut self,
+        alloc: Global,
+        desk: &mut Desk<D>,
+    ) -> Result<Option<Answer>, PageFault> {
+        match self
+            .look_up
+            .next(alloc, desk.pages(), &self.value, self.last)
+        {
+            Ok(Some(id)) => {
+                let answer = plain_answer(alloc, id)?;
+                self.last = id;
+                Ok(Some(answer))
+            }
+            Ok(None) => Ok(None),
+            Err(fault) => Err(fault),
+        }
+    }
+
+    fn counts(&self) -> SourceCounts {
+        NO_VISITS
+    }
+}

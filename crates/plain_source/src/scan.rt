@@ -1,0 +1,86 @@
+ghost use Rattle.std.specs.Prelude.{◌≡◌, ℕ, ◌+◌, ◌-◌, ◌<◌, ◌≤◌, min, List, Some, None, IfOk, IfSome};
+ghost use Rattle.sand_base.specs.Faults.{last_count};
+ghost use Rattle.page_pool.specs.Disk.{PageMap};
+ghost use Rattle.page_pool.specs.Pool.{IsTold};
+ghost use Rattle.page_pool.specs.Reads.{IsRead};
+ghost use Rattle.page_pool.specs.Causes.{HasPageCause};
+ghost use Rattle.sand_model.specs.Database.{relation_named};
+ghost use Rattle.sand_model.specs.Reach.{no_counts};
+ghost use Rattle.sand_store.specs.Contents.{rows_in, database_in};
+ghost use Rattle.sand_store.specs.Standing.{CatalogStands};
+ghost use Rattle.plan_places.specs.Spots.{Stands};
+ghost use Rattle.plan_rows.specs.Rows.{counts_of};
+ghost use Rattle.plan_rows.specs.SourceSteps.{nothing_taken};
+ghost use Rattle.sand_model.specs.Plan.{Scan as of_relation};
+ghost use Rattle.plain_source.specs.Plain.{GivesNext, ids_of, IsScan};
+
+use crate::answer::{NO_VISITS, plain_answer};
+use page_pool::{Desk, Disk, PageFault, Pages};
+use plan_rows::{Answer, RowSource, SourceCounts};
+use sand_store::{Catalog, Relation};
+use std::alloc::Global;
+
+/// All rows of a relation, by id.
+#[derive(Clone, Copy)]
+pub struct Scan<'s> {
+    relation: &'s Relation,
+    last: u32,
+}
+
+impl<'s> Scan<'s> {
+    /// The scan of the relation of this name, `None` where there is none. No page is read.
+    pub fn start(catalog: &'s Catalog, relation: &str) -> Option<Scan<'s>>
+        ensures counts { IfSome result (λ s. counts_of (⟦<Scan<'s> as RowSource>⟧.seen s) ≡ no_counts) }
+        ensures begun { IfSome result (λ s. (pages : PageMap) → CatalogStands pages catalog.now → ⟦<Scan<'s> as RowSource>⟧.At s pages (database_in pages catalog.now.relations) (of_relation relation.now) nothing_taken) }
+        ensures none { result ≡ None → (pages : PageMap) → relation_named (database_in pages catalog.now.relations) relation.now ≡ None }
+    {
+        let relation = catalog.relation(relation)?;
+        Some(Scan { relation, last: 0 })
+    }
+
+    // The least id after the last one.
+    fn following<P: Pages>(&self, pages: &mut P) -> Result<Option<u32>, PageFault>
+        requires { IsTold (P.shown pages.old) → Stands (P.shown pages.old).pages self.now.relation.now }
+        ensures value { IfOk result (λ found. IsTold (P.shown pages.old) → GivesNext self.now.last (ids_of (rows_in (P.shown pages.old).pages self.now.relation.now)) found) }
+        ensures rises { IfOk result (λ found. IfSome found (λ id. self.now.last < id)) }
+        ensures read { IsRead (P.shown pages.old) (P.shown pages.new) }
+        ensures up { min (P.shown pages.old).gets last_count ≤ (P.shown pages.new).gets }
+        ensures cause { HasPageCause (P.shown pages.old) (P.shown pages.new) result }
+    {
+        if self.last >= self.relation.greatest() {
+            return Ok(None);
+        }
+        match self.relation.file().scan(pages, self.last + 1) {
+            Ok(found) => Ok(found),
+            Err(fault) => Err(fault),
+        }
+    }
+}
+
+impl<'s> RowSource for Scan<'s> {
+    ghost At = { λ s pages d p t. IsScan s.relation.now s.last pages d p t };
+
+    ghost seen = { λ s. record { blocks = 0; pairs = 0; geometries = 0 } };
+
+    ghost steps = { λ s. 4294967296 - s.last };
+
+    fn next<D: Disk>(
+        &mut self,
+        alloc: Global,
+        desk: &mut Desk<D>,
+    ) -> Result<Option<Answer>, PageFault> {
+        match self.following(desk.pages()) {
+            Ok(Some(id)) => {
+                let answer = plain_answer(alloc, id)?;
+                self.last = id;
+                Ok(Some(answer))
+            }
+            Ok(None) => Ok(None),
+            Err(fault) => Err(fault),
+        }
+    }
+
+    fn counts(&self) -> SourceCounts {
+        NO_VISITS
+    }
+}

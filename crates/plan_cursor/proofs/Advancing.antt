@@ -1,0 +1,233 @@
+-- Steps of an operator, one after another, make one step of the cursor of the model.
+use Rattle.std.proofs.Common.{◌≡◌, inl, inr, ◌+◌, ◌≤◌, Bool, true, false, cond, List, [], ◌∷◌, ◌++◌, length, take, Option, Some, None, Result, Ok, Err, refl, sym, ap, ◌∙◌, subst, le_of_eq, arith, length-append, append_assoc}
+use Rattle.std.specs.Prelude.{All}
+use Rattle.std.proofs.lemmas.Bool.{lt-ltb, le-ltb}
+use Rattle.page_pool.specs.Desk.{DeskState}
+use Rattle.page_pool.specs.Disk.{PageMap}
+use Rattle.page_pool.specs.declared.fault.PageFault.{PageFault}
+use Rattle.sand_model.specs.Answer.{source, answer}
+use Rattle.sand_model.specs.Cursor.{Cursor}
+use Rattle.sand_model.specs.Database.{Database, element}
+use Rattle.sand_model.specs.Operators.{PlanRow, over}
+use Rattle.sand_model.specs.Plan.{Plan}
+use Rattle.sand_model.specs.Reach.{Counts, reach}
+use Rattle.sand_model.specs.Taken.{Taken, has_taken, is_full, is_lazy, beneath_sort}
+use Rattle.plan_rows.specs.Rows.{plan_measure, row_of}
+use Rattle.plan_rows.specs.Visited.{LiesWithin}
+use Rattle.plan_rows.specs.declared.answer.Answer.{Answer}
+use Rattle.plan_rows.proofs.CursorSteps.{HasRow, gives_row, gives_end, gives_none}
+use Rattle.plan_rows.proofs.ModelSteps as model
+use Rattle.plan_rows.proofs.ModelSteps.{element_past, element_next, element_below, element_above}
+use Rattle.plan_rows.proofs.SortedPlans.{lazy_given, source_beneath}
+use Rattle.plan_rows.proofs.StepCalls.{VisitsWithin, within_chain, counted_given}
+use Rattle.plan_rows.proofs.TakenSoFar as needs
+use Rattle.plan_rows.proofs.TakenSoFar.{IsNeeded, needed_given, row_taken}
+use Rattle.plan_steps.specs.Following.{Taking, Follows, source_of}
+use Rattle.plan_steps.specs.Stages.{Standing, GivesFront, OpensLate}
+use Rattle.plan_steps.specs.Steps as steps
+use Rattle.plan_steps.specs.Steps.{given_after, IsDone, Goes}
+use Rattle.plan_steps.specs.declared.operator.Operator.{Operator}
+use Rattle.plan_steps.specs.declared.step.Step.{Step}
+use Rattle.plan_steps.specs.declared.step.Step.TheVariants.{Row, End}
+use Rattle.plan_steps.proofs.Fronts.{begins_whole, begins_taken, settled}
+use Rattle.plan_steps.proofs.Levels.{begins_length}
+use Rattle.plan_cursor.specs.CursorStep.{step_taken, step_reach, row_reach, CursorStep}
+use Rattle.plan_cursor.specs.Standing.{Keeps}
+use Rattle.plan_cursor.proofs.AskedOnce.{IsKept, kept}
+use Rattle.plan_cursor.proofs.RowGaps.{row_reached}
+
+-- what is taken after the next step, of the two forms
+pub taken_same : (c : Cursor) → model.step_taken plan_measure c.database c.plan c.given ≡ step_taken c
+taken_same c = go (element (answer plan_measure c.database c.plan) c.given) refl
+  where
+    go : (o : Option PlanRow) → element (answer plan_measure c.database c.plan) c.given ≡ o → model.step_taken plan_measure c.database c.plan c.given ≡ step_taken c
+    go (Some row) e =
+        model.step_taken_row plan_measure c.database c.plan c.given row e
+        ∙ ap (λ b. cond b (has_taken plan_measure c.database c.plan (c.given + 1) false) (has_taken plan_measure c.database c.plan c.given true))
+        (sym (lt-ltb c.given (length (answer plan_measure c.database c.plan)) (element_below (answer plan_measure c.database c.plan) c.given row e)))
+    go None e =
+        model.step_taken_end plan_measure c.database c.plan c.given e
+        ∙ ap (λ b. cond b (has_taken plan_measure c.database c.plan (c.given + 1) false) (has_taken plan_measure c.database c.plan c.given true))
+        (sym (le-ltb c.given (length (answer plan_measure c.database c.plan)) (element_above (answer plan_measure c.database c.plan) c.given e)))
+
+-- where nothing more is taken, the source need not be asked
+spent_same : (d : Database) (p : Plan) (t : Taken) → steps.IsSpent d (beneath_sort p) t → needs.IsSpent plan_measure d p t
+spent_same d p t (inl full) = inl (subst (λ all. is_full plan_measure d (beneath_sort p) (take t.rows all) ≡ true) (source_beneath plan_measure d p) full)
+spent_same d p t (inr ended) = inr ended.0
+
+module _ {S T : Type 0} (At : S → Taking) (Stands : T → Standing) (closed : T → Bool) (seen : S → Counts) (pages : PageMap) where
+  -- an operator that keeps to the cursor of the model, but for the counts
+  abbrev pub KeepsCounts : Operator S T → Cursor → Type 0
+  KeepsCounts o c = Keeps At Stands closed seen o pages (record c { counts = seen (source_of o) })
+
+  -- Some steps of a call were made, and the cursor hasn't got its row yet.
+  pub record Passed (c : Cursor) (o : Operator S T) (old new : DeskState) : Type 0 where
+    pub keeps : KeepsCounts o c
+    pub visits : VisitsWithin c.database c.plan (model.step_taken plan_measure c.database c.plan c.given) c.counts (seen (source_of o)) old new
+
+  module _ (c : Cursor) (o o' : Operator S T) (old mid new : DeskState) (result : Result Step PageFault) (passed : Passed c o old mid)
+      (goes : Goes c.database c.plan passed.keeps.taken passed.keeps.rows (seen (source_of o)) (seen (source_of o')) mid new result (Follows At Stands closed o' pages c.database c.plan)) where
+    -- what the step did to the source
+    after : IsKept c.database c.plan c.given goes.taken (seen (source_of o)) (seen (source_of o')) mid new
+    after =
+        kept c.database c.plan passed.keeps.rows c.given passed.keeps.given passed.keeps.taken (seen (source_of o)) (seen (source_of o')) mid new passed.keeps.needed passed.keeps.counted
+        goes.taken result goes.asks
+
+    -- and all steps so far
+    abbrev so_far : VisitsWithin c.database c.plan (model.step_taken plan_measure c.database c.plan c.given) c.counts (seen (source_of o')) old new
+    so_far =
+        within_chain c.database c.plan (model.step_taken plan_measure c.database c.plan c.given) c.counts (seen (source_of o)) (seen (source_of o')) old mid new passed.visits after.visits
+
+    -- the operator keeps to the cursor where it gave no row
+    stays : given_after passed.keeps.rows result ≡ passed.keeps.rows → KeepsCounts o' c
+    stays none = record {
+      taken = goes.taken;
+      rows = passed.keeps.rows;
+      follows = subst (Follows At Stands closed o' pages c.database c.plan goes.taken) none goes.follows;
+      given = passed.keeps.given;
+      needed = after.needed;
+      counted = after.counted;
+      counts = refl;
+    }
+
+    -- one step more
+    pub passed_more : given_after passed.keeps.rows result ≡ passed.keeps.rows → Passed c o' old new
+    passed_more none = record { keeps = stays none; visits = so_far }
+
+    -- the visits lie within the reach of the whole step
+    near : All (LiesWithin plan_measure c.database c.plan (step_reach c)) so_far.noted
+    near = subst (λ t. All (LiesWithin plan_measure c.database c.plan (reach plan_measure c.database c.plan t)) so_far.noted) (taken_same c) so_far.near
+
+  module _ (front : GivesFront Stands) (late : OpensLate Stands closed) (c : Cursor) (o o' : Operator S T) (old mid new : DeskState) (passed : Passed c o old mid) where
+    module _ (a : Answer)
+        (goes : Goes c.database c.plan passed.keeps.taken passed.keeps.rows (seen (source_of o)) (seen (source_of o')) mid new (Ok (Row a)) (Follows At Stands closed o' pages c.database c.plan)) where
+      -- the rows, with the one that was given
+      abbrev rows_now : List PlanRow
+      rows_now = passed.keeps.rows ++ row_of a ∷ []
+
+      long : length rows_now ≡ c.given + 1
+      long = length-append passed.keeps.rows (row_of a ∷ []) ∙ ap (λ n. n + 1) passed.keeps.given
+
+      kept_now : IsKept c.database c.plan c.given goes.taken (seen (source_of o)) (seen (source_of o')) mid new
+      kept_now = after c o o' old mid new (Ok (Row a)) passed goes
+
+      abbrev visits_now : VisitsWithin c.database c.plan (model.step_taken plan_measure c.database c.plan c.given) c.counts (seen (source_of o')) old new
+      visits_now = so_far c o o' old mid new (Ok (Row a)) passed goes
+
+      -- it is the next row of the answer
+      next_row : element (answer plan_measure c.database c.plan) c.given ≡ Some (row_of a)
+      next_row =
+          let rows = passed.keeps.rows in
+          let whole_it = begins_whole At Stands closed front o' pages c.database c.plan goes.taken rows_now goes.follows in
+          ap (element (answer plan_measure c.database c.plan)) (sym passed.keeps.given)
+          ∙ ap (λ all. element all (length rows)) (whole_it.split ∙ append_assoc rows (row_of a ∷ []) whole_it.rest)
+          ∙ element_next rows (row_of a) whole_it.rest
+
+      enough : is_lazy c.plan ≡ true → c.given + 1 ≤ length (over plan_measure c.database c.plan (take goes.taken.rows (source plan_measure c.database c.plan)))
+      enough lazy =
+          let taken_it = begins_taken At Stands closed front o' pages c.database c.plan goes.taken rows_now goes.follows lazy in
+          subst (λ n. n ≤ length (over plan_measure c.database c.plan (take goes.taken.rows (source plan_measure c.database c.plan)))) long
+          (begins_length rows_now (over plan_measure c.database c.plan (take goes.taken.rows (source plan_measure c.database c.plan))) taken_it)
+
+      has_row : HasRow c.database c.plan c.given goes.taken
+      has_row = record {
+        more = enough;
+        spent = λ sorts.
+            elim (settled At Stands closed front late o' pages c.database c.plan goes.taken rows_now goes.follows sorts) [
+              | inl none ↦ let no : 0 ≡ c.given + 1 = ap length (sym none) ∙ long in absurd (omega (arith, no))
+              | inr spent_it ↦ spent_same c.database c.plan goes.taken spent_it
+            ];
+      }
+
+      -- without a sort, what was taken reaches up to its gap
+      reach_row : is_lazy c.plan ≡ true → reach plan_measure c.database c.plan (model.step_taken plan_measure c.database c.plan c.given) ≡ row_reach a
+      reach_row lazy =
+          let t = goes.taken in
+          let all = source plan_measure c.database c.plan in
+          let is_t = row_taken plan_measure c.database c.plan c.given t kept_now.needed lazy (enough lazy) in
+          let open_end : t.is_ended ≡ false =
+          ap (λ (u : Taken). u.is_ended) (sym is_t ∙ lazy_given plan_measure c.database c.plan lazy (c.given + 1)) in
+          ap (reach plan_measure c.database c.plan) (model.step_taken_row plan_measure c.database c.plan c.given (row_of a) next_row ∙ is_t)
+          ∙ ap (λ b. reach plan_measure c.database c.plan (record { rows = t.rows; is_ended = b })) open_end
+          ∙ row_reached c.database c.plan c.given t kept_now.needed lazy (enough lazy) (row_of a) next_row
+
+      pub gives_next : CursorStep c old new (Ok (Some a)) (Keeps At Stands closed seen o' pages)
+      gives_next = record {
+        after = record c { given = c.given + 1; counts = seen (source_of o') };
+        gives = gives_row c goes.taken (seen (source_of o')) kept_now.needed kept_now.counted (row_of a) next_row has_row;
+        at = record {
+          taken = goes.taken;
+          rows = rows_now;
+          follows = goes.follows;
+          given = long;
+          needed = needed_given plan_measure c.database c.plan c.given (c.given + 1) goes.taken (omega arith) kept_now.needed;
+          counted = counted_given c.database c.plan c.given (c.given + 1) goes.taken (seen (source_of o')) (omega arith) kept_now.counted;
+          counts = refl;
+        };
+        visits = record {
+          noted = visits_now.noted;
+          log = visits_now.log;
+          near = near c o o' old mid new (Ok (Row a)) passed goes;
+          row = λ lazy. subst (λ to. All (LiesWithin plan_measure c.database c.plan to) visits_now.noted) (reach_row lazy) visits_now.near;
+          rose = visits_now.rose;
+        };
+      }
+
+    module _ (goes : Goes c.database c.plan passed.keeps.taken passed.keeps.rows (seen (source_of o)) (seen (source_of o')) mid new (Ok End) (Follows At Stands closed o' pages c.database c.plan)) where
+      kept_end : IsKept c.database c.plan c.given goes.taken (seen (source_of o)) (seen (source_of o')) mid new
+      kept_end = after c o o' old mid new (Ok End) passed goes
+
+      abbrev visits_end : VisitsWithin c.database c.plan (model.step_taken plan_measure c.database c.plan c.given) c.counts (seen (source_of o')) old new
+      visits_end = so_far c o o' old mid new (Ok End) passed goes
+
+      keeps_end : KeepsCounts o' c
+      keeps_end = stays c o o' old mid new (Ok End) passed goes refl
+
+      no_row : element (answer plan_measure c.database c.plan) c.given ≡ None
+      no_row =
+          element_past (answer plan_measure c.database c.plan) c.given
+          (le_of_eq (sym (ap length goes.ends.all) ∙ passed.keeps.given))
+
+      pub gives_last : CursorStep c old new (Ok None) (Keeps At Stands closed seen o' pages)
+      gives_last = record {
+        after = record c { is_ended = true; counts = seen (source_of o') };
+        gives = gives_end c goes.taken (seen (source_of o')) kept_end.needed kept_end.counted no_row (spent_same c.database c.plan goes.taken goes.ends.spent);
+        at = record {
+          taken = keeps_end.taken;
+          rows = keeps_end.rows;
+          follows = keeps_end.follows;
+          given = keeps_end.given;
+          needed = keeps_end.needed;
+          counted = keeps_end.counted;
+          counts = keeps_end.counts;
+        };
+        visits = record {
+          noted = visits_end.noted;
+          log = visits_end.log;
+          near = near c o o' old mid new (Ok End) passed goes;
+          row = tt;
+          rose = visits_end.rose;
+        };
+      }
+
+    module _ (fault : PageFault)
+        (goes : Goes c.database c.plan passed.keeps.taken passed.keeps.rows (seen (source_of o)) (seen (source_of o')) mid new (Err fault) (Follows At Stands closed o' pages c.database c.plan)) where
+      kept_refused : IsKept c.database c.plan c.given goes.taken (seen (source_of o)) (seen (source_of o')) mid new
+      kept_refused = after c o o' old mid new (Err fault) passed goes
+
+      abbrev visits_refused : VisitsWithin c.database c.plan (model.step_taken plan_measure c.database c.plan c.given) c.counts (seen (source_of o')) old new
+      visits_refused = so_far c o o' old mid new (Err fault) passed goes
+
+      pub gives_refusal : CursorStep c old new (Err fault) (Keeps At Stands closed seen o' pages)
+      gives_refusal = record {
+        after = record c { counts = seen (source_of o') };
+        gives = gives_none c goes.taken (seen (source_of o')) kept_refused.needed kept_refused.counted visits_refused.up;
+        at = stays c o o' old mid new (Err fault) passed goes refl;
+        visits = record {
+          noted = visits_refused.noted;
+          log = visits_refused.log;
+          near = near c o o' old mid new (Err fault) passed goes;
+          row = tt;
+          rose = visits_refused.rose;
+        };
+      }

@@ -1,0 +1,56 @@
+-- A call of a cursor is one step of the cursor of the model: the row, the counts, and the visits, which lie within the reach of what the source then has taken.
+use Rattle.std.specs.Prelude.{◌≡◌, ◌+◌, ◌-◌, ◌≤◌, min, true, false, cond, nat_lt, List, [], ◌∷◌, ◌++◌, length, All, Option, None, Some, Result, Ok, Err, ⊤}
+use Rattle.sand_base.specs.Faults.{last_count}
+use Rattle.sand_base.specs.declared.refusal.Refusal.{Refusal}
+use Rattle.sand_base.specs.declared.visit.Visit.{Visit}
+use Rattle.page_pool.specs.Desk.{DeskState}
+use Rattle.page_pool.specs.declared.fault.PageFault.{PageFault}
+use Rattle.sand_model.specs.Answer.{answer}
+use Rattle.sand_model.specs.Cursor.{Cursor, Row, End, step_of, IsRefusedStep}
+use Rattle.sand_model.specs.Reach.{Reach, reach, reach_of_last}
+use Rattle.sand_model.specs.Taken.{Taken, has_taken, is_lazy}
+use Rattle.plan_rows.specs.Rows.{plan_measure, row_of}
+use Rattle.plan_rows.specs.SourceSteps.{node_count}
+use Rattle.plan_rows.specs.Visited.{LiesWithin}
+use Rattle.plan_rows.specs.declared.answer.Answer.{Answer}
+
+-- the cursor of the model after the call: its next step gives the row or the end, and a refused step changes the counts alone
+abbrev pub Gives : Cursor → Result (Option Answer) PageFault → Cursor → Type 0
+Gives c (Ok (Some a)) after = step_of plan_measure c ≡ (Row (row_of a), after)
+Gives c (Ok None) after = step_of plan_measure c ≡ (End, after)
+Gives c (Err fault) after = (refusal : Refusal) → IsRefusedStep plan_measure c refusal after
+
+-- what the source has taken after the next step: what one more row needs, or the end where there is none
+abbrev pub step_taken : Cursor → Taken
+step_taken c =
+    cond (nat_lt c.given (length (answer plan_measure c.database c.plan))) (has_taken plan_measure c.database c.plan (c.given + 1) false)
+    (has_taken plan_measure c.database c.plan c.given true)
+
+-- how far the source reaches then
+abbrev pub step_reach : Cursor → Reach
+step_reach c = reach plan_measure c.database c.plan (step_taken c)
+
+-- up to the gap of a row, and to nothing where it has none
+abbrev pub row_reach : Answer → Reach
+row_reach a = reach_of_last (row_of a ∷ [])
+
+-- where a plan without a sort gives a row, the visits lie within the gap of this row
+abbrev pub LieWithinRow : Cursor → Result (Option Answer) PageFault → List Visit → Type 0
+LieWithinRow c (Ok (Some a)) noted = is_lazy c.plan ≡ true → All (LiesWithin plan_measure c.database c.plan (row_reach a)) noted
+LieWithinRow c (Ok None) noted = ⊤
+LieWithinRow c (Err fault) noted = ⊤
+
+-- The visits of a call: they were noted behind those before, and each lies within the reach of the step, also of one that is refused. At least one page get was made for each node that was counted.
+pub record StepVisits (c after : Cursor) (old new : DeskState) (result : Result (Option Answer) PageFault) : Type 0 where
+  pub noted : List Visit
+  pub log : new.visits ≡ old.visits ++ noted
+  pub near : All (LiesWithin plan_measure c.database c.plan (step_reach c)) noted
+  pub row : LieWithinRow c result noted
+  pub rose : min (old.pool.gets + (node_count after.counts - node_count c.counts)) last_count ≤ new.pool.gets
+
+-- A call where the cursor of the model stands at c. At says where the cursor stands.
+pub record CursorStep (c : Cursor) (old new : DeskState) (result : Result (Option Answer) PageFault) (At : Cursor → Type 0) : Type 0 where
+  pub after : Cursor
+  pub gives : Gives c result after
+  pub at : At after
+  pub visits : StepVisits c after old new result

@@ -1,0 +1,4 @@
+-- a step of the cursor of the model
+pub mod CursorStep
+-- where a cursor stands
+pub mod Standing

@@ -1,0 +1,37 @@
+ghost use Rattle.std.specs.Prelude.{◌≡◌, IfSome};
+ghost use Rattle.page_pool.specs.Causes.{HasPageCause};
+ghost use Rattle.page_pool.specs.Reads.{IsRead};
+ghost use Rattle.sand_model.specs.Cursor.{Cursor};
+ghost use Rattle.best_first.specs.Visits.{told_pages};
+ghost use Rattle.plan_rows.specs.Rows.{counts_of};
+ghost use Rattle.plan_rows.specs.SourceSteps.{Falls};
+ghost use Rattle.plan_steps.specs.Following.{steps_of};
+ghost use Rattle.plan_cursor.specs.CursorStep.{CursorStep};
+ghost use Rattle.plan_cursor.specs.Standing.{Keeps};
+
+use page_pool::{Desk, Disk, PageFault};
+use plan_rows::{Answer, RowSource};
+use plan_steps::{Operator, RowStage, Step};
+use std::alloc::Global;
+
+// Makes steps until one gives a row or the end.
+pub fn advance<S: RowSource, T: RowStage, D: Disk>(
+    operator: &mut Operator<S, T>,
+    alloc: Global,
+    desk: &mut Desk<D>,
+) -> Result<Option<Answer>, PageFault>
+    requires stands { IfSome (told_pages desk.old) (λ pages. (c : Cursor) × Keeps S.At T.Stands T.closed (λ s. counts_of (S.seen s)) operator.old pages c) }
+    ensures read { IsRead desk.old.pool desk.new.pool }
+    ensures cause { HasPageCause desk.old.pool desk.new.pool result }
+    ensures falls { Falls (steps_of S.steps T.steps operator.old) (steps_of S.steps T.steps operator.new) result }
+    ensures step { IfSome (told_pages desk.old) (λ pages. (c : Cursor) → Keeps S.At T.Stands T.closed (λ s. counts_of (S.seen s)) operator.old pages c → CursorStep c desk.old desk.new result (Keeps S.At T.Stands T.closed (λ s. counts_of (S.seen s)) operator.new pages)) }
+{
+    'steps: loop {
+        match operator.step(alloc, desk) {
+            Ok(Step::Row(row)) => return Ok(Some(row)),
+            Ok(Step::Pass) => {}
+            Ok(Step::End) => return Ok(None),
+            Err(fault) => return Err(fault),
+        }
+    }
+}

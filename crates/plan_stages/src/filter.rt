@@ -1,0 +1,84 @@
+ghost use Rattle.std.specs.Prelude.{false};
+ghost use Rattle.plan_stages.specs.Filters.{FilterStands, filter_waits, filter_steps};
+
+use crate::SpotTest;
+use crate::tests::passes_all;
+use page_pool::{Desk, Disk, PageFault};
+use plan_rows::Answer;
+use plan_steps::{RowStage, Step};
+use std::alloc::Global;
+
+/// `filter`: the rows that pass all tests. It holds a row until its tests are read.
+#[derive(Drop)]
+pub struct Filter<'s> {
+    tests: Vec<SpotTest<'s>>,
+    held: Option<Answer>,
+}
+
+impl<'s> Filter<'s> {
+    ghost use Rattle.std.specs.Prelude.{◌≡◌, List, []};
+    ghost use Rattle.page_pool.specs.Disk.{PageMap};
+    ghost use Rattle.sand_model.specs.Database.{Database};
+    ghost use Rattle.sand_model.specs.Operators.{relations_of};
+    ghost use Rattle.sand_model.specs.Plan as plan;
+    ghost use Rattle.sand_model.specs.Plan.{Plan, Test};
+    ghost use Rattle.plan_stages.specs.Tests.{AreTests};
+
+    /// The stage of a filter by these tests.
+    pub fn new(tests: Vec<SpotTest<'s>>) -> Filter<'s>
+        ensures { (pages : PageMap) (d : Database) (below : Plan) (asked : List Test) → AreTests d (relations_of below) pages tests.entry.items asked → FilterStands result pages d (plan.Filter below asked) [] [] }
+    {
+        Filter { tests, held: None }
+    }
+}
+
+impl<'s> RowStage for Filter<'s> {
+    ghost Stands = { FilterStands };
+
+    ghost waits = { filter_waits };
+
+    ghost closed = { λ f. false };
+
+    ghost steps = { filter_steps };
+
+    fn is_busy(&self) -> bool {
+        self.held.is_some()
+    }
+
+    fn hold(&mut self, row: Answer) {
+        self.held = Some(row);
+    }
+
+    fn finish(&mut self, _alloc: Global) -> Result<Step, PageFault> {
+        Ok(Step::End)
+    }
+
+    fn work<D: Disk>(&mut self, alloc: Global, desk: &mut Desk<D>) -> Result<Step, PageFault> {
+        let Some(row) = self.held.take() else {
+            return Ok(Step::Pass);
+        };
+        match passes_all(alloc, desk.pages(), &self.tests, row.ids.as_slice()) {
+            Ok(true) => Ok(Step::Row(row)),
+            Ok(false) => Ok(Step::Pass),
+            Err(fault) => {
+                self.held = Some(row);
+                Err(fault)
+            }
+        }
+    }
+
+    ghost use Rattle.std.specs.Prelude.{filter};
+    ghost use Rattle.sand_model.specs.Operators.{passes_all, relations_of};
+    ghost use Rattle.plan_stages.specs.Splits.{waiting, wait_count};
+    ghost use Rattle.plan_stages.specs.SplitLaws.{front_of, late_of, open_of, rises_of};
+
+    ghost outermost = { λ s pages d p taken given f. f.splits.operator };
+
+    ghost front = { λ s pages d p taken given all f b whole. front_of d p taken given (filter (passes_all d (relations_of f.below) f.asked) (waiting s.held)) all f.splits b };
+
+    ghost late = { λ s pages d p taken given f. late_of d p taken given (filter (passes_all d (relations_of f.below) f.asked) (waiting s.held)) _ f.splits };
+
+    ghost closed_waits = { λ s. open_of _ };
+
+    ghost rises = { λ s. rises_of (wait_count s.held) };
+}

@@ -1,0 +1,102 @@
+// Tests of rows.
+ghost use Rattle.std.specs.Prelude.{◌≡◌, ◌≤◌, ℕ, List, min, All, IfOk};
+ghost use Rattle.sand_base.specs.Faults.{last_count};
+ghost use Rattle.page_pool.specs.Causes.{HasPageCause};
+ghost use Rattle.page_pool.specs.Pool.{IsTold};
+ghost use Rattle.page_pool.specs.Reads.{IsRead};
+ghost use Rattle.sand_model.specs.Database.{Database};
+ghost use Rattle.sand_model.specs.Operators.{PlanRow, is_order, passes, passes_test, passes_all};
+ghost use Rattle.sand_model.specs.Plan.{Test};
+ghost use Rattle.plan_check.specs.PlanValue.{op_value};
+ghost use Rattle.plan_places.specs.Spots.{Stands};
+ghost use Rattle.plan_stages.specs.Tests.{IsTest, AreTests, TestsStand};
+
+use page_pool::{PageFault, Pages};
+use plan_places::Spot;
+use sand_base::Value;
+use script_text::Op;
+use std::alloc::Global;
+use std::cmp::Ordering;
+
+/// A test of a filter, its place looked up.
+#[derive(Drop)]
+pub struct SpotTest<'s> {
+    pub spot: Spot<'s>,
+    pub op: Op,
+    pub value: Value,
+}
+
+// Whether the order of two ints is the one that is asked.
+fn is_order(op: Op, order: Ordering) -> bool
+    ensures { result ≡ is_order (op_value op) order }
+{
+    match op {
+        Op::Equal => order.is_eq(),
+        Op::NotEqual => order.is_ne(),
+        Op::Less => order.is_lt(),
+        Op::AtMost => order.is_le(),
+        Op::Greater => order.is_gt(),
+        Op::AtLeast => order.is_ge(),
+    }
+}
+
+// Whether a value passes a comparison.
+fn passes(op: Op, held: &Value, asked: &Value) -> bool
+    ensures { result ≡ passes (op_value op) held.now asked.now }
+{
+    match (held, asked) {
+        (Value::Int(held), Value::Int(asked)) => is_order(op, held.cmp(asked)),
+        (Value::Text(held), Value::Text(asked)) => {
+            let is_same = held.as_str() == asked.as_str();
+            match op {
+                Op::Equal => is_same,
+                Op::NotEqual => !is_same,
+                _ => false,
+            }
+        }
+        _ => false,
+    }
+}
+
+// Whether a row with these ids passes the test.
+fn passes_one<P: Pages>(
+    alloc: Global,
+    pages: &mut P,
+    test: &SpotTest<'_>,
+    ids: &[u32],
+) -> Result<bool, PageFault>
+    requires stands { IsTold (P.shown pages.old) → Stands (P.shown pages.old).pages test.now.spot.relation.now }
+    ensures value { IfOk result (λ passed. IsTold (P.shown pages.old) → (d : Database) (names : List (List ℕ)) (asked : Test) (row : PlanRow) → IsTest d names (P.shown pages.old).pages test.now asked → row.ids ≡ ids.now → passed ≡ passes_test d names row asked) }
+    ensures read { IsRead (P.shown pages.old) (P.shown pages.new) }
+    ensures up { min (P.shown pages.old).gets last_count ≤ (P.shown pages.new).gets }
+    ensures cause { HasPageCause (P.shown pages.old) (P.shown pages.new) result }
+{
+    match test.spot.value(alloc, pages, ids) {
+        Ok(Some(value)) => Ok(passes(test.op, &value, &test.value)),
+        Ok(None) => Ok(false),
+        Err(fault) => Err(fault),
+    }
+}
+
+/// Whether a row with these ids passes all tests, each of which reads one value.
+pub(crate) fn passes_all<P: Pages>(
+    alloc: Global,
+    pages: &mut P,
+    tests: &[SpotTest<'_>],
+    ids: &[u32],
+) -> Result<bool, PageFault>
+    requires stands { TestsStand (P.shown pages.old) tests.now }
+    ensures value { IfOk result (λ passed. IsTold (P.shown pages.old) → (d : Database) (names : List (List ℕ)) (asked : List Test) (row : PlanRow) → AreTests d names (P.shown pages.old).pages tests.now asked → row.ids ≡ ids.now → passed ≡ passes_all d names asked row) }
+    ensures read { IsRead (P.shown pages.old) (P.shown pages.new) }
+    ensures up { min (P.shown pages.old).gets last_count ≤ (P.shown pages.new).gets }
+    ensures cause { HasPageCause (P.shown pages.old) (P.shown pages.new) result }
+{
+    match tests {
+        [] => Ok(true),
+        [test, rest @ ..] => match passes_one(alloc, pages, test, ids) {
+            Ok(true) => passes_all(alloc, pages, rest, ids),
+            Ok(false) => Ok(false),
+            Err(fault) => Err(fault),
+        },
+    }
+}

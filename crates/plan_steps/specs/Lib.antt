@@ -1,0 +1,8 @@
+-- plans level by level
+pub mod Outermost
+-- what a step of an operator gives
+pub mod Steps
+-- stages: what one operator does with the rows beneath it
+pub mod Stages
+-- operators over operators over a source
+pub mod Following

@@ -1,0 +1,79 @@
+ghost use Rattle.std.specs.Prelude.{◌≡◌, ℕ, List, IfSome};
+ghost use Rattle.page_pool.specs.Causes.{HasPageCause};
+ghost use Rattle.page_pool.specs.Reads.{IsRead};
+ghost use Rattle.sand_model.specs.Database.{Database};
+ghost use Rattle.sand_model.specs.Operators.{PlanRow};
+ghost use Rattle.sand_model.specs.Plan.{Plan};
+ghost use Rattle.sand_model.specs.Taken.{Taken};
+ghost use Rattle.best_first.specs.Visits.{told_pages};
+ghost use Rattle.plan_rows.specs.Rows.{counts_of};
+ghost use Rattle.plan_steps.specs.Following.{Follows, IsOver, source_of, steps_of};
+ghost use Rattle.plan_steps.specs.Steps.{Goes, Lowers};
+
+use crate::{RowStage, Step};
+use page_pool::{Desk, Disk, PageFault};
+use plan_rows::RowSource;
+use std::alloc::Global;
+use std::boxed::Box;
+
+/// A source, or a stage over an operator.
+#[cycle(operator)]
+#[derive(Drop)]
+pub enum Operator<S, T> {
+    Source(S),
+    Over(Over<S, T>),
+}
+
+/// A stage, and the operator whose rows it takes.
+#[cycle(operator)]
+#[derive(Drop)]
+pub struct Over<S, T> {
+    pub stage: T,
+    pub below: Box<Operator<S, T>>,
+}
+
+impl<S: RowSource, T: RowStage> Operator<S, T> {
+    /// Makes one step. After a refusal no row is lost, and `step` may be called again.
+    #[cycle(step)]
+    pub fn step<D: Disk>(&mut self, alloc: Global, desk: &mut Desk<D>) -> Result<Step, PageFault>
+        requires stands { IfSome (told_pages desk.old) (λ pages. (d : Database) × ((p : Plan) × ((t : Taken) × ((given : List PlanRow) × Follows S.At T.Stands T.closed self.old pages d p t given)))) }
+        ensures read { IsRead desk.old.pool desk.new.pool }
+        ensures cause { HasPageCause desk.old.pool desk.new.pool result }
+        ensures falls { Lowers (steps_of S.steps T.steps self.old) (steps_of S.steps T.steps self.new) result }
+        ensures step { IfSome (told_pages desk.old) (λ pages. (d : Database) (p : Plan) (t : Taken) (given : List PlanRow) → Follows S.At T.Stands T.closed self.old pages d p t given → Goes d p t given (counts_of (S.seen (source_of self.old))) (counts_of (S.seen (source_of self.new))) desk.old desk.new result (Follows S.At T.Stands T.closed self.new pages d p)) }
+    {
+        match self {
+            Operator::Source(source) => match source.next(alloc, desk) {
+                Ok(Some(row)) => Ok(Step::Row(row)),
+                Ok(None) => Ok(Step::End),
+                Err(fault) => Err(fault),
+            },
+            Operator::Over(over) => over.step(alloc, desk),
+        }
+    }
+}
+
+impl<S: RowSource, T: RowStage> Over<S, T> {
+    // Lets the stage work, or gives it the next row beneath.
+    #[cycle(step)]
+    fn step<D: Disk>(&mut self, alloc: Global, desk: &mut Desk<D>) -> Result<Step, PageFault>
+        requires stands { IfSome (told_pages desk.old) (λ pages. (d : Database) × ((p : Plan) × ((t : Taken) × ((given : List PlanRow) × Follows S.At T.Stands T.closed (Operator.Over self.old) pages d p t given)))) }
+        ensures read { IsRead desk.old.pool desk.new.pool }
+        ensures cause { HasPageCause desk.old.pool desk.new.pool result }
+        ensures falls { Lowers (steps_of S.steps T.steps (Operator.Over self.old)) (steps_of S.steps T.steps (Operator.Over self.new)) result }
+        ensures step { IfSome (told_pages desk.old) (λ pages. (d : Database) (p : Plan) (t : Taken) (given : List PlanRow) → Follows S.At T.Stands T.closed (Operator.Over self.old) pages d p t given → Goes d p t given (counts_of (S.seen (source_of (Operator.Over self.old)))) (counts_of (S.seen (source_of (Operator.Over self.new)))) desk.old desk.new result (Follows S.At T.Stands T.closed (Operator.Over self.new) pages d p)) }
+    {
+        if self.stage.is_busy() {
+            return self.stage.work(alloc, desk);
+        }
+        match self.below.step(alloc, desk) {
+            Ok(Step::Row(row)) => {
+                self.stage.hold(row);
+                Ok(Step::Pass)
+            }
+            Ok(Step::Pass) => Ok(Step::Pass),
+            Ok(Step::End) => self.stage.finish(alloc),
+            Err(fault) => Err(fault),
+        }
+    }
+}

@@ -1,0 +1,107 @@
+ghost use Rattle.sort_stages.specs.Numbers.{SortByStands};
+ghost use Rattle.sort_stages.specs.Sorting.{sort_waits, sort_steps};
+
+use crate::keys::number;
+use page_pool::{Desk, Disk, PageFault};
+use plan_places::Spot;
+use plan_rows::Answer;
+use plan_steps::{RowStage, Step};
+use row_sort::RowSort;
+use sand_base::NoMemory;
+use std::alloc::Global;
+
+/// `sort by`: all rows, by the int at a place. It holds a row until its int is read.
+#[derive(Drop)]
+pub struct SortBy<'s> {
+    spot: Spot<'s>,
+    held: Option<Answer>,
+    rows: RowSort<i64>,
+    closed: bool,
+}
+
+impl<'s> SortBy<'s> {
+    ghost use Rattle.std.specs.Prelude.{[]};
+    ghost use Rattle.page_pool.specs.Disk.{PageMap};
+    ghost use Rattle.sand_model.specs.Database.{Database};
+    ghost use Rattle.sand_model.specs.Operators.{relations_of};
+    ghost use Rattle.sand_model.specs.Plan as plan;
+    ghost use Rattle.sand_model.specs.Plan.{Plan, Place};
+    ghost use Rattle.plan_places.specs.Spots.{IsSpot};
+
+    /// The stage of a sort by this place. It takes no memory.
+    pub fn new(alloc: Global, spot: Spot<'s>) -> SortBy<'s>
+        ensures { (pages : PageMap) (d : Database) (below : Plan) (place : Place) → IsSpot d (relations_of below) place spot.entry pages → SortByStands result pages d (plan.SortBy below place) [] [] }
+    {
+        SortBy {
+            spot,
+            held: None,
+            rows: RowSort::new(alloc),
+            closed: false,
+        }
+    }
+}
+
+impl<'s> RowStage for SortBy<'s> {
+    ghost Stands = { SortByStands };
+
+    ghost waits = { λ s. sort_waits s.held s.closed };
+
+    ghost closed = { λ s. s.closed };
+
+    ghost steps = { λ s. sort_steps s.held s.rows s.closed };
+
+    fn is_busy(&self) -> bool {
+        self.held.is_some() || self.closed
+    }
+
+    fn hold(&mut self, row: Answer) {
+        self.held = Some(row);
+    }
+
+    fn finish(&mut self, alloc: Global) -> Result<Step, PageFault> {
+        match self.rows.sort(alloc) {
+            Ok(()) => {
+                self.closed = true;
+                Ok(Step::Pass)
+            }
+            Err(NoMemory {}) => Err(PageFault::Memory),
+        }
+    }
+
+    fn work<D: Disk>(&mut self, alloc: Global, desk: &mut Desk<D>) -> Result<Step, PageFault> {
+        let Some(row) = self.held.take() else {
+            return match self.rows.next() {
+                Some(keyed) => Ok(Step::Row(keyed.row)),
+                None => Ok(Step::End),
+            };
+        };
+        match number(alloc, desk.pages(), &self.spot, row.ids.as_slice()) {
+            Ok(key) => match self.rows.push(key, row) {
+                Ok(()) => Ok(Step::Pass),
+                Err(row) => {
+                    self.held = Some(row);
+                    Err(PageFault::Memory)
+                }
+            },
+            Err(fault) => {
+                self.held = Some(row);
+                Err(fault)
+            }
+        }
+    }
+
+    ghost use Rattle.row_sort.specs.Keyed.{keyed_row};
+    ghost use Rattle.sand_model.specs.Operators.{relations_of};
+    ghost use Rattle.sort_stages.specs.Numbers.{HasNumber};
+    ghost use Rattle.sort_stages.specs.SortLaws.{by_outermost, front_of, late_of, closed_waits_of, rises_of};
+
+    ghost outermost = { λ s pages d p taken given f. by_outermost f.below f.place f.is };
+
+    ghost front = { λ s pages d p taken given all f b whole. front_of s.closed (HasNumber d (relations_of f.below) f.place) keyed_row d p s.held s.rows taken given all f.sorts b whole };
+
+    ghost late = { λ s pages d p taken given f sort. late_of s.closed (HasNumber d (relations_of f.below) f.place) keyed_row d p s.held s.rows taken given f.sorts };
+
+    ghost closed_waits = { λ s. closed_waits_of s.held s.closed };
+
+    ghost rises = { λ s. rises_of s.held s.rows s.closed };
+}
