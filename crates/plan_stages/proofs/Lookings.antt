@@ -72,7 +72,7 @@ given_row h id v a gap ids values = λ i. row_of (record { gap = sym gap i; ids 
 pub match_gives : (pages : PageMap) (d : Database) (p : Plan) (taken given : List PlanRow) (spot : Spot) (look_up : LookUp) (h : Matching) (id : ℕ) (a : Answer)
     → a.gap ≡ h.row.gap → a.ids ≡ h.row.ids ++ id ∷ [] → a.values ≡ h.row.values
     → ((names : List (List ℕ)) (place : Place) (column : Column) → IsSpot d names place spot pages → IsLookUp d column look_up pages
-      → GivesFirst h.last (equals_at d names place column (row_of h.row)) (Some id))
+    → GivesFirst h.last (equals_at d names place column (row_of h.row)) (Some id))
     → MatchStands (record { spot = spot; look_up = look_up; held = Some h }) pages d p taken given
     → Works d p taken given false (Ok (Row a)) (MatchStands (record { spot = spot; look_up = look_up; held = Some (record { row = h.row; last = id }) }) pages d p taken)
 match_gives pages d p taken given spot look_up h id a gap ids values next s = record {
@@ -105,7 +105,7 @@ match_gives pages d p taken given spot look_up h id a gap ids values next s = re
 -- no match is left
 pub match_ends : (pages : PageMap) (d : Database) (p : Plan) (taken given : List PlanRow) (spot : Spot) (look_up : LookUp) (h : Matching)
     → ((names : List (List ℕ)) (place : Place) (column : Column) → IsSpot d names place spot pages → IsLookUp d column look_up pages
-      → GivesFirst h.last (equals_at d names place column (row_of h.row)) None)
+    → GivesFirst h.last (equals_at d names place column (row_of h.row)) None)
     → MatchStands (record { spot = spot; look_up = look_up; held = Some h }) pages d p taken given
     → Works d p taken given false (Ok Pass) (MatchStands (record { spot = spot; look_up = look_up; held = None }) pages d p taken)
 match_ends pages d p taken given spot look_up h next s = record {
@@ -150,7 +150,7 @@ next_told desk pool spot look_up row last result found is e h =
 pub gives_told : (desk : DeskState) (pool : PoolState) (m : Match) (h : Matching) (id : ℕ) (a : Answer) (result : Result (Option ℕ) PageFault) → pool ≡ desk.pool → m.held ≡ Some h → result ≡ Ok (Some id)
     → IfOk result (MatchesNext pool m.spot m.look_up (row_of h.row) h.last) → a.gap ≡ h.row.gap → a.ids ≡ h.row.ids ++ id ∷ [] → a.values ≡ h.row.values
     → IfSome (told_pages desk) (λ pages. (d : Database) (p : Plan) (taken given : List PlanRow) → MatchStands m pages d p taken given
-      → Works d p taken given false (Ok (Row a)) (MatchStands (record { spot = m.spot; look_up = m.look_up; held = Some (record { row = h.row; last = id }) }) pages d p taken))
+    → Works d p taken given false (Ok (Row a)) (MatchStands (record { spot = m.spot; look_up = m.look_up; held = Some (record { row = h.row; last = id }) }) pages d p taken))
 gives_told desk pool m h id a result is e r first gap ids values =
     by_told desk (λ pages. (d : Database) (p : Plan) (taken given : List PlanRow) → MatchStands m pages d p taken given
     → Works d p taken given false (Ok (Row a)) (MatchStands (record { spot = m.spot; look_up = m.look_up; held = Some (record { row = h.row; last = id }) }) pages d p taken))
@@ -161,7 +161,7 @@ gives_told desk pool m h id a result is e r first gap ids values =
 pub ends_told : (desk : DeskState) (pool : PoolState) (m : Match) (h : Matching) (result : Result (Option ℕ) PageFault) (after : Option Matching) → after ≡ None → pool ≡ desk.pool → m.held ≡ Some h → result ≡ Ok None
     → IfOk result (MatchesNext pool m.spot m.look_up (row_of h.row) h.last)
     → IfSome (told_pages desk) (λ pages. (d : Database) (p : Plan) (taken given : List PlanRow) → MatchStands m pages d p taken given
-      → Works d p taken given false (Ok Pass) (MatchStands (record { spot = m.spot; look_up = m.look_up; held = after }) pages d p taken))
+    → Works d p taken given false (Ok Pass) (MatchStands (record { spot = m.spot; look_up = m.look_up; held = after }) pages d p taken))
 ends_told desk pool m h result after gone is e r first =
     by_told desk (λ pages. (d : Database) (p : Plan) (taken given : List PlanRow) → MatchStands m pages d p taken given
     → Works d p taken given false (Ok Pass) (MatchStands (record { spot = m.spot; look_up = m.look_up; held = after }) pages d p taken))

@@ -13,7 +13,7 @@ ghost use Rattle.plan_stages.specs.Matches.{MatchStands, match_waits, match_step
 
 use page_pool::{Desk, Disk, PageFault, Pages};
 use plan_places::{LookUp, Spot};
-use plan_rows::{Answer};
+use plan_rows::Answer;
 use plan_steps::{RowStage, Step};
 use sand_base::{Ids, NoMemory};
 use std::alloc::Global;
