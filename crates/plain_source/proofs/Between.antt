@@ -247,8 +247,8 @@ left_some low high after x (e ∷ es) f i o h = go (λ k. left_some low high aft
       record {
         number = entry_number e;
         first =
-          left_in low high (place_after after) e es (lies_is low high e i.0.1 ∙ ew) from
-          ∙ ap (λ (ns : List ℕ). entry_number e ∷ ns) (behind ∙ sym (left_below low high (place_after (Some x)) e es (le_false (place_after (Some x)) (entry_number e) (omega (arith, place)))));
+            left_in low high (place_after after) e es (lies_is low high e i.0.1 ∙ ew) from
+            ∙ ap (λ (ns : List ℕ). entry_number e ∷ ns) (behind ∙ sym (left_below low high (place_after (Some x)) e es (le_false (place_after (Some x)) (entry_number e) (omega (arith, place)))));
         place = place;
         id = omega (arith, id, i.0.1);
         fit = (subst IsIntInRange (sym whole ∙ ap (λ (y : IntEntry). y.0) is) i.0.0.1.0, omega (arith, id, i.0.1));

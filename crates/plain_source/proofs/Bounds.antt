@@ -129,10 +129,10 @@ between_begun m l d column low high greatest h i lf hf g s =
       high_fits = hf;
       last_fits = tt;
       left =
-        ap (λ (xs : Pairs). map (λ (p : ℕ × Value). plain_row p.0) (sorted number_cmp (filter (λ p. is_between low high p.1) xs))) (values_are d column (relation_in m l.spot.relation.now) at h.is.relation h.is.at)
-        ∙ (rows_of_pairs (sorted number_cmp part) small
-        ∙ ap (λ (ns : List ℕ). map row_of_number ns) (sorted_numbers low high ps es pairs (in_order at rows kept.rise) (entries_in_order (tree_items (store_of m) l.index.tree) kept.is.tree.at.ascending) counted
-        ∙ sym (filter_none 0 kept_numbers all)));
+          ap (λ (xs : Pairs). map (λ (p : ℕ × Value). plain_row p.0) (sorted number_cmp (filter (λ p. is_between low high p.1) xs))) (values_are d column (relation_in m l.spot.relation.now) at h.is.relation h.is.at)
+          ∙ (rows_of_pairs (sorted number_cmp part) small
+          ∙ ap (λ (ns : List ℕ). map row_of_number ns) (sorted_numbers low high ps es pairs (in_order at rows kept.rise) (entries_in_order (tree_items (store_of m) l.index.tree) kept.is.tree.at.ascending) counted
+          ∙ sym (filter_none 0 kept_numbers all)));
     }
   where
     each_any : (ns : List ℕ) → Each (λ n. 0 ≤ n) ns
@@ -160,14 +160,14 @@ pub between_row : (l : LookUp) (low high : ℤ) (last : Option IntEntry) (x : In
 between_row l low high last x a old new gives is reads =
     let F : PageMap → Type 0 = λ pages. (d : Database) (p : Plan) (t : Taken) → IsPickBetween l low high last pages d p t → SourceStep d p t no_counts no_counts old new (Ok (Some a)) (λ u. IsPickBetween l low high (Some x) pages d p u) in
     where_told old F (λ told d p t h.
-        let m : PageMap = old.pool.pages in
-        let es : List Entry = entries_at (store_of m) l.index in
-        let ints = ints_index low high last l m d p t h in
-        let first : IsLeft low high (place_after last) x es =
-        left_some low high last x es h.last_fits (int_entries_of m l ints) (entries_in_order (tree_items (store_of m) l.index.tree) ints.index.tree.at.ascending) (finds l low high last m (Some x) h.low_fits h.high_fits (gives told)) in
-        row_step d p t a (row_of_number first.number) (map row_of_number (left_from low high (place_after (Some x)) es)) old new (λ u. IsPickBetween l low high (Some x) m d p u) (plain l low high last m d p t h)
-        (h.left ∙ ap (λ (ns : List ℕ). map row_of_number ns) first.first) (is ∙ ap plain_row (sym first.id)) reads
-        (λ u left. record { column = h.column; is = h.is; look_up = h.look_up; ints = h.ints; low_fits = h.low_fits; high_fits = h.high_fits; last_fits = first.fit; left = left }))
+    let m : PageMap = old.pool.pages in
+    let es : List Entry = entries_at (store_of m) l.index in
+    let ints = ints_index low high last l m d p t h in
+    let first : IsLeft low high (place_after last) x es =
+    left_some low high last x es h.last_fits (int_entries_of m l ints) (entries_in_order (tree_items (store_of m) l.index.tree) ints.index.tree.at.ascending) (finds l low high last m (Some x) h.low_fits h.high_fits (gives told)) in
+    row_step d p t a (row_of_number first.number) (map row_of_number (left_from low high (place_after (Some x)) es)) old new (λ u. IsPickBetween l low high (Some x) m d p u) (plain l low high last m d p t h)
+    (h.left ∙ ap (λ (ns : List ℕ). map row_of_number ns) first.first) (is ∙ ap plain_row (sym first.id)) reads
+    (λ u left. record { column = h.column; is = h.is; look_up = h.look_up; ints = h.ints; low_fits = h.low_fits; high_fits = h.high_fits; last_fits = first.fit; left = left }))
 
 -- the end
 pub between_end : (l : LookUp) (low high : ℤ) (last : Option IntEntry) (old new : DeskState) → (IsTold old.pool → Finds l low high last old.pool.pages None) → Reads old new
@@ -175,12 +175,12 @@ pub between_end : (l : LookUp) (low high : ℤ) (last : Option IntEntry) (old ne
 between_end l low high last old new gives reads =
     let F : PageMap → Type 0 = λ pages. (d : Database) (p : Plan) (t : Taken) → IsPickBetween l low high last pages d p t → SourceStep d p t no_counts no_counts old new (Ok None) (λ u. IsPickBetween l low high last pages d p u) in
     where_told old F (λ told d p t h.
-        let m : PageMap = old.pool.pages in
-        let es : List Entry = entries_at (store_of m) l.index in
-        let none : map row_of_number (left_from low high (place_after last) es) ≡ [] =
-        ap (λ (ns : List ℕ). map row_of_number ns) (left_none low high last es h.last_fits (int_entries_of m l (ints_index low high last l m d p t h)) (finds l low high last m None h.low_fits h.high_fits (gives told))) in
-        end_step d p t old new (λ u. IsPickBetween l low high last m d p u) (plain l low high last m d p t h) (h.left ∙ none) reads
-        (λ u left. record { column = h.column; is = h.is; look_up = h.look_up; ints = h.ints; low_fits = h.low_fits; high_fits = h.high_fits; last_fits = h.last_fits; left = left ∙ sym none }))
+    let m : PageMap = old.pool.pages in
+    let es : List Entry = entries_at (store_of m) l.index in
+    let none : map row_of_number (left_from low high (place_after last) es) ≡ [] =
+    ap (λ (ns : List ℕ). map row_of_number ns) (left_none low high last es h.last_fits (int_entries_of m l (ints_index low high last l m d p t h)) (finds l low high last m None h.low_fits h.high_fits (gives told))) in
+    end_step d p t old new (λ u. IsPickBetween l low high last m d p u) (plain l low high last m d p t h) (h.left ∙ none) reads
+    (λ u left. record { column = h.column; is = h.is; look_up = h.look_up; ints = h.ints; low_fits = h.low_fits; high_fits = h.high_fits; last_fits = h.last_fits; left = left ∙ sym none }))
 
 -- ---- how many steps there may be
 

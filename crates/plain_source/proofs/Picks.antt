@@ -49,9 +49,9 @@ pub pick_row : (l : LookUp) (v : Value) (last id : ℕ) (a : Answer) (old new : 
 pick_row l v last id a old new gives is reads =
     let F : PageMap → Type 0 = λ pages. (d : Database) (p : Plan) (t : Taken) → IsPickEqual l v last pages d p t → SourceStep d p t no_counts no_counts old new (Ok (Some a)) (λ u. IsPickEqual l v id pages d p u) in
     where_told old F (λ told d p t h.
-        let first = gives told d h.column h.look_up in
-        row_step d p t a (plain_row id) (rows_of (above id (equals d h.column v))) old new (λ u. IsPickEqual l v id old.pool.pages d p u) (plain l v last old.pool.pages d p t h)
-        (h.left ∙ ap rows_of first.1) is reads (λ u left. record { column = h.column; is = h.is; look_up = h.look_up; left = left }))
+    let first = gives told d h.column h.look_up in
+    row_step d p t a (plain_row id) (rows_of (above id (equals d h.column v))) old new (λ u. IsPickEqual l v id old.pool.pages d p u) (plain l v last old.pool.pages d p t h)
+    (h.left ∙ ap rows_of first.1) is reads (λ u left. record { column = h.column; is = h.is; look_up = h.look_up; left = left }))
 
 -- the end
 pub pick_end : (l : LookUp) (v : Value) (last : ℕ) (old new : DeskState) → (IsTold old.pool → Looks l v last old.pool.pages None) → Reads old new
@@ -59,6 +59,6 @@ pub pick_end : (l : LookUp) (v : Value) (last : ℕ) (old new : DeskState) → (
 pick_end l v last old new gives reads =
     let F : PageMap → Type 0 = λ pages. (d : Database) (p : Plan) (t : Taken) → IsPickEqual l v last pages d p t → SourceStep d p t no_counts no_counts old new (Ok None) (λ u. IsPickEqual l v last pages d p u) in
     where_told old F (λ told d p t h.
-        let none : rows_of (above last (equals d h.column v)) ≡ [] = ap rows_of (gives told d h.column h.look_up) in
-        end_step d p t old new (λ u. IsPickEqual l v last old.pool.pages d p u) (plain l v last old.pool.pages d p t h) (h.left ∙ none) reads
-        (λ u left. record { column = h.column; is = h.is; look_up = h.look_up; left = left ∙ sym none }))
+    let none : rows_of (above last (equals d h.column v)) ≡ [] = ap rows_of (gives told d h.column h.look_up) in
+    end_step d p t old new (λ u. IsPickEqual l v last old.pool.pages d p u) (plain l v last old.pool.pages d p t h) (h.left ∙ none) reads
+    (λ u left. record { column = h.column; is = h.is; look_up = h.look_up; left = left ∙ sym none }))

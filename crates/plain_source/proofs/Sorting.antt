@@ -129,8 +129,7 @@ rising_placed x (y ∷ ys) i is d h =
           let l : number_of y < number_of x = elim (leb_tells (suc (number_of y)) (number_of x)) [
             | inl z ↦ z.1
             | inr z ↦ absurd (true≢false (sym e ∙ (less y x is.0 i ∙ lt_not (number_of y) (number_of x) (omega (arith, z.1)))))
-          ] in
-          (
+          ] in (
             each_numbers (λ k. number_of y < k) (placed number_cmp x ys) (each_placed (λ p. number_of y < number_of p) x ys l (each_of_numbers (λ k. number_of y < k) ys h.0)),
             rising_placed x ys i is.1 d.1 h.1,
           )
