@@ -1,7 +1,6 @@
 -- The sorted rows of a column whose ints lie within bounds, and the entries of its index that do.
-use Rattle.std.proofs.Common.{◌≡◌, ℕ, ℤ, zero, suc, ◌+◌, ◌*◌, ◌/◌, ◌%◌, ◌^◌, ◌<◌, ◌≤◌, ◌<ℤ◌, ◌≤ℤ◌, Bool, true, false, not, ◌&&◌, ◌||◌, cond, List, [], ◌∷◌, map, filter, refl, sym, ◌∙◌, ap, ap₂, subst, inl, inr, arith, true≢false}
+use Rattle.std.proofs.Common.{◌≡◌, ℕ, ℤ, suc, ◌+◌, ◌/◌, ◌%◌, ◌^◌, ◌<◌, ◌≤◌, ◌<ℤ◌, Bool, true, false, not, ◌&&◌, ◌||◌, cond, List, [], ◌∷◌, map, filter, refl, sym, ◌∙◌, ap, ap₂, subst, inl, inr, arith, true≢false}
 use Rattle.std.specs.Prelude.{nat_lt, nat_le, int_lt, int_le, Option, None, Some, is_some}
-use Rattle.std.specs.List.{find}
 use Rattle.std.specs.Cmp.{int_ranks}
 use Rattle.std.specs.Ordering.{int_cmp, is_lt, MatchOrdering}
 use Rattle.std.specs.declared.cmp.Ordering.{Ordering}
@@ -9,8 +8,8 @@ use Rattle.std.specs.declared.cmp.Ordering.TheVariants as ordering
 use Rattle.std.proofs.lemmas.Bool.Decides.{leb_tells}
 use Rattle.std.proofs.lemmas.Int.{ints}
 use Rattle.code_btree.specs.Items.{Each}
-use Rattle.code_btree.specs.Tree.{Store, tree_items, times}
-use Rattle.code_btree.proofs.Lists.{same_cases, Each-map, Each-zip}
+use Rattle.code_btree.specs.Tree.{times}
+use Rattle.code_btree.proofs.Lists.{same_cases, Each-map}
 use Rattle.code_btree.proofs.Orders.{lt_is, lt_not}
 use Rattle.sand_base.specs.InRange.{IsIntInRange}
 use Rattle.sand_base.specs.declared.value.Value.{Value}
@@ -18,16 +17,13 @@ use Rattle.sand_base.specs.declared.value.Value.TheVariants as value
 use Rattle.sand_model.specs.Answer.{number_cmp, is_between, plain_row}
 use Rattle.sand_model.specs.Operators.{PlanRow}
 use Rattle.sand_model.specs.Sources.{sorted}
-use Rattle.attr_index.specs.declared.index.AttrIndex.{AttrIndex}
 use Rattle.attr_index.specs.Entries.{Entry, IntEntry, entry_number, IsInOrder, int_entries, is_within, is_after, between_entry}
-use Rattle.attr_index.specs.Index.{IsAttrIndex, entries_at}
 use Rattle.attr_index.specs.Key.{key_of, int_of, IsIntKey}
 use Rattle.attr_index.proofs.Ints.{key_lt, key_back, int_lt_is, int_lt_not, int_le_is, int_le_not}
-use Rattle.attr_index.proofs.Pairs.{Each-filter, entries_in_order}
+use Rattle.attr_index.proofs.Pairs.{Each-filter}
 use Rattle.plan_places.proofs.Above.{Pairs, InOrder}
-use Rattle.plan_places.proofs.EqualIds.{small_ids}
 use Rattle.plain_source.specs.Plain.{lies_within, row_of_number, place_after, IsFitAfter, left_from}
-use Rattle.plain_source.proofs.Sorting.{Rising, rising_same, number_of, numbers, IsIntPair, each_sorted, times_sorted, rising_sorted}
+use Rattle.plain_source.proofs.Sorting.{Rising, rising_same, number_of, numbers, IsIntPair, times_sorted, rising_sorted}
 
 -- the tests of an int are the same
 le_is : (n k : ℤ) → not (is_lt (int_cmp k n)) ≡ int_le n k

@@ -1,25 +1,19 @@
 -- The rows of a column of ints within bounds, one after another.
-use Rattle.std.proofs.Common.{◌≡◌, ℕ, ℤ, zero, suc, ◌+◌, ◌-◌, ◌*◌, ◌/◌, ◌%◌, ◌^◌, ◌<◌, ◌≤◌, ◌<ℤ◌, ◌≤ℤ◌, Bool, true, false, ◌&&◌, ◌||◌, cond, List, [], ◌∷◌, map, filter, refl, sym, ◌∙◌, ap, ap₂, subst, inl, inr, arith, true≢false, All}
-use Rattle.std.specs.Prelude.{Option, Some, None, Ok, Err, IfSome, pos, negsuc, nat_lt, nat_le, is_some, int_lt, int_le, IsTrue}
-use Rattle.std.specs.Cmp.{int_ranks}
-use Rattle.std.specs.Ordering.{int_cmp, MatchOrdering}
-use Rattle.std.specs.declared.cmp.Ordering.{Ordering}
-use Rattle.std.specs.declared.cmp.Ordering.TheVariants as ordering
+use Rattle.std.proofs.Common.{◌≡◌, ℕ, ℤ, zero, suc, ◌-◌, ◌^◌, ◌<◌, ◌≤◌, Bool, true, false, cond, List, [], ◌∷◌, map, filter, refl, sym, ◌∙◌, ap, ap₂, subst, arith, true≢false}
+use Rattle.std.specs.Prelude.{Option, Some, None, Ok, Err, IfSome, is_some}
 use Rattle.std.specs.Int.{w64}
 use Rattle.std.proofs.Common.{to_z, of_z, FitsSigned}
-use Rattle.std.proofs.lemmas.Int.{ints, to_z-of_z}
-use Rattle.std.proofs.lemmas.Bool.Decides.{leb_tells}
+use Rattle.std.proofs.lemmas.Int.{to_z-of_z}
 use Rattle.std.proofs.lemmas.List.Elements.{All-head, All-tail}
 use Rattle.code_btree.specs.Items.{Each}
 use Rattle.code_btree.specs.Tree.{tree_items, times}
 use Rattle.code_btree.proofs.Lists.{Each-map, Each-zip}
-use Rattle.code_btree.proofs.Orders.{lt_is, lt_not}
 use Rattle.page_pool.specs.Desk.{DeskState}
 use Rattle.page_pool.specs.Disk.{PageMap}
 use Rattle.page_pool.specs.Pool.{PoolState, IsTold}
 use Rattle.page_pool.specs.declared.fault.PageFault.{PageFault}
 use Rattle.pmr_tree.specs.Quadtree.{store_of}
-use Rattle.sand_base.specs.InRange.{IsIntInRange, IsValueInRange, IsRowInRange}
+use Rattle.sand_base.specs.InRange.{IsValueInRange, IsRowInRange}
 use Rattle.sand_base.specs.Shape.{value_kind, same_kind}
 use Rattle.sand_base.specs.declared.kind.Kind.{Kind}
 use Rattle.sand_base.specs.declared.kind.Kind.TheVariants as kind
@@ -28,34 +22,32 @@ use Rattle.sand_base.specs.declared.value.Value.{Value}
 use Rattle.sand_base.specs.declared.value.Value.TheVariants as value
 use Rattle.sand_model.specs.Answer.{number_cmp, is_between, plain_row}
 use Rattle.sand_model.specs.Database.{Database, element}
-use Rattle.sand_model.specs.Operators.{PlanRow}
 use Rattle.sand_model.specs.Plan as plan
 use Rattle.sand_model.specs.Plan.{Plan, Column}
 use Rattle.sand_model.specs.Reach.{no_counts}
 use Rattle.sand_model.specs.Sources.{sorted}
 use Rattle.sand_model.specs.Taken.{Taken}
 use Rattle.tuple_codec.specs.Decoding.{IsRowFor}
-use Rattle.attr_index.specs.Entries.{Entry, IntEntry, entry_number, int_entries, is_after, between_entry}
+use Rattle.attr_index.specs.Entries.{Entry, IntEntry, entry_number, int_entries, between_entry}
 use Rattle.attr_index.specs.Index.{IsIntIndex, entries_at}
 use Rattle.attr_index.specs.Key.{IsIntKey}
-use Rattle.attr_index.proofs.Ints.{int_lt_not, int_le_not, int_le_is}
 use Rattle.attr_index.proofs.Pairs.{Each-filter, entries_in_order}
 use Rattle.sand_store.specs.Contents.{rows_in, relation_in}
-use Rattle.sand_store.specs.Standing.{kind_at, entries_of}
+use Rattle.sand_store.specs.Standing.{kind_at}
 use Rattle.sand_store.proofs.IndexGrowth.{kind_of_value}
 use Rattle.best_first.specs.Visits.{told_pages}
 use Rattle.plan_places.specs.Indexed.{IsLookUp}
 use Rattle.plan_places.specs.Steps.{values_at}
 use Rattle.plan_places.specs.declared.look_up.LookUp.{LookUp}
-use Rattle.plan_places.proofs.Above.{Pairs, InOrder}
+use Rattle.plan_places.proofs.Above.{Pairs}
 use Rattle.plan_places.proofs.ColumnValues.{values_are, each_value}
 use Rattle.plan_places.proofs.EqualIds.{small_ids}
-use Rattle.plan_places.proofs.LookedUp.{Keeps, in_order, numbers_are}
+use Rattle.plan_places.proofs.LookedUp.{in_order, numbers_are}
 use Rattle.plan_places.proofs.LookUps.{keeps_of, each_all}
 use Rattle.plan_rows.specs.Rows.{row_of}
 use Rattle.plan_rows.specs.SourceSteps.{SourceStep, nothing_taken}
 use Rattle.plan_rows.specs.declared.answer.Answer.{Answer}
-use Rattle.plain_source.specs.Plain.{left_of, HasInts, lies_within, row_of_number, place_after, left_from, below_by, steps_left, IsPickBetween}
+use Rattle.plain_source.specs.Plain.{HasInts, lies_within, row_of_number, place_after, left_from, IsPickBetween}
 use Rattle.plain_source.proofs.PlainSteps.{IsPlain, Reads, row_step, end_step, fault_step, where_told}
 use Rattle.plain_source.proofs.Sorting.{IsIntPair, numbers, each_sorted}
 use Rattle.plain_source.proofs.Between.{sorted_numbers, rows_of_pairs, IsIntEntry, filter_none, left_none, IsLeft, left_some}
@@ -181,45 +173,6 @@ between_end l low high last old new gives reads =
     ap (λ (ns : List ℕ). map row_of_number ns) (left_none low high last es h.last_fits (int_entries_of m l (ints_index low high last l m d p t h)) (finds l low high last m None h.low_fits h.high_fits (gives told))) in
     end_step d p t old new (λ u. IsPickBetween l low high last m d p u) (plain l low high last m d p t h) (h.left ∙ none) reads
     (λ u left. record { column = h.column; is = h.is; look_up = h.look_up; ints = h.ints; low_fits = h.low_fits; high_fits = h.high_fits; last_fits = h.last_fits; left = left ∙ sym none }))
-
--- ---- how many steps there may be
-
-below_le : (x y h : ℤ) → x ≤ℤ y → below_by y h ≤ below_by x h
-below_le (pos x) (pos y) (pos h) l = omega (arith, ints)
-below_le (pos x) (pos y) (negsuc h) l = omega arith
-below_le (pos x) (negsuc y) h l = absurd (omega (arith, ints))
-below_le (negsuc x) (pos y) (pos h) l = omega (arith, ints)
-below_le (negsuc x) (pos y) (negsuc h) l = omega arith
-below_le (negsuc x) (negsuc y) (pos h) l = omega (arith, ints)
-below_le (negsuc x) (negsuc y) (negsuc h) l = omega (arith, ints)
-
-below_lt : (x y h : ℤ) → x <ℤ y → y ≤ℤ h → below_by y h < below_by x h
-below_lt (pos x) (pos y) (pos h) l k = omega (arith, ints)
-below_lt (pos x) (pos y) (negsuc h) l k = absurd (omega (arith, ints))
-below_lt (pos x) (negsuc y) h l k = absurd (omega (arith, ints))
-below_lt (negsuc x) (pos y) (pos h) l k = omega (arith, ints)
-below_lt (negsuc x) (pos y) (negsuc h) l k = absurd (omega (arith, ints))
-below_lt (negsuc x) (negsuc y) (pos h) l k = omega (arith, ints)
-below_lt (negsuc x) (negsuc y) (negsuc h) l k = omega (arith, ints)
-
--- an entry within the bounds after the last one leaves fewer
-pub steps_fall : (low high : ℤ) (last : Option IntEntry) (x : IntEntry) → low ≤ℤ x.0 → x.0 ≤ℤ high → is_after last x ≡ true → x.1 < 2 ^ 32 → steps_left low high (Some x) < steps_left low high last
-steps_fall low high None x l k a s = (let b = below_le low x.0 high l in omega (arith, b))
-steps_fall low high (Some a) x l k after s = go (int_cmp a.0 x.0) refl (int_ranks a.0 x.0) where
-  go : (o : Ordering) → int_cmp a.0 x.0 ≡ o → MatchOrdering o (a.0 <ℤ x.0) (a.0 ≡ x.0) (x.0 <ℤ a.0) → steps_left low high (Some x) < steps_left low high (Some a)
-  go ordering.Less e r = (let b = below_lt a.0 x.0 high r k in omega (arith, b))
-  go ordering.Equal e r =
-      let same : a.0 ≡ x.0 = r in
-      let b : below_by a.0 high ≡ below_by x.0 high = ap (λ (n : ℤ). below_by n high) same in
-      let test : nat_lt a.1 x.1 ≡ true = sym (rw (int_lt_not a.0 x.0 (omega (arith, ints, same)), int_le_is a.0 x.0 (omega (arith, ints, same))) refl) ∙ after in
-      elim (leb_tells (suc a.1) x.1) [
-        | inl z ↦ omega (arith, b, z.1, s)
-        | inr z ↦ absurd (true≢false (sym test ∙ z.0))
-      ]
-  go ordering.Greater e r =
-      let less : x.0 <ℤ a.0 = r in
-      let test : false ≡ true = sym (rw (int_lt_not a.0 x.0 (omega (arith, ints, less)), int_le_not a.0 x.0 less) refl) ∙ after in
-      absurd (true≢false (sym test))
 
 -- what holds of the pages that are lent holds of the desk's
 pub index_asked : (low high : ℤ) (last : Option IntEntry) (l : LookUp) (desk : DeskState) (pool : PoolState) → pool ≡ desk.pool

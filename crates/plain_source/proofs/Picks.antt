@@ -1,5 +1,5 @@
 -- The rows of a value, one after another.
-use Rattle.std.proofs.Common.{◌≡◌, ℕ, List, [], ◌∷◌, map, refl, sym, ◌∙◌, ap, subst}
+use Rattle.std.proofs.Common.{◌≡◌, ℕ, List, [], map, refl, sym, ◌∙◌, ap, subst}
 use Rattle.std.specs.Prelude.{Option, Some, None, Ok, IfSome}
 use Rattle.page_pool.specs.Desk.{DeskState}
 use Rattle.page_pool.specs.Disk.{PageMap}
@@ -20,7 +20,7 @@ use Rattle.plan_places.proofs.LookUps.{all_above_zero}
 use Rattle.plan_rows.specs.Rows.{row_of}
 use Rattle.plan_rows.specs.SourceSteps.{SourceStep, nothing_taken}
 use Rattle.plan_rows.specs.declared.answer.Answer.{Answer}
-use Rattle.plain_source.specs.Plain.{left_of, IsPickEqual}
+use Rattle.plain_source.specs.Plain.{IsPickEqual}
 use Rattle.plain_source.proofs.PlainSteps.{IsPlain, Reads, row_step, end_step, where_told}
 
 -- the rows of pairs

@@ -1,7 +1,6 @@
 -- A call of a source without distances: it gives the first row that is left, and visits nothing.
-use Rattle.std.proofs.Common.{◌≡◌, ℕ, zero, suc, ◌+◌, ◌<◌, ◌≤◌, true, false, Bool, cond, List, [], ◌∷◌, ◌++◌, length, drop, map, refl, sym, ◌∙◌, ap, subst, arith, append-nil}
-use Rattle.std.proofs.Math.Numerals.{add-one}
-use Rattle.std.specs.Prelude.{Option, Some, None, Ok, Err, Result, nat_lt, min, IfSome, ⊤, OnOk}
+use Rattle.std.proofs.Common.{◌≡◌, ℕ, zero, suc, ◌+◌, ◌<◌, ◌≤◌, true, false, Bool, cond, List, [], ◌∷◌, length, drop, refl, sym, ◌∙◌, ap, subst, arith, append-nil}
+use Rattle.std.specs.Prelude.{Option, Some, None, Ok, Err, Result, min, IfSome, ⊤, OnOk}
 use Rattle.std.proofs.lemmas.List.Elements.{All-nil}
 use Rattle.code_btree.proofs.Orders.{lt_is, lt_not}
 use Rattle.page_pool.specs.Desk.{DeskState}
@@ -9,7 +8,6 @@ use Rattle.page_pool.specs.Disk.{PageMap}
 use Rattle.page_pool.specs.Pool.{PoolState, IsTold}
 use Rattle.page_pool.specs.declared.fault.PageFault.{PageFault}
 use Rattle.sand_base.specs.Faults.{last_count}
-use Rattle.sand_base.specs.declared.visit.Visit.{Visit}
 use Rattle.sand_model.specs.Answer.{source}
 use Rattle.sand_model.specs.Database.{Database, element}
 use Rattle.sand_model.specs.Operators.{PlanRow}

@@ -1,7 +1,6 @@
 -- The ids of a relation's rows, one after another.
-use Rattle.std.proofs.Common.{◌≡◌, ℕ, suc, ◌+◌, ◌<◌, ◌≤◌, true, false, Bool, cond, List, [], ◌∷◌, map, filter, refl, sym, ◌∙◌, ap, ap₂, subst, inl, inr, arith, All}
-use Rattle.std.specs.Prelude.{Option, Some, None, Ok, Err, Result, nat_lt, nat_le, IfSome, option_map, ⊤}
-use Rattle.std.specs.List.{find}
+use Rattle.std.proofs.Common.{◌≡◌, ℕ, suc, ◌+◌, ◌<◌, ◌≤◌, List, [], ◌∷◌, map, refl, sym, ◌∙◌, ap, subst, inl, inr, arith, All, true≢false}
+use Rattle.std.specs.Prelude.{Option, Some, None, is_some, Ok, IfSome}
 use Rattle.std.proofs.lemmas.Bool.Decides.{leb_tells}
 use Rattle.std.proofs.lemmas.List.Elements.{All-head, All-tail}
 use Rattle.code_btree.proofs.Orders.{lt_is, lt_not}
@@ -32,7 +31,7 @@ use Rattle.plan_rows.specs.Rows.{row_of}
 use Rattle.plan_rows.specs.SourceSteps.{SourceStep, nothing_taken}
 use Rattle.plan_rows.specs.declared.answer.Answer.{Answer}
 use Rattle.plain_source.specs.Plain.{left_of, ids_of, ids_above, GivesNext, IsScan}
-use Rattle.plain_source.proofs.PlainSteps.{Reads, row_step, end_step, where_told}
+use Rattle.plain_source.proofs.PlainSteps.{IsPlain, Reads, row_step, end_step, where_told}
 
 -- a filter that all pass
 all_above : (id : ℕ) (ids : List ℕ) → Each (λ n. id < n) ids → ids_above id ids ≡ ids
@@ -50,7 +49,7 @@ each_higher low high (n ∷ ids) l h = (omega (arith, l, h.0), each_higher low h
 -- the least id from the next one on is the first above the last
 first_above : {A : Type 0} (last : ℕ) (rows : List (ℕ × A)) (found : Option ℕ) → Rises (ids_of rows) → found ≡ least_from (last + 1) rows → GivesNext last (ids_of rows) found
 first_above last [] None r e = refl
-first_above last [] (Some id) r e = absurd (Rattle.std.proofs.Common.true≢false (ap (λ (o : Option ℕ). Rattle.std.specs.Prelude.is_some o) e))
+first_above last [] (Some id) r e = absurd (true≢false (ap (λ (o : Option ℕ). is_some o) e))
 first_above last (row ∷ rows) found r e = elim (leb_tells (last + 1) row.0) [
   | inl x ↦
       let is : found ≡ Some row.0 = e ∙ rw x.0 refl in
@@ -109,8 +108,8 @@ scan_begun m r d name named h = record {
 }
 
 -- the plan of a scan
-plain : (r : RelationView) (last : ℕ) (m : PageMap) (d : Database) (p : Plan) (t : Taken) → IsScan r last m d p t → Rattle.plain_source.proofs.PlainSteps.IsPlain p
-plain r last m d p t h = (let P : Plan → Type 0 = Rattle.plain_source.proofs.PlainSteps.IsPlain in let one : P (plan.Scan h.name) = tt in subst P (sym h.is) one)
+plain : (r : RelationView) (last : ℕ) (m : PageMap) (d : Database) (p : Plan) (t : Taken) → IsScan r last m d p t → IsPlain p
+plain r last m d p t h = (let P : Plan → Type 0 = IsPlain in let one : P (plan.Scan h.name) = tt in subst P (sym h.is) one)
 
 -- the scan after an id
 after_row : (r : RelationView) (last id : ℕ) (m : PageMap) (d : Database) (p : Plan) (t u : Taken) → IsScan r last m d p t → left_of d p u ≡ map plain_row (ids_above id (ids_of (rows_in m r))) → IsScan r id m d p u

@@ -1,14 +1,14 @@
 -- Pairs of an id and an int, sorted by the int and then by the id, are in the order of their numbers in an index.
-use Rattle.std.proofs.Common.{◌≡◌, ◌≢◌, ℕ, ℤ, zero, suc, ◌+◌, ◌*◌, ◌/◌, ◌%◌, ◌^◌, ◌<◌, ◌≤◌, ◌<ℤ◌, Bool, true, false, cond, List, [], ◌∷◌, map, filter, refl, sym, ◌∙◌, ap, ap₂, subst, inl, inr, arith, true≢false}
+use Rattle.std.proofs.Common.{◌≡◌, ◌≢◌, ℕ, ℤ, suc, ◌+◌, ◌*◌, ◌^◌, ◌<◌, ◌≤◌, ◌<ℤ◌, Bool, true, false, cond, List, [], ◌∷◌, map, refl, sym, ◌∙◌, ap, ap₂, inl, inr, arith, true≢false}
 use Rattle.std.specs.Prelude.{nat_lt}
 use Rattle.std.specs.Cmp.{int_ranks, nat_cmp_is}
-use Rattle.std.specs.Ordering.{int_cmp, nat_cmp, is_lt, ordering_then, MatchOrdering}
+use Rattle.std.specs.Ordering.{int_cmp, nat_cmp, is_lt, MatchOrdering}
 use Rattle.std.specs.declared.cmp.Ordering.{Ordering}
 use Rattle.std.specs.declared.cmp.Ordering.TheVariants as ordering
 use Rattle.std.proofs.lemmas.Bool.Decides.{leb_tells}
 use Rattle.code_btree.specs.Items.{Each}
 use Rattle.code_btree.specs.Tree.{same, times}
-use Rattle.code_btree.proofs.Lists.{same_cases, same_self, Each-map, Each-zip}
+use Rattle.code_btree.proofs.Lists.{same_cases, same_self, Each-map}
 use Rattle.code_btree.proofs.Orders.{lt_is, lt_not}
 use Rattle.sand_base.specs.InRange.{IsIntInRange}
 use Rattle.sand_base.specs.declared.value.Value.{Value}

@@ -17,7 +17,7 @@ use Rattle.attr_index.specs.Entries.{Entry, IntEntry, entry_number, is_within}
 use Rattle.attr_index.specs.Index.{entries_at}
 use Rattle.attr_index.specs.Key.{key_of, int_of}
 use Rattle.sand_store.specs.Catalog.{RelationView}
-use Rattle.sand_store.specs.Contents.{rows_in, relation_in}
+use Rattle.sand_store.specs.Contents.{rows_in}
 use Rattle.sand_store.specs.Standing.{kind_at}
 use Rattle.plan_places.specs.Equals.{equals, above}
 use Rattle.plan_places.specs.Indexed.{IsLookUp}

@@ -32,13 +32,8 @@ fn has_ints(look_up: &LookUp) -> bool
     ensures ints { result ≡ true → HasInts look_up.now }
     ensures other { result ≡ false → HasInts look_up.now → ⊥ }
 {
-    match look_up
-        .spot
-        .relation
-        .schema()
-        .columns()
-        .get(look_up.spot.column)
-    {
+    let spot = look_up.spot;
+    match spot.relation.schema().columns().get(spot.column) {
         Some((_, Kind::Int)) => true,
         _ => false,
     }

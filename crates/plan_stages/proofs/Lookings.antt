@@ -1,5 +1,5 @@
 -- The matches of a row that is held, one after another.
-use Rattle.std.proofs.Common.{◌≡◌, ℕ, ◌+◌, ◌<◌, Bool, true, false, List, [], ◌∷◌, ◌++◌, map, Option, Some, None, Result, Ok, Err, IfOk, IfSome, IsTrue, if◌then◌else◌, refl, sym, ap, ◌∙◌, subst}
+use Rattle.std.proofs.Common.{◌≡◌, ℕ, Bool, true, false, List, [], ◌∷◌, ◌++◌, map, Option, Some, None, Result, Ok, Err, IfOk, IfSome, IsTrue, if◌then◌else◌, refl, sym, ap, ◌∙◌, subst}
 use Rattle.std.proofs.lemmas.List.{append_assoc}
 use Rattle.sand_base.specs.declared.value.Value.{Value}
 use Rattle.page_pool.specs.Desk.{DeskState}
@@ -20,12 +20,10 @@ use Rattle.plan_rows.specs.Rows.{row_of}
 use Rattle.plan_rows.specs.declared.answer.Answer.{Answer}
 use Rattle.plan_steps.specs.Outermost.{made}
 use Rattle.plan_steps.specs.Stages.{Works}
-use Rattle.plan_steps.specs.declared.step.Step.{Step}
 use Rattle.plan_steps.specs.declared.step.Step.TheVariants.{Row, Pass}
-use Rattle.plan_stages.specs.Matches.{MatchStands, equals_of, equals_at, with_id, to_come}
+use Rattle.plan_stages.specs.Matches.{MatchStands, equals_of, equals_at, with_id}
 use Rattle.plan_stages.specs.declared.matching.Match.{Match}
 use Rattle.plan_stages.specs.declared.matching.Matching.{Matching}
-use Rattle.plan_stages.proofs.Reading.{told_back}
 
 -- what the value at the place of a row says
 Says : PoolState → Spot → List ℕ → Option Value → Type 0

@@ -1,5 +1,5 @@
 -- Reading pages leaves what stands over them.
-use Rattle.std.proofs.Common.{◌≡◌, ◌-◌, List, All, IsTrue, take, drop, length, sym, subst}
+use Rattle.std.proofs.Common.{◌-◌, List, All, IsTrue, take, drop, length, sym, subst}
 use Rattle.page_pool.specs.Pool.{PoolState, IsTold}
 use Rattle.page_pool.specs.Reads.{IsRead}
 use Rattle.plan_places.specs.Spots.{Stands}

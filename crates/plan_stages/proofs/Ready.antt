@@ -1,6 +1,5 @@
 -- What a stage that is to work may read.
-use Rattle.std.proofs.Common.{◌≡◌, ℕ, zero, suc, ◌<◌, List, [], ◌∷◌, length, slice_index_or, All, Option, Some, None, IfSome, IsTrue, if◌then◌else◌, Bool, true, false, sym, subst, arith}
-use Rattle.std.specs.List.{AllZip}
+use Rattle.std.proofs.Common.{◌≡◌, ℕ, zero, suc, ◌<◌, List, [], ◌∷◌, length, slice_index_or, All, Some, None, IfSome, if◌then◌else◌, Bool, sym, subst, arith}
 use Rattle.page_pool.specs.Desk.{DeskState}
 use Rattle.page_pool.specs.Disk.{PageMap}
 use Rattle.page_pool.specs.Pool.{PoolState, IsTold}
@@ -9,7 +8,6 @@ use Rattle.sand_model.specs.Operators.{PlanRow, relations_of}
 use Rattle.sand_model.specs.Plan.{Plan, Place, Test}
 use Rattle.best_first.specs.Visits.{told_pages}
 use Rattle.plan_places.specs.Spots.{Stands}
-use Rattle.plan_steps.specs.Stages.{Standing}
 use Rattle.plan_places.specs.declared.spot.Spot.{Spot}
 use Rattle.plan_stages.specs.Fetches.{FetchStands, AreSpots, SpotsStand}
 use Rattle.plan_stages.specs.Filters.{FilterStands}

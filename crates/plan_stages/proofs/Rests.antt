@@ -1,5 +1,5 @@
 -- What holds of all elements of a list holds of those behind the first.
-use Rattle.std.proofs.Common.{◌≡◌, ℕ, suc, ◌+◌, ◌-◌, ◌<◌, ◌≤◌, List, [], ◌∷◌, length, take, drop, All, slice_index_or, refl, sym, ap, ◌∙◌, subst, arith}
+use Rattle.std.proofs.Common.{◌≡◌, suc, ◌-◌, ◌<◌, ◌≤◌, List, [], ◌∷◌, length, take, drop, All, refl, sym, subst, arith}
 use Rattle.std.proofs.lemmas.List.{take_all}
 
 -- the rest of a list, as slices have it

@@ -1,5 +1,5 @@
 -- A match has more steps where more are made beneath it.
-use Rattle.std.proofs.Common.{ℕ, ◌+◌, ◌*◌, ◌<◌, arith}
+use Rattle.std.proofs.Common.{ℕ, ◌<◌, arith}
 use Rattle.plan_stages.specs.Matches.{match_steps}
 use Rattle.plan_stages.specs.declared.matching.Match.{Match}
 

@@ -1,5 +1,5 @@
 -- Laws of a stage that is no sort, with their proofs.
-use Rattle.std.proofs.Common.{◌≡◌, ◌⊎◌, inl, inr, ℕ, ◌+◌, ◌*◌, ◌<◌, Bool, true, false, true≢false, List, [], ◌++◌, sym, ◌∙◌, arith}
+use Rattle.std.proofs.Common.{◌≡◌, ℕ, ◌+◌, ◌*◌, ◌<◌, true, false, true≢false, List, sym, ◌∙◌, arith}
 use Rattle.sand_model.specs.Database.{Database}
 use Rattle.sand_model.specs.Operators.{PlanRow}
 use Rattle.sand_model.specs.Plan.{Plan}

@@ -1,16 +1,16 @@
 -- What an operator gave begins the answer of its plan, and over a sort nothing is given before the source is spent.
-use Rattle.std.proofs.Common.{◌≡◌, ◌⊎◌, inl, inr, ℕ, ◌≤◌, Bool, true, false, true≢false, List, [], ◌∷◌, ◌++◌, length, take, refl, sym, ap, ◌∙◌, subst, arith}
+use Rattle.std.proofs.Common.{◌≡◌, ◌⊎◌, inl, inr, Bool, true, false, true≢false, List, [], take, refl, sym, ◌∙◌, subst}
 use Rattle.page_pool.specs.Disk.{PageMap}
 use Rattle.sand_model.specs.Database.{Database}
 use Rattle.sand_model.specs.Operators.{PlanRow}
 use Rattle.sand_model.specs.Plan.{Plan}
 use Rattle.sand_model.specs.Taken.{Taken, is_lazy, beneath_sort}
-use Rattle.plan_steps.specs.Following.{Taking, IsSource, IsOver, Follows}
-use Rattle.plan_steps.specs.Outermost.{inner, is_source, is_sort, made, source_rows, over_rows, whole, beneath, Begins}
-use Rattle.plan_steps.specs.Stages.{Standing, IsOutermost, GivesFront, OpensLate}
+use Rattle.plan_steps.specs.Following.{Taking, Follows}
+use Rattle.plan_steps.specs.Outermost.{inner, is_sort, source_rows, over_rows, whole, beneath, Begins}
+use Rattle.plan_steps.specs.Stages.{Standing, GivesFront, OpensLate}
 use Rattle.plan_steps.specs.Steps.{IsSpent}
 use Rattle.plan_steps.specs.declared.operator.Operator.{Operator, Source, Over'}
-use Rattle.plan_steps.proofs.Levels.{over_made, source_inner, whole_made, over_source, lazy_source, lazy_inner, sort_inner, lazy_plain, begins_itself, begins_same, begins_nil, take_begins, made_nil, over_front, spent_inner}
+use Rattle.plan_steps.proofs.Levels.{over_made, source_inner, whole_made, over_source, lazy_source, lazy_inner, sort_inner, begins_itself, begins_same, begins_nil, take_begins, made_nil, over_front, spent_inner}
 
 -- what was given begins the whole answer
 pub begins_whole : {S T : Type 0} (At : S → Taking) (Stands : T → Standing) (closed : T → Bool) → GivesFront Stands

@@ -1,20 +1,17 @@
 -- What a plan makes of rows is what its outermost operator makes of what the plan beneath makes.
-use Rattle.std.proofs.Common.{◌≡◌, ◌⊎◌, inl, inr, ℕ, zero, suc, ◌+◌, ◌≤◌, Bool, true, false, cond, not, nat_le, ◌||◌, true≢false, List, [], ◌∷◌, ◌++◌, length, map, filter, flat_map, take, refl, sym, ap, ap₂, ◌∙◌, subst, le_trans, arith}
+use Rattle.std.proofs.Common.{◌≡◌, inl, inr, ℕ, zero, suc, ◌≤◌, Bool, true, false, cond, nat_le, ◌||◌, true≢false, List, [], ◌∷◌, ◌++◌, length, map, filter, flat_map, take, refl, sym, ap, ◌∙◌, subst, le_trans, arith}
 use Rattle.std.proofs.lemmas.List.{append_assoc, append-nil, map-append, length-append}
 use Rattle.std.proofs.lemmas.List.Elements.{filter-append}
 use Rattle.std.proofs.lemmas.Bool.{leb-true, le-leb}
 use Rattle.std.proofs.lemmas.Grind.{flat_map-append}
-use Rattle.page_pool.specs.Desk.{DeskState}
-use Rattle.page_pool.specs.declared.fault.PageFault.{PageFault}
 use Rattle.sand_model.specs.Database.{Database}
 use Rattle.sand_model.specs.Operators.{PlanRow, relations_of, passes_all, matches_of, with_fetched}
 use Rattle.sand_model.specs.Plan as plan
 use Rattle.sand_model.specs.Plan.{Plan}
-use Rattle.sand_model.specs.Reach.{Counts}
 use Rattle.sand_model.specs.Taken.{Taken, is_full, is_lazy, beneath_sort}
 use Rattle.plan_rows.specs.Rows.{plan_measure}
 use Rattle.plan_steps.specs.Outermost.{inner, is_source, is_sort, made, is_filled, source_rows, over_rows, whole, beneath, Begins}
-use Rattle.plan_steps.specs.Steps.{is_full_at, IsSpent}
+use Rattle.plan_steps.specs.Steps.{IsSpent}
 
 -- ---- one level
 

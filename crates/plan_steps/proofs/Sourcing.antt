@@ -1,5 +1,5 @@
 -- A step of a source.
-use Rattle.std.proofs.Common.{◌≡◌, ◌⊎◌, inl, inr, ℕ, zero, suc, ◌+◌, ◌≤◌, ◌<◌, Bool, true, false, cond, nat_lt, true≢false, List, [], ◌∷◌, ◌++◌, length, take, Option, Some, None, Result, Ok, Err, refl, sym, ap, ◌∙◌, subst, le_antisymm, arith}
+use Rattle.std.proofs.Common.{◌≡◌, inl, inr, ℕ, zero, suc, ◌+◌, ◌≤◌, Bool, true, false, cond, nat_lt, true≢false, List, [], ◌∷◌, ◌++◌, length, take, Option, Some, None, Result, Ok, Err, refl, sym, ap, ◌∙◌, subst, le_antisymm, arith}
 use Rattle.std.proofs.lemmas.Bool.{lt-ltb, le-ltb}
 use Rattle.std.proofs.lemmas.List.{take_all}
 use Rattle.page_pool.specs.Desk.{DeskState}
@@ -9,15 +9,15 @@ use Rattle.sand_model.specs.Operators.{PlanRow}
 use Rattle.sand_model.specs.Plan as plan
 use Rattle.sand_model.specs.Plan.{Plan}
 use Rattle.sand_model.specs.Reach.{Counts}
-use Rattle.sand_model.specs.Taken.{Taken, is_full, is_lazy, beneath_sort}
+use Rattle.sand_model.specs.Taken.{Taken, is_full, beneath_sort}
 use Rattle.plan_rows.specs.Rows.{plan_measure, row_of}
 use Rattle.plan_rows.specs.SourceSteps.{SourceStep, GivesRow, taken_after, next_taken}
 use Rattle.plan_rows.specs.declared.answer.Answer.{Answer}
 use Rattle.plan_steps.specs.Following.{IsSource}
-use Rattle.plan_steps.specs.Outermost.{is_source, source_rows, over_rows, whole}
+use Rattle.plan_steps.specs.Outermost.{is_source, source_rows}
 use Rattle.plan_steps.specs.Steps.{given_after, AtEnd, is_full_at, IsSpent, IsAsked, IsDone, Goes}
 use Rattle.plan_steps.specs.declared.step.Step.{Step}
-use Rattle.plan_steps.specs.declared.step.Step.TheVariants.{Row, Pass, End}
+use Rattle.plan_steps.specs.declared.step.Step.TheVariants.{Row, End}
 use Rattle.plan_steps.proofs.Levels.{over_source, lazy_source, beneath_lazy}
 
 -- the step that a call of a source makes

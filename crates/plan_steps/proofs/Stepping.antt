@@ -1,27 +1,27 @@
 -- A step of an operator, from the step of the stage or of the operator beneath.
-use Rattle.std.proofs.Common.{◌≡◌, ◌≢◌, ◌⊎◌, inl, inr, ℕ, ◌+◌, ◌≤◌, min, Bool, true, false, cond, nat_lt, ◌||◌, true≢false, List, [], ◌∷◌, ◌++◌, length, take, Option, Some, None, Result, Ok, Err, IfSome, refl, sym, ap, ap₂, ◌∙◌, subst, arith}
+use Rattle.std.proofs.Common.{◌≡◌, ◌≢◌, ◌⊎◌, inl, inr, ◌+◌, ◌≤◌, min, Bool, true, false, cond, nat_lt, ◌||◌, true≢false, List, [], ◌∷◌, ◌++◌, length, take, Option, Result, Ok, Err, refl, sym, ap, ap₂, ◌∙◌, subst}
 use Rattle.sand_base.specs.Faults.{last_count}
 use Rattle.page_pool.specs.Desk.{DeskState}
 use Rattle.page_pool.specs.Disk.{PageMap}
 use Rattle.page_pool.specs.declared.fault.PageFault.{PageFault}
-use Rattle.sand_model.specs.Database.{Database, element}
+use Rattle.sand_model.specs.Database.{Database}
 use Rattle.sand_model.specs.Operators.{PlanRow}
 use Rattle.sand_model.specs.Plan as plan
 use Rattle.sand_model.specs.Plan.{Plan}
 use Rattle.sand_model.specs.Reach.{Counts}
 use Rattle.sand_model.specs.Taken.{Taken, is_full, is_lazy, beneath_sort}
 use Rattle.plan_rows.specs.Rows.{plan_measure, row_of}
-use Rattle.plan_rows.specs.SourceSteps.{MakesVisits, SourceStep, taken_after, next_taken}
+use Rattle.plan_rows.specs.SourceSteps.{MakesVisits, taken_after, next_taken}
 use Rattle.plan_rows.specs.declared.answer.Answer.{Answer}
-use Rattle.plan_steps.specs.Following.{Taking, IsSource, IsOver, Follows}
-use Rattle.plan_steps.specs.Outermost.{inner, is_source, is_sort, made, is_filled, source_rows, over_rows, whole, beneath, Begins}
-use Rattle.plan_steps.specs.Stages.{Standing, IsOutermost, GivesFront, OpensLate, IsFilled, Works, Finishes, IsDry}
-use Rattle.plan_steps.specs.Steps.{given_after, AtEnd, is_full_at, IsSpent, IsAsked, Asks, Rests, AsksOnce, IsDone, Goes}
-use Rattle.plan_steps.specs.declared.operator.Operator.{Operator, Source, Over'}
+use Rattle.plan_steps.specs.Following.{Taking, IsOver, Follows}
+use Rattle.plan_steps.specs.Outermost.{inner, made, is_filled, source_rows, over_rows, beneath, Begins}
+use Rattle.plan_steps.specs.Stages.{Standing, GivesFront, OpensLate, IsFilled, Works, Finishes, IsDry}
+use Rattle.plan_steps.specs.Steps.{given_after, AtEnd, is_full_at, IsSpent, IsAsked, AsksOnce, IsDone, Goes}
+use Rattle.plan_steps.specs.declared.operator.Operator.{Operator}
 use Rattle.plan_steps.specs.declared.step.Step.{Step}
 use Rattle.plan_steps.specs.declared.step.Step.TheVariants.{Row, Pass, End}
 use Rattle.plan_steps.proofs.Fronts.{begins_whole, begins_taken, settled}
-use Rattle.plan_steps.proofs.Levels.{over_made, source_inner, whole_made, over_source, lazy_source, lazy_inner, sort_inner, beneath_lazy, beneath_inner, full_inner, filled_plain, filled_front, begins_itself, spent_inner, spent_filled}
+use Rattle.plan_steps.proofs.Levels.{over_made, source_inner, whole_made, lazy_inner, sort_inner, beneath_lazy, beneath_inner, full_inner, filled_plain, filled_front, spent_inner, spent_filled}
 
 -- ---- one level up
 

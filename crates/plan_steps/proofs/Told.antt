@@ -1,5 +1,5 @@
 -- The steps of sources and of operators over others, where the disk tells its pages.
-use Rattle.std.proofs.Common.{◌≡◌, ◌∙◌, ◌+◌, ◌≤◌, min, Bool, true, false, true≢false, List, [], ◌∷◌, ◌++◌, Option, Some, None, Result, Ok, Err, IfSome, refl, sym, ap, subst}
+use Rattle.std.proofs.Common.{◌≡◌, ◌∙◌, ◌≤◌, min, Bool, true, false, true≢false, List, [], ◌∷◌, ◌++◌, Option, Some, None, Result, Ok, IfSome, refl, sym, subst}
 use Rattle.sand_base.specs.Faults.{last_count}
 use Rattle.page_pool.specs.Desk.{DeskState}
 use Rattle.page_pool.specs.Disk.{PageMap}
@@ -16,7 +16,7 @@ use Rattle.plan_steps.specs.Following.{Taking, IsSource, IsOver, Follows, source
 use Rattle.plan_steps.specs.Outermost.{inner, beneath}
 use Rattle.plan_steps.specs.Stages.{Standing, GivesFront, OpensLate, ClosedWaits, Works, Finishes, IsDry}
 use Rattle.plan_steps.specs.Steps.{given_after, AtEnd, Goes}
-use Rattle.plan_steps.specs.declared.operator.Operator.{Operator, Source, Over'}
+use Rattle.plan_steps.specs.declared.operator.Operator.{Operator, Source}
 use Rattle.plan_steps.specs.declared.step.Step.{Step}
 use Rattle.plan_steps.specs.declared.step.Step.TheVariants.{Row, Pass, End}
 use Rattle.plan_steps.proofs.Sourcing.{as_step, source_goes}

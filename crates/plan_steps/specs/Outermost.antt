@@ -1,5 +1,5 @@
 -- A plan level by level: its outermost operator, what this makes of rows, and the plan beneath it.
-use Rattle.std.specs.Prelude.{◌≡◌, ℕ, Bool, true, false, nat_le, List, ◌++◌, length, map, filter, flat_map, take}
+use Rattle.std.specs.Prelude.{◌≡◌, Bool, true, false, nat_le, List, ◌++◌, length, map, filter, flat_map, take}
 use Rattle.std.specs.Ordering.{int_cmp}
 use Rattle.sand_model.specs.Answer.{source, answer}
 use Rattle.sand_model.specs.Database.{Database}

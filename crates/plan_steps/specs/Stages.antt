@@ -1,13 +1,11 @@
 -- Stages: what one operator does with the rows beneath it, whatever is beneath.
-use Rattle.std.specs.Prelude.{◌≡◌, ◌≢◌, ◌⊎◌, ℕ, ◌<◌, ◌≤◌, Bool, true, false, List, [], ◌∷◌, ◌++◌, Result}
+use Rattle.std.specs.Prelude.{◌≡◌, ◌≢◌, ◌⊎◌, ℕ, ◌<◌, Bool, true, false, List, [], Result}
 use Rattle.page_pool.specs.Disk.{PageMap}
 use Rattle.page_pool.specs.declared.fault.PageFault.{PageFault}
 use Rattle.sand_model.specs.Database.{Database}
 use Rattle.sand_model.specs.Operators.{PlanRow}
 use Rattle.sand_model.specs.Plan.{Plan}
 use Rattle.sand_model.specs.Taken.{is_lazy}
-use Rattle.plan_rows.specs.Rows.{row_of}
-use Rattle.plan_rows.specs.declared.answer.Answer.{Answer}
 use Rattle.plan_steps.specs.Outermost.{is_source, is_sort, made, is_filled, beneath, Begins}
 use Rattle.plan_steps.specs.Steps.{given_after, AtEnd}
 use Rattle.plan_steps.specs.declared.step.Step.{Step}

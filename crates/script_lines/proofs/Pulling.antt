@@ -4,7 +4,7 @@ use Rattle.std.specs.Io.KnownBytes.{Consumes}
 use Rattle.sand_base.specs.declared.source.Failed.{Failed}
 use Rattle.script_lines.specs.Lines.{is_no_line, is_short_line}
 use Rattle.script_lines.specs.Parts.{ChunkState, IsCutSoFar, IsAt, Seeks}
-use Rattle.script_lines.specs.Reading.{hand_of, Stands, Reads, GivesLine, Finds, found_line, Ends}
+use Rattle.script_lines.specs.Reading.{hand_of, Stands, Reads, GivesLine, Finds, found_line, Ends, HasFound}
 use Rattle.script_lines.specs.declared.TheConstants.{LONGEST_SCRIPT}
 use Rattle.script_lines.specs.declared.script_lines.Found.{Found}
 use Rattle.script_lines.specs.declared.script_lines.Found.TheVariants as found
@@ -42,7 +42,7 @@ Finds-line : (answer : Found) (reader : ScriptLines) (left : Option (List ℕ)) 
     → answer ≡ found_line reader.line → GivesLine reader left bytes given → Finds (Ok answer) reader left bytes given
 Finds-line answer reader left bytes given is gives =
     let go : (b : Bool) → is_short_line reader.line ≡ b → Finds (Ok (cond b found.Line found.TooLong)) reader left bytes given =
-    elim [ true ↦ λ e. (e, gives) | false ↦ λ e. (e, gives) ] in
+    elim [ true ↦ λ e. gives | false ↦ λ e. gives ] in
     subst (λ a. Finds (Ok a) reader left bytes given) (sym is) (go (is_short_line reader.line) refl)
 
 -- a line feed was met
@@ -139,3 +139,20 @@ Pulls-failed old begun chunk line before left e b seeks bytes given reads =
     let one = seeks bytes given (begun_at old begun before bytes given b reads) in
     let all = bytes ++ one.0 in
     (one.0, one.1, (one.2.0, ended_lines-given line all given (whole_cut chunk line all given one.2.0 one.2.1 one.2.2), stands_now old begun chunk line left all given b one.2.2))
+
+-- a line in hand that is given is told as short or as too long
+pub HasFound-line : (answer : Found) (line : Option (List ℕ)) → answer ≡ found_line line → HasFound (Ok answer) line
+HasFound-line answer line is =
+    let go : (b : Bool) → is_short_line line ≡ b → HasFound (Ok (cond b found.Line found.TooLong)) line = elim [ true ↦ λ e. e | false ↦ λ e. e ] in
+    subst (λ a. HasFound (Ok a) line) (sym is) (go (is_short_line line) refl)
+
+-- the end of the script gives the line in hand, or none
+pub HasFound-end : (old new : ScriptLines) (answer : Found) → Ends old new answer → HasFound (Ok answer) new.line
+HasFound-end old new answer ends =
+    let go : (e : Bool) → MatchBool e ((answer ≡ found.End) × (new ≡ record old { is_ended = true })) ((answer ≡ found_line old.line) × (new ≡ record old { is_given = true; is_ended = true }))
+    → HasFound (Ok answer) new.line =
+    elim [
+      | true ↦ λ is. subst (λ a. HasFound (Ok a) new.line) (sym is.0) tt
+      | false ↦ λ is. HasFound-line answer new.line (is.0 ∙ ap found_line (sym (ap (λ (r : ScriptLines). r.line) is.1)))
+    ] in
+    go (is_no_line old.line) ends

@@ -34,8 +34,8 @@ pub record GivesLine (reader : ScriptLines) (left : Option (List ℕ)) (bytes : 
 -- What an answer says of all bytes read and of the lines given before. At the end these are all lines of the script;
 -- after a failed read, and with one byte too many (which isn't among them), those that a line feed ends.
 abbrev pub Finds : Result Found Failed → ScriptLines → Option (List ℕ) → List ℕ → List (List ℕ) → Type 0
-Finds (Ok found.Line) reader left bytes given = (is_short_line reader.line ≡ true) × GivesLine reader left bytes given
-Finds (Ok found.TooLong) reader left bytes given = (is_short_line reader.line ≡ false) × GivesLine reader left bytes given
+Finds (Ok found.Line) reader left bytes given = GivesLine reader left bytes given
+Finds (Ok found.TooLong) reader left bytes given = GivesLine reader left bytes given
 Finds (Ok found.End) reader left bytes given =
     IsAtEnd left × (length bytes ≤ LONGEST_SCRIPT) × (lines bytes ≡ given) × Reads reader left bytes given
 Finds (Ok found.ScriptTooLong) reader left bytes given =
@@ -68,3 +68,9 @@ abbrev pub Ends : ScriptLines → ScriptLines → Found → Type 0
 Ends old new answer = MatchBool (is_no_line old.line)
     ((answer ≡ found.End) × (new ≡ record old { is_ended = true }))
     ((answer ≡ found_line old.line) × (new ≡ record old { is_given = true; is_ended = true }))
+
+-- a line that was found is short, or is told as too long
+abbrev pub HasFound : Result Found Failed → Option (List ℕ) → Type 0
+HasFound (Ok found.Line) line = is_short_line line ≡ true
+HasFound (Ok found.TooLong) line = is_short_line line ≡ false
+HasFound _ line = ⊤

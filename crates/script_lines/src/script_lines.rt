@@ -1,7 +1,7 @@
 ghost use Rattle.std.specs.Prelude.{◌≡◌, ◌≤◌, [], ℕ, List, Option, true, false, length, IfOk, IfSome};
 ghost use Rattle.sand_base.specs.Faults.{HasCause};
 ghost use Rattle.script_lines.specs.Parts.{BytesFall, FillsLine, Seeks};
-ghost use Rattle.script_lines.specs.Reading.{Ends, Falls, Pulls, Reads, found_line, hand_of};
+ghost use Rattle.script_lines.specs.Reading.{Ends, Falls, HasFound, Pulls, Reads, found_line, hand_of};
 ghost use Rattle.script_text.specs.declared.TheConstants.{LONGEST_LINE};
 
 use crate::chunk::Chunk;
@@ -90,6 +90,7 @@ impl ScriptLines {
     /// The next line. The source is read only where no line ends in the bytes in hand.
     pub fn next<S: Source>(&mut self, script: &mut S) -> Result<Found, Failed>
         ensures pulls { Pulls result self.old self.new (S.left script.old) (S.left script.new) }
+        ensures found { HasFound result self.new.line }
         ensures falls { Falls result self.old self.new }
         ensures cause { HasCause (S.faults script.old) (S.faults script.new) result }
     {

@@ -1,5 +1,5 @@
 -- The value is read and looked up.
-use Rattle.std.proofs.Common.{ℕ, List, subst, sym, ◌≡◌, ◌∙◌}
+use Rattle.std.proofs.Common.{sym, ◌∙◌}
 use Rattle.plan_rows.specs.Rows.{row_of}
 use Rattle.plan_stages.proofs.Lookings.{looked_up, none_there}
 use Rattle.plan_stages.proofs.matching.next_match.Goals as goal
