@@ -23,7 +23,8 @@ use Rattle.attr_index.proofs.Ints.{key_lt, key_back, int_lt_is, int_lt_not, int_
 use Rattle.attr_index.proofs.Pairs.{Each-filter}
 use Rattle.plan_places.proofs.Above.{Pairs, InOrder}
 use Rattle.plain_source.specs.Plain.{lies_within, row_of_number, place_after, IsFitAfter, left_from}
-use Rattle.plain_source.proofs.Sorting.{Rising, rising_same, number_of, numbers, IsIntPair, times_sorted, rising_sorted}
+use Rattle.plan_places.proofs.IntColumns.{IsIntPair}
+use Rattle.plain_source.proofs.Sorting.{Rising, rising_same, number_of, numbers, times_sorted, rising_sorted}
 
 -- the tests of an int are the same
 le_is : (n k : ℤ) → not (is_lt (int_cmp k n)) ≡ int_le n k

@@ -1,10 +1,9 @@
 -- The rows of a column of ints within bounds, one after another.
-use Rattle.std.proofs.Common.{◌≡◌, ℕ, ℤ, zero, suc, ◌-◌, ◌^◌, ◌<◌, ◌≤◌, Bool, true, false, cond, List, [], ◌∷◌, map, filter, refl, sym, ◌∙◌, ap, ap₂, subst, arith, true≢false}
-use Rattle.std.specs.Prelude.{Option, Some, None, Ok, Err, IfSome, is_some}
+use Rattle.std.proofs.Common.{◌≡◌, ℕ, ℤ, ◌-◌, ◌^◌, ◌<◌, ◌≤◌, Bool, true, false, cond, List, [], ◌∷◌, map, filter, refl, sym, ◌∙◌, ap, ap₂, subst, arith, true≢false}
+use Rattle.std.specs.Prelude.{Option, Some, None, Ok, Err, IfSome}
 use Rattle.std.specs.Int.{w64}
 use Rattle.std.proofs.Common.{to_z, of_z, FitsSigned}
 use Rattle.std.proofs.lemmas.Int.{to_z-of_z}
-use Rattle.std.proofs.lemmas.List.Elements.{All-head, All-tail}
 use Rattle.code_btree.specs.Items.{Each}
 use Rattle.code_btree.specs.Tree.{tree_items, times}
 use Rattle.code_btree.proofs.Lists.{Each-map, Each-zip}
@@ -13,15 +12,9 @@ use Rattle.page_pool.specs.Disk.{PageMap}
 use Rattle.page_pool.specs.Pool.{PoolState, IsTold}
 use Rattle.page_pool.specs.declared.fault.PageFault.{PageFault}
 use Rattle.pmr_tree.specs.Quadtree.{store_of}
-use Rattle.sand_base.specs.InRange.{IsValueInRange, IsRowInRange}
-use Rattle.sand_base.specs.Shape.{value_kind, same_kind}
-use Rattle.sand_base.specs.declared.kind.Kind.{Kind}
-use Rattle.sand_base.specs.declared.kind.Kind.TheVariants as kind
-use Rattle.sand_base.specs.declared.shape.Shape.TheVariants as shape
 use Rattle.sand_base.specs.declared.value.Value.{Value}
-use Rattle.sand_base.specs.declared.value.Value.TheVariants as value
 use Rattle.sand_model.specs.Answer.{number_cmp, is_between, plain_row}
-use Rattle.sand_model.specs.Database.{Database, element}
+use Rattle.sand_model.specs.Database.{Database}
 use Rattle.sand_model.specs.Plan as plan
 use Rattle.sand_model.specs.Plan.{Plan, Column}
 use Rattle.sand_model.specs.Reach.{no_counts}
@@ -33,53 +26,23 @@ use Rattle.attr_index.specs.Index.{IsIntIndex, entries_at}
 use Rattle.attr_index.specs.Key.{IsIntKey}
 use Rattle.attr_index.proofs.Pairs.{Each-filter, entries_in_order}
 use Rattle.sand_store.specs.Contents.{rows_in, relation_in}
-use Rattle.sand_store.specs.Standing.{kind_at}
-use Rattle.sand_store.proofs.IndexGrowth.{kind_of_value}
 use Rattle.best_first.specs.Visits.{told_pages}
-use Rattle.plan_places.specs.Indexed.{IsLookUp}
+use Rattle.plan_places.specs.Indexed.{HasInts, IsLookUp}
 use Rattle.plan_places.specs.Steps.{values_at}
 use Rattle.plan_places.specs.declared.look_up.LookUp.{LookUp}
 use Rattle.plan_places.proofs.Above.{Pairs}
-use Rattle.plan_places.proofs.ColumnValues.{values_are, each_value}
+use Rattle.plan_places.proofs.ColumnValues.{values_are}
+use Rattle.plan_places.proofs.IntColumns.{IsIntPair, int_pairs}
 use Rattle.plan_places.proofs.EqualIds.{small_ids}
 use Rattle.plan_places.proofs.LookedUp.{in_order, numbers_are}
 use Rattle.plan_places.proofs.LookUps.{keeps_of, each_all}
 use Rattle.plan_rows.specs.Rows.{row_of}
 use Rattle.plan_rows.specs.SourceSteps.{SourceStep, nothing_taken}
 use Rattle.plan_rows.specs.declared.answer.Answer.{Answer}
-use Rattle.plain_source.specs.Plain.{HasInts, lies_within, row_of_number, place_after, left_from, IsPickBetween}
+use Rattle.plain_source.specs.Plain.{lies_within, row_of_number, place_after, left_from, IsPickBetween}
 use Rattle.plain_source.proofs.PlainSteps.{IsPlain, Reads, row_step, end_step, fault_step, where_told}
-use Rattle.plain_source.proofs.Sorting.{IsIntPair, numbers, each_sorted}
+use Rattle.plain_source.proofs.Sorting.{numbers, each_sorted}
 use Rattle.plain_source.proofs.Between.{sorted_numbers, rows_of_pairs, IsIntEntry, filter_none, left_none, IsLeft, left_some}
-
--- ---- the values of a column of ints
-
--- a value of the kind of ints is one
-int_of_kind : (v : Value) → value_kind v ≡ kind.Int → (n : ℤ) × (v ≡ value.Int n)
-int_of_kind (value.Int n) e = (n, refl)
-int_of_kind (value.Text bytes) e = absurd (true≢false (sym (ap (λ (k : Kind). same_kind k kind.Int) e)))
-int_of_kind (value.Shape (shape.Point p)) e = absurd (true≢false (sym (ap (λ (k : Kind). same_kind k kind.Int) e)))
-int_of_kind (value.Shape (shape.Segment s)) e = absurd (true≢false (sym (ap (λ (k : Kind). same_kind k kind.Int) e)))
-int_of_kind (value.Shape (shape.Polygon r)) e = absurd (true≢false (sym (ap (λ (k : Kind). same_kind k kind.Int) e)))
-
-some_is : (x y : Value) → Some x ≡ Some y → x ≡ y
-some_is x y e = ap value_or e where
-  value_or : Option Value → Value
-  value_or None = x
-  value_or (Some n) = n
-
-none_some : {A : Type 0} (x : A) → None ≡ Some x → ⊥
-none_some x e = true≢false (sym (ap (λ o. is_some o) e))
-
-range_of : (row : List Value) (at : ℕ) (v : Value) → IsRowInRange row → element row at ≡ Some v → IsValueInRange v
-range_of [] at v h e = absurd (none_some v e)
-range_of (x ∷ row) zero v h e = subst IsValueInRange (some_is x v e) (All-head IsValueInRange x row h)
-range_of (x ∷ row) (suc at) v h e = range_of row at v (All-tail IsValueInRange x row h) e
-
-int_pair : (schema : List (List ℕ × Kind)) (at : ℕ) (row : ℕ × List Value) (v : Value) → IsRowFor schema row.1 → kind_at schema at ≡ Some kind.Int → row.0 < 2 ^ 32 → element row.1 at ≡ Some v → IsIntPair (row.0, v)
-int_pair schema at row v h k s e =
-    let number = int_of_kind v (kind_of_value schema row.1 at v kind.Int h.of_schema e k) in
-    (number.0, (number.1, (subst IsValueInRange number.1 (range_of row.1 at v h.in_range e), s)))
 
 -- the entries of an index of ints
 int_entries_of : (m : PageMap) (l : LookUp) → IsIntIndex (store_of m) l.index → Each IsIntEntry (entries_at (store_of m) l.index)
@@ -104,9 +67,7 @@ between_begun m l d column low high greatest h i lf hf g s =
     let es : List Entry = entries_at (store_of m) l.index in
     let kept = keeps_of m l h.holds (omega (arith, g, s)) in
     let fitting : Each (λ (row : ℕ × List Value). IsRowFor l.spot.relation.now.schema row.1) rows = each_all (λ row. IsRowFor l.spot.relation.now.schema row.1) rows h.holds.stands.1.table.rows in
-    let pairs : Each IsIntPair ps =
-    each_value IsIntPair at rows (Each-zip (λ row. IsRowFor l.spot.relation.now.schema row.1) (λ row. row.0 < 2 ^ 32) (λ row. (v : Value) → element row.1 at ≡ Some v → IsIntPair (row.0, v))
-    (λ row f b v e. int_pair l.spot.relation.now.schema at row v f i b e) rows fitting kept.small) in
+    let pairs : Each IsIntPair ps = int_pairs l.spot.relation.now.schema at rows fitting kept.small i in
     let counted : (n : ℕ) → times n (map entry_number es) ≡ times n (numbers ps) = λ n. kept.entries n ∙ ap (λ (ns : List ℕ). times n ns) (numbers_are at rows) in
     let part : Pairs = filter (λ p. is_between low high p.1) ps in
     let small : Each (λ (p : ℕ × Value). p.0 < 2 ^ 32) (sorted number_cmp part) =

@@ -17,6 +17,7 @@ use Rattle.sand_model.specs.Answer.{number_cmp}
 use Rattle.sand_model.specs.Sources.{placed, sorted}
 use Rattle.attr_index.specs.Key.{key_of}
 use Rattle.attr_index.proofs.Ints.{key_lt}
+use Rattle.plan_places.proofs.IntColumns.{IsIntPair}
 use Rattle.plan_places.proofs.Above.{Pairs, InOrder}
 
 -- the numbers rise strictly
@@ -53,10 +54,6 @@ number_of p = key_of p.1 * 2 ^ 32 + p.0
 
 abbrev pub numbers : Pairs → List ℕ
 numbers ps = map number_of ps
-
--- an int in range, with an id of 32 bits
-abbrev pub IsIntPair : ℕ × Value → Type 0
-IsIntPair p = (n : ℤ) × ((p.1 ≡ value.Int n) × (IsIntInRange n × (p.0 < 2 ^ 32)))
 
 -- a pair is before another one where its number is less
 less_is : (i j : ℕ) (n k : ℤ) → IsIntInRange n → IsIntInRange k → i < 2 ^ 32 → j < 2 ^ 32 → is_lt (number_cmp (i, value.Int n) (j, value.Int k)) ≡ nat_lt (number_of (i, value.Int n)) (number_of (j, value.Int k))

@@ -20,7 +20,7 @@ use Rattle.sand_store.specs.Catalog.{RelationView}
 use Rattle.sand_store.specs.Contents.{rows_in}
 use Rattle.sand_store.specs.Standing.{kind_at}
 use Rattle.plan_places.specs.Equals.{equals, above}
-use Rattle.plan_places.specs.Indexed.{IsLookUp}
+use Rattle.plan_places.specs.Indexed.{HasInts, IsLookUp}
 use Rattle.plan_places.specs.Spots.{Stands}
 use Rattle.plan_places.specs.declared.look_up.LookUp.{LookUp}
 use Rattle.plan_rows.specs.Rows.{plan_measure}
@@ -57,10 +57,6 @@ pub record IsPickEqual (l : LookUp) (v : Value) (last : ℕ) (pages : PageMap) (
   pub left : left_of d p t ≡ map (λ pair. plain_row pair.0) (above last (equals d column v))
 
 -- ---- picks within bounds, by the numbers of the index
-
--- the column is one of ints
-abbrev pub HasInts : LookUp → Type 0
-HasInts l = kind_at l.spot.relation.now.schema l.spot.column ≡ Some kind.Int
 
 -- the int of an index's number is within the bounds
 abbrev pub lies_within : ℤ → ℤ → ℕ → Bool

@@ -1,4 +1,4 @@
-ghost use Rattle.std.specs.Prelude.{◌≡◌, true, false, None, IfSome};
+ghost use Rattle.std.specs.Prelude.{◌≡◌, None, IfSome};
 ghost use Rattle.page_pool.specs.Disk.{PageMap};
 ghost use Rattle.sand_model.specs.Plan.{PickBetween as of_column};
 ghost use Rattle.sand_model.specs.Reach.{no_counts};
@@ -8,13 +8,12 @@ ghost use Rattle.sand_store.specs.Standing.{CatalogStands};
 ghost use Rattle.plan_places.specs.Spots.{names_of};
 ghost use Rattle.plan_rows.specs.Rows.{counts_of};
 ghost use Rattle.plan_rows.specs.SourceSteps.{nothing_taken};
-ghost use Rattle.plain_source.specs.Plain.{IsPickBetween, LacksInts, HasInts, steps_left};
+ghost use Rattle.plain_source.specs.Plain.{IsPickBetween, LacksInts, steps_left};
 
 use crate::answer::{NO_VISITS, plain_answer};
 use page_pool::{Desk, Disk, PageFault};
 use plan_places::LookUp;
 use plan_rows::{Answer, RowSource, SourceCounts};
-use sand_base::Kind;
 use sand_store::Catalog;
 use std::alloc::Global;
 
@@ -25,18 +24,6 @@ pub struct PickBetween<'s> {
     low: i64,
     high: i64,
     last: Option<(i64, u32)>,
-}
-
-// Whether the column is one of ints.
-fn has_ints(look_up: &LookUp) -> bool
-    ensures ints { result ≡ true → HasInts look_up.now }
-    ensures other { result ≡ false → HasInts look_up.now → ⊥ }
-{
-    let spot = look_up.spot;
-    match spot.relation.schema().columns().get(spot.column) {
-        Some((_, Kind::Int)) => true,
-        _ => false,
-    }
 }
 
 impl<'s> PickBetween<'s> {
@@ -54,7 +41,7 @@ impl<'s> PickBetween<'s> {
         ensures none { result ≡ None → IsCatalog catalog.now → (pages : PageMap) → CatalogStands pages catalog.now → LacksInts (database_in pages catalog.now.relations) (names_of relation.now column.now) }
     {
         let look_up = LookUp::named(catalog, relation, column)?;
-        if !has_ints(&look_up) {
+        if !look_up.has_ints() {
             return None;
         }
         // For the proof alone: ids have 32 bits.

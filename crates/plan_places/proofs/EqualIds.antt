@@ -99,3 +99,30 @@ equal_some key after found (e ∷ es) s o h =
       | false ↦ λ t k. ((λ id is above. absurd (omega (arith, not_above key after id e s.0 is t, above))), equal_some key after found es s.1 o.1 k)
     ] in
     go (nat_eq e.0 key && nat_lt after e.1) refl h
+
+-- an answer is the id of an entry of the key
+pub equal_there : (key after found : ℕ) (es : List Entry) → equal_id key after es ≡ Some found → 1 ≤ times (key * 2 ^ 32 + found) (numbers es)
+equal_there key after found [] h = absurd (none_some found (sym h))
+equal_there key after found (e ∷ es) h =
+    let go : (b : Bool) → (nat_eq e.0 key && nat_lt after e.1) ≡ b → option_map (λ (d : Entry). d.1) (cond b (Some e) (find (λ d. nat_eq d.0 key && nat_lt after d.1) es)) ≡ Some found
+    → 1 ≤ times (key * 2 ^ 32 + found) (numbers (e ∷ es)) =
+    elim [
+      | true ↦ λ t k.
+          let f : e.1 ≡ found = some_is e.1 found k in
+          let same_key : e.0 ≡ key = of_key key after e t in
+          let n : entry_number e ≡ key * 2 ^ 32 + found = omega (arith, f, same_key) in
+          elim (same_cases (key * 2 ^ 32 + found) (entry_number e)) [ inl y ↦ omega (arith, y.0) | inr y ↦ absurd (y.1 (sym n)) ]
+      | false ↦ λ t k. (let rest = equal_there key after found es k in omega (arith, rest))
+    ] in
+    go (nat_eq e.0 key && nat_lt after e.1) refl h
+
+-- which has 32 bits, as the ids of all entries
+pub equal_small : (key after found : ℕ) (es : List Entry) → Each (λ e. e.1 < 2 ^ 32) es → equal_id key after es ≡ Some found → found < 2 ^ 32
+equal_small key after found [] s h = absurd (none_some found (sym h))
+equal_small key after found (e ∷ es) s h =
+    let go : (b : Bool) → option_map (λ (d : Entry). d.1) (cond b (Some e) (find (λ d. nat_eq d.0 key && nat_lt after d.1) es)) ≡ Some found → found < 2 ^ 32 =
+    elim [
+      | true ↦ λ k. (let f : e.1 ≡ found = some_is e.1 found k in omega (arith, f, s.0))
+      | false ↦ λ k. equal_small key after found es s.1 k
+    ] in
+    go (nat_eq e.0 key && nat_lt after e.1) h

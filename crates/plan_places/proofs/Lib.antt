@@ -2,6 +2,7 @@
 pub mod SameValues
 pub mod Above
 pub mod ColumnValues
+pub mod IntColumns
 -- names
 pub mod Naming
 -- rows that are read

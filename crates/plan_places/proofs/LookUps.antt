@@ -1,5 +1,5 @@
 -- A look-up over pages: what is left of the rows with an equal value while entries are passed over.
-use Rattle.std.proofs.Common.{◌≡◌, ℕ, ◌^◌, ◌<◌, ◌≤◌, Bool, true, false, cond, List, [], ◌∷◌, map, filter, refl, sym, ◌∙◌, ap, arith, All, true≢false}
+use Rattle.std.proofs.Common.{◌≡◌, ℕ, ◌^◌, ◌<◌, ◌≤◌, Bool, true, false, cond, List, [], ◌∷◌, map, filter, refl, sym, ◌∙◌, ap, arith, All, true≢false, ℤ, subst}
 use Rattle.std.specs.Prelude.{Option, None, Some}
 use Rattle.std.proofs.lemmas.List.Elements.{All-head, All-tail}
 use Rattle.code_btree.specs.Items.{Each}
@@ -8,7 +8,8 @@ use Rattle.code_btree.proofs.Orders.{lt_is}
 use Rattle.page_pool.specs.Disk.{PageMap}
 use Rattle.attr_index.specs.Entries.{equal_id}
 use Rattle.attr_index.specs.Index.{entries_at}
-use Rattle.attr_index.specs.Key.{key_of, key_bytes, key_number}
+use Rattle.attr_index.specs.Key.{key_of, key_bytes, key_number, IsFit}
+use Rattle.tuple_codec.specs.Decoding.{IsRowFor}
 use Rattle.tuple_file.specs.Rows.{of_id}
 use Rattle.pmr_tree.specs.Lists.{Rises, Above as AboveAll}
 use Rattle.pmr_tree.specs.Quadtree.{store_of}
@@ -21,12 +22,13 @@ use Rattle.sand_model.specs.Sources.{same_value, column_values}
 use Rattle.sand_store.specs.Contents.{rows_in, relation_in}
 use Rattle.sand_store.proofs.Databases.{rises_at}
 use Rattle.plan_places.specs.Equals.{equals, above}
-use Rattle.plan_places.specs.Indexed.{Holds, IsLookUp}
+use Rattle.plan_places.specs.Indexed.{Holds, HasInts, IsLookUp}
 use Rattle.plan_places.specs.declared.look_up.LookUp.{LookUp}
 use Rattle.plan_places.proofs.Above.{Pairs, none_above}
 use Rattle.plan_places.proofs.ColumnValues.{Rows, values_are, each_value}
-use Rattle.plan_places.proofs.LookedUp.{RowsRise, Keeps, looked_none, looked_past, looked_found}
-use Rattle.plan_places.specs.Steps.{has_equal, values_at, found_in, IsCandidate}
+use Rattle.plan_places.proofs.LookedUp.{RowsRise, Keeps, looked_none, looked_past, looked_found, looked_told}
+use Rattle.plan_places.proofs.IntColumns.{int_pairs}
+use Rattle.plan_places.specs.Steps.{IsInt, has_equal, values_at, found_in, IsCandidate}
 
 rises_rows : (rows : Rows) → Rises (map (λ (r : ℕ × List Value). r.0) rows) → RowsRise rows
 rises_rows [] h = tt
@@ -86,6 +88,20 @@ candidate_is m w l v last id key o found equal h s b k e is same f q =
     go : (b : Bool) → b ≡ has_equal l.spot.column v found → IsCandidate last (found_in m l v) id b
     go true q = looked_found (store_of m) l.spot.column (rows_in m l.spot.relation.now) l.index v last id found (keeps_of m l h s) b entry row (sym q)
     go false q = looked_past (store_of m) l.spot.column (rows_in m l.spot.relation.now) l.index v last id found (keeps_of m l h s) b entry row (sym q)
+
+-- an entry of an int leads to a row with it, in a column of ints
+pub told_candidate : (m : PageMap) (l : LookUp) (v : Value) (last id : ℕ) (key : List ℕ) (o : Option ℕ) → Holds m l → HasInts l → IsInt v → IsFit v → l.spot.relation.now.next ≤ 4294967296 → last < id
+    → key ≡ key_bytes v → o ≡ equal_id (key_number key) last (entries_at (store_of m) l.index) → o ≡ Some id → IsCandidate last (found_in m l v) id true
+told_candidate m l v last id key o h ints int fit s b k e is =
+    let n : ℤ = int.0 in
+    let kept = keeps_of m l h s in
+    let rows : Rows = rows_in m l.spot.relation.now in
+    let fitting : Each (λ (row : ℕ × List Value). IsRowFor l.spot.relation.now.schema row.1) rows = each_all (λ row. IsRowFor l.spot.relation.now.schema row.1) rows h.stands.1.table.rows in
+    let V : Value → Type 0 = λ w. IsCandidate last (found_in m l w) id true in
+    let same_key : key_number key ≡ key_of (value.Int n) = ap key_number k ∙ ap key_of int.1 in
+    let entry : equal_id (key_of (value.Int n)) last (entries_at (store_of m) l.index) ≡ Some id =
+    ap (λ (x : ℕ). equal_id x last (entries_at (store_of m) l.index)) (sym same_key) ∙ (sym e ∙ is) in
+    subst V (sym int.1) (looked_told (store_of m) l.spot.column rows l.index n last id kept (int_pairs l.spot.relation.now.schema l.spot.column rows fitting kept.small ints) (subst IsFit int.1 fit) b entry)
 
 not_shape : (w : Value) (s : Shape) → same_value w (value.Shape s) ≡ false
 not_shape (value.Int n) s = refl

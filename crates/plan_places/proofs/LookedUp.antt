@@ -1,24 +1,33 @@
 -- What an attribute index says of the rows of its column.
-use Rattle.std.proofs.Common.{◌≡◌, ℕ, ◌+◌, ◌*◌, ◌^◌, ◌<◌, ◌≤◌, true, false, List, [], ◌∷◌, map, refl, sym, ◌∙◌, ap, subst, inl, inr, arith, true≢false}
+use Rattle.std.proofs.Common.{◌≡◌, ℕ, ◌+◌, ◌*◌, ◌^◌, ◌<◌, ◌≤◌, true, false, List, [], ◌∷◌, map, refl, sym, ◌∙◌, ap, subst, inl, inr, arith, true≢false, ℤ, ◌<ℤ◌, ap₂}
+use Rattle.std.specs.Cmp.{int_ranks}
+use Rattle.std.specs.Int.Signed.{<ℤ_irrefl}
+use Rattle.std.specs.Ordering.{int_cmp, MatchOrdering}
+use Rattle.std.specs.declared.cmp.Ordering.{Ordering}
+use Rattle.std.specs.declared.cmp.Ordering.TheVariants as ordering
 use Rattle.std.specs.Prelude.{Option, None, Some, is_some, option_map, filter_map}
 use Rattle.std.proofs.lemmas.Bool.Decides.{eqb_tells}
 use Rattle.code_btree.specs.Items.{Each}
 use Rattle.code_btree.specs.Tree.{Store, tree_items, times}
-use Rattle.code_btree.proofs.Lists.{Each-map, Each-zip}
+use Rattle.code_btree.proofs.Lists.{same_cases, Each-map, Each-zip}
+use Rattle.sand_base.specs.InRange.{IsIntInRange}
 use Rattle.sand_base.specs.declared.value.Value.{Value}
+use Rattle.sand_base.specs.declared.value.Value.TheVariants as value
 use Rattle.sand_model.specs.Database.{element}
 use Rattle.sand_model.specs.Sources.{same_value}
 use Rattle.tuple_file.specs.Rows.{of_id}
 use Rattle.attr_index.specs.declared.index.AttrIndex.{AttrIndex}
 use Rattle.attr_index.specs.Entries.{Entry, entry_number, equal_id}
 use Rattle.attr_index.specs.Index.{IsAttrIndex, entries_at}
-use Rattle.attr_index.specs.Key.{key_of}
+use Rattle.attr_index.specs.Key.{key_of, int_of}
+use Rattle.attr_index.proofs.Ints.{key_back}
 use Rattle.attr_index.proofs.Pairs.{entries_in_order}
 use Rattle.plan_places.specs.Equals.{above, GivesFirst}
 use Rattle.plan_places.specs.Steps.{is_equal, has_equal, values_at, matches}
-use Rattle.plan_places.proofs.Above.{InOrder, Has, none_above, none_between, first_above}
+use Rattle.plan_places.proofs.Above.{Pairs, InOrder, Has, none_above, none_between, first_above}
 use Rattle.plan_places.proofs.ColumnValues.{Rows, each_value}
-use Rattle.plan_places.proofs.EqualIds.{small_ids, each_same, IsOf, equal_none, equal_some}
+use Rattle.plan_places.proofs.EqualIds.{small_ids, each_same, IsOf, equal_none, equal_some, equal_there, equal_small}
+use Rattle.plan_places.proofs.IntColumns.{IsIntPair}
 use Rattle.plan_places.proofs.SameValues.{same_is}
 
 -- the ids of rows rise strictly
@@ -150,3 +159,48 @@ looked_found m at rows index v last id (Some values) k l h row same = go (elemen
     first_above (λ pair. same_value pair.1 v) last id w (values_at at rows) l (sym (ap (λ (p : Option Value). is_equal v p) e) ∙ same) (in_order at rows k.rise)
         (has_value id at w values rows row e) (least m at rows index v last id k h),
   )
+
+-- the pair whose number stands among those of pairs
+pub record HasNumber (n : ℕ) (ps : Pairs) : Type 0 where
+  pub pair : ℕ × Value
+  pub has : Has pair ps
+  pub is : key_of pair.1 * 2 ^ 32 + pair.0 ≡ n
+
+has_number : (n : ℕ) (ps : Pairs) → 1 ≤ times n (map (λ (p : ℕ × Value). key_of p.1 * 2 ^ 32 + p.0) ps) → HasNumber n ps
+has_number n [] h = absurd (omega (arith, h))
+has_number n (p ∷ ps) h = elim (same_cases n (key_of p.1 * 2 ^ 32 + p.0)) [
+  | inl x ↦ record { pair = p; has = inl refl; is = sym x.1 }
+  | inr x ↦ (let rest = has_number n ps (omega (arith, h, x.0)) in record { pair = rest.pair; has = inr rest.has; is = rest.is })
+]
+
+same_int : (n : ℤ) → same_value (value.Int n) (value.Int n) ≡ true
+same_int n = go (int_cmp n n) refl (int_ranks n n) where
+  go : (o : Ordering) → int_cmp n n ≡ o → MatchOrdering o (n <ℤ n) (n ≡ n) (n <ℤ n) → same_value (value.Int n) (value.Int n) ≡ true
+  go ordering.Less e r = absurd (<ℤ_irrefl r)
+  go ordering.Equal e r = rw e refl
+  go ordering.Greater e r = absurd (<ℤ_irrefl r)
+
+has_each : (P : ℕ × Value → Type 0) (ps : Pairs) (x : ℕ × Value) → Each P ps → Has x ps → P x
+has_each P [] x e has = absurd has
+has_each P (q ∷ qs) x e (inl is) = subst P is e.0
+has_each P (q ∷ qs) x e (inr has) = has_each P qs x e.1 has
+
+-- among ints an entry has the value whose key it has
+pub looked_told : (m : Store) (at : ℕ) (rows : Rows) (index : AttrIndex) (n : ℤ) (last id : ℕ) → Keeps m at rows index → Each IsIntPair (values_at at rows) → IsIntInRange n → last < id
+    → equal_id (key_of (value.Int n)) last (entries_at m index) ≡ Some id → GivesFirst last (matches at rows (value.Int n)) (Some id)
+looked_told m at rows index n last id k ints fit l h =
+    let s = equal_small (key_of (value.Int n)) last id (entries_at m index) (small_ids (tree_items m index.tree)) h in
+    let v : Value = value.Int n in
+    let number : ℕ = key_of v * 2 ^ 32 + id in
+    let there : 1 ≤ times number (map entry_number (entries_at m index)) = equal_there (key_of v) last id (entries_at m index) h in
+    let among : times number (map entry_number (entries_at m index)) ≡ times number (map (λ (p : ℕ × Value). key_of p.1 * 2 ^ 32 + p.0) (values_at at rows)) =
+    k.entries number ∙ ap (λ (ns : List ℕ). times number ns) (numbers_are at rows) in
+    let found = has_number number (values_at at rows) (omega (arith, there, among)) in
+    let int = has_each IsIntPair (values_at at rows) found.pair ints found.has in
+    let is_id : found.pair.0 ≡ id = omega (arith, found.is, s, int.1.1.1) in
+    let is_key : key_of found.pair.1 ≡ key_of v = omega (arith, found.is, s, int.1.1.1) in
+    let same_number : int.0 ≡ n = sym (key_back int.0 int.1.1.0) ∙ (ap int_of (sym (ap key_of int.1.0) ∙ is_key) ∙ key_back n fit) in
+    let is_value : found.pair.1 ≡ v = int.1.0 ∙ ap (λ (i : ℤ). value.Int i) same_number in
+    let H : ℕ × Value → Type 0 = λ p. Has p (values_at at rows) in
+    let has : Has (id, v) (values_at at rows) = subst H {x = found.pair} (ap₂ (λ (i : ℕ) (w : Value). (i, w)) is_id is_value) found.has in
+    (v, first_above (λ pair. same_value pair.1 v) last id v (values_at at rows) l (same_int n) (in_order at rows k.rise) has (least m at rows index v last id k h))

@@ -1,12 +1,13 @@
 -- Columns of a catalog with their indexes, over pages.
 use Rattle.std.specs.Prelude.{◌≡◌, ℕ, Bool, Some, None}
 use Rattle.page_pool.specs.Disk.{PageMap}
+use Rattle.sand_base.specs.declared.kind.Kind.TheVariants as kind
 use Rattle.sand_model.specs.Database.{Database, Relation, relation_named, column_named, index_at}
 use Rattle.sand_model.specs.Plan.{Column}
 use Rattle.sand_store.specs.Catalog.{IsColumnAt}
 use Rattle.sand_store.specs.Contents.{rows_in}
 use Rattle.sand_store.specs.Paths.{IsTreeOf}
-use Rattle.sand_store.specs.Standing.{HoldsColumn}
+use Rattle.sand_store.specs.Standing.{HoldsColumn, kind_at}
 use Rattle.plan_places.specs.Spots.{Stands, IsColumn}
 use Rattle.plan_places.specs.declared.column.TreeSpot.{TreeSpot}
 use Rattle.plan_places.specs.declared.look_up.LookUp.{LookUp}
@@ -25,6 +26,10 @@ pub record HasTree (d : Database) (column : Column) (tree : TreeSpot) (pages : P
 abbrev pub LacksIndex : Database → Column → Bool → Type 0
 LacksIndex d column spatial =
     (r : Relation) (at : ℕ) → relation_named d column.relation ≡ Some r → column_named r.schema column.column ≡ Some at → IsColumnAt r.schema at spatial → index_at r at ≡ None
+
+-- the column is one of ints
+abbrev pub HasInts : LookUp → Type 0
+HasInts l = kind_at l.spot.relation.now.schema l.spot.column ≡ Some kind.Int
 
 -- the column is that of the catalog, and the index holds what its rows have there
 pub record IsLookUp (d : Database) (column : Column) (look_up : LookUp) (pages : PageMap) : Type 0 where

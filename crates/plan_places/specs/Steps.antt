@@ -1,16 +1,21 @@
 -- How an index leads to rows with an equal value: what only the proof of a look-up needs.
-use Rattle.std.specs.Prelude.{◌≡◌, ℕ, ◌≤◌, min, Bool, true, false, List, [], ◌∷◌, filter, filter_map, Option, None, Some, option_map}
+use Rattle.std.specs.Prelude.{◌≡◌, ℕ, ℤ, ◌≤◌, min, Bool, true, false, List, [], ◌∷◌, filter, filter_map, Option, None, Some, option_map}
 use Rattle.page_pool.specs.Disk.{PageMap}
 use Rattle.page_pool.specs.Pool.{PoolState, IsTold}
 use Rattle.page_pool.specs.Reads.{IsRead}
 use Rattle.sand_base.specs.Faults.{last_count}
 use Rattle.sand_base.specs.declared.value.Value.{Value}
+use Rattle.sand_base.specs.declared.value.Value.TheVariants as value
 use Rattle.sand_model.specs.Database.{element}
 use Rattle.sand_model.specs.Sources.{same_value}
 use Rattle.sand_store.specs.Contents.{rows_in}
 use Rattle.plan_places.specs.Equals.{above}
 use Rattle.plan_places.specs.declared.look_up.LookUp.{LookUp}
 use Rattle.plan_places.specs.declared.look_up.Candidate.{Candidate}
+
+-- the value is an int
+abbrev pub IsInt : Value → Type 0
+IsInt v = (n : ℤ) × (v ≡ value.Int n)
 
 -- the value, where there is one, equals the given one
 abbrev pub is_equal : Value → Option Value → Bool

@@ -1,4 +1,4 @@
-ghost use Rattle.std.specs.Prelude.{◌≡◌, ◌<◌, ◌≤◌, min, false, None, IfOk, IfSome};
+ghost use Rattle.std.specs.Prelude.{◌≡◌, ◌<◌, ◌≤◌, min, true, false, None, IfOk, IfSome};
 ghost use Rattle.sand_base.specs.Faults.{last_count};
 ghost use Rattle.page_pool.specs.Disk.{PageMap};
 ghost use Rattle.page_pool.specs.Pool.{IsTold};
@@ -11,15 +11,15 @@ ghost use Rattle.sand_store.specs.Catalog.{IsCatalog};
 ghost use Rattle.sand_store.specs.Contents.{database_in};
 ghost use Rattle.sand_store.specs.Standing.{CatalogStands};
 ghost use Rattle.plan_places.specs.Spots.{names_of};
-ghost use Rattle.plan_places.specs.Indexed.{Holds, IsLookUp, LacksIndex};
+ghost use Rattle.plan_places.specs.Indexed.{Holds, HasInts, IsLookUp, LacksIndex};
 ghost use Rattle.attr_index.specs.Key.{IsAttribute};
-ghost use Rattle.plan_places.specs.Steps.{has_equal, found_in, GivesCandidate};
+ghost use Rattle.plan_places.specs.Steps.{IsInt, has_equal, found_in, GivesCandidate};
 
 use crate::ColumnSpot;
 use crate::row::{is_same, row_of, value_in};
 use attr_index::{AttrIndex, key_of};
 use page_pool::{PageFault, Pages};
-use sand_base::{Row, Value};
+use sand_base::{Kind, Row, Value};
 use sand_store::Catalog;
 use std::alloc::Global;
 
@@ -65,6 +65,28 @@ impl<'s> LookUp<'s> {
         })
     }
 
+    /// Whether the column is one of ints.
+    pub fn has_ints(&self) -> bool
+        ensures ints { result ≡ true → HasInts self.now }
+        ensures other { result ≡ false → HasInts self.now → ⊥ }
+    {
+        let spot = self.spot;
+        match spot.relation.schema().columns().get(spot.column) {
+            Some((_, Kind::Int)) => true,
+            _ => false,
+        }
+    }
+
+    // Whether an entry tells the value: an int is known by its key, in a column of ints.
+    fn is_told(&self, value: &Value) -> bool
+        ensures { result ≡ true → HasInts self.now × IsInt value.now }
+    {
+        match value {
+            Value::Int(_) => self.has_ints(),
+            _ => false,
+        }
+    }
+
     // The next entry above an id, and whether its row has an equal value.
     fn candidate<P: Pages>(
         &self,
@@ -85,6 +107,9 @@ impl<'s> LookUp<'s> {
         let Some(id) = self.index.equal(pages, key_of(value), last)? else {
             return Ok(None);
         };
+        if self.is_told(value) {
+            return Ok(Some(Candidate { id, is_equal: true }));
+        }
         match row_of(alloc, pages, self.spot.relation, id) {
             Ok(row) => Ok(Some(Candidate {
                 id,
@@ -95,8 +120,8 @@ impl<'s> LookUp<'s> {
     }
 
     /// The least id above `after` of a row whose value in the column equals this one, `None` where there is none. The
-    /// index leads to rows by an int, or by the first 12 bytes of a text, so the row of each id that it gives is read,
-    /// until one has the value.
+    /// index knows an int, but of a text the first 12 bytes alone: there the row of each id that it gives is read, until
+    /// one has the value.
     pub fn next<P: Pages>(
         &self,
         alloc: Global,
