@@ -1,0 +1,2 @@
+-- a reading of each line
+pub mod Readings

@@ -1,0 +1,1 @@
+-- No definitions: the law is said in the words of script_text.
