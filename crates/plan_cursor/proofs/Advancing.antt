@@ -169,6 +169,7 @@ module _ {S T : Type 0} (At : S → Taking) (Stands : T → Standing) (closed : 
           log = visits_now.log;
           near = near c o o' old mid new (Ok (Row a)) passed goes;
           row = λ lazy. subst (λ to. All (LiesWithin plan_measure c.database c.plan to) visits_now.noted) (reach_row lazy) visits_now.near;
+          up = visits_now.up;
           rose = visits_now.rose;
         };
       }
@@ -206,6 +207,7 @@ module _ {S T : Type 0} (At : S → Taking) (Stands : T → Standing) (closed : 
           log = visits_end.log;
           near = near c o o' old mid new (Ok End) passed goes;
           row = tt;
+          up = visits_end.up;
           rose = visits_end.rose;
         };
       }
@@ -228,6 +230,7 @@ module _ {S T : Type 0} (At : S → Taking) (Stands : T → Standing) (closed : 
           log = visits_refused.log;
           near = near c o o' old mid new (Err fault) passed goes;
           row = tt;
+          up = visits_refused.up;
           rose = visits_refused.rose;
         };
       }

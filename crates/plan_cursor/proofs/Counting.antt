@@ -34,14 +34,14 @@ abbrev is_row : OutputLine → Bool
 is_row (Row row) = true
 is_row _ = false
 
-row_given : (c after : Cursor) (row : PlanRow) → step_of plan_measure c ≡ (Row row, after) → after.given ≡ c.given + 1
+pub row_given : (c after : Cursor) (row : PlanRow) → step_of plan_measure c ≡ (Row row, after) → after.given ≡ c.given + 1
 row_given c after row h = go (element (answer plan_measure c.database c.plan) c.given) refl
   where
     go : (o : Option PlanRow) → element (answer plan_measure c.database c.plan) c.given ≡ o → after.given ≡ c.given + 1
     go (Some r) e = ap (λ (q : OutputLine × Cursor). q.1.given) (sym h ∙ step_row plan_measure c r e)
     go None e = absurd (true≢false (ap (λ (q : OutputLine × Cursor). is_row q.0) (sym h ∙ step_end plan_measure c e)))
 
-end_given : (c after : Cursor) → step_of plan_measure c ≡ (End, after) → after.given ≡ c.given
+pub end_given : (c after : Cursor) → step_of plan_measure c ≡ (End, after) → after.given ≡ c.given
 end_given c after h = go (element (answer plan_measure c.database c.plan) c.given) refl
   where
     go : (o : Option PlanRow) → element (answer plan_measure c.database c.plan) c.given ≡ o → after.given ≡ c.given

@@ -8,3 +8,5 @@ pub mod Advancing
 pub mod Told
 -- the number of rows
 pub mod Counting
+-- what the model says is taken after each step
+pub mod ModelTaken

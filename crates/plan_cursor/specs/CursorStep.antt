@@ -13,6 +13,7 @@ use Rattle.plan_rows.specs.Rows.{plan_measure, row_of}
 use Rattle.plan_rows.specs.SourceSteps.{node_count}
 use Rattle.plan_rows.specs.Visited.{LiesWithin}
 use Rattle.plan_rows.specs.declared.answer.Answer.{Answer}
+use Rattle.plan_rows.proofs.FartherReaches.{AreAtMost}
 
 -- the cursor of the model after the call: its next step gives the row or the end, and a refused step changes the counts alone
 abbrev pub Gives : Cursor → Result (Option Answer) PageFault → Cursor → Type 0
@@ -40,12 +41,13 @@ LieWithinRow c (Ok (Some a)) noted = is_lazy c.plan ≡ true → All (LiesWithin
 LieWithinRow c (Ok None) noted = ⊤
 LieWithinRow c (Err fault) noted = ⊤
 
--- The visits of a call: they were noted behind those before, and each lies within the reach of the step, also of one that is refused. At least one page get was made for each node that was counted.
+-- The visits of a call: they were noted behind those before, and each lies within the reach of the step, also of one that is refused. The counts don't fall, and at least one page get was made for each node that was counted.
 pub record StepVisits (c after : Cursor) (old new : DeskState) (result : Result (Option Answer) PageFault) : Type 0 where
   pub noted : List Visit
   pub log : new.visits ≡ old.visits ++ noted
   pub near : All (LiesWithin plan_measure c.database c.plan (step_reach c)) noted
   pub row : LieWithinRow c result noted
+  pub up : AreAtMost c.counts after.counts
   pub rose : min (old.pool.gets + (node_count after.counts - node_count c.counts)) last_count ≤ new.pool.gets
 
 -- A call where the cursor of the model stands at c. At says where the cursor stands.

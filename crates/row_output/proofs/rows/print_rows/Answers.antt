@@ -1,0 +1,74 @@
+-- Each step prints one line more, or ends the call.
+use Rattle.std.proofs.Common.{Ok, refl, ap, ◌∙◌, subst, arith}
+use Rattle.sand_base.specs.Faults.{HasCause}
+use Rattle.page_pool.specs.Causes.{HasPageCause}
+use Rattle.best_first.specs.Visits.{told_pages}
+use Rattle.best_first.proofs.Passing.{read_both, told_read}
+use Rattle.plan_rows.specs.Rows.{counts_of}
+use Rattle.plan_cursor.specs.Standing.{IsAt}
+use Rattle.row_output.specs.Stepping.{refusal_of}
+use Rattle.row_output.proofs.Told.{told_stands, told_more, told_end, told_refused, told_failed, told_all}
+use Rattle.row_output.proofs.rows.print_rows.Goals as goal
+
+pub print_next-requires : goal.print_next-requires
+print_next-requires g c = record {
+  stands =
+      told_stands (told_pages c.args.desk.now) (told_pages c.rows.desk) (λ pages. IsAt g.S.RowSource.At g.T.RowStage.Stands g.T.RowStage.closed (λ s. counts_of (g.S.RowSource.seen s)) c.args.cursor.now pages)
+      (λ pages. IsAt g.S.RowSource.At g.T.RowStage.Stands g.T.RowStage.closed (λ s. counts_of (g.S.RowSource.seen s)) c.rows.cursor pages) c.rows.rows c.args.desk.now c.rows.desk
+      (g.K.Sink.took c.args.out.now) (g.K.Sink.took c.rows.out) (told_read c.args.desk.now c.rows.desk c.rows.invariant.read) c.requires.stands c.rows.invariant.so_far;
+}
+
+pub returns-clause-step : goal.returns-clause-step
+returns-clause-step g c =
+    let few = c.rows.invariant.few in
+    let most = c.rows-test.false in
+    told_all (told_pages c.args.desk.now) (λ pages. IsAt g.S.RowSource.At g.T.RowStage.Stands g.T.RowStage.closed (λ s. counts_of (g.S.RowSource.seen s)) c.args.cursor.now pages)
+    (λ pages. IsAt g.S.RowSource.At g.T.RowStage.Stands g.T.RowStage.closed (λ s. counts_of (g.S.RowSource.seen s)) c.rows.cursor pages) c.rows.rows c.args.count c.args.desk.now c.rows.desk
+    (g.K.Sink.took c.args.out.now) (g.K.Sink.took c.rows.out) (omega (arith, few, most)) c.rows.invariant.so_far
+
+pub rows-preserved : goal.rows-preserved
+rows-preserved g c =
+    let is = c.in-Ok-Row.is ∙ ap Ok c.in-Ok-Row.field-0-is in
+    let less = c.rows-test.true in
+    record {
+      few = omega (arith, less);
+      count = refl;
+      read = read_both c.args.desk.now.pool c.rows.desk.pool c.print_next.new.desk.pool c.rows.invariant.read c.print_next.ensures.read;
+      faults =
+          (subst (λ r. HasPageCause c.rows.desk.pool c.print_next.new.desk.pool (refusal_of r)) is c.print_next.ensures.refused).counted ∙ c.rows.invariant.faults;
+      sink =
+          (subst (λ r. HasCause (g.K.Sink.faults c.rows.out) (g.K.Sink.faults c.print_next.new.out) r) is c.print_next.ensures.cause).done ∙ c.rows.invariant.sink;
+      so_far =
+          told_more (told_pages c.args.desk.now) (told_pages c.rows.desk) (λ pages. IsAt g.S.RowSource.At g.T.RowStage.Stands g.T.RowStage.closed (λ s. counts_of (g.S.RowSource.seen s)) c.args.cursor.now pages)
+          (λ pages. IsAt g.S.RowSource.At g.T.RowStage.Stands g.T.RowStage.closed (λ s. counts_of (g.S.RowSource.seen s)) c.rows.cursor pages)
+          (λ pages. IsAt g.S.RowSource.At g.T.RowStage.Stands g.T.RowStage.closed (λ s. counts_of (g.S.RowSource.seen s)) c.print_next.new.cursor pages) c.rows.rows c.args.desk.now c.rows.desk
+          c.print_next.new.desk (g.K.Sink.took c.args.out.now) (g.K.Sink.took c.rows.out) (g.K.Sink.took c.print_next.new.out) c.print_next.result
+          (told_read c.args.desk.now c.rows.desk c.rows.invariant.read) c.rows.invariant.so_far c.print_next.ensures.step is;
+    }
+
+pub returns-in-Ok-End-clause-step : goal.returns-in-Ok-End-clause-step
+returns-in-Ok-End-clause-step g c =
+    told_end (told_pages c.args.desk.now) (told_pages c.rows.desk) (λ pages. IsAt g.S.RowSource.At g.T.RowStage.Stands g.T.RowStage.closed (λ s. counts_of (g.S.RowSource.seen s)) c.args.cursor.now pages)
+    (λ pages. IsAt g.S.RowSource.At g.T.RowStage.Stands g.T.RowStage.closed (λ s. counts_of (g.S.RowSource.seen s)) c.rows.cursor pages)
+    (λ pages. IsAt g.S.RowSource.At g.T.RowStage.Stands g.T.RowStage.closed (λ s. counts_of (g.S.RowSource.seen s)) c.print_next.new.cursor pages) c.rows.rows c.args.desk.now c.rows.desk
+    c.print_next.new.desk (g.K.Sink.took c.args.out.now) (g.K.Sink.took c.rows.out) (g.K.Sink.took c.print_next.new.out) c.print_next.result
+    (told_read c.args.desk.now c.rows.desk c.rows.invariant.read) c.rows.invariant.so_far c.print_next.ensures.step c.args.count c.rows-test.true
+    (c.in-Ok-End.is ∙ ap Ok c.in-Ok-End.field-0-is)
+
+pub returns-in-Ok-Refused-clause-step : goal.returns-in-Ok-Refused-clause-step
+returns-in-Ok-Refused-clause-step g c =
+    told_refused (told_pages c.args.desk.now) (told_pages c.rows.desk) (λ pages. IsAt g.S.RowSource.At g.T.RowStage.Stands g.T.RowStage.closed (λ s. counts_of (g.S.RowSource.seen s)) c.args.cursor.now pages)
+    (λ pages. IsAt g.S.RowSource.At g.T.RowStage.Stands g.T.RowStage.closed (λ s. counts_of (g.S.RowSource.seen s)) c.rows.cursor pages)
+    (λ pages. IsAt g.S.RowSource.At g.T.RowStage.Stands g.T.RowStage.closed (λ s. counts_of (g.S.RowSource.seen s)) c.print_next.new.cursor pages) c.rows.rows c.args.desk.now c.rows.desk
+    c.print_next.new.desk (g.K.Sink.took c.args.out.now) (g.K.Sink.took c.rows.out) (g.K.Sink.took c.print_next.new.out) c.print_next.result
+    (told_read c.args.desk.now c.rows.desk c.rows.invariant.read) c.rows.invariant.so_far c.print_next.ensures.step c.args.count c.in-Ok-Refused.fault c.rows-test.true
+    (c.in-Ok-Refused.is ∙ ap Ok c.in-Ok-Refused.field-0-is)
+
+pub returns-in-Err-clause-step : goal.returns-in-Err-clause-step
+returns-in-Err-clause-step g c =
+    told_failed (told_pages c.args.desk.now) (told_pages c.rows.desk) (λ pages. IsAt g.S.RowSource.At g.T.RowStage.Stands g.T.RowStage.closed (λ s. counts_of (g.S.RowSource.seen s)) c.args.cursor.now pages)
+    (λ pages. IsAt g.S.RowSource.At g.T.RowStage.Stands g.T.RowStage.closed (λ s. counts_of (g.S.RowSource.seen s)) c.rows.cursor pages)
+    (λ pages. IsAt g.S.RowSource.At g.T.RowStage.Stands g.T.RowStage.closed (λ s. counts_of (g.S.RowSource.seen s)) c.print_next.new.cursor pages) c.rows.rows c.args.desk.now c.rows.desk
+    c.print_next.new.desk (g.K.Sink.took c.args.out.now) (g.K.Sink.took c.rows.out) (g.K.Sink.took c.print_next.new.out) c.print_next.result
+    (told_read c.args.desk.now c.rows.desk c.rows.invariant.read) c.rows.invariant.so_far c.print_next.ensures.step c.args.count c.in-Err.failed c.rows-test.true
+    c.in-Err.is

@@ -1,0 +1,23 @@
+use Rattle.std.proofs.Common.{◌-◌, ◌≡◌, IfSome, ◌≤◌}
+use Rattle.page_pool.specs.Reads.{IsRead}
+use Rattle.sand_model.specs.Cursor.{Cursor}
+use Rattle.best_first.specs.Visits.{told_pages}
+use Rattle.plan_rows.specs.Rows.{counts_of}
+use Rattle.plan_cursor.specs.Standing.{IsAt}
+use Rattle.row_output.proofs.SoFar.{SoFar}
+use Rattle.row_output.proofs.rows.print_rows.Given as goal
+
+-- so many rows were printed, and neither the disk nor the sink failed
+abbrev pub invariant-rows : goal.invariant-rows
+invariant-rows g l = record {
+  few : l.rows ≤ l.count;
+  count : l.count ≡ l.fn.count;
+  read : IsRead l.fn.desk.pool l.desk.pool;
+  faults : l.desk.pool.disk.faults ≡ l.fn.desk.pool.disk.faults;
+  sink : g.K.Sink.faults l.out ≡ g.K.Sink.faults l.fn.out;
+  so_far : IfSome (told_pages l.fn.desk) (λ pages. (c : Cursor) → IsAt g.S.RowSource.At g.T.RowStage.Stands g.T.RowStage.closed (λ s. counts_of (g.S.RowSource.seen s)) l.fn.cursor pages c
+      → SoFar c l.rows l.fn.desk l.desk (g.K.Sink.took l.fn.out) (g.K.Sink.took l.out) (IsAt g.S.RowSource.At g.T.RowStage.Stands g.T.RowStage.closed (λ s. counts_of (g.S.RowSource.seen s)) l.cursor pages));
+}
+
+abbrev pub decreases-rows : goal.decreases-rows
+decreases-rows g l = l.count - l.rows

@@ -1,0 +1,79 @@
+-- Some steps of a cursor with their lines, written one after the other.
+use Rattle.std.specs.Prelude.{◌≡◌, ℕ, ◌+◌, ◌-◌, ◌<◌, ◌≤◌, min, Bool, true, cond, nat_lt, List, [], ◌∷◌, ◌++◌, length, All, Result, Ok, Err, ⊤}
+use Rattle.sand_base.specs.Faults.{last_count}
+use Rattle.sand_base.specs.declared.refusal.Refusal.{Refusal}
+use Rattle.sand_base.specs.declared.source.Failed.{Failed}
+use Rattle.sand_base.specs.declared.visit.Visit.{Visit}
+use Rattle.page_pool.specs.Desk.{DeskState}
+use Rattle.page_pool.specs.declared.fault.PageFault.{PageFault}
+use Rattle.sand_model.specs.Cursor as line
+use Rattle.sand_model.specs.Cursor.{Cursor, OutputLine, Steps}
+use Rattle.sand_model.specs.Operators.{PlanRow}
+use Rattle.sand_model.specs.OutputText.{IsText}
+use Rattle.sand_model.specs.Reach.{reach, reach_of_last}
+use Rattle.sand_model.specs.Taken.{Taken, has_taken, is_lazy}
+use Rattle.output_text.specs.Writing.{Writes, WritesPrefix}
+use Rattle.plan_rows.specs.Rows.{plan_measure}
+use Rattle.plan_rows.specs.SourceSteps.{node_count}
+use Rattle.plan_rows.specs.Visited.{LiesWithin}
+use Rattle.plan_cursor.specs.CursorStep.{step_taken}
+use Rattle.row_output.specs.declared.rows.Printed.{Printed}
+use Rattle.row_output.specs.declared.rows.Printed.TheVariants.{Rows, Refused}
+
+-- the refusal of a page in what was printed
+abbrev pub refusal_in : Result Printed Failed → Result Unit PageFault
+refusal_in (Ok (Rows rows end)) = Ok tt
+refusal_in (Ok (Refused rows fault)) = Err fault
+refusal_in (Err failed) = Ok tt
+
+-- Up to so many steps were made with these lines, none of them refused: so many rows, and the end where this is said. The last step says how much of the source was taken.
+pub record MakesSteps (c : Cursor) (count rows : ℕ) (end : Bool) (lines : List OutputLine) (after : Cursor) (last : Taken) : Type 0 where
+  pub steps : Steps plan_measure (λ refusal. ⊥) count c lines after
+  pub given : after.given ≡ c.given + rows
+  pub long : length lines ≡ rows + cond end 1 0
+  pub taken : last ≡ has_taken plan_measure c.database c.plan after.given end
+
+-- So many rows were given with these lines, fewer than asked, and then a step was refused, whose line is still to be written.
+pub record IsRefusedAfter (c : Cursor) (count rows : ℕ) (lines : List OutputLine) (after : Cursor) (last : Taken) : Type 0 where
+  pub steps : (refusal : Refusal) → Steps plan_measure (λ why. why ≡ refusal) count c (lines ++ line.Refused refusal ∷ []) after
+  pub given : after.given ≡ c.given + rows
+  pub long : length lines ≡ rows
+  pub few : rows < count
+  pub taken : last ≡ step_taken after
+
+-- the steps that were made, by what is answered: `end` is true exactly where fewer rows were given than asked
+abbrev pub GivesLines : Cursor → ℕ → Result Printed Failed → List OutputLine → Cursor → Taken → Type 0
+GivesLines c count (Ok (Rows rows end)) lines after last =
+    (rows ≤ count) × (end ≡ nat_lt rows count) × MakesSteps c count rows end lines after last
+GivesLines c count (Ok (Refused rows fault)) lines after last = IsRefusedAfter c count rows lines after last
+GivesLines c count (Err failed) lines after last =
+    (made : ℕ) × (rows : ℕ) × (end : Bool) × (made ≤ count) × MakesSteps c made rows end lines after last
+
+-- the lines were written, or a prefix of them where the sink failed
+abbrev pub WritesLines : Result Printed Failed → List OutputLine → (List ℕ → Type 0) → (List ℕ → Type 0) → Type 0
+WritesLines (Ok printed) lines before now = Writes (IsText lines) before now
+WritesLines (Err failed) lines before now = WritesPrefix (IsText lines) before now
+
+-- where the last step gave a row of a plan without a sort, the visits lie within the gap of this row
+abbrev pub LieWithinLast : Cursor → Result Printed Failed → List OutputLine → List Visit → Type 0
+LieWithinLast c (Ok (Refused rows fault)) lines noted = ⊤
+LieWithinLast c (Ok (Rows rows end)) lines noted =
+    is_lazy c.plan ≡ true → (front : List OutputLine) (row : PlanRow) → lines ≡ front ++ line.Row row ∷ []
+    → All (LiesWithin plan_measure c.database c.plan (reach_of_last (row ∷ []))) noted
+LieWithinLast c (Err failed) lines noted =
+    is_lazy c.plan ≡ true → (front : List OutputLine) (row : PlanRow) → lines ≡ front ++ line.Row row ∷ []
+    → All (LiesWithin plan_measure c.database c.plan (reach_of_last (row ∷ []))) noted
+
+-- Some steps of the cursor of the model were made, and their lines were written. All visits lie within the reach of the last step, also of one that was refused.
+pub record PrintsRows (c : Cursor) (count : ℕ) (old new : DeskState) (before now : List ℕ → Type 0) (result : Result Printed Failed) (At : Cursor → Type 0) : Type 0 where
+  pub lines : List OutputLine
+  pub after : Cursor
+  pub last : Taken
+  pub at : At after
+  pub gives : GivesLines c count result lines after last
+  pub writes : WritesLines result lines before now
+  pub noted : List Visit
+  pub log : new.visits ≡ old.visits ++ noted
+  pub near : All (LiesWithin plan_measure c.database c.plan (reach plan_measure c.database c.plan last)) noted
+  pub row : LieWithinLast c result lines noted
+  pub rose : min (old.pool.gets + (node_count after.counts - node_count c.counts)) last_count ≤ new.pool.gets

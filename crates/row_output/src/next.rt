@@ -1,0 +1,51 @@
+ghost use Rattle.std.specs.Prelude.{◌≡◌, IfSome};
+ghost use Rattle.sand_base.specs.Faults.{HasCause};
+ghost use Rattle.page_pool.specs.Causes.{HasPageCause};
+ghost use Rattle.page_pool.specs.Reads.{IsRead};
+ghost use Rattle.sand_model.specs.Cursor.{Cursor};
+ghost use Rattle.best_first.specs.Visits.{told_pages};
+ghost use Rattle.plan_rows.specs.Rows.{counts_of};
+ghost use Rattle.plan_cursor.specs.Standing.{IsAt};
+ghost use Rattle.row_output.specs.Stepping.{PrintsNext, refusal_of};
+
+use crate::row::print_row;
+use output_text::{LineRef, write_line};
+use page_pool::{Desk, Disk, PageFault};
+use plan_cursor::RowCursor;
+use plan_rows::RowSource;
+use plan_steps::RowStage;
+use sand_base::{Failed, Sink};
+use std::alloc::Global;
+
+// What was printed of one step of a cursor: a row, the end, or nothing of a refused step.
+pub enum Next {
+    Row,
+    End,
+    Refused(PageFault),
+}
+
+// Makes one step of the cursor and writes its line.
+pub fn print_next<S: RowSource, T: RowStage, D: Disk, K: Sink>(
+    cursor: &mut RowCursor<S, T>,
+    alloc: Global,
+    desk: &mut Desk<D>,
+    out: &mut K,
+) -> Result<Next, Failed>
+    requires stands { IfSome (told_pages desk.old) (λ pages. (c : Cursor) × IsAt S.At T.Stands T.closed (λ s. counts_of (S.seen s)) cursor.old pages c) }
+    ensures read { IsRead desk.old.pool desk.new.pool }
+    ensures refused { HasPageCause desk.old.pool desk.new.pool (refusal_of result) }
+    ensures cause { HasCause (K.faults out.old) (K.faults out.new) result }
+    ensures step { IfSome (told_pages desk.old) (λ pages. (c : Cursor) → IsAt S.At T.Stands T.closed (λ s. counts_of (S.seen s)) cursor.old pages c → PrintsNext c desk.old desk.new (K.took out.old) (K.took out.new) result (IsAt S.At T.Stands T.closed (λ s. counts_of (S.seen s)) cursor.new pages)) }
+{
+    match cursor.next(alloc, desk) {
+        Ok(Some(row)) => {
+            print_row(out, &row)?;
+            Ok(Next::Row)
+        }
+        Ok(None) => {
+            write_line(out, &LineRef::End)?;
+            Ok(Next::End)
+        }
+        Err(fault) => Ok(Next::Refused(fault)),
+    }
+}
