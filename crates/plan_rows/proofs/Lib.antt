@@ -13,6 +13,7 @@ pub mod FartherReaches
 pub mod RisingRows
 pub mod GrowingReach
 pub mod CountedVisits
+pub mod VisitCounts
 -- steps of the model
 pub mod ModelSteps
 pub mod TakenSoFar

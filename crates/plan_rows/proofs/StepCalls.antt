@@ -1,5 +1,5 @@
 -- The calls of a source in one step of a cursor, one after another: their visits lie within the reach after the step, and are counted.
-use Rattle.std.proofs.Common.{◌≡◌, ◌⊎◌, inl, inr, ℕ, ◌+◌, ◌-◌, ◌≤◌, min, Bool, true, false, cond, nat_lt, true≢false, List, [], ◌++◌, length, take, Option, Result, Ok, Err, refl, sym, ap, ◌∙◌, subst, arith, append_assoc, append-nil, le_antisymm, le_trans}
+use Rattle.std.proofs.Common.{◌≡◌, ◌⊎◌, inl, inr, ℕ, ◌+◌, ◌-◌, ◌≤◌, min, Bool, true, false, cond, nat_lt, true≢false, List, [], ◌++◌, length, take, Option, Result, Ok, Err, OnOk, refl, sym, ap, ◌∙◌, subst, arith, append_assoc, append-nil, le_antisymm, le_trans}
 use Rattle.std.specs.Prelude.{All}
 use Rattle.std.proofs.lemmas.Bool.{ltb-true}
 use Rattle.std.proofs.lemmas.List.Elements.{All-nil, All-append, All-contains}
@@ -16,21 +16,31 @@ use Rattle.sand_model.specs.Taken.{Taken, is_full, is_lazy, beneath_sort}
 use Rattle.best_first.proofs.Bags.{All-by}
 use Rattle.plan_rows.specs.Rows.{plan_measure}
 use Rattle.plan_rows.specs.SourceSteps.{nothing_taken, next_taken, taken_after, counts_taken, node_count, MakesVisits}
-use Rattle.plan_rows.specs.Visited.{LiesWithin}
+use Rattle.plan_rows.specs.Visited.{◌plus◌, visit_counts, LiesWithin}
 use Rattle.plan_rows.specs.declared.answer.Answer.{Answer}
 use Rattle.plan_rows.proofs.CountedVisits.{counts_one, at_most_itself, at_most_trans, between_low, between_high, nothing_taken_counts}
 use Rattle.plan_rows.proofs.FartherReaches.{AreAtMost}
 use Rattle.plan_rows.proofs.GrowingReach.{IsBefore, grows}
 use Rattle.plan_rows.proofs.ModelSteps.{step_taken}
+use Rattle.plan_rows.proofs.VisitCounts.{plus_none, counts_behind}
 use Rattle.plan_rows.proofs.TakenSoFar.{IsNeeded, IsSpent, needed_before, asked_before}
 
--- What the calls of a source in a step did to what was visited: each visit lies within the reach of what is taken later, the counts rose, and a page get was made for each node that was counted.
-pub record VisitsWithin (d : Database) (p : Plan) (later : Taken) (before now : Counts) (old new : DeskState) : Type 0 where
-  pub noted : List Visit
-  pub log : new.visits ≡ old.visits ++ noted
-  pub near : All (LiesWithin plan_measure d p (reach plan_measure d p later)) noted
+-- What the calls of a source in a step did to what was visited: each visit lies within the reach of what is taken later, the counts rose by those that were completed, at most one was attempted in vain after them where the last call was refused, and a page get was made for each node that was counted.
+pub record VisitsWithin {T : Type 0} (d : Database) (p : Plan) (later : Taken) (before now : Counts) (old new : DeskState) (result : Result T PageFault) : Type 0 where
+  pub completed : List Visit
+  pub attempted : List Visit
+  pub log : new.visits ≡ old.visits ++ (completed ++ attempted)
+  pub few : length attempted ≤ 1
+  pub settled : OnOk result (attempted ≡ [])
+  pub counted : now ≡ before plus visit_counts completed
+  pub near : All (LiesWithin plan_measure d p (reach plan_measure d p later)) (completed ++ attempted)
   pub up : AreAtMost before now
   pub rose : min (old.pool.gets + (node_count now - node_count before)) last_count ≤ new.pool.gets
+
+-- what holds, holds where the answer is Ok
+on_any : {T P : Type 0} (result : Result T PageFault) → P → OnOk result P
+on_any (Ok x) holds = holds
+on_any (Err fault) holds = tt
 
 -- page gets for no node, and for one node after another
 gets_none : (o x most g : ℕ) → min o most ≤ g → min (o + (x - x)) most ≤ g
@@ -45,40 +55,83 @@ nodes_rose before now h = let blocks = h.blocks in let pairs = h.pairs in omega 
 
 module _ (d : Database) (p : Plan) (later : Taken) where
   -- no call
-  pub within_none : (c : Counts) (old new : DeskState) → new.visits ≡ old.visits → min old.pool.gets last_count ≤ new.pool.gets → VisitsWithin d p later c c old new
-  within_none c old new log up = record {
-    noted = [];
+  pub within_none : {T : Type 0} (c : Counts) (old new : DeskState) (result : Result T PageFault) → new.visits ≡ old.visits → min old.pool.gets last_count ≤ new.pool.gets
+      → VisitsWithin d p later c c old new result
+  within_none {T} c old new result log up = record {
+    completed = [];
+    attempted = [];
     log = log ∙ sym (append-nil old.visits);
+    few = omega arith;
+    settled = on_any result refl;
+    counted = sym (plus_none c);
     near = All-nil (LiesWithin plan_measure d p (reach plan_measure d p later));
     up = at_most_itself c;
     rose = gets_none old.pool.gets (node_count c) last_count new.pool.gets up;
   }
 
-  -- one call, of a source of which no more is taken than later
-  pub within_call : (t : Taken) (before now : Counts) (old new : DeskState) (result : Result (Option Answer) PageFault) → IsBefore (next_taken d p t) later
-      → MakesVisits d p t before now old new result → VisitsWithin d p later before now old new
-  within_call t before now old new result h call =
+  -- one call, of a source of which no more is taken than later, in a step that is refused where the call is
+  pub within_call : {T : Type 0} (t : Taken) (before now : Counts) (old new : DeskState) (answer : Result (Option Answer) PageFault) (result : Result T PageFault)
+      → ((fault : PageFault) → answer ≡ Err fault → result ≡ Err fault) → IsBefore (next_taken d p t) later → MakesVisits d p t before now old new answer
+      → VisitsWithin d p later before now old new result
+  within_call {T} t before now old new answer result refused h call =
       let more = grows plan_measure d p (next_taken d p t) later h in record {
-        noted = call.noted;
+        completed = call.completed;
+        attempted = call.attempted;
         log = call.log;
-        near = All-by (LiesWithin plan_measure d p (reach plan_measure d p later)) call.noted (λ v at.
-            more.visits v (All-contains (LiesWithin plan_measure d p (reach plan_measure d p (next_taken d p t))) call.noted v call.near at));
+        few = call.few;
+        settled = settled_after answer call.settled refused;
+        counted = call.counted;
+        near = All-by (LiesWithin plan_measure d p (reach plan_measure d p later)) (call.completed ++ call.attempted) (λ v at.
+            more.visits v (All-contains (LiesWithin plan_measure d p (reach plan_measure d p (next_taken d p t))) (call.completed ++ call.attempted) v call.near at));
         up = between_low before (counts_taken d p (next_taken d p t)) now call.between;
         rose = call.rose;
       }
+    where
+      settled_after : (answer : Result (Option Answer) PageFault) → OnOk answer (call.attempted ≡ []) → ((fault : PageFault) → answer ≡ Err fault → result ≡ Err fault)
+          → OnOk result (call.attempted ≡ [])
+      settled_after (Ok row) none refused = on_any result none
+      settled_after (Err fault) none refused = subst (λ r. OnOk r (call.attempted ≡ [])) (sym (refused fault refl)) tt
 
-  -- some calls after others
-  pub within_chain : (before mid now : Counts) (old middle new : DeskState) → VisitsWithin d p later before mid old middle → VisitsWithin d p later mid now middle new
-      → VisitsWithin d p later before now old new
-  within_chain before mid now old middle new first second = record {
-    noted = first.noted ++ second.noted;
-    log = second.log ∙ ap (λ l. l ++ second.noted) first.log ∙ append_assoc old.visits first.noted second.noted;
-    near = All-append (LiesWithin plan_measure d p (reach plan_measure d p later)) first.noted second.noted first.near second.near;
+  -- a step that was not refused attempted nothing in vain
+  pub within_ok : {T : Type 0} (before now : Counts) (old new : DeskState) (result : Result T PageFault) (x : T) → result ≡ Ok x → VisitsWithin d p later before now old new result
+      → VisitsWithin {T = Unit} d p later before now old new (Ok tt)
+  within_ok {T} before now old new result x ok within = record {
+    completed = within.completed;
+    attempted = within.attempted;
+    log = within.log;
+    few = within.few;
+    settled = subst (λ r. OnOk r (within.attempted ≡ [])) ok within.settled;
+    counted = within.counted;
+    near = within.near;
+    up = within.up;
+    rose = within.rose;
+  }
+
+  -- some calls after others, which were not refused
+  pub within_chain : {T : Type 0} (before mid now : Counts) (old middle new : DeskState) (result : Result T PageFault) → VisitsWithin {T = Unit} d p later before mid old middle (Ok tt)
+      → VisitsWithin d p later mid now middle new result → VisitsWithin d p later before now old new result
+  within_chain {T} before mid now old middle new result first second = record {
+    completed = first.completed ++ second.completed;
+    attempted = second.attempted;
+    log =
+        second.log ∙ ap (λ l. l ++ (second.completed ++ second.attempted)) (first.log ∙ ap (λ l. old.visits ++ l) all_completed)
+        ∙ append_assoc old.visits first.completed (second.completed ++ second.attempted)
+        ∙ ap (λ l. old.visits ++ l) (sym (append_assoc first.completed second.completed second.attempted));
+    few = second.few;
+    settled = second.settled;
+    counted = counts_behind before mid now first.completed second.completed first.counted second.counted;
+    near =
+        subst (All (LiesWithin plan_measure d p (reach plan_measure d p later))) (sym (append_assoc first.completed second.completed second.attempted))
+        (All-append (LiesWithin plan_measure d p (reach plan_measure d p later)) first.completed (second.completed ++ second.attempted)
+        (subst (All (LiesWithin plan_measure d p (reach plan_measure d p later))) all_completed first.near) second.near);
     up = at_most_trans before mid now first.up second.up;
     rose =
         gets_chain old.pool.gets (node_count before) (node_count mid) (node_count now) last_count middle.pool.gets new.pool.gets
         (nodes_rose before mid first.up) (nodes_rose mid now second.up) first.rose second.rose;
   }
+    where
+      all_completed : first.completed ++ first.attempted ≡ first.completed
+      all_completed = ap (λ l. first.completed ++ l) first.settled ∙ append-nil first.completed
 
 -- the source may be asked: nothing beneath the innermost sort is full and, without a sort, the plan has no more rows than it has given
 abbrev pub IsOpen : Database → Plan → ℕ → Taken → Type 0

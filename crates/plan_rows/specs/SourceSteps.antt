@@ -1,5 +1,5 @@
 -- A call of a source: it gives the next row of its list, and its visits lie within the reach of what it then has taken.
-use Rattle.std.specs.Prelude.{◌≡◌, ℕ, ◌+◌, ◌-◌, ◌≤◌, ◌<◌, min, true, false, cond, nat_lt, List, ◌++◌, length, All, Option, None, Some, Result, Ok, Err, OnOk, ⊤}
+use Rattle.std.specs.Prelude.{◌≡◌, ℕ, ◌+◌, ◌-◌, ◌≤◌, ◌<◌, min, true, false, cond, nat_lt, List, [], ◌++◌, length, All, Option, None, Some, Result, Ok, Err, OnOk, ⊤}
 use Rattle.sand_base.specs.Faults.{last_count}
 use Rattle.sand_base.specs.declared.visit.Visit.{Visit}
 use Rattle.page_pool.specs.Desk.{DeskState}
@@ -11,7 +11,7 @@ use Rattle.sand_model.specs.Plan.{Plan}
 use Rattle.sand_model.specs.Reach.{Counts, reach, counts_at, innermost}
 use Rattle.sand_model.specs.Taken.{Taken}
 use Rattle.plan_rows.specs.Rows.{plan_measure, row_of}
-use Rattle.plan_rows.specs.Visited.{LiesWithin}
+use Rattle.plan_rows.specs.Visited.{◌plus◌, visit_counts, LiesWithin}
 use Rattle.plan_rows.specs.declared.answer.Answer.{Answer}
 
 -- nothing was taken
@@ -43,11 +43,15 @@ counts_taken d p t = counts_at plan_measure d (innermost p) (reach plan_measure 
 abbrev pub node_count : Counts → ℕ
 node_count c = c.blocks + c.pairs
 
--- The visits of a call: they were noted behind those before, each lies within the reach of what would be taken next; the counts don't fall, rise to at most those of that reach, and are these after a row and at the end. At least one page get was made for each node that was counted.
+-- The visits of a call: they were noted behind those before, those completed and after them, only in a refused call, at most one that was attempted in vain; each lies within the reach of what would be taken next. The counts rise by just the completed ones, to at most those of that reach, and are these after a row and at the end. At least one page get was made for each node that was counted.
 pub record MakesVisits (d : Database) (p : Plan) (t : Taken) (before now : Counts) (old new : DeskState) (result : Result (Option Answer) PageFault) : Type 0 where
-  pub noted : List Visit
-  pub log : new.visits ≡ old.visits ++ noted
-  pub near : All (LiesWithin plan_measure d p (reach plan_measure d p (next_taken d p t))) noted
+  pub completed : List Visit
+  pub attempted : List Visit
+  pub log : new.visits ≡ old.visits ++ (completed ++ attempted)
+  pub few : length attempted ≤ 1
+  pub settled : OnOk result (attempted ≡ [])
+  pub counted : now ≡ before plus visit_counts completed
+  pub near : All (LiesWithin plan_measure d p (reach plan_measure d p (next_taken d p t))) (completed ++ attempted)
   pub between : AreBetween before (counts_taken d p (next_taken d p t)) now
   pub exact : OnOk result (now ≡ counts_taken d p (next_taken d p t))
   pub rose : min (old.pool.gets + (node_count now - node_count before)) last_count ≤ new.pool.gets

@@ -1,5 +1,5 @@
--- Whether a visit of a plan's source lies within a reach: its node's gap does, or the gap of a rough item that a leaf lists.
-use Rattle.std.specs.Prelude.{◌≡◌, ℕ, true, List, Contains}
+-- What visits count, and whether a visit of a plan's source lies within a reach: its node's gap does, or the gap of a rough item that a leaf lists.
+use Rattle.std.specs.Prelude.{◌≡◌, ℕ, ◌+◌, true, List, [], ◌∷◌, Contains}
 use Rattle.sand_base.specs.declared.goal.Goal.{Goal}
 use Rattle.sand_base.specs.declared.goal.Goal.TheVariants as figure
 use Rattle.sand_base.specs.declared.visit.Visit.{Visit}
@@ -10,9 +10,26 @@ use Rattle.sand_model.specs.Measure.{Measure}
 use Rattle.sand_model.specs.Nodes.{LeafItem, PairNode, rank_items, pair_nodes, pair_gap, join_items, square_figure}
 use Rattle.sand_model.specs.Plan as plan
 use Rattle.sand_model.specs.Plan.{Plan, Column}
-use Rattle.sand_model.specs.Reach.{Reach, reaches, quadtree_of, innermost}
+use Rattle.sand_model.specs.Reach.{Reach, Counts, no_counts, reaches, quadtree_of, innermost}
 use Rattle.sand_model.specs.Sources.{column_shapes}
 use Rattle.sand_model.specs.Tree.{Tree, places, root_block}
+
+infixl 6 ◌plus◌
+-- the sum of two counts, number by number
+abbrev pub ◌plus◌ : Counts → Counts → Counts
+a plus b = record { blocks = a.blocks + b.blocks; pairs = a.pairs + b.pairs; geometries = a.geometries + b.geometries }
+
+-- the count of one visit: a block, a pair of blocks, or the exact geometry of an object or of a pair of objects
+abbrev pub count_of : Visit → Counts
+count_of (visit.Block number z level) = record { blocks = 1; pairs = 0; geometries = 0 }
+count_of (visit.Pair b c) = record { blocks = 0; pairs = 1; geometries = 0 }
+count_of (visit.Geometry id) = record { blocks = 0; pairs = 0; geometries = 1 }
+count_of (visit.GeometryPair left right) = record { blocks = 0; pairs = 0; geometries = 1 }
+
+-- how many visits of each kind a list has
+abbrev pub visit_counts : List Visit → Counts
+visit_counts [] = no_counts
+visit_counts (v ∷ visits) = count_of v plus visit_counts visits
 
 -- a place of the tree stands at the block, and its gap from the goal lies within the reach
 pub record IsBlockWithin (gap : Measure) (goal : Goal) (tree : Tree) (to : Reach) (z level : ℕ) : Type 0 where
