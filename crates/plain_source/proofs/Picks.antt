@@ -1,9 +1,10 @@
 -- The rows of a value, one after another.
-use Rattle.std.proofs.Common.{◌≡◌, ℕ, List, [], map, refl, sym, ◌∙◌, ap, subst}
-use Rattle.std.specs.Prelude.{Option, Some, None, Ok, IfSome}
+use Rattle.std.proofs.Common.{◌≡◌, ℕ, List, [], map, refl, sym, ◌∙◌, ap, subst, IsErr, true≢false}
+use Rattle.std.specs.Prelude.{Option, Some, None, Result, Ok, Err, IfSome}
 use Rattle.page_pool.specs.Desk.{DeskState}
 use Rattle.page_pool.specs.Disk.{PageMap}
 use Rattle.page_pool.specs.Pool.{IsTold}
+use Rattle.page_pool.specs.declared.fault.PageFault.{PageFault}
 use Rattle.sand_base.specs.declared.value.Value.{Value}
 use Rattle.sand_model.specs.Answer.{plain_row}
 use Rattle.sand_model.specs.Database.{Database}
@@ -21,7 +22,7 @@ use Rattle.plan_rows.specs.Rows.{row_of}
 use Rattle.plan_rows.specs.SourceSteps.{SourceStep, nothing_taken}
 use Rattle.plan_rows.specs.declared.answer.Answer.{Answer}
 use Rattle.plain_source.specs.Plain.{IsPickEqual}
-use Rattle.plain_source.proofs.PlainSteps.{IsPlain, Reads, row_step, end_step, where_told}
+use Rattle.plain_source.proofs.PlainSteps.{IsPlain, Reads, row_step, end_step, fault_step, where_told}
 
 -- the rows of pairs
 abbrev rows_of : List (ℕ × Value) → List PlanRow
@@ -62,3 +63,11 @@ pick_end l v last old new gives reads =
     let none : rows_of (above last (equals d h.column v)) ≡ [] = ap rows_of (gives told d h.column h.look_up) in
     end_step d p t old new (λ u. IsPickEqual l v last old.pool.pages d p u) (plain l v last old.pool.pages d p t h) (h.left ∙ none) reads
     (λ u left. record { column = h.column; is = h.is; look_up = h.look_up; left = left ∙ sym none }))
+
+-- a refusal takes nothing
+pub pick_refused : (l : LookUp) (v : Value) (last : ℕ) (result : Result (Option Answer) PageFault) (old new : DeskState) → IsErr result → Reads old new
+    → IfSome (told_pages old) (λ pages. (d : Database) (p : Plan) (t : Taken) → IsPickEqual l v last pages d p t → SourceStep d p t no_counts no_counts old new result (λ u. IsPickEqual l v last pages d p u))
+pick_refused l v last (Ok a) old new refused reads = absurd (true≢false (sym refused))
+pick_refused l v last (Err fault) old new refused reads =
+    let F : PageMap → Type 0 = λ pages. (d : Database) (p : Plan) (t : Taken) → IsPickEqual l v last pages d p t → SourceStep d p t no_counts no_counts old new (Err fault) (λ u. IsPickEqual l v last pages d p u) in
+    where_told old F (λ told d p t h. fault_step d p t fault old new (λ u. IsPickEqual l v last old.pool.pages d p u) (plain l v last old.pool.pages d p t h) reads h)

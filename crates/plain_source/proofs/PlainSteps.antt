@@ -8,6 +8,7 @@ use Rattle.page_pool.specs.Disk.{PageMap}
 use Rattle.page_pool.specs.Pool.{PoolState, IsTold}
 use Rattle.page_pool.specs.declared.fault.PageFault.{PageFault}
 use Rattle.sand_base.specs.Faults.{last_count}
+use Rattle.sand_base.specs.declared.visit.Visit.{Visit}
 use Rattle.sand_model.specs.Answer.{source}
 use Rattle.sand_model.specs.Database.{Database, element}
 use Rattle.sand_model.specs.Operators.{PlanRow}
@@ -20,6 +21,7 @@ use Rattle.plan_rows.specs.Rows.{plan_measure, row_of}
 use Rattle.plan_rows.specs.SourceSteps.{next_taken, counts_taken, MakesVisits, SourceStep}
 use Rattle.plan_rows.specs.Visited.{LiesWithin}
 use Rattle.plan_rows.specs.declared.answer.Answer.{Answer}
+use Rattle.plan_rows.proofs.VisitCounts.{plus_none}
 use Rattle.plain_source.specs.Plain.{left_of}
 
 -- the plan is a scan or a pick
@@ -52,14 +54,22 @@ no_nodes d (plan.SortNear _ _ _) t h = absurd h
 visits_none : (d : Database) (p : Plan) (t : Taken) (old new : DeskState) (result : Result (Option Answer) PageFault) → IsPlain p → Reads old new → MakesVisits d p t no_counts no_counts old new result
 visits_none d p t old new result h r =
     let none = no_nodes d p (next_taken d p t) h in record {
-      noted = [];
+      completed = [];
+      attempted = [];
       log = r.log ∙ sym (append-nil old.visits);
+      few = omega arith;
+      settled = nothing_tried result;
+      counted = sym (plus_none no_counts);
       near = All-nil (LiesWithin plan_measure d p (reach plan_measure d p (next_taken d p t)));
       between = rw none (record { blocks = (omega arith, omega arith); pairs = (omega arith, omega arith); geometries = (omega arith, omega arith) });
       exact = exact result none;
       rose = (let u = r.up in omega (arith, u));
     }
   where
+    nothing_tried : (result : Result (Option Answer) PageFault) → OnOk result (◌≡◌ {A = List Visit} [] [])
+    nothing_tried (Ok x) = refl
+    nothing_tried (Err x) = tt
+
     exact : (result : Result (Option Answer) PageFault) → counts_taken d p (next_taken d p t) ≡ no_counts → OnOk result (no_counts ≡ counts_taken d p (next_taken d p t))
     exact (Ok x) e = sym e
     exact (Err x) e = tt

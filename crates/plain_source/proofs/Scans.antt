@@ -1,12 +1,13 @@
 -- The ids of a relation's rows, one after another.
-use Rattle.std.proofs.Common.{◌≡◌, ℕ, suc, ◌+◌, ◌<◌, ◌≤◌, List, [], ◌∷◌, map, refl, sym, ◌∙◌, ap, subst, inl, inr, arith, All, true≢false}
-use Rattle.std.specs.Prelude.{Option, Some, None, is_some, Ok, IfSome}
+use Rattle.std.proofs.Common.{◌≡◌, ℕ, suc, ◌+◌, ◌<◌, ◌≤◌, List, [], ◌∷◌, map, refl, sym, ◌∙◌, ap, subst, inl, inr, arith, All, true≢false, IsErr}
+use Rattle.std.specs.Prelude.{Option, Some, None, is_some, Result, Ok, Err, IfSome}
 use Rattle.std.proofs.lemmas.Bool.Decides.{leb_tells}
 use Rattle.std.proofs.lemmas.List.Elements.{All-head, All-tail}
 use Rattle.code_btree.proofs.Orders.{lt_is, lt_not}
 use Rattle.page_pool.specs.Desk.{DeskState}
 use Rattle.page_pool.specs.Disk.{PageMap}
 use Rattle.page_pool.specs.Pool.{IsTold}
+use Rattle.page_pool.specs.declared.fault.PageFault.{PageFault}
 use Rattle.pmr_tree.specs.Lists.{Each, Rises}
 use Rattle.pmr_tree.specs.Quadtree.{store_of}
 use Rattle.sand_base.specs.declared.kind.Kind.{Kind}
@@ -31,7 +32,7 @@ use Rattle.plan_rows.specs.Rows.{row_of}
 use Rattle.plan_rows.specs.SourceSteps.{SourceStep, nothing_taken}
 use Rattle.plan_rows.specs.declared.answer.Answer.{Answer}
 use Rattle.plain_source.specs.Plain.{left_of, ids_of, ids_above, GivesNext, IsScan}
-use Rattle.plain_source.proofs.PlainSteps.{IsPlain, Reads, row_step, end_step, where_told}
+use Rattle.plain_source.proofs.PlainSteps.{IsPlain, Reads, row_step, end_step, fault_step, where_told}
 
 -- a filter that all pass
 all_above : (id : ℕ) (ids : List ℕ) → Each (λ n. id < n) ids → ids_above id ids ≡ ids
@@ -132,3 +133,11 @@ scan_end r last old new gives reads =
     where_told old F (λ told d p t h.
     let none : map plain_row (ids_above last (ids_of (rows_in old.pool.pages r))) ≡ [] = ap (λ (ns : List ℕ). map plain_row ns) (gives told) in
     end_step d p t old new (λ u. IsScan r last old.pool.pages d p u) (plain r last old.pool.pages d p t h) (h.left ∙ none) reads (λ u left. after_row r last last old.pool.pages d p t u h (left ∙ sym none)))
+
+-- a refusal takes nothing
+pub scan_refused : (r : RelationView) (last : ℕ) (result : Result (Option Answer) PageFault) (old new : DeskState) → IsErr result → Reads old new
+    → IfSome (told_pages old) (λ pages. (d : Database) (p : Plan) (t : Taken) → IsScan r last pages d p t → SourceStep d p t no_counts no_counts old new result (λ u. IsScan r last pages d p u))
+scan_refused r last (Ok a) old new refused reads = absurd (true≢false (sym refused))
+scan_refused r last (Err fault) old new refused reads =
+    let F : PageMap → Type 0 = λ pages. (d : Database) (p : Plan) (t : Taken) → IsScan r last pages d p t → SourceStep d p t no_counts no_counts old new (Err fault) (λ u. IsScan r last pages d p u) in
+    where_told old F (λ told d p t h. fault_step d p t fault old new (λ u. IsScan r last old.pool.pages d p u) (plain r last old.pool.pages d p t h) reads h)

@@ -38,7 +38,7 @@ impl<'s> PickBetween<'s> {
     ) -> Option<PickBetween<'s>>
         ensures counts { IfSome result (λ s. counts_of (⟦<PickBetween<'s> as RowSource>⟧.seen s) ≡ no_counts) }
         ensures begun { IfSome result (λ s. (pages : PageMap) → CatalogStands pages catalog.now → ⟦<PickBetween<'s> as RowSource>⟧.At s pages (database_in pages catalog.now.relations) (of_column (names_of relation.now column.now) low high) nothing_taken) }
-        ensures none { result ≡ None → IsCatalog catalog.now → (pages : PageMap) → CatalogStands pages catalog.now → LacksInts (database_in pages catalog.now.relations) (names_of relation.now column.now) }
+        ensures none { result ≡ None → IsCatalog catalog.now → (pages : PageMap) → LacksInts (database_in pages catalog.now.relations) (names_of relation.now column.now) }
     {
         let look_up = LookUp::named(catalog, relation, column)?;
         if !look_up.has_ints() {

@@ -30,3 +30,9 @@ returns-in-Ok-None-clause-step g c =
     let P : PoolState → Type 0 = λ pool. IsTold pool → Finds s.look_up s.low s.high s.last pool.pages None in
     between_end s.look_up s.low s.high s.last c.args.desk.now _ (subst P c.pages.ensures.pool (rw c.in-Ok-None.field-0-is at c.in-Ok-None.ensures.value))
     (reads_of c.args.desk.now c.pages.result.now c.between.new.pages c.pages.ensures.pool c.in-Ok-None.ensures.peeks.up)
+
+pub returns-in-Err-clause-step : goal.returns-in-Err-clause-step
+returns-in-Err-clause-step g c =
+    let s = c.args.self.now in
+    between_refused s.look_up s.low s.high s.last c.in-Err.fault c.args.desk.now _
+    (reads_of c.args.desk.now c.pages.result.now c.between.new.pages c.pages.ensures.pool c.in-Err.ensures.peeks.up)

@@ -1,11 +1,11 @@
 -- the id that follows, or the end
-use Rattle.std.proofs.Common.{subst}
+use Rattle.std.proofs.Common.{Err, refl, subst}
 use Rattle.std.specs.Prelude.{None, Some}
 use Rattle.page_pool.specs.Pool.{PoolState, IsTold}
 use Rattle.sand_store.specs.Contents.{rows_in}
 use Rattle.plain_source.specs.Plain.{GivesNext, ids_of}
 use Rattle.plain_source.proofs.PlainSteps.{reads_of}
-use Rattle.plain_source.proofs.Scans.{scan_row, scan_end}
+use Rattle.plain_source.proofs.Scans.{scan_row, scan_end, scan_refused}
 use Rattle.plain_source.proofs.scan.ScanRowSource.next.Goals as goal
 
 pub returns-in_ok-answer-in-Ok-Some-clause-step : goal.returns-in_ok-answer-in-Ok-Some-clause-step
@@ -21,3 +21,16 @@ returns-in-Ok-None-clause-step g c =
     let P : PoolState → Type 0 = λ pool. IsTold pool → GivesNext s.last (ids_of (rows_in pool.pages s.relation.now)) None in
     scan_end s.relation.now s.last c.args.desk.now _ (subst P c.pages.ensures.pool (rw c.in-Ok-None.field-0-is at c.in-Ok-None.ensures.value))
     (reads_of c.args.desk.now c.pages.result.now c.following.new.pages c.pages.ensures.pool c.in-Ok-None.ensures.up)
+
+-- memory was refused for the row
+pub returns-in_err-answer-in-Ok-Some-clause-step : goal.returns-in_err-answer-in-Ok-Some-clause-step
+returns-in_err-answer-in-Ok-Some-clause-step g c =
+    let s = c.args.self.now in
+    scan_refused s.relation.now s.last c.from_residual.result c.args.desk.now _ c.from_residual.ensures.0
+    (reads_of c.args.desk.now c.pages.result.now c.following.new.pages c.pages.ensures.pool c.in-Ok-Some.ensures.up)
+
+pub returns-in-Err-clause-step : goal.returns-in-Err-clause-step
+returns-in-Err-clause-step g c =
+    let s = c.args.self.now in
+    scan_refused s.relation.now s.last (Err c.in-Err.fault) c.args.desk.now _ refl
+    (reads_of c.args.desk.now c.pages.result.now c.following.new.pages c.pages.ensures.pool c.in-Err.ensures.up)
