@@ -1,5 +1,5 @@
 -- How far the visits of a call go: up to the gap of the row that comes next, or up to the ceiling where none is left.
-use Rattle.std.proofs.Common.{◌≡◌, ℕ, Bool, true, List, [], ◌++◌, All, ⊎_elim, Option, None, Some, Result, Ok, Err, OnOk, sym, ap, ◌∙◌, subst, append-nil, Ordering}
+use Rattle.std.proofs.Common.{◌≡◌, ℕ, ◌≤◌, Bool, true, List, [], ◌++◌, length, All, ⊎_elim, Option, None, Some, Result, Ok, Err, OnOk, sym, ap, ◌∙◌, subst, arith, append-nil, Ordering}
 use Rattle.std.specs.Cmp.{IsTotalOrder, nat_cmp_total, on_total, then_total}
 use Rattle.std.proofs.lemmas.List.Elements.{All-contains}
 use Rattle.exact_frac.specs.Frac.{value_cmp_total}
@@ -41,10 +41,15 @@ pub record HowFar {N : Type 0} (m : Meaning N) (to : Reach) (items : List (Item 
   pub goes : GoesTo m to test
   pub near : All (λ item. test (gap_of item) ≡ true) items
 
--- All that was taken and attempted lies within the reach, and after an answer what was taken is just what lies there.
+-- All that was taken and attempted lies within the reach, at most one item was attempted, and after an answer none was and what was taken is just what lies there.
 pub record CallReach {N T : Type 0} (cmp : N → N → Ordering) (m : Meaning N) (to : Reach) (result : Result T PageFault) (attempt all : List (Item N)) : Type 0 where
   pub far : HowFar m to (all ++ attempt)
+  pub few : length attempt ≤ 1
   pub exact : OnOk result ((attempt ≡ []) × Reached cmp m far.test all)
+
+-- none is at most one
+pub few_none : {X : Type 0} (xs : List X) → xs ≡ [] → length xs ≤ 1
+few_none xs none = subst (λ l. length l ≤ 1) (sym none) (omega arith)
 
 -- the order of rows is total
 pub hits_total : IsTotalOrder hit_cmp
@@ -116,6 +121,7 @@ module _ {N : Type 0} (m : Meaning N) where
         subst (λ o. CallReach cmp m (reach_from m.ceiling o) (Ok (Some hit)) attempt all) (sym here)
         (record {
           far = record { test = up_to hit.gap; goes = row_goes found hit same.0 (next_inside last hit next); near = subst (λ l. All (λ item. up_to hit.gap (gap_of item) ≡ true) l) same_items (all_up_to hit all bounds.near) };
+          few = few_none attempt bounds.settled;
           exact = (bounds.settled, bounds.reached);
         })
     far_after {cmp} (Ok None) held after attempt all over h bounds =
@@ -123,6 +129,7 @@ module _ {N : Type 0} (m : Meaning N) where
         subst (λ o. CallReach {T = Option Hit} cmp m (reach_from m.ceiling o) (Ok None) attempt all) (sym (ended over))
         (record {
           far = record { test = within m.ceiling; goes = ceiling_goes; near = subst (λ l. All (λ item. within m.ceiling (gap_of item) ≡ true) l) same_items (All-left (λ item. within m.ceiling (gap_of item) ≡ true) all held h.tracks.inside) };
+          few = few_none attempt bounds.settled;
           exact = (bounds.settled, bounds.reached);
         })
-    far_after (Err fault) held after attempt all next h bounds = record { far = before_next (all ++ attempt) bounds.near bounds.inside; exact = tt }
+    far_after (Err fault) held after attempt all next h bounds = record { far = before_next (all ++ attempt) bounds.near bounds.inside; few = bounds.few; exact = tt }

@@ -2,6 +2,7 @@
 use Rattle.std.proofs.Common.{◌≡◌, ⊎_elim, ℕ, suc, ◌+◌, ◌-◌, ◌≤◌, min, true, false, true≢false, List, [], ◌∷◌, ◌++◌, map, length, length-append, All, Contains, Option, None, Some, option_map, Result, Ok, Err, OnOk, refl, sym, ap, ◌∙◌, subst, arith, append-nil, Ordering}
 use Rattle.std.proofs.Math.Numerals.{add-one}
 use Rattle.std.specs.Cmp.{IsTotalOrder}
+use Rattle.std.proofs.lemmas.List.{map-append, length-map}
 use Rattle.std.proofs.lemmas.List.Elements.{All-contains, Contains-append_left, Contains-append_right, Contains-append_cases}
 use Rattle.sand_base.specs.Faults.{last_count}
 use Rattle.sand_base.specs.declared.goal.Goal.TheVariants as figure
@@ -23,7 +24,7 @@ use Rattle.best_first.specs.Visits.{SearchState, IsVisit, CallVisits, MakesVisit
 use Rattle.best_first.specs.declared.counts.Counts.{Counts as Numbers}
 use Rattle.best_first.specs.declared.hit.Hit.{Hit}
 use Rattle.best_first.specs.declared.item.Item.{Item}
-use Rattle.best_first.proofs.Bags.{none as nothing, All-by, from_filter}
+use Rattle.best_first.proofs.Bags.{none as nothing, All-by, All-left, from_filter}
 use Rattle.best_first.proofs.Gaps.{same_back, same_trans}
 use Rattle.best_first.proofs.Pending.{nodes-append, roughs-append}
 use Rattle.rank_cursor.specs.Answers.{AreGiven, GivesList}
@@ -36,18 +37,20 @@ use Rattle.rank_cursor.proofs.RankingLaws.{rank_laws}
 use Rattle.rank_cursor.proofs.SortedRows.{from_sorted, at_is}
 use Rattle.ring_geom.proofs.Measured.{measured}
 use Rattle.plan_rows.proofs.LowestFractions.{lowest_same, lowest_one}
+use Rattle.plan_rows.proofs.CountedVisits.{counts_one}
 use Rattle.plan_rows.proofs.PlanMeasure.{plan_measure_is}
+use Rattle.plan_rows.proofs.VisitCounts.{plus_none}
 use Rattle.plan_rows.specs.Lowest.{lowest_of}
 use Rattle.plan_rows.specs.Rows.{plan_measure, row_of}
 use Rattle.plan_rows.specs.SourceSteps.{next_taken, counts_taken, node_count, MakesVisits as SourceVisits, SourceStep}
-use Rattle.plan_rows.specs.Visited.{LiesWithin}
+use Rattle.plan_rows.specs.Visited.{◌plus◌, visit_counts, LiesWithin}
 use Rattle.plan_rows.specs.declared.answer.Answer.{Answer}
 use Rattle.rank_source.specs.Rankings.{HasTaken}
 use Rattle.rank_source.proofs.HowFar.{reach_from, HowFar, CallReach, far_before, far_after}
 use Rattle.rank_source.proofs.NextReach.{more_taken, none_taken, next_reach}
 use Rattle.rank_source.proofs.RankCounts.{block_count, geometry_count, no_more_taken, counted_is}
 use Rattle.rank_source.proofs.RankPlans.{IsTold, told_by}
-use Rattle.rank_source.proofs.RankVisits.{lies_within}
+use Rattle.rank_source.proofs.RankVisits.{lies_within, visits_counted}
 use Rattle.rank_source.proofs.Shorter.{element_past, element_map}
 
 -- ---- rows in lowest terms
@@ -195,6 +198,16 @@ module _ {cmp : Block → Block → Ordering} (o : IsTotalOrder cmp) (r : Rankin
           let some : node_count (counts_by new.counts) - node_count (counts_by old.counts) ≡ length (nodes_of call.makes.taken) = omega (arith, visited, visits, more_nodes) in
           subst (λ n. min (old.desk.pool.gets + n) last_count ≤ new.desk.pool.gets) (sym some) call.makes.rose
 
+      -- the counts rose by what was taken
+      counted_taken : counts_by new.counts ≡ counts_by old.counts plus visit_counts (map (visit_of number) call.makes.taken)
+      counted_taken =
+          let (visited, fetched) = numbers old.held h.done old.counts old.last h.stands h.counted in
+          let (visits, fetches) = numbers new.held all new.counts new.last call.makes.stands now_counted in
+          let counts = visits_counted number call.makes.taken (All-left IsVisit call.makes.taken call.attempt call.makes.visits) in
+          counts_one (counts_by new.counts) (counts_by old.counts plus record { blocks = length (nodes_of call.makes.taken); pairs = 0; geometries = length (roughs_of call.makes.taken) })
+          (omega (arith, visited, visits, more_nodes)) refl (omega (arith, fetched, fetches, more_roughs))
+          ∙ ap (λ (c : Counts). counts_by old.counts plus c) (sym counts)
+
       -- the counts when what was taken is just what lies within the reach
       counted_exactly : Reached cmp m reached.far.test all → counts_by new.counts ≡ counts_taken d p (next_taken d p t)
       counted_exactly just =
@@ -203,19 +216,30 @@ module _ {cmp : Block → Block → Ordering} (o : IsTotalOrder cmp) (r : Rankin
           (λ i. record { blocks = (visits ∙ counted.blocks) i; pairs = 0; geometries = (fetches ∙ counted.geometries) i }) ∙ sym next_counts
 
       -- the visits of the call
-      visits : (answer : Result (Option Answer) PageFault) → OnOk answer (Reached cmp m reached.far.test all)
+      visits : (answer : Result (Option Answer) PageFault) → OnOk answer ((call.attempt ≡ []) × Reached cmp m reached.far.test all)
           → SourceVisits d p t (counts_by old.counts) (counts_by new.counts) old.desk new.desk answer
       visits answer just = record {
-        noted = map (visit_of number) (call.makes.taken ++ call.attempt);
-        log = call.makes.noted.log;
-        near = near_all;
+        completed = map (visit_of number) call.makes.taken;
+        attempted = map (visit_of number) call.attempt;
+        log = call.makes.noted.log ∙ ap (λ visits. old.desk.visits ++ visits) both;
+        few = subst (λ n. n ≤ 1) (sym (length-map call.attempt (visit_of number))) reached.few;
+        settled = settled answer just;
+        counted = counted_taken;
+        near = subst (All (LiesWithin plan_measure d p to)) both near_all;
         between = between;
         exact = exactly answer just;
         rose = rose;
       }
         where
-          exactly : (answer : Result (Option Answer) PageFault) → OnOk answer (Reached cmp m reached.far.test all) → OnOk answer (counts_by new.counts ≡ counts_taken d p (next_taken d p t))
-          exactly (Ok a) just = counted_exactly just
+          both : map (visit_of number) (call.makes.taken ++ call.attempt) ≡ map (visit_of number) call.makes.taken ++ map (visit_of number) call.attempt
+          both = map-append (visit_of number) call.makes.taken call.attempt
+
+          settled : (answer : Result (Option Answer) PageFault) → OnOk answer ((call.attempt ≡ []) × Reached cmp m reached.far.test all) → OnOk answer (map (visit_of number) call.attempt ≡ [])
+          settled (Ok a) just = ap (map (visit_of number)) just.0
+          settled (Err fault) just = tt
+
+          exactly : (answer : Result (Option Answer) PageFault) → OnOk answer ((call.attempt ≡ []) × Reached cmp m reached.far.test all) → OnOk answer (counts_by new.counts ≡ counts_taken d p (next_taken d p t))
+          exactly (Ok a) just = counted_exactly just.1
           exactly (Err fault) just = tt
 
       -- the source when so much was taken after the call
@@ -243,7 +267,7 @@ module _ {cmp : Block → Block → Ordering} (o : IsTotalOrder cmp) (r : Rankin
           row = row;
           at = subst (HasTaken cmp r new.held new.last new.counts d p) (sym (more_taken d p t (λ found. found.left ∷ []) rows model.rows found here))
               (stands_at new (Ok (Some hit)) next call (record { rows = t.rows + 1; is_ended = false }) given (λ e. absurd (true≢false (sym e))));
-          visits = visits new (Ok (Some hit)) next call (Ok (Some a)) far.exact.1;
+          visits = visits new (Ok (Some hit)) next call (Ok (Some a)) far.exact;
         }
 
     -- the end
@@ -257,7 +281,7 @@ module _ {cmp : Block → Block → Ordering} (o : IsTotalOrder cmp) (r : Rankin
           row = ap (λ l. element l t.rows) model.rows ∙ element_map single_row rows t.rows ∙ ap (option_map single_row) none;
           at = subst (HasTaken cmp r new.held new.last new.counts d p) (sym (none_taken d p t (λ found. found.left ∷ []) rows model.rows none))
               (stands_at new (Ok None) over call (record { rows = t.rows; is_ended = true }) (subst (AreGiven rows t.rows) (sym last) h.rows) (λ e. all_given));
-          visits = visits new (Ok None) over call (Ok None) far.exact.1;
+          visits = visits new (Ok None) over call (Ok None) far.exact;
         }
 
     -- a refusal
@@ -275,8 +299,12 @@ module _ {cmp : Block → Block → Ordering} (o : IsTotalOrder cmp) (r : Rankin
       row = tt;
       at = h;
       visits = record {
-        noted = [];
+        completed = [];
+        attempted = [];
         log = sym (append-nil old.desk.visits);
+        few = omega arith;
+        settled = tt;
+        counted = sym (plus_none (counts_by old.counts));
         near = All-by (LiesWithin plan_measure d p to) [] (λ v at. absurd (nothing v at));
         between = still_between;
         exact = tt;

@@ -1,6 +1,6 @@
 -- What a ranking visits within a reach is a place of the tree or a rough item of a leaf there, as the model tells.
-use Rattle.std.proofs.Common.{◌≡◌, ⊎_elim, ℕ, Bool, true, false, cond, true≢false, List, ◌++◌, filter_map, Contains, Option, Some, option_map, refl, sym, ap, ◌∙◌, subst, Ordering}
-use Rattle.std.proofs.lemmas.List.Elements.{All-contains, Contains-append_left, Contains-append_right, Contains-append_cases}
+use Rattle.std.proofs.Common.{◌≡◌, ⊎_elim, ℕ, suc, Bool, true, false, cond, true≢false, List, [], ◌∷◌, ◌++◌, map, length, filter_map, All, Contains, Option, Some, option_map, refl, sym, ap, ◌∙◌, subst, arith, Ordering}
+use Rattle.std.proofs.lemmas.List.Elements.{All-contains, All-head, All-tail, Contains-append_left, Contains-append_right, Contains-append_cases}
 use Rattle.exact_frac.specs.declared.frac.Frac.{Frac}
 use Rattle.sand_base.specs.Plane.{IsShapeInClosedPlane}
 use Rattle.sand_base.specs.declared.goal.Goal.{Goal}
@@ -13,7 +13,7 @@ use Rattle.z_code.specs.declared.block.Block.{Block}
 use Rattle.z_code.proofs.Blocks.{square_in_closed_plane}
 use Rattle.sand_model.specs.Measure.{Measure, IsMeasure}
 use Rattle.sand_model.specs.Nodes.{single_item, is_rough, greater, rough_figure, square_figure, rank_items}
-use Rattle.sand_model.specs.Reach.{Reach}
+use Rattle.sand_model.specs.Reach.{Reach, Counts}
 use Rattle.sand_model.specs.Tree.{Tree, Leaf, Inner, places, leaves, root_block}
 use Rattle.ring_geom.proofs.BlockLemmas.{root_is_block}
 use Rattle.ring_geom.proofs.RoughLemmas.{rough_in_closed_plane}
@@ -36,13 +36,26 @@ use Rattle.rank_cursor.proofs.Elements.{from_map, in_filter_map}
 use Rattle.rank_cursor.proofs.Places.{inside, is_place, place_here, place_leaf}
 use Rattle.rank_cursor.proofs.RankedRows.{same_measures}
 use Rattle.rank_cursor.proofs.RankingLaws.{is_shape, one_item, shown_is, under_place, rank_laws}
-use Rattle.plan_rows.specs.Visited.{IsBlockWithin, IsRoughWithin}
+use Rattle.plan_rows.proofs.CountedVisits.{counts_one}
+use Rattle.plan_rows.specs.Visited.{◌plus◌, count_of, visit_counts, IsBlockWithin, IsRoughWithin}
 
 -- a visit of the ranking of these shapes and this tree lies within a reach
 abbrev pub IsWithin : Measure → Goal → List (ℕ × Shape) → Tree → Reach → Visit → Type 0
 IsWithin gap goal shapes tree to (visit.Block number z level) = IsBlockWithin gap goal tree to z level
 IsWithin gap goal shapes tree to (visit.Geometry id) = IsRoughWithin (rank_items gap goal shapes tree) to id 0
 IsWithin gap goal shapes tree to _ = ⊥
+
+-- visits of a ranking are blocks and single geometries
+pub visits_counted : (number : ℕ) (items : List (Item Block)) → All IsVisit items
+    → visit_counts (map (visit_of number) items) ≡ record { blocks = length (nodes_of items); pairs = 0; geometries = length (roughs_of items) }
+visits_counted number [] h = refl
+visits_counted number (Node g b ∷ items) h =
+    ap (λ (c : Counts). count_of (visit_of number (Node g b)) plus c) (visits_counted number items (All-tail IsVisit (Node g b) items h))
+    ∙ counts_one (count_of (visit_of number (Node g b)) plus record { blocks = length (nodes_of items); pairs = 0; geometries = length (roughs_of items) }) (record { blocks = suc (length (nodes_of items)); pairs = 0; geometries = length (roughs_of items) }) (omega arith) (omega arith) (omega arith)
+visits_counted number (Rough g l s ∷ items) h =
+    ap (λ (c : Counts). count_of (visit_of number (Rough g l s)) plus c) (visits_counted number items (All-tail IsVisit (Rough g l s) items h))
+    ∙ counts_one (count_of (visit_of number (Rough g l s)) plus record { blocks = length (nodes_of items); pairs = 0; geometries = length (roughs_of items) }) (record { blocks = length (nodes_of items); pairs = 0; geometries = suc (length (roughs_of items)) }) (omega arith) (omega arith) (omega arith)
+visits_counted number (Row g l s ∷ items) h = absurd (All-head IsVisit (Row g l s) items h)
 
 module _ (r : Ranking) (sound : IsSound r) (gap : Measure) (is : IsMeasure gap) (to : Reach) (test : Frac → Bool) (tells : IsTestOf to test) where
   abbrev m : Meaning Block
