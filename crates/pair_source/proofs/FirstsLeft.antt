@@ -22,7 +22,7 @@ use Rattle.semi_join.specs.LeftRows.{IdSet, LeftRows, gives}
 use Rattle.semi_join.specs.Listed.{ListsAnswer, pairs_left, TakesFirst}
 use Rattle.semi_join.specs.Visits.{PairBounds}
 use Rattle.semi_join.proofs.Lists.{takes_first_over}
-use Rattle.rank_source.proofs.HowFar.{reach_from, HowFar, CallReach, hits_total, row_goes, ceiling_goes}
+use Rattle.rank_source.proofs.HowFar.{reach_from, HowFar, CallReach, few_none, hits_total, row_goes, ceiling_goes}
 use Rattle.rank_source.proofs.NextRow.{least_of}
 
 -- ---- what is left of a list
@@ -145,6 +145,7 @@ module _ {N : Type 0} (m : Meaning N) (answer : List Found) (lists : ListsAnswer
       subst (λ o. CallReach cmp m (reach_from m.ceiling o) (Ok (Some hit)) attempt all) (sym here)
       (record {
         far = record { test = up_to hit.gap; goes = row_goes m found hit (same_back hit.gap found.gap same.0) (pair_inside m lefts.given hit pair); near = subst (λ l. All (λ item. up_to hit.gap (gap_of item) ≡ true) l) same_items (all_up_to hit all bounds.near) };
+        few = few_none attempt bounds.settled;
         exact = (bounds.settled, bounds.reached);
       })
   far_after pages {cmp} (Ok None) held after attempt all over h bounds =
@@ -152,6 +153,7 @@ module _ {N : Type 0} (m : Meaning N) (answer : List Found) (lists : ListsAnswer
       subst (λ o. CallReach cmp m (reach_from m.ceiling o) ended attempt all) (sym (all_given pages over))
       (record {
         far = record { test = within m.ceiling; goes = ceiling_goes m; near = subst (λ l. All (λ item. within m.ceiling (gap_of item) ≡ true) l) same_items (All-left (λ item. within m.ceiling (gap_of item) ≡ true) all held h.tracks.inside) };
+        few = few_none attempt bounds.settled;
         exact = (bounds.settled, bounds.reached);
       })
-  far_after pages (Err fault) held after attempt all next h bounds = record { far = before_next pages (all ++ attempt) bounds.near bounds.inside; exact = tt }
+  far_after pages (Err fault) held after attempt all next h bounds = record { far = before_next pages (all ++ attempt) bounds.near bounds.inside; few = bounds.few; exact = tt }

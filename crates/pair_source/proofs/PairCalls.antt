@@ -1,6 +1,7 @@
 -- A call of a search over a join, as the call of a source: what it visits, and what is counted.
-use Rattle.std.proofs.Common.{◌≡◌, ⊎_elim, ℕ, true, ◌+◌, ◌-◌, ◌≤◌, min, List, [], ◌∷◌, ◌++◌, map, flat_map, length, length-append, All, Contains, Option, Some, option_map, Result, Ok, Err, OnOk, sym, ap, ◌∙◌, subst, arith, Ordering}
+use Rattle.std.proofs.Common.{◌≡◌, ⊎_elim, ℕ, true, ◌+◌, ◌-◌, ◌≤◌, min, List, [], ◌∷◌, ◌++◌, map, flat_map, length, length-append, All, Contains, Option, Some, option_map, Result, Ok, Err, OnOk, refl, sym, ap, ◌∙◌, subst, arith, Ordering}
 use Rattle.std.specs.Cmp.{IsTotalOrder}
+use Rattle.std.proofs.lemmas.List.{map-append, length-map}
 use Rattle.std.proofs.lemmas.List.Elements.{All-contains, Contains-append_left, Contains-append_right, Contains-append_cases}
 use Rattle.sand_base.specs.Faults.{last_count}
 use Rattle.sand_base.specs.declared.goal.Goal.TheVariants as figure
@@ -22,7 +23,7 @@ use Rattle.best_first.specs.Visits.{SearchState, IsVisit, IsCounted, Makes, Reac
 use Rattle.best_first.specs.declared.counts.Counts.{Counts as Numbers}
 use Rattle.best_first.specs.declared.hit.Hit.{Hit}
 use Rattle.best_first.specs.declared.item.Item.{Item}
-use Rattle.best_first.proofs.Bags.{All-by, from_filter, from_flat_map}
+use Rattle.best_first.proofs.Bags.{All-by, All-left, from_filter, from_flat_map}
 use Rattle.best_first.proofs.Gaps.{same_back, same_trans}
 use Rattle.best_first.proofs.Pending.{nodes-append, roughs-append}
 use Rattle.rank_cursor.proofs.Elements.{from_map}
@@ -32,11 +33,12 @@ use Rattle.dist_join.specs.Joining.{Joining, IsSound, join_meaning}
 use Rattle.dist_join.specs.OverPages.{visit_of}
 use Rattle.dist_join.proofs.CountedPairs.{counts_as}
 use Rattle.plan_rows.proofs.LowestFractions.{lowest_same, lowest_one}
+use Rattle.plan_rows.proofs.CountedVisits.{counts_one}
 use Rattle.plan_rows.proofs.PlanMeasure.{plan_measure_is}
 use Rattle.plan_rows.specs.Lowest.{lowest_of}
 use Rattle.plan_rows.specs.Rows.{plan_measure, row_of}
 use Rattle.plan_rows.specs.SourceSteps.{next_taken, counts_taken, node_count, MakesVisits as SourceVisits}
-use Rattle.plan_rows.specs.Visited.{LiesWithin}
+use Rattle.plan_rows.specs.Visited.{◌plus◌, visit_counts, LiesWithin}
 use Rattle.plan_rows.specs.declared.answer.Answer.{Answer}
 use Rattle.sand_model.specs.Tree.{listings}
 use Rattle.sand_store.specs.Catalog.{most_listings}
@@ -44,7 +46,7 @@ use Rattle.pair_source.specs.Joins.{pairs_in, counts_by}
 use Rattle.rank_source.proofs.HowFar.{CallReach}
 use Rattle.pair_source.proofs.PairCounts.{no_more_taken, counted_is}
 use Rattle.pair_source.proofs.PairPlans.{IsTold, counts_of_join}
-use Rattle.pair_source.proofs.PairVisits.{lies_within}
+use Rattle.pair_source.proofs.PairVisits.{lies_within, visits_counted}
 
 -- ---- rows in lowest terms
 
@@ -151,6 +153,16 @@ module _ {cmp : Block × Block → Block × Block → Ordering} (o : IsTotalOrde
         let some : node_count (counts_by new.counts) - node_count (counts_by old.counts) ≡ length (nodes_of makes.taken) = omega (arith, visited, visits, more_nodes) in
         subst (λ n. min (old.desk.pool.gets + n) last_count ≤ new.desk.pool.gets) (sym some) makes.rose
 
+    -- the counts rose by what was taken
+    counted_taken : counts_by new.counts ≡ counts_by old.counts plus visit_counts (map (visit_of left right) makes.taken)
+    counted_taken =
+        let (visited, fetched) = numbers old.held done old.counts old.last before counted in
+        let (visits, fetches) = numbers new.held all new.counts new.last makes.stands now_counted in
+        let counts = visits_counted left right makes.taken (All-left IsVisit makes.taken attempt makes.visits) in
+        counts_one (counts_by new.counts) (counts_by old.counts plus record { blocks = 0; pairs = length (nodes_of makes.taken); geometries = length (roughs_of makes.taken) })
+        refl (omega (arith, visited, visits, more_nodes)) (omega (arith, fetched, fetches, more_roughs))
+        ∙ ap (λ (c : Counts). counts_by old.counts plus c) (sym counts)
+
     -- the counts when what was taken is just what lies within the reach
     counted_exactly : Reached cmp m reached.far.test all → counts_by new.counts ≡ counts_taken d p (next_taken d p t)
     counted_exactly just =
@@ -158,17 +170,28 @@ module _ {cmp : Block × Block → Block × Block → Ordering} (o : IsTotalOrde
         let counted = counts_as j sound plan_measure plan_measure_is cmp o to reached.far.test reached.far.goes.tells all just in
         (λ i. record { blocks = 0; pairs = (visits ∙ counted.pairs) i; geometries = (fetches ∙ counted.geometries) i }) ∙ sym next_counts
 
-    pub visits : (answer : Result (Option Answer) PageFault) → OnOk answer (Reached cmp m reached.far.test all)
+    pub visits : (answer : Result (Option Answer) PageFault) → OnOk answer ((attempt ≡ []) × Reached cmp m reached.far.test all)
         → SourceVisits d p t (counts_by old.counts) (counts_by new.counts) old.desk new.desk answer
     visits answer just = record {
-      noted = map (visit_of left right) (makes.taken ++ attempt);
-      log = makes.noted.log;
-      near = near_all;
+      completed = map (visit_of left right) makes.taken;
+      attempted = map (visit_of left right) attempt;
+      log = makes.noted.log ∙ ap (λ visits. old.desk.visits ++ visits) both;
+      few = subst (λ n. n ≤ 1) (sym (length-map attempt (visit_of left right))) reached.few;
+      settled = settled answer just;
+      counted = counted_taken;
+      near = subst (All (LiesWithin plan_measure d p to)) both near_all;
       between = between;
       exact = exactly answer just;
       rose = rose;
     }
       where
-        exactly : (answer : Result (Option Answer) PageFault) → OnOk answer (Reached cmp m reached.far.test all) → OnOk answer (counts_by new.counts ≡ counts_taken d p (next_taken d p t))
-        exactly (Ok a) just = counted_exactly just
+        both : map (visit_of left right) (makes.taken ++ attempt) ≡ map (visit_of left right) makes.taken ++ map (visit_of left right) attempt
+        both = map-append (visit_of left right) makes.taken attempt
+
+        settled : (answer : Result (Option Answer) PageFault) → OnOk answer ((attempt ≡ []) × Reached cmp m reached.far.test all) → OnOk answer (map (visit_of left right) attempt ≡ [])
+        settled (Ok a) just = ap (map (visit_of left right)) just.0
+        settled (Err fault) just = tt
+
+        exactly : (answer : Result (Option Answer) PageFault) → OnOk answer ((attempt ≡ []) × Reached cmp m reached.far.test all) → OnOk answer (counts_by new.counts ≡ counts_taken d p (next_taken d p t))
+        exactly (Ok a) just = counted_exactly just.1
         exactly (Err fault) just = tt

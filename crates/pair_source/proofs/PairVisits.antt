@@ -1,6 +1,6 @@
 -- What a search over a join visits lies within a reach, as the model tells it: pairs of places, and rough pairs that two leaves list.
-use Rattle.std.proofs.Common.{◌≡◌, ⊎_elim, ℕ, Bool, true, false, cond, ◌||◌, List, ◌++◌, map, filter_map, Contains, sym, ap, ap₂, ◌∙◌, subst, Ordering}
-use Rattle.std.proofs.lemmas.List.Elements.{All-contains, Contains-append_left, Contains-append_right, Contains-append_cases}
+use Rattle.std.proofs.Common.{◌≡◌, ⊎_elim, ℕ, suc, Bool, true, false, cond, ◌||◌, List, [], ◌∷◌, ◌++◌, map, length, filter_map, All, Contains, refl, sym, ap, ap₂, ◌∙◌, subst, arith, Ordering}
+use Rattle.std.proofs.lemmas.List.Elements.{All-contains, All-head, All-tail, Contains-append_left, Contains-append_right, Contains-append_cases}
 use Rattle.exact_frac.specs.declared.frac.Frac.{Frac}
 use Rattle.sand_base.specs.Plane.{IsShapeInClosedPlane}
 use Rattle.sand_base.specs.declared.goal.Goal.TheVariants as figure
@@ -12,7 +12,7 @@ use Rattle.z_code.specs.declared.block.Block.{Block}
 use Rattle.z_code.proofs.Blocks.{square_in_closed_plane}
 use Rattle.sand_model.specs.Measure.{Measure, IsMeasure}
 use Rattle.sand_model.specs.Nodes.{PairNode, pair_gap, pair_item, is_rough, greater, rough_figure, square_figure, join_items}
-use Rattle.sand_model.specs.Reach.{Reach}
+use Rattle.sand_model.specs.Reach.{Reach, Counts}
 use Rattle.sand_model.specs.Tree.{Tree, places, root_block}
 use Rattle.ring_geom.proofs.BlockLemmas.{root_is_block}
 use Rattle.ring_geom.proofs.RoughLemmas.{rough_in_closed_plane}
@@ -39,13 +39,26 @@ use Rattle.dist_join.specs.OverPages.{visit_of}
 use Rattle.dist_join.proofs.CountedPairs.{leaf_is, no_rough}
 use Rattle.dist_join.proofs.JoinLaws.{one_item, pair_given, shown_is, plane_left, plane_right, under_root, join_laws}
 use Rattle.dist_join.proofs.PairPlaces.{pair_stands}
-use Rattle.plan_rows.specs.Visited.{IsPairWithin, IsRoughWithin}
+use Rattle.plan_rows.proofs.CountedVisits.{counts_one}
+use Rattle.plan_rows.specs.Visited.{◌plus◌, count_of, visit_counts, IsPairWithin, IsRoughWithin}
 
 -- a visit of a join of these sides lies within a reach
 abbrev pub IsWithin : Measure → Joining → Reach → Visit → Type 0
 IsWithin gap j to (visit.Pair b c) = IsPairWithin gap (all_pairs j.left j.right) to (b.1, b.2) (c.1, c.2)
 IsWithin gap j to (visit.GeometryPair l r) = IsRoughWithin (join_items gap j.left.shapes j.right.shapes (all_pairs j.left j.right)) to l r
 IsWithin gap j to _ = ⊥
+
+-- visits of a join are pairs of blocks and of geometries
+pub visits_counted : (left right : ℕ) (items : List (Item (Block × Block))) → All IsVisit items
+    → visit_counts (map (visit_of left right) items) ≡ record { blocks = 0; pairs = length (nodes_of items); geometries = length (roughs_of items) }
+visits_counted left right [] h = refl
+visits_counted left right (Node g b ∷ items) h =
+    ap (λ (c : Counts). count_of (visit_of left right (Node g b)) plus c) (visits_counted left right items (All-tail IsVisit (Node g b) items h))
+    ∙ counts_one (count_of (visit_of left right (Node g b)) plus record { blocks = 0; pairs = length (nodes_of items); geometries = length (roughs_of items) }) (record { blocks = 0; pairs = suc (length (nodes_of items)); geometries = length (roughs_of items) }) (omega arith) (omega arith) (omega arith)
+visits_counted left right (Rough g l s ∷ items) h =
+    ap (λ (c : Counts). count_of (visit_of left right (Rough g l s)) plus c) (visits_counted left right items (All-tail IsVisit (Rough g l s) items h))
+    ∙ counts_one (count_of (visit_of left right (Rough g l s)) plus record { blocks = 0; pairs = length (nodes_of items); geometries = length (roughs_of items) }) (record { blocks = 0; pairs = length (nodes_of items); geometries = suc (length (roughs_of items)) }) (omega arith) (omega arith) (omega arith)
+visits_counted left right (Row g l s ∷ items) h = absurd (All-head IsVisit (Row g l s) items h)
 
 module _ (j : Joining) (sound : IsSound j) (gap : Measure) (is : IsMeasure gap) (to : Reach) (test : Frac → Bool) (tells : IsTestOf to test) where
   abbrev m : Meaning (Block × Block)

@@ -5,6 +5,7 @@ use Rattle.std.proofs.Math.Numerals.{add-one}
 use Rattle.std.proofs.lemmas.Bool.{ne_eqb, eq-eqb}
 use Rattle.std.proofs.lemmas.List.{length-map}
 use Rattle.std.specs.Cmp.{IsTotalOrder}
+use Rattle.sand_base.specs.declared.visit.Visit.{Visit}
 use Rattle.z_code.specs.declared.block.Block.{Block}
 use Rattle.page_pool.specs.Disk.{PageMap}
 use Rattle.page_pool.specs.declared.fault.PageFault.{PageFault}
@@ -33,6 +34,7 @@ use Rattle.dist_join.specs.OverPages.{visit_of}
 use Rattle.dist_join.proofs.JoinLaws.{join_laws}
 use Rattle.dist_join.proofs.JoinedRows.{lists_joined}
 use Rattle.plan_rows.proofs.PlanMeasure.{plan_measure_is}
+use Rattle.plan_rows.proofs.VisitCounts.{plus_none}
 use Rattle.plan_rows.specs.Rows.{plan_measure}
 use Rattle.plan_rows.specs.SourceSteps.{next_taken, counts_taken, SourceStep, MakesVisits as SourceVisits}
 use Rattle.plan_rows.specs.Visited.{LiesWithin}
@@ -132,7 +134,7 @@ module _ {cmp : Block × Block → Block × Block → Ordering} (o : IsTotalOrde
         reached = subst (λ x. CallReach cmp m x result call.attempt all) (sym (to_is below))
             (far_after m (pairs_in j) lists lefts t.rows h.rows pages result new.held new.last call.attempt all pair call.makes.stands call.bounds)
 
-        source_visits : (answer : Result (Option Answer) PageFault) → OnOk answer (Rattle.best_first.specs.Visits.Reached cmp m reached.far.test all)
+        source_visits : (answer : Result (Option Answer) PageFault) → OnOk answer ((call.attempt ≡ []) × Rattle.best_first.specs.Visits.Reached cmp m reached.far.test all)
             → SourceVisits d p t (counts_by old.counts) (counts_by new.counts) old.desk new.desk answer
         source_visits answer just =
             visits o j h.searched.sound side.few side_too.few left right d p t rows told old new done h.searched.stands h.searched.counted call.attempt call.makes result reached answer just
@@ -149,7 +151,7 @@ module _ {cmp : Block × Block → Block × Block → Ordering} (o : IsTotalOrde
           let far = reached new (Ok (Some hit)) pair call in
           let gap = lowest_row j found (from_firsts (pairs_in j) found (at_is rows t.rows found at)) hit (same_back hit.gap found.gap same.0) in
           let next = more_taken d p t ids_of rows told.rows_are found at in
-          let made = source_visits new (Ok (Some hit)) pair call (Ok (Some a)) far.exact.1 in
+          let made = source_visits new (Ok (Some hit)) pair call (Ok (Some a)) far.exact in
           let taken_so : Taken = record { rows = t.rows + 1; is_ended = false } in
           let less : after.waiting ≡ lefts.waiting - 1 = ap (λ (l : LeftRows). l.waiting) left_row.1 in
           let counted : counts_by new.counts ≡ counts_at plan_measure d p (reach_of_last (take (t.rows + 1) (source plan_measure d p))) =
@@ -203,7 +205,7 @@ module _ {cmp : Block × Block → Block × Block → Ordering} (o : IsTotalOrde
             row = ap (λ l. element l t.rows) told.rows_are ∙ element_map pair_row rows t.rows ∙ ap (option_map pair_row) nothing;
             at = subst (Standing new after) (sym (none_taken d p t ids_of rows told.rows_are nothing))
                 (stays_at new after same (searched new (Ok None) over call) upto (record { rows = t.rows; is_ended = true }) refl);
-            visits = source_visits new (Ok None) over call (Ok None) far.exact.1;
+            visits = source_visits new (Ok None) over call (Ok None) far.exact;
           }
 
       pub fault_step : (new : SearchState (Block × Block)) (after : LeftRows) (fault : PageFault) → after ≡ lefts → AreGivenUpTo m new.last after
@@ -239,8 +241,12 @@ module _ {cmp : Block × Block → Block × Block → Ordering} (o : IsTotalOrde
 
       spent_visits : (answer : Result (Option Answer) PageFault) → SourceVisits d p t (counts_by old.counts) (counts_by old.counts) old.desk old.desk answer
       spent_visits answer = record {
-        noted = [];
+        completed = [];
+        attempted = [];
         log = sym (append-nil old.desk.visits);
+        few = omega arith;
+        settled = none_tried answer;
+        counted = sym (plus_none (counts_by old.counts));
         near = All-by (LiesWithin plan_measure d p to) [] (λ v at. absurd (none v at));
         between = subst (λ (high : Counts). Rattle.sand_model.specs.Cursor.AreBetween (counts_by old.counts) high (counts_by old.counts)) counted
             (record { blocks = (omega arith, omega arith); pairs = (omega arith, omega arith); geometries = (omega arith, omega arith) });
@@ -248,6 +254,10 @@ module _ {cmp : Block × Block → Block × Block → Ordering} (o : IsTotalOrde
         rose = omega arith;
       }
         where
+          none_tried : (answer : Result (Option Answer) PageFault) → OnOk answer (◌≡◌ {A = List Visit} [] [])
+          none_tried (Ok a) = refl
+          none_tried (Err fault) = tt
+
           exactly : (answer : Result (Option Answer) PageFault) → OnOk answer (counts_by old.counts ≡ counts_taken d p (next_taken d p t))
           exactly (Ok a) = counted
           exactly (Err fault) = tt
