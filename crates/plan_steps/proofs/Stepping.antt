@@ -36,17 +36,17 @@ visits_up d (plan.PickBetween column low high) t before now old new answer m = m
 visits_up d (plan.Join left right within) t before now old new answer m = m
 visits_up d (plan.Semi left right within) t before now old new answer m = m
 visits_up d (plan.Filter p tests) t before now old new answer m =
-    record { noted = m.noted; log = m.log; near = m.near; between = m.between; exact = m.exact; rose = m.rose }
+    record { completed = m.completed; attempted = m.attempted; log = m.log; few = m.few; settled = m.settled; counted = m.counted; near = m.near; between = m.between; exact = m.exact; rose = m.rose }
 visits_up d (plan.Match p place column) t before now old new answer m =
-    record { noted = m.noted; log = m.log; near = m.near; between = m.between; exact = m.exact; rose = m.rose }
+    record { completed = m.completed; attempted = m.attempted; log = m.log; few = m.few; settled = m.settled; counted = m.counted; near = m.near; between = m.between; exact = m.exact; rose = m.rose }
 visits_up d (plan.Fetch p places) t before now old new answer m =
-    record { noted = m.noted; log = m.log; near = m.near; between = m.between; exact = m.exact; rose = m.rose }
+    record { completed = m.completed; attempted = m.attempted; log = m.log; few = m.few; settled = m.settled; counted = m.counted; near = m.near; between = m.between; exact = m.exact; rose = m.rose }
 visits_up d (plan.First count p) t before now old new answer m =
-    record { noted = m.noted; log = m.log; near = m.near; between = m.between; exact = m.exact; rose = m.rose }
+    record { completed = m.completed; attempted = m.attempted; log = m.log; few = m.few; settled = m.settled; counted = m.counted; near = m.near; between = m.between; exact = m.exact; rose = m.rose }
 visits_up d (plan.SortBy p place) t before now old new answer m =
-    record { noted = m.noted; log = m.log; near = m.near; between = m.between; exact = m.exact; rose = m.rose }
+    record { completed = m.completed; attempted = m.attempted; log = m.log; few = m.few; settled = m.settled; counted = m.counted; near = m.near; between = m.between; exact = m.exact; rose = m.rose }
 visits_up d (plan.SortNear p place goal) t before now old new answer m =
-    record { noted = m.noted; log = m.log; near = m.near; between = m.between; exact = m.exact; rose = m.rose }
+    record { completed = m.completed; attempted = m.attempted; log = m.log; few = m.few; settled = m.settled; counted = m.counted; near = m.near; between = m.between; exact = m.exact; rose = m.rose }
 
 -- what is taken after a call of the source
 next_up : (d : Database) (p : Plan) (t : Taken) → next_taken d (inner p) t ≡ next_taken d p t
