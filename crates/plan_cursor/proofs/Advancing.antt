@@ -5,8 +5,9 @@ use Rattle.std.proofs.lemmas.Bool.{lt-ltb, le-ltb}
 use Rattle.page_pool.specs.Desk.{DeskState}
 use Rattle.page_pool.specs.Disk.{PageMap}
 use Rattle.page_pool.specs.declared.fault.PageFault.{PageFault}
+use Rattle.sand_base.specs.declared.refusal.Refusal.TheVariants as why
 use Rattle.sand_model.specs.Answer.{source, answer}
-use Rattle.sand_model.specs.Cursor.{Cursor}
+use Rattle.sand_model.specs.Cursor.{Cursor, AreBetween, OutputLine, step_of, IsRefusedStep}
 use Rattle.sand_model.specs.Database.{Database, element}
 use Rattle.sand_model.specs.Operators.{PlanRow, over}
 use Rattle.sand_model.specs.Plan.{Plan}
@@ -16,10 +17,11 @@ use Rattle.plan_rows.specs.Rows.{plan_measure, row_of}
 use Rattle.plan_rows.specs.Visited.{LiesWithin}
 use Rattle.plan_rows.specs.declared.answer.Answer.{Answer}
 use Rattle.plan_rows.proofs.CursorSteps.{HasRow, gives_row, gives_end, gives_none}
+use Rattle.plan_rows.proofs.FartherReaches.{AreAtMost}
 use Rattle.plan_rows.proofs.ModelSteps as model
 use Rattle.plan_rows.proofs.ModelSteps.{element_past, element_next, element_below, element_above}
 use Rattle.plan_rows.proofs.SortedPlans.{lazy_given, source_beneath}
-use Rattle.plan_rows.proofs.StepCalls.{VisitsWithin, within_chain, counted_given}
+use Rattle.plan_rows.proofs.StepCalls.{VisitsWithin, within_ok, within_chain, counted_given}
 use Rattle.plan_rows.proofs.TakenSoFar as needs
 use Rattle.plan_rows.proofs.TakenSoFar.{IsNeeded, needed_given, row_taken}
 use Rattle.plan_steps.specs.Following.{Taking, Follows, source_of}
@@ -50,6 +52,12 @@ taken_same c = go (element (answer plan_measure c.database c.plan) c.given) refl
         ∙ ap (λ b. cond b (has_taken plan_measure c.database c.plan (c.given + 1) false) (has_taken plan_measure c.database c.plan c.given true))
         (sym (le-ltb c.given (length (answer plan_measure c.database c.plan)) (element_above (answer plan_measure c.database c.plan) c.given e)))
 
+-- counts that rose lie between those before and themselves
+up_to_itself : (low now high : Counts) → AreAtMost low now → high ≡ now → AreBetween low high now
+up_to_itself low now high up same =
+    subst (λ (h : Counts). AreBetween low h now) (sym same)
+    (record { blocks = (up.blocks, omega arith); pairs = (up.pairs, omega arith); geometries = (up.geometries, omega arith) })
+
 -- where nothing more is taken, the source need not be asked
 spent_same : (d : Database) (p : Plan) (t : Taken) → steps.IsSpent d (beneath_sort p) t → needs.IsSpent plan_measure d p t
 spent_same d p t (inl full) = inl (subst (λ all. is_full plan_measure d (beneath_sort p) (take t.rows all) ≡ true) (source_beneath plan_measure d p) full)
@@ -63,20 +71,20 @@ module _ {S T : Type 0} (At : S → Taking) (Stands : T → Standing) (closed : 
   -- Some steps of a call were made, and the cursor hasn't got its row yet.
   pub record Passed (c : Cursor) (o : Operator S T) (old new : DeskState) : Type 0 where
     pub keeps : KeepsCounts o c
-    pub visits : VisitsWithin c.database c.plan (model.step_taken plan_measure c.database c.plan c.given) c.counts (seen (source_of o)) old new
+    pub visits : VisitsWithin {T = Unit} c.database c.plan (model.step_taken plan_measure c.database c.plan c.given) c.counts (seen (source_of o)) old new (Ok tt)
 
   module _ (c : Cursor) (o o' : Operator S T) (old mid new : DeskState) (result : Result Step PageFault) (passed : Passed c o old mid)
       (goes : Goes c.database c.plan passed.keeps.taken passed.keeps.rows (seen (source_of o)) (seen (source_of o')) mid new result (Follows At Stands closed o' pages c.database c.plan)) where
     -- what the step did to the source
-    after : IsKept c.database c.plan c.given goes.taken (seen (source_of o)) (seen (source_of o')) mid new
+    after : IsKept c.database c.plan c.given goes.taken (seen (source_of o)) (seen (source_of o')) mid new result
     after =
         kept c.database c.plan passed.keeps.rows c.given passed.keeps.given passed.keeps.taken (seen (source_of o)) (seen (source_of o')) mid new passed.keeps.needed passed.keeps.counted
         goes.taken result goes.asks
 
     -- and all steps so far
-    abbrev so_far : VisitsWithin c.database c.plan (model.step_taken plan_measure c.database c.plan c.given) c.counts (seen (source_of o')) old new
+    abbrev so_far : VisitsWithin c.database c.plan (model.step_taken plan_measure c.database c.plan c.given) c.counts (seen (source_of o')) old new result
     so_far =
-        within_chain c.database c.plan (model.step_taken plan_measure c.database c.plan c.given) c.counts (seen (source_of o)) (seen (source_of o')) old mid new passed.visits after.visits
+        within_chain c.database c.plan (model.step_taken plan_measure c.database c.plan c.given) c.counts (seen (source_of o)) (seen (source_of o')) old mid new result passed.visits after.visits
 
     -- the operator keeps to the cursor where it gave no row
     stays : given_after passed.keeps.rows result ≡ passed.keeps.rows → KeepsCounts o' c
@@ -91,12 +99,16 @@ module _ {S T : Type 0} (At : S → Taking) (Stands : T → Standing) (closed : 
     }
 
     -- one step more
-    pub passed_more : given_after passed.keeps.rows result ≡ passed.keeps.rows → Passed c o' old new
-    passed_more none = record { keeps = stays none; visits = so_far }
+    pub passed_more : (step : Step) → result ≡ Ok step → given_after passed.keeps.rows result ≡ passed.keeps.rows → Passed c o' old new
+    passed_more step ok none = record {
+      keeps = stays none;
+      visits =
+          within_ok c.database c.plan (model.step_taken plan_measure c.database c.plan c.given) c.counts (seen (source_of o')) old new result step ok so_far;
+    }
 
     -- the visits lie within the reach of the whole step
-    near : All (LiesWithin plan_measure c.database c.plan (step_reach c)) so_far.noted
-    near = subst (λ t. All (LiesWithin plan_measure c.database c.plan (reach plan_measure c.database c.plan t)) so_far.noted) (taken_same c) so_far.near
+    near : All (LiesWithin plan_measure c.database c.plan (step_reach c)) (so_far.completed ++ so_far.attempted)
+    near = subst (λ t. All (LiesWithin plan_measure c.database c.plan (reach plan_measure c.database c.plan t)) (so_far.completed ++ so_far.attempted)) (taken_same c) so_far.near
 
   module _ (front : GivesFront Stands) (late : OpensLate Stands closed) (c : Cursor) (o o' : Operator S T) (old mid new : DeskState) (passed : Passed c o old mid) where
     module _ (a : Answer)
@@ -108,10 +120,10 @@ module _ {S T : Type 0} (At : S → Taking) (Stands : T → Standing) (closed : 
       long : length rows_now ≡ c.given + 1
       long = length-append passed.keeps.rows (row_of a ∷ []) ∙ ap (λ n. n + 1) passed.keeps.given
 
-      kept_now : IsKept c.database c.plan c.given goes.taken (seen (source_of o)) (seen (source_of o')) mid new
+      kept_now : IsKept c.database c.plan c.given goes.taken (seen (source_of o)) (seen (source_of o')) mid new (Ok (Row a))
       kept_now = after c o o' old mid new (Ok (Row a)) passed goes
 
-      abbrev visits_now : VisitsWithin c.database c.plan (model.step_taken plan_measure c.database c.plan c.given) c.counts (seen (source_of o')) old new
+      abbrev visits_now : VisitsWithin c.database c.plan (model.step_taken plan_measure c.database c.plan c.given) c.counts (seen (source_of o')) old new (Ok (Row a))
       visits_now = so_far c o o' old mid new (Ok (Row a)) passed goes
 
       -- it is the next row of the answer
@@ -165,20 +177,26 @@ module _ {S T : Type 0} (At : S → Taking) (Stands : T → Standing) (closed : 
           counts = refl;
         };
         visits = record {
-          noted = visits_now.noted;
+          completed = visits_now.completed;
+          attempted = visits_now.attempted;
           log = visits_now.log;
+          few = visits_now.few;
+          settled = visits_now.settled;
+          counted = visits_now.counted;
           near = near c o o' old mid new (Ok (Row a)) passed goes;
-          row = λ lazy. subst (λ to. All (LiesWithin plan_measure c.database c.plan to) visits_now.noted) (reach_row lazy) visits_now.near;
-          up = visits_now.up;
+          row = λ lazy. subst (λ to. All (LiesWithin plan_measure c.database c.plan to) (visits_now.completed ++ visits_now.attempted)) (reach_row lazy) visits_now.near;
+          between =
+              up_to_itself c.counts (seen (source_of o')) (step_of plan_measure c).1.counts visits_now.up
+              (ap (λ (q : OutputLine × Cursor). q.1.counts) (gives_row c goes.taken (seen (source_of o')) kept_now.needed kept_now.counted (row_of a) next_row has_row));
           rose = visits_now.rose;
         };
       }
 
     module _ (goes : Goes c.database c.plan passed.keeps.taken passed.keeps.rows (seen (source_of o)) (seen (source_of o')) mid new (Ok End) (Follows At Stands closed o' pages c.database c.plan)) where
-      kept_end : IsKept c.database c.plan c.given goes.taken (seen (source_of o)) (seen (source_of o')) mid new
+      kept_end : IsKept c.database c.plan c.given goes.taken (seen (source_of o)) (seen (source_of o')) mid new (Ok End)
       kept_end = after c o o' old mid new (Ok End) passed goes
 
-      abbrev visits_end : VisitsWithin c.database c.plan (model.step_taken plan_measure c.database c.plan c.given) c.counts (seen (source_of o')) old new
+      abbrev visits_end : VisitsWithin c.database c.plan (model.step_taken plan_measure c.database c.plan c.given) c.counts (seen (source_of o')) old new (Ok End)
       visits_end = so_far c o o' old mid new (Ok End) passed goes
 
       keeps_end : KeepsCounts o' c
@@ -203,22 +221,32 @@ module _ {S T : Type 0} (At : S → Taking) (Stands : T → Standing) (closed : 
           counts = keeps_end.counts;
         };
         visits = record {
-          noted = visits_end.noted;
+          completed = visits_end.completed;
+          attempted = visits_end.attempted;
           log = visits_end.log;
+          few = visits_end.few;
+          settled = visits_end.settled;
+          counted = visits_end.counted;
           near = near c o o' old mid new (Ok End) passed goes;
           row = tt;
-          up = visits_end.up;
+          between =
+              up_to_itself c.counts (seen (source_of o')) (step_of plan_measure c).1.counts visits_end.up
+              (ap (λ (q : OutputLine × Cursor). q.1.counts)
+              (gives_end c goes.taken (seen (source_of o')) kept_end.needed kept_end.counted no_row (spent_same c.database c.plan goes.taken goes.ends.spent)));
           rose = visits_end.rose;
         };
       }
 
     module _ (fault : PageFault)
         (goes : Goes c.database c.plan passed.keeps.taken passed.keeps.rows (seen (source_of o)) (seen (source_of o')) mid new (Err fault) (Follows At Stands closed o' pages c.database c.plan)) where
-      kept_refused : IsKept c.database c.plan c.given goes.taken (seen (source_of o)) (seen (source_of o')) mid new
+      kept_refused : IsKept c.database c.plan c.given goes.taken (seen (source_of o)) (seen (source_of o')) mid new (Err fault)
       kept_refused = after c o o' old mid new (Err fault) passed goes
 
-      abbrev visits_refused : VisitsWithin c.database c.plan (model.step_taken plan_measure c.database c.plan c.given) c.counts (seen (source_of o')) old new
+      abbrev visits_refused : VisitsWithin {T = Step} c.database c.plan (model.step_taken plan_measure c.database c.plan c.given) c.counts (seen (source_of o')) old new (Err fault)
       visits_refused = so_far c o o' old mid new (Err fault) passed goes
+
+      refused : IsRefusedStep plan_measure c why.Memory (record c { counts = seen (source_of o') })
+      refused = gives_none c goes.taken (seen (source_of o')) kept_refused.needed kept_refused.counted visits_refused.up why.Memory
 
       pub gives_refusal : CursorStep c old new (Err fault) (Keeps At Stands closed seen o' pages)
       gives_refusal = record {
@@ -226,11 +254,15 @@ module _ {S T : Type 0} (At : S → Taking) (Stands : T → Standing) (closed : 
         gives = gives_none c goes.taken (seen (source_of o')) kept_refused.needed kept_refused.counted visits_refused.up;
         at = stays c o o' old mid new (Err fault) passed goes refl;
         visits = record {
-          noted = visits_refused.noted;
+          completed = visits_refused.completed;
+          attempted = visits_refused.attempted;
           log = visits_refused.log;
+          few = visits_refused.few;
+          settled = tt;
+          counted = visits_refused.counted;
           near = near c o o' old mid new (Err fault) passed goes;
           row = tt;
-          up = visits_refused.up;
+          between = subst (AreBetween c.counts (step_of plan_measure c).1.counts) (sym (ap (λ (d : Cursor). d.counts) refused.2)) refused.1;
           rose = visits_refused.rose;
         };
       }

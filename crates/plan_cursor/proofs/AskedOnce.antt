@@ -18,10 +18,10 @@ use Rattle.plan_steps.specs.Steps.{IsAsked, AsksOnce}
 use Rattle.plan_steps.specs.declared.step.Step.{Step}
 
 -- After the step what was taken is needed and counted, and each visit lies within the reach of the whole step of the cursor.
-pub record IsKept (d : Database) (p : Plan) (given : ℕ) (after : Taken) (before now : Counts) (old new : DeskState) : Type 0 where
+pub record IsKept (d : Database) (p : Plan) (given : ℕ) (after : Taken) (before now : Counts) (old new : DeskState) (result : Result Step PageFault) : Type 0 where
   pub needed : IsNeeded plan_measure d p given after
   pub counted : IsCounted d p given after now
-  pub visits : VisitsWithin d p (step_taken plan_measure d p given) before now old new
+  pub visits : VisitsWithin d p (step_taken plan_measure d p given) before now old new result
 
 module _ (d : Database) (p : Plan) (rows : List PlanRow) (given : ℕ) (long : length rows ≡ given) (t : Taken) (before now : Counts) (old new : DeskState)
     (needed : IsNeeded plan_measure d p given t) (counted : IsCounted d p given t before) where
@@ -33,12 +33,13 @@ module _ (d : Database) (p : Plan) (rows : List PlanRow) (given : ℕ) (long : l
   )
 
   -- the source was asked
-  kept_call : (answer : Result (Option Answer) PageFault) → IsOpen d p given t → MakesVisits d p t before now old new answer → IsKept d p given (taken_after d p t answer) before now old new
-  kept_call answer asks call = record {
+  kept_call : (answer : Result (Option Answer) PageFault) → IsOpen d p given t → MakesVisits d p t before now old new answer
+      → (result : Result Step PageFault) → ((fault : PageFault) → answer ≡ Err fault → result ≡ Err fault) → IsKept d p given (taken_after d p t answer) before now old new result
+  kept_call answer asks call result refused = record {
     needed = needed_after answer;
     counted = counted_call d p given t before now old new answer asks counted call;
     visits =
-        within_call d p (step_taken plan_measure d p given) t before now old new answer (asked_before d p given t needed asks.0 asks.1) call;
+        within_call d p (step_taken plan_measure d p given) t before now old new answer result refused (asked_before d p given t needed asks.0 asks.1) call;
   }
     where
       needed_after : (answer : Result (Option Answer) PageFault) → IsNeeded plan_measure d p given (taken_after d p t answer)
@@ -46,13 +47,13 @@ module _ (d : Database) (p : Plan) (rows : List PlanRow) (given : ℕ) (long : l
       needed_after (Err fault) = needed
 
   -- after the step
-  pub kept : (after : Taken) (result : Result Step PageFault) → AsksOnce d p t after rows before now old new result → IsKept d p given after before now old new
+  pub kept : (after : Taken) (result : Result Step PageFault) → AsksOnce d p t after rows before now old new result → IsKept d p given after before now old new result
   kept after result (inl a) =
-      subst (λ u. IsKept d p given u before now old new) (sym a.taken) (kept_call a.answer (asked_open a.asked) a.visits)
+      subst (λ u. IsKept d p given u before now old new result) (sym a.taken) (kept_call a.answer (asked_open a.asked) a.visits result a.refused)
   kept after result (inr r) =
-      subst (λ u. IsKept d p given u before now old new) (sym r.taken)
-      (subst (λ counts. IsKept d p given t before counts old new) (sym r.counts) record {
+      subst (λ u. IsKept d p given u before now old new result) (sym r.taken)
+      (subst (λ counts. IsKept d p given t before counts old new result) (sym r.counts) record {
         needed = needed;
         counted = counted;
-        visits = within_none d p (step_taken plan_measure d p given) before old new r.log r.up;
+        visits = within_none d p (step_taken plan_measure d p given) before old new result r.log r.up;
       })

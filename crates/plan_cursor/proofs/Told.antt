@@ -52,7 +52,7 @@ module _ {S T : Type 0} (At : S → Taking) (Stands : T → Standing) (closed : 
         both_told told (PassedFrom first o old mid) (GoesOn o o' mid new (Ok Pass)) (PassedFrom first o' old new)
         (λ pages h g c k.
         let passed_it = h c k in
-        passed_more At Stands closed seen pages c o o' old mid new (Ok Pass) passed_it (g c.database c.plan passed_it.keeps.taken passed_it.keeps.rows passed_it.keeps.follows) refl)
+        passed_more At Stands closed seen pages c o o' old mid new (Ok Pass) passed_it (g c.database c.plan passed_it.keeps.taken passed_it.keeps.rows passed_it.keeps.follows) Pass refl refl)
         passed (step_told (Ok Pass) is)
 
     -- a row

@@ -1,19 +1,18 @@
 -- A call of a cursor is one step of the cursor of the model: the row, the counts, and the visits, which lie within the reach of what the source then has taken.
-use Rattle.std.specs.Prelude.{◌≡◌, ◌+◌, ◌-◌, ◌≤◌, min, true, false, cond, nat_lt, List, [], ◌∷◌, ◌++◌, length, All, Option, None, Some, Result, Ok, Err, ⊤}
+use Rattle.std.specs.Prelude.{◌≡◌, ◌+◌, ◌-◌, ◌≤◌, min, true, false, cond, nat_lt, List, [], ◌∷◌, ◌++◌, length, All, Option, None, Some, Result, Ok, Err, OnOk, ⊤}
 use Rattle.sand_base.specs.Faults.{last_count}
 use Rattle.sand_base.specs.declared.refusal.Refusal.{Refusal}
 use Rattle.sand_base.specs.declared.visit.Visit.{Visit}
 use Rattle.page_pool.specs.Desk.{DeskState}
 use Rattle.page_pool.specs.declared.fault.PageFault.{PageFault}
 use Rattle.sand_model.specs.Answer.{answer}
-use Rattle.sand_model.specs.Cursor.{Cursor, Row, End, step_of, IsRefusedStep}
+use Rattle.sand_model.specs.Cursor.{Cursor, AreBetween, Row, End, step_of, IsRefusedStep}
 use Rattle.sand_model.specs.Reach.{Reach, reach, reach_of_last}
 use Rattle.sand_model.specs.Taken.{Taken, has_taken, is_lazy}
 use Rattle.plan_rows.specs.Rows.{plan_measure, row_of}
 use Rattle.plan_rows.specs.SourceSteps.{node_count}
-use Rattle.plan_rows.specs.Visited.{LiesWithin}
+use Rattle.plan_rows.specs.Visited.{◌plus◌, visit_counts, LiesWithin}
 use Rattle.plan_rows.specs.declared.answer.Answer.{Answer}
-use Rattle.plan_rows.proofs.FartherReaches.{AreAtMost}
 
 -- the cursor of the model after the call: its next step gives the row or the end, and a refused step changes the counts alone
 abbrev pub Gives : Cursor → Result (Option Answer) PageFault → Cursor → Type 0
@@ -41,13 +40,17 @@ LieWithinRow c (Ok (Some a)) noted = is_lazy c.plan ≡ true → All (LiesWithin
 LieWithinRow c (Ok None) noted = ⊤
 LieWithinRow c (Err fault) noted = ⊤
 
--- The visits of a call: they were noted behind those before, and each lies within the reach of the step, also of one that is refused. The counts don't fall, and at least one page get was made for each node that was counted.
+-- The visits of a call: they were noted behind those before, those completed and after them, only in a refused call, at most one that was attempted in vain; each lies within the reach of the step, also of one that is refused. The counts rise by just the completed ones, to at most those of the step that is made or would have been made, and at least one page get was made for each node that was counted.
 pub record StepVisits (c after : Cursor) (old new : DeskState) (result : Result (Option Answer) PageFault) : Type 0 where
-  pub noted : List Visit
-  pub log : new.visits ≡ old.visits ++ noted
-  pub near : All (LiesWithin plan_measure c.database c.plan (step_reach c)) noted
-  pub row : LieWithinRow c result noted
-  pub up : AreAtMost c.counts after.counts
+  pub completed : List Visit
+  pub attempted : List Visit
+  pub log : new.visits ≡ old.visits ++ (completed ++ attempted)
+  pub few : length attempted ≤ 1
+  pub settled : OnOk result (attempted ≡ [])
+  pub counted : after.counts ≡ c.counts plus visit_counts completed
+  pub near : All (LiesWithin plan_measure c.database c.plan (step_reach c)) (completed ++ attempted)
+  pub row : LieWithinRow c result (completed ++ attempted)
+  pub between : AreBetween c.counts (step_of plan_measure c).1.counts after.counts
   pub rose : min (old.pool.gets + (node_count after.counts - node_count c.counts)) last_count ≤ new.pool.gets
 
 -- A call where the cursor of the model stands at c. At says where the cursor stands.
