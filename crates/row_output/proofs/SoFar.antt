@@ -23,13 +23,14 @@ use Rattle.best_first.proofs.Bags.{All-by}
 use Rattle.output_text.specs.Writing.{Writes, WritesPrefix}
 use Rattle.plan_rows.specs.Rows.{plan_measure, row_of}
 use Rattle.plan_rows.specs.SourceSteps.{node_count}
-use Rattle.plan_rows.specs.Visited.{LiesWithin}
+use Rattle.plan_rows.specs.Visited.{◌plus◌, visit_counts, LiesWithin}
 use Rattle.plan_rows.specs.declared.answer.Answer.{Answer}
-use Rattle.plan_rows.proofs.CountedVisits.{at_most_itself, at_most_trans}
+use Rattle.plan_rows.proofs.CountedVisits.{at_most_itself, at_most_trans, between_low}
 use Rattle.plan_rows.proofs.FartherReaches.{AreAtMost}
 use Rattle.plan_rows.proofs.GrowingReach.{IsBefore, grows}
 use Rattle.plan_rows.proofs.ModelSteps as model
 use Rattle.plan_rows.proofs.ModelSteps.{element_below, step_row, step_end}
+use Rattle.plan_rows.proofs.VisitCounts.{plus_none, counts_behind}
 use Rattle.plan_cursor.specs.CursorStep.{step_taken, CursorStep}
 use Rattle.plan_cursor.proofs.Advancing.{taken_same}
 use Rattle.plan_cursor.proofs.Counting.{end_given}
@@ -78,10 +79,11 @@ pub record SoFar (c : Cursor) (rows : ℕ) (old now : DeskState) (before at : Li
   pub stands : Stands after
   pub steps : RowSteps rows c lines after
   pub writes : Writes (IsText lines) before at
-  pub noted : List Visit
-  pub log : now.visits ≡ old.visits ++ noted
-  pub near : Within c.database c.plan (has_taken plan_measure c.database c.plan after.given false) noted
-  pub first : rows ≡ 0 → noted ≡ []
+  pub completed : List Visit
+  pub log : now.visits ≡ old.visits ++ completed
+  pub counted : after.counts ≡ c.counts plus visit_counts completed
+  pub near : Within c.database c.plan (has_taken plan_measure c.database c.plan after.given false) completed
+  pub first : rows ≡ 0 → completed ≡ []
   pub up : AreAtMost c.counts after.counts
   pub rose : min (old.pool.gets + (node_count after.counts - node_count c.counts)) last_count ≤ now.pool.gets
 
@@ -93,8 +95,9 @@ so_far_none c desk before Stands stands = record {
   stands = stands;
   steps = (refl, refl);
   writes = writes_none before;
-  noted = [];
+  completed = [];
   log = sym (append-nil desk.visits);
+  counted = sym (plus_none c.counts);
   near = All-nil (LiesWithin plan_measure c.database c.plan (reach plan_measure c.database c.plan (has_taken plan_measure c.database c.plan c.given false)));
   first = λ _. refl;
   up = at_most_itself c.counts;
@@ -125,11 +128,24 @@ nodes_rose before now h = let blocks = h.blocks in let pairs = h.pairs in omega 
 module _ (c : Cursor) (rows : ℕ) (old mid new : DeskState) (before at now : List ℕ → Type 0) (Stands After : Cursor → Type 0) (s : SoFar c rows old mid before at Stands) where
   module _ (answer : Result (Option Answer) PageFault) (st : CursorStep s.after mid new answer After) where
     -- the visits of all steps
+    abbrev all_completed : List Visit
+    all_completed = s.completed ++ st.visits.completed
+
     abbrev all_noted : List Visit
-    all_noted = s.noted ++ st.visits.noted
+    all_noted = all_completed ++ st.visits.attempted
+
+    grouped : s.completed ++ (st.visits.completed ++ st.visits.attempted) ≡ all_noted
+    grouped = sym (append_assoc s.completed st.visits.completed st.visits.attempted)
 
     all_log : new.visits ≡ old.visits ++ all_noted
-    all_log = st.visits.log ∙ ap (λ l. l ++ st.visits.noted) s.log ∙ append_assoc old.visits s.noted st.visits.noted
+    all_log =
+        st.visits.log
+        ∙ ap (λ l. l ++ (st.visits.completed ++ st.visits.attempted)) s.log
+        ∙ append_assoc old.visits s.completed (st.visits.completed ++ st.visits.attempted)
+        ∙ ap (λ l. old.visits ++ l) grouped
+
+    all_counted : st.after.counts ≡ c.counts plus visit_counts all_completed
+    all_counted = counts_behind c.counts s.after.counts st.after.counts s.completed st.visits.completed s.counted st.visits.counted
 
     -- what the next step takes, over the database of the first one
     abbrev next_taken : Taken
@@ -142,7 +158,7 @@ module _ (c : Cursor) (rows : ℕ) (old mid new : DeskState) (before at now : Li
         ∙ ap (λ q. model.step_taken plan_measure other.database q s.after.given) p
         ∙ ap (λ e. model.step_taken plan_measure e c.plan s.after.given) d
 
-    old_near : (n : ℕ) → rows ≡ n → Within c.database c.plan next_taken s.noted
+    old_near : (n : ℕ) → rows ≡ n → Within c.database c.plan next_taken s.completed
     old_near zero is =
         subst (Within c.database c.plan next_taken) (sym (s.first is)) (All-nil (LiesWithin plan_measure c.database c.plan (reach plan_measure c.database c.plan next_taken)))
     old_near (suc n) is =
@@ -150,31 +166,36 @@ module _ (c : Cursor) (rows : ℕ) (old mid new : DeskState) (before at now : Li
         let one = gives_one last.prev s.after last.row last.step in
         let there = same_element last.prev.database c.database last.prev.plan c.plan last.prev.given (Some last.row) last.database last.plan one.there in
         let some = element_below (Rattle.sand_model.specs.Answer.answer plan_measure c.database c.plan) last.prev.given last.row there in
-        within_later c.database c.plan (has_taken plan_measure c.database c.plan s.after.given false) next_taken s.noted
+        within_later c.database c.plan (has_taken plan_measure c.database c.plan s.after.given false) next_taken s.completed
         (subst (λ k. IsBefore (has_taken plan_measure c.database c.plan k false) (model.step_taken plan_measure c.database c.plan k)) (sym one.given)
         (model_later c.database c.plan last.prev.given some)) s.near
 
-    new_near : Within c.database c.plan next_taken st.visits.noted
+    new_near : Within c.database c.plan next_taken (st.visits.completed ++ st.visits.attempted)
     new_near =
-        subst (λ t. Within c.database c.plan t st.visits.noted) (same_taken (record s.after { database = c.database; plan = c.plan }) refl refl refl)
+        subst (λ t. Within c.database c.plan t (st.visits.completed ++ st.visits.attempted)) (same_taken (record s.after { database = c.database; plan = c.plan }) refl refl refl)
         (within_same s.after.database c.database s.after.plan c.plan (rows_database rows c s.lines s.after s.steps) (rows_plan rows c s.lines s.after s.steps)
-        (λ d p. step_taken (record s.after { database = d; plan = p })) st.visits.noted st.visits.near)
+        (λ d p. step_taken (record s.after { database = d; plan = p })) (st.visits.completed ++ st.visits.attempted) st.visits.near)
 
     all_near : Within c.database c.plan next_taken all_noted
     all_near =
-        All-append (LiesWithin plan_measure c.database c.plan (reach plan_measure c.database c.plan next_taken)) s.noted st.visits.noted (old_near rows refl) new_near
+        subst (Within c.database c.plan next_taken) grouped
+        (All-append (LiesWithin plan_measure c.database c.plan (reach plan_measure c.database c.plan next_taken)) s.completed (st.visits.completed ++ st.visits.attempted)
+        (old_near rows refl) new_near)
+
+    step_up : AreAtMost s.after.counts st.after.counts
+    step_up = between_low s.after.counts (step_of plan_measure s.after).1.counts st.after.counts st.visits.between
 
     all_up : AreAtMost c.counts st.after.counts
-    all_up = at_most_trans c.counts s.after.counts st.after.counts s.up st.visits.up
+    all_up = at_most_trans c.counts s.after.counts st.after.counts s.up step_up
 
     all_rose : min (old.pool.gets + (node_count st.after.counts - node_count c.counts)) last_count ≤ new.pool.gets
     all_rose =
         gets_chain old.pool.gets (node_count c.counts) (node_count s.after.counts) (node_count st.after.counts) last_count mid.pool.gets new.pool.gets
-        (nodes_rose c.counts s.after.counts s.up) (nodes_rose s.after.counts st.after.counts st.visits.up) s.rose st.visits.rose
+        (nodes_rose c.counts s.after.counts s.up) (nodes_rose s.after.counts st.after.counts step_up) s.rose st.visits.rose
 
   -- ---- the next step gave a row
 
-  module _ (row : PlanRow) (answer : Result (Option Answer) PageFault) (st : CursorStep s.after mid new answer After) (is : step_of plan_measure s.after ≡ (line.Row row, st.after)) where
+  module _ (row : PlanRow) (answer : Result (Option Answer) PageFault) (st : CursorStep s.after mid new answer After) (is : step_of plan_measure s.after ≡ (line.Row row, st.after)) (none : st.visits.attempted ≡ []) where
     abbrev lines_row : List OutputLine
     lines_row = s.lines ++ line.Row row ∷ []
 
@@ -192,6 +213,10 @@ module _ (c : Cursor) (rows : ℕ) (old mid new : DeskState) (before at now : Li
         (model.step_taken_row plan_measure c.database c.plan s.after.given row there ∙ ap (λ k. has_taken plan_measure c.database c.plan k false) (sym one.given))
         (all_near answer st)
 
+    -- nothing was attempted in vain
+    bare : all_noted answer st ≡ all_completed answer st
+    bare = ap (λ l. all_completed answer st ++ l) none ∙ append-nil (all_completed answer st)
+
     more_row : Writes (IsText (line.Row row ∷ [])) at now → SoFar c (rows + 1) old new before now After
     more_row w = record {
       lines = lines_row;
@@ -199,9 +224,10 @@ module _ (c : Cursor) (rows : ℕ) (old mid new : DeskState) (before at now : Li
       stands = st.at;
       steps = steps_row;
       writes = writes_both s.lines (line.Row row ∷ []) before at now s.writes w;
-      noted = all_noted answer st;
-      log = all_log answer st;
-      near = near_row;
+      completed = all_completed answer st;
+      log = all_log answer st ∙ ap (λ l. old.visits ++ l) bare;
+      counted = all_counted answer st;
+      near = subst (Within c.database c.plan (has_taken plan_measure c.database c.plan st.after.given false)) bare near_row;
       first = λ none. absurd (omega (arith, none));
       up = all_up answer st;
       rose = all_rose answer st;
@@ -224,8 +250,12 @@ module _ (c : Cursor) (rows : ℕ) (old mid new : DeskState) (before at now : Li
       at = st.at;
       gives = (rows + 1, rows + 1, false, omega (arith, few), makes_row);
       writes = writes_prefix s.lines (line.Row row ∷ []) before at now s.writes w;
-      noted = all_noted answer st;
+      completed = all_completed answer st;
+      attempted = st.visits.attempted;
       log = all_log answer st;
+      few = st.visits.few;
+      settled = none;
+      counted = all_counted answer st;
       near = near_row;
       row = last_within (rows + 1) c lines_row st.after (all_noted answer st) steps_row near_row;
       rose = all_rose answer st;
@@ -233,7 +263,7 @@ module _ (c : Cursor) (rows : ℕ) (old mid new : DeskState) (before at now : Li
 
   -- ---- it gave the end
 
-  module _ (answer : Result (Option Answer) PageFault) (st : CursorStep s.after mid new answer After) (is : step_of plan_measure s.after ≡ (line.End, st.after)) where
+  module _ (answer : Result (Option Answer) PageFault) (st : CursorStep s.after mid new answer After) (is : step_of plan_measure s.after ≡ (line.End, st.after)) (none : st.visits.attempted ≡ []) where
     abbrev lines_end : List OutputLine
     lines_end = s.lines ++ line.End ∷ []
 
@@ -270,8 +300,12 @@ module _ (c : Cursor) (rows : ℕ) (old mid new : DeskState) (before at now : Li
       at = st.at;
       gives = (omega (arith, few), sym (lt-ltb rows count few), makes_end count few);
       writes = writes_both s.lines (line.End ∷ []) before at now s.writes w;
-      noted = all_noted answer st;
+      completed = all_completed answer st;
+      attempted = st.visits.attempted;
       log = all_log answer st;
+      few = st.visits.few;
+      settled = none;
+      counted = all_counted answer st;
       near = near_end;
       row = row_end;
       rose = all_rose answer st;
@@ -285,8 +319,12 @@ module _ (c : Cursor) (rows : ℕ) (old mid new : DeskState) (before at now : Li
       at = st.at;
       gives = (count, rows, true, omega arith, makes_end count few);
       writes = writes_prefix s.lines (line.End ∷ []) before at now s.writes w;
-      noted = all_noted answer st;
+      completed = all_completed answer st;
+      attempted = st.visits.attempted;
       log = all_log answer st;
+      few = st.visits.few;
+      settled = none;
+      counted = all_counted answer st;
       near = near_end;
       row = row_end;
       rose = all_rose answer st;
@@ -309,8 +347,12 @@ module _ (c : Cursor) (rows : ℕ) (old mid new : DeskState) (before at now : Li
       taken = refl;
     };
     writes = writes_stay s.lines before at now s.writes stays;
-    noted = all_noted (Err fault) st;
+    completed = all_completed (Err fault) st;
+    attempted = st.visits.attempted;
     log = all_log (Err fault) st;
+    few = st.visits.few;
+    settled = tt;
+    counted = all_counted (Err fault) st;
     near =
         subst (λ t. Within c.database c.plan t (all_noted (Err fault) st))
         (sym (same_taken (Err fault) st st.after (ap (λ (d : Cursor). d.database) only_counts ∙ rows_database rows c s.lines s.after s.steps)
@@ -336,7 +378,7 @@ module _ (c : Cursor) (rows : ℕ) (old mid new : DeskState) (before at now : Li
   prints_more n = go n.answer n.step n.prints
     where
       go : (answer : Result (Option Answer) PageFault) → CursorStep s.after mid new answer After → PrintsStep answer (Ok next.Row) at now → SoFar c (rows + 1) old new before now After
-      go (Ok (Some a)) st w = more_row (row_of a) (Ok (Some a)) st st.gives w
+      go (Ok (Some a)) st w = more_row (row_of a) (Ok (Some a)) st st.gives st.visits.settled w
       go (Ok None) st w = absurd w
       go (Err fault) st w = absurd w
 
@@ -346,7 +388,7 @@ module _ (c : Cursor) (rows : ℕ) (old mid new : DeskState) (before at now : Li
       go : (answer : Result (Option Answer) PageFault) → CursorStep s.after mid new answer After → PrintsStep answer (Ok next.End) at now
           → PrintsRows c count old new before now (Ok (Rows rows true)) After
       go (Ok (Some a)) st w = absurd w
-      go (Ok None) st w = done_end (Ok None) st st.gives count few w
+      go (Ok None) st w = done_end (Ok None) st st.gives st.visits.settled count few w
       go (Err fault) st w = absurd w
 
   pub prints_refused : (count : ℕ) (fault : PageFault) → rows < count → PrintsNext s.after mid new at now (Ok (next.Refused fault)) After
@@ -363,8 +405,8 @@ module _ (c : Cursor) (rows : ℕ) (old mid new : DeskState) (before at now : Li
   prints_failed count failed few n = go n.answer n.step n.prints
     where
       go : (answer : Result (Option Answer) PageFault) → CursorStep s.after mid new answer After → PrintsStep answer (Err failed) at now → PrintsRows c count old new before now (Err failed) After
-      go (Ok (Some a)) st w = broke_row (row_of a) (Ok (Some a)) st st.gives count failed few w
-      go (Ok None) st w = broke_end (Ok None) st st.gives count failed few w
+      go (Ok (Some a)) st w = broke_row (row_of a) (Ok (Some a)) st st.gives st.visits.settled count failed few w
+      go (Ok None) st w = broke_end (Ok None) st st.gives st.visits.settled count failed few w
       go (Err other) st w = absurd w
 
 -- all rows that were asked were given
@@ -386,9 +428,16 @@ prints_all c rows count old now before at Stands same s = record {
     },
   );
   writes = s.writes;
-  noted = s.noted;
-  log = s.log;
-  near = s.near;
-  row = last_within rows c s.lines s.after s.noted s.steps s.near;
+  completed = s.completed;
+  attempted = [];
+  log = s.log ∙ ap (λ l. old.visits ++ l) (sym (append-nil s.completed));
+  few = omega arith;
+  settled = refl;
+  counted = s.counted;
+  near = near_all;
+  row = last_within rows c s.lines s.after (s.completed ++ []) s.steps near_all;
   rose = s.rose;
 }
+  where
+    near_all : Within c.database c.plan (has_taken plan_measure c.database c.plan s.after.given false) (s.completed ++ [])
+    near_all = subst (Within c.database c.plan (has_taken plan_measure c.database c.plan s.after.given false)) (sym (append-nil s.completed)) s.near

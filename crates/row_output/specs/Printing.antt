@@ -1,5 +1,5 @@
 -- Some steps of a cursor with their lines, written one after the other.
-use Rattle.std.specs.Prelude.{◌≡◌, ℕ, ◌+◌, ◌-◌, ◌<◌, ◌≤◌, min, Bool, true, cond, nat_lt, List, [], ◌∷◌, ◌++◌, length, All, Result, Ok, Err, ⊤}
+use Rattle.std.specs.Prelude.{◌≡◌, ℕ, ◌+◌, ◌-◌, ◌<◌, ◌≤◌, min, Bool, true, cond, nat_lt, List, [], ◌∷◌, ◌++◌, length, All, Result, Ok, Err, OnOk, ⊤}
 use Rattle.sand_base.specs.Faults.{last_count}
 use Rattle.sand_base.specs.declared.refusal.Refusal.{Refusal}
 use Rattle.sand_base.specs.declared.source.Failed.{Failed}
@@ -15,7 +15,7 @@ use Rattle.sand_model.specs.Taken.{Taken, has_taken, is_lazy}
 use Rattle.output_text.specs.Writing.{Writes, WritesPrefix}
 use Rattle.plan_rows.specs.Rows.{plan_measure}
 use Rattle.plan_rows.specs.SourceSteps.{node_count}
-use Rattle.plan_rows.specs.Visited.{LiesWithin}
+use Rattle.plan_rows.specs.Visited.{◌plus◌, visit_counts, LiesWithin}
 use Rattle.plan_cursor.specs.CursorStep.{step_taken}
 use Rattle.row_output.specs.declared.rows.Printed.{Printed}
 use Rattle.row_output.specs.declared.rows.Printed.TheVariants.{Rows, Refused}
@@ -64,7 +64,7 @@ LieWithinLast c (Err failed) lines noted =
     is_lazy c.plan ≡ true → (front : List OutputLine) (row : PlanRow) → lines ≡ front ++ line.Row row ∷ []
     → All (LiesWithin plan_measure c.database c.plan (reach_of_last (row ∷ []))) noted
 
--- Some steps of the cursor of the model were made, and their lines were written. All visits lie within the reach of the last step, also of one that was refused.
+-- Some steps of the cursor of the model were made, and their lines were written. The visits were noted behind those before, those completed and after them, only where a step was refused, at most one that was attempted in vain; all lie within the reach of the last step, also of one that was refused, and the counts rise by just the completed ones.
 pub record PrintsRows (c : Cursor) (count : ℕ) (old new : DeskState) (before now : List ℕ → Type 0) (result : Result Printed Failed) (At : Cursor → Type 0) : Type 0 where
   pub lines : List OutputLine
   pub after : Cursor
@@ -72,8 +72,12 @@ pub record PrintsRows (c : Cursor) (count : ℕ) (old new : DeskState) (before n
   pub at : At after
   pub gives : GivesLines c count result lines after last
   pub writes : WritesLines result lines before now
-  pub noted : List Visit
-  pub log : new.visits ≡ old.visits ++ noted
-  pub near : All (LiesWithin plan_measure c.database c.plan (reach plan_measure c.database c.plan last)) noted
-  pub row : LieWithinLast c result lines noted
+  pub completed : List Visit
+  pub attempted : List Visit
+  pub log : new.visits ≡ old.visits ++ (completed ++ attempted)
+  pub few : length attempted ≤ 1
+  pub settled : OnOk (refusal_in result) (attempted ≡ [])
+  pub counted : after.counts ≡ c.counts plus visit_counts completed
+  pub near : All (LiesWithin plan_measure c.database c.plan (reach plan_measure c.database c.plan last)) (completed ++ attempted)
+  pub row : LieWithinLast c result lines (completed ++ attempted)
   pub rose : min (old.pool.gets + (node_count after.counts - node_count c.counts)) last_count ≤ new.pool.gets
