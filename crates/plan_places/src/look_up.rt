@@ -10,7 +10,7 @@ ghost use Rattle.plan_places.specs.Equals.{equals, GivesFirst};
 ghost use Rattle.sand_store.specs.Catalog.{IsCatalog};
 ghost use Rattle.sand_store.specs.Contents.{database_in};
 ghost use Rattle.sand_store.specs.Standing.{CatalogStands};
-ghost use Rattle.plan_places.specs.Spots.{names_of};
+ghost use Rattle.plan_places.specs.Spots.{LeadsTo, names_of};
 ghost use Rattle.plan_places.specs.Indexed.{Holds, HasInts, IsLookUp, LacksIndex};
 ghost use Rattle.attr_index.specs.Key.{IsAttribute};
 ghost use Rattle.plan_places.specs.Steps.{IsInt, has_equal, found_in, GivesCandidate};
@@ -54,6 +54,7 @@ impl<'s> LookUp<'s> {
     /// The column of these names with its attribute index. `None` comes where there is no such column, or it has no
     /// such index.
     pub fn named(catalog: &'s Catalog, relation: &str, column: &str) -> Option<LookUp<'s>>
+        ensures leads { IfSome result (λ l. (pages : PageMap) → LeadsTo (database_in pages catalog.now.relations) (names_of relation.now column.now) l.spot pages) }
         ensures found { IfSome result (λ l. (pages : PageMap) → CatalogStands pages catalog.now → IsLookUp (database_in pages catalog.now.relations) (names_of relation.now column.now) l pages) }
         ensures none { result ≡ None → IsCatalog catalog.now → (pages : PageMap) → LacksIndex (database_in pages catalog.now.relations) (names_of relation.now column.now) false }
     {
