@@ -20,7 +20,7 @@ pub struct SortBy<'s> {
 }
 
 impl<'s> SortBy<'s> {
-    ghost use Rattle.std.specs.Prelude.{[]};
+    ghost use Rattle.std.specs.Prelude.{◌≡◌, false, []};
     ghost use Rattle.page_pool.specs.Disk.{PageMap};
     ghost use Rattle.sand_model.specs.Database.{Database};
     ghost use Rattle.sand_model.specs.Operators.{relations_of};
@@ -30,7 +30,8 @@ impl<'s> SortBy<'s> {
 
     /// The stage of a sort by this place. It takes no memory.
     pub fn new(alloc: Global, spot: Spot<'s>) -> SortBy<'s>
-        ensures { (pages : PageMap) (d : Database) (below : Plan) (place : Place) → IsSpot d (relations_of below) place spot.entry pages → SortByStands result pages d (plan.SortBy below place) [] [] }
+        ensures open { result.closed ≡ false }
+        ensures begun { (pages : PageMap) (d : Database) (below : Plan) (place : Place) → IsSpot d (relations_of below) place spot.entry pages → SortByStands result pages d (plan.SortBy below place) [] [] }
     {
         SortBy {
             spot,

@@ -23,7 +23,7 @@ pub struct SortNear<'s> {
 }
 
 impl<'s> SortNear<'s> {
-    ghost use Rattle.std.specs.Prelude.{[]};
+    ghost use Rattle.std.specs.Prelude.{◌≡◌, false, []};
     ghost use Rattle.sand_base.specs.Plane.{IsShapeInPlane};
     ghost use Rattle.page_pool.specs.Disk.{PageMap};
     ghost use Rattle.sand_model.specs.Database.{Database};
@@ -34,7 +34,8 @@ impl<'s> SortNear<'s> {
 
     /// The stage of a sort by the gaps of what stands at this place from the goal. It takes no memory.
     pub fn new(alloc: Global, spot: Spot<'s>, goal: Shape) -> SortNear<'s>
-        ensures { IsShapeInPlane goal → (pages : PageMap) (d : Database) (below : Plan) (place : Place) → IsSpot d (relations_of below) place spot.entry pages → SortNearStands result pages d (plan.SortNear below place goal) [] [] }
+        ensures open { result.closed ≡ false }
+        ensures begun { IsShapeInPlane goal → (pages : PageMap) (d : Database) (below : Plan) (place : Place) → IsSpot d (relations_of below) place spot.entry pages → SortNearStands result pages d (plan.SortNear below place goal) [] [] }
     {
         SortNear {
             spot,
