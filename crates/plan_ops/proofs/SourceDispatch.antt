@@ -1,0 +1,31 @@
+-- What holds of the source that a source of any kind is holds of it.
+use Rattle.std.proofs.Common.{◌≡◌, Option, Result, IfSome, sym, subst}
+use Rattle.page_pool.specs.Desk.{DeskState}
+use Rattle.page_pool.specs.declared.fault.PageFault.{PageFault}
+use Rattle.sand_model.specs.Database.{Database}
+use Rattle.sand_model.specs.Plan.{Plan}
+use Rattle.sand_model.specs.Taken.{Taken}
+use Rattle.best_first.specs.Visits.{told_pages}
+use Rattle.plan_rows.specs.Rows.{counts_of}
+use Rattle.plan_rows.specs.SourceSteps.{SourceStep}
+use Rattle.plan_rows.specs.declared.answer.Answer.{Answer}
+use Rattle.plan_ops.specs.Sources.{source_at, source_seen}
+use Rattle.plan_ops.specs.declared.source.Source.{Source}
+
+-- the clauses, as facts of the source before the call
+
+abbrev pub Ready : DeskState → Source → Type 0
+Ready desk s = IfSome (told_pages desk) (λ pages. (d : Database) × ((p : Plan) × ((t : Taken) × source_at s pages d p t)))
+
+abbrev pub Stepped : DeskState → DeskState → Source → Result (Option Answer) PageFault → Source → Type 0
+Stepped desk later after result s =
+    IfSome (told_pages desk) (λ pages. (d : Database) (p : Plan) (t : Taken) → source_at s pages d p t
+    → SourceStep d p t (counts_of (source_seen s)) (counts_of (source_seen after)) desk later result (source_at after pages d p))
+
+-- the source that it is
+
+pub of_kind : (X : Source → Type 0) (s kind : Source) → s ≡ kind → X kind → X s
+of_kind X s kind e h = subst X (sym e) h
+
+pub to_kind : (X : Source → Type 0) (s kind : Source) → s ≡ kind → X s → X kind
+to_kind X s kind e h = subst X e h

@@ -1,0 +1,18 @@
+-- The checks say that it is there. They hold over any pages, so over none.
+use Rattle.std.specs.FinMap as map
+use Rattle.std.proofs.Common.{false, ap₂, subst}
+use Rattle.page_pool.specs.Disk.{PageMap}
+use Rattle.sand_model.specs.Plan.{Column}
+use Rattle.sand_store.specs.Contents.{database_in}
+use Rattle.plan_check.specs.PlanValue.{column_value}
+use Rattle.plan_places.specs.Indexed.{LacksIndex}
+use Rattle.plan_places.specs.Spots.{names_of}
+use Rattle.plan_ops.proofs.Resolved.{not_lacking}
+use Rattle.plan_ops.proofs.columns.look_up.Goals as goal
+
+pub unreachable-requires : goal.unreachable-requires
+unreachable-requires c =
+    let pages : PageMap = map.empty in
+    let d = database_in pages c.args.catalog.now.relations in
+    not_lacking d (column_value c.args.column.now) false (c.requires.checked pages)
+    (subst (λ (column : Column). LacksIndex d column false) (ap₂ names_of c.as_str.ensures c.as_str-2.ensures) (c.named.ensures.none c.in_default.is c.requires.described pages))

@@ -1,0 +1,6 @@
+-- fewer are left each time
+use Rattle.std.proofs.Common.{length}
+use Rattle.plan_ops.proofs.places.+add_tests.Given as goal
+
+abbrev pub decreases-add_tests : goal.decreases-add_tests
+decreases-add_tests l = length l.tests.now

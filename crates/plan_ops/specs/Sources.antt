@@ -1,0 +1,67 @@
+-- A source of any kind: what holds of the source that it is.
+use Rattle.std.specs.Prelude.{ℕ, ◌-◌}
+use Rattle.std.specs.Ordering.{ordering_then}
+use Rattle.std.specs.declared.cmp.Ordering.{Ordering}
+use Rattle.z_code.specs.declared.block.Block.{Block}
+use Rattle.best_first.specs.Steps.{steps}
+use Rattle.rank_cursor.specs.Cursor.{block_weight}
+use Rattle.dist_join.specs.OverPages.{pair_weight}
+use Rattle.plan_rows.specs.declared.stats.SourceCounts.{SourceCounts}
+use Rattle.plan_steps.specs.Following.{Taking}
+use Rattle.plain_source.specs.Plain.{IsScan, IsPickEqual, IsPickBetween, steps_left}
+use Rattle.rank_source.specs.Rankings.{IsAt, by_code}
+use Rattle.pair_source.specs.declared.join_source.JoinSource.{JoinSource}
+use Rattle.pair_source.specs.declared.semi_source.SemiSource.{SemiSource}
+use Rattle.pair_source.specs.Joins.{join_view, joining_in, HasTaken, HasTakenFirsts}
+use Rattle.plan_ops.specs.declared.source.Source.{Source}
+use Rattle.plan_ops.specs.declared.source.Source.TheVariants as source
+
+-- the order of pairs of blocks, by the left ones and then by the right ones
+abbrev pub by_codes : Block × Block → Block × Block → Ordering
+by_codes a b = ordering_then (by_code a.0 b.0) (by_code a.1 b.1)
+
+-- so much was taken of a join, and of a semi-join
+
+abbrev pub join_at : JoinSource → Taking
+join_at s pages d p t =
+    let h = s.search.hierarchy in
+    HasTaken by_codes
+    (joining_in (join_view h.left_shapes.relation.now h.left_shapes.column h.left h.right_shapes.relation.now h.right_shapes.column h.right h.ceiling) pages)
+    s.search.frontier.queue.items s.search.frontier.last s.search.frontier.counts d p t
+
+abbrev pub semi_at : SemiSource → Taking
+semi_at s pages d p t =
+    let h = s.semi.engine.hierarchy in
+    HasTakenFirsts by_codes
+    (joining_in (join_view h.left_shapes.relation.now h.left_shapes.column h.left h.right_shapes.relation.now h.right_shapes.column h.right h.ceiling) pages)
+    s.semi.engine.frontier.queue.items s.semi.engine.frontier.last s.semi.engine.frontier.counts s.semi.lefts d p t
+
+-- so much was taken of it
+abbrev pub source_at : Source → Taking
+source_at (source.Scan s) = IsScan s.relation.now s.last
+source_at (source.PickEqual s) = IsPickEqual s.look_up s.value s.last
+source_at (source.PickBetween s) = IsPickBetween s.look_up s.low s.high s.last
+source_at (source.Rank s) = IsAt s.search
+source_at (source.Join s) = join_at s
+source_at (source.Semi s) = semi_at s
+
+-- what it has visited
+abbrev pub source_seen : Source → SourceCounts
+source_seen (source.Scan s) = record { blocks = 0; pairs = 0; geometries = 0 }
+source_seen (source.PickEqual s) = record { blocks = 0; pairs = 0; geometries = 0 }
+source_seen (source.PickBetween s) = record { blocks = 0; pairs = 0; geometries = 0 }
+source_seen (source.Rank s) =
+    record { blocks = s.search.frontier.counts.visited; pairs = 0; geometries = s.search.frontier.counts.fetched }
+source_seen (source.Join s) =
+    record { blocks = 0; pairs = s.search.frontier.counts.visited; geometries = s.search.frontier.counts.fetched }
+source_seen (source.Semi s) =
+    record { blocks = 0; pairs = s.semi.engine.frontier.counts.visited; geometries = s.semi.engine.frontier.counts.fetched }
+
+-- how many steps may still be made
+abbrev pub source_steps : Source → ℕ
+source_steps (source.Scan s) = 4294967296 - s.last
+source_steps (source.PickEqual s) = 4294967296 - s.last
+source_steps (source.PickBetween s) = steps_left s.low s.high s.last
+source_steps (source.Rank s) = steps block_weight s.search.frontier.queue.items
+source_steps (source.Join s) = steps pair_weight s.search.frontier.queue.items
+source_steps (source.Semi s) = steps pair_weight s.semi.engine.frontier.queue.items

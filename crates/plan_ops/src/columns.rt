@@ -1,0 +1,54 @@
+// Columns that passed their checks.
+ghost use Rattle.std.specs.Prelude.{◌≡◌, true, false};
+ghost use Rattle.page_pool.specs.Disk.{PageMap};
+ghost use Rattle.sand_store.specs.Catalog.{IsCatalog, IsColumnAt};
+ghost use Rattle.sand_store.specs.Contents.{database_in};
+ghost use Rattle.sand_store.specs.Paths.{IsTreeOf};
+ghost use Rattle.sand_store.specs.Standing.{CatalogStands, RelationStands};
+ghost use Rattle.plan_check.specs.PlanValue.{column_value};
+ghost use Rattle.plan_places.specs.Indexed.{IsLookUp};
+ghost use Rattle.rank_source.specs.Rankings.{IsColumnOf};
+ghost use Rattle.plan_ops.specs.Checked.{IsChecked};
+
+use plan_places::LookUp;
+use rank_source::TreeColumn;
+use sand_store::Catalog;
+use script_text::Column;
+
+/// The column of shapes of these names with its quadtree.
+pub(crate) fn tree_column<'s>(catalog: &'s Catalog, column: &Column) -> TreeColumn<'s>
+    requires described { IsCatalog catalog.now }
+    requires checked { (pages : PageMap) → IsChecked (database_in pages catalog.now.relations) (column_value column.now) true }
+    ensures named { (pages : PageMap) → IsColumnOf pages result.relation.now result.column (database_in pages catalog.now.relations) (column_value column.now) }
+    ensures spatial { IsColumnAt result.relation.now.schema result.column true }
+    ensures tree { IsTreeOf result.relation.now result.column result.tree.now }
+    ensures stands { (pages : PageMap) → CatalogStands pages catalog.now → RelationStands pages catalog.now.limits result.relation.now }
+{
+    let Some(relation) = catalog.relation(column.relation.as_str()) else {
+        unreachable!()
+    };
+    let Some(at) = relation.column(column.column.as_str()) else {
+        unreachable!()
+    };
+    let Some(tree) = relation.quadtree(at) else {
+        unreachable!()
+    };
+    TreeColumn {
+        relation,
+        column: at,
+        tree,
+    }
+}
+
+/// The column of ints or texts of these names with its index.
+pub(crate) fn look_up<'s>(catalog: &'s Catalog, column: &Column) -> LookUp<'s>
+    requires described { IsCatalog catalog.now }
+    requires checked { (pages : PageMap) → IsChecked (database_in pages catalog.now.relations) (column_value column.now) false }
+    ensures { (pages : PageMap) → CatalogStands pages catalog.now → IsLookUp (database_in pages catalog.now.relations) (column_value column.now) result pages }
+{
+    let Some(found) = LookUp::named(catalog, column.relation.as_str(), column.column.as_str())
+    else {
+        unreachable!()
+    };
+    found
+}

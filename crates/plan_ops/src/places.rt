@@ -1,0 +1,95 @@
+// Places of a plan's rows that passed their checks.
+ghost use Rattle.std.specs.Prelude.{◌≡◌, ◌++◌, List, map, None, OnOk, IfOk};
+ghost use Rattle.page_pool.specs.Disk.{PageMap};
+ghost use Rattle.sand_model.specs.Checks.{check_tests, check_places};
+ghost use Rattle.sand_model.specs.Operators.{relations_of};
+ghost use Rattle.sand_store.specs.Contents.{database_in};
+ghost use Rattle.sand_store.specs.Standing.{CatalogStands};
+ghost use Rattle.plan_check.specs.PlanValue.{plan_value, place_value, test_value};
+ghost use Rattle.plan_places.specs.Spots.{IsSpot};
+ghost use Rattle.plan_places.specs.declared.spot.Spot.{Spot as Place'};
+ghost use Rattle.plan_stages.specs.Fetches.{AreSpots};
+ghost use Rattle.plan_stages.specs.Tests.{IsTest, AreTests};
+ghost use Rattle.plan_stages.specs.declared.tests.SpotTest.{SpotTest as Test'};
+ghost use Rattle.plan_ops.specs.Checked.{IsPlaceChecked};
+
+use plan_check::relation_name;
+use plan_places::Spot;
+use plan_stages::SpotTest;
+use sand_base::NoMemory;
+use sand_store::Catalog;
+use script_text::{Place, Plan, Test};
+use std::alloc::Global;
+
+/// The place of the rows of a plan.
+pub(crate) fn spot<'s>(catalog: &'s Catalog, plan: &Plan, place: &Place) -> Spot<'s>
+    requires { (pages : PageMap) → IsPlaceChecked (database_in pages catalog.now.relations) (relations_of (plan_value plan.now)) (place_value place.now) }
+    ensures { (pages : PageMap) → CatalogStands pages catalog.now → IsSpot (database_in pages catalog.now.relations) (relations_of (plan_value plan.now)) (place_value place.now) result pages }
+{
+    let Some(name) = relation_name(plan, place.k) else {
+        unreachable!()
+    };
+    let Some(spot) = Spot::named(catalog, name.as_str(), place.column.as_str(), place.k) else {
+        unreachable!()
+    };
+    spot
+}
+
+// A test of the rows of a plan.
+fn spot_test<'s>(
+    alloc: Global,
+    catalog: &'s Catalog,
+    plan: &Plan,
+    test: &Test,
+) -> Result<SpotTest<'s>, NoMemory>
+    requires { (pages : PageMap) → IsPlaceChecked (database_in pages catalog.now.relations) (relations_of (plan_value plan.now)) (place_value test.now.place) }
+    ensures { IfOk result (λ found. (pages : PageMap) → CatalogStands pages catalog.now → IsTest (database_in pages catalog.now.relations) (relations_of (plan_value plan.now)) pages found (test_value test.now)) }
+{
+    let value = test.value.copy(alloc)?;
+    Ok(SpotTest {
+        spot: spot(catalog, plan, &test.place),
+        op: test.op,
+        value,
+    })
+}
+
+/// Adds the tests of the rows of a plan, in their order.
+pub(crate) fn add_tests<'s>(
+    alloc: Global,
+    catalog: &'s Catalog,
+    plan: &Plan,
+    tests: &[Test],
+    found: &mut Vec<SpotTest<'s>>,
+) -> Result<(), NoMemory>
+    requires { (pages : PageMap) → check_tests (database_in pages catalog.now.relations) (relations_of (plan_value plan.now)) (map test_value tests.now) ≡ None }
+    ensures { OnOk result ((pages : PageMap) → CatalogStands pages catalog.now → (added : List Test') × ((found.new.items ≡ found.old.items ++ added) × AreTests (database_in pages catalog.now.relations) (relations_of (plan_value plan.now)) pages added (map test_value tests.now))) }
+{
+    match tests {
+        [] => Ok(()),
+        [test, rest @ ..] => {
+            found.push(spot_test(alloc, catalog, plan, test)?)?;
+            add_tests(alloc, catalog, plan, rest, found)?;
+            Ok(())
+        }
+    }
+}
+
+/// Adds the places of the rows of a plan, in their order.
+pub(crate) fn add_spots<'s>(
+    catalog: &'s Catalog,
+    plan: &Plan,
+    places: &[Place],
+    found: &mut Vec<Spot<'s>>,
+) -> Result<(), NoMemory>
+    requires { (pages : PageMap) → check_places (database_in pages catalog.now.relations) (relations_of (plan_value plan.now)) (map place_value places.now) ≡ None }
+    ensures { OnOk result ((pages : PageMap) → CatalogStands pages catalog.now → (added : List Place') × ((found.new.items ≡ found.old.items ++ added) × AreSpots (database_in pages catalog.now.relations) (relations_of (plan_value plan.now)) pages added (map place_value places.now))) }
+{
+    match places {
+        [] => Ok(()),
+        [place, rest @ ..] => {
+            found.push(spot(catalog, plan, place))?;
+            add_spots(catalog, plan, rest, found)?;
+            Ok(())
+        }
+    }
+}

@@ -1,0 +1,53 @@
+ghost use Rattle.plan_ops.specs.Sources.{source_at, source_seen, source_steps};
+
+use page_pool::{Desk, Disk, PageFault};
+use pair_source::{JoinSource, SemiSource};
+use plain_source::{PickBetween, PickEqual, Scan};
+use plan_rows::{Answer, RowSource, SourceCounts};
+use rank_source::RankSource;
+use std::alloc::Global;
+
+/// The source of any plan. A window is a ranking within the distance 0.
+#[derive(Drop)]
+pub enum Source<'s> {
+    Scan(Scan<'s>),
+    PickEqual(PickEqual<'s>),
+    PickBetween(PickBetween<'s>),
+    Rank(RankSource<'s>),
+    Join(JoinSource<'s>),
+    Semi(SemiSource<'s>),
+}
+
+impl<'s> RowSource for Source<'s> {
+    ghost At = { source_at };
+
+    ghost seen = { source_seen };
+
+    ghost steps = { source_steps };
+
+    fn next<D: Disk>(
+        &mut self,
+        alloc: Global,
+        desk: &mut Desk<D>,
+    ) -> Result<Option<Answer>, PageFault> {
+        match self {
+            Source::Scan(source) => source.next(alloc, desk),
+            Source::PickEqual(source) => source.next(alloc, desk),
+            Source::PickBetween(source) => source.next(alloc, desk),
+            Source::Rank(source) => source.next(alloc, desk),
+            Source::Join(source) => source.next(alloc, desk),
+            Source::Semi(source) => source.next(alloc, desk),
+        }
+    }
+
+    fn counts(&self) -> SourceCounts {
+        match self {
+            Source::Scan(source) => source.counts(),
+            Source::PickEqual(source) => source.counts(),
+            Source::PickBetween(source) => source.counts(),
+            Source::Rank(source) => source.counts(),
+            Source::Join(source) => source.counts(),
+            Source::Semi(source) => source.counts(),
+        }
+    }
+}
