@@ -1,0 +1,119 @@
+-- What a line's turn comes to, from what it says.
+use Rattle.std.proofs.Common.{◌≡◌, ℕ, true, false, List, [], ◌∷◌, Option, Some, None, refl, sym, ◌∙◌, ap, subst, inl, inr}
+use Rattle.std.specs.Prelude.{Result, Ok, Err, IfOk, OnErr}
+use Rattle.sand_base.specs.declared.refusal.Refusal.{Refusal}
+use Rattle.sand_base.specs.declared.refusal.Refusal.TheVariants as why
+use Rattle.sand_base.specs.declared.source.Failed.{Failed}
+use Rattle.sand_model.specs.Cursor.{OutputLine, Refused}
+use Rattle.sand_model.specs.OutputText.{IsText}
+use Rattle.sand_model.specs.Run.{LineOutcome}
+use Rattle.sand_model.specs.Statement.{ScriptLine, Blank, TooLong, BadToken, OutOfRange, Says as SaysOf}
+use Rattle.sand_model.specs.StatementChecks.{Setting}
+use Rattle.output_text.specs.Writing.{Writes, WritesPrefix}
+use Rattle.script_text.specs.InRange.{IsInRange}
+use Rattle.script_text.specs.Statement.{StatementValue, statement_value}
+use Rattle.script_text.specs.declared.statement.Statement.{Statement}
+use Rattle.statement_exec.specs.Ending.{refused_line}
+use Rattle.statement_exec.specs.Moment.{Moment, rises_between}
+use Rattle.statement_exec.specs.Performing.{Performs}
+use Rattle.statement_exec.proofs.Texts.{writes_none}
+use Rattle.script_run.specs.Carrying.{CarriesLine}
+use Rattle.script_run.specs.LineTurns.{LineTurns, LineBreaks}
+use Rattle.script_run.specs.Reading.{Says, Refuses, IsRefusedSo}
+use Rattle.script_run.specs.Spoken.{IsLine, statement_of}
+use Rattle.script_run.specs.Turns.{Turns, Breaks, HasPlan, spoken}
+use Rattle.script_run.specs.declared.turn.Turn.{Turn}
+use Rattle.script_run.specs.declared.turn.Turn.TheVariants as turn
+
+-- a statement's outcome is that of its line
+of_statement : (line : List ℕ) (statement : Statement) (old new : Moment) (lines : List OutputLine) → Says line (Some statement) → Performs (spoken (statement_value statement)) old new lines
+    → CarriesLine (Some line) old new lines
+of_statement line statement old new lines says h = λ told is t disk shelf setting gap s.
+    inl (subst (λ (x : ScriptLine). LineOutcome setting (rises_between old new) old.state x lines new.state) (sym (says.1 told is)) (h t disk shelf setting s))
+
+-- a line that is passed over
+passed_over : (line : List ℕ) (m : Moment) → Says line None → CarriesLine (Some line) m m []
+passed_over line m says = λ told is t disk shelf setting gap s.
+    inl (subst (λ (x : ScriptLine). LineOutcome setting (rises_between m m) m.state x [] m.state) (sym (says told is)) (refl, refl))
+
+-- a line that can't be read
+unread : (line : List ℕ) (m : Moment) (w : Refusal) → Refuses line w → CarriesLine (Some line) m m (Refused w ∷ [])
+unread line m w (inl e) = λ told is t disk shelf setting gap s. inr (ap (λ (r : Refusal). Refused r ∷ []) e, refl)
+unread line m w (inr h) = λ told is t disk shelf setting gap s. inl (by_line setting told (h told is)) where
+  by_line : (setting : Setting) (told : ScriptLine) → IsRefusedSo told w → LineOutcome setting (rises_between m m) m.state told (Refused w ∷ []) m.state
+  by_line setting Blank k = absurd k
+  by_line setting TooLong k = absurd k
+  by_line setting (BadToken column) k = (ap (λ (r : Refusal). Refused r ∷ []) k, refl)
+  by_line setting OutOfRange k = (ap (λ (r : Refusal). Refused r ∷ []) k, refl)
+  by_line setting (SaysOf s) k = absurd k
+
+-- a line that is too long
+too_long : (m : Moment) → CarriesLine None m m (Refused why.LineTooLong ∷ [])
+too_long m = λ told is t disk shelf setting gap s.
+    inl (subst (λ (x : ScriptLine). LineOutcome setting (rises_between m m) m.state x (Refused why.LineTooLong ∷ []) m.state) (sym is) (refl, refl))
+
+module _ (old new : Moment) (a b : List ℕ → Type 0) where
+  -- the turn of a statement is that of its line
+  pub turn_of_statement : (line : List ℕ) (statement : Statement) (r : Result Turn Failed) → Says line (Some statement) → IfOk r (Turns (statement_value statement) old new a b)
+      → IfOk r (LineTurns (Some line) old new a b)
+  turn_of_statement line statement (Err e) says h = tt
+  turn_of_statement line statement (Ok (turn.Done refused)) says h = record {
+    text = h.text;
+    holds = record { lines = h.holds.lines; holds = of_statement line statement old new h.holds.lines says h.holds.holds; told = h.holds.told; refused = h.holds.refused };
+    written = h.written;
+  }
+  turn_of_statement line statement (Ok (turn.Plan other)) says h =
+      let is : statement_value other ≡ statement_value statement = h.0 in
+      let range : IsInRange (statement_value other) = subst (λ (s : StatementValue). IsInRange s) (sym is) says.0 in
+      let plan : HasPlan (statement_value other) = subst (λ (s : StatementValue). HasPlan s) (sym is) h.1 in
+      let told : (x : ScriptLine) → IsLine (Some line) x → x ≡ SaysOf (statement_of (statement_value other)) = λ x k.
+      says.1 x k ∙ ap (λ (s : StatementValue). SaysOf (statement_of s)) (sym is) in
+      (((range, told), plan), h.2, h.3)
+
+  pub break_of_statement : (line : List ℕ) (statement : Statement) (r : Result Turn Failed) → Says line (Some statement) → OnErr r (Breaks (statement_value statement) old new a b)
+      → OnErr r (LineBreaks (Some line) old new a b)
+  break_of_statement line statement (Ok t) says h = tt
+  break_of_statement line statement (Err e) says h = record {
+    text = h.text;
+    holds = (h.holds.0, record { lines = h.holds.1.lines; holds = of_statement line statement old new h.holds.1.lines says h.holds.1.holds; told = h.holds.1.told; refused = h.holds.1.refused });
+    prefix = h.prefix;
+  }
+
+-- a line that prints nothing
+pub turn_of_none : (line : List ℕ) (m : Moment) (a : List ℕ → Type 0) → Says line None → LineTurns (Some line) m m a a (turn.Done false)
+turn_of_none line m a says =
+    let w : Writes (IsText []) a a = writes_none a in
+    record { text = w.text; holds = record { lines = []; holds = passed_over line m says; told = w.holds; refused = refl }; written = w.written }
+
+module _ (line : Option (List ℕ)) (m : Moment) (w : Refusal) (a b : List ℕ → Type 0) (h : CarriesLine line m m (Refused w ∷ [])) where
+  turn_of_refusal : (r : Result Turn Failed) → IfOk r (λ t. (t ≡ turn.Done true) × Writes (IsText (refused_line (Some w))) a b) → IfOk r (LineTurns line m m a b)
+  turn_of_refusal (Err e) k = tt
+  turn_of_refusal (Ok t) k =
+      let x : Writes (IsText (Refused w ∷ [])) a b = k.1 in
+      let done : LineTurns line m m a b (turn.Done true) =
+      record { text = x.text; holds = record { lines = Refused w ∷ []; holds = h; told = x.holds; refused = refl }; written = x.written } in
+      subst (λ (y : Turn). LineTurns line m m a b y) (sym k.0) done
+
+  break_of_refusal : (r : Result Turn Failed) → OnErr r (WritesPrefix (IsText (refused_line (Some w))) a b) → OnErr r (LineBreaks line m m a b)
+  break_of_refusal (Ok t) k = tt
+  break_of_refusal (Err e) k = record {
+    text = k.text;
+    holds = (true, record { lines = Refused w ∷ []; holds = h; told = k.holds; refused = refl });
+    prefix = k.prefix;
+  }
+
+pub turn_of_unread : (line : List ℕ) (m : Moment) (w : Refusal) (a b : List ℕ → Type 0) (r : Result Turn Failed) → Refuses line w
+    → IfOk r (λ t. (t ≡ turn.Done true) × Writes (IsText (refused_line (Some w))) a b) → IfOk r (LineTurns (Some line) m m a b)
+turn_of_unread line m w a b r u k = turn_of_refusal (Some line) m w a b (unread line m w u) r k
+
+pub break_of_unread : (line : List ℕ) (m : Moment) (w : Refusal) (a b : List ℕ → Type 0) (r : Result Turn Failed) → Refuses line w
+    → OnErr r (WritesPrefix (IsText (refused_line (Some w))) a b) → OnErr r (LineBreaks (Some line) m m a b)
+break_of_unread line m w a b r u k = break_of_refusal (Some line) m w a b (unread line m w u) r k
+
+pub turn_of_long : (m : Moment) (a b : List ℕ → Type 0) (r : Result Turn Failed)
+    → IfOk r (λ t. (t ≡ turn.Done true) × Writes (IsText (refused_line (Some why.LineTooLong))) a b) → IfOk r (LineTurns None m m a b)
+turn_of_long m a b r k = turn_of_refusal None m why.LineTooLong a b (too_long m) r k
+
+pub break_of_long : (m : Moment) (a b : List ℕ → Type 0) (r : Result Turn Failed)
+    → OnErr r (WritesPrefix (IsText (refused_line (Some why.LineTooLong))) a b) → OnErr r (LineBreaks None m m a b)
+break_of_long m a b r k = break_of_refusal None m why.LineTooLong a b (too_long m) r k

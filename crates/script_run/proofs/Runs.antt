@@ -1,0 +1,99 @@
+-- One more line at the end of a run.
+use Rattle.std.proofs.Common.{◌≡◌, ◌⊎◌, ℕ, ◌+◌, ◌<◌, ◌≤◌, List, [], ◌∷◌, ◌++◌, refl, sym, ◌∙◌, ap, subst, arith}
+use Rattle.std.specs.Prelude.{IsTrue}
+use Rattle.std.proofs.lemmas.List.{append_assoc, append-nil}
+use Rattle.sand_base.specs.Faults.{last_count}
+use Rattle.sand_base.specs.declared.refusal.Refusal.TheVariants as why
+use Rattle.sand_model.specs.Cursor.{State, OutputLine}
+use Rattle.sand_model.specs.Outcome.{Rises, IsRefusedBy}
+use Rattle.sand_model.specs.Run.{Run, FitIn, LineOutcome}
+use Rattle.sand_model.specs.Statement.{ScriptLine}
+use Rattle.sand_model.specs.StatementChecks.{Setting}
+use Rattle.script_lines.specs.Lines.{clipped}
+use Rattle.statement_exec.specs.Moment.{Moment, rises_between, IsSettingOf}
+use Rattle.script_run.specs.Carrying.{CarriesLine, CarriesLines, Follows}
+use Rattle.script_run.specs.Spoken.{IsLine, AreLines}
+
+-- a line of a run, or its want of memory
+abbrev Goes : Setting → Rises → State → ScriptLine → List OutputLine → State → Type 0
+Goes setting own old line first mid = LineOutcome setting own old line first mid ⊎ IsRefusedBy why.Memory old first mid
+
+-- the rises of both
+abbrev both : Rises → Rises → Rises
+both a b = record { disk = a.disk + b.disk; shelf = a.shelf + b.shelf }
+
+no_rises : Rises
+no_rises = record { disk = 0; shelf = 0 }
+
+pub run_append : (setting : Setting) (old mid new : State) (script : List ScriptLine) (line : ScriptLine) (before own all : Rises) (printed more : List OutputLine)
+    → Run setting old script before printed mid → Goes setting own mid line more new → FitIn before own all → Run setting old (script ++ line ∷ []) all (printed ++ more) new
+unfolding no_rises
+run_append setting old mid new [] line before own all printed more ran goes fit = record {
+  own = own;
+  others = no_rises;
+  fit = record { disk = omega (arith, fit.disk); shelf = omega (arith, fit.shelf) };
+  first = more;
+  more = [];
+  mid = new;
+  outcome = subst (λ (s : State). Goes setting own s line more new) ran.1 goes;
+  goes = (refl, refl);
+  printed_is = ap (λ (p : List OutputLine). p ++ more) ran.0 ∙ sym (append-nil more);
+}
+run_append setting old mid new (x ∷ script) line before own all printed more ran goes fit = record {
+  own = ran.own;
+  others = both ran.others own;
+  fit = record { disk = omega (arith, fit.disk, ran.fit.disk); shelf = omega (arith, fit.shelf, ran.fit.shelf) };
+  first = ran.first;
+  more = ran.more ++ more;
+  mid = ran.mid;
+  outcome = ran.outcome;
+  goes = run_append setting ran.mid mid new script line ran.others own (both ran.others own) ran.more more ran.goes goes (record { disk = omega arith; shelf = omega arith });
+  printed_is = ap (λ (p : List OutputLine). p ++ more) ran.printed_is ∙ append_assoc ran.first ran.more more;
+}
+
+-- what lines and one more line say is what these say and what that one says
+split_lines : (lines : List (List ℕ)) (line : List ℕ) (script : List ScriptLine) → AreLines (lines ++ line ∷ []) script
+    → (before : List ScriptLine) × ((told : ScriptLine) × ((script ≡ before ++ told ∷ []) × (AreLines lines before × IsLine (clipped line) told)))
+split_lines [] line [] h = absurd h
+split_lines [] line (told ∷ []) h = ([], (told, (refl, (tt, h.0))))
+split_lines [] line (told ∷ (other ∷ script)) h = absurd h.1
+split_lines (x ∷ lines) line [] h = absurd h
+split_lines (x ∷ lines) line (told ∷ script) h =
+    let s = split_lines lines line script h.1 in
+    (told ∷ s.0, (s.1.0, (ap (λ (xs : List ScriptLine). told ∷ xs) s.1.1.0, ((h.0, s.1.1.1.0), s.1.1.1.1))))
+
+-- a setting of a moment is one of each that follows
+pub setting_later : (old new : Moment) (setting : Setting) → Follows old new → IsSettingOf old setting → IsSettingOf new setting
+setting_later old new setting f s = record { is = s.is; limits = s.limits ∙ sym f.limits; files = f.files ∙ s.files; rows_of = s.rows_of; tells = s.tells ∙ sym f.told }
+
+-- one more line was carried out
+pub lines_append : (old mid new : Moment) (lines : List (List ℕ)) (line : List ℕ) (printed more : List OutputLine) → Follows old mid → Follows mid new
+    → CarriesLines lines old mid printed → CarriesLine (clipped line) mid new more → CarriesLines (lines ++ line ∷ []) old new (printed ++ more)
+lines_append old mid new lines line printed more f g ran own = λ script are told disk shelf setting gap s.
+    let parts = split_lines lines line script are in
+    let before : List ScriptLine = parts.0 in
+    let last : ScriptLine = parts.1.0 in
+    let disk_up : mid.disk ≤ new.disk = g.disk disk in
+    let shelf_up : mid.shelf ≤ new.shelf = g.shelf shelf in
+    let disk' : mid.disk < last_count = omega (arith, disk, disk_up) in
+    let shelf' : mid.shelf < last_count = omega (arith, shelf, shelf_up) in
+    let told' : IsTrue mid.told = f.told ∙ told in
+    let one = own last parts.1.1.1.1 told' disk shelf setting gap (setting_later old mid setting f s) in
+    let all : Run setting old.state before (rises_between old mid) printed mid.state = ran before parts.1.1.1.0 told disk' shelf' setting gap s in
+    let fit : FitIn (rises_between old mid) (rises_between mid new) (rises_between old new) =
+    record { disk = omega (arith, f.disk disk', disk_up); shelf = omega (arith, f.shelf shelf', shelf_up) } in
+    subst (λ (xs : List ScriptLine). Run setting old.state xs (rises_between old new) (printed ++ more) new.state) (sym parts.1.1.0)
+    (run_append setting old.state mid.state new.state before last (rises_between old mid) (rises_between mid new) (rises_between old new) printed more all one fit)
+
+-- what follows a moment that follows another follows that one
+pub follows_on : (old mid new : Moment) → Follows old mid → Follows mid new → Follows old new
+follows_on old mid new f g = record {
+  limits = g.limits ∙ f.limits;
+  told = g.told ∙ f.told;
+  files = g.files ∙ f.files;
+  disk = λ few. let up : mid.disk ≤ new.disk = g.disk few in let before : old.disk ≤ mid.disk = f.disk (omega (arith, up, few)) in omega (arith, up, before);
+  shelf = λ few. let up : mid.shelf ≤ new.shelf = g.shelf few in let before : old.shelf ≤ mid.shelf = f.shelf (omega (arith, up, few)) in omega (arith, up, before);
+}
+
+pub follows_itself : (m : Moment) → Follows m m
+follows_itself m = record { limits = refl; told = refl; files = refl; disk = λ few. omega arith; shelf = λ few. omega arith }
