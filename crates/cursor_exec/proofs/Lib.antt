@@ -1,0 +1,13 @@
+-- names that stand twice
+pub mod Names
+-- rows of a schema
+pub mod RowKinds
+-- the checks of an index
+pub mod IndexChecks
+-- the steps of a cursor
+pub mod StepCalls
+-- the open cursor of a name, where it makes steps and where it is gone
+pub mod NamedCursors
+pub mod ClosedCursors
+-- the checks of a new cursor
+pub mod OpenChecks

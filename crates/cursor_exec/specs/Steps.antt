@@ -1,0 +1,28 @@
+-- The next rows of a cursor, printed up to a refusal whose line is still to be printed.
+use Rattle.std.specs.Prelude.{◌≡◌, ℕ, ◌≤◌, List, Option, Some, Result, Ok, Err}
+use Rattle.output_text.specs.Writing.{WritesPrefix}
+use Rattle.plan_rows.specs.Rows.{plan_measure}
+use Rattle.sand_base.specs.declared.refusal.Refusal.{Refusal}
+use Rattle.sand_base.specs.declared.source.Failed.{Failed}
+use Rattle.sand_model.specs.Cursor.{Cursor, OutputLine, Steps}
+use Rattle.sand_model.specs.OutputText.{IsText}
+use Rattle.statement_exec.specs.Ending.{WritesUpTo}
+
+-- up to so many steps give these lines, and the refusal among them, if there is one, is this one
+abbrev pub GivesSteps : Cursor → ℕ → Cursor → Option Refusal → List OutputLine → Type 0
+GivesSteps c count after end lines = Steps plan_measure (λ refusal. end ≡ Some refusal) count c lines after
+
+-- some steps, no more than so many, give these lines
+abbrev pub GivesSome : Cursor → ℕ → Cursor → List OutputLine → Type 0
+GivesSome c count after lines = (made : ℕ) × (made ≤ count) × Steps plan_measure (λ refusal. ⊥) made c lines after
+
+-- the lines of the steps were written, up to a refusal; where the sink failed, a prefix of those of some steps
+abbrev pub WritesSteps : Cursor → ℕ → Cursor → (List ℕ → Type 0) → (List ℕ → Type 0) → Result (Option Refusal) Failed → Type 0
+WritesSteps c count after before now (Ok end) = WritesUpTo (GivesSteps c count after end) end before now
+WritesSteps c count after before now (Err failed) = (lines : List OutputLine) × GivesSome c count after lines × WritesPrefix (IsText lines) before now
+
+-- steps of the cursor of the model were made, and it stands where they lead
+pub record StepsOn (c : Cursor) (count : ℕ) (before now : List ℕ → Type 0) (result : Result (Option Refusal) Failed) (At : Cursor → Type 0) : Type 0 where
+  pub after : Cursor
+  pub at : At after
+  pub steps : WritesSteps c count after before now result

@@ -1,0 +1,27 @@
+ghost use Rattle.std.specs.Prelude.{◌≡◌, List};
+ghost use Rattle.page_pool.specs.Disk.{PageMap};
+ghost use Rattle.plan_cursor.specs.Standing.{IsAt};
+ghost use Rattle.plan_rows.specs.Rows.{counts_of};
+ghost use Rattle.sand_model.specs.Cursor.{Cursor};
+ghost use Rattle.cursor_exec.specs.OpenCursors.{ClosesOf, HaveOwnNames, StandAll, named};
+
+use crate::OpenCursor;
+use crate::next_rows::place_of;
+use plan_rows::RowSource;
+use plan_steps::RowStage;
+use sand_base::{Label, Refusal};
+
+/// Ends the open cursor of this name. It takes no memory.
+pub fn close<S: RowSource, T: RowStage>(
+    cursors: &mut Vec<OpenCursor<S, T>>,
+    name: &Label,
+) -> Result<(), Refusal>
+    ensures { (pages : PageMap) (cs : List Cursor) → HaveOwnNames cs → StandAll (λ r. IsAt S.At T.Stands T.closed (λ s. counts_of (S.seen s)) r) pages cursors.old.items cs
+        → ClosesOf (named cs name.now) cs name.now result (StandAll (λ r. IsAt S.At T.Stands T.closed (λ s. counts_of (S.seen s)) r) pages cursors.new.items) }
+{
+    let Some(at) = place_of(cursors, name.as_str()) else {
+        return Err(Refusal::UnknownCursor);
+    };
+    let _ended = cursors.remove(at);
+    Ok(())
+}

@@ -1,0 +1,52 @@
+ghost use Rattle.std.specs.Prelude.{◌≡◌, List, IfSome, position};
+ghost use Rattle.best_first.specs.Visits.{told_pages};
+ghost use Rattle.page_pool.specs.Reads.{IsRead};
+ghost use Rattle.plan_cursor.specs.Standing.{IsAt};
+ghost use Rattle.plan_rows.specs.Rows.{counts_of};
+ghost use Rattle.sand_base.specs.Faults.{HasCause};
+ghost use Rattle.sand_model.specs.Cursor.{Cursor};
+ghost use Rattle.sand_model.specs.Database.{same_name};
+ghost use Rattle.statement_exec.specs.Ending.{PagesHaveCause};
+ghost use Rattle.cursor_exec.specs.OpenCursors.{HaveOwnNames, NextOf, StandAll, named};
+
+use crate::OpenCursor;
+use crate::row_steps::print_steps;
+use page_pool::{Desk, Disk};
+use plan_rows::RowSource;
+use plan_steps::RowStage;
+use sand_base::{Failed, Label, Refusal, Sink};
+use std::alloc::Global;
+
+// The place of the cursor with this name.
+pub(crate) fn place_of<S, T>(cursors: &[OpenCursor<S, T>], name: &str) -> Option<usize>
+    ensures { result ≡ position (λ x. same_name x.name name.now) cursors.now }
+{
+    cursors.iter().position(|open| open.name.as_str() == name)
+}
+
+/// Prints the next rows of the open cursor of this name, up to their end or to a refusal, whose line is still to be
+/// printed.
+pub fn print_next<S: RowSource, T: RowStage, D: Disk, K: Sink>(
+    alloc: Global,
+    desk: &mut Desk<D>,
+    cursors: &mut Vec<OpenCursor<S, T>>,
+    name: &Label,
+    count: u32,
+    out: &mut K,
+) -> Result<Option<Refusal>, Failed>
+    requires stands { IfSome (told_pages desk.old) (λ pages. (cs : List Cursor) × StandAll (λ r. IsAt S.At T.Stands T.closed (λ s. counts_of (S.seen s)) r) pages cursors.old.items cs) }
+    ensures read { IsRead desk.old.pool desk.new.pool }
+    ensures cause { PagesHaveCause desk.old.pool desk.new.pool result }
+    ensures sink { HasCause (K.faults out.old) (K.faults out.new) result }
+    ensures steps { IfSome (told_pages desk.old) (λ pages. (cs : List Cursor) → HaveOwnNames cs → StandAll (λ r. IsAt S.At T.Stands T.closed (λ s. counts_of (S.seen s)) r) pages cursors.old.items cs
+        → NextOf (named cs name.now) cs name.now count (K.took out.old) (K.took out.new) result (λ after. StandAll (λ r. IsAt S.At T.Stands T.closed (λ s. counts_of (S.seen s)) r) pages cursors.new.items after)) }
+{
+    let Some(at) = place_of(cursors, name.as_str()) else {
+        return Ok(Some(Refusal::UnknownCursor));
+    };
+    let open = &mut cursors[at];
+    match print_steps(&mut open.cursor, alloc, desk, count, out) {
+        Ok(end) => Ok(end),
+        Err(Failed {}) => Err(Failed {}),
+    }
+}
