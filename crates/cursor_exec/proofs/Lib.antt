@@ -11,3 +11,9 @@ pub mod NamedCursors
 pub mod ClosedCursors
 -- the checks of a new cursor
 pub mod OpenChecks
+-- outcomes beside open cursors
+pub mod CursorOutcomes
+-- names of their own
+pub mod OwnNames
+-- the numbers of a cursor
+pub mod CursorNumbers

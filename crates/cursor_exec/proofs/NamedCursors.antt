@@ -127,7 +127,7 @@ module _ {S T : Type 0} (At : Places S T) (pages : PageMap) where
   at_stands (x ∷ xs) (c ∷ cs) p (suc at) d h f = at_stands xs cs p at d h.2 f.1
 
   -- the first of the name
-  at_place : (xs : List (OpenCursor S T)) (cs : List Cursor) (name : List ℕ) (at : ℕ) → HaveOwnNames cs → StandAll At pages xs cs → FirstAt (λ x. same_name x.name name) xs at
+  pub at_place : (xs : List (OpenCursor S T)) (cs : List Cursor) (name : List ℕ) (at : ℕ) → HaveOwnNames cs → StandAll At pages xs cs → FirstAt (λ x. same_name x.name name) xs at
       → StandsAt At pages xs cs name at
   at_place [] cs name at own h f = absurd f
   at_place (x ∷ xs) [] name at own h f = absurd h
@@ -200,7 +200,7 @@ module _ {S T : Type 0} (At : Places S T) (told : Option PageMap) (xs : List (Op
         let w : StandsAt At pages xs cs name at = at_place At pages xs cs name at own all f in
         let s : StepsOn w.cursor count a b result (At r pages) = h w.cursor (w.stands d) in
         let on : StepsOn w.cursor count a b result (λ after. StandAll At pages (set xs at (record { name = (get_or xs at d).name; cursor = r })) (replaced name after cs)) =
-        record { after = s.after; at = w.others d r s.after s.at (kept_name w.cursor count a b result s.after s.steps); steps = s.steps } in
+        record { after = s.after; at = w.others d r s.after s.at (kept_name w.cursor count a b result s.after s.steps); steps = s.steps; pages = s.pages } in
         subst (λ (o : Option Cursor). NextOf o cs name count a b result (λ after. StandAll At pages (set xs at (record { name = (get_or xs at d).name; cursor = r })) after)) (sym w.is) on
 
   -- the cursor at the place stands

@@ -5,6 +5,7 @@ use Rattle.std.specs.List.{list_any}
 use Rattle.std.proofs.lemmas.List.{append-nil}
 use Rattle.page_pool.specs.Desk.{DeskState}
 use Rattle.page_pool.specs.declared.fault.PageFault.{PageFault}
+use Rattle.page_pool.specs.declared.fault.PageFault.TheVariants as page
 use Rattle.plan_rows.specs.Rows.{plan_measure}
 use Rattle.sand_base.specs.declared.refusal.Refusal.{Refusal}
 use Rattle.sand_base.specs.declared.source.Failed.{Failed}
@@ -16,7 +17,7 @@ use Rattle.row_output.specs.Printing.{PrintsRows}
 use Rattle.page_pool.specs.Disk.{PageMap}
 use Rattle.row_output.specs.declared.rows.Printed.{Printed}
 use Rattle.row_output.specs.declared.rows.Printed.TheVariants as printed
-use Rattle.cursor_exec.specs.Steps.{StepsOn, GivesSteps}
+use Rattle.cursor_exec.specs.Steps.{StepsOn, GivesSteps, IsOfPages}
 
 abbrev first_of : OutputLine → List OutputLine → OutputLine
 first_of d [] = d
@@ -37,6 +38,12 @@ none_refused (suc n) c lines after (inr (inr refused)) = absurd refused.1
 not_none : (xs : List OutputLine) (w : Refusal) → xs ++ Refused w ∷ [] ≡ [] → ⊥
 not_none [] w e = let n : 1 ≡ 0 = ap (λ (ys : List OutputLine). length ys) e in omega (arith, n)
 not_none (x ∷ xs) w e = let n : length ((x ∷ xs) ++ Refused w ∷ []) ≡ 0 = ap (λ (ys : List OutputLine). length ys) e in omega (arith, n)
+
+-- a fault of a page is of memory or of a page
+of_pages : (fault : PageFault) → IsOfPages (Some (refusal_of fault))
+of_pages page.Memory = tt
+of_pages page.Device = tt
+of_pages (page.Damaged n kept read) = tt
 
 -- lines before the line of a refusal are none themselves
 before_refused : (may : Refusal → Type 0) (w : Refusal) (n : ℕ) (c : Cursor) (lines : List OutputLine) (after : Cursor) → Steps plan_measure may n c (lines ++ Refused w ∷ []) after
@@ -63,6 +70,7 @@ module _ (c : Cursor) (count rows : ℕ) (old new : DeskState) (a b : List ℕ �
       holds = subst (λ (xs : List OutputLine). GivesSteps c count p.after None xs) (sym (append-nil p.lines))
           (steps_allowed plan_measure (λ r. ⊥) (λ r. None ≡ Some r) (λ r e. absurd e) count c p.lines p.after p.gives.2.steps);
     };
+    pages = tt;
   }
 
   pub steps_to_fault : (fault : PageFault) → PrintsRows c count old new a b (Ok (printed.Refused rows fault)) At → StepsOn c count a b (Ok (Some (refusal_of fault))) At
@@ -78,6 +86,7 @@ module _ (c : Cursor) (count rows : ℕ) (old new : DeskState) (a b : List ℕ �
           accepted = before_refused (λ why. why ≡ w) w count c p.lines p.after all;
           holds = steps_allowed plan_measure (λ why. why ≡ w) (λ r. Some w ≡ Some r) (λ r e. ap (λ (x : Refusal). Some x) (sym e)) count c (p.lines ++ Refused w ∷ []) p.after all;
         };
+        pages = of_pages fault;
       }
 
 pub steps_broken : (c : Cursor) (count : ℕ) (old new : DeskState) (a b : List ℕ → Type 0) (failed : Failed) (At : Cursor → Type 0) → PrintsRows c count old new a b (Err failed) At
@@ -86,6 +95,7 @@ steps_broken c count old new a b failed At p = record {
   after = p.after;
   at = p.at;
   steps = (p.lines, (p.gives.0, p.gives.3, p.gives.4.steps), p.writes);
+  pages = tt;
 }
 
 -- what follows from a fact of something that may be there

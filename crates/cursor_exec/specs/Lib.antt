@@ -4,3 +4,5 @@ pub mod Beside
 pub mod Steps
 -- The open cursors, and what becomes of them.
 pub mod OpenCursors
+-- What is done beside open cursors is an outcome of the model.
+pub mod Outcomes

@@ -1,7 +1,9 @@
 -- The open cursors, each under its name, and what the next rows of one of them do.
 use Rattle.std.specs.Prelude.{◌≡◌, ⊤, ℕ, false, List, [], ◌∷◌, map, find, Option, Some, None, Result, Ok, Err}
 use Rattle.page_pool.specs.Disk.{PageMap}
+use Rattle.plan_cursor.specs.Standing.{AreStats}
 use Rattle.plan_cursor.specs.declared.cursor.RowCursor.{RowCursor}
+use Rattle.plan_rows.specs.declared.stats.Stats.{Stats}
 use Rattle.sand_base.specs.Streams.{Stays}
 use Rattle.sand_base.specs.declared.refusal.Refusal.{Refusal}
 use Rattle.sand_base.specs.declared.refusal.Refusal.TheVariants as why
@@ -41,3 +43,8 @@ NextOf (Some c) cs name count before now result At = StepsOn c count before now 
 abbrev pub ClosesOf : Option Cursor → List Cursor → List ℕ → Result (Unit {0}) Refusal → (List Cursor → Type 0) → Type 0
 ClosesOf None cs name result At = (result ≡ Err why.UnknownCursor) × At cs
 ClosesOf (Some c) cs name result At = (result ≡ Ok tt) × At (closed name cs)
+
+-- the numbers of the cursor of a name, or none where no cursor has it
+abbrev pub NumbersOf : Option Cursor → Option Stats → Type 0
+NumbersOf None result = result ≡ None
+NumbersOf (Some c) result = (numbers : Stats) × (result ≡ Some numbers) × AreStats c numbers

@@ -1,8 +1,9 @@
 -- The next rows of a cursor, printed up to a refusal whose line is still to be printed.
-use Rattle.std.specs.Prelude.{◌≡◌, ℕ, ◌≤◌, List, Option, Some, Result, Ok, Err}
+use Rattle.std.specs.Prelude.{◌≡◌, ℕ, ◌≤◌, List, Option, Some, Result, Ok, Err, ⊤, None}
 use Rattle.output_text.specs.Writing.{WritesPrefix}
 use Rattle.plan_rows.specs.Rows.{plan_measure}
 use Rattle.sand_base.specs.declared.refusal.Refusal.{Refusal}
+use Rattle.sand_base.specs.declared.refusal.Refusal.TheVariants as why
 use Rattle.sand_base.specs.declared.source.Failed.{Failed}
 use Rattle.sand_model.specs.Cursor.{Cursor, OutputLine, Steps}
 use Rattle.sand_model.specs.OutputText.{IsText}
@@ -21,8 +22,22 @@ abbrev pub WritesSteps : Cursor → ℕ → Cursor → (List ℕ → Type 0) →
 WritesSteps c count after before now (Ok end) = WritesUpTo (GivesSteps c count after end) end before now
 WritesSteps c count after before now (Err failed) = (lines : List OutputLine) × GivesSome c count after lines × WritesPrefix (IsText lines) before now
 
+-- the refusal, where there is one, is of memory or of a page
+abbrev pub IsOfPages : Option Refusal → Type 0
+IsOfPages None = ⊤
+IsOfPages (Some why.Memory) = ⊤
+IsOfPages (Some why.Device) = ⊤
+IsOfPages (Some (why.Damaged n kept read)) = ⊤
+IsOfPages (Some _) = ⊥
+
+-- so it is in an answer
+abbrev pub AnswersPages : {E : Type 0} → Result (Option Refusal) E → Type 0
+AnswersPages (Ok end) = IsOfPages end
+AnswersPages (Err e) = ⊤
+
 -- steps of the cursor of the model were made, and it stands where they lead
 pub record StepsOn (c : Cursor) (count : ℕ) (before now : List ℕ → Type 0) (result : Result (Option Refusal) Failed) (At : Cursor → Type 0) : Type 0 where
   pub after : Cursor
   pub at : At after
   pub steps : WritesSteps c count after before now result
+  pub pages : AnswersPages result
