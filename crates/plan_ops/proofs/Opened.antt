@@ -1,8 +1,6 @@
 -- Plans that can be opened, level by level.
-use Rattle.std.proofs.Common.{◌≡◌, ◌⊎◌, ◌<◌, arith, ℕ, ℤ, true, false, List, Option, sym, ◌∙◌, ap, subst, inl, inr, Box, Global}
-use Rattle.sand_base.specs.declared.rect.Rect.{Rect}
+use Rattle.std.proofs.Common.{◌≡◌, ◌⊎◌, ◌<◌, arith, ℕ, List, sym, ◌∙◌, subst, inl, inr, Box, Global}
 use Rattle.sand_base.specs.declared.shape.Shape.{Shape}
-use Rattle.sand_base.specs.declared.value.Value.{Value}
 use Rattle.script_text.specs.InRange.{IsPlanInRange}
 use Rattle.script_text.specs.Plan as text
 use Rattle.script_text.specs.declared.column.Column.{Column}
@@ -17,7 +15,6 @@ use Rattle.plan_check.specs.OperatorCheck.{check_operator}
 use Rattle.plan_check.specs.PlanValue.{plan_value}
 use Rattle.plan_check.proofs.Operators.{over_inner}
 use Rattle.plan_check.proofs.Passed.{first_passed}
-use Rattle.plan_steps.specs.Outermost.{is_source, inner}
 use Rattle.plan_ops.specs.Openable.{IsOpenable}
 
 -- the plan is an operator over the inner one

@@ -1,14 +1,10 @@
 -- The stages of plans that can be opened.
-use Rattle.std.proofs.Common.{◌≡◌, ℕ, zero, suc, Bool, true, false, ◌&&◌, nat_eq, not, ◌≤◌, List, ◌∷◌, map, Option, None, Some, refl, sym, ap, subst, true≢false, arith, Box, Global}
-use Rattle.std.proofs.Math.Dec.{eqb-suc-zero}
+use Rattle.std.proofs.Common.{◌≡◌, ℕ, Bool, true, false, List, ◌∷◌, map, Option, None, Some, refl, sym, subst, true≢false, Box, Global}
 use Rattle.page_pool.specs.Disk.{PageMap}
 use Rattle.sand_base.specs.declared.kind.Kind.{Kind}
 use Rattle.sand_base.specs.declared.kind.Kind.TheVariants as kind
 use Rattle.sand_base.specs.declared.shape.Shape.{Shape}
-use Rattle.sand_base.specs.Plane.{IsShapeInPlane}
 use Rattle.sand_base.specs.Shape.{is_spatial, value_kind, same_kind}
-use Rattle.script_text.specs.InRange.{IsPlanInRange}
-use Rattle.script_text.specs.Plan as text
 use Rattle.script_text.specs.declared.column.Column.{Column}
 use Rattle.script_text.specs.declared.column.Place.{Place}
 use Rattle.script_text.specs.declared.plan.Plan as declared

@@ -1,6 +1,6 @@
 -- The checks say that it is there. They hold over any pages, so over none.
 use Rattle.std.specs.FinMap as map
-use Rattle.std.proofs.Common.{List, ℕ, ap₂, subst}
+use Rattle.std.proofs.Common.{ap₂, subst}
 use Rattle.page_pool.specs.Disk.{PageMap}
 use Rattle.plain_source.specs.Plain.{LacksInts}
 use Rattle.plan_check.specs.PlanValue.{column_value}
