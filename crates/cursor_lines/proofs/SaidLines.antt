@@ -1,0 +1,17 @@
+-- What a statement does beside open cursors is what its line does.
+use Rattle.std.proofs.Common.{◌≡◌, ℕ, List, Some, sym, subst, inl}
+use Rattle.sand_model.specs.Cursor.{OutputLine}
+use Rattle.sand_model.specs.Run.{LineOutcome}
+use Rattle.sand_model.specs.Statement.{ScriptLine}
+use Rattle.script_run.specs.Carrying.{CarriesLine}
+use Rattle.script_run.specs.Reading.{Says}
+use Rattle.script_run.specs.Turns.{spoken}
+use Rattle.script_text.specs.Statement.{statement_value}
+use Rattle.script_text.specs.declared.statement.Statement.{Statement}
+use Rattle.statement_exec.specs.Moment.{Moment, rises_between}
+use Rattle.cursor_exec.specs.Outcomes.{PerformsLowest}
+
+pub said_beside : (line : List ℕ) (statement : Statement) (old new : Moment) (lines : List OutputLine) → Says line (Some statement) → PerformsLowest (spoken (statement_value statement)) old new lines
+    → CarriesLine (Some line) old new lines
+said_beside line statement old new lines says h = λ told is t disk shelf setting gap s.
+    inl (subst (λ (x : ScriptLine). LineOutcome setting (rises_between old new) old.state x lines new.state) (sym (says.1 told is)) (h t disk shelf setting gap s))

@@ -1,0 +1,2 @@
+-- What is carried out beside open cursors.
+pub mod Carried
