@@ -1,8 +1,10 @@
-ghost use Rattle.std.specs.Prelude.{◌≡◌, List, IfSome, position};
+ghost use Rattle.std.specs.Prelude.{◌≡◌, List, IfSome, OnErr, OnOk, position};
 ghost use Rattle.best_first.specs.Visits.{told_pages};
+ghost use Rattle.output_text.specs.Writing.{Writes, WritesPrefix};
 ghost use Rattle.page_pool.specs.Reads.{IsRead};
 ghost use Rattle.plan_cursor.specs.Standing.{IsAt};
 ghost use Rattle.plan_rows.specs.Rows.{counts_of};
+ghost use Rattle.row_output.specs.Printing.{IsPlainText};
 ghost use Rattle.sand_base.specs.Faults.{HasCause};
 ghost use Rattle.sand_model.specs.Cursor.{Cursor};
 ghost use Rattle.sand_model.specs.Database.{same_name};
@@ -38,6 +40,8 @@ pub fn print_next<S: RowSource, T: RowStage, D: Disk, K: Sink>(
     ensures read { IsRead desk.old.pool desk.new.pool }
     ensures cause { PagesHaveCause desk.old.pool desk.new.pool result }
     ensures sink { HasCause (K.faults out.old) (K.faults out.new) result }
+    ensures plain { OnOk result (Writes IsPlainText (K.took out.old) (K.took out.new)) }
+    ensures broken { OnErr result (WritesPrefix IsPlainText (K.took out.old) (K.took out.new)) }
     ensures steps { IfSome (told_pages desk.old) (λ pages. (cs : List Cursor) → HaveOwnNames cs → StandAll (λ r. IsAt S.At T.Stands T.closed (λ s. counts_of (S.seen s)) r) pages cursors.old.items cs
         → NextOf (named cs name.now) cs name.now count (K.took out.old) (K.took out.new) result (λ after. StandAll (λ r. IsAt S.At T.Stands T.closed (λ s. counts_of (S.seen s)) r) pages cursors.new.items after)) }
 {

@@ -1,6 +1,6 @@
 -- What becomes of the open cursors where one makes steps or is closed, with the lines that were written.
-use Rattle.std.proofs.Common.{◌≡◌, ◌⊎◌, ℕ, ◌+◌, ◌≤◌, arith, Bool, true, false, cond, List, [], ◌∷◌, ◌++◌, Option, Some, None, refl, sym, ◌∙◌, ap, subst, inl, inr, true≢false}
-use Rattle.std.specs.Prelude.{Result, Ok, Err, IfOk, OnErr, IfSome, is_some, is_err}
+use Rattle.std.proofs.Common.{◌≡◌, ℕ, ◌+◌, ◌≤◌, arith, Bool, true, false, cond, List, [], ◌∷◌, ◌++◌, Option, Some, None, refl, sym, ap, subst, inl, inr, true≢false}
+use Rattle.std.specs.Prelude.{Result, Ok, Err, IfOk, OnErr, is_some, is_err}
 use Rattle.output_text.specs.Writing.{Writes, WritesPrefix}
 use Rattle.page_pool.specs.Disk.{PageMap}
 use Rattle.page_pool.specs.Pool.{PoolState}
@@ -25,16 +25,14 @@ use Rattle.statement_exec.proofs.Texts.{breaks_with, writes_none, writes_then_st
 use Rattle.statement_exec.specs.Ending.{PagesHaveCause, WritesUpTo, is_refusal, refused_line}
 use Rattle.statement_exec.specs.LeafLines.{state_of}
 use Rattle.statement_exec.specs.Moment.{beside, rises_between}
-use Rattle.statement_exec.specs.Performing.{line_of_answer}
-use Rattle.statement_exec.specs.Printing.{Prints, PrintsSome}
-use Rattle.statement_exec.specs.declared.reply.Reply.{Reply}
+use Rattle.statement_exec.specs.Printing.{PrintsSome}
 use Rattle.statement_exec.specs.declared.reply.Reply.TheVariants as reply
 use Rattle.cursor_exec.proofs.CursorOutcomes.{next_performs, close_performs, close_unknown, change_refused}
 use Rattle.cursor_exec.proofs.OwnNames.{own_replaced, own_closed}
 use Rattle.cursor_exec.specs.Beside.{RefusesBeside}
 use Rattle.cursor_exec.specs.OpenCursors.{Places, StandAll, HaveOwnNames, NextOf, ClosesOf, named}
 use Rattle.cursor_exec.specs.Outcomes.{PerformsBeside}
-use Rattle.cursor_exec.specs.Steps.{GivesSome, StepsOn}
+use Rattle.cursor_exec.specs.Steps.{GivesSome}
 use Rattle.cursor_exec.specs.declared.open_cursor.OpenCursor.{OpenCursor}
 use Rattle.cursor_lines.specs.Carried.{CarriesBeside, WritesOf}
 use Rattle.cursor_lines.proofs.Given.{named_most, most_more, most_replaced, most_closed}

@@ -1,5 +1,5 @@
 -- How many rows the open cursors have given at most.
-use Rattle.std.proofs.Common.{◌≡◌, ◌≤◌, ◌+◌, ℕ, Bool, true, false, not, cond, List, [], ◌∷◌, Option, Some, None, refl, sym, ◌∙◌, ap, subst, arith, true≢false}
+use Rattle.std.proofs.Common.{◌≡◌, ◌≤◌, ◌+◌, ℕ, Bool, true, false, not, cond, List, [], ◌∷◌, Option, Some, None, sym, ap, subst, arith, true≢false}
 use Rattle.std.specs.Prelude.{is_some}
 use Rattle.sand_model.specs.Cursor.{Cursor}
 use Rattle.sand_model.specs.Database.{same_name}

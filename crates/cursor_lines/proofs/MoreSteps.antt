@@ -12,7 +12,7 @@ use Rattle.plan_steps.specs.Stages.{Standing}
 use Rattle.sand_base.specs.declared.refusal.Refusal.{Refusal}
 use Rattle.sand_base.specs.declared.refusal.Refusal.TheVariants as why
 use Rattle.sand_model.specs.Answer.{answer}
-use Rattle.sand_model.specs.Cursor.{Cursor, OutputLine, Row, End, Refused, Steps, IsRefusedStep, step_of}
+use Rattle.sand_model.specs.Cursor.{Cursor, OutputLine, Refused, Steps, IsRefusedStep, step_of}
 use Rattle.sand_model.specs.Database.{element}
 use Rattle.sand_model.specs.Operators.{PlanRow}
 use Rattle.sand_model.specs.Reach.{Counts}

@@ -1,5 +1,5 @@
 -- The next rows of a cursor that has no name.
-use Rattle.std.proofs.Common.{◌≡◌, ℕ, Bool, List, [], ◌∷◌, ◌++◌, Option, Some, inl, inr}
+use Rattle.std.proofs.Common.{◌≡◌, ℕ, Bool, List, Option, inl, inr}
 use Rattle.std.specs.Prelude.{Result, Ok, Err, IfOk, OnErr, IfSome}
 use Rattle.output_text.specs.Writing.{Writes, WritesPrefix}
 use Rattle.page_pool.specs.Disk.{PageMap}
@@ -8,7 +8,7 @@ use Rattle.plan_rows.specs.Rows.{plan_measure}
 use Rattle.sand_base.specs.declared.refusal.Refusal.{Refusal}
 use Rattle.sand_base.specs.declared.refusal.Refusal.TheVariants as why
 use Rattle.sand_base.specs.declared.source.Failed.{Failed}
-use Rattle.sand_model.specs.Cursor.{Cursor, OutputLine, Refused, IsRefusedStep}
+use Rattle.sand_model.specs.Cursor.{Cursor, IsRefusedStep}
 use Rattle.sand_model.specs.OutputText.{IsText}
 use Rattle.statement_exec.proofs.Texts.{breaks_with}
 use Rattle.statement_exec.specs.Ending.{PagesHaveCause, WritesUpTo, is_refusal, refused_line}

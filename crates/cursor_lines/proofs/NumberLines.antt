@@ -1,15 +1,14 @@
 -- The line of the numbers of a cursor.
-use Rattle.std.proofs.Common.{◌≡◌, ◌≤◌, ℕ, Bool, true, false, cond, min, List, [], ◌∷◌, Option, Some, None, refl, sym, ◌∙◌, ap, ap₂, subst, arith, true≢false}
+use Rattle.std.proofs.Common.{◌≡◌, ◌≤◌, ℕ, Bool, true, false, min, List, [], ◌∷◌, Option, Some, None, refl, sym, ap, ap₂, subst, arith, true≢false}
 use Rattle.std.specs.Prelude.{Result, Err, IfOk, OnErr, is_some}
 use Rattle.output_text.specs.Writing.{Writes, WritesPrefix}
 use Rattle.page_pool.specs.Pool.{PoolState}
-use Rattle.plan_cursor.specs.Standing.{AreStats, counts_among}
+use Rattle.plan_cursor.specs.Standing.{AreStats}
 use Rattle.plan_rows.specs.declared.stats.Stats.{Stats}
 use Rattle.sand_base.specs.Faults.{last_count}
 use Rattle.sand_base.specs.declared.refusal.Refusal.TheVariants as why
 use Rattle.sand_base.specs.declared.source.Failed.{Failed}
 use Rattle.sand_model.specs.Cursor.{Cursor, OutputLine, Refused, Stats as StatsLine}
-use Rattle.sand_model.specs.Database.{same_name}
 use Rattle.sand_model.specs.OutputText.{IsText}
 use Rattle.sand_model.specs.Reach.{Counts}
 use Rattle.sand_model.specs.Statement.{Stats as StatsOf}

@@ -1,5 +1,5 @@
 -- No check of a plan refuses because of a file.
-use Rattle.std.proofs.Common.{◌≡◌, Bool, true, false, cond, ◌&&◌, List, [], ◌∷◌, ℕ, Option, Some, None, refl, true≢false}
+use Rattle.std.proofs.Common.{◌≡◌, Bool, true, false, ◌&&◌, List, [], ◌∷◌, ℕ, Option, Some, None, refl, true≢false}
 use Rattle.sand_base.specs.Shape.{value_kind, same_kind, is_spatial}
 use Rattle.sand_base.specs.declared.kind.Kind.{Kind}
 use Rattle.sand_base.specs.declared.kind.Kind.TheVariants as kind

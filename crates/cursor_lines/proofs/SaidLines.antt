@@ -1,5 +1,5 @@
 -- What a statement does beside open cursors is what its line does.
-use Rattle.std.proofs.Common.{◌≡◌, ℕ, List, Some, sym, subst, inl}
+use Rattle.std.proofs.Common.{ℕ, List, Some, sym, subst, inl}
 use Rattle.sand_model.specs.Cursor.{OutputLine}
 use Rattle.sand_model.specs.Run.{LineOutcome}
 use Rattle.sand_model.specs.Statement.{ScriptLine}

@@ -1,8 +1,9 @@
 -- Lines that were written: one, or those up to a refusal.
 use Rattle.std.proofs.Common.{◌≡◌, ℕ, Bool, List, [], ◌∷◌, Option, refl, sym, ◌∙◌, subst}
-use Rattle.std.specs.Prelude.{Result, Ok, Err, IfOk, OnErr, is_err}
+use Rattle.std.specs.Prelude.{Result, Ok, Err, IfOk, OnErr, is_err, ⊤}
 use Rattle.std.specs.List.{list_any}
 use Rattle.output_text.specs.Writing.{Writes, WritesPrefix}
+use Rattle.row_output.specs.Printing.{IsPlainText}
 use Rattle.sand_base.specs.declared.refusal.Refusal.{Refusal}
 use Rattle.sand_base.specs.declared.source.Failed.{Failed}
 use Rattle.page_pool.specs.Pool.{PoolState}
@@ -65,6 +66,21 @@ pub ending_written : (P : List OutputLine → Type 0) (a b c : List ℕ → Type
     → IfOk r (λ refused. (refused ≡ is_refusal end) × Writes (IsText (refused_line end)) b c) → OnErr r (WritesPrefix (IsText (refused_line end)) b c) → WritesOf P a c r
 ending_written P a b c end up (Ok refused) h k = subst (λ (m : Bool). Writes (Prints P m) a c) (sym h.0) (printed P end a b c up h.1)
 ending_written P a b c end up (Err failed) h k = broken P end a b c up k
+
+-- lines none of which is a refusal, and the line of one
+pub plain_written : (a b c : List ℕ → Type 0) (end : Option Refusal) → Writes IsPlainText a b → (r : Result Bool Failed)
+    → IfOk r (λ refused. (refused ≡ is_refusal end) × Writes (IsText (refused_line end)) b c) → OnErr r (WritesPrefix (IsText (refused_line end)) b c) → WritesOf (λ lines. ⊤) a c r
+plain_written a b c end w =
+    ending_written (λ lines. ⊤) a b c end (record {
+      lines = w.holds.0;
+      written = record { text = w.text; holds = w.holds.1; written = w.written };
+      accepted = w.holds.2;
+      holds = tt;
+    })
+
+-- a prefix of lines none of which is a refusal
+pub plain_broken : (a b : List ℕ → Type 0) → WritesPrefix IsPlainText a b → WritesPrefix (PrintsSome (λ lines. ⊤)) a b
+plain_broken a b w = some_written (λ lines. ⊤) a b w.holds.0 tt (record { text = w.text; holds = w.holds.1; prefix = w.prefix })
 
 -- what was printed up to this refusal, where there is one, and whether there is one
 abbrev pub mark_after : Result (Option Refusal) Failed → Result Bool Failed

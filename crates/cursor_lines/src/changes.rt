@@ -1,5 +1,5 @@
 // A statement that changes relations, which is refused while a cursor is open.
-ghost use Rattle.std.specs.Prelude.{◌≡◌, List, ◌∷◌};
+ghost use Rattle.std.specs.Prelude.{◌≡◌, List, ◌∷◌, ⊤};
 ghost use Rattle.page_pool.specs.Pool.{PoolState};
 ghost use Rattle.sand_base.specs.Faults.{HasCause};
 ghost use Rattle.sand_model.specs.Cursor.{Cursor};
@@ -52,6 +52,7 @@ pub fn change_line<K: Sink>(
 ) -> Result<bool, Failed>
     requires catalog { IsCatalog catalog.now }
     requires change { IsChange (statement_value statement.now) }
+    ensures plain { WritesOf (λ lines. ⊤) (K.took out.old) (K.took out.new) result }
     ensures written { (pool : PoolState) (first : Cursor) (others : List Cursor) → WritesOf (PerformsBeside (spoken (statement_value statement.now)) catalog.now pool pool (first ∷ others) (first ∷ others)) (K.took out.old) (K.took out.new) result }
     ensures sink { HasCause (K.faults out.old) (K.faults out.new) result }
 {

@@ -5,7 +5,7 @@ use Rattle.sand_model.specs.OutputText.{IsText}
 use Rattle.output_text.specs.Writing.{Writes, WritesPrefix}
 use Rattle.output_text.proofs.WrittenPrefix.{Adds-trans}
 
-text_both : (xs ys : List OutputLine) (s t : List ℕ) → IsText xs s → IsText ys t → IsText (xs ++ ys) (s ++ t)
+pub text_both : (xs ys : List OutputLine) (s t : List ℕ) → IsText xs s → IsText ys t → IsText (xs ++ ys) (s ++ t)
 text_both [] ys s t h k = subst (λ u. IsText ys (u ++ t)) (sym h) k
 text_both (x ∷ xs) ys s t h k =
     (h.0, h.1 ++ t, h.2, text_both xs ys h.1 t h.3 k, ap (λ u. u ++ t) h.4 ∙ append_assoc h.0 (10 ∷ h.1) t)

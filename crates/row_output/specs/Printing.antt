@@ -1,5 +1,6 @@
 -- Some steps of a cursor with their lines, written one after the other.
-use Rattle.std.specs.Prelude.{◌≡◌, ℕ, ◌+◌, ◌-◌, ◌<◌, ◌≤◌, min, Bool, true, cond, nat_lt, List, [], ◌∷◌, ◌++◌, length, All, Result, Ok, Err, OnOk, ⊤}
+use Rattle.std.specs.Prelude.{◌≡◌, ℕ, ◌+◌, ◌-◌, ◌<◌, ◌≤◌, min, Bool, true, false, cond, nat_lt, List, [], ◌∷◌, ◌++◌, length, All, Result, Ok, Err, OnOk, ⊤}
+use Rattle.std.specs.List.{list_any}
 use Rattle.sand_base.specs.Faults.{last_count}
 use Rattle.sand_base.specs.declared.refusal.Refusal.{Refusal}
 use Rattle.sand_base.specs.declared.source.Failed.{Failed}
@@ -9,7 +10,7 @@ use Rattle.page_pool.specs.declared.fault.PageFault.{PageFault}
 use Rattle.sand_model.specs.Cursor as line
 use Rattle.sand_model.specs.Cursor.{Cursor, OutputLine, Steps}
 use Rattle.sand_model.specs.Operators.{PlanRow}
-use Rattle.sand_model.specs.OutputText.{IsText}
+use Rattle.sand_model.specs.OutputText.{IsText, is_refused}
 use Rattle.sand_model.specs.Reach.{reach, reach_of_last}
 use Rattle.sand_model.specs.Taken.{Taken, has_taken, is_lazy}
 use Rattle.output_text.specs.Writing.{Writes, WritesPrefix}
@@ -19,6 +20,10 @@ use Rattle.plan_rows.specs.Visited.{◌plus◌, visit_counts, LiesWithin}
 use Rattle.plan_cursor.specs.CursorStep.{step_taken}
 use Rattle.row_output.specs.declared.rows.Printed.{Printed}
 use Rattle.row_output.specs.declared.rows.Printed.TheVariants.{Rows, Refused}
+
+-- the text is that of lines none of which is a refusal
+abbrev pub IsPlainText : List ℕ → Type 0
+IsPlainText text = (lines : List OutputLine) × IsText lines text × (list_any is_refused lines ≡ false)
 
 -- the refusal of a page in what was printed
 abbrev pub refusal_in : Result Printed Failed → Result Unit PageFault

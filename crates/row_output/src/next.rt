@@ -1,11 +1,13 @@
-ghost use Rattle.std.specs.Prelude.{◌≡◌, IfSome};
+ghost use Rattle.std.specs.Prelude.{◌≡◌, IfSome, OnErr, OnOk};
 ghost use Rattle.sand_base.specs.Faults.{HasCause};
+ghost use Rattle.output_text.specs.Writing.{Writes, WritesPrefix};
 ghost use Rattle.page_pool.specs.Causes.{HasPageCause};
 ghost use Rattle.page_pool.specs.Reads.{IsRead};
 ghost use Rattle.sand_model.specs.Cursor.{Cursor};
 ghost use Rattle.best_first.specs.Visits.{told_pages};
 ghost use Rattle.plan_rows.specs.Rows.{counts_of};
 ghost use Rattle.plan_cursor.specs.Standing.{IsAt};
+ghost use Rattle.row_output.specs.Printing.{IsPlainText};
 ghost use Rattle.row_output.specs.Stepping.{PrintsNext, refusal_of};
 
 use crate::row::print_row;
@@ -35,6 +37,8 @@ pub fn print_next<S: RowSource, T: RowStage, D: Disk, K: Sink>(
     ensures read { IsRead desk.old.pool desk.new.pool }
     ensures refused { HasPageCause desk.old.pool desk.new.pool (refusal_of result) }
     ensures cause { HasCause (K.faults out.old) (K.faults out.new) result }
+    ensures plain { OnOk result (Writes IsPlainText (K.took out.old) (K.took out.new)) }
+    ensures broken { OnErr result (WritesPrefix IsPlainText (K.took out.old) (K.took out.new)) }
     ensures step { IfSome (told_pages desk.old) (λ pages. (c : Cursor) → IsAt S.At T.Stands T.closed (λ s. counts_of (S.seen s)) cursor.old pages c → PrintsNext c desk.old desk.new (K.took out.old) (K.took out.new) result (IsAt S.At T.Stands T.closed (λ s. counts_of (S.seen s)) cursor.new pages)) }
 {
     match cursor.next(alloc, desk) {

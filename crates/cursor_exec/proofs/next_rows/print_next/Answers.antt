@@ -4,6 +4,7 @@ use Rattle.best_first.specs.Visits.{told_pages}
 use Rattle.plan_cursor.specs.Standing.{IsAt}
 use Rattle.plan_rows.specs.Rows.{counts_of}
 use Rattle.sand_model.specs.Database.{same_name}
+use Rattle.row_output.proofs.PlainTexts.{plain_none}
 use Rattle.cursor_exec.proofs.NamedCursors.{next_none, next_in_hand, in_hand_stands, first_shown, none_shown}
 use Rattle.cursor_exec.proofs.next_rows.print_next.Goals as goal
 
@@ -33,3 +34,6 @@ returns-in-Err-clause-steps g c =
     c.in-Some.at c.index_mut-open.result.now c.print_steps.new.cursor (g.K.Sink.took c.args.out.now) (g.K.Sink.took c.print_steps.new.out) (Err c.in-Err.field-0) c.index_mut-open.ensures.value
     (first_shown c.deref.result.now c.args.cursors.now.items c.as_str.result.now c.args.name.now c.place_of.result c.in-Some.at c.place_of.ensures c.as_str.ensures c.deref.ensures.value c.in-Some.is)
     c.in-Err.ensures.steps
+
+pub returns-in_default-clause-plain : goal.returns-in_default-clause-plain
+returns-in_default-clause-plain g c = plain_none (g.K.Sink.took c.args.out.now)

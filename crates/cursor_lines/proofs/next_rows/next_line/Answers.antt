@@ -1,5 +1,4 @@
 -- rows up to a refusal and its line, or up to where the sink failed
-use Rattle.std.specs.Prelude.{Ok, Err}
 use Rattle.best_first.specs.Visits.{told_pages}
 use Rattle.plan_cursor.specs.Standing.{IsAt}
 use Rattle.plan_rows.specs.Rows.{counts_of}
@@ -8,6 +7,7 @@ use Rattle.sand_base.specs.declared.source.Failed.{Failed}
 use Rattle.statement_exec.proofs.Endings.{at_most_one}
 use Rattle.cursor_lines.proofs.MoreSteps.{stays_refused}
 use Rattle.cursor_lines.proofs.ToldSteps.{told_carried, told_broken}
+use Rattle.cursor_lines.proofs.Written.{plain_written, plain_broken}
 use Rattle.cursor_lines.proofs.next_rows.next_line.Goals as goal
 
 pub returns-in-Ok-clause-carried : goal.returns-in-Ok-clause-carried
@@ -25,3 +25,11 @@ returns-in-Err-clause-carried g c =
     c.args.desk.now.pool c.print_next.new.desk.pool c.print_next.ensures.read c.args.name.now c.args.count (g.K.Sink.took c.args.out.now) (g.K.Sink.took c.print_next.new.out)
     c.in-Err.field-0 (λ r pages m at. stays_refused g.S.RowSource.At g.T.RowStage.Stands g.T.RowStage.closed (λ s. counts_of (g.S.RowSource.seen s)) r pages m at why.Memory)
     c.in-Err.ensures.steps
+
+pub returns-in-Ok-clause-plain : goal.returns-in-Ok-clause-plain
+returns-in-Ok-clause-plain g c =
+    plain_written (g.K.Sink.took c.args.out.now) (g.K.Sink.took c.print_next.new.out) (g.K.Sink.took c.end_with.new.out) c.in-Ok.end c.in-Ok.ensures.plain
+    c.end_with.result c.end_with.ensures.written c.end_with.ensures.prefix
+
+pub returns-in-Err-clause-plain : goal.returns-in-Err-clause-plain
+returns-in-Err-clause-plain g c = plain_broken (g.K.Sink.took c.args.out.now) (g.K.Sink.took c.print_next.new.out) c.in-Err.ensures.broken

@@ -7,6 +7,7 @@ use Rattle.best_first.proofs.Passing.{read_both, told_read}
 use Rattle.plan_rows.specs.Rows.{counts_of}
 use Rattle.plan_cursor.specs.Standing.{IsAt}
 use Rattle.row_output.specs.Stepping.{refusal_of}
+use Rattle.row_output.proofs.PlainTexts.{plain_then, broken_then}
 use Rattle.row_output.proofs.Told.{told_stands, told_more, told_end, told_refused, told_failed, told_all}
 use Rattle.row_output.proofs.rows.print_rows.Goals as goal
 
@@ -38,6 +39,7 @@ rows-preserved g c =
           (subst (λ r. HasPageCause c.rows.desk.pool c.print_next.new.desk.pool (refusal_of r)) is c.print_next.ensures.refused).counted ∙ c.rows.invariant.faults;
       sink =
           (subst (λ r. HasCause (g.K.Sink.faults c.rows.out) (g.K.Sink.faults c.print_next.new.out) r) is c.print_next.ensures.cause).done ∙ c.rows.invariant.sink;
+      plain = plain_then (g.K.Sink.took c.args.out.now) (g.K.Sink.took c.rows.out) (g.K.Sink.took c.print_next.new.out) c.rows.invariant.plain c.in-Ok-Row.ensures.plain;
       so_far =
           told_more (told_pages c.args.desk.now) (told_pages c.rows.desk) (λ pages. IsAt g.S.RowSource.At g.T.RowStage.Stands g.T.RowStage.closed (λ s. counts_of (g.S.RowSource.seen s)) c.args.cursor.now pages)
           (λ pages. IsAt g.S.RowSource.At g.T.RowStage.Stands g.T.RowStage.closed (λ s. counts_of (g.S.RowSource.seen s)) c.rows.cursor pages)
@@ -72,3 +74,12 @@ returns-in-Err-clause-step g c =
     c.print_next.new.desk (g.K.Sink.took c.args.out.now) (g.K.Sink.took c.rows.out) (g.K.Sink.took c.print_next.new.out) c.print_next.result
     (told_read c.args.desk.now c.rows.desk c.rows.invariant.read) c.rows.invariant.so_far c.print_next.ensures.step c.args.count c.in-Err.failed c.rows-test.true
     c.in-Err.is
+
+pub returns-in-Ok-End-clause-plain : goal.returns-in-Ok-End-clause-plain
+returns-in-Ok-End-clause-plain g c = plain_then (g.K.Sink.took c.args.out.now) (g.K.Sink.took c.rows.out) (g.K.Sink.took c.print_next.new.out) c.rows.invariant.plain c.in-Ok-End.ensures.plain
+
+pub returns-in-Ok-Refused-clause-plain : goal.returns-in-Ok-Refused-clause-plain
+returns-in-Ok-Refused-clause-plain g c = plain_then (g.K.Sink.took c.args.out.now) (g.K.Sink.took c.rows.out) (g.K.Sink.took c.print_next.new.out) c.rows.invariant.plain c.in-Ok-Refused.ensures.plain
+
+pub returns-in-Err-clause-broken : goal.returns-in-Err-clause-broken
+returns-in-Err-clause-broken g c = broken_then (g.K.Sink.took c.args.out.now) (g.K.Sink.took c.rows.out) (g.K.Sink.took c.print_next.new.out) c.rows.invariant.plain c.in-Err.ensures.broken
