@@ -1,0 +1,44 @@
+-- The causes of the refusals that a run prints: those that come from outside are counted there.
+use Rattle.std.specs.Prelude.{◌≡◌, ℕ, ◌≤◌, Bool, true, false, List}
+use Rattle.std.specs.List.{count_by, list_any}
+use Rattle.sand_base.specs.declared.refusal.Refusal.TheVariants as why
+use Rattle.sand_model.specs.Cursor.{State, OutputLine, Refused}
+use Rattle.sand_model.specs.Outcome.{Rises}
+use Rattle.sand_model.specs.Run.{Run}
+use Rattle.sand_model.specs.Statement.{ScriptLine}
+use Rattle.sand_model.specs.StatementChecks.{Setting}
+
+-- the line says that the disk failed
+abbrev pub is_of_device : OutputLine → Bool
+is_of_device (Refused why.Device) = true
+is_of_device _ = false
+
+-- the line says that a data file could not be read
+abbrev pub is_of_file : OutputLine → Bool
+is_of_file (Refused why.File) = true
+is_of_file _ = false
+
+-- the line says that a page differs from the one that was written
+abbrev pub is_of_damage : OutputLine → Bool
+is_of_damage (Refused (why.Damaged page kept read)) = true
+is_of_damage _ = false
+
+-- how many lines say that the disk failed
+abbrev pub device_lines : List OutputLine → ℕ
+device_lines lines = count_by is_of_device lines
+
+-- how many lines say that a data file could not be read
+abbrev pub file_lines : List OutputLine → ℕ
+file_lines lines = count_by is_of_file lines
+
+-- No more lines say that the disk failed than its count of faults rose, and so of the files; and where the disk tells its pages, no line says that one was damaged.
+pub record HaveCauses (tells : Bool) (rises : Rises) (lines : List OutputLine) : Type 0 where
+  pub device : device_lines lines ≤ rises.disk
+  pub file : file_lines lines ≤ rises.shelf
+  pub damage : tells ≡ true → list_any is_of_damage lines ≡ false
+
+-- the lines that a run prints have their causes
+abbrev pub RefusalsHaveCauses : Type 0
+RefusalsHaveCauses =
+    (setting : Setting) (old new : State) (script : List ScriptLine) (rises : Rises) (printed : List OutputLine)
+    → Run setting old script rises printed new → HaveCauses setting.tells rises printed
