@@ -4,3 +4,5 @@ pub mod Decimals
 pub mod Hexadecimals
 -- the lines of a summary
 pub mod FourLines
+-- the lines that are counted
+pub mod Tallying

@@ -2,9 +2,16 @@
 use Rattle.std.specs.Prelude.{◌≡◌, ℕ, List}
 use Rattle.sha2.specs.Hashers.{Holds256}
 use Rattle.run_summary.specs.Summary.{byte_count}
+use Rattle.run_summary.specs.Tally.{HasCounted}
 use Rattle.run_summary.specs.declared.digest_sink.DigestSink.{DigestSink}
+use Rattle.run_summary.specs.declared.tally_sink.TallySink.{TallySink}
 
 -- the sink has taken the text: its hasher holds it, and its bytes were counted
 pub record HasTaken (sink : DigestSink) (text : List ℕ) : Type 0 where
   pub held : Holds256 sink.hasher text
   pub counted : sink.bytes ≡ byte_count text
+
+-- the sink has taken the text: its digest is kept, and its refused lines were counted
+pub record HasTallied (sink : TallySink) (text : List ℕ) : Type 0 where
+  pub taken : HasTaken sink.digest text
+  pub counted : HasCounted sink.tally text
