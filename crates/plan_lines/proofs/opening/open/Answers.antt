@@ -1,0 +1,35 @@
+-- the cursor is behind the others, or they are as they were
+use Rattle.std.proofs.Common.{Some, None, sym, inr}
+use Rattle.plan_check.specs.PlanValue.{plan_value}
+use Rattle.sand_model.specs.Cursor.{new_cursor}
+use Rattle.sand_store.specs.Contents.{database_in}
+use Rattle.plan_lines.specs.PlanCursors.{PlanAt}
+use Rattle.plan_lines.proofs.OneMore.{all_stand}
+use Rattle.plan_lines.proofs.Openings.{checks_given, only_memory}
+use Rattle.plan_lines.proofs.opening.open.Goals as goal
+
+-- the first check that fails
+pub returns-in-Some : goal.returns-in-Some
+returns-in-Some c = λ pages stands cs all. (
+  inr (checks_given c.args.catalog.now c.deref.result.now c.args.cursors.now.items c.args.name.now (plan_value c.args.plan.now) c.refused_open.result (Some c.in-Some.why)
+      c.deref.ensures.value c.in-Some.is c.refused_open.ensures pages cs all),
+  all,
+)
+
+-- no check fails, so it is memory
+pub returns-in-Err : goal.returns-in-Err
+returns-in-Err c = λ pages stands cs all. (
+  only_memory c.args.catalog.now pages cs c.args.name.now (plan_value c.args.plan.now) c.in-Err.why
+      (checks_given c.args.catalog.now c.deref.result.now c.args.cursors.now.items c.args.name.now (plan_value c.args.plan.now) c.refused_open.result None
+      c.deref.ensures.value c.in_default.is c.refused_open.ensures pages cs all) c.in-Err.ensures.refused,
+  all,
+)
+
+-- no check fails, and the new cursor stands
+pub returns-in-Ok-push : goal.returns-in-Ok-push
+returns-in-Ok-push c = λ pages stands cs all. (
+  checks_given c.args.catalog.now c.deref.result.now c.args.cursors.now.items c.args.name.now (plan_value c.args.plan.now) c.refused_open.result None
+      c.deref.ensures.value c.in_default.is c.refused_open.ensures pages cs all,
+  all_stand PlanAt pages (record { name = c.in-Ok-copy.copied; cursor = c.in-Ok.running.cursor }) (new_cursor c.args.name.now (plan_value c.args.plan.now) (database_in pages c.args.catalog.now.relations)) (sym c.in-Ok-copy.ensures)
+      (c.in-Ok.ensures.stands pages stands c.args.name.now) c.args.cursors.now.items c.push.new.self.items cs c.in-Ok-push.ensures.items all,
+)
