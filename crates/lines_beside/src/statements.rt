@@ -1,0 +1,63 @@
+// A statement beside open cursors.
+ghost use Rattle.std.specs.Prelude.{◌≡◌, ◌≢◌, [], List};
+ghost use Rattle.page_pool.specs.Reads.{IsRead};
+ghost use Rattle.sand_base.specs.Faults.{HasCause};
+ghost use Rattle.sand_model.specs.Cursor.{Cursor};
+ghost use Rattle.sand_store.specs.Standing.{IsStore};
+ghost use Rattle.script_run.specs.Turns.{spoken};
+ghost use Rattle.script_text.specs.InRange.{IsInRange};
+ghost use Rattle.script_text.specs.Statement.{statement_value};
+ghost use Rattle.statement_exec.specs.Ending.{RisesByOne};
+ghost use Rattle.cursor_exec.specs.OpenCursors.{HaveOwnNames};
+ghost use Rattle.cursor_lines.specs.Carried.{AreCounted, CarriesBeside, IsChange};
+ghost use Rattle.lines_beside.specs.Beside.{AreStanding, StandOver};
+
+use cursor_exec::OpenCursor;
+use cursor_lines::{blocks_line, change_line, close_line, next_line, stats_line};
+use page_pool::{Desk, Disk};
+use plan_lines::{open_line, show_line};
+use plan_ops::{Source, Stage};
+use sand_base::{Failed, Sink};
+use sand_store::Catalog;
+use script_text::Statement;
+use std::alloc::Global;
+
+/// Carries a statement out beside open cursors, and writes its lines. The answer says whether it was refused. One that
+/// changes relations is refused; it may come only while a cursor is open.
+pub fn statement_beside<'s, D: Disk, K: Sink>(
+    alloc: Global,
+    catalog: &'s Catalog,
+    desk: &mut Desk<D>,
+    cursors: &mut Vec<OpenCursor<Source<'s>, Stage<'s>>>,
+    statement: &Statement,
+    out: &mut K,
+) -> Result<bool, Failed>
+    requires stored { IsStore catalog.now desk.old.pool }
+    requires in_range { IsInRange (statement_value statement.now) }
+    requires stands { AreStanding desk.old cursors.old.items }
+    requires open { IsChange (statement_value statement.now) → cursors.old.items ≢ [] }
+    ensures carried { (cs : List Cursor) → HaveOwnNames cs → AreCounted cs → StandOver desk.old cursors.old.items cs
+        → CarriesBeside (spoken (statement_value statement.now)) catalog.now desk.old.pool desk.new.pool cs (K.took out.old) (K.took out.new) result (StandOver desk.new cursors.new.items) }
+    ensures stored { IsStore catalog.now desk.new.pool }
+    ensures read { IsRead desk.old.pool desk.new.pool }
+    ensures cause { RisesByOne desk.old.pool.disk.faults desk.new.pool.disk.faults }
+    ensures sink { HasCause (K.faults out.old) (K.faults out.new) result }
+{
+    match statement {
+        Statement::OpenCursor { cursor, plan } => open_line(
+            alloc, catalog, cursors, cursor, plan, out,
+        ),
+        Statement::Next { cursor, count } => next_line(alloc, desk, cursors, cursor, *count, out),
+        Statement::CloseCursor { cursor } => close_line(cursors, cursor, out),
+        Statement::Show { count, plan } => show_line(alloc, catalog, desk, *count, plan, out),
+        Statement::Stats { cursor } => stats_line(cursors, cursor, out),
+        Statement::Blocks { column } => {
+            blocks_line(alloc, catalog, desk, &column.relation, &column.column, out)
+        }
+        Statement::Create { .. }
+        | Statement::Insert { .. }
+        | Statement::Delete { .. }
+        | Statement::Load { .. }
+        | Statement::Index { .. } => change_line(catalog, statement, out),
+    }
+}
