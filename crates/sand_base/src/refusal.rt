@@ -68,8 +68,6 @@ pub enum Refusal {
     CursorsOpen,
     /// The plan has too many operators.
     PlanTooDeep,
-    /// A form or a check that isn't built yet.
-    NotBuilt,
 }
 
 impl Refusal {
@@ -103,7 +101,6 @@ impl Refusal {
             Refusal::TooManyCursors => 23,
             Refusal::CursorsOpen => 24,
             Refusal::PlanTooDeep => 25,
-            Refusal::NotBuilt => 26,
         }
     }
 
@@ -137,7 +134,6 @@ impl Refusal {
             Refusal::TooManyCursors => "TooManyCursors",
             Refusal::CursorsOpen => "CursorsOpen",
             Refusal::PlanTooDeep => "PlanTooDeep",
-            Refusal::NotBuilt => "NotBuilt",
         }
     }
 }

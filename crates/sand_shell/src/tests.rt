@@ -1,325 +1,243 @@
-// Whole runs over streams in memory, with their outputs and statuses worked out by hand.
-ghost use Rattle.std.specs.Prelude.{◌≤◌};
+// Whole runs over streams, data files and a disk in memory, with their outputs and statuses worked out by hand.
+ghost use Rattle.std.specs.Prelude.{◌≡◌, ◌≤◌};
+ghost use Rattle.sand_store.specs.Catalog.{IsLimits};
 
-use sand_base::{Label, MemSink, MemSource, NoMemory};
-use session::{Status, run};
-use std::alloc::{AllocError, Global};
+use page_pool::MemDisk;
+use sand_base::{Label, Limits, MemShelf, MemSink, MemSource, NoMemory};
+use session::{Status, run_within};
+use std::alloc::Global;
 use std::process::Abort;
 use std::test::Fail;
 
-// A script with the streams that it is run over, and what the run must write and end with.
-#[derive(Drop)]
-struct Case<'a> {
-    name: &'static str,
-    script: &'static str,
+// What a run is over: its words, its script and the size of the pieces in which it is read, the data files by their
+// names, the room of the sink, the calls of each that fail, and the limits.
+#[derive(Drop, Clone, Copy)]
+struct Setup<'a> {
+    words: &'a [&'a str],
+    script: &'a [u8],
     chunk: usize,
-    failing_reads: &'a [u64],
+    files: &'a [(&'a str, &'a [u8])],
     room: usize,
+    failing_reads: &'a [u64],
+    failing_disk: &'a [u64],
     failing_writes: &'a [u64],
-    output: &'static str,
+    limits: Limits,
+}
+
+// What a run has written, and how it ended.
+#[derive(Drop)]
+struct Answer {
+    sink: MemSink,
     status: Status,
 }
 
-// The first points of the plane, ranked: the plain run without its refused last line.
-const RANKED: &str =
-    "create p (at point)\nindex p.at\ninsert p (0 0)\ninsert p (3 4)\nshow 3 rank p.at from (0 0)\n";
+// Three cursors whose rows are taken in turns: a filtered browse, a semi-join, and a ranking of polygons.
+const TURNS: &[u8] = b"create city (at point, name text, pop int)\n\
+    load city \"cities.csv\" header\n\
+    index city.at\n\
+    create road (way segment)\n\
+    insert road (0 0)-(3000 0)\n\
+    insert road (1000 2000)-(1000 5000)\n\
+    index road.way\n\
+    create region (area polygon, name text)\n\
+    insert region ((0 0) (2000 0) (2000 2000) (0 2000)), \"West\"\n\
+    insert region ((2500 3500) (4000 3500) (4000 5000)), \"North\"\n\
+    index region.area\n\
+    open a = fetch (filter (rank city.at from (1100 1000)) where 1.pop > 5000000) 1.name\n\
+    open b = semi city.at road.way\n\
+    open c = fetch (rank region.area from (1000 1000)) 1.name\n\
+    next a 1\n\
+    next b 2\n\
+    next c 1\n\
+    next a 1\n\
+    next b 3\n\
+    next c 2\n\
+    stats a\n\
+    stats c\n";
 
-const RANKED_TEXT: &str = "ok\nok\nid 1\nid 2\n0\t1\n25\t2\nend\n";
+const CITIES: &[u8] = b"at,name,pop\n\
+    (1000 1000),Alba,6000000\n\
+    (1200 1100),Brin,400000\n\
+    (3000 4000),Cork,9000000\n\
+    (60000 60000),Dorn,5500000\n";
 
-// The same with its last line, which is refused.
-const REFUSED_LAST: &str = "create p (at point)\nindex p.at\ninsert p (0 0)\ninsert p (3 4)\n\
-    show 3 rank p.at from (0 0)\nshow 1 rank q.at from (0 0)\n";
+const TURNS_TEXT: &str = "ok\nloaded 4\nok\nok\nid 1\nid 2\nok\nok\nid 1\nid 2\nok\nok\nok\nok\n\
+    10000\t1\tAlba\n850000\t2\t2\n1000000\t1\t1\n0\t1\tWest\n12610000\t3\tCork\n4000000\t3\t2\n6506000000\t4\t2\nend\n\
+    8500000\t2\tNorth\nend\n\
+    blocks 1 pairs 0 geometries 0 rows 2\nblocks 1 pairs 0 geometries 2 rows 2\n";
 
-const REFUSED_LAST_TEXT: &str = "ok\nok\nid 1\nid 2\n0\t1\n25\t2\nend\nrefused 8 UnknownRelation\n";
-
-// A run without faults, the script given at once.
-const fn plain(
-    name: &'static str,
-    script: &'static str,
-    output: &'static str,
-    status: Status,
-) -> Case<'static> {
-    Case {
-        name,
+// A run of the script without words, data files and faults.
+const fn plain(script: &[u8]) -> Setup<'_>
+    ensures chunk { 1 ≤ result.chunk }
+    ensures limits { IsLimits result.limits }
+{
+    Setup {
+        words: &[],
         script,
         chunk: 4096,
+        files: &[],
+        room: 1 << 16,
         failing_reads: &[],
-        room: 4096,
+        failing_disk: &[],
         failing_writes: &[],
-        output,
-        status,
+        limits: Limits {
+            ids: 1_000_000,
+            listings: 16_000_000,
+        },
     }
 }
 
-fn vector(alloc: Global, numbers: &[u64]) -> Result<Vec<u64>, AllocError> {
-    numbers.to_vec(alloc)
+fn labels(alloc: Global, words: &[&str]) -> Result<Vec<Label>, NoMemory> {
+    let mut labels = Vec::new(alloc);
+    for word in words {
+        labels.push(Label::new(alloc, word)?)?;
+    }
+    Ok(labels)
 }
 
-// Runs a case, and gives what the sink took with the status.
-fn answer(alloc: Global, case: &Case) -> Result<(MemSink, Status), NoMemory>
-    requires { 1 ≤ case.now.chunk }
+fn shelf(alloc: Global, files: &[(&str, &[u8])]) -> Result<MemShelf, NoMemory> {
+    let mut kept = Vec::new(alloc);
+    for (name, bytes) in files {
+        kept.push((Label::new(alloc, name)?, bytes.to_vec(alloc)?))?;
+    }
+    Ok(MemShelf::new(alloc, kept, Vec::new(alloc)))
+}
+
+// Runs what is set up.
+fn answer_of(alloc: Global, setup: &Setup) -> Result<Answer, NoMemory>
+    requires chunk { 1 ≤ setup.now.chunk }
+    requires limits { IsLimits setup.now.limits }
 {
-    let script = case.script.as_bytes().to_vec(alloc)?;
-    let reads = vector(alloc, case.failing_reads)?;
-    let writes = vector(alloc, case.failing_writes)?;
-    let mut source = MemSource::new(alloc, script, case.chunk, reads);
-    let mut sink = MemSink::new(alloc, case.room, writes)?;
-    let status = run(alloc, &[], &mut source, &mut sink);
-    Ok((sink, status))
-}
-
-fn check(rt: &impl Abort, alloc: Global, case: &Case) -> Result<(), Fail> {
-    assert!(rt; 1 <= case.chunk, "{}: the chunk", case.name);
-    let (sink, status) = answer(alloc, case)?;
-    assert_eq!(rt;
-        sink.bytes(),
-        case.output.as_bytes(),
-        "{}: the output",
-        case.name
+    let words = labels(alloc, setup.words)?;
+    let script = setup.script.to_vec(alloc)?;
+    let mut source = MemSource::new(
+        alloc,
+        script,
+        setup.chunk,
+        setup.failing_reads.to_vec(alloc)?,
     );
-    assert_eq!(rt; status, case.status, "{}: the status", case.name);
-    Ok(())
+    let mut files = shelf(alloc, setup.files)?;
+    let disk = MemDisk::new(alloc, setup.failing_disk.to_vec(alloc)?);
+    let mut sink = MemSink::new(alloc, setup.room, setup.failing_writes.to_vec(alloc)?)?;
+    let (status, _disk) = run_within(
+        alloc,
+        setup.limits,
+        &words,
+        &mut source,
+        &mut files,
+        disk,
+        &mut sink,
+    );
+    Ok(Answer { sink, status })
 }
 
-#[test]
-fn scripts_are_answered(rt: HostRuntime) -> Result<(), Fail> {
-    let cases = [
-        plain("the plain run", RANKED, RANKED_TEXT, Status::Done),
-        plain(
-            "the plain run with its refused last line",
-            REFUSED_LAST,
-            REFUSED_LAST_TEXT,
-            Status::SomeRefused,
-        ),
-        plain(
-            "a relation that isn't there",
-            "create p (at point)\nindex p.at\nshow 1 rank q.at from (0 0)\ninsert q (0 0)\nindex q.at\n",
-            "ok\nok\nrefused 8 UnknownRelation\nrefused 8 UnknownRelation\nrefused 8 UnknownRelation\n",
-            Status::SomeRefused,
-        ),
-        plain(
-            "the farthest point",
-            "create p (at point)\nindex p.at\ninsert p (65535 65535)\nshow 1 rank p.at from (0 0)\n",
-            "ok\nok\nid 1\n8589672450\t1\n",
-            Status::Done,
-        ),
-        plain(
-            "equal gaps stand by id",
-            "create p (at point)\nindex p.at\ninsert p (5 0)\ninsert p (0 1)\ninsert p (3 4)\nshow 9 rank p.at from (0 0)\n",
-            "ok\nok\nid 1\nid 2\nid 3\n1\t2\n25\t1\n25\t3\nend\n",
-            Status::Done,
-        ),
-        plain(
-            "a name that is taken, no column, an index that is there, no index",
-            "create p (at point)\ncreate p (at point)\nshow 1 rank p.at from (0 0)\nindex p.to\nindex p.at\nindex p.at\n\
-             show 1 rank p.to from (0 0)\nshow 1 rank p.at from (0 0)\n",
-            "ok\nrefused 11 NameTaken\nrefused 13 NoIndex\nrefused 9 UnknownColumn\nok\nrefused 14 IndexThere\n\
-             refused 9 UnknownColumn\nend\n",
-            Status::SomeRefused,
-        ),
-        plain(
-            "a segment",
-            "create s (way segment)\nindex s.way\ninsert s (0 1)-(2 0)\nshow 1 rank s.way from (0 0)\n",
-            "ok\nok\nid 1\n4/5\t1\n",
-            Status::Done,
-        ),
-        plain(
-            "segments that a comparison of whole parts would mix up",
-            "create s (way segment)\nindex s.way\ninsert s (1 0)-(1 0)\ninsert s (0 1)-(65535 0)\ninsert s (0 1)-(2 0)\n\
-             show 3 rank s.way from (0 0)\n",
-            "ok\nok\nid 1\nid 2\nid 3\n4/5\t3\n4294836225/4294836226\t2\n1\t1\n",
-            Status::Done,
-        ),
-        plain(
-            "the other diagonal of the plane",
-            "create s (way segment)\nindex s.way\ninsert s (0 65535)-(65535 0)\nshow 1 rank s.way from (0 0)\n",
-            "ok\nok\nid 1\n4294836225/2\t1\n",
-            Status::Done,
-        ),
-        plain(
-            "a segment as the goal",
-            "create s (way segment)\nindex s.way\ninsert s (0 0)-(4 4)\ninsert s (9 0)-(9 9)\nshow 3 rank s.way from (0 4)-(4 0)\n\
-             create p (at point)\nindex p.at\ninsert p (3 3)\nshow 1 rank p.at from (0 4)-(4 0)\n",
-            "ok\nok\nid 1\nid 2\n0\t1\n25\t2\nend\nok\nok\nid 1\n2\t1\n",
-            Status::Done,
-        ),
-        plain(
-            "another kind, numbers out of range, and faults of the grammar",
-            "create p (at point)\nindex p.at\ninsert p (1 1)-(2 2)\ninsert p (70000 1)\nshow 0 rank p.at from (0 0)\n\
-             show 3 rnk p.at from (0 0)\ninsert p (0\ninsert p 5\ninsert p (1 1)\n",
-            "ok\nok\nrefused 10 WrongKind\nrefused 7 Range\nrefused 7 Range\n\
-             refused 6 Syntax 8\nrefused 6 Syntax 12\nrefused 10 WrongKind\nid 1\n",
-            Status::SomeRefused,
-        ),
-        plain(
-            "a polygon, and what isn't carried out yet",
-            "create r (area polygon)\nindex r.area 4\ninsert r ((2 2) (6 2) (6 6) (2 6))\nshow 2 rank r.area from (4 4)\n\
-             show 1 rank r.area from (0 0)\ndelete r 1\ncreate t (n int, at point)\nshow 1 scan r\n\
-             show 1 rank r.area from (0 0) within 5\ninsert r \"a\", (1 1)\n",
-            "ok\nok\nid 1\n0\t1\nend\n8\t1\nrefused 26 NotBuilt\nrefused 26 NotBuilt\nrefused 26 NotBuilt\n\
-             refused 26 NotBuilt\nrefused 10 WrongKind\n",
-            Status::SomeRefused,
-        ),
-        plain(
-            "spellings that are read",
-            "create\tp(at   point )\nindex p . at\ninsert p(0007 -0)\nshow 00001 rank p.at from ( 7 0 )\n",
-            "ok\nok\nid 1\n0\t1\n",
-            Status::Done,
-        ),
-        plain(
-            "blank lines, comments and carriage returns",
-            "\n \t\n# a comment\n  # another\r\ncreate p (at point)\r\n\r\n",
-            "ok\n",
-            Status::Done,
-        ),
-    ];
-    for case in &cases {
-        check(&rt, rt.alloc(), case)?;
-    }
-    Ok(())
+fn is_answered(rt: &impl Abort, answer: &Answer, text: &str, status: Status) {
+    assert_eq!(rt; answer.sink.bytes(), text.as_bytes());
+    assert_eq!(rt; answer.status, status, "{text}");
 }
 
 #[test]
 fn runs_end_with_their_status(rt: HostRuntime) -> Result<(), Fail> {
-    let cases = [
-        plain("an empty script", "", "", Status::Done),
-        plain(
-            "a last line without a line feed",
-            "create p (at point)",
-            "ok\n",
-            Status::Done,
-        ),
-        Case {
-            chunk: 20,
-            failing_reads: &[2],
-            ..plain(
-                "the source fails in the middle",
-                "create p (at point)\ninsert",
-                "ok\n",
-                Status::ReadFault,
-            )
-        },
-        Case {
-            room: 2,
-            ..plain(
-                "the sink is full",
-                "create p (at point)\n",
-                "ok",
-                Status::WriteFault,
-            )
-        },
+    let alloc = rt.alloc();
+    is_answered(&rt, &answer_of(alloc, &plain(b""))?, "", Status::Done);
+    let unended = plain(b"create p (at point)");
+    is_answered(&rt, &answer_of(alloc, &unended)?, "ok\n", Status::Done);
+    let cut = Setup {
+        chunk: 20,
+        failing_reads: &[2],
+        ..plain(b"create p (at point)\ninsert")
+    };
+    is_answered(&rt, &answer_of(alloc, &cut)?, "ok\n", Status::ReadFault);
+    let full = Setup {
+        room: 2,
+        ..plain(b"create p (at point)\n")
+    };
+    is_answered(&rt, &answer_of(alloc, &full)?, "ok", Status::WriteFault);
+    let no_disk = Setup {
+        failing_disk: &[1],
+        ..plain(TURNS)
+    };
+    is_answered(
+        &rt,
+        &answer_of(alloc, &no_disk)?,
+        "",
+        Status::DiskNotStarted,
+    );
+    Ok(())
+}
+
+#[test]
+fn words_are_taken_or_refused(rt: HostRuntime) -> Result<(), Fail> {
+    let alloc = rt.alloc();
+    let taken: [&[&str]; 3] = [
+        &["--frames", "64"],
+        &["--frames=4096"],
+        &["--store", "db.pages"],
     ];
-    for case in &cases {
-        check(&rt, rt.alloc(), case)?;
+    for words in taken {
+        let answer = answer_of(
+            alloc,
+            &Setup {
+                words,
+                ..plain(b"create p (at point)\n")
+            },
+        )?;
+        is_answered(&rt, &answer, "ok\n", Status::Done);
+    }
+    let refused: [&[&str]; 5] = [
+        &["--frames", "15"],
+        &["--frames", "x"],
+        &["--frames"],
+        &["--speed", "3"],
+        &["extra"],
+    ];
+    for words in refused {
+        let answer = answer_of(
+            alloc,
+            &Setup {
+                words,
+                ..plain(b"create p (at point)\n")
+            },
+        )?;
+        is_answered(&rt, &answer, "", Status::Usage);
     }
     Ok(())
 }
 
 #[test]
-fn no_more_than_64_relations_are_made(rt: HostRuntime) -> Result<(), Fail> {
+fn smaller_limits_are_met_as_the_great_ones(rt: HostRuntime) -> Result<(), Fail> {
     let alloc = rt.alloc();
-    let mut script = String::new(alloc);
-    let mut output = String::new(alloc);
-    for number in 1..=64u32 {
-        script.push_str(format!(in alloc; "create r{number} (at point)\n")?.as_str())?;
-        output.push_str("ok\n")?;
-    }
-    script.push_str("create more (at point)\ncreate r1 (at point)\n")?;
-    output.push_str("refused 12 TooManyRelations\nrefused 11 NameTaken\n")?;
-    let mut source = MemSource::new(alloc, script.into_bytes(), 4096, Vec::new(alloc));
-    let mut sink = MemSink::new(alloc, 4096, Vec::new(alloc))?;
-    assert_eq!(rt;
-        run(alloc, &[], &mut source, &mut sink),
-        Status::SomeRefused
-    );
-    assert_eq!(rt; sink.bytes(), output.as_bytes());
-    Ok(())
-}
-
-// The status of a script of so many line feeds, which print nothing.
-fn line_feeds(alloc: Global, count: usize) -> Result<Status, NoMemory> {
-    let script = vec![in alloc; b'\n'; count]?;
-    let mut source = MemSource::new(alloc, script, 4096, Vec::new(alloc));
-    let mut sink = MemSink::new(alloc, 0, Vec::new(alloc))?;
-    Ok(run(alloc, &[], &mut source, &mut sink))
-}
-
-#[test]
-fn the_longest_script_is_read_and_no_longer_one(rt: HostRuntime) -> Result<(), Fail> {
-    assert_eq!(rt; line_feeds(rt.alloc(), 16_777_216)?, Status::Done);
-    assert_eq!(rt; line_feeds(rt.alloc(), 16_777_217)?, Status::ScriptTooLong);
-    Ok(())
-}
-
-#[test]
-fn a_word_on_the_command_line_is_a_wrong_use(rt: HostRuntime) -> Result<(), Fail> {
-    let alloc = rt.alloc();
-    let words = [Label::new(alloc, "--frames")?, Label::new(alloc, "15")?];
-    let mut source = MemSource::new(
-        alloc,
-        b"create p (at point)\n".to_vec(alloc)?,
-        4096,
-        Vec::new(alloc),
-    );
-    let mut sink = MemSink::new(alloc, 16, Vec::new(alloc))?;
-    assert_eq!(rt; run(alloc, &words, &mut source, &mut sink), Status::Usage);
-    assert_eq!(rt; sink.bytes().len(), 0);
-    Ok(())
-}
-
-// The plain run over a source and a sink of which one call fails: what was written, and the status.
-fn broken(
-    alloc: Global,
-    failing_reads: &[u64],
-    failing_writes: &[u64],
-) -> Result<(MemSink, Status), NoMemory> {
-    answer(
-        alloc,
-        &Case {
-            chunk: 20,
-            failing_reads,
-            failing_writes,
-            ..plain("", REFUSED_LAST, REFUSED_LAST_TEXT, Status::SomeRefused)
+    let few_listings = Setup {
+        limits: Limits {
+            ids: 10,
+            listings: 5,
         },
-    )
-}
-
-// The run with one failing call ends with the status and has written this many bytes of the undisturbed text.
-fn breaks_after(rt: &impl Abort, broken: (MemSink, Status), status: Status, length: usize) {
-    let (sink, ended) = broken;
-    assert_eq!(rt; ended, status, "after {length} bytes");
-    assert!(rt; REFUSED_LAST_TEXT.as_bytes().starts_with(sink.bytes()));
-    assert_eq!(rt; sink.bytes().len(), length);
-}
-
-#[test]
-fn a_read_that_fails_ends_the_run_where_it_stands(rt: HostRuntime) -> Result<(), Fail> {
-    // (in pieces of 20 bytes the six lines end with the reads 1, 2, 3, 4, 5 and 6, and a seventh finds the end)
-    for (call, length) in [(1, 0), (2, 3), (3, 6), (4, 11), (5, 16), (6, 29), (7, 55)] {
-        let run = broken(rt.alloc(), &[call], &[])?;
-        breaks_after(&rt, run, Status::ReadFault, length);
-    }
-    breaks_after(&rt, broken(rt.alloc(), &[8], &[])?, Status::SomeRefused, 55);
-    Ok(())
-}
-
-#[test]
-fn a_write_that_fails_ends_the_run_where_it_stands(rt: HostRuntime) -> Result<(), Fail> {
-    // (eight lines, a write each)
-    for (call, length) in [
-        (1, 0),
-        (2, 3),
-        (3, 6),
-        (4, 11),
-        (5, 16),
-        (6, 20),
-        (7, 25),
-        (8, 29),
-    ] {
-        let run = broken(rt.alloc(), &[], &[call])?;
-        breaks_after(&rt, run, Status::WriteFault, length);
-    }
-    breaks_after(&rt, broken(rt.alloc(), &[], &[9])?, Status::SomeRefused, 55);
+        ..plain(
+            b"create p (at point)\nindex p.at 1\ninsert p (1 1)\ninsert p (2 2)\ninsert p (3 3)\nblocks p.at\n",
+        )
+    };
+    let leaves = "ok\nok\nid 1\nid 2\nrefused 20 IndexFull\n\
+        1\t0\t0\t1 2\n1\t32768\t0\t-\n1\t0\t32768\t-\n1\t32768\t32768\t-\n";
+    is_answered(
+        &rt,
+        &answer_of(alloc, &few_listings)?,
+        leaves,
+        Status::SomeRefused,
+    );
+    let few_ids = Setup {
+        limits: Limits {
+            ids: 2,
+            listings: 100,
+        },
+        ..plain(b"create p (at point)\ninsert p (1 1)\ninsert p (2 2)\ninsert p (3 3)\n")
+    };
+    let spent = "ok\nid 1\nid 2\nrefused 19 IdsSpent\n";
+    is_answered(
+        &rt,
+        &answer_of(alloc, &few_ids)?,
+        spent,
+        Status::SomeRefused,
+    );
     Ok(())
 }
 
@@ -330,15 +248,125 @@ fn a_line_that_is_too_long_is_refused_and_the_next_is_read(rt: HostRuntime) -> R
     script.push(b'\n')?;
     script.extend_from_slice(vec![in alloc; b'x'; 8192]?.as_slice())?;
     script.extend_from_slice(b"\ncreate p (at point)\n")?;
-    let mut source = MemSource::new(alloc, script, 4096, Vec::new(alloc));
-    let mut sink = MemSink::new(alloc, 4096, Vec::new(alloc))?;
-    assert_eq!(rt;
-        run(alloc, &[], &mut source, &mut sink),
-        Status::SomeRefused
+    let text = "refused 5 LineTooLong\nrefused 6 Syntax 1\nok\n";
+    is_answered(
+        &rt,
+        &answer_of(alloc, &plain(&script))?,
+        text,
+        Status::SomeRefused,
     );
-    assert_eq!(rt;
-        sink.bytes(),
-        b"refused 5 LineTooLong\nrefused 6 Syntax 1\nok\n".as_slice()
+    Ok(())
+}
+
+#[test]
+fn a_data_file_is_loaded_whole_or_not_at_all(rt: HostRuntime) -> Result<(), Fail> {
+    let loads = Setup {
+        files: &[
+            ("p.csv", b"(1 1),5\n(2 2),6\n(3 3),7\n(4 4),x\n"),
+            ("short.csv", b"(1 1),5\n(2 2)\n"),
+            ("good.csv", b"(1 1),5\n"),
+        ],
+        ..plain(
+            b"create p (at point, pop int)\nload p \"p.csv\"\nload p \"none.csv\"\ninsert p (9 9), 1\n\
+              load p \"short.csv\"\nload p \"good.csv\"\nshow 9 scan p\n",
+        )
+    };
+    let text =
+        "ok\nrefused 16 BadRecord 4 2\nrefused 4 File\nid 1\nrefused 16 BadRecord 2 2\nloaded 1\n1\n2\nend\n";
+    is_answered(
+        &rt,
+        &answer_of(rt.alloc(), &loads)?,
+        text,
+        Status::SomeRefused,
     );
+    Ok(())
+}
+
+// What is answered to the load of a file of records of eight bytes, of which so many stand, and to an insert after it.
+fn text_of_cut(alloc: Global, length: usize) -> Result<(String, Status), NoMemory> {
+    let whole = length / 8;
+    let bad = whole + 1;
+    let (loaded, column) = match length % 8 {
+        0 => (whole, 0),
+        7 => (bad, 0),
+        1..=4 => (0, 1),
+        _ => (0, 2),
+    };
+    if column > 0 {
+        let text = format!(in alloc; "ok\nrefused 16 BadRecord {bad} {column}\nid 1\n")?;
+        return Ok((text, Status::SomeRefused));
+    }
+    let text = format!(in alloc; "ok\nloaded {loaded}\nid {}\n", loaded + 1)?;
+    Ok((text, Status::Done))
+}
+
+#[test]
+fn a_data_file_may_end_after_each_of_its_bytes(rt: HostRuntime) -> Result<(), Fail> {
+    let alloc = rt.alloc();
+    let mut file = Vec::new(alloc);
+    for length in 0..=24 {
+        let (text, status) = text_of_cut(alloc, length)?;
+        let load = Setup {
+            files: &[("p.csv", &file)],
+            ..plain(b"create p (at point, pop int)\nload p \"p.csv\"\ninsert p (9 9), 1\n")
+        };
+        is_answered(&rt, &answer_of(alloc, &load)?, text.as_str(), status);
+        file.push(b"(1 1),5\n"[length % 8])?;
+    }
+    Ok(())
+}
+
+#[test]
+fn a_disk_fault_refuses_one_line(rt: HostRuntime) -> Result<(), Fail> {
+    let faulty = Setup {
+        failing_disk: &[2],
+        ..plain(b"create p (at point)\ninsert p (1 1)\ninsert p (1 1)\n")
+    };
+    let text = "ok\nrefused 2 Device\nid 1\n";
+    is_answered(
+        &rt,
+        &answer_of(rt.alloc(), &faulty)?,
+        text,
+        Status::SomeRefused,
+    );
+    Ok(())
+}
+
+// The run was broken off with this status, and has written a front of what an undisturbed one writes.
+fn is_broken(rt: &impl Abort, answer: &Answer, status: Status) {
+    assert_eq!(rt; answer.status, status);
+    assert!(rt; TURNS_TEXT.as_bytes().starts_with(answer.sink.bytes()));
+}
+
+#[test]
+fn each_read_and_each_write_may_fail(rt: HostRuntime) -> Result<(), Fail> {
+    let alloc = rt.alloc();
+    let turns = Setup {
+        chunk: 64,
+        files: &[("cities.csv", CITIES)],
+        ..plain(TURNS)
+    };
+    is_answered(&rt, &answer_of(alloc, &turns)?, TURNS_TEXT, Status::Done);
+    // (the script is ten pieces and its end, the text 26 lines, each a write)
+    for call in 1..=11 {
+        let answer = answer_of(
+            alloc,
+            &Setup {
+                failing_reads: &[call],
+                ..turns
+            },
+        )?;
+        is_broken(&rt, &answer, Status::ReadFault);
+    }
+    for call in 1..=26 {
+        let answer = answer_of(
+            alloc,
+            &Setup {
+                failing_writes: &[call],
+                ..turns
+            },
+        )?;
+        is_broken(&rt, &answer, Status::WriteFault);
+    }
     Ok(())
 }

@@ -1,12 +1,12 @@
-pub mod Decimals
-pub mod EndLemmas
-pub mod FrontLemmas
-pub mod LineLemmas
-pub mod Places
-pub mod PrintLemmas
-pub mod RankingLemmas
-pub mod RowsLemmas
-pub mod StateLemmas
-pub mod Statements
-pub mod Words
-pub mod WrittenFront
+-- How the lines of a script lead a run on.
+pub mod LinesCarried
+-- What lines say.
+pub mod LinesSaid
+-- How a run ends.
+pub mod Endings
+-- What the answer of a call says.
+pub mod Answered
+-- How lines lead a run on while cursors are open.
+pub mod OpenRuns
+-- How a run of a workload ends.
+pub mod WorkloadEndings

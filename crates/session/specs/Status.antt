@@ -1,14 +1,15 @@
 -- The numbers with which the program ends.
 use Rattle.std.specs.Prelude.{ℕ}
 use Rattle.session.specs.declared.status.Status.{Status}
-use Rattle.session.specs.declared.status.Status.TheVariants.{Done, SomeRefused, Usage, ReadFault, WriteFault, ScriptTooLong, NoMemory}
+use Rattle.session.specs.declared.status.Status.TheVariants as status
 
 -- the number of a status
 abbrev pub status_code : Status → ℕ
-status_code Done = 0
-status_code SomeRefused = 1
-status_code Usage = 2
-status_code ReadFault = 3
-status_code WriteFault = 4
-status_code ScriptTooLong = 5
-status_code NoMemory = 6
+status_code status.Done = 0
+status_code status.SomeRefused = 1
+status_code status.Usage = 2
+status_code status.ReadFault = 3
+status_code status.WriteFault = 4
+status_code status.ScriptTooLong = 5
+status_code status.NoMemory = 6
+status_code status.DiskNotStarted = 7

@@ -1,35 +1,22 @@
-//! The top call: a script is read, its statements are carried out in order, and their answers are written.
+//! The top call: a script is read, its statements are carried out in order, and their lines are written.
 //!
-//! The promise of the whole system is the contract of `run`: however the lines go, what is written is the
-//! text of a run over the lines of the script, each line answered from the relations as they stood.
-//! Above: `sand_shell`, which passes the real streams. Below: `script_text` for statements, `ring_geom` and
-//! `exact_frac` for distances, `sand_model` for what the answers mean. Contracts see a relation as its name,
-//! rows and mark, and a line in hand as its bytes. Read `specs/Outcome.antt` first, then `specs/Run.antt`.
+//! The promise of the whole system is the contract of `run`: however the lines go, what is written is the text of a run
+//! over the lines of the script, each carried out on the relations as they stood. Lines are pulled, so that what holds
+//! cursors over the relations asks for the next line itself. Above: `sand_shell`, which passes the real streams. Below:
+//! `script_lines` for lines, `script_run` for what one line does, `sand_store` for the relations, `run_words` for the
+//! words of the command line, `work_source` and `run_summary` for a workload that runs in place of the script. Contracts
+//! see what is outside as one record before the run and one after it. Read `specs/Outside.antt` first, then
+//! `specs/Ends.antt` and `specs/Workload.antt`; `specs/SoFar.antt` and `specs/Tallies.antt` are for the proofs alone.
 #![tactic(auto)]
 
-mod answer;
-mod laws;
-mod open_line;
-mod print;
-mod ranking;
-mod relation;
-mod reply;
-mod script_run;
-mod short_text;
-mod state;
+mod asked;
+mod drawing;
+mod plans;
+mod script;
+mod start;
 mod status;
-mod write_all;
+mod top;
+mod workload;
 
-pub use laws::limits_of_a_run;
-pub use reply::{Hits, Reply};
-pub use script_run::run;
 pub use status::Status;
-
-/// The most relations that there may be.
-pub const MOST_RELATIONS: usize = 64;
-
-/// The most ids that a relation gives out.
-pub const MOST_IDS: u32 = 1_000_000;
-
-/// The longest script, in bytes.
-pub const LONGEST_SCRIPT: usize = 16_777_216;
+pub use top::{run, run_within};

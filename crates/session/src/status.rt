@@ -18,6 +18,8 @@ pub enum Status {
     ScriptTooLong,
     /// Memory was refused before the first statement.
     NoMemory,
+    /// The disk failed before the first statement.
+    DiskNotStarted,
 }
 
 impl Status {
@@ -33,6 +35,7 @@ impl Status {
             Status::WriteFault => 4,
             Status::ScriptTooLong => 5,
             Status::NoMemory => 6,
+            Status::DiskNotStarted => 7,
         }
     }
 }

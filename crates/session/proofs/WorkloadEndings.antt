@@ -1,0 +1,126 @@
+-- How a run of a workload ends.
+use Rattle.std.proofs.Common.{◌≡◌, ℕ, ◌+◌, ◌≤◌, Bool, true, false, List, [], ◌++◌, length, Option, Some, refl, ap, subst, arith, length-append, ◌⊎◌, inl, inr}
+use Rattle.page_pool.specs.Disk.{DiskView}
+use Rattle.run_summary.specs.RefusedLines.{refused_lines}
+use Rattle.run_summary.specs.Summary.{summary}
+use Rattle.run_summary.specs.Taken.{HasTallied}
+use Rattle.run_summary.specs.declared.tally_sink.TallySink.{TallySink}
+use Rattle.sand_base.specs.Shelf.{Files}
+use Rattle.sand_base.specs.Streams.{Adds}
+use Rattle.sand_base.specs.declared.limits.Limits.{Limits}
+use Rattle.output_text.specs.Writing.{AddsPrefix, Writes, WritesPrefix}
+use Rattle.script_lines.specs.Lines.{lines}
+use Rattle.script_lines.specs.declared.TheConstants.{LONGEST_SCRIPT}
+use Rattle.statement_exec.specs.Moment.{Moment}
+use Rattle.statement_exec.specs.Printing.{Prints}
+use Rattle.work_gen.specs.Workload.{workload}
+use Rattle.work_source.specs.EmptyFiles.{empty_files}
+use Rattle.work_source.specs.Script.{IsScriptOf}
+use Rattle.session.specs.Outside.{Outside, outside_of}
+use Rattle.session.specs.Ends.{IsCaused, IsTaken, RunsOver, WritesRun, Ends}
+use Rattle.session.specs.Tallies.{HasRun, Tallies, without_streams}
+use Rattle.session.specs.Workload.{IsSummary, EndsWorkload}
+use Rattle.session.specs.declared.status.Status.{Status}
+use Rattle.session.specs.declared.status.Status.TheVariants as status
+
+-- a run whose text was taken by a sink that had taken nothing
+run_taken : (n : ℕ) (b : Bool) (first last : Moment) (script : List ℕ) (old new : TallySink) (r w : ℕ) → lines script ≡ workload n → HasTallied old []
+    → WritesRun (lines script) b first last (record { took = HasTallied old; faults = r }) (record { took = HasTallied new; faults = w }) → HasRun n b first last new
+run_taken n b first last script old new r w own none writes = record {
+  text = writes.text;
+  printed = subst (λ (l : List (List ℕ)). Prints (RunsOver l first last) b writes.text) own writes.holds;
+  taken = writes.written [] none;
+}
+
+-- bytes consumed of a script are no more than it has
+consumed-short : (script left bytes : List ℕ) (most : ℕ) → length script ≤ most → script ≡ bytes ++ left → length bytes ≡ most + 1 → ⊥
+consumed-short script left bytes most short split long = omega (arith, length-append bytes left, ap length split)
+
+-- What is said of a run over the script of a workload, whose streams counted no fault.
+module _ (n : ℕ) (limits : Limits) (script left : List ℕ) (disk disk' : DiskView) (old new : TallySink) (own : IsScriptOf (workload n) script) (none : HasTallied old []) where
+  -- before it, and after it
+  abbrev work_before : Outside
+  work_before = outside_of (Some script) 0 (Some empty_files) 0 disk (HasTallied old) 0
+
+  abbrev work_after : Outside
+  work_after = outside_of (Some left) 0 (Some empty_files) 0 disk' (HasTallied new) 0
+
+  -- its text was counted
+  pub Tallies-run : (why : Status) → Ends why limits work_before work_after → IsCaused why 0 0 0 0 → IsTaken why
+      → Tallies n why limits (without_streams disk) (without_streams disk') new
+  Tallies-run status.Done ends caused taken = (ends.0, run_taken n false _ _ script old new 0 0 own.found none ends.1.0.1)
+  Tallies-run status.SomeRefused ends caused taken = (ends.0, run_taken n true _ _ script old new 0 0 own.found none ends.1.0.1)
+  Tallies-run status.Usage ends caused taken = absurd taken
+  Tallies-run status.ReadFault ends caused taken = absurd (omega (arith, caused.of_source))
+  Tallies-run status.WriteFault ends caused taken = absurd (omega (arith, caused.of_sink))
+  Tallies-run status.ScriptTooLong ends caused taken =
+      absurd (consumed-short script left ends.1.0 LONGEST_SCRIPT own.short ends.1.1 ends.1.2.0)
+  Tallies-run status.NoMemory ends caused taken = (record { source = refl; files = refl; shelf = refl; sink = λ text h. h }, ends.1)
+  Tallies-run status.DiskNotStarted ends caused taken = (record { source = refl; files = refl; shelf = refl; sink = λ text h. h }, ends.1)
+
+-- What is said of a run whose text was counted, by what the sink took of its summary.
+module _ (n : ℕ) (limits : Limits) (left : Option (List ℕ)) (reads : ℕ) (files : Option Files) (opens : ℕ) (disk disk' : DiskView) (tally : TallySink) (before now : List ℕ → Type 0) (writes writes' : ℕ) where
+  -- before it, and after it
+  abbrev sum_before : Outside
+  sum_before = outside_of left reads files opens disk before writes
+
+  abbrev sum_after : Outside
+  sum_after = outside_of left reads files opens disk' now writes'
+
+  -- the summary was written
+  written_sum : (b : Bool) (first last : Moment) → HasRun n b first last tally
+      → ((text : List ℕ) → HasTallied tally text → Adds before now (summary (length (workload n)) (refused_lines text) text))
+      → Writes (IsSummary n b first last) before now
+  written_sum b first last ran adds = record {
+    text = summary (length (workload n)) (refused_lines ran.text) ran.text;
+    holds = record { text = ran.text; printed = ran.printed; told_of = refl };
+    written = adds ran.text ran.taken;
+  }
+
+  -- a prefix of it was written
+  broken_sum : (b : Bool) (first last : Moment) → HasRun n b first last tally
+      → ((text : List ℕ) → HasTallied tally text → AddsPrefix before now (summary (length (workload n)) (refused_lines text) text))
+      → WritesPrefix (IsSummary n b first last) before now
+  broken_sum b first last ran adds = record {
+    text = summary (length (workload n)) (refused_lines ran.text) ran.text;
+    holds = record { text = ran.text; printed = ran.printed; told_of = refl };
+    prefix = adds ran.text ran.taken;
+  }
+
+  -- the run came to the end of its lines, and its summary was written
+  pub Ends-summed : (why : Status) → (why ≡ status.Done) ⊎ (why ≡ status.SomeRefused) → Tallies n why limits (without_streams disk) (without_streams disk') tally
+      → ((text : List ℕ) → HasTallied tally text → Adds before now (summary (length (workload n)) (refused_lines text) text))
+      → EndsWorkload n why limits sum_before sum_after
+  Ends-summed status.Done is tallied adds = (refl, refl, tallied.0, written_sum false _ _ tallied.1 adds)
+  Ends-summed status.SomeRefused is tallied adds = (refl, refl, tallied.0, written_sum true _ _ tallied.1 adds)
+  Ends-summed status.Usage is tallied adds = absurd tallied
+  Ends-summed status.ReadFault is tallied adds = absurd tallied
+  Ends-summed status.WriteFault is tallied adds = absurd tallied
+  Ends-summed status.ScriptTooLong is tallied adds = absurd tallied
+  Ends-summed status.NoMemory is tallied adds = absurd (other is) where
+    other : (status.NoMemory ≡ status.Done) ⊎ (status.NoMemory ≡ status.SomeRefused) → ⊥
+    other (inl e) = cc
+    other (inr e) = cc
+  Ends-summed status.DiskNotStarted is tallied adds = absurd (other is) where
+    other : (status.DiskNotStarted ≡ status.Done) ⊎ (status.DiskNotStarted ≡ status.SomeRefused) → ⊥
+    other (inl e) = cc
+    other (inr e) = cc
+
+  -- the run came to the end of its lines, and a prefix of its summary was written
+  pub Ends-unsummed : (why : Status) → (why ≡ status.Done) ⊎ (why ≡ status.SomeRefused) → Tallies n why limits (without_streams disk) (without_streams disk') tally
+      → ((text : List ℕ) → HasTallied tally text → AddsPrefix before now (summary (length (workload n)) (refused_lines text) text))
+      → EndsWorkload n status.WriteFault limits sum_before sum_after
+  Ends-unsummed status.Done is tallied adds = (refl, refl, tallied.0, (false, broken_sum false _ _ tallied.1 adds))
+  Ends-unsummed status.SomeRefused is tallied adds = (refl, refl, tallied.0, (true, broken_sum true _ _ tallied.1 adds))
+  Ends-unsummed status.Usage is tallied adds = absurd tallied
+  Ends-unsummed status.ReadFault is tallied adds = absurd tallied
+  Ends-unsummed status.WriteFault is tallied adds = absurd tallied
+  Ends-unsummed status.ScriptTooLong is tallied adds = absurd tallied
+  Ends-unsummed status.NoMemory is tallied adds = absurd (other is) where
+    other : (status.NoMemory ≡ status.Done) ⊎ (status.NoMemory ≡ status.SomeRefused) → ⊥
+    other (inl e) = cc
+    other (inr e) = cc
+  Ends-unsummed status.DiskNotStarted is tallied adds = absurd (other is) where
+    other : (status.DiskNotStarted ≡ status.Done) ⊎ (status.DiskNotStarted ≡ status.SomeRefused) → ⊥
+    other (inl e) = cc
+    other (inr e) = cc

@@ -1,0 +1,158 @@
+-- How a run may end: the whole promise, by the status.
+use Rattle.std.specs.Prelude.{◌≡◌, ◌≢◌, ⊤, ℕ, ◌+◌, ◌≤◌, Bool, true, false, List, [], ◌++◌, length, take, IfSome}
+use Rattle.std.specs.Io.KnownBytes.{Consumes, IsAtEnd}
+use Rattle.clap.specs.Words.{fault_of}
+use Rattle.page_pool.specs.declared.fault.PageFault.{PageFault}
+use Rattle.page_pool.specs.declared.fault.PageFault.TheVariants as page
+use Rattle.run_laws.specs.Causes.{HaveCauses}
+use Rattle.run_words.specs.Command.{sand_app}
+use Rattle.sand_base.specs.Faults.{next_count}
+use Rattle.sand_base.specs.Streams.{Stays}
+use Rattle.sand_base.specs.declared.limits.Limits.{Limits}
+use Rattle.sand_model.specs.Cursor.{State, OutputLine}
+use Rattle.sand_model.specs.Run.{Run, no_state}
+use Rattle.sand_model.specs.Statement.{ScriptLine}
+use Rattle.output_text.specs.Writing.{Writes, WritesPrefix}
+use Rattle.script_lines.specs.Lines.{lines, ended_lines}
+use Rattle.script_lines.specs.declared.TheConstants.{LONGEST_SCRIPT}
+use Rattle.script_run.specs.Carrying.{InEach}
+use Rattle.script_run.specs.Spoken.{AreLines}
+use Rattle.statement_exec.specs.Moment.{Moment, rises_between}
+use Rattle.statement_exec.specs.Printing.{Prints, PrintsSome}
+use Rattle.session.specs.Outside.{SourceView, SinkView, Outside}
+use Rattle.session.specs.declared.status.Status.{Status}
+use Rattle.session.specs.declared.status.Status.TheVariants as status
+
+-- The lines say this script, and a run of the model over it led from one moment to another and gave these lines of output, whose refusals have their causes; this where the disk tells its pages and no count is at its end.
+abbrev pub RunsOver : List (List ℕ) → Moment → Moment → List OutputLine → Type 0
+RunsOver lines old new printed =
+    (script : List ScriptLine) × AreLines lines script × InEach old new (λ setting. Run setting old.state script (rises_between old new) printed new.state
+    × HaveCauses setting.tells (rises_between old new) printed)
+
+-- a run over these lines led from one moment to another, its text was written, and the mark says whether a line was refused
+abbrev pub WritesRun : List (List ℕ) → Bool → Moment → Moment → SinkView → SinkView → Type 0
+WritesRun script some_refused first last before now = Writes (Prints (RunsOver script first last) some_refused) before.took now.took
+
+-- a run over the first of these lines led from one moment to another, and a prefix of its text was written
+pub record BreaksRun (script : List (List ℕ)) (first last : Moment) (before now : SinkView) : Type 0 where
+  pub carried_out : List (List ℕ)
+  pub others : List (List ℕ)
+  pub first_of : script ≡ carried_out ++ others
+  pub prefix : WritesPrefix (PrintsSome (RunsOver carried_out first last)) before.took now.took
+
+-- these bytes were read of the script, and have what is said of them
+abbrev pub HasRead : SourceView → SourceView → (List ℕ → Type 0) → Type 0
+HasRead before left P = (bytes : List ℕ) × Consumes before.left left.left bytes × P bytes
+
+-- the source is at its end, and its script isn't too long and has what is said of it
+abbrev pub HasReadAll : SourceView → SourceView → (List ℕ → Type 0) → Type 0
+HasReadAll before left P = IfSome before.left (λ bytes. (length bytes ≤ LONGEST_SCRIPT) × P bytes) × IsAtEnd left.left
+
+-- What a run from one moment to another leaves, by its status, of the source and the sink. With `Done` and `SomeRefused`
+-- the text of a run over all lines was written, and no line or some line was refused. With `ReadFault` and `ScriptTooLong`
+-- that of the lines which a line feed ended among the bytes read (the one byte too many isn't among them). With `WriteFault`
+-- a prefix of the text of the lines carried out, which are the first of those read.
+abbrev pub EndsBetween : Status → Moment → Moment → SourceView → SourceView → SinkView → SinkView → Type 0
+EndsBetween status.Done first last before left sink sink' =
+    HasReadAll before left (λ bytes. WritesRun (lines bytes) false first last sink sink')
+EndsBetween status.SomeRefused first last before left sink sink' =
+    HasReadAll before left (λ bytes. WritesRun (lines bytes) true first last sink sink')
+EndsBetween status.ReadFault first last before left sink sink' =
+    HasRead before left (λ bytes. (length bytes ≤ LONGEST_SCRIPT)
+    × (some_refused : Bool) × WritesRun (ended_lines bytes) some_refused first last sink sink')
+EndsBetween status.ScriptTooLong first last before left sink sink' =
+    HasRead before left (λ bytes. (length bytes ≡ LONGEST_SCRIPT + 1)
+    × (some_refused : Bool) × WritesRun (ended_lines (take LONGEST_SCRIPT bytes)) some_refused first last sink sink')
+EndsBetween status.WriteFault first last before left sink sink' =
+    HasRead before left (λ bytes. (length bytes ≤ LONGEST_SCRIPT + 1) × BreaksRun (lines bytes) first last sink sink')
+EndsBetween _ first last before left sink sink' = ⊥
+
+-- the moment before the first line; whether the disk tells is read off the disk that is handed back
+abbrev pub first_moment : Limits → Outside → Outside → Moment
+first_moment limits old new = record {
+  state = no_state;
+  limits = limits;
+  told = new.disk.told;
+  disk = old.disk.faults;
+  files = old.shelf.files;
+  shelf = old.shelf.faults;
+}
+
+-- the moment after the last line, with this state
+abbrev pub last_moment : Limits → Outside → Outside → State → Moment
+last_moment limits old new state = record {
+  state = state;
+  limits = limits;
+  told = new.disk.told;
+  disk = new.disk.faults;
+  files = old.shelf.files;
+  shelf = new.shelf.faults;
+}
+
+-- nothing was read of the script or of the shelf, and nothing was written
+pub record IsUntouched (old new : Outside) : Type 0 where
+  pub source : new.source.left ≡ old.source.left
+  pub files : new.shelf.files ≡ old.shelf.files
+  pub shelf : new.shelf.faults ≡ old.shelf.faults
+  pub sink : Stays old.sink.took new.sink.took
+
+-- the whole promise, by the status, over what is outside before and after the run
+abbrev pub Ends : Status → Limits → Outside → Outside → Type 0
+Ends status.Usage limits old new = IsUntouched old new × (new.disk.faults ≡ old.disk.faults)
+Ends status.NoMemory limits old new = IsUntouched old new × (new.disk.faults ≡ old.disk.faults)
+Ends status.DiskNotStarted limits old new = IsUntouched old new × (new.disk.faults ≡ next_count old.disk.faults)
+Ends ended limits old new =
+    (last : State) × EndsBetween ended (first_moment limits old new) (last_moment limits old new last) old.source new.source old.sink new.sink
+
+-- the source's count after a run of this status
+abbrev pub source_after : Status → ℕ → ℕ
+source_after status.ReadFault n = next_count n
+source_after _ n = n
+
+-- the sink's count after a run of this status
+abbrev pub sink_after : Status → ℕ → ℕ
+sink_after status.WriteFault n = next_count n
+sink_after _ n = n
+
+-- Why a run ended so: a fault of a stream only where its count rose, and no other status where one rose.
+pub record IsCaused (ended : Status) (source source' sink sink' : ℕ) : Type 0 where
+  pub of_source : source' ≡ source_after ended source
+  pub of_sink : sink' ≡ sink_after ended sink
+
+-- the command takes the words, or `Usage` says that it doesn't; with `NoMemory` nothing is said
+abbrev pub AreJudged : Status → List (List ℕ) → Type 0
+AreJudged status.Usage words = fault_of sand_app words ≢ []
+AreJudged status.NoMemory words = ⊤
+AreJudged _ words = fault_of sand_app words ≡ []
+
+-- the status is one of a run that began to read
+abbrev pub HasBegun : Status → Type 0
+HasBegun status.Usage = ⊥
+HasBegun status.NoMemory = ⊥
+HasBegun status.DiskNotStarted = ⊥
+HasBegun _ = ⊤
+
+-- the status of a run whose store was refused by the disk or by memory
+abbrev pub status_of : PageFault → Status
+status_of page.Memory = status.NoMemory
+status_of _ = status.DiskNotStarted
+
+-- a store wasn't started: the disk's count stays where memory was refused, and else it failed once
+abbrev pub IsNotStarted : Status → ℕ → ℕ → Type 0
+IsNotStarted status.NoMemory before now = now ≡ before
+IsNotStarted status.DiskNotStarted before now = now ≡ next_count before
+IsNotStarted _ before now = ⊥
+
+-- the words were taken
+abbrev pub IsTaken : Status → Type 0
+IsTaken status.Usage = ⊥
+IsTaken _ = ⊤
+
+-- the limits of a plain run
+abbrev pub standard_limits : Limits
+standard_limits = record { ids = 1000000; listings = 16000000 }
+
+-- no stream counted a fault
+pub record IsStill (source source' sink sink' : ℕ) : Type 0 where
+  pub of_source : source' ≡ source
+  pub of_sink : sink' ≡ sink

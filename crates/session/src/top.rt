@@ -1,0 +1,128 @@
+ghost use Rattle.std.specs.Prelude.{◌≡◌, ◌≤◌, [], Option, ℕ, List, IfSome};
+ghost use Rattle.page_pool.specs.Pool.{new_pool};
+ghost use Rattle.sand_store.specs.Catalog.{IsLimits, new_catalog};
+ghost use Rattle.script_lines.specs.Reading.{Reads};
+ghost use Rattle.session.specs.Ends.{AreJudged, Ends, HasBegun, IsCaused, IsTaken, standard_limits};
+ghost use Rattle.session.specs.Outside.{outside_of};
+ghost use Rattle.session.specs.Workload.{EndsAsked, workload_of};
+
+use crate::Status;
+use crate::script::carry_script;
+use crate::start::start;
+use crate::workload::run_workload;
+use page_pool::Disk;
+use run_words::{WordFault, Words, read_words};
+use sand_base::{Label, Limits, NoMemory, Shelf, Sink, Source};
+use sand_store::Store;
+use script_lines::ScriptLines;
+use std::alloc::Global;
+
+// Carries the script out on a store of no relations, and hands the disk back.
+fn run_store<S: Source, H: Shelf, D: Disk, K: Sink>(
+    alloc: Global,
+    store: Store<D>,
+    lines: &mut ScriptLines,
+    script: &mut S,
+    shelf: &mut H,
+    out: &mut K,
+) -> (Status, D)
+    requires begun { (left : Option (List ℕ)) → Reads lines.old left [] [] }
+    requires empty { store ≡ record { catalog = new_catalog store.catalog.limits; pool = new_pool store.pool.disk store.pool.frames } }
+    ensures promise { Ends result.0 store.catalog.limits (outside_of (S.left script.old) (S.faults script.old) (H.files shelf.old) (H.faults shelf.old) store.pool.disk (K.took out.old) (K.faults out.old)) (outside_of (S.left script.new) (S.faults script.new) (H.files shelf.new) (H.faults shelf.new) (D.seen result.1) (K.took out.new) (K.faults out.new)) }
+    ensures cause { IsCaused result.0 (S.faults script.old) (S.faults script.new) (K.faults out.old) (K.faults out.new) }
+    ensures begun { HasBegun result.0 }
+{
+    let (store, status) = carry_script(alloc, store, lines, script, shelf, out);
+    (status, store.into_disk())
+}
+
+/// Starts the store over the disk, and carries the script out on it.
+pub(crate) fn run_started<S: Source, H: Shelf, D: Disk, K: Sink>(
+    alloc: Global,
+    limits: Limits,
+    asked: &Words,
+    lines: &mut ScriptLines,
+    script: &mut S,
+    shelf: &mut H,
+    disk: D,
+    out: &mut K,
+) -> (Status, D)
+    requires least { 16 ≤ asked.now.frames }
+    requires most { asked.now.frames ≤ 4096 }
+    requires limits { IsLimits limits }
+    requires begun { (left : Option (List ℕ)) → Reads lines.old left [] [] }
+    ensures promise { Ends result.0 limits (outside_of (S.left script.old) (S.faults script.old) (H.files shelf.old) (H.faults shelf.old) (D.seen disk) (K.took out.old) (K.faults out.old)) (outside_of (S.left script.new) (S.faults script.new) (H.files shelf.new) (H.faults shelf.new) (D.seen result.1) (K.took out.new) (K.faults out.new)) }
+    ensures cause { IsCaused result.0 (S.faults script.old) (S.faults script.new) (K.faults out.old) (K.faults out.new) }
+    ensures taken { IsTaken result.0 }
+{
+    match start(alloc, disk, asked, limits) {
+        Ok(store) => run_store(alloc, store, lines, script, shelf, out),
+        Err((status, disk)) => (status, disk),
+    }
+}
+
+// What the words ask for.
+fn run_asked<S: Source, H: Shelf, D: Disk, K: Sink>(
+    alloc: Global,
+    limits: Limits,
+    asked: &Words,
+    script: &mut S,
+    shelf: &mut H,
+    disk: D,
+    out: &mut K,
+) -> (Status, D)
+    requires least { 16 ≤ asked.now.frames }
+    requires most { asked.now.frames ≤ 4096 }
+    requires size { IfSome asked.now.workload (λ n. (1 ≤ n) × (n ≤ 100000)) }
+    requires limits { IsLimits limits }
+    ensures promise { EndsAsked asked.now.workload result.0 limits (outside_of (S.left script.old) (S.faults script.old) (H.files shelf.old) (H.faults shelf.old) (D.seen disk) (K.took out.old) (K.faults out.old)) (outside_of (S.left script.new) (S.faults script.new) (H.files shelf.new) (H.faults shelf.new) (D.seen result.1) (K.took out.new) (K.faults out.new)) }
+    ensures cause { IsCaused result.0 (S.faults script.old) (S.faults script.new) (K.faults out.old) (K.faults out.new) }
+    ensures taken { IsTaken result.0 }
+{
+    if let Some(n) = asked.workload {
+        return run_workload(alloc, limits, asked, n, disk, out);
+    }
+    match ScriptLines::new(alloc) {
+        Ok(mut lines) => run_started(alloc, limits, asked, &mut lines, script, shelf, disk, out),
+        Err(NoMemory {}) => (Status::NoMemory, disk),
+    }
+}
+
+/// Reads a script, carries its lines out in order and writes their lines of output. The limits stand in the place of the
+/// numbers of ids and listings. The disk is handed back.
+pub fn run_within<S: Source, H: Shelf, D: Disk, K: Sink>(
+    alloc: Global,
+    limits: Limits,
+    words: &[Label],
+    script: &mut S,
+    shelf: &mut H,
+    disk: D,
+    out: &mut K,
+) -> (Status, D)
+    requires { IsLimits limits }
+    ensures promise { EndsAsked (workload_of words.now) result.0 limits (outside_of (S.left script.old) (S.faults script.old) (H.files shelf.old) (H.faults shelf.old) (D.seen disk) (K.took out.old) (K.faults out.old)) (outside_of (S.left script.new) (S.faults script.new) (H.files shelf.new) (H.faults shelf.new) (D.seen result.1) (K.took out.new) (K.faults out.new)) }
+    ensures cause { IsCaused result.0 (S.faults script.old) (S.faults script.new) (K.faults out.old) (K.faults out.new) }
+    ensures usage { AreJudged result.0 words.now }
+{
+    match read_words(alloc, words) {
+        Ok(asked) => run_asked(alloc, limits, &asked, script, shelf, disk, out),
+        Err(WordFault::Usage) => (Status::Usage, disk),
+        Err(WordFault::Memory) => (Status::NoMemory, disk),
+    }
+}
+
+/// A run within the limits of a plain run: 1,000,000 ids of each relation, 16,000,000 listings of each quadtree.
+pub fn run<S: Source, H: Shelf, D: Disk, K: Sink>(
+    alloc: Global,
+    words: &[Label],
+    script: &mut S,
+    shelf: &mut H,
+    disk: D,
+    out: &mut K,
+) -> (Status, D)
+    ensures promise { EndsAsked (workload_of words.now) result.0 standard_limits (outside_of (S.left script.old) (S.faults script.old) (H.files shelf.old) (H.faults shelf.old) (D.seen disk) (K.took out.old) (K.faults out.old)) (outside_of (S.left script.new) (S.faults script.new) (H.files shelf.new) (H.faults shelf.new) (D.seen result.1) (K.took out.new) (K.faults out.new)) }
+    ensures cause { IsCaused result.0 (S.faults script.old) (S.faults script.new) (K.faults out.old) (K.faults out.new) }
+    ensures usage { AreJudged result.0 words.now }
+{
+    run_within(alloc, Limits::standard(), words, script, shelf, disk, out)
+}
