@@ -1,0 +1,80 @@
+// A script whose source, sink or data file fails at one call.
+use crate::harness::{Case, Fault, answer_of};
+use crate::trouble::{Trouble, agree};
+use session::Status;
+use std::alloc::Global;
+
+/// The most calls that are tried.
+const MOST: u64 = 10_000;
+
+/// Which calls fail.
+#[derive(Clone, Copy)]
+pub enum Stream {
+    Source,
+    Sink,
+    Shelf,
+}
+
+impl Stream {
+    // The failing call of the number.
+    fn fault(self, call: u64) -> Fault {
+        match self {
+            Stream::Source => Fault::Source(call),
+            Stream::Sink => Fault::Sink(call),
+            Stream::Shelf => Fault::Shelf(call),
+        }
+    }
+
+    // The status of a run in which a call fails.
+    fn status(self) -> Status {
+        match self {
+            Stream::Source => Status::ReadFault,
+            Stream::Sink => Status::WriteFault,
+            Stream::Shelf => Status::SomeRefused,
+        }
+    }
+}
+
+// Whether the text begins the other one.
+fn begins(alloc: Global, call: u64, text: &[u8], whole: &[u8]) -> Result<(), Trouble> {
+    let front: Vec<u8> = whole.iter().copied().take(text.len()).collect(alloc)?;
+    agree(alloc, call, front.as_slice(), text)
+}
+
+/// What is written where a call fails.
+#[derive(Clone, Copy)]
+pub enum Wanted<'a> {
+    /// The first bytes of the text of the plain run.
+    Front,
+    /// This text.
+    Text(&'a str),
+}
+
+/// The number of calls in the run, each of which was made to fail in a run of its own: the run ends with the status of the
+/// stream's fault, and writes what is wanted. `plain` is the text of the run in which none fails.
+pub fn tried(
+    alloc: Global,
+    case: &Case,
+    stream: Stream,
+    plain: &str,
+    wanted: Wanted,
+) -> Result<u64, Trouble> {
+    for call in 1..MOST {
+        let given = answer_of(alloc, case, stream.fault(call))?;
+        if given.status == Status::Done {
+            agree(alloc, call, plain.as_bytes(), given.text())?;
+            return Ok(call.saturating_sub(1));
+        }
+        if given.status != stream.status() {
+            return Err(Trouble::Ended {
+                tried: call,
+                status: given.status.code(),
+            });
+        }
+        match wanted {
+            Wanted::Front => begins(alloc, call, given.text(), plain.as_bytes())?,
+            Wanted::Text(text) => agree(alloc, call, text.as_bytes(), given.text())?,
+        }
+    }
+    Err(Trouble::Counted(MOST))
+}
