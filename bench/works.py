@@ -1,0 +1,146 @@
+#!/usr/bin/env python3
+"""Prints what the program needs for some work over points and segments of its own making. It gives no verdict.
+
+  bench/works.py [--size N] [--set uniform|clustered] [--frames N] [--repeat N] [WORK..]
+
+A work item is run twice: the script that creates, loads and indexes its relations, and the same with its queries behind
+it. What is printed is the difference of the two in seconds of the wall clock and of the processor, the least of some
+repeats, the rows or lines that came, the visits that `stats` counts for the same queries, and the peak memory.
+
+  build        N rows with a point, a text and an int are loaded and the points indexed
+  knn10        1,000 rankings, 10 rows of each; knn100 likewise
+  browse100    1,000 rankings browsed up to the first row that one row in 100 passes; browse1000 likewise
+  window       1,000 windows, all rows of each
+  join100      the first 100 pairs of points and segments; semi100 the first 100 points with their nearest segment
+  update       10,000 rows inserted and 10,000 deleted, each a statement of its own
+"""
+import argparse
+import os
+import random
+import subprocess
+import tempfile
+import threading
+import time
+
+HERE = os.path.dirname(os.path.abspath(__file__))
+PROGRAM = os.path.join(HERE, "..", "crates", "sand_shell", "out", "sand_shell")
+WORKS = "build knn10 knn100 browse100 browse1000 window join100 semi100 update".split()
+LAST = 65535
+
+
+def clamp(value: float) -> int:
+    return max(0, min(LAST, round(value)))
+
+
+class Data:
+    """A data set: files in a folder, and the queries over them. Everything follows from the size and the kind."""
+
+    def __init__(self, folder: str, size: int, kind: str) -> None:
+        self.folder, self.size, draw = folder, size, random.Random(f"{kind} {size}")
+        centres = [(draw.uniform(0, LAST), draw.uniform(0, LAST), draw.uniform(200, 3000)) for _ in range(64)]
+
+        def place() -> tuple[int, int]:
+            if kind == "uniform":
+                return draw.randint(0, LAST), draw.randint(0, LAST)
+            x, y, spread = draw.choice(centres)
+            return clamp(draw.gauss(x, spread)), clamp(draw.gauss(y, spread))
+
+        with open(os.path.join(folder, "points.csv"), "w", encoding="utf-8") as file:
+            for number in range(size):
+                x, y = place()
+                file.write(f"({x} {y}),place {number},{draw.randint(0, 9_999_999)}\n")
+        reach = max(4, 20_000 // round(size**0.5))
+        with open(os.path.join(folder, "ways.csv"), "w", encoding="utf-8") as file:
+            for _ in range(size):
+                x, y = place()
+                file.write(f"({x} {y})-({clamp(x + draw.randint(-reach, reach))} {clamp(y + draw.randint(-reach, reach))})\n")
+        self.goals = [place() for _ in range(1000)]
+        side = round(LAST / (size / 100) ** 0.5 / 2)
+        self.windows = [(clamp(x - side), clamp(y - side), clamp(x + side), clamp(y + side)) for x, y in self.goals]
+        self.inserts = [(*place(), draw.randint(0, 9_999_999)) for _ in range(10_000)]
+        self.deletes = draw.sample(range(1, size + 1), min(size, 10_000))
+
+    def load(self, ways: bool) -> list[str]:
+        lines = ["create p (at point, name text, pop int)", 'load p "points.csv"', "index p.at"]
+        return lines + ["create s (way segment)", 'load s "ways.csv"', "index s.way"] * ways
+
+    def queries(self, work: str) -> list[str]:
+        number = int("".join(it for it in work if it.isdigit()) or 0)
+        if work.startswith("knn"):
+            return [f"show {number} rank p.at from ({x} {y})" for x, y in self.goals]
+        if work.startswith("browse"):
+            least = 10_000_000 - 10_000_000 // number
+            return [f"show 1 filter (rank p.at from ({x} {y})) where 1.pop >= {least}" for x, y in self.goals]
+        if work == "window":
+            return [f"show 1000000 window p.at {x} {y} {u} {v}" for x, y, u, v in self.windows]
+        if work in ("join100", "semi100"):
+            return [f"show {number} {work[:-3]} p.at s.way"]
+        both = zip(self.inserts, self.deletes)
+        return [it for (x, y, pop), id in both for it in (f'insert p ({x} {y}), "n", {pop}', f"delete p {id}")]
+
+
+def watch(pid: int, peak: list[float]) -> None:
+    """Keeps the peak memory of a process in MiB (what `wait4` tells of it counts this program too)."""
+    try:
+        while True:
+            with open(f"/proc/{pid}/status", encoding="utf-8") as file:
+                peak[0] = next((int(it.split()[1]) / 1024 for it in file if it.startswith("VmHWM")), peak[0])
+            time.sleep(0.01)
+    except OSError:
+        pass
+
+
+def run(words: list[str], folder: str, lines: list[str]) -> tuple[float, float, float, list[str]]:
+    """Seconds of the wall clock and of the processor, peak MiB, and the lines that came."""
+    with tempfile.TemporaryFile() as script, tempfile.TemporaryFile() as out:
+        script.write("".join(f"{line}\n" for line in lines).encode())
+        script.seek(0)
+        start = time.monotonic()
+        program = subprocess.Popen(words, stdin=script, stdout=out, cwd=folder)
+        peak = [0.0]
+        threading.Thread(target=watch, args=(program.pid, peak), daemon=True).start()
+        _, _, used = os.wait4(program.pid, 0)
+        took = time.monotonic() - start
+        out.seek(0)
+        return took, used.ru_utime + used.ru_stime, peak[0], out.read().decode().splitlines()
+
+
+def counted(lines: list[str]) -> list[str]:
+    """The same rows through a cursor, with its `stats`."""
+    found = []
+    for line in lines:
+        _, count, plan = line.split(" ", 2)
+        found += [f"open c = {plan}", f"next c {count}", "stats c", "close c"]
+    return found
+
+
+def main() -> None:
+    asked = argparse.ArgumentParser(description=__doc__, formatter_class=argparse.RawDescriptionHelpFormatter)
+    asked.add_argument("--size", type=int, default=100_000)
+    asked.add_argument("--set", choices=("uniform", "clustered"), default="clustered")
+    asked.add_argument("--frames", type=int, default=4096)
+    asked.add_argument("--repeat", type=int, default=3)
+    asked.add_argument("--program", default=PROGRAM)
+    asked.add_argument("works", nargs="*", default=WORKS)
+    asked = asked.parse_args()
+    words = [os.path.abspath(asked.program), "--frames", str(asked.frames)]
+    with tempfile.TemporaryDirectory() as folder:
+        data = Data(folder, asked.size, asked.set)
+        print(f"{asked.size:,} {asked.set} rows, {asked.frames} frames, least of {asked.repeat} runs")
+        print(f"{'work':<11}{'wall s':>9}{'processor s':>13}{'lines':>11}{'visits':>10}{'peak MiB':>10}")
+        for work in asked.works:
+            lines = [] if work == "build" else data.queries(work)
+            load = data.load(work in ("join100", "semi100"))
+            least = [float("inf"), float("inf")]
+            for _ in range(asked.repeat):
+                base = run(words, folder, load[:1] if work == "build" else load)
+                full = run(words, folder, load + lines)
+                least = [min(old, new) for old, new in zip(least, (full[0] - base[0], full[1] - base[1]))]
+            visits = ""
+            if work not in ("build", "update"):
+                stats = [it.split() for it in run(words, folder, load + counted(lines))[3] if it.startswith("blocks ")]
+                visits = f"{sum(int(it[1]) + int(it[3]) for it in stats):,}"
+            print(f"{work:<11}{least[0]:>9.3f}{least[1]:>13.3f}{len(full[3]) - len(base[3]):>11,}{visits:>10}{full[2]:>10.1f}", flush=True)
+
+
+main()
