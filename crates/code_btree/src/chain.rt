@@ -66,10 +66,7 @@ fn give_at<P: Pages>(pages: &mut P, n: u64, place: usize) -> Result<Given, PageF
     ensures value { IfOk result (λ given. IsTold (P.shown pages.old) → IsGivenIn (pages_in (P.shown pages.old)) n place given) }
     ensures looks { Looks (P.shown pages.old) (P.shown pages.new) 1 result }
 {
-    if !pages.is_live(n) {
-        return Err(PageFault::Memory);
-    }
-    let page = pages.page(n)?;
+    let page = pages.live_page(n)?;
     let Some(count) = leaf_count(page) else {
         return Ok(nothing());
     };
@@ -81,10 +78,7 @@ fn give_from<P: Pages>(pages: &mut P, n: u64, key: u128) -> Result<Given, PageFa
     ensures value { IfOk result (λ given. IsTold (P.shown pages.old) → IsGivenFrom (pages_in (P.shown pages.old)) n key given) }
     ensures looks { Looks (P.shown pages.old) (P.shown pages.new) 1 result }
 {
-    if !pages.is_live(n) {
-        return Err(PageFault::Memory);
-    }
-    let page = pages.page(n)?;
+    let page = pages.live_page(n)?;
     let Some(count) = leaf_count(page) else {
         return Ok(nothing());
     };

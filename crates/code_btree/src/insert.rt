@@ -28,22 +28,22 @@ pub enum Grown {
 fn split_leaf<D: Disk>(
     pool: &mut Pool<D>,
     n: u64,
-    mut page: Page,
+    page: &mut Page,
     at: usize,
     key: u128,
     value: u128,
 ) -> Result<(u128, u64), PageFault>
     requires opened { IsOpen pool.old }
-    requires leaf { IsLeafOf page 127 }
+    requires leaf { IsLeafOf page.old 127 }
     requires place { at ≤ 127 }
-    ensures value { IfOk result (λ r. live (pages_in pool.old) n ≡ 1 → SplitsLeaf (pages_in pool.old) (pages_in pool.new) n r.1 r.0 (put_at at (key, value) (entries_of (node_of page))) (next_of (node_of page))) }
+    ensures value { IfOk result (λ r. live (pages_in pool.old) n ≡ 1 → SplitsLeaf (pages_in pool.old) (pages_in pool.new) n r.1 r.0 (put_at at (key, value) (entries_of (node_of page.old))) (next_of (node_of page.old))) }
     ensures within { InCommand pool.old pool.new }
     ensures cause { HasPageCause pool.old pool.new result }
 {
-    let right = cut_leaf(&mut page, at, key, value);
+    let right = cut_leaf(page, at, key, value);
     let r = gain(pool, &right)?;
-    set_next(&mut page, 64, r);
-    write(pool, n, &page)?;
+    set_next(page, 64, r);
+    write(pool, n, page)?;
     Ok((entry_key_at(&right, 0), r))
 }
 
@@ -60,7 +60,8 @@ fn insert_leaf<D: Disk>(
     ensures within { InCommand pool.old pool.new }
     ensures cause { HasPageCause pool.old pool.new result }
 {
-    let mut page = read(pool, n)?;
+    let mut page = [0; 4096];
+    read(pool, n, &mut page)?;
     let Some(count) = leaf_count(&page) else {
         return Err(PageFault::Memory);
     };
@@ -75,7 +76,7 @@ fn insert_leaf<D: Disk>(
         write(pool, n, &page)?;
         return Ok((None, Grown::Kept));
     }
-    let (up, right) = split_leaf(pool, n, page, at, key, value)?;
+    let (up, right) = split_leaf(pool, n, &mut page, at, key, value)?;
     Ok((None, Grown::Split(up, right)))
 }
 
@@ -83,27 +84,27 @@ fn insert_leaf<D: Disk>(
 fn adopt<D: Disk>(
     pool: &mut Pool<D>,
     n: u64,
-    mut page: Page,
+    page: &mut Page,
     count: usize,
     at: usize,
     key: u128,
     child: u64,
 ) -> Result<Grown, PageFault>
     requires opened { IsOpen pool.old }
-    requires inner { IsInnerOf page count }
+    requires inner { IsInnerOf page.old count }
     requires place { at ≤ count }
-    ensures value { IfOk result (λ grown. live (pages_in pool.old) n ≡ 1 → Adopts (pages_in pool.old) (pages_in pool.new) n (put_at at key (keys_of (node_of page))) (put_at (at + 1) child (children_of (node_of page))) grown) }
+    ensures value { IfOk result (λ grown. live (pages_in pool.old) n ≡ 1 → Adopts (pages_in pool.old) (pages_in pool.new) n (put_at at key (keys_of (node_of page.old))) (put_at (at + 1) child (children_of (node_of page.old))) grown) }
     ensures within { InCommand pool.old pool.new }
     ensures cause { HasPageCause pool.old pool.new result }
 {
     if count < 169 {
-        put_child(&mut page, count, at, key, child);
-        write(pool, n, &page)?;
+        put_child(page, count, at, key, child);
+        write(pool, n, page)?;
         return Ok(Grown::Kept);
     }
-    let (up, right) = cut_inner(&mut page, at, key, child);
+    let (up, right) = cut_inner(page, at, key, child);
     let r = gain(pool, &right)?;
-    write(pool, n, &page)?;
+    write(pool, n, page)?;
     Ok(Grown::Split(up, r))
 }
 
@@ -124,7 +125,8 @@ pub fn insert_under<D: Disk>(
     if level == 0 {
         return insert_leaf(pool, n, key, value);
     }
-    let page = read(pool, n)?;
+    let mut page = [0; 4096];
+    read(pool, n, &mut page)?;
     let Some(count) = inner_count(&page) else {
         return Err(PageFault::Memory);
     };
@@ -134,7 +136,7 @@ pub fn insert_under<D: Disk>(
     match below {
         Grown::Kept => Ok((was, Grown::Kept)),
         Grown::Split(up, right) => {
-            let grown = adopt(pool, n, page, count, at, up, right)?;
+            let grown = adopt(pool, n, &mut page, count, at, up, right)?;
             Ok((was, grown))
         }
     }

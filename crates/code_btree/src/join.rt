@@ -120,8 +120,10 @@ fn balance_leaves<D: Disk>(pool: &mut Pool<D>, a: u64, b: u64) -> Result<Option<
     ensures within { InCommand pool.old pool.new }
     ensures cause { HasPageCause pool.old pool.new result }
 {
-    let mut left = read(pool, a)?;
-    let mut right = read(pool, b)?;
+    let mut left = [0; 4096];
+    read(pool, a, &mut left)?;
+    let mut right = [0; 4096];
+    read(pool, b, &mut right)?;
     let Some(count) = leaf_count(&left) else {
         return Err(PageFault::Memory);
     };
@@ -155,8 +157,10 @@ fn balance_inners<D: Disk>(
     ensures within { InCommand pool.old pool.new }
     ensures cause { HasPageCause pool.old pool.new result }
 {
-    let mut left = read(pool, a)?;
-    let mut right = read(pool, b)?;
+    let mut left = [0; 4096];
+    read(pool, a, &mut left)?;
+    let mut right = [0; 4096];
+    read(pool, b, &mut right)?;
     let Some(count) = inner_count(&left) else {
         return Err(PageFault::Memory);
     };

@@ -14,10 +14,7 @@ pub fn child_for<P: Pages>(pages: &mut P, n: u64, key: u128) -> Result<Option<u6
     ensures value { IfOk result (λ child. IsTold (P.shown pages.old) → LeadsTo (pages_in (P.shown pages.old)) n key child) }
     ensures looks { Looks (P.shown pages.old) (P.shown pages.new) 1 result }
 {
-    if !pages.is_live(n) {
-        return Err(PageFault::Memory);
-    }
-    let page = pages.page(n)?;
+    let page = pages.live_page(n)?;
     let Some(count) = inner_count(page) else {
         return Ok(None);
     };
@@ -29,10 +26,7 @@ fn find_in_leaf<P: Pages>(pages: &mut P, n: u64, key: u128) -> Result<Option<u12
     ensures value { IfOk result (λ found. IsTold (P.shown pages.old) → IsFoundIn (pages_in (P.shown pages.old)) n key found) }
     ensures looks { Looks (P.shown pages.old) (P.shown pages.new) 1 result }
 {
-    if !pages.is_live(n) {
-        return Err(PageFault::Memory);
-    }
-    let page = pages.page(n)?;
+    let page = pages.live_page(n)?;
     let Some(count) = leaf_count(page) else {
         return Ok(None);
     };
@@ -70,10 +64,7 @@ fn floor_in_leaf<P: Pages>(
     ensures value { IfOk result (λ found. IsTold (P.shown pages.old) → IsFloorIn (pages_in (P.shown pages.old)) n key found) }
     ensures looks { Looks (P.shown pages.old) (P.shown pages.new) 1 result }
 {
-    if !pages.is_live(n) {
-        return Err(PageFault::Memory);
-    }
-    let page = pages.page(n)?;
+    let page = pages.live_page(n)?;
     let Some(count) = leaf_count(page) else {
         return Ok(None);
     };

@@ -56,7 +56,8 @@ fn remove_leaf<D: Disk>(pool: &mut Pool<D>, n: u64, key: u128) -> Result<Shrunk,
     ensures within { InCommand pool.old pool.new }
     ensures cause { HasPageCause pool.old pool.new result }
 {
-    let mut page = read(pool, n)?;
+    let mut page = [0; 4096];
+    read(pool, n, &mut page)?;
     let Some(count) = leaf_count(&page) else {
         return Err(PageFault::Memory);
     };
@@ -125,28 +126,28 @@ fn mend<D: Disk>(
     pool: &mut Pool<D>,
     level: u32,
     n: u64,
-    mut page: Page,
+    page: &mut Page,
     count: usize,
     j: usize,
 ) -> Result<usize, PageFault>
     requires opened { IsOpen pool.old }
-    requires inner { IsInnerOf page count }
-    ensures value { IfOk result (λ size. IsTold pool.old → Mends (pages_in pool.old) (pages_in pool.new) level n j (keys_of (node_of page)) (children_of (node_of page)) size) }
+    requires inner { IsInnerOf page.old count }
+    ensures value { IfOk result (λ size. IsTold pool.old → Mends (pages_in pool.old) (pages_in pool.new) level n j (keys_of (node_of page.old)) (children_of (node_of page.old)) size) }
     ensures within { InCommand pool.old pool.new }
     ensures cause { HasPageCause pool.old pool.new result }
 {
     if j >= count {
         return Err(PageFault::Memory);
     }
-    let left = child_at(&page, j);
-    let right = child_at(&page, j + 1);
-    let Some(up) = balance(pool, level, left, key_at(&page, j), right)? else {
-        splice_inner(&mut page, count, j, j + 1, &[], j + 1, j + 2, &[]);
-        write(pool, n, &page)?;
+    let left = child_at(page, j);
+    let right = child_at(page, j + 1);
+    let Some(up) = balance(pool, level, left, key_at(page, j), right)? else {
+        splice_inner(page, count, j, j + 1, &[], j + 1, j + 2, &[]);
+        write(pool, n, page)?;
         return Ok(count - 1);
     };
-    set_key(&mut page, count, j, up);
-    write(pool, n, &page)?;
+    set_key(page, count, j, up);
+    write(pool, n, page)?;
     Ok(count)
 }
 
@@ -167,7 +168,8 @@ pub fn remove_under<D: Disk>(
         let shrunk = remove_leaf(pool, n, key)?;
         return Ok(shrunk);
     }
-    let mut page = read(pool, n)?;
+    let mut page = [0; 4096];
+    read(pool, n, &mut page)?;
     let Some(count) = inner_count(&page) else {
         return Err(PageFault::Memory);
     };
@@ -177,7 +179,7 @@ pub fn remove_under<D: Disk>(
     let noted = note(&mut page, count, at, below.least);
     let least = passed(at, below.least);
     if below.short {
-        let size = mend(pool, level - 1, n, page, count, at.saturating_sub(1))?;
+        let size = mend(pool, level - 1, n, &mut page, count, at.saturating_sub(1))?;
         let short = is_short(size, 84);
         return Ok(Shrunk {
             was: below.was,
@@ -229,7 +231,8 @@ pub fn fallen<D: Disk>(
     if height < 2 {
         return Ok(None);
     }
-    let page = read(pool, root)?;
+    let mut page = [0; 4096];
+    read(pool, root, &mut page)?;
     let Some(count) = inner_count(&page) else {
         return Err(PageFault::Memory);
     };

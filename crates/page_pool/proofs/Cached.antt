@@ -1,5 +1,6 @@
 -- A cache's pairs, seen as a finite map.
-use Rattle.std.proofs.Common.{◌≡◌, ℕ, List, [], ◌∷◌, true, false, cond, refl, sym, ap, subst, ◌∙◌, Option, Some, None, nat_eq, Contains, ◌⊎◌, inl, inr, eqb-true}
+use Rattle.std.proofs.Common.{◌≡◌, ℕ, List, [], ◌∷◌, true, false, cond, refl, sym, ap, subst, ◌∙◌, Option, Some, None, nat_eq, Contains, ◌⊎◌, inl, inr, eqb-true, is_some, slice_get}
+use mathlib.Core.Bool.{true≢false}
 use Rattle.std.specs.Ordering.{nat_cmp, is_eq}
 use Rattle.std.specs.Cmp.{nat_eq_equiv, unsigned_tied}
 use Rattle.std.specs.List.{IsDistinct}
@@ -19,6 +20,14 @@ lookup-tied q (e ∷ es) = λ i. cond (sym (unsigned_tied q e.0) i) (Some e.1) (
 
 pub get-cached : {X : Type 0} (q : ℕ) (es : List (ℕ × X)) → lookup (nat_eq q) es ≡ map.get (of_entries es) q
 get-cached q es = lookup-tied q es ∙ sym (get-from_entries q es)
+
+-- the value of a key that stands first
+pub first_found : {X : Type 0} (q : ℕ) (es : List (ℕ × X)) (e : ℕ × X) → Some e ≡ slice_get es 0 → e.0 ≡ q → map.get (of_entries es) q ≡ Some e.1
+first_found q [] e first at = absurd (true≢false (ap is_some first))
+first_found q (x ∷ es) e first at =
+    let same : e ≡ x = cc in
+    let key : nat_eq q x.0 ≡ true = ap (nat_eq q) (ap (λ p. p.0) (sym same) ∙ at) ∙ nat_eq_equiv.refl q in
+    sym (get-cached q (x ∷ es)) ∙ ap (λ b. cond b (Some x.1) (lookup (nat_eq q) es)) key ∙ ap (λ p. Some p.1) (sym same)
 
 one_key : (k x y : ℕ) → nat_eq k x ≡ true → nat_eq k y ≡ nat_eq x y
 one_key k x y h = ap (λ n. nat_eq n y) (eqb-true k x h)

@@ -31,6 +31,18 @@ module _ (disk : DiskView) (kept : DigestMap) (staged : StagedState) (frames : F
         clean = λ clean. absurd (true≢false (sym (contains-dirty staged.changes n ∙ ap is_page is) ∙ clean));
       }
 
+  -- it is live
+  pub staged_live : (n : ℕ) (page : List ℕ) → map.get staged.changes n ≡ Some (Some page) → map.contains_key pages n ≡ true
+  staged_live n page is = live_staged disk kept staged.changes frames numbers is_open whole n (Some page) is
+
+  -- a page with a kept digest is live, if none is staged
+  pub kept_live : (n : ℕ) (digest : List ℕ) → map.get staged.changes n ≡ None → map.get kept n ≡ Some digest → map.contains_key pages n ≡ true
+  kept_live n digest none is = live_unstaged disk kept staged.changes frames numbers is_open whole n none ∙ ap is_some is
+
+  -- so is one in a frame
+  pub framed_live : (n : ℕ) (page : List ℕ) → map.get staged.changes n ≡ None → map.get frames.pages n ≡ Some page → map.contains_key pages n ≡ true
+  framed_live n page none is = kept_live n (sha256 page) none (whole.digested n page is)
+
   -- a page in a frame is the page, if none is staged
   pub page_framed : (n : ℕ) (page : List ℕ) → map.get staged.changes n ≡ None → map.get frames.pages n ≡ Some page → IsPage (state_of disk kept staged frames numbers is_open gets) n page
   page_framed n page none is =

@@ -87,6 +87,10 @@ impl<D: Disk> Pages for Desk<D> {
         self.pool.page(n)
     }
 
+    fn live_page(&mut self, n: u64) -> Result<&[u8; 4096], PageFault> {
+        self.pool.live_page(n)
+    }
+
     fn is_live(&self, n: u64) -> bool {
         self.pool.is_live(n)
     }

@@ -1,4 +1,4 @@
-ghost use Rattle.std.specs.Prelude.{◌≡◌, ◌<◌, ◌≤◌, ◌^◌, ◌⊎◌, ℕ, List, Some, OnOk, IfOk};
+ghost use Rattle.std.specs.Prelude.{◌≡◌, ◌<◌, ◌≤◌, ◌^◌, ◌⊎◌, ℕ, List, Some, OnOk, IfOk, IfSome};
 ghost use Rattle.std.specs.FinMap as map;
 ghost use Rattle.std.specs.Option.{option_copied};
 
@@ -50,13 +50,29 @@ impl Frames {
         ensures pages { self.new.pages ≡ self.old.pages }
         ensures most { self.new.most ≡ self.old.most }
     {
+        if let Some(_) = self.front(place) {
+            return true;
+        }
         let _count = self.cache.len(); // (its contract says that the places differ)
         self.cache.promote(&place)
+    }
+
+    // The page, if it is the most recently used one: this takes no search.
+    fn front(&self, place: u64) -> Option<&Page>
+        ensures { IfSome result (λ page. map.get self.now.pages place ≡ Some page.now) }
+    {
+        match self.cache.peek_mru() {
+            Some((first, page)) if *first == place => Some(page),
+            _ => None,
+        }
     }
 
     pub(crate) fn get(&self, place: u64) -> Option<&Page>
         ensures { option_copied result ≡ map.get self.now.pages place }
     {
+        if let Some(page) = self.front(place) {
+            return Some(page);
+        }
         self.cache.peek(&place)
     }
 

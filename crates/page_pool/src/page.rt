@@ -39,6 +39,13 @@ impl Page {
         &self.bytes
     }
 
+    // The page has these bytes from now on.
+    pub(crate) fn set(&mut self, bytes: &[u8; 4096])
+        ensures { self.new ≡ bytes.now }
+    {
+        *self.bytes = *bytes;
+    }
+
     pub(crate) fn digest(&self) -> [u8; 32]
         ensures { result ≡ sha256 self.now }
     {

@@ -1,4 +1,4 @@
-ghost use Rattle.std.specs.Prelude.{◌≡◌, ◌<◌, ◌≤◌, ◌^◌, Some, OnOk, OnErr, IfSome, IfNone};
+ghost use Rattle.std.specs.Prelude.{◌≡◌, ◌<◌, ◌≤◌, ◌^◌, Some, OnOk, OnErr, IfSome, IfNone, true, false};
 ghost use Rattle.std.specs.FinMap as map;
 ghost use Rattle.std.specs.FinSet as set;
 ghost use Rattle.std.specs.Option.{option_copied};
@@ -56,6 +56,30 @@ impl Staged {
         Ok(())
     }
 
+    // Writes these bytes over the page that is staged under the number. False where none is.
+    fn overwrite(&mut self, n: u64, bytes: &[u8; 4096]) -> bool
+        ensures written { result ≡ true → self.new.changes ≡ map.insert self.old.changes n (Some bytes.now) }
+        ensures unchanged { result ≡ false → self.new ≡ self.old }
+    {
+        let Some(change) = self.changes.get_mut(&n) else {
+            return false;
+        };
+        set_page(change, bytes)
+    }
+
+    // Stages these bytes as the page of the number: over those of an earlier one, where one is staged.
+    pub(crate) fn put(&mut self, alloc: Global, n: u64, bytes: &[u8; 4096]) -> Result<(), NoMemory>
+        ensures staged { OnOk result (self.new.changes ≡ map.insert self.old.changes n (Some bytes.now)) }
+        ensures unchanged { OnErr result (self.new ≡ self.old) }
+    {
+        if self.overwrite(n, bytes) {
+            return Ok(());
+        }
+        let page = Page::new(alloc, bytes)?;
+        self.insert(n, Some(page))?;
+        Ok(())
+    }
+
     // The change of the least number.
     pub(crate) fn first(&self) -> Option<(u64, &Option<Page>)>
         ensures found { IfSome result (λ e. map.get self.now.changes e.0 ≡ Some e.1.now) }
@@ -91,5 +115,19 @@ impl Staged {
             .values()
             .filter(|change| change.is_some())
             .count()
+    }
+}
+
+// Writes these bytes over a page. False where the page was freed.
+fn set_page(change: &mut Option<Page>, bytes: &[u8; 4096]) -> bool
+    ensures written { result ≡ true → change.new ≡ Some bytes.now }
+    ensures unchanged { result ≡ false → change.new ≡ change.old }
+{
+    match change {
+        Some(page) => {
+            page.set(bytes);
+            true
+        }
+        None => false,
     }
 }

@@ -16,7 +16,5 @@ mod place;
 mod row;
 mod steps;
 mod store;
-#[cfg(test)]
-mod tests;
 
 pub use file::TupleFile;

@@ -23,10 +23,7 @@ pub fn row_at<P: Pages>(
     ensures value { IfOk result (λ row. IsTold (P.shown pages.old) → IsDecoded schema.now (tuple_at (bytes_of (pages_in (P.shown pages.old) n)) slot) row) }
     ensures looks { Looks (P.shown pages.old) (P.shown pages.new) 1 result }
 {
-    if !pages.is_live(n) {
-        return Err(PageFault::Memory);
-    }
-    let page = pages.page(n)?;
+    let page = pages.live_page(n)?;
     let row = decode(alloc, schema, tuple_of(page, slot))?;
     Ok(row)
 }

@@ -42,7 +42,8 @@ pub fn settle<D: Disk>(
         let spot = begin_page(pool, bytes)?;
         return Ok(spot);
     };
-    let mut page = read(pool, n)?;
+    let mut page = [0; 4096];
+    read(pool, n, &mut page)?;
     if !has_room(&page, bytes.len()) {
         let spot = begin_page(pool, bytes)?;
         return Ok(spot);
@@ -60,7 +61,8 @@ pub fn empty<D: Disk>(pool: &mut Pool<D>, n: u64, slot: u16) -> Result<bool, Pag
     ensures within { InCommand pool.old pool.new }
     ensures cause { HasPageCause pool.old pool.new result }
 {
-    let mut page = read(pool, n)?;
+    let mut page = [0; 4096];
+    read(pool, n, &mut page)?;
     clear(&mut page, slot);
     if is_bare(&page) {
         release(pool, n)?;

@@ -8,18 +8,17 @@ ghost use Rattle.code_btree.specs.Steps.{Wrote, Gained, Freed};
 use crate::page::Page;
 use page_pool::{Disk, PageFault, Pages, Pool};
 
-// A copy of page `n`. A number that isn't live is out of memory: no file over a disk that tells leads there.
-pub fn read<D: Disk>(pool: &mut Pool<D>, n: u64) -> Result<Page, PageFault>
-    ensures value { IfOk result (λ page. IsTold pool.old → pages_in pool.old n ≡ Some page) }
+// Copies page `n` into a buffer. A number that isn't live is out of memory: no file over a disk that tells leads
+// there.
+pub fn read<D: Disk>(pool: &mut Pool<D>, n: u64, into: &mut Page) -> Result<(), PageFault>
+    ensures value { OnOk result (IsTold pool.old → pages_in pool.old n ≡ Some into.new) }
     ensures same { pool.new.pages ≡ pool.old.pages }
     ensures within { InCommand pool.old pool.new }
     ensures cause { HasPageCause pool.old pool.new result }
 {
-    if !pool.is_live(n) {
-        return Err(PageFault::Memory);
-    }
-    let page = pool.page(n)?;
-    Ok(*page)
+    let page = pool.live_page(n)?;
+    *into = *page;
+    Ok(())
 }
 
 // Page `n` has these bytes.

@@ -15,8 +15,7 @@ impl<D: Disk> Pool<D> {
         ensures unchanged { OnErr result (self.new ≡ self.old) }
         ensures memory { IfErr result IsMemory }
     {
-        let page = Page::new(self.alloc, bytes)?;
-        self.staged.insert(n, Some(page))?;
+        self.staged.put(self.alloc, n, bytes)?;
         Ok(())
     }
 

@@ -1,8 +1,9 @@
-ghost use Rattle.std.specs.Prelude.{◌≡◌, IfSome, IfOk};
+ghost use Rattle.std.specs.Prelude.{◌≡◌, IfSome, IfOk, IfErr, OnOk, false};
 ghost use Rattle.std.specs.Borrow.{sem};
 ghost use Rattle.std.specs.Io.BufRead.{Rests};
 ghost use Rattle.std.specs.FinMap as map;
 ghost use Rattle.page_pool.specs.Pool.{IsLive, IsPage};
+ghost use Rattle.page_pool.specs.Causes.{IsMemory};
 ghost use Rattle.page_pool.specs.Reads.{Gets};
 
 use crate::page::{Page, read_fresh};
@@ -14,6 +15,17 @@ impl<D: Disk> Pool<D> {
     /// Page `n`: one get. Nothing changes but the frames and the counts, whatever the answer.
     pub fn get(&mut self, n: u64) -> Result<&[u8; 4096], PageFault>
         requires { IsLive self.old n }
+        ensures value { IfOk result (λ page. IsPage self.old n page.now) }
+        ensures* after { sem 𝓛 (Rests (the_row D.row D.Disk) self.entry (λ new.
+            Gets self.old new n result)) }
+    {
+        self.find(n)
+    }
+
+    // Page `n`, if it is live: one get.
+    fn find(&mut self, n: u64) -> Result<&[u8; 4096], PageFault>
+        ensures live { OnOk result (IsLive self.old n) }
+        ensures missing { map.contains_key self.old.pages n ≡ false → IfErr result IsMemory }
         ensures value { IfOk result (λ page. IsPage self.old n page.now) }
         ensures* after { sem 𝓛 (Rests (the_row D.row D.Disk) self.entry (λ new.
             Gets self.old new n result)) }
@@ -30,8 +42,8 @@ impl<D: Disk> Pool<D> {
 
     // One get: afterwards the page is staged or in a frame, if Ok came.
     fn load(&mut self, n: u64) -> Result<(), PageFault>
-        requires { IsLive self.old n }
-        ensures { Gets self.old self.new n result }
+        ensures missing { map.contains_key self.old.pages n ≡ false → IfErr result IsMemory }
+        ensures gets { Gets self.old self.new n result }
     {
         self.gets = self.gets.saturating_add(1);
         if self.staged.get(n).is_some() || self.frames.touch(n) {
@@ -55,8 +67,8 @@ impl<D: Disk> Pool<D> {
 
     // The page, where it is staged or in a frame.
     fn held_page(&self, n: u64) -> Option<&[u8; 4096]>
-        requires { IsLive self.now n }
-        ensures { IfSome result (λ page. IsPage self.now n page.now) }
+        ensures live { IfSome result (λ _. IsLive self.now n) }
+        ensures value { IfSome result (λ page. IsPage self.now n page.now) }
     {
         match self.staged.get(n) {
             Some(Some(page)) => Some(page.bytes()),
@@ -73,7 +85,11 @@ impl<D: Disk> Pages for Pool<D> {
     ghost shown = { λ s. s };
 
     fn page(&mut self, n: u64) -> Result<&[u8; 4096], PageFault> {
-        self.get(n)
+        self.find(n)
+    }
+
+    fn live_page(&mut self, n: u64) -> Result<&[u8; 4096], PageFault> {
+        self.find(n)
     }
 
     fn is_live(&self, n: u64) -> bool {

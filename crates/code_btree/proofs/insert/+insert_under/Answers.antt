@@ -24,7 +24,7 @@ insert_under-requires g t c κs within = (omega arith, (within, (opened, (λ tol
         let same : m0 ≡ m = same_store c.read.new.pool c.args.pool.now c.read.ensures.same in
         let l : c.args.level ≡ suc (c.args.level - 1) = omega arith in
         let S : ℕ → Type 0 = λ x. Subtree m x c.args.n in
-        let at = at_page m (c.args.level - 1) c.args.n c.args.key c.in_ok-page.page c.in-Some.count c.place_of-at.result (c.in_ok-page.ensures.value told) (subst S l (c.requires.tree told)) c.in-Some.ensures c.place_of-at.ensures.bound c.place_of-at.ensures.before c.place_of-at.ensures.behind in
+        let at = at_page m (c.args.level - 1) c.args.n c.args.key c.read.new.into c.in-Some.count c.place_of-at.result (c.in_ok-read.ensures.value told) (subst S l (c.requires.tree told)) c.in-Some.ensures c.place_of-at.ensures.bound c.place_of-at.ensures.before c.place_of-at.ensures.behind in
         let C : ℕ → Type 0 = λ x. Subtree m (c.args.level - 1) x in
         let M : Store → Type 0 = λ x. Subtree x (c.args.level - 1) c.child_at-child.result in
         subst M (sym same) (subst C (sym c.child_at-child.ensures) at.descent.child)
@@ -37,12 +37,12 @@ returns-in-Kept-clause-value g t c = λ told.
     let same : m0 ≡ m = same_store c.read.new.pool c.args.pool.now c.read.ensures.same in
     let l : c.args.level ≡ suc (c.args.level - 1) = omega arith in
     let S : ℕ → Type 0 = λ x. Subtree m x c.args.n in
-    let at = at_page m (c.args.level - 1) c.args.n c.args.key c.in_ok-page.page c.in-Some.count c.place_of-at.result (c.in_ok-page.ensures.value told) (subst S l (c.requires.tree told)) c.in-Some.ensures c.place_of-at.ensures.bound c.place_of-at.ensures.before c.place_of-at.ensures.behind in
+    let at = at_page m (c.args.level - 1) c.args.n c.args.key c.read.new.into c.in-Some.count c.place_of-at.result (c.in_ok-read.ensures.value told) (subst S l (c.requires.tree told)) c.in-Some.ensures c.place_of-at.ensures.bound c.place_of-at.ensures.before c.place_of-at.ensures.behind in
     let G : Grown → Type 0 = λ x. InsertsUnder m0 w (c.args.level - 1) c.child_at-child.result c.args.key c.args.value c.in_ok-was.was' x in
     let C : ℕ → Type 0 = λ x. InsertsUnder m0 w (c.args.level - 1) x c.args.key c.args.value c.in_ok-was.was' Kept in
     let i = subst C c.child_at-child.ensures (subst G c.in-Kept.is (c.in_ok-was.ensures.value (c.read.ensures.within.told ∙ told))) in
     let R : ℕ → Type 0 = λ x. InsertsUnder m w x c.args.n c.args.key c.args.value c.in_ok-was.was' Kept in
-    subst R (sym l) (insert_quiet m0 m w (c.args.level - 1) c.args.n c.args.key c.args.value c.in-Some.count c.place_of-at.result c.in_ok-page.page c.in_ok-was.was' same at i)
+    subst R (sym l) (insert_quiet m0 m w (c.args.level - 1) c.args.n c.args.key c.args.value c.in-Some.count c.place_of-at.result c.read.new.into c.in_ok-was.was' same at i)
 
 pub returns-in_ok-grown-in-Split-clause-value : goal.returns-in_ok-grown-in-Split-clause-value
 returns-in_ok-grown-in-Split-clause-value g t c = λ told.
@@ -53,9 +53,9 @@ returns-in_ok-grown-in-Split-clause-value g t c = λ told.
     let same : m0 ≡ m = same_store c.read.new.pool c.args.pool.now c.read.ensures.same in
     let l : c.args.level ≡ suc (c.args.level - 1) = omega arith in
     let S : ℕ → Type 0 = λ x. Subtree m x c.args.n in
-    let at = at_page m (c.args.level - 1) c.args.n c.args.key c.in_ok-page.page c.in-Some.count c.place_of-at.result (c.in_ok-page.ensures.value told) (subst S l (c.requires.tree told)) c.in-Some.ensures c.place_of-at.ensures.bound c.place_of-at.ensures.before c.place_of-at.ensures.behind in
+    let at = at_page m (c.args.level - 1) c.args.n c.args.key c.read.new.into c.in-Some.count c.place_of-at.result (c.in_ok-read.ensures.value told) (subst S l (c.requires.tree told)) c.in-Some.ensures c.place_of-at.ensures.bound c.place_of-at.ensures.before c.place_of-at.ensures.behind in
     let G : Grown → Type 0 = λ x. InsertsUnder m0 w (c.args.level - 1) c.child_at-child.result c.args.key c.args.value c.in_ok-was.was' x in
     let C : ℕ → Type 0 = λ x. InsertsUnder m0 w (c.args.level - 1) x c.args.key c.args.value c.in_ok-was.was' (Split c.in-Split.up c.in-Split.right) in
     let i = subst C c.child_at-child.ensures (subst G c.in-Split.is (c.in_ok-was.ensures.value (c.read.ensures.within.told ∙ told))) in
     let R : ℕ → Type 0 = λ x. InsertsUnder m v x c.args.n c.args.key c.args.value c.in_ok-was.was' c.in_ok-grown-in-Split.grown in
-    subst R (sym l) (insert_adopted m0 m w v (c.args.level - 1) c.args.n c.args.key c.args.value c.in-Some.count c.place_of-at.result c.in-Split.up c.in-Split.right c.in_ok-page.page c.in_ok-was.was' c.in_ok-grown-in-Split.grown same at i c.in_ok-grown-in-Split.ensures.value)
+    subst R (sym l) (insert_adopted m0 m w v (c.args.level - 1) c.args.n c.args.key c.args.value c.in-Some.count c.place_of-at.result c.in-Split.up c.in-Split.right c.read.new.into c.in_ok-was.was' c.in_ok-grown-in-Split.grown same at i c.in_ok-grown-in-Split.ensures.value)

@@ -9,7 +9,7 @@ use Rattle.code_btree.proofs.insert.adopt.Goals as goal
 pub returns-then-count-lt169-clause-value : goal.returns-then-count-lt169-clause-value
 returns-then-count-lt169-clause-value g c = λ l. (
   writes_of (pages_in c.args.pool.now) (pages_in c.write.new.pool) c.args.n _ _ c.in_ok-write.ensures.value c.put_child.ensures.value,
-  omega (arith, length-put_at (c.args.at + 1) c.args.child (children_of (node_of c.args.page)) (omega arith)),
+  omega (arith, length-put_at (c.args.at + 1) c.args.child (children_of (node_of c.args.page.now)) (omega arith)),
 )
 
 pub returns-clause-value : goal.returns-clause-value

@@ -1,4 +1,5 @@
 use Rattle.std.proofs.Common.{◌≡◌, ◌≢◌, None, Ok, Err, refl, sym, ap, subst, ◌∙◌, false}
+use mathlib.Core.Bool.{true≢false}
 use Rattle.std.specs.FinMap as map
 use Rattle.std.proofs.lemmas.Result.{err_from_is_err_and}
 use Rattle.page_pool.specs.declared.fault.PageFault.TheVariants.{Memory, Damaged}
@@ -7,12 +8,28 @@ use Rattle.page_pool.specs.Disk.{DiskView}
 use Rattle.page_pool.specs.Causes.{page_fault}
 use Rattle.page_pool.specs.Inside.{state_of}
 use Rattle.page_pool.specs.Reads.{Gets}
+use Rattle.page_pool.proofs.Seen.{kept_live}
 use Rattle.page_pool.proofs.Loads.{gets_state, gets_refused, damage_untold, bytes_differ, not_there}
 use Rattle.page_pool.proofs.pool.Pool.load.Goals as goal
 
+-- a page with a kept digest and no staged change is live
+pub returns-in_err-page-clause-missing : goal.returns-in_err-page-clause-missing
+returns-in_err-page-clause-missing g c = λ missing.
+    let disk : DiskView = g.D.Disk.seen c.self.inside.disk in
+    let none : map.get c.self.inside.staged.changes c.args.n ≡ None = sym c.get.ensures ∙ not_there c.get.result (sym c.is_some.ensures ∙ c.if-is_some.false) in
+    let live = kept_live disk c.self.inside.digests c.self.inside.staged c.self.inside.frames c.self.inside.numbers c.self.inside.is_open c.self.inside.gets c.self.invariant c.args.n c.in-Some.kept.now none (sym c.in-Some.ensures) in
+    absurd (true≢false (sym live ∙ ap (λ s. map.contains_key s.pages c.args.n) c.self.view_is ∙ missing))
+
+pub returns-then-ne-clause-missing : goal.returns-then-ne-clause-missing
+returns-then-ne-clause-missing g c = λ missing.
+    let disk : DiskView = g.D.Disk.seen c.self.inside.disk in
+    let none : map.get c.self.inside.staged.changes c.args.n ≡ None = sym c.get.ensures ∙ not_there c.get.result (sym c.is_some.ensures ∙ c.if-is_some.false) in
+    let live = kept_live disk c.self.inside.digests c.self.inside.staged c.self.inside.frames c.self.inside.numbers c.self.inside.is_open c.self.inside.gets c.self.invariant c.args.n c.in-Some.kept.now none (sym c.in-Some.ensures) in
+    absurd (true≢false (sym live ∙ ap (λ s. map.contains_key s.pages c.args.n) c.self.view_is ∙ missing))
+
 -- the disk refused
-pub returns-in_err-page : goal.returns-in_err-page
-returns-in_err-page g c =
+pub returns-in_err-page-clause-gets : goal.returns-in_err-page-clause-gets
+returns-in_err-page-clause-gets g c =
     let disk : DiskView = g.D.Disk.seen c.self.inside.disk in
     let disk' : DiskView = g.D.Disk.seen c.read_fresh.new.disk in
     let p = err_from_is_err_and c.from_residual.result c.from_residual.ensures.1 in
@@ -22,8 +39,8 @@ returns-in_err-page g c =
     c.in_err-page.ensures.told c.in_err-page.ensures.pages c.touch.ensures.most c.saturating_add-self-inside.ensures c.in_err-page.ensures.counted))
 
 -- the page has another digest than the kept one
-pub returns-then-ne : goal.returns-then-ne
-returns-then-ne g c =
+pub returns-then-ne-clause-gets : goal.returns-then-ne-clause-gets
+returns-then-ne-clause-gets g c =
     let disk : DiskView = g.D.Disk.seen c.self.inside.disk in
     let disk' : DiskView = g.D.Disk.seen c.read_fresh.new.disk in
     let none : map.get c.self.inside.staged.changes c.args.n ≡ None = sym c.get.ensures ∙ not_there c.get.result (sym c.is_some.ensures ∙ c.if-is_some.false) in
@@ -36,8 +53,8 @@ returns-then-ne g c =
     record { kept_is = sym c.in-Some.ensures; read_is = c.digest-read.ensures ∙ ap sha256 (sym c.in_ok-page.ensures.given); differ = differ; untold = c.in_ok-page.ensures.told ∙ untold } refl)
 
 -- memory for the frame was refused
-pub returns-in_err-put : goal.returns-in_err-put
-returns-in_err-put g c =
+pub returns-in_err-put-clause-gets : goal.returns-in_err-put-clause-gets
+returns-in_err-put-clause-gets g c =
     let disk : DiskView = g.D.Disk.seen c.self.inside.disk in
     let disk' : DiskView = g.D.Disk.seen c.read_fresh.new.disk in
     let p = err_from_is_err_and c.from_residual-in_err-put.result c.from_residual-in_err-put.ensures.1 in
@@ -46,8 +63,8 @@ returns-in_err-put g c =
     (gets_state disk disk' c.self.inside.digests c.self.inside.staged c.self.inside.frames c.put.new.self c.self.inside.numbers c.self.inside.is_open c.self.inside.gets c.saturating_add-self-inside.result c.args.n (Err Memory)
     c.in_ok-page.ensures.told c.in_ok-page.ensures.pages (c.put.ensures.most ∙ c.touch.ensures.most) c.saturating_add-self-inside.ensures c.in_ok-page.ensures.counted tt tt))
 
-pub returns : goal.returns
-returns g c =
+pub returns-clause-gets : goal.returns-clause-gets
+returns-clause-gets g c =
     let disk : DiskView = g.D.Disk.seen c.self.inside.disk in
     let disk' : DiskView = g.D.Disk.seen c.read_fresh.new.disk in
     subst (λ old. Gets old (state_of disk' c.self.inside.digests c.self.inside.staged c.put.new.self c.self.inside.numbers c.self.inside.is_open c.saturating_add-self-inside.result) c.args.n (Ok tt)) c.self.view_is

@@ -13,15 +13,15 @@ invariant_of-self-2 g c =
     let disk : DiskView = g.D.Disk.seen c.self.inside.disk in
     let opened : c.self.inside.is_open ≡ true = open_is c.self.inside.is_open (stored disk c.self.inside.digests) (subst (λ s. IsSome s.beginning) (sym c.self.view_is) c.requires.open) in
     let live : map.contains_key (overlaid c.self.inside.staged.changes (stored disk c.self.inside.digests)) c.args.n ≡ true = ap (λ s. map.contains_key s.pages c.args.n) c.self.view_is ∙ c.requires.live in
-    subst (λ changes. IsWhole disk c.self.inside.digests changes c.self.inside.frames c.self.inside.numbers c.self.inside.is_open) (sym c.in_ok-insert.ensures.staged)
-    (whole-changed disk c.self.inside.digests c.self.inside.staged.changes c.self.inside.frames c.self.inside.numbers c.self.inside.is_open c.args.n (Some c.in_ok-page.page) opened
+    subst (λ changes. IsWhole disk c.self.inside.digests changes c.self.inside.frames c.self.inside.numbers c.self.inside.is_open) (sym c.in_ok-put.ensures.staged)
+    (whole-changed disk c.self.inside.digests c.self.inside.staged.changes c.self.inside.frames c.self.inside.numbers c.self.inside.is_open c.args.n (Some c.args.bytes.now) opened
     (live_used disk c.self.inside.digests c.self.inside.staged.changes c.args.n live) c.self.invariant)
 
 pub returns-clause-put : goal.returns-clause-put
 returns-clause-put g c =
     let disk : DiskView = g.D.Disk.seen c.self.inside.disk in
     let live : map.contains_key (overlaid c.self.inside.staged.changes (stored disk c.self.inside.digests)) c.args.n ≡ true = ap (λ s. map.contains_key s.pages c.args.n) c.self.view_is ∙ c.requires.live in
-    subst (λ old. Puts old (state_of disk c.self.inside.digests c.insert.new.self c.self.inside.frames c.self.inside.numbers c.self.inside.is_open c.self.inside.gets) c.args.n c.args.bytes.now) c.self.view_is
-    (puts_state disk c.self.inside.digests c.self.inside.staged c.insert.new.self c.self.inside.frames c.self.inside.numbers c.self.inside.is_open c.self.inside.gets c.args.n c.args.bytes.now
-    (c.in_ok-insert.ensures.staged ∙ ap (λ page. map.insert c.self.inside.staged.changes c.args.n (Some page)) c.in_ok-page.ensures)
+    subst (λ old. Puts old (state_of disk c.self.inside.digests c.put.new.self c.self.inside.frames c.self.inside.numbers c.self.inside.is_open c.self.inside.gets) c.args.n c.args.bytes.now) c.self.view_is
+    (puts_state disk c.self.inside.digests c.self.inside.staged c.put.new.self c.self.inside.frames c.self.inside.numbers c.self.inside.is_open c.self.inside.gets c.args.n c.args.bytes.now
+    c.in_ok-put.ensures.staged
     (live_there disk c.self.inside.digests c.self.inside.staged.changes c.args.n live))
