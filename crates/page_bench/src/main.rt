@@ -1,10 +1,10 @@
 //! What is kept in pages, beside the same in memory: drawn calls of both, whose answers are compared one by one.
 //!
 //! It prints how many pairs, rows and entries of a map, a file and an index were left each time, the leaves of quadtrees after
-//! drawn inserts and deletes, and what some small searches find. With three words, as `pages look 20`, it makes inserts,
-//! look-ups or a run over so many lots of 50,000 drawn keys of the map instead, for `bench/btree.py`; with two, as `rank 100000`,
-//! it makes the trees, files or searches that `bench/pages.py` times. Above: nothing. Below: the crates over pages. The draws are
-//! those of a linear congruential generator.
+//! drawn inserts and deletes, what some small searches find, and what becomes of a pool whose disk fails. With three words, as
+//! `pages look 20`, it makes inserts, look-ups or a run over so many lots of 50,000 drawn keys of the map instead, for
+//! `bench/btree.py`; with two, as `rank 100000`, it makes the trees, files or searches that `bench/pages.py` times. Above:
+//! nothing. Below: the crates over pages. The draws are those of a linear congruential generator.
 #![tactic(auto)]
 
 ghost use Rattle.std.specs.Prelude.{◌≤◌};
@@ -12,6 +12,7 @@ ghost use Rattle.std.specs.Prelude.{◌≤◌};
 mod draws;
 mod entries;
 mod open_pool;
+mod pool_cases;
 mod readers;
 mod searches;
 mod shapes;
@@ -206,7 +207,8 @@ fn all(rt: &(impl Print + AllocGlobal)) -> io::Result<()> {
     compare(rt)?;
     change(rt)?;
     keep(rt)?;
-    search(rt)
+    search(rt)?;
+    pool_cases::tell(rt)
 }
 
 fn main(rt: HostRuntime) -> io::Result<()> {

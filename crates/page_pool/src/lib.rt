@@ -22,8 +22,6 @@ mod pages;
 mod pool;
 mod staged;
 mod sure_disk;
-#[cfg(test)]
-mod tests;
 
 pub use desk::Desk;
 pub use disk::{Disk, DiskFault};

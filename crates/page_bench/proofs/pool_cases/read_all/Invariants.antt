@@ -1,6 +1,6 @@
 -- a command stays open, or closed, while pages are read
 use Rattle.std.proofs.Common.{◌≡◌}
-use Rattle.page_pool.proofs.tests.faults.read_all.Given as goal
+use Rattle.page_bench.proofs.pool_cases.read_all.Given as goal
 
 abbrev pub invariant-pages : goal.invariant-pages
-invariant-pages g l = l.run.pool.beginning ≡ l.fn.run.pool.beginning
+invariant-pages l = l.run.pool.beginning ≡ l.fn.run.pool.beginning

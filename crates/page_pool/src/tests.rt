@@ -1,3 +1,0 @@
-mod damage;
-mod faults;
-mod flipping_disk;
