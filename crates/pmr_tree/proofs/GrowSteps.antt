@@ -1,40 +1,15 @@
 -- An id comes to an inner place: its children grow one after another.
-use Rattle.std.proofs.Common.{◌≡◌, ℕ, ◌+◌, ◌<◌, Bool, true, false, ◌&&◌, List, [], length, get_or, refl, sym, subst, arith}
-use Rattle.std.specs.Prelude.{nat_lt}
-use Rattle.std.proofs.lemmas.Bool.Decides.{nat_tests}
+use Rattle.std.proofs.Common.{◌≡◌, ℕ, ◌+◌, ◌<◌, Bool, true, List, [], get_or, refl, sym, subst, arith}
 use Rattle.sand_base.specs.declared.TheConstants.{COORDINATE_BITS}
 use Rattle.z_code.specs.Block.{IsBlock, child, children_of}
 use Rattle.z_code.specs.declared.block.Block.{Block}
 use Rattle.sand_model.specs.Tree.{Tree}
 use Rattle.pmr_tree.specs.Keys.{own}
-use Rattle.pmr_tree.specs.Changes.{Stands, Becomes, grown_where, below_grown, settling}
-use Rattle.pmr_tree.specs.Leaves.{Pair, IsLeafOf, ids_of, Passes, id_test, Told}
-use Rattle.pmr_tree.specs.declared.leaf.Kept.{Kept}
+use Rattle.pmr_tree.specs.Changes.{Stands, Becomes, grown_where, below_grown}
+use Rattle.pmr_tree.specs.Leaves.{Pair, Passes, id_test, Told}
 use Rattle.pmr_tree.proofs.Quarter.{child_block}
-use Rattle.pmr_tree.proofs.Entries.{length_ids}
 use Rattle.pmr_tree.proofs.Steps.{stands_0, stands_1, stands_2, stands_3, stands_sibling, becomes_four}
-use Rattle.pmr_tree.proofs.LeafSteps.{becomes_kept, becomes_inner, becomes_grown_inner}
-
--- a test that is not passed: too few ids, or the finest level
-few_or_finest : (n m k w : ℕ) → (n < m → k < w → ⊥) → (nat_lt n m && nat_lt k w) ≡ false
-few_or_finest n m k w h =
-    let go : (b c : Bool) → nat_lt n m ≡ b → nat_lt k w ≡ c → (b && c) ≡ false =
-    elim [
-      | true ↦ elim [ true ↦ λ d e. absurd (h (grind (arith, nat_tests)) (grind (arith, nat_tests))) | false ↦ λ d e. refl ]
-      | false ↦ λ c d e. refl
-    ] in
-    go (nat_lt n m) (nat_lt k w) refl refl
-
--- a leaf that is not to be split
-pub settle_kept : (m : Block → ℕ → Bool) (n : ℕ) (b : Block) (list : List Kept) (k0 k1 : List ℕ) → Stands b k0 → IsLeafOf b k0 (ids_of list) → (n < length list → b.level < COORDINATE_BITS → ⊥) → k1 ≡ k0
-    → Becomes b (settling m n b) k0 k1
-settle_kept m n b list k0 k1 stands leaf few same =
-    subst (Becomes b (settling m n b) k0) (sym same)
-    (becomes_kept m n b k0 (ids_of list) stands leaf (few_or_finest n (length (ids_of list)) b.level COORDINATE_BITS (λ l. few (omega (arith, length_ids list, l)))))
-
--- an inner place
-pub settle_inner : (m : Block → ℕ → Bool) (n : ℕ) (b : Block) (k0 k1 : List ℕ) → Stands b k0 → own b k0 ≡ [] → k1 ≡ k0 → Becomes b (settling m n b) k0 k1
-settle_inner m n b k0 k1 stands none same = subst (Becomes b (settling m n b) k0) (sym same) (becomes_inner m n b k0 stands none)
+use Rattle.pmr_tree.proofs.LeafSteps.{becomes_grown_inner}
 
 -- a change that begins and ends with the same keys by other names
 pub becomes_from : (b : Block) (f : Tree → Tree) (k0 k1 k2 : List ℕ) → k1 ≡ k0 → Becomes b f k1 k2 → Becomes b f k0 k2

@@ -8,13 +8,13 @@ use Rattle.z_code.specs.declared.block.Block.{Block}
 use Rattle.sand_model.specs.Tree.{Tree, Leaf, Inner, add, without, split, settled}
 use Rattle.pmr_tree.specs.Lists.{Each, Rises, put_all, take_all}
 use Rattle.pmr_tree.specs.Keys.{key_of, mark_of, leaf_keys, keys, is_inside, within, outside, own, IsId, IsShaped, Reads}
-use Rattle.pmr_tree.specs.Changes.{Stands, Becomes, grown_where, entered, settling, below_grown}
+use Rattle.pmr_tree.specs.Changes.{Stands, Becomes, grown_where, entered, divided, below_grown, IsOneMore}
 use Rattle.pmr_tree.specs.Leaves.{IsLeafOf, ids_of}
 use Rattle.pmr_tree.specs.declared.leaf.Kept.{Kept}
 use Rattle.pmr_tree.proofs.Orders.{each_add, each_filter, filter_add, rises_add, rises_filter, put_all_append, map_add, add_some, length_add}
 use Rattle.pmr_tree.proofs.KeyLists.{lies_inside, own_leaf}
 use Rattle.pmr_tree.proofs.Entries.{leaf_is, length_ids}
-use Rattle.pmr_tree.proofs.Steps.{becomes_refilled, becomes_same, becomes_then, becomes_as}
+use Rattle.pmr_tree.proofs.Steps.{becomes_refilled, becomes_same, becomes_as}
 use Rattle.pmr_tree.proofs.Quarter.{count_some}
 
 pub key_inside : (b : Block) (id : ℕ) → b.level ≤ COORDINATE_BITS → IsId id → is_inside b (key_of b id) ≡ true
@@ -69,57 +69,36 @@ pub becomes_entered : (b : Block) (ks ids : List ℕ) (id : ℕ) → Stands b ks
 becomes_entered b ks [] id stands leaf i new first more = entered_first b ks id stands leaf i new (first refl)
 becomes_entered b ks (x ∷ xs) id stands leaf i new first more = entered_more b ks x xs id stands leaf i new (more (omega arith))
 
--- a leaf that has not too many ids, or is as small as can be, stays
-pub becomes_kept : (m : Block → ℕ → Bool) (n : ℕ) (b : Block) (ks ids : List ℕ) → Stands b ks → IsLeafOf b ks ids → (nat_lt n (length ids) && nat_lt b.level COORDINATE_BITS) ≡ false
-    → Becomes b (settling m n b) ks ks
-becomes_kept m n b ks ids stands leaf few = becomes_same b (settling m n b) ks stands.rises same where
-  same : (t : Tree) → Reads b ks t → t ≡ settling m n b t
-  same t r =
-      let e = leaf_is b ks ids t r leaf in
-      subst (λ t. t ≡ settling m n b t) (sym e) (sym (ap (λ c. cond c (split m b ids) (Leaf ids)) few))
-
--- an inner place does not split
-pub becomes_inner : (m : Block → ℕ → Bool) (n : ℕ) (b : Block) (ks : List ℕ) → Stands b ks → own b ks ≡ [] → Becomes b (settling m n b) ks ks
-becomes_inner m n b ks stands none = becomes_same b (settling m n b) ks stands.rises same where
-  same : (t : Tree) → Reads b ks t → t ≡ settling m n b t
-  same (Leaf []) r = absurd (nil (sym none ∙ own_leaf b ks [] r)) where
-    nil : {A : Type 0} {x : A} {xs : List A} → [] ≡ x ∷ xs → ⊥
-    nil e = cc
-  same (Leaf (x ∷ xs)) r = absurd (nil (sym none ∙ own_leaf b ks (x ∷ xs) r)) where
-    nil : {A : Type 0} {x : A} {xs : List A} → [] ≡ x ∷ xs → ⊥
-    nil e = cc
-  same (Inner p q r s) h = refl
-
 -- the keys of one of the four leaves of a split
 abbrev pub quarter_keys : (Block → ℕ → Bool) → Block → List ℕ → ℕ → List ℕ
 quarter_keys m b ids i = leaf_keys (child b i) (filter (m (child b i)) ids)
 
--- the four leaves of a split in place of a leaf
-pub becomes_split : (m : Block → ℕ → Bool) (n : ℕ) (b : Block) (ks ids : List ℕ) → Stands b ks → IsLeafOf b ks ids → (nat_lt n (length ids) && nat_lt b.level COORDINATE_BITS) ≡ true → b.level < COORDINATE_BITS
-    → (k0 k1 k2 k3 k4 : List ℕ) → k0 ≡ take_all (leaf_keys b ids) ks
+-- the four leaves of a split in place of a leaf, for its ids and one more
+pub becomes_divided : (m : Block → ℕ → Bool) (b : Block) (ks listed ids : List ℕ) → Stands b ks → IsLeafOf b ks listed → IsOneMore listed ids → b.level < COORDINATE_BITS
+    → (k0 k1 k2 k3 k4 : List ℕ) → k0 ≡ take_all (leaf_keys b listed) ks
     → k1 ≡ put_all (leaf_keys (child b 0) (filter (m (child b 0)) ids)) k0 → k2 ≡ put_all (leaf_keys (child b 1) (filter (m (child b 1)) ids)) k1
     → k3 ≡ put_all (leaf_keys (child b 2) (filter (m (child b 2)) ids)) k2 → k4 ≡ put_all (leaf_keys (child b 3) (filter (m (child b 3)) ids)) k3
-    → Becomes b (settling m n b) ks k4
-becomes_split m n b ks ids stands leaf many up k0 k1 k2 k3 k4 e0 e1 e2 e3 e4 = becomes_refilled b (settling m n b) ks k4 stands.rises here stands where
-  all : k4 ≡ put_all (quarter_keys m b ids 0 ++ (quarter_keys m b ids 1 ++ (quarter_keys m b ids 2 ++ quarter_keys m b ids 3))) (take_all (leaf_keys b ids) ks)
+    → Becomes b (divided m b ids) ks k4
+becomes_divided m b ks listed ids stands leaf one up k0 k1 k2 k3 k4 e0 e1 e2 e3 e4 = becomes_refilled b (divided m b ids) ks k4 stands.rises here stands where
+  all : k4 ≡ put_all (quarter_keys m b ids 0 ++ (quarter_keys m b ids 1 ++ (quarter_keys m b ids 2 ++ quarter_keys m b ids 3))) (take_all (leaf_keys b listed) ks)
   all =
       e4 ∙ ap (put_all (quarter_keys m b ids 3)) (e3 ∙ ap (put_all (quarter_keys m b ids 2)) (e2 ∙ ap (put_all (quarter_keys m b ids 1)) (e1 ∙ ap (put_all (quarter_keys m b ids 0)) e0)))
-      ∙ sym (put_all_append (quarter_keys m b ids 0) (quarter_keys m b ids 1 ++ (quarter_keys m b ids 2 ++ quarter_keys m b ids 3)) (take_all (leaf_keys b ids) ks)
-      ∙ put_all_append (quarter_keys m b ids 1) (quarter_keys m b ids 2 ++ quarter_keys m b ids 3) (put_all (quarter_keys m b ids 0) (take_all (leaf_keys b ids) ks))
-      ∙ put_all_append (quarter_keys m b ids 2) (quarter_keys m b ids 3) (put_all (quarter_keys m b ids 1) (put_all (quarter_keys m b ids 0) (take_all (leaf_keys b ids) ks))))
+      ∙ sym (put_all_append (quarter_keys m b ids 0) (quarter_keys m b ids 1 ++ (quarter_keys m b ids 2 ++ quarter_keys m b ids 3)) (take_all (leaf_keys b listed) ks)
+      ∙ put_all_append (quarter_keys m b ids 1) (quarter_keys m b ids 2 ++ quarter_keys m b ids 3) (put_all (quarter_keys m b ids 0) (take_all (leaf_keys b listed) ks))
+      ∙ put_all_append (quarter_keys m b ids 2) (quarter_keys m b ids 3) (put_all (quarter_keys m b ids 1) (put_all (quarter_keys m b ids 0) (take_all (leaf_keys b listed) ks))))
 
   quarter : Rises ids → Each IsId ids → (i : ℕ) → IsShaped (child b i) (Leaf (filter (m (child b i)) ids))
   quarter r e i = (omega arith, (rises_filter (m (child b i)) ids r, each_filter IsId (m (child b i)) ids e))
 
-  here : (t : Tree) → Reads b ks t → IsShaped b (settling m n b t) × (k4 ≡ put_all (keys b (settling m n b t)) (take_all (keys b t) ks))
+  here : (t : Tree) → Reads b ks t → IsShaped b (divided m b ids t) × (k4 ≡ put_all (keys b (divided m b ids t)) (take_all (keys b t) ks))
   here t r =
-      let e = leaf_is b ks ids t r leaf in
+      let e = leaf_is b ks listed t r leaf in
       let at = subst (Reads b ks) e r in
-      let q = quarter at.shaped.1.0 at.shaped.1.1 in
-      let splits : split m b ids ≡ settling m n b (Leaf ids) = sym (ap (λ c. cond c (split m b ids) (Leaf ids)) many) in
-      let done : IsShaped b (split m b ids) × (k4 ≡ put_all (keys b (split m b ids)) (take_all (keys b (Leaf ids)) ks)) = ((up, (q 0, (q 1, (q 2, q 3)))), all) in
-      subst (λ t. IsShaped b (settling m n b t) × (k4 ≡ put_all (keys b (settling m n b t)) (take_all (keys b t) ks))) (sym e)
-      (subst (λ u. IsShaped b u × (k4 ≡ put_all (keys b u) (take_all (keys b (Leaf ids)) ks))) splits done)
+      let rise = subst Rises (sym one.is) (rises_add one.id listed at.shaped.1.0) in
+      let are = subst (Each IsId) (sym one.is) (each_add IsId one.id listed one.is_id at.shaped.1.1) in
+      let q = quarter rise are in
+      let done : IsShaped b (split m b ids) × (k4 ≡ put_all (keys b (split m b ids)) (take_all (keys b (Leaf listed)) ks)) = ((up, (q 0, (q 1, (q 2, q 3)))), all) in
+      subst (λ t. IsShaped b (divided m b ids t) × (k4 ≡ put_all (keys b (divided m b ids t)) (take_all (keys b t) ks))) (sym e) done
 
 -- what the shape does not meet stays
 pub becomes_unmet : (m : Block → ℕ → Bool) (n id : ℕ) (b : Block) (ks : List ℕ) → Stands b ks → m b id ≡ false → Becomes b (grown_where m n id b) ks ks
@@ -128,31 +107,40 @@ becomes_unmet m n id b ks stands h = becomes_same b (grown_where m n id b) ks st
   same (Leaf ids) = rw h refl
   same (Inner p q r s) = rw h refl
 
--- a leaf that the shape meets takes the id, and splits or stays
-pub becomes_grown_leaf : (m : Block → ℕ → Bool) (n id : ℕ) (b : Block) (k0 k1 k2 ids : List ℕ) → IsLeafOf b k0 ids → m b id ≡ true
-    → Becomes b (entered id) k0 k1 → Becomes b (settling m n b) k1 k2 → Becomes b (grown_where m n id b) k0 k2
-becomes_grown_leaf m n id b k0 k1 k2 ids leaf h enter settle =
-    becomes_as b (λ t. settling m n b (entered id t)) (grown_where m n id b) k0 k2 same (becomes_then b (entered id) (settling m n b) k0 k1 k2 enter settle)
-  where
-    same : (t : Tree) → Reads b k0 t → settling m n b (entered id t) ≡ grown_where m n id b t
-    same t r =
-        let e = leaf_is b k0 ids t r leaf in
-        subst (λ t. settling m n b (entered id t) ≡ grown_where m n id b t) (sym e) (sym (ap (λ c. cond c (settled m n b (add id ids)) (Leaf ids)) h))
+pub above_finest : (n m k w : ℕ) → (nat_lt n m && nat_lt k w) ≡ true → k < w
+above_finest n m k w h = grind (arith, nat_tests)
+
+-- a leaf that the shape meets splits where it has too many ids with the new one
+pub becomes_grown_split : (m : Block → ℕ → Bool) (n id : ℕ) (b : Block) (k0 k1 ids all : List ℕ) → IsLeafOf b k0 ids → m b id ≡ true → all ≡ add id ids
+    → (nat_lt n (length all) && nat_lt b.level COORDINATE_BITS) ≡ true → Becomes b (divided m b all) k0 k1 → Becomes b (grown_where m n id b) k0 k1
+becomes_grown_split m n id b k0 k1 ids all leaf h is many divide = becomes_as b (divided m b all) (grown_where m n id b) k0 k1 same divide where
+  splits : settled m n b (add id ids) ≡ split m b all
+  splits = ap (settled m n b) (sym is) ∙ ap (λ c. cond c (split m b all) (Leaf all)) many
+
+  same : (t : Tree) → Reads b k0 t → divided m b all t ≡ grown_where m n id b t
+  same t r =
+      let e = leaf_is b k0 ids t r leaf in
+      subst (λ t. divided m b all t ≡ grown_where m n id b t) (sym e) (sym (ap (λ c. cond c (settled m n b (add id ids)) (Leaf ids)) h ∙ splits))
+
+-- it stays where it has not too many, or is as small as can be
+pub becomes_grown_kept : (m : Block → ℕ → Bool) (n id : ℕ) (b : Block) (k0 k1 ids : List ℕ) → IsLeafOf b k0 ids → m b id ≡ true
+    → (nat_lt n (length (add id ids)) && nat_lt b.level COORDINATE_BITS) ≡ false
+    → Becomes b (entered id) k0 k1 → Becomes b (grown_where m n id b) k0 k1
+becomes_grown_kept m n id b k0 k1 ids leaf h few enter = becomes_as b (entered id) (grown_where m n id b) k0 k1 same enter where
+  same : (t : Tree) → Reads b k0 t → entered id t ≡ grown_where m n id b t
+  same t r =
+      let e = leaf_is b k0 ids t r leaf in
+      let stays : settled m n b (add id ids) ≡ Leaf (add id ids) = ap (λ c. cond c (split m b (add id ids)) (Leaf (add id ids))) few in
+      subst (λ t. entered id t ≡ grown_where m n id b t) (sym e) (sym (ap (λ c. cond c (settled m n b (add id ids)) (Leaf ids)) h ∙ stays))
 
 -- one id more is not too many where there were fewer than the threshold
 pub becomes_grown_few : (m : Block → ℕ → Bool) (n id : ℕ) (b : Block) (k0 k1 ids : List ℕ) → IsLeafOf b k0 ids → m b id ≡ true → length ids < n
     → Becomes b (entered id) k0 k1 → Becomes b (grown_where m n id b) k0 k1
-becomes_grown_few m n id b k0 k1 ids leaf h few enter = becomes_as b (entered id) (grown_where m n id b) k0 k1 same enter where
+becomes_grown_few m n id b k0 k1 ids leaf h few enter = becomes_grown_kept m n id b k0 k1 ids leaf h (ap (λ c. c && nat_lt b.level COORDINATE_BITS) not_many) enter where
   not_many : nat_lt n (length (add id ids)) ≡ false
   not_many = below_it n (length (add id ids)) (omega (arith, length_add id ids)) where
     below_it : (x y : ℕ) → y ≤ x → nat_lt x y ≡ false
     below_it x y l = grind (arith, nat_tests)
-
-  same : (t : Tree) → Reads b k0 t → entered id t ≡ grown_where m n id b t
-  same t r =
-      let e = leaf_is b k0 ids t r leaf in
-      let stays : settled m n b (add id ids) ≡ Leaf (add id ids) = ap (λ c. cond (c && nat_lt b.level COORDINATE_BITS) (split m b (add id ids)) (Leaf (add id ids))) not_many in
-      subst (λ t. entered id t ≡ grown_where m n id b t) (sym e) (sym (ap (λ c. cond c (settled m n b (add id ids)) (Leaf ids)) h ∙ stays))
 
 -- an inner place that the shape meets, whose children have grown
 pub becomes_grown_inner : (m : Block → ℕ → Bool) (n id : ℕ) (b : Block) (k0 k1 : List ℕ) → own b k0 ≡ [] → m b id ≡ true

@@ -6,6 +6,7 @@ pub mod Steps
 pub mod Entries
 pub mod LeafSteps
 pub mod SplitSteps
+pub mod PartSteps
 pub mod GrowSteps
 pub mod LeaveSteps
 pub mod Unions

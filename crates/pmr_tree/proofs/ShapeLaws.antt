@@ -30,13 +30,13 @@ shape_in_closed (shape.Segment s) h = record { a = in_closed s.a h.a; b = in_clo
 shape_in_closed (shape.Polygon corners) h = h
 
 -- the shape of a row lies in the plane where all do
-here_shape : (row : ℕ × Shape) (rows : List (ℕ × Shape)) (id : ℕ) → nat_eq row.0 id ≡ true → shape_at (row ∷ rows) id ≡ Some row.1
+pub here_shape : (row : ℕ × Shape) (rows : List (ℕ × Shape)) (id : ℕ) → nat_eq row.0 id ≡ true → shape_at (row ∷ rows) id ≡ Some row.1
 here_shape row rows id h = rw h refl
 
-there_shape : (row : ℕ × Shape) (rows : List (ℕ × Shape)) (id : ℕ) → nat_eq row.0 id ≡ false → shape_at (row ∷ rows) id ≡ shape_at rows id
+pub there_shape : (row : ℕ × Shape) (rows : List (ℕ × Shape)) (id : ℕ) → nat_eq row.0 id ≡ false → shape_at (row ∷ rows) id ≡ shape_at rows id
 there_shape row rows id h = rw h refl
 
-some_same : (x y : Shape) → Some x ≡ Some y → x ≡ y
+pub some_same : (x y : Shape) → Some x ≡ Some y → x ≡ y
 some_same x y e = cc
 
 none_some : (s : Shape) → None ≡ Some s → ⊥

@@ -3,9 +3,9 @@ use Rattle.std.specs.Prelude.{◌≡◌, ℕ, ◌<◌, Bool, false, cond, ◌||�
 use Rattle.sand_base.specs.declared.TheConstants.{COORDINATE_BITS}
 use Rattle.z_code.specs.Block.{IsBlock, child}
 use Rattle.z_code.specs.declared.block.Block.{Block}
-use Rattle.sand_model.specs.Tree.{Tree, Leaf, Inner, add, grown, settled, merged, without}
+use Rattle.sand_model.specs.Tree.{Tree, Leaf, Inner, add, grown, split, merged, without}
 use Rattle.pmr_tree.specs.Lists.{Rises}
-use Rattle.pmr_tree.specs.Keys.{Reads, outside}
+use Rattle.pmr_tree.specs.Keys.{Reads, outside, IsId}
 
 -- a shape meets a square exactly where it meets one of its four closed quarters
 abbrev pub Quarters : (Block → ℕ → Bool) → Type 0
@@ -54,10 +54,16 @@ abbrev pub entered : ℕ → Tree → Tree
 entered id (Leaf ids) = Leaf (add id ids)
 entered id (Inner p q r s) = Inner p q r s
 
--- a leaf that holds more ids than the threshold, split once
-abbrev pub settling : (Block → ℕ → Bool) → ℕ → Block → Tree → Tree
-settling meets threshold b (Leaf ids) = settled meets threshold b ids
-settling meets threshold b (Inner p q r s) = Inner p q r s
+-- a leaf in whose place come four, each with those of the ids whose shapes meet its square
+abbrev pub divided : (Block → ℕ → Bool) → Block → List ℕ → Tree → Tree
+divided meets b ids (Leaf listed) = split meets b ids
+divided meets b ids (Inner p q r s) = Inner p q r s
+
+-- ids with one more among them
+pub record IsOneMore (ids all : List ℕ) : Type 0 where
+  pub id : ℕ
+  pub is_id : IsId id
+  pub is : all ≡ add id ids
 
 -- a leaf with an id less
 abbrev pub left : ℕ → Tree → Tree

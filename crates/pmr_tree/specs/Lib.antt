@@ -10,4 +10,5 @@ pub mod Laws
 -- what only proofs need
 pub mod Changes
 pub mod Leaves
+pub mod Parts
 pub mod Plot

@@ -2,7 +2,7 @@ ghost use Rattle.std.specs.Prelude.{◌≡◌, ℕ, ◌+◌, ◌<◌, ◌≤◌,
 ghost use Rattle.z_code.specs.Block.{IsBlock, child};
 ghost use Rattle.pmr_tree.specs.Keys.{key_of, IsId, own};
 ghost use Rattle.pmr_tree.specs.Leaves.{firsts, ids_of, Passes, ListPasses, id_test, IsLeafOf, fault_of};
-ghost use Rattle.pmr_tree.specs.Changes.{Stands, Becomes, entered, settling, grown_where, below_grown};
+ghost use Rattle.pmr_tree.specs.Changes.{Stands, Becomes, entered};
 
 use crate::leaf::key_of;
 use crate::{Ground, Kept, PmrFault};

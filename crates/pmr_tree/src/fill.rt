@@ -7,7 +7,6 @@ ghost use Rattle.pmr_tree.specs.Leaves.{firsts, ids_of, Passes, ListPasses, id_t
 
 use crate::leaf::key_of;
 use crate::{Ground, Kept, PmrFault};
-use std::alloc::Global;
 use z_code::Block;
 
 // Takes the entries of these ids of a leaf.
@@ -86,68 +85,4 @@ pub fn plant<P, S: Ground<P>>(
         return Ok(());
     }
     put_ids(ground, pages, block, list)
-}
-
-// Adds an id to those found, where its shape meets the square of the block.
-fn push_met<P, S: Ground<P>>(
-    alloc: Global,
-    ground: &S,
-    pages: &mut P,
-    block: Block,
-    kept: Kept,
-    found: &mut Vec<Kept>,
-) -> Result<(), PmrFault>
-    requires ready { S.IsReady ground.now pages.old }
-    requires block { IsBlock block }
-    ensures leads { S.Leads ground.now pages.old ground.now pages.new (fault_of result) }
-    ensures found { OnOk result (S.IsKnown ground.now pages.old → (m : Block → ℕ → Bool) (has : ℕ → Bool) → S.Tells ground.now pages.old m has → has kept.id ≡ true → found.new.items ≡ found.old.items ++ filter (λ k. m block k.id) (kept ∷ [])) }
-    ensures values { OnOk result ((test : ℕ → ℕ → Bool) → test kept.id kept.value ≡ true → ListPasses test found.old.items → ListPasses test found.new.items) }
-    ensures same { OnOk result (S.IsKnown ground.now pages.old → S.pairs ground.now pages.new ≡ S.pairs ground.now pages.old) }
-{
-    if !ground.does_meet(alloc, pages, block, kept.id)? {
-        return Ok(());
-    }
-    found.push(kept)?;
-    Ok(())
-}
-
-// Those of the ids whose shapes meet the square of the block.
-fn met<P, S: Ground<P>>(
-    alloc: Global,
-    ground: &S,
-    pages: &mut P,
-    block: Block,
-    list: &[Kept],
-) -> Result<Vec<Kept>, PmrFault>
-    requires ready { S.IsReady ground.now pages.old }
-    requires block { IsBlock block }
-    ensures leads { S.Leads ground.now pages.old ground.now pages.new (fault_of result) }
-    ensures found { IfOk result (λ found. S.IsKnown ground.now pages.old → (m : Block → ℕ → Bool) (has : ℕ → Bool) → S.Tells ground.now pages.old m has → ListPasses (id_test has) list.now → found.items ≡ filter (λ k. m block k.id) list.now) }
-    ensures values { IfOk result (λ found. (test : ℕ → ℕ → Bool) → ListPasses test list.now → ListPasses test found.items) }
-    ensures same { OnOk result (S.IsKnown ground.now pages.old → S.pairs ground.now pages.new ≡ S.pairs ground.now pages.old) }
-{
-    let mut found = Vec::new(alloc);
-    for kept in list {
-        push_met(alloc, ground, pages, block, *kept, &mut found)?;
-    }
-    Ok(found)
-}
-
-// Plants a leaf with those of the ids whose shapes meet its square.
-pub fn plant_met<P, S: Ground<P>>(
-    alloc: Global,
-    ground: &mut S,
-    pages: &mut P,
-    block: Block,
-    list: &[Kept],
-) -> Result<(), PmrFault>
-    requires ready { S.IsReady ground.old pages.old }
-    requires block { IsBlock block }
-    ensures leads { S.Leads ground.old pages.old ground.new pages.new (fault_of result) }
-    ensures keys { OnOk result (S.IsKnown ground.old pages.old → (m : Block → ℕ → Bool) (has : ℕ → Bool) → S.Tells ground.old pages.old m has → ListPasses (id_test has) list.now → firsts (S.pairs ground.new pages.new) ≡ put_all (leaf_keys block (filter (m block) (ids_of list.now))) (firsts (S.pairs ground.old pages.old))) }
-    ensures values { OnOk result (S.IsKnown ground.old pages.old → (test : ℕ → ℕ → Bool) → ListPasses test list.now → Passes test (S.pairs ground.old pages.old) → Passes test (S.pairs ground.new pages.new)) }
-{
-    let part = met(alloc, &*ground, pages, block, list)?;
-    plant(ground, pages, block, &part)?;
-    Ok(())
 }

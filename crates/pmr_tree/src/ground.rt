@@ -1,14 +1,17 @@
 ghost use Rattle.std.specs.Prelude.{◌≡◌, ℕ, ◌<◌, ◌≤◌, ◌^◌, Bool, true, List, length, filter, IfOk, OnOk, Option, None, Some};
+ghost use Rattle.sand_base.specs.declared.TheConstants.{COORDINATE_BITS};
 ghost use Rattle.z_code.specs.Block.{IsBlock};
 ghost use Rattle.z_code.specs.declared.block.Block.{Block};
 ghost use Rattle.sand_model.specs.Tree.{add, without};
 ghost use Rattle.pmr_tree.specs.declared.fault.PmrFault.{PmrFault};
 ghost use Rattle.pmr_tree.specs.declared.fault.PmrFault.TheVariants.{Memory};
+ghost use Rattle.pmr_tree.specs.Parts.{AreQuarters};
 ghost use Rattle.pmr_tree.specs.Lists.{is_between};
 ghost use Rattle.pmr_tree.specs.Keys.{id_in};
 ghost use Rattle.pmr_tree.specs.Leaves.{Pair, firsts, Passes, fault_of};
 
 use crate::PmrFault;
+use crate::part::QuartersMet;
 use std::alloc::Global;
 use z_code::Block;
 
@@ -55,6 +58,21 @@ pub trait Ground<P> {
         requires block { IsBlock block }
         ensures leads { Leads self.now pages.old self.now pages.new (fault_of result) }
         ensures value { IfOk result (λ met. IsKnown self.now pages.old → (m : Block → ℕ → Bool) (has : ℕ → Bool) → Tells self.now pages.old m has → has id ≡ true → met ≡ m block id) }
+        ensures same { OnOk result (IsKnown self.now pages.old → pairs self.now pages.new ≡ pairs self.now pages.old) };
+
+    /// The children of the block whose squares the shape of the id meets. The shape is read once.
+    fn quarters_met(
+        &self,
+        alloc: Global,
+        pages: &mut P,
+        block: Block,
+        id: u32,
+    ) -> Result<QuartersMet, PmrFault>
+        requires ready { IsReady self.now pages.old }
+        requires block { IsBlock block }
+        requires above_points { block.level < COORDINATE_BITS }
+        ensures leads { Leads self.now pages.old self.now pages.new (fault_of result) }
+        ensures value { IfOk result (λ met. IsKnown self.now pages.old → (m : Block → ℕ → Bool) (has : ℕ → Bool) → Tells self.now pages.old m has → has id ≡ true → AreQuarters (λ b. m b id) block met) }
         ensures same { OnOk result (IsKnown self.now pages.old → pairs self.now pages.new ≡ pairs self.now pages.old) };
 
     /// Puts an entry in its place, or in that of the entry with its key.

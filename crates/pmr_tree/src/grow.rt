@@ -1,45 +1,45 @@
-ghost use Rattle.std.specs.Prelude.{◌≡◌, ℕ, ◌+◌, ◌-◌, ◌<◌, ◌≤◌, Bool, true, length, OnOk};
+ghost use Rattle.std.specs.Prelude.{◌≡◌, ℕ, ◌+◌, ◌-◌, ◌<◌, ◌≤◌, ◌&&◌, nat_lt, Bool, true, length, IfOk, IfErr, OnOk};
 ghost use Rattle.sand_base.specs.declared.TheConstants.{COORDINATE_BITS};
 ghost use Rattle.z_code.specs.Block.{IsBlock};
 ghost use Rattle.z_code.specs.declared.block.Block.{Block};
+ghost use Rattle.sand_model.specs.Tree.{add};
 ghost use Rattle.pmr_tree.specs.Keys.{IsId};
 ghost use Rattle.pmr_tree.specs.Leaves.{firsts, ids_of, Passes, ListPasses, id_test, IsLeafOf, Told, fault_of};
-ghost use Rattle.pmr_tree.specs.Changes.{Stands, Becomes, grown_where, settling};
+ghost use Rattle.pmr_tree.specs.Changes.{Stands, Becomes, grown_where};
+ghost use Rattle.pmr_tree.specs.declared.fault.PmrFault.TheVariants.{Memory};
 
 use crate::enter::enter;
 use crate::leaf::leaf_of;
 use crate::split::split;
+use crate::union::add;
 use crate::{Ground, Kept, PmrFault};
 use sand_base::COORDINATE_BITS;
-use std::alloc::Global;
+use std::alloc::{AllocError, Global};
 use z_code::Block;
 
-// Splits a leaf once where it has more ids than the threshold and isn't of the finest level.
-fn settle<P, S: Ground<P>>(
-    alloc: Global,
-    ground: &mut S,
-    pages: &mut P,
-    threshold: u8,
-    block: Block,
-) -> Result<(), PmrFault>
-    requires ready { S.IsReady ground.old pages.old }
-    requires block { IsBlock block }
-    requires stands { S.IsKnown ground.old pages.old → Stands block (firsts (S.pairs ground.old pages.old)) }
-    ensures leads { S.Leads ground.old pages.old ground.new pages.new (fault_of result) }
-    ensures keys { OnOk result (S.IsKnown ground.old pages.old → (m : Block → ℕ → Bool) (has : ℕ → Bool) → S.Tells ground.old pages.old m has → Passes (id_test has) (S.pairs ground.old pages.old) → Becomes block (settling m threshold block) (firsts (S.pairs ground.old pages.old)) (firsts (S.pairs ground.new pages.new))) }
-    ensures values { OnOk result (S.IsKnown ground.old pages.old → (test : ℕ → ℕ → Bool) → Passes test (S.pairs ground.old pages.old) → Passes test (S.pairs ground.new pages.new)) }
+// Whether a leaf of these ids is to be split: they are more than the threshold, and it isn't of the finest level.
+fn is_split(block: Block, list: &[Kept], threshold: u8) -> bool
+    ensures { result ≡ (nat_lt threshold (length list.now) && nat_lt block.level COORDINATE_BITS) }
 {
-    let Some(list) = leaf_of(alloc, &*ground, pages, block)? else {
-        return Ok(());
-    };
-    if list.len() <= threshold as usize {
-        return Ok(());
-    }
-    if u32::from(block.level) >= COORDINATE_BITS {
-        return Ok(());
-    }
-    split(alloc, ground, pages, threshold, block, &list)?;
-    Ok(())
+    list.len() > threshold as usize && u32::from(block.level) < COORDINATE_BITS
+}
+
+// The ids of a list once more.
+fn copied(alloc: Global, list: &[Kept]) -> Result<Vec<Kept>, AllocError>
+    ensures { IfOk result (λ copy. copy.items ≡ list.now) }
+{
+    list.iter().copied().collect(alloc)
+}
+
+// The ids of a list, and one more in its place among them.
+fn with_one(alloc: Global, list: &[Kept], newcomer: Kept) -> Result<Vec<Kept>, PmrFault>
+    ensures ids { IfOk result (λ all. ids_of all.items ≡ add newcomer.id (ids_of list.now)) }
+    ensures values { IfOk result (λ all. (test : ℕ → ℕ → Bool) → test newcomer.id newcomer.value ≡ true → ListPasses test list.now → ListPasses test all.items) }
+    ensures memory { IfErr result (λ e. e ≡ Memory) }
+{
+    let mut all = copied(alloc, list)?;
+    add(&mut all, newcomer)?;
+    Ok(all)
 }
 
 // Brings an id into a leaf that has the ids of the list, which splits where it has too many then.
@@ -57,15 +57,21 @@ fn grow_leaf<P, S: Ground<P>>(
     requires id { IsId newcomer.id }
     requires stands { S.IsKnown ground.old pages.old → Stands block (firsts (S.pairs ground.old pages.old)) }
     requires leaf { S.IsKnown ground.old pages.old → IsLeafOf block (firsts (S.pairs ground.old pages.old)) (ids_of list.now) }
+    requires told { S.IsKnown ground.old pages.old → (test : ℕ → ℕ → Bool) → Passes test (S.pairs ground.old pages.old) → ListPasses test list.now }
     ensures leads { S.Leads ground.old pages.old ground.new pages.new (fault_of result) }
     ensures keys { OnOk result (S.IsKnown ground.old pages.old → (m : Block → ℕ → Bool) (has : ℕ → Bool) → S.Tells ground.old pages.old m has → Passes (id_test has) (S.pairs ground.old pages.old) → has newcomer.id ≡ true → m block newcomer.id ≡ true → Becomes block (grown_where m threshold newcomer.id block) (firsts (S.pairs ground.old pages.old)) (firsts (S.pairs ground.new pages.new))) }
     ensures values { OnOk result (S.IsKnown ground.old pages.old → (test : ℕ → ℕ → Bool) → test newcomer.id newcomer.value ≡ true → Passes test (S.pairs ground.old pages.old) → Passes test (S.pairs ground.new pages.new)) }
 {
-    enter(ground, pages, block, newcomer, list)?;
     if list.len() < threshold as usize {
+        enter(ground, pages, block, newcomer, list)?;
         return Ok(());
     }
-    settle(alloc, ground, pages, threshold, block)?;
+    let all = with_one(alloc, list, newcomer)?;
+    if !is_split(block, &all, threshold) {
+        enter(ground, pages, block, newcomer, list)?;
+        return Ok(());
+    }
+    split(alloc, ground, pages, block, list, &all)?;
     Ok(())
 }
 

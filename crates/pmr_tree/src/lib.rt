@@ -22,14 +22,13 @@ mod leaf;
 mod leave;
 mod listed;
 mod no_shapes;
+mod part;
 mod plot;
 mod quadtree;
 mod range;
 mod shapes;
 mod shrink;
 mod split;
-#[cfg(test)]
-mod tests;
 mod union;
 mod value;
 

@@ -4,6 +4,7 @@ ghost use Rattle.code_btree.specs.Tree.{pages_in, tree_items};
 ghost use Rattle.page_pool.specs.Pool.{IsTold};
 ghost use Rattle.pmr_tree.specs.Plot.{TellsOf, IsReadyOn, LeadsOn, LeadsOn-still, LeadsOn-spent, LeadsOn-onward, LeadsOn-from, IsReadyOn-from, TellsOf-from};
 
+use crate::part::{QuartersMet, quarters_met};
 use crate::range::entries_between;
 use crate::{Ground, PmrFault, ShapeOf};
 use code_btree::Tree;
@@ -56,6 +57,20 @@ impl<'s, D: Disk, G: ShapeOf> Ground<Pool<D>> for Plot<'s, G> {
         }
         let shape = self.shapes.shape_of(alloc, pages, id)?;
         Ok(meets_rect(&shape, block.rect()))
+    }
+
+    fn quarters_met(
+        &self,
+        alloc: Global,
+        pages: &mut Pool<D>,
+        block: Block,
+        id: u32,
+    ) -> Result<QuartersMet, PmrFault> {
+        if id == self.id {
+            return Ok(quarters_met(self.shape, block));
+        }
+        let shape = self.shapes.shape_of(alloc, pages, id)?;
+        Ok(quarters_met(&shape, block))
     }
 
     fn put(&mut self, pages: &mut Pool<D>, key: u128, value: u128) -> Result<(), PmrFault> {

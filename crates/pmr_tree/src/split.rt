@@ -4,37 +4,59 @@ ghost use Rattle.z_code.specs.declared.block.Block.{Block};
 ghost use Rattle.sand_base.specs.declared.TheConstants.{COORDINATE_BITS};
 ghost use Rattle.pmr_tree.specs.Keys.{key_of, IsId, own};
 ghost use Rattle.pmr_tree.specs.Leaves.{firsts, ids_of, Passes, ListPasses, id_test, IsLeafOf, fault_of};
-ghost use Rattle.pmr_tree.specs.Changes.{Stands, Becomes, entered, settling, grown_where, below_grown};
+ghost use Rattle.pmr_tree.specs.Parts.{PartsPass, with_parts};
+ghost use Rattle.pmr_tree.specs.Changes.{Stands, Becomes, IsOneMore, divided};
 
-use crate::fill::{clear, plant_met};
+use crate::fill::{clear, plant};
+use crate::part::{Parts, parts_of};
 use crate::{Ground, Kept, PmrFault};
 use std::alloc::Global;
 use z_code::Block;
 
-// Replaces a leaf that has the ids of the list by four, each with those ids whose shapes meet its square.
-pub fn split<P, S: Ground<P>>(
-    alloc: Global,
+// Plants four leaves with these ids, where the children of a block have no entry.
+fn plant_parts<P, S: Ground<P>>(
     ground: &mut S,
     pages: &mut P,
-    threshold: u8,
     block: Block,
-    list: &[Kept],
+    parts: &Parts,
 ) -> Result<(), PmrFault>
     requires ready { S.IsReady ground.old pages.old }
     requires block { IsBlock block }
     requires above_points { block.level < COORDINATE_BITS }
-    requires many { threshold < length list.now }
+    ensures leads { S.Leads ground.old pages.old ground.new pages.new (fault_of result) }
+    ensures keys { OnOk result (S.IsKnown ground.old pages.old → firsts (S.pairs ground.new pages.new) ≡ with_parts block parts.now (firsts (S.pairs ground.old pages.old))) }
+    ensures values { OnOk result (S.IsKnown ground.old pages.old → (test : ℕ → ℕ → Bool) → PartsPass test parts.now → Passes test (S.pairs ground.old pages.old) → Passes test (S.pairs ground.new pages.new)) }
+{
+    let [first, second, third, fourth] = block.children();
+    plant(ground, pages, first, &parts.first)?;
+    plant(ground, pages, second, &parts.second)?;
+    plant(ground, pages, third, &parts.third)?;
+    plant(ground, pages, fourth, &parts.fourth)?;
+    Ok(())
+}
+
+// Replaces a leaf that has the ids of the list by four, each with those of all ids whose shapes meet its square. All are
+// those of the list and at most one more.
+pub fn split<P, S: Ground<P>>(
+    alloc: Global,
+    ground: &mut S,
+    pages: &mut P,
+    block: Block,
+    list: &[Kept],
+    all: &[Kept],
+) -> Result<(), PmrFault>
+    requires ready { S.IsReady ground.old pages.old }
+    requires block { IsBlock block }
+    requires above_points { block.level < COORDINATE_BITS }
+    requires all { IsOneMore (ids_of list.now) (ids_of all.now) }
     requires stands { S.IsKnown ground.old pages.old → Stands block (firsts (S.pairs ground.old pages.old)) }
     requires leaf { S.IsKnown ground.old pages.old → IsLeafOf block (firsts (S.pairs ground.old pages.old)) (ids_of list.now) }
     ensures leads { S.Leads ground.old pages.old ground.new pages.new (fault_of result) }
-    ensures keys { OnOk result (S.IsKnown ground.old pages.old → (m : Block → ℕ → Bool) (has : ℕ → Bool) → S.Tells ground.old pages.old m has → ListPasses (id_test has) list.now → Becomes block (settling m threshold block) (firsts (S.pairs ground.old pages.old)) (firsts (S.pairs ground.new pages.new))) }
-    ensures values { OnOk result (S.IsKnown ground.old pages.old → (test : ℕ → ℕ → Bool) → ListPasses test list.now → Passes test (S.pairs ground.old pages.old) → Passes test (S.pairs ground.new pages.new)) }
+    ensures keys { OnOk result (S.IsKnown ground.old pages.old → (m : Block → ℕ → Bool) (has : ℕ → Bool) → S.Tells ground.old pages.old m has → ListPasses (id_test has) all.now → Becomes block (divided m block (ids_of all.now)) (firsts (S.pairs ground.old pages.old)) (firsts (S.pairs ground.new pages.new))) }
+    ensures values { OnOk result (S.IsKnown ground.old pages.old → (test : ℕ → ℕ → Bool) → ListPasses test all.now → Passes test (S.pairs ground.old pages.old) → Passes test (S.pairs ground.new pages.new)) }
 {
-    let [first, second, third, fourth] = block.children();
+    let parts = parts_of(alloc, &*ground, pages, block, all)?;
     clear(ground, pages, block, list)?;
-    plant_met(alloc, ground, pages, first, list)?;
-    plant_met(alloc, ground, pages, second, list)?;
-    plant_met(alloc, ground, pages, third, list)?;
-    plant_met(alloc, ground, pages, fourth, list)?;
+    plant_parts(ground, pages, block, &parts)?;
     Ok(())
 }

@@ -29,7 +29,7 @@ fn is_at(list: &[Kept], at: usize, id: u32) -> bool
 }
 
 // Puts an id in its place among ascending ones, if it isn't there.
-fn add(list: &mut Vec<Kept>, kept: Kept) -> Result<(), PmrFault>
+pub fn add(list: &mut Vec<Kept>, kept: Kept) -> Result<(), PmrFault>
     ensures ids { OnOk result (ids_of list.new.items ≡ add kept.id (ids_of list.old.items)) }
     ensures values { OnOk result ((test : ℕ → ℕ → Bool) → test kept.id kept.value ≡ true → ListPasses test list.old.items → ListPasses test list.new.items) }
     ensures memory { IfErr result (λ e. e ≡ Memory) }

@@ -2,9 +2,9 @@
 use Rattle.std.proofs.Common.{◌<◌, ℕ, List, ap, sym, ◌∙◌, subst, arith}
 use Rattle.sand_base.specs.declared.TheConstants.{COORDINATE_BITS}
 use Rattle.pmr_tree.specs.Keys.{own}
-use Rattle.pmr_tree.specs.Leaves.{firsts, Passes, id_test}
+use Rattle.pmr_tree.specs.Leaves.{firsts, Passes, ListPasses, id_test}
 use Rattle.pmr_tree.specs.Changes.{Stands, Becomes, grown_where}
-use Rattle.pmr_tree.proofs.Entries.{none_found}
+use Rattle.pmr_tree.proofs.Entries.{none_found, if_found}
 use Rattle.pmr_tree.proofs.Steps.{stands_above}
 use Rattle.pmr_tree.proofs.LeafSteps.{becomes_unmet}
 use Rattle.pmr_tree.proofs.GrowSteps.{becomes_from, grow_steps, told_later, stands_first, stands_second, stands_third, stands_fourth, first_block, second_block, third_block, fourth_block}
@@ -15,6 +15,15 @@ returns-then-not-branch-clause-keys g t c = λ k m has tells all one.
     let B : List ℕ → Type 0 = λ x. Becomes c.args.block (grown_where m c.args.threshold c.args.newcomer.id c.args.block) (firsts (g.S.Ground.pairs c.args.ground.now c.args.pages.now)) x in
     subst B (sym (ap firsts (c.in_ok-does_meet.ensures.same k)))
     (becomes_unmet m c.args.threshold c.args.newcomer.id c.args.block _ (c.requires.stands k) (sym (c.in_ok-does_meet.ensures.value k m has tells one) ∙ c.if-not-branch.true))
+
+pub grow_leaf-requires-clause-told : goal.grow_leaf-requires-clause-told
+grow_leaf-requires-clause-told g t c = λ known test w.
+    let l0 = c.in_ok-does_meet.ensures.leads in
+    let l1 = g.met.S.Ground.onward _ _ _ _ _ _ _ l0 c.in_ok-list.ensures.leads in
+    let k = g.met.S.Ground.knew _ _ _ _ l1 known in
+    let mid = g.met.S.Ground.known _ _ _ _ l0 k in
+    subst (ListPasses test) (sym c.deref.ensures.value)
+    (if_found _ _ _ c.in-Some.is (c.in_ok-list.ensures.values mid test (subst (Passes test) (c.in_ok-list.ensures.same mid) w)))
 
 pub returns-in-Some-clause-keys : goal.returns-in-Some-clause-keys
 returns-in-Some-clause-keys g t c = λ k m has tells all one.

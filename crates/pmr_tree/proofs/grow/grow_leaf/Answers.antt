@@ -1,20 +1,36 @@
--- The id enters; fewer ids than the threshold are not too many with it.
-use Rattle.std.proofs.Common.{arith}
-use Rattle.pmr_tree.specs.Leaves.{ids_of, id_test}
+-- Fewer ids than the threshold are not too many with one more; else they are counted with it.
+use Rattle.std.proofs.Common.{◌≡◌, true, false, ap, sym, ◌∙◌, subst, arith, length}
+use Rattle.std.specs.Prelude.{nat_lt, ◌&&◌}
+use Rattle.sand_base.specs.declared.TheConstants.{COORDINATE_BITS}
+use Rattle.pmr_tree.specs.Leaves.{ids_of, id_test, ListPasses}
 use Rattle.pmr_tree.proofs.Entries.{length_ids}
-use Rattle.pmr_tree.proofs.LeafSteps.{becomes_grown_few, becomes_grown_leaf}
+use Rattle.pmr_tree.proofs.LeafSteps.{above_finest, becomes_grown_few, becomes_grown_kept, becomes_grown_split}
 use Rattle.pmr_tree.proofs.grow.grow_leaf.Goals as goal
 
 pub returns-then-list-threshold-clause-keys : goal.returns-then-list-threshold-clause-keys
 returns-then-list-threshold-clause-keys g c = λ k m has tells all one met.
     becomes_grown_few m c.args.threshold c.args.newcomer.id c.args.block _ _ (ids_of c.args.list.now) (c.requires.leaf k) met (omega (arith, length_ids c.args.list.now)) (c.in_ok-enter.ensures.keys k)
 
+pub returns-then-not-is_split-clause-keys : goal.returns-then-not-is_split-clause-keys
+returns-then-not-is_split-clause-keys g c = λ k m has tells all one met.
+    let count = ap length c.deref.ensures.value ∙ sym (length_ids c.in_ok-all.all.items) ∙ ap length c.in_ok-all.ensures.ids in
+    becomes_grown_kept m c.args.threshold c.args.newcomer.id c.args.block _ _ (ids_of c.args.list.now) (c.requires.leaf k) met
+    (subst (λ n. (nat_lt c.args.threshold n && nat_lt c.args.block.level COORDINATE_BITS) ≡ false) count (sym c.is_split.ensures ∙ c.if-not-is_split.true)) (c.in_ok-enter-2.ensures.keys k)
+
+pub split-requires-clause-above_points : goal.split-requires-clause-above_points
+split-requires-clause-above_points g c = above_finest c.args.threshold _ c.args.block.level COORDINATE_BITS (sym c.is_split.ensures ∙ c.if-not-is_split.false)
+
+pub split-requires-clause-all : goal.split-requires-clause-all
+split-requires-clause-all g c = record { id = c.args.newcomer.id; is_id = c.requires.id; is = ap ids_of c.deref-2.ensures.value ∙ c.in_ok-all.ensures.ids }
+
 pub returns-clause-keys : goal.returns-clause-keys
 returns-clause-keys g c = λ k m has tells all one met.
-    let l = c.in_ok-enter.ensures.leads in
-    becomes_grown_leaf m c.args.threshold c.args.newcomer.id c.args.block _ _ _ (ids_of c.args.list.now) (c.requires.leaf k) met (c.in_ok-enter.ensures.keys k)
-    (c.in_ok-settle.ensures.keys (g.met.S.Ground.known _ _ _ _ l k) m has (g.met.S.Ground.steady _ _ _ _ l c.requires.ready k m has tells) (c.in_ok-enter.ensures.values k (id_test has) one all))
+    let same = ap ids_of c.deref-2.ensures.value ∙ c.in_ok-all.ensures.ids in
+    let count = ap length c.deref.ensures.value ∙ sym (length_ids c.in_ok-all.all.items) ∙ sym (ap length (ap ids_of c.deref-2.ensures.value)) in
+    becomes_grown_split m c.args.threshold c.args.newcomer.id c.args.block _ _ (ids_of c.args.list.now) _ (c.requires.leaf k) met same
+    (subst (λ n. (nat_lt c.args.threshold n && nat_lt c.args.block.level COORDINATE_BITS) ≡ true) count (sym c.is_split.ensures ∙ c.if-not-is_split.false))
+    (c.in_ok-split.ensures.keys k m has tells (subst (ListPasses (id_test has)) (sym c.deref-2.ensures.value) (c.in_ok-all.ensures.values (id_test has) one (c.requires.told k (id_test has) all))))
 
 pub returns-clause-values : goal.returns-clause-values
 returns-clause-values g c = λ k test one w.
-    c.in_ok-settle.ensures.values (g.met.S.Ground.known _ _ _ _ c.in_ok-enter.ensures.leads k) test (c.in_ok-enter.ensures.values k test one w)
+    c.in_ok-split.ensures.values k test (subst (ListPasses test) (sym c.deref-2.ensures.value) (c.in_ok-all.ensures.values test one (c.requires.told k test w))) w
