@@ -1,5 +1,8 @@
 -- The steps of the lazy iterator over the rows to come, and its outcome.
 use Rattle.std.specs.Prelude.{◌≡◌, ◌⊎◌, Bool, true, false, Option, None, Some, Result, Ok, Err, IfOk, ⊤}
+use Rattle.page_pool.specs.Causes.{HasPageCause}
+use Rattle.page_pool.specs.Desk.{DeskState}
+use Rattle.page_pool.specs.Reads.{IsRead}
 use Rattle.page_pool.specs.declared.fault.PageFault.{PageFault}
 use Rattle.best_first.specs.declared.hit.Hit.{Hit}
 use Rattle.best_first.specs.Hierarchy.{Meaning}
@@ -15,3 +18,7 @@ abbrev pub GivesRowsNext : {N : Type 0} → Meaning N → Option Hit → Option 
 GivesRowsNext m last (Some hit) after = IsNext m last hit
 GivesRowsNext m last None (Ok over) = IsExhausted m last
 GivesRowsNext m last None (Err fault) = ⊤
+
+-- a step reads pages alone, and a fault that it leaves has its cause in it
+abbrev pub StepsDesk : DeskState → DeskState → Result Bool PageFault → Type 0
+StepsDesk old new after = IsRead old.pool new.pool × HasPageCause old.pool new.pool after
