@@ -80,7 +80,7 @@ fn pair_items(
 {
     let lefts = parts(alloc, node.0, place)?;
     let rights = parts(alloc, node.1, other)?;
-    let mut items = Vec::new(alloc);
+    let mut items = Vec::with_capacity(alloc, lefts.len().saturating_mul(rights.len()))?;
     push_pairs(&lefts, &rights, &mut items)?;
     Ok(items)
 }
@@ -96,7 +96,7 @@ fn leaf_items(
     requires rights { All (λ r. IsRoughInPlane r.rough) rights.now }
     ensures { IfOk result (λ items. AllZip IsAlike items.items (flat_map (row_found leaf rights.now) lefts.now)) }
 {
-    let mut items = Vec::new(alloc);
+    let mut items = Vec::with_capacity(alloc, lefts.len().saturating_mul(rights.len()))?;
     push_leaves(leaf, lefts, rights, &mut items)?;
     Ok(items)
 }

@@ -135,7 +135,7 @@ fn leaf_items(
     requires roughs { All (λ l. IsRoughInPlane l.rough) list.now }
     ensures { IfOk result (λ items. AllZip IsAlike items.items (flat_map (λ l. entry_found goal.now leaf l.id l.rough) list.now)) }
 {
-    let mut items = Vec::new(alloc);
+    let mut items = Vec::with_capacity(alloc, list.len())?;
     'entries: for listed in list {
         push_entry(goal, leaf, *listed, &mut items)?;
     }
