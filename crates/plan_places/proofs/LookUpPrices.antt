@@ -84,9 +84,13 @@ module _ (m : PageMap) (l : LookUp) (v : Value) (last id : ℕ) (key : List ℕ)
       one_passed (key_of v) last id (entries_at (store_of m) l.index) above
       (ap (λ (bytes : List ℕ). equal_id (key_number bytes) last (entries_at (store_of m) l.index)) (sym same) ∙ (sym next ∙ is))
 
+  fewer : entries_above m l v id < entries_above m l v last
+  fewer = let less = passed in omega (arith, less)
+
   -- an entry that tells the value costs a descent
-  pub entry_told : (old new : ℕ) → new ≤ old + (l.index.tree.height + 1) → new + entries_above m l v id * entry_price l v ≤ old + entries_above m l v last * entry_price l v
-  entry_told old new h = one_entry old new (descent_price l) (entries_above m l v id) (entries_above m l v last) (entry_price l v) h (omega arith) passed
+  pub entry_told : (old new : ℕ) → new ≤ old + (l.index.tree.height + 1)
+      → (entries_above m l v id < entries_above m l v last) × (new + entries_above m l v id * entry_price l v ≤ old + entries_above m l v last * entry_price l v)
+  entry_told old new h = (fewer, one_entry old new (descent_price l) (entries_above m l v id) (entries_above m l v last) (entry_price l v) h (omega arith) passed)
 
   module _ (untold : tells l v ≡ false) where
     with_tuple : descent_price l + tuple_price l.spot.relation.now.file.tree.height ≡ entry_price l v
@@ -98,8 +102,9 @@ module _ (m : PageMap) (l : LookUp) (v : Value) (last id : ℕ) (key : List ℕ)
         one_entry old new (descent_price l + tuple_price l.spot.relation.now.file.tree.height) (entries_above m l v id) (entries_above m l v last) (entry_price l v) (omega (arith, h, k)) (omega (arith, price)) passed
 
     -- another one costs its tuple too
-    pub entry_read : (old mid new : ℕ) → mid ≤ old + (l.index.tree.height + 1) → new ≤ mid + (l.spot.relation.now.file.tree.height + 1) → new + entries_above m l v id * entry_price l v ≤ old + entries_above m l v last * entry_price l v
-    entry_read = both
+    pub entry_read : (old mid new : ℕ) → mid ≤ old + (l.index.tree.height + 1) → new ≤ mid + (l.spot.relation.now.file.tree.height + 1)
+        → (entries_above m l v id < entries_above m l v last) × (new + entries_above m l v id * entry_price l v ≤ old + entries_above m l v last * entry_price l v)
+    entry_read old mid new h k = (fewer, both old mid new h k)
 
     -- so it does where the tuple is refused
     pub entry_refused : (old mid new : ℕ) → mid ≤ old + (l.index.tree.height + 1) → new ≤ mid + (l.spot.relation.now.file.tree.height + 1) → new ≤ old + entries_above m l v last * entry_price l v + descent_price l

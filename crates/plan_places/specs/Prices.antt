@@ -1,5 +1,5 @@
 -- What a look-up costs in page gets: one descent of the index for each entry that it passes, with the entry's tuple where the entry doesn't tell the value, and one descent more where it comes to the end.
-use Rattle.std.specs.Prelude.{ℕ, ◌+◌, ◌*◌, ◌≤◌, Bool, true, false, cond, nat_eq, nat_lt, ◌&&◌, List, length, filter, Option, None, Some, Result, Ok, Err}
+use Rattle.std.specs.Prelude.{ℕ, ◌+◌, ◌*◌, ◌<◌, ◌≤◌, Bool, true, false, cond, nat_eq, nat_lt, ◌&&◌, List, length, filter, Option, None, Some, Result, Ok, Err}
 use Rattle.page_pool.specs.Disk.{PageMap}
 use Rattle.page_pool.specs.Pool.{PoolState}
 use Rattle.page_pool.specs.declared.fault.PageFault.{PageFault}
@@ -48,6 +48,7 @@ entry_price l v = descent_price l + entry_tuple_price l v
 -- The gets of a look-up above an id: those of the entries up to the one that is given, and where none is given, or the look-up is refused, at most those of all entries and of the end.
 abbrev pub LooksUp : PageMap → LookUp → Value → ℕ → Result (Option ℕ) PageFault → PoolState → PoolState → Type 0
 LooksUp pages l v after (Ok (Some id)) old new =
-    new.gets + entries_above pages l v id * entry_price l v ≤ old.gets + entries_above pages l v after * entry_price l v
+    (entries_above pages l v id < entries_above pages l v after)
+    × (new.gets + entries_above pages l v id * entry_price l v ≤ old.gets + entries_above pages l v after * entry_price l v)
 LooksUp pages l v after (Ok None) old new = new.gets ≤ old.gets + entries_above pages l v after * entry_price l v + descent_price l
 LooksUp pages l v after (Err fault) old new = new.gets ≤ old.gets + entries_above pages l v after * entry_price l v + descent_price l

@@ -63,5 +63,6 @@ pub record IsLooking (l : LookUp) (v : Value) (after last : ℕ) (old now : Pool
   pub faults : now.disk.faults ≡ old.disk.faults
   pub up : min old.gets last_count ≤ now.gets
   pub reached : after ≤ last
+  pub fewer : IsTold old → entries_above old.pages l v last ≤ entries_above old.pages l v after
   pub spent : IsTold old → now.gets + entries_above old.pages l v last * entry_price l v ≤ old.gets + entries_above old.pages l v after * entry_price l v
   pub left : IsTold old → above after (found_in old.pages l v) ≡ above last (found_in old.pages l v)
