@@ -1,5 +1,5 @@
 -- What a call of a join or a semi-join as a source costs: the prices of its visits, as the model tells them.
-use Rattle.std.proofs.Common.{◌≡◌, ⊎_elim, ℕ, ◌+◌, ◌≤◌, ◌<◌, List, [], ◌∷◌, ◌++◌, map, Option, None, Some, IfSome, Result, Ok, Err, refl, sym, ap, ap₂, ◌∙◌, subst, arith, append-nil}
+use Rattle.std.proofs.Common.{◌≡◌, ⊎_elim, ℕ, ◌+◌, ◌≤◌, ◌<◌, List, [], ◌∷◌, ◌++◌, map, Option, None, Some, IfSome, Result, Ok, Err, refl, sym, ap, ap₂, subst, arith, append-nil}
 use Rattle.std.specs.Prelude.{sum_by}
 use Rattle.std.proofs.lemmas.List.Sums.{sum_by-cons}
 use Rattle.sand_base.specs.declared.visit.Visit.{Visit}
@@ -10,7 +10,7 @@ use Rattle.page_pool.specs.declared.fault.PageFault.{PageFault}
 use Rattle.sand_model.specs.Database.{Database}
 use Rattle.sand_model.specs.Plan as plan
 use Rattle.sand_model.specs.Plan.{Plan, Column}
-use Rattle.sand_model.specs.Price.{block_price, pair_price}
+use Rattle.sand_model.specs.Price.{block_price}
 use Rattle.sand_model.specs.Reach.{quadtree_of}
 use Rattle.sand_model.specs.Taken.{Taken}
 use Rattle.sand_model.specs.Tree.{Tree}
@@ -18,12 +18,12 @@ use Rattle.best_first.specs.Visits.{SearchState, MakesVisits, Makes}
 use Rattle.best_first.specs.declared.hit.Hit.{Hit}
 use Rattle.best_first.specs.declared.item.Item.{Item}
 use Rattle.best_first.specs.declared.item.Item.TheVariants.{Node, Rough, Row}
-use Rattle.rank_cursor.specs.Ranking.{place_at, id_count}
+use Rattle.rank_cursor.specs.Ranking.{place_at}
 use Rattle.semi_join.specs.LeftRows.{LeftRows}
 use Rattle.semi_join.specs.Visits.{MakesPairVisits}
 use Rattle.dist_join.specs.Joining.{Joining, visit_price, join_meaning}
 use Rattle.dist_join.specs.OverPages.{visit_of}
-use Rattle.plan_rows.specs.Prices.{Heights, ids_of_place, join_visit_price, visit_price as plan_price, unless_refused, Costs}
+use Rattle.plan_rows.specs.Prices.{Heights, join_visit_price, visit_price as plan_price, unless_refused, Costs}
 use Rattle.plan_rows.specs.declared.answer.Answer.{Answer}
 use Rattle.rank_source.proofs.RankPrices.{same_count}
 use Rattle.pair_source.specs.Joins.{JoinView, joining_in, heights_of, IsSideOf, HasTaken, HasTakenFirsts}

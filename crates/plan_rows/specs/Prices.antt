@@ -1,5 +1,5 @@
 -- What a call of a source costs in page gets: the price of each visit that it noted, by the heights of B-trees and by what the leaves list, and the price of a step.
-use Rattle.std.specs.Prelude.{◌≡◌, ℕ, ◌+◌, ◌≤◌, ◌&&◌, nat_eq, List, length, ◌++◌, find, option_map, sum_by, Option, None, Some, Result, Ok, Err}
+use Rattle.std.specs.Prelude.{◌≡◌, ℕ, ◌+◌, ◌≤◌, ◌&&◌, nat_eq, List, length, ◌++◌, find, option_map, sum_by, Option, Some, Result, Ok, Err}
 use Rattle.sand_base.specs.declared.visit.Visit.{Visit}
 use Rattle.sand_base.specs.declared.visit.Visit.TheVariants as visit
 use Rattle.page_pool.specs.Desk.{DeskState}

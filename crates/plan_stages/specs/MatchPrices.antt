@@ -1,5 +1,5 @@
 -- What a match costs in page gets: for each entry of the key of a row's value, and once more at the end, the tuple of the row and a descent of the index; and of an entry that doesn't tell the value its tuple too.
-use Rattle.std.specs.Prelude.{ℕ, ◌+◌, ◌*◌, ◌<◌, ◌≤◌, List, Option, None, Some, Result, Ok, Err}
+use Rattle.std.specs.Prelude.{ℕ, ◌+◌, ◌*◌, ◌≤◌, Option, None, Some, Result, Ok, Err}
 use Rattle.page_pool.specs.Disk.{PageMap}
 use Rattle.page_pool.specs.Pool.{PoolState}
 use Rattle.page_pool.specs.declared.fault.PageFault.{PageFault}
