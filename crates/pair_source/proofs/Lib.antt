@@ -17,3 +17,5 @@ pub mod SemiCalls
 pub mod SemiOverPages
 pub mod LeftShapes
 pub mod BegunFirsts
+-- what a call costs
+pub mod PairPrices

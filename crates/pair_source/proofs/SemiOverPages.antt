@@ -59,7 +59,7 @@ unchanged : (pages : Option PageMap) (v after : JoinView) (old new : SearchState
     → IfSome pages (StepOver v v old new lefts left answer) → IfSome pages (StepOver v after old new lefts left answer)
 unchanged pages v after old new lefts left answer same h = subst (λ (x : JoinView). IfSome pages (StepOver v x old new lefts left answer)) (sym same) h
 
-some_or_none : (n : ℕ) → (n ≡ 0) ⊎ (0 < n)
+pub some_or_none : (n : ℕ) → (n ≡ 0) ⊎ (0 < n)
 some_or_none zero = inl refl
 some_or_none (suc n) = inr (omega arith)
 

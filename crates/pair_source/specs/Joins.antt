@@ -28,6 +28,7 @@ use Rattle.semi_join.specs.LeftRows.{LeftRows}
 use Rattle.semi_join.specs.Listed.{pairs_left}
 use Rattle.dist_join.specs.Joining.{Side, Joining, IsSound, join_meaning}
 use Rattle.dist_join.specs.OverPages.{PageSide, paged, joining_over}
+use Rattle.plan_rows.specs.Prices.{Heights}
 use Rattle.plan_rows.specs.Rows.{plan_measure}
 use Rattle.plan_rows.specs.SourceSteps.{nothing_taken}
 use Rattle.rank_source.specs.Rankings.{IsColumnOf}
@@ -62,6 +63,15 @@ side_in c =
 -- the join of the columns over pages
 abbrev pub joining_in : JoinView → PageMap → Joining
 joining_in v pages = joining_over (side_in v.left) (side_in v.right) v.ceiling pages
+
+-- the heights of the B-trees that a join reads: of the quadtrees' maps and of the files of the rows
+abbrev pub heights_of : JoinView → Heights
+heights_of v = record {
+  index = v.left.tree.map.height;
+  rows = v.left.relation.file.tree.height;
+  right_index = v.right.tree.map.height;
+  right_rows = v.right.relation.file.tree.height;
+}
 
 -- A side of a join has the column's shapes and its quadtree, with no more listings than a quadtree may have.
 pub record IsSideOf (side : Side) (d : Database) (column : Column) : Type 0 where

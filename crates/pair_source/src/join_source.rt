@@ -3,7 +3,7 @@ ghost use Rattle.best_first.specs.Steps.{steps};
 ghost use Rattle.dist_join.specs.OverPages.{pair_weight};
 ghost use Rattle.sand_model.specs.Reach.{no_counts};
 ghost use Rattle.plan_rows.specs.Rows.{counts_of};
-ghost use Rattle.pair_source.specs.Joins.{join_view, joining_in, HasTaken, Begins};
+ghost use Rattle.pair_source.specs.Joins.{join_view, joining_in, heights_of, HasTaken, Begins};
 
 use crate::pair_answer::{pair_answer, room};
 use crate::pair_search::pair_search;
@@ -45,6 +45,12 @@ impl<'s> RowSource for JoinSource<'s> {
     ghost At = { λ s pages d p t. HasTaken ⟦<(Block, Block) as Ord>⟧.cmp (joining_in (join_view s.search.hierarchy.left_shapes.relation.now s.search.hierarchy.left_shapes.column s.search.hierarchy.left s.search.hierarchy.right_shapes.relation.now s.search.hierarchy.right_shapes.column s.search.hierarchy.right s.search.hierarchy.ceiling) pages) s.search.frontier.queue.items s.search.frontier.last s.search.frontier.counts d p t };
 
     ghost seen = { λ s. record { blocks = 0; pairs = s.search.frontier.counts.visited; geometries = s.search.frontier.counts.fetched } };
+
+    ghost heights = { λ s. heights_of (join_view s.search.hierarchy.left_shapes.relation.now s.search.hierarchy.left_shapes.column s.search.hierarchy.left s.search.hierarchy.right_shapes.relation.now s.search.hierarchy.right_shapes.column s.search.hierarchy.right s.search.hierarchy.ceiling) };
+
+    ghost step_price = { λ s. 0 };
+
+    ghost owed = { λ s pages. 0 };
 
     ghost steps = { λ s. steps pair_weight s.search.frontier.queue.items };
 

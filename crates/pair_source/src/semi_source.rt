@@ -3,7 +3,7 @@ ghost use Rattle.sand_model.specs.Reach.{no_counts};
 ghost use Rattle.best_first.specs.Steps.{steps};
 ghost use Rattle.dist_join.specs.OverPages.{pair_weight};
 ghost use Rattle.plan_rows.specs.Rows.{counts_of};
-ghost use Rattle.pair_source.specs.Joins.{join_view, joining_in, HasTakenFirsts, BeginsFirsts};
+ghost use Rattle.pair_source.specs.Joins.{join_view, joining_in, heights_of, HasTakenFirsts, BeginsFirsts};
 
 use crate::pair_answer::{pair_answer, room};
 use crate::pair_search::pair_search;
@@ -53,6 +53,12 @@ impl<'s> RowSource for SemiSource<'s> {
     ghost At = { λ s pages d p t. HasTakenFirsts ⟦<(Block, Block) as Ord>⟧.cmp (joining_in (join_view s.semi.engine.hierarchy.left_shapes.relation.now s.semi.engine.hierarchy.left_shapes.column s.semi.engine.hierarchy.left s.semi.engine.hierarchy.right_shapes.relation.now s.semi.engine.hierarchy.right_shapes.column s.semi.engine.hierarchy.right s.semi.engine.hierarchy.ceiling) pages) s.semi.engine.frontier.queue.items s.semi.engine.frontier.last s.semi.engine.frontier.counts s.semi.lefts d p t };
 
     ghost seen = { λ s. record { blocks = 0; pairs = s.semi.engine.frontier.counts.visited; geometries = s.semi.engine.frontier.counts.fetched } };
+
+    ghost heights = { λ s. heights_of (join_view s.semi.engine.hierarchy.left_shapes.relation.now s.semi.engine.hierarchy.left_shapes.column s.semi.engine.hierarchy.left s.semi.engine.hierarchy.right_shapes.relation.now s.semi.engine.hierarchy.right_shapes.column s.semi.engine.hierarchy.right s.semi.engine.hierarchy.ceiling) };
+
+    ghost step_price = { λ s. 0 };
+
+    ghost owed = { λ s pages. 0 };
 
     ghost steps = { λ s. steps pair_weight s.semi.engine.frontier.queue.items };
 

@@ -1,5 +1,7 @@
 -- The rows of a value, one after another.
-use Rattle.std.proofs.Common.{◌≡◌, ℕ, List, [], map, refl, sym, ◌∙◌, ap, subst, IsErr, true≢false}
+use Rattle.std.proofs.Common.{◌≡◌, ℕ, suc, ◌≤◌, List, [], ◌∷◌, length, inl, inr, arith, map, refl, sym, ◌∙◌, ap, subst, IsErr, true≢false}
+use Rattle.std.proofs.lemmas.Bool.Decides.{leb_tells}
+use Rattle.code_btree.proofs.Orders.{lt_not}
 use Rattle.std.specs.Prelude.{Option, Some, None, Result, Ok, Err, IfSome}
 use Rattle.page_pool.specs.Desk.{DeskState}
 use Rattle.page_pool.specs.Disk.{PageMap}
@@ -54,15 +56,27 @@ pick_row l v last id a old new gives is reads =
     row_step d p t a (plain_row id) (rows_of (above id (equals d h.column v))) old new (λ u. IsPickEqual l v id old.pool.pages d p u) (plain l v last old.pool.pages d p t h)
     (h.left ∙ ap rows_of first.1) is reads (λ u left. record { column = h.column; is = h.is; look_up = h.look_up; left = left }))
 
--- the end
-pub pick_end : (l : LookUp) (v : Value) (last : ℕ) (old new : DeskState) → (IsTold old.pool → Looks l v last old.pool.pages None) → Reads old new
-    → IfSome (told_pages old) (λ pages. (d : Database) (p : Plan) (t : Taken) → IsPickEqual l v last pages d p t → SourceStep d p t no_counts no_counts old new (Ok None) (λ u. IsPickEqual l v last pages d p u))
-pick_end l v last old new gives reads =
-    let F : PageMap → Type 0 = λ pages. (d : Database) (p : Plan) (t : Taken) → IsPickEqual l v last pages d p t → SourceStep d p t no_counts no_counts old new (Ok None) (λ u. IsPickEqual l v last pages d p u) in
+-- where none is above an id, none is above a greater one
+none_higher : (low high : ℕ) (pairs : List (ℕ × Value)) → low ≤ high → above low pairs ≡ [] → above high pairs ≡ []
+none_higher low high [] l h = refl
+none_higher low high (pair ∷ pairs) l h = elim (leb_tells (suc low) pair.0) [
+  | inl x ↦
+      let there : pair ∷ above low pairs ≡ [] = sym (rw x.0 refl) ∙ h in
+      let none : suc (length (above low pairs)) ≡ 0 = ap (λ (ps : List (ℕ × Value)). length ps) there in
+      absurd (omega (arith, none))
+  | inr x ↦ (let rest : above low pairs ≡ [] = sym (rw x.0 refl) ∙ h in rw (lt_not high pair.0 (omega (arith, x.1, l))) (none_higher low high pairs l rest))
+]
+
+-- the end, after which the last id is one that none is above
+pub pick_end : (l : LookUp) (v : Value) (last high : ℕ) (old new : DeskState) → last ≤ high → (IsTold old.pool → Looks l v last old.pool.pages None) → Reads old new
+    → IfSome (told_pages old) (λ pages. (d : Database) (p : Plan) (t : Taken) → IsPickEqual l v last pages d p t → SourceStep d p t no_counts no_counts old new (Ok None) (λ u. IsPickEqual l v high pages d p u))
+pick_end l v last high old new higher gives reads =
+    let F : PageMap → Type 0 = λ pages. (d : Database) (p : Plan) (t : Taken) → IsPickEqual l v last pages d p t → SourceStep d p t no_counts no_counts old new (Ok None) (λ u. IsPickEqual l v high pages d p u) in
     where_told old F (λ told d p t h.
     let none : rows_of (above last (equals d h.column v)) ≡ [] = ap rows_of (gives told d h.column h.look_up) in
-    end_step d p t old new (λ u. IsPickEqual l v last old.pool.pages d p u) (plain l v last old.pool.pages d p t h) (h.left ∙ none) reads
-    (λ u left. record { column = h.column; is = h.is; look_up = h.look_up; left = left ∙ sym none }))
+    let past : rows_of (above high (equals d h.column v)) ≡ [] = ap rows_of (none_higher last high (equals d h.column v) higher (gives told d h.column h.look_up)) in
+    end_step d p t old new (λ u. IsPickEqual l v high old.pool.pages d p u) (plain l v last old.pool.pages d p t h) (h.left ∙ none) reads
+    (λ u left. record { column = h.column; is = h.is; look_up = h.look_up; left = left ∙ sym past }))
 
 -- a refusal takes nothing
 pub pick_refused : (l : LookUp) (v : Value) (last : ℕ) (result : Result (Option Answer) PageFault) (old new : DeskState) → IsErr result → Reads old new

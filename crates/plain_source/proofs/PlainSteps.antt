@@ -1,5 +1,5 @@
 -- A call of a source without distances: it gives the first row that is left, and visits nothing.
-use Rattle.std.proofs.Common.{◌≡◌, ℕ, zero, suc, ◌+◌, ◌<◌, ◌≤◌, true, false, Bool, cond, List, [], ◌∷◌, length, drop, refl, sym, ◌∙◌, ap, subst, arith, append-nil}
+use Rattle.std.proofs.Common.{◌≡◌, ℕ, zero, suc, ◌+◌, ◌<◌, ◌≤◌, true, false, Bool, cond, List, [], ◌∷◌, length, drop, refl, sym, ◌∙◌, ap, subst, arith, append-nil, true≢false, IsErr}
 use Rattle.std.specs.Prelude.{Option, Some, None, Ok, Err, Result, min, IfSome, ⊤, OnOk}
 use Rattle.std.proofs.lemmas.List.Elements.{All-nil}
 use Rattle.code_btree.proofs.Orders.{lt_is, lt_not}
@@ -19,6 +19,7 @@ use Rattle.sand_model.specs.Taken.{Taken}
 use Rattle.best_first.specs.Visits.{told_pages}
 use Rattle.plan_rows.specs.Rows.{plan_measure, row_of}
 use Rattle.plan_rows.specs.SourceSteps.{next_taken, counts_taken, MakesVisits, SourceStep}
+use Rattle.plan_rows.specs.Prices.{Heights, unless_refused, Costs}
 use Rattle.plan_rows.specs.Visited.{LiesWithin}
 use Rattle.plan_rows.specs.declared.answer.Answer.{Answer}
 use Rattle.plan_rows.proofs.VisitCounts.{plus_none}
@@ -143,3 +144,26 @@ where_told desk F f =
 pub reads_of : (old : DeskState) (pool new : PoolState) → pool ≡ old.pool → min pool.gets last_count ≤ new.gets → Reads old (record { pool = new; visits = old.visits })
 reads_of old pool new e u =
     let P : PoolState → Type 0 = λ s. min s.gets last_count ≤ new.gets in record { log = refl; up = subst P e u }
+
+-- ---- what a call costs
+
+-- a refusal leaves nothing to pay
+pub none_refused : {T : Type 0} (result : Result T PageFault) (n : ℕ) → IsErr result → unless_refused result n ≡ 0
+none_refused (Ok x) n refused = absurd (true≢false (sym refused))
+none_refused (Err fault) n refused = refl
+
+-- a call that reads a desk's pages, and notes nothing
+pub costs_read : (h : Heights) (step : ℕ) (owed left : PageMap → ℕ) (At : PageMap → Database → Plan → Taken → Type 0) (old : DeskState) (pool new : PoolState) (result : Result (Option Answer) PageFault)
+    → pool ≡ old.pool → (IsTold pool → new.gets + unless_refused result (left pool.pages) ≤ pool.gets + owed pool.pages + step)
+    → IfSome (told_pages old) (λ pages. (d : Database) (p : Plan) (t : Taken) → At pages d p t → Costs h step (owed pages) (left pages) d p old (record { pool = new; visits = old.visits }) result)
+costs_read h step owed left At old pool new result same bound =
+    let F : PageMap → Type 0 = λ pages. (d : Database) (p : Plan) (t : Taken) → At pages d p t → Costs h step (owed pages) (left pages) d p old (record { pool = new; visits = old.visits }) result in
+    let B : PoolState → Type 0 = λ s. IsTold s → new.gets + unless_refused result (left s.pages) ≤ s.gets + owed s.pages + step in
+    let there : B old.pool = subst B same bound in
+    where_told old F (λ told d p t at.
+    let most = there told in
+    record {
+      noted = [];
+      log = sym (append-nil old.visits);
+      most = omega (arith, most);
+    })

@@ -5,10 +5,12 @@ ghost use Rattle.sand_model.specs.Reach.{no_counts};
 ghost use Rattle.sand_store.specs.Catalog.{IsCatalog};
 ghost use Rattle.sand_store.specs.Contents.{database_in};
 ghost use Rattle.sand_store.specs.Standing.{CatalogStands};
+ghost use Rattle.plan_places.specs.Prices.{descent_price};
 ghost use Rattle.plan_places.specs.Spots.{names_of};
 ghost use Rattle.plan_rows.specs.Rows.{counts_of};
 ghost use Rattle.plan_rows.specs.SourceSteps.{nothing_taken};
 ghost use Rattle.plain_source.specs.Plain.{IsPickBetween, LacksInts, steps_left};
+ghost use Rattle.plain_source.specs.Prices.{heights_of};
 
 use crate::answer::{NO_VISITS, plain_answer};
 use page_pool::{Desk, Disk, PageFault};
@@ -59,6 +61,12 @@ impl<'s> RowSource for PickBetween<'s> {
     ghost At = { λ s pages d p t. IsPickBetween s.look_up s.low s.high s.last pages d p t };
 
     ghost seen = { λ s. record { blocks = 0; pairs = 0; geometries = 0 } };
+
+    ghost heights = { λ s. heights_of s.look_up.index.tree.height s.look_up.spot.relation.now.file.tree.height };
+
+    ghost step_price = { λ s. descent_price s.look_up };
+
+    ghost owed = { λ s pages. 0 };
 
     ghost steps = { λ s. steps_left s.low s.high s.last };
 

@@ -9,7 +9,9 @@ ghost use Rattle.plan_places.specs.Indexed.{LacksIndex};
 ghost use Rattle.plan_places.specs.Spots.{names_of};
 ghost use Rattle.plan_rows.specs.Rows.{counts_of};
 ghost use Rattle.plan_rows.specs.SourceSteps.{nothing_taken};
+ghost use Rattle.plan_places.specs.Prices.{descent_price};
 ghost use Rattle.plain_source.specs.Plain.{IsPickEqual};
+ghost use Rattle.plain_source.specs.Prices.{heights_of, entries_price};
 
 use crate::answer::{NO_VISITS, plain_answer};
 use page_pool::{Desk, Disk, PageFault};
@@ -54,6 +56,12 @@ impl<'s> RowSource for PickEqual<'s> {
 
     ghost seen = { λ s. record { blocks = 0; pairs = 0; geometries = 0 } };
 
+    ghost heights = { λ s. heights_of s.look_up.index.tree.height s.look_up.spot.relation.now.file.tree.height };
+
+    ghost step_price = { λ s. descent_price s.look_up };
+
+    ghost owed = { λ s pages. entries_price pages s.look_up s.value s.last };
+
     ghost steps = { λ s. 4294967296 - s.last };
 
     fn next<D: Disk>(
@@ -70,7 +78,11 @@ impl<'s> RowSource for PickEqual<'s> {
                 self.last = id;
                 Ok(Some(answer))
             }
-            Ok(None) => Ok(None),
+            Ok(None) => {
+                // No id is greater, so that nothing is passed again where the end is asked for once more.
+                self.last = u32::MAX;
+                Ok(None)
+            }
             Err(fault) => Err(fault),
         }
     }

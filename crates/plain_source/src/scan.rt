@@ -5,6 +5,7 @@ ghost use Rattle.page_pool.specs.Pool.{IsTold};
 ghost use Rattle.page_pool.specs.Reads.{IsRead};
 ghost use Rattle.page_pool.specs.Causes.{HasPageCause};
 ghost use Rattle.sand_model.specs.Database.{relation_named};
+ghost use Rattle.sand_model.specs.Price.{scan_price};
 ghost use Rattle.sand_model.specs.Reach.{no_counts};
 ghost use Rattle.sand_store.specs.Contents.{rows_in, database_in};
 ghost use Rattle.sand_store.specs.Standing.{CatalogStands};
@@ -13,6 +14,7 @@ ghost use Rattle.plan_rows.specs.Rows.{counts_of};
 ghost use Rattle.plan_rows.specs.SourceSteps.{nothing_taken};
 ghost use Rattle.sand_model.specs.Plan.{Scan as of_relation};
 ghost use Rattle.plain_source.specs.Plain.{GivesNext, ids_of, IsScan};
+ghost use Rattle.plain_source.specs.Prices.{heights_of};
 
 use crate::answer::{NO_VISITS, plain_answer};
 use page_pool::{Desk, Disk, PageFault, Pages};
@@ -46,6 +48,7 @@ impl<'s> Scan<'s> {
         ensures read { IsRead (P.shown pages.old) (P.shown pages.new) }
         ensures up { min (P.shown pages.old).gets last_count ≤ (P.shown pages.new).gets }
         ensures cause { HasPageCause (P.shown pages.old) (P.shown pages.new) result }
+        ensures most { (P.shown pages.new).gets ≤ (P.shown pages.old).gets + scan_price self.now.relation.now.file.tree.height }
     {
         if self.last >= self.relation.greatest() {
             return Ok(None);
@@ -61,6 +64,12 @@ impl<'s> RowSource for Scan<'s> {
     ghost At = { λ s pages d p t. IsScan s.relation.now s.last pages d p t };
 
     ghost seen = { λ s. record { blocks = 0; pairs = 0; geometries = 0 } };
+
+    ghost heights = { λ s. heights_of 0 s.relation.now.file.tree.height };
+
+    ghost step_price = { λ s. scan_price s.relation.now.file.tree.height };
+
+    ghost owed = { λ s pages. 0 };
 
     ghost steps = { λ s. 4294967296 - s.last };
 

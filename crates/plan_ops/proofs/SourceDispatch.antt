@@ -7,9 +7,10 @@ use Rattle.sand_model.specs.Plan.{Plan}
 use Rattle.sand_model.specs.Taken.{Taken}
 use Rattle.best_first.specs.Visits.{told_pages}
 use Rattle.plan_rows.specs.Rows.{counts_of}
+use Rattle.plan_rows.specs.Prices.{Costs}
 use Rattle.plan_rows.specs.SourceSteps.{SourceStep}
 use Rattle.plan_rows.specs.declared.answer.Answer.{Answer}
-use Rattle.plan_ops.specs.Sources.{source_at, source_seen}
+use Rattle.plan_ops.specs.Sources.{source_at, source_seen, source_heights, source_step_price, source_owed}
 use Rattle.plan_ops.specs.declared.source.Source.{Source}
 
 -- the clauses, as facts of the source before the call
@@ -21,6 +22,17 @@ abbrev pub Stepped : DeskState → DeskState → Source → Result (Option Answe
 Stepped desk later after result s =
     IfSome (told_pages desk) (λ pages. (d : Database) (p : Plan) (t : Taken) → source_at s pages d p t
     → SourceStep d p t (counts_of (source_seen s)) (counts_of (source_seen after)) desk later result (source_at after pages d p))
+
+abbrev pub HasHeights : Source → Source → Type 0
+HasHeights after s = source_heights after ≡ source_heights s
+
+abbrev pub HasStepPrice : Source → Source → Type 0
+HasStepPrice after s = source_step_price after ≡ source_step_price s
+
+abbrev pub Paid : DeskState → DeskState → Source → Result (Option Answer) PageFault → Source → Type 0
+Paid desk later after result s =
+    IfSome (told_pages desk) (λ pages. (d : Database) (p : Plan) (t : Taken) → source_at s pages d p t
+    → Costs (source_heights s) (source_step_price s) (source_owed s pages) (source_owed after pages) d p desk later result)
 
 -- the source that it is
 

@@ -1,5 +1,5 @@
 -- What holds of the stage that a stage of any kind is holds of it.
-use Rattle.std.proofs.Common.{◌≡◌, ℕ, ◌<◌, ◌≤◌, true, List, [], ◌∷◌, ◌++◌, Result, IfSome, sym, subst}
+use Rattle.std.proofs.Common.{◌≡◌, ℕ, ◌+◌, ◌<◌, ◌≤◌, true, List, [], ◌∷◌, ◌++◌, Result, IfSome, sym, subst}
 use Rattle.page_pool.specs.Desk.{DeskState}
 use Rattle.page_pool.specs.Disk.{PageMap}
 use Rattle.page_pool.specs.declared.fault.PageFault.{PageFault}
@@ -8,13 +8,14 @@ use Rattle.sand_model.specs.Operators.{PlanRow}
 use Rattle.sand_model.specs.Plan.{Plan}
 use Rattle.sand_model.specs.Taken.{is_lazy}
 use Rattle.best_first.specs.Visits.{told_pages}
+use Rattle.plan_rows.specs.Prices.{unless_refused}
 use Rattle.plan_rows.specs.Rows.{row_of}
 use Rattle.plan_rows.specs.declared.answer.Answer.{Answer}
 use Rattle.plan_steps.specs.Outermost.{beneath}
 use Rattle.plan_steps.specs.Stages.{Works, Finishes, IsDry}
 use Rattle.plan_steps.specs.Steps.{Lowers}
 use Rattle.plan_steps.specs.declared.step.Step.{Step}
-use Rattle.plan_ops.specs.Stages.{StageStands, is_closed, stage_steps}
+use Rattle.plan_ops.specs.Stages.{StageStands, is_closed, stage_steps, stage_price, stage_owed}
 use Rattle.plan_ops.specs.declared.stage.Stage.{Stage}
 
 -- the clauses, as facts of the stage before the call
@@ -47,6 +48,20 @@ abbrev pub Worked : DeskState → Stage → Result Step PageFault → Stage → 
 Worked desk after result s =
     IfSome (told_pages desk) (λ pages. (d : Database) (p : Plan) (taken given : List PlanRow) → StageStands s pages d p taken given
     → Works d p taken given (is_closed after) result (StageStands after pages d p taken))
+
+abbrev pub HasPrice : Stage → Stage → Type 0
+HasPrice after s = stage_price after ≡ stage_price s
+
+abbrev pub HoldsOwing : Stage → Answer → Stage → Type 0
+HoldsOwing after row s = (pages : PageMap) (d : Database) (p : Plan) → stage_owed after pages d p ≤ stage_price s pages d p (row_of row)
+
+abbrev pub FinishesOwing : Stage → Stage → Type 0
+FinishesOwing after s = (pages : PageMap) (d : Database) (p : Plan) → stage_owed after pages d p ≤ stage_owed s pages d p
+
+abbrev pub WorksPaying : DeskState → DeskState → Stage → Result Step PageFault → Stage → Type 0
+WorksPaying desk later after result s =
+    IfSome (told_pages desk) (λ pages. (d : Database) (p : Plan) (taken given : List PlanRow) → StageStands s pages d p taken given
+    → later.pool.gets + unless_refused result (stage_owed after pages d p) ≤ desk.pool.gets + stage_owed s pages d p)
 
 -- the stage that it is
 pub of_kind : (X : Stage → Type 0) (s kind : Stage) → s ≡ kind → X kind → X s

@@ -6,13 +6,18 @@ use Rattle.z_code.specs.declared.block.Block.{Block}
 use Rattle.best_first.specs.Steps.{steps}
 use Rattle.rank_cursor.specs.Cursor.{block_weight}
 use Rattle.dist_join.specs.OverPages.{pair_weight}
+use Rattle.page_pool.specs.Disk.{PageMap}
+use Rattle.sand_model.specs.Price.{scan_price}
+use Rattle.plan_places.specs.Prices.{descent_price}
+use Rattle.plan_rows.specs.Prices.{Heights}
 use Rattle.plan_rows.specs.declared.stats.SourceCounts.{SourceCounts}
 use Rattle.plan_steps.specs.Following.{Taking}
 use Rattle.plain_source.specs.Plain.{IsScan, IsPickEqual, IsPickBetween, steps_left}
-use Rattle.rank_source.specs.Rankings.{IsAt, by_code}
+use Rattle.plain_source.specs.Prices.{heights_of as plain_heights, entries_price}
+use Rattle.rank_source.specs.Rankings.{IsAt, by_code, heights_of as rank_heights}
 use Rattle.pair_source.specs.declared.join_source.JoinSource.{JoinSource}
 use Rattle.pair_source.specs.declared.semi_source.SemiSource.{SemiSource}
-use Rattle.pair_source.specs.Joins.{join_view, joining_in, HasTaken, HasTakenFirsts}
+use Rattle.pair_source.specs.Joins.{join_view, joining_in, heights_of as join_heights, HasTaken, HasTakenFirsts}
 use Rattle.plan_ops.specs.declared.source.Source.{Source}
 use Rattle.plan_ops.specs.declared.source.Source.TheVariants as source
 
@@ -65,3 +70,30 @@ source_steps (source.PickBetween s) = steps_left s.low s.high s.last
 source_steps (source.Rank s) = steps block_weight s.search.frontier.queue.items
 source_steps (source.Join s) = steps pair_weight s.search.frontier.queue.items
 source_steps (source.Semi s) = steps pair_weight s.semi.engine.frontier.queue.items
+
+-- the heights of the B-trees that it reads
+abbrev pub source_heights : Source → Heights
+source_heights (source.Scan s) = plain_heights 0 s.relation.now.file.tree.height
+source_heights (source.PickEqual s) = plain_heights s.look_up.index.tree.height s.look_up.spot.relation.now.file.tree.height
+source_heights (source.PickBetween s) = plain_heights s.look_up.index.tree.height s.look_up.spot.relation.now.file.tree.height
+source_heights (source.Rank s) = rank_heights s.search.hierarchy
+source_heights (source.Join s) =
+    let h = s.search.hierarchy in
+    join_heights
+    (join_view h.left_shapes.relation.now h.left_shapes.column h.left h.right_shapes.relation.now h.right_shapes.column h.right h.ceiling)
+source_heights (source.Semi s) =
+    let h = s.semi.engine.hierarchy in
+    join_heights
+    (join_view h.left_shapes.relation.now h.left_shapes.column h.left h.right_shapes.relation.now h.right_shapes.column h.right h.ceiling)
+
+-- the price of a step: a descent of the file of the rows or of the index; a search pays for its visits alone
+abbrev pub source_step_price : Source → ℕ
+source_step_price (source.Scan s) = scan_price s.relation.now.file.tree.height
+source_step_price (source.PickEqual s) = descent_price s.look_up
+source_step_price (source.PickBetween s) = descent_price s.look_up
+source_step_price _ = 0
+
+-- the price of the entries that it has still to pass
+abbrev pub source_owed : Source → PageMap → ℕ
+source_owed (source.PickEqual s) pages = entries_price pages s.look_up s.value s.last
+source_owed _ pages = 0

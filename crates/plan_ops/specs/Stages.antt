@@ -8,8 +8,11 @@ use Rattle.plan_stages.specs.Fetches.{FetchStands, fetch_waits, fetch_steps}
 use Rattle.plan_stages.specs.Filters.{FilterStands, filter_waits, filter_steps}
 use Rattle.plan_stages.specs.Firsts.{FirstStands, first_waits, first_steps}
 use Rattle.plan_stages.specs.Matches.{MatchStands, match_waits, match_steps}
+use Rattle.plan_stages.specs.MatchPrices.{match_left, match_owed}
+use Rattle.plan_stages.specs.Prices.{tests_price, spots_price, if_waiting as filter_waiting}
 use Rattle.sort_stages.specs.Gaps.{SortNearStands}
 use Rattle.sort_stages.specs.Numbers.{SortByStands}
+use Rattle.sort_stages.specs.Prices.{key_price, if_waiting as sort_waiting}
 use Rattle.sort_stages.specs.Sorting.{sort_waits, sort_steps}
 use Rattle.plan_ops.specs.declared.stage.Stage.{Stage}
 use Rattle.plan_ops.specs.declared.stage.Stage.TheVariants as stage
@@ -46,3 +49,21 @@ stage_steps (stage.Fetch s) = fetch_steps s
 stage_steps (stage.Match s) = match_steps s
 stage_steps (stage.SortBy s) = sort_steps s.held s.rows s.closed
 stage_steps (stage.SortNear s) = sort_steps s.held s.rows s.closed
+
+-- the price of handling a row
+abbrev pub stage_price : Stage → PageMap → Database → Plan → PlanRow → ℕ
+stage_price (stage.First s) = λ pages d p row. 0
+stage_price (stage.Filter s) = λ pages d p row. tests_price s.tests.items
+stage_price (stage.Fetch s) = λ pages d p row. spots_price s.spots.items
+stage_price (stage.Match s) = λ pages d p row. match_left s pages d p row 0
+stage_price (stage.SortBy s) = λ pages d p row. key_price s.spot
+stage_price (stage.SortNear s) = λ pages d p row. key_price s.spot
+
+-- the price of what is still to be done for the row that it holds
+abbrev pub stage_owed : Stage → PageMap → Database → Plan → ℕ
+stage_owed (stage.First s) pages d p = 0
+stage_owed (stage.Filter s) pages d p = filter_waiting s.held (tests_price s.tests.items)
+stage_owed (stage.Fetch s) pages d p = filter_waiting s.held (spots_price s.spots.items)
+stage_owed (stage.Match s) pages d p = match_owed s pages d p
+stage_owed (stage.SortBy s) pages d p = sort_waiting s.held (key_price s.spot)
+stage_owed (stage.SortNear s) pages d p = sort_waiting s.held (key_price s.spot)

@@ -1,4 +1,4 @@
-ghost use Rattle.plan_ops.specs.Sources.{source_at, source_seen, source_steps};
+ghost use Rattle.plan_ops.specs.Sources.{source_at, source_seen, source_steps, source_heights, source_step_price, source_owed};
 
 use page_pool::{Desk, Disk, PageFault};
 use pair_source::{JoinSource, SemiSource};
@@ -22,6 +22,12 @@ impl<'s> RowSource for Source<'s> {
     ghost At = { source_at };
 
     ghost seen = { source_seen };
+
+    ghost heights = { source_heights };
+
+    ghost step_price = { source_step_price };
+
+    ghost owed = { source_owed };
 
     ghost steps = { source_steps };
 

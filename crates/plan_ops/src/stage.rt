@@ -1,4 +1,4 @@
-ghost use Rattle.plan_ops.specs.Stages.{StageStands, stage_waits, is_closed, stage_steps};
+ghost use Rattle.plan_ops.specs.Stages.{StageStands, stage_waits, is_closed, stage_steps, stage_price, stage_owed};
 
 use page_pool::{Desk, Disk, PageFault};
 use plan_rows::Answer;
@@ -24,6 +24,10 @@ impl<'s> RowStage for Stage<'s> {
     ghost waits = { stage_waits };
 
     ghost closed = { is_closed };
+
+    ghost price = { stage_price };
+
+    ghost owed = { stage_owed };
 
     ghost steps = { stage_steps };
 

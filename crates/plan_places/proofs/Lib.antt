@@ -11,3 +11,4 @@ pub mod RowsRead
 pub mod EqualIds
 pub mod LookedUp
 pub mod LookUps
+pub mod LookUpPrices

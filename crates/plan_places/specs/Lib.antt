@@ -4,5 +4,7 @@ pub mod Spots
 pub mod Equals
 -- columns with their indexes
 pub mod Indexed
+-- what a look-up costs
+pub mod Prices
 -- what only the proof needs
 pub mod Steps

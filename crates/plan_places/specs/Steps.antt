@@ -1,5 +1,5 @@
 -- How an index leads to rows with an equal value: what only the proof of a look-up needs.
-use Rattle.std.specs.Prelude.{◌≡◌, ℕ, ℤ, ◌≤◌, min, Bool, true, false, List, [], ◌∷◌, filter, filter_map, Option, None, Some, option_map}
+use Rattle.std.specs.Prelude.{◌≡◌, ℕ, ℤ, ◌+◌, ◌*◌, ◌≤◌, min, Bool, true, false, List, [], ◌∷◌, filter, filter_map, Option, None, Some, option_map, Result, Ok, Err}
 use Rattle.page_pool.specs.Disk.{PageMap}
 use Rattle.page_pool.specs.Pool.{PoolState, IsTold}
 use Rattle.page_pool.specs.Reads.{IsRead}
@@ -10,6 +10,8 @@ use Rattle.sand_model.specs.Database.{element}
 use Rattle.sand_model.specs.Sources.{same_value}
 use Rattle.sand_store.specs.Contents.{rows_in}
 use Rattle.plan_places.specs.Equals.{above}
+use Rattle.page_pool.specs.declared.fault.PageFault.{PageFault}
+use Rattle.plan_places.specs.Prices.{entries_above, entry_price}
 use Rattle.plan_places.specs.declared.look_up.LookUp.{LookUp}
 use Rattle.plan_places.specs.declared.look_up.Candidate.{Candidate}
 
@@ -49,10 +51,18 @@ abbrev pub GivesCandidate : ℕ → List (ℕ × Value) → Option Candidate →
 GivesCandidate last pairs None = above last pairs ≡ []
 GivesCandidate last pairs (Some c) = IsCandidate last pairs c.id c.is_equal
 
+-- the id of a candidate
+abbrev pub id_of : Result (Option Candidate) PageFault → Result (Option ℕ) PageFault
+id_of (Ok (Some c)) = Ok (Some c.id)
+id_of (Ok None) = Ok None
+id_of (Err fault) = Err fault
+
 -- So far nothing changed, and no row with the value lies between the id from which a look-up began and the last one that the index gave.
 pub record IsLooking (l : LookUp) (v : Value) (after last : ℕ) (old now : PoolState) : Type 0 where
   pub read : IsRead old now
   pub faults : now.disk.faults ≡ old.disk.faults
   pub up : min old.gets last_count ≤ now.gets
   pub reached : after ≤ last
+  pub fewer : IsTold old → entries_above old.pages l v last ≤ entries_above old.pages l v after
+  pub spent : IsTold old → now.gets + entries_above old.pages l v last * entry_price l v ≤ old.gets + entries_above old.pages l v after * entry_price l v
   pub left : IsTold old → above after (found_in old.pages l v) ≡ above last (found_in old.pages l v)

@@ -10,10 +10,12 @@ ghost use Rattle.plan_places.specs.Equals.{equals, GivesFirst};
 ghost use Rattle.sand_store.specs.Catalog.{IsCatalog};
 ghost use Rattle.sand_store.specs.Contents.{database_in};
 ghost use Rattle.sand_store.specs.Standing.{CatalogStands};
+ghost use Rattle.sand_store.specs.Standing.{kind_at};
+ghost use Rattle.plan_places.specs.Prices.{is_int_kind, tells, LooksUp};
 ghost use Rattle.plan_places.specs.Spots.{LeadsTo, names_of};
 ghost use Rattle.plan_places.specs.Indexed.{Holds, HasInts, IsLookUp, LacksIndex};
 ghost use Rattle.attr_index.specs.Key.{IsAttribute};
-ghost use Rattle.plan_places.specs.Steps.{IsInt, has_equal, found_in, GivesCandidate};
+ghost use Rattle.plan_places.specs.Steps.{IsInt, has_equal, found_in, id_of, GivesCandidate};
 
 use crate::ColumnSpot;
 use crate::row::{is_same, row_of, value_in};
@@ -70,6 +72,7 @@ impl<'s> LookUp<'s> {
     pub fn has_ints(&self) -> bool
         ensures ints { result ≡ true → HasInts self.now }
         ensures other { result ≡ false → HasInts self.now → ⊥ }
+        ensures kind { result ≡ is_int_kind (kind_at self.now.spot.relation.now.schema self.now.spot.column) }
     {
         let spot = self.spot;
         match spot.relation.schema().columns().get(spot.column) {
@@ -80,7 +83,8 @@ impl<'s> LookUp<'s> {
 
     // Whether an entry tells the value: an int is known by its key, in a column of ints.
     fn is_told(&self, value: &Value) -> bool
-        ensures { result ≡ true → HasInts self.now × IsInt value.now }
+        ensures told { result ≡ true → HasInts self.now × IsInt value.now }
+        ensures tells { result ≡ tells self.now value.now }
     {
         match value {
             Value::Int(_) => self.has_ints(),
@@ -104,6 +108,7 @@ impl<'s> LookUp<'s> {
         ensures read { IsRead (P.shown pages.old) (P.shown pages.new) }
         ensures up { min (P.shown pages.old).gets last_count ≤ (P.shown pages.new).gets }
         ensures cause { HasPageCause (P.shown pages.old) (P.shown pages.new) result }
+        ensures costs { IsTold (P.shown pages.old) → LooksUp (P.shown pages.old).pages self.now value.now last (id_of result) (P.shown pages.old) (P.shown pages.new) }
     {
         let Some(id) = self.index.equal(pages, key_of(value), last)? else {
             return Ok(None);
@@ -136,6 +141,7 @@ impl<'s> LookUp<'s> {
         ensures read { IsRead (P.shown pages.old) (P.shown pages.new) }
         ensures up { min (P.shown pages.old).gets last_count ≤ (P.shown pages.new).gets }
         ensures cause { HasPageCause (P.shown pages.old) (P.shown pages.new) result }
+        ensures costs { IsTold (P.shown pages.old) → LooksUp (P.shown pages.old).pages self.now value.now after result (P.shown pages.old) (P.shown pages.new) }
     {
         if let Value::Shape(_) = value {
             return Ok(None);

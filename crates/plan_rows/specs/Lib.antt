@@ -5,3 +5,5 @@ pub mod Rows
 pub mod Visited
 -- a call of a source
 pub mod SourceSteps
+-- what a call of a source costs
+pub mod Prices

@@ -7,6 +7,7 @@ ghost use Rattle.sand_model.specs.Plan.{Plan};
 ghost use Rattle.sand_model.specs.Taken.{Taken};
 ghost use Rattle.best_first.specs.Visits.{told_pages};
 ghost use Rattle.plan_rows.specs.Rows.{counts_of};
+ghost use Rattle.plan_rows.specs.Prices.{Heights, Costs};
 ghost use Rattle.plan_rows.specs.SourceSteps.{SourceStep, Falls};
 ghost use Rattle.plan_rows.specs.declared.stats.SourceCounts.{SourceCounts as Numbers};
 
@@ -21,6 +22,15 @@ pub trait RowSource: Drop {
 
     // What was visited.
     ghost seen: { Self → Numbers };
+
+    // The heights of the B-trees that it reads.
+    ghost heights: { Self → Heights };
+
+    // The price of a step in page gets, beside that of its visits and of the entries of an index that it passes.
+    ghost step_price: { Self → ℕ };
+
+    // The price of the entries of an index that it has still to pass, over these pages.
+    ghost owed: { Self → PageMap → ℕ };
 
     // How many steps may still be made, whatever the pages.
     ghost steps: { Self → ℕ };
@@ -37,7 +47,10 @@ pub trait RowSource: Drop {
         ensures read { IsRead desk.old.pool desk.new.pool }
         ensures cause { HasPageCause desk.old.pool desk.new.pool result }
         ensures falls { Falls (steps self.old) (steps self.new) result }
-        ensures step { IfSome (told_pages desk.old) (λ pages. (d : Database) (p : Plan) (t : Taken) → At self.old pages d p t → SourceStep d p t (counts_of (seen self.old)) (counts_of (seen self.new)) desk.old desk.new result (At self.new pages d p)) };
+        ensures step { IfSome (told_pages desk.old) (λ pages. (d : Database) (p : Plan) (t : Taken) → At self.old pages d p t → SourceStep d p t (counts_of (seen self.old)) (counts_of (seen self.new)) desk.old desk.new result (At self.new pages d p)) }
+        ensures heights { heights self.new ≡ heights self.old }
+        ensures step_price { step_price self.new ≡ step_price self.old }
+        ensures costs { IfSome (told_pages desk.old) (λ pages. (d : Database) (p : Plan) (t : Taken) → At self.old pages d p t → Costs (heights self.old) (step_price self.old) (owed self.old pages) (owed self.new pages) d p desk.old desk.new result) };
 
     /// What was visited so far. It reads no page and takes no memory.
     fn counts(&self) -> SourceCounts

@@ -6,3 +6,4 @@ mod Reading
 mod Ready
 -- matches, one after another
 mod Lookings
+mod MatchGets

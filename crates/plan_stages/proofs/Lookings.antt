@@ -128,7 +128,7 @@ match_ends pages d p taken given spot look_up h next s = record {
 -- ---- where the disk tells its pages
 
 -- over the pages that are told
-by_told : (desk : DeskState) (X : PageMap → Type 0) → (IsTold desk.pool → X desk.pool.pages) → IfSome (told_pages desk) X
+pub by_told : (desk : DeskState) (X : PageMap → Type 0) → (IsTold desk.pool → X desk.pool.pages) → IfSome (told_pages desk) X
 by_told desk X h = go desk.pool.disk.told refl
   where
     go : (k : Bool) → desk.pool.disk.told ≡ k → IfSome (if k then Some desk.pool.pages else None) X
@@ -136,7 +136,7 @@ by_told desk X h = go desk.pool.disk.told refl
     go false e = tt
 
 -- the match that holds the row
-held_is : (m : Match) (o : Option Matching) → m.held ≡ o → m ≡ record { spot = m.spot; look_up = m.look_up; held = o }
+pub held_is : (m : Match) (o : Option Matching) → m.held ≡ o → m ≡ record { spot = m.spot; look_up = m.look_up; held = o }
 held_is m o e = ap (λ o. record { spot = m.spot; look_up = m.look_up; held = o }) e
 
 -- what a match gave, over the pages that are told

@@ -14,3 +14,6 @@ pub mod Fetches
 pub mod Matches
 -- its laws
 pub mod MatchLaws
+-- what filters and fetches cost, and what a match does
+pub mod Prices
+pub mod MatchPrices

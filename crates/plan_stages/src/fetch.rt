@@ -1,5 +1,6 @@
 ghost use Rattle.std.specs.Prelude.{false};
 ghost use Rattle.plan_stages.specs.Fetches.{FetchStands, fetch_waits, fetch_steps};
+ghost use Rattle.plan_stages.specs.Prices.{spots_price, if_waiting};
 
 use crate::values::with_values;
 use page_pool::{Desk, Disk, PageFault};
@@ -38,6 +39,10 @@ impl<'s> RowStage for Fetch<'s> {
     ghost waits = { fetch_waits };
 
     ghost closed = { λ f. false };
+
+    ghost price = { λ f pages d p row. spots_price f.spots.items };
+
+    ghost owed = { λ f pages d p. if_waiting f.held (spots_price f.spots.items) };
 
     ghost steps = { fetch_steps };
 

@@ -1,5 +1,6 @@
 ghost use Rattle.std.specs.Prelude.{false};
 ghost use Rattle.plan_stages.specs.Filters.{FilterStands, filter_waits, filter_steps};
+ghost use Rattle.plan_stages.specs.Prices.{tests_price, if_waiting};
 
 use crate::SpotTest;
 use crate::tests::passes_all;
@@ -38,6 +39,10 @@ impl<'s> RowStage for Filter<'s> {
     ghost waits = { filter_waits };
 
     ghost closed = { λ f. false };
+
+    ghost price = { λ f pages d p row. tests_price f.tests.items };
+
+    ghost owed = { λ f pages d p. if_waiting f.held (tests_price f.tests.items) };
 
     ghost steps = { filter_steps };
 

@@ -41,6 +41,10 @@ impl RowStage for First {
 
     ghost closed = { λ f. false };
 
+    ghost price = { λ f pages d p row. 0 };
+
+    ghost owed = { λ f pages d p. 0 };
+
     ghost steps = { first_steps };
 
     fn is_busy(&self) -> bool {

@@ -9,7 +9,9 @@ ghost use Rattle.plan_places.specs.Equals.{GivesFirst};
 ghost use Rattle.plan_places.specs.Indexed.{Holds, IsLookUp};
 ghost use Rattle.plan_places.specs.Spots.{Stands, IsSpot};
 ghost use Rattle.plan_rows.specs.Rows.{row_of};
+ghost use Rattle.sand_model.specs.Operators.{value_at};
 ghost use Rattle.plan_stages.specs.Matches.{MatchStands, match_waits, match_steps, equals_at};
+ghost use Rattle.plan_stages.specs.MatchPrices.{match_left, match_owed, MatchCosts};
 
 use page_pool::{Desk, Disk, PageFault, Pages};
 use plan_places::{LookUp, Spot};
@@ -49,6 +51,7 @@ fn next_match<P: Pages>(
     ensures read { IsRead (P.shown pages.old) (P.shown pages.new) }
     ensures up { min (P.shown pages.old).gets last_count ≤ (P.shown pages.new).gets }
     ensures cause { HasPageCause (P.shown pages.old) (P.shown pages.new) result }
+    ensures costs { IsTold (P.shown pages.old) → (d : Database) (names : List (List ℕ)) (place : Place) → IsSpot d names place spot.now (P.shown pages.old).pages → MatchCosts spot.now look_up.now (P.shown pages.old).pages (value_at d names (row_of held.now.row) place) held.now.last result (P.shown pages.old) (P.shown pages.new) }
 {
     match spot.value(alloc, pages, held.row.ids.as_slice()) {
         Ok(Some(value)) => look_up.next(alloc, pages, &value, held.last),
@@ -106,6 +109,10 @@ impl<'s> RowStage for Match<'s> {
     ghost waits = { match_waits };
 
     ghost closed = { λ m. false };
+
+    ghost price = { λ m pages d p row. match_left m pages d p row 0 };
+
+    ghost owed = { match_owed };
 
     ghost steps = { match_steps };
 

@@ -1,5 +1,5 @@
 // Tests of rows.
-ghost use Rattle.std.specs.Prelude.{◌≡◌, ◌≤◌, ℕ, List, min, All, IfOk};
+ghost use Rattle.std.specs.Prelude.{◌≡◌, ◌+◌, ◌≤◌, ℕ, List, min, All, IfOk};
 ghost use Rattle.sand_base.specs.Faults.{last_count};
 ghost use Rattle.page_pool.specs.Causes.{HasPageCause};
 ghost use Rattle.page_pool.specs.Pool.{IsTold};
@@ -9,6 +9,7 @@ ghost use Rattle.sand_model.specs.Operators.{PlanRow, is_order, passes, passes_t
 ghost use Rattle.sand_model.specs.Plan.{Test};
 ghost use Rattle.plan_check.specs.PlanValue.{op_value};
 ghost use Rattle.plan_places.specs.Spots.{Stands};
+ghost use Rattle.plan_stages.specs.Prices.{spot_price, tests_price};
 ghost use Rattle.plan_stages.specs.Tests.{IsTest, AreTests, TestsStand};
 
 use page_pool::{PageFault, Pages};
@@ -70,6 +71,7 @@ fn passes_one<P: Pages>(
     ensures read { IsRead (P.shown pages.old) (P.shown pages.new) }
     ensures up { min (P.shown pages.old).gets last_count ≤ (P.shown pages.new).gets }
     ensures cause { HasPageCause (P.shown pages.old) (P.shown pages.new) result }
+    ensures most { (P.shown pages.new).gets ≤ (P.shown pages.old).gets + spot_price test.now.spot }
 {
     match test.spot.value(alloc, pages, ids) {
         Ok(Some(value)) => Ok(passes(test.op, &value, &test.value)),
@@ -90,6 +92,7 @@ pub(crate) fn passes_all<P: Pages>(
     ensures read { IsRead (P.shown pages.old) (P.shown pages.new) }
     ensures up { min (P.shown pages.old).gets last_count ≤ (P.shown pages.new).gets }
     ensures cause { HasPageCause (P.shown pages.old) (P.shown pages.new) result }
+    ensures most { (P.shown pages.new).gets ≤ (P.shown pages.old).gets + tests_price tests.now }
 {
     match tests {
         [] => Ok(true),

@@ -1,5 +1,5 @@
 // Values at places of rows.
-ghost use Rattle.std.specs.Prelude.{◌≡◌, ◌≤◌, [], ◌∷◌, ◌++◌, ℕ, List, min, option_to_list, IfOk, OnOk};
+ghost use Rattle.std.specs.Prelude.{◌≡◌, ◌+◌, ◌≤◌, [], ◌∷◌, ◌++◌, ℕ, List, min, option_to_list, IfOk, OnOk};
 ghost use Rattle.sand_base.specs.Faults.{last_count};
 ghost use Rattle.page_pool.specs.Causes.{HasPageCause};
 ghost use Rattle.page_pool.specs.Pool.{IsTold};
@@ -9,6 +9,7 @@ ghost use Rattle.sand_model.specs.Operators.{PlanRow, value_at, fetched_values};
 ghost use Rattle.sand_model.specs.Plan.{Place};
 ghost use Rattle.plan_rows.specs.Rows.{row_of};
 ghost use Rattle.plan_places.specs.Spots.{Stands, IsSpot};
+ghost use Rattle.plan_stages.specs.Prices.{spot_price, spots_price};
 ghost use Rattle.plan_stages.specs.Fetches.{AreSpots, SpotsStand};
 
 use page_pool::{PageFault, Pages};
@@ -50,6 +51,7 @@ fn add_value<P: Pages>(
     ensures read { IsRead (P.shown pages.old) (P.shown pages.new) }
     ensures up { min (P.shown pages.old).gets last_count ≤ (P.shown pages.new).gets }
     ensures cause { HasPageCause (P.shown pages.old) (P.shown pages.new) result }
+    ensures most { (P.shown pages.new).gets ≤ (P.shown pages.old).gets + spot_price spot.now }
 {
     match spot.value(alloc, pages, ids) {
         Ok(Some(value)) => match push(values, value) {
@@ -74,6 +76,7 @@ fn add_values<P: Pages>(
     ensures read { IsRead (P.shown pages.old) (P.shown pages.new) }
     ensures up { min (P.shown pages.old).gets last_count ≤ (P.shown pages.new).gets }
     ensures cause { HasPageCause (P.shown pages.old) (P.shown pages.new) result }
+    ensures most { (P.shown pages.new).gets ≤ (P.shown pages.old).gets + spots_price spots.now }
 {
     match spots {
         [] => Ok(()),
@@ -96,6 +99,7 @@ pub(crate) fn with_values<P: Pages>(
     ensures read { IsRead (P.shown pages.old) (P.shown pages.new) }
     ensures up { min (P.shown pages.old).gets last_count ≤ (P.shown pages.new).gets }
     ensures cause { HasPageCause (P.shown pages.old) (P.shown pages.new) result }
+    ensures most { (P.shown pages.new).gets ≤ (P.shown pages.old).gets + spots_price spots.now }
 {
     match copied(alloc, &row.values) {
         Ok(mut values) => match add_values(alloc, pages, spots, row.ids.as_slice(), &mut values) {

@@ -36,6 +36,13 @@ AtEnd (Ok Pass) holds = ⊤
 AtEnd (Ok End) holds = holds
 AtEnd (Err fault) holds = ⊤
 
+-- what holds where more steps may follow, after a row and a pass, and nothing at another answer
+abbrev pub GoesOn : Result Step PageFault → Type 0 → Type 0
+GoesOn (Ok (Row a)) holds = holds
+GoesOn (Ok Pass) holds = holds
+GoesOn (Ok End) holds = ⊤
+GoesOn (Err fault) holds = ⊤
+
 -- whether over so many source rows some `first n` of the plan has its rows
 abbrev pub is_full_at : Database → Plan → ℕ → Bool
 is_full_at d p rows = is_full plan_measure d p (take rows (source_rows d p))

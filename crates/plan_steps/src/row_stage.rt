@@ -1,4 +1,4 @@
-ghost use Rattle.std.specs.Prelude.{◌≡◌, ◌<◌, ◌≤◌, min, ℕ, Bool, true, false, List, [], ◌∷◌, ◌++◌, IfSome, IfErr};
+ghost use Rattle.std.specs.Prelude.{◌≡◌, ◌<◌, ◌+◌, ◌≤◌, min, ℕ, Bool, true, false, List, [], ◌∷◌, ◌++◌, IfSome, IfErr};
 ghost use Rattle.sand_base.specs.Faults.{last_count};
 ghost use Rattle.page_pool.specs.Causes.{HasPageCause, IsMemory};
 ghost use Rattle.page_pool.specs.Disk.{PageMap};
@@ -8,10 +8,11 @@ ghost use Rattle.sand_model.specs.Operators.{PlanRow};
 ghost use Rattle.sand_model.specs.Plan.{Plan};
 ghost use Rattle.sand_model.specs.Taken.{is_lazy};
 ghost use Rattle.best_first.specs.Visits.{told_pages};
+ghost use Rattle.plan_rows.specs.Prices.{unless_refused};
 ghost use Rattle.plan_rows.specs.Rows.{row_of};
 ghost use Rattle.plan_steps.specs.Outermost.{beneath};
 ghost use Rattle.plan_steps.specs.Stages.{Standing, Works, Finishes, IsOutermost, GivesFront, OpensLate, ClosedWaits, Rises, IsDry};
-ghost use Rattle.plan_steps.specs.Steps.{Lowers};
+ghost use Rattle.plan_steps.specs.Steps.{Lowers, GoesOn};
 
 use crate::Step;
 use page_pool::{Desk, Disk, PageFault};
@@ -30,6 +31,13 @@ pub trait RowStage: Drop {
     // It is a sort that has taken its plan whole.
     ghost closed: { Self → Bool };
 
+    // The price of handling a row in page gets, over these pages and for this database, as the outermost operator of the
+    // plan.
+    ghost price: { Self → PageMap → Database → Plan → PlanRow → ℕ };
+
+    // The price of what is still to be done for the row that it holds.
+    ghost owed: { Self → PageMap → Database → Plan → ℕ };
+
     // How many steps may still be made, where so many may be made beneath it.
     ghost steps: { Self → ℕ → ℕ };
 
@@ -43,14 +51,19 @@ pub trait RowStage: Drop {
         requires free { waits self.old ≡ false }
         ensures falls { (m n : ℕ) → m < n → steps self.new m < steps self.old n }
         ensures closed { closed self.new ≡ closed self.old }
-        ensures stands { (pages : PageMap) (d : Database) (p : Plan) (taken given : List PlanRow) → Stands self.old pages d p taken given → Stands self.new pages d p (taken ++ row_of row ∷ []) given };
+        ensures stands { (pages : PageMap) (d : Database) (p : Plan) (taken given : List PlanRow) → Stands self.old pages d p taken given → Stands self.new pages d p (taken ++ row_of row ∷ []) given }
+        ensures price { price self.new ≡ price self.old }
+        ensures owes { (pages : PageMap) (d : Database) (p : Plan) → owed self.new pages d p ≤ price self.old pages d p (row_of row) };
 
     /// Takes the end of the rows. A sort sorts what it has; any other stage is at its end too.
     fn finish(&mut self, alloc: Global) -> Result<Step, PageFault>
         requires free { waits self.old ≡ false }
         ensures cause { IfErr result IsMemory }
         ensures falls { (m n : ℕ) → m ≤ n → Lowers (steps self.old n) (steps self.new m) result }
-        ensures stands { (pages : PageMap) (d : Database) (p : Plan) (given : List PlanRow) → Stands self.old pages d p (beneath d p) given → Finishes d p given result (Stands self.new pages d p (beneath d p)) };
+        ensures stands { (pages : PageMap) (d : Database) (p : Plan) (given : List PlanRow) → Stands self.old pages d p (beneath d p) given → Finishes d p given result (Stands self.new pages d p (beneath d p)) }
+        ensures price { price self.new ≡ price self.old }
+        ensures owes { (pages : PageMap) (d : Database) (p : Plan) → owed self.new pages d p ≤ owed self.old pages d p }
+        ensures shuts { GoesOn result (closed self.new ≡ true) };
 
     /// Does some of the work: it gives a row, or only comes nearer to one, or is at its end. After a refusal all is as it
     /// was, or nearer, and `work` may be called again.
@@ -63,7 +76,9 @@ pub trait RowStage: Drop {
         ensures cause { HasPageCause desk.old.pool desk.new.pool result }
         ensures falls { (n : ℕ) → Lowers (steps self.old n) (steps self.new n) result }
         ensures closed { closed self.new ≡ closed self.old }
-        ensures step { IfSome (told_pages desk.old) (λ pages. (d : Database) (p : Plan) (taken given : List PlanRow) → Stands self.old pages d p taken given → Works d p taken given (closed self.new) result (Stands self.new pages d p taken)) };
+        ensures step { IfSome (told_pages desk.old) (λ pages. (d : Database) (p : Plan) (taken given : List PlanRow) → Stands self.old pages d p taken given → Works d p taken given (closed self.new) result (Stands self.new pages d p taken)) }
+        ensures price { price self.new ≡ price self.old }
+        ensures costs { IfSome (told_pages desk.old) (λ pages. (d : Database) (p : Plan) (taken given : List PlanRow) → Stands self.old pages d p taken given → desk.new.pool.gets + unless_refused result (owed self.new pages d p) ≤ desk.old.pool.gets + owed self.old pages d p) };
 
     ghost outermost: { IsOutermost Stands };
 

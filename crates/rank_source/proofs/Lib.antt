@@ -13,3 +13,5 @@ pub mod RankCalls
 pub mod OverPages
 -- how a source begins
 pub mod Begun
+-- what a call costs
+pub mod RankPrices

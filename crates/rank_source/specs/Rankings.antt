@@ -31,6 +31,7 @@ use Rattle.rank_cursor.specs.Answers.{AreGiven}
 use Rattle.rank_cursor.specs.Cursor.{ranking_over}
 use Rattle.rank_cursor.specs.declared.rank_tree.RankTree.{RankTree}
 use Rattle.rank_cursor.specs.Ranking.{Ranking, IsSound, rank_meaning}
+use Rattle.plan_rows.specs.Prices.{Heights}
 use Rattle.plan_rows.specs.Rows.{plan_measure}
 use Rattle.plan_rows.specs.SourceSteps.{nothing_taken}
 
@@ -74,6 +75,11 @@ by_code a b = ordering_then (nat_cmp a.z b.z) (nat_cmp a.level b.level)
 abbrev pub ranking_of : RankTree ColumnShapes → PageMap → Ranking
 ranking_of tree pages =
     ranking_in pages tree.shapes.relation.now tree.shapes.column tree.pmr tree.goal tree.ceiling
+
+-- the heights of the B-trees that it reads: of the quadtree's map and of the file of the rows
+abbrev pub heights_of : RankTree ColumnShapes → Heights
+heights_of tree =
+    record { index = tree.pmr.map.height; rows = tree.shapes.relation.now.file.tree.height; right_index = 0; right_rows = 0 }
 
 -- ---- where it stands
 

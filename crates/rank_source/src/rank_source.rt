@@ -4,7 +4,7 @@ ghost use Rattle.sand_model.specs.Reach.{no_counts};
 ghost use Rattle.best_first.specs.Steps.{steps};
 ghost use Rattle.rank_cursor.specs.Cursor.{block_weight};
 ghost use Rattle.plan_rows.specs.Rows.{counts_of};
-ghost use Rattle.rank_source.specs.Rankings.{IsAt, Begins};
+ghost use Rattle.rank_source.specs.Rankings.{IsAt, Begins, heights_of};
 
 use crate::TreeColumn;
 use best_first::{BestFirst, Hit, Item};
@@ -61,6 +61,12 @@ impl<'s> RowSource for RankSource<'s> {
     ghost At = { λ s pages d p t. IsAt s.search pages d p t };
 
     ghost seen = { λ s. record { blocks = s.search.frontier.counts.visited; pairs = 0; geometries = s.search.frontier.counts.fetched } };
+
+    ghost heights = { λ s. heights_of s.search.hierarchy };
+
+    ghost step_price = { λ s. 0 };
+
+    ghost owed = { λ s pages. 0 };
 
     ghost steps = { λ s. steps block_weight s.search.frontier.queue.items };
 

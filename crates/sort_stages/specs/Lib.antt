@@ -6,3 +6,5 @@ pub mod Numbers
 pub mod Gaps
 -- the laws of both
 pub mod SortLaws
+-- what a key costs
+pub mod Prices

@@ -1,5 +1,5 @@
 // The keys of rows: what stands at a place, or how far it is from a goal.
-ghost use Rattle.std.specs.Prelude.{◌≡◌, ◌≤◌, ◌↔◌, ℕ, List, Some, true, min, IfOk, option_map};
+ghost use Rattle.std.specs.Prelude.{◌≡◌, ◌+◌, ◌≤◌, ◌↔◌, ℕ, List, Some, true, min, IfOk, option_map};
 ghost use Rattle.sand_base.specs.Faults.{last_count};
 ghost use Rattle.sand_base.specs.Grid.{IsInPlane};
 ghost use Rattle.sand_base.specs.Plane.{IsShapeInPlane};
@@ -13,6 +13,7 @@ ghost use Rattle.sand_model.specs.Plan.{Place};
 ghost use Rattle.plan_places.specs.Spots.{Stands, IsSpot};
 ghost use Rattle.plan_rows.specs.Lowest.{lowest_of};
 ghost use Rattle.plan_rows.specs.Rows.{plan_measure};
+ghost use Rattle.sort_stages.specs.Prices.{key_price};
 
 use exact_frac::Frac;
 use page_pool::{PageFault, Pages};
@@ -62,6 +63,7 @@ pub(crate) fn number<P: Pages>(
     ensures read { IsRead (P.shown pages.old) (P.shown pages.new) }
     ensures up { min (P.shown pages.old).gets last_count ≤ (P.shown pages.new).gets }
     ensures cause { HasPageCause (P.shown pages.old) (P.shown pages.new) result }
+    ensures most { (P.shown pages.new).gets ≤ (P.shown pages.old).gets + key_price spot.now }
 {
     match spot.value(alloc, pages, ids) {
         Ok(Some(Value::Int(number))) => Ok(number),
@@ -83,6 +85,7 @@ pub(crate) fn gap<P: Pages>(
     ensures read { IsRead (P.shown pages.old) (P.shown pages.new) }
     ensures up { min (P.shown pages.old).gets last_count ≤ (P.shown pages.new).gets }
     ensures cause { HasPageCause (P.shown pages.old) (P.shown pages.new) result }
+    ensures most { (P.shown pages.new).gets ≤ (P.shown pages.old).gets + key_price spot.now }
 {
     match spot.value(alloc, pages, ids) {
         Ok(Some(Value::Shape(shape))) => Ok(gap_between(goal, &shape)),

@@ -1,4 +1,5 @@
 ghost use Rattle.sort_stages.specs.Gaps.{SortNearStands};
+ghost use Rattle.sort_stages.specs.Prices.{key_price, if_waiting};
 ghost use Rattle.sort_stages.specs.Sorting.{sort_waits, sort_steps};
 
 use crate::keys::gap;
@@ -53,6 +54,10 @@ impl<'s> RowStage for SortNear<'s> {
     ghost waits = { λ s. sort_waits s.held s.closed };
 
     ghost closed = { λ s. s.closed };
+
+    ghost price = { λ s pages d p row. key_price s.spot };
+
+    ghost owed = { λ s pages d p. if_waiting s.held (key_price s.spot) };
 
     ghost steps = { λ s. sort_steps s.held s.rows s.closed };
 

@@ -1,6 +1,7 @@
 -- Each answer of the search is one of the source: its row, the end, or a refusal. A want of memory for the row takes nothing.
 use Rattle.best_first.specs.Visits.{told_pages, state}
-use Rattle.pair_source.specs.Joins.{join_view}
+use Rattle.pair_source.specs.Joins.{join_view, heights_of}
+use Rattle.pair_source.proofs.PairPrices.{join_costs, join_still}
 use Rattle.pair_source.proofs.JoinOverPages.{asked, row_over, end_over, fault_over, still_over}
 use Rattle.pair_source.proofs.join_source.JoinSourceRowSource.next.Goals as goal
 
@@ -61,3 +62,51 @@ returns-in-Err-clause-step g c =
     c.in-Err.fault
     (λ i. let h = c.next.ensures.hierarchy i in join_view h.left_shapes.relation.now h.left_shapes.column h.left h.right_shapes.relation.now h.right_shapes.column h.right h.ceiling)
     c.in-Err.ensures.last c.in-Err.ensures.visits
+
+-- ---- what a call costs
+
+pub returns-in_default-clause-costs : goal.returns-in_default-clause-costs
+returns-in_default-clause-costs g c =
+    let s = c.args.self.now.search in
+    join_still (told_pages c.args.desk.now)
+    (join_view s.hierarchy.left_shapes.relation.now s.hierarchy.left_shapes.column s.hierarchy.left s.hierarchy.right_shapes.relation.now s.hierarchy.right_shapes.column s.hierarchy.right s.hierarchy.ceiling)
+    (state s.frontier.queue.items s.frontier.last s.frontier.counts c.args.desk.now) _
+
+pub returns-in-Ok-Some-clause-costs : goal.returns-in-Ok-Some-clause-costs
+returns-in-Ok-Some-clause-costs g c =
+    let s = c.args.self.now.search in
+    let n = c.next.new.self in
+    join_costs s.hierarchy.left.number s.hierarchy.right.number (told_pages c.args.desk.now)
+    (join_view s.hierarchy.left_shapes.relation.now s.hierarchy.left_shapes.column s.hierarchy.left s.hierarchy.right_shapes.relation.now s.hierarchy.right_shapes.column s.hierarchy.right s.hierarchy.ceiling)
+    (state s.frontier.queue.items s.frontier.last s.frontier.counts c.args.desk.now)
+    (state n.frontier.queue.items n.frontier.last n.frontier.counts c.next.new.desk) _ _ (rw c.in-Ok-Some.field-0-is at c.in-Ok-Some.ensures.visits)
+
+pub returns-in-Ok-Some-clause-heights : goal.returns-in-Ok-Some-clause-heights
+returns-in-Ok-Some-clause-heights g c =
+    λ i. let h = c.next.ensures.hierarchy i in heights_of (join_view h.left_shapes.relation.now h.left_shapes.column h.left h.right_shapes.relation.now h.right_shapes.column h.right h.ceiling)
+
+pub returns-in-Ok-None-clause-costs : goal.returns-in-Ok-None-clause-costs
+returns-in-Ok-None-clause-costs g c =
+    let s = c.args.self.now.search in
+    let n = c.next.new.self in
+    join_costs s.hierarchy.left.number s.hierarchy.right.number (told_pages c.args.desk.now)
+    (join_view s.hierarchy.left_shapes.relation.now s.hierarchy.left_shapes.column s.hierarchy.left s.hierarchy.right_shapes.relation.now s.hierarchy.right_shapes.column s.hierarchy.right s.hierarchy.ceiling)
+    (state s.frontier.queue.items s.frontier.last s.frontier.counts c.args.desk.now)
+    (state n.frontier.queue.items n.frontier.last n.frontier.counts c.next.new.desk) _ _ (rw c.in-Ok-None.field-0-is at c.in-Ok-None.ensures.visits)
+
+pub returns-in-Ok-None-clause-heights : goal.returns-in-Ok-None-clause-heights
+returns-in-Ok-None-clause-heights g c =
+    λ i. let h = c.next.ensures.hierarchy i in heights_of (join_view h.left_shapes.relation.now h.left_shapes.column h.left h.right_shapes.relation.now h.right_shapes.column h.right h.ceiling)
+
+pub returns-in-Err-clause-costs : goal.returns-in-Err-clause-costs
+returns-in-Err-clause-costs g c =
+    let s = c.args.self.now.search in
+    let n = c.next.new.self in
+    join_costs s.hierarchy.left.number s.hierarchy.right.number (told_pages c.args.desk.now)
+    (join_view s.hierarchy.left_shapes.relation.now s.hierarchy.left_shapes.column s.hierarchy.left s.hierarchy.right_shapes.relation.now s.hierarchy.right_shapes.column s.hierarchy.right s.hierarchy.ceiling)
+    (state s.frontier.queue.items s.frontier.last s.frontier.counts c.args.desk.now)
+    (state n.frontier.queue.items n.frontier.last n.frontier.counts c.next.new.desk) _ _ c.in-Err.ensures.visits
+
+pub returns-in-Err-clause-heights : goal.returns-in-Err-clause-heights
+returns-in-Err-clause-heights g c =
+    λ i. let h = c.next.ensures.hierarchy i in heights_of (join_view h.left_shapes.relation.now h.left_shapes.column h.left h.right_shapes.relation.now h.right_shapes.column h.right h.ceiling)

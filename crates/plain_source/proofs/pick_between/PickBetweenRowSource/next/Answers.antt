@@ -1,8 +1,9 @@
 -- the entry that follows, or the end
-use Rattle.std.proofs.Common.{subst}
+use Rattle.std.proofs.Common.{subst, arith}
 use Rattle.std.specs.Prelude.{None, Some}
 use Rattle.page_pool.specs.Pool.{PoolState, IsTold}
-use Rattle.plain_source.proofs.PlainSteps.{reads_of}
+use Rattle.plain_source.specs.Plain.{IsPickBetween}
+use Rattle.plain_source.proofs.PlainSteps.{reads_of, costs_read}
 use Rattle.plain_source.proofs.Bounds.{Finds, index_asked, between_row, between_end, between_refused}
 use Rattle.plain_source.proofs.pick_between.PickBetweenRowSource.next.Goals as goal
 
@@ -36,3 +37,29 @@ returns-in-Err-clause-step g c =
     let s = c.args.self.now in
     between_refused s.look_up s.low s.high s.last c.in-Err.fault c.args.desk.now _
     (reads_of c.args.desk.now c.pages.result.now c.between.new.pages c.pages.ensures.pool c.in-Err.ensures.peeks.up)
+
+-- a descent of the index, whatever the answer
+
+pub returns-in-Ok-clause-costs : goal.returns-in-Ok-clause-costs
+returns-in-Ok-clause-costs g c =
+    let s = c.args.self.now in
+    let most = c.in-Ok-Some.ensures.peeks.within in
+    costs_read _ _ (λ pages. 0) (λ pages. 0) (IsPickBetween s.look_up s.low s.high s.last) c.args.desk.now c.pages.result.now c.between.new.pages _ c.pages.ensures.pool (λ told. omega (arith, most))
+
+pub returns-in-Err-plain_answer-clause-costs : goal.returns-in-Err-plain_answer-clause-costs
+returns-in-Err-plain_answer-clause-costs g c =
+    let s = c.args.self.now in
+    let most = c.in-Ok-Some.ensures.peeks.within in
+    costs_read _ _ (λ pages. 0) (λ pages. 0) (IsPickBetween s.look_up s.low s.high s.last) c.args.desk.now c.pages.result.now c.between.new.pages _ c.pages.ensures.pool (λ told. omega (arith, most))
+
+pub returns-in-Ok-None-clause-costs : goal.returns-in-Ok-None-clause-costs
+returns-in-Ok-None-clause-costs g c =
+    let s = c.args.self.now in
+    let most = c.in-Ok-None.ensures.peeks.within in
+    costs_read _ _ (λ pages. 0) (λ pages. 0) (IsPickBetween s.look_up s.low s.high s.last) c.args.desk.now c.pages.result.now c.between.new.pages _ c.pages.ensures.pool (λ told. omega (arith, most))
+
+pub returns-in-Err-clause-costs : goal.returns-in-Err-clause-costs
+returns-in-Err-clause-costs g c =
+    let s = c.args.self.now in
+    let most = c.in-Err.ensures.peeks.within in
+    costs_read _ _ (λ pages. 0) (λ pages. 0) (IsPickBetween s.look_up s.low s.high s.last) c.args.desk.now c.pages.result.now c.between.new.pages _ c.pages.ensures.pool (λ told. omega (arith, most))

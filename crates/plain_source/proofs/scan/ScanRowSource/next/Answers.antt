@@ -1,10 +1,10 @@
 -- the id that follows, or the end
-use Rattle.std.proofs.Common.{Err, refl, subst}
+use Rattle.std.proofs.Common.{Err, refl, subst, arith}
 use Rattle.std.specs.Prelude.{None, Some}
 use Rattle.page_pool.specs.Pool.{PoolState, IsTold}
 use Rattle.sand_store.specs.Contents.{rows_in}
-use Rattle.plain_source.specs.Plain.{GivesNext, ids_of}
-use Rattle.plain_source.proofs.PlainSteps.{reads_of}
+use Rattle.plain_source.specs.Plain.{GivesNext, ids_of, IsScan}
+use Rattle.plain_source.proofs.PlainSteps.{reads_of, none_refused, costs_read}
 use Rattle.plain_source.proofs.Scans.{scan_row, scan_end, scan_refused}
 use Rattle.plain_source.proofs.scan.ScanRowSource.next.Goals as goal
 
@@ -34,3 +34,30 @@ returns-in-Err-clause-step g c =
     let s = c.args.self.now in
     scan_refused s.relation.now s.last (Err c.in-Err.fault) c.args.desk.now _ refl
     (reads_of c.args.desk.now c.pages.result.now c.following.new.pages c.pages.ensures.pool c.in-Err.ensures.up)
+
+-- a descent of the file of rows, whatever the answer
+
+pub returns-in_ok-answer-in-Ok-Some-clause-costs : goal.returns-in_ok-answer-in-Ok-Some-clause-costs
+returns-in_ok-answer-in-Ok-Some-clause-costs g c =
+    let s = c.args.self.now in
+    let most = c.in-Ok-Some.ensures.most in
+    costs_read _ _ (λ pages. 0) (λ pages. 0) (IsScan s.relation.now s.last) c.args.desk.now c.pages.result.now c.following.new.pages _ c.pages.ensures.pool (λ told. omega (arith, most))
+
+pub returns-in_err-answer-in-Ok-Some-clause-costs : goal.returns-in_err-answer-in-Ok-Some-clause-costs
+returns-in_err-answer-in-Ok-Some-clause-costs g c =
+    let s = c.args.self.now in
+    let most = c.in-Ok-Some.ensures.most in
+    let none = none_refused c.from_residual.result 0 c.from_residual.ensures.0 in
+    costs_read _ _ (λ pages. 0) (λ pages. 0) (IsScan s.relation.now s.last) c.args.desk.now c.pages.result.now c.following.new.pages c.from_residual.result c.pages.ensures.pool (λ told. omega (arith, most, none))
+
+pub returns-in-Ok-None-clause-costs : goal.returns-in-Ok-None-clause-costs
+returns-in-Ok-None-clause-costs g c =
+    let s = c.args.self.now in
+    let most = c.in-Ok-None.ensures.most in
+    costs_read _ _ (λ pages. 0) (λ pages. 0) (IsScan s.relation.now s.last) c.args.desk.now c.pages.result.now c.following.new.pages _ c.pages.ensures.pool (λ told. omega (arith, most))
+
+pub returns-in-Err-clause-costs : goal.returns-in-Err-clause-costs
+returns-in-Err-clause-costs g c =
+    let s = c.args.self.now in
+    let most = c.in-Err.ensures.most in
+    costs_read _ _ (λ pages. 0) (λ pages. 0) (IsScan s.relation.now s.last) c.args.desk.now c.pages.result.now c.following.new.pages _ c.pages.ensures.pool (λ told. omega (arith, most))

@@ -1,5 +1,8 @@
 -- Each answer of the search is one of the source: its row, the end, or a refusal. A want of memory for the row takes nothing.
+use Rattle.std.proofs.Common.{ap}
 use Rattle.best_first.specs.Visits.{told_pages, state}
+use Rattle.rank_source.specs.Rankings.{heights_of}
+use Rattle.rank_source.proofs.RankPrices.{costs_over, still_costs}
 use Rattle.rank_source.proofs.OverPages.{asked, row_over, end_over, fault_over, still_over}
 use Rattle.rank_source.proofs.rank_source.RankSourceRowSource.next.Goals as goal
 
@@ -46,3 +49,43 @@ returns-in-Err-clause-step g c =
     (state s.frontier.queue.items s.frontier.last s.frontier.counts c.args.desk.now)
     (state n.frontier.queue.items n.frontier.last n.frontier.counts c.next.new.desk)
     c.in-Err.fault c.next.ensures.hierarchy c.in-Err.ensures.last c.in-Err.ensures.visits
+
+-- ---- what a call costs
+
+pub returns-in_default-clause-costs : goal.returns-in_default-clause-costs
+returns-in_default-clause-costs g c =
+    let s = c.args.self.now.search in
+    still_costs (told_pages c.args.desk.now) s.hierarchy (state s.frontier.queue.items s.frontier.last s.frontier.counts c.args.desk.now) _
+
+pub returns-in-Ok-Some-clause-costs : goal.returns-in-Ok-Some-clause-costs
+returns-in-Ok-Some-clause-costs g c =
+    let s = c.args.self.now.search in
+    let n = c.next.new.self in
+    costs_over s.hierarchy.pmr.number (told_pages c.args.desk.now) s.hierarchy
+    (state s.frontier.queue.items s.frontier.last s.frontier.counts c.args.desk.now)
+    (state n.frontier.queue.items n.frontier.last n.frontier.counts c.next.new.desk) _ _ (rw c.in-Ok-Some.field-0-is at c.in-Ok-Some.ensures.visits)
+
+pub returns-in-Ok-Some-clause-heights : goal.returns-in-Ok-Some-clause-heights
+returns-in-Ok-Some-clause-heights g c = ap heights_of c.next.ensures.hierarchy
+
+pub returns-in-Ok-None-clause-costs : goal.returns-in-Ok-None-clause-costs
+returns-in-Ok-None-clause-costs g c =
+    let s = c.args.self.now.search in
+    let n = c.next.new.self in
+    costs_over s.hierarchy.pmr.number (told_pages c.args.desk.now) s.hierarchy
+    (state s.frontier.queue.items s.frontier.last s.frontier.counts c.args.desk.now)
+    (state n.frontier.queue.items n.frontier.last n.frontier.counts c.next.new.desk) _ _ (rw c.in-Ok-None.field-0-is at c.in-Ok-None.ensures.visits)
+
+pub returns-in-Ok-None-clause-heights : goal.returns-in-Ok-None-clause-heights
+returns-in-Ok-None-clause-heights g c = ap heights_of c.next.ensures.hierarchy
+
+pub returns-in-Err-clause-costs : goal.returns-in-Err-clause-costs
+returns-in-Err-clause-costs g c =
+    let s = c.args.self.now.search in
+    let n = c.next.new.self in
+    costs_over s.hierarchy.pmr.number (told_pages c.args.desk.now) s.hierarchy
+    (state s.frontier.queue.items s.frontier.last s.frontier.counts c.args.desk.now)
+    (state n.frontier.queue.items n.frontier.last n.frontier.counts c.next.new.desk) _ _ c.in-Err.ensures.visits
+
+pub returns-in-Err-clause-heights : goal.returns-in-Err-clause-heights
+returns-in-Err-clause-heights g c = ap heights_of c.next.ensures.hierarchy
