@@ -1,5 +1,6 @@
 -- How a run of a workload ends.
 use Rattle.std.proofs.Common.{◌≡◌, ℕ, ◌+◌, ◌≤◌, Bool, true, false, List, [], ◌++◌, length, Option, Some, refl, ap, subst, arith, length-append, ◌⊎◌, inl, inr}
+use Rattle.std.proofs.KnownBytes.{Consumes-whole}
 use Rattle.page_pool.specs.Disk.{DiskView}
 use Rattle.run_summary.specs.RefusedLines.{refused_lines}
 use Rattle.run_summary.specs.Summary.{summary}
@@ -17,7 +18,7 @@ use Rattle.work_gen.specs.Workload.{workload}
 use Rattle.work_source.specs.EmptyFiles.{empty_files}
 use Rattle.work_source.specs.Script.{IsScriptOf}
 use Rattle.session.specs.Outside.{Outside, outside_of}
-use Rattle.session.specs.Ends.{IsCaused, IsTaken, RunsOver, WritesRun, Ends}
+use Rattle.session.specs.Ends.{IsCaused, IsTaken, HasReadAll, RunsOver, WritesRun, Ends}
 use Rattle.session.specs.Tallies.{HasRun, Tallies, without_streams}
 use Rattle.session.specs.Workload.{IsSummary, EndsWorkload}
 use Rattle.session.specs.declared.status.Status.{Status}
@@ -45,11 +46,17 @@ module _ (n : ℕ) (limits : Limits) (script left : List ℕ) (disk disk' : Disk
   abbrev work_after : Outside
   work_after = outside_of (Some left) 0 (Some empty_files) 0 disk' (HasTallied new) 0
 
+  -- what was read is the whole script
+  whole : (b : Bool) (first last : Moment) → HasReadAll work_before.source work_after.source (λ bytes. WritesRun (lines bytes) b first last work_before.sink work_after.sink)
+      → WritesRun (lines script) b first last work_before.sink work_after.sink
+  whole b first last (ended, (bytes, consumed, h)) =
+      Consumes-whole (Some script) (Some left) bytes (λ read. WritesRun (lines read) b first last work_before.sink work_after.sink) consumed ended h.1
+
   -- its text was counted
   pub Tallies-run : (why : Status) → Ends why limits work_before work_after → IsCaused why 0 0 0 0 → IsTaken why
       → Tallies n why limits (without_streams disk) (without_streams disk') new
-  Tallies-run status.Done ends caused taken = (ends.0, run_taken n false _ _ script old new 0 0 own.found none ends.1.0.1)
-  Tallies-run status.SomeRefused ends caused taken = (ends.0, run_taken n true _ _ script old new 0 0 own.found none ends.1.0.1)
+  Tallies-run status.Done ends caused taken = (ends.0, run_taken n false _ _ script old new 0 0 own.found none (whole false _ _ ends.1))
+  Tallies-run status.SomeRefused ends caused taken = (ends.0, run_taken n true _ _ script old new 0 0 own.found none (whole true _ _ ends.1))
   Tallies-run status.Usage ends caused taken = absurd taken
   Tallies-run status.ReadFault ends caused taken = absurd (omega (arith, caused.of_source))
   Tallies-run status.WriteFault ends caused taken = absurd (omega (arith, caused.of_sink))

@@ -1,5 +1,5 @@
 -- How a run may end: the whole promise, by the status.
-use Rattle.std.specs.Prelude.{◌≡◌, ◌≢◌, ⊤, ℕ, ◌+◌, ◌≤◌, Bool, true, false, List, [], ◌++◌, length, take, IfSome}
+use Rattle.std.specs.Prelude.{◌≡◌, ◌≢◌, ⊤, ℕ, ◌+◌, ◌≤◌, Bool, true, false, List, [], ◌++◌, length, take}
 use Rattle.std.specs.Io.KnownBytes.{Consumes, IsAtEnd}
 use Rattle.clap.specs.Words.{fault_of}
 use Rattle.page_pool.specs.declared.fault.PageFault.{PageFault}
@@ -44,9 +44,9 @@ pub record BreaksRun (script : List (List ℕ)) (first last : Moment) (before no
 abbrev pub HasRead : SourceView → SourceView → (List ℕ → Type 0) → Type 0
 HasRead before left P = (bytes : List ℕ) × Consumes before.left left.left bytes × P bytes
 
--- the source is at its end, and its script isn't too long and has what is said of it
+-- the source is at its end: the bytes read are its whole script, which isn't too long and has what is said of it
 abbrev pub HasReadAll : SourceView → SourceView → (List ℕ → Type 0) → Type 0
-HasReadAll before left P = IfSome before.left (λ bytes. (length bytes ≤ LONGEST_SCRIPT) × P bytes) × IsAtEnd left.left
+HasReadAll before left P = IsAtEnd left.left × HasRead before left (λ bytes. (length bytes ≤ LONGEST_SCRIPT) × P bytes)
 
 -- What a run from one moment to another leaves, by its status, of the source and the sink. With `Done` and `SomeRefused`
 -- the text of a run over all lines was written, and no line or some line was refused. With `ReadFault` and `ScriptTooLong`
