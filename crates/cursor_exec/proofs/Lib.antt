@@ -11,6 +11,8 @@ pub mod NamedCursors
 pub mod ClosedCursors
 -- the checks of a new cursor
 pub mod OpenChecks
+-- the causes of the lines of steps
+pub mod CausedSteps
 -- outcomes beside open cursors
 pub mod CursorOutcomes
 -- names of their own

@@ -1,7 +1,8 @@
-ghost use Rattle.std.specs.Prelude.{◌≡◌, List};
+ghost use Rattle.std.specs.Prelude.{◌≡◌, List, IfErr};
 ghost use Rattle.page_pool.specs.Disk.{PageMap};
 ghost use Rattle.plan_cursor.specs.Standing.{IsAt};
 ghost use Rattle.plan_rows.specs.Rows.{counts_of};
+ghost use Rattle.sand_base.specs.declared.refusal.Refusal.TheVariants as why;
 ghost use Rattle.sand_model.specs.Cursor.{Cursor};
 ghost use Rattle.cursor_exec.specs.OpenCursors.{ClosesOf, HaveOwnNames, StandAll, named};
 
@@ -16,8 +17,9 @@ pub fn close<S: RowSource, T: RowStage>(
     cursors: &mut Vec<OpenCursor<S, T>>,
     name: &Label,
 ) -> Result<(), Refusal>
-    ensures { (pages : PageMap) (cs : List Cursor) → HaveOwnNames cs → StandAll (λ r. IsAt S.At T.Stands T.closed (λ s. counts_of (S.seen s)) r) pages cursors.old.items cs
+    ensures closes { (pages : PageMap) (cs : List Cursor) → HaveOwnNames cs → StandAll (λ r. IsAt S.At T.Stands T.closed (λ s. counts_of (S.seen s)) r) pages cursors.old.items cs
         → ClosesOf (named cs name.now) cs name.now result (StandAll (λ r. IsAt S.At T.Stands T.closed (λ s. counts_of (S.seen s)) r) pages cursors.new.items) }
+    ensures unknown { IfErr result (λ w. w ≡ why.UnknownCursor) }
 {
     let Some(at) = place_of(cursors, name.as_str()) else {
         return Err(Refusal::UnknownCursor);

@@ -7,7 +7,7 @@ ghost use Rattle.sand_model.specs.Cursor.{Cursor};
 ghost use Rattle.sand_model.specs.Statement.{OpenCursor as Opens};
 ghost use Rattle.sand_model.specs.StatementChecks.{Setting, early};
 ghost use Rattle.sand_store.specs.Catalog.{IsCatalog};
-ghost use Rattle.statement_exec.specs.LeafLines.{state_of};
+ghost use Rattle.statement_exec.specs.LeafLines.{IsOfCheck, state_of};
 ghost use Rattle.cursor_exec.specs.OpenCursors.{StandAll};
 
 use crate::OpenCursor;
@@ -30,8 +30,9 @@ pub fn refused_open<S: RowSource, T: RowStage>(
     plan: &Plan,
 ) -> Option<Refusal>
     requires { IsCatalog catalog.now }
-    ensures { (pages : PageMap) (cs : List Cursor) → StandAll (λ r. IsAt S.At T.Stands T.closed (λ s. counts_of (S.seen s)) r) pages cursors.now cs
+    ensures checks { (pages : PageMap) (cs : List Cursor) → StandAll (λ r. IsAt S.At T.Stands T.closed (λ s. counts_of (S.seen s)) r) pages cursors.now cs
         → (setting : Setting) → early setting (state_of catalog.now pages cs) (Opens name.now (plan_value plan.now)) ≡ result }
+    ensures of_check { IfSome result IsOfCheck }
 {
     if let Some(_at) = place_of(cursors, name.as_str()) {
         return Some(Refusal::CursorNameTaken);

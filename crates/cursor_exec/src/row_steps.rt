@@ -1,5 +1,5 @@
 // The next rows of a cursor.
-ghost use Rattle.std.specs.Prelude.{◌≡◌, IfSome, OnErr, OnOk};
+ghost use Rattle.std.specs.Prelude.{◌≡◌, IfOk, IfSome, OnErr, OnOk};
 ghost use Rattle.best_first.specs.Visits.{told_pages};
 ghost use Rattle.output_text.specs.Writing.{Writes, WritesPrefix};
 ghost use Rattle.page_pool.specs.Reads.{IsRead};
@@ -9,6 +9,7 @@ ghost use Rattle.row_output.specs.Printing.{IsPlainText};
 ghost use Rattle.sand_base.specs.Faults.{HasCause};
 ghost use Rattle.sand_model.specs.Cursor.{Cursor};
 ghost use Rattle.sand_store.specs.Calls.{refusal_of};
+ghost use Rattle.statement_exec.specs.Causes.{BlamesNoFile};
 ghost use Rattle.statement_exec.specs.Ending.{PagesHaveCause};
 ghost use Rattle.cursor_exec.specs.Steps.{StepsOn};
 
@@ -43,6 +44,7 @@ pub fn print_steps<S: RowSource, T: RowStage, D: Disk, K: Sink>(
     requires stands { IfSome (told_pages desk.old) (λ pages. (c : Cursor) × IsAt S.At T.Stands T.closed (λ s. counts_of (S.seen s)) cursor.old pages c) }
     ensures read { IsRead desk.old.pool desk.new.pool }
     ensures cause { PagesHaveCause desk.old.pool desk.new.pool result }
+    ensures no_file { IfOk result BlamesNoFile }
     ensures sink { HasCause (K.faults out.old) (K.faults out.new) result }
     ensures plain { OnOk result (Writes IsPlainText (K.took out.old) (K.took out.new)) }
     ensures broken { OnErr result (WritesPrefix IsPlainText (K.took out.old) (K.took out.new)) }

@@ -19,6 +19,7 @@ use Rattle.sand_model.specs.OutputText.{IsText}
 use Rattle.sand_model.specs.Statement.{Statement, Next, CloseCursor}
 use Rattle.sand_model.specs.StatementChecks.{early}
 use Rattle.sand_store.specs.Catalog.{CatalogView}
+use Rattle.statement_exec.proofs.CausedLines.{caused_inside}
 use Rattle.statement_exec.proofs.Outcomes.{outcome_done, outcome_early}
 use Rattle.sand_base.specs.Streams.{Stays}
 use Rattle.statement_exec.proofs.Texts.{breaks_with, writes_none, writes_then_stays}
@@ -36,7 +37,7 @@ use Rattle.cursor_exec.specs.Steps.{GivesSome}
 use Rattle.cursor_exec.specs.declared.open_cursor.OpenCursor.{OpenCursor}
 use Rattle.cursor_lines.specs.Carried.{CarriesBeside, WritesOf}
 use Rattle.cursor_lines.proofs.Given.{named_most, most_more, most_replaced, most_closed}
-use Rattle.cursor_lines.proofs.MoreSteps.{Kept, IsMemory, more_steps, steps_kept}
+use Rattle.cursor_lines.proofs.MoreSteps.{Kept, IsMemory, memory_caused, more_steps, steps_kept}
 use Rattle.cursor_lines.proofs.Written.{answer_written, ending_written, some_written}
 
 -- how many rows were given after some steps
@@ -61,22 +62,28 @@ found_stands {S} {T} At pages (x ∷ xs) (k ∷ cs) name c after is h =
 module _ (catalog : CatalogView) (cs : List Cursor) (old new : PoolState) (read : IsRead old new) (name : List ℕ) (count : ℕ) where
   -- no cursor has the name, and pages were read
   pub unknown_performs : named cs name ≡ None → PerformsBeside (Next name count) catalog old new cs cs (Refused why.UnknownCursor ∷ [])
-  unknown_performs is = λ files shelf told disk few setting gap s.
+  unknown_performs is = λ files shelf. (
+    caused_inside (beside cs catalog old files shelf) (beside cs catalog new files shelf) why.UnknownCursor tt,
+    λ told disk few setting gap s.
       let fails : early setting (state_of catalog old.pages cs) (Next name count) ≡ Some why.UnknownCursor = rw is refl in
       outcome_early setting (rises_between (beside cs catalog old files shelf) (beside cs catalog new files shelf)) (state_of catalog old.pages cs) (Next name count) (Refused why.UnknownCursor ∷ []) (state_of catalog new.pages cs)
-      why.UnknownCursor fails tt (refl, ap (λ m. state_of catalog m cs) read.pages)
+      why.UnknownCursor fails tt (refl, ap (λ m. state_of catalog m cs) read.pages),
+  )
 
   -- steps of the cursor of the name, behind which memory may be refused
   pub memory_performs : (c after : Cursor) (lines : List OutputLine) → named cs name ≡ Some c → Steps plan_measure IsMemory count c lines after
       → PerformsBeside (Next name count) catalog old new cs (replaced name after cs) lines
-  memory_performs c after lines is steps = λ files shelf told disk few setting gap s.
+  memory_performs c after lines is steps = λ files shelf. (
+    memory_caused (beside cs catalog old files shelf) (beside (replaced name after cs) catalog new files shelf) count c lines after steps,
+    λ told disk few setting gap s.
       let cs' : List Cursor = replaced name after cs in
       let passes : early setting (state_of catalog old.pages cs) (Next name count) ≡ None = rw is refl in
       let may : Refusal → Type 0 = IsLicensed setting (rises_between (beside cs catalog old files shelf) (beside cs' catalog new files shelf)) (state_of catalog old.pages cs) (Next name count) in
       let made : Steps plan_measure may count c lines after = steps_allowed plan_measure IsMemory may (λ r k. subst may (sym k) tt) count c lines after steps in
       let measured : Steps setting.gap may count c lines after = subst (λ (g : Measure). Steps g may count c lines after) (sym gap) made in
       outcome_done setting (rises_between (beside cs catalog old files shelf) (beside cs' catalog new files shelf)) (state_of catalog old.pages cs) (Next name count) lines (state_of catalog new.pages cs')
-      passes refl (c, is, (after, measured, ap (λ m. state_of catalog m cs') read.pages))
+      passes refl (c, is, (after, measured, ap (λ m. state_of catalog m cs') read.pages)),
+  )
 
   -- a prefix of the lines of some steps is one of an outcome
   pub some_performs : (c after : Cursor) (a b : List ℕ → Type 0) → named cs name ≡ Some c → IsRefusedStep plan_measure after why.Memory after → (lines : List OutputLine) → GivesSome c count after lines

@@ -11,7 +11,6 @@ pub mod ToldSteps
 -- The numbers of a cursor.
 pub mod NumberLines
 -- Statements with a plan.
-pub mod PlanRefusals
 pub mod PlanOutcomes
 -- What lines do whose statements do this.
 pub mod SaidLines

@@ -16,6 +16,10 @@ use Rattle.sand_model.specs.Cursor.{Cursor, OutputLine, Refused, Steps, IsRefuse
 use Rattle.sand_model.specs.Database.{element}
 use Rattle.sand_model.specs.Operators.{PlanRow}
 use Rattle.sand_model.specs.Reach.{Counts}
+use Rattle.statement_exec.specs.Causes.{AreCaused}
+use Rattle.statement_exec.specs.Moment.{Moment}
+use Rattle.statement_exec.proofs.CausedLines.{HasItsCause}
+use Rattle.cursor_exec.proofs.CausedSteps.{steps_caused}
 
 -- where a cursor stands, a step may be refused that changes nothing
 pub stays_refused : {S T : Type 0} (At : S → Taking) (Stands : T → Standing) (closed : T → Bool) (seen : S → Counts) (r : RowCursor S T) (pages : PageMap) (c : Cursor)
@@ -67,3 +71,8 @@ more_steps (suc m) (suc n) c lines after few stays (inl row) =
     ]
 more_steps (suc m) (suc n) c lines after few stays (inr (inl end)) = inl (inr (inl end))
 more_steps (suc m) (suc n) c lines after few stays (inr (inr refused)) = absurd refused.1
+
+-- steps behind which memory alone is refused need no cause
+pub memory_caused : (old new : Moment) (count : ℕ) (c : Cursor) (lines : List OutputLine) (after : Cursor) → Steps plan_measure IsMemory count c lines after → AreCaused old new lines
+memory_caused old new count c lines after steps =
+    steps_caused old new plan_measure IsMemory (λ w e. subst (HasItsCause old new) (sym e) tt) count c lines after steps

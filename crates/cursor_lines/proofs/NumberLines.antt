@@ -14,7 +14,9 @@ use Rattle.sand_model.specs.Reach.{Counts}
 use Rattle.sand_model.specs.Statement.{Stats as StatsOf}
 use Rattle.sand_model.specs.StatementChecks.{early}
 use Rattle.sand_store.specs.Catalog.{CatalogView}
+use Rattle.statement_exec.proofs.CausedLines.{caused_inside, caused_plain}
 use Rattle.statement_exec.proofs.Outcomes.{outcome_done, outcome_early}
+use Rattle.statement_exec.specs.Causes.{AreCausedIn}
 use Rattle.statement_exec.specs.LeafLines.{state_of}
 use Rattle.statement_exec.specs.Moment.{beside, rises_between}
 use Rattle.cursor_exec.specs.OpenCursors.{NumbersOf, named}
@@ -30,19 +32,29 @@ line_is c numbers are few =
     let same : numbers.rows ≡ c.given = omega (arith, rows, few) in
     ap₂ (λ (k : Counts) (n : ℕ). StatsLine k n) are.counts same
 
+-- the line of numbers needs no cause
+pub numbers_caused : (pool : PoolState) (numbers : Stats) → AreCausedIn pool pool (line_of_numbers numbers ∷ [])
+numbers_caused pool numbers = λ files shelf cs cs' catalog. caused_plain (beside cs catalog pool files shelf) (beside cs' catalog pool files shelf) (line_of_numbers numbers ∷ []) refl
+
 module _ (catalog : CatalogView) (cs : List Cursor) (pool : PoolState) (name : List ℕ) where
   -- the numbers of the cursor of the name, or none has it
   pub stats_performs : (c : Cursor) → named cs name ≡ Some c → PerformsBeside (StatsOf name) catalog pool pool cs cs (StatsLine c.counts c.given ∷ [])
-  stats_performs c is = λ files shelf told disk few setting gap s.
+  stats_performs c is = λ files shelf. (
+    caused_plain (beside cs catalog pool files shelf) (beside cs catalog pool files shelf) (StatsLine c.counts c.given ∷ []) refl,
+    λ told disk few setting gap s.
       let passes : early setting (state_of catalog pool.pages cs) (StatsOf name) ≡ None = rw is refl in
       outcome_done setting (rises_between (beside cs catalog pool files shelf) (beside cs catalog pool files shelf)) (state_of catalog pool.pages cs) (StatsOf name) (StatsLine c.counts c.given ∷ [])
-      (state_of catalog pool.pages cs) passes refl (c, is, (refl, refl))
+      (state_of catalog pool.pages cs) passes refl (c, is, (refl, refl)),
+  )
 
   pub stats_unknown : named cs name ≡ None → PerformsBeside (StatsOf name) catalog pool pool cs cs (Refused why.UnknownCursor ∷ [])
-  stats_unknown is = λ files shelf told disk few setting gap s.
+  stats_unknown is = λ files shelf. (
+    caused_inside (beside cs catalog pool files shelf) (beside cs catalog pool files shelf) why.UnknownCursor tt,
+    λ told disk few setting gap s.
       let fails : early setting (state_of catalog pool.pages cs) (StatsOf name) ≡ Some why.UnknownCursor = rw is refl in
       outcome_early setting (rises_between (beside cs catalog pool files shelf) (beside cs catalog pool files shelf)) (state_of catalog pool.pages cs) (StatsOf name) (Refused why.UnknownCursor ∷ []) (state_of catalog pool.pages cs)
-      why.UnknownCursor fails tt (refl, refl)
+      why.UnknownCursor fails tt (refl, refl),
+  )
 
   module _ (a b : List ℕ → Type 0) where
     pub numbers_written : AreCounted cs → (numbers : Stats) → NumbersOf (named cs name) (Some numbers) → (r : Result Bool Failed)

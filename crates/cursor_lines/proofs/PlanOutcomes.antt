@@ -22,52 +22,55 @@ use Rattle.sand_store.specs.Calls.{HasCause}
 use Rattle.sand_store.specs.Catalog.{CatalogView}
 use Rattle.sand_store.specs.Contents.{database_in}
 use Rattle.statement_exec.proofs.Outcomes.{outcome_done, outcome_early, outcome_outside}
-use Rattle.statement_exec.proofs.Refusals.{Never, never_first, never_where, rose}
+use Rattle.statement_exec.proofs.CausedLines.{HasItsCause, caused_inside, check_blames_none, end_cause}
+use Rattle.statement_exec.proofs.PlanChecks.{open_refuses, show_refuses}
+use Rattle.statement_exec.proofs.Refusals.{caused, rose}
+use Rattle.statement_exec.proofs.SomeSetting.{some_setting}
 use Rattle.statement_exec.specs.Ending.{PagesHaveCause}
 use Rattle.statement_exec.specs.LeafLines.{state_of}
 use Rattle.statement_exec.specs.Moment.{beside, rises_between}
+use Rattle.cursor_exec.proofs.CausedSteps.{cause_of_end, pages_no_file, steps_caused}
 use Rattle.cursor_exec.specs.Outcomes.{PerformsBeside}
 use Rattle.cursor_exec.specs.Steps.{GivesSteps, IsOfPages}
 use Rattle.cursor_lines.proofs.MoreSteps.{IsMemory}
-use Rattle.cursor_lines.proofs.PlanRefusals.{caused_never, never_operators}
-
--- no check of a statement with a plan refuses because of a file
-
-never_open : (setting : Setting) (s : State) (name : List ℕ) (p : Plan) → Never (early setting s (Opens name p))
-never_open setting s name p =
-    let many : Option Refusal = refused_where (nat_le most_cursors (length s.cursors)) why.TooManyCursors in
-    let deep : Option Refusal = refused_where (nat_lt most_operators (depth p)) why.PlanTooDeep in
-    let taken : Option Refusal = refused_where (is_there (cursor_named s name)) why.CursorNameTaken in
-    let last : Never (first_refusal (deep ∷ [])) = never_first deep [] (never_where (nat_lt most_operators (depth p)) why.PlanTooDeep refl) refl in
-    let behind : Never (first_refusal (many ∷ deep ∷ [])) = never_first many (deep ∷ []) (never_where (nat_le most_cursors (length s.cursors)) why.TooManyCursors refl) last in
-    never_first taken (check_operators s.database p ∷ many ∷ deep ∷ []) (never_where (is_there (cursor_named s name)) why.CursorNameTaken refl)
-    (never_first (check_operators s.database p) (many ∷ deep ∷ []) (never_operators s.database p) behind)
-
-never_show : (setting : Setting) (s : State) (count : ℕ) (p : Plan) → Never (early setting s (Show count p))
-never_show setting s count p = never_first _ _ (never_operators s.database p) (never_first _ [] (never_where _ why.PlanTooDeep refl) refl)
 
 module _ (catalog : CatalogView) (cs : List Cursor) (old new : PoolState) (read : IsRead old new) where
+  -- some setting of the catalog over these pages
+  abbrev any_setting : Setting
+  any_setting = some_setting (record { catalog = catalog; pool = old })
+
   -- memory may be refused at any statement
   pub memory_refused : (statement : Statement) → PerformsBeside statement catalog old new cs cs (Refused why.Memory ∷ [])
-  memory_refused statement = λ files shelf told disk few setting gap s.
+  memory_refused statement = λ files shelf. (
+    caused_inside (beside cs catalog old files shelf) (beside cs catalog new files shelf) why.Memory tt,
+    λ told disk few setting gap s.
       outcome_outside setting (rises_between (beside cs catalog old files shelf) (beside cs catalog new files shelf)) (state_of catalog old.pages cs) statement (Refused why.Memory ∷ []) (state_of catalog new.pages cs)
-      why.Memory tt (refl, ap (λ m. state_of catalog m cs) read.pages)
+      why.Memory tt (refl, ap (λ m. state_of catalog m cs) read.pages),
+  )
 
   -- a check refuses
 
   pub open_refused : (name : List ℕ) (p : Plan) (w : Refusal) → ((setting : Setting) → early setting (state_of catalog old.pages cs) (Opens name p) ≡ Some w)
       → PerformsBeside (Opens name p) catalog old new cs cs (Refused w ∷ [])
-  open_refused name p w fails = λ files shelf told disk few setting gap s.
+  open_refused name p w fails = λ files shelf. (
+    caused_inside (beside cs catalog old files shelf) (beside cs catalog new files shelf) w
+        (check_blames_none w (open_refuses any_setting (state_of catalog old.pages cs) name p w (fails any_setting))),
+    λ told disk few setting gap s.
       outcome_early setting (rises_between (beside cs catalog old files shelf) (beside cs catalog new files shelf)) (state_of catalog old.pages cs) (Opens name p) (Refused w ∷ []) (state_of catalog new.pages cs)
-      w (fails setting) (caused_never (rises_between (beside cs catalog old files shelf) (beside cs catalog new files shelf)) w (subst Never (fails setting) (never_open setting (state_of catalog old.pages cs) name p)))
-      (refl, ap (λ m. state_of catalog m cs) read.pages)
+      w (fails setting) (caused (rises_between (beside cs catalog old files shelf) (beside cs catalog new files shelf)) w (open_refuses setting (state_of catalog old.pages cs) name p w (fails setting)))
+      (refl, ap (λ m. state_of catalog m cs) read.pages),
+  )
 
   module _ (count : ℕ) (p : Plan) where
     pub show_refused : (w : Refusal) → ((setting : Setting) → early setting (state_of catalog old.pages cs) (Show count p) ≡ Some w) → PerformsBeside (Show count p) catalog old new cs cs (Refused w ∷ [])
-    show_refused w fails = λ files shelf told disk few setting gap s.
+    show_refused w fails = λ files shelf. (
+      caused_inside (beside cs catalog old files shelf) (beside cs catalog new files shelf) w
+          (check_blames_none w (show_refuses any_setting (state_of catalog old.pages cs) count p w (fails any_setting))),
+      λ told disk few setting gap s.
         outcome_early setting (rises_between (beside cs catalog old files shelf) (beside cs catalog new files shelf)) (state_of catalog old.pages cs) (Show count p) (Refused w ∷ []) (state_of catalog new.pages cs)
-        w (fails setting) (caused_never (rises_between (beside cs catalog old files shelf) (beside cs catalog new files shelf)) w (subst Never (fails setting) (never_show setting (state_of catalog old.pages cs) count p)))
-        (refl, ap (λ m. state_of catalog m cs) read.pages)
+        w (fails setting) (caused (rises_between (beside cs catalog old files shelf) (beside cs catalog new files shelf)) w (show_refuses setting (state_of catalog old.pages cs) count p w (fails setting)))
+        (refl, ap (λ m. state_of catalog m cs) read.pages),
+    )
 
     module _ (passes : (setting : Setting) → early setting (state_of catalog old.pages cs) (Show count p) ≡ None) where
       abbrev May : Option Files → ℕ → Setting → Refusal → Type 0
@@ -75,14 +78,18 @@ module _ (catalog : CatalogView) (cs : List Cursor) (old new : PoolState) (read 
 
       -- steps of a new cursor, refused as the setting allows
       performs : (may : Refusal → Type 0) (after : Cursor) (lines : List OutputLine) → ((files : Option Files) (shelf : ℕ) → IsTold old → new.disk.faults < last_count → (setting : Setting) (w : Refusal) → may w → May files shelf setting w)
+          → ((files : Option Files) (shelf : ℕ) (w : Refusal) → may w → HasItsCause (beside cs catalog old files shelf) (beside cs catalog new files shelf) w)
           → Steps plan_measure may count (new_cursor [] p (database_in old.pages catalog.relations)) lines after → PerformsBeside (Show count p) catalog old new cs cs lines
-      performs may after lines allowed steps = λ files shelf told disk few setting gap s.
+      performs may after lines allowed cause steps = λ files shelf. (
+        steps_caused (beside cs catalog old files shelf) (beside cs catalog new files shelf) plan_measure may (cause files shelf) count (new_cursor [] p (database_in old.pages catalog.relations)) lines after steps,
+        λ told disk few setting gap s.
           let made : Steps plan_measure (May files shelf setting) count (new_cursor [] p (database_in old.pages catalog.relations)) lines after =
           steps_allowed plan_measure may (May files shelf setting) (allowed files shelf told disk setting) count (new_cursor [] p (database_in old.pages catalog.relations)) lines after steps in
           let measured : Steps setting.gap (May files shelf setting) count (new_cursor [] p (database_in old.pages catalog.relations)) lines after =
           subst (λ (g : Measure). Steps g (May files shelf setting) count (new_cursor [] p (database_in old.pages catalog.relations)) lines after) (sym gap) made in
           outcome_done setting (rises_between (beside cs catalog old files shelf) (beside cs catalog new files shelf)) (state_of catalog old.pages cs) (Show count p) lines (state_of catalog new.pages cs)
-          (passes setting) refl (after, measured, ap (λ m. state_of catalog m cs) read.pages)
+          (passes setting) refl (after, measured, ap (λ m. state_of catalog m cs) read.pages),
+      )
 
       licensed : (files : Option Files) (shelf : ℕ) (setting : Setting) (w : Refusal) → IsOfPages (Some w) → HasCause {T = ⊤} old new (Err w) → IsTold old → new.disk.faults < last_count → May files shelf setting w
       licensed files shelf setting why.Memory o c t l = tt
@@ -101,8 +108,12 @@ module _ (catalog : CatalogView) (cs : List Cursor) (old new : PoolState) (read 
 
       pub show_performs : (end : Option Refusal) (after : Cursor) (lines : List OutputLine) → IsOfPages end → PagesHaveCause {E = Failed} old new (Ok end)
           → GivesSteps (new_cursor [] p (database_in old.pages catalog.relations)) count after end lines → PerformsBeside (Show count p) catalog old new cs cs lines
-      show_performs end after lines o cause = performs (λ w. end ≡ Some w) after lines (of_end end o cause)
+      show_performs end after lines o cause =
+          performs (λ w. end ≡ Some w) after lines (of_end end o cause)
+          (λ files shelf. cause_of_end (beside cs catalog old files shelf) (beside cs catalog new files shelf) end
+          (end_cause cs cs catalog catalog old new read.told files files shelf shelf Failed end cause (pages_no_file end o)))
 
       pub show_memory : (after : Cursor) (lines : List OutputLine) → Steps plan_measure IsMemory count (new_cursor [] p (database_in old.pages catalog.relations)) lines after
           → PerformsBeside (Show count p) catalog old new cs cs lines
       show_memory after lines = performs IsMemory after lines (λ files shelf t l setting w k. subst (May files shelf setting) (sym k) tt)
+          (λ files shelf w k. subst (HasItsCause (beside cs catalog old files shelf) (beside cs catalog new files shelf)) (sym k) tt)

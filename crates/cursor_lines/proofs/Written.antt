@@ -1,18 +1,21 @@
 -- Lines that were written: one, or those up to a refusal.
 use Rattle.std.proofs.Common.{◌≡◌, ℕ, Bool, List, [], ◌∷◌, Option, refl, sym, ◌∙◌, subst}
-use Rattle.std.specs.Prelude.{Result, Ok, Err, IfOk, OnErr, is_err, ⊤}
+use Rattle.std.specs.Prelude.{Result, Ok, Err, IfOk, IfErr, OnErr, is_err}
 use Rattle.std.specs.List.{list_any}
 use Rattle.output_text.specs.Writing.{Writes, WritesPrefix}
 use Rattle.row_output.specs.Printing.{IsPlainText}
 use Rattle.sand_base.specs.declared.refusal.Refusal.{Refusal}
 use Rattle.sand_base.specs.declared.source.Failed.{Failed}
 use Rattle.page_pool.specs.Pool.{PoolState}
-use Rattle.sand_model.specs.Cursor.{Cursor, OutputLine}
+use Rattle.sand_model.specs.Cursor.{Cursor, OutputLine, Accepted, Id, Loaded}
 use Rattle.sand_model.specs.Statement.{Statement}
 use Rattle.sand_store.specs.Catalog.{CatalogView}
 use Rattle.cursor_exec.specs.Outcomes.{PerformsBeside}
 use Rattle.sand_model.specs.OutputText.{IsText, is_refused}
-use Rattle.statement_exec.specs.Ending.{WritesUpTo, Reads, is_refusal, refused_line}
+use Rattle.statement_exec.specs.Causes.{AreCausedIn, BlamesNone, BlamesNoFile}
+use Rattle.statement_exec.specs.Ending.{PagesHaveCause, WritesUpTo, Reads, is_refusal, refused_line}
+use Rattle.statement_exec.specs.Moment.{beside}
+use Rattle.statement_exec.proofs.CausedLines.{caused_inside, caused_plain, caused_up_to}
 use Rattle.statement_exec.specs.Performing.{line_of_answer}
 use Rattle.statement_exec.specs.Printing.{Prints, PrintsSome}
 use Rattle.statement_exec.specs.declared.reply.Reply.{Reply}
@@ -67,20 +70,37 @@ pub ending_written : (P : List OutputLine → Type 0) (a b c : List ℕ → Type
 ending_written P a b c end up (Ok refused) h k = subst (λ (m : Bool). Writes (Prints P m) a c) (sym h.0) (printed P end a b c up h.1)
 ending_written P a b c end up (Err failed) h k = broken P end a b c up k
 
--- lines none of which is a refusal, and the line of one
-pub plain_written : (a b c : List ℕ → Type 0) (end : Option Refusal) → Writes IsPlainText a b → (r : Result Bool Failed)
-    → IfOk r (λ refused. (refused ≡ is_refusal end) × Writes (IsText (refused_line end)) b c) → OnErr r (WritesPrefix (IsText (refused_line end)) b c) → WritesOf (λ lines. ⊤) a c r
-plain_written a b c end w =
-    ending_written (λ lines. ⊤) a b c end (record {
-      lines = w.holds.0;
-      written = record { text = w.text; holds = w.holds.1; written = w.written };
-      accepted = w.holds.2;
-      holds = tt;
-    })
+module _ (old new : PoolState) (told : new.disk.told ≡ old.disk.told) (a b : List ℕ → Type 0) where
+  -- lines none of which is a refusal, and the line of one that has its cause
+  pub plain_written : (c : List ℕ → Type 0) (end : Option Refusal) → PagesHaveCause {E = Failed} old new (Ok end) → BlamesNoFile end → Writes IsPlainText a b → (r : Result Bool Failed)
+      → IfOk r (λ refused. (refused ≡ is_refusal end) × Writes (IsText (refused_line end)) b c) → OnErr r (WritesPrefix (IsText (refused_line end)) b c) → WritesOf (AreCausedIn old new) a c r
+  plain_written c end cause none w =
+      ending_written (AreCausedIn old new) a b c end (record {
+        lines = w.holds.0;
+        written = record { text = w.text; holds = w.holds.1; written = w.written };
+        accepted = w.holds.2;
+        holds = caused_up_to Failed old new w.holds.0 end w.holds.2 told cause none;
+      })
 
--- a prefix of lines none of which is a refusal
-pub plain_broken : (a b : List ℕ → Type 0) → WritesPrefix IsPlainText a b → WritesPrefix (PrintsSome (λ lines. ⊤)) a b
-plain_broken a b w = some_written (λ lines. ⊤) a b w.holds.0 tt (record { text = w.text; holds = w.holds.1; prefix = w.prefix })
+  -- a prefix of lines none of which is a refusal
+  pub plain_broken : WritesPrefix IsPlainText a b → WritesPrefix (PrintsSome (AreCausedIn old new)) a b
+  plain_broken w =
+      some_written (AreCausedIn old new) a b w.holds.0
+      (λ files shelf cs cs' catalog. caused_plain (beside cs catalog old files shelf) (beside cs' catalog new files shelf) w.holds.0 w.holds.2)
+      (record { text = w.text; holds = w.holds.1; prefix = w.prefix })
+
+-- the line of an answer that blames nothing outside
+pub answer_caused : (pool : PoolState) (answer : Result Reply Refusal) → IfErr answer BlamesNone → AreCausedIn pool pool (line_of_answer answer ∷ [])
+answer_caused pool (Ok reply.Accepted) h = λ files shelf cs cs' catalog. caused_plain (beside cs catalog pool files shelf) (beside cs' catalog pool files shelf) (Accepted ∷ []) refl
+answer_caused pool (Ok (reply.Id id)) h = λ files shelf cs cs' catalog. caused_plain (beside cs catalog pool files shelf) (beside cs' catalog pool files shelf) (Id id ∷ []) refl
+answer_caused pool (Ok (reply.Loaded rows)) h = λ files shelf cs cs' catalog. caused_plain (beside cs catalog pool files shelf) (beside cs' catalog pool files shelf) (Loaded rows ∷ []) refl
+answer_caused pool (Err w) h = λ files shelf cs cs' catalog. caused_inside (beside cs catalog pool files shelf) (beside cs' catalog pool files shelf) w h
+
+-- and it was written
+pub caused_written : (pool : PoolState) (a b : List ℕ → Type 0) (answer : Result Reply Refusal) → IfErr answer BlamesNone → (r : Result Bool Failed)
+    → IfOk r (λ refused. (refused ≡ is_err answer) × Writes (IsText (line_of_answer answer ∷ [])) a b) → OnErr r (WritesPrefix (IsText (line_of_answer answer ∷ [])) a b)
+    → WritesOf (AreCausedIn pool pool) a b r
+caused_written pool a b answer none = answer_written (AreCausedIn pool pool) a b answer (answer_caused pool answer none)
 
 -- what was printed up to this refusal, where there is one, and whether there is one
 abbrev pub mark_after : Result (Option Refusal) Failed → Result Bool Failed
@@ -93,7 +113,7 @@ pub leaves_written : (statement : Statement) (catalog : CatalogView) (old new : 
     → WritesOf (PerformsBeside statement catalog old new cs cs) a b (mark_after r)
 leaves_written statement catalog old new cs a b (Ok end) h k =
     writes_so (Reads statement catalog old new) (PerformsBeside statement catalog old new cs cs) a b
-    (λ lines reads files shelf told disk few setting gap s. reads cs files shelf told disk few setting s) (Ok (is_refusal end)) h
+    (λ lines reads files shelf. ((reads cs files shelf).0, λ told disk few setting gap s. (reads cs files shelf).1 told disk few setting s)) (Ok (is_refusal end)) h
 leaves_written statement catalog old new cs a b (Err failed) h k =
     writes_so (Reads statement catalog old new) (PerformsBeside statement catalog old new cs cs) a b
-    (λ lines reads files shelf told disk few setting gap s. reads cs files shelf told disk few setting s) (Err failed) k
+    (λ lines reads files shelf. ((reads cs files shelf).0, λ told disk few setting gap s. (reads cs files shelf).1 told disk few setting s)) (Err failed) k

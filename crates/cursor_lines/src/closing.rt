@@ -1,4 +1,4 @@
-ghost use Rattle.std.specs.Prelude.{◌≡◌, List, ⊤};
+ghost use Rattle.std.specs.Prelude.{◌≡◌, List};
 ghost use Rattle.page_pool.specs.Disk.{PageMap};
 ghost use Rattle.page_pool.specs.Pool.{PoolState};
 ghost use Rattle.plan_cursor.specs.Standing.{IsAt};
@@ -7,6 +7,7 @@ ghost use Rattle.sand_base.specs.Faults.{HasCause};
 ghost use Rattle.sand_model.specs.Cursor.{Cursor};
 ghost use Rattle.sand_model.specs.Statement.{CloseCursor};
 ghost use Rattle.sand_store.specs.Catalog.{CatalogView};
+ghost use Rattle.statement_exec.specs.Causes.{AreCausedIn};
 ghost use Rattle.cursor_exec.specs.OpenCursors.{HaveOwnNames, StandAll};
 ghost use Rattle.cursor_lines.specs.Carried.{CarriesBeside, WritesOf};
 
@@ -23,7 +24,7 @@ pub fn close_line<S: RowSource, T: RowStage, K: Sink>(
     name: &Label,
     out: &mut K,
 ) -> Result<bool, Failed>
-    ensures plain { WritesOf (λ lines. ⊤) (K.took out.old) (K.took out.new) result }
+    ensures plain { (pool : PoolState) → WritesOf (AreCausedIn pool pool) (K.took out.old) (K.took out.new) result }
     ensures carried { (pages : PageMap) (cs : List Cursor) → HaveOwnNames cs → StandAll (λ r. IsAt S.At T.Stands T.closed (λ s. counts_of (S.seen s)) r) pages cursors.old.items cs
         → (catalog : CatalogView) (pool : PoolState) → CarriesBeside (CloseCursor name.now) catalog pool pool cs (K.took out.old) (K.took out.new) result (StandAll (λ r. IsAt S.At T.Stands T.closed (λ s. counts_of (S.seen s)) r) pages cursors.new.items) }
     ensures sink { HasCause (K.faults out.old) (K.faults out.new) result }

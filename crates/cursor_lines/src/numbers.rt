@@ -1,4 +1,4 @@
-ghost use Rattle.std.specs.Prelude.{◌≡◌, [], ◌∷◌, false, List, IfOk, OnErr, ⊤};
+ghost use Rattle.std.specs.Prelude.{◌≡◌, [], ◌∷◌, false, List, IfOk, OnErr};
 ghost use Rattle.output_text.specs.Line.{IsPrintable};
 ghost use Rattle.output_text.specs.Writing.{Writes, WritesPrefix};
 ghost use Rattle.page_pool.specs.Disk.{PageMap};
@@ -10,6 +10,7 @@ ghost use Rattle.sand_model.specs.Cursor.{Cursor};
 ghost use Rattle.sand_model.specs.OutputText.{IsText};
 ghost use Rattle.sand_model.specs.Statement.{Stats as StatsOf};
 ghost use Rattle.sand_store.specs.Catalog.{CatalogView};
+ghost use Rattle.statement_exec.specs.Causes.{AreCausedIn};
 ghost use Rattle.cursor_exec.specs.OpenCursors.{HaveOwnNames, StandAll};
 ghost use Rattle.cursor_exec.specs.Outcomes.{PerformsBeside};
 ghost use Rattle.cursor_lines.specs.Carried.{AreCounted, WritesOf, line_of_numbers};
@@ -45,7 +46,7 @@ pub fn stats_line<S: RowSource, T: RowStage, K: Sink>(
     name: &Label,
     out: &mut K,
 ) -> Result<bool, Failed>
-    ensures plain { WritesOf (λ lines. ⊤) (K.took out.old) (K.took out.new) result }
+    ensures plain { (pool : PoolState) → WritesOf (AreCausedIn pool pool) (K.took out.old) (K.took out.new) result }
     ensures written { (pages : PageMap) (cs : List Cursor) → HaveOwnNames cs → StandAll (λ r. IsAt S.At T.Stands T.closed (λ s. counts_of (S.seen s)) r) pages cursors.now cs → AreCounted cs
         → (catalog : CatalogView) (pool : PoolState) → WritesOf (PerformsBeside (StatsOf name.now) catalog pool pool cs cs) (K.took out.old) (K.took out.new) result }
     ensures sink { HasCause (K.faults out.old) (K.faults out.new) result }

@@ -18,6 +18,8 @@ use Rattle.script_text.specs.InRange.{IsInRange}
 use Rattle.script_text.specs.Statement as text
 use Rattle.script_text.specs.Statement.{StatementValue, statement_value}
 use Rattle.script_text.specs.declared.statement.Statement.{Statement}
+use Rattle.script_run.proofs.LineCalls.{passed_over, unread}
+use Rattle.statement_exec.specs.Causes.{BlamesNone}
 use Rattle.statement_exec.proofs.Texts.{writes_none}
 use Rattle.statement_exec.specs.Ending.{refused_line}
 use Rattle.statement_exec.specs.Moment.{Moment, beside, rises_between}
@@ -47,22 +49,6 @@ asks_few (text.CloseCursor cursor) range = omega arith
 asks_few (text.Show count p) range = omega arith
 asks_few (text.Stats cursor) range = omega arith
 asks_few (text.Blocks column) range = omega arith
-
--- a line that is passed over prints nothing
-passed_over : (line : List ℕ) (m : Moment) → Says line None → CarriesLine (Some line) m m []
-passed_over line m says = λ told is t disk shelf setting gap s.
-    inl (subst (λ (x : ScriptLine). LineOutcome setting (rises_between m m) m.state x [] m.state) (sym (says told is)) (refl, refl))
-
--- a line that can't be read is refused
-unread : (line : List ℕ) (m : Moment) (w : Refusal) → Refuses line w → CarriesLine (Some line) m m (Refused w ∷ [])
-unread line m w (inl e) = λ told is t disk shelf setting gap s. inr (ap (λ (r : Refusal). Refused r ∷ []) e, refl)
-unread line m w (inr h) = λ told is t disk shelf setting gap s. inl (by_line setting told (h told is)) where
-  by_line : (setting : Setting) (told : ScriptLine) → IsRefusedSo told w → LineOutcome setting (rises_between m m) m.state told (Refused w ∷ []) m.state
-  by_line setting Blank k = absurd k
-  by_line setting TooLong k = absurd k
-  by_line setting (BadToken column) k = (ap (λ (r : Refusal). Refused r ∷ []) k, refl)
-  by_line setting OutOfRange k = (ap (λ (r : Refusal). Refused r ∷ []) k, refl)
-  by_line setting (SaysOf s) k = absurd k
 
 module _ (line : List ℕ) (catalog : CatalogView) (cs : List Cursor) (At : List Cursor → Type 0) where
   -- what a statement does is what its line does
@@ -98,15 +84,15 @@ module _ (line : List ℕ) (catalog : CatalogView) (cs : List Cursor) (At : List
         }
 
     -- a line that can't be read
-    pub line_of_refusal : (b : List ℕ → Type 0) (w : Refusal) (r : Result Bool Failed) → Refuses line w
+    pub line_of_refusal : (b : List ℕ → Type 0) (w : Refusal) (r : Result Bool Failed) → Refuses line w → BlamesNone w
         → IfOk r (λ refused. (refused ≡ true) × Writes (IsText (refused_line (Some w))) a b) → OnErr r (WritesPrefix (IsText (refused_line (Some w))) a b)
         → LineBeside (Some line) catalog pool pool cs a b r At
-    line_of_refusal b w r refuses written part = record {
+    line_of_refusal b w r refuses inside written part = record {
       after = cs;
       own = own;
       at = at;
       given = λ bound gave. most_more bound 4294967295 cs gave;
       writes = λ files shelf.
           one_written (CarriesLine (Some line) (beside cs catalog pool files shelf) (beside cs catalog pool files shelf)) a b (Refused w) true refl
-          (unread line (beside cs catalog pool files shelf) w refuses) r written part;
+          (unread line (beside cs catalog pool files shelf) w refuses inside) r written part;
     }

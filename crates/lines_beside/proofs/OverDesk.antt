@@ -14,6 +14,7 @@ use Rattle.sand_model.specs.Plan.{Plan}
 use Rattle.sand_model.specs.Statement.{Statement, Next, CloseCursor, Stats, OpenCursor as Opens}
 use Rattle.sand_store.specs.Catalog.{CatalogView}
 use Rattle.sand_store.specs.Standing.{CatalogStands, IsStore}
+use Rattle.statement_exec.specs.Causes.{AreCausedIn}
 use Rattle.cursor_exec.specs.OpenCursors.{HaveOwnNames, StandAll}
 use Rattle.cursor_exec.specs.Outcomes.{PerformsBeside}
 use Rattle.cursor_exec.specs.declared.open_cursor.OpenCursor.{OpenCursor}
@@ -40,8 +41,8 @@ module _ (catalog : CatalogView) (old new : DeskState) (read : IsRead old.pool n
       → CarriesBeside statement catalog old.pool new.pool cs a b r At
   unmoved At cs own at h = record { after = cs; own = own; at = at; given = λ bound few. most_more bound (rows_by statement) cs few; writes = h }
 
-  -- over pages that are told as the statement does, and over others any lines will do
-  pub over_desk : (xs ys : List (OpenCursor Source Stage)) (cs : List Cursor) → HaveOwnNames cs → WritesOf (λ lines. ⊤) a b r
+  -- over pages that are told as the statement does, and over others any lines will do that have their causes
+  pub over_desk : (xs ys : List (OpenCursor Source Stage)) (cs : List Cursor) → HaveOwnNames cs → WritesOf (AreCausedIn old.pool new.pool) a b r
       → ((pages : PageMap) → told_pages old ≡ Some pages → StandAll PlanAt pages xs cs → CarriesBeside statement catalog old.pool new.pool cs a b r (StandAll PlanAt pages ys))
       → StandOver old xs cs → CarriesBeside statement catalog old.pool new.pool cs a b r (StandOver new ys)
   over_desk xs ys cs own plain told stand = go (told_pages old) refl stand where
@@ -51,7 +52,7 @@ module _ (catalog : CatalogView) (old new : DeskState) (read : IsRead old.pool n
     go : (m : Option PageMap) → told_pages old ≡ m → IfSome m (λ pages. StandAll PlanAt pages xs cs) → CarriesBeside statement catalog old.pool new.pool cs a b r (StandOver new ys)
     go None is s =
         unmoved (StandOver new ys) cs own (subst (Stand cs) (sym (same_told old new read ∙ is)) tt)
-        (writes_so (λ lines. ⊤) (PerformsBeside statement catalog old.pool new.pool cs cs) a b (λ lines x files shelf tells. absurd (untold old is tells)) r plain)
+        (writes_so (AreCausedIn old.pool new.pool) (PerformsBeside statement catalog old.pool new.pool cs cs) a b (λ lines x files shelf. (x files shelf cs cs catalog, λ tells. absurd (untold old is tells))) r plain)
     go (Some pages) is s =
         let h = told pages is s in
         record {
@@ -70,20 +71,20 @@ module _ (catalog : CatalogView) (old new : DeskState) (read : IsRead old.pool n
 
 -- the next rows of a cursor
 pub next_beside : (catalog : CatalogView) (old new : DeskState) (read : IsRead old.pool new.pool) (name : List ℕ) (count : ℕ) (a b : List ℕ → Type 0) (r : Result Bool Failed)
-    (xs ys : List (OpenCursor Source Stage)) (cs : List Cursor) → HaveOwnNames cs → WritesOf (λ lines. ⊤) a b r
+    (xs ys : List (OpenCursor Source Stage)) (cs : List Cursor) → HaveOwnNames cs → WritesOf (AreCausedIn old.pool new.pool) a b r
     → IfSome (told_pages old) (λ pages. (ks : List Cursor) → HaveOwnNames ks → StandAll PlanAt pages xs ks → (k : CatalogView) → CarriesBeside (Next name count) k old.pool new.pool ks a b r (StandAll PlanAt pages ys))
     → StandOver old xs cs → CarriesBeside (Next name count) catalog old.pool new.pool cs a b r (StandOver new ys)
 next_beside catalog old new read name count a b r xs ys cs own plain carried =
     let Carried : PageMap → Type 0 = λ pages. (ks : List Cursor) → HaveOwnNames ks → StandAll PlanAt pages xs ks → (k : CatalogView) → CarriesBeside (Next name count) k old.pool new.pool ks a b r (StandAll PlanAt pages ys) in
     over_desk catalog old new read (Next name count) a b r xs ys cs own plain (λ pages is all. told_so (told_pages old) pages Carried is carried cs own all catalog)
 
-module _ (catalog : CatalogView) (desk : DeskState) (a b : List ℕ → Type 0) (r : Result Bool Failed) (xs : List (OpenCursor Source Stage)) (cs : List Cursor) (own : HaveOwnNames cs) (plain : WritesOf (λ lines. ⊤) a b r) where
+module _ (catalog : CatalogView) (desk : DeskState) (a b : List ℕ → Type 0) (r : Result Bool Failed) (xs : List (OpenCursor Source Stage)) (cs : List Cursor) (own : HaveOwnNames cs) (plain : (pool : PoolState) → WritesOf (AreCausedIn pool pool) a b r) where
   -- a cursor is closed
   pub close_beside : (name : List ℕ) (ys : List (OpenCursor Source Stage))
       → ((pages : PageMap) (ks : List Cursor) → HaveOwnNames ks → StandAll PlanAt pages xs ks → (k : CatalogView) (pool : PoolState) → CarriesBeside (CloseCursor name) k pool pool ks a b r (StandAll PlanAt pages ys))
       → StandOver desk xs cs → CarriesBeside (CloseCursor name) catalog desk.pool desk.pool cs a b r (StandOver desk ys)
   close_beside name ys carried =
-      over_desk catalog desk desk (unread_pages desk.pool) (CloseCursor name) a b r xs ys cs own plain (λ pages is all. carried pages cs own all catalog desk.pool)
+      over_desk catalog desk desk (unread_pages desk.pool) (CloseCursor name) a b r xs ys cs own (plain desk.pool) (λ pages is all. carried pages cs own all catalog desk.pool)
 
   -- a cursor is opened
   pub open_beside : (name : List ℕ) (p : Plan) (ys : List (OpenCursor Source Stage)) → IsStore catalog desk.pool
@@ -91,7 +92,7 @@ module _ (catalog : CatalogView) (desk : DeskState) (a b : List ℕ → Type 0) 
       → CarriesBeside (Opens name p) catalog pool pool ks a b r (StandAll PlanAt pages ys))
       → StandOver desk xs cs → CarriesBeside (Opens name p) catalog desk.pool desk.pool cs a b r (StandOver desk ys)
   open_beside name p ys store carried =
-      over_desk catalog desk desk (unread_pages desk.pool) (Opens name p) a b r xs ys cs own plain
+      over_desk catalog desk desk (unread_pages desk.pool) (Opens name p) a b r xs ys cs own (plain desk.pool)
       (λ pages is all. carried pages (stands_told catalog desk pages store is) cs own all desk.pool (are_told desk pages is).1)
 
   -- the numbers of a cursor
@@ -99,7 +100,7 @@ module _ (catalog : CatalogView) (desk : DeskState) (a b : List ℕ → Type 0) 
       → ((pages : PageMap) (ks : List Cursor) → HaveOwnNames ks → StandAll PlanAt pages xs ks → AreCounted ks → (k : CatalogView) (pool : PoolState) → WritesOf (PerformsBeside (Stats name) k pool pool ks ks) a b r)
       → StandOver desk xs cs → CarriesBeside (Stats name) catalog desk.pool desk.pool cs a b r (StandOver desk xs)
   stats_beside name counted written =
-      over_desk catalog desk desk (unread_pages desk.pool) (Stats name) a b r xs xs cs own plain
+      over_desk catalog desk desk (unread_pages desk.pool) (Stats name) a b r xs xs cs own (plain desk.pool)
       (λ pages is all. unmoved catalog desk desk (unread_pages desk.pool) (Stats name) a b r (StandAll PlanAt pages xs) cs own all (written pages cs own all counted catalog desk.pool))
 
   -- a change
@@ -108,5 +109,5 @@ module _ (catalog : CatalogView) (desk : DeskState) (a b : List ℕ → Type 0) 
       → StandOver desk xs cs → CarriesBeside statement catalog desk.pool desk.pool cs a b r (StandOver desk xs)
   change_beside statement some written =
       let Written : List Cursor → Type 0 = λ ks. WritesOf (PerformsBeside statement catalog desk.pool desk.pool ks ks) a b r in
-      over_desk catalog desk desk (unread_pages desk.pool) statement a b r xs xs cs own plain
+      over_desk catalog desk desk (unread_pages desk.pool) statement a b r xs xs cs own (plain desk.pool)
       (λ pages is all. unmoved catalog desk desk (unread_pages desk.pool) statement a b r (StandAll PlanAt pages xs) cs own all (one_stands pages xs cs Written some (written desk.pool) all))

@@ -1,6 +1,7 @@
 -- What is written of an opening, and what becomes of the open cursors.
 use Rattle.std.proofs.Common.{◌≡◌, ◌⊎◌, ℕ, Bool, true, false, List, [], ◌∷◌, ◌++◌, Option, Some, None, refl, sym, ◌∙◌, subst, inl, inr}
 use Rattle.std.specs.Prelude.{Result, Ok, Err, IfOk, OnErr, is_err, ⊤}
+use Rattle.std.specs.FinMap as map
 use Rattle.best_first.proofs.Passing.{read_itself}
 use Rattle.output_text.specs.Writing.{Writes, WritesPrefix}
 use Rattle.page_pool.specs.Disk.{PageMap}
@@ -15,6 +16,9 @@ use Rattle.sand_model.specs.Plan.{Plan}
 use Rattle.sand_model.specs.Statement.{OpenCursor as Opens}
 use Rattle.sand_store.specs.Catalog.{CatalogView}
 use Rattle.sand_store.specs.Contents.{database_in}
+use Rattle.statement_exec.specs.Causes.{BlamesNone}
+use Rattle.statement_exec.proofs.CausedLines.{check_blames_none}
+use Rattle.statement_exec.proofs.PlanChecks.{plan_refuses}
 use Rattle.statement_exec.specs.Performing.{line_of_answer}
 use Rattle.statement_exec.specs.declared.reply.Reply.{Reply}
 use Rattle.statement_exec.specs.declared.reply.Reply.TheVariants as reply
@@ -46,11 +50,12 @@ pub only_memory : (catalog : CatalogView) (pages : PageMap) (cs : List Cursor) (
 only_memory catalog pages cs name p w passes (inl memory) = inl memory
 only_memory catalog pages cs name p w passes (inr fails) = let some = fails pages in let none = plan_passes catalog pages cs name p passes in absurd cc
 
--- the line of any answer
-pub any_written : (a b : List ℕ → Type 0) (answer : Result Reply Refusal) (r : Result Bool Failed)
-    → IfOk r (λ refused. (refused ≡ is_err answer) × Writes (IsText (line_of_answer answer ∷ [])) a b) → OnErr r (WritesPrefix (IsText (line_of_answer answer ∷ [])) a b)
-    → WritesOf (λ lines. ⊤) a b r
-any_written a b answer r line part = answer_written (λ lines. ⊤) a b answer tt r line part
+-- why a plan isn't started blames nothing outside
+pub start_blames_none : (catalog : CatalogView) (p : Plan) (w : Refusal) → ((w ≡ why.Memory) ⊎ ((pages : PageMap) → check (database_in pages catalog.relations) p ≡ Some w)) → BlamesNone w
+start_blames_none catalog p w (inl memory) = subst BlamesNone (sym memory) tt
+start_blames_none catalog p w (inr fails) =
+    let no_pages : PageMap = map.empty in
+    check_blames_none w (plan_refuses (database_in no_pages catalog.relations) p w (fails no_pages))
 
 module _ (catalog : CatalogView) (pages : PageMap) (cs : List Cursor) (own : HaveOwnNames cs) (pool : PoolState) (same : pool.pages ≡ pages) (name : List ℕ) (p : Plan)
     (a b : List ℕ → Type 0) (At : List Cursor → Type 0) (r : Result Bool Failed) where

@@ -19,6 +19,7 @@ use Rattle.sand_model.specs.Statement.{Show}
 use Rattle.sand_store.specs.Catalog.{CatalogView}
 use Rattle.sand_store.specs.Contents.{database_in}
 use Rattle.sand_store.specs.Standing.{CatalogStands, IsStore}
+use Rattle.statement_exec.specs.Causes.{AreCausedIn}
 use Rattle.cursor_exec.specs.Outcomes.{PerformsBeside}
 use Rattle.cursor_lines.proofs.PlanOutcomes.{memory_refused, show_refused, show_performs, show_memory}
 use Rattle.cursor_lines.proofs.Written.{answer_written, writes_so}
@@ -48,14 +49,14 @@ module _ (catalog : CatalogView) (count : ℕ) (p : Plan) (cs : List Cursor) whe
     rows_shown lines (after, inl ended) = show_performs catalog cs old new read count p (λ setting. passes old.pages) ended.0 after lines ended.1 ended.2 ended.3
     rows_shown lines (after, inr memory) = show_memory catalog cs old new read count p (λ setting. passes old.pages) after lines memory
 
-    -- over a disk that doesn't tell its pages any lines will do
-    any_shown : old.disk.told ≡ false → (lines : List OutputLine) → ⊤ → PerformsBeside (Show count p) catalog old new cs cs lines
-    any_shown untold lines h = λ files shelf told. absurd (true≢false (sym told ∙ untold))
+    -- over a disk that doesn't tell its pages any lines will do that have their causes
+    any_shown : old.disk.told ≡ false → (lines : List OutputLine) → AreCausedIn old new lines → PerformsBeside (Show count p) catalog old new cs cs lines
+    any_shown untold lines h = λ files shelf. (h files shelf cs cs catalog, λ told. absurd (true≢false (sym told ∙ untold)))
 
     -- the lines of the rows that were written
     pub show_written : (At : PageMap → Cursor → Type 0) (a b : List ℕ → Type 0) (r : Result Bool Failed) → IsStore catalog old
         → ((pages : PageMap) → CatalogStands pages catalog → (name : List ℕ) → At pages (new_cursor name p (database_in pages catalog.relations)))
-        → IfSome (if old.disk.told then Some old.pages else None) (λ pages. (c : Cursor) → At pages c → WritesOf (RowsOf c count old new) a b r) → WritesOf (λ lines. ⊤) a b r
+        → IfSome (if old.disk.told then Some old.pages else None) (λ pages. (c : Cursor) → At pages c → WritesOf (RowsOf c count old new) a b r) → WritesOf (AreCausedIn old new) a b r
         → WritesOf (PerformsBeside (Show count p) catalog old new cs cs) a b r
     show_written At a b r s stands rows plain = go old.disk.told refl rows where
       go : (t : Bool) → old.disk.told ≡ t → IfSome (if t then Some old.pages else None) (λ pages. (c : Cursor) → At pages c → WritesOf (RowsOf c count old new) a b r)
@@ -63,4 +64,4 @@ module _ (catalog : CatalogView) (count : ℕ) (p : Plan) (cs : List Cursor) whe
       go true e h =
           writes_so (RowsOf (new_cursor [] p (database_in old.pages catalog.relations)) count old new) (PerformsBeside (Show count p) catalog old new cs cs) a b rows_shown r
           (h (new_cursor [] p (database_in old.pages catalog.relations)) (stands old.pages (s.stands e) []))
-      go false e h = writes_so (λ lines. ⊤) (PerformsBeside (Show count p) catalog old new cs cs) a b (any_shown e) r plain
+      go false e h = writes_so (AreCausedIn old new) (PerformsBeside (Show count p) catalog old new cs cs) a b (any_shown e) r plain

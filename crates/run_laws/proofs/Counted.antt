@@ -9,7 +9,8 @@ use Rattle.sand_base.specs.declared.refusal.Refusal.TheVariants as why
 use Rattle.sand_model.specs.Cursor.{OutputLine, Refused}
 use Rattle.sand_model.specs.Outcome.{Rises}
 use Rattle.sand_model.specs.Run.{FitIn}
-use Rattle.run_laws.specs.Causes.{is_of_device, is_of_file, is_of_damage, HaveCauses}
+use Rattle.statement_exec.specs.Causes.{is_of_device, is_of_file}
+use Rattle.run_laws.specs.Causes.{is_of_damage, HaveCauses}
 
 -- the line is none of a refusal
 abbrev pub IsNoRefusal : OutputLine → Type 0

@@ -1,15 +1,11 @@
--- No check of a plan speaks of the outside.
-use Rattle.std.proofs.Common.{◌≡◌, Bool, true, false, ◌&&◌, List, [], ◌∷◌, ℕ, Option, Some, None, refl}
-use Rattle.sand_base.specs.Shape.{value_kind, same_kind, is_spatial}
-use Rattle.sand_base.specs.declared.kind.Kind.{Kind}
-use Rattle.sand_base.specs.declared.kind.Kind.TheVariants as kind
+-- No check of a plan speaks of memory, of the disk or of a damaged page.
+use Rattle.std.proofs.Common.{◌≡◌, Bool, true, false, List, [], ◌∷◌, ℕ, Option, Some, None, refl, true≢false}
 use Rattle.sand_base.specs.declared.refusal.Refusal.{Refusal}
 use Rattle.sand_base.specs.declared.refusal.Refusal.TheVariants as why
-use Rattle.sand_model.specs.Checks.{first_refusal, check_column, check_place, check_relation, check_tests, check_places, check_operators, kind_named, is_indexed, place_kind, is_plain, is_plain_pair, can_compare}
-use Rattle.sand_model.specs.Database.{Database, Relation, relation_named}
-use Rattle.sand_model.specs.Operators.{relations_of}
-use Rattle.sand_model.specs.Plan as plan
-use Rattle.sand_model.specs.Plan.{Plan, Column, Place, Test}
+use Rattle.sand_model.specs.Checks.{first_refusal, check_relation, check_operators}
+use Rattle.sand_model.specs.Database.{Database}
+use Rattle.sand_model.specs.Plan.{Plan}
+use Rattle.statement_exec.proofs.PlanChecks as plan
 
 -- the refusal is one of memory, of the disk or of a damaged page
 abbrev pub is_outside : Refusal → Bool
@@ -41,58 +37,17 @@ inside_three a b c h k l = inside_first a (b ∷ c ∷ []) h (inside_two b c k l
 pub inside_four : (a b c d : Option Refusal) → IsInside a → IsInside b → IsInside c → IsInside d → IsInside (first_refusal (a ∷ b ∷ c ∷ d ∷ []))
 inside_four a b c d h k l m = inside_first a (b ∷ c ∷ d ∷ []) h (inside_three b c d k l m)
 
-inside_column : (d : Database) (column : Column) (asked : Kind → Bool) → IsInside (check_column d column asked)
-inside_column d column asked = go (relation_named d column.relation) refl where
-  at_kind : (r : Relation) → relation_named d column.relation ≡ Some r → (o : Option Kind) → kind_named r column.column ≡ o → IsInside (check_column d column asked)
-  at_kind r e None k = rw (e, k) refl
-  at_kind r e (Some one) k = by_kind (asked one) refl (is_indexed r column.column) refl where
-    by_kind : (b : Bool) → asked one ≡ b → (i : Bool) → is_indexed r column.column ≡ i → IsInside (check_column d column asked)
-    by_kind true t true u = rw (e, k, t, u) refl
-    by_kind true t false u = rw (e, k, t, u) refl
-    by_kind false t i u = rw (e, k, t) refl
-
-  go : (o : Option Relation) → relation_named d column.relation ≡ o → IsInside (check_column d column asked)
-  go None e = rw e refl
-  go (Some r) e = at_kind r e (kind_named r column.column) refl
-
-inside_place : (d : Database) (names : List (List ℕ)) (place : Place) (asked : Kind → Bool) → IsInside (check_place d names place asked)
-inside_place d names place asked = go (place_kind d names place) refl where
-  go : (o : Option Kind) → place_kind d names place ≡ o → IsInside (check_place d names place asked)
-  go None e = rw e refl
-  go (Some one) e = by_kind (asked one) refl where
-    by_kind : (b : Bool) → asked one ≡ b → IsInside (check_place d names place asked)
-    by_kind true t = rw (e, t) refl
-    by_kind false t = rw (e, t) refl
+-- what speaks of nothing outside, nor of a file, speaks of none of these
+so_inside : (check : Option Refusal) → plan.IsInside check → IsInside check
+so_inside None h = refl
+so_inside (Some why.Memory) h = absurd (true≢false h)
+so_inside (Some why.Device) h = absurd (true≢false h)
+so_inside (Some (why.Damaged page kept read)) h = absurd (true≢false h)
+so_inside (Some _) h = refl
 
 pub inside_relation : (d : Database) (name : List ℕ) → IsInside (check_relation d name)
-inside_relation d name = go (relation_named d name) refl where
-  go : (o : Option Relation) → relation_named d name ≡ o → IsInside (check_relation d name)
-  go None e = rw e refl
-  go (Some r) e = rw e refl
+inside_relation d name = so_inside (check_relation d name) (plan.inside_relation d name)
 
-inside_tests : (d : Database) (names : List (List ℕ)) (tests : List Test) → IsInside (check_tests d names tests)
-inside_tests d names [] = refl
-inside_tests d names (test ∷ tests) =
-    inside_two _ _ (inside_place d names test.place (λ k. can_compare test.op k (value_kind test.value))) (inside_tests d names tests)
-
-inside_places : (d : Database) (names : List (List ℕ)) (places : List Place) → IsInside (check_places d names places)
-inside_places d names [] = refl
-inside_places d names (place ∷ places) = inside_two _ _ (inside_place d names place (λ k. true)) (inside_places d names places)
-
--- the operators of a plan, from its source outwards
+-- the operators of a plan
 pub inside_operators : (d : Database) (p : Plan) → IsInside (check_operators d p)
-inside_operators d (plan.Scan relation) = inside_relation d relation
-inside_operators d (plan.Rank column goal within) = inside_column d column is_spatial
-inside_operators d (plan.Window column window) = inside_column d column is_spatial
-inside_operators d (plan.PickEqual column v) = inside_column d column (λ k. is_plain k && same_kind k (value_kind v))
-inside_operators d (plan.PickBetween column low high) = inside_column d column (same_kind kind.Int)
-inside_operators d (plan.Join left right within) = inside_two _ _ (inside_column d left is_spatial) (inside_column d right is_spatial)
-inside_operators d (plan.Semi left right within) = inside_two _ _ (inside_column d left is_spatial) (inside_column d right is_spatial)
-inside_operators d (plan.Filter p tests) = inside_two _ _ (inside_operators d p) (inside_tests d (relations_of p) tests)
-inside_operators d (plan.Match p place column) =
-    inside_three _ _ _ (inside_operators d p) (inside_place d (relations_of p) place (λ k. true))
-    (inside_column d column (is_plain_pair (place_kind d (relations_of p) place)))
-inside_operators d (plan.Fetch p places) = inside_two _ _ (inside_operators d p) (inside_places d (relations_of p) places)
-inside_operators d (plan.First count p) = inside_operators d p
-inside_operators d (plan.SortBy p place) = inside_two _ _ (inside_operators d p) (inside_place d (relations_of p) place (same_kind kind.Int))
-inside_operators d (plan.SortNear p place goal) = inside_two _ _ (inside_operators d p) (inside_place d (relations_of p) place is_spatial)
+inside_operators d p = so_inside (check_operators d p) (plan.inside_operators d p)

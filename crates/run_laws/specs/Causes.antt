@@ -7,29 +7,12 @@ use Rattle.sand_model.specs.Outcome.{Rises}
 use Rattle.sand_model.specs.Run.{Run}
 use Rattle.sand_model.specs.Statement.{ScriptLine}
 use Rattle.sand_model.specs.StatementChecks.{Setting}
-
--- the line says that the disk failed
-abbrev pub is_of_device : OutputLine → Bool
-is_of_device (Refused why.Device) = true
-is_of_device _ = false
-
--- the line says that a data file could not be read
-abbrev pub is_of_file : OutputLine → Bool
-is_of_file (Refused why.File) = true
-is_of_file _ = false
+use Rattle.statement_exec.specs.Causes.{device_lines, file_lines}
 
 -- the line says that a page differs from the one that was written
 abbrev pub is_of_damage : OutputLine → Bool
 is_of_damage (Refused (why.Damaged page kept read)) = true
 is_of_damage _ = false
-
--- how many lines say that the disk failed
-abbrev pub device_lines : List OutputLine → ℕ
-device_lines lines = count_by is_of_device lines
-
--- how many lines say that a data file could not be read
-abbrev pub file_lines : List OutputLine → ℕ
-file_lines lines = count_by is_of_file lines
 
 -- No more lines say that the disk failed than its count of faults rose, and so of the files; and where the disk tells its pages, no line says that one was damaged.
 pub record HaveCauses (tells : Bool) (rises : Rises) (lines : List OutputLine) : Type 0 where

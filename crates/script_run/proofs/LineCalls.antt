@@ -13,9 +13,11 @@ use Rattle.output_text.specs.Writing.{Writes, WritesPrefix}
 use Rattle.script_text.specs.InRange.{IsInRange}
 use Rattle.script_text.specs.Statement.{StatementValue, statement_value}
 use Rattle.script_text.specs.declared.statement.Statement.{Statement}
+use Rattle.statement_exec.specs.Causes.{BlamesNone}
 use Rattle.statement_exec.specs.Ending.{refused_line}
 use Rattle.statement_exec.specs.Moment.{Moment, rises_between}
 use Rattle.statement_exec.specs.Performing.{Performs}
+use Rattle.statement_exec.proofs.CausedLines.{caused_inside, caused_none}
 use Rattle.statement_exec.proofs.Texts.{writes_none}
 use Rattle.script_run.specs.Carrying.{CarriesLine}
 use Rattle.script_run.specs.LineTurns.{LineTurns, LineBreaks}
@@ -28,18 +30,18 @@ use Rattle.script_run.specs.declared.turn.Turn.TheVariants as turn
 -- a statement's outcome is that of its line
 of_statement : (line : List ℕ) (statement : Statement) (old new : Moment) (lines : List OutputLine) → Says line (Some statement) → Performs (spoken (statement_value statement)) old new lines
     → CarriesLine (Some line) old new lines
-of_statement line statement old new lines says h = λ told is t disk shelf setting gap s.
-    inl (subst (λ (x : ScriptLine). LineOutcome setting (rises_between old new) old.state x lines new.state) (sym (says.1 told is)) (h t disk shelf setting s))
+of_statement line statement old new lines says h = (h.0, λ told is t disk shelf setting gap s.
+    inl (subst (λ (x : ScriptLine). LineOutcome setting (rises_between old new) old.state x lines new.state) (sym (says.1 told is)) (h.1 t disk shelf setting s)))
 
 -- a line that is passed over
-passed_over : (line : List ℕ) (m : Moment) → Says line None → CarriesLine (Some line) m m []
-passed_over line m says = λ told is t disk shelf setting gap s.
-    inl (subst (λ (x : ScriptLine). LineOutcome setting (rises_between m m) m.state x [] m.state) (sym (says told is)) (refl, refl))
+pub passed_over : (line : List ℕ) (m : Moment) → Says line None → CarriesLine (Some line) m m []
+passed_over line m says = (caused_none m m, λ told is t disk shelf setting gap s.
+    inl (subst (λ (x : ScriptLine). LineOutcome setting (rises_between m m) m.state x [] m.state) (sym (says told is)) (refl, refl)))
 
 -- a line that can't be read
-unread : (line : List ℕ) (m : Moment) (w : Refusal) → Refuses line w → CarriesLine (Some line) m m (Refused w ∷ [])
-unread line m w (inl e) = λ told is t disk shelf setting gap s. inr (ap (λ (r : Refusal). Refused r ∷ []) e, refl)
-unread line m w (inr h) = λ told is t disk shelf setting gap s. inl (by_line setting told (h told is)) where
+pub unread : (line : List ℕ) (m : Moment) (w : Refusal) → Refuses line w → BlamesNone w → CarriesLine (Some line) m m (Refused w ∷ [])
+unread line m w (inl e) none = (caused_inside m m w none, λ told is t disk shelf setting gap s. inr (ap (λ (r : Refusal). Refused r ∷ []) e, refl))
+unread line m w (inr h) none = (caused_inside m m w none, λ told is t disk shelf setting gap s. inl (by_line setting told (h told is))) where
   by_line : (setting : Setting) (told : ScriptLine) → IsRefusedSo told w → LineOutcome setting (rises_between m m) m.state told (Refused w ∷ []) m.state
   by_line setting Blank k = absurd k
   by_line setting TooLong k = absurd k
@@ -49,8 +51,8 @@ unread line m w (inr h) = λ told is t disk shelf setting gap s. inl (by_line se
 
 -- a line that is too long
 too_long : (m : Moment) → CarriesLine None m m (Refused why.LineTooLong ∷ [])
-too_long m = λ told is t disk shelf setting gap s.
-    inl (subst (λ (x : ScriptLine). LineOutcome setting (rises_between m m) m.state x (Refused why.LineTooLong ∷ []) m.state) (sym is) (refl, refl))
+too_long m = (caused_inside m m why.LineTooLong tt, λ told is t disk shelf setting gap s.
+    inl (subst (λ (x : ScriptLine). LineOutcome setting (rises_between m m) m.state x (Refused why.LineTooLong ∷ []) m.state) (sym is) (refl, refl)))
 
 module _ (old new : Moment) (a b : List ℕ → Type 0) where
   -- the turn of a statement is that of its line
@@ -102,13 +104,13 @@ module _ (line : Option (List ℕ)) (m : Moment) (w : Refusal) (a b : List ℕ �
     prefix = k.prefix;
   }
 
-pub turn_of_unread : (line : List ℕ) (m : Moment) (w : Refusal) (a b : List ℕ → Type 0) (r : Result Turn Failed) → Refuses line w
+pub turn_of_unread : (line : List ℕ) (m : Moment) (w : Refusal) (a b : List ℕ → Type 0) (r : Result Turn Failed) → Refuses line w → BlamesNone w
     → IfOk r (λ t. (t ≡ turn.Done true) × Writes (IsText (refused_line (Some w))) a b) → IfOk r (LineTurns (Some line) m m a b)
-turn_of_unread line m w a b r u k = turn_of_refusal (Some line) m w a b (unread line m w u) r k
+turn_of_unread line m w a b r u none k = turn_of_refusal (Some line) m w a b (unread line m w u none) r k
 
-pub break_of_unread : (line : List ℕ) (m : Moment) (w : Refusal) (a b : List ℕ → Type 0) (r : Result Turn Failed) → Refuses line w
+pub break_of_unread : (line : List ℕ) (m : Moment) (w : Refusal) (a b : List ℕ → Type 0) (r : Result Turn Failed) → Refuses line w → BlamesNone w
     → OnErr r (WritesPrefix (IsText (refused_line (Some w))) a b) → OnErr r (LineBreaks (Some line) m m a b)
-break_of_unread line m w a b r u k = break_of_refusal (Some line) m w a b (unread line m w u) r k
+break_of_unread line m w a b r u none k = break_of_refusal (Some line) m w a b (unread line m w u none) r k
 
 pub turn_of_long : (m : Moment) (a b : List ℕ → Type 0) (r : Result Turn Failed)
     → IfOk r (λ t. (t ≡ turn.Done true) × Writes (IsText (refused_line (Some why.LineTooLong))) a b) → IfOk r (LineTurns None m m a b)

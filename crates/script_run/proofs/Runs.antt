@@ -1,6 +1,9 @@
 -- One more line at the end of a run.
 use Rattle.std.proofs.Common.{◌≡◌, ◌⊎◌, ℕ, ◌+◌, ◌<◌, ◌≤◌, List, [], ◌∷◌, ◌++◌, refl, sym, ◌∙◌, ap, subst, arith}
-use Rattle.std.specs.Prelude.{IsTrue}
+use Rattle.std.specs.Prelude.{IsTrue, All, Bool}
+use Rattle.std.specs.List.{count_by}
+use Rattle.std.proofs.lemmas.List.Elements.{All-append}
+use Rattle.std.proofs.lemmas.List.Sums.{sum_by-append}
 use Rattle.std.proofs.lemmas.List.{append_assoc, append-nil}
 use Rattle.sand_base.specs.Faults.{last_count}
 use Rattle.sand_base.specs.declared.refusal.Refusal.TheVariants as why
@@ -10,6 +13,7 @@ use Rattle.sand_model.specs.Run.{Run, FitIn, LineOutcome}
 use Rattle.sand_model.specs.Statement.{ScriptLine}
 use Rattle.sand_model.specs.StatementChecks.{Setting}
 use Rattle.script_lines.specs.Lines.{clipped}
+use Rattle.statement_exec.specs.Causes.{AreCaused, IsCausedDamage, is_of_device, is_of_file}
 use Rattle.statement_exec.specs.Moment.{Moment, rises_between, IsSettingOf}
 use Rattle.script_run.specs.Carrying.{CarriesLine, CarriesLines, Follows}
 use Rattle.script_run.specs.Spoken.{IsLine, AreLines}
@@ -66,10 +70,27 @@ split_lines (x ∷ lines) line (told ∷ script) h =
 pub setting_later : (old new : Moment) (setting : Setting) → Follows old new → IsSettingOf old setting → IsSettingOf new setting
 setting_later old new setting f s = record { is = s.is; limits = s.limits ∙ sym f.limits; files = f.files ∙ s.files; rows_of = s.rows_of; tells = s.tells ∙ sym f.told }
 
+count_append : (p : OutputLine → Bool) (xs ys : List OutputLine) → count_by p (xs ++ ys) ≡ count_by p xs + count_by p ys
+count_append p xs ys = sum_by-append _ xs ys
+
+-- lines and lines behind them have their causes, where no count falls
+caused_append : (old mid new : Moment) (first more : List OutputLine) → Follows old mid → Follows mid new → AreCaused old mid first → AreCaused mid new more → AreCaused old new (first ++ more)
+caused_append old mid new first more f g h k = record {
+  device = λ few.
+      let up : mid.disk ≤ new.disk = g.disk few in
+      let few' : mid.disk < last_count = omega (arith, few, up) in
+      omega (arith, count_append is_of_device first more, h.device few', k.device few, f.disk few', up);
+  file = λ few.
+      let up : mid.shelf ≤ new.shelf = g.shelf few in
+      let few' : mid.shelf < last_count = omega (arith, few, up) in
+      omega (arith, count_append is_of_file first more, h.file few', k.file few, f.shelf few', up);
+  damage = All-append (IsCausedDamage old.told) first more h.damage (subst (λ (t : Bool). All (IsCausedDamage t) more) f.told k.damage);
+}
+
 -- one more line was carried out
 pub lines_append : (old mid new : Moment) (lines : List (List ℕ)) (line : List ℕ) (printed more : List OutputLine) → Follows old mid → Follows mid new
     → CarriesLines lines old mid printed → CarriesLine (clipped line) mid new more → CarriesLines (lines ++ line ∷ []) old new (printed ++ more)
-lines_append old mid new lines line printed more f g ran own = λ script are told disk shelf setting gap s.
+lines_append old mid new lines line printed more f g ran own = (caused_append old mid new printed more f g ran.0 own.0, λ script are told disk shelf setting gap s.
     let parts = split_lines lines line script are in
     let before : List ScriptLine = parts.0 in
     let last : ScriptLine = parts.1.0 in
@@ -78,12 +99,12 @@ lines_append old mid new lines line printed more f g ran own = λ script are tol
     let disk' : mid.disk < last_count = omega (arith, disk, disk_up) in
     let shelf' : mid.shelf < last_count = omega (arith, shelf, shelf_up) in
     let told' : IsTrue mid.told = f.told ∙ told in
-    let one = own last parts.1.1.1.1 told' disk shelf setting gap (setting_later old mid setting f s) in
-    let all : Run setting old.state before (rises_between old mid) printed mid.state = ran before parts.1.1.1.0 told disk' shelf' setting gap s in
+    let one = own.1 last parts.1.1.1.1 told' disk shelf setting gap (setting_later old mid setting f s) in
+    let all : Run setting old.state before (rises_between old mid) printed mid.state = ran.1 before parts.1.1.1.0 told disk' shelf' setting gap s in
     let fit : FitIn (rises_between old mid) (rises_between mid new) (rises_between old new) =
     record { disk = omega (arith, f.disk disk', disk_up); shelf = omega (arith, f.shelf shelf', shelf_up) } in
     subst (λ (xs : List ScriptLine). Run setting old.state xs (rises_between old new) (printed ++ more) new.state) (sym parts.1.1.0)
-    (run_append setting old.state mid.state new.state before last (rises_between old mid) (rises_between mid new) (rises_between old new) printed more all one fit)
+    (run_append setting old.state mid.state new.state before last (rises_between old mid) (rises_between mid new) (rises_between old new) printed more all one fit))
 
 -- what follows a moment that follows another follows that one
 pub follows_on : (old mid new : Moment) → Follows old mid → Follows mid new → Follows old new

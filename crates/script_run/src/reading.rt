@@ -1,6 +1,7 @@
 ghost use Rattle.std.specs.Prelude.{◌≡◌, ◌≤◌, length, IfOk, IfErr};
 ghost use Rattle.script_text.specs.declared.TheConstants.{LONGEST_LINE};
 ghost use Rattle.script_lines.specs.Lines.{chopped};
+ghost use Rattle.statement_exec.specs.Causes.{BlamesNone};
 ghost use Rattle.script_run.specs.Reading.{Says, Refuses};
 
 use sand_base::Refusal;
@@ -25,6 +26,7 @@ pub fn read_line(alloc: Global, line: &[u8]) -> Result<Option<Statement>, Refusa
     requires { length line.now ≤ LONGEST_LINE }
     ensures says { IfOk result (Says line.now) }
     ensures refuses { IfErr result (Refuses line.now) }
+    ensures inside { IfErr result BlamesNone }
 {
     // For the proof alone: a line says one thing.
     a_line_has_one_reading();

@@ -1,7 +1,7 @@
 -- How a run ends.
 use Rattle.std.proofs.Common.{◌≡◌, ℕ, ◌+◌, ◌≤◌, Bool, true, false, ◌||◌, List, [], ◌++◌, length, take, Option, None, Some, Err, sym, ap, ◌∙◌, subst, append_assoc, append-nil}
 use Rattle.std.specs.Io.KnownBytes.{Consumes}
-use Rattle.std.proofs.KnownBytes.{Consumes-trans, Consumes-whole}
+use Rattle.std.proofs.KnownBytes.{Consumes-trans}
 use Rattle.sand_base.specs.Shelf.{Files}
 use Rattle.sand_base.specs.Streams.{Adds}
 use Rattle.output_text.specs.Writing.{WritesPrefix}
@@ -59,11 +59,8 @@ ends_done : (first now : Moment) (script left : Option (List ℕ)) (took : List 
     → Grows took took text (λ all. OfWhole script left (λ bytes. Prints (CarriesLines (lines bytes) first now) b all))
 ends_done first now script left took text b o =
     let whole : Prints (CarriesLines (lines o.bytes) first now) b text = subst (λ l. Prints (CarriesLines l first now) b text) (sym o.over.2) o.printed in
-    still took text (λ all. OfWhole script left (λ bytes. Prints (CarriesLines (lines bytes) first now) b all)) (
-      Consumes-whole script left o.bytes (λ bytes. (length bytes ≤ LONGEST_SCRIPT) × Prints (CarriesLines (lines bytes) first now) b text)
-          o.consumed o.over.0 (o.over.1, whole),
-      o.over.0,
-    )
+    still took text (λ all. OfWhole script left (λ bytes. Prints (CarriesLines (lines bytes) first now) b all))
+        (o.over.0, (o.bytes, o.consumed, (o.over.1, whole)))
 
 -- by the status
 ends_by : (why : Status) (first now : Moment) (script left : Option (List ℕ)) (took : List ℕ → Type 0) (text : List ℕ) (b : Bool) → Over why first now script left text b
@@ -164,8 +161,7 @@ Ends-after old mid a b c why last left goes ends first script text so_far =
 
 -- what holds of a whole script holds where it is weaker
 whole_of : (script left : Option (List ℕ)) (P Q : List ℕ → Type 0) → ((bytes : List ℕ) → P bytes → Q bytes) → OfWhole script left P → OfWhole script left Q
-whole_of None left P Q weaker (h, ended) = (tt, ended)
-whole_of (Some bytes) left P Q weaker (h, ended) = ((h.0, weaker bytes h.1), ended)
+whole_of script left P Q weaker (ended, (bytes, consumed, h)) = (ended, (bytes, consumed, (h.0, weaker bytes h.1)))
 
 -- the end of a run whose text began empty, told by what the source and the sink were
 pub between_of : (why : Status) (first last : Moment) (before left : SourceView) (sink sink' : SinkView)

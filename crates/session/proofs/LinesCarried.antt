@@ -11,9 +11,13 @@ use Rattle.script_lines.specs.Reading.{Reads, Pulls}
 use Rattle.script_lines.specs.declared.script_lines.Found.{Found}
 use Rattle.script_lines.specs.declared.script_lines.Found.TheVariants as found
 use Rattle.script_lines.specs.declared.script_lines.ScriptLines.{ScriptLines}
-use Rattle.script_run.specs.Carrying.{CarriesLine, CarriesLines, Follows}
+use Rattle.sand_model.specs.Run.{Run}
+use Rattle.sand_model.specs.Statement.{ScriptLine}
+use Rattle.script_run.specs.Carrying.{CarriesLine, CarriesLines, Follows, InEach}
+use Rattle.script_run.specs.Spoken.{AreLines}
 use Rattle.script_run.proofs.Runs.{lines_append, follows_on, follows_itself}
-use Rattle.statement_exec.specs.Moment.{Moment}
+use Rattle.statement_exec.specs.Moment.{Moment, rises_between}
+use Rattle.statement_exec.proofs.CausedLines.{caused_none}
 use Rattle.statement_exec.specs.Printing.{Prints}
 use Rattle.statement_exec.proofs.Texts.{text_append, adds_none}
 use Rattle.session.specs.SoFar.{Place, place_of, SoFar, Drawn, Draws, Grows, GoesOn, Pauses, Resumes}
@@ -21,8 +25,10 @@ use Rattle.session.specs.declared.status.Status.TheVariants as status
 
 -- no line leads nowhere
 no_lines : (first : Moment) → CarriesLines [] first first []
-no_lines first [] are told disk shelf setting lowest is = (refl, refl)
-no_lines first (line ∷ script) are told disk shelf setting lowest is = absurd are
+no_lines first = (caused_none first first, none) where
+  none : (script : List ScriptLine) → AreLines [] script → InEach first first (λ setting. Run setting first.state script (rises_between first first) [] first.state)
+  none [] are told disk shelf setting lowest is = (refl, refl)
+  none (line ∷ script) are told disk shelf setting lowest is = absurd are
 
 -- a test of more at the end
 pub list_any-append : {X : Type 0} (p : X → Bool) (xs ys : List X) → list_any p (xs ++ ys) ≡ (list_any p xs || list_any p ys)

@@ -1,10 +1,9 @@
 -- Each line of a script says something, so that lines which were carried out are a run over what they say.
 use Rattle.std.proofs.Common.{ℕ, Bool, List}
-use Rattle.run_laws.proofs.CausesOfRuns.{run_causes}
 use Rattle.run_laws.proofs.ScriptReadings.{script_told}
 use Rattle.sand_model.specs.Cursor.{OutputLine}
 use Rattle.script_run.specs.Carrying.{CarriesLines}
-use Rattle.statement_exec.specs.Moment.{Moment, rises_between}
+use Rattle.statement_exec.specs.Moment.{Moment}
 use Rattle.statement_exec.specs.Printing.{Prints, PrintsSome}
 use Rattle.session.specs.Ends.{RunsOver}
 
@@ -13,9 +12,8 @@ runs_over lines first last printed carries =
     let said = script_told lines in (
       said.0,
       said.1,
-      λ told disk shelf setting gap is.
-          let ran = carries said.0 said.1 told disk shelf setting gap is in
-          (ran, run_causes setting first.state last.state said.0 (rises_between first last) printed ran),
+      carries.0,
+      carries.1 said.0 said.1,
     )
 
 pub prints_run : (lines : List (List ℕ)) (first last : Moment) (b : Bool) (text : List ℕ) → Prints (CarriesLines lines first last) b text → Prints (RunsOver lines first last) b text

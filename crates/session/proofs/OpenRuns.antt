@@ -21,7 +21,7 @@ use Rattle.sand_base.specs.Faults.{last_count}
 use Rattle.sand_base.specs.Shelf.{Files}
 use Rattle.sand_base.specs.declared.refusal.Refusal.TheVariants as why
 use Rattle.sand_base.specs.declared.source.Failed.{Failed}
-use Rattle.sand_model.specs.Cursor.{Cursor, State}
+use Rattle.sand_model.specs.Cursor.{Cursor, OutputLine, State}
 use Rattle.sand_model.specs.OutputText.{IsText}
 use Rattle.sand_store.specs.Catalog.{CatalogView, StoreState}
 use Rattle.script_lines.specs.Lines.{cut, onto, lines, last_line, is_short_line}
@@ -35,6 +35,7 @@ use Rattle.script_run.proofs.LineCalls.{turn_of_long, break_of_long}
 use Rattle.script_text.specs.Statement as text
 use Rattle.script_text.specs.Statement.{StatementValue, statement_value}
 use Rattle.script_text.specs.declared.statement.Statement.{Statement}
+use Rattle.statement_exec.specs.Causes.{AreCaused}
 use Rattle.statement_exec.specs.Ending.{RisesByOne, refused_line}
 use Rattle.statement_exec.specs.Moment.{Moment, beside, moment_of}
 use Rattle.statement_exec.specs.Printing.{Prints}
@@ -123,6 +124,9 @@ follows_read catalog old new cs cs' files shelf read up =
 -- which cursors are open is nothing of what follows
 follows_state : (first last : Moment) (state : State) → Follows first last → Follows first (record last { state = state })
 follows_state first last state f = record { limits = f.limits; told = f.told; files = f.files; disk = f.disk; shelf = f.shelf }
+
+caused_state : (first last : Moment) (state : State) (lines : List OutputLine) → AreCaused first last lines → AreCaused first (record last { state = state }) lines
+caused_state first last state lines c = record { device = c.device; file = c.file; damage = c.damage }
 
 ends_state : (why : Status) (last : Moment) (state : State) (left : Option (List ℕ)) (before now : List ℕ → Type 0) (first : Moment) (script : Option (List ℕ)) (text : List ℕ)
     → EndsAt why last left before now first script text → EndsAt why (record last { state = state }) left before now first script text
@@ -243,7 +247,8 @@ module _ (catalog : CatalogView) (old mid : Spot) (items : List (OpenCursor Sour
           follows = follows_state first (beside run.cs catalog mid.desk.pool files shelf) (beside [] catalog mid.desk.pool files shelf).state so_far.follows;
           printed = record {
             lines = so_far.printed.lines;
-            holds = λ said are told. absurd (false≢true (sym e ∙ so_far.follows.told ∙ told));
+            holds = (caused_state first (beside run.cs catalog mid.desk.pool files shelf) (beside [] catalog mid.desk.pool files shelf).state so_far.printed.lines so_far.printed.holds.0,
+                λ said are told. absurd (false≢true (sym e ∙ so_far.follows.told ∙ told)));
             told = so_far.printed.told;
             refused = so_far.printed.refused;
           };

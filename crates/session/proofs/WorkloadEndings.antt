@@ -1,23 +1,31 @@
 -- How a run of a workload ends.
 use Rattle.std.proofs.Common.{◌≡◌, ℕ, ◌+◌, ◌≤◌, Bool, true, false, List, [], ◌++◌, length, Option, Some, refl, ap, subst, arith, length-append, ◌⊎◌, inl, inr}
+use Rattle.std.specs.Prelude.{◌<◌, IsTrue, min}
+use Rattle.std.specs.List.{count_by}
+use Rattle.std.proofs.KnownBytes.{Consumes-whole}
 use Rattle.page_pool.specs.Disk.{DiskView}
 use Rattle.run_summary.specs.RefusedLines.{refused_lines}
 use Rattle.run_summary.specs.Summary.{summary}
 use Rattle.run_summary.specs.Taken.{HasTallied}
 use Rattle.run_summary.specs.declared.tally_sink.TallySink.{TallySink}
+use Rattle.run_laws.proofs.PlainRuns.{run_seen}
+use Rattle.run_laws.proofs.Settings.{told_setting}
+use Rattle.sand_base.specs.Faults.{last_count}
+use Rattle.sand_model.specs.Cursor.{State}
+use Rattle.sand_model.specs.OutputText.{is_refused}
 use Rattle.sand_base.specs.Shelf.{Files}
 use Rattle.sand_base.specs.Streams.{Adds}
 use Rattle.sand_base.specs.declared.limits.Limits.{Limits}
 use Rattle.output_text.specs.Writing.{AddsPrefix, Writes, WritesPrefix}
 use Rattle.script_lines.specs.Lines.{lines}
 use Rattle.script_lines.specs.declared.TheConstants.{LONGEST_SCRIPT}
-use Rattle.statement_exec.specs.Moment.{Moment}
+use Rattle.statement_exec.specs.Moment.{Moment, rises_between}
 use Rattle.statement_exec.specs.Printing.{Prints}
 use Rattle.work_gen.specs.Workload.{workload}
 use Rattle.work_source.specs.EmptyFiles.{empty_files}
 use Rattle.work_source.specs.Script.{IsScriptOf}
 use Rattle.session.specs.Outside.{Outside, outside_of}
-use Rattle.session.specs.Ends.{IsCaused, IsTaken, RunsOver, WritesRun, Ends}
+use Rattle.session.specs.Ends.{IsCaused, IsTaken, HasReadAll, RunsOver, WritesRun, Ends, first_moment, last_moment}
 use Rattle.session.specs.Tallies.{HasRun, Tallies, without_streams}
 use Rattle.session.specs.Workload.{IsSummary, EndsWorkload}
 use Rattle.session.specs.declared.status.Status.{Status}
@@ -45,11 +53,17 @@ module _ (n : ℕ) (limits : Limits) (script left : List ℕ) (disk disk' : Disk
   abbrev work_after : Outside
   work_after = outside_of (Some left) 0 (Some empty_files) 0 disk' (HasTallied new) 0
 
+  -- what was read is the whole script
+  whole : (b : Bool) (first last : Moment) → HasReadAll work_before.source work_after.source (λ bytes. WritesRun (lines bytes) b first last work_before.sink work_after.sink)
+      → WritesRun (lines script) b first last work_before.sink work_after.sink
+  whole b first last (ended, (bytes, consumed, h)) =
+      Consumes-whole (Some script) (Some left) bytes (λ read. WritesRun (lines read) b first last work_before.sink work_after.sink) consumed ended h.1
+
   -- its text was counted
   pub Tallies-run : (why : Status) → Ends why limits work_before work_after → IsCaused why 0 0 0 0 → IsTaken why
       → Tallies n why limits (without_streams disk) (without_streams disk') new
-  Tallies-run status.Done ends caused taken = (ends.0, run_taken n false _ _ script old new 0 0 own.found none ends.1.0.1)
-  Tallies-run status.SomeRefused ends caused taken = (ends.0, run_taken n true _ _ script old new 0 0 own.found none ends.1.0.1)
+  Tallies-run status.Done ends caused taken = (ends.0, run_taken n false _ _ script old new 0 0 own.found none (whole false _ _ ends.1))
+  Tallies-run status.SomeRefused ends caused taken = (ends.0, run_taken n true _ _ script old new 0 0 own.found none (whole true _ _ ends.1))
   Tallies-run status.Usage ends caused taken = absurd taken
   Tallies-run status.ReadFault ends caused taken = absurd (omega (arith, caused.of_source))
   Tallies-run status.WriteFault ends caused taken = absurd (omega (arith, caused.of_sink))
@@ -57,6 +71,16 @@ module _ (n : ℕ) (limits : Limits) (script left : List ℕ) (disk disk' : Disk
       absurd (consumed-short script left ends.1.0 LONGEST_SCRIPT own.short ends.1.1 ends.1.2.0)
   Tallies-run status.NoMemory ends caused taken = (record { source = refl; files = refl; shelf = refl; sink = λ text h. h }, ends.1)
   Tallies-run status.DiskNotStarted ends caused taken = (record { source = refl; files = refl; shelf = refl; sink = λ text h. h }, ends.1)
+
+-- where the disk tells its pages, as many lines of the text begin with the word of a refusal as were refused
+counted_of : (n : ℕ) (b : Bool) (limits : Limits) (old new : Outside) (last : State) (text : List ℕ) → old.shelf.files ≡ Some empty_files
+    → (p : Prints (RunsOver (workload n) (first_moment limits old new) (last_moment limits old new last)) b text)
+    → IsTrue new.disk.told → new.disk.faults < last_count → new.shelf.faults < last_count → refused_lines text ≡ min (count_by is_refused p.lines) last_count
+counted_of n b limits old new last text files p told disk shelf =
+    let first : Moment = first_moment limits old new in
+    let s = told_setting first empty_files files in
+    ap (λ (k : ℕ). min k last_count)
+    (run_seen s.0 s.2.is (workload n) p.holds.0 p.holds.1 (rises_between first (last_moment limits old new last)) p.lines last (p.holds.3 told disk shelf s.0 s.1 s.2) text p.told)
 
 -- What is said of a run whose text was counted, by what the sink took of its summary.
 module _ (n : ℕ) (limits : Limits) (left : Option (List ℕ)) (reads : ℕ) (files : Option Files) (opens : ℕ) (disk disk' : DiskView) (tally : TallySink) (before now : List ℕ → Type 0) (writes writes' : ℕ) where
@@ -68,22 +92,24 @@ module _ (n : ℕ) (limits : Limits) (left : Option (List ℕ)) (reads : ℕ) (f
   sum_after = outside_of left reads files opens disk' now writes'
 
   -- the summary was written
-  written_sum : (b : Bool) (first last : Moment) → HasRun n b first last tally
+  written_sum : (b : Bool) (first last : Moment) (ran : HasRun n b first last tally)
+      → (IsTrue first.told → last.disk < last_count → last.shelf < last_count → refused_lines ran.text ≡ min (count_by is_refused ran.printed.lines) last_count)
       → ((text : List ℕ) → HasTallied tally text → Adds before now (summary (length (workload n)) (refused_lines text) text))
       → Writes (IsSummary n b first last) before now
-  written_sum b first last ran adds = record {
+  written_sum b first last ran counted adds = record {
     text = summary (length (workload n)) (refused_lines ran.text) ran.text;
-    holds = record { text = ran.text; printed = ran.printed; told_of = refl };
+    holds = record { text = ran.text; printed = ran.printed; told_of = refl; counted = counted };
     written = adds ran.text ran.taken;
   }
 
   -- a prefix of it was written
-  broken_sum : (b : Bool) (first last : Moment) → HasRun n b first last tally
+  broken_sum : (b : Bool) (first last : Moment) (ran : HasRun n b first last tally)
+      → (IsTrue first.told → last.disk < last_count → last.shelf < last_count → refused_lines ran.text ≡ min (count_by is_refused ran.printed.lines) last_count)
       → ((text : List ℕ) → HasTallied tally text → AddsPrefix before now (summary (length (workload n)) (refused_lines text) text))
       → WritesPrefix (IsSummary n b first last) before now
-  broken_sum b first last ran adds = record {
+  broken_sum b first last ran counted adds = record {
     text = summary (length (workload n)) (refused_lines ran.text) ran.text;
-    holds = record { text = ran.text; printed = ran.printed; told_of = refl };
+    holds = record { text = ran.text; printed = ran.printed; told_of = refl; counted = counted };
     prefix = adds ran.text ran.taken;
   }
 
@@ -91,8 +117,8 @@ module _ (n : ℕ) (limits : Limits) (left : Option (List ℕ)) (reads : ℕ) (f
   pub Ends-summed : (why : Status) → (why ≡ status.Done) ⊎ (why ≡ status.SomeRefused) → Tallies n why limits (without_streams disk) (without_streams disk') tally
       → ((text : List ℕ) → HasTallied tally text → Adds before now (summary (length (workload n)) (refused_lines text) text))
       → EndsWorkload n why limits sum_before sum_after
-  Ends-summed status.Done is tallied adds = (refl, refl, tallied.0, written_sum false _ _ tallied.1 adds)
-  Ends-summed status.SomeRefused is tallied adds = (refl, refl, tallied.0, written_sum true _ _ tallied.1 adds)
+  Ends-summed status.Done is tallied adds = (refl, refl, tallied.0, written_sum false _ _ tallied.1 (counted_of n false limits (without_streams disk) (without_streams disk') tallied.0 tallied.1.text refl tallied.1.printed) adds)
+  Ends-summed status.SomeRefused is tallied adds = (refl, refl, tallied.0, written_sum true _ _ tallied.1 (counted_of n true limits (without_streams disk) (without_streams disk') tallied.0 tallied.1.text refl tallied.1.printed) adds)
   Ends-summed status.Usage is tallied adds = absurd tallied
   Ends-summed status.ReadFault is tallied adds = absurd tallied
   Ends-summed status.WriteFault is tallied adds = absurd tallied
@@ -110,8 +136,8 @@ module _ (n : ℕ) (limits : Limits) (left : Option (List ℕ)) (reads : ℕ) (f
   pub Ends-unsummed : (why : Status) → (why ≡ status.Done) ⊎ (why ≡ status.SomeRefused) → Tallies n why limits (without_streams disk) (without_streams disk') tally
       → ((text : List ℕ) → HasTallied tally text → AddsPrefix before now (summary (length (workload n)) (refused_lines text) text))
       → EndsWorkload n status.WriteFault limits sum_before sum_after
-  Ends-unsummed status.Done is tallied adds = (refl, refl, tallied.0, (false, broken_sum false _ _ tallied.1 adds))
-  Ends-unsummed status.SomeRefused is tallied adds = (refl, refl, tallied.0, (true, broken_sum true _ _ tallied.1 adds))
+  Ends-unsummed status.Done is tallied adds = (refl, refl, tallied.0, (false, broken_sum false _ _ tallied.1 (counted_of n false limits (without_streams disk) (without_streams disk') tallied.0 tallied.1.text refl tallied.1.printed) adds))
+  Ends-unsummed status.SomeRefused is tallied adds = (refl, refl, tallied.0, (true, broken_sum true _ _ tallied.1 (counted_of n true limits (without_streams disk) (without_streams disk') tallied.0 tallied.1.text refl tallied.1.printed) adds))
   Ends-unsummed status.Usage is tallied adds = absurd tallied
   Ends-unsummed status.ReadFault is tallied adds = absurd tallied
   Ends-unsummed status.WriteFault is tallied adds = absurd tallied

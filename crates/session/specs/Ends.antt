@@ -1,10 +1,9 @@
 -- How a run may end: the whole promise, by the status.
-use Rattle.std.specs.Prelude.{◌≡◌, ◌≢◌, ⊤, ℕ, ◌+◌, ◌≤◌, Bool, true, false, List, [], ◌++◌, length, take, IfSome}
+use Rattle.std.specs.Prelude.{◌≡◌, ◌≢◌, ⊤, ℕ, ◌+◌, ◌≤◌, Bool, true, false, List, [], ◌++◌, length, take}
 use Rattle.std.specs.Io.KnownBytes.{Consumes, IsAtEnd}
 use Rattle.clap.specs.Words.{fault_of}
 use Rattle.page_pool.specs.declared.fault.PageFault.{PageFault}
 use Rattle.page_pool.specs.declared.fault.PageFault.TheVariants as page
-use Rattle.run_laws.specs.Causes.{HaveCauses}
 use Rattle.run_words.specs.Command.{sand_app}
 use Rattle.sand_base.specs.Faults.{next_count}
 use Rattle.sand_base.specs.Streams.{Stays}
@@ -17,17 +16,18 @@ use Rattle.script_lines.specs.Lines.{lines, ended_lines}
 use Rattle.script_lines.specs.declared.TheConstants.{LONGEST_SCRIPT}
 use Rattle.script_run.specs.Carrying.{InEach}
 use Rattle.script_run.specs.Spoken.{AreLines}
+use Rattle.statement_exec.specs.Causes.{AreCaused}
 use Rattle.statement_exec.specs.Moment.{Moment, rises_between}
 use Rattle.statement_exec.specs.Printing.{Prints, PrintsSome}
 use Rattle.session.specs.Outside.{SourceView, SinkView, Outside}
 use Rattle.session.specs.declared.status.Status.{Status}
 use Rattle.session.specs.declared.status.Status.TheVariants as status
 
--- The lines say this script, and a run of the model over it led from one moment to another and gave these lines of output, whose refusals have their causes; this where the disk tells its pages and no count is at its end.
+-- The lines say this script, and these lines of output, whose refusals from outside have their causes, are those of a run of the model over it that led from one moment to another; the run where the disk and the shelf tell and no count is at its end.
 abbrev pub RunsOver : List (List ℕ) → Moment → Moment → List OutputLine → Type 0
 RunsOver lines old new printed =
-    (script : List ScriptLine) × AreLines lines script × InEach old new (λ setting. Run setting old.state script (rises_between old new) printed new.state
-    × HaveCauses setting.tells (rises_between old new) printed)
+    (script : List ScriptLine) × AreLines lines script × AreCaused old new printed
+    × InEach old new (λ setting. Run setting old.state script (rises_between old new) printed new.state)
 
 -- a run over these lines led from one moment to another, its text was written, and the mark says whether a line was refused
 abbrev pub WritesRun : List (List ℕ) → Bool → Moment → Moment → SinkView → SinkView → Type 0
@@ -44,9 +44,9 @@ pub record BreaksRun (script : List (List ℕ)) (first last : Moment) (before no
 abbrev pub HasRead : SourceView → SourceView → (List ℕ → Type 0) → Type 0
 HasRead before left P = (bytes : List ℕ) × Consumes before.left left.left bytes × P bytes
 
--- the source is at its end, and its script isn't too long and has what is said of it
+-- the source is at its end: the bytes read are its whole script, which isn't too long and has what is said of it
 abbrev pub HasReadAll : SourceView → SourceView → (List ℕ → Type 0) → Type 0
-HasReadAll before left P = IfSome before.left (λ bytes. (length bytes ≤ LONGEST_SCRIPT) × P bytes) × IsAtEnd left.left
+HasReadAll before left P = IsAtEnd left.left × HasRead before left (λ bytes. (length bytes ≤ LONGEST_SCRIPT) × P bytes)
 
 -- What a run from one moment to another leaves, by its status, of the source and the sink. With `Done` and `SomeRefused`
 -- the text of a run over all lines was written, and no line or some line was refused. With `ReadFault` and `ScriptTooLong`

@@ -1,5 +1,5 @@
 -- A run between two lines of its script, and what the next line is.
-use Rattle.std.specs.Prelude.{◌≡◌, ℕ, ◌+◌, ◌<◌, ◌≤◌, Bool, true, false, not, cond, List, ◌++◌, length, take, Option, Result, Ok, Err, IfSome, ⊤}
+use Rattle.std.specs.Prelude.{◌≡◌, ℕ, ◌+◌, ◌<◌, ◌≤◌, Bool, true, false, not, cond, List, ◌++◌, length, take, Option, Result, Ok, Err, ⊤}
 use Rattle.std.specs.Io.KnownBytes.{Consumes, IsAtEnd}
 use Rattle.output_text.specs.Writing.{AddsPrefix}
 use Rattle.sand_base.specs.Streams.{Adds}
@@ -76,7 +76,7 @@ OfRead script left P = (bytes : List ℕ) × Consumes script left bytes × P byt
 
 -- the whole script was read, isn't too long, and has what is said of it
 abbrev pub OfWhole : Option (List ℕ) → Option (List ℕ) → (List ℕ → Type 0) → Type 0
-OfWhole script left P = IfSome script (λ bytes. (length bytes ≤ LONGEST_SCRIPT) × P bytes) × IsAtEnd left
+OfWhole script left P = IsAtEnd left × OfRead script left (λ bytes. (length bytes ≤ LONGEST_SCRIPT) × P bytes)
 
 -- the text is that of a run over the first of these lines
 pub record IsOfFirst (script : List (List ℕ)) (first last : Moment) (text : List ℕ) : Type 0 where

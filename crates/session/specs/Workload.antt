@@ -1,11 +1,14 @@
 -- How a run of a workload may end, in place of a script, and the whole promise by what the words ask for.
-use Rattle.std.specs.Prelude.{◌≡◌, ℕ, Bool, true, false, List, length, Option, Some, None, option_map, codes}
+use Rattle.std.specs.Prelude.{◌≡◌, ℕ, ◌<◌, IsTrue, min, Bool, true, false, List, length, Option, Some, None, option_map, codes}
+use Rattle.std.specs.List.{count_by}
 use Rattle.output_text.specs.Writing.{Writes, WritesPrefix}
 use Rattle.run_summary.specs.RefusedLines.{refused_lines}
 use Rattle.run_summary.specs.Summary.{summary}
 use Rattle.run_words.specs.Asked.{number, value_of}
+use Rattle.sand_base.specs.Faults.{last_count}
 use Rattle.sand_base.specs.declared.limits.Limits.{Limits}
 use Rattle.sand_model.specs.Cursor.{State}
+use Rattle.sand_model.specs.OutputText.{is_refused}
 use Rattle.statement_exec.specs.Moment.{Moment}
 use Rattle.statement_exec.specs.Printing.{Prints}
 use Rattle.work_gen.specs.Workload.{workload}
@@ -15,11 +18,12 @@ use Rattle.session.specs.Ends.{RunsOver, Ends, first_moment, last_moment}
 use Rattle.session.specs.declared.status.Status.{Status}
 use Rattle.session.specs.declared.status.Status.TheVariants as status
 
--- these four lines tell of a run over the lines of the workload from one moment to another; the mark says whether a line was refused
+-- These four lines tell of a run over the lines of the workload from one moment to another; the mark says whether a line was refused. Where the disk tells its pages and no count is at its end, they tell how many lines were refused.
 pub record IsSummary (n : ℕ) (some_refused : Bool) (first last : Moment) (told : List ℕ) : Type 0 where
   pub text : List ℕ
   pub printed : Prints (RunsOver (workload n) first last) some_refused text
   pub told_of : told ≡ summary (length (workload n)) (refused_lines text) text
+  pub counted : IsTrue first.told → last.disk < last_count → last.shelf < last_count → refused_lines text ≡ min (count_by is_refused printed.lines) last_count
 
 -- What a run of a workload leaves of the sink, by its status: with `Done` and `SomeRefused` the summary was written, and with
 -- `WriteFault` a prefix of it.

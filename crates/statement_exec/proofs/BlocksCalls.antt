@@ -30,6 +30,7 @@ use Rattle.statement_exec.specs.LeafLines.{state_of, HasTree, LacksTree, IsOfChe
 use Rattle.statement_exec.specs.LeafWalk.{Leaves, lines_of, AreFirst, WritesAll, WritesSome, BreaksSome}
 use Rattle.statement_exec.specs.Moment.{beside, rises_between}
 use Rattle.statement_exec.specs.Printing.{PrintsSome}
+use Rattle.statement_exec.proofs.CausedLines.{HasItsCause, caused_plain, caused_behind, caused_refusal, caused_inside, check_blames_none, page_cause}
 use Rattle.statement_exec.proofs.Outcomes.{outcome_done, outcome_early}
 use Rattle.statement_exec.proofs.Refusals.{caused, rose}
 use Rattle.statement_exec.proofs.Texts.{breaks_with, writes_none}
@@ -48,10 +49,10 @@ module _ (catalog : CatalogView) (column : Column) (old new : PoolState) (read :
   -- all leaves
   blocks_done : (tree : Pmr) (visited : Leaves) → HasTree catalog column tree old.pages → (IsTold old → leaves root_block (tree_at old.pages tree) ≡ visited)
       → Reads (Blocks column) catalog old new (lines_of visited)
-  blocks_done tree visited h all = λ cursors files shelf told disk few setting s.
+  blocks_done tree visited h all = λ cursors files shelf. (caused_plain (beside cursors catalog old files shelf) (beside cursors catalog new files shelf) (lines_of visited) (none_refused visited), λ told disk few setting s.
       let lines : lines_of visited ≡ leaf_lines h.relation column.column = sym (h.lines ∙ ap lines_of (all told)) in
       outcome_done setting (rises cursors files shelf) (state_of catalog old.pages cursors) (Blocks column) (lines_of visited) (state_of catalog new.pages cursors)
-      (h.passes setting cursors) refl (h.relation, h.named, (inl lines, same_state cursors))
+      (h.passes setting cursors) refl (h.relation, h.named, (inl lines, same_state cursors)))
 
   -- a fault of a page is licensed
   licensed : {T : Type 0} (cursors : List Cursor) (files : Option Files) (shelf : ℕ) (setting : Setting) (fault : PageFault) → HasPageCause {T = T} old new (Err fault) → IsTold old
@@ -63,17 +64,23 @@ module _ (catalog : CatalogView) (column : Column) (old new : PoolState) (read :
       let d : IsDamage new n kept read' = c.damaged in absurd (true≢false (sym (read.told ∙ t) ∙ d.untold))
 
   -- the first leaves, and a refusal that may come
-  blocks_stopped : (tree : Pmr) (visited : Leaves) (w : Refusal) → HasTree catalog column tree old.pages → (IsTold old → AreFirst (leaves root_block (tree_at old.pages tree)) visited)
+  blocks_stopped : (tree : Pmr) (visited : Leaves) (w : Refusal)
+      → ((cursors : List Cursor) (files : Option Files) (shelf : ℕ) → HasItsCause (beside cursors catalog old files shelf) (beside cursors catalog new files shelf) w)
+      → HasTree catalog column tree old.pages → (IsTold old → AreFirst (leaves root_block (tree_at old.pages tree)) visited)
       → ((cursors : List Cursor) (files : Option Files) (shelf : ℕ) (setting : Setting) → IsTold old → new.disk.faults < last_count
       → IsLicensed setting (rises cursors files shelf) (state_of catalog old.pages cursors) (Blocks column) w)
       → Reads (Blocks column) catalog old new (lines_of visited ++ Refused w ∷ [])
-  blocks_stopped tree visited w h first may = λ cursors files shelf told disk few setting s.
+  blocks_stopped tree visited w caused h first may = λ cursors files shelf. (
+    caused_behind (beside cursors catalog old files shelf) (beside cursors catalog new files shelf) (lines_of visited) (Refused w ∷ []) (none_refused visited)
+        (caused_refusal (beside cursors catalog old files shelf) (beside cursors catalog new files shelf) w (caused cursors files shelf)),
+    λ told disk few setting s.
       let f : AreFirst (leaves root_block (tree_at old.pages tree)) visited = first told in
       let split : leaf_lines h.relation column.column ≡ lines_of visited ++ lines_of f.rest =
       h.lines ∙ (ap lines_of f.all_are ∙ map-append (λ (l : Block × List ℕ). LeafOf l.0 l.1) visited f.rest) in
       outcome_done setting (rises cursors files shelf) (state_of catalog old.pages cursors) (Blocks column) (lines_of visited ++ Refused w ∷ []) (state_of catalog new.pages cursors)
       (h.passes setting cursors) refl
-      (h.relation, h.named, (inr (lines_of visited, lines_of f.rest, w, may cursors files shelf setting told disk, split, refl), same_state cursors))
+      (h.relation, h.named, (inr (lines_of visited, lines_of f.rest, w, may cursors files shelf setting told disk, split, refl), same_state cursors)),
+  )
 
   pub up_to_end : (tree : Pmr) (a b : List ℕ → Type 0) → HasTree catalog column tree old.pages → WritesAll (IsTold old) (leaves root_block (tree_at old.pages tree)) a b
       → WritesUpTo (Reads (Blocks column) catalog old new) None a b
@@ -90,14 +97,14 @@ module _ (catalog : CatalogView) (column : Column) (old new : PoolState) (read :
     lines = lines_of k.visited;
     written = k.written;
     accepted = none_refused k.visited;
-    holds = blocks_stopped tree k.visited (refusal_of fault) h k.first
+    holds = blocks_stopped tree k.visited (refusal_of fault) (λ cursors files shelf. page_cause cursors cursors catalog catalog old new read.told files files shelf shelf {T = T} fault cause) h k.first
         (λ cursors files shelf setting told disk. licensed {T = T} cursors files shelf setting fault cause told disk (h.passes setting cursors));
   }
 
   pub broken_off : (tree : Pmr) (a b : List ℕ → Type 0) → HasTree catalog column tree old.pages → BreaksSome (IsTold old) (leaves root_block (tree_at old.pages tree)) a b
       → WritesPrefix (PrintsSome (Reads (Blocks column) catalog old new)) a b
   broken_off tree a b h k =
-      breaks_with (Reads (Blocks column) catalog old new) a b (lines_of k.visited) why.Memory (blocks_stopped tree k.visited why.Memory h k.first (λ cursors files shelf setting told disk. tt)) k.broken
+      breaks_with (Reads (Blocks column) catalog old new) a b (lines_of k.visited) why.Memory (blocks_stopped tree k.visited why.Memory (λ cursors files shelf. tt) h k.first (λ cursors files shelf setting told disk. tt)) k.broken
 
 -- an early check refuses
 pub up_to_check : (catalog : CatalogView) (column : Column) (old : PoolState) (a : List ℕ → Type 0) (w : Refusal) → LacksTree catalog column w old.pages → IsOfCheck w
@@ -106,7 +113,10 @@ up_to_check catalog column old a w h o = record {
   lines = [];
   written = writes_none a;
   accepted = refl;
-  holds = λ cursors files shelf told disk few setting s.
+  holds = λ cursors files shelf. (
+    caused_inside (beside cursors catalog old files shelf) (beside cursors catalog old files shelf) w (check_blames_none w o),
+    λ told disk few setting s.
       outcome_early setting (rises_between (beside cursors catalog old files shelf) (beside cursors catalog old files shelf)) (state_of catalog old.pages cursors) (Blocks column) (Refused w ∷ []) (state_of catalog old.pages cursors)
-      w (h setting cursors) (caused (rises_between (beside cursors catalog old files shelf) (beside cursors catalog old files shelf)) w o) (refl, refl);
+      w (h setting cursors) (caused (rises_between (beside cursors catalog old files shelf) (beside cursors catalog old files shelf)) w o) (refl, refl),
+  );
 }

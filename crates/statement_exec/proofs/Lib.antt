@@ -1,6 +1,12 @@
 -- an outcome from its checks
 pub mod Outcomes
 pub mod Refusals
+-- lines that have their causes
+pub mod CausedLines
+-- checks that speak of nothing outside
+pub mod PlanChecks
+-- a setting of any store
+pub mod SomeSetting
 -- what the calls of a store do
 pub mod StoreCalls
 -- a load

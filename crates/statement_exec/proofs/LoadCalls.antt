@@ -17,12 +17,23 @@ use Rattle.sand_store.proofs.SchemaRows.{loaded_entered}
 use Rattle.sand_store.specs.Calls.{Refuses, HasCause, IsUnchanged, Loaded, LoadIsRefusedBy, loaded, load_early, load_late, alone, is_of_a_row}
 use Rattle.sand_store.specs.Catalog.{StoreState}
 use Rattle.sand_store.specs.Contents.{database}
-use Rattle.statement_exec.specs.Loading.{LoadOf, Yields, InSettings, IsRefusedEarly, shelf_at}
+use Rattle.statement_exec.specs.Loading.{LoadOf, Yields, InSettings, IsOfNoPage, IsRefusedEarly, shelf_at}
 use Rattle.statement_exec.specs.Moment.{moment_of, rises_between}
 use Rattle.statement_exec.specs.Performing.{Performs}
 use Rattle.statement_exec.proofs.Outcomes.{outcome_done, outcome_outside, outcome_early}
 use Rattle.statement_exec.proofs.Refusals.{refused, allowed, rose, Never, never_relation, no_file}
+use Rattle.statement_exec.proofs.CausedLines.{HasItsCause, caused_plain, caused_refusal, pools_cause}
+use Rattle.statement_exec.proofs.SomeSetting.{some_setting, is_some_setting}
 use Rattle.statement_exec.proofs.StoreCalls.{same_database}
+
+never_early : (d : Database) (name : List ℕ) → Never (in_relation d name (λ relation. None))
+never_early d name = never_relation d name (λ relation. None) (λ r. refl)
+
+-- the store's load of rows asks for no file
+pub not_of_file : (old : StoreState) (name : List ℕ) (rows : List (List Value)) (w : Refusal) → LoadIsRefusedBy old name rows w → w ≡ why.File → ⊥
+not_of_file old name rows w h =
+    no_file (IsTold old.pool) is_of_a_row (load_early old name) (load_late (some_setting old) old name rows) w refl (never_early (database old) name)
+    (h (some_setting old) (is_some_setting old) refl)
 
 -- a relation that is changed alike is the same afterwards
 changed_alike : (f g : Relation → Relation) (name : List ℕ) (d : Database) (r : Relation) → relation_named d name ≡ Some r → f r ≡ g r → changed_at name f d ≡ changed_at name g d
@@ -62,7 +73,7 @@ module _ (old new : StoreState) (load : LoadOf) (files files' : Option Files) (s
   -- the rows were added
   pub loaded_call : (rows : List (List Value)) (count : ℕ) → InSettings old.catalog files (λ setting state. Yields setting state load rows)
       → Loaded old new load.relation rows count → Performs (load_statement load) (moment_of old files shelf) (moment_of new files' shelf') (LoadedLine count ∷ [])
-  loaded_call rows count given h = λ told disk few setting s.
+  loaded_call rows count given h = (caused_plain (moment_of old files shelf) (moment_of new files' shelf') (LoadedLine count ∷ []) refl, λ told disk few setting s.
       let y : Yields setting (alone (database old)) load rows = given old.pool shelf setting s in
       let passes : late setting (alone (database old)) (load_statement load) ≡ None = sym (late_is setting rows y) ∙ h.late told setting s.is s.limits in
       let d : Database = database old in
@@ -74,13 +85,16 @@ module _ (old new : StoreState) (load : LoadOf) (files files' : Option Files) (s
       let becomes : database new ≡ changed_at load.relation by_file d = h.becomes told setting s.is s.limits ∙ changed_alike by_rows by_file load.relation d y.relation y.named same in
       let counted : count ≡ length (file_rows setting load.file load.header y.relation) = h.counted ∙ sym (ap (λ (xs : List (List Value)). length xs) y.rows_are) in
       outcome_done setting rises (alone d) (load_statement load) (LoadedLine count ∷ []) (alone (database new)) y.passes passes
-      (y.relation, y.named, (ap (λ (n : ℕ). LoadedLine n ∷ []) counted, ap alone becomes))
+      (y.relation, y.named, (ap (λ (n : ℕ). LoadedLine n ∷ []) counted, ap alone becomes)))
 
   -- a row was refused, or the outside refused
   pub refused_load : {T : Type 0} (rows : List (List Value)) (w : Refusal) → InSettings old.catalog files (λ setting state. Yields setting state load rows)
       → LoadIsRefusedBy old load.relation rows w → IsUnchanged old new → HasCause {T = T} old.pool new.pool (Err w)
       → Performs (load_statement load) (moment_of old files shelf) (moment_of new files' shelf') (Refused w ∷ [])
-  refused_load {T} rows w given h same cause = λ told disk few setting s.
+  refused_load {T} rows w given h same cause = (
+    caused_refusal (moment_of old files shelf) (moment_of new files' shelf') w
+        (pools_cause [] [] old.catalog new.catalog old.pool new.pool same.told files files' shelf shelf' {T = T} w cause (not_of_file old load.relation rows w h)),
+    λ told disk few setting s.
       let y : Yields setting (alone (database old)) load rows = given old.pool shelf setting s in
       let before : load_early old load.relation ≡ None = rw y.named refl in
       let r : Refuses (IsTold old.pool) is_of_a_row (early setting (alone (database old)) (load_statement load)) (late setting (alone (database old)) (load_statement load)) w =
@@ -91,36 +105,8 @@ module _ (old new : StoreState) (load : LoadOf) (files files' : Option Files) (s
       let k : Refuses (IsTold old.pool) is_of_a_row (early setting (alone (database old)) (load_statement load)) (late setting (alone (database old)) (load_statement load)) why.File = rw e at r in
       true≢false (sym (ap (λ (o : Option Refusal). is_some o) k) ∙ ap (λ (o : Option Refusal). is_some o) y.passes) in
       refused setting rises (alone (database old)) (load_statement load) (Refused w ∷ []) (alone (database new)) (IsTold old.pool) told is_of_a_row refl w
-      (allowed {T = T} rises old.pool new.pool w cause told' disk refl n) r (refl, ap alone (same_database old new same told))
-
--- a setting of the store, whose files' rows are none
-abbrev some_setting : StoreState → Setting
-some_setting old = record {
-  gap = measured.0;
-  limits = old.catalog.limits;
-  files = λ name. None;
-  rows_of = λ bytes schema header. HasBad 0 0;
-  tells = false;
-}
-
-abbrev is_records : FileRows → Bool
-is_records (AreRows rows) = true
-is_records (HasBad row column) = false
-
-is_some_setting : (old : StoreState) → IsSetting (some_setting old)
-is_some_setting old = record {
-  gap = measured.1;
-  rows_of = λ bytes schema header rows e. absurd (true≢false (sym (ap is_records e)));
-}
-
-never_early : (d : Database) (name : List ℕ) → Never (in_relation d name (λ relation. None))
-never_early d name = never_relation d name (λ relation. None) (λ r. refl)
-
--- the store's load of rows asks for no file
-pub not_of_file : (old : StoreState) (name : List ℕ) (rows : List (List Value)) (w : Refusal) → LoadIsRefusedBy old name rows w → w ≡ why.File → ⊥
-not_of_file old name rows w h =
-    no_file (IsTold old.pool) is_of_a_row (load_early old name) (load_late (some_setting old) old name rows) w refl (never_early (database old) name)
-    (h (some_setting old) (is_some_setting old) refl)
+      (allowed {T = T} rises old.pool new.pool w cause told' disk refl n) r (refl, ap alone (same_database old new same told)),
+  )
 
 pub shelf_stays : (shelf : ℕ) (w : Refusal) → (w ≡ why.File → ⊥) → shelf ≡ shelf_at shelf w
 shelf_stays shelf why.File n = absurd (n refl)
@@ -138,6 +124,14 @@ module _ (old : StoreState) (load : LoadOf) (files files' : Option Files) (shelf
   by_refusal setting w h e few = outcome_early setting reading (alone (database old)) (load_statement load) (Refused w ∷ []) (alone (database old)) w h tt (refl, refl)
 
   -- an early check refuses, or the shelf fails
-  pub refused_early : (w : Refusal) → InSettings old.catalog files (λ setting state. IsRefusedEarly setting state load w) → shelf' ≡ shelf_at shelf w
+  pub refused_early : (w : Refusal) → InSettings old.catalog files (λ setting state. IsRefusedEarly setting state load w) → shelf' ≡ shelf_at shelf w → IsOfNoPage w
       → Performs (load_statement load) (moment_of old files shelf) (moment_of old files' shelf') (Refused w ∷ [])
-  refused_early w given counted = λ told disk few setting s. by_refusal setting w (given old.pool shelf setting s) counted few
+  refused_early w given counted none = (
+    caused_refusal (moment_of old files shelf) (moment_of old files' shelf') w (by_shelf w counted none),
+    λ told disk few setting s. by_refusal setting w (given old.pool shelf setting s) counted few,
+  ) where
+    by_shelf : (v : Refusal) → shelf' ≡ shelf_at shelf v → IsOfNoPage v → HasItsCause (moment_of old files shelf) (moment_of old files' shelf') v
+    by_shelf why.Device e h = absurd h
+    by_shelf (why.Damaged n kept read) e h = absurd h
+    by_shelf why.File e h = λ few. rose shelf shelf' e few
+    by_shelf _ e h = tt

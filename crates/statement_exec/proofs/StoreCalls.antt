@@ -14,7 +14,7 @@ use Rattle.sand_model.specs.Outcome.{Rises, uses_pages}
 use Rattle.sand_model.specs.Plan.{Column}
 use Rattle.sand_model.specs.RowSize.{row_size}
 use Rattle.sand_model.specs.Statement.{Statement, Create, Insert, Delete, Index}
-use Rattle.sand_model.specs.StatementChecks.{Setting, refused_where, is_there, in_relation, in_column, is_row_of, no_cursor, check_length, check_ids}
+use Rattle.sand_model.specs.StatementChecks.{Setting, IsSetting, refused_where, is_there, in_relation, in_column, is_row_of, no_cursor, check_length, check_ids}
 use Rattle.sand_store.specs.Calls.{HasCause, IsUnchanged, IsRefusedBy, Created, Inserted, Deleted, Indexed, early_at, late_at, alone}
 use Rattle.sand_store.specs.Catalog.{StoreState}
 use Rattle.sand_store.specs.Contents.{database}
@@ -23,35 +23,37 @@ use Rattle.statement_exec.specs.Moment.{moment_of, rises_between}
 use Rattle.statement_exec.specs.Performing.{Changes}
 use Rattle.statement_exec.specs.declared.reply.Reply.TheVariants as reply
 use Rattle.statement_exec.proofs.Outcomes.{outcome_done}
+use Rattle.statement_exec.proofs.CausedLines.{caused_plain, caused_refusal, pools_cause}
+use Rattle.statement_exec.proofs.SomeSetting.{some_setting, is_some_setting}
 use Rattle.statement_exec.proofs.Refusals.{refused, allowed, no_file, Never, never_where, never_first, never_relation, never_column}
 
 pub created : (old new : StoreState) (name : List ℕ) (schema : List (List ℕ × Kind)) → Created old new name schema
     → Changes (Create name schema) old new (Ok reply.Accepted)
-created old new name schema h = λ files shelf told disk few setting s.
+created old new name schema h = λ files shelf. (caused_plain (moment_of old files shelf) (moment_of new files shelf) (Accepted ∷ []) refl, λ told disk few setting s.
     let p = h.passes setting s.is s.limits in
     outcome_done setting (rises_between (moment_of old files shelf) (moment_of new files shelf)) (alone (database old)) (Create name schema) (Accepted ∷ []) (alone (database new))
-    p.0 (p.1 told) (refl, ap alone (h.becomes told setting.gap s.is.gap))
+    p.0 (p.1 told) (refl, ap alone (h.becomes told setting.gap s.is.gap)))
 
 pub inserted : (old new : StoreState) (name : List ℕ) (row : List Value) (id : ℕ) → Inserted old new name row id
     → Changes (Insert name row) old new (Ok (reply.Id id))
-inserted old new name row id h = λ files shelf told disk few setting s.
+inserted old new name row id h = λ files shelf. (caused_plain (moment_of old files shelf) (moment_of new files shelf) (Id id ∷ []) refl, λ told disk few setting s.
     let p = h.passes setting s.is s.limits in
     outcome_done setting (rises_between (moment_of old files shelf) (moment_of new files shelf)) (alone (database old)) (Insert name row) (Id id ∷ []) (alone (database new))
-    p.0 (p.1 told) (h.next.0, h.next.1.0, (ap (λ (n : ℕ). Id n ∷ []) h.next.1.1, ap alone (h.becomes told setting.gap s.is.gap)))
+    p.0 (p.1 told) (h.next.0, h.next.1.0, (ap (λ (n : ℕ). Id n ∷ []) h.next.1.1, ap alone (h.becomes told setting.gap s.is.gap))))
 
 pub deleted : (old new : StoreState) (name : List ℕ) (id : ℕ) → Deleted old new name id
     → Changes (Delete name id) old new (Ok reply.Accepted)
-deleted old new name id h = λ files shelf told disk few setting s.
+deleted old new name id h = λ files shelf. (caused_plain (moment_of old files shelf) (moment_of new files shelf) (Accepted ∷ []) refl, λ told disk few setting s.
     let p = h.passes setting s.is s.limits in
     outcome_done setting (rises_between (moment_of old files shelf) (moment_of new files shelf)) (alone (database old)) (Delete name id) (Accepted ∷ []) (alone (database new))
-    p.0 (p.1 told) (refl, ap alone (h.becomes told setting.gap s.is.gap))
+    p.0 (p.1 told) (refl, ap alone (h.becomes told setting.gap s.is.gap)))
 
 pub indexed : (old new : StoreState) (column : Column) (threshold : Option ℕ) → Indexed old new column threshold
     → Changes (Index column threshold) old new (Ok reply.Accepted)
-indexed old new column threshold h = λ files shelf told disk few setting s.
+indexed old new column threshold h = λ files shelf. (caused_plain (moment_of old files shelf) (moment_of new files shelf) (Accepted ∷ []) refl, λ told disk few setting s.
     let p = h.passes setting s.is s.limits in
     outcome_done setting (rises_between (moment_of old files shelf) (moment_of new files shelf)) (alone (database old)) (Index column threshold) (Accepted ∷ []) (alone (database new))
-    p.0 (p.1 told) (refl, ap alone (h.becomes told setting.gap s.is.gap))
+    p.0 (p.1 told) (refl, ap alone (h.becomes told setting.gap s.is.gap)))
 
 -- a database whose pages and catalog are as before is as before
 pub same_database : (old new : StoreState) → IsUnchanged old new → IsTold old.pool → database new ≡ database old
@@ -61,13 +63,18 @@ same_database old new h told = rw (h.catalog, h.pages told) refl
 pub refused_call : {T : Type 0} (old new : StoreState) (statement : Statement) (is_late : Refusal → Bool) (w : Refusal) → uses_pages statement ≡ true
     → is_late why.File ≡ false → ((setting : Setting) → Never (early_at setting old statement)) → IsUnchanged old new
     → IsRefusedBy is_late old statement w → HasCause {T = T} old.pool new.pool (Err w) → Changes statement old new (Err w)
-refused_call {T} old new statement is_late w uses late_file never same h cause = λ files shelf told disk few setting s.
+refused_call {T} old new statement is_late w uses late_file never same h cause = λ files shelf. (
+  caused_refusal (moment_of old files shelf) (moment_of new files shelf) w (pools_cause [] [] old.catalog new.catalog old.pool new.pool same.told files files shelf shelf {T = T} w cause (by_setting (some_setting old) (is_some_setting old) refl)),
+  λ told disk few setting s.
     let told' : IsTold new.pool = same.told ∙ told in
     let rises : Rises = rises_between (moment_of old files shelf) (moment_of new files shelf) in
     let r = h setting s.is s.limits in
-    let n : w ≡ why.File → ⊥ = no_file (IsTold old.pool) is_late (early_at setting old statement) (late_at setting old statement) w late_file (never setting) r in
     refused setting rises (alone (database old)) statement (Refused w ∷ []) (alone (database new)) (IsTold old.pool) told is_late uses w
-    (allowed {T = T} rises old.pool new.pool w cause told' disk refl n) r (refl, ap alone (same_database old new same told))
+    (allowed {T = T} rises old.pool new.pool w cause told' disk refl (by_setting setting s.is s.limits)) r (refl, ap alone (same_database old new same told)),
+) where
+  -- no check asks for a file
+  by_setting : (setting : Setting) → IsSetting setting → setting.limits ≡ old.catalog.limits → w ≡ why.File → ⊥
+  by_setting setting is limits = no_file (IsTold old.pool) is_late (early_at setting old statement) (late_at setting old statement) w late_file (never setting) (h setting is limits)
 
 -- no check of these statements asks for a file
 

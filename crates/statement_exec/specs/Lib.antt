@@ -1,5 +1,7 @@
 -- Read in this order. What statements are carried out on.
 pub mod Moment
+-- The causes of lines that blame the outside.
+pub mod Causes
 -- What carrying one out does, and what is printed of it.
 pub mod Performing
 pub mod Printing

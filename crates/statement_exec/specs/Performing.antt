@@ -1,4 +1,4 @@
--- What carrying a statement out does: the outcome of the model, where the disk and the shelf tell and no count of faults is at its end.
+-- What carrying a statement out does: the outcome of the model, where the disk and the shelf tell and no count of faults is at its end; and lines that have their causes, over any disk and shelf.
 use Rattle.std.specs.Prelude.{ℕ, ◌<◌, IsTrue, List, [], ◌∷◌, Option, Result, Ok, Err}
 use Rattle.sand_base.specs.Faults.{last_count}
 use Rattle.sand_base.specs.Shelf.{Files}
@@ -8,15 +8,16 @@ use Rattle.sand_model.specs.Outcome.{Outcome}
 use Rattle.sand_model.specs.Statement.{Statement}
 use Rattle.sand_model.specs.StatementChecks.{Setting}
 use Rattle.sand_store.specs.Catalog.{StoreState}
+use Rattle.statement_exec.specs.Causes.{AreCaused}
 use Rattle.statement_exec.specs.Moment.{Moment, moment_of, rises_between, IsSettingOf}
 use Rattle.statement_exec.specs.declared.reply.Reply.{Reply}
 use Rattle.statement_exec.specs.declared.reply.Reply.TheVariants as reply
 
--- the statement led from one moment to another and gave these lines, as the outcome of the model says, in every setting of the first
+-- the statement led from one moment to another and gave these lines, which have their causes, as the outcome of the model says, in every setting of the first
 abbrev pub Performs : Statement → Moment → Moment → List OutputLine → Type 0
 Performs statement old new lines =
-    IsTrue old.told → new.disk < last_count → new.shelf < last_count → (setting : Setting) → IsSettingOf old setting
-    → Outcome setting (rises_between old new) old.state statement lines new.state
+    AreCaused old new lines × (IsTrue old.told → new.disk < last_count → new.shelf < last_count → (setting : Setting) → IsSettingOf old setting
+    → Outcome setting (rises_between old new) old.state statement lines new.state)
 
 -- the line of a reply
 abbrev pub line_of : Reply → OutputLine

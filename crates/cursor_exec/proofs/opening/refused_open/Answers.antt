@@ -1,35 +1,46 @@
 -- the checks in their order
 use Rattle.std.proofs.Common.{refl, sym, ◌∙◌, ap}
 use Rattle.std.specs.Result.{result_err}
+use Rattle.std.specs.FinMap as map
+use Rattle.page_pool.specs.Disk.{PageMap}
 use Rattle.plan_check.specs.PlanValue.{plan_value}
 use Rattle.plan_cursor.specs.Standing.{IsAt}
 use Rattle.plan_rows.specs.Rows.{counts_of}
 use Rattle.sand_store.specs.Contents.{database_in}
 use Rattle.cursor_exec.proofs.NamedCursors.{first_shown, none_shown}
+use Rattle.statement_exec.proofs.PlanChecks.{operators_refuse, depth_refuses}
 use Rattle.cursor_exec.proofs.OpenChecks.{open_taken, open_unchecked, open_many, open_deep}
 use Rattle.cursor_exec.proofs.opening.refused_open.Goals as goal
 
-pub returns-in-Some : goal.returns-in-Some
-returns-in-Some g c = λ pages cs all setting.
+pub returns-in-Some-clause-checks : goal.returns-in-Some-clause-checks
+returns-in-Some-clause-checks g c = λ pages cs all setting.
     open_taken (λ r. IsAt g.S.RowSource.At g.T.RowStage.Stands g.T.RowStage.closed (λ s. counts_of (g.S.RowSource.seen s)) r) pages (database_in pages c.args.catalog.now.relations) c.args.cursors.now cs c.args.name.now (plan_value c.args.plan.now) setting all c.in-Some._at
     (first_shown c.args.cursors.now c.args.cursors.now c.as_str.result.now c.args.name.now c.place_of.result c.in-Some._at c.place_of.ensures c.as_str.ensures refl c.in-Some.is)
 
-pub returns-in-Err : goal.returns-in-Err
-returns-in-Err g c = λ pages cs all setting.
+pub returns-in-Err-clause-checks : goal.returns-in-Err-clause-checks
+returns-in-Err-clause-checks g c = λ pages cs all setting.
     open_unchecked (λ r. IsAt g.S.RowSource.At g.T.RowStage.Stands g.T.RowStage.closed (λ s. counts_of (g.S.RowSource.seen s)) r) pages (database_in pages c.args.catalog.now.relations) c.args.cursors.now cs c.args.name.now (plan_value c.args.plan.now) setting all (none_shown c.args.cursors.now c.args.cursors.now c.as_str.result.now c.args.name.now c.place_of.result c.place_of.ensures c.as_str.ensures refl c.in_default.is)
     c.in-Err.why (sym (c.check_operators.ensures c.requires pages) ∙ ap result_err c.in-Err.is)
 
-pub returns-then-cursors-ge-MOST_CURSORS : goal.returns-then-cursors-ge-MOST_CURSORS
-returns-then-cursors-ge-MOST_CURSORS g c = λ pages cs all setting.
+pub returns-then-cursors-ge-MOST_CURSORS-clause-checks : goal.returns-then-cursors-ge-MOST_CURSORS-clause-checks
+returns-then-cursors-ge-MOST_CURSORS-clause-checks g c = λ pages cs all setting.
     open_many (λ r. IsAt g.S.RowSource.At g.T.RowStage.Stands g.T.RowStage.closed (λ s. counts_of (g.S.RowSource.seen s)) r) pages (database_in pages c.args.catalog.now.relations) c.args.cursors.now cs c.args.name.now (plan_value c.args.plan.now) setting all (none_shown c.args.cursors.now c.args.cursors.now c.as_str.result.now c.args.name.now c.place_of.result c.place_of.ensures c.as_str.ensures refl c.in_default.is)
     (sym (c.check_operators.ensures c.requires pages) ∙ ap result_err c.in_default-check_operators.is) c.if-cursors-ge-MOST_CURSORS.true
 
-pub returns-in-Ok : goal.returns-in-Ok
-returns-in-Ok g c = λ pages cs all setting.
+pub returns-in-Ok-clause-checks : goal.returns-in-Ok-clause-checks
+returns-in-Ok-clause-checks g c = λ pages cs all setting.
     open_deep (λ r. IsAt g.S.RowSource.At g.T.RowStage.Stands g.T.RowStage.closed (λ s. counts_of (g.S.RowSource.seen s)) r) pages (database_in pages c.args.catalog.now.relations) c.args.cursors.now cs c.args.name.now (plan_value c.args.plan.now) setting all (none_shown c.args.cursors.now c.args.cursors.now c.as_str.result.now c.args.name.now c.place_of.result c.place_of.ensures c.as_str.ensures refl c.in_default.is)
     (sym (c.check_operators.ensures c.requires pages) ∙ ap result_err c.in_default-check_operators.is) c.if-cursors-ge-MOST_CURSORS.false ∙ (sym c.check_depth.ensures ∙ ap result_err c.in-Ok.is)
 
-pub returns-in-Err-check_depth : goal.returns-in-Err-check_depth
-returns-in-Err-check_depth g c = λ pages cs all setting.
+pub returns-in-Err-check_depth-clause-checks : goal.returns-in-Err-check_depth-clause-checks
+returns-in-Err-check_depth-clause-checks g c = λ pages cs all setting.
     open_deep (λ r. IsAt g.S.RowSource.At g.T.RowStage.Stands g.T.RowStage.closed (λ s. counts_of (g.S.RowSource.seen s)) r) pages (database_in pages c.args.catalog.now.relations) c.args.cursors.now cs c.args.name.now (plan_value c.args.plan.now) setting all (none_shown c.args.cursors.now c.args.cursors.now c.as_str.result.now c.args.name.now c.place_of.result c.place_of.ensures c.as_str.ensures refl c.in_default.is)
     (sym (c.check_operators.ensures c.requires pages) ∙ ap result_err c.in_default-check_operators.is) c.if-cursors-ge-MOST_CURSORS.false ∙ (sym c.check_depth.ensures ∙ ap result_err c.in-Err-check_depth.is)
+
+pub returns-in-Err-clause-of_check : goal.returns-in-Err-clause-of_check
+returns-in-Err-clause-of_check g c =
+    let no_pages : PageMap = map.empty in
+    operators_refuse (database_in no_pages c.args.catalog.now.relations) (plan_value c.args.plan.now) c.in-Err.why (sym (c.check_operators.ensures c.requires no_pages) ∙ ap result_err c.in-Err.is)
+
+pub returns-in-Err-check_depth-clause-of_check : goal.returns-in-Err-check_depth-clause-of_check
+returns-in-Err-check_depth-clause-of_check g c = depth_refuses (plan_value c.args.plan.now) c.in-Err-check_depth.why (sym c.check_depth.ensures ∙ ap result_err c.in-Err-check_depth.is)

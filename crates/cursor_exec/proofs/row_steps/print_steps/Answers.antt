@@ -2,6 +2,7 @@
 use Rattle.best_first.specs.Visits.{told_pages}
 use Rattle.plan_cursor.specs.Standing.{IsAt}
 use Rattle.plan_rows.specs.Rows.{counts_of}
+use Rattle.cursor_exec.proofs.CausedSteps.{page_no_file}
 use Rattle.cursor_exec.proofs.StepCalls.{told_end, told_fault, told_broken}
 use Rattle.cursor_exec.proofs.row_steps.print_steps.Goals as goal
 
@@ -22,3 +23,6 @@ returns-in-Err-clause-steps g c =
     told_broken (told_pages c.args.desk.now) (λ pages m. IsAt g.S.RowSource.At g.T.RowStage.Stands g.T.RowStage.closed (λ s. counts_of (g.S.RowSource.seen s)) c.args.cursor.now pages m)
     (λ pages m. IsAt g.S.RowSource.At g.T.RowStage.Stands g.T.RowStage.closed (λ s. counts_of (g.S.RowSource.seen s)) c.print_rows.new.cursor pages m) c.args.count c.args.desk.now c.print_rows.new.desk (g.K.Sink.took c.args.out.now) (g.K.Sink.took c.print_rows.new.out)
     c.in-Err.field-0 c.in-Err.ensures.step
+
+pub returns-in-Ok-Refused-clause-no_file : goal.returns-in-Ok-Refused-clause-no_file
+returns-in-Ok-Refused-clause-no_file g c = rw c.refusal_of.ensures (page_no_file c.in-Ok-Refused.fault)

@@ -28,8 +28,10 @@ returns-in-Err-clause-carried g c =
 
 pub returns-in-Ok-clause-plain : goal.returns-in-Ok-clause-plain
 returns-in-Ok-clause-plain g c =
-    plain_written (g.K.Sink.took c.args.out.now) (g.K.Sink.took c.print_next.new.out) (g.K.Sink.took c.end_with.new.out) c.in-Ok.end c.in-Ok.ensures.plain
+    plain_written c.args.desk.now.pool c.print_next.new.desk.pool c.print_next.ensures.read.told (g.K.Sink.took c.args.out.now) (g.K.Sink.took c.print_next.new.out) (g.K.Sink.took c.end_with.new.out)
+    c.in-Ok.end c.in-Ok.ensures.cause c.in-Ok.ensures.no_file c.in-Ok.ensures.plain
     c.end_with.result c.end_with.ensures.written c.end_with.ensures.prefix
 
 pub returns-in-Err-clause-plain : goal.returns-in-Err-clause-plain
-returns-in-Err-clause-plain g c = plain_broken (g.K.Sink.took c.args.out.now) (g.K.Sink.took c.print_next.new.out) c.in-Err.ensures.broken
+returns-in-Err-clause-plain g c =
+    plain_broken c.args.desk.now.pool c.print_next.new.desk.pool c.print_next.ensures.read.told (g.K.Sink.took c.args.out.now) (g.K.Sink.took c.print_next.new.out) c.in-Err.ensures.broken

@@ -20,4 +20,4 @@ returns-in-Ok-None-clause-carried g c = λ cs own counted stand.
 pub returns-in-Err-clause-carried : goal.returns-in-Err-clause-carried
 returns-in-Err-clause-carried g c = λ cs own counted stand.
     line_of_refusal c.args.line.now c.args.catalog.now cs (StandOver c.args.desk.now c.args.cursors.now.items) c.args.desk.now.pool own stand (g.K.Sink.took c.args.out.now) (g.K.Sink.took c.refuse.new.out)
-    c.in-Err.why c.refuse.result c.in-Err.ensures.refuses c.refuse.ensures.written c.refuse.ensures.prefix
+    c.in-Err.why c.refuse.result c.in-Err.ensures.refuses c.in-Err.ensures.inside c.refuse.ensures.written c.refuse.ensures.prefix

@@ -23,9 +23,9 @@ returns-in-Ok-None-clause-turns g c =
 pub returns-in-Err-clause-turns : goal.returns-in-Err-clause-turns
 returns-in-Err-clause-turns g c =
     turn_of_unread c.args.line.now (moment_of c.args.store (g.H.Shelf.files c.args.shelf.now) (g.H.Shelf.faults c.args.shelf.now)) c.in-Err.why (g.K.Sink.took c.args.out.now) (g.K.Sink.took c.refuse.new.out)
-    c.refuse.result c.in-Err.ensures.refuses c.refuse.ensures.written
+    c.refuse.result c.in-Err.ensures.refuses c.in-Err.ensures.inside c.refuse.ensures.written
 
 pub returns-in-Err-clause-breaks : goal.returns-in-Err-clause-breaks
 returns-in-Err-clause-breaks g c =
     break_of_unread c.args.line.now (moment_of c.args.store (g.H.Shelf.files c.args.shelf.now) (g.H.Shelf.faults c.args.shelf.now)) c.in-Err.why (g.K.Sink.took c.args.out.now) (g.K.Sink.took c.refuse.new.out)
-    c.refuse.result c.in-Err.ensures.refuses c.refuse.ensures.prefix
+    c.refuse.result c.in-Err.ensures.refuses c.in-Err.ensures.inside c.refuse.ensures.prefix

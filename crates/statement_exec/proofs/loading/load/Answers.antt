@@ -12,7 +12,7 @@ returns-in-Err-clause-performs g c =
     let load : LoadOf = record { relation = c.args.name.now; file = c.args.file.now; header = c.args.header } in
     refused_early c.args.store.now load (g.H.Shelf.files c.args.shelf.now) (g.H.Shelf.files c.rows_to_load.new.shelf) (g.H.Shelf.faults c.args.shelf.now) (g.H.Shelf.faults c.rows_to_load.new.shelf) c.in-Err.why
     (subst (λ (catalog : CatalogView). InSettings catalog (g.H.Shelf.files c.args.shelf.now) (λ setting state. IsRefusedEarly setting state load c.in-Err.why)) c.catalog.ensures.catalog c.in-Err.ensures.refused)
-    c.in-Err.ensures.cause
+    c.in-Err.ensures.cause c.in-Err.ensures.no_page
 
 pub returns-in-Err-clause-cause : goal.returns-in-Err-clause-cause
 returns-in-Err-clause-cause g c = untouched c.args.store.now.pool c.in-Err.why c.in-Err.ensures.no_page
