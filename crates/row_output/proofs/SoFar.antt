@@ -40,7 +40,7 @@ use Rattle.row_output.specs.Stepping.{PrintsStep, PrintsNext}
 use Rattle.row_output.specs.declared.next.Next.TheVariants as next
 use Rattle.row_output.specs.declared.rows.Printed.TheVariants.{Rows, Refused}
 use Rattle.row_output.proofs.RowSteps.{RowSteps, is_row, gives_one, rows_length, rows_given, rows_database, rows_plan, rows_more, rows_then, rows_all, rows_last, same_last, same_row, end_no_row, none_last}
-use Rattle.row_output.proofs.Texts.{writes_none, writes_both, writes_prefix, writes_stay}
+use Rattle.row_output.proofs.Texts.{writes_none, writes_both, writes_prefix, writes_stay, cut_in_last}
 
 -- ---- visits
 
@@ -250,6 +250,7 @@ module _ (c : Cursor) (rows : ℕ) (old mid new : DeskState) (before at now : Li
       at = st.at;
       gives = (rows + 1, rows + 1, false, omega (arith, few), makes_row);
       writes = writes_prefix s.lines (line.Row row ∷ []) before at now s.writes w;
+      cuts = cut_in_last s.lines (line.Row row) before at now s.writes w;
       completed = all_completed answer st;
       attempted = st.visits.attempted;
       log = all_log answer st;
@@ -300,6 +301,7 @@ module _ (c : Cursor) (rows : ℕ) (old mid new : DeskState) (before at now : Li
       at = st.at;
       gives = (omega (arith, few), sym (lt-ltb rows count few), makes_end count few);
       writes = writes_both s.lines (line.End ∷ []) before at now s.writes w;
+      cuts = tt;
       completed = all_completed answer st;
       attempted = st.visits.attempted;
       log = all_log answer st;
@@ -319,6 +321,7 @@ module _ (c : Cursor) (rows : ℕ) (old mid new : DeskState) (before at now : Li
       at = st.at;
       gives = (count, rows, true, omega arith, makes_end count few);
       writes = writes_prefix s.lines (line.End ∷ []) before at now s.writes w;
+      cuts = cut_in_last s.lines line.End before at now s.writes w;
       completed = all_completed answer st;
       attempted = st.visits.attempted;
       log = all_log answer st;
@@ -347,6 +350,7 @@ module _ (c : Cursor) (rows : ℕ) (old mid new : DeskState) (before at now : Li
       taken = refl;
     };
     writes = writes_stay s.lines before at now s.writes stays;
+    cuts = tt;
     completed = all_completed (Err fault) st;
     attempted = st.visits.attempted;
     log = all_log (Err fault) st;
@@ -428,6 +432,7 @@ prints_all c rows count old now before at Stands same s = record {
     },
   );
   writes = s.writes;
+  cuts = tt;
   completed = s.completed;
   attempted = [];
   log = s.log ∙ ap (λ l. old.visits ++ l) (sym (append-nil s.completed));

@@ -3,6 +3,7 @@ use Rattle.std.proofs.Common.{ℕ, List, [], ◌∷◌, ◌++◌, refl, sym, ap,
 use Rattle.sand_model.specs.Cursor.{OutputLine}
 use Rattle.sand_model.specs.OutputText.{IsText}
 use Rattle.output_text.specs.Writing.{Writes, WritesPrefix}
+use Rattle.row_output.specs.Printing.{IsCutInLast}
 use Rattle.output_text.proofs.WrittenPrefix.{Adds-trans}
 
 pub text_both : (xs ys : List OutputLine) (s t : List ℕ) → IsText xs s → IsText ys t → IsText (xs ++ ys) (s ++ t)
@@ -38,3 +39,19 @@ writes_prefix xs ys before mid now a b = record {
 -- lines and then nothing
 pub writes_stay : (xs : List OutputLine) (before mid now : List ℕ → Type 0) → Writes (IsText xs) before mid → ((bytes : List ℕ) → mid bytes → now bytes) → Writes (IsText xs) before now
 writes_stay xs before mid now a stays = record { text = a.text; holds = a.holds; written = λ bytes taken. stays (bytes ++ a.text) (a.written bytes taken) }
+
+-- lines and then a prefix of one more
+pub cut_in_last : (xs : List OutputLine) (last : OutputLine) (before mid now : List ℕ → Type 0) → Writes (IsText xs) before mid → WritesPrefix (IsText (last ∷ [])) mid now → IsCutInLast (xs ++ last ∷ []) before now
+cut_in_last xs last before mid now a b = record {
+  front = xs;
+  last = last;
+  split = refl;
+  text = a.text;
+  whole = a.holds;
+  line = b.text;
+  of_last = b.holds;
+  prefix = b.prefix.prefix;
+  rest = b.prefix.rest;
+  cut = b.prefix.same;
+  written = Adds-trans before mid now a.text b.prefix.prefix a.written b.prefix.written;
+}

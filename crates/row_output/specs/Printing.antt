@@ -2,6 +2,7 @@
 use Rattle.std.specs.Prelude.{◌≡◌, ℕ, ◌+◌, ◌-◌, ◌<◌, ◌≤◌, min, Bool, true, false, cond, nat_lt, List, [], ◌∷◌, ◌++◌, length, All, Result, Ok, Err, OnOk, ⊤}
 use Rattle.std.specs.List.{list_any}
 use Rattle.sand_base.specs.Faults.{last_count}
+use Rattle.sand_base.specs.Streams.{Adds}
 use Rattle.sand_base.specs.declared.refusal.Refusal.{Refusal}
 use Rattle.sand_base.specs.declared.source.Failed.{Failed}
 use Rattle.sand_base.specs.declared.visit.Visit.{Visit}
@@ -59,6 +60,25 @@ abbrev pub WritesLines : Result Printed Failed → List OutputLine → (List ℕ
 WritesLines (Ok printed) lines before now = Writes (IsText lines) before now
 WritesLines (Err failed) lines before now = WritesPrefix (IsText lines) before now
 
+-- The lines before the last one were written whole, and of the last one a prefix: no row was taken before the lines of those before it were written.
+pub record IsCutInLast (lines : List OutputLine) (before now : List ℕ → Type 0) : Type 0 where
+  pub front : List OutputLine
+  pub last : OutputLine
+  pub split : lines ≡ front ++ last ∷ []
+  pub text : List ℕ
+  pub whole : IsText front text
+  pub line : List ℕ
+  pub of_last : IsText (last ∷ []) line
+  pub prefix : List ℕ
+  pub rest : List ℕ
+  pub cut : line ≡ prefix ++ rest
+  pub written : Adds before now (text ++ prefix)
+
+-- where the sink failed, it failed in the line of the last step that was made
+abbrev pub CutsLast : Result Printed Failed → List OutputLine → (List ℕ → Type 0) → (List ℕ → Type 0) → Type 0
+CutsLast (Ok printed) lines before now = ⊤
+CutsLast (Err failed) lines before now = IsCutInLast lines before now
+
 -- where the last step gave a row of a plan without a sort, the visits lie within the gap of this row
 abbrev pub LieWithinLast : Cursor → Result Printed Failed → List OutputLine → List Visit → Type 0
 LieWithinLast c (Ok (Refused rows fault)) lines noted = ⊤
@@ -77,6 +97,7 @@ pub record PrintsRows (c : Cursor) (count : ℕ) (old new : DeskState) (before n
   pub at : At after
   pub gives : GivesLines c count result lines after last
   pub writes : WritesLines result lines before now
+  pub cuts : CutsLast result lines before now
   pub completed : List Visit
   pub attempted : List Visit
   pub log : new.visits ≡ old.visits ++ (completed ++ attempted)
