@@ -64,14 +64,14 @@ module _ (catalog : CatalogView) (cs : List Cursor) (old new : PoolState) (read 
         (cause_of_end (beside cs catalog old files shelf) (beside (replaced name after cs) catalog new files shelf) end
         (end_cause cs (replaced name after cs) catalog catalog old new read.told files files shelf shelf Failed end cause (pages_no_file end o))) count c lines after steps,
     λ told disk few setting gap s.
-      let cs' : List Cursor = replaced name after cs in
-      let passes : early setting (state_of catalog old.pages cs) (Next name count) ≡ None = rw is refl in
-      let may : Refusal → Type 0 = IsLicensed setting (rises_between (beside cs catalog old files shelf) (beside cs' catalog new files shelf)) (state_of catalog old.pages cs) (Next name count) in
-      let made : Steps plan_measure may count c lines after =
-      steps_allowed plan_measure (λ r. end ≡ Some r) may (of_end setting files shelf cs' end o cause told disk passes) count c lines after steps in
-      let measured : Steps setting.gap may count c lines after = subst (λ (g : Measure). Steps g may count c lines after) (sym gap) made in
-      outcome_done setting (rises_between (beside cs catalog old files shelf) (beside cs' catalog new files shelf)) (state_of catalog old.pages cs) (Next name count) lines (state_of catalog new.pages cs')
-      passes refl (c, is, (after, measured, ap (λ m. state_of catalog m cs') read.pages)),
+        let cs' : List Cursor = replaced name after cs in
+        let passes : early setting (state_of catalog old.pages cs) (Next name count) ≡ None = rw is refl in
+        let may : Refusal → Type 0 = IsLicensed setting (rises_between (beside cs catalog old files shelf) (beside cs' catalog new files shelf)) (state_of catalog old.pages cs) (Next name count) in
+        let made : Steps plan_measure may count c lines after =
+        steps_allowed plan_measure (λ r. end ≡ Some r) may (of_end setting files shelf cs' end o cause told disk passes) count c lines after steps in
+        let measured : Steps setting.gap may count c lines after = subst (λ (g : Measure). Steps g may count c lines after) (sym gap) made in
+        outcome_done setting (rises_between (beside cs catalog old files shelf) (beside cs' catalog new files shelf)) (state_of catalog old.pages cs) (Next name count) lines (state_of catalog new.pages cs')
+        passes refl (c, is, (after, measured, ap (λ m. state_of catalog m cs') read.pages)),
   )
 
   -- no cursor has the name
@@ -79,9 +79,9 @@ module _ (catalog : CatalogView) (cs : List Cursor) (old new : PoolState) (read 
   next_unknown is = λ files shelf. (
     caused_inside (beside cs catalog old files shelf) (beside cs catalog old files shelf) why.UnknownCursor tt,
     λ told disk few setting gap s.
-      let fails : early setting (state_of catalog old.pages cs) (Next name count) ≡ Some why.UnknownCursor = rw is refl in
-      outcome_early setting (rises_between (beside cs catalog old files shelf) (beside cs catalog old files shelf)) (state_of catalog old.pages cs) (Next name count) (Refused why.UnknownCursor ∷ []) (state_of catalog old.pages cs)
-      why.UnknownCursor fails tt (refl, refl),
+        let fails : early setting (state_of catalog old.pages cs) (Next name count) ≡ Some why.UnknownCursor = rw is refl in
+        outcome_early setting (rises_between (beside cs catalog old files shelf) (beside cs catalog old files shelf)) (state_of catalog old.pages cs) (Next name count) (Refused why.UnknownCursor ∷ []) (state_of catalog old.pages cs)
+        why.UnknownCursor fails tt (refl, refl),
   )
 
 module _ (catalog : CatalogView) (cs : List Cursor) (pool : PoolState) (name : List ℕ) where
@@ -91,18 +91,18 @@ module _ (catalog : CatalogView) (cs : List Cursor) (pool : PoolState) (name : L
   close_performs c is = λ files shelf. (
     caused_plain (beside cs catalog pool files shelf) (beside (closed name cs) catalog pool files shelf) (Accepted ∷ []) refl,
     λ told disk few setting gap s.
-      let passes : early setting (state_of catalog pool.pages cs) (CloseCursor name) ≡ None = rw is refl in
-      outcome_done setting (rises_between (beside cs catalog pool files shelf) (beside (closed name cs) catalog pool files shelf)) (state_of catalog pool.pages cs) (CloseCursor name) (Accepted ∷ [])
-      (state_of catalog pool.pages (closed name cs)) passes refl (refl, refl),
+        let passes : early setting (state_of catalog pool.pages cs) (CloseCursor name) ≡ None = rw is refl in
+        outcome_done setting (rises_between (beside cs catalog pool files shelf) (beside (closed name cs) catalog pool files shelf)) (state_of catalog pool.pages cs) (CloseCursor name) (Accepted ∷ [])
+        (state_of catalog pool.pages (closed name cs)) passes refl (refl, refl),
   )
 
   pub close_unknown : named cs name ≡ None → PerformsBeside (CloseCursor name) catalog pool pool cs cs (Refused why.UnknownCursor ∷ [])
   close_unknown is = λ files shelf. (
     caused_inside (beside cs catalog pool files shelf) (beside cs catalog pool files shelf) why.UnknownCursor tt,
     λ told disk few setting gap s.
-      let fails : early setting (state_of catalog pool.pages cs) (CloseCursor name) ≡ Some why.UnknownCursor = rw is refl in
-      outcome_early setting (rises_between (beside cs catalog pool files shelf) (beside cs catalog pool files shelf)) (state_of catalog pool.pages cs) (CloseCursor name) (Refused why.UnknownCursor ∷ []) (state_of catalog pool.pages cs)
-      why.UnknownCursor fails tt (refl, refl),
+        let fails : early setting (state_of catalog pool.pages cs) (CloseCursor name) ≡ Some why.UnknownCursor = rw is refl in
+        outcome_early setting (rises_between (beside cs catalog pool files shelf) (beside cs catalog pool files shelf)) (state_of catalog pool.pages cs) (CloseCursor name) (Refused why.UnknownCursor ∷ []) (state_of catalog pool.pages cs)
+        why.UnknownCursor fails tt (refl, refl),
   )
 
   -- a cursor is opened behind the others
@@ -111,9 +111,9 @@ module _ (catalog : CatalogView) (cs : List Cursor) (pool : PoolState) (name : L
   open_performs p passes = λ files shelf. (
     caused_plain (beside cs catalog pool files shelf) (beside (cs ++ new_cursor name p (database_in pool.pages catalog.relations) ∷ []) catalog pool files shelf) (Accepted ∷ []) refl,
     λ told disk few setting gap s.
-      let all : List Cursor = cs ++ new_cursor name p (database_in pool.pages catalog.relations) ∷ [] in
-      outcome_done setting (rises_between (beside cs catalog pool files shelf) (beside all catalog pool files shelf)) (state_of catalog pool.pages cs) (Opens name p) (Accepted ∷ []) (state_of catalog pool.pages all)
-      (passes setting) refl (refl, refl),
+        let all : List Cursor = cs ++ new_cursor name p (database_in pool.pages catalog.relations) ∷ [] in
+        outcome_done setting (rises_between (beside cs catalog pool files shelf) (beside all catalog pool files shelf)) (state_of catalog pool.pages cs) (Opens name p) (Accepted ∷ []) (state_of catalog pool.pages all)
+        (passes setting) refl (refl, refl),
   )
 
 -- a change is refused beside open cursors
@@ -122,7 +122,7 @@ pub change_refused : (catalog : CatalogView) (first : Cursor) (others : List Cur
 change_refused catalog first others pool statement w h = λ files shelf. (
   caused_inside (beside (first ∷ others) catalog pool files shelf) (beside (first ∷ others) catalog pool files shelf) w (check_blames_none w h.0),
   λ told disk few setting gap s.
-    let rises : Rises = rises_between (beside (first ∷ others) catalog pool files shelf) (beside (first ∷ others) catalog pool files shelf) in
-    outcome_early setting rises (state_of catalog pool.pages (first ∷ others)) statement (Refused w ∷ []) (state_of catalog pool.pages (first ∷ others))
-    w (h.1 setting pool.pages first others) (caused rises w h.0) (refl, refl),
+      let rises : Rises = rises_between (beside (first ∷ others) catalog pool files shelf) (beside (first ∷ others) catalog pool files shelf) in
+      outcome_early setting rises (state_of catalog pool.pages (first ∷ others)) statement (Refused w ∷ []) (state_of catalog pool.pages (first ∷ others))
+      w (h.1 setting pool.pages first others) (caused rises w h.0) (refl, refl),
 )

@@ -65,9 +65,9 @@ module _ (catalog : CatalogView) (cs : List Cursor) (old new : PoolState) (read 
   unknown_performs is = λ files shelf. (
     caused_inside (beside cs catalog old files shelf) (beside cs catalog new files shelf) why.UnknownCursor tt,
     λ told disk few setting gap s.
-      let fails : early setting (state_of catalog old.pages cs) (Next name count) ≡ Some why.UnknownCursor = rw is refl in
-      outcome_early setting (rises_between (beside cs catalog old files shelf) (beside cs catalog new files shelf)) (state_of catalog old.pages cs) (Next name count) (Refused why.UnknownCursor ∷ []) (state_of catalog new.pages cs)
-      why.UnknownCursor fails tt (refl, ap (λ m. state_of catalog m cs) read.pages),
+        let fails : early setting (state_of catalog old.pages cs) (Next name count) ≡ Some why.UnknownCursor = rw is refl in
+        outcome_early setting (rises_between (beside cs catalog old files shelf) (beside cs catalog new files shelf)) (state_of catalog old.pages cs) (Next name count) (Refused why.UnknownCursor ∷ []) (state_of catalog new.pages cs)
+        why.UnknownCursor fails tt (refl, ap (λ m. state_of catalog m cs) read.pages),
   )
 
   -- steps of the cursor of the name, behind which memory may be refused
@@ -76,13 +76,13 @@ module _ (catalog : CatalogView) (cs : List Cursor) (old new : PoolState) (read 
   memory_performs c after lines is steps = λ files shelf. (
     memory_caused (beside cs catalog old files shelf) (beside (replaced name after cs) catalog new files shelf) count c lines after steps,
     λ told disk few setting gap s.
-      let cs' : List Cursor = replaced name after cs in
-      let passes : early setting (state_of catalog old.pages cs) (Next name count) ≡ None = rw is refl in
-      let may : Refusal → Type 0 = IsLicensed setting (rises_between (beside cs catalog old files shelf) (beside cs' catalog new files shelf)) (state_of catalog old.pages cs) (Next name count) in
-      let made : Steps plan_measure may count c lines after = steps_allowed plan_measure IsMemory may (λ r k. subst may (sym k) tt) count c lines after steps in
-      let measured : Steps setting.gap may count c lines after = subst (λ (g : Measure). Steps g may count c lines after) (sym gap) made in
-      outcome_done setting (rises_between (beside cs catalog old files shelf) (beside cs' catalog new files shelf)) (state_of catalog old.pages cs) (Next name count) lines (state_of catalog new.pages cs')
-      passes refl (c, is, (after, measured, ap (λ m. state_of catalog m cs') read.pages)),
+        let cs' : List Cursor = replaced name after cs in
+        let passes : early setting (state_of catalog old.pages cs) (Next name count) ≡ None = rw is refl in
+        let may : Refusal → Type 0 = IsLicensed setting (rises_between (beside cs catalog old files shelf) (beside cs' catalog new files shelf)) (state_of catalog old.pages cs) (Next name count) in
+        let made : Steps plan_measure may count c lines after = steps_allowed plan_measure IsMemory may (λ r k. subst may (sym k) tt) count c lines after steps in
+        let measured : Steps setting.gap may count c lines after = subst (λ (g : Measure). Steps g may count c lines after) (sym gap) made in
+        outcome_done setting (rises_between (beside cs catalog old files shelf) (beside cs' catalog new files shelf)) (state_of catalog old.pages cs) (Next name count) lines (state_of catalog new.pages cs')
+        passes refl (c, is, (after, measured, ap (λ m. state_of catalog m cs') read.pages)),
   )
 
   -- a prefix of the lines of some steps is one of an outcome

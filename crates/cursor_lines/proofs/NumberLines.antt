@@ -42,18 +42,18 @@ module _ (catalog : CatalogView) (cs : List Cursor) (pool : PoolState) (name : L
   stats_performs c is = λ files shelf. (
     caused_plain (beside cs catalog pool files shelf) (beside cs catalog pool files shelf) (StatsLine c.counts c.given ∷ []) refl,
     λ told disk few setting gap s.
-      let passes : early setting (state_of catalog pool.pages cs) (StatsOf name) ≡ None = rw is refl in
-      outcome_done setting (rises_between (beside cs catalog pool files shelf) (beside cs catalog pool files shelf)) (state_of catalog pool.pages cs) (StatsOf name) (StatsLine c.counts c.given ∷ [])
-      (state_of catalog pool.pages cs) passes refl (c, is, (refl, refl)),
+        let passes : early setting (state_of catalog pool.pages cs) (StatsOf name) ≡ None = rw is refl in
+        outcome_done setting (rises_between (beside cs catalog pool files shelf) (beside cs catalog pool files shelf)) (state_of catalog pool.pages cs) (StatsOf name) (StatsLine c.counts c.given ∷ [])
+        (state_of catalog pool.pages cs) passes refl (c, is, (refl, refl)),
   )
 
   pub stats_unknown : named cs name ≡ None → PerformsBeside (StatsOf name) catalog pool pool cs cs (Refused why.UnknownCursor ∷ [])
   stats_unknown is = λ files shelf. (
     caused_inside (beside cs catalog pool files shelf) (beside cs catalog pool files shelf) why.UnknownCursor tt,
     λ told disk few setting gap s.
-      let fails : early setting (state_of catalog pool.pages cs) (StatsOf name) ≡ Some why.UnknownCursor = rw is refl in
-      outcome_early setting (rises_between (beside cs catalog pool files shelf) (beside cs catalog pool files shelf)) (state_of catalog pool.pages cs) (StatsOf name) (Refused why.UnknownCursor ∷ []) (state_of catalog pool.pages cs)
-      why.UnknownCursor fails tt (refl, refl),
+        let fails : early setting (state_of catalog pool.pages cs) (StatsOf name) ≡ Some why.UnknownCursor = rw is refl in
+        outcome_early setting (rises_between (beside cs catalog pool files shelf) (beside cs catalog pool files shelf)) (state_of catalog pool.pages cs) (StatsOf name) (Refused why.UnknownCursor ∷ []) (state_of catalog pool.pages cs)
+        why.UnknownCursor fails tt (refl, refl),
   )
 
   module _ (a b : List ℕ → Type 0) where

@@ -44,8 +44,8 @@ module _ (catalog : CatalogView) (cs : List Cursor) (old new : PoolState) (read 
   memory_refused statement = λ files shelf. (
     caused_inside (beside cs catalog old files shelf) (beside cs catalog new files shelf) why.Memory tt,
     λ told disk few setting gap s.
-      outcome_outside setting (rises_between (beside cs catalog old files shelf) (beside cs catalog new files shelf)) (state_of catalog old.pages cs) statement (Refused why.Memory ∷ []) (state_of catalog new.pages cs)
-      why.Memory tt (refl, ap (λ m. state_of catalog m cs) read.pages),
+        outcome_outside setting (rises_between (beside cs catalog old files shelf) (beside cs catalog new files shelf)) (state_of catalog old.pages cs) statement (Refused why.Memory ∷ []) (state_of catalog new.pages cs)
+        why.Memory tt (refl, ap (λ m. state_of catalog m cs) read.pages),
   )
 
   -- a check refuses
@@ -56,9 +56,9 @@ module _ (catalog : CatalogView) (cs : List Cursor) (old new : PoolState) (read 
     caused_inside (beside cs catalog old files shelf) (beside cs catalog new files shelf) w
         (check_blames_none w (open_refuses any_setting (state_of catalog old.pages cs) name p w (fails any_setting))),
     λ told disk few setting gap s.
-      outcome_early setting (rises_between (beside cs catalog old files shelf) (beside cs catalog new files shelf)) (state_of catalog old.pages cs) (Opens name p) (Refused w ∷ []) (state_of catalog new.pages cs)
-      w (fails setting) (caused (rises_between (beside cs catalog old files shelf) (beside cs catalog new files shelf)) w (open_refuses setting (state_of catalog old.pages cs) name p w (fails setting)))
-      (refl, ap (λ m. state_of catalog m cs) read.pages),
+        outcome_early setting (rises_between (beside cs catalog old files shelf) (beside cs catalog new files shelf)) (state_of catalog old.pages cs) (Opens name p) (Refused w ∷ []) (state_of catalog new.pages cs)
+        w (fails setting) (caused (rises_between (beside cs catalog old files shelf) (beside cs catalog new files shelf)) w (open_refuses setting (state_of catalog old.pages cs) name p w (fails setting)))
+        (refl, ap (λ m. state_of catalog m cs) read.pages),
   )
 
   module _ (count : ℕ) (p : Plan) where
@@ -67,9 +67,9 @@ module _ (catalog : CatalogView) (cs : List Cursor) (old new : PoolState) (read 
       caused_inside (beside cs catalog old files shelf) (beside cs catalog new files shelf) w
           (check_blames_none w (show_refuses any_setting (state_of catalog old.pages cs) count p w (fails any_setting))),
       λ told disk few setting gap s.
-        outcome_early setting (rises_between (beside cs catalog old files shelf) (beside cs catalog new files shelf)) (state_of catalog old.pages cs) (Show count p) (Refused w ∷ []) (state_of catalog new.pages cs)
-        w (fails setting) (caused (rises_between (beside cs catalog old files shelf) (beside cs catalog new files shelf)) w (show_refuses setting (state_of catalog old.pages cs) count p w (fails setting)))
-        (refl, ap (λ m. state_of catalog m cs) read.pages),
+          outcome_early setting (rises_between (beside cs catalog old files shelf) (beside cs catalog new files shelf)) (state_of catalog old.pages cs) (Show count p) (Refused w ∷ []) (state_of catalog new.pages cs)
+          w (fails setting) (caused (rises_between (beside cs catalog old files shelf) (beside cs catalog new files shelf)) w (show_refuses setting (state_of catalog old.pages cs) count p w (fails setting)))
+          (refl, ap (λ m. state_of catalog m cs) read.pages),
     )
 
     module _ (passes : (setting : Setting) → early setting (state_of catalog old.pages cs) (Show count p) ≡ None) where
@@ -83,12 +83,12 @@ module _ (catalog : CatalogView) (cs : List Cursor) (old new : PoolState) (read 
       performs may after lines allowed cause steps = λ files shelf. (
         steps_caused (beside cs catalog old files shelf) (beside cs catalog new files shelf) plan_measure may (cause files shelf) count (new_cursor [] p (database_in old.pages catalog.relations)) lines after steps,
         λ told disk few setting gap s.
-          let made : Steps plan_measure (May files shelf setting) count (new_cursor [] p (database_in old.pages catalog.relations)) lines after =
-          steps_allowed plan_measure may (May files shelf setting) (allowed files shelf told disk setting) count (new_cursor [] p (database_in old.pages catalog.relations)) lines after steps in
-          let measured : Steps setting.gap (May files shelf setting) count (new_cursor [] p (database_in old.pages catalog.relations)) lines after =
-          subst (λ (g : Measure). Steps g (May files shelf setting) count (new_cursor [] p (database_in old.pages catalog.relations)) lines after) (sym gap) made in
-          outcome_done setting (rises_between (beside cs catalog old files shelf) (beside cs catalog new files shelf)) (state_of catalog old.pages cs) (Show count p) lines (state_of catalog new.pages cs)
-          (passes setting) refl (after, measured, ap (λ m. state_of catalog m cs) read.pages),
+            let made : Steps plan_measure (May files shelf setting) count (new_cursor [] p (database_in old.pages catalog.relations)) lines after =
+            steps_allowed plan_measure may (May files shelf setting) (allowed files shelf told disk setting) count (new_cursor [] p (database_in old.pages catalog.relations)) lines after steps in
+            let measured : Steps setting.gap (May files shelf setting) count (new_cursor [] p (database_in old.pages catalog.relations)) lines after =
+            subst (λ (g : Measure). Steps g (May files shelf setting) count (new_cursor [] p (database_in old.pages catalog.relations)) lines after) (sym gap) made in
+            outcome_done setting (rises_between (beside cs catalog old files shelf) (beside cs catalog new files shelf)) (state_of catalog old.pages cs) (Show count p) lines (state_of catalog new.pages cs)
+            (passes setting) refl (after, measured, ap (λ m. state_of catalog m cs) read.pages),
       )
 
       licensed : (files : Option Files) (shelf : ℕ) (setting : Setting) (w : Refusal) → IsOfPages (Some w) → HasCause {T = ⊤} old new (Err w) → IsTold old → new.disk.faults < last_count → May files shelf setting w

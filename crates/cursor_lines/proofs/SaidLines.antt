@@ -13,5 +13,8 @@ use Rattle.cursor_exec.specs.Outcomes.{PerformsLowest}
 
 pub said_beside : (line : List ℕ) (statement : Statement) (old new : Moment) (lines : List OutputLine) → Says line (Some statement) → PerformsLowest (spoken (statement_value statement)) old new lines
     → CarriesLine (Some line) old new lines
-said_beside line statement old new lines says h = (h.0, λ told is t disk shelf setting gap s.
-    inl (subst (λ (x : ScriptLine). LineOutcome setting (rises_between old new) old.state x lines new.state) (sym (says.1 told is)) (h.1 t disk shelf setting gap s)))
+said_beside line statement old new lines says h = (
+  h.0,
+  λ told is t disk shelf setting gap s.
+      inl (subst (λ (x : ScriptLine). LineOutcome setting (rises_between old new) old.state x lines new.state) (sym (says.1 told is)) (h.1 t disk shelf setting gap s)),
+)

@@ -30,13 +30,19 @@ use Rattle.script_run.specs.declared.turn.Turn.TheVariants as turn
 -- a statement's outcome is that of its line
 of_statement : (line : List ℕ) (statement : Statement) (old new : Moment) (lines : List OutputLine) → Says line (Some statement) → Performs (spoken (statement_value statement)) old new lines
     → CarriesLine (Some line) old new lines
-of_statement line statement old new lines says h = (h.0, λ told is t disk shelf setting gap s.
-    inl (subst (λ (x : ScriptLine). LineOutcome setting (rises_between old new) old.state x lines new.state) (sym (says.1 told is)) (h.1 t disk shelf setting s)))
+of_statement line statement old new lines says h = (
+  h.0,
+  λ told is t disk shelf setting gap s.
+      inl (subst (λ (x : ScriptLine). LineOutcome setting (rises_between old new) old.state x lines new.state) (sym (says.1 told is)) (h.1 t disk shelf setting s)),
+)
 
 -- a line that is passed over
 pub passed_over : (line : List ℕ) (m : Moment) → Says line None → CarriesLine (Some line) m m []
-passed_over line m says = (caused_none m m, λ told is t disk shelf setting gap s.
-    inl (subst (λ (x : ScriptLine). LineOutcome setting (rises_between m m) m.state x [] m.state) (sym (says told is)) (refl, refl)))
+passed_over line m says = (
+  caused_none m m,
+  λ told is t disk shelf setting gap s.
+      inl (subst (λ (x : ScriptLine). LineOutcome setting (rises_between m m) m.state x [] m.state) (sym (says told is)) (refl, refl)),
+)
 
 -- a line that can't be read
 pub unread : (line : List ℕ) (m : Moment) (w : Refusal) → Refuses line w → BlamesNone w → CarriesLine (Some line) m m (Refused w ∷ [])
@@ -51,8 +57,11 @@ unread line m w (inr h) none = (caused_inside m m w none, λ told is t disk shel
 
 -- a line that is too long
 too_long : (m : Moment) → CarriesLine None m m (Refused why.LineTooLong ∷ [])
-too_long m = (caused_inside m m why.LineTooLong tt, λ told is t disk shelf setting gap s.
-    inl (subst (λ (x : ScriptLine). LineOutcome setting (rises_between m m) m.state x (Refused why.LineTooLong ∷ []) m.state) (sym is) (refl, refl)))
+too_long m = (
+  caused_inside m m why.LineTooLong tt,
+  λ told is t disk shelf setting gap s.
+      inl (subst (λ (x : ScriptLine). LineOutcome setting (rises_between m m) m.state x (Refused why.LineTooLong ∷ []) m.state) (sym is) (refl, refl)),
+)
 
 module _ (old new : Moment) (a b : List ℕ → Type 0) where
   -- the turn of a statement is that of its line

@@ -90,21 +90,24 @@ caused_append old mid new first more f g h k = record {
 -- one more line was carried out
 pub lines_append : (old mid new : Moment) (lines : List (List ℕ)) (line : List ℕ) (printed more : List OutputLine) → Follows old mid → Follows mid new
     → CarriesLines lines old mid printed → CarriesLine (clipped line) mid new more → CarriesLines (lines ++ line ∷ []) old new (printed ++ more)
-lines_append old mid new lines line printed more f g ran own = (caused_append old mid new printed more f g ran.0 own.0, λ script are told disk shelf setting gap s.
-    let parts = split_lines lines line script are in
-    let before : List ScriptLine = parts.0 in
-    let last : ScriptLine = parts.1.0 in
-    let disk_up : mid.disk ≤ new.disk = g.disk disk in
-    let shelf_up : mid.shelf ≤ new.shelf = g.shelf shelf in
-    let disk' : mid.disk < last_count = omega (arith, disk, disk_up) in
-    let shelf' : mid.shelf < last_count = omega (arith, shelf, shelf_up) in
-    let told' : IsTrue mid.told = f.told ∙ told in
-    let one = own.1 last parts.1.1.1.1 told' disk shelf setting gap (setting_later old mid setting f s) in
-    let all : Run setting old.state before (rises_between old mid) printed mid.state = ran.1 before parts.1.1.1.0 told disk' shelf' setting gap s in
-    let fit : FitIn (rises_between old mid) (rises_between mid new) (rises_between old new) =
-    record { disk = omega (arith, f.disk disk', disk_up); shelf = omega (arith, f.shelf shelf', shelf_up) } in
-    subst (λ (xs : List ScriptLine). Run setting old.state xs (rises_between old new) (printed ++ more) new.state) (sym parts.1.1.0)
-    (run_append setting old.state mid.state new.state before last (rises_between old mid) (rises_between mid new) (rises_between old new) printed more all one fit))
+lines_append old mid new lines line printed more f g ran own = (
+  caused_append old mid new printed more f g ran.0 own.0,
+  λ script are told disk shelf setting gap s.
+      let parts = split_lines lines line script are in
+      let before : List ScriptLine = parts.0 in
+      let last : ScriptLine = parts.1.0 in
+      let disk_up : mid.disk ≤ new.disk = g.disk disk in
+      let shelf_up : mid.shelf ≤ new.shelf = g.shelf shelf in
+      let disk' : mid.disk < last_count = omega (arith, disk, disk_up) in
+      let shelf' : mid.shelf < last_count = omega (arith, shelf, shelf_up) in
+      let told' : IsTrue mid.told = f.told ∙ told in
+      let one = own.1 last parts.1.1.1.1 told' disk shelf setting gap (setting_later old mid setting f s) in
+      let all : Run setting old.state before (rises_between old mid) printed mid.state = ran.1 before parts.1.1.1.0 told disk' shelf' setting gap s in
+      let fit : FitIn (rises_between old mid) (rises_between mid new) (rises_between old new) =
+      record { disk = omega (arith, f.disk disk', disk_up); shelf = omega (arith, f.shelf shelf', shelf_up) } in
+      subst (λ (xs : List ScriptLine). Run setting old.state xs (rises_between old new) (printed ++ more) new.state) (sym parts.1.1.0)
+      (run_append setting old.state mid.state new.state before last (rises_between old mid) (rises_between mid new) (rises_between old new) printed more all one fit),
+)
 
 -- what follows a moment that follows another follows that one
 pub follows_on : (old mid new : Moment) → Follows old mid → Follows mid new → Follows old new

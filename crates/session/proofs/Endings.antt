@@ -60,7 +60,7 @@ ends_done : (first now : Moment) (script left : Option (List ℕ)) (took : List 
 ends_done first now script left took text b o =
     let whole : Prints (CarriesLines (lines o.bytes) first now) b text = subst (λ l. Prints (CarriesLines l first now) b text) (sym o.over.2) o.printed in
     still took text (λ all. OfWhole script left (λ bytes. Prints (CarriesLines (lines bytes) first now) b all))
-        (o.over.0, (o.bytes, o.consumed, (o.over.1, whole)))
+    (o.over.0, (o.bytes, o.consumed, (o.over.1, whole)))
 
 -- by the status
 ends_by : (why : Status) (first now : Moment) (script left : Option (List ℕ)) (took : List ℕ → Type 0) (text : List ℕ) (b : Bool) → Over why first now script left text b

@@ -247,8 +247,10 @@ module _ (catalog : CatalogView) (old mid : Spot) (items : List (OpenCursor Sour
           follows = follows_state first (beside run.cs catalog mid.desk.pool files shelf) (beside [] catalog mid.desk.pool files shelf).state so_far.follows;
           printed = record {
             lines = so_far.printed.lines;
-            holds = (caused_state first (beside run.cs catalog mid.desk.pool files shelf) (beside [] catalog mid.desk.pool files shelf).state so_far.printed.lines so_far.printed.holds.0,
-                λ said are told. absurd (false≢true (sym e ∙ so_far.follows.told ∙ told)));
+            holds = (
+              caused_state first (beside run.cs catalog mid.desk.pool files shelf) (beside [] catalog mid.desk.pool files shelf).state so_far.printed.lines so_far.printed.holds.0,
+              λ said are told. absurd (false≢true (sym e ∙ so_far.follows.told ∙ told)),
+            );
             told = so_far.printed.told;
             refused = so_far.printed.refused;
           };

@@ -49,10 +49,13 @@ module _ (catalog : CatalogView) (column : Column) (old new : PoolState) (read :
   -- all leaves
   blocks_done : (tree : Pmr) (visited : Leaves) → HasTree catalog column tree old.pages → (IsTold old → leaves root_block (tree_at old.pages tree) ≡ visited)
       → Reads (Blocks column) catalog old new (lines_of visited)
-  blocks_done tree visited h all = λ cursors files shelf. (caused_plain (beside cursors catalog old files shelf) (beside cursors catalog new files shelf) (lines_of visited) (none_refused visited), λ told disk few setting s.
-      let lines : lines_of visited ≡ leaf_lines h.relation column.column = sym (h.lines ∙ ap lines_of (all told)) in
-      outcome_done setting (rises cursors files shelf) (state_of catalog old.pages cursors) (Blocks column) (lines_of visited) (state_of catalog new.pages cursors)
-      (h.passes setting cursors) refl (h.relation, h.named, (inl lines, same_state cursors)))
+  blocks_done tree visited h all = λ cursors files shelf. (
+    caused_plain (beside cursors catalog old files shelf) (beside cursors catalog new files shelf) (lines_of visited) (none_refused visited),
+    λ told disk few setting s.
+        let lines : lines_of visited ≡ leaf_lines h.relation column.column = sym (h.lines ∙ ap lines_of (all told)) in
+        outcome_done setting (rises cursors files shelf) (state_of catalog old.pages cursors) (Blocks column) (lines_of visited) (state_of catalog new.pages cursors)
+        (h.passes setting cursors) refl (h.relation, h.named, (inl lines, same_state cursors)),
+  )
 
   -- a fault of a page is licensed
   licensed : {T : Type 0} (cursors : List Cursor) (files : Option Files) (shelf : ℕ) (setting : Setting) (fault : PageFault) → HasPageCause {T = T} old new (Err fault) → IsTold old
@@ -74,12 +77,12 @@ module _ (catalog : CatalogView) (column : Column) (old new : PoolState) (read :
     caused_behind (beside cursors catalog old files shelf) (beside cursors catalog new files shelf) (lines_of visited) (Refused w ∷ []) (none_refused visited)
         (caused_refusal (beside cursors catalog old files shelf) (beside cursors catalog new files shelf) w (caused cursors files shelf)),
     λ told disk few setting s.
-      let f : AreFirst (leaves root_block (tree_at old.pages tree)) visited = first told in
-      let split : leaf_lines h.relation column.column ≡ lines_of visited ++ lines_of f.rest =
-      h.lines ∙ (ap lines_of f.all_are ∙ map-append (λ (l : Block × List ℕ). LeafOf l.0 l.1) visited f.rest) in
-      outcome_done setting (rises cursors files shelf) (state_of catalog old.pages cursors) (Blocks column) (lines_of visited ++ Refused w ∷ []) (state_of catalog new.pages cursors)
-      (h.passes setting cursors) refl
-      (h.relation, h.named, (inr (lines_of visited, lines_of f.rest, w, may cursors files shelf setting told disk, split, refl), same_state cursors)),
+        let f : AreFirst (leaves root_block (tree_at old.pages tree)) visited = first told in
+        let split : leaf_lines h.relation column.column ≡ lines_of visited ++ lines_of f.rest =
+        h.lines ∙ (ap lines_of f.all_are ∙ map-append (λ (l : Block × List ℕ). LeafOf l.0 l.1) visited f.rest) in
+        outcome_done setting (rises cursors files shelf) (state_of catalog old.pages cursors) (Blocks column) (lines_of visited ++ Refused w ∷ []) (state_of catalog new.pages cursors)
+        (h.passes setting cursors) refl
+        (h.relation, h.named, (inr (lines_of visited, lines_of f.rest, w, may cursors files shelf setting told disk, split, refl), same_state cursors)),
   )
 
   pub up_to_end : (tree : Pmr) (a b : List ℕ → Type 0) → HasTree catalog column tree old.pages → WritesAll (IsTold old) (leaves root_block (tree_at old.pages tree)) a b
@@ -116,7 +119,7 @@ up_to_check catalog column old a w h o = record {
   holds = λ cursors files shelf. (
     caused_inside (beside cursors catalog old files shelf) (beside cursors catalog old files shelf) w (check_blames_none w o),
     λ told disk few setting s.
-      outcome_early setting (rises_between (beside cursors catalog old files shelf) (beside cursors catalog old files shelf)) (state_of catalog old.pages cursors) (Blocks column) (Refused w ∷ []) (state_of catalog old.pages cursors)
-      w (h setting cursors) (caused (rises_between (beside cursors catalog old files shelf) (beside cursors catalog old files shelf)) w o) (refl, refl),
+        outcome_early setting (rises_between (beside cursors catalog old files shelf) (beside cursors catalog old files shelf)) (state_of catalog old.pages cursors) (Blocks column) (Refused w ∷ []) (state_of catalog old.pages cursors)
+        w (h setting cursors) (caused (rises_between (beside cursors catalog old files shelf) (beside cursors catalog old files shelf)) w o) (refl, refl),
   );
 }

@@ -11,8 +11,7 @@ use Rattle.sand_model.specs.Cursor.{Loaded as LoadedLine, Refused}
 use Rattle.sand_model.specs.Database.{Database, Relation, relation_named, changed_at, has_name}
 use Rattle.sand_model.specs.Outcome.{Rises, Outcome}
 use Rattle.sand_model.specs.Statement.{Statement, Load}
-use Rattle.sand_model.specs.StatementChecks.{Setting, IsSetting, FileRows, AreRows, HasBad, early, late, entered, file_rows, in_relation}
-use Rattle.ring_geom.proofs.Measured.{measured}
+use Rattle.sand_model.specs.StatementChecks.{Setting, early, late, entered, file_rows, in_relation}
 use Rattle.sand_store.proofs.SchemaRows.{loaded_entered}
 use Rattle.sand_store.specs.Calls.{Refuses, HasCause, IsUnchanged, Loaded, LoadIsRefusedBy, loaded, load_early, load_late, alone, is_of_a_row}
 use Rattle.sand_store.specs.Catalog.{StoreState}
@@ -73,19 +72,22 @@ module _ (old new : StoreState) (load : LoadOf) (files files' : Option Files) (s
   -- the rows were added
   pub loaded_call : (rows : List (List Value)) (count : ℕ) → InSettings old.catalog files (λ setting state. Yields setting state load rows)
       → Loaded old new load.relation rows count → Performs (load_statement load) (moment_of old files shelf) (moment_of new files' shelf') (LoadedLine count ∷ [])
-  loaded_call rows count given h = (caused_plain (moment_of old files shelf) (moment_of new files' shelf') (LoadedLine count ∷ []) refl, λ told disk few setting s.
-      let y : Yields setting (alone (database old)) load rows = given old.pool shelf setting s in
-      let passes : late setting (alone (database old)) (load_statement load) ≡ None = sym (late_is setting rows y) ∙ h.late told setting s.is s.limits in
-      let d : Database = database old in
-      let by_rows : (Relation → Relation) = λ r. (loaded setting rows r).1 in
-      let by_file : (Relation → Relation) = λ r. (entered setting (file_rows setting load.file load.header y.relation) r).1 in
-      let same : by_rows y.relation ≡ by_file y.relation =
-      ap (λ (p : Option Refusal × Relation). p.1) (loaded_entered setting rows y.relation y.of_schema)
-      ∙ sym (ap (λ (xs : List (List Value)). (entered setting xs y.relation).1) y.rows_are) in
-      let becomes : database new ≡ changed_at load.relation by_file d = h.becomes told setting s.is s.limits ∙ changed_alike by_rows by_file load.relation d y.relation y.named same in
-      let counted : count ≡ length (file_rows setting load.file load.header y.relation) = h.counted ∙ sym (ap (λ (xs : List (List Value)). length xs) y.rows_are) in
-      outcome_done setting rises (alone d) (load_statement load) (LoadedLine count ∷ []) (alone (database new)) y.passes passes
-      (y.relation, y.named, (ap (λ (n : ℕ). LoadedLine n ∷ []) counted, ap alone becomes)))
+  loaded_call rows count given h = (
+    caused_plain (moment_of old files shelf) (moment_of new files' shelf') (LoadedLine count ∷ []) refl,
+    λ told disk few setting s.
+        let y : Yields setting (alone (database old)) load rows = given old.pool shelf setting s in
+        let passes : late setting (alone (database old)) (load_statement load) ≡ None = sym (late_is setting rows y) ∙ h.late told setting s.is s.limits in
+        let d : Database = database old in
+        let by_rows : (Relation → Relation) = λ r. (loaded setting rows r).1 in
+        let by_file : (Relation → Relation) = λ r. (entered setting (file_rows setting load.file load.header y.relation) r).1 in
+        let same : by_rows y.relation ≡ by_file y.relation =
+        ap (λ (p : Option Refusal × Relation). p.1) (loaded_entered setting rows y.relation y.of_schema)
+        ∙ sym (ap (λ (xs : List (List Value)). (entered setting xs y.relation).1) y.rows_are) in
+        let becomes : database new ≡ changed_at load.relation by_file d = h.becomes told setting s.is s.limits ∙ changed_alike by_rows by_file load.relation d y.relation y.named same in
+        let counted : count ≡ length (file_rows setting load.file load.header y.relation) = h.counted ∙ sym (ap (λ (xs : List (List Value)). length xs) y.rows_are) in
+        outcome_done setting rises (alone d) (load_statement load) (LoadedLine count ∷ []) (alone (database new)) y.passes passes
+        (y.relation, y.named, (ap (λ (n : ℕ). LoadedLine n ∷ []) counted, ap alone becomes)),
+  )
 
   -- a row was refused, or the outside refused
   pub refused_load : {T : Type 0} (rows : List (List Value)) (w : Refusal) → InSettings old.catalog files (λ setting state. Yields setting state load rows)
@@ -95,17 +97,17 @@ module _ (old new : StoreState) (load : LoadOf) (files files' : Option Files) (s
     caused_refusal (moment_of old files shelf) (moment_of new files' shelf') w
         (pools_cause [] [] old.catalog new.catalog old.pool new.pool same.told files files' shelf shelf' {T = T} w cause (not_of_file old load.relation rows w h)),
     λ told disk few setting s.
-      let y : Yields setting (alone (database old)) load rows = given old.pool shelf setting s in
-      let before : load_early old load.relation ≡ None = rw y.named refl in
-      let r : Refuses (IsTold old.pool) is_of_a_row (early setting (alone (database old)) (load_statement load)) (late setting (alone (database old)) (load_statement load)) w =
-      subst (λ (b : Option Refusal). Refuses (IsTold old.pool) is_of_a_row b (late setting (alone (database old)) (load_statement load)) w) (before ∙ sym y.passes)
-      (subst (λ (b : Option Refusal). Refuses (IsTold old.pool) is_of_a_row (load_early old load.relation) b w) (late_is setting rows y) (h setting s.is s.limits)) in
-      let told' : IsTold new.pool = same.told ∙ told in
-      let n : w ≡ why.File → ⊥ = λ e.
-      let k : Refuses (IsTold old.pool) is_of_a_row (early setting (alone (database old)) (load_statement load)) (late setting (alone (database old)) (load_statement load)) why.File = rw e at r in
-      true≢false (sym (ap (λ (o : Option Refusal). is_some o) k) ∙ ap (λ (o : Option Refusal). is_some o) y.passes) in
-      refused setting rises (alone (database old)) (load_statement load) (Refused w ∷ []) (alone (database new)) (IsTold old.pool) told is_of_a_row refl w
-      (allowed {T = T} rises old.pool new.pool w cause told' disk refl n) r (refl, ap alone (same_database old new same told)),
+        let y : Yields setting (alone (database old)) load rows = given old.pool shelf setting s in
+        let before : load_early old load.relation ≡ None = rw y.named refl in
+        let r : Refuses (IsTold old.pool) is_of_a_row (early setting (alone (database old)) (load_statement load)) (late setting (alone (database old)) (load_statement load)) w =
+        subst (λ (b : Option Refusal). Refuses (IsTold old.pool) is_of_a_row b (late setting (alone (database old)) (load_statement load)) w) (before ∙ sym y.passes)
+        (subst (λ (b : Option Refusal). Refuses (IsTold old.pool) is_of_a_row (load_early old load.relation) b w) (late_is setting rows y) (h setting s.is s.limits)) in
+        let told' : IsTold new.pool = same.told ∙ told in
+        let n : w ≡ why.File → ⊥ = λ e.
+        let k : Refuses (IsTold old.pool) is_of_a_row (early setting (alone (database old)) (load_statement load)) (late setting (alone (database old)) (load_statement load)) why.File = rw e at r in
+        true≢false (sym (ap (λ (o : Option Refusal). is_some o) k) ∙ ap (λ (o : Option Refusal). is_some o) y.passes) in
+        refused setting rises (alone (database old)) (load_statement load) (Refused w ∷ []) (alone (database new)) (IsTold old.pool) told is_of_a_row refl w
+        (allowed {T = T} rises old.pool new.pool w cause told' disk refl n) r (refl, ap alone (same_database old new same told)),
   )
 
 pub shelf_stays : (shelf : ℕ) (w : Refusal) → (w ≡ why.File → ⊥) → shelf ≡ shelf_at shelf w

@@ -1,6 +1,6 @@
 -- No check of a plan, nor of an opening or a showing of one, speaks of the outside.
 use Rattle.std.proofs.Common.{◌≡◌, Bool, true, false, ◌&&◌, List, [], ◌∷◌, ℕ, length, Option, Some, None, refl, subst, true≢false}
-use Rattle.std.specs.Prelude.{nat_le, nat_lt, ⊤}
+use Rattle.std.specs.Prelude.{nat_le, nat_lt}
 use Rattle.sand_base.specs.Shape.{value_kind, same_kind, is_spatial}
 use Rattle.sand_base.specs.declared.kind.Kind.{Kind}
 use Rattle.sand_base.specs.declared.kind.Kind.TheVariants as kind
@@ -121,7 +121,7 @@ inside_check _ h = tt
 
 -- the checks of a plan, that of its depth too
 pub plan_refuses : (d : Database) (p : Plan) (w : Refusal) → check d p ≡ Some w → IsOfCheck w
-plan_refuses d p w e = inside_check w (subst IsInside e (inside_two (check_operators d p) (check_depth p) (inside_operators d p) (inside_depth p))) 
+plan_refuses d p w e = inside_check w (subst IsInside e (inside_two (check_operators d p) (check_depth p) (inside_operators d p) (inside_depth p)))
 
 pub operators_refuse : (d : Database) (p : Plan) (w : Refusal) → check_operators d p ≡ Some w → IsOfCheck w
 operators_refuse d p w e = inside_check w (subst IsInside e (inside_operators d p))

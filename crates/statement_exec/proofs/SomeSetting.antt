@@ -1,5 +1,5 @@
 -- A setting of any store.
-use Rattle.std.proofs.Common.{◌≡◌, Bool, true, false, None, sym, ap, true≢false}
+use Rattle.std.proofs.Common.{Bool, true, false, None, sym, ap, true≢false}
 use Rattle.ring_geom.proofs.Measured.{measured}
 use Rattle.sand_model.specs.StatementChecks.{Setting, IsSetting, FileRows, AreRows, HasBad}
 use Rattle.sand_store.specs.Catalog.{StoreState}

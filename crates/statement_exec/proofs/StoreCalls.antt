@@ -29,31 +29,43 @@ use Rattle.statement_exec.proofs.Refusals.{refused, allowed, no_file, Never, nev
 
 pub created : (old new : StoreState) (name : List ℕ) (schema : List (List ℕ × Kind)) → Created old new name schema
     → Changes (Create name schema) old new (Ok reply.Accepted)
-created old new name schema h = λ files shelf. (caused_plain (moment_of old files shelf) (moment_of new files shelf) (Accepted ∷ []) refl, λ told disk few setting s.
-    let p = h.passes setting s.is s.limits in
-    outcome_done setting (rises_between (moment_of old files shelf) (moment_of new files shelf)) (alone (database old)) (Create name schema) (Accepted ∷ []) (alone (database new))
-    p.0 (p.1 told) (refl, ap alone (h.becomes told setting.gap s.is.gap)))
+created old new name schema h = λ files shelf. (
+  caused_plain (moment_of old files shelf) (moment_of new files shelf) (Accepted ∷ []) refl,
+  λ told disk few setting s.
+      let p = h.passes setting s.is s.limits in
+      outcome_done setting (rises_between (moment_of old files shelf) (moment_of new files shelf)) (alone (database old)) (Create name schema) (Accepted ∷ []) (alone (database new))
+      p.0 (p.1 told) (refl, ap alone (h.becomes told setting.gap s.is.gap)),
+)
 
 pub inserted : (old new : StoreState) (name : List ℕ) (row : List Value) (id : ℕ) → Inserted old new name row id
     → Changes (Insert name row) old new (Ok (reply.Id id))
-inserted old new name row id h = λ files shelf. (caused_plain (moment_of old files shelf) (moment_of new files shelf) (Id id ∷ []) refl, λ told disk few setting s.
-    let p = h.passes setting s.is s.limits in
-    outcome_done setting (rises_between (moment_of old files shelf) (moment_of new files shelf)) (alone (database old)) (Insert name row) (Id id ∷ []) (alone (database new))
-    p.0 (p.1 told) (h.next.0, h.next.1.0, (ap (λ (n : ℕ). Id n ∷ []) h.next.1.1, ap alone (h.becomes told setting.gap s.is.gap))))
+inserted old new name row id h = λ files shelf. (
+  caused_plain (moment_of old files shelf) (moment_of new files shelf) (Id id ∷ []) refl,
+  λ told disk few setting s.
+      let p = h.passes setting s.is s.limits in
+      outcome_done setting (rises_between (moment_of old files shelf) (moment_of new files shelf)) (alone (database old)) (Insert name row) (Id id ∷ []) (alone (database new))
+      p.0 (p.1 told) (h.next.0, h.next.1.0, (ap (λ (n : ℕ). Id n ∷ []) h.next.1.1, ap alone (h.becomes told setting.gap s.is.gap))),
+)
 
 pub deleted : (old new : StoreState) (name : List ℕ) (id : ℕ) → Deleted old new name id
     → Changes (Delete name id) old new (Ok reply.Accepted)
-deleted old new name id h = λ files shelf. (caused_plain (moment_of old files shelf) (moment_of new files shelf) (Accepted ∷ []) refl, λ told disk few setting s.
-    let p = h.passes setting s.is s.limits in
-    outcome_done setting (rises_between (moment_of old files shelf) (moment_of new files shelf)) (alone (database old)) (Delete name id) (Accepted ∷ []) (alone (database new))
-    p.0 (p.1 told) (refl, ap alone (h.becomes told setting.gap s.is.gap)))
+deleted old new name id h = λ files shelf. (
+  caused_plain (moment_of old files shelf) (moment_of new files shelf) (Accepted ∷ []) refl,
+  λ told disk few setting s.
+      let p = h.passes setting s.is s.limits in
+      outcome_done setting (rises_between (moment_of old files shelf) (moment_of new files shelf)) (alone (database old)) (Delete name id) (Accepted ∷ []) (alone (database new))
+      p.0 (p.1 told) (refl, ap alone (h.becomes told setting.gap s.is.gap)),
+)
 
 pub indexed : (old new : StoreState) (column : Column) (threshold : Option ℕ) → Indexed old new column threshold
     → Changes (Index column threshold) old new (Ok reply.Accepted)
-indexed old new column threshold h = λ files shelf. (caused_plain (moment_of old files shelf) (moment_of new files shelf) (Accepted ∷ []) refl, λ told disk few setting s.
-    let p = h.passes setting s.is s.limits in
-    outcome_done setting (rises_between (moment_of old files shelf) (moment_of new files shelf)) (alone (database old)) (Index column threshold) (Accepted ∷ []) (alone (database new))
-    p.0 (p.1 told) (refl, ap alone (h.becomes told setting.gap s.is.gap)))
+indexed old new column threshold h = λ files shelf. (
+  caused_plain (moment_of old files shelf) (moment_of new files shelf) (Accepted ∷ []) refl,
+  λ told disk few setting s.
+      let p = h.passes setting s.is s.limits in
+      outcome_done setting (rises_between (moment_of old files shelf) (moment_of new files shelf)) (alone (database old)) (Index column threshold) (Accepted ∷ []) (alone (database new))
+      p.0 (p.1 told) (refl, ap alone (h.becomes told setting.gap s.is.gap)),
+)
 
 -- a database whose pages and catalog are as before is as before
 pub same_database : (old new : StoreState) → IsUnchanged old new → IsTold old.pool → database new ≡ database old
@@ -66,11 +78,11 @@ pub refused_call : {T : Type 0} (old new : StoreState) (statement : Statement) (
 refused_call {T} old new statement is_late w uses late_file never same h cause = λ files shelf. (
   caused_refusal (moment_of old files shelf) (moment_of new files shelf) w (pools_cause [] [] old.catalog new.catalog old.pool new.pool same.told files files shelf shelf {T = T} w cause (by_setting (some_setting old) (is_some_setting old) refl)),
   λ told disk few setting s.
-    let told' : IsTold new.pool = same.told ∙ told in
-    let rises : Rises = rises_between (moment_of old files shelf) (moment_of new files shelf) in
-    let r = h setting s.is s.limits in
-    refused setting rises (alone (database old)) statement (Refused w ∷ []) (alone (database new)) (IsTold old.pool) told is_late uses w
-    (allowed {T = T} rises old.pool new.pool w cause told' disk refl (by_setting setting s.is s.limits)) r (refl, ap alone (same_database old new same told)),
+      let told' : IsTold new.pool = same.told ∙ told in
+      let rises : Rises = rises_between (moment_of old files shelf) (moment_of new files shelf) in
+      let r = h setting s.is s.limits in
+      refused setting rises (alone (database old)) statement (Refused w ∷ []) (alone (database new)) (IsTold old.pool) told is_late uses w
+      (allowed {T = T} rises old.pool new.pool w cause told' disk refl (by_setting setting s.is s.limits)) r (refl, ap alone (same_database old new same told)),
 ) where
   -- no check asks for a file
   by_setting : (setting : Setting) → IsSetting setting → setting.limits ≡ old.catalog.limits → w ≡ why.File → ⊥
