@@ -55,9 +55,8 @@ pub fn tried(alloc: Global) -> Result<u64, Trouble> {
         let front: Vec<u8> = RECORDS.iter().copied().take(bytes).collect(alloc)?;
         let case = Case {
             words: &[],
-            script: SCRIPT,
-            name: "p.csv",
-            file: front.as_slice(),
+            script: SCRIPT.as_bytes(),
+            files: &[("p.csv", front.as_slice())],
         };
         let given = answer_of(alloc, &case, Fault::Nothing)?;
         let wanted = text_of(alloc, load_of(bytes))?;

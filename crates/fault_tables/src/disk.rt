@@ -43,9 +43,8 @@ pub fn answer_to(
     let script = joined(alloc, parts)?;
     let case = Case {
         words: FRAMES,
-        script: script.as_str(),
-        name: FILE,
-        file,
+        script: script.as_bytes(),
+        files: &[(FILE, file)],
     };
     answer_of(alloc, &case, fault)
 }

@@ -1,16 +1,18 @@
-// One run over streams, a data file and a disk in memory, in which one call may fail.
+// One run over streams, data files and a disk in memory, in which one call may fail.
+ghost use Rattle.sand_store.specs.Catalog.{IsLimits};
+
 use page_pool::MemDisk;
-use sand_base::{Label, MemShelf, MemSink, MemSource, NoMemory};
-use session::{Status, run};
+use sand_base::{Label, Limits, MemShelf, MemSink, MemSource, NoMemory};
+use session::{Status, run_within};
 use std::alloc::Global;
 
 /// The bytes that the source gives at a time.
 const CHUNK: usize = 16;
 
-/// The bytes for which the sink has room.
+/// The bytes for which the sink has room, where it isn't short of it.
 const ROOM: usize = 1 << 18;
 
-/// The call that fails, by its number from 1.
+/// The call that fails, by its number from 1, or the room that is short.
 #[derive(Clone, Copy)]
 pub enum Fault {
     /// No call fails.
@@ -23,15 +25,16 @@ pub enum Fault {
     Shelf(u64),
     /// A call of the disk.
     Disk(u64),
+    /// The answers have room for so many bytes.
+    Room(usize),
 }
 
-/// What a run is over: its words, its script, and the name and the text of its data file.
+/// What a run is over: its words, its script, and its data files with their names.
 #[derive(Clone, Copy)]
-pub struct Case<'s, 'f> {
-    pub words: &'static [&'static str],
-    pub script: &'s str,
-    pub name: &'static str,
-    pub file: &'f [u8],
+pub struct Case<'a> {
+    pub words: &'a [&'a str],
+    pub script: &'a [u8],
+    pub files: &'a [(&'a str, &'a [u8])],
 }
 
 /// How a run ended, what it wrote, and the calls of its disk.
@@ -52,11 +55,19 @@ impl Answer {
 // The numbers of the failing calls of the source, the sink, the shelf and the disk.
 fn failing(fault: Fault) -> [Option<u64>; 4] {
     match fault {
-        Fault::Nothing => [None, None, None, None],
+        Fault::Nothing | Fault::Room(_) => [None, None, None, None],
         Fault::Source(call) => [Some(call), None, None, None],
         Fault::Sink(call) => [None, Some(call), None, None],
         Fault::Shelf(call) => [None, None, Some(call), None],
         Fault::Disk(call) => [None, None, None, Some(call)],
+    }
+}
+
+// The room of the sink.
+fn room(fault: Fault) -> usize {
+    match fault {
+        Fault::Room(bytes) => bytes,
+        _ => ROOM,
     }
 }
 
@@ -78,24 +89,34 @@ fn labels(alloc: Global, words: &[&str]) -> Result<Vec<Label>, NoMemory> {
     Ok(labels)
 }
 
-// A shelf with one file.
-fn shelf(alloc: Global, name: &str, file: &[u8], fails: Vec<u64>) -> Result<MemShelf, NoMemory> {
-    let mut files = Vec::new(alloc);
-    files.push((Label::new(alloc, name)?, file.to_vec(alloc)?))?;
-    Ok(MemShelf::new(alloc, files, fails))
+// A shelf with these files.
+fn shelf(alloc: Global, files: &[(&str, &[u8])], fails: Vec<u64>) -> Result<MemShelf, NoMemory> {
+    let mut kept = Vec::new(alloc);
+    for (name, bytes) in files {
+        kept.push((Label::new(alloc, name)?, bytes.to_vec(alloc)?))?;
+    }
+    Ok(MemShelf::new(alloc, kept, fails))
 }
 
-/// What comes of a run in which this call fails.
-pub fn answer_of(alloc: Global, case: &Case, fault: Fault) -> Result<Answer, NoMemory> {
+/// What comes of a run within these limits, with this fault.
+pub fn answer_within(
+    alloc: Global,
+    limits: Limits,
+    case: &Case,
+    fault: Fault,
+) -> Result<Answer, NoMemory>
+    requires { IsLimits limits }
+{
     let words = labels(alloc, case.words)?;
     let [source_fails, sink_fails, shelf_fails, disk_fails] = failing(fault);
-    let script = case.script.as_bytes().to_vec(alloc)?;
+    let script = case.script.to_vec(alloc)?;
     let mut source = MemSource::new(alloc, script, CHUNK, listed(alloc, source_fails)?);
-    let mut shelf = shelf(alloc, case.name, case.file, listed(alloc, shelf_fails)?)?;
+    let mut shelf = shelf(alloc, case.files, listed(alloc, shelf_fails)?)?;
     let disk = MemDisk::new(alloc, listed(alloc, disk_fails)?);
-    let mut sink = MemSink::new(alloc, ROOM, listed(alloc, sink_fails)?)?;
-    let (status, disk) = run(
+    let mut sink = MemSink::new(alloc, room(fault), listed(alloc, sink_fails)?)?;
+    let (status, disk) = run_within(
         alloc,
+        limits,
         words.as_slice(),
         &mut source,
         &mut shelf,
@@ -107,4 +128,9 @@ pub fn answer_of(alloc: Global, case: &Case, fault: Fault) -> Result<Answer, NoM
         status,
         calls: disk.calls(),
     })
+}
+
+/// What comes of a run within the limits of a plain one, with this fault.
+pub fn answer_of(alloc: Global, case: &Case, fault: Fault) -> Result<Answer, NoMemory> {
+    answer_within(alloc, Limits::standard(), case, fault)
 }

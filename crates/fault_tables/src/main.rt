@@ -1,15 +1,17 @@
-//! Whole runs in which one call of the outside fails, one run for each call.
+//! Whole runs over streams, data files and a disk in memory: what they write, and what they do where a call of the outside fails.
 //!
-//! It makes each call of the disk, the script, the answers and the data file fail in turn, cuts a data file after each of its
-//! bytes, gives lines that are refused, and counts what the disk is called for. It prints a line for each table, with the
-//! number of runs, or the first difference. Above: nothing. Below: `session`, whose `run` all runs go through. Read
-//! `src/harness.rt`, then `src/scripts.rt`.
+//! It prints what some runs wrote and how each ended. Then it makes each call of the disk, the script, the answers and the data
+//! file fail in turn, one run for each call, cuts a data file after each of its bytes, gives lines that are refused, and counts
+//! what the disk is called for. It prints a line for each table, with the number of runs, or the first difference. Above:
+//! nothing. Below: `session`, whose `run_within` all runs go through. Read `src/harness.rt`, then `src/outcomes.rt` and
+//! `src/scripts.rt`.
 #![tactic(auto)]
 
 mod cuts;
 mod disk;
 mod draws;
 mod harness;
+mod outcomes;
 mod reads;
 mod refusals;
 mod scripts;
@@ -31,8 +33,8 @@ const ALL_ROWS: &str = "calls of the disk for all rows of a ranking";
 
 const ONE_ROW: &str = "calls of the disk for the first row of a ranking";
 
-// Bytes as they are printed.
-fn text_of(bytes: &[u8]) -> &str {
+/// Bytes as they are printed.
+pub(crate) fn text_of(bytes: &[u8]) -> &str {
     match str::from_utf8(bytes) {
         Ok(text) => text,
         Err(_) => "no text",
@@ -83,9 +85,8 @@ fn tell_calls(
 fn turns(alloc: Global, stream: Stream) -> Result<u64, Trouble> {
     let case = Case {
         words: &[],
-        script: TURNS,
-        name: "cities.csv",
-        file: CITIES.as_bytes(),
+        script: TURNS.as_bytes(),
+        files: &[("cities.csv", CITIES.as_bytes())],
     };
     streams::tried(alloc, &case, stream, TURNS_TEXT, Wanted::Front)
 }
@@ -94,9 +95,8 @@ fn turns(alloc: Global, stream: Stream) -> Result<u64, Trouble> {
 fn loads(alloc: Global) -> Result<u64, Trouble> {
     let case = Case {
         words: &[],
-        script: LOADING,
-        name: "cities.csv",
-        file: CITIES.as_bytes(),
+        script: LOADING.as_bytes(),
+        files: &[("cities.csv", CITIES.as_bytes())],
     };
     let wanted = Wanted::Text(UNLOADED_TEXT);
     streams::tried(alloc, &case, Stream::Shelf, LOADING_TEXT, wanted)
@@ -124,6 +124,7 @@ fn plans(rt: &(impl Print + AllocGlobal), shows: bool) -> io::Result<()> {
 fn main(rt: HostRuntime) -> io::Result<()> {
     let alloc = rt.alloc();
     let shows = env::args(&rt)?.skip(1).next().is_some();
+    outcomes::told(&rt)?;
     tell(&rt, "lines that are refused", refusals::tried(alloc))?;
     tell(&rt, "fronts of a data file", cuts::tried(alloc))?;
     tell(

@@ -34,9 +34,8 @@ pub fn tried(alloc: Global) -> Result<u64, Trouble> {
         let script = joined(alloc, &[MADE, line])?;
         let case = Case {
             words: &[],
-            script: script.as_str(),
-            name: "none.csv",
-            file: b"",
+            script: script.as_bytes(),
+            files: &[],
         };
         count = count.saturating_add(1);
         let given = answer_of(alloc, &case, Fault::Nothing)?;

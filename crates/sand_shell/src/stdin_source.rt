@@ -33,19 +33,3 @@ impl<R: Read + Drop> Source for StdinSource<R> {
         Ok(n)
     }
 }
-
-#[cfg(test)]
-mod tests {
-    use super::*;
-
-    #[test]
-    fn a_reader_gives_its_bytes_and_an_empty_one_is_at_its_end(rt: HostRuntime) {
-        let mut source = StdinSource::new(b"ok\n".as_slice());
-        let mut piece = [0u8; 2];
-        assert_eq!(rt; source.read(&mut piece), Ok(2));
-        assert_eq!(rt; piece, *b"ok");
-        let mut input = StdinSource::new(rt.stdin());
-        assert_eq!(rt; input.read(&mut piece), Ok(0));
-        assert_eq!(rt; input.faults, 0);
-    }
-}

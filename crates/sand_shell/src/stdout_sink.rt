@@ -36,20 +36,3 @@ impl<W: Write + Drop> Sink for StdoutSink<W> {
         }
     }
 }
-
-#[cfg(test)]
-mod tests {
-    use super::*;
-    use std::alloc::AllocError;
-
-    #[test]
-    fn a_line_is_taken(rt: HostRuntime) -> Result<(), AllocError> {
-        let mut held = StdoutSink::new(vec![in rt.alloc(); 7u8]?);
-        assert_eq!(rt; held.write(b"ok\n"), Ok(3));
-        assert_eq!(rt; held.output.as_slice(), b"\x07ok\n".as_slice());
-        let mut sink = StdoutSink::new(rt.stdout());
-        assert_eq!(rt; sink.write(b"ok\n"), Ok(3));
-        assert_eq!(rt; sink.faults, 0);
-        Ok(())
-    }
-}
