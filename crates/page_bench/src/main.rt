@@ -1,9 +1,9 @@
 //! What is kept in pages, beside the same in memory: drawn calls of both, whose answers are compared one by one.
 //!
 //! It prints how many pairs, rows and entries of a map, a file and an index were left each time, the leaves of quadtrees after
-//! drawn inserts and deletes, what some small searches find, and what becomes of a pool whose disk fails. With three words, as
-//! `pages look 20`, it makes inserts, look-ups or a run over so many lots of 50,000 drawn keys of the map instead, for
-//! `bench/btree.py`; with two, as `rank 100000`, it makes the trees, files or searches that `bench/pages.py` times. Above:
+//! drawn inserts and deletes, what some small searches find, and what becomes of a pool and of quadtrees whose disk fails. With
+//! three words, as `pages look 20`, it makes inserts, look-ups or a run over so many lots of 50,000 drawn keys of the map instead,
+//! for `bench/btree.py`; with two, as `rank 100000`, it makes the trees, files or searches that `bench/pages.py` times. Above:
 //! nothing. Below: the crates over pages. The draws are those of a linear congruential generator.
 #![tactic(auto)]
 
@@ -19,6 +19,7 @@ mod shapes;
 mod shy_disk;
 mod speed;
 mod timed;
+mod tree_cases;
 mod trees;
 mod tuples;
 mod twins;
@@ -208,7 +209,8 @@ fn all(rt: &(impl Print + AllocGlobal)) -> io::Result<()> {
     change(rt)?;
     keep(rt)?;
     search(rt)?;
-    pool_cases::tell(rt)
+    pool_cases::tell(rt)?;
+    tree_cases::tell(rt)
 }
 
 fn main(rt: HostRuntime) -> io::Result<()> {

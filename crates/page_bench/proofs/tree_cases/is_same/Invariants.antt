@@ -1,0 +1,9 @@
+-- reading leaves the command, and tells nothing
+use Rattle.std.proofs.Common.{◌≡◌, false}
+use Rattle.page_bench.proofs.tree_cases.is_same.Given as goal
+
+abbrev pub invariant-leaves : goal.invariant-leaves
+invariant-leaves l = record {
+  beginning : l.pool.beginning ≡ l.fn.pool.beginning;
+  untold : l.pool.disk.told ≡ false;
+}
