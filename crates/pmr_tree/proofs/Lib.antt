@@ -26,3 +26,4 @@ pub mod Places
 pub mod Roughs
 pub mod Looked
 pub mod LeafOfCode
+pub mod Begins

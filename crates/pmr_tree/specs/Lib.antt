@@ -9,6 +9,7 @@ pub mod PageLaws
 pub mod Laws
 -- what only proofs need
 pub mod Changes
+pub mod Starts
 pub mod Leaves
 pub mod Parts
 pub mod Plot

@@ -14,6 +14,7 @@ use crate::grow::grow;
 use crate::no_shapes::NoShapes;
 use crate::plot::Plot;
 use crate::shrink::shrink;
+use crate::start::start_of;
 use crate::value::value_of;
 use crate::{Kept, Pmr, PmrFault, ShapeOf};
 use page_pool::{Disk, PageFault, Pool};
@@ -45,6 +46,7 @@ pub fn grown<D: Disk, G: ShapeOf>(
 {
     ring_laws();
     measure_laws();
+    let start = start_of(pool, tree, shape)?;
     let value = value_of(shape);
     let mut plot = Plot {
         tree: tree.map,
@@ -57,7 +59,7 @@ pub fn grown<D: Disk, G: ShapeOf>(
         &mut plot,
         pool,
         tree.threshold,
-        Block::root(),
+        start,
         Kept { id, value },
     )?;
     Ok(Pmr {

@@ -29,6 +29,7 @@ mod range;
 mod shapes;
 mod shrink;
 mod split;
+mod start;
 mod union;
 mod value;
 

@@ -1,0 +1,28 @@
+-- Where a change by one shape may begin: at a leaf that alone has the shape in its square.
+use Rattle.std.specs.Prelude.{◌≡◌, ◌⊎◌, ◌&&◌, nat_lt, Bool, true}
+use Rattle.sand_base.specs.declared.point.Point.{Point}
+use Rattle.sand_base.specs.declared.shape.Shape.{Shape}
+use Rattle.sand_base.specs.declared.shape.Shape.TheVariants as shape
+use Rattle.z_code.specs.Block.{child, square_of}
+use Rattle.z_code.specs.declared.block.Block.{Block}
+use Rattle.sand_model.specs.Tree.{Tree, Leaf, Inner, root_block}
+
+-- whether the point lies in the square of the block, on none of its sides
+abbrev pub has_inside : Block → Point → Bool
+has_inside b p =
+    ((nat_lt (square_of b).low.x p.x && nat_lt p.x (square_of b).high.x) && nat_lt (square_of b).low.y p.y) && nat_lt p.y (square_of b).high.y
+
+-- the block is that of a leaf in the tree of another one
+abbrev pub IsLeafIn : Block → Tree → Block → Type 0
+IsLeafIn b (Leaf ids) leaf = leaf ≡ b
+IsLeafIn b (Inner p q r s) leaf =
+    IsLeafIn (child b 0) p leaf ⊎ (IsLeafIn (child b 1) q leaf ⊎ (IsLeafIn (child b 2) r leaf ⊎ IsLeafIn (child b 3) s leaf))
+
+-- the shape is a point inside the square of the block
+abbrev pub IsInside : Shape → Block → Type 0
+IsInside (shape.Point p) b = has_inside b p ≡ true
+IsInside _ b = ⊥
+
+-- a change by the shape may begin at the block: it is the root, or a leaf with the shape inside its square
+abbrev pub BeginsAt : Shape → Tree → Block → Type 0
+BeginsAt s tree b = (b ≡ root_block) ⊎ (IsInside s b × IsLeafIn root_block tree b)
