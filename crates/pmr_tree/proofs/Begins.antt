@@ -1,6 +1,6 @@
 -- Growth at a leaf that alone has the shape in its square is growth from the root.
-use Rattle.std.proofs.Common.{◌≡◌, ◌≢◌, ℕ, suc, ◌+◌, ◌*◌, ◌-◌, ◌^◌, ◌<◌, ◌≤◌, ◌↔◌, ◌||◌, ◌&&◌, Bool, true, false, List, [], ◌∷◌, ◌++◌, refl, sym, ◌∙◌, ap, inl, inr, subst, arith}
-use Rattle.std.specs.Prelude.{Contains, IsTrue, nat_lt, ◌⊎◌}
+use Rattle.std.proofs.Common.{◌≡◌, ◌≢◌, ℕ, suc, ◌+◌, ◌*◌, ◌-◌, ◌<◌, ◌≤◌, ◌↔◌, ◌&&◌, Bool, true, false, List, [], ◌∷◌, ◌++◌, refl, sym, ◌∙◌, ap, inl, inr, subst, arith}
+use Rattle.std.specs.Prelude.{Contains, IsTrue, nat_lt}
 use Rattle.std.proofs.lemmas.Bool.{false≢true, cases_lt}
 use Rattle.std.proofs.lemmas.Bool.Decides.{nat_tests}
 use Rattle.std.proofs.lemmas.Nat.{pow_pos}
@@ -10,7 +10,6 @@ use Rattle.sand_base.specs.Plane.{IsShapeInPlane}
 use Rattle.sand_base.specs.declared.TheConstants.{COORDINATE_BITS}
 use Rattle.sand_base.specs.declared.goal.Goal.TheVariants as figure
 use Rattle.sand_base.specs.declared.point.Point.{Point}
-use Rattle.sand_base.specs.declared.rect.Rect.{Rect}
 use Rattle.sand_base.specs.declared.shape.Shape.{Shape}
 use Rattle.sand_base.specs.declared.shape.Shape.TheVariants as shape
 use Rattle.z_code.specs.Block.{IsBlock, HasCode, HasPoint, child, code_count, side_length, square_of}
@@ -26,7 +25,7 @@ use Rattle.pmr_tree.specs.Lists.{Each, Rises}
 use Rattle.pmr_tree.specs.Keys.{IsShaped, Reads, own}
 use Rattle.pmr_tree.specs.Plot.{TellsOf}
 use Rattle.pmr_tree.specs.Changes.{Stands, Becomes, grown_where, below_grown}
-use Rattle.pmr_tree.specs.Starts.{has_inside, IsLeafIn, IsInside, BeginsAt}
+use Rattle.pmr_tree.specs.Starts.{has_inside, IsLeafIn, IsInside, BeginsAt, AreApart, MeetsAlone, HasLeaf}
 use Rattle.pmr_tree.proofs.Orders.{each_map, each_append}
 use Rattle.pmr_tree.proofs.KeyLists.{Parts, reads_children, own_inner}
 use Rattle.pmr_tree.proofs.LeafSteps.{becomes_unmet, becomes_grown_inner}
@@ -93,23 +92,15 @@ code_apart b i j differ z h k =
     elim (cases_lt i j) [ inl l ↦ code_before b i j l z h k | inr l ↦ (let less : j < i = omega arith in code_before b j i less z k h) ]
 
 -- the codes of a leaf are codes of the block of its tree
-codes_in : (b : Block) (t : Tree) → IsShaped b t → (l : Block) → IsLeafIn b t l → (z : ℕ) → HasCode l z → HasCode b z
+pub codes_in : (b : Block) (t : Tree) → IsShaped b t → (l : Block) → IsLeafIn b t l → (z : ℕ) → HasCode l z → HasCode b z
 codes_in b (Leaf ids) sh l at z h = subst (λ x. HasCode x z) at h
 codes_in b (Inner p q r s) sh l (inl a) z h = code_up b sh.0 0 (omega arith) z (codes_in (child b 0) p sh.1.0 l a z h)
 codes_in b (Inner p q r s) sh l (inr (inl a)) z h = code_up b sh.0 1 (omega arith) z (codes_in (child b 1) q sh.1.1.0 l a z h)
 codes_in b (Inner p q r s) sh l (inr (inr (inl a))) z h = code_up b sh.0 2 (omega arith) z (codes_in (child b 2) r sh.1.1.1.0 l a z h)
 codes_in b (Inner p q r s) sh l (inr (inr (inr a))) z h = code_up b sh.0 3 (omega arith) z (codes_in (child b 3) s sh.1.1.1.1 l a z h)
 
--- two blocks have no code in common
-abbrev Apart : Block → Block → Type 0
-Apart c l = (z : ℕ) → HasCode c z → HasCode l z → ⊥
-
--- the shape meets each block that has the codes of this one, and none that has no code of it
-pub record MeetsAlone (m : Block → ℕ → Bool) (id : ℕ) (l : Block) : Type 0 where
-  pub met : (c : Block) → IsBlock c → ((z : ℕ) → HasCode l z → HasCode c z) → m c id ≡ true
-  pub alone : (c : Block) → IsBlock c → Apart c l → m c id ≡ false
-
-apart_child : (b : Block) (i j : ℕ) → i ≢ j → (t : Tree) → IsShaped (child b i) t → (l : Block) → IsLeafIn (child b i) t l → Apart (child b j) l
+-- a block beside the child of a leaf has no code of it
+pub apart_child : (b : Block) (i j : ℕ) → i ≢ j → (t : Tree) → IsShaped (child b i) t → (l : Block) → IsLeafIn (child b i) t l → AreApart (child b j) l
 apart_child b i j differ t sh l at z h k = code_apart b i j differ z (codes_in (child b i) t sh l at z k) h
 
 -- the leaf stands for itself
@@ -258,7 +249,7 @@ point_alone holder m id p plane l hl t tells = record { met = met; alone = λ c 
       (tells c hc).1 (holder (shape.Point p) (square_of c) (shape_in_closed (shape.Point p) plane)
       (record { left = in_c.from_x; right = omega (arith, in_c.below_x); bottom = in_c.from_y; top = omega (arith, in_c.below_y) }, tt))
 
-  unmet : (c : Block) → IsBlock c → Apart c l → (v : Bool) → m c id ≡ v → m c id ≡ false
+  unmet : (c : Block) → IsBlock c → AreApart c l → (v : Bool) → m c id ≡ v → m c id ≡ false
   unmet c hc apart false e = e
   unmet c hc apart true e =
       let none : Overlap (record { low = p; high = p }) (square_of c) → IsTrue false = λ o. (let z = shared_code l c p hl hc i o in absurd (apart z.0 z.1.0 z.1.1)) in
@@ -292,3 +283,13 @@ pub grown_from_root : HoldersMeet → (rows : List (ℕ × Shape)) (id : ℕ) (s
 grown_from_root holder rows id s m has plane tells one n old new t start rise reads block (inl e) becomes = subst (λ x. Becomes x (grown_where m n id x) old new) e becomes
 grown_from_root holder rows id s m has plane tells one n old new t start rise reads block (inr h) becomes =
     grown_up m n id start (inside_alone holder m id s plane start block h.0 (first_tells rows id s m has tells one)) old new rise becomes root_block t is_root reads h.1
+
+-- a block above the one where a change begins has it as a leaf, which alone has the shape
+pub start_place : (ks : List ℕ) (s : Shape) (t : Tree) (start b : Block) → b ≡ root_block → Rises ks → Reads root_block ks t → BeginsAt s t start → b.level < start.level → HasLeaf start b ks
+start_place ks s t start b is rise reads (inl e) lower = absurd (omega (arith, lower, ap (λ x. x.level) e, ap (λ x. x.level) is))
+start_place ks s t start b is rise reads (inr h) lower = subst (λ x. HasLeaf start x ks) (sym is) (record { rises = rise; tree = t; reads = reads; at = h.1 })
+
+pub start_alone : HoldersMeet → (rows : List (ℕ × Shape)) (id : ℕ) (s : Shape) (m : Block → ℕ → Bool) (has : ℕ → Bool) → IsShapeInPlane s → TellsOf ((id, s) ∷ rows) m has → has id ≡ true
+    → (t : Tree) (start b : Block) → b ≡ root_block → IsBlock start → BeginsAt s t start → b.level < start.level → MeetsAlone m id start
+start_alone holder rows id s m has plane tells one t start b is block (inl e) lower = absurd (omega (arith, lower, ap (λ x. x.level) e, ap (λ x. x.level) is))
+start_alone holder rows id s m has plane tells one t start b is block (inr h) lower = inside_alone holder m id s plane start block h.0 (first_tells rows id s m has tells one)

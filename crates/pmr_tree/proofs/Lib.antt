@@ -27,3 +27,4 @@ pub mod Roughs
 pub mod Looked
 pub mod LeafOfCode
 pub mod Begins
+pub mod Ends

@@ -1,11 +1,13 @@
 -- Where a change by one shape may begin: at a leaf that alone has the shape in its square.
-use Rattle.std.specs.Prelude.{◌≡◌, ◌⊎◌, ◌&&◌, nat_lt, Bool, true}
+use Rattle.std.specs.Prelude.{◌≡◌, ◌⊎◌, ◌&&◌, ℕ, nat_lt, Bool, true, false, List}
 use Rattle.sand_base.specs.declared.point.Point.{Point}
 use Rattle.sand_base.specs.declared.shape.Shape.{Shape}
 use Rattle.sand_base.specs.declared.shape.Shape.TheVariants as shape
-use Rattle.z_code.specs.Block.{child, square_of}
+use Rattle.z_code.specs.Block.{IsBlock, HasCode, child, square_of}
 use Rattle.z_code.specs.declared.block.Block.{Block}
 use Rattle.sand_model.specs.Tree.{Tree, Leaf, Inner, root_block}
+use Rattle.pmr_tree.specs.Lists.{Rises}
+use Rattle.pmr_tree.specs.Keys.{Reads}
 
 -- whether the point lies in the square of the block, on none of its sides
 abbrev pub has_inside : Block → Point → Bool
@@ -26,3 +28,19 @@ IsInside _ b = ⊥
 -- a change by the shape may begin at the block: it is the root, or a leaf with the shape inside its square
 abbrev pub BeginsAt : Shape → Tree → Block → Type 0
 BeginsAt s tree b = (b ≡ root_block) ⊎ (IsInside s b × IsLeafIn root_block tree b)
+
+-- two blocks have no code in common
+abbrev pub AreApart : Block → Block → Type 0
+AreApart c l = (z : ℕ) → HasCode c z → HasCode l z → ⊥
+
+-- the shape of the id meets each block that has the codes of this one, and none that has no code of it
+pub record MeetsAlone (m : Block → ℕ → Bool) (id : ℕ) (l : Block) : Type 0 where
+  pub met : (c : Block) → IsBlock c → ((z : ℕ) → HasCode l z → HasCode c z) → m c id ≡ true
+  pub alone : (c : Block) → IsBlock c → AreApart c l → m c id ≡ false
+
+-- the keys ascend, and those inside a block are the keys of a tree with this leaf
+pub record HasLeaf (leaf b : Block) (ks : List ℕ) : Type 0 where
+  pub rises : Rises ks
+  pub tree : Tree
+  pub reads : Reads b ks tree
+  pub at : IsLeafIn b tree leaf

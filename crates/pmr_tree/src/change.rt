@@ -13,7 +13,7 @@ ghost use Rattle.pmr_tree.specs.Calls.{Grows, Shrinks};
 use crate::grow::grow;
 use crate::no_shapes::NoShapes;
 use crate::plot::Plot;
-use crate::shrink::shrink;
+use crate::shrink::shrink_at;
 use crate::start::start_of;
 use crate::value::value_of;
 use crate::{Kept, Pmr, PmrFault, ShapeOf};
@@ -89,6 +89,7 @@ pub fn shrunk<D: Disk>(
 {
     ring_laws();
     measure_laws();
+    let start = start_of(pool, tree, shape)?;
     let none = NoShapes {};
     let mut plot = Plot {
         tree: tree.map,
@@ -96,7 +97,15 @@ pub fn shrunk<D: Disk>(
         id,
         shape,
     };
-    shrink(alloc, &mut plot, pool, tree.threshold, Block::root(), id)?;
+    shrink_at(
+        alloc,
+        &mut plot,
+        pool,
+        tree.threshold,
+        Block::root(),
+        start,
+        id,
+    )?;
     Ok(Pmr {
         map: plot.tree,
         threshold: tree.threshold,

@@ -1,11 +1,10 @@
 -- The entries are those of the grown tree, and each page that changed is the tree's own.
-use Rattle.std.proofs.Common.{◌≡◌, ℕ, Bool, true, ◌∷◌, List, refl, sym, ◌∙◌, subst}
+use Rattle.std.proofs.Common.{◌≡◌, true, ◌∷◌, refl, sym, ◌∙◌, subst}
 use Rattle.std.specs.Prelude.{None, Ok}
 use Rattle.page_pool.specs.Disk.{PageMap}
 use Rattle.page_pool.specs.Steps.{InCommand-read, InCommand-trans, HasPageCause-before}
-use Rattle.z_code.specs.declared.block.Block.{Block}
 use Rattle.code_btree.specs.Tree.{pages_in, tree_items, tree_pages}
-use Rattle.pmr_tree.specs.Plot.{IsReadyOn, LeadsOn, LeadsOn-onward, TellsOf}
+use Rattle.pmr_tree.specs.Plot.{IsReadyOn, LeadsOn-onward, TellsOf}
 use Rattle.pmr_tree.specs.Leaves.{firsts, Passes, id_test, Told}
 use Rattle.pmr_tree.specs.Changes.{Stands, Becomes, grown_where}
 use Rattle.pmr_tree.specs.Quadtree.{entries_at, keys_at, tree_at}
