@@ -2,6 +2,8 @@
 pub mod Levels
 -- what follows for each operator
 pub mod Fronts
+-- what steps pay
+pub mod Payments
 -- steps over steps
 pub mod Stepping
 -- steps of a source

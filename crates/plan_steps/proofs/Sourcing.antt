@@ -1,8 +1,11 @@
 -- A step of a source.
-use Rattle.std.proofs.Common.{◌≡◌, inl, inr, ℕ, zero, suc, ◌+◌, ◌≤◌, Bool, true, false, cond, nat_lt, true≢false, List, [], ◌∷◌, ◌++◌, length, take, Option, Some, None, Result, Ok, Err, refl, sym, ap, ◌∙◌, subst, le_antisymm, arith}
+use Rattle.std.proofs.Common.{◌≡◌, inl, inr, ℕ, zero, suc, ◌+◌, ◌≤◌, Bool, true, false, cond, nat_lt, true≢false, List, [], ◌∷◌, ◌++◌, length, take, sum_by, Option, Some, None, Result, Ok, Err, refl, sym, ap, ◌∙◌, subst, le_antisymm, arith}
 use Rattle.std.proofs.lemmas.Bool.{lt-ltb, le-ltb}
 use Rattle.std.proofs.lemmas.List.{take_all}
+use Rattle.std.proofs.lemmas.List.Sums.{sum_by-append}
+use Rattle.sand_base.specs.declared.visit.Visit.{Visit}
 use Rattle.page_pool.specs.Desk.{DeskState}
+use Rattle.page_pool.specs.Disk.{PageMap}
 use Rattle.page_pool.specs.declared.fault.PageFault.{PageFault}
 use Rattle.sand_model.specs.Database.{Database, element}
 use Rattle.sand_model.specs.Operators.{PlanRow}
@@ -10,15 +13,20 @@ use Rattle.sand_model.specs.Plan as plan
 use Rattle.sand_model.specs.Plan.{Plan}
 use Rattle.sand_model.specs.Reach.{Counts}
 use Rattle.sand_model.specs.Taken.{Taken, is_full, beneath_sort}
+use Rattle.plan_rows.specs.Prices.{Heights, visit_price, Costs}
 use Rattle.plan_rows.specs.Rows.{plan_measure, row_of}
 use Rattle.plan_rows.specs.SourceSteps.{SourceStep, GivesRow, taken_after, next_taken}
 use Rattle.plan_rows.specs.declared.answer.Answer.{Answer}
-use Rattle.plan_steps.specs.Following.{IsSource}
+use Rattle.plan_steps.specs.Following.{Taking, Follows}
 use Rattle.plan_steps.specs.Outermost.{is_source, source_rows}
+use Rattle.plan_steps.specs.Paying.{Prices, HasSamePrices, IsPaid}
+use Rattle.plan_steps.specs.Stages.{Standing}
 use Rattle.plan_steps.specs.Steps.{given_after, AtEnd, is_full_at, IsSpent, IsAsked, IsDone, Goes}
+use Rattle.plan_steps.specs.declared.operator.Operator.{Source}
 use Rattle.plan_steps.specs.declared.step.Step.{Step}
 use Rattle.plan_steps.specs.declared.step.Step.TheVariants.{Row, End}
 use Rattle.plan_steps.proofs.Levels.{over_source, lazy_source, beneath_lazy}
+use Rattle.plan_steps.proofs.Payments.{pays_row, pays_stop}
 
 -- the step that a call of a source makes
 abbrev pub as_step : Result (Option Answer) PageFault → Result Step PageFault
@@ -95,14 +103,16 @@ next_end d p t h = ap (λ b. cond b (record { rows = t.rows + 1; is_ended = fals
 
 -- ---- the step
 
-pub source_goes : (d : Database) (p : Plan) (t : Taken) (given : List PlanRow) (before now : Counts) (old new : DeskState) (answer : Result (Option Answer) PageFault)
-    → (At At' : Taken → Type 0) → SourceStep d p t before now old new answer At' → IsSource d p t given (At t)
-    → Goes d p t given before now old new (as_step answer) (λ after rows. IsSource d p after rows (At' after))
-source_goes d p t given before now old new answer At At' s f = record {
+pub source_goes : {S T : Type 0} (At : S → Taking) (Stands : T → Standing) (closed : T → Bool) (q : Prices S T) (s s' : S) (pages : PageMap) (d : Database) (p : Plan) (t : Taken) (given : List PlanRow)
+    → (before now : Counts) (old new : DeskState) (answer : Result (Option Answer) PageFault) → q.heights s' ≡ q.heights s → q.step s' ≡ q.step s
+    → SourceStep d p t before now old new answer (At s' pages d p) → Costs (q.heights s) (q.step s) (q.entries s pages) (q.entries s' pages) d p old new answer
+    → (f : Follows At Stands closed (Source s) pages d p t given)
+    → Goes d p t given before now old new (as_step answer) (IsPaid At Stands closed q (Source s) (Source s') pages d p t given f old new (as_step answer))
+source_goes {S} {T} At Stands closed q s s' pages d p t given before now old new answer heights step st costs f = record {
   taken = taken_after d p t answer;
-  follows = followed answer s.row s.at;
-  asks = inl record { answer = answer; asked = asked; taken = refl; visits = s.visits; refused = λ fault e. ap as_step e };
-  ends = ended answer s.row;
+  follows = followed answer st.row st.at costs;
+  asks = inl record { answer = answer; asked = asked; taken = refl; visits = st.visits; refused = λ fault e. ap as_step e };
+  ends = ended answer st.row;
 }
   where
     all : List PlanRow
@@ -114,23 +124,55 @@ source_goes d p t given before now old new answer At At' s f = record {
       dry = λ e. over_source d p (take t.rows all) f.plain ∙ sym f.rows;
     }
 
-    followed : (answer : Result (Option Answer) PageFault) → GivesRow d p t answer → At' (taken_after d p t answer)
-        → IsSource d p (taken_after d p t answer) (given_after given (as_step answer)) (At' (taken_after d p t answer))
-    followed (Ok (Some a)) row at =
+    -- the price of visits, as the source has it before the call
+    worth : List Visit → ℕ
+    worth = sum_by (visit_price (q.heights s) d p)
+
+    alike : sum_by (visit_price (q.heights s') d p) new.visits ≡ worth new.visits
+    alike = ap (λ (h : Heights). sum_by (visit_price h d p) new.visits) heights
+
+    same : HasSamePrices q (Source s) (Source s')
+    same = record { heights = heights; step = step; rows = refl }
+
+    logged : (noted : List Visit) → new.visits ≡ old.visits ++ noted → worth new.visits ≡ worth old.visits + worth noted
+    logged noted log = ap worth log ∙ sum_by-append (visit_price (q.heights s) d p) old.visits noted
+
+    followed : (answer : Result (Option Answer) PageFault) → GivesRow d p t answer → At s' pages d p (taken_after d p t answer)
+        → Costs (q.heights s) (q.step s) (q.entries s pages) (q.entries s' pages) d p old new answer
+        → IsPaid At Stands closed q (Source s) (Source s') pages d p t given f old new (as_step answer) (taken_after d p t answer) (given_after given (as_step answer))
+    followed (Ok (Some a)) row at costs =
         let there : t.rows + 1 ≤ length all = element_there all t.rows (row_of a) row in record {
-          plain = f.plain;
-          stands = at;
-          few = subst (λ u. u.rows ≤ length all) (sym (next_row d p t there)) there;
-          rows = subst (λ u. given ++ row_of a ∷ [] ≡ take u.rows all) (sym (next_row d p t there)) (ap (λ l. l ++ row_of a ∷ []) f.rows ∙ sym (take_element all t.rows (row_of a) row));
+          follows = record {
+            plain = f.plain;
+            stands = at;
+            few = subst (λ u. u.rows ≤ length all) (sym (next_row d p t there)) there;
+            rows = subst (λ u. given ++ row_of a ∷ [] ≡ take u.rows all) (sym (next_row d p t there)) (ap (λ l. l ++ row_of a ∷ []) f.rows ∙ sym (take_element all t.rows (row_of a) row));
+          };
+          same = same;
+          most =
+              pays_row old.pool.gets new.pool.gets (q.entries s pages) (q.entries s' pages) (q.step s) (q.step s') (worth old.visits) (worth costs.noted) (worth new.visits)
+              (sum_by (visit_price (q.heights s') d p) new.visits) t.rows (next_taken d p t).rows step alike (logged costs.noted costs.log) (ap (λ (u : Taken). u.rows) (next_row d p t there)) costs.most;
         }
-    followed (Ok None) row at =
+    followed (Ok None) row at costs =
         let behind : length all ≤ t.rows = element_behind all t.rows row in record {
-          plain = f.plain;
-          stands = at;
-          few = subst (λ u. u.rows ≤ length all) (sym (next_end d p t behind)) f.few;
-          rows = subst (λ u. given ≡ take u.rows all) (sym (next_end d p t behind)) f.rows;
+          follows = record {
+            plain = f.plain;
+            stands = at;
+            few = subst (λ u. u.rows ≤ length all) (sym (next_end d p t behind)) f.few;
+            rows = subst (λ u. given ≡ take u.rows all) (sym (next_end d p t behind)) f.rows;
+          };
+          same = same;
+          most =
+              pays_stop old.pool.gets new.pool.gets (q.entries s pages) (q.entries s' pages) (q.step s) (q.step s') (worth old.visits) (worth costs.noted) (worth new.visits)
+              (sum_by (visit_price (q.heights s') d p) new.visits) t.rows (next_taken d p t).rows step alike (logged costs.noted costs.log) (ap (λ (u : Taken). u.rows) (next_end d p t behind)) costs.most;
         }
-    followed (Err fault) row at = record { plain = f.plain; stands = at; few = f.few; rows = f.rows }
+    followed (Err fault) row at costs = record {
+      follows = record { plain = f.plain; stands = at; few = f.few; rows = f.rows };
+      same = same;
+      most =
+          pays_stop old.pool.gets new.pool.gets (q.entries s pages) 0 (q.step s) (q.step s') (worth old.visits) (worth costs.noted) (worth new.visits)
+          (sum_by (visit_price (q.heights s') d p) new.visits) t.rows t.rows step alike (logged costs.noted costs.log) refl costs.most;
+    }
 
     ended : (answer : Result (Option Answer) PageFault) → GivesRow d p t answer → AtEnd (as_step answer) (IsDone d p (taken_after d p t answer) given)
     ended (Ok (Some a)) row = tt

@@ -1,6 +1,10 @@
 -- A step of an operator, from the step of the stage or of the operator beneath.
-use Rattle.std.proofs.Common.{◌≡◌, ◌≢◌, ◌⊎◌, inl, inr, ◌+◌, ◌≤◌, min, Bool, true, false, cond, nat_lt, ◌||◌, true≢false, List, [], ◌∷◌, ◌++◌, length, take, Option, Result, Ok, Err, refl, sym, ap, ap₂, ◌∙◌, subst}
+use Rattle.std.proofs.Common.{◌≡◌, ◌≢◌, ◌⊎◌, inl, inr, ℕ, ◌+◌, ◌≤◌, min, Bool, true, false, cond, nat_lt, ◌||◌, true≢false, List, [], ◌∷◌, ◌++◌, length, take, sum_by, Option, Result, Ok, Err, refl, sym, ap, ap₂, ◌∙◌, subst, le_of_eq, arith}
+use Rattle.std.specs.Prelude.{⊤}
+use Rattle.std.specs.Global.{Box}
+use Rattle.std.proofs.lemmas.List.Sums.{sum_by_push}
 use Rattle.sand_base.specs.Faults.{last_count}
+use Rattle.sand_base.specs.declared.visit.Visit.{Visit}
 use Rattle.page_pool.specs.Desk.{DeskState}
 use Rattle.page_pool.specs.Disk.{PageMap}
 use Rattle.page_pool.specs.declared.fault.PageFault.{PageFault}
@@ -10,18 +14,21 @@ use Rattle.sand_model.specs.Plan as plan
 use Rattle.sand_model.specs.Plan.{Plan}
 use Rattle.sand_model.specs.Reach.{Counts}
 use Rattle.sand_model.specs.Taken.{Taken, is_full, is_lazy, beneath_sort}
+use Rattle.plan_rows.specs.Prices.{unless_refused}
 use Rattle.plan_rows.specs.Rows.{plan_measure, row_of}
 use Rattle.plan_rows.specs.SourceSteps.{MakesVisits, taken_after, next_taken}
 use Rattle.plan_rows.specs.declared.answer.Answer.{Answer}
-use Rattle.plan_steps.specs.Following.{Taking, IsOver, Follows}
+use Rattle.plan_steps.specs.Following.{Taking, Follows}
 use Rattle.plan_steps.specs.Outermost.{inner, made, is_filled, source_rows, over_rows, beneath, Begins}
+use Rattle.plan_steps.specs.Paying.{Prices, owed_by, left_of, left_after, paid, HasSamePrices, IsPaid}
 use Rattle.plan_steps.specs.Stages.{Standing, GivesFront, OpensLate, IsFilled, Works, Finishes, IsDry}
-use Rattle.plan_steps.specs.Steps.{given_after, AtEnd, is_full_at, IsSpent, IsAsked, AsksOnce, IsDone, Goes}
-use Rattle.plan_steps.specs.declared.operator.Operator.{Operator}
+use Rattle.plan_steps.specs.Steps.{given_after, AtEnd, is_full_at, IsSpent, IsAsked, AsksOnce, IsDone, GoesOn, Goes}
+use Rattle.plan_steps.specs.declared.operator.Operator.{Operator, Over'}
 use Rattle.plan_steps.specs.declared.step.Step.{Step}
 use Rattle.plan_steps.specs.declared.step.Step.TheVariants.{Row, Pass, End}
 use Rattle.plan_steps.proofs.Fronts.{begins_whole, begins_taken, settled}
 use Rattle.plan_steps.proofs.Levels.{over_made, source_inner, whole_made, lazy_inner, sort_inner, beneath_lazy, beneath_inner, full_inner, filled_plain, filled_front, spent_inner, spent_filled}
+use Rattle.plan_steps.proofs.Payments.{paid_over, left_open, same_over, left_worked, left_finished, pays_work, pays_hold, pays_none}
 
 -- ---- one level up
 
@@ -102,21 +109,32 @@ asks_up d p t after taken given before now old new below above dry pass (inr r) 
 
 -- ---- steps of an operator over another
 
+-- nothing is given, and the end isn't there
+abbrev pub IsQuiet : Result Step PageFault → Type 0
+IsQuiet (Ok (Row a)) = ⊥
+IsQuiet (Ok Pass) = ⊤
+IsQuiet (Ok End) = ⊥
+IsQuiet (Err fault) = ⊤
+
 -- the stage worked
-pub works_over : {S T : Type 0} (At : S → Taking) (Stands : T → Standing) (closed : T → Bool) → GivesFront Stands → OpensLate Stands closed
+pub works_over : {S T : Type 0} (At : S → Taking) (Stands : T → Standing) (closed : T → Bool) (q : Prices S T) → GivesFront Stands → OpensLate Stands closed
     → (pages : PageMap) (d : Database) (p : Plan) (t : Taken) (given : List PlanRow) (count : Counts) (old new : DeskState) (result : Result Step PageFault)
-    → (stage stage' : T) (below : Operator S T) → closed stage' ≡ closed stage → new.visits ≡ old.visits → min old.pool.gets last_count ≤ new.pool.gets
+    → (stage stage' : T) (pointer pointer' : Box Unit) (below : Operator S T) → closed stage' ≡ closed stage → q.row stage' ≡ q.row stage
+    → new.visits ≡ old.visits → min old.pool.gets last_count ≤ new.pool.gets
     → ((taken given : List PlanRow) → Stands stage pages d p taken given → Works d p taken given (closed stage') result (Stands stage' pages d p taken))
-    → IsOver d p t given (closed stage) (Follows At Stands closed below pages d (inner p) t) (Stands stage pages d p)
-    → Goes d p t given count count old new result
-    (λ after rows. IsOver d p after rows (closed stage') (Follows At Stands closed below pages d (inner p) after) (Stands stage' pages d p))
-works_over At Stands closed front late pages d p t given count old new result stage stage' below same log up work f = record {
+    → ((taken given : List PlanRow) → Stands stage pages d p taken given → new.pool.gets + unless_refused result (q.held stage' pages d p) ≤ old.pool.gets + q.held stage pages d p)
+    → (f : Follows At Stands closed (Over' stage pointer below) pages d p t given)
+    → Goes d p t given count count old new result (IsPaid At Stands closed q (Over' stage pointer below) (Over' stage' pointer' below) pages d p t given f old new result)
+works_over {S} {T} At Stands closed q front late pages d p t given count old new result stage stage' pointer pointer' below same price log up work costs f = record {
   taken = t;
   follows = record {
-    taken = f.taken;
-    beneath = f.beneath;
-    stands = w.stands;
-    spent = spent;
+    follows = now;
+    same = same_over At Stands closed q stage stage' pointer pointer' below below price (record { heights = refl; step = refl; rows = refl });
+    most =
+        pays_work old.pool.gets new.pool.gets (left_of closed q (Over' stage pointer below) pages d p) (left_after closed q (Over' stage' pointer' below) pages d p result)
+        (q.held stage pages d p) (unless_refused result (q.held stage' pages d p)) (paid At Stands closed q (Over' stage pointer below) pages d p t given f old.visits)
+        (paid At Stands closed q (Over' stage' pointer' below) pages d p t (given_after given result) now new.visits)
+        (left_worked At Stands closed q stage stage' pointer pointer' below pages d p result same) (costs f.taken given f.stands) (paid_same new.visits log);
   };
   asks = inr record { taken = refl; counts = refl; log = log; up = up };
   ends = ended result w.whole w.full;
@@ -127,6 +145,16 @@ works_over At Stands closed front late pages d p t given count old new result st
 
     spent : closed stage' ≡ true → IsSpent d (beneath_sort (inner p)) t
     spent e = f.spent (sym same ∙ e)
+
+    now : Follows At Stands closed (Over' stage' pointer' below) pages d p t (given_after given result)
+    now = record { taken = f.taken; beneath = f.beneath; stands = w.stands; spent = spent }
+
+    paid_same : (visits : List Visit) → visits ≡ old.visits
+        → paid At Stands closed q (Over' stage' pointer' below) pages d p t (given_after given result) now visits ≡ paid At Stands closed q (Over' stage pointer below) pages d p t given f old.visits
+    paid_same visits log =
+        paid_over At Stands closed q stage' pointer' below pages d p t (given_after given result) now visits
+        ∙ ap₂ (λ (l : List Visit) (row : PageMap → Database → Plan → PlanRow → ℕ). paid At Stands closed q below pages d (inner p) t f.taken f.beneath l + sum_by (row pages d p) f.taken) log price
+        ∙ sym (paid_over At Stands closed q stage pointer below pages d p t given f old.visits)
 
     of_first : IsFilled p f.taken → IsSpent d (beneath_sort p) t
     of_first h = go (is_lazy p) refl
@@ -160,30 +188,47 @@ works_over At Stands closed front late pages d p t given count old new result st
     ended (Err fault) all full = tt
 
 -- a row came from beneath, and the stage holds it
-pub holds_over : {S T : Type 0} (At : S → Taking) (Stands : T → Standing) (closed : T → Bool)
+pub holds_over : {S T : Type 0} (At : S → Taking) (Stands : T → Standing) (closed : T → Bool) (q : Prices S T)
     → (pages : PageMap) (d : Database) (p : Plan) (t : Taken) (given : List PlanRow) (before now : Counts) (old new : DeskState) (a : Answer)
-    → (stage stage' : T) (below below' : Operator S T) → closed stage' ≡ false
+    → (stage stage' : T) (pointer pointer' : Box Unit) (below below' : Operator S T) → closed stage ≡ false → closed stage' ≡ false → q.row stage' ≡ q.row stage
+    → q.held stage' pages d p ≤ q.row stage pages d p (row_of a)
     → ((taken given : List PlanRow) → Stands stage pages d p taken given → is_lazy p ≡ true → IsDry d p taken given)
     → ((taken given : List PlanRow) → Stands stage pages d p taken given → Stands stage' pages d p (taken ++ row_of a ∷ []) given)
-    → ((taken : List PlanRow) → Follows At Stands closed below pages d (inner p) t taken
-    → Goes d (inner p) t taken before now old new (Ok (Row a)) (Follows At Stands closed below' pages d (inner p)))
-    → IsOver d p t given (closed stage) (Follows At Stands closed below pages d (inner p) t) (Stands stage pages d p)
-    → Goes d p t given before now old new (Ok Pass)
-    (λ after rows. IsOver d p after rows (closed stage') (Follows At Stands closed below' pages d (inner p) after) (Stands stage' pages d p))
-holds_over At Stands closed pages d p t given before now old new a stage stage' below below' open_ dry hold step f = record {
+    → ((taken : List PlanRow) (f : Follows At Stands closed below pages d (inner p) t taken)
+    → Goes d (inner p) t taken before now old new (Ok (Row a)) (IsPaid At Stands closed q below below' pages d (inner p) t taken f old new (Ok (Row a))))
+    → (f : Follows At Stands closed (Over' stage pointer below) pages d p t given)
+    → Goes d p t given before now old new (Ok Pass) (IsPaid At Stands closed q (Over' stage pointer below) (Over' stage' pointer' below') pages d p t given f old new (Ok Pass))
+holds_over {S} {T} At Stands closed q pages d p t given before now old new a stage stage' pointer pointer' below below' was_open open_ price owes dry hold step f = record {
   taken = g.taken;
   follows = record {
-    taken = f.taken ++ row_of a ∷ [];
-    beneath = g.follows;
-    stands = hold f.taken given f.stands;
-    spent = λ e. absurd (true≢false (sym e ∙ open_));
+    follows = held;
+    same = same_over At Stands closed q stage stage' pointer pointer' below below' price g.follows.same;
+    most =
+        pays_hold old.pool.gets new.pool.gets (left_of closed q (Over' stage pointer below) pages d p) (left_of closed q (Over' stage' pointer' below') pages d p)
+        (q.held stage pages d p) (q.held stage' pages d p) (left_of closed q below pages d (inner p)) (left_of closed q below' pages d (inner p))
+        (paid At Stands closed q (Over' stage pointer below) pages d p t given f old.visits) (paid At Stands closed q (Over' stage' pointer' below') pages d p g.taken given held new.visits)
+        (paid At Stands closed q below pages d (inner p) t f.taken f.beneath old.visits)
+        (paid At Stands closed q below' pages d (inner p) g.taken (f.taken ++ row_of a ∷ []) g.follows.follows new.visits)
+        (sum_by (q.row stage pages d p) f.taken) (sum_by (q.row stage' pages d p) (f.taken ++ row_of a ∷ [])) (q.row stage pages d p (row_of a))
+        (left_open At Stands closed q stage pointer below pages d p was_open) (left_open At Stands closed q stage' pointer' below' pages d p open_)
+        (paid_over At Stands closed q stage pointer below pages d p t given f old.visits) (paid_over At Stands closed q stage' pointer' below' pages d p g.taken given held new.visits)
+        (ap (λ (row : PageMap → Database → Plan → PlanRow → ℕ). sum_by (row pages d p) (f.taken ++ row_of a ∷ [])) price ∙ sum_by_push (q.row stage pages d p) f.taken (row_of a))
+        owes g.follows.most;
   };
   asks = asks_up d p t g.taken f.taken given before now old new (Ok (Row a)) (Ok Pass) (dry f.taken given f.stands) (λ fault e. absurd (ok-err e)) g.asks;
   ends = tt;
 }
   where
-    g : Goes d (inner p) t f.taken before now old new (Ok (Row a)) (Follows At Stands closed below' pages d (inner p))
+    g : Goes d (inner p) t f.taken before now old new (Ok (Row a)) (IsPaid At Stands closed q below below' pages d (inner p) t f.taken f.beneath old new (Ok (Row a)))
     g = step f.taken f.beneath
+
+    held : Follows At Stands closed (Over' stage' pointer' below') pages d p g.taken given
+    held = record {
+      taken = f.taken ++ row_of a ∷ [];
+      beneath = g.follows.follows;
+      stands = hold f.taken given f.stands;
+      spent = λ e. absurd (true≢false (sym e ∙ open_));
+    }
 
     ok-err : {fault : PageFault} → Ok (Row a) ≡ Err fault → ⊥
     ok-err e = true≢false (ap is_ok e)
@@ -193,65 +238,109 @@ holds_over At Stands closed pages d p t given before now old new a stage stage' 
         is_ok (Err x) = false
 
 -- nothing came from beneath yet, or a refusal
-pub waits_over : {S T : Type 0} (At : S → Taking) (Stands : T → Standing) (closed : T → Bool)
+pub waits_over : {S T : Type 0} (At : S → Taking) (Stands : T → Standing) (closed : T → Bool) (q : Prices S T)
     → (pages : PageMap) (d : Database) (p : Plan) (t : Taken) (given : List PlanRow) (before now : Counts) (old new : DeskState) (result : Result Step PageFault)
-    → (stage : T) (below below' : Operator S T) → closed stage ≡ false
+    → (stage : T) (pointer pointer' : Box Unit) (below below' : Operator S T) → closed stage ≡ false
     → ((taken given : List PlanRow) → Stands stage pages d p taken given → is_lazy p ≡ true → IsDry d p taken given)
-    → ((rows : List PlanRow) → given_after rows result ≡ rows) → AtEnd result ⊥
-    → ((taken : List PlanRow) → Follows At Stands closed below pages d (inner p) t taken
-    → Goes d (inner p) t taken before now old new result (Follows At Stands closed below' pages d (inner p)))
-    → IsOver d p t given (closed stage) (Follows At Stands closed below pages d (inner p) t) (Stands stage pages d p)
-    → Goes d p t given before now old new result
-    (λ after rows. IsOver d p after rows (closed stage) (Follows At Stands closed below' pages d (inner p) after) (Stands stage pages d p))
-waits_over At Stands closed pages d p t given before now old new result stage below below' open_ dry none live step f = record {
-  taken = g.taken;
-  follows = subst (λ rows. IsOver d p g.taken rows (closed stage) (Follows At Stands closed below' pages d (inner p) g.taken) (Stands stage pages d p)) (sym (none given)) (record {
-    taken = f.taken;
-    beneath = subst (λ rows. Follows At Stands closed below' pages d (inner p) g.taken rows) (none f.taken) g.follows;
-    stands = f.stands;
-    spent = λ e. absurd (true≢false (sym e ∙ open_));
-  });
-  asks = asks_up d p t g.taken f.taken given before now old new result result (dry f.taken given f.stands) (λ fault e. e) g.asks;
-  ends = never result live;
-}
+    → IsQuiet result
+    → ((taken : List PlanRow) (f : Follows At Stands closed below pages d (inner p) t taken)
+    → Goes d (inner p) t taken before now old new result (IsPaid At Stands closed q below below' pages d (inner p) t taken f old new result))
+    → (f : Follows At Stands closed (Over' stage pointer below) pages d p t given)
+    → Goes d p t given before now old new result (IsPaid At Stands closed q (Over' stage pointer below) (Over' stage pointer' below') pages d p t given f old new result)
+waits_over {S} {T} At Stands closed q pages d p t given before now old new result stage pointer pointer' below below' open_ dry quiet step f = go result quiet (step f.taken f.beneath)
   where
-    g : Goes d (inner p) t f.taken before now old new result (Follows At Stands closed below' pages d (inner p))
-    g = step f.taken f.beneath
+    most : (t' : Taken) (b : Follows At Stands closed below' pages d (inner p) t' f.taken) (left left' : ℕ) → left ≤ q.held stage pages d p + left'
+        → new.pool.gets + left' + paid At Stands closed q below pages d (inner p) t f.taken f.beneath old.visits
+        ≤ old.pool.gets + left_of closed q below pages d (inner p) + paid At Stands closed q below' pages d (inner p) t' f.taken b new.visits
+        → new.pool.gets + left + paid At Stands closed q (Over' stage pointer below) pages d p t given f old.visits
+        ≤ old.pool.gets + left_of closed q (Over' stage pointer below) pages d p
+        + paid At Stands closed q (Over' stage pointer' below') pages d p t' given (record { taken = f.taken; beneath = b; stands = f.stands; spent = λ e. absurd (true≢false (sym e ∙ open_)) }) new.visits
+    most t' b left left' less pays =
+        pays_none old.pool.gets new.pool.gets (left_of closed q (Over' stage pointer below) pages d p) left (q.held stage pages d p)
+        (left_of closed q below pages d (inner p)) left' (paid At Stands closed q (Over' stage pointer below) pages d p t given f old.visits)
+        (paid At Stands closed q (Over' stage pointer' below') pages d p t' given (record { taken = f.taken; beneath = b; stands = f.stands; spent = λ e. absurd (true≢false (sym e ∙ open_)) }) new.visits)
+        (paid At Stands closed q below pages d (inner p) t f.taken f.beneath old.visits) (paid At Stands closed q below' pages d (inner p) t' f.taken b new.visits)
+        (sum_by (q.row stage pages d p) f.taken) (left_open At Stands closed q stage pointer below pages d p open_) less
+        (paid_over At Stands closed q stage pointer below pages d p t given f old.visits)
+        (paid_over At Stands closed q stage pointer' below' pages d p t' given (record { taken = f.taken; beneath = b; stands = f.stands; spent = λ e. absurd (true≢false (sym e ∙ open_)) }) new.visits) pays
 
-    never : (r : Result Step PageFault) → AtEnd r ⊥ → AtEnd r (IsDone d p g.taken given)
-    never (Ok (Row a)) h = tt
-    never (Ok Pass) h = tt
-    never (Ok End) h = absurd h
-    never (Err fault) h = tt
+    same : HasSamePrices q below below' → HasSamePrices q (Over' stage pointer below) (Over' stage pointer' below')
+    same = same_over At Stands closed q stage stage pointer pointer' below below' refl
+
+    go : (r : Result Step PageFault) → IsQuiet r
+        → Goes d (inner p) t f.taken before now old new r (IsPaid At Stands closed q below below' pages d (inner p) t f.taken f.beneath old new r)
+        → Goes d p t given before now old new r (IsPaid At Stands closed q (Over' stage pointer below) (Over' stage pointer' below') pages d p t given f old new r)
+    go (Ok (Row a)) still g = absurd still
+    go (Ok End) still g = absurd still
+    go (Ok Pass) still g = record {
+      taken = g.taken;
+      follows = record {
+        follows = record { taken = f.taken; beneath = g.follows.follows; stands = f.stands; spent = λ e. absurd (true≢false (sym e ∙ open_)) };
+        same = same g.follows.same;
+        most =
+            most g.taken g.follows.follows (left_of closed q (Over' stage pointer' below') pages d p) (left_of closed q below' pages d (inner p))
+            (le_of_eq (left_open At Stands closed q stage pointer' below' pages d p open_)) g.follows.most;
+      };
+      asks = asks_up d p t g.taken f.taken given before now old new (Ok Pass) (Ok Pass) (dry f.taken given f.stands) (λ fault e. e) g.asks;
+      ends = tt;
+    }
+    go (Err fault) still g = record {
+      taken = g.taken;
+      follows = record {
+        follows = record { taken = f.taken; beneath = g.follows.follows; stands = f.stands; spent = λ e. absurd (true≢false (sym e ∙ open_)) };
+        same = same g.follows.same;
+        most = most g.taken g.follows.follows 0 0 (omega arith) g.follows.most;
+      };
+      asks = asks_up d p t g.taken f.taken given before now old new (Err fault) (Err fault) (dry f.taken given f.stands) (λ fault e. e) g.asks;
+      ends = tt;
+    }
 
 -- the end came from beneath, and the stage finished
-pub finishes_over : {S T : Type 0} (At : S → Taking) (Stands : T → Standing) (closed : T → Bool)
+pub finishes_over : {S T : Type 0} (At : S → Taking) (Stands : T → Standing) (closed : T → Bool) (q : Prices S T)
     → (pages : PageMap) (d : Database) (p : Plan) (t : Taken) (given : List PlanRow) (before now : Counts) (old new : DeskState) (result : Result Step PageFault)
-    → (stage stage' : T) (below below' : Operator S T)
+    → (stage stage' : T) (pointer pointer' : Box Unit) (below below' : Operator S T) → closed stage ≡ false → q.row stage' ≡ q.row stage
+    → q.held stage' pages d p ≤ q.held stage pages d p → GoesOn result (closed stage' ≡ true)
     → ((taken given : List PlanRow) → Stands stage pages d p taken given → is_lazy p ≡ true → IsDry d p taken given)
     → ((given : List PlanRow) → Stands stage pages d p (beneath d p) given → Finishes d p given result (Stands stage' pages d p (beneath d p)))
-    → ((taken : List PlanRow) → Follows At Stands closed below pages d (inner p) t taken
-    → Goes d (inner p) t taken before now old new (Ok End) (Follows At Stands closed below' pages d (inner p)))
-    → IsOver d p t given (closed stage) (Follows At Stands closed below pages d (inner p) t) (Stands stage pages d p)
-    → Goes d p t given before now old new result
-    (λ after rows. IsOver d p after rows (closed stage') (Follows At Stands closed below' pages d (inner p) after) (Stands stage' pages d p))
-finishes_over At Stands closed pages d p t given before now old new result stage stage' below below' dry finish step f = record {
+    → ((taken : List PlanRow) (f : Follows At Stands closed below pages d (inner p) t taken)
+    → Goes d (inner p) t taken before now old new (Ok End) (IsPaid At Stands closed q below below' pages d (inner p) t taken f old new (Ok End)))
+    → (f : Follows At Stands closed (Over' stage pointer below) pages d p t given)
+    → Goes d p t given before now old new result (IsPaid At Stands closed q (Over' stage pointer below) (Over' stage' pointer' below') pages d p t given f old new result)
+finishes_over {S} {T} At Stands closed q pages d p t given before now old new result stage stage' pointer pointer' below below' open_ price owes shuts dry finish step f = record {
   taken = g.taken;
   follows = record {
-    taken = beneath d p;
-    beneath = subst (λ rows. Follows At Stands closed below' pages d (inner p) g.taken rows) g.ends.all g.follows;
-    stands = w.stands;
-    spent = λ e. g.ends.spent;
+    follows = finished;
+    same = same_over At Stands closed q stage stage' pointer pointer' below below' price g.follows.same;
+    most =
+        pays_none old.pool.gets new.pool.gets (left_of closed q (Over' stage pointer below) pages d p) (left_after closed q (Over' stage' pointer' below') pages d p result)
+        (q.held stage pages d p) (left_of closed q below pages d (inner p)) (owed_by q below' pages d (inner p))
+        (paid At Stands closed q (Over' stage pointer below) pages d p t given f old.visits)
+        (paid At Stands closed q (Over' stage' pointer' below') pages d p g.taken (given_after given result) finished new.visits)
+        (paid At Stands closed q below pages d (inner p) t f.taken f.beneath old.visits) (paid At Stands closed q below' pages d (inner p) g.taken f.taken g.follows.follows new.visits)
+        (sum_by (q.row stage pages d p) f.taken) (left_open At Stands closed q stage pointer below pages d p open_)
+        (left_finished At Stands closed q stage stage' pointer' below' pages d p result owes shuts)
+        (paid_over At Stands closed q stage pointer below pages d p t given f old.visits)
+        (paid_over At Stands closed q stage' pointer' below' pages d p g.taken (given_after given result) finished new.visits
+        ∙ ap (λ (row : PageMap → Database → Plan → PlanRow → ℕ). paid At Stands closed q below' pages d (inner p) g.taken f.taken g.follows.follows new.visits + sum_by (row pages d p) f.taken) price)
+        g.follows.most;
   };
   asks = asks_up d p t g.taken f.taken given before now old new (Ok End) result (dry f.taken given f.stands) (λ fault e. absurd (ok-err e)) g.asks;
   ends = ended result w.whole;
 }
   where
-    g : Goes d (inner p) t f.taken before now old new (Ok End) (Follows At Stands closed below' pages d (inner p))
+    g : Goes d (inner p) t f.taken before now old new (Ok End) (IsPaid At Stands closed q below below' pages d (inner p) t f.taken f.beneath old new (Ok End))
     g = step f.taken f.beneath
 
     w : Finishes d p given result (Stands stage' pages d p (beneath d p))
     w = finish given (subst (λ rows. Stands stage pages d p rows given) g.ends.all f.stands)
+
+    finished : Follows At Stands closed (Over' stage' pointer' below') pages d p g.taken (given_after given result)
+    finished = record {
+      taken = f.taken;
+      beneath = g.follows.follows;
+      stands = subst (λ rows. Stands stage' pages d p rows (given_after given result)) (sym g.ends.all) w.stands;
+      spent = λ e. g.ends.spent;
+    }
 
     ok-err : {fault : PageFault} → Ok End ≡ Err fault → ⊥
     ok-err e = true≢false (ap is_ok e)

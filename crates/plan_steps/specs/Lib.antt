@@ -6,3 +6,5 @@ pub mod Steps
 pub mod Stages
 -- operators over operators over a source
 pub mod Following
+-- what steps pay
+pub mod Paying

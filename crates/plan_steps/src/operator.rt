@@ -7,8 +7,9 @@ ghost use Rattle.sand_model.specs.Plan.{Plan};
 ghost use Rattle.sand_model.specs.Taken.{Taken};
 ghost use Rattle.best_first.specs.Visits.{told_pages};
 ghost use Rattle.plan_rows.specs.Rows.{counts_of};
-ghost use Rattle.plan_steps.specs.Following.{Follows, IsOver, source_of, steps_of};
-ghost use Rattle.plan_steps.specs.Steps.{Goes, Lowers};
+ghost use Rattle.plan_steps.specs.Following.{Follows, IsOver, steps_of};
+ghost use Rattle.plan_steps.specs.Paying.{GoesPaid, prices};
+ghost use Rattle.plan_steps.specs.Steps.{Lowers};
 
 use crate::{RowStage, Step};
 use page_pool::{Desk, Disk, PageFault};
@@ -33,14 +34,16 @@ pub struct Over<S, T> {
 }
 
 impl<S: RowSource, T: RowStage> Operator<S, T> {
-    /// Makes one step. After a refusal no row is lost, and `step` may be called again.
+    /// Makes one step. After a refusal no row is lost, and `step` may be called again. Its page gets are at most the
+    /// price of the visits that it noted, of one step of the source where it asked it, and of the rows that stages
+    /// handled; the price of a row that a stage holds is left to pay in later steps.
     #[cycle(step)]
     pub fn step<D: Disk>(&mut self, alloc: Global, desk: &mut Desk<D>) -> Result<Step, PageFault>
         requires stands { IfSome (told_pages desk.old) (λ pages. (d : Database) × ((p : Plan) × ((t : Taken) × ((given : List PlanRow) × Follows S.At T.Stands T.closed self.old pages d p t given)))) }
         ensures read { IsRead desk.old.pool desk.new.pool }
         ensures cause { HasPageCause desk.old.pool desk.new.pool result }
         ensures falls { Lowers (steps_of S.steps T.steps self.old) (steps_of S.steps T.steps self.new) result }
-        ensures step { IfSome (told_pages desk.old) (λ pages. (d : Database) (p : Plan) (t : Taken) (given : List PlanRow) → Follows S.At T.Stands T.closed self.old pages d p t given → Goes d p t given (counts_of (S.seen (source_of self.old))) (counts_of (S.seen (source_of self.new))) desk.old desk.new result (Follows S.At T.Stands T.closed self.new pages d p)) }
+        ensures step { IfSome (told_pages desk.old) (GoesPaid S.At T.Stands T.closed (prices S.heights S.step_price S.owed T.price T.owed) (λ s. counts_of (S.seen s)) self.old self.new desk.old desk.new result) }
     {
         match self {
             Operator::Source(source) => match source.next(alloc, desk) {
@@ -61,7 +64,7 @@ impl<S: RowSource, T: RowStage> Over<S, T> {
         ensures read { IsRead desk.old.pool desk.new.pool }
         ensures cause { HasPageCause desk.old.pool desk.new.pool result }
         ensures falls { Lowers (steps_of S.steps T.steps (Operator.Over self.old)) (steps_of S.steps T.steps (Operator.Over self.new)) result }
-        ensures step { IfSome (told_pages desk.old) (λ pages. (d : Database) (p : Plan) (t : Taken) (given : List PlanRow) → Follows S.At T.Stands T.closed (Operator.Over self.old) pages d p t given → Goes d p t given (counts_of (S.seen (source_of (Operator.Over self.old)))) (counts_of (S.seen (source_of (Operator.Over self.new)))) desk.old desk.new result (Follows S.At T.Stands T.closed (Operator.Over self.new) pages d p)) }
+        ensures step { IfSome (told_pages desk.old) (GoesPaid S.At T.Stands T.closed (prices S.heights S.step_price S.owed T.price T.owed) (λ s. counts_of (S.seen s)) (Operator.Over self.old) (Operator.Over self.new) desk.old desk.new result) }
     {
         if self.stage.is_busy() {
             return self.stage.work(alloc, desk);
