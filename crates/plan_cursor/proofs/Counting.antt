@@ -14,11 +14,11 @@ use Rattle.plan_rows.specs.Rows.{plan_measure, row_of}
 use Rattle.plan_rows.proofs.ModelSteps.{step_row, step_end}
 use Rattle.plan_rows.specs.declared.answer.Answer.{Answer}
 use Rattle.plan_steps.specs.Following.{Taking}
+use Rattle.plan_steps.specs.Paying.{Prices}
 use Rattle.plan_steps.specs.Stages.{Standing}
-use Rattle.plan_cursor.specs.CursorStep.{Gives, CursorStep}
-use Rattle.plan_cursor.specs.Standing.{Keeps, IsAt}
+use Rattle.plan_cursor.specs.CursorStep.{Gives}
+use Rattle.plan_cursor.specs.PaidCalls.{AdvancesPaid, StepsPaid}
 use Rattle.plan_cursor.specs.declared.cursor.RowCursor.{RowCursor}
-use Rattle.plan_cursor.proofs.Told.{StepsFrom}
 
 -- the number of rows after a call
 abbrev pub number_after : ℕ → Result (Option Answer) PageFault → ℕ
@@ -57,17 +57,17 @@ given_gives c after (Ok (Some a)) h n e =
 given_gives c after (Ok None) h n e = e ∙ ap (λ k. min k last_count) (sym (end_given c after h))
 given_gives c after (Err fault) h n e = e ∙ ap (λ k. min k last_count) (sym (ap (λ (d : Cursor). d.given) (h why.Memory).2))
 
-module _ {S T : Type 0} (At : S → Taking) (Stands : T → Standing) (closed : T → Bool) (seen : S → Counts) where
+module _ {S T : Type 0} (At : S → Taking) (Stands : T → Standing) (closed : T → Bool) (q : Prices S T) (seen : S → Counts) where
   -- the call of a cursor
   pub told_cursor : (told : Option PageMap) (cursor cursor' : RowCursor S T) (old new : DeskState) (result r : Result (Option Answer) PageFault) → result ≡ r
-      → cursor'.given ≡ number_after cursor.given r → IfSome told (StepsFrom At Stands closed seen cursor.operator cursor'.operator old new result)
-      → IfSome told (λ pages. (c : Cursor) → IsAt At Stands closed seen cursor pages c → CursorStep c old new r (IsAt At Stands closed seen cursor' pages))
+      → cursor'.given ≡ number_after cursor.given r → IfSome told (AdvancesPaid At Stands closed q seen cursor.operator cursor'.operator old new result)
+      → IfSome told (StepsPaid At Stands closed q seen cursor cursor' old new r)
   told_cursor None cursor cursor' old new result r is number h = tt
   told_cursor (Some pages) cursor cursor' old new result r is number h =
       λ c at.
-      let s = subst (λ r. CursorStep c old new r (Keeps At Stands closed seen cursor'.operator pages)) is (h c at.keeps) in record {
+      let s = (subst (λ r. AdvancesPaid At Stands closed q seen cursor.operator cursor'.operator old new r pages) is h) c at.keeps in record {
         after = s.after;
         gives = s.gives;
-        at = record { keeps = s.at; number = number ∙ given_gives c s.after r s.gives cursor.given at.number };
+        at = record { stands = record { keeps = s.at.keeps; number = number ∙ given_gives c s.after r s.gives cursor.given at.number }; pays = s.at.pays };
         visits = s.visits;
       }

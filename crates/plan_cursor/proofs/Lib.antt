@@ -2,6 +2,8 @@
 pub mod RowGaps
 -- what a step asks of the source
 pub mod AskedOnce
+-- payments one after the other
+pub mod Chained
 -- the steps of a call
 pub mod Advancing
 -- the same where the disk tells its pages

@@ -2,3 +2,5 @@
 pub mod CursorStep
 -- where a cursor stands
 pub mod Standing
+-- what a call pays
+pub mod PaidCalls

@@ -6,7 +6,8 @@ ghost use Rattle.best_first.specs.Visits.{told_pages};
 ghost use Rattle.plan_rows.specs.Rows.{counts_of};
 ghost use Rattle.plan_rows.specs.SourceSteps.{Falls};
 ghost use Rattle.plan_steps.specs.Following.{steps_of};
-ghost use Rattle.plan_cursor.specs.CursorStep.{CursorStep};
+ghost use Rattle.plan_steps.specs.Paying.{prices};
+ghost use Rattle.plan_cursor.specs.PaidCalls.{AdvancesPaid};
 ghost use Rattle.plan_cursor.specs.Standing.{Keeps};
 
 use page_pool::{Desk, Disk, PageFault};
@@ -24,7 +25,7 @@ pub fn advance<S: RowSource, T: RowStage, D: Disk>(
     ensures read { IsRead desk.old.pool desk.new.pool }
     ensures cause { HasPageCause desk.old.pool desk.new.pool result }
     ensures falls { Falls (steps_of S.steps T.steps operator.old) (steps_of S.steps T.steps operator.new) result }
-    ensures step { IfSome (told_pages desk.old) (λ pages. (c : Cursor) → Keeps S.At T.Stands T.closed (λ s. counts_of (S.seen s)) operator.old pages c → CursorStep c desk.old desk.new result (Keeps S.At T.Stands T.closed (λ s. counts_of (S.seen s)) operator.new pages)) }
+    ensures step { IfSome (told_pages desk.old) (AdvancesPaid S.At T.Stands T.closed (prices S.heights S.step_price S.owed T.price T.owed) (λ s. counts_of (S.seen s)) operator.old operator.new desk.old desk.new result) }
 {
     'steps: loop {
         match operator.step(alloc, desk) {

@@ -10,7 +10,8 @@ ghost use Rattle.best_first.specs.Visits.{told_pages};
 ghost use Rattle.plan_rows.specs.Rows.{counts_of};
 ghost use Rattle.plan_rows.specs.SourceSteps.{Falls, nothing_taken};
 ghost use Rattle.plan_steps.specs.Following.{Follows, source_of, steps_of};
-ghost use Rattle.plan_cursor.specs.CursorStep.{CursorStep};
+ghost use Rattle.plan_steps.specs.Paying.{prices};
+ghost use Rattle.plan_cursor.specs.PaidCalls.{StepsPaid};
 ghost use Rattle.plan_cursor.specs.Standing.{AreStats, IsAt, counts_among};
 
 use crate::advance::advance;
@@ -37,7 +38,8 @@ impl<S: RowSource, T: RowStage> RowCursor<S, T> {
     }
 
     /// The next row of the plan's answer, None exactly where all are given. After a refusal the rows given are
-    /// unchanged, and `next` may be called again.
+    /// unchanged, and `next` may be called again. Its page gets are at most the price of the visits that it noted, of
+    /// the steps of the source that it made, and of the rows that operators handled in it.
     pub fn next<D: Disk>(
         &mut self,
         alloc: Global,
@@ -47,7 +49,7 @@ impl<S: RowSource, T: RowStage> RowCursor<S, T> {
         ensures read { IsRead desk.old.pool desk.new.pool }
         ensures cause { HasPageCause desk.old.pool desk.new.pool result }
         ensures falls { Falls (steps_of S.steps T.steps self.old.operator) (steps_of S.steps T.steps self.new.operator) result }
-        ensures step { IfSome (told_pages desk.old) (λ pages. (c : Cursor) → IsAt S.At T.Stands T.closed (λ s. counts_of (S.seen s)) self.old pages c → CursorStep c desk.old desk.new result (IsAt S.At T.Stands T.closed (λ s. counts_of (S.seen s)) self.new pages)) }
+        ensures step { IfSome (told_pages desk.old) (StepsPaid S.At T.Stands T.closed (prices S.heights S.step_price S.owed T.price T.owed) (λ s. counts_of (S.seen s)) self.old self.new desk.old desk.new result) }
     {
         match advance(&mut self.operator, alloc, desk) {
             Ok(Some(row)) => {
