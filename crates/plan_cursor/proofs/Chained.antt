@@ -1,13 +1,16 @@
 -- What is paid from one moment to the next, and from there on, is paid from the first to the last.
-use Rattle.std.proofs.Common.{◌∙◌, ℕ, ◌+◌, ◌≤◌, Bool, refl, arith}
+use Rattle.std.proofs.Common.{◌∙◌, ℕ, ◌+◌, ◌≤◌, Bool, Option, Result, refl, arith}
 use Rattle.page_pool.specs.Desk.{DeskState}
 use Rattle.page_pool.specs.Disk.{PageMap}
+use Rattle.page_pool.specs.declared.fault.PageFault.{PageFault}
 use Rattle.sand_model.specs.Cursor.{Cursor}
 use Rattle.sand_model.specs.Reach.{Counts}
+use Rattle.plan_rows.specs.declared.answer.Answer.{Answer}
 use Rattle.plan_steps.specs.Following.{Taking}
 use Rattle.plan_steps.specs.Paying.{Prices, HasSamePrices}
 use Rattle.plan_steps.specs.Stages.{Standing}
 use Rattle.plan_steps.specs.declared.operator.Operator.{Operator}
+use Rattle.plan_cursor.specs.CursorStep.{CursorStep}
 use Rattle.plan_cursor.specs.PaidCalls.{left_at, paid_so_far, Pays, IsAtPaid}
 use Rattle.plan_cursor.specs.Standing.{Keeps, IsAt}
 use Rattle.plan_cursor.specs.declared.cursor.RowCursor.{RowCursor}
@@ -55,3 +58,25 @@ module _ {S T : Type 0} (At : S → Taking) (Stands : T → Standing) (closed : 
     pays =
         pays_both first.operator second.operator third.operator c mid_c after at.keeps one.stands.keeps two.stands.keeps old mid new (left after) one.pays two.pays;
   }
+
+-- what is left to pay may be said lower
+pub at_less : {S T : Type 0} (At : S → Taking) (Stands : T → Standing) (closed : T → Bool) (q : Prices S T) (seen : S → Counts) (pages : PageMap) (cursor cursor' : RowCursor S T)
+    → (c after : Cursor) (at : IsAt At Stands closed seen cursor pages c) (old new : DeskState) (left lower : Cursor → ℕ) → lower after ≤ left after
+    → IsAtPaid At Stands closed q seen cursor cursor' pages c at old new left after → IsAtPaid At Stands closed q seen cursor cursor' pages c at old new lower after
+at_less At Stands closed q seen pages cursor cursor' c after at old new left lower less paid_it = record {
+  stands = paid_it.stands;
+  pays = record {
+    same = paid_it.pays.same;
+    most =
+        most_less old.pool.gets new.pool.gets (left_at closed q cursor.operator pages c) (left after) (lower after) (paid_so_far At Stands closed q seen cursor.operator pages c at.keeps old.visits)
+        (paid_so_far At Stands closed q seen cursor'.operator pages after paid_it.stands.keeps new.visits) less paid_it.pays.most;
+  };
+}
+  where
+    most_less : (old new before left lower first now : ℕ) → lower ≤ left → new + left + first ≤ old + before + now → new + lower + first ≤ old + before + now
+    most_less old new before left lower first now less most = omega (arith, less, most)
+
+-- what a step says of where the cursor stands
+pub step_then : (c : Cursor) (old new : DeskState) (result : Result (Option Answer) PageFault) (At Then : Cursor → Type 0) → ((after : Cursor) → At after → Then after)
+    → CursorStep c old new result At → CursorStep c old new result Then
+step_then c old new result At Then so s = record { after = s.after; gives = s.gives; at = so s.after s.at; visits = s.visits }

@@ -7,18 +7,26 @@ use Rattle.sand_base.specs.declared.refusal.Refusal.{Refusal}
 use Rattle.sand_base.specs.declared.source.Failed.{Failed}
 use Rattle.sand_base.specs.declared.visit.Visit.{Visit}
 use Rattle.page_pool.specs.Desk.{DeskState}
+use Rattle.page_pool.specs.Disk.{PageMap}
 use Rattle.page_pool.specs.declared.fault.PageFault.{PageFault}
 use Rattle.sand_model.specs.Cursor as line
 use Rattle.sand_model.specs.Cursor.{Cursor, OutputLine, Steps}
 use Rattle.sand_model.specs.Operators.{PlanRow}
 use Rattle.sand_model.specs.OutputText.{IsText, is_refused}
-use Rattle.sand_model.specs.Reach.{reach, reach_of_last}
+use Rattle.sand_model.specs.Reach.{Counts, reach, reach_of_last}
 use Rattle.sand_model.specs.Taken.{Taken, has_taken, is_lazy}
 use Rattle.output_text.specs.Writing.{Writes, WritesPrefix}
 use Rattle.plan_rows.specs.Rows.{plan_measure}
 use Rattle.plan_rows.specs.SourceSteps.{node_count}
 use Rattle.plan_rows.specs.Visited.{◌plus◌, visit_counts, LiesWithin}
 use Rattle.plan_cursor.specs.CursorStep.{step_taken}
+use Rattle.plan_cursor.specs.PaidCalls.{left_at, IsAtPaid}
+use Rattle.plan_cursor.specs.Standing.{IsAt}
+use Rattle.plan_cursor.specs.declared.cursor.RowCursor.{RowCursor}
+use Rattle.plan_steps.specs.Following.{Taking}
+use Rattle.plan_steps.specs.Paying.{Prices, owed_by}
+use Rattle.plan_steps.specs.Stages.{Standing}
+use Rattle.plan_steps.specs.declared.operator.Operator.{Operator}
 use Rattle.row_output.specs.declared.rows.Printed.{Printed}
 use Rattle.row_output.specs.declared.rows.Printed.TheVariants.{Rows, Refused}
 
@@ -107,3 +115,16 @@ pub record PrintsRows (c : Cursor) (count : ℕ) (old new : DeskState) (before n
   pub near : All (LiesWithin plan_measure c.database c.plan (reach plan_measure c.database c.plan last)) (completed ++ attempted)
   pub row : LieWithinLast c result lines (completed ++ attempted)
   pub rose : min (old.pool.gets + (node_count after.counts - node_count c.counts)) last_count ≤ new.pool.gets
+
+-- what is left to pay after what was printed: at the end, and where the sink failed, no step of the source, and after a refused step nothing
+abbrev pub left_by_lines : {S T : Type 0} → (T → Bool) → Prices S T → Operator S T → PageMap → Cursor → Result Printed Failed → ℕ
+left_by_lines closed q o pages c (Ok (Rows rows end)) = cond end (owed_by q o pages c.database c.plan) (left_at closed q o pages c)
+left_by_lines closed q o pages c (Ok (Refused rows fault)) = 0
+left_by_lines closed q o pages c (Err failed) = owed_by q o pages c.database c.plan
+
+-- wherever the cursor of the model stands: some steps of it were made with their lines, and the page gets of them all are paid
+abbrev pub PrintsRowsPaid : {S T : Type 0} → (S → Taking) → (T → Standing) → (T → Bool) → Prices S T → (S → Counts) → RowCursor S T → RowCursor S T → ℕ
+    → DeskState → DeskState → (List ℕ → Type 0) → (List ℕ → Type 0) → Result Printed Failed → PageMap → Type 0
+PrintsRowsPaid At Stands closed q seen cursor cursor' count old new before now result pages =
+    (c : Cursor) (at : IsAt At Stands closed seen cursor pages c)
+    → PrintsRows c count old new before now result (IsAtPaid At Stands closed q seen cursor cursor' pages c at old new (λ after. left_by_lines closed q cursor'.operator pages after result))

@@ -1,16 +1,25 @@
 -- One step of a cursor, and its line.
-use Rattle.std.specs.Prelude.{◌≡◌, ℕ, List, [], ◌∷◌, Option, None, Some, Result, Ok, Err}
+use Rattle.std.specs.Prelude.{◌≡◌, ℕ, Bool, List, [], ◌∷◌, Option, None, Some, Result, Ok, Err}
 use Rattle.sand_base.specs.Streams.{Stays}
 use Rattle.sand_base.specs.declared.source.Failed.{Failed}
 use Rattle.page_pool.specs.Desk.{DeskState}
+use Rattle.page_pool.specs.Disk.{PageMap}
 use Rattle.page_pool.specs.declared.fault.PageFault.{PageFault}
 use Rattle.sand_model.specs.Cursor as line
 use Rattle.sand_model.specs.Cursor.{Cursor}
 use Rattle.sand_model.specs.OutputText.{IsText}
+use Rattle.sand_model.specs.Reach.{Counts}
 use Rattle.output_text.specs.Writing.{Writes, WritesPrefix}
 use Rattle.plan_rows.specs.Rows.{row_of}
 use Rattle.plan_rows.specs.declared.answer.Answer.{Answer}
 use Rattle.plan_cursor.specs.CursorStep.{CursorStep}
+use Rattle.plan_cursor.specs.PaidCalls.{left_at, IsAtPaid}
+use Rattle.plan_cursor.specs.Standing.{IsAt}
+use Rattle.plan_cursor.specs.declared.cursor.RowCursor.{RowCursor}
+use Rattle.plan_steps.specs.Following.{Taking}
+use Rattle.plan_steps.specs.Paying.{Prices, owed_by}
+use Rattle.plan_steps.specs.Stages.{Standing}
+use Rattle.plan_steps.specs.declared.operator.Operator.{Operator}
 use Rattle.row_output.specs.declared.next.Next.{Next}
 use Rattle.row_output.specs.declared.next.Next.TheVariants.{Row, End, Refused}
 
@@ -41,3 +50,17 @@ pub record PrintsNext (c : Cursor) (old new : DeskState) (before now : List ℕ 
   pub answer : Result (Option Answer) PageFault
   pub step : CursorStep c old new answer At
   pub prints : PrintsStep answer result before now
+
+-- what is left to pay after a step and its line: at the end, and where the sink failed, no step of the source, and after a refused step nothing
+abbrev pub left_by_line : {S T : Type 0} → (T → Bool) → Prices S T → Operator S T → PageMap → Cursor → Result Next Failed → ℕ
+left_by_line closed q o pages c (Ok Row) = left_at closed q o pages c
+left_by_line closed q o pages c (Ok End) = owed_by q o pages c.database c.plan
+left_by_line closed q o pages c (Ok (Refused fault)) = 0
+left_by_line closed q o pages c (Err failed) = owed_by q o pages c.database c.plan
+
+-- wherever the cursor of the model stands: one step of it was made with its line, and its page gets are paid
+abbrev pub PrintsNextPaid : {S T : Type 0} → (S → Taking) → (T → Standing) → (T → Bool) → Prices S T → (S → Counts) → RowCursor S T → RowCursor S T
+    → DeskState → DeskState → (List ℕ → Type 0) → (List ℕ → Type 0) → Result Next Failed → PageMap → Type 0
+PrintsNextPaid At Stands closed q seen cursor cursor' old new before now result pages =
+    (c : Cursor) (at : IsAt At Stands closed seen cursor pages c)
+    → PrintsNext c old new before now result (IsAtPaid At Stands closed q seen cursor cursor' pages c at old new (λ after. left_by_line closed q cursor'.operator pages after result))

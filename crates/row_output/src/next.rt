@@ -7,8 +7,9 @@ ghost use Rattle.sand_model.specs.Cursor.{Cursor};
 ghost use Rattle.best_first.specs.Visits.{told_pages};
 ghost use Rattle.plan_rows.specs.Rows.{counts_of};
 ghost use Rattle.plan_cursor.specs.Standing.{IsAt};
+ghost use Rattle.plan_steps.specs.Paying.{prices};
 ghost use Rattle.row_output.specs.Printing.{IsPlainText};
-ghost use Rattle.row_output.specs.Stepping.{PrintsNext, refusal_of};
+ghost use Rattle.row_output.specs.Stepping.{PrintsNextPaid, refusal_of};
 
 use crate::row::print_row;
 use output_text::{LineRef, write_line};
@@ -39,7 +40,7 @@ pub fn print_next<S: RowSource, T: RowStage, D: Disk, K: Sink>(
     ensures cause { HasCause (K.faults out.old) (K.faults out.new) result }
     ensures plain { OnOk result (Writes IsPlainText (K.took out.old) (K.took out.new)) }
     ensures broken { OnErr result (WritesPrefix IsPlainText (K.took out.old) (K.took out.new)) }
-    ensures step { IfSome (told_pages desk.old) (λ pages. (c : Cursor) → IsAt S.At T.Stands T.closed (λ s. counts_of (S.seen s)) cursor.old pages c → PrintsNext c desk.old desk.new (K.took out.old) (K.took out.new) result (IsAt S.At T.Stands T.closed (λ s. counts_of (S.seen s)) cursor.new pages)) }
+    ensures step { IfSome (told_pages desk.old) (PrintsNextPaid S.At T.Stands T.closed (prices S.heights S.step_price S.owed T.price T.owed) (λ s. counts_of (S.seen s)) cursor.old cursor.new desk.old desk.new (K.took out.old) (K.took out.new) result) }
 {
     match cursor.next(alloc, desk) {
         Ok(Some(row)) => {

@@ -7,7 +7,8 @@ ghost use Rattle.sand_model.specs.Cursor.{Cursor};
 ghost use Rattle.best_first.specs.Visits.{told_pages};
 ghost use Rattle.plan_rows.specs.Rows.{counts_of};
 ghost use Rattle.plan_cursor.specs.Standing.{IsAt};
-ghost use Rattle.row_output.specs.Printing.{IsPlainText, PrintsRows, refusal_in};
+ghost use Rattle.plan_steps.specs.Paying.{prices};
+ghost use Rattle.row_output.specs.Printing.{IsPlainText, PrintsRowsPaid, refusal_in};
 
 use crate::next::{Next, print_next};
 use page_pool::{Desk, Disk, PageFault};
@@ -28,7 +29,8 @@ pub enum Printed {
 
 /// Prints the next rows of a cursor, up to so many, and `end` where no more are left. Each line is written before the
 /// next row is asked for, and printing takes no memory. A refusal's line is left to the caller. After `Failed` the
-/// sink took a prefix of the lines of the rows that the cursor gave, and of `end` where none was left.
+/// sink took a prefix of the lines of the rows that the cursor gave, and of `end` where none was left. Its page gets
+/// are at most the price of the visits noted, of the steps of the source and of the rows that operators handled.
 pub fn print_rows<S: RowSource, T: RowStage, D: Disk, K: Sink>(
     cursor: &mut RowCursor<S, T>,
     alloc: Global,
@@ -42,7 +44,7 @@ pub fn print_rows<S: RowSource, T: RowStage, D: Disk, K: Sink>(
     ensures cause { HasCause (K.faults out.old) (K.faults out.new) result }
     ensures plain { OnOk result (Writes IsPlainText (K.took out.old) (K.took out.new)) }
     ensures broken { OnErr result (WritesPrefix IsPlainText (K.took out.old) (K.took out.new)) }
-    ensures step { IfSome (told_pages desk.old) (λ pages. (c : Cursor) → IsAt S.At T.Stands T.closed (λ s. counts_of (S.seen s)) cursor.old pages c → PrintsRows c count desk.old desk.new (K.took out.old) (K.took out.new) result (IsAt S.At T.Stands T.closed (λ s. counts_of (S.seen s)) cursor.new pages)) }
+    ensures step { IfSome (told_pages desk.old) (PrintsRowsPaid S.At T.Stands T.closed (prices S.heights S.step_price S.owed T.price T.owed) (λ s. counts_of (S.seen s)) cursor.old cursor.new count desk.old desk.new (K.took out.old) (K.took out.new) result) }
 {
     let mut rows = 0;
     'rows: while rows < count {

@@ -3,19 +3,30 @@ use Rattle.std.proofs.Common.{Ok, refl, ap, ◌∙◌, subst, arith}
 use Rattle.sand_base.specs.Faults.{HasCause}
 use Rattle.page_pool.specs.Causes.{HasPageCause}
 use Rattle.best_first.specs.Visits.{told_pages}
-use Rattle.best_first.proofs.Passing.{read_both, told_read}
+use Rattle.best_first.proofs.Passing.{read_itself, read_both, told_read}
 use Rattle.plan_rows.specs.Rows.{counts_of}
-use Rattle.plan_cursor.specs.Standing.{IsAt}
+use Rattle.plan_steps.specs.Paying.{prices}
 use Rattle.row_output.specs.Stepping.{refusal_of}
-use Rattle.row_output.proofs.PlainTexts.{plain_then, broken_then}
-use Rattle.row_output.proofs.Told.{told_stands, told_more, told_end, told_refused, told_failed, told_all}
+use Rattle.row_output.proofs.PlainTexts.{plain_none, plain_then, broken_then}
+use Rattle.row_output.proofs.Told.{told_none, told_stands, told_more, told_end, told_refused, told_failed, told_all}
 use Rattle.row_output.proofs.rows.print_rows.Goals as goal
+
+pub rows-init : goal.rows-init
+rows-init g c = record {
+  few = omega arith;
+  count = refl;
+  read = read_itself c.args.desk.now.pool;
+  faults = refl;
+  sink = refl;
+  plain = plain_none (g.K.Sink.took c.args.out.now);
+  so_far = told_none g.S.RowSource.At g.T.RowStage.Stands g.T.RowStage.closed (prices g.S.RowSource.heights g.S.RowSource.step_price g.S.RowSource.owed g.T.RowStage.price g.T.RowStage.owed) (λ s. counts_of (g.S.RowSource.seen s)) (told_pages c.args.desk.now) c.args.cursor.now c.args.desk.now (g.K.Sink.took c.args.out.now);
+}
 
 pub print_next-requires : goal.print_next-requires
 print_next-requires g c = record {
   stands =
-      told_stands (told_pages c.args.desk.now) (told_pages c.rows.desk) (λ pages. IsAt g.S.RowSource.At g.T.RowStage.Stands g.T.RowStage.closed (λ s. counts_of (g.S.RowSource.seen s)) c.args.cursor.now pages)
-      (λ pages. IsAt g.S.RowSource.At g.T.RowStage.Stands g.T.RowStage.closed (λ s. counts_of (g.S.RowSource.seen s)) c.rows.cursor pages) c.rows.rows c.args.desk.now c.rows.desk
+      told_stands g.S.RowSource.At g.T.RowStage.Stands g.T.RowStage.closed (prices g.S.RowSource.heights g.S.RowSource.step_price g.S.RowSource.owed g.T.RowStage.price g.T.RowStage.owed) (λ s. counts_of (g.S.RowSource.seen s)) (told_pages c.args.desk.now) (told_pages c.rows.desk) c.args.cursor.now
+      c.rows.cursor c.rows.rows c.args.desk.now c.rows.desk
       (g.K.Sink.took c.args.out.now) (g.K.Sink.took c.rows.out) (told_read c.args.desk.now c.rows.desk c.rows.invariant.read) c.requires.stands c.rows.invariant.so_far;
 }
 
@@ -23,8 +34,8 @@ pub returns-clause-step : goal.returns-clause-step
 returns-clause-step g c =
     let few = c.rows.invariant.few in
     let most = c.rows-test.false in
-    told_all (told_pages c.args.desk.now) (λ pages. IsAt g.S.RowSource.At g.T.RowStage.Stands g.T.RowStage.closed (λ s. counts_of (g.S.RowSource.seen s)) c.args.cursor.now pages)
-    (λ pages. IsAt g.S.RowSource.At g.T.RowStage.Stands g.T.RowStage.closed (λ s. counts_of (g.S.RowSource.seen s)) c.rows.cursor pages) c.rows.rows c.args.count c.args.desk.now c.rows.desk
+    told_all g.S.RowSource.At g.T.RowStage.Stands g.T.RowStage.closed (prices g.S.RowSource.heights g.S.RowSource.step_price g.S.RowSource.owed g.T.RowStage.price g.T.RowStage.owed) (λ s. counts_of (g.S.RowSource.seen s)) (told_pages c.args.desk.now) c.args.cursor.now
+    c.rows.cursor c.rows.rows c.args.count c.args.desk.now c.rows.desk
     (g.K.Sink.took c.args.out.now) (g.K.Sink.took c.rows.out) (omega (arith, few, most)) c.rows.invariant.so_far
 
 pub rows-preserved : goal.rows-preserved
@@ -41,36 +52,36 @@ rows-preserved g c =
           (subst (λ r. HasCause (g.K.Sink.faults c.rows.out) (g.K.Sink.faults c.print_next.new.out) r) is c.print_next.ensures.cause).done ∙ c.rows.invariant.sink;
       plain = plain_then (g.K.Sink.took c.args.out.now) (g.K.Sink.took c.rows.out) (g.K.Sink.took c.print_next.new.out) c.rows.invariant.plain c.in-Ok-Row.ensures.plain;
       so_far =
-          told_more (told_pages c.args.desk.now) (told_pages c.rows.desk) (λ pages. IsAt g.S.RowSource.At g.T.RowStage.Stands g.T.RowStage.closed (λ s. counts_of (g.S.RowSource.seen s)) c.args.cursor.now pages)
-          (λ pages. IsAt g.S.RowSource.At g.T.RowStage.Stands g.T.RowStage.closed (λ s. counts_of (g.S.RowSource.seen s)) c.rows.cursor pages)
-          (λ pages. IsAt g.S.RowSource.At g.T.RowStage.Stands g.T.RowStage.closed (λ s. counts_of (g.S.RowSource.seen s)) c.print_next.new.cursor pages) c.rows.rows c.args.desk.now c.rows.desk
+          told_more g.S.RowSource.At g.T.RowStage.Stands g.T.RowStage.closed (prices g.S.RowSource.heights g.S.RowSource.step_price g.S.RowSource.owed g.T.RowStage.price g.T.RowStage.owed) (λ s. counts_of (g.S.RowSource.seen s)) (told_pages c.args.desk.now) (told_pages c.rows.desk) c.args.cursor.now
+          c.rows.cursor
+          c.print_next.new.cursor c.rows.rows c.args.desk.now c.rows.desk
           c.print_next.new.desk (g.K.Sink.took c.args.out.now) (g.K.Sink.took c.rows.out) (g.K.Sink.took c.print_next.new.out) c.print_next.result
           (told_read c.args.desk.now c.rows.desk c.rows.invariant.read) c.rows.invariant.so_far c.print_next.ensures.step is;
     }
 
 pub returns-in-Ok-End-clause-step : goal.returns-in-Ok-End-clause-step
 returns-in-Ok-End-clause-step g c =
-    told_end (told_pages c.args.desk.now) (told_pages c.rows.desk) (λ pages. IsAt g.S.RowSource.At g.T.RowStage.Stands g.T.RowStage.closed (λ s. counts_of (g.S.RowSource.seen s)) c.args.cursor.now pages)
-    (λ pages. IsAt g.S.RowSource.At g.T.RowStage.Stands g.T.RowStage.closed (λ s. counts_of (g.S.RowSource.seen s)) c.rows.cursor pages)
-    (λ pages. IsAt g.S.RowSource.At g.T.RowStage.Stands g.T.RowStage.closed (λ s. counts_of (g.S.RowSource.seen s)) c.print_next.new.cursor pages) c.rows.rows c.args.desk.now c.rows.desk
+    told_end g.S.RowSource.At g.T.RowStage.Stands g.T.RowStage.closed (prices g.S.RowSource.heights g.S.RowSource.step_price g.S.RowSource.owed g.T.RowStage.price g.T.RowStage.owed) (λ s. counts_of (g.S.RowSource.seen s)) (told_pages c.args.desk.now) (told_pages c.rows.desk) c.args.cursor.now
+    c.rows.cursor
+    c.print_next.new.cursor c.rows.rows c.args.desk.now c.rows.desk
     c.print_next.new.desk (g.K.Sink.took c.args.out.now) (g.K.Sink.took c.rows.out) (g.K.Sink.took c.print_next.new.out) c.print_next.result
     (told_read c.args.desk.now c.rows.desk c.rows.invariant.read) c.rows.invariant.so_far c.print_next.ensures.step c.args.count c.rows-test.true
     (c.in-Ok-End.is ∙ ap Ok c.in-Ok-End.field-0-is)
 
 pub returns-in-Ok-Refused-clause-step : goal.returns-in-Ok-Refused-clause-step
 returns-in-Ok-Refused-clause-step g c =
-    told_refused (told_pages c.args.desk.now) (told_pages c.rows.desk) (λ pages. IsAt g.S.RowSource.At g.T.RowStage.Stands g.T.RowStage.closed (λ s. counts_of (g.S.RowSource.seen s)) c.args.cursor.now pages)
-    (λ pages. IsAt g.S.RowSource.At g.T.RowStage.Stands g.T.RowStage.closed (λ s. counts_of (g.S.RowSource.seen s)) c.rows.cursor pages)
-    (λ pages. IsAt g.S.RowSource.At g.T.RowStage.Stands g.T.RowStage.closed (λ s. counts_of (g.S.RowSource.seen s)) c.print_next.new.cursor pages) c.rows.rows c.args.desk.now c.rows.desk
+    told_refused g.S.RowSource.At g.T.RowStage.Stands g.T.RowStage.closed (prices g.S.RowSource.heights g.S.RowSource.step_price g.S.RowSource.owed g.T.RowStage.price g.T.RowStage.owed) (λ s. counts_of (g.S.RowSource.seen s)) (told_pages c.args.desk.now) (told_pages c.rows.desk) c.args.cursor.now
+    c.rows.cursor
+    c.print_next.new.cursor c.rows.rows c.args.desk.now c.rows.desk
     c.print_next.new.desk (g.K.Sink.took c.args.out.now) (g.K.Sink.took c.rows.out) (g.K.Sink.took c.print_next.new.out) c.print_next.result
     (told_read c.args.desk.now c.rows.desk c.rows.invariant.read) c.rows.invariant.so_far c.print_next.ensures.step c.args.count c.in-Ok-Refused.fault c.rows-test.true
     (c.in-Ok-Refused.is ∙ ap Ok c.in-Ok-Refused.field-0-is)
 
 pub returns-in-Err-clause-step : goal.returns-in-Err-clause-step
 returns-in-Err-clause-step g c =
-    told_failed (told_pages c.args.desk.now) (told_pages c.rows.desk) (λ pages. IsAt g.S.RowSource.At g.T.RowStage.Stands g.T.RowStage.closed (λ s. counts_of (g.S.RowSource.seen s)) c.args.cursor.now pages)
-    (λ pages. IsAt g.S.RowSource.At g.T.RowStage.Stands g.T.RowStage.closed (λ s. counts_of (g.S.RowSource.seen s)) c.rows.cursor pages)
-    (λ pages. IsAt g.S.RowSource.At g.T.RowStage.Stands g.T.RowStage.closed (λ s. counts_of (g.S.RowSource.seen s)) c.print_next.new.cursor pages) c.rows.rows c.args.desk.now c.rows.desk
+    told_failed g.S.RowSource.At g.T.RowStage.Stands g.T.RowStage.closed (prices g.S.RowSource.heights g.S.RowSource.step_price g.S.RowSource.owed g.T.RowStage.price g.T.RowStage.owed) (λ s. counts_of (g.S.RowSource.seen s)) (told_pages c.args.desk.now) (told_pages c.rows.desk) c.args.cursor.now
+    c.rows.cursor
+    c.print_next.new.cursor c.rows.rows c.args.desk.now c.rows.desk
     c.print_next.new.desk (g.K.Sink.took c.args.out.now) (g.K.Sink.took c.rows.out) (g.K.Sink.took c.print_next.new.out) c.print_next.result
     (told_read c.args.desk.now c.rows.desk c.rows.invariant.read) c.rows.invariant.so_far c.print_next.ensures.step c.args.count c.in-Err.failed c.rows-test.true
     c.in-Err.is

@@ -1,12 +1,11 @@
 use Rattle.std.proofs.Common.{◌-◌, ◌≡◌, IfSome, ◌≤◌}
 use Rattle.page_pool.specs.Reads.{IsRead}
-use Rattle.sand_model.specs.Cursor.{Cursor}
 use Rattle.best_first.specs.Visits.{told_pages}
 use Rattle.plan_rows.specs.Rows.{counts_of}
-use Rattle.plan_cursor.specs.Standing.{IsAt}
+use Rattle.plan_steps.specs.Paying.{prices}
 use Rattle.output_text.specs.Writing.{Writes}
 use Rattle.row_output.specs.Printing.{IsPlainText}
-use Rattle.row_output.proofs.SoFar.{SoFar}
+use Rattle.row_output.proofs.Told.{SoFarPaid}
 use Rattle.row_output.proofs.rows.print_rows.Given as goal
 
 -- so many rows were printed, and neither the disk nor the sink failed
@@ -18,8 +17,7 @@ invariant-rows g l = record {
   faults : l.desk.pool.disk.faults ≡ l.fn.desk.pool.disk.faults;
   sink : g.K.Sink.faults l.out ≡ g.K.Sink.faults l.fn.out;
   plain : Writes IsPlainText (g.K.Sink.took l.fn.out) (g.K.Sink.took l.out);
-  so_far : IfSome (told_pages l.fn.desk) (λ pages. (c : Cursor) → IsAt g.S.RowSource.At g.T.RowStage.Stands g.T.RowStage.closed (λ s. counts_of (g.S.RowSource.seen s)) l.fn.cursor pages c
-      → SoFar c l.rows l.fn.desk l.desk (g.K.Sink.took l.fn.out) (g.K.Sink.took l.out) (IsAt g.S.RowSource.At g.T.RowStage.Stands g.T.RowStage.closed (λ s. counts_of (g.S.RowSource.seen s)) l.cursor pages));
+  so_far : IfSome (told_pages l.fn.desk) (SoFarPaid g.S.RowSource.At g.T.RowStage.Stands g.T.RowStage.closed (prices g.S.RowSource.heights g.S.RowSource.step_price g.S.RowSource.owed g.T.RowStage.price g.T.RowStage.owed) (λ s. counts_of (g.S.RowSource.seen s)) l.fn.cursor l.cursor l.rows l.fn.desk l.desk (g.K.Sink.took l.fn.out) (g.K.Sink.took l.out));
 }
 
 abbrev pub decreases-rows : goal.decreases-rows
