@@ -1,19 +1,25 @@
 -- What printing the rows of a cursor is of its steps.
 use Rattle.std.proofs.Common.{◌≡◌, ℕ, zero, suc, Bool, false, List, [], ◌∷◌, ◌++◌, length, Option, Some, None, refl, sym, ◌∙◌, ap, subst, inl, inr, arith}
-use Rattle.std.specs.Prelude.{Ok, Err, IfSome}
+use Rattle.std.specs.Prelude.{Result, Ok, Err, IfSome}
 use Rattle.std.specs.List.{list_any}
 use Rattle.std.proofs.lemmas.List.{append-nil}
 use Rattle.page_pool.specs.Desk.{DeskState}
 use Rattle.page_pool.specs.declared.fault.PageFault.{PageFault}
 use Rattle.page_pool.specs.declared.fault.PageFault.TheVariants as page
 use Rattle.plan_rows.specs.Rows.{plan_measure}
+use Rattle.plan_steps.specs.Following.{Taking}
+use Rattle.plan_steps.specs.Paying.{Prices}
+use Rattle.plan_steps.specs.Stages.{Standing}
+use Rattle.plan_cursor.specs.Standing.{IsAt}
+use Rattle.plan_cursor.specs.declared.cursor.RowCursor.{RowCursor}
 use Rattle.sand_base.specs.declared.refusal.Refusal.{Refusal}
 use Rattle.sand_base.specs.declared.source.Failed.{Failed}
 use Rattle.sand_model.specs.Cursor.{Cursor, OutputLine, Row, Refused, Steps}
 use Rattle.sand_model.specs.OutputText.{is_refused}
+use Rattle.sand_model.specs.Reach.{Counts}
 use Rattle.sand_store.specs.Calls.{refusal_of}
 use Rattle.row_output.proofs.StepsAllowed.{steps_allowed}
-use Rattle.row_output.specs.Printing.{PrintsRows}
+use Rattle.row_output.specs.Printing.{PrintsRows, PrintsRowsPaid}
 use Rattle.page_pool.specs.Disk.{PageMap}
 use Rattle.row_output.specs.declared.rows.Printed.{Printed}
 use Rattle.row_output.specs.declared.rows.Printed.TheVariants as printed
@@ -128,3 +134,29 @@ module _ (told : Option PageMap) (Before After : Place) (count : ℕ) (old new :
   told_broken failed h =
       some_so told (λ pages. (c : Cursor) → Before pages c → PrintsRows c count old new a b (Err failed) (After pages)) (λ pages. (c : Cursor) → Before pages c → StepsOn c count a b (Err failed) (After pages))
       (λ pages k c at. steps_broken c count old new a b failed (After pages) (k c at)) h
+
+-- where the cursor stands after what was printed, without what was paid for it
+pub told_stands : {S T : Type 0} (At : S → Taking) (Stands : T → Standing) (closed : T → Bool) (q : Prices S T) (seen : S → Counts) (told : Option PageMap) (cursor cursor' : RowCursor S T)
+    → (count : ℕ) (old new : DeskState) (a b : List ℕ → Type 0) (r : Result Printed Failed) → IfSome told (PrintsRowsPaid At Stands closed q seen cursor cursor' count old new a b r)
+    → IfSome told (λ pages. (c : Cursor) → IsAt At Stands closed seen cursor pages c → PrintsRows c count old new a b r (IsAt At Stands closed seen cursor' pages))
+told_stands At Stands closed q seen told cursor cursor' count old new a b r h =
+    some_so told (PrintsRowsPaid At Stands closed q seen cursor cursor' count old new a b r)
+    (λ pages. (c : Cursor) → IsAt At Stands closed seen cursor pages c → PrintsRows c count old new a b r (IsAt At Stands closed seen cursor' pages))
+    (λ pages k c at. let p = k c at in record {
+      lines = p.lines;
+      after = p.after;
+      last = p.last;
+      at = p.at.stands;
+      gives = p.gives;
+      writes = p.writes;
+      cuts = p.cuts;
+      completed = p.completed;
+      attempted = p.attempted;
+      log = p.log;
+      few = p.few;
+      settled = p.settled;
+      counted = p.counted;
+      near = p.near;
+      row = p.row;
+      rose = p.rose;
+    }) h
