@@ -8,7 +8,7 @@ use Rattle.plan_stages.specs.Fetches.{FetchStands, fetch_waits, fetch_steps}
 use Rattle.plan_stages.specs.Filters.{FilterStands, filter_waits, filter_steps}
 use Rattle.plan_stages.specs.Firsts.{FirstStands, first_waits, first_steps}
 use Rattle.plan_stages.specs.Matches.{MatchStands, match_waits, match_steps}
-use Rattle.plan_stages.specs.MatchPrices.{match_left, match_owed}
+use Rattle.plan_stages.specs.MatchPrices.{match_row_price, match_owed}
 use Rattle.plan_stages.specs.Prices.{tests_price, spots_price, if_waiting as filter_waiting}
 use Rattle.sort_stages.specs.Gaps.{SortNearStands}
 use Rattle.sort_stages.specs.Numbers.{SortByStands}
@@ -55,7 +55,7 @@ abbrev pub stage_price : Stage → PageMap → Database → Plan → PlanRow →
 stage_price (stage.First s) = λ pages d p row. 0
 stage_price (stage.Filter s) = λ pages d p row. tests_price s.tests.items
 stage_price (stage.Fetch s) = λ pages d p row. spots_price s.spots.items
-stage_price (stage.Match s) = λ pages d p row. match_left s pages d p row 0
+stage_price (stage.Match s) = match_row_price s
 stage_price (stage.SortBy s) = λ pages d p row. key_price s.spot
 stage_price (stage.SortNear s) = λ pages d p row. key_price s.spot
 

@@ -4,6 +4,5 @@ mod Rests
 mod Reading
 -- what may be read
 mod Ready
--- matches, one after another
-mod Lookings
-mod MatchGets
+-- the value of a row that a match holds
+mod ValueRead

@@ -1,7 +1,8 @@
 -- `match`: for each row the rows of a column with an equal value, one after another.
-use Rattle.std.specs.Prelude.{◌≡◌, ℕ, ◌+◌, ◌-◌, ◌*◌, ◌^◌, Bool, true, false, List, [], ◌∷◌, ◌++◌, map, Option, Some, None}
+use Rattle.std.specs.Prelude.{◌≡◌, ℕ, ◌+◌, ◌-◌, ◌*◌, ◌^◌, Bool, true, false, List, [], ◌∷◌, ◌++◌, map, Option, Some, None, Result, Ok, Err, ⊤}
 use Rattle.sand_base.specs.declared.value.Value.{Value}
 use Rattle.page_pool.specs.Disk.{PageMap}
+use Rattle.page_pool.specs.declared.fault.PageFault.{PageFault}
 use Rattle.sand_model.specs.Database.{Database}
 use Rattle.sand_model.specs.Operators.{PlanRow, relations_of, value_at}
 use Rattle.sand_model.specs.Plan as plan
@@ -10,40 +11,51 @@ use Rattle.plan_places.specs.Equals.{equals, above}
 use Rattle.plan_places.specs.Indexed.{IsLookUp}
 use Rattle.plan_places.specs.Spots.{IsSpot}
 use Rattle.plan_rows.specs.Rows.{row_of}
+use Rattle.plan_rows.specs.declared.answer.Answer.{Answer}
 use Rattle.plan_stages.specs.Splits.{Splits}
-use Rattle.plan_stages.specs.declared.matching.Matching.{Matching}
+use Rattle.plan_stages.specs.declared.matching.Held.{Held}
+use Rattle.plan_stages.specs.declared.matching.Held.TheVariants.{Fresh, Probing}
 use Rattle.plan_stages.specs.declared.matching.Match.{Match}
-
--- the rows of the column whose values equal this one, by id; none where there is no value
-abbrev pub equals_of : Database → Column → Option Value → List (ℕ × Value)
-equals_of d column (Some v) = equals d column v
-equals_of d column None = []
-
--- those of the value that the row has at the place
-abbrev pub equals_at : Database → List (List ℕ) → Place → Column → PlanRow → List (ℕ × Value)
-equals_at d names place column row = equals_of d column (value_at d names row place)
+use Rattle.plan_stages.specs.declared.probe.Probe.{Probe}
 
 -- the row with one id more
 abbrev pub with_id : PlanRow → ℕ × Value → PlanRow
 with_id row pair = record row { ids = row.ids ++ pair.0 ∷ [] }
 
--- the matches of a row that are still to come: those of ids above the last one given
-abbrev pub to_come : Database → List (List ℕ) → Place → Column → Option Matching → List PlanRow
-to_come d names place column (Some h) = map (with_id (row_of h.row)) (above h.last (equals_at d names place column (row_of h.row)))
+-- the matches of a row with this value at the place, if any: the rows of the column whose values equal it, by id
+abbrev pub matches_with : Database → Column → PlanRow → Option Value → List PlanRow
+matches_with d column row (Some v) = map (with_id row) (equals d column v)
+matches_with d column row None = []
+
+-- the matches of a row with a value that was read: those of ids above the last one given are still to come
+abbrev pub left_of : Database → Column → Probe → List PlanRow
+left_of d column h = map (with_id (row_of h.row)) (above h.last (equals d column h.value))
+
+-- the next match was given, or none was left
+abbrev pub GivesNext : Database → Column → Probe → Result (Option Answer) PageFault → Probe → Type 0
+GivesNext d column old (Ok (Some a)) new = left_of d column old ≡ row_of a ∷ left_of d column new
+GivesNext d column old (Ok None) new = left_of d column old ≡ []
+GivesNext d column old (Err fault) new = ⊤
+
+-- the matches of a held row that are still to come: all of one whose value is still to be read
+abbrev pub to_come : Database → List (List ℕ) → Place → Column → Option Held → List PlanRow
+to_come d names place column (Some (Fresh row)) = matches_with d column (row_of row) (value_at d names (row_of row) place)
+to_come d names place column (Some (Probing h)) = left_of d column h
 to_come d names place column None = []
 
 -- a row's matches are looked for
 abbrev pub match_waits : Match → Bool
 match_waits m = is_held m.held where
-  is_held : Option Matching → Bool
+  is_held : Option Held → Bool
   is_held (Some h) = true
   is_held None = false
 
--- a step for each id that a row may still match, and one for that none is left
+-- a step for each id that a row may still match, one for that none is left, and one to read its value
 abbrev pub match_steps : Match → ℕ → ℕ
-match_steps m n = (2 ^ 32 + 2) * n + left m.held where
-  left : Option Matching → ℕ
-  left (Some h) = 2 ^ 32 + 1 - h.last
+match_steps m n = (2 ^ 32 + 3) * n + left m.held where
+  left : Option Held → ℕ
+  left (Some (Fresh row)) = 2 ^ 32 + 2
+  left (Some (Probing h)) = 2 ^ 32 + 1 - h.last
   left None = 0
 
 -- It took these rows of the plan beneath and gave those. Ids begin above 0.

@@ -10,6 +10,7 @@ mod fetch;
 mod filter;
 mod first;
 mod matching;
+mod probe;
 mod tests;
 mod values;
 
