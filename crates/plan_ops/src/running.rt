@@ -7,11 +7,10 @@ ghost use Rattle.sand_store.specs.Contents.{database_in};
 ghost use Rattle.sand_store.specs.Standing.{CatalogStands};
 ghost use Rattle.best_first.specs.Visits.{told_pages};
 ghost use Rattle.plan_check.specs.PlanValue.{plan_value};
-ghost use Rattle.plan_cursor.specs.CursorStep.{CursorStep};
 ghost use Rattle.plan_cursor.specs.Standing.{AreStats};
 ghost use Rattle.plan_rows.specs.SourceSteps.{Falls};
 ghost use Rattle.plan_ops.specs.Openable.{IsOpenable};
-ghost use Rattle.plan_ops.specs.Running.{StandsAt, steps_left};
+ghost use Rattle.plan_ops.specs.Running.{StandsAt, TakesPaidStep, steps_left};
 
 use crate::operators::operator_of;
 use crate::{Source, Stage};
@@ -43,6 +42,8 @@ impl<'s> Running<'s> {
 
     /// The next row of the plan's answer, None exactly where all are given. After a refusal the rows given are
     /// unchanged, and `next` may be called again. Condition: where the disk tells its pages, the cursor stands over them.
+    /// Whatever it answers, its page gets are at most the price of the visits that it noted, of the steps of its source,
+    /// and of the rows that its operators handled: those that they took in it or held before it.
     pub fn next<D: Disk>(
         &mut self,
         alloc: Global,
@@ -52,7 +53,7 @@ impl<'s> Running<'s> {
         ensures read { IsRead desk.old.pool desk.new.pool }
         ensures cause { HasPageCause desk.old.pool desk.new.pool result }
         ensures falls { Falls (steps_left self.old) (steps_left self.new) result }
-        ensures step { IfSome (told_pages desk.old) (λ pages. (c : Cursor) → StandsAt self.old pages c → CursorStep c desk.old desk.new result (StandsAt self.new pages)) }
+        ensures step { IfSome (told_pages desk.old) (TakesPaidStep self.old self.new desk.old desk.new result) }
     {
         self.cursor.next(alloc, desk)
     }
