@@ -70,6 +70,10 @@ pub record IsAccount (in_use : ℕ → Bool) (top : ℕ) (spare : NumberSet) : T
   pub spare_positive : (n : ℕ) → IsTrue (set.contains spare n) → 1 ≤ n
   pub spare_given : (n : ℕ) → IsTrue (set.contains spare n) → n ≤ top
 
+-- no digest is kept above this place
+abbrev pub EndsBy : DigestMap → ℕ → Type 0
+EndsBy kept last = (place : ℕ) → last + 1 ≤ place → map.get kept place ≡ None
+
 -- the number has a staged change or a kept digest
 abbrev pub is_used : ChangeMap → DigestMap → ℕ → Bool
 is_used changes kept n = map.contains_key changes n || map.contains_key kept n

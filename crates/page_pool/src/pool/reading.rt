@@ -40,13 +40,14 @@ impl<D: Disk> Pool<D> {
         }
     }
 
-    // One get: afterwards the page is staged or in a frame, if Ok came.
+    // One get: afterwards the page is staged or in a frame, if Ok came and it is live. Above the pages that were
+    // written all are staged, which takes no search.
     fn load(&mut self, n: u64) -> Result<(), PageFault>
         ensures missing { map.contains_key self.old.pages n ≡ false → IfErr result IsMemory }
         ensures gets { Gets self.old self.new n result }
     {
         self.gets = self.gets.saturating_add(1);
-        if self.staged.get(n).is_some() || self.frames.touch(n) {
+        if n > self.digests.last() || self.staged.get(n).is_some() || self.frames.touch(n) {
             return Ok(());
         }
         let Some(kept) = self.digests.get(n) else {
