@@ -14,6 +14,18 @@ use Rattle.page_pool.proofs.Whole.{get-unstaged, live_unstaged, live_staged, get
 pub some_one : {X : Type 0} (x y : X) → Some x ≡ Some y → x ≡ y
 some_one x y e = cc
 
+-- what isn't staged, as contracts see it
+pub is_unstaged : (changes : ChangeMap) (n : ℕ) → map.get changes n ≡ None → (set.contains (dirty_of changes) n ≡ false) × (set.contains (freed_of changes) n ≡ false)
+is_unstaged changes n none = (contains-dirty changes n ∙ ap is_page none, contains-freed changes n ∙ ap is_gone none)
+
+pub from_unstaged : (changes : ChangeMap) (n : ℕ) → set.contains (dirty_of changes) n ≡ false → set.contains (freed_of changes) n ≡ false → map.get changes n ≡ None
+from_unstaged changes n clean unfreed = by_change (map.get changes n) refl
+  where
+    by_change : (c : Option (Option (List ℕ))) → map.get changes n ≡ c → map.get changes n ≡ None
+    by_change None is = is
+    by_change (Some None) is = absurd (true≢false (sym (contains-freed changes n ∙ ap is_gone is) ∙ unfreed))
+    by_change (Some (Some page)) is = absurd (true≢false (sym (contains-dirty changes n ∙ ap is_page is) ∙ clean))
+
 module _ (disk : DiskView) (kept : DigestMap) (staged : StagedState) (frames : FramesState) (numbers : NumbersState) (is_open : Bool) (gets : ℕ) (whole : IsWhole disk kept staged.changes frames numbers is_open) where
   abbrev changes : ChangeMap
   changes = staged.changes

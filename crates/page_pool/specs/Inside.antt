@@ -70,6 +70,10 @@ pub record IsAccount (in_use : ℕ → Bool) (top : ℕ) (spare : NumberSet) : T
   pub spare_positive : (n : ℕ) → IsTrue (set.contains spare n) → 1 ≤ n
   pub spare_given : (n : ℕ) → IsTrue (set.contains spare n) → n ≤ top
 
+-- neither a page nor a freed number waits under this number
+abbrev pub IsUnstaged : PoolState → ℕ → Type 0
+IsUnstaged s n = (set.contains s.dirty n ≡ false) × (set.contains s.freed n ≡ false)
+
 -- no digest is kept above this place
 abbrev pub EndsBy : DigestMap → ℕ → Type 0
 EndsBy kept last = (place : ℕ) → last + 1 ≤ place → map.get kept place ≡ None

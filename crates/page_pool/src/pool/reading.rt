@@ -1,7 +1,8 @@
-ghost use Rattle.std.specs.Prelude.{◌≡◌, IfSome, IfOk, IfErr, OnOk, false};
+ghost use Rattle.std.specs.Prelude.{◌≡◌, IfSome, IfOk, IfErr, OnOk, IsTrue, false};
 ghost use Rattle.std.specs.Borrow.{sem};
 ghost use Rattle.std.specs.Io.BufRead.{Rests};
 ghost use Rattle.std.specs.FinMap as map;
+ghost use Rattle.page_pool.specs.Inside.{IsUnstaged};
 ghost use Rattle.page_pool.specs.Pool.{IsLive, IsPage};
 ghost use Rattle.page_pool.specs.Causes.{IsMemory};
 ghost use Rattle.page_pool.specs.Reads.{Gets};
@@ -31,24 +32,31 @@ impl<D: Disk> Pool<D> {
             Gets self.old new n result)) }
     {
         match self.load(n) {
-            Ok(()) => {}
-            Err(why) => return Err(why),
-        }
-        match self.held_page(n) {
-            Some(page) => Ok(page),
-            None => Err(PageFault::Memory),
+            Ok(true) => match self.framed_page(n) {
+                Some(page) => Ok(page),
+                None => Err(PageFault::Memory),
+            },
+            Ok(false) => match self.staged_page(n) {
+                Some(page) => Ok(page),
+                None => Err(PageFault::Memory),
+            },
+            Err(why) => Err(why),
         }
     }
 
-    // One get: afterwards the page is staged or in a frame, if Ok came and it is live. Above the pages that were
-    // written all are staged, which takes no search.
-    fn load(&mut self, n: u64) -> Result<(), PageFault>
+    // One get. Afterwards the page is in a frame at true, and at false it is staged, if it is live. Above the pages
+    // that were written all are staged, which takes no search.
+    fn load(&mut self, n: u64) -> Result<bool, PageFault>
         ensures missing { map.contains_key self.old.pages n ≡ false → IfErr result IsMemory }
+        ensures framed { IfOk result (λ is_framed. IsTrue is_framed → IsUnstaged self.new n) }
         ensures gets { Gets self.old self.new n result }
     {
         self.gets = self.gets.saturating_add(1);
-        if n > self.digests.last() || self.staged.get(n).is_some() || self.frames.touch(n) {
-            return Ok(());
+        if n > self.digests.last() || self.staged.get(n).is_some() {
+            return Ok(false);
+        }
+        if self.frames.touch(n) {
+            return Ok(true);
         }
         let Some(kept) = self.digests.get(n) else {
             return Err(PageFault::Memory);
@@ -63,21 +71,29 @@ impl<D: Disk> Pool<D> {
             });
         }
         self.frames.put(n, page)?;
-        Ok(())
+        Ok(true)
     }
 
-    // The page, where it is staged or in a frame.
-    fn held_page(&self, n: u64) -> Option<&[u8; 4096]>
+    // The page, where it is staged.
+    fn staged_page(&self, n: u64) -> Option<&[u8; 4096]>
         ensures live { IfSome result (λ _. IsLive self.now n) }
         ensures value { IfSome result (λ page. IsPage self.now n page.now) }
     {
         match self.staged.get(n) {
             Some(Some(page)) => Some(page.bytes()),
-            Some(None) => None,
-            None => match self.frames.get(n) {
-                Some(page) => Some(page.bytes()),
-                None => None,
-            },
+            _ => None,
+        }
+    }
+
+    // The page, where it is in a frame.
+    fn framed_page(&self, n: u64) -> Option<&[u8; 4096]>
+        requires { IsUnstaged self.now n }
+        ensures live { IfSome result (λ _. IsLive self.now n) }
+        ensures value { IfSome result (λ page. IsPage self.now n page.now) }
+    {
+        match self.frames.get(n) {
+            Some(page) => Some(page.bytes()),
+            None => None,
         }
     }
 }

@@ -1,4 +1,4 @@
-use Rattle.std.proofs.Common.{◌≡◌, ◌≢◌, None, Ok, Err, refl, sym, ap, subst, ◌∙◌, false}
+use Rattle.std.proofs.Common.{◌≡◌, ◌≢◌, None, Ok, Err, refl, sym, ap, subst, ◌∙◌, true, false}
 use mathlib.Core.Bool.{true≢false}
 use Rattle.std.specs.FinMap as map
 use Rattle.std.proofs.lemmas.Result.{err_from_is_err_and}
@@ -8,7 +8,7 @@ use Rattle.page_pool.specs.Disk.{DiskView}
 use Rattle.page_pool.specs.Causes.{page_fault}
 use Rattle.page_pool.specs.Inside.{state_of}
 use Rattle.page_pool.specs.Reads.{Gets}
-use Rattle.page_pool.proofs.Seen.{kept_live}
+use Rattle.page_pool.proofs.Seen.{kept_live, is_unstaged}
 use Rattle.page_pool.proofs.Loads.{gets_state, gets_refused, damage_untold, bytes_differ, not_there}
 use Rattle.page_pool.proofs.pool.Pool.load.Goals as goal
 
@@ -67,6 +67,17 @@ pub returns-clause-gets : goal.returns-clause-gets
 returns-clause-gets g c =
     let disk : DiskView = g.D.Disk.seen c.self.inside.disk in
     let disk' : DiskView = g.D.Disk.seen c.read_fresh.new.disk in
-    subst (λ old. Gets old (state_of disk' c.self.inside.digests c.self.inside.staged c.put.new.self c.self.inside.numbers c.self.inside.is_open c.saturating_add-self-inside.result) c.args.n (Ok tt)) c.self.view_is
-    (gets_state disk disk' c.self.inside.digests c.self.inside.staged c.self.inside.frames c.put.new.self c.self.inside.numbers c.self.inside.is_open c.self.inside.gets c.saturating_add-self-inside.result c.args.n (Ok tt)
+    subst (λ old. Gets old (state_of disk' c.self.inside.digests c.self.inside.staged c.put.new.self c.self.inside.numbers c.self.inside.is_open c.saturating_add-self-inside.result) c.args.n (Ok true)) c.self.view_is
+    (gets_state disk disk' c.self.inside.digests c.self.inside.staged c.self.inside.frames c.put.new.self c.self.inside.numbers c.self.inside.is_open c.self.inside.gets c.saturating_add-self-inside.result c.args.n (Ok true)
     c.in_ok-page.ensures.told c.in_ok-page.ensures.pages (c.put.ensures.most ∙ c.touch.ensures.most) c.saturating_add-self-inside.ensures c.in_ok-page.ensures.counted tt tt)
+
+-- a page in a frame has no staged change
+pub returns-then-touch-clause-framed : goal.returns-then-touch-clause-framed
+returns-then-touch-clause-framed g c = λ _.
+    let none : map.get c.self.inside.staged.changes c.args.n ≡ None = sym c.get.ensures ∙ not_there c.get.result (sym c.is_some.ensures ∙ c.if-is_some.false) in
+    is_unstaged c.self.inside.staged.changes c.args.n none
+
+pub returns-clause-framed : goal.returns-clause-framed
+returns-clause-framed g c = λ _.
+    let none : map.get c.self.inside.staged.changes c.args.n ≡ None = sym c.get.ensures ∙ not_there c.get.result (sym c.is_some.ensures ∙ c.if-is_some.false) in
+    is_unstaged c.self.inside.staged.changes c.args.n none
