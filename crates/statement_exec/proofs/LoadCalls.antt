@@ -11,7 +11,7 @@ use Rattle.sand_model.specs.Cursor.{Loaded as LoadedLine, Refused}
 use Rattle.sand_model.specs.Database.{Database, Relation, relation_named, changed_at, has_name}
 use Rattle.sand_model.specs.Outcome.{Rises, Outcome}
 use Rattle.sand_model.specs.Statement.{Statement, Load}
-use Rattle.sand_model.specs.StatementChecks.{Setting, early, late, entered, file_rows, in_relation}
+use Rattle.sand_model.specs.StatementChecks.{Setting, IsSetting, early, late, entered, file_rows, in_relation}
 use Rattle.sand_store.proofs.SchemaRows.{loaded_entered}
 use Rattle.sand_store.specs.Calls.{Refuses, HasCause, IsUnchanged, Loaded, LoadIsRefusedBy, loaded, load_early, load_late, alone, is_of_a_row}
 use Rattle.sand_store.specs.Catalog.{StoreState}
@@ -19,6 +19,7 @@ use Rattle.sand_store.specs.Contents.{database}
 use Rattle.statement_exec.specs.Loading.{LoadOf, Yields, InSettings, IsOfNoPage, IsRefusedEarly, shelf_at}
 use Rattle.statement_exec.specs.Moment.{moment_of, rises_between}
 use Rattle.statement_exec.specs.Performing.{Performs}
+use Rattle.statement_exec.proofs.LoadChecks.{setting_with}
 use Rattle.statement_exec.proofs.Outcomes.{outcome_done, outcome_outside, outcome_early}
 use Rattle.statement_exec.proofs.Refusals.{refused, allowed, rose, Never, never_relation, no_file}
 use Rattle.statement_exec.proofs.CausedLines.{HasItsCause, caused_plain, caused_refusal, pools_cause}
@@ -75,18 +76,23 @@ module _ (old new : StoreState) (load : LoadOf) (files files' : Option Files) (s
   loaded_call rows count given h = (
     caused_plain (moment_of old files shelf) (moment_of new files' shelf') (LoadedLine count ∷ []) refl,
     λ told disk few setting s.
-        let y : Yields setting (alone (database old)) load rows = given old.pool shelf setting s in
-        let passes : late setting (alone (database old)) (load_statement load) ≡ None = sym (late_is setting rows y) ∙ h.late told setting s.is s.limits in
+        let own : Setting = record setting { files = given.0 } in
+        let is : IsSetting own = setting_with setting given.0 s.is in
+        let y : Yields own (alone (database old)) load rows = given.2 old.pool shelf setting s in
+        let passes : late own (alone (database old)) (load_statement load) ≡ None = sym (late_is own rows y) ∙ h.late told own is s.limits in
         let d : Database = database old in
-        let by_rows : (Relation → Relation) = λ r. (loaded setting rows r).1 in
-        let by_file : (Relation → Relation) = λ r. (entered setting (file_rows setting load.file load.header y.relation) r).1 in
+        let by_rows : (Relation → Relation) = λ r. (loaded own rows r).1 in
+        let by_file : (Relation → Relation) = λ r. (entered own (file_rows own load.file load.header y.relation) r).1 in
         let same : by_rows y.relation ≡ by_file y.relation =
-        ap (λ (p : Option Refusal × Relation). p.1) (loaded_entered setting rows y.relation y.of_schema)
-        ∙ sym (ap (λ (xs : List (List Value)). (entered setting xs y.relation).1) y.rows_are) in
-        let becomes : database new ≡ changed_at load.relation by_file d = h.becomes told setting s.is s.limits ∙ changed_alike by_rows by_file load.relation d y.relation y.named same in
-        let counted : count ≡ length (file_rows setting load.file load.header y.relation) = h.counted ∙ sym (ap (λ (xs : List (List Value)). length xs) y.rows_are) in
-        outcome_done setting rises (alone d) (load_statement load) (LoadedLine count ∷ []) (alone (database new)) y.passes passes
-        (y.relation, y.named, (ap (λ (n : ℕ). LoadedLine n ∷ []) counted, ap alone becomes)),
+        ap (λ (p : Option Refusal × Relation). p.1) (loaded_entered own rows y.relation y.of_schema)
+        ∙ sym (ap (λ (xs : List (List Value)). (entered own xs y.relation).1) y.rows_are) in
+        let becomes : database new ≡ changed_at load.relation by_file d = h.becomes told own is s.limits ∙ changed_alike by_rows by_file load.relation d y.relation y.named same in
+        let counted : count ≡ length (file_rows own load.file load.header y.relation) = h.counted ∙ sym (ap (λ (xs : List (List Value)). length xs) y.rows_are) in (
+          given.0,
+          given.1,
+          outcome_done own rises (alone d) (load_statement load) (LoadedLine count ∷ []) (alone (database new)) y.passes passes
+              (y.relation, y.named, (ap (λ (n : ℕ). LoadedLine n ∷ []) counted, ap alone becomes)),
+        ),
   )
 
   -- a row was refused, or the outside refused
@@ -97,17 +103,21 @@ module _ (old new : StoreState) (load : LoadOf) (files files' : Option Files) (s
     caused_refusal (moment_of old files shelf) (moment_of new files' shelf') w
         (pools_cause [] [] old.catalog new.catalog old.pool new.pool same.told files files' shelf shelf' {T = T} w cause (not_of_file old load.relation rows w h)),
     λ told disk few setting s.
-        let y : Yields setting (alone (database old)) load rows = given old.pool shelf setting s in
+        let own : Setting = record setting { files = given.0 } in
+        let y : Yields own (alone (database old)) load rows = given.2 old.pool shelf setting s in
         let before : load_early old load.relation ≡ None = rw y.named refl in
-        let r : Refuses (IsTold old.pool) is_of_a_row (early setting (alone (database old)) (load_statement load)) (late setting (alone (database old)) (load_statement load)) w =
-        subst (λ (b : Option Refusal). Refuses (IsTold old.pool) is_of_a_row b (late setting (alone (database old)) (load_statement load)) w) (before ∙ sym y.passes)
-        (subst (λ (b : Option Refusal). Refuses (IsTold old.pool) is_of_a_row (load_early old load.relation) b w) (late_is setting rows y) (h setting s.is s.limits)) in
+        let r : Refuses (IsTold old.pool) is_of_a_row (early own (alone (database old)) (load_statement load)) (late own (alone (database old)) (load_statement load)) w =
+        subst (λ (b : Option Refusal). Refuses (IsTold old.pool) is_of_a_row b (late own (alone (database old)) (load_statement load)) w) (before ∙ sym y.passes)
+        (subst (λ (b : Option Refusal). Refuses (IsTold old.pool) is_of_a_row (load_early old load.relation) b w) (late_is own rows y) (h own (setting_with setting given.0 s.is) s.limits)) in
         let told' : IsTold new.pool = same.told ∙ told in
         let n : w ≡ why.File → ⊥ = λ e.
-        let k : Refuses (IsTold old.pool) is_of_a_row (early setting (alone (database old)) (load_statement load)) (late setting (alone (database old)) (load_statement load)) why.File = rw e at r in
-        true≢false (sym (ap (λ (o : Option Refusal). is_some o) k) ∙ ap (λ (o : Option Refusal). is_some o) y.passes) in
-        refused setting rises (alone (database old)) (load_statement load) (Refused w ∷ []) (alone (database new)) (IsTold old.pool) told is_of_a_row refl w
-        (allowed {T = T} rises old.pool new.pool w cause told' disk refl n) r (refl, ap alone (same_database old new same told)),
+        let k : Refuses (IsTold old.pool) is_of_a_row (early own (alone (database old)) (load_statement load)) (late own (alone (database old)) (load_statement load)) why.File = rw e at r in
+        true≢false (sym (ap (λ (o : Option Refusal). is_some o) k) ∙ ap (λ (o : Option Refusal). is_some o) y.passes) in (
+          given.0,
+          given.1,
+          refused own rises (alone (database old)) (load_statement load) (Refused w ∷ []) (alone (database new)) (IsTold old.pool) told is_of_a_row refl w
+              (allowed {T = T} rises old.pool new.pool w cause told' disk refl n) r (refl, ap alone (same_database old new same told)),
+        ),
   )
 
 pub shelf_stays : (shelf : ℕ) (w : Refusal) → (w ≡ why.File → ⊥) → shelf ≡ shelf_at shelf w
@@ -130,7 +140,7 @@ module _ (old : StoreState) (load : LoadOf) (files files' : Option Files) (shelf
       → Performs (load_statement load) (moment_of old files shelf) (moment_of old files' shelf') (Refused w ∷ [])
   refused_early w given counted none = (
     caused_refusal (moment_of old files shelf) (moment_of old files' shelf') w (by_shelf w counted none),
-    λ told disk few setting s. by_refusal setting w (given old.pool shelf setting s) counted few,
+    λ told disk few setting s. (given.0, given.1, by_refusal (record setting { files = given.0 }) w (given.2 old.pool shelf setting s) counted few),
   ) where
     by_shelf : (v : Refusal) → shelf' ≡ shelf_at shelf v → IsOfNoPage v → HasItsCause (moment_of old files shelf) (moment_of old files' shelf') v
     by_shelf why.Device e h = absurd h

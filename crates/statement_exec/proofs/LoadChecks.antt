@@ -6,16 +6,18 @@ use Rattle.sand_base.specs.declared.refusal.Refusal.TheVariants as why
 use Rattle.sand_base.specs.declared.value.Value.{Value}
 use Rattle.csv_load.specs.declared.fault.LoadFault.{LoadFault}
 use Rattle.csv_load.specs.declared.fault.LoadFault.TheVariants as fault
+use Rattle.page_pool.specs.Disk.{PageMap}
 use Rattle.page_pool.specs.Pool.{PoolState}
 use Rattle.sand_model.specs.Database.{Database, Relation, relation_named}
 use Rattle.sand_model.specs.Statement.{Load}
-use Rattle.sand_model.specs.StatementChecks.{Setting, FileRows, AreRows, HasBad, early, check_load, file_rows, longest_file}
+use Rattle.sand_model.specs.StatementChecks.{Setting, IsSetting, FileRows, AreRows, HasBad, early, check_load, file_rows, longest_file}
 use Rattle.sand_store.specs.Calls.{alone}
 use Rattle.sand_store.specs.Catalog.{CatalogView, RelationView}
 use Rattle.sand_store.specs.Contents.{database_in, relation_in}
-use Rattle.statement_exec.specs.FileReading.{DataFile, HasRecords, IsTooLong, OfTold, GivesNone, refusal_of}
-use Rattle.statement_exec.specs.Loading.{LoadOf, Yields, IsRefusedEarly}
+use Rattle.statement_exec.specs.FileReading.{DataFile, HasRecords, IsTooLong, OfFound, GivesNone, refusal_of}
+use Rattle.statement_exec.specs.Loading.{LoadOf, Yields, InSettings, IsRefusedEarly}
 use Rattle.statement_exec.specs.Moment.{beside, IsSettingOf}
+use Rattle.statement_exec.proofs.FileFaults.{some_files}
 
 less : (a b : ℕ) → a < b → nat_lt a b ≡ true
 less a b h = elim (leb_tells (suc a) b) [ inl x ↦ x.0 | inr x ↦ absurd (omega arith) ]
@@ -52,42 +54,60 @@ module _ (setting : Setting) (d : Database) (load : LoadOf) (r : Relation) (name
       → setting.rows_of bytes r.schema load.header ≡ AreRows rows → file_rows setting load.file load.header r ≡ rows
   rows_are bytes rows there records = rw (there, records) refl
 
+-- the same setting with other data files
+pub setting_with : (setting : Setting) (found : Files) → IsSetting setting → IsSetting (record setting { files = found })
+setting_with setting found is = record { gap = is.gap; rows_of = is.rows_of }
+
 -- the file of a load
 abbrev pub file_of : LoadOf → RelationView → DataFile
 file_of load r = record { name = load.file; schema = r.schema; header = load.header }
 
-module _ (files : Option Files) (catalog : CatalogView) (pool : PoolState) (shelf : ℕ) (setting : Setting) (load : LoadOf) (r : RelationView) where
-  -- the setting's records are those of the file
-  records_in : (rows : FileRows) → IsSettingOf (beside [] catalog pool files shelf) setting → (h : HasRecords (file_of load r) rows setting.files)
-      → setting.rows_of h.bytes r.schema load.header ≡ rows
-  records_in rows s h = ap (λ f. f h.bytes r.schema load.header) s.rows_of ∙ h.records
+module _ (files : Option Files) (catalog : CatalogView) (load : LoadOf) (r : RelationView) (named : (pages : PageMap) → relation_named (database_in pages catalog.relations) load.relation ≡ Some (relation_in pages r)) where
+  module _ (found : Files) (pool : PoolState) (shelf : ℕ) (setting : Setting) (s : IsSettingOf (beside [] catalog pool files shelf) setting) where
+    -- the setting with the data files that were found
+    abbrev own : Setting
+    own = record setting { files = found }
 
-  -- a file with rows alone gives them
-  pub yields : (rows : List (List Value)) → IsSettingOf (beside [] catalog pool files shelf) setting
-      → relation_named (database_in pool.pages catalog.relations) load.relation ≡ Some (relation_in pool.pages r)
-      → OfTold files (HasRecords (file_of load r) (AreRows rows)) → Yields setting (alone (database_in pool.pages catalog.relations)) load rows
-  yields rows s named told =
-      let d : Database = database_in pool.pages catalog.relations in
-      let relation : Relation = relation_in pool.pages r in
-      let h : HasRecords (file_of load r) (AreRows rows) setting.files = told setting.files s.files in
-      let records : setting.rows_of h.bytes r.schema load.header ≡ AreRows rows = records_in (AreRows rows) s h in
-      record {
-        passes = passes setting d load relation named h.bytes rows h.there h.short records;
-        relation = relation;
-        named = named;
-        rows_are = rows_are setting d load relation named h.bytes rows h.there records;
-        of_schema = λ k x l. (s.is.rows_of h.bytes r.schema load.header rows records k x l).0;
-      }
+    -- its records are those of the file
+    records_in : (rows : FileRows) (h : HasRecords (file_of load r) rows found) → own.rows_of h.bytes r.schema load.header ≡ rows
+    records_in rows h = ap (λ f. f h.bytes r.schema load.header) s.rows_of ∙ h.records
+
+    -- a file with rows alone gives them
+    yields_in : (rows : List (List Value)) → HasRecords (file_of load r) (AreRows rows) found → Yields own (alone (database_in pool.pages catalog.relations)) load rows
+    yields_in rows h =
+        let d : Database = database_in pool.pages catalog.relations in
+        let relation : Relation = relation_in pool.pages r in
+        let records : own.rows_of h.bytes r.schema load.header ≡ AreRows rows = records_in (AreRows rows) h in
+        record {
+          passes = passes own d load relation (named pool.pages) h.bytes rows h.there h.short records;
+          relation = relation;
+          named = named pool.pages;
+          rows_are = rows_are own d load relation (named pool.pages) h.bytes rows h.there records;
+          of_schema = λ k x l. (s.is.rows_of h.bytes r.schema load.header rows records k x l).0;
+        }
+
+    -- a file that is too long, or has a bad record, refuses the load
+    long_in : IsTooLong (file_of load r) found → early own (alone (database_in pool.pages catalog.relations)) (Load load.relation load.file load.header) ≡ Some why.FileTooLong
+    long_in h = too_long own (database_in pool.pages catalog.relations) load (relation_in pool.pages r) (named pool.pages) h.bytes h.there h.long
+
+    bad_in : (row column : ℕ) → HasRecords (file_of load r) (HasBad row column) found
+        → early own (alone (database_in pool.pages catalog.relations)) (Load load.relation load.file load.header) ≡ Some (why.BadRecord row column)
+    bad_in row column h =
+        bad own (database_in pool.pages catalog.relations) load (relation_in pool.pages r) (named pool.pages) h.bytes row column h.there h.short (records_in (HasBad row column) h)
+
+  pub yields : (rows : List (List Value)) → OfFound files (HasRecords (file_of load r) (AreRows rows)) → InSettings catalog files (λ setting state. Yields setting state load rows)
+  yields rows (found, told, h) = (found, told, λ pool shelf setting s. yields_in found pool shelf setting s rows h)
 
   -- a file that gives none refuses the load
-  pub refuses : (fault : LoadFault) → IsSettingOf (beside [] catalog pool files shelf) setting
-      → relation_named (database_in pool.pages catalog.relations) load.relation ≡ Some (relation_in pool.pages r)
-      → GivesNone files (file_of load r) fault → IsRefusedEarly setting (alone (database_in pool.pages catalog.relations)) load (refusal_of fault)
-  refuses fault.Memory s named h = tt
-  refuses fault.File s named h = reached setting (database_in pool.pages catalog.relations) load (relation_in pool.pages r) named
-  refuses fault.FileTooLong s named told =
-      let h : IsTooLong (file_of load r) setting.files = told setting.files s.files in
-      too_long setting (database_in pool.pages catalog.relations) load (relation_in pool.pages r) named h.bytes h.there h.long
-  refuses (fault.BadRecord row column) s named told =
-      let h : HasRecords (file_of load r) (HasBad row column) setting.files = told setting.files s.files in
-      bad setting (database_in pool.pages catalog.relations) load (relation_in pool.pages r) named h.bytes row column h.there h.short (records_in (HasBad row column) s h)
+  pub refuses : (fault : LoadFault) → GivesNone files (file_of load r) fault → InSettings catalog files (λ setting state. IsRefusedEarly setting state load (refusal_of fault))
+  refuses fault.Memory h = let f = some_files files in (f.0, f.1, λ pool shelf setting s. tt)
+  refuses fault.File h =
+      let f = some_files files in
+      (f.0, f.1, λ pool shelf setting s. reached (record setting { files = f.0 }) (database_in pool.pages catalog.relations) load (relation_in pool.pages r) (named pool.pages))
+  refuses fault.FileTooLong (found, told, h) = (found, told, λ pool shelf setting s. long_in found pool shelf setting s h)
+  refuses (fault.BadRecord row column) (found, told, h) = (found, told, λ pool shelf setting s. bad_in found pool shelf setting s row column h)
+
+-- a relation that isn't there refuses the load
+pub unknown : (files : Option Files) (catalog : CatalogView) (load : LoadOf) → ((pages : PageMap) → relation_named (database_in pages catalog.relations) load.relation ≡ None)
+    → InSettings catalog files (λ setting state. IsRefusedEarly setting state load why.UnknownRelation)
+unknown files catalog load none = let f = some_files files in (f.0, f.1, λ pool shelf setting s. rw (none pool.pages) refl)

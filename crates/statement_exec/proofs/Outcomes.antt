@@ -1,10 +1,13 @@
--- The outcome of a statement from its checks.
-use Rattle.std.proofs.Common.{◌≡◌, List, Some, None, inl, inr}
+-- The outcome of a statement from its checks, and over a shelf.
+use Rattle.std.proofs.Common.{◌≡◌, List, Option, Some, None, inl, inr}
+use Rattle.sand_base.specs.Shelf.{Files}
 use Rattle.sand_base.specs.declared.refusal.Refusal.{Refusal}
 use Rattle.sand_model.specs.Cursor.{State, OutputLine}
 use Rattle.sand_model.specs.Outcome.{Rises, Outcome, IsLicensed, IsCaused, IsRefusedBy, IsCarriedOut}
-use Rattle.sand_model.specs.Statement.{Statement}
+use Rattle.sand_model.specs.Statement.{Statement, Load}
 use Rattle.sand_model.specs.StatementChecks.{Setting, early, late}
+use Rattle.statement_exec.specs.Moment.{AreTold}
+use Rattle.statement_exec.specs.Performing.{ShelfOutcome}
 
 module _ (setting : Setting) (rises : Rises) (old : State) (statement : Statement) (lines : List OutputLine) (new : State) where
   -- all checks pass
@@ -26,3 +29,9 @@ module _ (setting : Setting) (rises : Rises) (old : State) (statement : Statemen
   pub outcome_late : (refusal : Refusal) → early setting old statement ≡ None → late setting old statement ≡ Some refusal → IsCaused rises refusal
       → IsRefusedBy refusal old lines new → Outcome setting rises old statement lines new
   outcome_late refusal e l c h = inr (rw (e, l) (c, h))
+
+-- an outcome whose data files are the shelf's is one over the shelf
+pub outcome_over : (files : Option Files) (setting : Setting) (rises : Rises) (old : State) (statement : Statement) (lines : List OutputLine) (new : State) → AreTold files setting.files
+    → Outcome setting rises old statement lines new → ShelfOutcome files setting rises old statement lines new
+outcome_over files setting rises old (Load relation file header) lines new told h = (setting.files, told, h)
+outcome_over files setting rises old _ lines new told h = h

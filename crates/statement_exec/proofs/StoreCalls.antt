@@ -22,7 +22,7 @@ use Rattle.page_pool.specs.Pool.{IsTold}
 use Rattle.statement_exec.specs.Moment.{moment_of, rises_between}
 use Rattle.statement_exec.specs.Performing.{Changes}
 use Rattle.statement_exec.specs.declared.reply.Reply.TheVariants as reply
-use Rattle.statement_exec.proofs.Outcomes.{outcome_done}
+use Rattle.statement_exec.proofs.Outcomes.{outcome_done, outcome_over}
 use Rattle.statement_exec.proofs.CausedLines.{caused_plain, caused_refusal, pools_cause}
 use Rattle.statement_exec.proofs.SomeSetting.{some_setting, is_some_setting}
 use Rattle.statement_exec.proofs.Refusals.{refused, allowed, no_file, Never, never_where, never_first, never_relation, never_column}
@@ -81,8 +81,9 @@ refused_call {T} old new statement is_late w uses late_file never same h cause =
       let told' : IsTold new.pool = same.told ∙ told in
       let rises : Rises = rises_between (moment_of old files shelf) (moment_of new files shelf) in
       let r = h setting s.is s.limits in
-      refused setting rises (alone (database old)) statement (Refused w ∷ []) (alone (database new)) (IsTold old.pool) told is_late uses w
-      (allowed {T = T} rises old.pool new.pool w cause told' disk refl (by_setting setting s.is s.limits)) r (refl, ap alone (same_database old new same told)),
+      outcome_over files setting rises (alone (database old)) statement (Refused w ∷ []) (alone (database new)) s.files
+      (refused setting rises (alone (database old)) statement (Refused w ∷ []) (alone (database new)) (IsTold old.pool) told is_late uses w
+      (allowed {T = T} rises old.pool new.pool w cause told' disk refl (by_setting setting s.is s.limits)) r (refl, ap alone (same_database old new same told))),
 ) where
   -- no check asks for a file
   by_setting : (setting : Setting) → IsSetting setting → setting.limits ≡ old.catalog.limits → w ≡ why.File → ⊥

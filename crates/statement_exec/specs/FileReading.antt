@@ -1,4 +1,4 @@
--- What reading the rows of a data file tells of the shelf's files.
+-- What reading the rows of a data file tells of the shelf's files, or of the file that was found where the shelf doesn't tell its own.
 use Rattle.std.specs.Prelude.{◌≡◌, ⊤, ℕ, ◌<◌, ◌≤◌, Bool, List, length, Option, Some, Result, Ok, Err}
 use Rattle.csv_load.specs.FileRows.{file_rows}
 use Rattle.csv_load.specs.declared.fault.LoadFault.{LoadFault}
@@ -9,6 +9,7 @@ use Rattle.sand_base.specs.declared.refusal.Refusal.TheVariants as why
 use Rattle.sand_base.specs.Faults.{next_count}
 use Rattle.sand_base.specs.Shelf.{Files}
 use Rattle.sand_model.specs.StatementChecks.{FileRows, HasBad, longest_file}
+use Rattle.statement_exec.specs.Moment.{AreTold}
 
 -- a data file, by its name, the columns of its rows, and whether a header stands before them
 pub record DataFile : Type 0 where
@@ -29,16 +30,16 @@ pub record IsTooLong (file : DataFile) (files : Files) : Type 0 where
   pub there : files file.name ≡ Some bytes
   pub long : longest_file < length bytes
 
--- of the files that the shelf tells
-abbrev pub OfTold : Option Files → (Files → Type 0) → Type 0
-OfTold files P = (told : Files) → files ≡ Some told → P told
+-- of the data files that were found: those that the shelf tells, and some where it tells none
+abbrev pub OfFound : Option Files → (Files → Type 0) → Type 0
+OfFound files P = (found : Files) × AreTold files found × P found
 
 -- why a file gives no rows: a fault of the shelf or of memory says nothing of it
 abbrev pub GivesNone : Option Files → DataFile → LoadFault → Type 0
 GivesNone files file fault.Memory = ⊤
 GivesNone files file fault.File = ⊤
-GivesNone files file fault.FileTooLong = OfTold files (IsTooLong file)
-GivesNone files file (fault.BadRecord row column) = OfTold files (HasRecords file (HasBad row column))
+GivesNone files file fault.FileTooLong = OfFound files (IsTooLong file)
+GivesNone files file (fault.BadRecord row column) = OfFound files (HasRecords file (HasBad row column))
 
 -- the shelf's count after this fault: one more where the shelf failed
 abbrev pub shelf_at : ℕ → LoadFault → ℕ

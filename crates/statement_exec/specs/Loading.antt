@@ -13,6 +13,7 @@ use Rattle.sand_model.specs.StatementChecks.{Setting, early, check_load, file_ro
 use Rattle.sand_base.specs.InRange.{IsRowOf}
 use Rattle.std.specs.List.{All}
 use Rattle.sand_store.specs.Catalog.{CatalogView}
+use Rattle.statement_exec.specs.FileReading.{OfFound}
 use Rattle.statement_exec.specs.Moment.{beside, IsSettingOf}
 
 -- a load: its relation, its file, and whether a header stands before the rows
@@ -35,10 +36,10 @@ IsRefusedEarly setting state load why.Memory = ⊤
 IsRefusedEarly setting state load why.File = check_load state load.relation ≡ None
 IsRefusedEarly setting state load refusal = early setting state (Load load.relation load.file load.header) ≡ Some refusal
 
--- in every setting of a moment without open cursors, over any pages
+-- in every setting of a moment without open cursors, over any pages, with the data files that were found
 abbrev pub InSettings : CatalogView → Option Files → (Setting → State → Type 0) → Type 0
-InSettings catalog files P = (pool : PoolState) (shelf : ℕ) (setting : Setting) → IsSettingOf (beside [] catalog pool files shelf) setting
-    → P setting (beside [] catalog pool files shelf).state
+InSettings catalog files P = OfFound files (λ found. (pool : PoolState) (shelf : ℕ) (setting : Setting) → IsSettingOf (beside [] catalog pool files shelf) setting
+    → P (record setting { files = found }) (beside [] catalog pool files shelf).state)
 
 -- the shelf's count after this refusal: one more where the shelf failed
 abbrev pub shelf_at : ℕ → Refusal → ℕ

@@ -38,11 +38,15 @@ moment_of store files shelf = beside [] store.catalog store.pool files shelf
 abbrev pub rises_between : Moment → Moment → Rises
 rises_between old new = record { disk = new.disk - old.disk; shelf = new.shelf - old.shelf }
 
--- The setting is one of this moment: its limits are the store's, its files the shelf's, a file's rows are those of its records, and it knows whether the disk tells.
+-- these data files are those that the shelf tells; where it tells none they may be any
+abbrev pub AreTold : Option Files → Files → Type 0
+AreTold files found = (told : Files) → files ≡ Some told → found ≡ told
+
+-- The setting is one of this moment: its limits are the store's, its files the shelf's where it tells them, a file's rows are those of its records, and it knows whether the disk tells.
 pub record IsSettingOf (at : Moment) (setting : Setting) : Type 0 where
   pub is : IsSetting setting
   pub limits : setting.limits ≡ at.limits
-  pub files : at.files ≡ Some setting.files
+  pub files : AreTold at.files setting.files
   pub rows_of : setting.rows_of ≡ file_rows
   pub tells : setting.tells ≡ at.told
 

@@ -1,23 +1,29 @@
--- What carrying a statement out does: the outcome of the model, where the disk and the shelf tell and no count of faults is at its end; and lines that have their causes, over any disk and shelf.
+-- What carrying a statement out does: the outcome of the model, where the disk tells its pages and no count of faults is at its end; and lines that have their causes, over any disk. The shelf may be any: a load over one that doesn't tell its data files has the outcome of some files.
 use Rattle.std.specs.Prelude.{ℕ, ◌<◌, IsTrue, List, [], ◌∷◌, Option, Result, Ok, Err}
 use Rattle.sand_base.specs.Faults.{last_count}
 use Rattle.sand_base.specs.Shelf.{Files}
 use Rattle.sand_base.specs.declared.refusal.Refusal.{Refusal}
-use Rattle.sand_model.specs.Cursor.{OutputLine, Accepted, Id, Loaded, Refused}
-use Rattle.sand_model.specs.Outcome.{Outcome}
-use Rattle.sand_model.specs.Statement.{Statement}
+use Rattle.sand_model.specs.Cursor.{State, OutputLine, Accepted, Id, Loaded, Refused}
+use Rattle.sand_model.specs.Outcome.{Rises, Outcome}
+use Rattle.sand_model.specs.Statement.{Statement, Load}
 use Rattle.sand_model.specs.StatementChecks.{Setting}
 use Rattle.sand_store.specs.Catalog.{StoreState}
 use Rattle.statement_exec.specs.Causes.{AreCaused}
-use Rattle.statement_exec.specs.Moment.{Moment, moment_of, rises_between, IsSettingOf}
+use Rattle.statement_exec.specs.Moment.{AreTold, Moment, moment_of, rises_between, IsSettingOf}
 use Rattle.statement_exec.specs.declared.reply.Reply.{Reply}
 use Rattle.statement_exec.specs.declared.reply.Reply.TheVariants as reply
+
+-- The outcome of a statement over a shelf: that of the model, but that a load finds data files which the setting may not have, where the shelf doesn't tell its own.
+abbrev pub ShelfOutcome : Option Files → Setting → Rises → State → Statement → List OutputLine → State → Type 0
+ShelfOutcome files setting rises old (Load relation file header) lines new =
+    (found : Files) × AreTold files found × Outcome (record setting { files = found }) rises old (Load relation file header) lines new
+ShelfOutcome files setting rises old statement lines new = Outcome setting rises old statement lines new
 
 -- the statement led from one moment to another and gave these lines, which have their causes, as the outcome of the model says, in every setting of the first
 abbrev pub Performs : Statement → Moment → Moment → List OutputLine → Type 0
 Performs statement old new lines =
     AreCaused old new lines × (IsTrue old.told → new.disk < last_count → new.shelf < last_count → (setting : Setting) → IsSettingOf old setting
-    → Outcome setting (rises_between old new) old.state statement lines new.state)
+    → ShelfOutcome old.files setting (rises_between old new) old.state statement lines new.state)
 
 -- the line of a reply
 abbrev pub line_of : Reply → OutputLine

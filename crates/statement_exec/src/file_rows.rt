@@ -2,7 +2,7 @@
 ghost use Rattle.std.specs.Prelude.{◌≡◌, ◌≤◌, All, IfOk, IfErr};
 ghost use Rattle.sand_base.specs.InRange.{IsRowInRange, IsSchemaInRange};
 ghost use Rattle.sand_model.specs.StatementChecks.{AreRows};
-ghost use Rattle.statement_exec.specs.FileReading.{GivesNone, HasRecords, OfTold, refusal_of, shelf_after};
+ghost use Rattle.statement_exec.specs.FileReading.{GivesNone, HasRecords, OfFound, refusal_of, shelf_after};
 
 use csv_load::{LoadFault, read_file, rows_of, rows_of_a_file_fit_its_schema};
 use sand_base::{Label, Refusal, Row, Schema, Shelf};
@@ -29,7 +29,7 @@ pub(crate) fn read_rows<H: Shelf>(
     header: bool,
 ) -> Result<Vec<Row>, LoadFault>
     requires { IsSchemaInRange schema.now }
-    ensures rows { IfOk result (λ rows. OfTold (H.files shelf.old) (HasRecords (record { name = file.now; schema = schema.now; header = header }) (AreRows rows.items))) }
+    ensures rows { IfOk result (λ rows. OfFound (H.files shelf.old) (HasRecords (record { name = file.now; schema = schema.now; header = header }) (AreRows rows.items))) }
     ensures in_range { IfOk result (λ rows. All IsRowInRange rows.items) }
     ensures none { IfErr result (GivesNone (H.files shelf.old) (record { name = file.now; schema = schema.now; header = header })) }
     ensures files { H.files shelf.new ≡ H.files shelf.old }
