@@ -1,13 +1,15 @@
 -- What a line's turn comes to, from what it says.
-use Rattle.std.proofs.Common.{◌≡◌, ℕ, true, false, List, [], ◌∷◌, Option, Some, None, refl, sym, ◌∙◌, ap, subst, inl, inr}
+use Rattle.std.proofs.Common.{◌≡◌, ◌⊎◌, ℕ, true, false, List, [], ◌∷◌, Option, Some, None, refl, sym, ◌∙◌, ap, subst, inl, inr}
 use Rattle.std.specs.Prelude.{Result, Ok, Err, IfOk, OnErr}
+use Rattle.sand_base.specs.Shelf.{Files}
 use Rattle.sand_base.specs.declared.refusal.Refusal.{Refusal}
 use Rattle.sand_base.specs.declared.refusal.Refusal.TheVariants as why
 use Rattle.sand_base.specs.declared.source.Failed.{Failed}
-use Rattle.sand_model.specs.Cursor.{OutputLine, Refused}
+use Rattle.sand_model.specs.Cursor.{State, OutputLine, Refused}
+use Rattle.sand_model.specs.Outcome.{Rises, Outcome, IsRefusedBy}
 use Rattle.sand_model.specs.OutputText.{IsText}
 use Rattle.sand_model.specs.Run.{LineOutcome}
-use Rattle.sand_model.specs.Statement.{ScriptLine, Blank, TooLong, BadToken, OutOfRange, Says as SaysOf}
+use Rattle.sand_model.specs.Statement.{Statement as Spoken, Load, ScriptLine, Blank, TooLong, BadToken, OutOfRange, Says as SaysOf}
 use Rattle.sand_model.specs.StatementChecks.{Setting}
 use Rattle.output_text.specs.Writing.{Writes, WritesPrefix}
 use Rattle.script_text.specs.InRange.{IsInRange}
@@ -15,17 +17,34 @@ use Rattle.script_text.specs.Statement.{StatementValue, statement_value}
 use Rattle.script_text.specs.declared.statement.Statement.{Statement}
 use Rattle.statement_exec.specs.Causes.{BlamesNone}
 use Rattle.statement_exec.specs.Ending.{refused_line}
-use Rattle.statement_exec.specs.Moment.{Moment, rises_between}
-use Rattle.statement_exec.specs.Performing.{Performs}
+use Rattle.statement_exec.specs.Moment.{AreTold, Moment, rises_between}
+use Rattle.statement_exec.specs.Performing.{Performs, ShelfOutcome}
 use Rattle.statement_exec.proofs.CausedLines.{caused_inside, caused_none}
 use Rattle.statement_exec.proofs.Texts.{writes_none}
 use Rattle.script_run.specs.Carrying.{CarriesLine}
 use Rattle.script_run.specs.LineTurns.{LineTurns, LineBreaks}
 use Rattle.script_run.specs.Reading.{Says, Refuses, IsRefusedSo}
+use Rattle.script_run.specs.ShelfRun.{Finds}
 use Rattle.script_run.specs.Spoken.{IsLine, statement_of}
 use Rattle.script_run.specs.Turns.{Turns, Breaks, HasPlan, spoken}
 use Rattle.script_run.specs.declared.turn.Turn.{Turn}
 use Rattle.script_run.specs.declared.turn.Turn.TheVariants as turn
+
+-- where the shelf tells its files they are the setting's, so any line may be carried out in it
+pub finds_own : (files : Option Files) (setting : Setting) (line : ScriptLine) → AreTold files setting.files → Finds files setting line setting
+finds_own files setting (SaysOf (Load relation file header)) told = (setting.files, told, refl)
+finds_own files setting _ told = refl
+
+-- an outcome over a shelf is one in the setting that the statement finds
+outcome_found : (files : Option Files) (setting : Setting) (rises : Rises) (old : State) (statement : Spoken) (lines : List OutputLine) (new : State) → ShelfOutcome files setting rises old statement lines new
+    → (own : Setting) × Finds files setting (SaysOf statement) own × Outcome own rises old statement lines new
+outcome_found files setting rises old (Load relation file header) lines new (found, told, h) = (record setting { files = found }, (found, told, refl), h)
+outcome_found files setting rises old _ lines new h = (setting, refl, h)
+
+-- what a line does in the setting that it finds, or that it is refused as out of memory
+abbrev Goes : Moment → Moment → List OutputLine → Setting → ScriptLine → Type 0
+Goes old new lines setting told =
+    (own : Setting) × Finds old.files setting told own × (LineOutcome own (rises_between old new) old.state told lines new.state ⊎ IsRefusedBy why.Memory old.state lines new.state)
 
 -- a statement's outcome is that of its line
 of_statement : (line : List ℕ) (statement : Statement) (old new : Moment) (lines : List OutputLine) → Says line (Some statement) → Performs (spoken (statement_value statement)) old new lines
@@ -33,7 +52,8 @@ of_statement : (line : List ℕ) (statement : Statement) (old new : Moment) (lin
 of_statement line statement old new lines says h = (
   h.0,
   λ told is t disk shelf setting gap s.
-      inl (subst (λ (x : ScriptLine). LineOutcome setting (rises_between old new) old.state x lines new.state) (sym (says.1 told is)) (h.1 t disk shelf setting s)),
+      let found = outcome_found old.files setting (rises_between old new) old.state (spoken (statement_value statement)) lines new.state (h.1 t disk shelf setting s) in
+      subst (Goes old new lines setting) (sym (says.1 told is)) (found.0, found.1, inl found.2),
 )
 
 -- a line that is passed over
@@ -41,13 +61,13 @@ pub passed_over : (line : List ℕ) (m : Moment) → Says line None → CarriesL
 passed_over line m says = (
   caused_none m m,
   λ told is t disk shelf setting gap s.
-      inl (subst (λ (x : ScriptLine). LineOutcome setting (rises_between m m) m.state x [] m.state) (sym (says told is)) (refl, refl)),
+      subst (Goes m m [] setting) (sym (says told is)) (setting, refl, inl (refl, refl)),
 )
 
 -- a line that can't be read
 pub unread : (line : List ℕ) (m : Moment) (w : Refusal) → Refuses line w → BlamesNone w → CarriesLine (Some line) m m (Refused w ∷ [])
-unread line m w (inl e) none = (caused_inside m m w none, λ told is t disk shelf setting gap s. inr (ap (λ (r : Refusal). Refused r ∷ []) e, refl))
-unread line m w (inr h) none = (caused_inside m m w none, λ told is t disk shelf setting gap s. inl (by_line setting told (h told is))) where
+unread line m w (inl e) none = (caused_inside m m w none, λ told is t disk shelf setting gap s. (setting, finds_own m.files setting told s.files, inr (ap (λ (r : Refusal). Refused r ∷ []) e, refl)))
+unread line m w (inr h) none = (caused_inside m m w none, λ told is t disk shelf setting gap s. (setting, finds_own m.files setting told s.files, inl (by_line setting told (h told is)))) where
   by_line : (setting : Setting) (told : ScriptLine) → IsRefusedSo told w → LineOutcome setting (rises_between m m) m.state told (Refused w ∷ []) m.state
   by_line setting Blank k = absurd k
   by_line setting TooLong k = absurd k
@@ -60,7 +80,7 @@ too_long : (m : Moment) → CarriesLine None m m (Refused why.LineTooLong ∷ []
 too_long m = (
   caused_inside m m why.LineTooLong tt,
   λ told is t disk shelf setting gap s.
-      inl (subst (λ (x : ScriptLine). LineOutcome setting (rises_between m m) m.state x (Refused why.LineTooLong ∷ []) m.state) (sym is) (refl, refl)),
+      subst (Goes m m (Refused why.LineTooLong ∷ []) setting) (sym is) (setting, refl, inl (refl, refl)),
 )
 
 module _ (old new : Moment) (a b : List ℕ → Type 0) where

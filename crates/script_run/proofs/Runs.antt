@@ -1,21 +1,23 @@
--- One more line at the end of a run.
-use Rattle.std.proofs.Common.{◌≡◌, ◌⊎◌, ℕ, ◌+◌, ◌<◌, ◌≤◌, List, [], ◌∷◌, ◌++◌, refl, sym, ◌∙◌, ap, subst, arith}
+-- One more line at the end of a run over a shelf.
+use Rattle.std.proofs.Common.{◌≡◌, ◌⊎◌, ℕ, ◌+◌, ◌<◌, ◌≤◌, Option, List, [], ◌∷◌, ◌++◌, refl, sym, ◌∙◌, ap, subst, arith}
 use Rattle.std.specs.Prelude.{IsTrue, All, Bool}
 use Rattle.std.specs.List.{count_by}
 use Rattle.std.proofs.lemmas.List.Elements.{All-append}
 use Rattle.std.proofs.lemmas.List.Sums.{sum_by-append}
 use Rattle.std.proofs.lemmas.List.{append_assoc, append-nil}
 use Rattle.sand_base.specs.Faults.{last_count}
+use Rattle.sand_base.specs.Shelf.{Files}
 use Rattle.sand_base.specs.declared.refusal.Refusal.TheVariants as why
 use Rattle.sand_model.specs.Cursor.{State, OutputLine}
 use Rattle.sand_model.specs.Outcome.{Rises, IsRefusedBy}
-use Rattle.sand_model.specs.Run.{Run, FitIn, LineOutcome}
+use Rattle.sand_model.specs.Run.{FitIn, LineOutcome}
 use Rattle.sand_model.specs.Statement.{ScriptLine}
 use Rattle.sand_model.specs.StatementChecks.{Setting}
 use Rattle.script_lines.specs.Lines.{clipped}
 use Rattle.statement_exec.specs.Causes.{AreCaused, IsCausedDamage, is_of_device, is_of_file}
 use Rattle.statement_exec.specs.Moment.{Moment, rises_between, IsSettingOf}
 use Rattle.script_run.specs.Carrying.{CarriesLine, CarriesLines, Follows}
+use Rattle.script_run.specs.ShelfRun.{Finds, ShelfRun}
 use Rattle.script_run.specs.Spoken.{IsLine, AreLines}
 
 -- a line of a run, or its want of memory
@@ -29,31 +31,40 @@ both a b = record { disk = a.disk + b.disk; shelf = a.shelf + b.shelf }
 no_rises : Rises
 no_rises = record { disk = 0; shelf = 0 }
 
-pub run_append : (setting : Setting) (old mid new : State) (script : List ScriptLine) (line : ScriptLine) (before own all : Rises) (printed more : List OutputLine)
-    → Run setting old script before printed mid → Goes setting own mid line more new → FitIn before own all → Run setting old (script ++ line ∷ []) all (printed ++ more) new
+pub run_append : (files : Option Files) (setting : Setting) (old mid new : State) (script : List ScriptLine) (line : ScriptLine) (before own all : Rises) (printed more : List OutputLine) (found : Setting)
+    → ShelfRun files setting old script before printed mid → Finds files setting line found → Goes found own mid line more new → FitIn before own all
+    → ShelfRun files setting old (script ++ line ∷ []) all (printed ++ more) new
 unfolding no_rises
-run_append setting old mid new [] line before own all printed more ran goes fit = record {
-  own = own;
-  others = no_rises;
-  fit = record { disk = omega (arith, fit.disk); shelf = omega (arith, fit.shelf) };
-  first = more;
-  more = [];
-  mid = new;
-  outcome = subst (λ (s : State). Goes setting own s line more new) ran.1 goes;
-  goes = (refl, refl);
-  printed_is = ap (λ (p : List OutputLine). p ++ more) ran.0 ∙ sym (append-nil more);
-}
-run_append setting old mid new (x ∷ script) line before own all printed more ran goes fit = record {
-  own = ran.own;
-  others = both ran.others own;
-  fit = record { disk = omega (arith, fit.disk, ran.fit.disk); shelf = omega (arith, fit.shelf, ran.fit.shelf) };
-  first = ran.first;
-  more = ran.more ++ more;
-  mid = ran.mid;
-  outcome = ran.outcome;
-  goes = run_append setting ran.mid mid new script line ran.others own (both ran.others own) ran.more more ran.goes goes (record { disk = omega arith; shelf = omega arith });
-  printed_is = ap (λ (p : List OutputLine). p ++ more) ran.printed_is ∙ append_assoc ran.first ran.more more;
-}
+run_append files setting old mid new [] line before own all printed more found ran finds goes fit = (
+  found,
+  finds,
+  record {
+    own = own;
+    others = no_rises;
+    fit = record { disk = omega (arith, fit.disk); shelf = omega (arith, fit.shelf) };
+    first = more;
+    more = [];
+    mid = new;
+    outcome = subst (λ (s : State). Goes found own s line more new) ran.1 goes;
+    goes = (refl, refl);
+    printed_is = ap (λ (p : List OutputLine). p ++ more) ran.0 ∙ sym (append-nil more);
+  },
+)
+run_append files setting old mid new (x ∷ script) line before own all printed more found (at, at_finds, ran) finds goes fit = (
+  at,
+  at_finds,
+  record {
+    own = ran.own;
+    others = both ran.others own;
+    fit = record { disk = omega (arith, fit.disk, ran.fit.disk); shelf = omega (arith, fit.shelf, ran.fit.shelf) };
+    first = ran.first;
+    more = ran.more ++ more;
+    mid = ran.mid;
+    outcome = ran.outcome;
+    goes = run_append files setting ran.mid mid new script line ran.others own (both ran.others own) ran.more more found ran.goes finds goes (record { disk = omega arith; shelf = omega arith });
+    printed_is = ap (λ (p : List OutputLine). p ++ more) ran.printed_is ∙ append_assoc ran.first ran.more more;
+  },
+)
 
 -- what lines and one more line say is what these say and what that one says
 split_lines : (lines : List (List ℕ)) (line : List ℕ) (script : List ScriptLine) → AreLines (lines ++ line ∷ []) script
@@ -68,7 +79,7 @@ split_lines (x ∷ lines) line (told ∷ script) h =
 
 -- a setting of a moment is one of each that follows
 pub setting_later : (old new : Moment) (setting : Setting) → Follows old new → IsSettingOf old setting → IsSettingOf new setting
-setting_later old new setting f s = record { is = s.is; limits = s.limits ∙ sym f.limits; files = f.files ∙ s.files; rows_of = s.rows_of; tells = s.tells ∙ sym f.told }
+setting_later old new setting f s = record { is = s.is; limits = s.limits ∙ sym f.limits; files = λ told e. s.files told (sym f.files ∙ e); rows_of = s.rows_of; tells = s.tells ∙ sym f.told }
 
 count_append : (p : OutputLine → Bool) (xs ys : List OutputLine) → count_by p (xs ++ ys) ≡ count_by p xs + count_by p ys
 count_append p xs ys = sum_by-append _ xs ys
@@ -102,11 +113,12 @@ lines_append old mid new lines line printed more f g ran own = (
       let shelf' : mid.shelf < last_count = omega (arith, shelf, shelf_up) in
       let told' : IsTrue mid.told = f.told ∙ told in
       let one = own.1 last parts.1.1.1.1 told' disk shelf setting gap (setting_later old mid setting f s) in
-      let all : Run setting old.state before (rises_between old mid) printed mid.state = ran.1 before parts.1.1.1.0 told disk' shelf' setting gap s in
+      let finds : Finds old.files setting last one.0 = subst (λ (x : Option Files). Finds x setting last one.0) f.files one.1 in
+      let all : ShelfRun old.files setting old.state before (rises_between old mid) printed mid.state = ran.1 before parts.1.1.1.0 told disk' shelf' setting gap s in
       let fit : FitIn (rises_between old mid) (rises_between mid new) (rises_between old new) =
       record { disk = omega (arith, f.disk disk', disk_up); shelf = omega (arith, f.shelf shelf', shelf_up) } in
-      subst (λ (xs : List ScriptLine). Run setting old.state xs (rises_between old new) (printed ++ more) new.state) (sym parts.1.1.0)
-      (run_append setting old.state mid.state new.state before last (rises_between old mid) (rises_between mid new) (rises_between old new) printed more all one fit),
+      subst (λ (xs : List ScriptLine). ShelfRun old.files setting old.state xs (rises_between old new) (printed ++ more) new.state) (sym parts.1.1.0)
+      (run_append old.files setting old.state mid.state new.state before last (rises_between old mid) (rises_between mid new) (rises_between old new) printed more one.0 all finds one.2 fit),
 )
 
 -- what follows a moment that follows another follows that one

@@ -2,6 +2,8 @@
 pub mod Spoken
 -- What reading one says.
 pub mod Reading
+-- Runs over a shelf that tells its data files or not.
+pub mod ShelfRun
 -- What carrying lines out does.
 pub mod Carrying
 -- What the turn of a statement and of a line comes to.
