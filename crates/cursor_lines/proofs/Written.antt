@@ -8,7 +8,8 @@ use Rattle.sand_base.specs.declared.refusal.Refusal.{Refusal}
 use Rattle.sand_base.specs.declared.source.Failed.{Failed}
 use Rattle.page_pool.specs.Pool.{PoolState}
 use Rattle.sand_model.specs.Cursor.{Cursor, OutputLine, Accepted, Id, Loaded}
-use Rattle.sand_model.specs.Statement.{Statement}
+use Rattle.sand_model.specs.Plan.{Column}
+use Rattle.sand_model.specs.Statement.{Blocks}
 use Rattle.sand_store.specs.Catalog.{CatalogView}
 use Rattle.cursor_exec.specs.Outcomes.{PerformsBeside}
 use Rattle.sand_model.specs.OutputText.{IsText, is_refused}
@@ -107,13 +108,13 @@ abbrev pub mark_after : Result (Option Refusal) Failed → Result Bool Failed
 mark_after (Ok end) = Ok (is_refusal end)
 mark_after (Err failed) = Err failed
 
--- lines that read pages alone were written, beside these cursors
-pub leaves_written : (statement : Statement) (catalog : CatalogView) (old new : PoolState) (cs : List Cursor) (a b : List ℕ → Type 0) (r : Result (Option Refusal) Failed)
-    → IfOk r (λ end. Writes (Prints (Reads statement catalog old new) (is_refusal end)) a b) → OnErr r (WritesPrefix (PrintsSome (Reads statement catalog old new)) a b)
-    → WritesOf (PerformsBeside statement catalog old new cs cs) a b (mark_after r)
-leaves_written statement catalog old new cs a b (Ok end) h k =
-    writes_so (Reads statement catalog old new) (PerformsBeside statement catalog old new cs cs) a b
+-- the leaves of a column were written, beside these cursors
+pub leaves_written : (column : Column) (catalog : CatalogView) (old new : PoolState) (cs : List Cursor) (a b : List ℕ → Type 0) (r : Result (Option Refusal) Failed)
+    → IfOk r (λ end. Writes (Prints (Reads (Blocks column) catalog old new) (is_refusal end)) a b) → OnErr r (WritesPrefix (PrintsSome (Reads (Blocks column) catalog old new)) a b)
+    → WritesOf (PerformsBeside (Blocks column) catalog old new cs cs) a b (mark_after r)
+leaves_written column catalog old new cs a b (Ok end) h k =
+    writes_so (Reads (Blocks column) catalog old new) (PerformsBeside (Blocks column) catalog old new cs cs) a b
     (λ lines reads files shelf. ((reads cs files shelf).0, λ told disk few setting gap s. (reads cs files shelf).1 told disk few setting s)) (Ok (is_refusal end)) h
-leaves_written statement catalog old new cs a b (Err failed) h k =
-    writes_so (Reads statement catalog old new) (PerformsBeside statement catalog old new cs cs) a b
+leaves_written column catalog old new cs a b (Err failed) h k =
+    writes_so (Reads (Blocks column) catalog old new) (PerformsBeside (Blocks column) catalog old new cs cs) a b
     (λ lines reads files shelf. ((reads cs files shelf).0, λ told disk few setting gap s. (reads cs files shelf).1 told disk few setting s)) (Err failed) k
