@@ -2,6 +2,8 @@
 pub mod ScriptReadings
 -- settings of a moment
 pub mod Settings
+-- runs over a shelf
+pub mod ShelfRuns
 -- no check speaks of the outside
 pub mod PlanChecks
 pub mod StatementChecksInside

@@ -1,6 +1,6 @@
 -- The causes of the refusals that a run prints: those that come from outside are counted there.
-use Rattle.std.specs.Prelude.{◌≡◌, ℕ, ◌≤◌, Bool, true, false, List}
-use Rattle.std.specs.List.{count_by, list_any}
+use Rattle.std.specs.Prelude.{◌≡◌, ◌≤◌, Bool, true, false, List}
+use Rattle.std.specs.List.{list_any}
 use Rattle.sand_base.specs.declared.refusal.Refusal.TheVariants as why
 use Rattle.sand_model.specs.Cursor.{State, OutputLine, Refused}
 use Rattle.sand_model.specs.Outcome.{Rises}

@@ -1,5 +1,7 @@
 -- settings of a moment
 pub mod Settings
+-- runs over a shelf
+pub mod ShelfRuns
 -- the refusals that come from outside
 pub mod Causes
 -- runs in which nothing outside fails but memory

@@ -16,7 +16,8 @@ ghost use Rattle.run_laws.specs.Determined.{CalmRunsAreOne};
 ghost use Rattle.run_laws.specs.Following.{StepsGiveTheAnswer, OpenedCursorsAreNew, CursorsAreMovedByTheirNext, NextsFollowTheAnswer, NextsEndWithTheAnswer, NextsGiveTheAnswer};
 ghost use Rattle.run_laws.specs.Refused.{RefusedLinesChangeNoRelation, RefusedLinesChangeNothing, RefusedNextsMoveByTheirRows};
 ghost use Rattle.run_laws.specs.SeenRefusals.{RefusedLinesAreSeen};
-ghost use Rattle.run_laws.specs.Settings.{ToldMomentsHaveSettings};
+ghost use Rattle.run_laws.specs.Settings.{MomentsHaveSettings};
+ghost use Rattle.run_laws.specs.ShelfRuns.{ToldShelvesGiveRuns, ScriptsWithoutLoadsGiveRuns, ShelfRunsSplit};
 ghost use Rattle.run_laws.specs.Undisturbed.{RunsAreComplete};
 ghost use Rattle.sand_model.specs.Statement.{ScriptLine};
 ghost use Rattle.script_run.specs.Spoken.{AreLines};
@@ -26,9 +27,16 @@ pub fn every_script_has_readings()
     ensures { (lines : List (List ℕ)) → (script : List ScriptLine) × AreLines lines script }
 {}
 
-/// Where the shelf tells its files, the moment has a setting, so what is promised in every setting is not empty.
-pub fn every_told_moment_has_a_setting()
-    ensures { ToldMomentsHaveSettings }
+/// Every moment has a setting, whether the shelf tells its files or not, so what is promised in every setting is not empty.
+pub fn every_moment_has_a_setting()
+    ensures { MomentsHaveSettings }
+{}
+
+/// A run over a shelf is a run of the model where the shelf tells its files, and where no line loads one; so are its parts.
+pub fn a_run_over_a_shelf_is_a_run()
+    ensures told { ToldShelvesGiveRuns }
+    ensures unloaded { ScriptsWithoutLoadsGiveRuns }
+    ensures parts { ShelfRunsSplit }
 {}
 
 /// No more lines of a run say that the disk failed than its count of faults rose, and so of the files; and none that a
