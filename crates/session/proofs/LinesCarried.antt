@@ -11,9 +11,9 @@ use Rattle.script_lines.specs.Reading.{Reads, Pulls}
 use Rattle.script_lines.specs.declared.script_lines.Found.{Found}
 use Rattle.script_lines.specs.declared.script_lines.Found.TheVariants as found
 use Rattle.script_lines.specs.declared.script_lines.ScriptLines.{ScriptLines}
-use Rattle.sand_model.specs.Run.{Run}
 use Rattle.sand_model.specs.Statement.{ScriptLine}
 use Rattle.script_run.specs.Carrying.{CarriesLine, CarriesLines, Follows, InEach}
+use Rattle.script_run.specs.ShelfRun.{ShelfRun}
 use Rattle.script_run.specs.Spoken.{AreLines}
 use Rattle.script_run.proofs.Runs.{lines_append, follows_on, follows_itself}
 use Rattle.statement_exec.specs.Moment.{Moment, rises_between}
@@ -26,7 +26,7 @@ use Rattle.session.specs.declared.status.Status.TheVariants as status
 -- no line leads nowhere
 no_lines : (first : Moment) → CarriesLines [] first first []
 no_lines first = (caused_none first first, none) where
-  none : (script : List ScriptLine) → AreLines [] script → InEach first first (λ setting. Run setting first.state script (rises_between first first) [] first.state)
+  none : (script : List ScriptLine) → AreLines [] script → InEach first first (λ setting. ShelfRun first.files setting first.state script (rises_between first first) [] first.state)
   none [] are told disk shelf setting lowest is = (refl, refl)
   none (line ∷ script) are told disk shelf setting lowest is = absurd are
 

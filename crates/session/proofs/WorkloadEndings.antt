@@ -9,9 +9,12 @@ use Rattle.run_summary.specs.Summary.{summary}
 use Rattle.run_summary.specs.Taken.{HasTallied}
 use Rattle.run_summary.specs.declared.tally_sink.TallySink.{TallySink}
 use Rattle.run_laws.proofs.PlainRuns.{run_seen}
-use Rattle.run_laws.proofs.Settings.{told_setting}
+use Rattle.run_laws.proofs.Settings.{moment_setting}
+use Rattle.run_laws.proofs.ShelfRuns.{run_told}
 use Rattle.sand_base.specs.Faults.{last_count}
 use Rattle.sand_model.specs.Cursor.{State}
+use Rattle.sand_model.specs.Outcome.{Rises}
+use Rattle.sand_model.specs.Run.{Run}
 use Rattle.sand_model.specs.OutputText.{is_refused}
 use Rattle.sand_base.specs.Shelf.{Files}
 use Rattle.sand_base.specs.Streams.{Adds}
@@ -78,9 +81,11 @@ counted_of : (n : ℕ) (b : Bool) (limits : Limits) (old new : Outside) (last : 
     → IsTrue new.disk.told → new.disk.faults < last_count → new.shelf.faults < last_count → refused_lines text ≡ min (count_by is_refused p.lines) last_count
 counted_of n b limits old new last text files p told disk shelf =
     let first : Moment = first_moment limits old new in
-    let s = told_setting first empty_files files in
-    ap (λ (k : ℕ). min k last_count)
-    (run_seen s.0 s.2.is (workload n) p.holds.0 p.holds.1 (rises_between first (last_moment limits old new last)) p.lines last (p.holds.3 told disk shelf s.0 s.1 s.2) text p.told)
+    let s = moment_setting first in
+    let rises : Rises = rises_between first (last_moment limits old new last) in
+    let ran : Run s.0 first.state p.holds.0 rises p.lines last =
+    run_told first.files s.0 empty_files first.state last p.holds.0 rises p.lines files (s.2.files empty_files files) (p.holds.3 told disk shelf s.0 s.1 s.2) in
+    ap (λ (k : ℕ). min k last_count) (run_seen s.0 s.2.is (workload n) p.holds.0 p.holds.1 rises p.lines last ran text p.told)
 
 -- What is said of a run whose text was counted, by what the sink took of its summary.
 module _ (n : ℕ) (limits : Limits) (left : Option (List ℕ)) (reads : ℕ) (files : Option Files) (opens : ℕ) (disk disk' : DiskView) (tally : TallySink) (before now : List ℕ → Type 0) (writes writes' : ℕ) where

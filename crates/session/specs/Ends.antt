@@ -9,12 +9,13 @@ use Rattle.sand_base.specs.Faults.{next_count}
 use Rattle.sand_base.specs.Streams.{Stays}
 use Rattle.sand_base.specs.declared.limits.Limits.{Limits}
 use Rattle.sand_model.specs.Cursor.{State, OutputLine}
-use Rattle.sand_model.specs.Run.{Run, no_state}
+use Rattle.sand_model.specs.Run.{no_state}
 use Rattle.sand_model.specs.Statement.{ScriptLine}
 use Rattle.output_text.specs.Writing.{Writes, WritesPrefix}
 use Rattle.script_lines.specs.Lines.{lines, ended_lines}
 use Rattle.script_lines.specs.declared.TheConstants.{LONGEST_SCRIPT}
 use Rattle.script_run.specs.Carrying.{InEach}
+use Rattle.script_run.specs.ShelfRun.{ShelfRun}
 use Rattle.script_run.specs.Spoken.{AreLines}
 use Rattle.statement_exec.specs.Causes.{AreCaused}
 use Rattle.statement_exec.specs.Moment.{Moment, rises_between}
@@ -23,11 +24,11 @@ use Rattle.session.specs.Outside.{SourceView, SinkView, Outside}
 use Rattle.session.specs.declared.status.Status.{Status}
 use Rattle.session.specs.declared.status.Status.TheVariants as status
 
--- The lines say this script, and these lines of output, whose refusals from outside have their causes, are those of a run of the model over it that led from one moment to another; the run where the disk and the shelf tell and no count is at its end.
+-- The lines say this script, and these lines of output, whose refusals from outside have their causes, are those of a run over the shelf that led from one moment to another; the run where the disk tells its pages and no count is at its end.
 abbrev pub RunsOver : List (List ℕ) → Moment → Moment → List OutputLine → Type 0
 RunsOver lines old new printed =
     (script : List ScriptLine) × AreLines lines script × AreCaused old new printed
-    × InEach old new (λ setting. Run setting old.state script (rises_between old new) printed new.state)
+    × InEach old new (λ setting. ShelfRun old.files setting old.state script (rises_between old new) printed new.state)
 
 -- a run over these lines led from one moment to another, its text was written, and the mark says whether a line was refused
 abbrev pub WritesRun : List (List ℕ) → Bool → Moment → Moment → SinkView → SinkView → Type 0
