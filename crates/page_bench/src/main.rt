@@ -3,16 +3,21 @@
 //! It prints how many pairs, rows and entries of a map, a file and an index were left each time, the leaves of quadtrees after
 //! drawn inserts and deletes, what some small searches find, and what becomes of a pool and of quadtrees whose disk fails. With
 //! three words, as `pages look 20`, it makes inserts, look-ups or a run over so many lots of 50,000 drawn keys of the map instead,
-//! for `bench/btree.py`; with two, as `rank 100000`, it makes the trees, files or searches that `bench/pages.py` times. Above:
-//! nothing. Below: the crates over pages. The draws are those of a linear congruential generator.
+//! for `bench/btree.py`; with two, as `rank 100000`, it makes the trees, files or searches that `bench/pages.py` times, or, as
+//! `misses 20000`, so many calls of a pool. Above: nothing. Below: the crates over pages. The draws are those of a linear
+//! congruential generator.
 #![tactic(auto)]
 
 ghost use Rattle.std.specs.Prelude.{◌≤◌};
 
 mod draws;
+mod edge_shapes;
 mod entries;
+mod frail_disk;
 mod open_pool;
+mod plain_tree;
 mod pool_cases;
+mod pool_speed;
 mod readers;
 mod searches;
 mod shapes;
@@ -27,6 +32,7 @@ mod twins;
 use code_btree::Tree;
 use open_pool::OpenPool;
 use page_pool::{PageFault, Pool, SureDisk};
+use pool_speed::Tally;
 use readers::Found;
 use searches::SEARCHES;
 use speed::{filled, filled_twin, looked_up, looked_up_twin, run_through, run_through_twin};
@@ -203,6 +209,13 @@ fn counted(alloc: Global, word: &str, count: &str) -> Option<u64> {
     timed::made(alloc, part, rows).ok()
 }
 
+// What a word and a number of calls ask for of a pool.
+fn tallied(alloc: Global, word: &str, count: &str) -> Option<Tally> {
+    let part = pool_speed::part_named(word)?;
+    let calls = count.parse().ok()?;
+    pool_speed::made(alloc, part, calls).ok()
+}
+
 // Compares all, and makes the small searches.
 fn all(rt: &(impl Print + AllocGlobal)) -> io::Result<()> {
     compare(rt)?;
@@ -210,7 +223,16 @@ fn all(rt: &(impl Print + AllocGlobal)) -> io::Result<()> {
     keep(rt)?;
     search(rt)?;
     pool_cases::tell(rt)?;
-    tree_cases::tell(rt)
+    tree_cases::tell(rt)?;
+    pool_speed::tell(rt)
+}
+
+// Prints what was counted.
+fn tell_count(rt: &impl Print, count: Option<u64>) -> io::Result<()> {
+    match count {
+        Some(count) => rt.println(format_args!("{count} calls")),
+        None => rt.println(format_args!("no such part, or memory was short")),
+    }
 }
 
 fn main(rt: HostRuntime) -> io::Result<()> {
@@ -221,12 +243,17 @@ fn main(rt: HostRuntime) -> io::Result<()> {
     let Some(second) = words.next() else {
         return println!(rt; "two words or three are wanted");
     };
-    let count = match words.next() {
-        Some(third) => asked(rt.alloc(), first.as_str(), second.as_str(), third.as_str()),
-        None => counted(rt.alloc(), first.as_str(), second.as_str()),
-    };
-    match count {
-        Some(count) => println!(rt; "{count} calls"),
-        None => println!(rt; "no such part, or memory was short"),
+    if let Some(third) = words.next() {
+        return tell_count(
+            &rt,
+            asked(rt.alloc(), first.as_str(), second.as_str(), third.as_str()),
+        );
     }
+    if let Some(tally) = tallied(rt.alloc(), first.as_str(), second.as_str()) {
+        return println!(rt;
+            "{} calls, and {} of the disk",
+            tally.right, tally.disk_calls
+        );
+    }
+    tell_count(&rt, counted(rt.alloc(), first.as_str(), second.as_str()))
 }

@@ -2,7 +2,7 @@
 use Rattle.std.proofs.Common.{◌<◌, arith}
 use Rattle.sand_base.specs.declared.TheConstants.{COORDINATE_BITS}
 use Rattle.pmr_tree.proofs.GrowSteps.{first_block, second_block, third_block, fourth_block}
-use Rattle.page_bench.proofs.tree_cases.push_grown.Goals as goal
+use Rattle.page_bench.proofs.plain_tree.push_grown.Goals as goal
 
 pub part-requires : goal.part-requires
 part-requires c = (let up : c.args.leaf.now.block.level < COORDINATE_BITS = omega arith in (first_block c.args.leaf.now.block _ _ c.children.ensures.value c.args.leaf.now.is_block up).0)

@@ -1,0 +1,120 @@
+// Shapes for trials of quadtrees: they lie on the edges and corners of blocks, or one grid point beside.
+ghost use Rattle.std.specs.Prelude.{IfOk, [], ⊤, refl};
+ghost use Rattle.sand_base.specs.Grid.{IsInPlane};
+ghost use Rattle.sand_base.specs.Plane.{IsShapeInPlane};
+
+use crate::draws::Draws;
+use page_pool::{PageFault, Pages};
+use pmr_tree::ShapeOf;
+use sand_base::{NoMemory, Point, Ring, Segment, Shape};
+use std::alloc::Global;
+
+/// Shapes on the edges and corners of blocks, and one grid point beside them, by their ids.
+#[derive(Clone, Copy)]
+pub struct EdgeShapes {}
+
+const LAST: u32 = 65_535;
+
+// A coordinate on an edge of large blocks, or beside it.
+fn coordinate(draws: &mut Draws) -> u32 {
+    let edge = (draws.word() % 9) as u32 * 8_192;
+    edge.saturating_sub((draws.word() % 2) as u32)
+}
+
+// The point with these coordinates, or the last of the plane.
+fn point(x: u32, y: u32) -> Point
+    ensures { IsInPlane result }
+{
+    Point {
+        x: x.min(LAST),
+        y: y.min(LAST),
+    }
+}
+
+// How far a shape reaches from its first point along an axis: to an edge of small blocks, or to one beside.
+fn reach(draws: &mut Draws) -> u32 {
+    match draws.word() % 5 {
+        0 => 0,
+        1 => 1,
+        2 => 255,
+        3 => 256,
+        _ => 512,
+    }
+}
+
+// A point that is so far from another one.
+fn beyond(draws: &mut Draws, from: Point) -> Point
+    ensures { IsInPlane result }
+{
+    let right = from.x.saturating_add(reach(draws));
+    let up = from.y.saturating_add(reach(draws));
+    point(right, up)
+}
+
+// The triangle of three points.
+fn triangle(alloc: Global, a: Point, b: Point, c: Point) -> Result<Shape, NoMemory>
+    requires a { IsInPlane a }
+    requires b { IsInPlane b }
+    requires c { IsInPlane c }
+    ensures { IfOk result IsShapeInPlane }
+{
+    let mut corners = Vec::new(alloc);
+    corners.push(a)?;
+    corners.push(b)?;
+    corners.push(c)?;
+    match Ring::new(corners) {
+        Ok(ring) => Ok(Shape::Polygon(ring)),
+        Err(_flat) => Ok(Shape::Point(a)),
+    }
+}
+
+/// The shape of an id: of eight four points, three segments and a triangle.
+pub fn shape_of_id(alloc: Global, id: u32) -> Result<Shape, NoMemory>
+    ensures { IfOk result IsShapeInPlane }
+{
+    let mut draws = Draws::begin(id.into());
+    let kind = draws.word() % 8;
+    let x = coordinate(&mut draws);
+    let y = coordinate(&mut draws);
+    let a = point(x, y);
+    let b = beyond(&mut draws, a);
+    let c = beyond(&mut draws, a);
+    if kind < 4 {
+        return Ok(Shape::Point(a));
+    }
+    if kind < 7 {
+        return Ok(Shape::Segment(Segment { a, b }));
+    }
+    let shape = triangle(alloc, a, b, c)?;
+    Ok(shape)
+}
+
+impl ShapeOf for EdgeShapes {
+    ghost rows = { λ a pages. [] };
+
+    ghost Stands = { λ a pages. ⊤ };
+
+    ghost Owns = { λ a pages n. ⊥ };
+
+    ghost price = { λ a. 0 };
+
+    fn shape_of<P: Pages>(
+        &self,
+        alloc: Global,
+        _pages: &mut P,
+        id: u32,
+    ) -> Result<Shape, PageFault> {
+        match shape_of_id(alloc, id) {
+            Ok(shape) => Ok(shape),
+            Err(NoMemory {}) => Err(PageFault::Memory),
+        }
+    }
+
+    ghost in_plane = { λ a pages h. tt };
+
+    ghost own_stands = { λ a m w h same. tt };
+
+    ghost own_rows = { λ a m w h same. refl };
+
+    ghost own_pages = { λ a m w h same n own. own };
+}
