@@ -20,10 +20,10 @@ use Rattle.code_btree.proofs.Leaves.{here, leaf_sound}
 use Rattle.code_btree.proofs.Inserts.{at_page}
 use Rattle.code_btree.proofs.PageRuns.{rank_from}
 
-chained-append : (m : Store) (xs ys : List (ℕ × ℕ)) → chained m (xs ++ ys) ≡ chained m xs ++ chained m ys
+pub chained-append : (m : Store) (xs ys : List (ℕ × ℕ)) → chained m (xs ++ ys) ≡ chained m xs ++ chained m ys
 chained-append m xs ys = flat_map-append (λ l. entries_of (node m l.0)) xs ys
 
-row_chained : (m : Store) (h : ℕ) (each : (c : ℕ) → items m h c ≡ chained m (links m h c)) (cs : List ℕ) → all_items m h cs ≡ chained m (all_links m h cs)
+pub row_chained : (m : Store) (h : ℕ) (each : (c : ℕ) → items m h c ≡ chained m (links m h c)) (cs : List ℕ) → all_items m h cs ≡ chained m (all_links m h cs)
 row_chained m h each [] = refl
 row_chained m h each (c ∷ cs) = ap₂ (λ (x y : List Pair). x ++ y) (each c) (row_chained m h each cs) ∙ sym (chained-append m (links m h c) (all_links m h cs))
 
@@ -44,28 +44,28 @@ links_lead : (m : Store) (h n : ℕ) → Each (Leads m) (links m h n)
 links_lead m zero n = (refl, tt)
 links_lead m (suc h) n = row_leads m h (λ c. links_lead m h c) (children_of (node m n))
 
-next_is : (m : Store) (h n lf nx : ℕ) (before behind : List (ℕ × ℕ)) → links m h n ≡ before ++ ((lf, nx) ∷ behind) → nx ≡ next_of (node m lf)
+pub next_is : (m : Store) (h n lf nx : ℕ) (before behind : List (ℕ × ℕ)) → links m h n ≡ before ++ ((lf, nx) ∷ behind) → nx ≡ next_of (node m lf)
 next_is m h n lf nx before behind e =
     let P : List (ℕ × ℕ) → Type 0 = λ ls. Each (Leads m) ls in
     (Each-right (Leads m) before ((lf, nx) ∷ behind) (subst P e (links_lead m h n))).0
 
--- leaves other than a lone root have entries
-abbrev pub HasSome : Store → ℕ × ℕ → Type 0
-HasSome m l = 1 ≤ length (entries_of (node m l.0))
+-- leaves other than a lone root are filled
+abbrev pub IsFilledLeaf : Store → ℕ × ℕ → Type 0
+IsFilledLeaf m l = 63 ≤ length (entries_of (node m l.0))
 
-row_some : (m : Store) (h : ℕ) (each : (c : ℕ) → Filled m h c → Each (HasSome m) (links m h c)) (cs : List ℕ) → Each (λ c. Filled m h c) cs → Each (HasSome m) (all_links m h cs)
-row_some m h each [] e = tt
-row_some m h each (c ∷ cs) e = Each-append (HasSome m) (links m h c) (all_links m h cs) (each c e.0) (row_some m h each cs e.1)
+row_filled : (m : Store) (h : ℕ) (each : (c : ℕ) → Filled m h c → Each (IsFilledLeaf m) (links m h c)) (cs : List ℕ) → Each (λ c. Filled m h c) cs → Each (IsFilledLeaf m) (all_links m h cs)
+row_filled m h each [] e = tt
+row_filled m h each (c ∷ cs) e = Each-append (IsFilledLeaf m) (links m h c) (all_links m h cs) (each c e.0) (row_filled m h each cs e.1)
 
-filled_links : (m : Store) (h n : ℕ) → Filled m h n → Each (HasSome m) (links m h n)
+filled_links : (m : Store) (h n : ℕ) → Filled m h n → Each (IsFilledLeaf m) (links m h n)
 filled_links m zero n f = (omega (arith, ap (λ (o : Node). size_of o) f.0.is_leaf, f.1), tt)
-filled_links m (suc h) n f = row_some m h (λ c. filled_links m h c) (children_of (node m n)) f.0.1
+filled_links m (suc h) n f = row_filled m h (λ c. filled_links m h c) (children_of (node m n)) f.0.1
 
-next_some : (m : Store) (h n : ℕ) (before : List (ℕ × ℕ)) (l r : ℕ × ℕ) (behind : List (ℕ × ℕ)) → Sound m h n → links m h n ≡ before ++ (l ∷ (r ∷ behind)) → 1 ≤ length (entries_of (node m r.0))
-next_some m zero n before l r behind s e = absurd (omega (arith, ap (λ (ls : List (ℕ × ℕ)). length ls) e, length-append before (l ∷ (r ∷ behind))))
-next_some m (suc h) n before l r behind s e =
-    let P : List (ℕ × ℕ) → Type 0 = λ ls. Each (HasSome m) ls in
-    (Each-right (HasSome m) before (l ∷ (r ∷ behind)) (subst P e (row_some m h (λ c. filled_links m h c) (children_of (node m n)) s.1))).1.0
+pub next_filled : (m : Store) (h n : ℕ) (before : List (ℕ × ℕ)) (l r : ℕ × ℕ) (behind : List (ℕ × ℕ)) → Sound m h n → links m h n ≡ before ++ (l ∷ (r ∷ behind)) → 63 ≤ length (entries_of (node m r.0))
+next_filled m zero n before l r behind s e = absurd (omega (arith, ap (λ (ls : List (ℕ × ℕ)). length ls) e, length-append before (l ∷ (r ∷ behind))))
+next_filled m (suc h) n before l r behind s e =
+    let P : List (ℕ × ℕ) → Type 0 = λ ls. Each (IsFilledLeaf m) ls in
+    (Each-right (IsFilledLeaf m) before (l ∷ (r ∷ behind)) (subst P e (row_filled m h (λ c. filled_links m h c) (children_of (node m n)) s.1))).1.0
 
 begins_same : (m : Store) (t : Tree) (lf lf' pl pl' : ℕ) (es es' : List Pair) → lf' ≡ lf → pl' ≡ pl → es' ≡ es → BeginsAt m t lf pl es → BeginsAt m t lf' pl' es'
 begins_same m t lf lf' pl pl' es es' a b c h =
@@ -75,7 +75,7 @@ begins_same m t lf lf' pl pl' es es' a b c h =
     subst C (sym c) (subst B (sym b) (subst A (sym a) h))
 
 -- the path from a leaf of the chain on
-path_from : (m : Store) (t : Tree) (lf nx : ℕ) (before behind : List (ℕ × ℕ)) → IsTree m t → links m (t.height - 1) t.root ≡ before ++ ((lf, nx) ∷ behind) → (1 ≤ lf) × Path nx behind 0
+pub path_from : (m : Store) (t : Tree) (lf nx : ℕ) (before behind : List (ℕ × ℕ)) → IsTree m t → links m (t.height - 1) t.root ≡ before ++ ((lf, nx) ∷ behind) → (1 ≤ lf) × Path nx behind 0
 path_from m t lf nx before behind tree e =
     let P : List (ℕ × ℕ) → Type 0 = λ ls. Path tree.at.chain.0 ls 0 in
     let r = Path-split tree.at.chain.0 0 before ((lf, nx) ∷ behind) (subst P e tree.at.chain.1) in
@@ -84,7 +84,7 @@ path_from m t lf nx before behind tree e =
 begins_next : (m : Store) (t : Tree) (lf nx : ℕ) (before behind : List (ℕ × ℕ)) → IsTree m t → links m (t.height - 1) t.root ≡ before ++ ((lf, nx) ∷ behind) → Path nx behind 0 → BeginsAt m t nx 0 (chained m behind)
 begins_next m t lf nx before [] tree e p = record { none = λ z. refl; here = λ l. absurd (omega (arith, p)) }
 begins_next m t lf nx before (r ∷ rest) tree e p =
-    let some : 1 ≤ length (entries_of (node m r.0)) = next_some m (t.height - 1) t.root before (lf, nx) r rest tree.at.sound e in
+    let full : 63 ≤ length (entries_of (node m r.0)) = next_filled m (t.height - 1) t.root before (lf, nx) r rest tree.at.sound e in
     let moved : before ++ ((lf, nx) ∷ ((r.0, r.1) ∷ rest)) ≡ (before ++ ((lf, nx) ∷ [])) ++ ((nx, r.1) ∷ rest) =
     sym (append_assoc before ((lf, nx) ∷ []) ((r.0, r.1) ∷ rest)) ∙ ap (λ (x : ℕ). (before ++ ((lf, nx) ∷ [])) ++ ((x, r.1) ∷ rest)) (sym p.0) in
     record {
@@ -94,7 +94,7 @@ begins_next m t lf nx before (r ∷ rest) tree e p =
         behind = rest;
         next = r.1;
         chain = e ∙ moved;
-        within = omega (arith, some, ap (λ (x : ℕ). length (entries_of (node m x))) p.0);
+        within = omega (arith, full, ap (λ (x : ℕ). length (entries_of (node m x))) p.0);
         pairs = ap (λ (x : ℕ). entries_of (node m x) ++ chained m rest) (sym p.0);
       };
     }
@@ -159,7 +159,7 @@ gives_last p n nx count at k v is e l u ek ev =
     record { pair = (h.0, h.1 ∙ ap₂ (λ (x y : ℕ). (x, y) ∷ drop (at + 1) (entries_of (node_of p))) (sym ek) (sym ev)); spot = inr (e, refl, omega (arith, is.counted)) }
 
 -- a page with entries is a leaf
-leaf_by : (o : Node) → 1 ≤ length (entries_of o) → o ≡ leaf (entries_of o) (next_of o)
+pub leaf_by : (o : Node) → 1 ≤ length (entries_of o) → o ≡ leaf (entries_of o) (next_of o)
 leaf_by (leaf es nx) l = refl
 leaf_by (inner ks cs) l = absurd (omega arith)
 leaf_by blank l = absurd (omega arith)

@@ -21,6 +21,7 @@ pub mod Frame
 pub mod Floors
 pub mod PageRuns
 pub mod Chains
+pub mod Betweens
 pub mod Joins
 pub mod Balances
 pub mod Evens

@@ -10,3 +10,4 @@ pub mod Run
 pub mod Steps
 pub mod Removals
 pub mod Chain
+pub mod Between

@@ -1,0 +1,389 @@
+-- The pairs of a key range, taken leaf by leaf.
+use Rattle.std.proofs.Common.{◌≡◌, ℕ, suc, ◌+◌, ◌-◌, ◌/◌, ◌<◌, ◌≤◌, cond, List, [], ◌∷◌, ◌++◌, length, take, drop, refl, sym, ◌∙◌, ap, ap₂, subst, inl, inr, arith, append_assoc, append-nil, length-append, length-drop, take-append-drop, drop-drop}
+use Rattle.std.specs.Prelude.{Some, Result, Ok}
+use Rattle.std.proofs.lemmas.List.{drop_all, drop_more, drop-take}
+use Rattle.std.proofs.lemmas.List.Concat.{flat_map-append}
+use Rattle.std.proofs.lemmas.Bool.Decides.{leb_tells}
+use Rattle.page_pool.specs.declared.fault.PageFault.{PageFault}
+use Rattle.page_pool.specs.Pool.{PoolState}
+use Rattle.page_pool.specs.Steps.{IsRead-trans, HasPageCause-before, HasPageCause-done}
+use Rattle.code_btree.specs.declared.map.Tree.{Tree}
+use Rattle.code_btree.specs.Calls.{Peeks}
+use Rattle.code_btree.specs.Node.{Pair, Node, leaf, node_of, entries_of, next_of, children_of, IsLeafOf, entry_key, entry_value, child_in}
+use Rattle.code_btree.specs.Items.{Above, Below, Ascending, items_from, items_below}
+use Rattle.code_btree.specs.Tree.{Store, node, links, all_items, all_links, Path, IsTree, tree_items}
+use Rattle.code_btree.specs.Steps.{Subtree, LeadsTo, InnerStep}
+use Rattle.code_btree.specs.Run.{chained}
+use Rattle.code_btree.specs.Between.{items_between, AtLeast, Takes, IsTakenIn, IsLeafFor, IsRestAt, IsRest, IsPartDone}
+use Rattle.code_btree.proofs.Lists.{Each-append, Each-right, Each-map}
+use Rattle.code_btree.proofs.Orders.{items_from-append, items_below-append, below-Below, from-Below, from-AtLeast, Above-AtLeast, Ascending-left, Ascending-right, lt_is, lt_not, Below-rank, AtLeast-rank}
+use Rattle.code_btree.proofs.Looks.{entry_is}
+use Rattle.code_btree.proofs.Leaves.{here, ranked}
+use Rattle.code_btree.proofs.Inserts.{at_page}
+use Rattle.code_btree.proofs.PageRuns.{rank_from}
+use Rattle.code_btree.proofs.Chains.{chained-append, row_chained, items_chained, next_is, next_filled, path_from, leaf_by}
+
+-- one entry more of a page
+pub add_step : (p : List ℕ) (n at to : ℕ) (old all new : List Pair) (k v : ℕ) → IsLeafOf p n → at < to → to ≤ n → k ≡ entry_key p at → v ≡ entry_value p at → new ≡ old ++ ((k, v) ∷ [])
+    → old ++ take (to - at) (drop at (entries_of (node_of p))) ≡ all → new ++ take (to - (at + 1)) (drop (at + 1) (entries_of (node_of p))) ≡ all
+add_step p n at to old all new k v is l m kk vv new_is so_far =
+    let es : List Pair = entries_of (node_of p) in
+    let more : List Pair = take (to - (at + 1)) (drop (at + 1) es) in
+    let e : drop at es ≡ (entry_key p at, entry_value p at) ∷ drop (at + 1) es = drop_more es at (0, 0) (omega (arith, is.counted, l, m)) ∙ ap (λ (x : Pair). x ∷ drop (at + 1) es) (entry_is p n at (0, 0) is (omega (arith, l, m))) in
+    let s : to - at ≡ suc (to - (at + 1)) = omega (arith, l) in
+    let t : take (to - at) (drop at es) ≡ (entry_key p at, entry_value p at) ∷ more = ap₂ (λ (i : ℕ) (x : List Pair). take i x) s e in
+    let kv : (k, v) ∷ more ≡ (entry_key p at, entry_value p at) ∷ more = ap₂ (λ (x y : ℕ). (x, y) ∷ more) kk vv in
+    ap (λ (x : List Pair). x ++ more) new_is ∙ (append_assoc old ((k, v) ∷ []) more ∙ (ap (λ (x : List Pair). old ++ x) (kv ∙ sym t) ∙ so_far))
+
+-- pairs on both sides of a key
+pub below-AtLeast : (k : ℕ) (es : List Pair) → AtLeast k es → items_below k es ≡ []
+below-AtLeast k [] h = refl
+below-AtLeast k (e ∷ es) h = rw (lt_not e.0 k h.0) (below-AtLeast k es h.1)
+
+AtLeast-drop : (k i : ℕ) (es : List Pair) → AtLeast k es → AtLeast k (drop i es)
+AtLeast-drop k i es h =
+    let P : List Pair → Type 0 = λ x. AtLeast k x in
+    Each-right (λ e. k ≤ e.0) (take i es) (drop i es) (subst P (sym (take-append-drop i es)) h)
+
+Below-drop : (k i : ℕ) (es : List Pair) → Below k es → Below k (drop i es)
+Below-drop k i es h =
+    let P : List Pair → Type 0 = λ x. Below k x in
+    Each-right (λ e. e.0 < k) (take i es) (drop i es) (subst P (sym (take-append-drop i es)) h)
+
+none_from : (k : ℕ) (es : List Pair) → items_from k es ≡ [] → items_below k es ≡ es
+none_from k [] h = refl
+none_from k (e ∷ es) h = elim (leb_tells (suc e.0) k) [
+  | inl l ↦
+      let i : items_from k es ≡ [] = sym (ap (λ b. cond b (items_from k es) (e ∷ items_from k es)) (lt_is e.0 k l.1)) ∙ h in
+      rw (lt_is e.0 k l.1) (ap (λ (x : List Pair). e ∷ x) (none_from k es i))
+  | inr l ↦
+      let i : e ∷ items_from k es ≡ [] = sym (ap (λ b. cond b (items_from k es) (e ∷ items_from k es)) (lt_not e.0 k (omega (arith, l.1)))) ∙ h in
+      absurd (cc)
+]
+
+between-append : (low high : ℕ) (xs ys : List Pair) → items_between low high (xs ++ ys) ≡ items_between low high xs ++ items_between low high ys
+between-append low high xs ys = ap (λ (es : List Pair). items_below high es) (items_from-append low xs ys) ∙ items_below-append high (items_from low xs) (items_from low ys)
+
+between-AtLeast : (low high : ℕ) (es : List Pair) → AtLeast low es → AtLeast high es → items_between low high es ≡ []
+between-AtLeast low high es l h = ap (λ (x : List Pair). items_below high x) (from-AtLeast low es l) ∙ below-AtLeast high es h
+
+between_all : (low high : ℕ) (es : List Pair) → AtLeast low es → items_from high es ≡ [] → items_between low high es ≡ es
+between_all low high es l h = ap (λ (x : List Pair). items_below high x) (from-AtLeast low es l) ∙ none_from high es h
+
+-- where a pair is not below a key, none behind it is
+behind_high : (k : ℕ) (xs ys : List Pair) → Ascending (xs ++ ys) → 1 ≤ length (items_from k xs) → AtLeast k ys
+behind_high k [] ys a h = absurd (omega (arith, h))
+behind_high k (x ∷ xs) ys a h = elim (leb_tells (suc x.0) k) [
+  | inl l ↦
+      let i : length (items_from k xs) ≡ length (items_from k (x ∷ xs)) = sym (ap (λ b. length (cond b (items_from k xs) (x ∷ items_from k xs))) (lt_is x.0 k l.1)) in
+      behind_high k xs ys a.1 (omega (arith, h, i))
+  | inr l ↦ Each-map (λ y. x.0 < y.0) (λ y. k ≤ y.0) (λ y z. omega (arith, z, l.1)) ys (Each-right (λ y. x.0 < y.0) xs ys a.0)
+]
+
+-- the place of a key in a page, as the search found it
+pub record Ranked (p : List ℕ) (count key at : ℕ) : Type 0 where
+  pub place : at ≤ count
+  pub before : 1 ≤ at → entry_key p (at - 1) < key
+  pub behind : at < count → key ≤ entry_key p at
+
+rank_below : (p : List ℕ) (count at k : ℕ) → IsLeafOf p count → Ranked p count k at → Ascending (entries_of (node_of p)) → Below k (take at (entries_of (node_of p)))
+rank_below p count at k is r asc = Below-rank k (entries_of (node_of p)) at (0, 0) asc (omega (arith, is.counted, r.place)) (λ o. ranked p count at k is r.place r.before o)
+
+rank_above : (p : List ℕ) (count at k : ℕ) → IsLeafOf p count → Ranked p count k at → Ascending (entries_of (node_of p)) → AtLeast k (drop at (entries_of (node_of p)))
+rank_above p count at k is r asc =
+    let es : List Pair = entries_of (node_of p) in
+    AtLeast-rank k es at (0, 0) asc (λ i.
+    let j : at < count = omega (arith, is.counted, i) in
+    omega (arith, r.behind j, ap (λ (x : Pair). x.0) (entry_is p count at (0, 0) is j)))
+
+-- the pairs of a range stand between the places of its two keys
+between_is : (p : List ℕ) (count from to low high : ℕ) → IsLeafOf p count → Ranked p count low from → Ranked p count high to → Ascending (entries_of (node_of p)) → take (to - from) (drop from (entries_of (node_of p))) ≡ items_between low high (entries_of (node_of p))
+between_is p count from to low high is f g asc =
+    let es : List Pair = entries_of (node_of p) in
+    let lower : items_from low es ≡ drop from es = sym (rank_from p count from low is f.place f.before f.behind asc) in
+    let above : AtLeast high (drop to es) = rank_above p count to high is g asc in
+    elim (leb_tells from to) [
+      | inl l ↦
+          let B : List Pair = take (to - from) (drop from es) in
+          let place : from + (to - from) ≡ to = omega (arith, l.1) in
+          let cut : drop from (take to es) ≡ B = ap (λ (i : ℕ). drop from (take i es)) (sym place) ∙ drop-take from (to - from) es in
+          let below : Below high B = let P : List Pair → Type 0 = λ x. Below high x in subst P cut (Below-drop high from (take to es) (rank_below p count to high is g asc)) in
+          let rest : drop (to - from) (drop from es) ≡ drop to es = drop-drop (to - from) from es ∙ ap (λ (i : ℕ). drop i es) (omega (arith, l.1)) in
+          let parts : drop from es ≡ B ++ drop to es = sym (take-append-drop (to - from) (drop from es)) ∙ ap (λ (x : List Pair). B ++ x) rest in
+          sym (ap (λ (x : List Pair). items_below high x) (lower ∙ parts)
+          ∙ (items_below-append high B (drop to es) ∙ (ap₂ (λ (x y : List Pair). x ++ y) (below-Below high B below) (below-AtLeast high (drop to es) above) ∙ append-nil B)))
+      | inr l ↦
+          let none : to - from ≡ 0 = omega (arith, l.1) in
+          let rest : drop (from - to) (drop to es) ≡ drop from es = drop-drop (from - to) to es ∙ ap (λ (i : ℕ). drop i es) (omega (arith, l.1)) in
+          let high_all : AtLeast high (drop from es) = let P : List Pair → Type 0 = λ x. AtLeast high x in subst P rest (AtLeast-drop high (from - to) (drop to es) above) in
+          ap (λ (i : ℕ). take i (drop from es)) none ∙ sym (ap (λ (x : List Pair). items_below high x) lower ∙ below-AtLeast high (drop from es) high_all)
+    ]
+
+-- a leaf with an entry at the end of the range or behind it leads nowhere
+pub takes_inside : (p : List ℕ) (count from to low high next : ℕ) (old new : List Pair) → IsLeafOf p count → Ranked p count low from → Ranked p count high to → to < count
+    → new ≡ old ++ take (to - from) (drop from (entries_of (node_of p))) → Ascending (entries_of (node_of p)) → Takes (entries_of (node_of p)) next low high old new 0
+takes_inside p count from to low high next old new is f g l e asc =
+    let es : List Pair = entries_of (node_of p) in
+    let upper : drop to es ≡ items_from high es = rank_from p count to high is g.place g.before g.behind asc in
+    record {
+      taken = e ∙ ap (λ (x : List Pair). old ++ x) (between_is p count from to low high is f g asc);
+      ends = λ z. inr (omega (arith, ap (λ (x : List Pair). length x) upper, length-drop to es, is.counted, l));
+      goes = λ z. absurd (omega (arith, z));
+    }
+
+-- and one without leads on
+pub takes_on : (p : List ℕ) (count from to low high next on : ℕ) (old new : List Pair) → IsLeafOf p count → Ranked p count low from → Ranked p count high to → count ≤ to → on ≡ next
+    → new ≡ old ++ take (to - from) (drop from (entries_of (node_of p))) → Ascending (entries_of (node_of p)) → Takes (entries_of (node_of p)) next low high old new on
+takes_on p count from to low high next on old new is f g l n e asc =
+    let es : List Pair = entries_of (node_of p) in
+    let upper : drop to es ≡ items_from high es = rank_from p count to high is g.place g.before g.behind asc in
+    record {
+      taken = e ∙ ap (λ (x : List Pair). old ++ x) (between_is p count from to low high is f g asc);
+      ends = λ z. inl (sym n ∙ z);
+      goes = λ z. (n, sym upper ∙ drop_all to es (omega (arith, is.counted, l)));
+    }
+
+-- a lone leaf is that of each key
+pub leaf_lone : (m : Store) (n key : ℕ) → Subtree m 0 n → IsLeafFor m 0 n key n
+leaf_lone m n key s = record {
+  before = [];
+  behind = [];
+  next = next_of (node m n);
+  chain = refl;
+  is_leaf = s.sound.is_leaf;
+  below = tt;
+  above = tt;
+}
+
+-- the leaf under the child to which a key belongs
+leaf_up : (m : Store) (h n k c lf : ℕ) (xs ys : List ℕ) → children_of (node m n) ≡ xs ++ (c ∷ ys) → Below k (all_items m h xs) → Above k (all_items m h ys) → IsLeafFor m h c k lf → IsLeafFor m (suc h) n k lf
+leaf_up m h n k c lf xs ys e below above s =
+    let X : List (ℕ × ℕ) = all_links m h xs in
+    let Y : List (ℕ × ℕ) = all_links m h ys in
+    let links_all : links m (suc h) n ≡ X ++ (links m h c ++ Y) = ap (λ (cs : List ℕ). all_links m h cs) e ∙ flat_map-append (λ d. links m h d) xs (c ∷ ys) in
+    let moved : X ++ ((s.before ++ ((lf, s.next) ∷ s.behind)) ++ Y) ≡ (X ++ s.before) ++ ((lf, s.next) ∷ (s.behind ++ Y)) = simp append_assoc in
+    let B : List Pair → Type 0 = λ x. Below k x in
+    let A : List Pair → Type 0 = λ x. AtLeast k x in
+    let left : Below k (chained m X) = subst B (row_chained m h (λ d. items_chained m h d) xs) below in
+    let right : AtLeast k (chained m Y) = subst A (row_chained m h (λ d. items_chained m h d) ys) (Above-AtLeast k (all_items m h ys) above) in
+    record {
+      before = X ++ s.before;
+      behind = s.behind ++ Y;
+      next = s.next;
+      chain = links_all ∙ (ap (λ (ls : List (ℕ × ℕ)). X ++ (ls ++ Y)) s.chain ∙ moved);
+      is_leaf = s.is_leaf;
+      below = subst B (sym (chained-append m X s.before)) (Each-append (λ x. x.0 < k) (chained m X) (chained m s.before) left s.below);
+      above = subst A (sym (chained-append m s.behind Y)) (Each-append (λ x. k ≤ x.0) (chained m s.behind) (chained m Y) s.above right);
+    }
+
+pub record LeafLed (m : Store) (h n k c : ℕ) : Type 0 where
+  pub child : Subtree m h c
+  pub up : (lf : ℕ) → IsLeafFor m h c k lf → IsLeafFor m (suc h) n k lf
+
+pub leaf_led : (m : Store) (h n k c : ℕ) → Subtree m (suc h) n → LeadsTo m n k (Some c) → LeafLed m h n k c
+leaf_led m h n k c s l =
+    let st : InnerStep l.page k c = l.step in
+    let t = at_page m h n k l.page st.count st.at l.read s st.is st.place st.before st.behind in
+    let S : ℕ → Type 0 = λ x. Subtree m h x in
+    record {
+      child = subst S (sym st.child_is) t.descent.child;
+      up = λ lf z.
+          let Z : ℕ → Type 0 = λ x. IsLeafFor m h x k lf in
+          leaf_up m h n k (child_in l.page st.at) lf (take st.at (children_of (node_of l.page))) (drop (st.at + 1) (children_of (node_of l.page))) t.split t.descent.below t.descent.above (subst Z st.child_is z);
+    }
+
+-- what is still wanted behind a leaf
+record GoneOn (m : Store) (t : Tree) (low high lf most on : ℕ) (behind : List (ℕ × ℕ)) (old new : List Pair) : Type 0 where
+  rest : List Pair
+  is : IsRest m t low high on most rest
+  found : old ++ items_between low high (entries_of (node m lf) ++ chained m behind) ≡ new ++ rest
+
+-- no leaf behind one that leads to 0
+last_leaf : (m : Store) (nx : ℕ) (behind : List (ℕ × ℕ)) → Path nx behind 0 → nx ≡ 0 → chained m behind ≡ []
+last_leaf m nx [] p z = refl
+last_leaf m nx (r ∷ rest) p z = absurd (omega (arith, p.1.0, z))
+
+-- the next leaf of the chain
+next_rest : (m : Store) (t : Tree) (low high lf nx most : ℕ) (before behind : List (ℕ × ℕ)) → IsTree m t → links m (t.height - 1) t.root ≡ before ++ ((lf, nx) ∷ behind) → Path nx behind 0 → 1 ≤ nx
+    → length (chained m behind) ≤ most → AtLeast low (chained m behind) → IsRestAt m t low high nx most (items_between low high (chained m behind))
+next_rest m t low high lf nx most before [] tree e p some few least = absurd (omega (arith, p, some))
+next_rest m t low high lf nx most before (r ∷ rest) tree e p some few least =
+    let moved : before ++ ((lf, nx) ∷ (r ∷ rest)) ≡ (before ++ ((lf, nx) ∷ [])) ++ ((r.0, r.1) ∷ rest) = sym (append_assoc before ((lf, nx) ∷ []) (r ∷ rest)) in
+    let R : ℕ → Type 0 = λ x. IsRestAt m t low high x most (items_between low high (chained m (r ∷ rest))) in
+    subst R (sym p.0) (record {
+      before = before ++ ((lf, nx) ∷ []);
+      behind = rest;
+      next = r.1;
+      chain = e ∙ moved;
+      full = next_filled m (t.height - 1) t.root before (lf, nx) r rest tree.at.sound e;
+      few = few;
+      least = least;
+      pairs = refl;
+    })
+
+go_on : (m : Store) (t : Tree) (low high lf nx most on : ℕ) (before behind : List (ℕ × ℕ)) (old new : List Pair) → IsTree m t → links m (t.height - 1) t.root ≡ before ++ ((lf, nx) ∷ behind)
+    → Takes (entries_of (node m lf)) nx low high old new on → Ascending (entries_of (node m lf) ++ chained m behind) → length (chained m behind) ≤ most → AtLeast low (chained m behind) → GoneOn m t low high lf most on behind old new
+go_on m t low high lf nx most on before behind old new tree e takes asc few least =
+    let E : List Pair = entries_of (node m lf) in
+    let C : List Pair = chained m behind in
+    let R : List Pair = items_between low high C in
+    let path = (path_from m t lf nx before behind tree e).1 in
+    record {
+      rest = R;
+      is = record {
+        none = λ z. elim (takes.ends z) [
+          | inl n ↦ ap (λ (x : List Pair). items_between low high x) (last_leaf m nx behind path n)
+          | inr s ↦ between-AtLeast low high C least (behind_high high E C asc s)
+        ];
+        here = λ l.
+            let g = takes.goes l in
+            let W : ℕ → Type 0 = λ x. IsRestAt m t low high x most R in
+            subst W (sym g.0) (next_rest m t low high lf nx most before behind tree e path (omega (arith, l, g.0)) few least);
+      };
+      found = ap (λ (x : List Pair). old ++ x) (between-append low high E C) ∙ (sym (append_assoc old (items_between low high E) R) ∙ ap (λ (x : List Pair). x ++ R) (sym takes.taken));
+    }
+
+-- the pairs of a tree from a leaf on
+chain_items : (m : Store) (t : Tree) (lf nx : ℕ) (before behind : List (ℕ × ℕ)) → links m (t.height - 1) t.root ≡ before ++ ((lf, nx) ∷ behind) → tree_items m t ≡ chained m before ++ (entries_of (node m lf) ++ chained m behind)
+chain_items m t lf nx before behind e = items_chained m (t.height - 1) t.root ∙ (ap (λ (ls : List (ℕ × ℕ)). chained m ls) e ∙ chained-append m before ((lf, nx) ∷ behind))
+
+chain_ascends : (m : Store) (t : Tree) (lf nx : ℕ) (before behind : List (ℕ × ℕ)) → IsTree m t → links m (t.height - 1) t.root ≡ before ++ ((lf, nx) ∷ behind) → Ascending (entries_of (node m lf) ++ chained m behind)
+chain_ascends m t lf nx before behind tree e =
+    let A : List Pair → Type 0 = λ x. Ascending x in
+    Ascending-right (chained m before) (entries_of (node m lf) ++ chained m behind) (subst A (chain_items m t lf nx before behind e) tree.at.ascending)
+
+-- what a leaf of the chain gave, by its node
+taken_there : (m : Store) (t : Tree) (low high lf nx on : ℕ) (before behind : List (ℕ × ℕ)) (old new : List Pair) → IsTree m t → links m (t.height - 1) t.root ≡ before ++ ((lf, nx) ∷ behind)
+    → node m lf ≡ leaf (entries_of (node m lf)) (next_of (node m lf)) → IsTakenIn m lf low high old new on → Takes (entries_of (node m lf)) nx low high old new on
+taken_there m t low high lf nx on before behind old new tree e is_leaf i =
+    let hh : node m lf ≡ node_of i.page = here m lf i.page i.read in
+    let L : Node → Type 0 = λ o. o ≡ leaf (entries_of o) (next_of o) in
+    let A : Node → Type 0 = λ o. Ascending (entries_of o) in
+    let asc : Ascending (entries_of (node m lf)) = Ascending-left (entries_of (node m lf)) (chained m behind) (chain_ascends m t lf nx before behind tree e) in
+    let G : Node → Type 0 = λ o. Takes (entries_of o) (next_of o) low high old new on in
+    let N : ℕ → Type 0 = λ x. Takes (entries_of (node m lf)) x low high old new on in
+    subst N (sym (next_is m (t.height - 1) t.root lf nx before behind e)) (subst G (sym hh) (i.step (subst L hh is_leaf) (subst A hh asc)))
+
+-- The first leaf of a range: what is still wanted behind it.
+pub record FirstTaken (m : Store) (t : Tree) (low high on : ℕ) (old new : List Pair) : Type 0 where
+  pub rest : List Pair
+  pub is : IsRest m t low high on t.entries rest
+  pub found : old ++ items_between low high (tree_items m t) ≡ new ++ rest
+  pub fewer : length rest ≤ length (items_between low high (tree_items m t))
+
+pub first_taken : (m : Store) (t : Tree) (low high lf on : ℕ) (old new : List Pair) → IsTree m t → IsLeafFor m (t.height - 1) t.root low lf → IsTakenIn m lf low high old new on → FirstTaken m t low high on old new
+first_taken m t low high lf on old new tree w i =
+    let E : List Pair = entries_of (node m lf) in
+    let C : List Pair = chained m w.behind in
+    let B : List Pair = chained m w.before in
+    let all : tree_items m t ≡ B ++ (E ++ C) = chain_items m t lf w.next w.before w.behind w.chain in
+    let few : length C ≤ t.entries = omega (arith, tree.at.counted, ap (λ (x : List Pair). length x) all, length-append B (E ++ C), length-append E C) in
+    let takes = taken_there m t low high lf w.next on w.before w.behind old new tree w.chain w.is_leaf i in
+    let g = go_on m t low high lf w.next t.entries on w.before w.behind old new tree w.chain takes (chain_ascends m t lf w.next w.before w.behind tree w.chain) few w.above in
+    let none : items_between low high B ≡ [] = ap (λ (x : List Pair). items_below high x) (from-Below low B w.below) in
+    let wanted : items_between low high (tree_items m t) ≡ items_between low high (E ++ C) =
+    ap (λ (x : List Pair). items_between low high x) all ∙ (between-append low high B (E ++ C) ∙ ap (λ (x : List Pair). x ++ items_between low high (E ++ C)) none) in
+    let found : old ++ items_between low high (tree_items m t) ≡ new ++ g.rest = ap (λ (x : List Pair). old ++ x) wanted ∙ g.found in
+    record {
+      rest = g.rest;
+      is = g.is;
+      found = found;
+      fewer = omega (arith, ap (λ (x : List Pair). length x) found, length-append old (items_between low high (tree_items m t)), length-append new g.rest, ap (λ (x : List Pair). length x) takes.taken, length-append old (items_between low high E));
+    }
+
+-- A further leaf of the range: it gave all that it has, or it is the last.
+record TakenOn (m : Store) (t : Tree) (low high left on : ℕ) (old new want : List Pair) : Type 0 where
+  rest : List Pair
+  is : IsRest m t low high on left rest
+  found : old ++ want ≡ new ++ rest
+  fewer : length rest ≤ length want
+  full : 1 ≤ on → 63 + length rest ≤ length want
+
+taken_on : (m : Store) (t : Tree) (low high lf left on : ℕ) (old new want : List Pair) → IsTree m t → IsRestAt m t low high lf left want → IsTakenIn m lf low high old new on → TakenOn m t low high (left - 1) on old new want
+taken_on m t low high lf left on old new want tree w i =
+    let E : List Pair = entries_of (node m lf) in
+    let C : List Pair = chained m w.behind in
+    let lengths : length (E ++ C) ≡ length E + length C = length-append E C in
+    let few : length C ≤ left - 1 = omega (arith, lengths, w.few, w.full) in
+    let takes = taken_there m t low high lf w.next on w.before w.behind old new tree w.chain (leaf_by (node m lf) (omega (arith, w.full))) i in
+    let g = go_on m t low high lf w.next (left - 1) on w.before w.behind old new tree w.chain takes (chain_ascends m t lf w.next w.before w.behind tree w.chain) few (Each-right (λ x. low ≤ x.0) E C w.least) in
+    let found : old ++ want ≡ new ++ g.rest = ap (λ (x : List Pair). old ++ x) w.pairs ∙ g.found in
+    let sizes : length want ≡ length (items_between low high E) + length g.rest =
+    omega (arith, ap (λ (x : List Pair). length x) found, length-append old want, length-append new g.rest, ap (λ (x : List Pair). length x) takes.taken, length-append old (items_between low high E)) in
+    record {
+      rest = g.rest;
+      is = g.is;
+      found = found;
+      fewer = omega (arith, sizes);
+      full = λ l.
+          let all : items_between low high E ≡ E = between_all low high E (left_least low E C w.least) (takes.goes l).1 in
+          omega (arith, sizes, ap (λ (x : List Pair). length x) all, w.full);
+    }
+  where
+    left_least : (k : ℕ) (xs ys : List Pair) → AtLeast k (xs ++ ys) → AtLeast k xs
+    left_least k [] ys h = tt
+    left_least k (x ∷ xs) ys h = (h.0, left_least k xs ys h.1)
+
+-- all is still wanted
+pub part_begun : (m : Store) (t : Tree) (low high lf most : ℕ) (old want : List Pair) (gets : ℕ) → IsRest m t low high lf most want → IsPartDone m t low high lf most old want old gets gets
+part_begun m t low high lf most old want gets is = record { rest = want; on = is; found = refl; price = omega arith; tight = λ l. omega arith }
+
+-- one leaf more
+pub part_on : (m : Store) (t : Tree) (low high lf left on : ℕ) (old want mid new : List Pair) (before now then : ℕ) → IsTree m t → 1 ≤ lf → IsPartDone m t low high lf left old want mid before now → IsTakenIn m lf low high mid new on → then ≤ now + 1
+    → IsPartDone m t low high on (left - 1) old want new before then
+part_on m t low high lf left on old want mid new before now then tree l d i more =
+    let k = taken_on m t low high lf left on mid new d.rest tree (d.on.here l) i in
+    record {
+      rest = k.rest;
+      on = k.is;
+      found = d.found ∙ k.found;
+      price = omega (arith, d.tight l, k.fewer, more);
+      tight = λ o. omega (arith, d.tight l, k.full o, more);
+    }
+
+-- nothing is left
+pub part_over : (m : Store) (t : Tree) (low high lf left : ℕ) (old want new : List Pair) (before now : ℕ) → lf ≡ 0 → IsPartDone m t low high lf left old want new before now → new ≡ old ++ want
+part_over m t low high lf left old want new before now z d = sym (d.found ∙ (ap (λ (x : List Pair). new ++ x) (d.on.none z) ∙ append-nil new))
+
+-- where no leaf is left, none is wanted
+pub part_last : (m : Store) (t : Tree) (low high lf left : ℕ) (old want new : List Pair) (before now : ℕ) → left ≡ 0 → IsPartDone m t low high lf left old want new before now → lf ≡ 0
+part_last m t low high lf left old want new before now z d = elim (leb_tells 1 lf) [
+  | inl l ↦
+      let w = d.on.here l.1 in
+      absurd (omega (arith, z, w.few, w.full, length-append (entries_of (node m lf)) (chained m w.behind)))
+  | inr l ↦ omega (arith, l.1)
+]
+
+-- the gets of a range
+pub part_price : (m : Store) (t : Tree) (low high lf left : ℕ) (old want new : List Pair) (before now : ℕ) → IsPartDone m t low high lf left old want new before now → now ≤ before + (1 + length want / 63)
+part_price m t low high lf left old want new before now d = omega (arith, d.price)
+
+-- those of a leaf that was refused
+pub part_failed : (m : Store) (t : Tree) (low high lf left : ℕ) (old want new : List Pair) (before now then : ℕ) → 1 ≤ lf → IsPartDone m t low high lf left old want new before now → then ≤ now + 1 → then ≤ before + (1 + length want / 63)
+part_failed m t low high lf left old want new before now then l d more = omega (arith, d.tight l, more)
+
+-- no entry is left to add
+pub add_done : (es old all : List Pair) (at to : ℕ) → to ≤ at → old ++ take (to - at) (drop at es) ≡ all → old ≡ all
+add_done es old all at to l so_far =
+    let none : to - at ≡ 0 = omega (arith, l) in
+    sym (append-nil old) ∙ (ap (λ (i : ℕ). old ++ take i (drop at es)) (sym none) ∙ so_far)
+
+-- gets of a descent, of a first leaf and of those behind it
+pub price_all : (a b d e h r n : ℕ) → 1 ≤ h → b ≤ a + (h - 1) → d ≤ b + 1 → e ≤ d + (1 + r / 63) → r ≤ n → e ≤ a + ((h + 1) + n / 63)
+price_all a b d e h r n one x y z l = omega (arith, one, x, y, z, l)
+
+-- gets after gets, some of which may be none
+pub peeks_on : {T U : Type 0} (a b c : PoolState) (k l : ℕ) (x : T) (r : Result U PageFault) → Peeks a b k (Ok x) → Peeks b c l r → Peeks a c (k + l) r
+peeks_on a b c k l x r g h = record {
+  read = IsRead-trans a b c g.read h.read;
+  within = omega (arith, g.within, h.within);
+  up = omega (arith, g.up, h.up);
+  cause = HasPageCause-before a b c r g.cause.counted h.cause;
+}
+
+pub peeks_more : {T : Type 0} (a b : PoolState) (k l : ℕ) (r : Result T PageFault) → k ≤ l → Peeks a b k r → Peeks a b l r
+peeks_more a b k l r h g = record { read = g.read; within = omega (arith, g.within, h); up = g.up; cause = g.cause }
+
+-- one answer for another
+pub peeks_given : {T U : Type 0} (a b : PoolState) (k : ℕ) (x : T) (y : U) → Peeks a b k (Ok x) → Peeks a b k (Ok y)
+peeks_given a b k x y g = record { read = g.read; within = g.within; up = g.up; cause = HasPageCause-done a b y g.cause.counted }

@@ -1,0 +1,145 @@
+ghost use Rattle.std.specs.Prelude.{◌≡◌, ◌+◌, ◌-◌, ◌/◌, ◌≤◌, ◌++◌, List, length, take, drop, IfOk, OnOk};
+ghost use Rattle.page_pool.specs.Pool.{IsTold};
+ghost use Rattle.code_btree.specs.Node.{Pair, IsLeafOf, node_of, entries_of, next_of};
+ghost use Rattle.code_btree.specs.Items.{Ascending};
+ghost use Rattle.code_btree.specs.Tree.{IsTree, pages_in, tree_items};
+ghost use Rattle.code_btree.specs.Steps.{Subtree};
+ghost use Rattle.code_btree.specs.Between.{items_between, Takes, IsTakenIn, IsLeafFor, IsRest};
+ghost use Rattle.code_btree.specs.Calls.{Looks, Peeks};
+
+use crate::Tree;
+use crate::bytes::Page;
+use crate::leaf::{entry_key_at, entry_value_at, leaf_count, next_at, rank};
+use crate::look::child_for;
+use page_pool::{PageFault, Pages};
+use sand_base::NoMemory;
+use std::alloc::Global;
+
+// Adds the entries of a leaf from one place to another.
+fn add_entries(
+    found: &mut Vec<(u128, u128)>,
+    page: &Page,
+    count: usize,
+    from: usize,
+    to: usize,
+) -> Result<(), NoMemory>
+    requires leaf { IsLeafOf page.now count }
+    requires within { to ≤ count }
+    ensures { OnOk result (found.new.items ≡ found.old.items ++ take (to - from) (drop from (entries_of (node_of page.now)))) }
+{
+    found.reserve(to.saturating_sub(from))?;
+    let mut at = from;
+    'entries: while at < to {
+        found.push_reserved((entry_key_at(page, at), entry_value_at(page, at)));
+        at += 1;
+    }
+    Ok(())
+}
+
+// Takes the pairs of a leaf from `low` on and below `high`, and gives the leaf that follows; or 0, where an entry is
+// at `high` or behind it.
+fn take_page(
+    found: &mut Vec<(u128, u128)>,
+    page: &Page,
+    count: usize,
+    low: u128,
+    high: u128,
+) -> Result<u64, NoMemory>
+    requires { IsLeafOf page.now count }
+    ensures { IfOk result (λ next. Ascending (entries_of (node_of page.now)) → Takes (entries_of (node_of page.now)) (next_of (node_of page.now)) low high found.old.items found.new.items next) }
+{
+    let from = rank(page, count, low);
+    let to = rank(page, count, high);
+    add_entries(found, page, count, from, to)?;
+    if to < count {
+        return Ok(0);
+    }
+    Ok(next_at(page))
+}
+
+// Takes the pairs of leaf `n` from `low` on and below `high`, and gives the leaf that follows: one get.
+fn take_leaf<P: Pages>(
+    pages: &mut P,
+    n: u64,
+    low: u128,
+    high: u128,
+    found: &mut Vec<(u128, u128)>,
+) -> Result<u64, PageFault>
+    ensures value { IfOk result (λ next. IsTold (P.shown pages.old) → IsTakenIn (pages_in (P.shown pages.old)) n low high found.old.items found.new.items next) }
+    ensures looks { Looks (P.shown pages.old) (P.shown pages.new) 1 result }
+{
+    let page = pages.live_page(n)?;
+    let Some(count) = leaf_count(page) else {
+        return Ok(0);
+    };
+    let next = take_page(found, page, count, low, high)?;
+    Ok(next)
+}
+
+// The leaf under page `n` to which a key belongs: one get for each level above it.
+fn leaf_for<P: Pages>(pages: &mut P, level: u32, n: u64, key: u128) -> Result<u64, PageFault>
+    requires { IsTold (P.shown pages.old) → Subtree (pages_in (P.shown pages.old)) level n }
+    ensures value { IfOk result (λ leaf. IsTold (P.shown pages.old) → IsLeafFor (pages_in (P.shown pages.old)) level n key leaf) }
+    ensures peeks { Peeks (P.shown pages.old) (P.shown pages.new) level result }
+{
+    if level == 0 {
+        return Ok(n);
+    }
+    let Some(child) = child_for(pages, n, key)? else {
+        return Ok(0);
+    };
+    let leaf = leaf_for(pages, level - 1, child, key)?;
+    Ok(leaf)
+}
+
+// Takes the pairs of a range from a leaf on, one get for each leaf. A tree has no more leaves than entries.
+fn take_on<P: Pages>(
+    pages: &mut P,
+    tree: Tree,
+    first: u64,
+    low: u128,
+    high: u128,
+    found: &mut Vec<(u128, u128)>,
+) -> Result<(), PageFault>
+    requires { IsTold (P.shown pages.old) → IsTree (pages_in (P.shown pages.old)) tree }
+    ensures value { OnOk result (IsTold (P.shown pages.old) → (want : List Pair) → IsRest (pages_in (P.shown pages.old)) tree low high first tree.entries want → found.new.items ≡ found.old.items ++ want) }
+    ensures peeks { Peeks (P.shown pages.old) (P.shown pages.new) tree.entries result }
+    ensures price { IsTold (P.shown pages.old) → (want : List Pair) → IsRest (pages_in (P.shown pages.old)) tree low high first tree.entries want → (P.shown pages.new).gets ≤ (P.shown pages.old).gets + (1 + length want / 63) }
+{
+    let mut leaf = first;
+    let mut left = tree.entries;
+    'leaves: while left > 0 {
+        if leaf == 0 {
+            return Ok(());
+        }
+        leaf = take_leaf(pages, leaf, low, high, found)?;
+        left -= 1;
+    }
+    Ok(())
+}
+
+impl Tree {
+    /// The pairs from `low` on and below `high`, in ascending order. Each leaf is read by one get: a range of n pairs
+    /// takes a descent, one get more and another for each 63 pairs at most.
+    pub fn between<P: Pages>(
+        &self,
+        alloc: Global,
+        pages: &mut P,
+        low: u128,
+        high: u128,
+    ) -> Result<Vec<(u128, u128)>, PageFault>
+        requires { IsTold (P.shown pages.old) → IsTree (pages_in (P.shown pages.old)) self.now }
+        ensures value { IfOk result (λ found. IsTold (P.shown pages.old) → found.items ≡ items_between low high (tree_items (pages_in (P.shown pages.old)) self.now)) }
+        ensures looks { Looks (P.shown pages.old) (P.shown pages.new) (self.now.height + self.now.entries) result }
+        ensures price { IsTold (P.shown pages.old) → (P.shown pages.new).gets ≤ (P.shown pages.old).gets + (self.now.height + 1 + length (items_between low high (tree_items (pages_in (P.shown pages.old)) self.now)) / 63) }
+    {
+        if self.height == 0 {
+            return Err(PageFault::Memory);
+        }
+        let mut found = Vec::new(alloc);
+        let leaf = leaf_for(pages, self.height - 1, self.root, low)?;
+        let next = take_leaf(pages, leaf, low, high, &mut found)?;
+        take_on(pages, *self, next, low, high, &mut found)?;
+        Ok(found)
+    }
+}
