@@ -12,15 +12,15 @@ use Rattle.z_code.specs.declared.block.Block.{Block}
 use Rattle.z_code.proofs.Blocks.{same_block}
 use Rattle.sand_model.specs.Tree.{Tree, Leaf, Inner, places, root_block, IsPlace}
 use Rattle.pmr_tree.specs.Lists.{Each}
-use Rattle.pmr_tree.specs.Keys.{key_of, mark_of, leaf_keys, keys, IsId, IsShaped, id_in, ids_in}
-use Rattle.pmr_tree.specs.Leaves.{Pair, firsts, own_pairs, IsAlone, last_key, level_in, ids_at}
+use Rattle.pmr_tree.specs.Keys.{key_of, leaf_keys, keys, IsId, IsShaped, id_in, ids_in}
+use Rattle.pmr_tree.specs.Leaves.{Pair, firsts, own_pairs, last_key, level_in, ids_at}
 use Rattle.pmr_tree.specs.Quadtree.{entries_at, keys_at, tree_at, IsPmr}
 use Rattle.pmr_tree.specs.declared.quadtree.Pmr.{Pmr}
 use Rattle.pmr_tree.proofs.Orders.{each_map, each_append}
 use Rattle.pmr_tree.proofs.KeyLists.{Lies, keys_lie, child_before}
 use Rattle.pmr_tree.proofs.Quarter.{quarter_count, child_block}
 use Rattle.pmr_tree.proofs.Entries.{ids_leaf}
-use Rattle.pmr_tree.proofs.Looked.{alone, own_of}
+use Rattle.pmr_tree.proofs.Looked.{own_of}
 use Rattle.pmr_tree.proofs.Places.{place_reads}
 use Rattle.pmr_tree.proofs.TreeAt.{pmr_reads}
 
@@ -266,7 +266,7 @@ map_firsts (e ∷ es) = ap (λ t. id_in e.0 ∷ t) (map_firsts es)
 -- the block of that level with the code is a leaf, and its own entries have its ids
 pub found_leaf : (pages : PageMap) (t : Pmr) (z key : ℕ) (found : Option Pair) (b : Block) (pairs : List Pair) (ids : List ℕ) → IsPmr pages t → z < 2 ^ (2 * COORDINATE_BITS)
     → key ≡ last_key z → found ≡ floor_item key (entries_at pages t) → IsBlock b → HasCode b z → b.level ≡ level_in found
-    → (IsAlone (mark_of b) (own_pairs b (entries_at pages t)) → pairs ≡ own_pairs b (entries_at pages t)) → ids ≡ ids_at pairs → IsPlace (tree_at pages t) b (Leaf ids)
+    → pairs ≡ own_pairs b (entries_at pages t) → ids ≡ ids_at pairs → IsPlace (tree_at pages t) b (Leaf ids)
 found_leaf pages t z key found b pairs ids h small key_is is isb code level own_is ids_is =
     let l = leaf_of z root_block (tree_at pages t) root_is_block (root_code z small) h.shaped in
     let f = floor_of (last_key z) (key_of l.block l.id) l.last.before l.last.behind (entries_at pages t) (h.keys ∙ l.last.is) l.last.below l.last.at l.last.above in
@@ -276,7 +276,7 @@ found_leaf pages t z key found b pairs ids h small key_is is isb code level own_
     let place : IsPlace (tree_at pages t) b (Leaf l.ids) = subst (λ x. IsPlace (tree_at pages t) x (Leaf l.ids)) (sym same) l.place in
     let r = place_reads root_block (keys_at pages t) (tree_at pages t) (pmr_reads pages t h) b (Leaf l.ids) place in
     let listed : ids ≡ l.ids = ids_is
-    ∙ ap ids_at (own_is (alone b (entries_at pages t) (Leaf l.ids) r))
+    ∙ ap ids_at own_is
     ∙ ap (filter (λ i. not (nat_eq i 0))) (map_firsts (own_pairs b (entries_at pages t)))
     ∙ ap ids_in (own_of b (entries_at pages t) l.ids r)
     ∙ ids_leaf b l.ids r.shaped.1.1 in

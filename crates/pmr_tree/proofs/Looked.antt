@@ -1,5 +1,5 @@
 -- What the own entries of a block say of its place.
-use Rattle.std.proofs.Common.{◌≡◌, ℕ, zero, suc, ◌+◌, ◌*◌, ◌^◌, ◌<◌, ◌≤◌, Bool, true, false, cond, not, ◌&&◌, List, [], ◌∷◌, length, map, refl, sym, ◌∙◌, ap, subst, arith}
+use Rattle.std.proofs.Common.{◌≡◌, ℕ, zero, suc, ◌+◌, ◌*◌, ◌/◌, ◌^◌, ◌<◌, ◌≤◌, Bool, true, false, cond, not, ◌&&◌, List, [], ◌∷◌, length, map, refl, sym, ◌∙◌, ap, subst, arith}
 use Rattle.std.specs.Prelude.{filter, nat_eq, nat_lt, All}
 use Rattle.std.proofs.lemmas.Bool.Decides.{nat_tests}
 use Rattle.std.proofs.lemmas.List.Elements.{All-nil, All-cons}
@@ -14,8 +14,8 @@ use Rattle.sand_model.specs.Tree.{Tree, Leaf, Inner, root_block, IsPlace}
 use Rattle.pmr_tree.specs.Lists.{Each}
 use Rattle.pmr_tree.specs.Keys.{key_of, mark_of, leaf_keys, IsId, Reads, id_in, ids_in}
 use Rattle.pmr_tree.specs.Entries.{value_of, figure_of, IsRoughInPlane, listed_of, IsNodeOf, id_count, KeepsIn}
-use Rattle.pmr_tree.specs.Leaves.{Pair, firsts, own_pairs, IsAlone, steps_on, rough_in, listed_in, node_in}
-use Rattle.pmr_tree.specs.Quadtree.{entries_at, keys_at, tree_at, IsPmr, HasPlace}
+use Rattle.pmr_tree.specs.Leaves.{Pair, firsts, own_pairs, rough_in, listed_in, node_in}
+use Rattle.pmr_tree.specs.Quadtree.{entries_at, keys_at, tree_at, IsPmr}
 use Rattle.pmr_tree.specs.Calls.{Finds, HasRoughs, IsFoundInRange}
 use Rattle.pmr_tree.specs.declared.listed.Listed.{Listed}
 use Rattle.pmr_tree.specs.declared.listed.Node.{Node}
@@ -50,38 +50,20 @@ length_map : (b : Block) (ids : List ℕ) → length (map (key_of b) ids) ≡ le
 length_map b [] = refl
 length_map b (id ∷ ids) = ap suc (length_map b ids)
 
--- the mark of an empty leaf stands alone
-alone_leaf : (b : Block) (ids : List ℕ) (xs : List Pair) → Each IsId ids → firsts xs ≡ leaf_keys b ids → IsAlone (mark_of b) xs
-alone_leaf b ids [] i h = tt
-alone_leaf b [] (x ∷ xs) i h = λ e. nil_of xs (tail_of x xs (mark_of b) [] h).1
-alone_leaf b (id ∷ ids) (x ∷ xs) i h = λ e. (let first = (tail_of x xs (key_of b id) (map (key_of b) ids) h).0 in absurd (omega (arith, first, e, i.0.above_mark)))
-
-pub alone : (b : Block) (es : List Pair) (place : Tree) → Reads b (firsts es) place → IsAlone (mark_of b) (own_pairs b es)
-alone b es (Leaf ids) r = alone_leaf b ids (own_pairs b es) r.shaped.1.1 (own_of b es ids r)
-alone b es (Inner p q u v) r = subst (IsAlone (mark_of b)) (sym (none_of b es p q u v r)) tt
-
 -- a visit's price
-few_steps : (mark : ℕ) (xs : List Pair) → steps_on mark xs ≤ length xs
-few_steps mark [] = omega arith
-few_steps mark (x ∷ xs) = elim (test (nat_eq x.0 mark)) [ holds h ↦ rw h (omega arith) | fails h ↦ rw h (omega arith) ]
-
-mark_steps : (mark : ℕ) (xs : List Pair) → firsts xs ≡ mark ∷ [] → steps_on mark xs ≡ 0
-mark_steps mark [] h = refl
-mark_steps mark (x ∷ xs) h = (let first = (tail_of x xs mark [] h).0 in let same : nat_eq x.0 mark ≡ true = is_same x.0 mark first in rw same refl) where
-  is_same : (a c : ℕ) → a ≡ c → nat_eq a c ≡ true
-  is_same a c e = grind (arith, nat_tests)
-
 leaf_price : (h n s : ℕ) → s ≤ suc n → (suc h + 1) + s ≤ suc h * (suc n + 2)
 leaf_price h n s l = omega (arith, l)
 
-pub price : (b : Block) (es : List Pair) (place : Tree) (height : ℕ) → 1 ≤ height → Reads b (firsts es) place → (height + 1) + steps_on (mark_of b) (own_pairs b es) ≤ block_price height (id_count place)
+pub price : (b : Block) (es : List Pair) (place : Tree) (height : ℕ) → 1 ≤ height → Reads b (firsts es) place → (height + 1) + length (own_pairs b es) / 63 ≤ block_price height (id_count place)
 price b es place zero some r = absurd (omega (arith, some))
-price b es (Leaf []) (suc h) some r = omega (arith, mark_steps (mark_of b) (own_pairs b es) (own_of b es [] r))
+price b es (Leaf []) (suc h) some r =
+    let one : length (own_pairs b es) ≡ 1 = sym (length_firsts (own_pairs b es)) ∙ ap length (own_of b es [] r) in
+    omega (arith, one)
 price b es (Leaf (id ∷ ids)) (suc h) some r =
     let keys : length (own_pairs b es) ≡ suc (length ids) = sym (length_firsts (own_pairs b es)) ∙ ap length (own_of b es (id ∷ ids) r) ∙ length_map b (id ∷ ids) in
-    leaf_price h (length ids) (steps_on (mark_of b) (own_pairs b es)) (omega (arith, keys, few_steps (mark_of b) (own_pairs b es)))
+    leaf_price h (length ids) (length (own_pairs b es) / 63) (omega (arith, keys))
 price b es (Inner p q u v) (suc h) some r =
-    let none : steps_on (mark_of b) (own_pairs b es) ≡ 0 = ap (steps_on (mark_of b)) (none_of b es p q u v r) in
+    let none : length (own_pairs b es) ≡ 0 = ap length (none_of b es p q u v r) in
     omega (arith, none)
 
 -- the ids that are listed
@@ -176,20 +158,19 @@ node_roughs b all es h = go (nat_eq (length es) 0 && nat_lt b.level COORDINATE_B
   go false = each es h
 
 -- the same of a quadtree in pages
-pub looked : (pages : PageMap) (t : Pmr) (b : Block) (pairs : List Pair) (found : Node) → IsPmr pages t → (IsAlone (mark_of b) (own_pairs b (entries_at pages t)) → pairs ≡ own_pairs b (entries_at pages t)) → found ≡ node_in b pairs → Finds (tree_at pages t) b found
+pub looked : (pages : PageMap) (t : Pmr) (b : Block) (pairs : List Pair) (found : Node) → IsPmr pages t → pairs ≡ own_pairs b (entries_at pages t) → found ≡ node_in b pairs → Finds (tree_at pages t) b found
 looked pages t b pairs found h is e = λ place at.
     let r = place_reads root_block (keys_at pages t) (tree_at pages t) (pmr_reads pages t h) b place at in
-    subst (IsNodeOf place) (sym (e ∙ ap (node_in b) (is (alone b (entries_at pages t) place r)))) (node_of b (entries_at pages t) place r)
+    subst (IsNodeOf place) (sym (e ∙ ap (node_in b) is)) (node_of b (entries_at pages t) place r)
 
-pub looked_roughs : (pages : PageMap) (t : Pmr) (b : Block) (pairs : List Pair) (found : Node) → IsPmr pages t → HasPlace (tree_at pages t) b → (IsAlone (mark_of b) (own_pairs b (entries_at pages t)) → pairs ≡ own_pairs b (entries_at pages t)) → found ≡ node_in b pairs → HasRoughs pages t found
-looked_roughs pages t b pairs found h place is e =
+pub looked_roughs : (pages : PageMap) (t : Pmr) (b : Block) (pairs : List Pair) (found : Node) → pairs ≡ own_pairs b (entries_at pages t) → found ≡ node_in b pairs → HasRoughs pages t found
+looked_roughs pages t b pairs found is e =
     let es = entries_at pages t in
-    let r = place_reads root_block (keys_at pages t) (tree_at pages t) (pmr_reads pages t h) b place.0 place.1 in
-    subst (HasRoughs pages t) (sym (e ∙ ap (node_in b) (is (alone b es place.0 r))))
+    subst (HasRoughs pages t) (sym (e ∙ ap (node_in b) is))
     (node_roughs b es (own_pairs b es) (each_filter (λ e. (id : ℕ) (s : Shape) → KeepsIn es id s → id_in e.0 ≡ id → e.1 ≡ value_of (rough_figure s)) (λ e. Rattle.pmr_tree.specs.Lists.is_between (mark_of b) (mark_of b + 2 ^ 32) e.0) es (each_keeps es)))
 
 pub looked_price : (pages : PageMap) (t : Pmr) (b : Block) (place : Tree) (old new : ℕ) → IsPmr pages t → 1 ≤ t.map.height → IsPlace (tree_at pages t) b place
-    → new ≤ old + ((t.map.height + 1) + steps_on (mark_of b) (own_pairs b (entries_at pages t))) → new ≤ old + block_price t.map.height (id_count place)
+    → new ≤ old + ((t.map.height + 1) + length (own_pairs b (entries_at pages t)) / 63) → new ≤ old + block_price t.map.height (id_count place)
 looked_price pages t b place old new h some at l =
     let r = place_reads root_block (keys_at pages t) (tree_at pages t) (pmr_reads pages t h) b place at in
     let p = price b (entries_at pages t) place t.map.height some r in

@@ -1,5 +1,5 @@
 -- The ids of a leaf with their values, as code reads and writes them; how a call ended.
-use Rattle.std.specs.Prelude.{◌≡◌, ◌≢◌, ℕ, ◌+◌, ◌-◌, ◌*◌, ◌/◌, ◌%◌, ◌≤◌, ◌^◌, Bool, true, cond, ◌&&◌, List, [], ◌∷◌, length, map, filter, not, nat_eq, nat_lt, min, max, Option, None, Some, Result, Ok, Err}
+use Rattle.std.specs.Prelude.{◌≡◌, ◌≢◌, ℕ, ◌+◌, ◌-◌, ◌*◌, ◌/◌, ◌%◌, ◌≤◌, ◌^◌, Bool, true, cond, ◌&&◌, List, [], length, map, filter, not, nat_eq, nat_lt, min, max, Option, None, Some, Result, Ok, Err}
 use Rattle.sand_base.specs.declared.TheConstants.{COORDINATE_BITS}
 use Rattle.sand_base.specs.declared.point.Point.{Point}
 use Rattle.sand_base.specs.declared.rect.Rect.{Rect}
@@ -62,16 +62,6 @@ pub record Told (Tells : (Block → ℕ → Bool) → (ℕ → Bool) → Type 0)
 abbrev pub fault_of : {T E : Type 0} → Result T E → Option E
 fault_of (Ok x) = None
 fault_of (Err e) = Some e
-
--- the mark of an empty leaf has nothing behind it
-abbrev pub IsAlone : ℕ → List Pair → Type 0
-IsAlone mark [] = Unit {0}
-IsAlone mark (e ∷ more) = e.0 ≡ mark → more ≡ []
-
--- how many steps behind the first one read a block's own entries: none where they begin with its mark
-abbrev pub steps_on : ℕ → List Pair → ℕ
-steps_on mark [] = 0
-steps_on mark (e ∷ more) = cond (nat_eq e.0 mark) 0 (length (e ∷ more))
 
 -- a coordinate of the plane in a value, from this bit on
 abbrev pub coordinate_in : ℕ → ℕ → ℕ

@@ -15,4 +15,4 @@ returns-clause-leaf g c = λ told.
     let own = own_pairs b (entries_at a.pages c.args.tree) in
     leaf_in root_block (tree_at a.pages c.args.tree) b (ids_at own)
     (found_leaf a.pages c.args.tree c.args.z c.last_key.result c.in_ok-found.found b own (ids_at own) (c.requires.tree told) c.requires.code
-    c.last_key.ensures (c.in_ok-found.ensures.value told) c.block_with.ensures.block c.block_with.ensures.code (c.block_with.ensures.level ∙ c.level_in.ensures.value) (λ alone. refl) refl)
+    c.last_key.ensures (c.in_ok-found.ensures.value told) c.block_with.ensures.block c.block_with.ensures.code (c.block_with.ensures.level ∙ c.level_in.ensures.value) refl refl)

@@ -3,8 +3,7 @@ use Rattle.std.proofs.Common.{◌≡◌, ◌∙◌, ap, sym, subst}
 use Rattle.page_pool.specs.Pool.{PoolState}
 use Rattle.code_btree.specs.Tree.{Store, IsTree, tree_items}
 use Rattle.code_btree.proofs.Stores.{same_store}
-use Rattle.pmr_tree.specs.Keys.{mark_of}
-use Rattle.pmr_tree.specs.Leaves.{own_pairs, IsAlone, ids_at}
+use Rattle.pmr_tree.specs.Leaves.{own_pairs, ids_at}
 use Rattle.pmr_tree.proofs.LeafOfCode.{found_leaf}
 use Rattle.pmr_tree.proofs.quadtree.Pmr.leaf_at.Goals as goal
 
@@ -22,7 +21,7 @@ returns-clause-leaf g c = λ told.
     let m : PoolState = g.P.Pages.shown c.floor.new.pages in
     let read = c.in_ok-found.ensures.looks.read in
     let b = c.block_with-block.result in
-    let Owns : Store → Type 0 = λ s. IsAlone (mark_of b) (own_pairs b (tree_items s c.args.self.now.map)) → c.in_ok-pairs.pairs.items ≡ own_pairs b (tree_items s c.args.self.now.map) in
+    let Owns : Store → Type 0 = λ s. c.in_ok-pairs.pairs.items ≡ own_pairs b (tree_items s c.args.self.now.map) in
     found_leaf a.pages c.args.self.now c.args.z c.last_key.result c.in_ok-found.found b c.in_ok-pairs.pairs.items c.new.result (c.requires.tree told) c.requires.code
     c.last_key.ensures (c.in_ok-found.ensures.value told)
     c.block_with-block.ensures.block c.block_with-block.ensures.code (c.block_with-block.ensures.level ∙ c.level_in.ensures.value)

@@ -21,7 +21,7 @@ returns-clause-place g c = λ told.
 
 pub returns-clause-roughs : goal.returns-clause-roughs
 returns-clause-roughs g c = λ told.
-    looked_roughs (g.P.Pages.shown c.args.pages.now).pages c.args.self.now c.args.block c.in_ok-pairs.pairs.items c.in_ok-node.node (c.requires.tree told) (c.requires.place told) (c.in_ok-pairs.ensures.found told) (c.in_ok-node.ensures ∙ ap (node_in c.args.block) c.deref.ensures.value)
+    looked_roughs (g.P.Pages.shown c.args.pages.now).pages c.args.self.now c.args.block c.in_ok-pairs.pairs.items c.in_ok-node.node (c.in_ok-pairs.ensures.found told) (c.in_ok-node.ensures ∙ ap (node_in c.args.block) c.deref.ensures.value)
 
 pub returns-clause-plane : goal.returns-clause-plane
 returns-clause-plane g c = subst IsFoundInRange (sym c.in_ok-node.ensures) (node_range c.args.block c.deref.result.now)
