@@ -1,10 +1,12 @@
 pub mod Maps
+pub mod Places
 pub mod Cached
 pub mod Overlay
 pub mod Counted
 pub mod Spare
 pub mod Changes
 pub mod Accounts
+pub mod Listed
 pub mod Whole
 pub mod States
 pub mod Seen

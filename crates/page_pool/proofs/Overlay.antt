@@ -8,12 +8,8 @@ use Rattle.std.specs.FinMap.{find, nat_cmp-IsAntisymmetric}
 use Rattle.std.specs.FinSet as set
 use Rattle.page_pool.specs.Disk.{PageMap, DigestMap, NumberSet, DiskView}
 use Rattle.page_pool.specs.Inside.{ChangeMap, overlay, written, dropped, overlaid, dirty_of, freed_of, stored}
+pub use Rattle.page_pool.specs.Inside.{is_page}
 use Rattle.page_pool.proofs.Maps.{get-insert, get-remove}
-
--- the change is a page
-abbrev pub is_page : Option (Option (List ℕ)) → Bool
-is_page None = false
-is_page (Some change) = is_some change
 
 -- the change freed the page
 abbrev pub is_gone : Option (Option (List ℕ)) → Bool

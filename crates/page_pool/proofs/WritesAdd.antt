@@ -99,9 +99,13 @@ writes_opened old disk kept staged frames numbers numbers' is_open gets top w = 
 }
 
 -- a staged change is of a dirty page or of a freed number
-pub waits_for : (changes : ChangeMap) (n : ℕ) (c : Option (List ℕ)) → map.get changes n ≡ Some c → IsTrue (set.contains (dirty_of changes) n) ⊎ IsTrue (set.contains (freed_of changes) n)
-waits_for changes n (Some page) is = inl (contains-dirty changes n ∙ ap is_page is)
-waits_for changes n None is = inr (contains-freed changes n ∙ ap is_gone is)
+pub waits_for : (changes : ChangeMap) (n : ℕ) → map.contains_key changes n ≡ true → IsTrue (set.contains (dirty_of changes) n) ⊎ IsTrue (set.contains (freed_of changes) n)
+waits_for changes n there = by_change (map.get changes n) refl there
+  where
+    by_change : (c : Option (Option (List ℕ))) → map.get changes n ≡ c → is_some (map.get changes n) ≡ true → IsTrue (set.contains (dirty_of changes) n) ⊎ IsTrue (set.contains (freed_of changes) n)
+    by_change None is h = absurd (true≢false (sym h ∙ ap is_some is))
+    by_change (Some (Some page)) is h = inl (contains-dirty changes n ∙ ap is_page is)
+    by_change (Some None) is h = inr (contains-freed changes n ∙ ap is_gone is)
 
 -- without a staged change neither
 pub waits_not : (changes : ChangeMap) (n : ℕ) → map.get changes n ≡ None → IsTrue (set.contains (dirty_of changes) n) ⊎ IsTrue (set.contains (freed_of changes) n) → (P : Type 0) → P

@@ -1,7 +1,9 @@
 -- How a pool's parts make up what contracts see of it. (For proofs; no clause above speaks of it.)
-use Rattle.std.specs.Prelude.{◌≡◌, ℕ, ◌+◌, ◌-◌, ◌^◌, ◌≤◌, List, [], ◌∷◌, length, slice_get, Bool, true, false, cond, ◌||◌, nat_eq, nat_lt, IsTrue, Option, None, Some, ◌⊎◌, refl}
+use Rattle.std.specs.Prelude.{◌≡◌, ℕ, suc, ◌+◌, ◌-◌, ◌^◌, ◌≤◌, List, [], ◌∷◌, length, slice_get, Bool, true, false, cond, ◌||◌, nat_eq, nat_lt, IsTrue, Option, None, Some, is_some, ◌⊎◌, refl}
 use Rattle.std.specs.FinMap as map
 use Rattle.std.specs.FinSet as set
+use Rattle.std.specs.BTreeSet as tree
+use Rattle.std.specs.BTreeSet.{BTreeSet}
 use Rattle.std.specs.Ordering.{nat_cmp}
 use Rattle.std.specs.Coded.{Coded, code_by, coded×, coded_ℕ, coded_list, coded_option, coded_bool}
 use Rattle.sha2.specs.Sha256.{sha256}
@@ -16,6 +18,21 @@ ChangeMap = map.FinMap nat_cmp (Option (List ℕ))
 pub record StagedState : Type 0 where
   pub changes : ChangeMap
   pub count : ℕ
+
+-- the change is a page
+abbrev pub is_page : Option (Option (List ℕ)) → Bool
+is_page None = false
+is_page (Some change) = is_some change
+
+-- the changes in a table, with their numbers, of which the first place has this one
+abbrev pub entries_from : ℕ → List (Option (Option (List ℕ))) → List (ℕ × Option (List ℕ))
+entries_from n [] = []
+entries_from n (None ∷ places) = entries_from (suc n) places
+entries_from n (Some change ∷ places) = (n, change) ∷ entries_from (suc n) places
+
+-- the changes in a table, each in the place of its number
+unfoldable pub changes_in : List (Option (Option (List ℕ))) → ChangeMap
+changes_in places = map.from_entries (entries_from 0 places)
 
 -- the clean pages, how many they are, and how many they may be
 pub record FramesState : Type 0 where
@@ -41,8 +58,11 @@ abbrev pub disk_code : Coded DiskView
 disk_code = code_by (Bool × (PageMap × (List ℕ × ℕ))) (coded× coded_bool (coded× page_map_code (coded× (coded_list coded_ℕ) coded_ℕ)))
     (λ d. (d.told, (d.pages, (d.given, d.faults)))) (λ p. record { told = p.0; pages = p.1.0; given = p.1.1.0; faults = p.1.1.1 }) (λ _. refl)
 
+abbrev pub change_map_code : Coded ChangeMap
+change_map_code = map.code coded_ℕ (coded_option (coded_list coded_ℕ))
+
 abbrev pub staged_code : Coded StagedState
-staged_code = code_by (ChangeMap × ℕ) (coded× (map.code coded_ℕ (coded_option (coded_list coded_ℕ))) coded_ℕ) (λ s. (s.changes, s.count)) (λ p. record { changes = p.0; count = p.1 }) (λ _. refl)
+staged_code = code_by (ChangeMap × ℕ) (coded× change_map_code coded_ℕ) (λ s. (s.changes, s.count)) (λ p. record { changes = p.0; count = p.1 }) (λ _. refl)
 
 abbrev pub frames_code : Coded FramesState
 frames_code = code_by (PageMap × (ℕ × ℕ)) (coded× page_map_code (coded× coded_ℕ coded_ℕ)) (λ s. (s.pages, (s.count, s.most))) (λ p. record { pages = p.0; count = p.1.0; most = p.1.1 }) (λ _. refl)
@@ -133,6 +153,14 @@ dirty_of changes = written (map.entries changes)
 
 unfoldable pub freed_of : ChangeMap → NumberSet
 freed_of changes = dropped (map.entries changes)
+
+-- the staged changes, with the number of pages among them
+abbrev pub staged_of : ChangeMap → StagedState
+staged_of changes = record { changes = changes; count = set.len (dirty_of changes) }
+
+-- the set has the numbers with a change, and no others
+abbrev pub HasNumbersOf : ChangeMap → BTreeSet ℕ → Type 0
+HasNumbersOf changes numbers = (n : ℕ) → tree.contains nat_cmp numbers n ≡ map.contains_key changes n
 
 -- what contracts see of a pool's parts
 abbrev pub state_of : DiskView → DigestMap → StagedState → FramesState → NumbersState → Bool → ℕ → PoolState

@@ -22,6 +22,7 @@ mod pages;
 mod pool;
 mod staged;
 mod sure_disk;
+mod table;
 
 pub use desk::Desk;
 pub use disk::{Disk, DiskFault};

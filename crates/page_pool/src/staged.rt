@@ -1,35 +1,34 @@
-ghost use Rattle.std.specs.Prelude.{◌≡◌, ◌<◌, ◌≤◌, ◌^◌, Some, OnOk, OnErr, IfSome, IfNone, true, false};
+ghost use Rattle.std.specs.Prelude.{◌≡◌, ◌<◌, ◌≤◌, ◌^◌, Some, OnOk, OnErr, IfSome, IfNone, IsTrue, true, false};
 ghost use Rattle.std.specs.FinMap as map;
 ghost use Rattle.std.specs.FinSet as set;
 ghost use Rattle.std.specs.Option.{option_copied};
 ghost use Rattle.page_pool.specs.Inside.{dirty_of};
 
 use crate::page::Page;
+use crate::table::ChangeTable;
 use sand_base::NoMemory;
 use std::alloc::Global;
-use std::collections::BTreeMap;
+use std::collections::BTreeSet;
 use std::marker::Model;
 
-/// The pages that are not written yet, and the numbers that were freed (`None`), in ascending order.
+/// The pages that are not written yet and the numbers that were freed (`None`), in a table, with their numbers in
+/// ascending order.
 #[derive(Drop)]
 pub(crate) struct Staged {
-    changes: BTreeMap<u64, Option<Page>>,
+    table: ChangeTable,
+    numbers: BTreeSet<u64>,
 }
 
 impl Model for Staged {
-    ghost use Rattle.std.specs.Prelude.{count_by, is_some};
-    ghost use Rattle.std.specs.Map.{values_of};
-    ghost use Rattle.std.specs.FinMap as map;
-    ghost use Rattle.page_pool.specs.Inside.{StagedState, staged_code};
+    ghost use Rattle.page_pool.specs.Inside.{StagedState, staged_code, staged_of, HasNumbersOf};
 
     ghost Value = { StagedState };
 
     ghost coded = { staged_code };
 
-    ghost view = { λ a. record {
-      changes = map.from_entries a.changes.entries;
-      count = count_by (λ change. is_some change) (values_of a.changes.entries);
-    } };
+    ghost view = { λ a. staged_of a.table };
+
+    ghost invariant = { λ a. HasNumbersOf a.table a.numbers };
 }
 
 impl Staged {
@@ -37,14 +36,15 @@ impl Staged {
         ensures { result ≡ record { changes = map.empty; count = 0 } }
     {
         Staged {
-            changes: BTreeMap::new(alloc),
+            table: ChangeTable::new(alloc),
+            numbers: BTreeSet::new(alloc),
         }
     }
 
     pub(crate) fn get(&self, n: u64) -> Option<&Option<Page>>
         ensures { option_copied result ≡ map.get self.now.changes n }
     {
-        self.changes.get(&n)
+        self.table.get(n)
     }
 
     // Stages the change in place of an earlier one.
@@ -52,8 +52,14 @@ impl Staged {
         ensures staged { OnOk result (self.new.changes ≡ map.insert self.old.changes n change) }
         ensures unchanged { OnErr result (self.new ≡ self.old) }
     {
-        self.changes.insert(n, change)?;
-        Ok(())
+        self.table.insert(n, change)?;
+        match self.numbers.insert(n) {
+            Ok(_) => Ok(()),
+            Err(_) => {
+                self.table.take(n);
+                Err(NoMemory {})
+            }
+        }
     }
 
     // Writes these bytes over the page that is staged under the number. False where none is.
@@ -61,10 +67,7 @@ impl Staged {
         ensures written { result ≡ true → self.new.changes ≡ map.insert self.old.changes n (Some bytes.now) }
         ensures unchanged { result ≡ false → self.new ≡ self.old }
     {
-        let Some(change) = self.changes.get_mut(&n) else {
-            return false;
-        };
-        set_page(change, bytes)
+        self.table.overwrite(n, bytes)
     }
 
     // Stages these bytes as the page of the number: over those of an earlier one, where one is staged.
@@ -80,13 +83,13 @@ impl Staged {
         Ok(())
     }
 
-    // The change of the least number.
-    pub(crate) fn first(&self) -> Option<(u64, &Option<Page>)>
-        ensures found { IfSome result (λ e. map.get self.now.changes e.0 ≡ Some e.1.now) }
+    // The least number with a change.
+    pub(crate) fn first(&self) -> Option<u64>
+        ensures found { IfSome result (λ n. IsTrue (map.contains_key self.now.changes n)) }
         ensures none { IfNone result (self.now ≡ record { changes = map.empty; count = 0 }) }
     {
-        match self.changes.first_key_value() {
-            Some((n, change)) => Some((*n, change)),
+        match self.numbers.first() {
+            Some(n) => Some(*n),
             None => None,
         }
     }
@@ -96,13 +99,16 @@ impl Staged {
         ensures taken { result ≡ map.get self.old.changes n }
         ensures left { self.new.changes ≡ map.remove self.old.changes n }
     {
-        self.changes.remove(&n)
+        self.numbers.remove(&n);
+        self.table.take(n)
     }
 
     pub(crate) fn clear(&mut self)
         ensures { self.new ≡ record { changes = map.empty; count = 0 } }
     {
-        self.changes.clear();
+        'staged: while let Some(n) = self.first() {
+            self.take(n);
+        }
     }
 
     // How many pages are staged.
@@ -111,23 +117,6 @@ impl Staged {
         ensures few { self.now.count ≤ set.len (dirty_of self.now.changes) }
         ensures small { result < 2 ^ 63 }
     {
-        self.changes
-            .values()
-            .filter(|change| change.is_some())
-            .count()
-    }
-}
-
-// Writes these bytes over a page. False where the page was freed.
-fn set_page(change: &mut Option<Page>, bytes: &[u8; 4096]) -> bool
-    ensures written { result ≡ true → change.new ≡ Some bytes.now }
-    ensures unchanged { result ≡ false → change.new ≡ change.old }
-{
-    match change {
-        Some(page) => {
-            page.set(bytes);
-            true
-        }
-        None => false,
+        self.table.count()
     }
 }

@@ -38,10 +38,7 @@ impl<D: Disk> Pool<D> {
         ensures found { IfSome result (λ n. IsDirty self.now n ⊎ IsTrue (set.contains self.now.freed n)) }
         ensures none { IfNone result (IsWritten self.now) }
     {
-        match self.staged.first() {
-            Some((n, _)) => Some(n),
-            None => None,
-        }
+        self.staged.first()
     }
 
     // Writes a page that waits, or lets a freed number go.

@@ -1,9 +1,9 @@
-use Rattle.std.proofs.Common.{subst, ◌≤◌}
+use Rattle.std.proofs.Common.{◌≡◌, ap, ◌∙◌, sym, arith}
 use Rattle.std.specs.FinSet as set
 use Rattle.page_pool.specs.Inside.{dirty_of}
-use Rattle.page_pool.proofs.Counted.{count_few}
 use Rattle.page_pool.proofs.staged.Staged.count.Goals as goal
 
--- the keys of the ordered map differ
+-- the count is theirs
 pub returns-clause-few : goal.returns-clause-few
-returns-clause-few c = subst (λ s. s.count ≤ set.len (dirty_of s.changes)) c.self.view_is (count_few c.self.inside.changes.entries c.values.ensures.ordered)
+returns-clause-few c =
+    let same : c.args.self.now.count ≡ set.len (dirty_of c.args.self.now.changes) = ap (λ s. s.count) (sym c.self.view_is) ∙ ap (λ s. set.len (dirty_of s.changes)) c.self.view_is in omega arith

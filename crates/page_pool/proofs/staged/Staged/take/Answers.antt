@@ -1,10 +1,14 @@
-use Rattle.std.proofs.Common.{sym, ap, ◌∙◌}
+use Rattle.std.proofs.Common.{ap, ◌∙◌}
 use Rattle.std.specs.FinMap as map
-use Rattle.page_pool.proofs.Maps.{get-from_entries, removed}
+use Rattle.page_pool.proofs.Listed.{listed-remove}
 use Rattle.page_pool.proofs.staged.Staged.take.Goals as goal
 
 pub returns-clause-taken : goal.returns-clause-taken
-returns-clause-taken c = c.remove.ensures.value ∙ sym (get-from_entries c.args.n _) ∙ ap (λ s. map.get s.changes c.args.n) c.self.view_is
+returns-clause-taken c = c.take.ensures.taken ∙ ap (λ s. map.get s.changes c.args.n) c.self.view_is
 
 pub returns-clause-left : goal.returns-clause-left
-returns-clause-left c = removed c.self.inside.changes c.remove.new.self c.args.n c.remove.ensures.updates ∙ ap (λ s. map.remove s.changes c.args.n) c.self.view_is
+returns-clause-left c = c.take.ensures.left ∙ ap (λ s. map.remove s.changes c.args.n) c.self.view_is
+
+-- the number leaves with its change
+pub invariant_of-self : goal.invariant_of-self
+invariant_of-self c = listed-remove c.self.inside.numbers c.remove.new.self c.self.inside.table c.take.new.self c.args.n c.remove.ensures.updates c.take.ensures.left c.self.invariant

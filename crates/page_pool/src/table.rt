@@ -1,0 +1,131 @@
+ghost use Rattle.std.specs.Prelude.{◌≡◌, ◌<◌, ◌≤◌, ◌^◌, ℕ, Some, None, OnOk, OnErr, true, false, length, get_or, is_some, count_by, IsTrue};
+ghost use Rattle.std.specs.FinMap as map;
+ghost use Rattle.std.specs.FinSet as set;
+ghost use Rattle.std.specs.Option.{option_copied};
+ghost use Rattle.page_pool.specs.Inside.{dirty_of, is_page};
+
+use crate::page::Page;
+use sand_base::NoMemory;
+use std::alloc::Global;
+use std::marker::Model;
+
+/// Changes of pages (`None` for a freed number), each in the place of its number: a look-up takes no search.
+#[derive(Drop)]
+pub(crate) struct ChangeTable {
+    places: Vec<Option<Option<Page>>>,
+}
+
+impl Model for ChangeTable {
+    ghost use Rattle.page_pool.specs.Inside.{ChangeMap, change_map_code, changes_in};
+
+    ghost Value = { ChangeMap };
+
+    ghost coded = { change_map_code };
+
+    ghost view = { λ a. changes_in a.places.items };
+}
+
+impl ChangeTable {
+    pub(crate) fn new(alloc: Global) -> ChangeTable
+        ensures { result ≡ map.empty }
+    {
+        ChangeTable {
+            places: Vec::new(alloc),
+        }
+    }
+
+    pub(crate) fn get(&self, n: u64) -> Option<&Option<Page>>
+        ensures { option_copied result ≡ map.get self.now n }
+    {
+        match self.places.get(n as usize) {
+            Some(place) => place.as_ref(),
+            None => None,
+        }
+    }
+
+    // Puts the change in place of an earlier one.
+    pub(crate) fn insert(&mut self, n: u64, change: Option<Page>) -> Result<(), NoMemory>
+        ensures changed { OnOk result (self.new ≡ map.insert self.old n change) }
+        ensures unchanged { OnErr result (self.new ≡ self.old) }
+    {
+        let place = n as usize;
+        grow(&mut self.places, place)?;
+        self.places[place] = Some(change);
+        Ok(())
+    }
+
+    // Writes these bytes over the page of the number. False where none is there.
+    pub(crate) fn overwrite(&mut self, n: u64, bytes: &[u8; 4096]) -> bool
+        ensures written { result ≡ true → self.new ≡ map.insert self.old n (Some bytes.now) }
+        ensures there { result ≡ true → IsTrue (map.contains_key self.old n) }
+        ensures unchanged { result ≡ false → self.new ≡ self.old }
+    {
+        let Some(place) = self.places.get_mut(n as usize) else {
+            return false;
+        };
+        set_page(place, bytes)
+    }
+
+    // Takes the change of this number out.
+    pub(crate) fn take(&mut self, n: u64) -> Option<Option<Page>>
+        ensures taken { result ≡ map.get self.old n }
+        ensures left { self.new ≡ map.remove self.old n }
+    {
+        let Some(place) = self.places.get_mut(n as usize) else {
+            return None;
+        };
+        place.take()
+    }
+
+    // How many pages are among the changes.
+    pub(crate) fn count(&self) -> usize
+        ensures count { result ≡ set.len (dirty_of self.now) }
+        ensures small { result < 2 ^ 63 }
+    {
+        count_pages(&self.places)
+    }
+}
+
+// Adds empty places until this one is there. After a refusal those that were added stay.
+fn grow(places: &mut Vec<Option<Option<Page>>>, place: usize) -> Result<(), NoMemory>
+    ensures reached { OnOk result (place < length places.new.items) }
+    ensures same { (q : ℕ) → get_or places.new.items q None ≡ get_or places.old.items q None }
+{
+    'places: while places.len() <= place {
+        places.push(None)?;
+    }
+    Ok(())
+}
+
+// How many pages are in these places.
+fn count_pages(places: &[Option<Option<Page>>]) -> usize
+    ensures count { result ≡ count_by is_page places.now }
+    ensures small { result < 2 ^ 63 }
+{
+    places.iter().filter(|place| holds_page(place)).count()
+}
+
+// Whether a page is in this place.
+fn holds_page(place: &Option<Option<Page>>) -> bool
+    ensures { result ≡ is_page place.now }
+{
+    match place {
+        Some(change) => change.is_some(),
+        None => false,
+    }
+}
+
+// Writes these bytes over the page in this place. False where none is in it.
+fn set_page(place: &mut Option<Option<Page>>, bytes: &[u8; 4096]) -> bool
+    ensures written { result ≡ true → place.new ≡ Some (Some bytes.now) }
+    ensures there { result ≡ true → IsTrue (is_some place.old) }
+    ensures unchanged { result ≡ false → place.new ≡ place.old }
+{
+    match place {
+        Some(Some(page)) => {
+            page.set(bytes);
+            true
+        }
+        _ => false,
+    }
+}
