@@ -23,8 +23,6 @@ mod rows;
 mod settle;
 mod step;
 mod take_equal;
-#[cfg(test)]
-mod tests;
 
 pub use counts::Counts;
 pub use engine::BestFirst;

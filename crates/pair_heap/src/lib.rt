@@ -15,8 +15,6 @@ mod node;
 mod release;
 mod root;
 mod spare;
-#[cfg(test)]
-mod tests;
 mod tree;
 mod trees;
 

@@ -9,8 +9,6 @@
 mod pair;
 mod plain;
 mod queue;
-#[cfg(test)]
-mod tests;
 
 pub use pair::PairQueue;
 pub use plain::PlainQueue;

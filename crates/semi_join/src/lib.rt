@@ -11,7 +11,5 @@
 mod lefts;
 mod next_pair;
 mod semi;
-#[cfg(test)]
-mod tests;
 
 pub use semi::Semi;

@@ -1,6 +1,0 @@
--- the disk doesn't tell its pages
-use Rattle.std.proofs.Common.{◌≡◌, false}
-use Rattle.best_first.proofs.tests.a_refused_reservation_loses_no_row_and_repeats_none.Given as goal
-
-abbrev pub invariant-calls : goal.invariant-calls
-invariant-calls g l = l.desk.pool.disk.told ≡ false

@@ -1,6 +1,0 @@
--- the disk doesn't tell its pages
-use Rattle.std.proofs.Common.{◌≡◌, false}
-use Rattle.best_first.proofs.tests.rows_come_sorted_in_whatever_order_the_nodes_list_them.Given as goal
-
-abbrev pub invariant-orders : goal.invariant-orders
-invariant-orders g l = l.desk.pool.disk.told ≡ false
