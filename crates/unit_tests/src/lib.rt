@@ -1,0 +1,31 @@
+//! The tests of twelve libraries: plain types and streams, fractions, geometry, rows as bytes, printed lines, words and workloads.
+//!
+//! A module for each library. A test's build proves all functions of its own crate once more, so the tests stand apart from the
+//! libraries, in a crate with no function besides. They compare with values from outside, and show that calls which take memory
+//! succeed where some is left. Above: nothing. Below: the twelve libraries.
+#![tactic(auto)]
+
+#[cfg(test)]
+mod of_csv_load;
+#[cfg(test)]
+mod of_exact_frac;
+#[cfg(test)]
+mod of_output_text;
+#[cfg(test)]
+mod of_plane_geom;
+#[cfg(test)]
+mod of_ring_geom;
+#[cfg(test)]
+mod of_run_summary;
+#[cfg(test)]
+mod of_run_words;
+#[cfg(test)]
+mod of_sand_base;
+#[cfg(test)]
+mod of_tuple_codec;
+#[cfg(test)]
+mod of_work_gen;
+#[cfg(test)]
+mod of_work_source;
+#[cfg(test)]
+mod of_z_code;

@@ -1,0 +1,81 @@
+// Which words are taken, by hand.
+use run_words::{WordFault, read_words};
+use sand_base::Label;
+use std::alloc::Global;
+use std::process::Abort;
+
+// The frames, the length of the page file's name, and the workload.
+fn ask(alloc: Global, words: &[&str]) -> Result<(u32, Option<usize>, Option<u32>), WordFault> {
+    let mut labels = Vec::new(alloc);
+    for word in words {
+        let Ok(()) = labels.push(Label::new(alloc, word)?) else {
+            return Err(WordFault::Memory);
+        };
+    }
+    let asked = read_words(alloc, &labels)?;
+    let length = asked.store.as_ref().map(|name| name.as_str().len());
+    Ok((asked.frames, length, asked.workload))
+}
+
+const TAKEN: [(&[&str], u32, Option<usize>, Option<u32>); 10] = [
+    (&[], 256, None, None),
+    (&["--frames", "64"], 64, None, None),
+    (&["--frames=64"], 64, None, None),
+    (&["--frames", "+64"], 64, None, None),
+    (&["--frames", "0064"], 64, None, None),
+    (&["--store", "db.pages"], 256, Some(8), None),
+    (&["--store="], 256, Some(0), None),
+    (
+        &["--workload", "100000", "--frames", "16"],
+        16,
+        None,
+        Some(100_000),
+    ),
+    (
+        &["--workload=1", "--store", "p", "--frames=4096"],
+        4096,
+        Some(1),
+        Some(1),
+    ),
+    (&["--"], 256, None, None),
+];
+
+const REFUSED: [&[&str]; 13] = [
+    &["--frames", "15"],
+    &["--frames", "4097"],
+    &["--frames", "x"],
+    &["--frames"],
+    &["--frames", "64", "--frames", "64"],
+    &["--fram", "64"],
+    &["--workload", "0"],
+    &["--workload", "100001"],
+    &["--store", "-x"],
+    &["--speed", "3"],
+    &["extra"],
+    &["--help"],
+    &["-h"],
+];
+
+// Each list of words asks for what is told beside it.
+fn are_taken(rt: &impl Abort, alloc: Global, cases: &[(&[&str], u32, Option<usize>, Option<u32>)]) {
+    for (words, frames, store, workload) in cases {
+        assert_eq!(rt;
+            ask(alloc, words),
+            Ok((*frames, *store, *workload)),
+            "{words:?}"
+        );
+    }
+}
+
+fn are_refused(rt: &impl Abort, alloc: Global, cases: &[&[&str]]) {
+    for words in cases {
+        assert_eq!(rt; ask(alloc, words), Err(WordFault::Usage), "{words:?}");
+    }
+}
+
+#[test]
+fn the_command_decides_which_words_are_taken(rt: HostRuntime) {
+    let alloc = rt.alloc();
+    are_taken(&rt, alloc, &TAKEN);
+    are_refused(&rt, alloc, &REFUSED);
+}

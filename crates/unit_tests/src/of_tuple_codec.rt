@@ -1,0 +1,157 @@
+// That the bytes are those written out by hand, and which bytes are no row.
+use sand_base::{Kind, Label, NoMemory, Schema};
+use std::alloc::Global;
+use std::process::Abort;
+use std::test::Fail;
+use tuple_codec::{CodecFault, decode, encode};
+
+fn schema_of(alloc: Global, kinds: &[Kind]) -> Result<Schema, NoMemory> {
+    let mut columns = Vec::new(alloc);
+    for kind in kinds {
+        columns.push((Label::new(alloc, "c")?, *kind))?;
+    }
+    Ok(Schema::new(columns))
+}
+
+fn is_row(alloc: Global, kinds: &[Kind], bytes: &[u8]) -> Result<bool, NoMemory> {
+    Ok(decode(alloc, &schema_of(alloc, kinds)?, bytes)?.is_some())
+}
+
+// The row is read and its bytes are made again; None where no row was read or no memory was left.
+fn made_again(alloc: Global, kinds: &[Kind], bytes: &[u8]) -> Option<Result<Vec<u8>, CodecFault>> {
+    let Ok(schema) = schema_of(alloc, kinds) else {
+        return None;
+    };
+    match decode(alloc, &schema, bytes) {
+        Ok(Some(row)) => Some(encode(alloc, &schema, &row)),
+        _ => None,
+    }
+}
+
+const KINDS: [Kind; 5] = [
+    Kind::Int,
+    Kind::Text,
+    Kind::Point,
+    Kind::Segment,
+    Kind::Polygon,
+];
+
+// -2, a text of two letters, (1 65535), (0 0)-(2 3) and a triangle.
+const ROW: [u8; 61] = [
+    255, 255, 255, 255, 255, 255, 255, 254, // -2
+    3, 65, 195, 169, // a text of three bytes
+    0, 0, 0, 1, 0, 0, 255, 255, // a point
+    0, 0, 0, 0, 0, 0, 0, 0, 0, 0, 0, 2, 0, 0, 0, 3, // a segment
+    3, 0, 0, 0, 0, 0, 0, 0, 0, 0, 0, 0, 4, 0, 0, 0, 0, 0, 0, 0, 0, 0, 0, 0, 5, // a ring
+];
+
+// The row is read and made again; no beginning of it is a row, and with a byte more it is none.
+fn is_read_as_a_whole(
+    rt: &impl Abort,
+    alloc: Global,
+    kinds: &[Kind],
+    row: &[u8],
+) -> Result<(), Fail> {
+    let again = made_again(alloc, kinds, row).ok_or("it is a row")?;
+    assert_eq!(rt; again?.as_slice(), row);
+    for cut in 0..row.len() {
+        assert!(rt; !is_row(alloc, kinds, &row[..cut])?, "cut after {cut}");
+    }
+    let mut longer = row.to_vec(alloc)?;
+    longer.push(0)?;
+    assert!(rt; !is_row(alloc, kinds, &longer)?, "a byte is left over");
+    Ok(())
+}
+
+#[test]
+fn a_row_of_each_kind_is_read_and_made_again(rt: HostRuntime) -> Result<(), Fail> {
+    is_read_as_a_whole(&rt, rt.alloc(), &KINDS, &ROW)
+}
+
+const VALUES: [(&str, Kind, &[u8], bool); 4] = [
+    ("the empty text", Kind::Text, &[0], true),
+    ("no UTF-8", Kind::Text, &[2, 195, 40], false),
+    ("a control character", Kind::Text, &[2, 194, 133], false),
+    (
+        "an x of 65536",
+        Kind::Point,
+        &[0, 1, 0, 0, 0, 0, 0, 0],
+        false,
+    ),
+];
+
+// The bytes of each case are a row of one value, or are none.
+fn are_rows(
+    rt: &impl Abort,
+    alloc: Global,
+    cases: &[(&str, Kind, &[u8], bool)],
+) -> Result<(), Fail> {
+    for (name, kind, bytes, fits) in cases {
+        assert!(rt; is_row(alloc, &[*kind], bytes)? == *fits, "{name}");
+    }
+    Ok(())
+}
+
+// Whether so many vertices, all at the origin, are a row of a ring.
+fn is_ring(alloc: Global, count: u8) -> Result<bool, NoMemory> {
+    let mut ring = vec![in alloc; 0; 1 + 8 * usize::from(count)]?;
+    if let Some(first) = ring.first_mut() {
+        *first = count;
+    }
+    is_row(alloc, &[Kind::Polygon], &ring)
+}
+
+#[test]
+fn values_out_of_range_are_no_row(rt: HostRuntime) -> Result<(), Fail> {
+    let alloc = rt.alloc();
+    are_rows(&rt, alloc, &VALUES)?;
+    for (count, fits) in [(2, false), (3, true), (64, true), (65, false)] {
+        assert!(rt; is_ring(alloc, count)? == fits, "{count} vertices");
+    }
+    Ok(())
+}
+
+const LONG: [Kind; 9] = [
+    Kind::Polygon,
+    Kind::Polygon,
+    Kind::Polygon,
+    Kind::Polygon,
+    Kind::Polygon,
+    Kind::Polygon,
+    Kind::Polygon,
+    Kind::Text,
+    Kind::Text,
+];
+
+// Seven rings of 64 vertices, a text of 255 bytes and a text of `last` bytes.
+fn long_row(alloc: Global, last: u8) -> Result<Vec<u8>, NoMemory> {
+    let mut bytes = Vec::new(alloc);
+    for _ in 0..7u32 {
+        bytes.push(64)?;
+        for _ in 0..512u32 {
+            bytes.push(0)?;
+        }
+    }
+    for length in [255, last] {
+        bytes.push(length)?;
+        for _ in 0..length {
+            bytes.push(b'a')?;
+        }
+    }
+    Ok(bytes)
+}
+
+#[test]
+fn a_row_of_3900_bytes_fits_and_one_of_3901_does_not(rt: HostRuntime) -> Result<(), Fail> {
+    let alloc = rt.alloc();
+    let fits = long_row(alloc, 52)?;
+    assert_eq!(rt; fits.len(), 3900);
+    let again = made_again(alloc, &LONG, &fits).ok_or("it is a row")?;
+    assert_eq!(rt; again?.as_slice(), fits.as_slice());
+    let refused = made_again(alloc, &LONG, &long_row(alloc, 53)?).ok_or("this is one too")?;
+    assert!(rt;
+        matches!(refused, Err(CodecFault::TupleTooLong)),
+        "3,901 bytes"
+    );
+    Ok(())
+}
