@@ -15,8 +15,6 @@ mod laws;
 mod records;
 mod row;
 mod rows;
-#[cfg(test)]
-mod tests;
 
 pub use fault::LoadFault;
 pub use file::read_file;

@@ -11,8 +11,6 @@
 mod frac;
 mod frac_text;
 mod gcd;
-#[cfg(test)]
-mod tests;
 
 pub use frac::Frac;
 pub use frac_text::FracText;

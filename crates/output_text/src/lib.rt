@@ -13,8 +13,6 @@ mod print;
 mod rows;
 mod shapes;
 mod sinks;
-#[cfg(test)]
-mod tests;
 
 pub use line::LineRef;
 pub use print::write_line;

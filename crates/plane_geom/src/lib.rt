@@ -14,8 +14,6 @@ mod points;
 mod rects;
 mod segment_rect;
 mod segments;
-#[cfg(test)]
-mod tests;
 mod vectors;
 
 pub use point_segment::{gap_point_segment, on_segment};

@@ -18,8 +18,6 @@ mod laws;
 mod meeting;
 mod point_in_ring;
 mod ring_gaps;
-#[cfg(test)]
-mod tests;
 
 pub use bounds::bounding;
 pub use figure_gaps::{gap_goal, gap_goal_rect, gap_shape_rect, gap_shapes};

@@ -13,8 +13,6 @@ mod digest_sink;
 mod summary_text;
 mod tally;
 mod tally_sink;
-#[cfg(test)]
-mod tests;
 
 pub use digest_sink::DigestSink;
 pub use summary_text::SummaryText;

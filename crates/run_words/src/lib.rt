@@ -11,8 +11,6 @@ mod command;
 mod matching;
 mod numbers;
 mod reading;
-#[cfg(test)]
-mod tests;
 
 pub use asked::{WordFault, Words};
 pub use reading::read_words;

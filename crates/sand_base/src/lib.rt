@@ -34,8 +34,6 @@ mod sink;
 mod source;
 mod sure_shelf;
 mod sure_source;
-#[cfg(test)]
-mod tests;
 mod value;
 mod visit;
 

@@ -16,8 +16,6 @@ mod figures;
 mod laws;
 mod reader;
 mod size;
-#[cfg(test)]
-mod tests;
 mod text;
 mod values;
 mod write;

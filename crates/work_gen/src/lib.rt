@@ -14,8 +14,6 @@ mod drawn;
 mod generator;
 mod line;
 mod script;
-#[cfg(test)]
-mod tests;
 mod workload;
 
 pub use workload::Workload;

@@ -10,8 +10,6 @@
 mod counted;
 mod empty_shelf;
 mod line;
-#[cfg(test)]
-mod tests;
 mod work_source;
 
 pub use counted::line_count;

@@ -8,7 +8,5 @@
 
 mod block;
 mod code;
-#[cfg(test)]
-mod tests;
 
 pub use block::Block;
