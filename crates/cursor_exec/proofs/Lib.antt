@@ -9,6 +9,8 @@ pub mod StepCalls
 -- the open cursor of a name, where it makes steps and where it is gone
 pub mod NamedCursors
 pub mod ClosedCursors
+-- the names of the open cursors, whatever the pages
+pub mod OpenNames
 -- the checks of a new cursor
 pub mod OpenChecks
 -- the causes of the lines of steps

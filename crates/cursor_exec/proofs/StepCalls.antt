@@ -46,7 +46,7 @@ not_none [] w e = let n : 1 ≡ 0 = ap (λ (ys : List OutputLine). length ys) e 
 not_none (x ∷ xs) w e = let n : length ((x ∷ xs) ++ Refused w ∷ []) ≡ 0 = ap (λ (ys : List OutputLine). length ys) e in omega (arith, n)
 
 -- a fault of a page is of memory or of a page
-of_pages : (fault : PageFault) → IsOfPages (Some (refusal_of fault))
+pub of_pages : (fault : PageFault) → IsOfPages (Some (refusal_of fault))
 of_pages page.Memory = tt
 of_pages page.Device = tt
 of_pages (page.Damaged n kept read) = tt

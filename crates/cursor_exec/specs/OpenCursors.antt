@@ -1,5 +1,6 @@
 -- The open cursors, each under its name, and what the next rows of one of them do.
-use Rattle.std.specs.Prelude.{◌≡◌, ⊤, ℕ, false, List, [], ◌∷◌, map, find, Option, Some, None, Result, Ok, Err}
+use Rattle.std.specs.Prelude.{◌≡◌, ⊤, ℕ, Bool, true, false, cond, List, [], ◌∷◌, map, find, Option, Some, None, Result, Ok, Err}
+use Rattle.std.specs.List.{list_any}
 use Rattle.page_pool.specs.Disk.{PageMap}
 use Rattle.plan_cursor.specs.Standing.{AreStats}
 use Rattle.plan_cursor.specs.declared.cursor.RowCursor.{RowCursor}
@@ -12,7 +13,7 @@ use Rattle.sand_model.specs.Cursor.{Cursor}
 use Rattle.sand_model.specs.Database.{same_name}
 use Rattle.sand_model.specs.Kept.{has_twice}
 use Rattle.sand_model.specs.Outcome.{replaced, closed}
-use Rattle.cursor_exec.specs.Steps.{StepsOn}
+use Rattle.cursor_exec.specs.Steps.{StepsOn, AnswersPages}
 use Rattle.cursor_exec.specs.declared.open_cursor.OpenCursor.{OpenCursor}
 
 -- where a cursor stands over pages, as one of the model
@@ -25,6 +26,24 @@ StandAll At pages [] [] = ⊤
 StandAll At pages [] (c ∷ cs) = ⊥
 StandAll At pages (x ∷ xs) [] = ⊥
 StandAll At pages (x ∷ xs) (c ∷ cs) = (c.name ≡ x.name) × At x.cursor pages c × StandAll At pages xs cs
+
+-- the open cursors have the names of these of the model, in the same order, wherever they stand
+abbrev pub AreNamed : {S T : Type 0} → List (OpenCursor S T) → List Cursor → Type 0
+AreNamed items cs = map (λ c. c.name) cs ≡ map (λ x. x.name) items
+
+-- an open cursor has the name
+abbrev pub is_open : {S T : Type 0} → List (OpenCursor S T) → List ℕ → Bool
+is_open items name = list_any (λ x. same_name x.name name) items
+
+-- the open cursors without the first one of the name
+abbrev pub without : {S T : Type 0} → List ℕ → List (OpenCursor S T) → List (OpenCursor S T)
+without name [] = []
+without name (x ∷ xs) = cond (same_name x.name name) xs (x ∷ without name xs)
+
+-- how `next` is refused: as unknown where no open cursor has the name, and else by want of memory or by a page alone
+abbrev pub AnswersNext : Bool → Result (Option Refusal) Failed → Type 0
+AnswersNext true result = AnswersPages result
+AnswersNext false result = result ≡ Ok (Some why.UnknownCursor)
 
 -- no two of them have one name
 abbrev pub HaveOwnNames : List Cursor → Type 0

@@ -1,4 +1,4 @@
-ghost use Rattle.std.specs.Prelude.{◌≡◌, List, IfOk, IfSome, OnErr, OnOk, position};
+ghost use Rattle.std.specs.Prelude.{◌≡◌, List, IfOk, IfSome, OnErr, OnOk, map, position};
 ghost use Rattle.best_first.specs.Visits.{told_pages};
 ghost use Rattle.output_text.specs.Writing.{Writes, WritesPrefix};
 ghost use Rattle.page_pool.specs.Reads.{IsRead};
@@ -10,7 +10,7 @@ ghost use Rattle.sand_model.specs.Cursor.{Cursor};
 ghost use Rattle.sand_model.specs.Database.{same_name};
 ghost use Rattle.statement_exec.specs.Causes.{BlamesNoFile};
 ghost use Rattle.statement_exec.specs.Ending.{PagesHaveCause};
-ghost use Rattle.cursor_exec.specs.OpenCursors.{HaveOwnNames, NextOf, StandAll, named};
+ghost use Rattle.cursor_exec.specs.OpenCursors.{AnswersNext, HaveOwnNames, NextOf, StandAll, is_open, named, without};
 
 use crate::OpenCursor;
 use crate::row_steps::print_steps;
@@ -28,7 +28,7 @@ pub(crate) fn place_of<S, T>(cursors: &[OpenCursor<S, T>], name: &str) -> Option
 }
 
 /// Prints the next rows of the open cursor of this name, up to their end or to a refusal, whose line is still to be
-/// printed.
+/// printed. Whatever the disk tells, the cursor stays open under its name and the others are as they were.
 pub fn print_next<S: RowSource, T: RowStage, D: Disk, K: Sink>(
     alloc: Global,
     desk: &mut Desk<D>,
@@ -41,6 +41,9 @@ pub fn print_next<S: RowSource, T: RowStage, D: Disk, K: Sink>(
     ensures read { IsRead desk.old.pool desk.new.pool }
     ensures cause { PagesHaveCause desk.old.pool desk.new.pool result }
     ensures no_file { IfOk result BlamesNoFile }
+    ensures unknown { AnswersNext (is_open cursors.old.items name.now) result }
+    ensures names { map (λ x. x.name) cursors.new.items ≡ map (λ x. x.name) cursors.old.items }
+    ensures others { without name.now cursors.new.items ≡ without name.now cursors.old.items }
     ensures sink { HasCause (K.faults out.old) (K.faults out.new) result }
     ensures plain { OnOk result (Writes IsPlainText (K.took out.old) (K.took out.new)) }
     ensures broken { OnErr result (WritesPrefix IsPlainText (K.took out.old) (K.took out.new)) }

@@ -8,7 +8,7 @@ ghost use Rattle.sand_model.specs.Statement.{OpenCursor as Opens};
 ghost use Rattle.sand_model.specs.StatementChecks.{Setting, early};
 ghost use Rattle.sand_store.specs.Catalog.{IsCatalog};
 ghost use Rattle.statement_exec.specs.LeafLines.{IsOfCheck, state_of};
-ghost use Rattle.cursor_exec.specs.OpenCursors.{StandAll};
+ghost use Rattle.cursor_exec.specs.OpenCursors.{AreNamed, StandAll};
 
 use crate::OpenCursor;
 use crate::next_rows::place_of;
@@ -32,6 +32,7 @@ pub fn refused_open<S: RowSource, T: RowStage>(
     requires { IsCatalog catalog.now }
     ensures checks { (pages : PageMap) (cs : List Cursor) → StandAll (λ r. IsAt S.At T.Stands T.closed (λ s. counts_of (S.seen s)) r) pages cursors.now cs
         → (setting : Setting) → early setting (state_of catalog.now pages cs) (Opens name.now (plan_value plan.now)) ≡ result }
+    ensures names { (pages : PageMap) (cs : List Cursor) → AreNamed cursors.now cs → (setting : Setting) → early setting (state_of catalog.now pages cs) (Opens name.now (plan_value plan.now)) ≡ result }
     ensures of_check { IfSome result IsOfCheck }
 {
     if let Some(_at) = place_of(cursors, name.as_str()) {

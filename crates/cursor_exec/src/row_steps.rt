@@ -11,7 +11,7 @@ ghost use Rattle.sand_model.specs.Cursor.{Cursor};
 ghost use Rattle.sand_store.specs.Calls.{refusal_of};
 ghost use Rattle.statement_exec.specs.Causes.{BlamesNoFile};
 ghost use Rattle.statement_exec.specs.Ending.{PagesHaveCause};
-ghost use Rattle.cursor_exec.specs.Steps.{StepsOn};
+ghost use Rattle.cursor_exec.specs.Steps.{AnswersPages, StepsOn};
 
 use page_pool::{Desk, Disk, PageFault};
 use plan_cursor::RowCursor;
@@ -45,6 +45,7 @@ pub fn print_steps<S: RowSource, T: RowStage, D: Disk, K: Sink>(
     ensures read { IsRead desk.old.pool desk.new.pool }
     ensures cause { PagesHaveCause desk.old.pool desk.new.pool result }
     ensures no_file { IfOk result BlamesNoFile }
+    ensures pages { AnswersPages result }
     ensures sink { HasCause (K.faults out.old) (K.faults out.new) result }
     ensures plain { OnOk result (Writes IsPlainText (K.took out.old) (K.took out.new)) }
     ensures broken { OnErr result (WritesPrefix IsPlainText (K.took out.old) (K.took out.new)) }

@@ -1,8 +1,10 @@
 -- the cursor of the name is gone, or none has the name
+use Rattle.std.proofs.Common.{sym, ◌∙◌}
 use Rattle.plan_cursor.specs.Standing.{IsAt}
 use Rattle.plan_rows.specs.Rows.{counts_of}
 use Rattle.cursor_exec.proofs.ClosedCursors.{closes_none, closes_named}
 use Rattle.cursor_exec.proofs.NamedCursors.{first_shown, none_shown}
+use Rattle.cursor_exec.proofs.OpenNames.{open_at, open_none, without_at, without_none}
 use Rattle.cursor_exec.proofs.closing.close.Goals as goal
 
 pub returns-in_default-clause-closes : goal.returns-in_default-clause-closes
@@ -15,3 +17,20 @@ returns-clause-closes g c = λ pages cs own h.
     closes_named (λ r. IsAt g.S.RowSource.At g.T.RowStage.Stands g.T.RowStage.closed (λ s. counts_of (g.S.RowSource.seen s)) r) pages c.args.cursors.now.items c.remove-ended.new.self.items cs c.args.name.now c.in-Some.at
     c.remove-ended.ensures.items
     (first_shown c.deref.result.now c.args.cursors.now.items c.as_str.result.now c.args.name.now c.place_of.result c.in-Some.at c.place_of.ensures c.as_str.ensures c.deref.ensures.value c.in-Some.is) own h
+
+-- the names alone decide, whatever the pages
+pub returns-in_default-clause-known : goal.returns-in_default-clause-known
+returns-in_default-clause-known g c = sym (open_none c.args.name.now c.args.cursors.now.items
+    (none_shown c.deref.result.now c.args.cursors.now.items c.as_str.result.now c.args.name.now c.place_of.result c.place_of.ensures c.as_str.ensures c.deref.ensures.value c.in_default.is))
+
+pub returns-in_default-clause-left : goal.returns-in_default-clause-left
+returns-in_default-clause-left g c = without_none c.args.name.now c.args.cursors.now.items
+    (none_shown c.deref.result.now c.args.cursors.now.items c.as_str.result.now c.args.name.now c.place_of.result c.place_of.ensures c.as_str.ensures c.deref.ensures.value c.in_default.is)
+
+pub returns-clause-known : goal.returns-clause-known
+returns-clause-known g c = sym (open_at c.args.name.now c.args.cursors.now.items c.in-Some.at
+    (first_shown c.deref.result.now c.args.cursors.now.items c.as_str.result.now c.args.name.now c.place_of.result c.in-Some.at c.place_of.ensures c.as_str.ensures c.deref.ensures.value c.in-Some.is))
+
+pub returns-clause-left : goal.returns-clause-left
+returns-clause-left g c = c.remove-ended.ensures.items ∙ without_at c.args.name.now c.args.cursors.now.items c.in-Some.at
+    (first_shown c.deref.result.now c.args.cursors.now.items c.as_str.result.now c.args.name.now c.place_of.result c.in-Some.at c.place_of.ensures c.as_str.ensures c.deref.ensures.value c.in-Some.is)

@@ -6,6 +6,7 @@ use Rattle.plan_rows.specs.Rows.{counts_of}
 use Rattle.sand_model.specs.Database.{same_name}
 use Rattle.row_output.proofs.PlainTexts.{plain_none}
 use Rattle.cursor_exec.proofs.NamedCursors.{next_none, next_in_hand, in_hand_stands, first_shown, none_shown}
+use Rattle.cursor_exec.proofs.OpenNames.{names_in_hand, next_known, next_unknown, others_in_hand}
 use Rattle.cursor_exec.proofs.next_rows.print_next.Goals as goal
 
 pub returns-in_default-clause-steps : goal.returns-in_default-clause-steps
@@ -37,3 +38,36 @@ returns-in-Err-clause-steps g c =
 
 pub returns-in_default-clause-plain : goal.returns-in_default-clause-plain
 returns-in_default-clause-plain g c = plain_none (g.K.Sink.took c.args.out.now)
+
+-- the names alone decide, whatever the disk tells
+pub returns-in_default-clause-unknown : goal.returns-in_default-clause-unknown
+returns-in_default-clause-unknown g c = next_unknown c.args.name.now c.args.cursors.now.items
+    (none_shown c.deref.result.now c.args.cursors.now.items c.as_str.result.now c.args.name.now c.place_of.result c.place_of.ensures c.as_str.ensures c.deref.ensures.value c.in_default.is)
+
+pub returns-in-Ok-clause-unknown : goal.returns-in-Ok-clause-unknown
+returns-in-Ok-clause-unknown g c = next_known c.args.name.now c.args.cursors.now.items c.in-Some.at (Ok c.in-Ok.end)
+    (first_shown c.deref.result.now c.args.cursors.now.items c.as_str.result.now c.args.name.now c.place_of.result c.in-Some.at c.place_of.ensures c.as_str.ensures c.deref.ensures.value c.in-Some.is) c.in-Ok.ensures.pages
+
+pub returns-in-Ok-clause-names : goal.returns-in-Ok-clause-names
+returns-in-Ok-clause-names g c = names_in_hand c.args.name.now c.args.cursors.now.items c.in-Some.at c.index_mut-open.result.now c.print_steps.new.cursor
+    c.index_mut-open.ensures.value
+    (first_shown c.deref.result.now c.args.cursors.now.items c.as_str.result.now c.args.name.now c.place_of.result c.in-Some.at c.place_of.ensures c.as_str.ensures c.deref.ensures.value c.in-Some.is)
+
+pub returns-in-Ok-clause-others : goal.returns-in-Ok-clause-others
+returns-in-Ok-clause-others g c = others_in_hand c.args.name.now c.args.cursors.now.items c.in-Some.at c.index_mut-open.result.now c.print_steps.new.cursor
+    c.index_mut-open.ensures.value
+    (first_shown c.deref.result.now c.args.cursors.now.items c.as_str.result.now c.args.name.now c.place_of.result c.in-Some.at c.place_of.ensures c.as_str.ensures c.deref.ensures.value c.in-Some.is)
+
+pub returns-in-Err-clause-unknown : goal.returns-in-Err-clause-unknown
+returns-in-Err-clause-unknown g c = next_known c.args.name.now c.args.cursors.now.items c.in-Some.at (Err c.in-Err.field-0)
+    (first_shown c.deref.result.now c.args.cursors.now.items c.as_str.result.now c.args.name.now c.place_of.result c.in-Some.at c.place_of.ensures c.as_str.ensures c.deref.ensures.value c.in-Some.is) tt
+
+pub returns-in-Err-clause-names : goal.returns-in-Err-clause-names
+returns-in-Err-clause-names g c = names_in_hand c.args.name.now c.args.cursors.now.items c.in-Some.at c.index_mut-open.result.now c.print_steps.new.cursor
+    c.index_mut-open.ensures.value
+    (first_shown c.deref.result.now c.args.cursors.now.items c.as_str.result.now c.args.name.now c.place_of.result c.in-Some.at c.place_of.ensures c.as_str.ensures c.deref.ensures.value c.in-Some.is)
+
+pub returns-in-Err-clause-others : goal.returns-in-Err-clause-others
+returns-in-Err-clause-others g c = others_in_hand c.args.name.now c.args.cursors.now.items c.in-Some.at c.index_mut-open.result.now c.print_steps.new.cursor
+    c.index_mut-open.ensures.value
+    (first_shown c.deref.result.now c.args.cursors.now.items c.as_str.result.now c.args.name.now c.place_of.result c.in-Some.at c.place_of.ensures c.as_str.ensures c.deref.ensures.value c.in-Some.is)

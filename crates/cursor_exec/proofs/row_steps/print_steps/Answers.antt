@@ -5,7 +5,7 @@ use Rattle.plan_cursor.specs.Standing.{IsAt}
 use Rattle.plan_rows.specs.Rows.{counts_of}
 use Rattle.plan_steps.specs.Paying.{prices}
 use Rattle.cursor_exec.proofs.CausedSteps.{page_no_file}
-use Rattle.cursor_exec.proofs.StepCalls.{told_end, told_fault, told_broken, told_stands}
+use Rattle.cursor_exec.proofs.StepCalls.{of_pages, told_end, told_fault, told_broken, told_stands}
 use Rattle.cursor_exec.proofs.row_steps.print_steps.Goals as goal
 
 pub returns-in-Ok-Rows-clause-steps : goal.returns-in-Ok-Rows-clause-steps
@@ -34,3 +34,6 @@ returns-in-Err-clause-steps g c =
 
 pub returns-in-Ok-Refused-clause-no_file : goal.returns-in-Ok-Refused-clause-no_file
 returns-in-Ok-Refused-clause-no_file g c = rw c.refusal_of.ensures (page_no_file c.in-Ok-Refused.fault)
+
+pub returns-in-Ok-Refused-clause-pages : goal.returns-in-Ok-Refused-clause-pages
+returns-in-Ok-Refused-clause-pages g c = rw c.refusal_of.ensures (of_pages c.in-Ok-Refused.fault)

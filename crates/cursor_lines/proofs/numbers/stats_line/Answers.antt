@@ -11,12 +11,12 @@ use Rattle.cursor_lines.proofs.numbers.stats_line.Goals as goal
 pub returns-in-Some-clause-written : goal.returns-in-Some-clause-written
 returns-in-Some-clause-written g c = λ pages cs own all counted catalog pool.
     numbers_written catalog cs pool c.args.name.now (g.K.Sink.took c.args.out.now) (g.K.Sink.took c.write_numbers.new.out) counted c.in-Some.numbers
-    (c.in-Some.ensures pages cs own all) c.write_numbers.result c.write_numbers.ensures.written c.write_numbers.ensures.prefix
+    (c.in-Some.ensures.numbers pages cs own all) c.write_numbers.result c.write_numbers.ensures.written c.write_numbers.ensures.prefix
 
 pub returns-in-None-clause-written : goal.returns-in-None-clause-written
 returns-in-None-clause-written g c = λ pages cs own all counted catalog pool.
     no_numbers_written catalog cs pool c.args.name.now (g.K.Sink.took c.args.out.now) (g.K.Sink.took c.answer_with.new.out)
-    (c.in-None.ensures pages cs own all) c.answer_with.result c.answer_with.ensures.written c.answer_with.ensures.prefix
+    (c.in-None.ensures.numbers pages cs own all) c.answer_with.result c.answer_with.ensures.written c.answer_with.ensures.prefix
 
 pub returns-in-Some-clause-plain : goal.returns-in-Some-clause-plain
 returns-in-Some-clause-plain g c = λ pool.
