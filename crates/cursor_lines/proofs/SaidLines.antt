@@ -3,7 +3,7 @@ use Rattle.std.proofs.Common.{ℕ, List, Some, sym, subst, inl}
 use Rattle.sand_model.specs.Cursor.{OutputLine}
 use Rattle.sand_model.specs.Run.{LineOutcome}
 use Rattle.sand_model.specs.Statement.{ScriptLine}
-use Rattle.script_run.proofs.LineCalls.{finds_own}
+use Rattle.script_run.proofs.LineCalls.{finds_own, says_any}
 use Rattle.script_run.specs.Carrying.{CarriesLine}
 use Rattle.script_run.specs.Reading.{Says}
 use Rattle.script_run.specs.Turns.{spoken}
@@ -16,9 +16,12 @@ pub said_beside : (line : List ℕ) (statement : Statement) (old new : Moment) (
     → CarriesLine (Some line) old new lines
 said_beside line statement old new lines says h = (
   h.0,
-  λ told is t disk shelf setting gap s. (
-    setting,
-    finds_own old.files setting told s.files,
-    inl (subst (λ (x : ScriptLine). LineOutcome setting (rises_between old new) old.state x lines new.state) (sym (says.1 told is)) (h.1 t disk shelf setting gap s)),
+  λ told is. (
+    says_any line statement told lines says is,
+    λ t disk shelf setting gap s. (
+      setting,
+      finds_own old.files setting told s.files,
+      inl (subst (λ (x : ScriptLine). LineOutcome setting (rises_between old new) old.state x lines new.state) (sym (says.1 told is)) (h.1 t disk shelf setting gap s)),
+    ),
   ),
 )

@@ -1,5 +1,5 @@
 -- What a line's turn comes to, from what it says.
-use Rattle.std.proofs.Common.{◌≡◌, ◌⊎◌, ℕ, true, false, List, [], ◌∷◌, Option, Some, None, refl, sym, ◌∙◌, ap, subst, inl, inr}
+use Rattle.std.proofs.Common.{◌≡◌, ◌⊎◌, ℕ, Bool, true, false, true≢false, List, [], ◌∷◌, Option, Some, None, refl, sym, ◌∙◌, ap, subst, inl, inr}
 use Rattle.std.specs.Prelude.{Result, Ok, Err, IfOk, OnErr}
 use Rattle.sand_base.specs.Shelf.{Files}
 use Rattle.sand_base.specs.declared.refusal.Refusal.{Refusal}
@@ -14,6 +14,8 @@ use Rattle.sand_model.specs.StatementChecks.{Setting}
 use Rattle.output_text.specs.Writing.{Writes, WritesPrefix}
 use Rattle.script_text.specs.InRange.{IsInRange}
 use Rattle.script_text.specs.Statement.{StatementValue, statement_value}
+use Rattle.script_text.specs.declared.parse.LineFault.{LineFault}
+use Rattle.script_text.specs.declared.parse.LineFault.TheVariants as fault
 use Rattle.script_text.specs.declared.statement.Statement.{Statement}
 use Rattle.statement_exec.specs.Causes.{BlamesNone}
 use Rattle.statement_exec.specs.Ending.{refused_line}
@@ -25,7 +27,8 @@ use Rattle.script_run.specs.Carrying.{CarriesLine}
 use Rattle.script_run.specs.LineTurns.{LineTurns, LineBreaks}
 use Rattle.script_run.specs.Reading.{Says, Refuses, IsRefusedSo}
 use Rattle.script_run.specs.ShelfRun.{Finds}
-use Rattle.script_run.specs.Spoken.{IsLine, statement_of}
+use Rattle.script_run.specs.Spoken.{IsLine, Tells, statement_of}
+use Rattle.script_run.specs.Unread.{AnswersSaid}
 use Rattle.script_run.specs.Turns.{Turns, Breaks, HasPlan, spoken}
 use Rattle.script_run.specs.declared.turn.Turn.{Turn}
 use Rattle.script_run.specs.declared.turn.Turn.TheVariants as turn
@@ -41,33 +44,81 @@ outcome_found : (files : Option Files) (setting : Setting) (rises : Rises) (old 
 outcome_found files setting rises old (Load relation file header) lines new (found, told, h) = (record setting { files = found }, (found, told, refl), h)
 outcome_found files setting rises old _ lines new h = (setting, refl, h)
 
+-- the line is too long
+abbrev is_too_long : ScriptLine → Bool
+is_too_long TooLong = true
+is_too_long _ = false
+
 -- what a line does in the setting that it finds, or that it is refused as out of memory
 abbrev Goes : Moment → Moment → List OutputLine → Setting → ScriptLine → Type 0
 Goes old new lines setting told =
     (own : Setting) × Finds old.files setting told own × (LineOutcome own (rises_between old new) old.state told lines new.state ⊎ IsRefusedBy why.Memory old.state lines new.state)
+
+-- whatever a statement prints, its line says it
+pub says_any : (line : List ℕ) (statement : Statement) (told : ScriptLine) (lines : List OutputLine) → Says line (Some statement) → IsLine (Some line) told → AnswersSaid told lines
+says_any line statement told lines says is = subst (λ (t : ScriptLine). AnswersSaid t lines) (sym (says.1 told is)) tt
 
 -- a statement's outcome is that of its line
 of_statement : (line : List ℕ) (statement : Statement) (old new : Moment) (lines : List OutputLine) → Says line (Some statement) → Performs (spoken (statement_value statement)) old new lines
     → CarriesLine (Some line) old new lines
 of_statement line statement old new lines says h = (
   h.0,
-  λ told is t disk shelf setting gap s.
-      let found = outcome_found old.files setting (rises_between old new) old.state (spoken (statement_value statement)) lines new.state (h.1 t disk shelf setting s) in
-      subst (Goes old new lines setting) (sym (says.1 told is)) (found.0, found.1, inl found.2),
+  λ told is. (
+    says_any line statement told lines says is,
+    λ t disk shelf setting gap s.
+        let found = outcome_found old.files setting (rises_between old new) old.state (spoken (statement_value statement)) lines new.state (h.1 t disk shelf setting s) in
+        subst (Goes old new lines setting) (sym (says.1 told is)) (found.0, found.1, inl found.2),
+  ),
 )
 
 -- a line that is passed over
 pub passed_over : (line : List ℕ) (m : Moment) → Says line None → CarriesLine (Some line) m m []
 passed_over line m says = (
   caused_none m m,
-  λ told is t disk shelf setting gap s.
-      subst (Goes m m [] setting) (sym (says told is)) (setting, refl, inl (refl, refl)),
+  λ told is. (
+    subst (λ (t : ScriptLine). AnswersSaid t []) (sym (says told is)) (inl refl),
+    λ t disk shelf setting gap s. subst (Goes m m [] setting) (sym (says told is)) (setting, refl, inl (refl, refl)),
+  ),
 )
+
+-- want of memory in the place of a line that isn't too long
+memory_said : (line : List ℕ) (told : ScriptLine) → IsLine (Some line) told → AnswersSaid told (Refused why.Memory ∷ [])
+memory_said line Blank is = inr refl
+memory_said line TooLong is = absurd (not_long is.0 is.2) where
+  not_long : (answer : Result (Option StatementValue) LineFault) → Tells answer TooLong → ⊥
+  not_long (Ok None) e = true≢false (ap is_too_long e)
+  not_long (Ok (Some s)) e = true≢false (ap is_too_long e)
+  not_long (Err (fault.Syntax column)) e = true≢false (ap is_too_long e)
+  not_long (Err fault.Range) e = true≢false (ap is_too_long e)
+  not_long (Err fault.Memory) e = e
+memory_said line (BadToken column) is = inr refl
+memory_said line OutOfRange is = inr refl
+memory_said line (SaysOf s) is = tt
+
+-- a refusal by what a line says
+refused_said : (told : ScriptLine) (w : Refusal) → IsRefusedSo told w → AnswersSaid told (Refused w ∷ [])
+refused_said Blank w k = absurd k
+refused_said TooLong w k = absurd k
+refused_said (BadToken column) w k = inl (ap (λ (r : Refusal). Refused r ∷ []) k)
+refused_said OutOfRange w k = inl (ap (λ (r : Refusal). Refused r ∷ []) k)
+refused_said (SaysOf s) w k = absurd k
 
 -- a line that can't be read
 pub unread : (line : List ℕ) (m : Moment) (w : Refusal) → Refuses line w → BlamesNone w → CarriesLine (Some line) m m (Refused w ∷ [])
-unread line m w (inl e) none = (caused_inside m m w none, λ told is t disk shelf setting gap s. (setting, finds_own m.files setting told s.files, inr (ap (λ (r : Refusal). Refused r ∷ []) e, refl)))
-unread line m w (inr h) none = (caused_inside m m w none, λ told is t disk shelf setting gap s. (setting, finds_own m.files setting told s.files, inl (by_line setting told (h told is)))) where
+unread line m w (inl e) none = (
+  caused_inside m m w none,
+  λ told is. (
+    subst (λ (r : Refusal). AnswersSaid told (Refused r ∷ [])) (sym e) (memory_said line told is),
+    λ t disk shelf setting gap s. (setting, finds_own m.files setting told s.files, inr (ap (λ (r : Refusal). Refused r ∷ []) e, refl)),
+  ),
+)
+unread line m w (inr h) none = (
+  caused_inside m m w none,
+  λ told is. (
+    refused_said told w (h told is),
+    λ t disk shelf setting gap s. (setting, finds_own m.files setting told s.files, inl (by_line setting told (h told is))),
+  ),
+) where
   by_line : (setting : Setting) (told : ScriptLine) → IsRefusedSo told w → LineOutcome setting (rises_between m m) m.state told (Refused w ∷ []) m.state
   by_line setting Blank k = absurd k
   by_line setting TooLong k = absurd k
@@ -79,8 +130,10 @@ unread line m w (inr h) none = (caused_inside m m w none, λ told is t disk shel
 too_long : (m : Moment) → CarriesLine None m m (Refused why.LineTooLong ∷ [])
 too_long m = (
   caused_inside m m why.LineTooLong tt,
-  λ told is t disk shelf setting gap s.
-      subst (Goes m m (Refused why.LineTooLong ∷ []) setting) (sym is) (setting, refl, inl (refl, refl)),
+  λ told is. (
+    subst (λ (t : ScriptLine). AnswersSaid t (Refused why.LineTooLong ∷ [])) (sym is) refl,
+    λ t disk shelf setting gap s. subst (Goes m m (Refused why.LineTooLong ∷ []) setting) (sym is) (setting, refl, inl (refl, refl)),
+  ),
 )
 
 module _ (old new : Moment) (a b : List ℕ → Type 0) where

@@ -19,6 +19,7 @@ use Rattle.statement_exec.specs.Moment.{Moment, rises_between, IsSettingOf}
 use Rattle.script_run.specs.Carrying.{CarriesLine, CarriesLines, Follows}
 use Rattle.script_run.specs.ShelfRun.{Finds, ShelfRun}
 use Rattle.script_run.specs.Spoken.{IsLine, AreLines}
+use Rattle.script_run.specs.Unread.{AnswersSaid, AnswerInOrder}
 
 -- a line of a run, or its want of memory
 abbrev Goes : Setting → Rises → State → ScriptLine → List OutputLine → State → Type 0
@@ -66,6 +67,12 @@ run_append files setting old mid new (x ∷ script) line before own all printed 
   },
 )
 
+-- one more line printed by what it says, behind the others
+answer_append : (script : List ScriptLine) (line : ScriptLine) (printed more : List OutputLine) → AnswerInOrder script printed → AnswersSaid line more → AnswerInOrder (script ++ line ∷ []) (printed ++ more)
+answer_append [] line printed more none last = (more, [], last, refl, ap (λ (p : List OutputLine). p ++ more) none ∙ sym (append-nil more))
+answer_append (x ∷ script) line printed more (own, others, one, rest, is) last =
+    (own, others ++ more, one, answer_append script line others more rest last, ap (λ (p : List OutputLine). p ++ more) is ∙ append_assoc own others more)
+
 -- what lines and one more line say is what these say and what that one says
 split_lines : (lines : List (List ℕ)) (line : List ℕ) (script : List ScriptLine) → AreLines (lines ++ line ∷ []) script
     → (before : List ScriptLine) × ((told : ScriptLine) × ((script ≡ before ++ told ∷ []) × (AreLines lines before × IsLine (clipped line) told)))
@@ -103,22 +110,28 @@ pub lines_append : (old mid new : Moment) (lines : List (List ℕ)) (line : List
     → CarriesLines lines old mid printed → CarriesLine (clipped line) mid new more → CarriesLines (lines ++ line ∷ []) old new (printed ++ more)
 lines_append old mid new lines line printed more f g ran own = (
   caused_append old mid new printed more f g ran.0 own.0,
-  λ script are told disk shelf setting gap s.
+  λ script are.
       let parts = split_lines lines line script are in
       let before : List ScriptLine = parts.0 in
       let last : ScriptLine = parts.1.0 in
-      let disk_up : mid.disk ≤ new.disk = g.disk disk in
-      let shelf_up : mid.shelf ≤ new.shelf = g.shelf shelf in
-      let disk' : mid.disk < last_count = omega (arith, disk, disk_up) in
-      let shelf' : mid.shelf < last_count = omega (arith, shelf, shelf_up) in
-      let told' : IsTrue mid.told = f.told ∙ told in
-      let one = own.1 last parts.1.1.1.1 told' disk shelf setting gap (setting_later old mid setting f s) in
-      let finds : Finds old.files setting last one.0 = subst (λ (x : Option Files). Finds x setting last one.0) f.files one.1 in
-      let all : ShelfRun old.files setting old.state before (rises_between old mid) printed mid.state = ran.1 before parts.1.1.1.0 told disk' shelf' setting gap s in
-      let fit : FitIn (rises_between old mid) (rises_between mid new) (rises_between old new) =
-      record { disk = omega (arith, f.disk disk', disk_up); shelf = omega (arith, f.shelf shelf', shelf_up) } in
-      subst (λ (xs : List ScriptLine). ShelfRun old.files setting old.state xs (rises_between old new) (printed ++ more) new.state) (sym parts.1.1.0)
-      (run_append old.files setting old.state mid.state new.state before last (rises_between old mid) (rises_between mid new) (rises_between old new) printed more one.0 all finds one.2 fit),
+      let one = own.1 last parts.1.1.1.1 in
+      let others = ran.1 before parts.1.1.1.0 in
+      (
+        subst (λ (xs : List ScriptLine). AnswerInOrder xs (printed ++ more)) (sym parts.1.1.0) (answer_append before last printed more others.0 one.0),
+        λ told disk shelf setting gap s.
+            let disk_up : mid.disk ≤ new.disk = g.disk disk in
+            let shelf_up : mid.shelf ≤ new.shelf = g.shelf shelf in
+            let disk' : mid.disk < last_count = omega (arith, disk, disk_up) in
+            let shelf' : mid.shelf < last_count = omega (arith, shelf, shelf_up) in
+            let told' : IsTrue mid.told = f.told ∙ told in
+            let goes = one.1 told' disk shelf setting gap (setting_later old mid setting f s) in
+            let finds : Finds old.files setting last goes.0 = subst (λ (x : Option Files). Finds x setting last goes.0) f.files goes.1 in
+            let all : ShelfRun old.files setting old.state before (rises_between old mid) printed mid.state = others.1 told disk' shelf' setting gap s in
+            let fit : FitIn (rises_between old mid) (rises_between mid new) (rises_between old new) =
+            record { disk = omega (arith, f.disk disk', disk_up); shelf = omega (arith, f.shelf shelf', shelf_up) } in
+            subst (λ (xs : List ScriptLine). ShelfRun old.files setting old.state xs (rises_between old new) (printed ++ more) new.state) (sym parts.1.1.0)
+            (run_append old.files setting old.state mid.state new.state before last (rises_between old mid) (rises_between mid new) (rises_between old new) printed more goes.0 all finds goes.2 fit),
+      ),
 )
 
 -- what follows a moment that follows another follows that one

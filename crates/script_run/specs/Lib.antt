@@ -4,6 +4,8 @@ pub mod Spoken
 pub mod Reading
 -- Runs over a shelf that tells its data files or not.
 pub mod ShelfRun
+-- What lines print by what they say, over any disk.
+pub mod Unread
 -- What carrying lines out does.
 pub mod Carrying
 -- What the turn of a statement and of a line comes to.

@@ -15,6 +15,7 @@ use Rattle.sand_model.specs.Statement.{ScriptLine}
 use Rattle.script_run.specs.Carrying.{CarriesLine, CarriesLines, Follows, InEach}
 use Rattle.script_run.specs.ShelfRun.{ShelfRun}
 use Rattle.script_run.specs.Spoken.{AreLines}
+use Rattle.script_run.specs.Unread.{AnswerInOrder}
 use Rattle.script_run.proofs.Runs.{lines_append, follows_on, follows_itself}
 use Rattle.statement_exec.specs.Moment.{Moment, rises_between}
 use Rattle.statement_exec.proofs.CausedLines.{caused_none}
@@ -26,9 +27,10 @@ use Rattle.session.specs.declared.status.Status.TheVariants as status
 -- no line leads nowhere
 no_lines : (first : Moment) → CarriesLines [] first first []
 no_lines first = (caused_none first first, none) where
-  none : (script : List ScriptLine) → AreLines [] script → InEach first first (λ setting. ShelfRun first.files setting first.state script (rises_between first first) [] first.state)
-  none [] are told disk shelf setting lowest is = (refl, refl)
-  none (line ∷ script) are told disk shelf setting lowest is = absurd are
+  none : (script : List ScriptLine) → AreLines [] script
+      → AnswerInOrder script [] × InEach first first (λ setting. ShelfRun first.files setting first.state script (rises_between first first) [] first.state)
+  none [] are = (refl, λ told disk shelf setting lowest is. (refl, refl))
+  none (line ∷ script) are = absurd are
 
 -- a test of more at the end
 pub list_any-append : {X : Type 0} (p : X → Bool) (xs ys : List X) → list_any p (xs ++ ys) ≡ (list_any p xs || list_any p ys)

@@ -9,11 +9,13 @@ use Rattle.session.specs.Ends.{RunsOver}
 
 runs_over : (lines : List (List ℕ)) (first last : Moment) (printed : List OutputLine) → CarriesLines lines first last printed → RunsOver lines first last printed
 runs_over lines first last printed carries =
-    let said = script_told lines in (
+    let said = script_told lines in
+    let carried = carries.1 said.0 said.1 in (
       said.0,
       said.1,
       carries.0,
-      carries.1 said.0 said.1,
+      carried.0,
+      carried.1,
     )
 
 pub prints_run : (lines : List (List ℕ)) (first last : Moment) (b : Bool) (text : List ℕ) → Prints (CarriesLines lines first last) b text → Prints (RunsOver lines first last) b text

@@ -249,7 +249,7 @@ module _ (catalog : CatalogView) (old mid : Spot) (items : List (OpenCursor Sour
             lines = so_far.printed.lines;
             holds = (
               caused_state first (beside run.cs catalog mid.desk.pool files shelf) (beside [] catalog mid.desk.pool files shelf).state so_far.printed.lines so_far.printed.holds.0,
-              λ said are told. absurd (false≢true (sym e ∙ so_far.follows.told ∙ told)),
+              λ said are. ((so_far.printed.holds.1 said are).0, λ told. absurd (false≢true (sym e ∙ so_far.follows.told ∙ told))),
             );
             told = so_far.printed.told;
             refused = so_far.printed.refused;

@@ -84,7 +84,7 @@ counted_of n b limits old new last text files p told disk shelf =
     let s = moment_setting first in
     let rises : Rises = rises_between first (last_moment limits old new last) in
     let ran : Run s.0 first.state p.holds.0 rises p.lines last =
-    run_told first.files s.0 empty_files first.state last p.holds.0 rises p.lines files (s.2.files empty_files files) (p.holds.3 told disk shelf s.0 s.1 s.2) in
+    run_told first.files s.0 empty_files first.state last p.holds.0 rises p.lines files (s.2.files empty_files files) (p.holds.4 told disk shelf s.0 s.1 s.2) in
     ap (λ (k : ℕ). min k last_count) (run_seen s.0 s.2.is (workload n) p.holds.0 p.holds.1 rises p.lines last ran text p.told)
 
 -- What is said of a run whose text was counted, by what the sink took of its summary.
