@@ -1,10 +1,10 @@
 //! A buffer pool of pages over a disk, with commands that commit or leave all as it was.
 //!
-//! What a command changes is staged in one map, `None` for a page that it freed. So an abort drops the map, a
-//! commit keeps it, and neither takes memory. `begin` and `flush` write what waits; a page that was written
-//! moves into the frames, which keep clean pages in order of use. The SHA-256 digest of each written page is
-//! kept and compared when the page comes back from the disk. Above: `code_btree`, `tuple_file`, and by `Desk`
-//! the search engine. Below: `sand_base`, and `lru` and `sha2` of the kit.
+//! What a command changes is staged in one table by number, `None` for a page that it freed, beside the set of
+//! those numbers. So an abort empties their places, a commit keeps them, and neither takes memory. `begin` and
+//! `flush` write what waits; a page that was written moves into the frames, which keep clean pages in order of use.
+//! The SHA-256 digest of each written page is kept and compared when the page comes back from the disk. Above:
+//! `code_btree`, `tuple_file`, and by `Desk` the search engine. Below: `sand_base`, and `lru` and `sha2` of the kit.
 //! Contracts see a pool as the record `PoolState`; read `specs/Disk.antt` and `specs/Pool.antt` first.
 //! Buffer pools and steal/no-force policies after T. Haerder and A. Reuter (1983); digests of pages as in R. C.
 //! Merkle (1987).
