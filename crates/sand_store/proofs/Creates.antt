@@ -31,6 +31,7 @@ use Rattle.sand_store.specs.Tuples.{row_in}
 use Rattle.sand_store.proofs.Places.{early_create, twice_none}
 use Rattle.sand_store.proofs.Refusals.{IsNew, create_passes}
 use Rattle.sand_store.proofs.Frames.{untouched}
+use Rattle.sand_store.proofs.Sketched.{sketched_more}
 use Rattle.sand_store.specs.TableLaws.{SameOn}
 use Rattle.sand_store.proofs.Stays.{database_stays, relations_stand, catalog_pages_stay}
 
@@ -148,6 +149,7 @@ pub created_is : (old new : PoolState) (rs us : List RelationView) (limits : Lim
     → Adds old new rs us name schema → Created (store_from rs limits old) (store_from us limits new) name schema
 created_is old new rs us limits name schema h passes a = record {
   passes = λ setting is l. (early_create setting old.pages rs name schema ∙ passes, λ told. refl);
+  sketched = sketched_more rs us name schema a.file a.added;
   becomes = λ told gap is. (
       ap (λ (xs : List RelationView). database_in new.pages xs) a.added
       ∙ database_more old.pages new.pages rs limits name schema a.file (h.stands told) (a.planted told));

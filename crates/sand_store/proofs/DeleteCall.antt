@@ -26,6 +26,7 @@ use Rattle.sand_store.specs.Calls.{alone, Refuses, IsRefusedBy, Deleted, is_miss
 use Rattle.sand_store.specs.Catalog.{RelationView, CatalogView, StoreState, is_named, IsDescribed}
 use Rattle.sand_store.specs.Contents.{rows_in, relation_in, database_in}
 use Rattle.sand_store.specs.Leaving.{RelationCanLose, shrunk_view, IsOutsideOrMissing, there_check}
+use Rattle.sand_store.specs.Sketches.{sketch_of}
 use Rattle.sand_store.specs.Standing.{CatalogStands, RelationStands, IsStore}
 use Rattle.sand_store.specs.Steps.{store_from, Became, FirstAt, SamePlaces, IsOutside}
 use Rattle.sand_store.proofs.Changes.{becomes_in_place}
@@ -33,6 +34,7 @@ use Rattle.sand_store.proofs.Found.{none_found, found_at, relation_at}
 use Rattle.sand_store.proofs.Inserts.{described_at, stands_at, owns_at}
 use Rattle.sand_store.proofs.Places.{named_in}
 use Rattle.sand_store.proofs.Refusals.{outside_refuses}
+use Rattle.sand_store.proofs.Sketched.{kept_in_place}
 
 -- the early check of a deletion is that its relation is there
 early_delete : (setting : Setting) (m : PageMap) (rs : List RelationView) (name : List ℕ) (id : ℕ)
@@ -160,9 +162,10 @@ shrunk_described limits r file after h p = record {
 -- what the loss of a row is to the database
 pub deleted_is : (old new : PoolState) (limits : Limits) (name : List ℕ) (id : ℕ) (row : List Value) (rs us : List RelationView) (at : ℕ) (r u : RelationView)
     → IsStore (record { relations = rs; limits = limits }) old → FirstAt name rs at → at < length rs → r ≡ get_or rs at r → us ≡ set rs at u
-    → (IsTold old → of_id id (rows_in old.pages r) ≡ Some row) → (IsTold old → Became old.pages new.pages limits r u (λ gap. without_row id))
+    → sketch_of u ≡ sketch_of r → (IsTold old → of_id id (rows_in old.pages r) ≡ Some row) → (IsTold old → Became old.pages new.pages limits r u (λ gap. without_row id))
     → Deleted (store_from rs limits old) (store_from us limits new) name id
-deleted_is old new limits name id row rs us at r u h first l here is there b = record {
+deleted_is old new limits name id row rs us at r u h first l here is sketch there b = record {
   passes = λ setting s e. (early_passes setting old.pages rs name id at r first here, λ told. late_delete setting old.pages rs name id at r (Some row) first here (there told));
+  sketched = kept_in_place rs us at r u l here is sketch;
   becomes = λ told gap s. becomes_in_place old new limits name rs us at r u (λ g. without_row id) h first l here is b told gap s;
 }

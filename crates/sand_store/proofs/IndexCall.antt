@@ -31,6 +31,7 @@ use Rattle.sand_store.specs.Catalog.{RelationView, StoreState, is_named, IsColum
 use Rattle.sand_store.specs.Contents.{index_in, indexes_in, relation_in, rows_in, database_in}
 use Rattle.sand_store.specs.Ownership.{path_pages, paths_pages, relation_pages}
 use Rattle.sand_store.specs.Paths.{path_at}
+use Rattle.sand_store.specs.Sketches.{with_indexed}
 use Rattle.sand_store.specs.Standing.{PathStands, RelationStands, CatalogStands, IsStore}
 use Rattle.sand_store.specs.Steps.{store_from, Became, FirstAt, IsOutsideOrFull}
 use Rattle.sand_store.specs.TableLaws.{SameOn}
@@ -43,6 +44,7 @@ use Rattle.sand_store.proofs.InsertCall.{stands_within}
 use Rattle.sand_store.proofs.Midway.{full_mid}
 use Rattle.sand_store.proofs.Places.{named_in}
 use Rattle.sand_store.proofs.RowLists.{Rows}
+use Rattle.sand_store.proofs.Sketched.{indexed_sketch, sketched_in_place}
 use Rattle.sand_store.proofs.Stays.{relation_stands, relation_pages_stay, rows_stay, indexes_stay, same_left, same_right}
 
 abbrev Paths : Type 0
@@ -274,14 +276,15 @@ became_by m w limits r u column given place threshold wanted b = record {
 -- what the new index is to the database
 pub indexed_is : (old new : PoolState) (limits : Limits) (column : Column) (given : Option ℕ) (rs us : List RelationView) (at : ℕ) (r u : RelationView) (place : ℕ) (threshold : Option ℕ)
     → IsStore (record { relations = rs; limits = limits }) old → FirstAt column.relation rs at → at < length rs → r ≡ get_or rs at r → us ≡ set rs at u → IsWanted r column.column given place threshold
-    → (IsTold old → Became old.pages new.pages limits r u (λ gap. indexed_by gap column given)) → Indexed (store_from rs limits old) (store_from us limits new) column given
-indexed_is old new limits column given rs us at r u place threshold h first l here is wanted b = record {
+    → HasPath r u place → (IsTold old → Became old.pages new.pages limits r u (λ gap. indexed_by gap column given)) → Indexed (store_from rs limits old) (store_from us limits new) column given
+indexed_is old new limits column given rs us at r u place threshold h first l here is wanted path b = record {
   passes = λ setting s e. (
     early_there setting old.pages rs column given at r first here ∙ wanted.passes,
     λ told.
         late_there setting limits old.pages rs column given at r first here e
         ∙ (ap (λ (x : Relation). check_listings limits x) (sym ((b told).means setting.gap s.gap)) ∙ stands_within new.pages limits u (b told).stands),
   );
+  sketched = sketched_in_place column.relation rs us at r u (with_indexed column.column) first here is (indexed_sketch r u column.column place wanted.place path);
   becomes = λ told gap s. becomes_in_place old new limits column.relation rs us at r u (λ g. indexed_by g column given) h first l here is b told gap s;
 }
 
@@ -378,11 +381,12 @@ store_indexed old new limits column given rs us at r x u place threshold h first
 
 pub database_indexed : (old new : PoolState) (limits : Limits) (column : Column) (given : Option ℕ) (rs us : List RelationView) (at : ℕ) (r x u : RelationView) (place : ℕ) (threshold : Option ℕ)
     → IsStore (record { relations = rs; limits = limits }) old → FirstAt column.relation rs at → at < length rs → r ≡ get_or rs at r → x ≡ r → us ≡ set rs at u
-    → IsWanted r column.column given place threshold → (IsTold old → Became old.pages new.pages limits x u (λ gap. with_index gap place threshold))
+    → IsWanted r column.column given place threshold → HasPath x u place → (IsTold old → Became old.pages new.pages limits x u (λ gap. with_index gap place threshold))
     → Indexed (store_from rs limits old) (store_from us limits new) column given
-database_indexed old new limits column given rs us at r x u place threshold h first l here same is wanted b =
+database_indexed old new limits column given rs us at r x u place threshold h first l here same is wanted path b =
+    let H : RelationView → Type 0 = λ y. HasPath y u place in
     let B : RelationView → Type 0 = λ y. IsTold old → Became old.pages new.pages limits y u (λ gap. with_index gap place threshold) in
-    indexed_is old new limits column given rs us at r u place threshold h first l here is wanted
+    indexed_is old new limits column given rs us at r u place threshold h first l here is wanted (subst H same path)
     (λ told. became_by old.pages new.pages limits r u column given place threshold wanted (subst B same b told))
 
 -- a full quadtree, told of the relation as it was read first

@@ -29,6 +29,7 @@ use Rattle.sand_store.specs.declared.path.AccessPath.TheVariants.{Quadtree, Attr
 use Rattle.sand_store.specs.Calls.{alone, Refuses, IsRefusedBy, Inserted, is_full, early_at, late_at}
 use Rattle.sand_store.specs.Catalog.{RelationView, StoreState, is_named, IsDescribed}
 use Rattle.sand_store.specs.Contents.{index_in, indexes_in, relation_in, database_in}
+use Rattle.sand_store.specs.Sketches.{sketch_of, with_ids}
 use Rattle.sand_store.specs.Standing.{PathStands, RelationStands, IsStore}
 use Rattle.sand_store.specs.Steps.{store_from, row_check, found_check, grown_view, Became, FirstAt, SamePlaces, IsOutsideOrFull, IsRefusedOrSpent}
 use Rattle.sand_store.proofs.Changes.{becomes_in_place}
@@ -36,6 +37,7 @@ use Rattle.sand_store.proofs.ColumnsOfShapes.{some_same}
 use Rattle.sand_store.proofs.Found.{none_found, found_at, relation_at}
 use Rattle.sand_store.proofs.Places.{early_insert}
 use Rattle.sand_store.proofs.RowGrowth.{row_some}
+use Rattle.sand_store.proofs.Sketched.{sketched_in_place}
 
 -- no relation has the name
 pub no_relation : (pool : PoolState) (rs : List RelationView) (limits : Limits) (name : List ℕ) (row : List Value) → position (is_named name) rs ≡ None
@@ -147,8 +149,8 @@ stands_within m limits r h = ap (λ (t : Bool). refused_where t why.IndexFull) (
 -- what the new row is to the database
 pub inserted_is : (old new : PoolState) (limits : Limits) (name : List ℕ) (row : List Value) (rs us : List RelationView) (at : ℕ) (r u : RelationView)
     → IsStore (record { relations = rs; limits = limits }) old → FirstAt name rs at → at < length rs → r ≡ get_or rs at r → us ≡ set rs at u → row_check limits r row ≡ None
-    → (IsTold old → Became old.pages new.pages limits r u (λ gap. with_row gap row)) → Inserted (store_from rs limits old) (store_from us limits new) name row r.next
-inserted_is old new limits name row rs us at r u h first l here is passes b = record {
+    → sketch_of u ≡ with_ids 1 (sketch_of r) → (IsTold old → Became old.pages new.pages limits r u (λ gap. with_row gap row)) → Inserted (store_from rs limits old) (store_from us limits new) name row r.next
+inserted_is old new limits name row rs us at r u h first l here is passes sketch b = record {
   passes = λ setting s e. (
     early_there setting limits old.pages rs name row at r first here e ∙ passes,
     λ told.
@@ -156,5 +158,6 @@ inserted_is old new limits name row rs us at r u h first l here is passes b = re
         ∙ (ap (λ (x : Relation). check_listings limits x) (sym ((b told).means setting.gap s.gap)) ∙ stands_within new.pages limits u (b told).stands),
   );
   next = (relation_in old.pages r, (relation_at old.pages name rs at r first here, refl));
+  sketched = sketched_in_place name rs us at r u (with_ids 1) first here is sketch;
   becomes = λ told gap s. becomes_in_place old new limits name rs us at r u (λ g. with_row g row) h first l here is b told gap s;
 }

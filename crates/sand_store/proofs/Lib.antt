@@ -21,6 +21,7 @@ pub mod Midway
 pub mod RowGrowth
 pub mod RowLoss
 pub mod Changes
+pub mod Sketched
 pub mod Inserts
 pub mod InsertCall
 -- the calls
@@ -29,6 +30,7 @@ pub mod Creates
 pub mod DeleteCall
 -- a load
 pub mod RowChecks
+pub mod PlainChecks
 pub mod SchemaRows
 pub mod Loads
 -- what a relation tells

@@ -1,6 +1,7 @@
 -- Rows enter a relation one after another: those that did, and those still to enter, make up the load.
-use Rattle.std.proofs.Common.{◌≡◌, ℕ, zero, suc, ◌+◌, ◌-◌, ◌<◌, true, false, List, [], ◌∷◌, length, drop, get_or, set, refl, sym, ◌∙◌, ap, subst, arith, Option, Some, None, inl, inr, true≢false}
+use Rattle.std.proofs.Common.{◌≡◌, ℕ, zero, suc, ◌+◌, ◌-◌, ◌<◌, true, false, List, [], ◌∷◌, ◌++◌, length, take, drop, get_or, set, refl, sym, ◌∙◌, ap, subst, arith, Option, Some, None, inl, inr, true≢false}
 use Rattle.std.specs.List.{find}
+use Rattle.std.proofs.lemmas.List.{take-append-drop}
 use Rattle.page_pool.specs.Disk.{PageMap}
 use Rattle.page_pool.specs.Pool.{PoolState, IsTold, IsClosed}
 use Rattle.page_pool.specs.Steps.{InCommand, InCommand-trans}
@@ -14,19 +15,22 @@ use Rattle.sand_model.specs.Database.{Relation, with_row}
 use Rattle.sand_model.specs.StatementChecks.{Setting, IsSetting}
 use Rattle.tuple_file.specs.declared.file.TupleFile.{TupleFile}
 use Rattle.sand_store.specs.declared.path.AccessPath.{AccessPath}
-use Rattle.sand_store.specs.Calls.{Refuses, is_of_a_row, loaded, load_early, load_late, LoadIsRefusedBy, Loaded}
+use Rattle.sand_store.specs.Calls.{Refuses, is_of_a_row, loaded, load_early, load_late, load_plain, LoadIsRefusedBy, RefusesRows, OnePasses, IsRefusedPlainly, Loaded}
 use Rattle.sand_store.specs.Catalog.{RelationView, StoreState, is_named, IsDescribed}
 use Rattle.sand_store.specs.Contents.{relation_in}
-use Rattle.sand_store.specs.Loads.{row_refusal, StopsAt, Counts, Enters}
+use Rattle.sand_store.specs.Loads.{row_refusal, plain_of, StopsAt, Counts, Enters}
 use Rattle.sand_store.specs.Ownership.{relation_pages}
+use Rattle.sand_store.specs.Sketches.{sketch_of, with_ids}
 use Rattle.sand_store.specs.Standing.{IsStore}
 use Rattle.sand_store.specs.Steps.{store_from, Became, SamePlaces, FirstAt, grown_view, row_check}
 use Rattle.sand_store.proofs.Changes.{put_in_place, becomes_in_place}
 use Rattle.sand_store.proofs.Found.{found_at}
 use Rattle.sand_store.proofs.InsertCall.{grown_described}
 use Rattle.sand_store.proofs.Places.{named_in}
+use Rattle.sand_store.proofs.PlainChecks.{load_plain_is, plain_next, plain_stops, refuses_by}
 use Rattle.sand_store.proofs.Refusals.{outside_refuses}
 use Rattle.sand_store.proofs.RowChecks.{row_passes}
+use Rattle.sand_store.proofs.Sketched.{counted_sketch, sketched_in_place}
 
 -- rows as lists of values
 abbrev Rows : Type 0
@@ -37,7 +41,9 @@ pub counts_one : (limits : Limits) (r : RelationView) (file : TupleFile) (paths 
     → row_check limits r row ≡ None → SamePlaces r.schema r.paths paths → Counts limits r (grown_view r file paths) 1
 counts_one limits r file paths row h passes same = record {
   name = refl;
+  schema = refl;
   next = refl;
+  places = same.places;
   described = grown_described limits r file paths row h passes same;
 }
 
@@ -68,6 +74,7 @@ pub record Loading (first now : PoolState) (limits : Limits) (r u : RelationView
   pub within : InCommand first now
   pub counted : now.disk.faults ≡ first.disk.faults
   pub counts : Counts limits r u at
+  pub passed : plain_of limits r (take at rows) ≡ None
   pub enters : IsTold first → Enters first.pages now.pages limits r u rows (drop at rows)
 
 -- what is left begins with the row at the place
@@ -92,7 +99,14 @@ pub loading_next : (first now next : PoolState) (limits : Limits) (r u x : Relat
 loading_next first now next limits r u x rows at row k l here within counted counts passes became = record {
   within = InCommand-trans first now next k.within within;
   counted = counted ∙ k.counted;
-  counts = record { name = counts.name ∙ k.counts.name; next = omega (arith, counts.next, k.counts.next); described = counts.described };
+  counts = record {
+    name = counts.name ∙ k.counts.name;
+    schema = counts.schema ∙ k.counts.schema;
+    next = omega (arith, counts.next, k.counts.next);
+    places = counts.places ∙ k.counts.places;
+    described = counts.described;
+  };
+  passed = plain_next limits r u rows at row k.counts.schema k.counts.next k.passed l here passes;
   enters = λ told. enters_next first.pages now.pages next.pages limits r u x rows row (drop (at + 1) rows) (before_row first now limits r u rows at row k l here told) passes
       (became (k.within.told ∙ told));
 }
@@ -110,6 +124,16 @@ loading_stops first now limits r u rows at row w k l here h = elim h [
         ∙ loaded_stops setting row (drop (at + 1) rows) (relation_in now.pages u) w (p.1 (k.within.told ∙ told) setting is e)),
   )
 ]
+
+-- one of its checks is the first of the load's that fails, or it passes
+pub loading_refuses : (first now : PoolState) (limits : Limits) (r u : RelationView) (rows : Rows) (at : ℕ) (row : List Value) (w : Refusal) → Loading first now limits r u rows at
+    → at < length rows → row ≡ get_or rows at row → RefusesRows (row_check limits u row) (row_check limits u row ≡ None) w
+    → RefusesRows (plain_of limits r rows) (OnePasses rows (plain_of limits r)) w
+loading_refuses first now limits r u rows at row w k l here h =
+    let split : rows ≡ take at rows ++ row ∷ drop (at + 1) rows = sym (take-append-drop at rows) ∙ ap (λ (rest : Rows). take at rows ++ rest) (drop_row rows at row l here) in
+    refuses_by (row_check limits u row) (plain_of limits r rows) (row_check limits u row ≡ None) (OnePasses rows (plain_of limits r)) w
+    (λ x fails. plain_stops limits r u rows at row (drop (at + 1) rows) x k.counts.schema k.counts.next k.passed l split fails)
+    (λ passes. (at, l, plain_next limits r u rows at row k.counts.schema k.counts.next k.passed l here passes)) h
 
 -- what a load refuses that is of a row
 late_refuses : (told : Type 0) (before behind : Option Refusal) (w : Refusal) → is_of_a_row w ≡ true → before ≡ None → (told → behind ≡ Some w)
@@ -146,6 +170,14 @@ load_stopped pool rs limits name rows r w e h = λ setting is l.
           (λ told. late_load setting pool rs limits name rows r e ∙ p.1 told setting is l)
     ]
 
+-- as far as its checks tell that need no page
+pub load_refuses : (pool : PoolState) (rs : List RelationView) (limits : Limits) (name : List ℕ) (rows : Rows) (r : RelationView) (w : Refusal) → find (is_named name) rs ≡ Some r
+    → RefusesRows (plain_of limits r rows) (OnePasses rows (plain_of limits r)) w → IsRefusedPlainly (store_from rs limits pool) name rows w
+load_refuses pool rs limits name rows r w e h =
+    let is : (xs : Rows) → load_plain (store_from rs limits pool) name xs ≡ plain_of limits r xs = λ xs. load_plain_is pool rs limits name xs r e in
+    refuses_by (plain_of limits r rows) (load_plain (store_from rs limits pool) name rows) (OnePasses rows (plain_of limits r)) (OnePasses rows (load_plain (store_from rs limits pool) name)) w
+    (λ x fails. is rows ∙ fails) (λ one. (one.0, one.1, is (take (one.0 + 1) rows) ∙ one.2)) h
+
 -- a relation that all rows entered became that one, and so it did by the load in each setting
 entered : (m w : PageMap) (limits : Limits) (r u : RelationView) (rows : Rows) → Enters m w limits r u rows [] → Became m w limits r u (λ gap relation. relation_in w u)
 entered m w limits r u rows k = record { stands = k.stands; means = λ gap is. refl; keeps = k.keeps }
@@ -169,12 +201,16 @@ loaded_store old new rs us limits name rows at r u h first l here is counts told
 -- what the rows are to the database
 pub loaded_is : (old new : PoolState) (rs us : List RelationView) (limits : Limits) (name : List ℕ) (rows : Rows) (at : ℕ) (r u : RelationView) (count : ℕ)
     → IsStore (record { relations = rs; limits = limits }) old → FirstAt name rs at → at < length rs → r ≡ get_or rs at r → us ≡ set rs at u → Counts limits r u (length rows)
-    → count ≡ u.next - r.next → (IsTold old → Enters old.pages new.pages limits r u rows []) → Loaded (store_from rs limits old) (store_from us limits new) name rows count
-loaded_is old new rs us limits name rows at r u count h first l here is counts counted enters =
+    → count ≡ u.next - r.next → plain_of limits r rows ≡ None → (IsTold old → Enters old.pages new.pages limits r u rows []) → Loaded (store_from rs limits old) (store_from us limits new) name rows count
+loaded_is old new rs us limits name rows at r u count h first l here is counts counted passed enters =
     let found : find (is_named name) rs ≡ Some r = found_at name rs at r first here in
+    let all : count ≡ length rows = omega (arith, counted, counts.next) in
     record {
-      counted = omega (arith, counted, counts.next);
+      counted = all;
       early = early_load old rs limits name r found;
+      plain = load_plain_is old rs limits name rows r found ∙ passed;
+      sketched = sketched_in_place name rs us at r u (with_ids count) first here is
+          (counted_sketch limits r u (length rows) counts ∙ ap (λ (n : ℕ). with_ids n (sketch_of r)) (sym all));
       late = λ told setting s e. late_load setting old rs limits name rows r found ∙ ap (λ (x : Option Refusal × Relation). x.0) ((enters told).whole setting s e);
       becomes = λ told setting s e. becomes_in_place old new limits name rs us at r u (λ gap relation. (loaded setting rows relation).1) h first l here is
           (λ t. entered_in setting s old.pages new.pages limits r u rows e (enters t)) told setting.gap s.gap;

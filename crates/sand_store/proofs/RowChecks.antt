@@ -20,7 +20,7 @@ use Rattle.sand_store.specs.Steps.{Became, IsOutside, IsRefusedOrSpent, row_chec
 use Rattle.sand_store.proofs.InsertCall.{stands_within}
 
 -- three checks and a fourth
-joined : (a b c d : Option Refusal) → first_refusal (a ∷ b ∷ c ∷ d ∷ []) ≡ first_refusal (first_refusal (a ∷ b ∷ c ∷ []) ∷ d ∷ [])
+pub joined : (a b c d : Option Refusal) → first_refusal (a ∷ b ∷ c ∷ d ∷ []) ≡ first_refusal (first_refusal (a ∷ b ∷ c ∷ []) ∷ d ∷ [])
 joined (Some a) b c d = refl
 joined None (Some b) c d = refl
 joined None None (Some c) d = refl

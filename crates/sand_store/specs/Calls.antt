@@ -1,7 +1,8 @@
 -- What the calls of a store do to its database, and why they are refused.
-use Rattle.std.specs.Prelude.{◌≡◌, ℕ, Bool, true, false, not, List, [], ◌∷◌, length, Option, Some, None, Result, Ok, Err, IfErr, ⊤}
+use Rattle.std.specs.Prelude.{◌≡◌, ℕ, ◌+◌, ◌<◌, Bool, true, false, not, List, [], ◌∷◌, ◌++◌, length, take, Option, Some, None, Result, Ok, Err, IfErr, ⊤}
 use Rattle.sand_base.specs.Faults.{next_count}
 use Rattle.sand_base.specs.declared.kind.Kind.{Kind}
+use Rattle.sand_base.specs.declared.limits.Limits.{Limits}
 use Rattle.sand_base.specs.declared.refusal.Refusal.{Refusal}
 use Rattle.sand_base.specs.declared.refusal.Refusal.TheVariants as why
 use Rattle.sand_base.specs.declared.value.Value.{Value}
@@ -18,6 +19,7 @@ use Rattle.sand_model.specs.Statement.{Statement, Create, Insert, Delete, Index}
 use Rattle.sand_model.specs.StatementChecks.{Setting, IsSetting, early, late, refused_where, in_relation, is_row_of, check_length, check_ids, check_listings, indexed_by}
 use Rattle.sand_store.specs.Catalog.{StoreState}
 use Rattle.sand_store.specs.Contents.{database}
+use Rattle.sand_store.specs.Sketches.{sketches, new_sketch, with_ids, with_indexed, sketched_at}
 
 -- a fault of a page, as a statement is refused by it
 abbrev pub refusal_of : PageFault → Refusal
@@ -119,22 +121,26 @@ Becomes old new change = IsTold old.pool → (gap : Measure) → IsMeasure gap �
 -- a new relation is there, the last one
 pub record Created (old new : StoreState) (name : List ℕ) (schema : List (List ℕ × Kind)) : Type 0 where
   pub passes : Passes old (Create name schema)
+  pub sketched : sketches new ≡ sketches old ++ new_sketch name schema ∷ []
   pub becomes : Becomes old new (λ gap d. with_relation (new_relation name schema) d)
 
 -- the relation has the row, under the id that was its next one
 pub record Inserted (old new : StoreState) (name : List ℕ) (row : List Value) (id : ℕ) : Type 0 where
   pub passes : Passes old (Insert name row)
   pub next : (relation : Relation) × ((relation_named (database old) name ≡ Some relation) × (id ≡ relation.next))
+  pub sketched : sketches new ≡ sketched_at name (with_ids 1) (sketches old)
   pub becomes : Becomes old new (λ gap d. changed_at name (with_row gap row) d)
 
 -- the relation lacks the row of the id
 pub record Deleted (old new : StoreState) (name : List ℕ) (id : ℕ) : Type 0 where
   pub passes : Passes old (Delete name id)
+  pub sketched : sketches new ≡ sketches old
   pub becomes : Becomes old new (λ gap d. changed_at name (without_row id) d)
 
 -- the relation has an index of the column, with the rows that were there
 pub record Indexed (old new : StoreState) (column : Column) (threshold : Option ℕ) : Type 0 where
   pub passes : Passes old (Index column threshold)
+  pub sketched : sketches new ≡ sketched_at column.relation (with_indexed column.column) (sketches old)
   pub becomes : Becomes old new (λ gap d. changed_at column.relation (indexed_by gap column threshold) d)
 
 -- the values of a row are of the kinds of the columns
@@ -166,9 +172,37 @@ abbrev pub LoadIsRefusedBy : StoreState → List ℕ → List (List Value) → R
 LoadIsRefusedBy store name rows refusal =
     Within store (λ setting. Refuses (IsTold store.pool) is_of_a_row (load_early store name) (load_late setting store name rows) refusal)
 
+-- the checks of rows that need no page, each row under the id that it would get
+
+abbrev pub plain_checks : Limits → List (List Value) → Relation → Option Refusal
+plain_checks limits [] relation = None
+plain_checks limits (row ∷ rows) relation =
+    first_refusal (check_kinds relation row ∷ check_length row ∷ check_ids limits relation ∷ plain_checks limits rows (record relation { next = relation.next + 1 }) ∷ [])
+
+abbrev pub load_plain : StoreState → List ℕ → List (List Value) → Option Refusal
+load_plain store name rows = in_relation (database store) name (plain_checks store.catalog.limits rows)
+
+-- Why rows are refused, as far as these checks tell: by the first of them that fails; or a quadtree is full, after some passed.
+abbrev pub RefusesRows : Option Refusal → Type 0 → Refusal → Type 0
+RefusesRows check passed why.WrongKind = check ≡ Some why.WrongKind
+RefusesRows check passed why.TupleTooLong = check ≡ Some why.TupleTooLong
+RefusesRows check passed why.IdsSpent = check ≡ Some why.IdsSpent
+RefusesRows check passed why.IndexFull = passed
+RefusesRows check passed _ = ⊤
+
+-- one of the rows passes the checks, with all before it
+abbrev pub OnePasses : List (List Value) → (List (List Value) → Option Refusal) → Type 0
+OnePasses rows checks = (at : ℕ) × (at < length rows) × (checks (take (at + 1) rows) ≡ None)
+
+-- a load is refused so, over any disk
+abbrev pub IsRefusedPlainly : StoreState → List ℕ → List (List Value) → Refusal → Type 0
+IsRefusedPlainly store name rows refusal = RefusesRows (load_plain store name rows) (OnePasses rows (load_plain store name)) refusal
+
 -- the relation has the rows, and so many they are
 pub record Loaded (old new : StoreState) (name : List ℕ) (rows : List (List Value)) (count : ℕ) : Type 0 where
   pub counted : count ≡ length rows
   pub early : load_early old name ≡ None
+  pub plain : load_plain old name rows ≡ None
+  pub sketched : sketches new ≡ sketched_at name (with_ids count) (sketches old)
   pub late : IsTold old.pool → Within old (λ setting. load_late setting old name rows ≡ None)
   pub becomes : IsTold old.pool → Within old (λ setting. database new ≡ changed_at name (λ relation. (loaded setting rows relation).1) (database old))

@@ -1,5 +1,7 @@
 -- Read in this order. The catalog and the state of a store.
 pub mod Catalog
+-- What is known of relations without a page.
+pub mod Sketches
 -- The database for which they stand over pages.
 pub mod Tuples
 pub mod Contents

@@ -10,7 +10,7 @@ ghost use Rattle.sand_model.specs.Statement.{Create, Insert, Delete, Index};
 ghost use Rattle.sand_store.specs.Catalog.{IsLimits, new_catalog};
 ghost use Rattle.sand_store.specs.Contents.{database};
 ghost use Rattle.sand_store.specs.Standing.{IsStore};
-ghost use Rattle.sand_store.specs.Calls.{Carries, IsUnchanged, HasCause, Created, Inserted, Deleted, Indexed, Loaded, IsRefusedBy, LoadIsRefusedBy, is_none, is_full, is_missing};
+ghost use Rattle.sand_store.specs.Calls.{Carries, IsUnchanged, HasCause, Created, Inserted, Deleted, Indexed, Loaded, IsRefusedBy, LoadIsRefusedBy, IsRefusedPlainly, is_none, is_full, is_missing};
 
 use crate::Catalog;
 use crate::create::create;
@@ -165,6 +165,7 @@ impl<D: Disk> Store<D> {
         ensures loaded { IfOk result (λ count. Loaded self.old self.new relation.now rows.items count) }
         ensures unchanged { OnErr result (IsUnchanged self.old self.new) }
         ensures refused { IfErr result (LoadIsRefusedBy self.old relation.now rows.items) }
+        ensures plain { IfErr result (IsRefusedPlainly self.old relation.now rows.items) }
         ensures carries { Carries self.old self.new }
         ensures cause { HasCause self.old.pool self.new.pool result }
     {

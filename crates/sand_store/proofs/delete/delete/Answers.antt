@@ -7,6 +7,7 @@ use Rattle.sand_store.proofs.Changes.{first_at, put_in_place}
 use Rattle.sand_store.proofs.DeleteCall.{none_to_lose, not_found, remove_refused, can_lose_read, became_read, shrunk_described, deleted_is}
 use Rattle.sand_store.proofs.Found.{place_seen, read_twice}
 use Rattle.sand_store.proofs.Inserts.{described_at}
+use Rattle.sand_store.proofs.Sketched.{shrunk_sketch}
 use Rattle.sand_store.proofs.delete.delete.Goals as goal
 
 pub returns-in_default-clause-refused : goal.returns-in_default-clause-refused
@@ -61,7 +62,9 @@ returns-clause-deleted g c =
     let f = first_at c.args.name.now rs c.in-Some.at (place_seen c.place_of.result _ c.args.name.now c.deref.result.now rs c.place_of.ensures c.deref.ensures.value c.in-Some.is) in
     let same : c.lead_to.new.self ≡ u =
     c.lead_to.ensures ∙ ap (λ y. shrunk_view y c.in-Ok-remove.roots.file c.in-Ok-remove.roots.paths.items) (read_twice rs c.in-Some.at r c.index_mut.result.now f.1 c.index-relation.ensures c.index_mut.ensures.value) in
+    let described = described_at c.args.pool.now rs c.args.limits c.in-Some.at r c.requires.store f.1 c.index-relation.ensures in
     deleted_is c.args.pool.now c.remove.new.pool c.args.limits c.args.name.now c.args.id _ rs (set rs c.in-Some.at c.lead_to.new.self) c.in-Some.at r u
-    c.requires.store f.0 f.1 c.index-relation.ensures (ap (λ y. set rs c.in-Some.at y) same) c.in-Ok.ensures.there
+    c.requires.store f.0 f.1 c.index-relation.ensures (ap (λ y. set rs c.in-Some.at y) same)
+    (shrunk_sketch r c.in-Ok-remove.roots.file c.in-Ok-remove.roots.paths.items (c.in-Ok-remove.ensures.places described.paths)) c.in-Ok.ensures.there
     (became_read c.args.pool.now c.found.new.pool c.remove.new.pool rs c.args.limits c.in-Some.at r u c.args.id _ c.requires.store c.in-Ok.ensures.read f.1 c.index-relation.ensures c.in-Ok.ensures.there
     c.in-Ok-remove.ensures.became)

@@ -63,7 +63,7 @@ returns-in-Ok-add-clause-indexed g c =
     let f = first_at c.args.name.now rs c.in-Some.at (place_seen c.place_of.result _ c.args.name.now c.deref.result.now rs c.place_of.ensures c.deref.ensures.value c.in-Some.is) in
     let same : c.index_mut-changed.result.now ≡ r = read_twice rs c.in-Some.at r c.index_mut-changed.result.now f.1 c.index-relation.ensures c.index_mut-changed.ensures.value in
     database_indexed c.args.pool.now c.add.new.pool c.args.limits column c.args.threshold rs (set rs c.in-Some.at c.add.new.relation) c.in-Some.at r c.index_mut-changed.result.now c.add.new.relation
-    c.in-Ok.found.0 c.in-Ok.found.1 c.requires.store f.0 f.1 c.index-relation.ensures same refl c.in-Ok.ensures.found c.in-Ok-add.ensures.became
+    c.in-Ok.found.0 c.in-Ok.found.1 c.requires.store f.0 f.1 c.index-relation.ensures same refl c.in-Ok.ensures.found c.in-Ok-add.ensures.added c.in-Ok-add.ensures.became
 
 pub returns-in-Err-add-clause-store : goal.returns-in-Err-add-clause-store
 returns-in-Err-add-clause-store g c =

@@ -9,6 +9,7 @@ use Rattle.sand_store.proofs.Changes.{first_at, put_in_place}
 use Rattle.sand_store.proofs.Found.{place_seen, read_twice}
 use Rattle.sand_store.proofs.InsertCall.{no_relation, row_refused, add_refused, bytes_there, grown_described, inserted_is}
 use Rattle.sand_store.proofs.Inserts.{described_at, owns_at}
+use Rattle.sand_store.proofs.Sketched.{grown_sketch}
 use Rattle.sand_store.proofs.insert.insert.Goals as goal
 
 pub returns-in_default-clause-refused : goal.returns-in_default-clause-refused
@@ -70,4 +71,5 @@ returns-clause-inserted g c =
     let P : ℕ → Type 0 = λ id. Inserted (store_from rs c.args.limits c.args.pool.now) (store_from us c.args.limits c.add.new.pool) c.args.name.now c.args.row.now id in
     subst P (sym (ap (λ y. y.next) c.relation.view_is))
     (inserted_is c.args.pool.now c.add.new.pool c.args.limits c.args.name.now c.args.row.now rs us c.in-Some.at r u
-    c.requires.store f.0 f.1 c.index-relation.ensures (ap (λ y. set rs c.in-Some.at y) same) c.in-Ok.ensures.passes c.in-Ok-add.ensures.became)
+    c.requires.store f.0 f.1 c.index-relation.ensures (ap (λ y. set rs c.in-Some.at y) same) c.in-Ok.ensures.passes
+    (grown_sketch r c.in-Ok-add.roots.file c.in-Ok-add.roots.paths.items c.in-Ok-add.ensures.places) c.in-Ok-add.ensures.became)

@@ -1,9 +1,11 @@
 -- a row has a byte at least, and the relation that took it in is described
-use Rattle.std.proofs.Common.{ℕ, ◌≤◌, List, length, sym, ◌∙◌, subst}
+use Rattle.std.proofs.Common.{◌≡◌, ℕ, ◌≤◌, List, length, None, sym, ◌∙◌, subst}
 use Rattle.page_pool.specs.Pool.{IsTold}
 use Rattle.sand_store.specs.Catalog.{RelationView}
 use Rattle.sand_store.specs.Loads.{Counts}
+use Rattle.sand_store.specs.Steps.{row_check}
 use Rattle.sand_store.proofs.Loads.{counts_one}
+use Rattle.sand_store.proofs.PlainChecks.{row_fails}
 use Rattle.sand_store.proofs.RowChecks.{check_stops}
 use Rattle.sand_store.proofs.RowGrowth.{row_some}
 use Rattle.sand_store.proofs.load.enter.Goals as goal
@@ -25,3 +27,7 @@ returns-in-Ok-with_row-clause-counts g c =
 pub returns-in-Err-clause-stops : goal.returns-in-Err-clause-stops
 returns-in-Err-clause-stops g c =
     check_stops (IsTold c.args.pool.now) c.args.pool.now.pages c.args.limits c.args.relation.now c.args.row.now c.in-Err.why c.in-Err.ensures.refused
+
+pub returns-in-Err-clause-plain : goal.returns-in-Err-clause-plain
+returns-in-Err-clause-plain g c =
+    row_fails c.args.limits c.args.relation.now c.args.row.now (row_check c.args.limits c.args.relation.now c.args.row.now ≡ None) c.in-Err.why c.in-Err.ensures.refused

@@ -4,7 +4,7 @@ use Rattle.sand_store.specs.Catalog.{RelationView}
 use Rattle.sand_store.proofs.Changes.{first_at}
 use Rattle.sand_store.proofs.Found.{place_seen, none_found, found_at}
 use Rattle.sand_store.proofs.Inserts.{owns_at}
-use Rattle.sand_store.proofs.Loads.{load_unknown, load_stopped, loaded_store, loaded_is}
+use Rattle.sand_store.proofs.Loads.{load_unknown, load_stopped, load_refuses, loaded_store, loaded_is}
 use Rattle.sand_store.proofs.load.load_rows.Goals as goal
 
 pub returns-in_default-clause-refused : goal.returns-in_default-clause-refused
@@ -26,6 +26,13 @@ returns-in-Err-clause-refused g c =
     load_stopped c.args.pool.now c.args.relations.now.items c.args.limits c.args.name.now c.args.rows.now c.index-relation.result.now c.in-Err.why
     (found_at c.args.name.now c.args.relations.now.items c.in-Some.at c.index-relation.result.now f.0 c.index-relation.ensures) c.in-Err.ensures.stops
 
+pub returns-in-Err-clause-plain : goal.returns-in-Err-clause-plain
+returns-in-Err-clause-plain g c =
+    let f = first_at c.args.name.now c.args.relations.now.items c.in-Some.at
+    (place_seen c.place_of.result _ c.args.name.now c.deref.result.now c.args.relations.now.items c.place_of.ensures c.deref.ensures.value c.in-Some.is) in
+    load_refuses c.args.pool.now c.args.relations.now.items c.args.limits c.args.name.now c.args.rows.now c.index-relation.result.now c.in-Err.why
+    (found_at c.args.name.now c.args.relations.now.items c.in-Some.at c.index-relation.result.now f.0 c.index-relation.ensures) c.in-Err.ensures.plain
+
 pub returns-clause-store : goal.returns-clause-store
 returns-clause-store g c =
     let f = first_at c.args.name.now c.args.relations.now.items c.in-Some.at
@@ -39,4 +46,5 @@ returns-clause-loaded g c =
     let f = first_at c.args.name.now c.args.relations.now.items c.in-Some.at
     (place_seen c.place_of.result _ c.args.name.now c.deref.result.now c.args.relations.now.items c.place_of.ensures c.deref.ensures.value c.in-Some.is) in
     loaded_is c.args.pool.now c.add_all.new.pool c.args.relations.now.items _ c.args.limits c.args.name.now c.args.rows.now c.in-Some.at c.index-relation.result.now c.in-Ok.grown _
-    c.requires.store f.0 f.1 c.index-relation.ensures refl c.in-Ok.ensures.counts (ap₂ (λ (a b : RelationView). a.next - b.next) c.grown.view_is c.relation.view_is) c.in-Ok.ensures.enters
+    c.requires.store f.0 f.1 c.index-relation.ensures refl c.in-Ok.ensures.counts (ap₂ (λ (a b : RelationView). a.next - b.next) c.grown.view_is c.relation.view_is)
+    c.in-Ok.ensures.passes c.in-Ok.ensures.enters
