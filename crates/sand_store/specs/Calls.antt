@@ -118,6 +118,8 @@ is_none _ = false
 abbrev pub Becomes : StoreState → StoreState → (Measure → Database → Database) → Type 0
 Becomes old new change = IsTold old.pool → (gap : Measure) → IsMeasure gap → database new ≡ change gap (database old)
 
+-- What a call does at Ok: its checks pass; over any disk the sketches change so, and where the disk tells its pages the database does.
+
 -- a new relation is there, the last one
 pub record Created (old new : StoreState) (name : List ℕ) (schema : List (List ℕ × Kind)) : Type 0 where
   pub passes : Passes old (Create name schema)

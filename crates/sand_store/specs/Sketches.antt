@@ -1,4 +1,4 @@
--- What is known of relations without a page, and all that the checks of statements ask of them.
+-- What is known of relations without a page.
 use Rattle.std.specs.Prelude.{ℕ, ◌+◌, cond, List, [], ◌∷◌, ◌++◌, map, Option, Some, None}
 use Rattle.sand_base.specs.declared.kind.Kind.{Kind}
 use Rattle.sand_model.specs.Database.{same_name, column_named}
