@@ -1,5 +1,5 @@
 -- What the call answers that deletes a row: why it is refused, and what the store is after it.
-use Rattle.std.proofs.Common.{◌≡◌, ℕ, ◌+◌, ◌^◌, ◌<◌, ◌≤◌, Bool, List, [], ◌∷◌, length, map, get_or, set, Option, Some, None, refl, sym, ◌∙◌, ap, subst, arith, All, inl, inr}
+use Rattle.std.proofs.Common.{◌≡◌, ℕ, ◌<◌, ◌≤◌, List, [], ◌∷◌, length, get_or, set, Option, Some, None, refl, sym, ◌∙◌, ap, subst, arith, All, inl, inr}
 use Rattle.std.specs.Prelude.{not, IsNone}
 use Rattle.std.specs.List.{find, position}
 use Rattle.std.proofs.lemmas.Bool.Decides.{eqb_tells}
@@ -24,7 +24,7 @@ use Rattle.pmr_tree.specs.Quadtree.{store_of}
 use Rattle.sand_store.specs.declared.path.AccessPath.{AccessPath}
 use Rattle.sand_store.specs.Calls.{alone, Refuses, IsRefusedBy, Deleted, is_missing, early_at, late_at}
 use Rattle.sand_store.specs.Catalog.{RelationView, CatalogView, StoreState, is_named, IsDescribed}
-use Rattle.sand_store.specs.Contents.{rows_in, relation_in, database_in}
+use Rattle.sand_store.specs.Contents.{rows_in, database_in}
 use Rattle.sand_store.specs.Leaving.{RelationCanLose, shrunk_view, IsOutsideOrMissing, there_check}
 use Rattle.sand_store.specs.Sketches.{sketch_of}
 use Rattle.sand_store.specs.Standing.{CatalogStands, RelationStands, IsStore}

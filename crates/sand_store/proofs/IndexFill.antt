@@ -1,5 +1,5 @@
 -- An attribute index takes the row of an id of a file, after those of lesser ids.
-use Rattle.std.proofs.Common.{◌≡◌, ℕ, ◌+◌, ◌^◌, ◌<◌, List, [], ◌∷◌, ◌++◌, refl, ◌∙◌, ap, Some, subst, arith, All}
+use Rattle.std.proofs.Common.{◌≡◌, ℕ, ◌^◌, ◌<◌, List, [], ◌∷◌, ◌++◌, refl, ◌∙◌, ap, Some, subst, arith, All}
 use Rattle.page_pool.specs.Disk.{PageMap}
 use Rattle.code_btree.specs.Tree.{times}
 use Rattle.pmr_tree.specs.Quadtree.{store_of}

@@ -1,12 +1,12 @@
 -- What the call answers that inserts a row: why it is refused, and what the store is after it.
-use Rattle.std.proofs.Common.{◌≡◌, ◌⊎◌, ℕ, ◌+◌, ◌-◌, ◌<◌, ◌≤◌, Bool, true, false, ◌||◌, List, [], ◌∷◌, length, map, get_or, set, Option, Some, None, refl, sym, ◌∙◌, ap, subst, arith, inl, inr, true≢false, All}
+use Rattle.std.proofs.Common.{◌≡◌, ◌⊎◌, ℕ, ◌-◌, ◌<◌, ◌≤◌, Bool, true, false, List, [], ◌∷◌, length, get_or, set, Option, Some, None, refl, sym, ◌∙◌, ap, subst, arith, inl, inr, true≢false, All}
 use Rattle.std.specs.Prelude.{nat_le, nat_lt, not, is_some}
-use Rattle.std.specs.List.{find, position, list_any}
+use Rattle.std.specs.List.{position, list_any}
 use Rattle.std.proofs.lemmas.Bool.{leb-false}
 use Rattle.std.proofs.lemmas.List.Elements.{All-head, All-tail}
 use Rattle.code_btree.proofs.Orders.{lt_not}
 use Rattle.page_pool.specs.Disk.{PageMap}
-use Rattle.page_pool.specs.Pool.{PoolState, IsTold, IsClosed}
+use Rattle.page_pool.specs.Pool.{PoolState, IsTold}
 use Rattle.sand_base.specs.declared.kind.Kind.{Kind}
 use Rattle.sand_base.specs.declared.limits.Limits.{Limits}
 use Rattle.sand_base.specs.declared.refusal.Refusal.{Refusal}

@@ -1,5 +1,5 @@
 -- Rows enter a relation one after another: those that did, and those still to enter, make up the load.
-use Rattle.std.proofs.Common.{◌≡◌, ℕ, zero, suc, ◌+◌, ◌-◌, ◌<◌, true, false, List, [], ◌∷◌, ◌++◌, length, take, drop, get_or, set, refl, sym, ◌∙◌, ap, subst, arith, Option, Some, None, inl, inr, true≢false}
+use Rattle.std.proofs.Common.{◌≡◌, ℕ, zero, suc, ◌+◌, ◌-◌, ◌<◌, true, List, [], ◌∷◌, ◌++◌, length, take, drop, get_or, set, refl, sym, ◌∙◌, ap, subst, arith, Option, Some, None, inl, inr, true≢false}
 use Rattle.std.specs.List.{find}
 use Rattle.std.proofs.lemmas.List.{take-append-drop}
 use Rattle.page_pool.specs.Disk.{PageMap}

@@ -1,7 +1,6 @@
 -- An access path loses the row of an id: a quadtree, and an attribute index.
-use Rattle.std.proofs.Common.{◌≡◌, ◌≢◌, ℕ, ◌+◌, ◌^◌, ◌<◌, ◌≤◌, Bool, true, false, cond, List, [], ◌∷◌, length, map, refl, sym, ◌∙◌, ap, ap₂, Option, None, Some, subst, arith, inl, inr, All}
-use Rattle.std.specs.Prelude.{nat_lt, nat_eq, not, max}
-use Rattle.std.specs.List.{filter}
+use Rattle.std.proofs.Common.{◌≡◌, ℕ, ◌+◌, ◌^◌, ◌<◌, ◌≤◌, true, false, cond, List, [], ◌∷◌, length, refl, sym, ◌∙◌, ap, ap₂, Option, None, Some, subst, arith, inl, inr, All}
+use Rattle.std.specs.Prelude.{nat_lt}
 use Rattle.std.proofs.lemmas.Bool.Decides.{eqb_tells}
 use Rattle.std.proofs.lemmas.List.Elements.{All-head, All-tail}
 use Rattle.page_pool.specs.Disk.{PageMap}
@@ -22,12 +21,11 @@ use Rattle.attr_index.specs.Key.{key_of}
 use Rattle.sand_base.specs.declared.shape.Shape.{Shape}
 use Rattle.sand_base.specs.declared.value.Value.{Value}
 use Rattle.sand_model.specs.Database.{Quadtree as tree_index, element, shape_in, shapes_of, shape_at, meets_block}
-use Rattle.sand_model.specs.Measure.{Measure, IsMeasure}
 use Rattle.sand_model.specs.Tree.{Tree, Leaf, Inner, root_block, Fits, union, union_of_four, without, merged, shrunk, listings}
 use Rattle.tuple_file.specs.Rows.{without_id}
 use Rattle.sand_store.specs.declared.path.AccessPath.TheVariants.{Quadtree, Attribute}
 use Rattle.sand_store.specs.Standing.{entries_of}
-use Rattle.sand_store.specs.Leaving.{Holding, HasRow, CanLose, losing, PathChanged}
+use Rattle.sand_store.specs.Leaving.{Holding, CanLose, losing, PathChanged}
 use Rattle.sand_store.specs.TableLaws.{shapes_plane}
 use Rattle.sand_store.proofs.ColumnsOfShapes.{shape_of_row}
 use Rattle.sand_store.proofs.IndexGrowth.{numbers}

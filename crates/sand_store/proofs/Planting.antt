@@ -11,7 +11,6 @@ use Rattle.sand_base.specs.declared.value.Value.{Value}
 use Rattle.sand_model.specs.Database.{Index, new_index}
 use Rattle.sand_model.specs.Measure.{Measure}
 use Rattle.sand_model.specs.StatementChecks.{is_overfull, is_there}
-use Rattle.sand_model.specs.Tree.{listings}
 use Rattle.tuple_file.specs.File.{file_pages}
 use Rattle.tuple_file.proofs.Houses as houses
 use Rattle.sand_store.specs.declared.path.AccessPath.{AccessPath}

@@ -1,11 +1,11 @@
 -- Rows without the one of an id: their shapes, and what an index has of them.
 use Rattle.std.proofs.Common.{◌≡◌, ◌≢◌, ℕ, ◌+◌, ◌*◌, ◌^◌, ◌<◌, ◌≤◌, Bool, true, false, cond, nat_eq, List, [], ◌∷◌, map, refl, sym, ◌∙◌, ap, Option, Some, None, subst, arith, inl, inr, true≢false, All}
 use Rattle.std.specs.Prelude.{is_some, not}
-use Rattle.std.specs.List.{find, filter}
+use Rattle.std.specs.List.{find}
 use Rattle.std.specs.Option.{option_map}
 use Rattle.std.proofs.lemmas.Bool.Decides.{eqb_tells}
 use Rattle.std.proofs.lemmas.List.Elements.{All-head, All-tail}
-use Rattle.code_btree.specs.Tree.{same, times}
+use Rattle.code_btree.specs.Tree.{times}
 use Rattle.code_btree.proofs.Lists.{same_cases}
 use Rattle.attr_index.specs.Entries.{Entry, entry_number, without_entry}
 use Rattle.attr_index.specs.Key.{key_of}

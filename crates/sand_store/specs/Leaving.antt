@@ -1,5 +1,5 @@
 -- What only the proof of a deletion needs: access paths that lose the row of an id, and a relation that does.
-use Rattle.std.specs.Prelude.{◌≡◌, ℕ, ◌+◌, ◌^◌, ◌≤◌, ◌<◌, List, map, All, Option, Some, None, ⊤}
+use Rattle.std.specs.Prelude.{◌≡◌, ℕ, ◌^◌, ◌≤◌, ◌<◌, List, map, All, Option, Some, None, ⊤}
 use Rattle.code_btree.specs.Tree.{times, live}
 use Rattle.code_btree.specs.Calls.{Keeps}
 use Rattle.page_pool.specs.Disk.{PageMap}

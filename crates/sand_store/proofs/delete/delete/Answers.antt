@@ -1,5 +1,5 @@
 -- the row is found, the command is carried out and the relation put in its place, or it is refused
-use Rattle.std.proofs.Common.{◌≡◌, ◌<◌, ◌∙◌, sym, ap, subst, ℕ, List, length, set, get_or, Some, refl}
+use Rattle.std.proofs.Common.{◌≡◌, ◌∙◌, ap, List, set, refl}
 use Rattle.sand_model.specs.Database.{without_row}
 use Rattle.sand_store.specs.Catalog.{RelationView}
 use Rattle.sand_store.specs.Leaving.{shrunk_view}

@@ -1,9 +1,8 @@
 -- a check refuses, the command is carried out and the relation put in its place, or it is refused
-use Rattle.std.proofs.Common.{◌≡◌, ◌<◌, ◌∙◌, sym, ap, subst, ℕ, List, length, set, get_or, Some, refl}
-use Rattle.std.specs.List.{position}
+use Rattle.std.proofs.Common.{◌≡◌, ◌∙◌, sym, ap, subst, ℕ, List, set, refl}
 use Rattle.sand_store.specs.Calls.{Inserted}
-use Rattle.sand_store.specs.Catalog.{RelationView, is_named}
-use Rattle.sand_store.specs.Steps.{FirstAt, grown_view, store_from}
+use Rattle.sand_store.specs.Catalog.{RelationView}
+use Rattle.sand_store.specs.Steps.{grown_view, store_from}
 use Rattle.sand_model.specs.Database.{with_row}
 use Rattle.sand_store.proofs.Changes.{first_at, put_in_place}
 use Rattle.sand_store.proofs.Found.{place_seen, read_twice}
