@@ -36,5 +36,5 @@ pub counted : (places : List (Option (Option (List ℕ)))) → count_by is_page 
 unfolding changes_in
 counted places =
     let as_list : dirty_of (changes_in places) ≡ written (entries_from 0 places) = same_set _ _ (λ q.
-        contains-dirty (changes_in places) q ∙ ap is_page (map.get-from_entries nat_cmp_total (entries_from 0 places) q) ∙ sym (contains-written (entries_from 0 places) q)) in
+    contains-dirty (changes_in places) q ∙ ap is_page (map.get-from_entries nat_cmp_total (entries_from 0 places) q) ∙ sym (contains-written (entries_from 0 places) q)) in
     sym (ap set.len as_list ∙ as_many 0 places)

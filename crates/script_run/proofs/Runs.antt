@@ -115,8 +115,7 @@ lines_append old mid new lines line printed more f g ran own = (
       let before : List ScriptLine = parts.0 in
       let last : ScriptLine = parts.1.0 in
       let one = own.1 last parts.1.1.1.1 in
-      let others = ran.1 before parts.1.1.1.0 in
-      (
+      let others = ran.1 before parts.1.1.1.0 in (
         subst (λ (xs : List ScriptLine). AnswerInOrder xs (printed ++ more)) (sym parts.1.1.0) (answer_append before last printed more others.0 one.0),
         λ told disk shelf setting gap s.
             let disk_up : mid.disk ≤ new.disk = g.disk disk in
