@@ -1,4 +1,4 @@
-ghost use Rattle.std.specs.Prelude.{◌≡◌, ◌+◌, ◌-◌, ◌*◌, ◌/◌, ◌%◌, ◌<◌, ◌≤◌, ◌≢◌, ◌∷◌, ◌++◌, [], length, take, drop, MatchOption};
+ghost use Rattle.std.specs.Prelude.{◌≡◌, ◌+◌, ◌-◌, ◌*◌, ◌/◌, ◌%◌, ◌<◌, ◌≤◌, ◌≢◌, ◌∷◌, ◌++◌, [], true, length, take, drop, MatchOption};
 ghost use Rattle.code_btree.specs.Node.{IsLeaf, IsLeafOf, entry_of, entry_key, entry_value, entries_in, entries_of, next_of, node_of};
 ghost use Rattle.code_btree.specs.Node.Node.{leaf};
 ghost use Rattle.code_btree.specs.Items.{Ascending, floor_item};
@@ -37,13 +37,48 @@ pub fn entry_value_at(page: &Page, at: usize) -> u128
     number_at(page, 48 + 32 * at)
 }
 
-// Where a key stands or would stand, by binary search.
+// Where a key would stand if the keys were whole numbers in a row from the first one on, as ids mostly are.
+fn guess(page: &Page, count: usize, key: u128) -> usize
+    requires { count ≤ 127 }
+    ensures { result ≤ count }
+{
+    if count == 0 {
+        return 0;
+    }
+    let steps = key.saturating_sub(entry_key_at(page, 0));
+    if steps < count as u128 {
+        return steps as usize;
+    }
+    count
+}
+
+// Whether the key stands at this place and the one before it is less.
+fn stands_at(page: &Page, count: usize, at: usize, key: u128) -> bool
+    requires { count ≤ 127 }
+    ensures within { result ≡ true → at < count }
+    ensures before { result ≡ true → 1 ≤ at → entry_key page.now (at - 1) < key }
+    ensures here { result ≡ true → entry_key page.now at ≡ key }
+{
+    if at >= count {
+        return false;
+    }
+    if entry_key_at(page, at) != key {
+        return false;
+    }
+    at == 0 || entry_key_at(page, at - 1) < key
+}
+
+// Where a key stands or would stand, by binary search where it isn't at the place guessed.
 pub fn rank(page: &Page, count: usize, key: u128) -> usize
     requires { count ≤ 127 }
     ensures bound { result ≤ count }
     ensures before { 1 ≤ result → entry_key page.now (result - 1) < key }
     ensures behind { result < count → key ≤ entry_key page.now result }
 {
+    let place = guess(page, count, key);
+    if stands_at(page, count, place, key) {
+        return place;
+    }
     let mut low = 0;
     let mut high = count;
     'halves: while low < high {
