@@ -10,6 +10,7 @@
 //! Merkle (1987).
 #![tactic(auto)]
 
+mod boxed_disk;
 mod desk;
 mod digests;
 mod disk;
