@@ -1,16 +1,13 @@
 -- The books of page numbers: a number is taken, is given back, or changes nothing.
-use Rattle.std.proofs.Common.{◌≡◌, ◌≢◌, ◌≤◌, ◌+◌, ℕ, List, Bool, true, false, cond, not, ◌&&◌, ◌||◌, refl, sym, ap, subst, ◌∙◌, Option, Some, is_some, IsTrue, ◌⊎◌, inl, inr, arith, eqb-true}
+use Rattle.std.proofs.Common.{◌≡◌, ◌≢◌, ◌≤◌, ◌+◌, ℕ, List, Bool, true, false, cond, not, ◌&&◌, ◌||◌, refl, sym, ap, subst, ◌∙◌, Option, Some, is_some, IsTrue, ◌⊎◌, inl, inr, arith}
 use mathlib.Core.Bool.{true≢false}
 use Rattle.std.specs.Ordering.{nat_cmp, eq_by_cmp}
-use Rattle.std.specs.Cmp.{nat_cmp_total, unsigned_tied}
+use Rattle.std.specs.Cmp.{nat_cmp_total}
 use Rattle.std.specs.FinMap as map
 use Rattle.std.specs.FinSet as set
 use Rattle.page_pool.specs.Disk.{DigestMap, NumberSet}
 use Rattle.page_pool.specs.Inside.{ChangeMap, NumbersState, Takes, IsAccount, is_used}
-use Rattle.page_pool.proofs.Maps.{get-insert, tie_itself}
-
-pub tied : (q n : ℕ) → eq_by_cmp nat_cmp q n ≡ true → q ≡ n
-tied q n tie = eqb-true q n (sym (unsigned_tied q n) ∙ tie)
+use Rattle.page_pool.proofs.Maps.{get-insert, tie_itself, tied}
 
 -- a test of two parts
 either : (a b : Bool) → (a || b) ≡ true → (a ≡ true) ⊎ (b ≡ true)

@@ -1,17 +1,17 @@
 -- A cache's pairs, seen as a finite map.
-use Rattle.std.proofs.Common.{◌≡◌, ℕ, List, [], ◌∷◌, true, false, cond, refl, sym, ap, subst, ◌∙◌, Option, Some, None, nat_eq, Contains, ◌⊎◌, inl, inr, eqb-true, is_some, slice_get}
-use mathlib.Core.Bool.{true≢false}
-use Rattle.std.specs.Ordering.{nat_cmp, is_eq}
+use Rattle.std.proofs.Common.{◌≡◌, ℕ, List, [], ◌∷◌, true, false, cond, refl, sym, ap, subst, ◌∙◌, Option, Some, None, nat_eq, Contains, Bool, take, length, ◌-◌, ◌<◌, arith, eqb-true}
+use Rattle.std.specs.Ordering.{nat_cmp, is_eq, eq_by_cmp}
 use Rattle.std.specs.Cmp.{nat_eq_equiv, unsigned_tied}
 use Rattle.std.specs.List.{IsDistinct}
 use Rattle.std.specs.Option.{option_map_or}
 use Rattle.std.specs.Map.{lookup, lookup_entry, remove_entry, keys_of}
 use Rattle.std.specs.FinMap as map
 use Rattle.std.proofs.lemmas.Map.{lookup-remove_entry}
-use Rattle.std.proofs.lemmas.Map.Views.{lookup-from_Contains, Contains-from_lookup}
+use Rattle.std.proofs.lemmas.List.{take_all}
+use Rattle.std.proofs.lemmas.Map.Views.{lookup-from_Contains}
 use Rattle.lru.specs.LruCache.{LruCache, promoted, put_entries}
-use Rattle.lru.proofs.CallerLemmas.{Contains-lookup_entry, Contains-put_entries}
-use Rattle.page_pool.proofs.Maps.{of_entries, same, get-remove, get-from_entries}
+use Rattle.lru.proofs.CallerLemmas.{Contains-lookup_entry}
+use Rattle.page_pool.proofs.Maps.{of_entries, same, get-insert, get-remove, get-from_entries}
 
 -- a look-up in the cache is one in the map
 lookup-tied : {X : Type 0} (q : ℕ) (es : List (ℕ × X)) → lookup (nat_eq q) es ≡ lookup (λ k. is_eq (nat_cmp q k)) es
@@ -20,14 +20,6 @@ lookup-tied q (e ∷ es) = λ i. cond (sym (unsigned_tied q e.0) i) (Some e.1) (
 
 pub get-cached : {X : Type 0} (q : ℕ) (es : List (ℕ × X)) → lookup (nat_eq q) es ≡ map.get (of_entries es) q
 get-cached q es = lookup-tied q es ∙ sym (get-from_entries q es)
-
--- the value of a key that stands first
-pub first_found : {X : Type 0} (q : ℕ) (es : List (ℕ × X)) (e : ℕ × X) → Some e ≡ slice_get es 0 → e.0 ≡ q → map.get (of_entries es) q ≡ Some e.1
-first_found q [] e first at = absurd (true≢false (ap is_some first))
-first_found q (x ∷ es) e first at =
-    let same : e ≡ x = cc in
-    let key : nat_eq q x.0 ≡ true = ap (nat_eq q) (ap (λ p. p.0) (sym same) ∙ at) ∙ nat_eq_equiv.refl q in
-    sym (get-cached q (x ∷ es)) ∙ ap (λ b. cond b (Some x.1) (lookup (nat_eq q) es)) key ∙ ap (λ p. Some p.1) (sym same)
 
 one_key : (k x y : ℕ) → nat_eq k x ≡ true → nat_eq k y ≡ nat_eq x y
 one_key k x y h = ap (λ n. nat_eq n y) (eqb-true k x h)
@@ -63,11 +55,22 @@ pub promoted_same : {X : Type 0} (k : ℕ) (es : List (ℕ × X)) → IsDistinct
 promoted_same k es distinct = same _ _ (λ q.
     sym (get-cached q (promoted (nat_eq k) es)) ∙ moved k q es (lookup_entry (nat_eq k) es) distinct refl ∙ get-cached q es)
 
--- what is found after a page was put in is that page or was found before
-pub put_sound : {X : Type 0} (c : LruCache ℕ X) (k : ℕ) (v : X) → IsDistinct nat_eq (keys_of c.entries) → (q : ℕ) (w : X)
-    → map.get (of_entries (put_entries nat_eq c k v)) q ≡ Some w → ((q ≡ k) × (w ≡ v)) ⊎ (map.get (of_entries c.entries) q ≡ Some w)
-put_sound c k v distinct q w found =
-    elim (Contains-put_entries nat_eq c k v (q, w) (Contains-from_lookup eqb-true q w (put_entries nat_eq c k v) (get-cached q (put_entries nat_eq c k v) ∙ found))) [
-      | inl was ↦ inr (sym (get-cached q c.entries) ∙ lookup-from_Contains nat_eq_equiv q w c.entries distinct was)
-      | inr put ↦ inl (elim put.1 [ inl key ↦ key | inr there ↦ sym (eqb-true k q there.2) ], put.0)
-    ]
+-- after a pair was put in where room was left
+pub put_kept : {X : Type 0} (c : LruCache ℕ X) (k : ℕ) (v : X) → IsDistinct nat_eq (keys_of c.entries) → length c.entries < c.cap → of_entries (put_entries nat_eq c k v) ≡ map.insert (of_entries c.entries) k v
+put_kept {X = X} c k v distinct room = same _ _ (λ q. sym (get-cached q (put_entries nat_eq c k v)) ∙ by_entry q (lookup_entry (nat_eq k) c.entries) refl ∙ sym (get-insert (of_entries c.entries) k v q))
+  where
+    by_entry : (q : ℕ) (o : Option (ℕ × X)) → lookup_entry (nat_eq k) c.entries ≡ o
+        → lookup (nat_eq q) (option_map_or (λ e. (e.0, v) ∷ remove_entry (nat_eq k) c.entries) o ((k, v) ∷ take (c.cap - 1) c.entries)) ≡ cond (eq_by_cmp nat_cmp q k) (Some v) (map.get (of_entries c.entries) q)
+    by_entry q None found =
+        ap (λ es. cond (nat_eq q k) (Some v) (lookup (nat_eq q) es)) (take_all (c.cap - 1) c.entries (omega arith))
+        ∙ (λ i. cond (sym (unsigned_tied q k) i) (Some v) (get-cached q c.entries i))
+    by_entry q (Some e) found =
+        let key : e.0 ≡ k = sym (eqb-true k e.0 (Contains-lookup_entry (nat_eq k) c.entries e found).1) in
+        ap (λ n. cond (nat_eq q n) (Some v) (lookup (nat_eq q) (remove_entry (nat_eq k) c.entries))) key
+        ∙ ap (cond (nat_eq q k) (Some v)) (lookup-remove_entry nat_eq_equiv (nat_eq k) (one_key k) q c.entries distinct ∙ ap (λ b. cond b None (lookup (nat_eq q) c.entries)) (nat_eq_equiv.symm k q))
+        ∙ by_tie (nat_eq q k) (lookup (nat_eq q) c.entries)
+        ∙ (λ i. cond (sym (unsigned_tied q k) i) (Some v) (get-cached q c.entries i))
+      where
+        by_tie : (b : Bool) (o : Option X) → cond b (Some v) (cond b None o) ≡ cond b (Some v) o
+        by_tie true o = refl
+        by_tie false o = refl

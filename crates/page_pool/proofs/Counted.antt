@@ -1,11 +1,11 @@
 -- The pages in a table are as many as their numbers.
-use Rattle.std.proofs.Common.{◌≡◌, ℕ, suc, ◌+◌, ◌-◌, List, [], ◌∷◌, false, cond, refl, sym, ap, ◌∙◌, Option, Some, None, count_by, arith}
+use Rattle.std.proofs.Common.{◌≡◌, ℕ, suc, ◌+◌, ◌-◌, List, [], ◌∷◌, false, cond, sym, ap, ◌∙◌, Option, Some, None, count_by, arith}
 use Rattle.std.specs.Ordering.{nat_cmp}
 use Rattle.std.specs.Cmp.{nat_cmp_total}
 use Rattle.std.specs.FinMap as map
 use Rattle.std.specs.FinSet as set
 use Rattle.std.proofs.lemmas.List.Sums.{sum_by-cons}
-use Rattle.page_pool.specs.Inside.{written, dirty_of, entries_from, changes_in, is_page}
+use Rattle.page_pool.specs.Inside.{written, dirty_of, entries_from, items_in, is_page}
 use Rattle.page_pool.proofs.Places.{below}
 use Rattle.page_pool.proofs.Overlay.{same_set, contains-written, contains-dirty}
 
@@ -32,9 +32,9 @@ as_many n (Some (Some page) ∷ places) =
     let size : set.len (set.insert others n) ≡ set.len others + 1 = set.len-insert nat_cmp_total others n ∙ ap (λ b. cond b (set.len others) (set.len others + 1)) (absent n places) in
     let more : count_by is_page (Some (Some page) ∷ places) ≡ 1 + count_by is_page places = sum_by-cons one (Some (Some page)) places in omega arith
 
-pub counted : (places : List (Option (Option (List ℕ)))) → count_by is_page places ≡ set.len (dirty_of (changes_in places))
-unfolding changes_in
+pub counted : (places : List (Option (Option (List ℕ)))) → count_by is_page places ≡ set.len (dirty_of (items_in places))
+unfolding items_in
 counted places =
-    let as_list : dirty_of (changes_in places) ≡ written (entries_from 0 places) = same_set _ _ (λ q.
-    contains-dirty (changes_in places) q ∙ ap is_page (map.get-from_entries nat_cmp_total (entries_from 0 places) q) ∙ sym (contains-written (entries_from 0 places) q)) in
+    let as_list : dirty_of (items_in places) ≡ written (entries_from 0 places) = same_set _ _ (λ q.
+    contains-dirty (items_in places) q ∙ ap is_page (map.get-from_entries nat_cmp_total (entries_from 0 places) q) ∙ sym (contains-written (entries_from 0 places) q)) in
     sym (ap set.len as_list ∙ as_many 0 places)

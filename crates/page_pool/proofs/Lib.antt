@@ -1,6 +1,7 @@
 pub mod Maps
 pub mod Places
 pub mod Cached
+pub mod Queued
 pub mod Overlay
 pub mod Counted
 pub mod Spare

@@ -1,25 +1,14 @@
 -- The set of the numbers with a staged change.
-use Rattle.std.proofs.Common.{◌≡◌, ◌≤◌, ◌<◌, ℕ, suc, zero, ◌+◌, ◌-◌, List, [], ◌∷◌, Bool, true, false, cond, refl, sym, ap, ◌∙◌, Option, Some, None, is_some, length, IsTrue, arith}
-use mathlib.Core.Bool.{true≢false}
+use Rattle.std.proofs.Common.{◌≡◌, ◌<◌, ℕ, suc, zero, List, [], ◌∷◌, Bool, true, false, cond, refl, sym, ap, ◌∙◌, Option, is_some, length, arith}
 use Rattle.std.specs.Ordering.{nat_cmp, eq_by_cmp, is_eq}
-use Rattle.std.specs.Cmp.{nat_cmp_total}
 use Rattle.std.specs.List.{list_any}
 use Rattle.std.specs.BTreeSet as tree
 use Rattle.std.specs.BTreeSet.{BTreeSet}
 use Rattle.std.specs.FinMap as map
 use Rattle.std.specs.FinSet as set
-use Rattle.page_pool.specs.Inside.{ChangeMap, StagedState, staged_of, HasNumbersOf}
-use Rattle.page_pool.proofs.Maps.{same, get-insert, get-remove, tie_flips, tie_itself}
+use Rattle.page_pool.specs.Inside.{ChangeMap, staged_of, HasNumbersOf}
+use Rattle.page_pool.proofs.Maps.{same, get-insert, get-remove, tie_flips, tied, nothing, some_or, none_or}
 use Rattle.page_pool.proofs.Changes.{dirty-empty}
-use Rattle.page_pool.proofs.Accounts.{tied}
-
-some_or : {X : Type 0} (b : Bool) (v : X) (o : Option X) → is_some (cond b (Some v) o) ≡ cond b true (is_some o)
-some_or true v o = refl
-some_or false v o = refl
-
-none_or : {X : Type 0} (b : Bool) (o : Option X) → is_some (cond b None o) ≡ cond b false (is_some o)
-none_or true o = refl
-none_or false o = refl
 
 -- one more number with a change
 pub listed-insert : (s t : BTreeSet ℕ) (m n : ChangeMap) (k : ℕ) (change : Option (List ℕ)) → tree.Updates nat_cmp s t k true → n ≡ map.insert m k change → HasNumbersOf m s → HasNumbersOf n t
@@ -52,10 +41,6 @@ no_key : (test : ℕ → Bool) (ks : List ℕ) → length ks ≡ 0 → list_any 
 no_key test [] none = refl
 no_key test (k ∷ ks) none = absurd (omega arith)
 
-nothing : {X : Type 0} (o : Option X) → is_some o ≡ false → o ≡ None
-nothing None h = refl
-nothing (Some x) h = absurd (true≢false h)
-
 -- no number, so no change
 pub listed-none : (s : BTreeSet ℕ) (m : ChangeMap) → length s.keys ≡ 0 → HasNumbersOf m s → m ≡ map.empty
 listed-none s m none is = same m map.empty (λ q. nothing (map.get m q) (sym (is q) ∙ no_key (λ k. is_eq (nat_cmp q k)) s.keys none) ∙ sym (map.get-empty nat_cmp q))
@@ -69,32 +54,3 @@ staged-empty m empty = ap staged_of empty ∙ ap (λ n. record { changes = map.e
 pub none_of : (n : ℕ) → (0 < n → ⊥) → n ≡ 0
 none_of zero none = refl
 none_of (suc n) none = absurd (none (omega arith))
-
--- a change that is put and taken out again, where none was
-pub undone : (m n o : ChangeMap) (k : ℕ) (change : Option (List ℕ)) → map.contains_key m k ≡ false → n ≡ map.insert m k change → o ≡ map.remove n k → o ≡ m
-undone m n o k change none put taken = same o m (λ q.
-    ap (λ x. map.get x q) taken ∙ get-remove n k q ∙ ap (cond (eq_by_cmp nat_cmp q k) None) (ap (λ x. map.get x q) put ∙ get-insert m k change q) ∙ by_tie q)
-  where
-    by_tie : (q : ℕ) → cond (eq_by_cmp nat_cmp q k) None (cond (eq_by_cmp nat_cmp q k) (Some change) (map.get m q)) ≡ map.get m q
-    by_tie q = (elim (eq_by_cmp nat_cmp q k) as (λ b. eq_by_cmp nat_cmp q k ≡ b → cond b None (cond b (Some change) (map.get m q)) ≡ map.get m q) [
-      | true ↦ λ tie. sym (nothing (map.get m q) (ap (map.contains_key m) (tied q k tie) ∙ none))
-      | false ↦ λ _. refl
-    ]) refl
-
--- fewer changes are left where one is taken out
-pub fewer_changes : (m n : ChangeMap) (k : ℕ) → map.contains_key m k ≡ true → n ≡ map.remove m k → map.len n < map.len m
-fewer_changes m n k there left = by_change (map.get m k) refl there
-  where
-    by_change : (o : Option (Option (List ℕ))) → map.get m k ≡ o → map.contains_key m k ≡ true → map.len n < map.len m
-    by_change None is h = absurd (true≢false (sym h ∙ ap is_some is))
-    by_change (Some change) is h =
-        let whole : m ≡ map.insert (map.remove m k) k change = same _ _ (λ q. sym (get-insert (map.remove m k) k change q ∙ ap (cond (eq_by_cmp nat_cmp q k) (Some change)) (get-remove m k q) ∙ by_tie change is q)) in
-        let gone : map.contains_key (map.remove m k) k ≡ false = ap is_some (get-remove m k k) ∙ ap (λ b. is_some (cond b None (map.get m k))) (tie_itself k) in
-        let size : map.len m ≡ map.len (map.remove m k) + 1 = ap map.len whole ∙ map.len-insert nat_cmp_total (map.remove m k) k change ∙ ap (λ b. cond b (map.len (map.remove m k)) (map.len (map.remove m k) + 1)) gone in
-        let less : map.len n ≡ map.len (map.remove m k) = ap map.len left in omega arith
-      where
-        by_tie : (change : Option (List ℕ)) → map.get m k ≡ Some change → (q : ℕ) → cond (eq_by_cmp nat_cmp q k) (Some change) (cond (eq_by_cmp nat_cmp q k) None (map.get m q)) ≡ map.get m q
-        by_tie change is q = (elim (eq_by_cmp nat_cmp q k) as (λ b. eq_by_cmp nat_cmp q k ≡ b → cond b (Some change) (cond b None (map.get m q)) ≡ map.get m q) [
-          | true ↦ λ tie. sym (ap (map.get m) (tied q k tie) ∙ is)
-          | false ↦ λ _. refl
-        ]) refl

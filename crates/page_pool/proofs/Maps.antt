@@ -1,5 +1,6 @@
 -- An ordered map of std, seen as a finite map.
-use Rattle.std.proofs.Common.{◌≡◌, ◌≢◌, ◌≤◌, ℕ, List, [], ◌∷◌, Bool, true, false, cond, refl, sym, ap, ◌∙◌, Option, Some, None, eqb-true, arith}
+use Rattle.std.proofs.Common.{◌≡◌, ◌≢◌, ◌≤◌, ℕ, List, [], ◌∷◌, Bool, true, false, cond, refl, sym, ap, ◌∙◌, Option, Some, None, is_some, eqb-true, ◌<◌, ◌+◌, ◌⊎◌, inl, inr, arith}
+use mathlib.Core.Bool.{true≢false}
 use Rattle.std.specs.Ordering.{nat_cmp, is_eq, eq_by_cmp}
 use Rattle.std.specs.Cmp.{nat_cmp_total, eq_by_cmp_equiv, tied_itself, unsigned_tied}
 use Rattle.std.specs.Map.{lookup}
@@ -55,6 +56,9 @@ removed m n k h = same _ _ (λ q.
 pub tie_itself : (k : ℕ) → eq_by_cmp nat_cmp k k ≡ true
 tie_itself k = ap is_eq (tied_itself nat_cmp_total k)
 
+pub tied : (q k : ℕ) → eq_by_cmp nat_cmp q k ≡ true → q ≡ k
+tied q k tie = eqb-true q k (sym (unsigned_tied q k) ∙ tie)
+
 pub tie_apart : (q k : ℕ) → q ≢ k → eq_by_cmp nat_cmp q k ≡ false
 tie_apart q k apart = (elim (eq_by_cmp nat_cmp q k) as (λ b. eq_by_cmp nat_cmp q k ≡ b → b ≡ false) [
   | true ↦ λ tie. absurd (apart (eqb-true q k (sym (unsigned_tied q k) ∙ tie)))
@@ -83,3 +87,76 @@ ends-insert kept last top place digest ends before here = λ q above. get-insert
 
 pub ends-remove : (kept : DigestMap) (last place : ℕ) → EndsBy kept last → EndsBy (map.remove kept place) last
 ends-remove kept last place ends = λ q above. get-remove kept place q ∙ nothing_else (eq_by_cmp nat_cmp q place) (map.get kept q) (ends q above)
+
+-- whether something is there after a choice
+pub some_or : {X : Type 0} (b : Bool) (v : X) (o : Option X) → is_some (cond b (Some v) o) ≡ cond b true (is_some o)
+some_or true v o = refl
+some_or false v o = refl
+
+pub none_or : {X : Type 0} (b : Bool) (o : Option X) → is_some (cond b None o) ≡ cond b false (is_some o)
+none_or true o = refl
+none_or false o = refl
+
+-- nothing is there where nothing is found
+pub nothing : {X : Type 0} (o : Option X) → is_some o ≡ false → o ≡ None
+nothing None h = refl
+nothing (Some x) h = absurd (true≢false h)
+
+-- an item that is put and taken out again, where none was
+pub undone : {X : Type 0} (m n o : map.FinMap nat_cmp X) (k : ℕ) (item : X) → map.contains_key m k ≡ false → n ≡ map.insert m k item → o ≡ map.remove n k → o ≡ m
+undone m n o k item none put taken = same o m (λ q.
+    ap (λ x. map.get x q) taken ∙ get-remove n k q ∙ ap (cond (eq_by_cmp nat_cmp q k) None) (ap (λ x. map.get x q) put ∙ get-insert m k item q) ∙ by_tie q)
+  where
+    by_tie : (q : ℕ) → cond (eq_by_cmp nat_cmp q k) None (cond (eq_by_cmp nat_cmp q k) (Some item) (map.get m q)) ≡ map.get m q
+    by_tie q = (elim (eq_by_cmp nat_cmp q k) as (λ b. eq_by_cmp nat_cmp q k ≡ b → cond b None (cond b (Some item) (map.get m q)) ≡ map.get m q) [
+      | true ↦ λ tie. sym (nothing (map.get m q) (ap (map.contains_key m) (tied q k tie) ∙ none))
+      | false ↦ λ _. refl
+    ]) refl
+
+-- fewer items are left where one is taken out
+pub fewer_left : {X : Type 0} (m n : map.FinMap nat_cmp X) (k : ℕ) → map.contains_key m k ≡ true → n ≡ map.remove m k → map.len n < map.len m
+fewer_left {X = X} m n k there left = by_item (map.get m k) refl there
+  where
+    by_item : (o : Option X) → map.get m k ≡ o → map.contains_key m k ≡ true → map.len n < map.len m
+    by_item None is h = absurd (true≢false (sym h ∙ ap is_some is))
+    by_item (Some item) is h =
+        let whole : m ≡ map.insert (map.remove m k) k item = same _ _ (λ q. sym (get-insert (map.remove m k) k item q ∙ ap (cond (eq_by_cmp nat_cmp q k) (Some item)) (get-remove m k q) ∙ by_tie item is q)) in
+        let gone : map.contains_key (map.remove m k) k ≡ false = ap is_some (get-remove m k k) ∙ ap (λ b. is_some (cond b None (map.get m k))) (tie_itself k) in
+        let size : map.len m ≡ map.len (map.remove m k) + 1 = ap map.len whole ∙ map.len-insert nat_cmp_total (map.remove m k) k item ∙ ap (λ b. cond b (map.len (map.remove m k)) (map.len (map.remove m k) + 1)) gone in
+        let less : map.len n ≡ map.len (map.remove m k) = ap map.len left in omega arith
+      where
+        by_tie : (item : X) → map.get m k ≡ Some item → (q : ℕ) → cond (eq_by_cmp nat_cmp q k) (Some item) (cond (eq_by_cmp nat_cmp q k) None (map.get m q)) ≡ map.get m q
+        by_tie item is q = (elim (eq_by_cmp nat_cmp q k) as (λ b. eq_by_cmp nat_cmp q k ≡ b → cond b (Some item) (cond b None (map.get m q)) ≡ map.get m q) [
+          | true ↦ λ tie. sym (ap (map.get m) (tied q k tie) ∙ is)
+          | false ↦ λ _. refl
+        ]) refl
+
+-- two maps with the same keys have the same after an insertion
+pub keys-insert : {X Y : Type 0} (m : map.FinMap nat_cmp X) (n : map.FinMap nat_cmp Y) (k : ℕ) (v : X) (w : Y) → ((q : ℕ) → map.contains_key m q ≡ map.contains_key n q)
+    → (q : ℕ) → map.contains_key (map.insert m k v) q ≡ map.contains_key (map.insert n k w) q
+keys-insert m n k v w is q =
+    ap is_some (get-insert m k v q) ∙ some_or (eq_by_cmp nat_cmp q k) v (map.get m q) ∙ ap (cond (eq_by_cmp nat_cmp q k) true) (is q)
+    ∙ sym (ap is_some (get-insert n k w q) ∙ some_or (eq_by_cmp nat_cmp q k) w (map.get n q))
+
+-- and after a removal
+pub keys-remove : {X Y : Type 0} (m : map.FinMap nat_cmp X) (n : map.FinMap nat_cmp Y) (k : ℕ) → ((q : ℕ) → map.contains_key m q ≡ map.contains_key n q)
+    → (q : ℕ) → map.contains_key (map.remove m k) q ≡ map.contains_key (map.remove n k) q
+keys-remove m n k is q =
+    ap is_some (get-remove m k q) ∙ none_or (eq_by_cmp nat_cmp q k) (map.get m q) ∙ ap (cond (eq_by_cmp nat_cmp q k) false) (is q)
+    ∙ sym (ap is_some (get-remove n k q) ∙ none_or (eq_by_cmp nat_cmp q k) (map.get n q))
+
+-- what is found after a removal was found before
+pub found-remove : {X : Type 0} (m : map.FinMap nat_cmp X) (k q : ℕ) (v : X) → map.get (map.remove m k) q ≡ Some v → map.get m q ≡ Some v
+found-remove m k q v found = by_tie (eq_by_cmp nat_cmp q k) (sym (get-remove m k q) ∙ found)
+  where
+    by_tie : (b : Bool) → cond b None (map.get m q) ≡ Some v → map.get m q ≡ Some v
+    by_tie true is = absurd (true≢false (sym (ap is_some is)))
+    by_tie false is = is
+
+-- what is found after an insertion is the item or was found before
+pub found-insert : {X : Type 0} (m : map.FinMap nat_cmp X) (k : ℕ) (item : X) (q : ℕ) (v : X) → map.get (map.insert m k item) q ≡ Some v → ((q ≡ k) × (v ≡ item)) ⊎ (map.get m q ≡ Some v)
+found-insert m k item q v found = by_tie (eq_by_cmp nat_cmp q k) refl (sym (get-insert m k item q) ∙ found)
+  where
+    by_tie : (b : Bool) → eq_by_cmp nat_cmp q k ≡ b → cond b (Some item) (map.get m q) ≡ Some v → ((q ≡ k) × (v ≡ item)) ⊎ (map.get m q ≡ Some v)
+    by_tie true tie is = let one : v ≡ item = cc in inl (tied q k tie, one)
+    by_tie false tie is = inr is

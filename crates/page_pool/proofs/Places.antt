@@ -1,72 +1,72 @@
--- A table of changes, seen as a finite map.
-use Rattle.std.proofs.Common.{◌≡◌, ◌≢◌, ◌≤◌, ◌<◌, ℕ, suc, zero, ◌+◌, List, [], ◌∷◌, true, false, cond, refl, sym, ap, ◌∙◌, Option, Some, None, get_or, set, length, inl, inr, arith, Result, Ok, Err, OnErr}
+-- A table of items by number, seen as a finite map.
+use Rattle.std.proofs.Common.{◌≡◌, ◌≤◌, ◌<◌, ℕ, suc, zero, ◌+◌, List, [], ◌∷◌, cond, refl, sym, ap, ◌∙◌, Option, Some, None, get_or, set, length, inl, inr, arith, Result, Ok, Err, OnErr}
 use Rattle.std.specs.Ordering.{nat_cmp, eq_by_cmp}
 use Rattle.std.specs.Cmp.{nat_cmp_total}
 use Rattle.std.specs.FinMap as map
 use Rattle.std.specs.FinMap.{find}
 use Rattle.std.proofs.lemmas.Bool.{cases_eq}
 use Rattle.std.proofs.lemmas.List.{get_or-set_same, get_or-set_other, get_or_past}
-use Rattle.page_pool.specs.Inside.{entries_from, changes_in}
+use Rattle.page_pool.specs.Inside.{entries_from, items_in}
 use Rattle.page_pool.proofs.Maps.{same, get-insert, get-remove, tie_itself, tie_apart}
 
 -- no number is below that of the first place
-pub below : (n q : ℕ) (places : List (Option (Option (List ℕ)))) → q < n → find nat_cmp q (entries_from n places) ≡ None
+pub below : {X : Type 0} (n q : ℕ) (places : List (Option X)) → q < n → find nat_cmp q (entries_from n places) ≡ None
 below n q [] low = refl
 below n q (None ∷ places) low = below (suc n) q places (omega arith)
-below n q (Some change ∷ places) low = ap (λ b. cond b (Some change) (find nat_cmp q (entries_from (suc n) places))) (tie_apart q n (λ is. omega (arith, is))) ∙ below (suc n) q places (omega arith)
+below n q (Some item ∷ places) low = ap (λ b. cond b (Some item) (find nat_cmp q (entries_from (suc n) places))) (tie_apart q n (λ is. omega (arith, is))) ∙ below (suc n) q places (omega arith)
 
--- the change of a number stands in its place
-in_place : (n k q : ℕ) (places : List (Option (Option (List ℕ)))) → q ≡ n + k → find nat_cmp q (entries_from n places) ≡ get_or places k None
+-- the item of a number stands in its place
+in_place : {X : Type 0} (n k q : ℕ) (places : List (Option X)) → q ≡ n + k → find nat_cmp q (entries_from n places) ≡ get_or places k None
 in_place n k q [] at = refl
 in_place n zero q (None ∷ places) at = below (suc n) q places (omega arith)
-in_place n zero q (Some change ∷ places) at =
-    let one : q ≡ n = omega arith in ap (λ b. cond b (Some change) (find nat_cmp q (entries_from (suc n) places))) (ap (λ x. eq_by_cmp nat_cmp x n) one ∙ tie_itself n)
+in_place n zero q (Some item ∷ places) at =
+    let one : q ≡ n = omega arith in ap (λ b. cond b (Some item) (find nat_cmp q (entries_from (suc n) places))) (ap (λ x. eq_by_cmp nat_cmp x n) one ∙ tie_itself n)
 in_place n (suc k) q (None ∷ places) at = in_place (suc n) k q places (omega arith)
-in_place n (suc k) q (Some change ∷ places) at =
-    ap (λ b. cond b (Some change) (find nat_cmp q (entries_from (suc n) places))) (tie_apart q n (λ is. omega (arith, is))) ∙ in_place (suc n) k q places (omega arith)
+in_place n (suc k) q (Some item ∷ places) at =
+    ap (λ b. cond b (Some item) (find nat_cmp q (entries_from (suc n) places))) (tie_apart q n (λ is. omega (arith, is))) ∙ in_place (suc n) k q places (omega arith)
 
 -- what the map of a table answers
-pub get-changes_in : (places : List (Option (Option (List ℕ)))) (q : ℕ) → map.get (changes_in places) q ≡ get_or places q None
-unfolding changes_in
-get-changes_in places q = map.get-from_entries nat_cmp_total (entries_from 0 places) q ∙ in_place 0 q q places (omega arith)
+pub get-items_in : {X : Type 0} (places : List (Option X)) (q : ℕ) → map.get (items_in places) q ≡ get_or places q None
+unfolding items_in
+get-items_in places q = map.get-from_entries nat_cmp_total (entries_from 0 places) q ∙ in_place 0 q q places (omega arith)
 
--- no change stands in a table with no place
-pub changes-none : changes_in [] ≡ map.empty
-unfolding changes_in
-changes-none = refl
+-- no item stands in a table with no place
+pub items-none : {X : Type 0} → items_in {X = X} [] ≡ map.empty
+unfolding items_in
+items-none = refl
 
--- tables with the same change at each number
-pub changes-same : (xs ys : List (Option (Option (List ℕ)))) → ((q : ℕ) → get_or ys q None ≡ get_or xs q None) → changes_in ys ≡ changes_in xs
-changes-same xs ys is = same _ _ (λ q. get-changes_in ys q ∙ is q ∙ sym (get-changes_in xs q))
+-- tables with the same item at each number
+pub items-same : {X : Type 0} (xs ys : List (Option X)) → ((q : ℕ) → get_or ys q None ≡ get_or xs q None) → items_in ys ≡ items_in xs
+items-same xs ys is = same _ _ (λ q. get-items_in ys q ∙ is q ∙ sym (get-items_in xs q))
 
 -- after a write to the place of a number
-get-set : (places : List (Option (Option (List ℕ)))) (n : ℕ) (place : Option (Option (List ℕ))) (q : ℕ) → n < length places → map.get (changes_in (set places n place)) q ≡ cond (eq_by_cmp nat_cmp q n) place (map.get (changes_in places) q)
-get-set places n place q within = get-changes_in (set places n place) q ∙ elim (cases_eq q n) [
+get-set : {X : Type 0} (places : List (Option X)) (n : ℕ) (place : Option X) (q : ℕ) → n < length places → map.get (items_in (set places n place)) q ≡ cond (eq_by_cmp nat_cmp q n) place (map.get (items_in places) q)
+get-set places n place q within = get-items_in (set places n place) q ∙ elim (cases_eq q n) [
   | inl one ↦ ap (λ k. get_or (set places n place) k None) one ∙ get_or-set_same places n place None within
-      ∙ sym (ap (λ b. cond b place (map.get (changes_in places) q)) (ap (λ k. eq_by_cmp nat_cmp k n) one ∙ tie_itself n))
-  | inr apart ↦ get_or-set_other places n q place None apart ∙ sym (get-changes_in places q)
-      ∙ sym (ap (λ b. cond b place (map.get (changes_in places) q)) (tie_apart q n apart))
+      ∙ sym (ap (λ b. cond b place (map.get (items_in places) q)) (ap (λ k. eq_by_cmp nat_cmp k n) one ∙ tie_itself n))
+  | inr apart ↦ get_or-set_other places n q place None apart ∙ sym (get-items_in places q)
+      ∙ sym (ap (λ b. cond b place (map.get (items_in places) q)) (tie_apart q n apart))
 ]
 
--- a change is put in the place of its number
-pub changes-put : (places : List (Option (Option (List ℕ)))) (n : ℕ) (change : Option (List ℕ)) → n < length places → changes_in (set places n (Some change)) ≡ map.insert (changes_in places) n change
-changes-put places n change within = same _ _ (λ q. get-set places n (Some change) q within ∙ sym (get-insert (changes_in places) n change q))
+-- an item is put in the place of its number
+pub items-put : {X : Type 0} (places : List (Option X)) (n : ℕ) (item : X) → n < length places → items_in (set places n (Some item)) ≡ map.insert (items_in places) n item
+items-put places n item within = same _ _ (λ q. get-set places n (Some item) q within ∙ sym (get-insert (items_in places) n item q))
 
 -- the place of a number is emptied
-pub changes-taken : (places : List (Option (Option (List ℕ)))) (n : ℕ) → n < length places → changes_in (set places n None) ≡ map.remove (changes_in places) n
-changes-taken places n within = same _ _ (λ q. get-set places n None q within ∙ sym (get-remove (changes_in places) n q))
+pub items-taken : {X : Type 0} (places : List (Option X)) (n : ℕ) → n < length places → items_in (set places n None) ≡ map.remove (items_in places) n
+items-taken places n within = same _ _ (λ q. get-set places n None q within ∙ sym (get-remove (items_in places) n q))
 
--- a number above the table has no change
-pub past : (places : List (Option (Option (List ℕ)))) (n : ℕ) → length places ≤ n → map.get (changes_in places) n ≡ None
-past places n above = get-changes_in places n ∙ get_or_past places n None above
+-- a number above the table has no item
+pub past : {X : Type 0} (places : List (Option X)) (n : ℕ) → length places ≤ n → map.get (items_in places) n ≡ None
+past places n above = get-items_in places n ∙ get_or_past places n None above
 
-pub changes-past : (places : List (Option (Option (List ℕ)))) (n : ℕ) → length places ≤ n → changes_in places ≡ map.remove (changes_in places) n
-changes-past places n above = same _ _ (λ q. at q ∙ sym (get-remove (changes_in places) n q))
+pub items-past : {X : Type 0} (places : List (Option X)) (n : ℕ) → length places ≤ n → items_in places ≡ map.remove (items_in places) n
+items-past places n above = same _ _ (λ q. at q ∙ sym (get-remove (items_in places) n q))
   where
-    at : (q : ℕ) → map.get (changes_in places) q ≡ cond (eq_by_cmp nat_cmp q n) None (map.get (changes_in places) q)
+    at : (q : ℕ) → map.get (items_in places) q ≡ cond (eq_by_cmp nat_cmp q n) None (map.get (items_in places) q)
     at q = elim (cases_eq q n) [
-      | inl one ↦ ap (map.get (changes_in places)) one ∙ past places n above ∙ sym (ap (λ b. cond b None (map.get (changes_in places) q)) (ap (λ k. eq_by_cmp nat_cmp k n) one ∙ tie_itself n))
-      | inr apart ↦ sym (ap (λ b. cond b None (map.get (changes_in places) q)) (tie_apart q n apart))
+      | inl one ↦ ap (map.get (items_in places)) one ∙ past places n above ∙ sym (ap (λ b. cond b None (map.get (items_in places) q)) (ap (λ k. eq_by_cmp nat_cmp k n) one ∙ tie_itself n))
+      | inr apart ↦ sym (ap (λ b. cond b None (map.get (items_in places) q)) (tie_apart q n apart))
     ]
 
 -- what holds, holds on a refusal

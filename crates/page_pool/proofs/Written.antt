@@ -10,9 +10,9 @@ use Rattle.sha2.specs.Sha256.{sha256}
 use Rattle.page_pool.specs.Disk.{DigestMap, NumberSet, DiskView}
 use Rattle.page_pool.specs.Inside.{ChangeMap, StagedState, FramesState, NumbersState, IsAccount, IsWhole, is_used, state_of, stored, overlaid, dirty_of, freed_of}
 use Rattle.page_pool.specs.Commands.{Writes}
-use Rattle.page_pool.proofs.Maps.{same, get-insert_same, get-insert_other, get-remove_same, get-remove_other, tie_itself, tie_apart}
+use Rattle.page_pool.proofs.Maps.{same, get-insert_same, get-insert_other, get-remove_same, get-remove_other, tie_itself, tie_apart, tied}
 use Rattle.page_pool.proofs.Overlay.{same_set, is_page, is_gone, get-overlaid, get-stored, contains-dirty, contains-freed}
-use Rattle.page_pool.proofs.Accounts.{account-same, account-freed, both_of, tied}
+use Rattle.page_pool.proofs.Accounts.{account-same, account-freed, both_of}
 use Rattle.page_pool.proofs.States.{not_stored}
 use Rattle.page_pool.proofs.Seen.{some_one}
 

@@ -1,5 +1,5 @@
 -- How a pool's parts make up what contracts see of it. (For proofs; no clause above speaks of it.)
-use Rattle.std.specs.Prelude.{◌≡◌, ℕ, suc, ◌+◌, ◌-◌, ◌^◌, ◌≤◌, List, [], ◌∷◌, length, slice_get, Bool, true, false, cond, ◌||◌, nat_eq, nat_lt, IsTrue, Option, None, Some, is_some, ◌⊎◌, refl}
+use Rattle.std.specs.Prelude.{◌≡◌, ℕ, suc, ◌+◌, ◌-◌, ◌^◌, ◌≤◌, List, [], ◌∷◌, length, slice_get, Bool, true, false, cond, ◌||◌, nat_eq, nat_lt, IsTrue, Option, None, Some, is_some, ◌⊎◌, ⊤, refl}
 use Rattle.std.specs.FinMap as map
 use Rattle.std.specs.FinSet as set
 use Rattle.std.specs.BTreeSet as tree
@@ -7,6 +7,7 @@ use Rattle.std.specs.BTreeSet.{BTreeSet}
 use Rattle.std.specs.Ordering.{nat_cmp}
 use Rattle.std.specs.Coded.{Coded, code_by, coded×, coded_ℕ, coded_list, coded_option, coded_bool}
 use Rattle.sha2.specs.Sha256.{sha256}
+use Rattle.lru.specs.LruCache.{LruCache}
 use Rattle.page_pool.specs.Disk.{PageMap, DigestMap, NumberSet, DiskView}
 use Rattle.page_pool.specs.Pool.{PoolState}
 
@@ -24,21 +25,29 @@ abbrev pub is_page : Option (Option (List ℕ)) → Bool
 is_page None = false
 is_page (Some change) = is_some change
 
--- the changes in a table, with their numbers, of which the first place has this one
-abbrev pub entries_from : ℕ → List (Option (Option (List ℕ))) → List (ℕ × Option (List ℕ))
+-- the items in a table, with their numbers, of which the first place has this one
+abbrev pub entries_from : {X : Type 0} → ℕ → List (Option X) → List (ℕ × X)
 entries_from n [] = []
 entries_from n (None ∷ places) = entries_from (suc n) places
-entries_from n (Some change ∷ places) = (n, change) ∷ entries_from (suc n) places
+entries_from n (Some item ∷ places) = (n, item) ∷ entries_from (suc n) places
 
--- the changes in a table, each in the place of its number
-unfoldable pub changes_in : List (Option (Option (List ℕ))) → ChangeMap
-changes_in places = map.from_entries (entries_from 0 places)
+-- the items in a table, each in the place of its number
+unfoldable pub items_in : {X : Type 0} → List (Option X) → map.FinMap nat_cmp X
+items_in places = map.from_entries (entries_from 0 places)
 
 -- the clean pages, how many they are, and how many they may be
 pub record FramesState : Type 0 where
   pub pages : PageMap
   pub count : ℕ
   pub most : ℕ
+
+-- the places in a queue
+abbrev pub queued : LruCache ℕ ⊤ → map.FinMap nat_cmp ⊤
+queued queue = map.from_entries queue.entries
+
+-- the queue has the places of these pages, and no others
+abbrev pub IsQueueOf : PageMap → LruCache ℕ ⊤ → Type 0
+IsQueueOf pages queue = (place : ℕ) → map.contains_key (queued queue) place ≡ map.contains_key pages place
 
 -- the number that is given next, if any is left; the greatest given and the freed ones that are given again, now and at the command's beginning
 pub record NumbersState : Type 0 where

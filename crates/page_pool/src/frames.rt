@@ -1,34 +1,40 @@
-ghost use Rattle.std.specs.Prelude.{◌≡◌, ◌<◌, ◌≤◌, ◌^◌, ◌⊎◌, ℕ, List, Some, OnOk, IfOk, IfSome};
+ghost use Rattle.std.specs.Prelude.{◌≡◌, ◌<◌, ◌≤◌, ◌^◌, ◌⊎◌, ℕ, List, Some, OnOk, IfOk, IfSome, IfNone, IsTrue};
 ghost use Rattle.std.specs.FinMap as map;
 ghost use Rattle.std.specs.Option.{option_copied};
+ghost use Rattle.page_pool.specs.Inside.{queued};
 
+use crate::frame::Frame;
 use crate::page::Page;
+use crate::table::Table;
 use lru::LruCache;
 use sand_base::NoMemory;
 use std::alloc::Global;
 use std::marker::Model;
 use std::num::NonZeroUsize;
 
-/// Clean pages by their places, the least recently used of which leaves where a new one needs its frame.
+/// Clean pages in a table by place, with their places in a queue. Where a new page needs a frame, the one leaves
+/// that was queued longest ago; one that was used since is queued again instead (a second chance).
 #[derive(Drop)]
 pub(crate) struct Frames {
-    cache: LruCache<u64, Page>,
+    table: Table<Frame>,
+    queue: LruCache<u64, ()>,
 }
 
 impl Model for Frames {
-    ghost use Rattle.std.specs.Prelude.{length};
     ghost use Rattle.std.specs.FinMap as map;
-    ghost use Rattle.page_pool.specs.Inside.{FramesState, frames_code};
+    ghost use Rattle.page_pool.specs.Inside.{FramesState, frames_code, IsQueueOf};
 
     ghost Value = { FramesState };
 
     ghost coded = { frames_code };
 
     ghost view = { λ a. record {
-      pages = map.from_entries a.cache.entries;
-      count = length a.cache.entries;
-      most = a.cache.cap;
+      pages = a.table;
+      count = map.len a.table;
+      most = a.queue.cap;
     } };
+
+    ghost invariant = { λ a. IsQueueOf a.table a.queue };
 }
 
 impl Frames {
@@ -40,40 +46,31 @@ impl Frames {
             return Err(NoMemory {});
         };
         Ok(Frames {
-            cache: LruCache::new(alloc, most)?,
+            table: Table::new(alloc),
+            queue: LruCache::new(alloc, most)?,
         })
     }
 
-    // Whether the page is there; it becomes the most recently used.
-    pub(crate) fn touch(&mut self, place: u64) -> bool
-        ensures found { result ≡ map.contains_key self.old.pages place }
-        ensures pages { self.new.pages ≡ self.old.pages }
-        ensures most { self.new.most ≡ self.old.most }
+    // Whether the page is there; it is marked as used.
+    pub(crate) fn touch(&self, place: u64) -> bool
+        ensures { result ≡ map.contains_key self.now.pages place }
     {
-        if let Some(_) = self.front(place) {
-            return true;
-        }
-        let _count = self.cache.len(); // (its contract says that the places differ)
-        self.cache.promote(&place)
-    }
-
-    // The page, if it is the most recently used one: this takes no search.
-    fn front(&self, place: u64) -> Option<&Page>
-        ensures { IfSome result (λ page. map.get self.now.pages place ≡ Some page.now) }
-    {
-        match self.cache.peek_mru() {
-            Some((first, page)) if *first == place => Some(page),
-            _ => None,
+        match self.table.get(place) {
+            Some(frame) => {
+                frame.mark();
+                true
+            }
+            None => false,
         }
     }
 
     pub(crate) fn get(&self, place: u64) -> Option<&Page>
         ensures { option_copied result ≡ map.get self.now.pages place }
     {
-        if let Some(page) = self.front(place) {
-            return Some(page);
+        match self.table.get(place) {
+            Some(frame) => Some(frame.page()),
+            None => None,
         }
-        self.cache.peek(&place)
     }
 
     // Puts the page in, where memory is left. What is there afterwards was there before or is this page.
@@ -83,10 +80,42 @@ impl Frames {
         ensures added { OnOk result (map.get self.new.pages place ≡ Some page) }
         ensures most { self.new.most ≡ self.old.most }
     {
-        let _count = self.cache.len(); // (its contract says that the places differ)
-        match self.cache.put(place, page) {
+        self.make_room();
+        self.table.insert(place, Frame::new(page))?;
+        let _count = self.queue.len(); // (its contract says that the places differ)
+        match self.queue.put(place, ()) {
             Ok(_) => Ok(()),
-            Err(_) => Err(NoMemory {}),
+            Err(_) => {
+                self.table.take(place);
+                Err(NoMemory {})
+            }
+        }
+    }
+
+    // Lets a page go where no frame is free.
+    fn make_room(&mut self)
+        ensures sound { (q : ℕ) (bytes : List ℕ) → map.get self.new.pages q ≡ Some bytes → map.get self.old.pages q ≡ Some bytes }
+        ensures room { self.new.count < self.new.most }
+        ensures most { self.new.most ≡ self.old.most }
+    {
+        if self.queue.len() < self.queue.cap().get() {
+            return;
+        }
+        queue_used(&self.table, &mut self.queue);
+        if let Some(place) = self.last() {
+            self.forget(place);
+        }
+    }
+
+    // The place that was queued longest ago.
+    fn last(&self) -> Option<u64>
+        ensures found { IfSome result (λ place. IsTrue (map.contains_key self.now.pages place)) }
+        ensures none { IfNone result (self.now.count ≡ 0) }
+    {
+        let _count = self.queue.len(); // (its contract says that the places differ)
+        match self.queue.peek_lru() {
+            Some(last) => Some(*last.0),
+            None => None,
         }
     }
 
@@ -104,10 +133,12 @@ impl Frames {
     // Lets the page go.
     pub(crate) fn forget(&mut self, place: u64)
         ensures pages { self.new.pages ≡ map.remove self.old.pages place }
+        ensures fewer { IsTrue (map.contains_key self.old.pages place) → self.new.count < self.old.count }
         ensures most { self.new.most ≡ self.old.most }
     {
-        let _count = self.cache.len(); // (its contract says that the places differ)
-        self.cache.pop(&place);
+        let _count = self.queue.len(); // (its contract says that the places differ)
+        self.queue.pop(&place);
+        self.table.take(place);
     }
 
     // How many pages are there.
@@ -116,6 +147,27 @@ impl Frames {
         ensures few { self.now.count ≤ self.now.most }
         ensures small { result < 2 ^ 63 }
     {
-        self.cache.len()
+        self.queue.len()
     }
+}
+
+// Queues again what was used, until the page that leaves next was not. In one round each mark is taken off.
+fn queue_used(table: &Table<Frame>, queue: &mut LruCache<u64, ()>)
+    ensures same { queued queue.new ≡ queued queue.old }
+    ensures cap { queue.new.cap ≡ queue.old.cap }
+{
+    'round: for _ in 0..queue.len() {
+        let Some(place) = last_used(table, queue) else {
+            return;
+        };
+        let _count = queue.len(); // (its contract says that the places differ)
+        queue.promote(&place);
+    }
+}
+
+// The place that leaves next, where its page has the mark, which is taken off.
+fn last_used(table: &Table<Frame>, queue: &LruCache<u64, ()>) -> Option<u64> {
+    let place = *queue.peek_lru()?.0;
+    let frame = table.get(place)?;
+    if frame.unmark() { Some(place) } else { None }
 }

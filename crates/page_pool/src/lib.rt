@@ -2,12 +2,14 @@
 //!
 //! What a command changes is staged in one table by number, `None` for a page that it freed, beside the set of
 //! those numbers. So an abort empties their places, a commit keeps them, and neither takes memory. `begin` and
-//! `flush` write what waits; a page that was written moves into the frames, which keep clean pages in order of use.
+//! `flush` write what waits; a page that was written moves into the frames. They keep clean pages in a table by
+//! number too, so that a hit takes no search, with their numbers in a queue. Where a page needs a frame, the one
+//! leaves that was queued longest ago, and each that was used since is queued again instead.
 //! The SHA-256 digest of each written page is kept and compared when the page comes back from the disk. Above:
 //! `code_btree`, `tuple_file`, and by `Desk` the search engine. Below: `sand_base`, and `lru` and `sha2` of the kit.
 //! Contracts see a pool as the record `PoolState`; read `specs/Disk.antt` and `specs/Pool.antt` first.
-//! Buffer pools and steal/no-force policies after T. Haerder and A. Reuter (1983); digests of pages as in R. C.
-//! Merkle (1987).
+//! Buffer pools and steal/no-force policies after T. Haerder and A. Reuter (1983); a used page's second chance after
+//! F. J. Corbato (1968); digests of pages as in R. C. Merkle (1987).
 #![tactic(auto)]
 
 mod boxed_disk;
@@ -15,6 +17,7 @@ mod desk;
 mod digests;
 mod disk;
 mod fault;
+mod frame;
 mod frames;
 mod mem_disk;
 mod numbers;

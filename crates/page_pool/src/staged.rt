@@ -5,7 +5,7 @@ ghost use Rattle.std.specs.Option.{option_copied};
 ghost use Rattle.page_pool.specs.Inside.{dirty_of};
 
 use crate::page::Page;
-use crate::table::ChangeTable;
+use crate::table::Table;
 use sand_base::NoMemory;
 use std::alloc::Global;
 use std::collections::BTreeSet;
@@ -15,7 +15,7 @@ use std::marker::Model;
 /// ascending order.
 #[derive(Drop)]
 pub(crate) struct Staged {
-    table: ChangeTable,
+    table: Table<Option<Page>>,
     numbers: BTreeSet<u64>,
 }
 
@@ -36,7 +36,7 @@ impl Staged {
         ensures { result ≡ record { changes = map.empty; count = 0 } }
     {
         Staged {
-            table: ChangeTable::new(alloc),
+            table: Table::new(alloc),
             numbers: BTreeSet::new(alloc),
         }
     }

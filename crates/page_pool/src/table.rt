@@ -9,32 +9,35 @@ use sand_base::NoMemory;
 use std::alloc::Global;
 use std::marker::Model;
 
-/// Changes of pages (`None` for a freed number), each in the place of its number: a look-up takes no search.
+/// Items by page number, each in the place of its number: a look-up takes no search.
 #[derive(Drop)]
-pub(crate) struct ChangeTable {
-    places: Vec<Option<Option<Page>>>,
+pub(crate) struct Table<T> {
+    places: Vec<Option<T>>,
 }
 
-impl Model for ChangeTable {
-    ghost use Rattle.page_pool.specs.Inside.{ChangeMap, change_map_code, changes_in};
+impl<T> Model for Table<T> {
+    ghost use Rattle.std.specs.Ordering.{nat_cmp};
+    ghost use Rattle.std.specs.Coded.{coded_ℕ};
+    ghost use Rattle.std.specs.FinMap as map;
+    ghost use Rattle.page_pool.specs.Inside.{items_in};
 
-    ghost Value = { ChangeMap };
+    ghost Value = { map.FinMap nat_cmp T };
 
-    ghost coded = { change_map_code };
+    ghost coded = { map.code coded_ℕ T.code };
 
-    ghost view = { λ a. changes_in a.places.items };
+    ghost view = { λ a. items_in a.places.items };
 }
 
-impl ChangeTable {
-    pub(crate) fn new(alloc: Global) -> ChangeTable
+impl<T: Drop> Table<T> {
+    pub(crate) fn new(alloc: Global) -> Table<T>
         ensures { result ≡ map.empty }
     {
-        ChangeTable {
+        Table {
             places: Vec::new(alloc),
         }
     }
 
-    pub(crate) fn get(&self, n: u64) -> Option<&Option<Page>>
+    pub(crate) fn get(&self, n: u64) -> Option<&T>
         ensures { option_copied result ≡ map.get self.now n }
     {
         match self.places.get(n as usize) {
@@ -43,17 +46,31 @@ impl ChangeTable {
         }
     }
 
-    // Puts the change in place of an earlier one.
-    pub(crate) fn insert(&mut self, n: u64, change: Option<Page>) -> Result<(), NoMemory>
-        ensures changed { OnOk result (self.new ≡ map.insert self.old n change) }
+    // Puts the item in place of an earlier one.
+    pub(crate) fn insert(&mut self, n: u64, item: T) -> Result<(), NoMemory>
+        ensures changed { OnOk result (self.new ≡ map.insert self.old n item) }
         ensures unchanged { OnErr result (self.new ≡ self.old) }
     {
         let place = n as usize;
         grow(&mut self.places, place)?;
-        self.places[place] = Some(change);
+        self.places[place] = Some(item);
         Ok(())
     }
 
+    // Takes the item of this number out.
+    pub(crate) fn take(&mut self, n: u64) -> Option<T>
+        ensures taken { result ≡ map.get self.old n }
+        ensures left { self.new ≡ map.remove self.old n }
+    {
+        let Some(place) = self.places.get_mut(n as usize) else {
+            return None;
+        };
+        place.take()
+    }
+}
+
+// Changes of pages: `None` for a freed number.
+impl Table<Option<Page>> {
     // Writes these bytes over the page of the number. False where none is there.
     pub(crate) fn overwrite(&mut self, n: u64, bytes: &[u8; 4096]) -> bool
         ensures written { result ≡ true → self.new ≡ map.insert self.old n (Some bytes.now) }
@@ -66,17 +83,6 @@ impl ChangeTable {
         set_page(place, bytes)
     }
 
-    // Takes the change of this number out.
-    pub(crate) fn take(&mut self, n: u64) -> Option<Option<Page>>
-        ensures taken { result ≡ map.get self.old n }
-        ensures left { self.new ≡ map.remove self.old n }
-    {
-        let Some(place) = self.places.get_mut(n as usize) else {
-            return None;
-        };
-        place.take()
-    }
-
     // How many pages are among the changes.
     pub(crate) fn count(&self) -> usize
         ensures count { result ≡ set.len (dirty_of self.now) }
@@ -87,7 +93,7 @@ impl ChangeTable {
 }
 
 // Adds empty places until this one is there. After a refusal those that were added stay.
-fn grow(places: &mut Vec<Option<Option<Page>>>, place: usize) -> Result<(), NoMemory>
+fn grow<T: Drop>(places: &mut Vec<Option<T>>, place: usize) -> Result<(), NoMemory>
     ensures reached { OnOk result (place < length places.new.items) }
     ensures same { (q : ℕ) → get_or places.new.items q None ≡ get_or places.old.items q None }
 {

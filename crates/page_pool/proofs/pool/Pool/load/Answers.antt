@@ -34,9 +34,9 @@ returns-in_err-page-clause-gets g c =
     let disk' : DiskView = g.D.Disk.seen c.read_fresh.new.disk in
     let p = err_from_is_err_and c.from_residual.result c.from_residual.ensures.1 in
     rw (p.1, p.2)
-    (subst (λ old. Gets old (state_of disk' c.self.inside.digests c.self.inside.staged c.touch.new.self c.self.inside.numbers c.self.inside.is_open c.saturating_add-self-inside.result) c.args.n (Err (page_fault c.in_err-page.field-0.0))) c.self.view_is
-    (gets_refused disk disk' c.self.inside.digests c.self.inside.staged c.self.inside.frames c.touch.new.self c.self.inside.numbers c.self.inside.is_open c.self.inside.gets c.saturating_add-self-inside.result c.args.n c.in_err-page.field-0.0
-    c.in_err-page.ensures.told c.in_err-page.ensures.pages c.touch.ensures.most c.saturating_add-self-inside.ensures c.in_err-page.ensures.counted))
+    (subst (λ old. Gets old (state_of disk' c.self.inside.digests c.self.inside.staged c.self.inside.frames c.self.inside.numbers c.self.inside.is_open c.saturating_add-self-inside.result) c.args.n (Err (page_fault c.in_err-page.field-0.0))) c.self.view_is
+    (gets_refused disk disk' c.self.inside.digests c.self.inside.staged c.self.inside.frames c.self.inside.frames c.self.inside.numbers c.self.inside.is_open c.self.inside.gets c.saturating_add-self-inside.result c.args.n c.in_err-page.field-0.0
+    c.in_err-page.ensures.told c.in_err-page.ensures.pages refl c.saturating_add-self-inside.ensures c.in_err-page.ensures.counted))
 
 -- the page has another digest than the kept one
 pub returns-then-ne-clause-gets : goal.returns-then-ne-clause-gets
@@ -47,9 +47,9 @@ returns-then-ne-clause-gets g c =
     let differ : c.in-Some.kept.now ≢ c.digest-read.result = bytes_differ c.digest-read.result c.in-Some.kept.now (sym c.ne.ensures ∙ c.if-ne.true) in
     let untold : disk.told ≡ false = damage_untold disk c.self.inside.digests c.self.inside.staged.changes c.self.inside.frames c.self.inside.numbers c.self.inside.is_open c.args.n c.in_ok-page.page c.in-Some.kept.now c.digest-read.result
     c.self.invariant none (sym c.in-Some.ensures) c.in_ok-page.ensures.value c.digest-read.ensures differ in
-    subst (λ old. Gets old (state_of disk' c.self.inside.digests c.self.inside.staged c.touch.new.self c.self.inside.numbers c.self.inside.is_open c.saturating_add-self-inside.result) c.args.n (Err (Damaged c.args.n c.in-Some.kept.now c.digest-read.result))) c.self.view_is
-    (gets_state disk disk' c.self.inside.digests c.self.inside.staged c.self.inside.frames c.touch.new.self c.self.inside.numbers c.self.inside.is_open c.self.inside.gets c.saturating_add-self-inside.result c.args.n (Err (Damaged c.args.n c.in-Some.kept.now c.digest-read.result))
-    c.in_ok-page.ensures.told c.in_ok-page.ensures.pages c.touch.ensures.most c.saturating_add-self-inside.ensures c.in_ok-page.ensures.counted
+    subst (λ old. Gets old (state_of disk' c.self.inside.digests c.self.inside.staged c.self.inside.frames c.self.inside.numbers c.self.inside.is_open c.saturating_add-self-inside.result) c.args.n (Err (Damaged c.args.n c.in-Some.kept.now c.digest-read.result))) c.self.view_is
+    (gets_state disk disk' c.self.inside.digests c.self.inside.staged c.self.inside.frames c.self.inside.frames c.self.inside.numbers c.self.inside.is_open c.self.inside.gets c.saturating_add-self-inside.result c.args.n (Err (Damaged c.args.n c.in-Some.kept.now c.digest-read.result))
+    c.in_ok-page.ensures.told c.in_ok-page.ensures.pages refl c.saturating_add-self-inside.ensures c.in_ok-page.ensures.counted
     record { kept_is = sym c.in-Some.ensures; read_is = c.digest-read.ensures ∙ ap sha256 (sym c.in_ok-page.ensures.given); differ = differ; untold = c.in_ok-page.ensures.told ∙ untold } refl)
 
 -- memory for the frame was refused
@@ -61,7 +61,7 @@ returns-in_err-put-clause-gets g c =
     rw (p.1, p.2)
     (subst (λ old. Gets old (state_of disk' c.self.inside.digests c.self.inside.staged c.put.new.self c.self.inside.numbers c.self.inside.is_open c.saturating_add-self-inside.result) c.args.n (Err Memory)) c.self.view_is
     (gets_state disk disk' c.self.inside.digests c.self.inside.staged c.self.inside.frames c.put.new.self c.self.inside.numbers c.self.inside.is_open c.self.inside.gets c.saturating_add-self-inside.result c.args.n (Err Memory)
-    c.in_ok-page.ensures.told c.in_ok-page.ensures.pages (c.put.ensures.most ∙ c.touch.ensures.most) c.saturating_add-self-inside.ensures c.in_ok-page.ensures.counted tt tt))
+    c.in_ok-page.ensures.told c.in_ok-page.ensures.pages c.put.ensures.most c.saturating_add-self-inside.ensures c.in_ok-page.ensures.counted tt tt))
 
 pub returns-clause-gets : goal.returns-clause-gets
 returns-clause-gets g c =
@@ -69,7 +69,7 @@ returns-clause-gets g c =
     let disk' : DiskView = g.D.Disk.seen c.read_fresh.new.disk in
     subst (λ old. Gets old (state_of disk' c.self.inside.digests c.self.inside.staged c.put.new.self c.self.inside.numbers c.self.inside.is_open c.saturating_add-self-inside.result) c.args.n (Ok true)) c.self.view_is
     (gets_state disk disk' c.self.inside.digests c.self.inside.staged c.self.inside.frames c.put.new.self c.self.inside.numbers c.self.inside.is_open c.self.inside.gets c.saturating_add-self-inside.result c.args.n (Ok true)
-    c.in_ok-page.ensures.told c.in_ok-page.ensures.pages (c.put.ensures.most ∙ c.touch.ensures.most) c.saturating_add-self-inside.ensures c.in_ok-page.ensures.counted tt tt)
+    c.in_ok-page.ensures.told c.in_ok-page.ensures.pages c.put.ensures.most c.saturating_add-self-inside.ensures c.in_ok-page.ensures.counted tt tt)
 
 -- a page in a frame has no staged change
 pub returns-then-touch-clause-framed : goal.returns-then-touch-clause-framed

@@ -1,6 +1,7 @@
 use Rattle.std.proofs.Common.{sym, ap, ◌∙◌}
 use Rattle.page_pool.specs.Inside.{staged_of}
-use Rattle.page_pool.proofs.Listed.{listed-insert, listed-same, undone}
+use Rattle.page_pool.proofs.Maps.{undone}
+use Rattle.page_pool.proofs.Listed.{listed-insert, listed-same}
 use Rattle.page_pool.proofs.staged.Staged.insert.Goals as goal
 
 pub invariant_of-self-in-Ok : goal.invariant_of-self-in-Ok
