@@ -5,9 +5,9 @@ use Rattle.pair_heap.specs.Chain.{Chain, end, link}
 -- how many trees the chain has
 abbrev pub siblings : {X : Type 0} → Chain X → ℕ
 siblings end = 0
-siblings (link x kids rest) = suc (siblings rest)
+siblings (link p x kids rest) = suc (siblings rest)
 
 -- what falls where a first child moves up beside its parent, and where a node goes
 abbrev pub weight : {X : Type 0} → Chain X → ℕ
 weight end = 0
-weight (link x kids rest) = 1 + (2 * weight kids + weight rest)
+weight (link p x kids rest) = 1 + (2 * weight kids + weight rest)

@@ -28,7 +28,7 @@ module _ {X : Type 0} where
   -- a chain that holds no item is the end
   pub nothing_held : (c : Chain X) → IsPermutation (items c) [] → c ≡ end
   nothing_held end h = refl
-  nothing_held (link x kids rest) h = let long = length_permutation (items (link x kids rest)) [] h in absurd (omega arith)
+  nothing_held (link p x kids rest) h = let long = length_permutation (items (link p x kids rest)) [] h in absurd (omega arith)
 
   -- an item melded in behind the others is one in front of them
   pub pushed : (x : X) (xs ys : List X) → IsPermutation (xs ++ x ∷ []) ys → IsPermutation (x ∷ xs) ys

@@ -10,7 +10,7 @@ use Rattle.pair_heap.specs.Chain.{link, items}
 use Rattle.pair_heap.specs.Tree.{IsTree}
 
 module _ {X : Type 0} {cmp : X → X → Ordering} (o : IsTotalOrder cmp) where
-  pub put_below : (one other result : Tree X) → result.item ≡ one.item → result.kids.chain ≡ link other.item other.kids.chain one.kids.chain
+  pub put_below : (one other result : Tree X) → result.item ≡ one.item → result.kids.chain ≡ link other.slot.ptr other.item other.kids.chain one.kids.chain
       → AtMost cmp one.item other.item → IsTree cmp one → IsTree cmp other → IsTree cmp result
   put_below one other result same below le t u = record {
     least = rw (same, below) (All-cons (AtMost cmp one.item) other.item (items other.kids.chain ++ items one.kids.chain) le

@@ -1,4 +1,4 @@
--- What a node's block holds, as the steps of the walks take it: the struct of a pointer, an item, and a node of both. Assumes `Logic`.
+-- What a node's slot holds, as the steps of the walks take it: the struct of a pointer, an item, and a node of both. Assumes `Logic`.
 use Rattle.std.proofs.Common.{◌≡◌, ℕ, zero, suc, ◌+◌, List, [], ◌∷◌, ◌++◌, refl, ap, ◌∙◌, lit<}
 use lib.Dec.{T}
 use prog.Model.{rooms_of}
@@ -6,7 +6,7 @@ use mir.Raw.{raw as bare}
 use seplogic.Ra.Ura.{Ura}
 use mir.Syntax.{ty_ptr, impl, tcons, tnil, dnil}
 use mir.Val.{Val, vstruct, vcons, vnil, of_list, has_ty, has_tys, WT}
-use base.Logic.{ent, sep, wand, emp, never, via, apply∗, fst∗, snd∗, guard_i}
+use base.Logic.{ent, sep, wand, emp, via, apply∗, guard_i}
 use base.Fml.{Fml, fsep, fwand, fat, froom}
 use base.Fraction.{full_share}
 use types.Logic.{Logic, sem}
@@ -16,7 +16,7 @@ use denote.Builtin.{RawPtr}
 use denote.Laws.{Is, shows}
 use denote.Memory.{part_at}
 use contract.Monad.{fact_use}
-use denote.RawPtr.{Ptr, block_ptr, null_ptr, ptr_val, lies_at, Testable, in_a_block}
+use denote.RawPtr.{Ptr, block_ptr, null_ptr, ptr_val, Testable}
 use denote.Steps.{nothing, only, peeks}
 use denote.Param.{param, layout}
 use denote.Param.Laws.{Laws, param_laws}
@@ -31,10 +31,12 @@ use Rattle.std.specs.contracts.alloc.Global as heap
 use Rattle.std.proofs.alloc.Global.TheLaws as heap_laws
 use Rattle.std.specs.contracts.impls.GlobalAllocator.TheImpl.{ghosts}
 use Rattle.std_alloc.specs.contracts.room.vacant.Vacant as vacant
-use Rattle.std.proofs.GlobalToken.{dealloc_token-Testable}
+use Rattle.std.proofs.GlobalToken.{dealloc_token_start, dealloc_token-Testable}
 use Rattle.pair_heap.specs.Chain.{Chain, end, link}
-use Rattle.pair_heap.specs.Ownership.{heap as handle, node_owns}
+use Rattle.pair_heap.specs.Ownership.{heap as handle}
 use Rattle.pair_heap.specs.contracts.node.Node as node
+use Rattle.pair_heap.specs.contracts.slab.Slab as slab
+use Rattle.pair_heap.specs.contracts.slot.Slot as slot
 
 -- the handle that the blocks go back to
 abbrev pub al : Al
@@ -75,9 +77,15 @@ four_of 𝓛 A B C D x y z w s t u v =
 
 -- the cases of a chain, as a step of a walk
 module _ {M : Type 1} {𝓤 : Ura M} {𝓛 : Logic 𝓤} {K : Type 0} {Γ : List (Item 𝓤)} {G : Goal 𝓤 𝓛.H} where
-  pub by_chain : {X : Type 0} (c : Chain X) → (c ≡ end → Seq K 𝓛 Γ G) → ((x : X) (kids rest : Chain X) → c ≡ link x kids rest → Seq K 𝓛 Γ G) → Seq K 𝓛 Γ G
+  pub by_chain : {X : Type 0} (c : Chain X) → (c ≡ end → Seq K 𝓛 Γ G) → ((p : Ptr) (x : X) (kids rest : Chain X) → c ≡ link p x kids rest → Seq K 𝓛 Γ G) → Seq K 𝓛 Γ G
   by_chain end e l = e refl
-  by_chain (link x kids rest) e l = l x kids rest refl
+  by_chain (link p x kids rest) e l = l p x kids rest refl
+
+-- the cases of a list
+module _ {M : Type 1} {𝓤 : Ura M} {𝓛 : Logic 𝓤} {K : Type 0} {Γ : List (Item 𝓤)} {G : Goal 𝓤 𝓛.H} where
+  pub by_list : {X : Type 0} (xs : List X) → (xs ≡ [] → Seq K 𝓛 Γ G) → ((y : X) (ys : List X) → xs ≡ y ∷ ys → Seq K 𝓛 Γ G) → Seq K 𝓛 Γ G
+  by_list [] e l = e refl
+  by_list (y ∷ ys) e l = l y ys refl
 
 -- the cases of a number
 module _ {M : Type 1} {𝓤 : Ura M} {𝓛 : Logic 𝓤} {K : Type 0} {Γ : List (Item 𝓤)} {G : Goal 𝓤 𝓛.H} where
@@ -92,9 +100,16 @@ module _ (U : RattleType) (L : Laws U) where
   abbrev pub N : RattleType
   N = node.the_row R
 
-  -- a block for a node
+  abbrev pub S : RattleType
+  S = slab.the_row R
+
+  -- a slot for a node
+  abbrev pub SlotOf : RattleType
+  SlotOf = slot.the_row R
+
+  -- a block for a slab
   abbrev pub Room : RattleType
-  Room = vacant.the_row N heap.the_row ghosts
+  Room = vacant.the_row S heap.the_row ghosts
 
   abbrev pub node_val : Ptr → Ptr → Val → Val
   node_val c n v = vstruct (vcons (ptr_val c) (vcons (ptr_val n) (vcons v vnil)))
@@ -127,23 +142,23 @@ module _ (U : RattleType) (L : Laws U) where
         move t (1 ∷ 0 ∷ []) $ use2 𝓛 (‵ (part_at N full_share (node_with c n x) b o)) (part_in 𝓛 N refl full_share (node_with c n x) b o w) $ s)
 
   module _ {M : Type 1} {𝓤 : Ura M} {𝓛 : Logic 𝓤} {K : Type 0} {Γ : List (Item 𝓤)} {G : Goal 𝓤 𝓛.H} where
-    -- a node's place is the start of its block, so it may be compared with null
-    pub tested : K → (p : Ptr) (n : N.Denot) → (Testable p → Seq K 𝓛 (‵ (node_owns R p n) ∷ Γ) G) → Seq K 𝓛 (‵ (node_owns R p n) ∷ Γ) G
-    tested t p n k = use1 𝓛 (given (Testable p) (‵ (node_owns R p n)))
-        (fact_use 𝓤 (Testable p) (via 𝓤 _ (snd∗ 𝓤 (sem 𝓛 (lies_at N full_share p n)) (sem 𝓛 (ghosts.dealloc_token handle (bare (layout N)) p))) (dealloc_token-Testable 𝓛 handle (bare (layout N)) p)) (guard_i 𝓤 (Testable p) (sem 𝓛 (node_owns R p n)))) $ learn t k
+    -- the right to free a block tells that its place may be compared with null
+    pub token_tested : K → (p : Ptr) → (Testable p → Seq K 𝓛 (‵ (ghosts.dealloc_token handle (bare (layout S)) p) ∷ Γ) G) → Seq K 𝓛 (‵ (ghosts.dealloc_token handle (bare (layout S)) p) ∷ Γ) G
+    token_tested t p k = let T = ghosts.dealloc_token handle (bare (layout S)) p in
+        use1 𝓛 (given (Testable p) (‵ T)) (fact_use 𝓤 (Testable p) (dealloc_token-Testable 𝓛 handle (bare (layout S)) p) (guard_i 𝓤 (Testable p) (sem 𝓛 T))) $ learn t k
 
-    -- the same of a block alone
-    pub token_tested : K → (p : Ptr) → (Testable p → Seq K 𝓛 (‵ (ghosts.dealloc_token handle (bare (layout N)) p) ∷ Γ) G) → Seq K 𝓛 (‵ (ghosts.dealloc_token handle (bare (layout N)) p) ∷ Γ) G
-    token_tested t p k = let T = ghosts.dealloc_token handle (bare (layout N)) p in
-        use1 𝓛 (given (Testable p) (‵ T)) (fact_use 𝓤 (Testable p) (dealloc_token-Testable 𝓛 handle (bare (layout N)) p) (guard_i 𝓤 (Testable p) (sem 𝓛 T))) $ learn t k
-
-    -- the node stands in a block
-    pub in_block : K → (p : Ptr) (n : N.Denot) → ((b o : ℕ) → p ≡ block_ptr b o → Seq K 𝓛 (‵ (node_owns R (block_ptr b o) n) ∷ Γ) G) → Seq K 𝓛 (‵ (node_owns R p n) ∷ Γ) G
-    in_block t p n k = in_a_block t p (λ q. node_owns R q n) (fst∗ 𝓤 (never 𝓤) (sem 𝓛 (ghosts.dealloc_token handle (bare (layout N)) null_ptr))) k
+    -- and that its place is the start of its block
+    pub token_start : K → (b o : ℕ) → (o ≡ zero → Seq K 𝓛 (‵ (ghosts.dealloc_token handle (bare (layout S)) (block_ptr b o)) ∷ Γ) G) → Seq K 𝓛 (‵ (ghosts.dealloc_token handle (bare (layout S)) (block_ptr b o)) ∷ Γ) G
+    token_start t b o k = let T = ghosts.dealloc_token handle (bare (layout S)) (block_ptr b o) in
+        use1 𝓛 (given (o ≡ zero) (‵ T)) (fact_use 𝓤 (o ≡ zero) (dealloc_token_start 𝓛 handle (bare (layout S)) (block_ptr b o)) (guard_i 𝓤 (o ≡ zero) (sem 𝓛 T))) $ learn t k
 
     -- a node's cell is room for another
     pub emptied : K → (b o : ℕ) (w : Val) → Step K 𝓛 (‵ (froom (bare (layout N)) b o) ∷ Γ) G (‵ (fat full_share (layout N) b o w) ∷ Γ) G
     emptied t b o w = step (λ s. use1 𝓛 (‵ (froom (bare (layout N)) b o)) (via 𝓤 (𝓛.H.room (layout N) b o) (𝓛.laws.at_room (layout N) b o w) (𝓛.laws.room-raw (layout N) b o)) $ s)
+
+    -- a slot at this place
+    pub slotted : K → (b o : ℕ) → Testable (block_ptr b o) → Step K 𝓛 (‵ (SlotOf.own_val (record { ptr = block_ptr b o }) (word (block_ptr b o) ∷ [])) ∷ Γ) G (‵ (froom (bare (layout N)) b o) ∷ Γ) G
+    slotted t b o test = step (λ s. fpack t (Testable (block_ptr b o)) (λ _. froom (bare (layout N)) b o) test $ use0 𝓛 (‵ (word_own (block_ptr b o) (word (block_ptr b o) ∷ []))) (word_made 𝓛 (block_ptr b o)) $ fjoin t $ s)
 
     -- the struct of one pointer, beside what stands behind it
     pub worded : K → (p : Ptr) (F : Fml) → Step K 𝓛 (‵ (fsep (word_own p (word p ∷ [])) F) ∷ Γ) G (‵ F ∷ Γ) G
@@ -152,9 +167,9 @@ module _ (U : RattleType) (L : Laws U) where
   pub node_typed : (c n : Ptr) (v : Val) → Good (layout R) v → Good (layout N) (node_val c n v)
   node_typed c n v good = as_fields (ty_ptr ∷ ty_ptr ∷ layout R ∷ []) (ptr_val c ∷ ptr_val n ∷ v ∷ []) (ptr_typed c, (ptr_typed n, (good, tt)))
 
--- the first word of a block that is room for a node
+-- the first word of a slot
 module _ (U : RattleType) (L : Laws U) (b o : ℕ) where
-  -- the word, and what makes the block room again once the word is given back
+  -- the word, and what makes the slot room again once the word is given back
   abbrev pub back : Fml
   back = fwand (froom ty_ptr b (o + 0)) (froom (bare (layout (N U L))) b o)
 

@@ -5,8 +5,8 @@ use Rattle.std.proofs.lemmas.List.Elements.{All-nil}
 use Rattle.std.proofs.lemmas.List.Sorted.{IsPermutation-refl, IsPermutation-cons, All-permutation}
 use Rattle.pair_heap.specs.declared.tree.Tree.{Tree}
 use Rattle.pair_heap.specs.Least.{AtMost, IsLeast}
-use Rattle.pair_heap.specs.Chain.{end, items}
-use Rattle.pair_heap.specs.Tree.{IsTree, tree_items, root_items}
+use Rattle.pair_heap.specs.Chain.{end, items, places}
+use Rattle.pair_heap.specs.Tree.{IsTree, tree_items, tree_places, root_items, root_places}
 
 module _ {X : Type 0} where
   -- the item, and what was below it as one tree
@@ -14,6 +14,12 @@ module _ {X : Type 0} where
       → IsPermutation (tree_items tree) (tree.item ∷ root_items rest)
   taken_items tree None none = subst (λ c. IsPermutation (tree.item ∷ items c) (tree.item ∷ [])) (sym none) (IsPermutation-refl (tree.item ∷ []))
   taken_items tree (Some t) kept = IsPermutation-cons tree.item (items tree.kids.chain) (tree_items t) kept
+
+  -- its slot, and the slots of what was below it
+  pub taken_places : (tree : Tree X) (rest : Option (Tree X)) → MatchOption rest (tree.kids.chain ≡ end) (λ t. IsPermutation (places tree.kids.chain) (tree_places t))
+      → IsPermutation (tree_places tree) (tree.slot.ptr ∷ root_places rest)
+  taken_places tree None none = subst (λ c. IsPermutation (tree.slot.ptr ∷ places c) (tree.slot.ptr ∷ [])) (sym none) (IsPermutation-refl (tree.slot.ptr ∷ []))
+  taken_places tree (Some t) kept = IsPermutation-cons tree.slot.ptr (places tree.kids.chain) (tree_places t) kept
 
   -- the item comes before none of what is left
   pub taken_least : (cmp : X → X → Ordering) (tree : Tree X) (rest : Option (Tree X)) → IsTree cmp tree

@@ -6,4 +6,4 @@ use Rattle.pair_heap.specs.Chain.{Chain, end, link, items}
 -- in each tree the root's item is the least, and so in the trees below it
 abbrev pub IsHeap : {X : Type 0} → (X → X → Ordering) → Chain X → Type 0
 IsHeap cmp end = Unit {0}
-IsHeap cmp (link x kids rest) = IsLeast cmp x (items kids) × IsHeap cmp kids × IsHeap cmp rest
+IsHeap cmp (link p x kids rest) = IsLeast cmp x (items kids) × IsHeap cmp kids × IsHeap cmp rest

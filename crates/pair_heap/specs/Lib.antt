@@ -4,5 +4,7 @@ pub mod Chain
 pub mod Heap
 pub mod Tree
 pub mod Sound
+pub mod Slot
 pub mod Ownership
 pub mod Spare
+pub mod Slab

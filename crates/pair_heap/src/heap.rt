@@ -1,21 +1,23 @@
 ghost use Rattle.std.specs.Prelude.{◌≡◌, ◌+◌, ◌<◌, ◌≤◌, [], ◌∷◌, length, OnOk, MatchOption, IsPermutation};
 ghost use Rattle.pair_heap.specs.Least.{IsFirst, IsLeast};
 
-use crate::release::{release, release_spares};
-use crate::root::{meld_in, take_least};
-use crate::spare::{Spares, put_spare, take_spare};
+use crate::release::{release, release_slabs};
+use crate::root::{as_trees, meld_in, take_least};
+use crate::slab::{SLAB_NODES, Slab, Slabs, put_slab};
+use crate::spare::{Spares, put_fresh, put_spare, take_spare};
 use crate::tree::Tree;
 use crate::trees::Trees;
 use sand_base::NoMemory;
 use std::alloc::Global;
 use std::marker::Model;
-use std_alloc::room::Vacant;
+use std_alloc::room::{Vacant, may_hold};
 
 /// A priority queue that gives the least item first, as one tree in heap order (a pairing heap). A node never moves:
-/// growing copies no item, and a push in a spare block can't fail. Items that compare equal are all kept, in any order.
+/// growing copies no item, and a push in a spare slot can't fail. Items that compare equal are all kept, in any order.
 pub struct PairHeap<T: Ord> {
     root: Option<Tree<T>>,
     spares: Spares<T>,
+    slabs: Slabs<T>,
     len: usize,
     spare: usize,
     alloc: Global,
@@ -35,7 +37,7 @@ impl<T: Ord> Model for PairHeap<T> {
 }
 
 impl<T: Ord + Drop> PairHeap<T> {
-    /// A heap with no item and no spare block. It takes no memory.
+    /// A heap with no item and no spare slot. It takes no memory.
     pub fn empty(alloc: Global) -> PairHeap<T>
         ensures items { result.items ≡ [] }
         ensures spare { result.spare ≡ 0 }
@@ -43,56 +45,58 @@ impl<T: Ord + Drop> PairHeap<T> {
         PairHeap {
             root: None,
             spares: Spares::none(),
+            slabs: Slabs::none(),
             len: 0,
             spare: 0,
             alloc,
         }
     }
 
-    /// Sees that there are so many spare blocks. The items stay as they are, and no spare block is lost, after a refusal too.
+    /// Sees that there are so many spare slots. The items stay as they are, and no spare slot is lost, after a refusal too.
     pub fn reserve(&mut self, count: usize) -> Result<(), NoMemory>
         ensures items { self.new.items ≡ self.old.items }
         ensures kept { self.old.spare ≤ self.new.spare }
         ensures spare { OnOk result (count ≤ self.new.spare) }
     {
         while self.spare() < count {
-            self.add_spare()?;
+            self.add_slab()?;
         }
         Ok(())
     }
 
-    // One spare block more.
-    fn add_spare(&mut self) -> Result<(), NoMemory>
+    // One slab more, whose slots are spare.
+    fn add_slab(&mut self) -> Result<(), NoMemory>
         ensures items { self.new.items ≡ self.old.items }
         ensures kept { self.old.spare ≤ self.new.spare }
-        ensures spare { OnOk result (self.new.spare ≡ self.old.spare + 1) }
+        ensures spare { OnOk result (self.new.spare ≡ self.old.spare + 64) }
     {
-        if self.spare >= usize::MAX - self.len {
+        if usize::MAX - self.len - self.spare < SLAB_NODES || !may_hold::<Slab<T>>(1) {
             return Err(NoMemory {});
         }
-        let Ok(room) = Vacant::take(self.alloc) else {
+        let Ok(block) = Vacant::take(self.alloc) else {
             return Err(NoMemory {});
         };
-        put_spare(&mut self.spares, room, self.alloc);
-        self.spare += 1;
+        let fresh = put_slab(&mut self.slabs, block);
+        put_fresh(&mut self.spares, fresh);
+        self.spare += SLAB_NODES;
         Ok(())
     }
 
-    /// Adds an item in a spare block.
+    /// Adds an item in a spare slot.
     pub fn push(&mut self, item: T)
         requires { 0 < self.old.spare }
         ensures items { IsPermutation (item ∷ self.old.items) self.new.items }
         ensures spare { self.new.spare + 1 ≡ self.old.spare }
     {
-        let Some(room) = take_spare(&mut self.spares, self.alloc) else {
+        let Some(slot) = take_spare(&mut self.spares) else {
             unreachable!();
         };
         let tree = Tree {
             item,
-            room,
+            slot,
             kids: Trees::end(),
         };
-        meld_in(&mut self.root, tree, self.alloc);
+        meld_in(&mut self.root, tree);
         self.spare -= 1;
         self.len += 1;
     }
@@ -107,16 +111,16 @@ impl<T: Ord + Drop> PairHeap<T> {
         }
     }
 
-    /// Takes an item that no other comes before, whose block is spare from then on; None exactly where there is none.
+    /// Takes an item that no other comes before, whose slot is spare from then on; None exactly where there is none.
     pub fn pop(&mut self) -> Option<T>
         ensures items { MatchOption result ((self.old.items ≡ []) × (self.new.items ≡ [])) (λ x. IsPermutation self.old.items (x ∷ self.new.items)) }
         ensures least { MatchOption result (self.old.items ≡ []) (λ x. IsLeast T.cmp x self.new.items) }
         ensures spare { MatchOption result (self.new.spare ≡ self.old.spare) (λ _. self.new.spare ≡ self.old.spare + 1) }
     {
-        let Some((item, room)) = take_least(&mut self.root, self.alloc) else {
+        let Some((item, slot)) = take_least(&mut self.root) else {
             return None;
         };
-        put_spare(&mut self.spares, room, self.alloc);
+        put_spare(&mut self.spares, slot);
         self.len -= 1;
         self.spare += 1;
         Some(item)
@@ -129,7 +133,7 @@ impl<T: Ord + Drop> PairHeap<T> {
         self.len
     }
 
-    /// The number of spare blocks: so many pushes can't fail.
+    /// The number of spare slots: so many pushes can't fail.
     pub fn spare(&self) -> usize
         ensures { result ≡ self.now.spare }
     {
@@ -142,13 +146,11 @@ impl<T: Ord + Drop> Drop for PairHeap<T> {
         let PairHeap {
             root,
             spares,
+            slabs,
             len: _,
             spare: _,
             alloc,
         } = self;
-        if let Some(tree) = root {
-            release(tree.before(Trees::end()), alloc);
-        }
-        release_spares(spares, alloc);
+        release_slabs(slabs, release(as_trees(root), spares), alloc);
     }
 }

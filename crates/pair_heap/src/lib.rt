@@ -1,12 +1,14 @@
 //! A pairing heap in nodes of raw memory: a priority queue that grows without moving an item.
 //!
-//! Each item stands in a block of its own, linked to its first child and to the tree that follows it. A push is one
-//! comparison; a pop joins the root's children in two passes. Blocks are asked for by `reserve` alone and counted as
-//! spares, so that a push can't fail. One type owns a chain of trees behind a raw pointer and is made by `link` and
-//! taken apart by `split`; a second one owns the spare blocks. All else is safe code over trees in hand.
+//! Each item stands in a node of its own, linked to its first child and to the tree that follows it. A push is one
+//! comparison; a pop joins the root's children in two passes. Nodes come from the allocator 64 at a time, as a slab, by
+//! `reserve` alone, and their slots are counted as spares, so that a push can't fail. One type owns a chain of trees
+//! behind a raw pointer and is made by `link` and taken apart by `split`; a second one owns the spare slots, and a third
+//! one the slabs but for their slots. All else is safe code over trees in hand.
 //! Above: `rank_queue`. Below: `sand_base`, std. Contracts see a list, whose order says nothing, and the number of
-//! spare blocks; read `specs/Least.antt` first, then `specs/Chain.antt`.
-//! After M. L. Fredman, R. Sedgewick, D. D. Sleator and R. E. Tarjan (1986), The pairing heap.
+//! spare slots; read `specs/Least.antt` first, then `specs/Chain.antt`.
+//! After M. L. Fredman, R. Sedgewick, D. D. Sleator and R. E. Tarjan (1986), The pairing heap;
+//! slabs after J. Bonwick (1994), The slab allocator.
 #![tactic(auto)]
 
 mod heap;
@@ -14,6 +16,8 @@ mod meld;
 mod node;
 mod release;
 mod root;
+mod slab;
+mod slot;
 mod spare;
 mod tree;
 mod trees;

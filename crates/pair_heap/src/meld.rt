@@ -1,78 +1,81 @@
 ghost use Rattle.std.specs.Prelude.{◌≡◌, ◌++◌, MatchOption, IsPermutation};
-ghost use Rattle.pair_heap.specs.Chain.{end, items};
+ghost use Rattle.pair_heap.specs.Chain.{end, items, places};
 ghost use Rattle.pair_heap.specs.Heap.{IsHeap};
-ghost use Rattle.pair_heap.specs.Tree.{IsTree, tree_items};
+ghost use Rattle.pair_heap.specs.Tree.{IsTree, tree_items, tree_places};
 
 use crate::tree::{Tree, first_of};
 use crate::trees::Trees;
-use std::alloc::Global;
 use std::mem::replace;
 
 // Melds the other tree into the one in place: the one of them whose item comes later becomes the other's first child.
 #[inline(always)]
-pub(crate) fn meld<T: Ord + Drop>(one: &mut Tree<T>, other: Tree<T>, alloc: Global)
+pub(crate) fn meld<T: Ord + Drop>(one: &mut Tree<T>, other: Tree<T>)
     requires one { IsTree T.cmp one.old }
     requires other { IsTree T.cmp other }
     ensures tree { IsTree T.cmp one.new }
     ensures items { IsPermutation (tree_items one.old ++ tree_items other) (tree_items one.new) }
+    ensures slots { IsPermutation (tree_places one.old ++ tree_places other) (tree_places one.new) }
 {
     if one.item.cmp(&other.item).is_gt() {
         let below = replace(one, other);
-        one.adopt(below, alloc);
+        one.adopt(below);
     } else {
-        one.adopt(other, alloc);
+        one.adopt(other);
     }
 }
 
 // The first pass: each two neighbours become one tree, and the last of an odd row stays alone.
 #[inline]
-fn pair_up<T: Ord + Drop>(trees: Trees<T>, alloc: Global) -> Trees<T>
+fn pair_up<T: Ord + Drop>(trees: Trees<T>) -> Trees<T>
     requires { IsHeap T.cmp trees.chain }
     ensures heap { IsHeap T.cmp result.chain }
     ensures items { IsPermutation (items trees.chain) (items result.chain) }
+    ensures slots { IsPermutation (places trees.chain) (places result.chain) }
 {
     let mut rest = trees;
     let mut pairs = Trees::end();
     'pairs: loop {
-        let Some((mut one, others)) = first_of(rest, alloc) else {
+        let Some((mut one, others)) = first_of(rest) else {
             return pairs;
         };
-        let Some((other, others)) = first_of(others, alloc) else {
+        let Some((other, others)) = first_of(others) else {
             return one.before(pairs);
         };
         rest = others;
-        meld(&mut one, other, alloc);
+        meld(&mut one, other);
         pairs = one.before(pairs);
     }
 }
 
 // The second pass: all trees become one.
 #[inline]
-fn gather<T: Ord + Drop>(first: Tree<T>, trees: Trees<T>, alloc: Global) -> Tree<T>
+fn gather<T: Ord + Drop>(first: Tree<T>, trees: Trees<T>) -> Tree<T>
     requires first { IsTree T.cmp first }
     requires trees { IsHeap T.cmp trees.chain }
     ensures tree { IsTree T.cmp result }
     ensures items { IsPermutation (tree_items first ++ items trees.chain) (tree_items result) }
+    ensures slots { IsPermutation (tree_places first ++ places trees.chain) (tree_places result) }
 {
     let mut all = first;
     let mut rest = trees;
     'trees: loop {
-        let Some((next, others)) = first_of(rest, alloc) else {
+        let Some((next, others)) = first_of(rest) else {
             return all;
         };
         rest = others;
-        meld(&mut all, next, alloc);
+        meld(&mut all, next);
     }
 }
 
 // One tree of all trees of the chain, in two passes; None where there is none.
-pub(crate) fn join<T: Ord + Drop>(trees: Trees<T>, alloc: Global) -> Option<Tree<T>>
+pub(crate) fn join<T: Ord + Drop>(trees: Trees<T>) -> Option<Tree<T>>
     requires { IsHeap T.cmp trees.chain }
     ensures tree { MatchOption result (trees.chain ≡ end) (λ t. IsTree T.cmp t) }
     ensures items { MatchOption result (trees.chain ≡ end) (λ t. IsPermutation (items trees.chain) (tree_items t)) }
+    ensures slots { MatchOption result (trees.chain ≡ end) (λ t. IsPermutation (places trees.chain) (tree_places t)) }
 {
-    let Some((first, rest)) = first_of(pair_up(trees, alloc), alloc) else {
+    let Some((first, rest)) = first_of(pair_up(trees)) else {
         return None;
     };
-    Some(gather(first, rest, alloc))
+    Some(gather(first, rest))
 }

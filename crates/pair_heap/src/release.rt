@@ -1,35 +1,45 @@
+ghost use Rattle.std.specs.Prelude.{◌++◌, IsPermutation};
+ghost use Rattle.pair_heap.specs.Chain.{places};
+ghost use Rattle.pair_heap.specs.Slab.{all_slots};
+
+use crate::slab::Slabs;
 use crate::spare::Spares;
 use crate::trees::Trees;
 use std::alloc::Global;
 
-// Drops all items and gives all blocks back, with no recursion and no memory: a first child moves up beside its
-// parent until there is none, and then the parent goes.
-pub(crate) fn release<T: Drop>(trees: Trees<T>, alloc: Global) {
+// Drops all items and puts their slots on the chain of spare ones, with no recursion and no memory: a first child
+// moves up beside its parent until there is none, and then the parent goes.
+pub(crate) fn release<T: Drop>(trees: Trees<T>, spares: Spares<T>) -> Spares<T>
+    ensures { IsPermutation (places trees.chain ++ spares.places) result.places }
+{
     let mut rest = trees;
+    let mut all = spares;
     'nodes: loop {
-        let Some((item, room, kids, beside)) = rest.split(alloc) else {
-            return;
+        let Some((item, slot, kids, beside)) = rest.split() else {
+            return all;
         };
-        match kids.split(alloc) {
+        match kids.split() {
             None => {
-                let _handle = room.free();
+                all = all.put(slot);
                 rest = beside;
             }
             Some((child, place, below, others)) => {
-                rest = Trees::link(place, child, below, Trees::link(room, item, others, beside));
+                rest = Trees::link(place, child, below, Trees::link(slot, item, others, beside));
             }
         }
     }
 }
 
-// Gives all blocks of the chain back.
-pub(crate) fn release_spares<T>(spares: Spares<T>, alloc: Global) {
-    let mut rest = spares;
+// Gives all slabs back, since all of their slots are spare.
+pub(crate) fn release_slabs<T>(slabs: Slabs<T>, spares: Spares<T>, alloc: Global)
+    requires { IsPermutation spares.places (all_slots slabs.slots) }
+{
+    let mut rest = slabs.whole(spares);
     'blocks: loop {
-        let Some((room, others)) = rest.take(alloc) else {
+        let Some((block, others)) = rest.take() else {
             return;
         };
-        let _handle = room.free();
+        block.free(alloc);
         rest = others;
     }
 }

@@ -2,10 +2,9 @@ ghost use Rattle.std.specs.Prelude.{◌≡◌, MatchOption};
 ghost use Rattle.pair_heap.specs.Chain.{Chain, end, link, chain_code};
 
 use crate::node::Node;
-use std::alloc::Global;
+use crate::slot::Slot;
 use std::marker::Model;
 use std::ptr::null_mut;
-use std_alloc::room::Vacant;
 
 // A chain of trees, one after another, as a pointer to the first tree's node; null where there is none.
 pub(crate) struct Trees<T> {
@@ -28,17 +27,12 @@ impl<T> Trees<T> {
         Trees { ptr: null_mut() }
     }
 
-    // The tree of this item over these children, and then the rest. The item's node is made in the block.
+    // The tree of this item over these children, and then the rest. The item's node is made in the slot.
     #[inline(always)]
-    pub(crate) fn link(
-        room: Vacant<Node<T>, Global>,
-        item: T,
-        kids: Trees<T>,
-        rest: Trees<T>,
-    ) -> Trees<T>
-        ensures { result.chain ≡ link item kids.chain rest.chain }
+    pub(crate) fn link(slot: Slot<T>, item: T, kids: Trees<T>, rest: Trees<T>) -> Trees<T>
+        ensures { result.chain ≡ link slot.ptr item kids.chain rest.chain }
     {
-        let Vacant { ptr, alloc: _ } = room;
+        let Slot { ptr } = slot;
         let Trees { ptr: child } = kids;
         let Trees { ptr: next } = rest;
         unsafe {
@@ -47,13 +41,10 @@ impl<T> Trees<T> {
         Trees { ptr }
     }
 
-    // The first tree's item, its block, its children and the rest; None where there is no tree.
+    // The first tree's item, its slot, its children and the rest; None where there is no tree.
     #[inline(always)]
-    pub(crate) fn split(
-        self,
-        alloc: Global,
-    ) -> Option<(T, Vacant<Node<T>, Global>, Trees<T>, Trees<T>)>
-        ensures { MatchOption result (self.chain ≡ end) (λ r. self.chain ≡ link r.0 r.2.chain r.3.chain) }
+    pub(crate) fn split(self) -> Option<(T, Slot<T>, Trees<T>, Trees<T>)>
+        ensures { MatchOption result (self.chain ≡ end) (λ r. self.chain ≡ link r.1.ptr r.0 r.2.chain r.3.chain) }
     {
         let Trees { ptr } = self;
         if ptr.is_null() {
@@ -63,7 +54,7 @@ impl<T> Trees<T> {
             let Node { child, next, item } = ptr.read();
             Some((
                 item,
-                Vacant { ptr, alloc },
+                Slot { ptr },
                 Trees { ptr: child },
                 Trees { ptr: next },
             ))

@@ -1,6 +1,6 @@
 use Rattle.std.proofs.Common.{◌++◌}
-use Rattle.pair_heap.specs.Chain.{items}
-use Rattle.pair_heap.specs.Tree.{tree_items}
+use Rattle.pair_heap.specs.Chain.{items, places}
+use Rattle.pair_heap.specs.Tree.{tree_items, tree_places}
 use Rattle.pair_heap.proofs.MeldsKeepItems.{gathered}
 use Rattle.pair_heap.proofs.meld.gather.Goals as goal
 
@@ -11,4 +11,6 @@ trees-preserved g c = record {
   rest = (rw c.in-Some.ensures at c.trees.invariant.rest).2;
   kept = gathered (tree_items c.args.first ++ items c.args.trees.chain) (tree_items c.trees.all) (tree_items c.in-Some.next) (items c.in-Some.others.chain) (tree_items c.meld.new.one)
       (rw c.in-Some.ensures at c.trees.invariant.kept) c.meld.ensures.items;
+  slots = gathered (tree_places c.args.first ++ places c.args.trees.chain) (tree_places c.trees.all) (tree_places c.in-Some.next) (places c.in-Some.others.chain) (tree_places c.meld.new.one)
+      (rw c.in-Some.ensures at c.trees.invariant.slots) c.meld.ensures.slots;
 }

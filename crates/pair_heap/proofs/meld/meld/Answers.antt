@@ -14,6 +14,9 @@ returns-then-is_gt-clause-tree g c = put_below g.met.T.Ord.total c.args.other c.
 pub returns-then-is_gt-clause-items : goal.returns-then-is_gt-clause-items
 returns-then-is_gt-clause-items g c = rw (c.adopt.ensures.item, c.adopt.ensures.kids, c.replace-below.ensures.after, c.replace-below.ensures.value) (below_second _ _ _ _)
 
+pub returns-then-is_gt-clause-slots : goal.returns-then-is_gt-clause-slots
+returns-then-is_gt-clause-slots g c = rw (c.adopt.ensures.slot, c.adopt.ensures.kids, c.replace-below.ensures.after, c.replace-below.ensures.value) (below_second _ _ _ _)
+
 -- it does not come later, so the other goes below it
 pub returns-else-is_gt-clause-tree : goal.returns-else-is_gt-clause-tree
 returns-else-is_gt-clause-tree g c = put_below g.met.T.Ord.total c.args.one.now c.args.other c.adopt-else-is_gt.new.self c.adopt-else-is_gt.ensures.item c.adopt-else-is_gt.ensures.kids
@@ -21,3 +24,6 @@ returns-else-is_gt-clause-tree g c = put_below g.met.T.Ord.total c.args.one.now 
 
 pub returns-else-is_gt-clause-items : goal.returns-else-is_gt-clause-items
 returns-else-is_gt-clause-items g c = rw (c.adopt-else-is_gt.ensures.item, c.adopt-else-is_gt.ensures.kids) (below_first _ _ _ _)
+
+pub returns-else-is_gt-clause-slots : goal.returns-else-is_gt-clause-slots
+returns-else-is_gt-clause-slots g c = rw (c.adopt-else-is_gt.ensures.slot, c.adopt-else-is_gt.ensures.kids) (below_first _ _ _ _)

@@ -1,5 +1,5 @@
-use Rattle.pair_heap.specs.Chain.{items}
-use Rattle.pair_heap.specs.Tree.{tree_items}
+use Rattle.pair_heap.specs.Chain.{items, places}
+use Rattle.pair_heap.specs.Tree.{tree_items, tree_places}
 use Rattle.pair_heap.proofs.MeldsKeepItems.{paired}
 use Rattle.pair_heap.proofs.meld.pair_up.Goals as goal
 
@@ -10,4 +10,6 @@ pairs-preserved g c = record {
   pairs = rw c.before-pairs.ensures (c.meld.ensures.tree.least, c.meld.ensures.tree.heap, c.pairs.invariant.pairs);
   kept = rw c.before-pairs.ensures (paired (items c.args.trees.chain) (tree_items c.in-Some.one) (tree_items c.in-Some-first_of.other) (items c.in-Some-first_of.others.chain) (items c.pairs.pairs.chain) (tree_items c.meld.new.one)
       (rw (c.in-Some.ensures, c.in-Some-first_of.ensures) at c.pairs.invariant.kept) c.meld.ensures.items);
+  slots = rw c.before-pairs.ensures (paired (places c.args.trees.chain) (tree_places c.in-Some.one) (tree_places c.in-Some-first_of.other) (places c.in-Some-first_of.others.chain) (places c.pairs.pairs.chain) (tree_places c.meld.new.one)
+      (rw (c.in-Some.ensures, c.in-Some-first_of.ensures) at c.pairs.invariant.slots) c.meld.ensures.slots);
 }

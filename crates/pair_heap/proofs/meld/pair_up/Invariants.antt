@@ -1,15 +1,16 @@
 use Rattle.std.proofs.Common.{◌++◌, IsPermutation}
-use Rattle.pair_heap.specs.Chain.{items}
+use Rattle.pair_heap.specs.Chain.{items, places}
 use Rattle.pair_heap.specs.Heap.{IsHeap}
 use Rattle.pair_heap.proofs.Measures.{siblings}
 use Rattle.pair_heap.proofs.meld.pair_up.Given as goal
 
--- the trees that are left and the pairs hold the items of all trees
+-- the trees that are left and the pairs hold the items and the slots of all trees
 abbrev pub invariant-pairs : goal.invariant-pairs
 invariant-pairs g l = record {
   rest : IsHeap g.T.Ord.cmp l.rest.chain;
   pairs : IsHeap g.T.Ord.cmp l.pairs.chain;
   kept : IsPermutation (items l.fn.trees.chain) (items l.rest.chain ++ items l.pairs.chain);
+  slots : IsPermutation (places l.fn.trees.chain) (places l.rest.chain ++ places l.pairs.chain);
 }
 
 abbrev pub decreases-pairs : goal.decreases-pairs

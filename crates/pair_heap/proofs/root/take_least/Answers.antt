@@ -1,8 +1,11 @@
-use Rattle.pair_heap.proofs.RootTaken.{taken_items, taken_least}
+use Rattle.pair_heap.proofs.RootTaken.{taken_items, taken_places, taken_least}
 use Rattle.pair_heap.proofs.root.take_least.Goals as goal
 
 pub returns-clause-items : goal.returns-clause-items
 returns-clause-items g c = rw (← c.in-Some.ensures.value, c.replace-2.ensures.after) (taken_items c.in-Some.tree c.join.result c.join.ensures.items)
+
+pub returns-clause-slots : goal.returns-clause-slots
+returns-clause-slots g c = rw (← c.in-Some.ensures.value, c.replace-2.ensures.after) (taken_places c.in-Some.tree c.join.result c.join.ensures.slots)
 
 -- the tree was in order
 pub returns-clause-least : goal.returns-clause-least

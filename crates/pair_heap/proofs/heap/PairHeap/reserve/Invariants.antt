@@ -1,7 +1,7 @@
 use Rattle.std.proofs.Common.{◌≡◌, ◌-◌, ◌≤◌}
 use Rattle.pair_heap.proofs.heap.PairHeap.reserve.Given as goal
 
--- the items stay, and no block is lost
+-- the items stay, and no slot is lost
 abbrev pub invariant-loop-self : goal.invariant-loop-self
 invariant-loop-self g l = record {
   items : l.self.items ≡ l.fn.self.items;

@@ -1,5 +1,5 @@
 -- `none` makes the struct of the null pointer, which owns nothing.
-use Rattle.std.proofs.Common.{◌≡◌, zero, [], ◌∷◌, refl}
+use Rattle.std.proofs.Common.{◌≡◌, [], ◌∷◌, refl}
 use mir.Syntax.{a_type}
 use mir.Val.{Val}
 use mir.MapTy.{inst_fn}
@@ -31,10 +31,10 @@ none_spec 𝓤 𝓛 𝓜 𝓡 wired U L =
     let inst = layouts (a_type ∷ []) (U, tt) in let fn = inst_fn inst code.function in let hs : Stays En.signature.params En.kept = tt in
     proved_at 𝓛 En hs c 𝓜 𝓡 tt (#self inst) fn (code.unfolded 𝓤 H 𝓜 𝓡 wired (U, tt)) (λ z are.
     let κs = z.0.0 in let qs = z.0.1 in let Post : Val → SProp 𝓤 = (walk_of 𝓛 En hs c).post z in
-    let made : Spares (R U L).Denot = record { ptr = null_ptr; count = zero } in let toks = ‵ (flft κs.0 qs.0) ⊛ ‵ ftrue in
+    let made : Spares (R U L).Denot = record { ptr = null_ptr; places = [] } in let toks = ‵ (flft κs.0 qs.0) ⊛ ‵ ftrue in
     qed 𝓛 ((toks ⊛ ‵ (owns (types_at En.signature.params κs) z.0.3 z.0.4)) ∷ raw ((c κs z.0.3).requires z.1) ∷ []) ∵ split ! $
     enter ! 𝓣.C 𝓣.Λ fn [] Post $ alloc_all ! (λ l. pass_all ! refl tt $
     sets ! (agg ! (and_then ! (lit ! tt) (no_more !))) refl (word_typed null_ptr) $
     nothing ! $ fpack ! (null_ptr ≡ null_ptr) (λ _. ftrue) refl $ use0 𝓛 (‵ (word_own null_ptr (word null_ptr ∷ []))) (word_made 𝓛 null_ptr) $ fjoin ! $
-    use0 𝓛 (raw (fact 𝓤 (made.count ≡ zero))) (fact_i 𝓤 (made.count ≡ zero) (emp 𝓤) refl) $ nothing ! $
+    use0 𝓛 (raw (fact 𝓤 (made.places ≡ []))) (fact_i 𝓤 (made.places ≡ []) (emp 𝓤) refl) $ nothing ! $
     returns ! (look_at ! 0 refl) $ free_all ! refl $ keep ! (3 ∷ 0 ∷ 2 ∷ 1 ∷ []) $ by ! (leaves 𝓛 En hs c z (word null_ptr) made tt tt)))

@@ -1,19 +1,19 @@
--- `take` gives nothing at null, and else reads where the first block leads, whose word is room again.
-use Rattle.std.proofs.Common.{◌≡◌, suc, zero, List, [], ◌∷◌, ◌++◌, refl, ap, ◌∙◌, lit<}
+-- `take` gives nothing at null, and else reads where the first slot leads, whose word is room again.
+use Rattle.std.proofs.Common.{◌≡◌, List, [], ◌∷◌, ◌++◌, refl, ap, ◌∙◌, lit<}
 use mir.Syntax.{a_type}
 use mir.Val.{Val, vcons, vnil}
 use mir.MapTy.{inst_fn}
 use base.Logic.{SProp, emp, id⊢}
 use base.Fml.{ftrue, flft}
 use prog.Wp.{WpFn}
-use types.Kit.{‵, raw, prop, at_ret, ◌⊛◌, ◌$◌, ◌∵◌, !, qed, by, move, keep, drop, split, fsplit, fsplit3, fjoin, fpick, use0, use1, use2, rewrite, regoal}
+use types.Kit.{‵, raw, prop, at_ret, ◌⊛◌, ◌$◌, ◌∵◌, !, qed, by, move, keep, drop, split, fsplit, fjoin, fpick, use0, use1, use2, rewrite, regoal}
 use types.Run.{stop, fld, lit, addr, of_opd, bin, load, look, no_more, and_then, first, blocks, branches, skips, exec, returns, returns_within, enter}
 use types.ByLocal.{alloc_all, pass_all, free_all, look_at, get, get_in, through, sets, sets_last, env}
 use types.Part.{agg, sub, whole}
 use types.Match.{live}
 use contract.Monad.{fact, fact_i}
 use contract.Running.{tables}
-use denote.Exit.{yes, no}
+use denote.Exit.{no}
 use denote.RattleType.{RattleType, owns}
 use denote.Signature.{types_at, type_at, plain}
 use denote.RawPtr.{block_ptr, null_ptr, tests_null, in_a_block}
@@ -21,18 +21,16 @@ use denote.Steps.{nothing}
 use denote.Param.{layout, layouts}
 use denote.Struct.Struct.{as_fields}
 use denote.Struct.Tuple.{Tuple}
-use denote.Triple.Walked.{Stays, stay_dropped, walk_of, Goes-dropped}
+use denote.Triple.Walked.{Stays, stay_dropped, walk_of}
 use Rattle.core.specs.declared.option.Option.TheVariants.{None, Some}
-use Rattle.core.proofs.alloc.Calls.{Goes-blank, handle_tells}
+use Rattle.core.proofs.alloc.Calls.{Goes-blank}
 use Rattle.core.proofs.alloc.Shapes.{after}
 use Rattle.core.proofs.cell.Inside.{Good}
 use Rattle.core.proofs.option.Made.{Some-of, none_of}
-use Rattle.std.specs.contracts.alloc.Global as global
 use Rattle.std.proofs.raw_atomic.Walks.{proved_at, leaves}
 use Rattle.std_alloc.proofs.ResultValues.{and_tt}
 use Rattle.std_alloc.proofs.Pairs.{pair_val, pair_of}
-use Rattle.std_alloc.proofs.OfVacant.{vacant_val, vacant_typed, Vacant-made}
-use Rattle.pair_heap.proofs.Nodes.{al, R, N, Room, word, word_told, word_typed, ptr_typed, worded, by_count, token_tested, word_glued}
+use Rattle.pair_heap.proofs.Nodes.{R, N, SlotOf, word, word_told, word_typed, ptr_typed, worded, by_list, slotted, word_glued}
 use Rattle.pair_heap.specs.Spare.{spare_at, spares_own}
 use Rattle.pair_heap.specs.contracts.spare.Spares as spares
 use Rattle.pair_heap.specs.contracts.spare.Spares.take.{ended, clauses}
@@ -43,57 +41,57 @@ use Rattle.pair_heap.proofs.spare.Spares.take.Code as code
 pub take_spec : {M : Type 1} → statement M
 take_spec 𝓤 𝓛 𝓜 𝓡 wired U L =
     let H = 𝓛.H in let 𝓣 = tables 𝓤 H 𝓜 𝓡 𝓡.env in let En = ended U in let c = clauses U 𝓛 𝓜.mem 𝓡.returns in
-    let inst = layouts (a_type ∷ []) (U, tt) in let fn = inst_fn inst code.function in let Thing : RattleType = R U L in let Node : RattleType = N U L in let Block : RattleType = Room U L in let Spared : RattleType = spares.the_row Thing in
-    let Two : RattleType = Tuple (Block ∷ Spared ∷ []) in
-    let hs : Stays En.signature.params En.kept = (stay_dropped (plain (λ _. Spared)) no, (stay_dropped (plain (λ _. global.the_row)) yes, tt)) in
+    let inst = layouts (a_type ∷ []) (U, tt) in let fn = inst_fn inst code.function in let Thing : RattleType = R U L in let Node : RattleType = N U L in let Slotted : RattleType = SlotOf U L in let Spared : RattleType = spares.the_row Thing in
+    let Two : RattleType = Tuple (Slotted ∷ Spared ∷ []) in
+    let hs : Stays En.signature.params En.kept = (stay_dropped (plain (λ _. Spared)) no, tt) in
     proved_at 𝓛 En hs c 𝓜 𝓡
-    (Goes-blank 𝓛 1 (plain (λ _. Spared)) no (λ κs x f. tt), (Goes-dropped 𝓛 1 (plain (λ _. global.the_row)) yes (λ κs x f. refl), tt))
+    (Goes-blank 𝓛 1 (plain (λ _. Spared)) no (λ κs x f. tt), tt)
     (#self inst) fn (code.unfolded 𝓤 H 𝓜 𝓡 wired (U, tt)) (λ z are.
     let κs = z.0.0 in let qs = z.0.1 in let Post : Val → SProp 𝓤 = (walk_of 𝓛 En hs c).post z in let Run : List Val → SProp 𝓤 = λ ws. WpFn 𝓤 H 𝓣.C 𝓣.Λ fn ws Post in
     let Out : RattleType = type_at En.signature.result κs in
-    let me = z.0.3.0 in let alloc = z.0.3.1.0 in let is_me = word_told me.ptr z.0.4.0 are.0.0 in
+    let me = z.0.3.0 in let is_me = word_told me.ptr z.0.4.0 are.0.0 in
     let toks = ‵ (flft κs.0 qs.0) ⊛ ‵ ftrue in
-    qed 𝓛 ((toks ⊛ ‵ (owns (types_at En.signature.params κs) z.0.3 z.0.4)) ∷ raw ((c κs z.0.3).requires z.1) ∷ []) ∵ split ! $ move ! (1 ∷ []) $ fsplit3 ! $
-    fsplit ! $ drop ! $ move ! (1 ∷ []) $ handle_tells al ! alloc z.0.4.1.0 (λ hv is_alloc fits. move ! (1 ∷ []) $
-    -- [the chain; the handle; nothing; the lifetimes; the bound]
-    by_count me.count
+    qed 𝓛 ((toks ⊛ ‵ (owns (types_at En.signature.params κs) z.0.3 z.0.4)) ∷ raw ((c κs z.0.3).requires z.1) ∷ []) ∵ split ! $ move ! (1 ∷ []) $ fsplit ! $
+    fsplit ! $ drop ! $
+    -- [the chain; nothing; the lifetimes; the bound]
+    by_list me.places
     (λ none. rewrite ! 0 (λ k. ‵ (spares_own Thing k me.ptr)) none refl $ fpick ! (λ null.
-    regoal ! (λ (us : List Val). prop (Run us)) (λ i. (is_me ∙ ap (λ p. word p ∷ []) null) i ++ (is_alloc i ++ [])) refl $
-    enter ! 𝓣.C 𝓣.Λ fn (word null_ptr ∷ hv ∷ []) Post $ alloc_all ! (λ l. pass_all ! refl (word_typed null_ptr, (fits, tt)) $
+    regoal ! (λ (us : List Val). prop (Run us)) (λ i. (is_me ∙ ap (λ p. word p ∷ []) null) i ++ []) refl $
+    enter ! 𝓣.C 𝓣.Λ fn (word null_ptr ∷ []) Post $ alloc_all ! (λ l. pass_all ! refl (word_typed null_ptr, tt) $
     sets ! (of_opd ! (get_in ! (fld ! refl (stop !)) (sub ! 0 refl (whole !)))) refl (ptr_typed null_ptr) $
     sets ! (bin ! (get ! refl) (lit ! tt) tt) refl (tt, tt) $ first ! $ branches ! (get ! refl)
     (λ _. sets ! (agg ! (and_then ! (lit ! tt) (no_more !))) refl (tt, (record { fits = lit< tt }, tt)) $
     returns_within ! Post refl (look_at ! 0 refl) $ free_all ! refl $
-    use0 𝓛 (‵ (Out.own_val None (live 0 vnil ∷ []))) (none_of 𝓛 Two) $ use0 𝓛 (raw (fact 𝓤 (me.count ≡ zero))) (fact_i 𝓤 (me.count ≡ zero) (emp 𝓤) none) $
-    nothing ! $ nothing ! $ fjoin ! $ nothing ! $ fjoin ! $
-    -- [nothing of the parameters; the fact; None; nothing; the handle; nothing; the lifetimes; the bound]
-    keep ! (6 ∷ 0 ∷ 2 ∷ 1 ∷ []) $ by ! (leaves 𝓛 En hs c z (live 0 vnil) None (tt, (tt, tt)) (tt, (tt, tt))))
+    use0 𝓛 (‵ (Out.own_val None (live 0 vnil ∷ []))) (none_of 𝓛 Two) $ use0 𝓛 (raw (fact 𝓤 (me.places ≡ []))) (fact_i 𝓤 (me.places ≡ []) (emp 𝓤) none) $
+    nothing ! $ nothing ! $ fjoin ! $
+    -- [nothing of the parameters; the fact; None; nothing; nothing; the lifetimes; the bound]
+    keep ! (5 ∷ 0 ∷ 2 ∷ 1 ∷ []) $ by ! (leaves 𝓛 En hs c z (live 0 vnil) None (tt, tt) (tt, tt)))
     (λ wrong. absurd wrong))))
-    (λ n counted. rewrite ! 0 (λ k. ‵ (spares_own Thing k me.ptr)) counted refl $ fpick ! (λ q. fsplit ! $
-    in_a_block ! me.ptr (λ p. spare_at Thing p q) (id⊢ 𝓤 _) (λ b o at_block. fsplit3 ! $ move ! (2 ∷ []) $ token_tested U L ! (block_ptr b o) (λ test. move ! (1 ∷ 2 ∷ []) $
-    -- [the word's cell; what it is cut from; the token; the other blocks; the handle; nothing; the lifetimes; the bound]
-    regoal ! (λ (us : List Val). prop (Run us)) (λ i. (is_me ∙ ap (λ p. word p ∷ []) at_block) i ++ (is_alloc i ++ [])) refl $
-    enter ! 𝓣.C 𝓣.Λ fn (word (block_ptr b o) ∷ hv ∷ []) Post $ alloc_all ! (λ l. pass_all ! refl (word_typed (block_ptr b o), (fits, tt)) $ let Ev = env fn.locals l in
+    (λ p ps listed. rewrite ! 0 (λ k. ‵ (spares_own Thing k me.ptr)) listed refl $ fpick ! (λ same. fpick ! (λ q. fsplit ! $
+    in_a_block ! me.ptr (λ r. spare_at Thing r q) (id⊢ 𝓤 _) (λ b o at_block. fpick ! (λ test. fsplit ! $
+    -- [the word's cell; what it is cut from; the other slots; nothing; the lifetimes; the bound]
+    regoal ! (λ (us : List Val). prop (Run us)) (λ i. (is_me ∙ ap (λ r. word r ∷ []) at_block) i ++ []) refl $
+    enter ! 𝓣.C 𝓣.Λ fn (word (block_ptr b o) ∷ []) Post $ alloc_all ! (λ l. pass_all ! refl (word_typed (block_ptr b o), tt) $ let Ev = env fn.locals l in
     sets ! (of_opd ! (get_in ! (fld ! refl (stop !)) (sub ! 0 refl (whole !)))) refl (ptr_typed (block_ptr b o)) $
     sets ! (bin ! (get ! refl) (lit ! tt) (tests_null (block_ptr b o) test)) refl (tt, tt) $ first ! $ branches ! (get ! refl) (λ wrong. absurd wrong)
     (λ _. skips ! $ exec ! 𝓣.C 𝓣.Λ Ev (after 3 fn.body) (at_ret Ev Post) $ first ! $ blocks ! $
-    let taken : Val = pair_val (vacant_val hv b o) (word q) in
-    let whole_typed : Good (layout Two) taken = as_fields (layout Block ∷ layout Spared ∷ []) (vacant_val hv b o ∷ word q ∷ []) (vacant_typed al Node hv b o fits, (word_typed q, tt)) in
+    let taken : Val = pair_val (word (block_ptr b o)) (word q) in
+    let whole_typed : Good (layout Two) taken = as_fields (layout Slotted ∷ layout Spared ∷ []) (word (block_ptr b o) ∷ word q ∷ []) (word_typed (block_ptr b o), (word_typed q, tt)) in
     let some_typed : Good (layout Out) (live 1 (vcons taken vnil)) = (and_tt _ whole_typed.0, (record { fits = lit< tt }, (whole_typed.1, tt))) in
-    let d : Two.Denot = (record { ptr = block_ptr b o; alloc = alloc }, record { ptr = q; count = n }) in
+    let d : Two.Denot = (record { ptr = block_ptr b o }, record { ptr = q; places = ps }) in
     sets ! (addr ! (through ! refl (fld ! refl (stop !)))) refl (tt, tt) $
     sets ! (of_opd ! (load ! (through ! refl (stop !)) (look ! 0 refl))) refl (ptr_typed q) $
-    sets ! (agg ! (and_then ! (get ! refl) (and_then ! (get ! refl) (no_more !)))) refl (vacant_typed al Node hv b o fits) $
+    sets ! (agg ! (and_then ! (get ! refl) (no_more !))) refl (word_typed (block_ptr b o)) $
     sets ! (agg ! (and_then ! (get ! refl) (no_more !))) refl (word_typed q) $
     sets ! (agg ! (and_then ! (get ! refl) (and_then ! (get ! refl) (no_more !)))) refl whole_typed $
     sets_last ! (agg ! (and_then ! (lit ! tt) (and_then ! (get ! refl) (no_more !)))) refl some_typed $
     exec ! 𝓣.C 𝓣.Λ Ev (after 4 fn.body) (at_ret Ev Post) $ sets ! (of_opd ! (get ! refl)) refl some_typed $
-    returns ! (look_at ! 0 refl) $ free_all ! refl $ word_glued U L b o ! _ $ move ! (0 ∷ 1 ∷ 3 ∷ []) $ Vacant-made al Node ! alloc b o $
-    -- [the block; the other blocks; nothing; the lifetimes; the bound]
-    move ! (1 ∷ []) $ worded U L ! q (spares_own Thing n q) $ move ! (1 ∷ 0 ∷ []) $
-    use2 𝓛 (‵ (Two.own_val d (taken ∷ []))) (pair_of 𝓛 Block Spared d.0 d.1 (vacant_val hv b o) (word q)) $
+    returns ! (look_at ! 0 refl) $ free_all ! refl $ word_glued U L b o ! _ $ slotted U L ! b o test $
+    -- [the slot; the other slots; nothing; the lifetimes; the bound]
+    move ! (1 ∷ []) $ worded U L ! q (spares_own Thing ps q) $ move ! (1 ∷ 0 ∷ []) $
+    use2 𝓛 (‵ (Two.own_val d (taken ∷ []))) (pair_of 𝓛 Slotted Spared d.0 d.1 (word (block_ptr b o)) (word q)) $
     use1 𝓛 (‵ (Out.own_val (Some d) (live 1 (vcons taken vnil) ∷ []))) (Some-of 𝓛 Two d taken) $
-    use0 𝓛 (raw (fact 𝓤 (me.count ≡ suc n))) (fact_i 𝓤 (me.count ≡ suc n) (emp 𝓤) counted) $
-    nothing ! $ nothing ! $ fjoin ! $ nothing ! $ fjoin ! $
+    use0 𝓛 (raw (fact 𝓤 (me.places ≡ block_ptr b o ∷ ps))) (fact_i 𝓤 (me.places ≡ block_ptr b o ∷ ps) (emp 𝓤) (listed ∙ ap (λ r. r ∷ ps) (same ∙ at_block))) $
+    nothing ! $ nothing ! $ fjoin ! $
     -- [nothing of the parameters; the fact; the result; nothing; the lifetimes; the bound]
-    keep ! (4 ∷ 0 ∷ 2 ∷ 1 ∷ []) $ by ! (leaves 𝓛 En hs c z (live 1 (vcons taken vnil)) (Some d) (tt, (tt, tt)) (tt, (tt, tt)))))))))))
+    keep ! (4 ∷ 0 ∷ 2 ∷ 1 ∷ []) $ by ! (leaves 𝓛 En hs c z (live 1 (vcons taken vnil)) (Some d) (tt, tt) (tt, tt))))))))))

@@ -1,12 +1,14 @@
--- `link` writes the node into its block, and owns it with the two chains that it leads to.
-use Rattle.std.proofs.Common.{◌≡◌, List, [], ◌∷◌, ◌++◌, refl}
+-- `link` writes the node into its slot, and owns it with the two chains that it leads to.
+use Rattle.std.proofs.Common.{◌≡◌, List, [], ◌∷◌, ◌++◌, refl, ap, subst, ◌∙◌}
 use mir.Syntax.{a_type}
 use mir.Val.{Val}
+use mir.Raw.{raw as bare}
 use mir.MapTy.{inst_fn}
-use base.Logic.{SProp, emp}
-use base.Fml.{ftrue, fsep, flft}
+use base.Logic.{SProp, emp, id⊢}
+use base.Fraction.{full_share}
+use base.Fml.{Fml, ftrue, fsep, fex, flft}
 use prog.Wp.{WpFn}
-use types.Kit.{‵, raw, prop, at_ret, ◌⊛◌, ◌$◌, ◌∵◌, !, qed, by, move, keep, drop, split, fsplit, fsplit3, fjoin, fpack, use0, regoal}
+use types.Kit.{‵, raw, prop, at_ret, ◌⊛◌, ◌$◌, ◌∵◌, !, qed, by, move, keep, drop, split, fsplit, fsplit3, fjoin, fpick, fpack, use0, regoal}
 use types.Run.{stop, fld, of_opd, no_more, and_then, init, assigns_last, first, blocks, exec, returns, enter}
 use types.ByLocal.{alloc_all, pass_all, free_all, look_at, get, get_in, through, sets, env}
 use types.Part.{agg, sub, whole}
@@ -15,16 +17,15 @@ use contract.Running.{tables}
 use denote.Exit.{no}
 use denote.RattleType.{RattleType, owns}
 use denote.Signature.{types_at, plain}
-use denote.RawPtr.{Ptr, block_ptr}
+use denote.RawPtr.{Ptr, block_ptr, Testable, lies_at, room_for, in_a_block}
 use denote.Steps.{nothing}
 use denote.Param.{layout, layouts}
 use denote.Triple.Walked.{Stays, stay_dropped, walk_of, Goes-dropped}
 use Rattle.core.proofs.alloc.Calls.{Goes-blank}
 use Rattle.core.proofs.alloc.Shapes.{after}
 use Rattle.std.proofs.raw_atomic.Walks.{proved_at, leaves}
-use Rattle.std_alloc.proofs.OfVacant.{vacant_val, vacant_typed, Vacant-had}
 use Rattle.std_alloc.proofs.RawLayout.{as_written}
-use Rattle.pair_heap.proofs.Nodes.{al, R, N, Room, word, word_own, word_told, word_made, word_typed, ptr_typed, node_with, node_typed, node_in, tells}
+use Rattle.pair_heap.proofs.Nodes.{R, N, SlotOf, word, word_own, word_told, word_made, word_typed, ptr_typed, node_with, node_typed, node_in, tells}
 use Rattle.pair_heap.specs.Chain.{link}
 use Rattle.pair_heap.specs.Ownership.{node_owns, chain_owns}
 use Rattle.pair_heap.specs.declared.trees.Trees.{Trees}
@@ -37,24 +38,24 @@ use Rattle.pair_heap.proofs.trees.Trees.link.Code as code
 pub link_spec : {M : Type 1} → statement M
 link_spec 𝓤 𝓛 𝓜 𝓡 wired U L =
     let H = 𝓛.H in let 𝓣 = tables 𝓤 H 𝓜 𝓡 𝓡.env in let En = ended U in let c = clauses U 𝓛 𝓜.mem 𝓡.returns in
-    let inst = layouts (a_type ∷ []) (U, tt) in let fn = inst_fn inst code.function in let Item : RattleType = R U L in let Node : RattleType = N U L in let Block : RattleType = Room U L in let Chained : RattleType = trees.the_row Item in
-    let hs : Stays En.signature.params En.kept = (stay_dropped (plain (λ _. Block)) no, (stay_dropped (plain (λ _. Item)) no, (stay_dropped (plain (λ _. Chained)) no, (stay_dropped (plain (λ _. Chained)) no, tt)))) in
+    let inst = layouts (a_type ∷ []) (U, tt) in let fn = inst_fn inst code.function in let Item : RattleType = R U L in let Node : RattleType = N U L in let Slotted : RattleType = SlotOf U L in let Chained : RattleType = trees.the_row Item in
+    let hs : Stays En.signature.params En.kept = (stay_dropped (plain (λ _. Slotted)) no, (stay_dropped (plain (λ _. Item)) no, (stay_dropped (plain (λ _. Chained)) no, (stay_dropped (plain (λ _. Chained)) no, tt)))) in
     proved_at 𝓛 En hs c 𝓜 𝓡
-    (Goes-blank 𝓛 1 (plain (λ _. Block)) no (λ κs x f. tt), (Goes-dropped 𝓛 1 (plain (λ _. Item)) no (λ κs x f. refl), (Goes-blank 𝓛 1 (plain (λ _. Chained)) no (λ κs x f. tt), (Goes-blank 𝓛 1 (plain (λ _. Chained)) no (λ κs x f. tt), tt))))
+    (Goes-blank 𝓛 1 (plain (λ _. Slotted)) no (λ κs x f. tt), (Goes-dropped 𝓛 1 (plain (λ _. Item)) no (λ κs x f. refl), (Goes-blank 𝓛 1 (plain (λ _. Chained)) no (λ κs x f. tt), (Goes-blank 𝓛 1 (plain (λ _. Chained)) no (λ κs x f. tt), tt))))
     (#self inst) fn (code.unfolded 𝓤 H 𝓜 𝓡 wired (U, tt)) (λ z are.
     let κs = z.0.0 in let qs = z.0.1 in let Post : Val → SProp 𝓤 = (walk_of 𝓛 En hs c).post z in let Run : List Val → SProp 𝓤 = λ ws. WpFn 𝓤 H 𝓣.C 𝓣.Λ fn ws Post in
-    let room = z.0.3.0 in let x = z.0.3.1.0 in let kids = z.0.3.1.1.0 in let rest = z.0.3.1.1.1.0 in
-    let is_kids = word_told kids.ptr z.0.4.1.1.0 are.1.1.0.0 in let is_rest = word_told rest.ptr z.0.4.1.1.1.0 are.1.1.1.0.0 in
+    let slot = z.0.3.0 in let x = z.0.3.1.0 in let kids = z.0.3.1.1.0 in let rest = z.0.3.1.1.1.0 in
+    let is_slot = word_told slot.ptr z.0.4.0 are.0.0 in let is_kids = word_told kids.ptr z.0.4.1.1.0 are.1.1.0.0 in let is_rest = word_told rest.ptr z.0.4.1.1.1.0 are.1.1.1.0.0 in
     let toks = ‵ (flft κs.0 qs.0) ⊛ ‵ ftrue in
     qed 𝓛 ((toks ⊛ ‵ (owns (types_at En.signature.params κs) z.0.3 z.0.4)) ∷ raw ((c κs z.0.3).requires z.1) ∷ []) ∵ split ! $ move ! (1 ∷ []) $ fsplit ! $
-    Vacant-had al Node ! room z.0.4.0 (λ b o hv at_block is_room fits. move ! (3 ∷ []) $ fsplit ! $ tells U L ! x z.0.4.1.0 (λ v is_item good.
+    fsplit ! $ drop ! $ fpick ! (λ may. in_a_block ! slot.ptr (room_for (bare (layout Node))) (id⊢ 𝓤 _) (λ b o at_block. move ! (1 ∷ []) $ fsplit ! $ tells U L ! x z.0.4.1.0 (λ v is_item good.
     move ! (1 ∷ []) $ fsplit3 ! $ fsplit ! $ drop ! $ move ! (1 ∷ []) $ fsplit ! $ drop ! $
     move ! (4 ∷ []) $ as_written ! (layout Node) b o $
-    -- [room for the node; the rest; the children; nothing; the item; the token; the handle; the lifetimes; the bound]
-    regoal ! (λ (us : List Val). prop (Run us)) (λ i. is_room i ++ (is_item i ++ (is_kids i ++ (is_rest i ++ [])))) refl $
-    let made : Trees Item.Denot = record { ptr = block_ptr b o; chain = link x kids.chain rest.chain } in let typed = node_typed U L kids.ptr rest.ptr v good in
-    enter ! 𝓣.C 𝓣.Λ fn (vacant_val hv b o ∷ v ∷ word kids.ptr ∷ word rest.ptr ∷ []) Post $
-    alloc_all ! (λ l. pass_all ! refl (vacant_typed al Node hv b o fits, (good, (word_typed kids.ptr, (word_typed rest.ptr, tt)))) $ let Ev = env fn.locals l in
+    -- [room for the node; the rest; the children; nothing; the item; the lifetimes; the bound]
+    regoal ! (λ (us : List Val). prop (Run us)) (λ i. (is_slot ∙ ap (λ p. word p ∷ []) at_block) i ++ (is_item i ++ (is_kids i ++ (is_rest i ++ [])))) refl $
+    let made : Trees Item.Denot = record { ptr = block_ptr b o; chain = link slot.ptr x kids.chain rest.chain } in let typed = node_typed U L kids.ptr rest.ptr v good in
+    enter ! 𝓣.C 𝓣.Λ fn (word (block_ptr b o) ∷ v ∷ word kids.ptr ∷ word rest.ptr ∷ []) Post $
+    alloc_all ! (λ l. pass_all ! refl (word_typed (block_ptr b o), (good, (word_typed kids.ptr, (word_typed rest.ptr, tt)))) $ let Ev = env fn.locals l in
     sets ! (of_opd ! (get_in ! (fld ! refl (stop !)) (sub ! 0 refl (whole !)))) refl (tt, tt) $
     sets ! (of_opd ! (get_in ! (fld ! refl (stop !)) (sub ! 0 refl (whole !)))) refl (ptr_typed kids.ptr) $
     sets ! (of_opd ! (get_in ! (fld ! refl (stop !)) (sub ! 0 refl (whole !)))) refl (ptr_typed rest.ptr) $
@@ -63,12 +64,14 @@ link_spec 𝓤 𝓛 𝓜 𝓡 wired U L =
     assigns_last ! (of_opd ! (get ! refl)) (through ! refl (stop !)) (init ! 0 refl typed) $
     exec ! 𝓣.C 𝓣.Λ Ev (after 4 fn.body) (at_ret Ev Post) $
     sets ! (agg ! (and_then ! (get ! refl) (no_more !))) refl (word_typed (block_ptr b o)) $
-    returns ! (look_at ! 0 refl) $ free_all ! refl $ move ! (0 ∷ 4 ∷ []) $ node_in U L ! kids.ptr rest.ptr x v b o $ move ! (0 ∷ 4 ∷ []) $ fjoin ! $
-    -- [the node with its token; the rest; the children; nothing; the handle; the lifetimes; the bound]
+    returns ! (look_at ! 0 refl) $ free_all ! refl $ move ! (0 ∷ 4 ∷ []) $ node_in U L ! kids.ptr rest.ptr x v b o $
+    fpack ! (Testable (block_ptr b o)) (λ _. lies_at Node full_share (block_ptr b o) (node_with U L kids.ptr rest.ptr x)) (subst Testable at_block may) $
+    -- [the node; the rest; the children; nothing; the lifetimes; the bound]
     move ! (2 ∷ 1 ∷ []) $ fjoin ! $ move ! (1 ∷ 0 ∷ []) $ fjoin ! $
-    fpack ! (Ptr × Ptr) (λ s. fsep (node_owns Item (block_ptr b o) (node_with U L s.0 s.1 x)) (fsep (chain_owns Item kids.chain s.0) (chain_owns Item rest.chain s.1))) (kids.ptr, rest.ptr) $
+    let Tied : Ptr × Ptr → Fml = λ s. fsep (node_owns Item (block_ptr b o) (node_with U L s.0 s.1 x)) (fsep (chain_owns Item kids.chain s.0) (chain_owns Item rest.chain s.1)) in
+    fpack ! (Ptr × Ptr) Tied (kids.ptr, rest.ptr) $ fpack ! (slot.ptr ≡ block_ptr b o) (λ _. fex (Ptr × Ptr) Tied) at_block $
     use0 𝓛 (‵ (word_own (block_ptr b o) (word (block_ptr b o) ∷ []))) (word_made 𝓛 (block_ptr b o)) $ fjoin ! $
     use0 𝓛 (raw (fact 𝓤 (made.chain ≡ made.chain))) (fact_i 𝓤 (made.chain ≡ made.chain) (emp 𝓤) refl) $
     nothing ! $ nothing ! $ fjoin ! $ nothing ! $ fjoin ! $ nothing ! $ fjoin ! $ nothing ! $ fjoin ! $
-    -- [nothing of the parameters; the fact; the chain; nothing; the handle; the lifetimes; the bound]
-    keep ! (5 ∷ 0 ∷ 2 ∷ 1 ∷ []) $ by ! (leaves 𝓛 En hs c z (word (block_ptr b o)) made (tt, (tt, (tt, (tt, tt)))) (tt, (tt, (tt, (tt, tt)))))))))
+    -- [nothing of the parameters; the fact; the chain; nothing; the lifetimes; the bound]
+    keep ! (4 ∷ 0 ∷ 2 ∷ 1 ∷ []) $ by ! (leaves 𝓛 En hs c z (word (block_ptr b o)) made (tt, (tt, (tt, (tt, tt)))) (tt, (tt, (tt, (tt, tt))))))))))
