@@ -1,8 +1,8 @@
 ghost use Rattle.std.specs.Prelude.{◌≡◌, ◌^◌, ◌-◌, IfOk, box_value, min};
-ghost use Rattle.script_text.specs.Plan.{plan_value, depth, Filter, Match, Fetch, First, SortBy, SortNear};
+ghost use Rattle.script_text.specs.Plan.{plan_value, depth, Rank, PickEqual, Join, Semi, Filter, Match, Fetch, First, SortBy, SortNear};
 
 use crate::{Column, Place, Places, Plan, Test, Tests};
-use sand_base::{NoMemory, Shape};
+use sand_base::{NoMemory, Shape, Value};
 use std::alloc::Global;
 use std::boxed::Box;
 
@@ -67,6 +67,46 @@ impl Places {
         }
         Ok(Places::new(items))
     }
+}
+
+// A copy of each operator that has two parts to copy, in a function of its own.
+fn rank(alloc: Global, column: &Column, goal: &Shape, within: Option<u32>) -> Result<Plan, NoMemory>
+    ensures { IfOk result (λ copy. plan_value copy ≡ Rank column.now goal.now within) }
+{
+    Ok(Plan::Rank {
+        column: column.copy(alloc)?,
+        goal: goal.copy(alloc)?,
+        within,
+    })
+}
+
+fn pick_equal(alloc: Global, column: &Column, value: &Value) -> Result<Plan, NoMemory>
+    ensures { IfOk result (λ copy. plan_value copy ≡ PickEqual column.now value.now) }
+{
+    Ok(Plan::PickEqual {
+        column: column.copy(alloc)?,
+        value: value.copy(alloc)?,
+    })
+}
+
+fn join(alloc: Global, left: &Column, right: &Column, within: Option<u32>) -> Result<Plan, NoMemory>
+    ensures { IfOk result (λ copy. plan_value copy ≡ Join left.now right.now within) }
+{
+    Ok(Plan::Join {
+        left: left.copy(alloc)?,
+        right: right.copy(alloc)?,
+        within,
+    })
+}
+
+fn semi(alloc: Global, left: &Column, right: &Column, within: Option<u32>) -> Result<Plan, NoMemory>
+    ensures { IfOk result (λ copy. plan_value copy ≡ Semi left.now right.now within) }
+{
+    Ok(Plan::Semi {
+        left: left.copy(alloc)?,
+        right: right.copy(alloc)?,
+        within,
+    })
 }
 
 // An equal plan in a box of its own.
@@ -154,19 +194,12 @@ impl Plan {
                 column,
                 goal,
                 within,
-            } => Ok(Plan::Rank {
-                column: column.copy(alloc)?,
-                goal: goal.copy(alloc)?,
-                within: *within,
-            }),
+            } => rank(alloc, column, goal, *within),
             Plan::Window { column, window } => Ok(Plan::Window {
                 column: column.copy(alloc)?,
                 window: *window,
             }),
-            Plan::PickEqual { column, value } => Ok(Plan::PickEqual {
-                column: column.copy(alloc)?,
-                value: value.copy(alloc)?,
-            }),
+            Plan::PickEqual { column, value } => pick_equal(alloc, column, value),
             Plan::PickBetween { column, low, high } => Ok(Plan::PickBetween {
                 column: column.copy(alloc)?,
                 low: *low,
@@ -176,20 +209,12 @@ impl Plan {
                 left,
                 right,
                 within,
-            } => Ok(Plan::Join {
-                left: left.copy(alloc)?,
-                right: right.copy(alloc)?,
-                within: *within,
-            }),
+            } => join(alloc, left, right, *within),
             Plan::Semi {
                 left,
                 right,
                 within,
-            } => Ok(Plan::Semi {
-                left: left.copy(alloc)?,
-                right: right.copy(alloc)?,
-                within: *within,
-            }),
+            } => semi(alloc, left, right, *within),
             Plan::Filter { plan, tests } => filter(alloc, plan, tests),
             Plan::Match {
                 plan,

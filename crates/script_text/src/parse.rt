@@ -58,10 +58,10 @@ fn read_tokens(alloc: Global, line: &[u8]) -> Result<Option<Statement>, LineFaul
         Err(Stuck::Memory) => return Err(LineFault::Memory),
         Err(Stuck::Here) => return Err(syntax_at(line, cursor.room())),
     };
-    if !cursor.is_in_range() {
-        return Err(LineFault::Range);
-    }
-    Ok(Some(statement))
+    let is_in_range = cursor.is_in_range();
+    is_in_range
+        .then_some(Some(statement))
+        .ok_or(LineFault::Range)
 }
 
 /// Reads one line, without its line feed. None for a line of blanks or a comment.

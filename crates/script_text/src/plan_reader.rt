@@ -1,15 +1,19 @@
 ghost use Rattle.std.specs.Prelude.{◌≡◌, codes, box_value};
-ghost use Rattle.script_text.specs.Form.{a_plan, rule};
+ghost use Rattle.script_text.specs.declared.token.Symbol.TheVariants.{Equal};
+ghost use Rattle.script_text.specs.Form.{a_plan, rule, seq};
 ghost use Rattle.script_text.specs.Grammar.{reading};
-ghost use Rattle.script_text.specs.Plan.{plan_value};
-ghost use Rattle.script_text.specs.Reading.{GivesAs};
-ghost use Rattle.script_text.specs.Rules.{after_word, inner_form, scan_rest, rank_rest, window_rest, pick_rest, join_rest, semi_rest};
+ghost use Rattle.script_text.specs.Plan.{PickBetween, PickEqual, PlanValue, plan_value};
+ghost use Rattle.script_text.specs.declared.column.Column.{Column};
+ghost use Rattle.script_text.specs.Reading.{Gives, GivesAs};
+ghost use Rattle.script_text.specs.Rules.{after_sign, after_word, column_form, int_form, plain_form, shape_form, told, within_form};
+ghost use Rattle.script_text.specs.Rules.{inner_form, scan_rest, rank_rest, window_rest, pick_rest, join_rest, semi_rest};
 ghost use Rattle.script_text.specs.Rules.{filter_rest, match_rest, fetch_rest, first_rest, sort_rest};
 
 use crate::cursor::Cursor;
 use crate::stuck::Stuck;
 use crate::token::Symbol;
-use crate::{MOST_ROWS, Places, Plan, Tests};
+use crate::{Column, MOST_ROWS, Places, Plan, Tests};
+use sand_base::{Shape, Value};
 use std::alloc::Global;
 use std::boxed::Box;
 
@@ -23,15 +27,23 @@ impl<'t> Cursor<'t> {
         Ok(Plan::Scan { relation })
     }
 
+    // Reads the shape that rows are ranked from, and how far they may be.
+    fn goal(&mut self, alloc: Global) -> Result<(Shape, Option<u32>), Stuck>
+        ensures { Gives (reading (after_word (codes "from") (seq (λ g w. (g, w)) shape_form within_form))) self.old self.new result }
+    {
+        self.word("from")?;
+        let goal = self.shape(alloc)?;
+        let within = self.within()?;
+        Ok((goal, within))
+    }
+
     // Reads a `rank`.
     fn rank(&mut self, alloc: Global) -> Result<Plan, Stuck>
         ensures { GivesAs plan_value (reading (after_word (codes "rank") rank_rest)) self.old self.new result }
     {
         self.word("rank")?;
         let column = self.column(alloc)?;
-        self.word("from")?;
-        let goal = self.shape(alloc)?;
-        let within = self.within()?;
+        let (goal, within) = self.goal(alloc)?;
         Ok(Plan::Rank {
             column,
             goal,
@@ -49,6 +61,25 @@ impl<'t> Cursor<'t> {
         Ok(Plan::Window { column, window })
     }
 
+    // Reads `=` and the value that is picked.
+    fn picked_value(&mut self, alloc: Global) -> Result<Value, Stuck>
+        ensures { GivesAs {A = Column → PlanValue} (λ v c. PickEqual c v) (reading (after_sign Equal (told (λ v c. PickEqual c v) plain_form))) self.old self.new result }
+    {
+        self.mark(Symbol::Equal)?;
+        self.plain(alloc)
+    }
+
+    // Reads the lowest and the highest number that are picked.
+    fn picked_range(&mut self) -> Result<(i64, i64), Stuck>
+        ensures { GivesAs {A = Column → PlanValue} (λ r c. PickBetween c r.0 r.1) (reading (after_word (codes "from") (seq (λ a b c. PickBetween c a b) int_form (after_word (codes "to") int_form)))) self.old self.new result }
+    {
+        self.word("from")?;
+        let low = self.int()?;
+        self.word("to")?;
+        let high = self.int()?;
+        Ok((low, high))
+    }
+
     // Reads a `pick`.
     fn pick(&mut self, alloc: Global) -> Result<Plan, Stuck>
         ensures { GivesAs plan_value (reading (after_word (codes "pick") pick_rest)) self.old self.new result }
@@ -56,15 +87,20 @@ impl<'t> Cursor<'t> {
         self.word("pick")?;
         let column = self.column(alloc)?;
         if self.is_mark(Symbol::Equal) {
-            self.mark(Symbol::Equal)?;
-            let value = self.plain(alloc)?;
+            let value = self.picked_value(alloc)?;
             return Ok(Plan::PickEqual { column, value });
         }
-        self.word("from")?;
-        let low = self.int()?;
-        self.word("to")?;
-        let high = self.int()?;
+        let (low, high) = self.picked_range()?;
         Ok(Plan::PickBetween { column, low, high })
+    }
+
+    // Reads the right column of two, and how far its rows may be.
+    fn partner(&mut self, alloc: Global) -> Result<(Column, Option<u32>), Stuck>
+        ensures { Gives (reading (seq (λ r w. (r, w)) column_form within_form)) self.old self.new result }
+    {
+        let right = self.column(alloc)?;
+        let within = self.within()?;
+        Ok((right, within))
     }
 
     // Reads a `join`.
@@ -73,8 +109,7 @@ impl<'t> Cursor<'t> {
     {
         self.word("join")?;
         let left = self.column(alloc)?;
-        let right = self.column(alloc)?;
-        let within = self.within()?;
+        let (right, within) = self.partner(alloc)?;
         Ok(Plan::Join {
             left,
             right,
@@ -88,8 +123,7 @@ impl<'t> Cursor<'t> {
     {
         self.word("semi")?;
         let left = self.column(alloc)?;
-        let right = self.column(alloc)?;
-        let within = self.within()?;
+        let (right, within) = self.partner(alloc)?;
         Ok(Plan::Semi {
             left,
             right,

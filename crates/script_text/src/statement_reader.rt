@@ -1,8 +1,9 @@
-ghost use Rattle.std.specs.Prelude.{◌≡◌, codes};
+ghost use Rattle.std.specs.Prelude.{◌≡◌, codes, true, false, Some, None};
+ghost use Rattle.script_text.specs.Form.{a_natural, alt, nothing};
 ghost use Rattle.script_text.specs.Grammar.{reading, whole};
 ghost use Rattle.script_text.specs.Statement.{statement_value};
-ghost use Rattle.script_text.specs.Reading.{GivesAs};
-ghost use Rattle.script_text.specs.Rules.{after_word, create_rest, insert_rest, delete_rest, load_rest, index_rest, open_rest};
+ghost use Rattle.script_text.specs.Reading.{Gives, GivesAs};
+ghost use Rattle.script_text.specs.Rules.{after_word, case_word, create_rest, insert_rest, delete_rest, load_rest, index_rest, open_rest};
 ghost use Rattle.script_text.specs.Rules.{next_rest, close_rest, show_rest, stats_rest, blocks_rest, query_form, statement_form};
 
 use crate::cursor::Cursor;
@@ -49,6 +50,17 @@ impl<'t> Cursor<'t> {
         Ok(Statement::Delete { relation, id })
     }
 
+    // Reads whether the first record is passed over.
+    fn header(&mut self) -> Result<bool, Stuck>
+        ensures { Gives (reading (case_word (codes "header") (nothing true) (nothing false))) self.old self.new result }
+    {
+        if !self.is_word("header") {
+            return Ok(false);
+        }
+        self.word("header")?;
+        Ok(true)
+    }
+
     // Reads a `load`.
     fn load(&mut self, alloc: Global) -> Result<Statement, Stuck>
         ensures { GivesAs statement_value (reading (after_word (codes "load") load_rest)) self.old self.new result }
@@ -56,19 +68,23 @@ impl<'t> Cursor<'t> {
         self.word("load")?;
         let relation = self.name(alloc)?;
         let file = self.text(alloc)?;
-        if !self.is_word("header") {
-            return Ok(Statement::Load {
-                relation,
-                file,
-                header: false,
-            });
-        }
-        self.word("header")?;
+        let header = self.header()?;
         Ok(Statement::Load {
             relation,
             file,
-            header: true,
+            header,
         })
+    }
+
+    // Reads how many ids a leaf may hold, where it is said.
+    fn threshold(&mut self) -> Result<Option<u8>, Stuck>
+        ensures { Gives (reading (alt (a_natural 1 64) (λ n (u : Unit {0}). Some n) (nothing tt) (nothing None))) self.old self.new result }
+    {
+        if !self.is_number() {
+            return Ok(None);
+        }
+        let threshold = self.natural(1, 64)?;
+        Ok(Some(threshold as u8))
     }
 
     // Reads an `index`.
@@ -77,17 +93,8 @@ impl<'t> Cursor<'t> {
     {
         self.word("index")?;
         let column = self.column(alloc)?;
-        if !self.is_number() {
-            return Ok(Statement::Index {
-                column,
-                threshold: None,
-            });
-        }
-        let threshold = self.natural(1, 64)?;
-        Ok(Statement::Index {
-            column,
-            threshold: Some(threshold as u8),
-        })
+        let threshold = self.threshold()?;
+        Ok(Statement::Index { column, threshold })
     }
 
     // Reads an `open`.
@@ -198,7 +205,6 @@ impl<'t> Cursor<'t> {
         ensures { GivesAs statement_value (whole statement_form) self.old self.new result }
     {
         let statement = self.statement(alloc)?;
-        self.end()?;
-        Ok(statement)
+        self.end().and(Ok(statement))
     }
 }

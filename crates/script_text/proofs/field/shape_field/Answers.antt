@@ -1,9 +1,9 @@
 -- Why the field writes no shape of the kind, or writes one.
-use Rattle.std.proofs.Common.{sym, ap, ◌∙◌}
+use Rattle.std.proofs.Common.{sym, ◌∙◌}
 use Rattle.std.proofs.lemmas.Bool.{eqb-false, eqb-true}
 use Rattle.sand_base.specs.contracts.kind.Kind.{the_type}
 use denote.Enum.Bare.{differs_true, differs_false}
-use Rattle.script_text.proofs.Fields.{no-shape, tab-none, left-none, none-left, stuck-none, out-none, other-none, shape-some}
+use Rattle.script_text.proofs.Fields.{no-shape, left-none, none-left, stuck-none, out-none, other-none, shape-some}
 use Rattle.script_text.proofs.field.shape_field.Goals as goal
 
 -- something is left of it
