@@ -10,10 +10,10 @@ use Rattle.pair_heap.specs.Chain.{link, items}
 use Rattle.pair_heap.specs.Tree.{IsTree}
 
 module _ {X : Type 0} {cmp : X → X → Ordering} (o : IsTotalOrder cmp) where
-  pub put_below : (one other result : Tree X) → result.item ≡ one.item → result.kids.chain ≡ link other.slot.ptr other.item other.kids.chain one.kids.chain
+  pub put_below : (one other result : Tree X) → result.item ≡ one.item → result.kids ≡ link other.ptr other.item other.kids one.kids
       → AtMost cmp one.item other.item → IsTree cmp one → IsTree cmp other → IsTree cmp result
   put_below one other result same below le t u = record {
-    least = rw (same, below) (All-cons (AtMost cmp one.item) other.item (items other.kids.chain ++ items one.kids.chain) le
-        (All-append (AtMost cmp one.item) (items other.kids.chain) (items one.kids.chain) (least_through o one.item other.item (items other.kids.chain) le u.least) t.least));
+    least = rw (same, below) (All-cons (AtMost cmp one.item) other.item (items other.kids ++ items one.kids) le
+        (All-append (AtMost cmp one.item) (items other.kids) (items one.kids) (least_through o one.item other.item (items other.kids) le u.least) t.least));
     heap = rw below (u.least, u.heap, t.heap);
   }

@@ -1,12 +1,12 @@
 -- What a node's slot holds, as the steps of the walks take it: the struct of a pointer, an item, and a node of both. Assumes `Logic`.
-use Rattle.std.proofs.Common.{◌≡◌, ℕ, zero, suc, ◌+◌, List, [], ◌∷◌, ◌++◌, refl, ap, ◌∙◌, lit<}
+use Rattle.std.proofs.Common.{◌≡◌, ℕ, zero, suc, ◌+◌, List, [], ◌∷◌, ◌++◌, refl, ap, subst, ◌∙◌, lit<}
 use lib.Dec.{T}
 use prog.Model.{rooms_of}
 use mir.Raw.{raw as bare}
 use seplogic.Ra.Ura.{Ura}
 use mir.Syntax.{ty_ptr, impl, tcons, tnil, dnil}
 use mir.Val.{Val, vstruct, vcons, vnil, of_list, has_ty, has_tys, WT}
-use base.Logic.{ent, sep, wand, emp, via, apply∗, guard_i}
+use base.Logic.{ent, sep, wand, emp, via, apply∗, guard_i, id⊢}
 use base.Fml.{Fml, fsep, fwand, fat, froom}
 use base.Fraction.{full_share}
 use types.Logic.{Logic, sem}
@@ -16,7 +16,11 @@ use denote.Builtin.{RawPtr}
 use denote.Laws.{Is, shows}
 use denote.Memory.{part_at}
 use contract.Monad.{fact_use}
-use denote.RawPtr.{Ptr, block_ptr, null_ptr, ptr_val, Testable}
+use denote.RawPtr.{Ptr, block_ptr, null_ptr, ptr_val, Testable, lies_at, in_a_block}
+use denote.Opens.{Opens}
+use denote.Copied.{Struct-Copied}
+use denote.Struct.Laws.{RawPtr-copy}
+use denote.Struct.Owning.{shape}
 use denote.Steps.{nothing, only, peeks}
 use denote.Param.{param, layout}
 use denote.Param.Laws.{Laws, param_laws}
@@ -33,10 +37,11 @@ use Rattle.std.specs.contracts.impls.GlobalAllocator.TheImpl.{ghosts}
 use Rattle.std_alloc.specs.contracts.room.vacant.Vacant as vacant
 use Rattle.std.proofs.GlobalToken.{dealloc_token_start, dealloc_token-Testable}
 use Rattle.pair_heap.specs.Chain.{Chain, end, link}
-use Rattle.pair_heap.specs.Ownership.{heap as handle}
+use Rattle.pair_heap.specs.Ownership.{heap as handle, chain_owns, tree_owns}
 use Rattle.pair_heap.specs.contracts.node.Node as node
 use Rattle.pair_heap.specs.contracts.slab.Slab as slab
 use Rattle.pair_heap.specs.contracts.slot.Slot as slot
+use Rattle.pair_heap.specs.contracts.tree.Tree as tree
 
 -- the handle that the blocks go back to
 abbrev pub al : Al
@@ -62,18 +67,18 @@ ptr_typed null_ptr = (tt, record { fits = lit< tt })
 pub word_typed : (p : Ptr) → T (has_tys (tcons ty_ptr tnil) (vcons (ptr_val p) vnil)) × WT (word p)
 word_typed p = as_fields (ty_ptr ∷ []) (ptr_val p ∷ []) (ptr_typed p, tt)
 
-abbrev pub four_val : Val → Val → Val → Val → Val
-four_val s t u v = vstruct (vcons s (vcons t (vcons u (vcons v vnil))))
+abbrev pub three_val : Val → Val → Val → Val
+three_val s t u = vstruct (vcons s (vcons t (vcons u vnil)))
 
--- a tuple is made of its four values
-pub four_of : {M : Type 1} {𝓤 : Ura M} (𝓛 : Logic 𝓤) (A B C D : RattleType) (x : A.Denot) (y : B.Denot) (z : C.Denot) (w : D.Denot) (s t u v : Val)
-    → ent 𝓤 (sep 𝓤 (sem 𝓛 (A.own_val x (s ∷ []))) (sep 𝓤 (sem 𝓛 (B.own_val y (t ∷ []))) (sep 𝓤 (sem 𝓛 (C.own_val z (u ∷ []))) (sem 𝓛 (D.own_val w (v ∷ []))))))
-    (sem 𝓛 ((Tuple (A ∷ B ∷ C ∷ D ∷ [])).own_val (x, y, z, w) (four_val s t u v ∷ [])))
-four_of 𝓛 A B C D x y z w s t u v =
-    qed 𝓛 (‵ (A.own_val x (s ∷ [])) ∷ ‵ (B.own_val y (t ∷ [])) ∷ ‵ (C.own_val z (u ∷ [])) ∷ ‵ (D.own_val w (v ∷ [])) ∷ []) ∵ nothing ! $
-    move ! (4 ∷ 0 ∷ []) $ fjoin ! $ move ! (3 ∷ 0 ∷ []) $ fjoin ! $ move ! (2 ∷ 0 ∷ []) $ fjoin ! $ move ! (1 ∷ 0 ∷ []) $ fjoin ! $
-    feq_i ! (List Val) (four_val s t u v ∷ []) (four_val s t u v ∷ []) refl $ fjoin ! $
-    fpack ! (Valss (A ∷ B ∷ C ∷ D ∷ [])) (within (Declared.shape (tuple_type (A ∷ B ∷ C ∷ D ∷ []))) (x, (y, (z, (w, tt)))) (four_val s t u v ∷ [])) (s ∷ [], (t ∷ [], (u ∷ [], (v ∷ [], tt)))) $ done !
+-- a tuple is made of its three values
+pub three_of : {M : Type 1} {𝓤 : Ura M} (𝓛 : Logic 𝓤) (A B C : RattleType) (x : A.Denot) (y : B.Denot) (z : C.Denot) (s t u : Val)
+    → ent 𝓤 (sep 𝓤 (sem 𝓛 (A.own_val x (s ∷ []))) (sep 𝓤 (sem 𝓛 (B.own_val y (t ∷ []))) (sem 𝓛 (C.own_val z (u ∷ [])))))
+    (sem 𝓛 ((Tuple (A ∷ B ∷ C ∷ [])).own_val (x, y, z) (three_val s t u ∷ [])))
+three_of 𝓛 A B C x y z s t u =
+    qed 𝓛 (‵ (A.own_val x (s ∷ [])) ∷ ‵ (B.own_val y (t ∷ [])) ∷ ‵ (C.own_val z (u ∷ [])) ∷ []) ∵ nothing ! $
+    move ! (3 ∷ 0 ∷ []) $ fjoin ! $ move ! (2 ∷ 0 ∷ []) $ fjoin ! $ move ! (1 ∷ 0 ∷ []) $ fjoin ! $
+    feq_i ! (List Val) (three_val s t u ∷ []) (three_val s t u ∷ []) refl $ fjoin ! $
+    fpack ! (Valss (A ∷ B ∷ C ∷ [])) (within (Declared.shape (tuple_type (A ∷ B ∷ C ∷ []))) (x, (y, (z, tt))) (three_val s t u ∷ [])) (s ∷ [], (t ∷ [], (u ∷ [], tt))) $ done !
 
 -- the cases of a chain, as a step of a walk
 module _ {M : Type 1} {𝓤 : Ura M} {𝓛 : Logic 𝓤} {K : Type 0} {Γ : List (Item 𝓤)} {G : Goal 𝓤 𝓛.H} where
@@ -106,6 +111,20 @@ module _ (U : RattleType) (L : Laws U) where
   -- a slot for a node
   abbrev pub SlotOf : RattleType
   SlotOf = slot.the_row R
+
+  -- a tree in hand
+  abbrev pub TreeOf : RattleType
+  TreeOf = tree.the_row R
+
+  -- its one field
+  abbrev pub TreeField : RattleType
+  TreeField = Struct (shape (tree.the_type R))
+
+  pub tree_told : (p : Ptr) (vs : List Val) → Is TreeField (p, tt) vs → vs ≡ word p ∷ []
+  tree_told p vs is = is.1.0 ∙ ap (λ (ws : List Val). vstruct (of_list (ws ++ [])) ∷ []) is.1.1.0
+
+  pub tree_opened : {M : Type 1} {𝓤 : Ura M} (𝓛 : Logic 𝓤) → Opens 𝓛 TreeField
+  tree_opened {M} {𝓤 = 𝓤} 𝓛 = (Struct-Copied 𝓛 (shape (tree.the_type R)) (refl, tt) (RawPtr-copy.copied M 𝓤 𝓛, tt)).opens
 
   -- a block for a slab
   abbrev pub Room : RattleType
@@ -163,6 +182,22 @@ module _ (U : RattleType) (L : Laws U) where
     -- the struct of one pointer, beside what stands behind it
     pub worded : K → (p : Ptr) (F : Fml) → Step K 𝓛 (‵ (fsep (word_own p (word p ∷ [])) F) ∷ Γ) G (‵ F ∷ Γ) G
     worded t p F = step (λ s. use0 𝓛 (‵ (word_own p (word p ∷ []))) (word_made 𝓛 p) $ fjoin t $ s)
+
+  module _ {M : Type 1} {𝓤 : Ura M} {𝓛 : Logic 𝓤} {K : Type 0} {Γ : List (Item 𝓤)} {G : Goal 𝓤 𝓛.H} where
+    -- a tree in hand is made of its root's node and its children
+    pub treed : K → (c n : Ptr) (x : R.Denot) (v : Val) (kids : Chain R.Denot) (b o : ℕ) → Testable (block_ptr b o)
+        → Step K 𝓛 (‵ (TreeOf.own_val (record { ptr = block_ptr b o; item = x; kids = kids; links = (c, n) }) (word (block_ptr b o) ∷ [])) ∷ Γ) G
+        (‵ (fat full_share (layout N) b o (node_val c n v)) ∷ ‵ (R.own_val x (v ∷ [])) ∷ ‵ (chain_owns R kids c) ∷ Γ) G
+    treed t c n x v kids b o test = step (λ s. node_in t c n x v b o $ move t (1 ∷ []) $ fpack t (Testable (block_ptr b o)) (λ _. chain_owns R kids c) test $
+        move t (1 ∷ 0 ∷ []) $ fjoin t $ worded t (block_ptr b o) (tree_owns R (c, n) x kids (block_ptr b o)) $ s)
+
+    -- and taken apart
+    pub tree_out : K → (links : Ptr × Ptr) (x : R.Denot) (kids : Chain R.Denot) (p : Ptr)
+        → ((b o : ℕ) → p ≡ block_ptr b o → Testable (block_ptr b o) → (v : Val) → Good (layout R) v
+        → Seq K 𝓛 (‵ (fat full_share (layout N) b o (node_val links.0 links.1 v)) ∷ ‵ (R.own_val x (v ∷ [])) ∷ ‵ (chain_owns R kids links.0) ∷ Γ) G)
+        → Seq K 𝓛 (‵ (tree_owns R links x kids p) ∷ Γ) G
+    tree_out t links x kids p k = fsplit t $ in_a_block t p (λ r. lies_at N full_share r (node_with links.0 links.1 x)) (id⊢ 𝓤 _) (λ b o at_block. node_out t (node_with links.0 links.1 x) b o (λ v good.
+        move t (2 ∷ []) $ fpick t (λ may. move t (1 ∷ 2 ∷ 0 ∷ []) $ k b o at_block (subst Testable at_block may) v good)))
 
   pub node_typed : (c n : Ptr) (v : Val) → Good (layout R) v → Good (layout N) (node_val c n v)
   node_typed c n v good = as_fields (ty_ptr ∷ ty_ptr ∷ layout R ∷ []) (ptr_val c ∷ ptr_val n ∷ v ∷ []) (ptr_typed c, (ptr_typed n, (good, tt)))

@@ -10,19 +10,19 @@ use Rattle.pair_heap.specs.Tree.{IsTree, tree_items, tree_places, root_items, ro
 
 module _ {X : Type 0} where
   -- the item, and what was below it as one tree
-  pub taken_items : (tree : Tree X) (rest : Option (Tree X)) → MatchOption rest (tree.kids.chain ≡ end) (λ t. IsPermutation (items tree.kids.chain) (tree_items t))
+  pub taken_items : (tree : Tree X) (rest : Option (Tree X)) → MatchOption rest (tree.kids ≡ end) (λ t. IsPermutation (items tree.kids) (tree_items t))
       → IsPermutation (tree_items tree) (tree.item ∷ root_items rest)
   taken_items tree None none = subst (λ c. IsPermutation (tree.item ∷ items c) (tree.item ∷ [])) (sym none) (IsPermutation-refl (tree.item ∷ []))
-  taken_items tree (Some t) kept = IsPermutation-cons tree.item (items tree.kids.chain) (tree_items t) kept
+  taken_items tree (Some t) kept = IsPermutation-cons tree.item (items tree.kids) (tree_items t) kept
 
   -- its slot, and the slots of what was below it
-  pub taken_places : (tree : Tree X) (rest : Option (Tree X)) → MatchOption rest (tree.kids.chain ≡ end) (λ t. IsPermutation (places tree.kids.chain) (tree_places t))
-      → IsPermutation (tree_places tree) (tree.slot.ptr ∷ root_places rest)
-  taken_places tree None none = subst (λ c. IsPermutation (tree.slot.ptr ∷ places c) (tree.slot.ptr ∷ [])) (sym none) (IsPermutation-refl (tree.slot.ptr ∷ []))
-  taken_places tree (Some t) kept = IsPermutation-cons tree.slot.ptr (places tree.kids.chain) (tree_places t) kept
+  pub taken_places : (tree : Tree X) (rest : Option (Tree X)) → MatchOption rest (tree.kids ≡ end) (λ t. IsPermutation (places tree.kids) (tree_places t))
+      → IsPermutation (tree_places tree) (tree.ptr ∷ root_places rest)
+  taken_places tree None none = subst (λ c. IsPermutation (tree.ptr ∷ places c) (tree.ptr ∷ [])) (sym none) (IsPermutation-refl (tree.ptr ∷ []))
+  taken_places tree (Some t) kept = IsPermutation-cons tree.ptr (places tree.kids) (tree_places t) kept
 
   -- the item comes before none of what is left
   pub taken_least : (cmp : X → X → Ordering) (tree : Tree X) (rest : Option (Tree X)) → IsTree cmp tree
-      → MatchOption rest (tree.kids.chain ≡ end) (λ t. IsPermutation (items tree.kids.chain) (tree_items t)) → IsLeast cmp tree.item (root_items rest)
+      → MatchOption rest (tree.kids ≡ end) (λ t. IsPermutation (items tree.kids) (tree_items t)) → IsLeast cmp tree.item (root_items rest)
   taken_least cmp tree None ordered none = All-nil (AtMost cmp tree.item)
-  taken_least cmp tree (Some t) ordered kept = All-permutation (AtMost cmp tree.item) (items tree.kids.chain) (tree_items t) kept ordered.least
+  taken_least cmp tree (Some t) ordered kept = All-permutation (AtMost cmp tree.item) (items tree.kids) (tree_items t) kept ordered.least

@@ -9,16 +9,16 @@ use Rattle.pair_heap.specs.Heap.{IsHeap}
 
 -- the root's item and those below it
 abbrev pub tree_items : {X : Type 0} → Tree X → List X
-tree_items tree = tree.item ∷ items tree.kids.chain
+tree_items tree = tree.item ∷ items tree.kids
 
 -- the root's place and those below it
 abbrev pub tree_places : {X : Type 0} → Tree X → List Ptr
-tree_places tree = tree.slot.ptr ∷ places tree.kids.chain
+tree_places tree = tree.ptr ∷ places tree.kids
 
 -- the root's item is the least, and the trees below are in heap order
 pub record IsTree {X : Type 0} (cmp : X → X → Ordering) (tree : Tree X) : Type 0 where
-  pub least : IsLeast cmp tree.item (items tree.kids.chain)
-  pub heap : IsHeap cmp tree.kids.chain
+  pub least : IsLeast cmp tree.item (items tree.kids)
+  pub heap : IsHeap cmp tree.kids
 
 -- the items of a heap's only tree, where it has one
 abbrev pub root_items : {X : Type 0} → Option (Tree X) → List X

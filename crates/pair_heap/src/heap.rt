@@ -91,12 +91,7 @@ impl<T: Ord + Drop> PairHeap<T> {
         let Some(slot) = take_spare(&mut self.spares) else {
             unreachable!();
         };
-        let tree = Tree {
-            item,
-            slot,
-            kids: Trees::end(),
-        };
-        meld_in(&mut self.root, tree);
+        meld_in(&mut self.root, Tree::new(slot, item, Trees::end()));
         self.spare -= 1;
         self.len += 1;
     }
@@ -107,7 +102,7 @@ impl<T: Ord + Drop> PairHeap<T> {
     {
         match &self.root {
             None => None,
-            Some(tree) => Some(&tree.item),
+            Some(tree) => Some(tree.item()),
         }
     }
 

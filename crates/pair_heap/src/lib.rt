@@ -2,9 +2,10 @@
 //!
 //! Each item stands in a node of its own, linked to its first child and to the tree that follows it. A push is one
 //! comparison; a pop joins the root's children in two passes. Nodes come from the allocator 64 at a time, as a slab, by
-//! `reserve` alone, and their slots are counted as spares, so that a push can't fail. One type owns a chain of trees
-//! behind a raw pointer and is made by `link` and taken apart by `split`; a second one owns the spare slots, and a third
-//! one the slabs but for their slots. All else is safe code over trees in hand.
+//! `reserve` alone, and their slots are counted as spares, so that a push can't fail. A push writes its item into a
+//! slot, where it stays until its pop: a tree in hand is a pointer to its root's node, two trees are compared through
+//! references into their nodes, and melding them writes two links. One type owns a tree behind a raw pointer, one a chain
+//! of trees, one the spare slots, and one the slabs but for their slots. All else is safe code over trees in hand.
 //! Above: `rank_queue`. Below: `sand_base`, std. Contracts see a list, whose order says nothing, and the number of
 //! spare slots; read `specs/Least.antt` first, then `specs/Chain.antt`.
 //! After M. L. Fredman, R. Sedgewick, D. D. Sleator and R. E. Tarjan (1986), The pairing heap;

@@ -3,24 +3,22 @@ ghost use Rattle.pair_heap.specs.Chain.{end, items, places};
 ghost use Rattle.pair_heap.specs.Heap.{IsHeap};
 ghost use Rattle.pair_heap.specs.Tree.{IsTree, tree_items, tree_places};
 
-use crate::tree::{Tree, first_of};
+use crate::tree::Tree;
 use crate::trees::Trees;
-use std::mem::replace;
 
-// Melds the other tree into the one in place: the one of them whose item comes later becomes the other's first child.
+// One tree of both: the one of them whose item comes later becomes the other's first child.
 #[inline(always)]
-pub(crate) fn meld<T: Ord + Drop>(one: &mut Tree<T>, other: Tree<T>)
-    requires one { IsTree T.cmp one.old }
+pub(crate) fn meld<T: Ord + Drop>(one: Tree<T>, other: Tree<T>) -> Tree<T>
+    requires one { IsTree T.cmp one }
     requires other { IsTree T.cmp other }
-    ensures tree { IsTree T.cmp one.new }
-    ensures items { IsPermutation (tree_items one.old ++ tree_items other) (tree_items one.new) }
-    ensures slots { IsPermutation (tree_places one.old ++ tree_places other) (tree_places one.new) }
+    ensures tree { IsTree T.cmp result }
+    ensures items { IsPermutation (tree_items one ++ tree_items other) (tree_items result) }
+    ensures slots { IsPermutation (tree_places one ++ tree_places other) (tree_places result) }
 {
-    if one.item.cmp(&other.item).is_gt() {
-        let below = replace(one, other);
-        one.adopt(below);
+    if one.item().cmp(other.item()).is_gt() {
+        other.over(one)
     } else {
-        one.adopt(other);
+        one.over(other)
     }
 }
 
@@ -35,15 +33,14 @@ fn pair_up<T: Ord + Drop>(trees: Trees<T>) -> Trees<T>
     let mut rest = trees;
     let mut pairs = Trees::end();
     'pairs: loop {
-        let Some((mut one, others)) = first_of(rest) else {
+        let Some((one, others)) = rest.first() else {
             return pairs;
         };
-        let Some((other, others)) = first_of(others) else {
+        let Some((other, others)) = others.first() else {
             return one.before(pairs);
         };
         rest = others;
-        meld(&mut one, other);
-        pairs = one.before(pairs);
+        pairs = meld(one, other).before(pairs);
     }
 }
 
@@ -59,11 +56,11 @@ fn gather<T: Ord + Drop>(first: Tree<T>, trees: Trees<T>) -> Tree<T>
     let mut all = first;
     let mut rest = trees;
     'trees: loop {
-        let Some((next, others)) = first_of(rest) else {
+        let Some((next, others)) = rest.first() else {
             return all;
         };
         rest = others;
-        meld(&mut all, next);
+        all = meld(all, next);
     }
 }
 
@@ -74,7 +71,7 @@ pub(crate) fn join<T: Ord + Drop>(trees: Trees<T>) -> Option<Tree<T>>
     ensures items { MatchOption result (trees.chain ≡ end) (λ t. IsPermutation (items trees.chain) (tree_items t)) }
     ensures slots { MatchOption result (trees.chain ≡ end) (λ t. IsPermutation (places trees.chain) (tree_places t)) }
 {
-    let Some((first, rest)) = first_of(pair_up(trees)) else {
+    let Some((first, rest)) = pair_up(trees).first() else {
         return None;
     };
     Some(gather(first, rest))

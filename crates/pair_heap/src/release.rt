@@ -4,6 +4,7 @@ ghost use Rattle.pair_heap.specs.Slab.{all_slots};
 
 use crate::slab::Slabs;
 use crate::spare::Spares;
+use crate::tree::Tree;
 use crate::trees::Trees;
 use std::alloc::Global;
 
@@ -15,16 +16,17 @@ pub(crate) fn release<T: Drop>(trees: Trees<T>, spares: Spares<T>) -> Spares<T>
     let mut rest = trees;
     let mut all = spares;
     'nodes: loop {
-        let Some((item, slot, kids, beside)) = rest.split() else {
+        let Some((tree, beside)) = rest.first() else {
             return all;
         };
-        match kids.split() {
+        let (item, slot, kids) = tree.take();
+        match kids.first() {
             None => {
                 all = all.put(slot);
                 rest = beside;
             }
-            Some((child, place, below, others)) => {
-                rest = Trees::link(place, child, below, Trees::link(slot, item, others, beside));
+            Some((child, others)) => {
+                rest = child.before(Tree::new(slot, item, others).before(beside));
             }
         }
     }

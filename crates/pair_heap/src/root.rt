@@ -17,10 +17,11 @@ pub(crate) fn meld_in<T: Ord + Drop>(root: &mut Option<Tree<T>>, tree: Tree<T>)
     ensures items { IsPermutation (root_items root.old ++ tree_items tree) (root_items root.new) }
     ensures slots { IsPermutation (root_places root.old ++ tree_places tree) (root_places root.new) }
 {
-    match root {
-        None => end_none(replace(root, Some(tree))),
+    let whole = match replace(root, None) {
+        None => tree,
         Some(top) => meld(top, tree),
-    }
+    };
+    end_none(replace(root, Some(whole)));
 }
 
 // Takes the root's item, and makes one tree of its children's.
@@ -34,7 +35,7 @@ pub(crate) fn take_least<T: Ord + Drop>(root: &mut Option<Tree<T>>) -> Option<(T
     let Some(tree) = replace(root, None) else {
         return None;
     };
-    let Tree { item, slot, kids } = tree;
+    let (item, slot, kids) = tree.take();
     end_none(replace(root, join(kids)));
     Some((item, slot))
 }

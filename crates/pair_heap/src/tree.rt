@@ -1,55 +1,109 @@
-ghost use Rattle.std.specs.Prelude.{◌≡◌, MatchOption};
-ghost use Rattle.pair_heap.specs.Chain.{end, link};
+ghost use Rattle.std.specs.Prelude.{◌≡◌};
+ghost use Rattle.std.specs.Coded.{coded×};
+ghost use denote.RawPtr.{Ptr, coded_ptr};
+ghost use Rattle.pair_heap.specs.Chain.{Chain, end, link, chain_code};
+ghost use Rattle.pair_heap.specs.Ownership.{tree_owns, tree_lent};
 
+use crate::node::Node;
 use crate::slot::Slot;
 use crate::trees::Trees;
-use std::mem::replace;
+use std::marker::Model;
+use std::ptr::null_mut;
 
-// A tree in hand: its root's item, the slot that the item goes back into, and the chain of its children's trees.
+// A tree in hand, as a pointer to its root's node, in which the item stays. Of the node's two links the second is out of use.
 pub(crate) struct Tree<T> {
-    pub(crate) item: T,
-    pub(crate) slot: Slot<T>,
-    pub(crate) kids: Trees<T>,
+    pub(crate) ptr: *mut Node<T>,
+    pub(crate) ghost item: { T },
+    pub(crate) ghost kids: { Chain T } by { chain_code T.code },
+    ghost links: { Ptr × Ptr } by { coded× coded_ptr coded_ptr },
+}
+
+impl<T> Model for Tree<T> {
+    ghost also_owns = { λ t. tree_owns T.row t.links t.item t.kids t.ptr };
+
+    ghost also_shares = { λ t _ κ. tree_lent T.row t.links t.item t.ptr κ };
 }
 
 impl<T> Tree<T> {
+    // The tree of this item over these children. The item's node is made in the slot.
+    #[inline(always)]
+    pub(crate) fn new(slot: Slot<T>, item: T, kids: Trees<T>) -> Tree<T>
+        ensures item { result.item ≡ item }
+        ensures place { result.ptr ≡ slot.ptr }
+        ensures kids { result.kids ≡ kids.chain }
+    {
+        let Slot { ptr } = slot;
+        let Trees { ptr: child } = kids;
+        unsafe {
+            ptr.write(Node {
+                child,
+                next: null_mut(),
+                item,
+            });
+        }
+        Tree { ptr }
+    }
+
+    // The root's node.
+    #[inline(always)]
+    fn node(&self) -> &Node<T>
+        ensures { result.now.item ≡ self.now.item }
+    {
+        unsafe { &*self.ptr }
+    }
+
+    // The root's item, in its node.
+    #[inline(always)]
+    pub(crate) fn item(&self) -> &T
+        ensures { result.now ≡ self.now.item }
+    {
+        &self.node().item
+    }
+
     // The chain of this tree and then the rest.
     #[inline(always)]
     pub(crate) fn before(self, rest: Trees<T>) -> Trees<T>
-        ensures { result.chain ≡ link self.slot.ptr self.item self.kids.chain rest.chain }
+        ensures { result.chain ≡ link self.ptr self.item self.kids rest.chain }
     {
-        let Tree { item, slot, kids } = self;
-        Trees::link(slot, item, kids, rest)
+        let Tree { ptr } = self;
+        let Trees { ptr: next } = rest;
+        unsafe {
+            (*ptr).next = next;
+        }
+        Trees { ptr }
     }
 
-    // The other tree becomes the first child of this one.
+    // This tree with the other one as its first child.
     #[inline(always)]
-    pub(crate) fn adopt(&mut self, other: Tree<T>)
-        ensures item { self.new.item ≡ self.old.item }
-        ensures slot { self.new.slot ≡ self.old.slot }
-        ensures kids { self.new.kids.chain ≡ link other.slot.ptr other.item other.kids.chain self.old.kids.chain }
+    pub(crate) fn over(self, below: Tree<T>) -> Tree<T>
+        ensures item { result.item ≡ self.item }
+        ensures place { result.ptr ≡ self.ptr }
+        ensures kids { result.kids ≡ link below.ptr below.item below.kids self.kids }
     {
-        let kids = replace(&mut self.kids, Trees::end());
-        end_trees(replace(&mut self.kids, other.before(kids)));
+        let Tree { ptr } = self;
+        let Tree { ptr: child } = below;
+        unsafe {
+            (*child).next = (*ptr).child;
+            (*ptr).child = child;
+        }
+        Tree { ptr }
     }
-}
 
-// The first tree of the chain and the rest; None where there is none.
-#[inline(always)]
-pub(crate) fn first_of<T>(trees: Trees<T>) -> Option<(Tree<T>, Trees<T>)>
-    ensures { MatchOption result (trees.chain ≡ end) (λ r. trees.chain ≡ link r.0.slot.ptr r.0.item r.0.kids.chain r.1.chain) }
-{
-    let (item, slot, kids, rest) = trees.split()?;
-    Some((Tree { item, slot, kids }, rest))
-}
-
-// Ends a chain of no tree.
-#[inline(always)]
-fn end_trees<T>(trees: Trees<T>)
-    requires { trees.chain ≡ end }
-{
-    match trees.split() {
-        None => {}
-        Some((_item, _slot, _kids, _rest)) => unreachable!(),
+    // The root's item, the slot that it stood in, and its children.
+    #[inline(always)]
+    pub(crate) fn take(self) -> (T, Slot<T>, Trees<T>)
+        ensures item { result.0 ≡ self.item }
+        ensures place { result.1.ptr ≡ self.ptr }
+        ensures kids { result.2.chain ≡ self.kids }
+    {
+        let Tree { ptr } = self;
+        unsafe {
+            let Node {
+                child,
+                next: _,
+                item,
+            } = ptr.read();
+            (item, Slot { ptr }, Trees { ptr: child })
+        }
     }
 }

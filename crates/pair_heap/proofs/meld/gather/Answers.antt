@@ -7,10 +7,10 @@ use Rattle.pair_heap.proofs.meld.gather.Goals as goal
 -- the next tree goes into the one in hand
 pub trees-preserved : goal.trees-preserved
 trees-preserved g c = record {
-  all = c.meld.ensures.tree;
+  all = c.meld-all.ensures.tree;
   rest = (rw c.in-Some.ensures at c.trees.invariant.rest).2;
-  kept = gathered (tree_items c.args.first ++ items c.args.trees.chain) (tree_items c.trees.all) (tree_items c.in-Some.next) (items c.in-Some.others.chain) (tree_items c.meld.new.one)
-      (rw c.in-Some.ensures at c.trees.invariant.kept) c.meld.ensures.items;
-  slots = gathered (tree_places c.args.first ++ places c.args.trees.chain) (tree_places c.trees.all) (tree_places c.in-Some.next) (places c.in-Some.others.chain) (tree_places c.meld.new.one)
-      (rw c.in-Some.ensures at c.trees.invariant.slots) c.meld.ensures.slots;
+  kept = gathered (tree_items c.args.first ++ items c.args.trees.chain) (tree_items c.trees.all) (tree_items c.in-Some.next) (items c.in-Some.others.chain) (tree_items c.meld-all.result)
+      (rw c.in-Some.ensures at c.trees.invariant.kept) c.meld-all.ensures.items;
+  slots = gathered (tree_places c.args.first ++ places c.args.trees.chain) (tree_places c.trees.all) (tree_places c.in-Some.next) (places c.in-Some.others.chain) (tree_places c.meld-all.result)
+      (rw c.in-Some.ensures at c.trees.invariant.slots) c.meld-all.ensures.slots;
 }

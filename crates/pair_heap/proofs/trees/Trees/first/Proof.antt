@@ -1,4 +1,4 @@
--- `split` gives nothing at null, and else reads the node out of its slot, which is room from then on.
+-- `first` gives nothing at null, and else reads where the first tree's node leads on to.
 use Rattle.std.proofs.Common.{◌≡◌, List, [], ◌∷◌, ◌++◌, refl, ap, subst, ◌∙◌, lit<}
 use mir.Syntax.{a_type}
 use mir.Val.{Val, vcons, vnil}
@@ -7,10 +7,10 @@ use base.Logic.{SProp, emp, id⊢}
 use base.Fraction.{full_share}
 use base.Fml.{ftrue, flft}
 use prog.Wp.{WpFn}
-use types.Kit.{‵, raw, prop, at_ret, ◌⊛◌, ◌$◌, ◌∵◌, !, qed, by, move, keep, drop, split, fsplit, fjoin, fpick, join, use0, use1, rewrite, regoal}
-use types.Run.{stop, fld, lit, of_opd, bin, load, look, no_more, and_then, first, blocks, branches, skips, exec, returns, returns_within, enter}
+use types.Kit.{‵, raw, prop, at_ret, ◌⊛◌, ◌$◌, ◌∵◌, !, qed, by, move, keep, drop, split, fsplit, fjoin, fpick, use0, use1, use2, rewrite, regoal}
+use types.Run.{stop, fld, lit, of_opd, bin, load, no_more, and_then, first, blocks, branches, skips, exec, returns, returns_within, enter}
 use types.ByLocal.{alloc_all, pass_all, free_all, look_at, get, get_in, through, sets, sets_last, env}
-use types.Part.{agg, sub, whole}
+use types.Part.{agg, sub, whole, look_in}
 use types.Match.{live}
 use contract.Monad.{fact, fact_i}
 use contract.Running.{tables}
@@ -29,21 +29,22 @@ use Rattle.core.proofs.alloc.Shapes.{after}
 use Rattle.core.proofs.cell.Inside.{Good}
 use Rattle.core.proofs.option.Made.{Some-of, none_of}
 use Rattle.std.proofs.raw_atomic.Walks.{proved_at, leaves}
+use Rattle.std_alloc.proofs.Pairs.{pair_val, pair_of}
 use Rattle.std_alloc.proofs.ResultValues.{and_tt}
-use Rattle.pair_heap.proofs.Nodes.{R, N, SlotOf, word, word_told, word_typed, ptr_typed, node_val, node_with, node_typed, node_out, four_val, four_of, by_chain, slotted, emptied, worded}
+use Rattle.pair_heap.proofs.Nodes.{R, N, TreeOf, word, word_told, word_typed, ptr_typed, node_with, node_out, by_chain, treed, worded}
 use Rattle.pair_heap.specs.Chain.{end, link}
 use Rattle.pair_heap.specs.Ownership.{chain_owns}
 use Rattle.pair_heap.specs.contracts.trees.Trees as trees
-use Rattle.pair_heap.specs.contracts.trees.Trees.split.{ended, clauses}
-use Rattle.pair_heap.specs.contracts.trees.Trees.split.Key.{name as #self}
-use Rattle.pair_heap.proofs.trees.Trees.split.Statement.{statement}
-use Rattle.pair_heap.proofs.trees.Trees.split.Code as code
+use Rattle.pair_heap.specs.contracts.trees.Trees.first.{ended, clauses}
+use Rattle.pair_heap.specs.contracts.trees.Trees.first.Key.{name as #self}
+use Rattle.pair_heap.proofs.trees.Trees.first.Statement.{statement}
+use Rattle.pair_heap.proofs.trees.Trees.first.Code as code
 
-pub split_spec : {M : Type 1} → statement M
-split_spec 𝓤 𝓛 𝓜 𝓡 wired U L =
+pub first_spec : {M : Type 1} → statement M
+first_spec 𝓤 𝓛 𝓜 𝓡 wired U L =
     let H = 𝓛.H in let 𝓣 = tables 𝓤 H 𝓜 𝓡 𝓡.env in let En = ended U in let c = clauses U 𝓛 𝓜.mem 𝓡.returns in
-    let inst = layouts (a_type ∷ []) (U, tt) in let fn = inst_fn inst code.function in let Thing : RattleType = R U L in let Node : RattleType = N U L in let Slotted : RattleType = SlotOf U L in let Chained : RattleType = trees.the_row Thing in
-    let Four : RattleType = Tuple (Thing ∷ Slotted ∷ Chained ∷ Chained ∷ []) in
+    let inst = layouts (a_type ∷ []) (U, tt) in let fn = inst_fn inst code.function in let Thing : RattleType = R U L in let Node : RattleType = N U L in let Treed : RattleType = TreeOf U L in let Chained : RattleType = trees.the_row Thing in
+    let Two : RattleType = Tuple (Treed ∷ Chained ∷ []) in
     let hs : Stays En.signature.params En.kept = (stay_dropped (plain (λ _. Chained)) no, tt) in
     proved_at 𝓛 En hs c 𝓜 𝓡
     (Goes-blank 𝓛 1 (plain (λ _. Chained)) no (λ κs x f. tt), tt)
@@ -63,7 +64,7 @@ split_spec 𝓤 𝓛 𝓜 𝓡 wired U L =
     sets ! (bin ! (get ! refl) (lit ! tt) tt) refl (tt, tt) $ first ! $ branches ! (get ! refl)
     (λ _. sets ! (agg ! (and_then ! (lit ! tt) (no_more !))) refl (tt, (record { fits = lit< tt }, tt)) $
     returns_within ! Post refl (look_at ! 0 refl) $ free_all ! refl $
-    use0 𝓛 (‵ (Out.own_val None (live 0 vnil ∷ []))) (none_of 𝓛 Four) $ use0 𝓛 (raw (fact 𝓤 (me.chain ≡ end))) (fact_i 𝓤 (me.chain ≡ end) (emp 𝓤) none) $
+    use0 𝓛 (‵ (Out.own_val None (live 0 vnil ∷ []))) (none_of 𝓛 Two) $ use0 𝓛 (raw (fact 𝓤 (me.chain ≡ end))) (fact_i 𝓤 (me.chain ≡ end) (emp 𝓤) none) $
     nothing ! $ nothing ! $ fjoin ! $
     -- [nothing of the parameters; the fact; None; nothing; nothing; the lifetimes; the bound]
     keep ! (5 ∷ 0 ∷ 2 ∷ 1 ∷ []) $ by ! (leaves 𝓛 En hs c z (live 0 vnil) None (tt, tt) (tt, tt)))
@@ -76,30 +77,22 @@ split_spec 𝓤 𝓛 𝓜 𝓡 wired U L =
     sets ! (of_opd ! (get_in ! (fld ! refl (stop !)) (sub ! 0 refl (whole !)))) refl (ptr_typed (block_ptr b o)) $
     sets ! (bin ! (get ! refl) (lit ! tt) (tests_null (block_ptr b o) test)) refl (tt, tt) $ first ! $ branches ! (get ! refl) (λ wrong. absurd wrong)
     (λ _. skips ! $ exec ! 𝓣.C 𝓣.Λ Ev (after 3 fn.body) (at_ret Ev Post) $ first ! $ blocks ! $
-    sets ! (of_opd ! (load ! (through ! refl (stop !)) (look ! 0 refl))) refl (node_typed U L s.0 s.1 v good) $
-    sets ! (of_opd ! (get_in ! (fld ! refl (stop !)) (sub ! 0 refl (whole !)))) refl (ptr_typed s.0) $
-    sets ! (of_opd ! (get_in ! (fld ! refl (stop !)) (sub ! 1 refl (whole !)))) refl (ptr_typed s.1) $
-    sets ! (of_opd ! (get_in ! (fld ! refl (stop !)) (sub ! 2 refl (whole !)))) refl good $
-    let taken : Val = four_val v (word (block_ptr b o)) (word s.0) (word s.1) in
-    let whole_typed : Good (layout Four) taken = as_fields (layout Thing ∷ layout Slotted ∷ layout Chained ∷ layout Chained ∷ []) (v ∷ word (block_ptr b o) ∷ word s.0 ∷ word s.1 ∷ [])
-    (good, (word_typed (block_ptr b o), (word_typed s.0, (word_typed s.1, tt)))) in
+    sets ! (of_opd ! (load ! (through ! refl (fld ! refl (stop !))) (look_in ! 0 (sub ! 1 refl (whole !))))) refl (ptr_typed s.1) $
+    let taken : Val = pair_val (word (block_ptr b o)) (word s.1) in
+    let whole_typed : Good (layout Two) taken = as_fields (layout Treed ∷ layout Chained ∷ []) (word (block_ptr b o) ∷ word s.1 ∷ []) (word_typed (block_ptr b o), (word_typed s.1, tt)) in
     let some_typed : Good (layout Out) (live 1 (vcons taken vnil)) = (and_tt _ whole_typed.0, (record { fits = lit< tt }, (whole_typed.1, tt))) in
-    let d : Four.Denot = (x, record { ptr = block_ptr b o }, record { ptr = s.0; chain = kids }, record { ptr = s.1; chain = rest }) in
-    sets ! (of_opd ! (get ! refl)) refl good $
+    let d : Two.Denot = (record { ptr = block_ptr b o; item = x; kids = kids; links = s }, record { ptr = s.1; chain = rest }) in
     sets ! (agg ! (and_then ! (get ! refl) (no_more !))) refl (word_typed (block_ptr b o)) $
-    sets ! (agg ! (and_then ! (get ! refl) (no_more !))) refl (word_typed s.0) $
     sets ! (agg ! (and_then ! (get ! refl) (no_more !))) refl (word_typed s.1) $
-    sets ! (agg ! (and_then ! (get ! refl) (and_then ! (get ! refl) (and_then ! (get ! refl) (and_then ! (get ! refl) (no_more !)))))) refl whole_typed $
+    sets ! (agg ! (and_then ! (get ! refl) (and_then ! (get ! refl) (no_more !)))) refl whole_typed $
     sets_last ! (agg ! (and_then ! (lit ! tt) (and_then ! (get ! refl) (no_more !)))) refl some_typed $
     exec ! 𝓣.C 𝓣.Λ Ev (after 4 fn.body) (at_ret Ev Post) $ sets ! (of_opd ! (get ! refl)) refl some_typed $
-    returns ! (look_at ! 0 refl) $ free_all ! refl $ emptied U L ! b o (node_val U L s.0 s.1 v) $
-    slotted U L ! b o test $
-    -- [the slot; the item; the two chains; nothing; the lifetimes; the bound]
-    move ! (2 ∷ []) $ fsplit ! $ worded U L ! s.0 (chain_owns Thing kids s.0) $ move ! (1 ∷ []) $ worded U L ! s.1 (chain_owns Thing rest s.1) $
-    -- [the rest; the children; the slot; the item; nothing; the lifetimes; the bound]
-    move ! (1 ∷ 0 ∷ []) $ join ! $ move ! (1 ∷ 0 ∷ []) $ join ! $ move ! (1 ∷ 0 ∷ []) $ join ! $
-    use1 𝓛 (‵ (Four.own_val d (taken ∷ []))) (four_of 𝓛 Thing Slotted Chained Chained d.0 d.1 d.2 d.3 v (word (block_ptr b o)) (word s.0) (word s.1)) $
-    use1 𝓛 (‵ (Out.own_val (Some d) (live 1 (vcons taken vnil) ∷ []))) (Some-of 𝓛 Four d taken) $
+    returns ! (look_at ! 0 refl) $ free_all ! refl $
+    -- [the node's cell; the item; the two chains; nothing; the lifetimes; the bound]
+    move ! (2 ∷ []) $ fsplit ! $ move ! (1 ∷ []) $ worded U L ! s.1 (chain_owns Thing rest s.1) $ move ! (2 ∷ 3 ∷ 1 ∷ []) $ treed U L ! s.0 s.1 x v kids b o test $
+    -- [the tree; the rest; nothing; the lifetimes; the bound]
+    use2 𝓛 (‵ (Two.own_val d (taken ∷ []))) (pair_of 𝓛 Treed Chained d.0 d.1 (word (block_ptr b o)) (word s.1)) $
+    use1 𝓛 (‵ (Out.own_val (Some d) (live 1 (vcons taken vnil) ∷ []))) (Some-of 𝓛 Two d taken) $
     use0 𝓛 (raw (fact 𝓤 (me.chain ≡ link (block_ptr b o) x kids rest))) (fact_i 𝓤 (me.chain ≡ link (block_ptr b o) x kids rest) (emp 𝓤) (linked ∙ ap (λ p. link p x kids rest) (same ∙ at_block))) $
     nothing ! $ nothing ! $ fjoin ! $
     -- [nothing of the parameters; the fact; the result; nothing; the lifetimes; the bound]
