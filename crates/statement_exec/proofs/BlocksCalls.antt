@@ -25,12 +25,15 @@ use Rattle.sand_model.specs.Tree.{leaves, root_block}
 use Rattle.sand_store.specs.Calls.{refusal_of}
 use Rattle.sand_store.specs.Catalog.{CatalogView}
 use Rattle.output_text.specs.Writing.{WritesPrefix}
+use Rattle.statement_exec.specs.Deciding.{ComesBehind}
 use Rattle.statement_exec.specs.Ending.{Reads, WritesUpTo}
 use Rattle.statement_exec.specs.LeafLines.{state_of, HasTree, LacksTree, IsOfCheck}
 use Rattle.statement_exec.specs.LeafWalk.{Leaves, lines_of, AreFirst, WritesAll, WritesSome, BreaksSome}
 use Rattle.statement_exec.specs.Moment.{beside, rises_between}
 use Rattle.statement_exec.specs.Printing.{PrintsSome}
 use Rattle.statement_exec.proofs.CausedLines.{HasItsCause, caused_plain, caused_behind, caused_refusal, caused_inside, check_blames_none, page_cause}
+use Rattle.statement_exec.proofs.Decided.{by_early, by_passing}
+use Rattle.statement_exec.proofs.DecidedCalls.{outline_in}
 use Rattle.statement_exec.proofs.Outcomes.{outcome_done, outcome_early}
 use Rattle.statement_exec.proofs.Refusals.{caused, rose}
 use Rattle.statement_exec.proofs.Texts.{breaks_with, writes_none}
@@ -50,7 +53,10 @@ module _ (catalog : CatalogView) (column : Column) (old new : PoolState) (read :
   blocks_done : (tree : Pmr) (visited : Leaves) → HasTree catalog column tree old.pages → (IsTold old → leaves root_block (tree_at old.pages tree) ≡ visited)
       → Reads (Blocks column) catalog old new (lines_of visited)
   blocks_done tree visited h all = λ cursors files shelf. (
-    caused_plain (beside cursors catalog old files shelf) (beside cursors catalog new files shelf) (lines_of visited) (none_refused visited),
+    (
+      caused_plain (beside cursors catalog old files shelf) (beside cursors catalog new files shelf) (lines_of visited) (none_refused visited),
+      λ setting s. (by_passing setting (state_of catalog old.pages cursors) (Blocks column) (lines_of visited) (h.passes setting cursors) (inl (none_refused visited)), outline_in catalog new.pages old.pages cursors),
+    ),
     λ told disk few setting s.
         let lines : lines_of visited ≡ leaf_lines h.relation column.column = sym (h.lines ∙ ap lines_of (all told)) in
         outcome_done setting (rises cursors files shelf) (state_of catalog old.pages cursors) (Blocks column) (lines_of visited) (state_of catalog new.pages cursors)
@@ -66,16 +72,29 @@ module _ (catalog : CatalogView) (column : Column) (old new : PoolState) (read :
   licensed cursors files shelf setting (page.Damaged n kept read') c t l e =
       let d : IsDamage new n kept read' = c.damaged in absurd (true≢false (sym (read.told ∙ t) ∙ d.untold))
 
+  -- it comes behind the early checks
+  page_comes : (fault : PageFault) → ComesBehind (Blocks column) (refusal_of fault)
+  page_comes page.Memory = tt
+  page_comes page.Device = refl
+  page_comes (page.Damaged n kept read') = refl
+
   -- the first leaves, and a refusal that may come
-  blocks_stopped : (tree : Pmr) (visited : Leaves) (w : Refusal)
+  blocks_stopped : (tree : Pmr) (visited : Leaves) (w : Refusal) → ComesBehind (Blocks column) w
       → ((cursors : List Cursor) (files : Option Files) (shelf : ℕ) → HasItsCause (beside cursors catalog old files shelf) (beside cursors catalog new files shelf) w)
       → HasTree catalog column tree old.pages → (IsTold old → AreFirst (leaves root_block (tree_at old.pages tree)) visited)
       → ((cursors : List Cursor) (files : Option Files) (shelf : ℕ) (setting : Setting) → IsTold old → new.disk.faults < last_count
       → IsLicensed setting (rises cursors files shelf) (state_of catalog old.pages cursors) (Blocks column) w)
       → Reads (Blocks column) catalog old new (lines_of visited ++ Refused w ∷ [])
-  blocks_stopped tree visited w caused h first may = λ cursors files shelf. (
-    caused_behind (beside cursors catalog old files shelf) (beside cursors catalog new files shelf) (lines_of visited) (Refused w ∷ []) (none_refused visited)
-        (caused_refusal (beside cursors catalog old files shelf) (beside cursors catalog new files shelf) w (caused cursors files shelf)),
+  blocks_stopped tree visited w comes caused h first may = λ cursors files shelf. (
+    (
+      caused_behind (beside cursors catalog old files shelf) (beside cursors catalog new files shelf) (lines_of visited) (Refused w ∷ []) (none_refused visited)
+          (caused_refusal (beside cursors catalog old files shelf) (beside cursors catalog new files shelf) w (caused cursors files shelf)),
+      λ setting s. (
+        by_passing setting (state_of catalog old.pages cursors) (Blocks column) (lines_of visited ++ Refused w ∷ []) (h.passes setting cursors)
+            (inr (lines_of visited, w, none_refused visited, comes, refl)),
+        outline_in catalog new.pages old.pages cursors,
+      ),
+    ),
     λ told disk few setting s.
         let f : AreFirst (leaves root_block (tree_at old.pages tree)) visited = first told in
         let split : leaf_lines h.relation column.column ≡ lines_of visited ++ lines_of f.rest =
@@ -100,14 +119,14 @@ module _ (catalog : CatalogView) (column : Column) (old new : PoolState) (read :
     lines = lines_of k.visited;
     written = k.written;
     accepted = none_refused k.visited;
-    holds = blocks_stopped tree k.visited (refusal_of fault) (λ cursors files shelf. page_cause cursors cursors catalog catalog old new read.told files files shelf shelf {T = T} fault cause) h k.first
+    holds = blocks_stopped tree k.visited (refusal_of fault) (page_comes fault) (λ cursors files shelf. page_cause cursors cursors catalog catalog old new read.told files files shelf shelf {T = T} fault cause) h k.first
         (λ cursors files shelf setting told disk. licensed {T = T} cursors files shelf setting fault cause told disk (h.passes setting cursors));
   }
 
   pub broken_off : (tree : Pmr) (a b : List ℕ → Type 0) → HasTree catalog column tree old.pages → BreaksSome (IsTold old) (leaves root_block (tree_at old.pages tree)) a b
       → WritesPrefix (PrintsSome (Reads (Blocks column) catalog old new)) a b
   broken_off tree a b h k =
-      breaks_with (Reads (Blocks column) catalog old new) a b (lines_of k.visited) why.Memory (blocks_stopped tree k.visited why.Memory (λ cursors files shelf. tt) h k.first (λ cursors files shelf setting told disk. tt)) k.broken
+      breaks_with (Reads (Blocks column) catalog old new) a b (lines_of k.visited) why.Memory (blocks_stopped tree k.visited why.Memory tt (λ cursors files shelf. tt) h k.first (λ cursors files shelf setting told disk. tt)) k.broken
 
 -- an early check refuses
 pub up_to_check : (catalog : CatalogView) (column : Column) (old : PoolState) (a : List ℕ → Type 0) (w : Refusal) → LacksTree catalog column w old.pages → IsOfCheck w
@@ -117,7 +136,10 @@ up_to_check catalog column old a w h o = record {
   written = writes_none a;
   accepted = refl;
   holds = λ cursors files shelf. (
-    caused_inside (beside cursors catalog old files shelf) (beside cursors catalog old files shelf) w (check_blames_none w o),
+    (
+      caused_inside (beside cursors catalog old files shelf) (beside cursors catalog old files shelf) w (check_blames_none w o),
+      λ setting s. (by_early setting (state_of catalog old.pages cursors) (Blocks column) w (h setting cursors), refl),
+    ),
     λ told disk few setting s.
         outcome_early setting (rises_between (beside cursors catalog old files shelf) (beside cursors catalog old files shelf)) (state_of catalog old.pages cursors) (Blocks column) (Refused w ∷ []) (state_of catalog old.pages cursors)
         w (h setting cursors) (caused (rises_between (beside cursors catalog old files shelf) (beside cursors catalog old files shelf)) w o) (refl, refl),

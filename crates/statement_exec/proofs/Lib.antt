@@ -7,6 +7,10 @@ pub mod CausedLines
 pub mod PlanChecks
 -- a setting of any store
 pub mod SomeSetting
+-- what the checks decide that need no page
+pub mod Outlines
+pub mod Decided
+pub mod DecidedCalls
 -- what the calls of a store do
 pub mod StoreCalls
 -- a load

@@ -13,12 +13,13 @@ use Rattle.sand_model.specs.Outcome.{Rises, Outcome}
 use Rattle.sand_model.specs.Statement.{Statement, Load}
 use Rattle.sand_model.specs.StatementChecks.{Setting, IsSetting, early, late, entered, file_rows, in_relation}
 use Rattle.sand_store.proofs.SchemaRows.{loaded_entered}
-use Rattle.sand_store.specs.Calls.{Refuses, HasCause, IsUnchanged, Loaded, LoadIsRefusedBy, loaded, load_early, load_late, alone, is_of_a_row}
+use Rattle.sand_store.specs.Calls.{Refuses, HasCause, IsUnchanged, Loaded, LoadIsRefusedBy, IsRefusedPlainly, loaded, load_early, load_late, alone, is_of_a_row}
 use Rattle.sand_store.specs.Catalog.{StoreState}
 use Rattle.sand_store.specs.Contents.{database}
 use Rattle.statement_exec.specs.Loading.{LoadOf, Yields, InSettings, IsOfNoPage, IsRefusedEarly, shelf_at}
 use Rattle.statement_exec.specs.Moment.{moment_of, rises_between}
 use Rattle.statement_exec.specs.Performing.{Performs}
+use Rattle.statement_exec.proofs.DecidedCalls.{loaded_decides, refused_rows_decide, unloaded_decides}
 use Rattle.statement_exec.proofs.LoadChecks.{setting_with}
 use Rattle.statement_exec.proofs.Outcomes.{outcome_done, outcome_outside, outcome_early}
 use Rattle.statement_exec.proofs.Refusals.{refused, allowed, rose, Never, never_relation, no_file}
@@ -74,7 +75,10 @@ module _ (old new : StoreState) (load : LoadOf) (files files' : Option Files) (s
   pub loaded_call : (rows : List (List Value)) (count : ℕ) → InSettings old.catalog files (λ setting state. Yields setting state load rows)
       → Loaded old new load.relation rows count → Performs (load_statement load) (moment_of old files shelf) (moment_of new files' shelf') (LoadedLine count ∷ [])
   loaded_call rows count given h = (
-    caused_plain (moment_of old files shelf) (moment_of new files' shelf') (LoadedLine count ∷ []) refl,
+    (
+      caused_plain (moment_of old files shelf) (moment_of new files' shelf') (LoadedLine count ∷ []) refl,
+      loaded_decides old new load files files' shelf shelf' rows given count h,
+    ),
     λ told disk few setting s.
         let own : Setting = record setting { files = given.0 } in
         let is : IsSetting own = setting_with setting given.0 s.is in
@@ -97,11 +101,14 @@ module _ (old new : StoreState) (load : LoadOf) (files files' : Option Files) (s
 
   -- a row was refused, or the outside refused
   pub refused_load : {T : Type 0} (rows : List (List Value)) (w : Refusal) → InSettings old.catalog files (λ setting state. Yields setting state load rows)
-      → LoadIsRefusedBy old load.relation rows w → IsUnchanged old new → HasCause {T = T} old.pool new.pool (Err w)
+      → LoadIsRefusedBy old load.relation rows w → IsRefusedPlainly old load.relation rows w → IsUnchanged old new → HasCause {T = T} old.pool new.pool (Err w)
       → Performs (load_statement load) (moment_of old files shelf) (moment_of new files' shelf') (Refused w ∷ [])
-  refused_load {T} rows w given h same cause = (
-    caused_refusal (moment_of old files shelf) (moment_of new files' shelf') w
-        (pools_cause [] [] old.catalog new.catalog old.pool new.pool same.told files files' shelf shelf' {T = T} w cause (not_of_file old load.relation rows w h)),
+  refused_load {T} rows w given h plain same cause = (
+    (
+      caused_refusal (moment_of old files shelf) (moment_of new files' shelf') w
+          (pools_cause [] [] old.catalog new.catalog old.pool new.pool same.told files files' shelf shelf' {T = T} w cause (not_of_file old load.relation rows w h)),
+      refused_rows_decide old new load files files' shelf shelf' rows given w h plain same,
+    ),
     λ told disk few setting s.
         let own : Setting = record setting { files = given.0 } in
         let y : Yields own (alone (database old)) load rows = given.2 old.pool shelf setting s in
@@ -139,7 +146,10 @@ module _ (old : StoreState) (load : LoadOf) (files files' : Option Files) (shelf
   pub refused_early : (w : Refusal) → InSettings old.catalog files (λ setting state. IsRefusedEarly setting state load w) → shelf' ≡ shelf_at shelf w → IsOfNoPage w
       → Performs (load_statement load) (moment_of old files shelf) (moment_of old files' shelf') (Refused w ∷ [])
   refused_early w given counted none = (
-    caused_refusal (moment_of old files shelf) (moment_of old files' shelf') w (by_shelf w counted none),
+    (
+      caused_refusal (moment_of old files shelf) (moment_of old files' shelf') w (by_shelf w counted none),
+      unloaded_decides old load files files' shelf shelf' w given,
+    ),
     λ told disk few setting s. (given.0, given.1, by_refusal (record setting { files = given.0 }) w (given.2 old.pool shelf setting s) counted few),
   ) where
     by_shelf : (v : Refusal) → shelf' ≡ shelf_at shelf v → IsOfNoPage v → HasItsCause (moment_of old files shelf) (moment_of old files' shelf') v

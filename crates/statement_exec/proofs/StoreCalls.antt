@@ -19,9 +19,11 @@ use Rattle.sand_store.specs.Calls.{HasCause, IsUnchanged, IsRefusedBy, Created, 
 use Rattle.sand_store.specs.Catalog.{StoreState}
 use Rattle.sand_store.specs.Contents.{database}
 use Rattle.page_pool.specs.Pool.{IsTold}
+use Rattle.statement_exec.specs.Deciding.{ComesBehind}
 use Rattle.statement_exec.specs.Moment.{moment_of, rises_between}
 use Rattle.statement_exec.specs.Performing.{Changes}
 use Rattle.statement_exec.specs.declared.reply.Reply.TheVariants as reply
+use Rattle.statement_exec.proofs.DecidedCalls.{created_decides, inserted_decides, deleted_decides, indexed_decides, refused_decides}
 use Rattle.statement_exec.proofs.Outcomes.{outcome_done, outcome_over}
 use Rattle.statement_exec.proofs.CausedLines.{caused_plain, caused_refusal, pools_cause}
 use Rattle.statement_exec.proofs.SomeSetting.{some_setting, is_some_setting}
@@ -30,7 +32,10 @@ use Rattle.statement_exec.proofs.Refusals.{refused, allowed, no_file, Never, nev
 pub created : (old new : StoreState) (name : List ℕ) (schema : List (List ℕ × Kind)) → Created old new name schema
     → Changes (Create name schema) old new (Ok reply.Accepted)
 created old new name schema h = λ files shelf. (
-  caused_plain (moment_of old files shelf) (moment_of new files shelf) (Accepted ∷ []) refl,
+  (
+    caused_plain (moment_of old files shelf) (moment_of new files shelf) (Accepted ∷ []) refl,
+    created_decides old new files shelf name schema h,
+  ),
   λ told disk few setting s.
       let p = h.passes setting s.is s.limits in
       outcome_done setting (rises_between (moment_of old files shelf) (moment_of new files shelf)) (alone (database old)) (Create name schema) (Accepted ∷ []) (alone (database new))
@@ -40,7 +45,10 @@ created old new name schema h = λ files shelf. (
 pub inserted : (old new : StoreState) (name : List ℕ) (row : List Value) (id : ℕ) → Inserted old new name row id
     → Changes (Insert name row) old new (Ok (reply.Id id))
 inserted old new name row id h = λ files shelf. (
-  caused_plain (moment_of old files shelf) (moment_of new files shelf) (Id id ∷ []) refl,
+  (
+    caused_plain (moment_of old files shelf) (moment_of new files shelf) (Id id ∷ []) refl,
+    inserted_decides old new files shelf name row id h,
+  ),
   λ told disk few setting s.
       let p = h.passes setting s.is s.limits in
       outcome_done setting (rises_between (moment_of old files shelf) (moment_of new files shelf)) (alone (database old)) (Insert name row) (Id id ∷ []) (alone (database new))
@@ -50,7 +58,10 @@ inserted old new name row id h = λ files shelf. (
 pub deleted : (old new : StoreState) (name : List ℕ) (id : ℕ) → Deleted old new name id
     → Changes (Delete name id) old new (Ok reply.Accepted)
 deleted old new name id h = λ files shelf. (
-  caused_plain (moment_of old files shelf) (moment_of new files shelf) (Accepted ∷ []) refl,
+  (
+    caused_plain (moment_of old files shelf) (moment_of new files shelf) (Accepted ∷ []) refl,
+    deleted_decides old new files shelf name id h,
+  ),
   λ told disk few setting s.
       let p = h.passes setting s.is s.limits in
       outcome_done setting (rises_between (moment_of old files shelf) (moment_of new files shelf)) (alone (database old)) (Delete name id) (Accepted ∷ []) (alone (database new))
@@ -60,7 +71,10 @@ deleted old new name id h = λ files shelf. (
 pub indexed : (old new : StoreState) (column : Column) (threshold : Option ℕ) → Indexed old new column threshold
     → Changes (Index column threshold) old new (Ok reply.Accepted)
 indexed old new column threshold h = λ files shelf. (
-  caused_plain (moment_of old files shelf) (moment_of new files shelf) (Accepted ∷ []) refl,
+  (
+    caused_plain (moment_of old files shelf) (moment_of new files shelf) (Accepted ∷ []) refl,
+    indexed_decides old new files shelf column threshold h,
+  ),
   λ told disk few setting s.
       let p = h.passes setting s.is s.limits in
       outcome_done setting (rises_between (moment_of old files shelf) (moment_of new files shelf)) (alone (database old)) (Index column threshold) (Accepted ∷ []) (alone (database new))
@@ -73,10 +87,13 @@ same_database old new h told = rw (h.catalog, h.pages told) refl
 
 -- a refusal of a call is one of its statement
 pub refused_call : {T : Type 0} (old new : StoreState) (statement : Statement) (is_late : Refusal → Bool) (w : Refusal) → uses_pages statement ≡ true
-    → is_late why.File ≡ false → ((setting : Setting) → Never (early_at setting old statement)) → IsUnchanged old new
+    → is_late why.File ≡ false → ((setting : Setting) → Never (early_at setting old statement)) → ((r : Refusal) → is_late r ≡ true → ComesBehind statement r) → IsUnchanged old new
     → IsRefusedBy is_late old statement w → HasCause {T = T} old.pool new.pool (Err w) → Changes statement old new (Err w)
-refused_call {T} old new statement is_late w uses late_file never same h cause = λ files shelf. (
-  caused_refusal (moment_of old files shelf) (moment_of new files shelf) w (pools_cause [] [] old.catalog new.catalog old.pool new.pool same.told files files shelf shelf {T = T} w cause (by_setting (some_setting old) (is_some_setting old) refl)),
+refused_call {T} old new statement is_late w uses late_file never may same h cause = λ files shelf. (
+  (
+    caused_refusal (moment_of old files shelf) (moment_of new files shelf) w (pools_cause [] [] old.catalog new.catalog old.pool new.pool same.told files files shelf shelf {T = T} w cause (by_setting (some_setting old) (is_some_setting old) refl)),
+    refused_decides old new files shelf statement is_late w uses may same h,
+  ),
   λ told disk few setting s.
       let told' : IsTold new.pool = same.told ∙ told in
       let rises : Rises = rises_between (moment_of old files shelf) (moment_of new files shelf) in

@@ -2,6 +2,9 @@
 pub mod Moment
 -- The causes of lines that blame the outside.
 pub mod Causes
+-- What is decided without a page.
+pub mod Outline
+pub mod Deciding
 -- What carrying one out does, and what is printed of it.
 pub mod Performing
 pub mod Printing

@@ -1,4 +1,4 @@
--- What carrying a statement out does: the outcome of the model, where the disk tells its pages and no count of faults is at its end; and lines that have their causes, over any disk. The shelf may be any: a load over one that doesn't tell its data files has the outcome of some files.
+-- What carrying a statement out does: the outcome of the model, where the disk tells its pages and no count of faults is at its end; and over any disk lines that have their causes and are decided by the checks that need no page. The shelf may be any: a load over one that doesn't tell its data files has the outcome of some files.
 use Rattle.std.specs.Prelude.{ℕ, ◌<◌, IsTrue, List, [], ◌∷◌, Option, Result, Ok, Err}
 use Rattle.sand_base.specs.Faults.{last_count}
 use Rattle.sand_base.specs.Shelf.{Files}
@@ -9,7 +9,9 @@ use Rattle.sand_model.specs.Statement.{Statement, Load}
 use Rattle.sand_model.specs.StatementChecks.{Setting}
 use Rattle.sand_store.specs.Catalog.{StoreState}
 use Rattle.statement_exec.specs.Causes.{AreCaused}
+use Rattle.statement_exec.specs.Deciding.{Decides}
 use Rattle.statement_exec.specs.Moment.{AreTold, Moment, moment_of, rises_between, IsSettingOf}
+use Rattle.statement_exec.specs.Outline.{outline_of}
 use Rattle.statement_exec.specs.declared.reply.Reply.{Reply}
 use Rattle.statement_exec.specs.declared.reply.Reply.TheVariants as reply
 
@@ -19,10 +21,18 @@ ShelfOutcome files setting rises old (Load relation file header) lines new =
     (found : Files) × AreTold files found × Outcome (record setting { files = found }) rises old (Load relation file header) lines new
 ShelfOutcome files setting rises old statement lines new = Outcome setting rises old statement lines new
 
--- the statement led from one moment to another and gave these lines, which have their causes, as the outcome of the model says, in every setting of the first
+-- in every setting of the first moment the lines are such as the checks decide in its outline, and the outline of the other moment follows from them
+abbrev pub IsDecided : Statement → Moment → Moment → List OutputLine → Type 0
+IsDecided statement old new lines = (setting : Setting) → IsSettingOf old setting → Decides old.files setting (outline_of old.state) statement lines (outline_of new.state)
+
+-- the lines have their causes and are decided, over any disk
+abbrev pub PerformsAnywhere : Statement → Moment → Moment → List OutputLine → Type 0
+PerformsAnywhere statement old new lines = AreCaused old new lines × IsDecided statement old new lines
+
+-- the statement led from one moment to another and gave these lines, over any disk, and as the outcome of the model says, in every setting of the first
 abbrev pub Performs : Statement → Moment → Moment → List OutputLine → Type 0
 Performs statement old new lines =
-    AreCaused old new lines × (IsTrue old.told → new.disk < last_count → new.shelf < last_count → (setting : Setting) → IsSettingOf old setting
+    PerformsAnywhere statement old new lines × (IsTrue old.told → new.disk < last_count → new.shelf < last_count → (setting : Setting) → IsSettingOf old setting
     → ShelfOutcome old.files setting (rises_between old new) old.state statement lines new.state)
 
 -- the line of a reply

@@ -2,6 +2,7 @@
 use Rattle.std.proofs.Common.{ℕ, List, refl, subst}
 use Rattle.sand_model.specs.Statement.{Delete}
 use Rattle.sand_store.specs.Calls.{IsRefusedBy, is_missing}
+use Rattle.statement_exec.proofs.DecidedCalls.{late_delete}
 use Rattle.statement_exec.proofs.StoreCalls.{deleted, refused_call, never_delete}
 use Rattle.statement_exec.proofs.deleting.delete.Goals as goal
 
@@ -10,5 +11,5 @@ returns-in-Ok-clause-performs g c = deleted c.args.store.now c.delete.new.self c
 
 pub returns-in-Err-clause-performs : goal.returns-in-Err-clause-performs
 returns-in-Err-clause-performs g c =
-    refused_call c.args.store.now c.delete.new.self (Delete c.args.name.now c.args.id) is_missing c.in-Err.why refl refl (never_delete c.args.store.now c.args.name.now c.args.id)
+    refused_call c.args.store.now c.delete.new.self (Delete c.args.name.now c.args.id) is_missing c.in-Err.why refl refl (never_delete c.args.store.now c.args.name.now c.args.id) (late_delete c.args.name.now c.args.id)
     c.in-Err.ensures.unchanged (subst (λ (n : List ℕ). IsRefusedBy is_missing c.args.store.now (Delete n c.args.id) c.in-Err.why) c.as_str.ensures c.in-Err.ensures.refused) c.in-Err.ensures.cause

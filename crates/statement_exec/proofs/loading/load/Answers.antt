@@ -1,6 +1,6 @@
 -- the rows, or no rows, are the outcome
 use Rattle.std.proofs.Common.{ℕ, List, subst, ◌∙◌}
-use Rattle.sand_store.specs.Calls.{Loaded, LoadIsRefusedBy}
+use Rattle.sand_store.specs.Calls.{Loaded, LoadIsRefusedBy, IsRefusedPlainly}
 use Rattle.sand_store.specs.Catalog.{CatalogView}
 use Rattle.statement_exec.specs.Loading.{LoadOf, InSettings, Yields, IsRefusedEarly}
 use Rattle.statement_exec.proofs.FileFaults.{untouched}
@@ -32,6 +32,7 @@ returns-in-Err-load_rows-clause-performs g c =
     c.in-Ok.rows.items c.in-Err-load_rows.why
     (subst (λ (catalog : CatalogView). InSettings catalog (g.H.Shelf.files c.args.shelf.now) (λ setting state. Yields setting state load c.in-Ok.rows.items)) c.catalog.ensures.catalog c.in-Ok.ensures.yields)
     (subst (λ (n : List ℕ). LoadIsRefusedBy c.args.store.now n c.in-Ok.rows.items c.in-Err-load_rows.why) c.as_str.ensures c.in-Err-load_rows.ensures.refused)
+    (subst (λ (n : List ℕ). IsRefusedPlainly c.args.store.now n c.in-Ok.rows.items c.in-Err-load_rows.why) c.as_str.ensures c.in-Err-load_rows.ensures.plain)
     c.in-Err-load_rows.ensures.unchanged c.in-Err-load_rows.ensures.cause
 
 pub returns-in-Err-load_rows-clause-shelf : goal.returns-in-Err-load_rows-clause-shelf
