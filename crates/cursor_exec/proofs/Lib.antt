@@ -15,9 +15,11 @@ pub mod OpenNames
 pub mod OpenChecks
 -- the causes of the lines of steps
 pub mod CausedSteps
--- outcomes beside open cursors
-pub mod CursorOutcomes
 -- names of their own
 pub mod OwnNames
+-- what the names of the open cursors decide
+pub mod DecidedCursors
+-- outcomes beside open cursors
+pub mod CursorOutcomes
 -- the numbers of a cursor
 pub mod CursorNumbers

@@ -1,17 +1,19 @@
 -- The names of the open cursors, whatever the pages.
-use Rattle.std.proofs.Common.{◌≡◌, ℕ, zero, suc, Bool, true, false, cond, ◌||◌, List, [], ◌∷◌, length, map, get_or, set, Option, Some, refl, sym, ◌∙◌, ap, ap₂, subst}
+use Rattle.std.proofs.Common.{◌≡◌, ℕ, zero, suc, Bool, true, false, cond, ◌||◌, List, [], ◌∷◌, length, map, get_or, set, Option, Some, None, refl, sym, ◌∙◌, ap, ap₂, subst, true≢false}
 use Rattle.std.proofs.lemmas.List.{length-map}
 use Rattle.std.specs.List.{list_any}
-use Rattle.std.specs.Prelude.{remove, Result, Ok}
+use Rattle.std.specs.Prelude.{remove, Result, Ok, ⊤}
 use Rattle.page_pool.specs.Disk.{PageMap}
 use Rattle.plan_cursor.specs.declared.cursor.RowCursor.{RowCursor}
+use Rattle.sand_base.specs.Streams.{Stays}
 use Rattle.sand_base.specs.declared.refusal.Refusal.{Refusal}
 use Rattle.sand_base.specs.declared.refusal.Refusal.TheVariants as why
 use Rattle.sand_base.specs.declared.source.Failed.{Failed}
 use Rattle.sand_model.specs.Cursor.{Cursor}
 use Rattle.sand_model.specs.Database.{same_name}
+use Rattle.sand_model.specs.Outcome.{closed}
 use Rattle.sand_model.specs.StatementChecks.{is_there}
-use Rattle.cursor_exec.specs.OpenCursors.{Places, StandAll, AreNamed, AnswersNext, is_open, named, without}
+use Rattle.cursor_exec.specs.OpenCursors.{Places, StandAll, AreNamed, AnswersNext, ClosesOf, is_open, named, without}
 use Rattle.cursor_exec.specs.Steps.{AnswersPages}
 use Rattle.cursor_exec.specs.declared.open_cursor.OpenCursor.{OpenCursor}
 use Rattle.cursor_exec.proofs.NamedCursors.{FirstAt, NonePasses}
@@ -71,6 +73,10 @@ module _ {S T : Type 0} (name : List ℕ) where
   pub next_known : (xs : List (OpenCursor S T)) (at : ℕ) (result : Result (Option Refusal) Failed) → FirstAt (λ x. same_name x.name name) xs at → AnswersPages result → AnswersNext (is_open xs name) result
   next_known xs at result f h = subst (λ (b : Bool). AnswersNext b result) (sym (open_at xs at f)) h
 
+  -- a cursor of the name is open, so nothing is said of what is written where none is
+  pub next_open : (xs : List (OpenCursor S T)) (at : ℕ) (a b : List ℕ → Type 0) → FirstAt (λ x. same_name x.name name) xs at → is_open xs name ≡ false → Stays a b
+  next_open xs at a b f closed = absurd (true≢false (sym (open_at xs at f) ∙ closed))
+
 -- a name among names
 abbrev has_name : List ℕ → List (List ℕ) → Bool
 has_name name names = list_any (λ n. same_name n name) names
@@ -99,3 +105,40 @@ module _ {S T : Type 0} where
   stand_named At pages [] (c ∷ cs) h = absurd h
   stand_named At pages (x ∷ xs) [] h = absurd h
   stand_named At pages (x ∷ xs) (c ∷ cs) h = ap₂ (λ (n : List ℕ) (ns : List (List ℕ)). n ∷ ns) h.0 (stand_named At pages xs cs h.2)
+
+-- no cursor has the name where none is there
+pub not_there : (o : Option Cursor) → is_there o ≡ false → o ≡ None
+not_there None e = refl
+not_there (Some c) e = absurd (true≢false e)
+
+-- a cursor stands anywhere
+abbrev pub Anywhere : {S T : Type 0} → Places S T
+Anywhere r pages c = ⊤
+
+abbrev first_name : List (List ℕ) → List ℕ
+first_name [] = []
+first_name (n ∷ ns) = n
+
+abbrev other_names : List (List ℕ) → List (List ℕ)
+other_names [] = []
+other_names (n ∷ ns) = ns
+
+abbrev some_names : List (List ℕ) → Bool
+some_names [] = false
+some_names (n ∷ ns) = true
+
+module _ {S T : Type 0} (pages : PageMap) where
+  -- cursors of the names stand, wherever it is
+  pub named_stand : (xs : List (OpenCursor S T)) (cs : List Cursor) → AreNamed xs cs → StandAll Anywhere pages xs cs
+  named_stand [] [] h = tt
+  named_stand [] (c ∷ cs) h = absurd (true≢false (ap some_names h))
+  named_stand (x ∷ xs) [] h = absurd (true≢false (sym (ap some_names h)))
+  named_stand (x ∷ xs) (c ∷ cs) h = (ap first_name h, tt, named_stand xs cs (ap other_names h))
+
+  -- what is said of an end by where the cursors stand is said by their names
+  pub closes_by_names : (ys : List (OpenCursor S T)) (cs : List Cursor) (name : List ℕ) (result : Result (Unit {0}) Refusal) → ClosesOf (named cs name) cs name result (StandAll Anywhere pages ys)
+      → ClosesOf (named cs name) cs name result (AreNamed ys)
+  closes_by_names ys cs name result h = go (named cs name) h where
+    go : (o : Option Cursor) → ClosesOf o cs name result (StandAll Anywhere pages ys) → ClosesOf o cs name result (AreNamed ys)
+    go None k = (k.0, stand_named Anywhere pages ys cs k.1)
+    go (Some c) k = (k.0, stand_named Anywhere pages ys (closed name cs) k.1)

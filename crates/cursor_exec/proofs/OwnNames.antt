@@ -36,6 +36,10 @@ names_replaced name after (c ∷ cs) e =
     let one : (b : Bool) → same_name c.name name ≡ b → (cond b after c).name ≡ c.name = elim [ true ↦ λ t. e ∙ sym (same_text c.name name t) | false ↦ λ t. refl ] in
     ap₂ (λ (x : List ℕ) (xs : List (List ℕ)). x ∷ xs) (one (same_name c.name name) refl) (names_replaced name after cs e)
 
+pub replaced_names : (cs : List Cursor) (name : List ℕ) (c after : Cursor) → named cs name ≡ Some c → after.name ≡ c.name → map (λ k. k.name) (replaced name after cs) ≡ map (λ k. k.name) cs
+unfolding names
+replaced_names cs name c after is e = names_replaced name after cs (e ∙ found_name cs name c is)
+
 pub own_replaced : (cs : List Cursor) (name : List ℕ) (c after : Cursor) → named cs name ≡ Some c → after.name ≡ c.name → HaveOwnNames cs → HaveOwnNames (replaced name after cs)
 unfolding names
 own_replaced cs name c after is e own = ap has_twice (names_replaced name after cs (e ∙ found_name cs name c is)) ∙ own

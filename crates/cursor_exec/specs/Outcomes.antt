@@ -9,13 +9,13 @@ use Rattle.sand_model.specs.Outcome.{Outcome}
 use Rattle.sand_model.specs.Statement.{Statement}
 use Rattle.sand_model.specs.StatementChecks.{Setting}
 use Rattle.sand_store.specs.Catalog.{CatalogView}
-use Rattle.statement_exec.specs.Causes.{AreCaused}
 use Rattle.statement_exec.specs.Moment.{Moment, beside, rises_between, IsSettingOf}
+use Rattle.statement_exec.specs.Performing.{PerformsAnywhere}
 
--- the statement led from one moment to another and gave these lines, which have their causes, as the outcome of the model says
+-- the statement led from one moment to another and gave these lines, over any disk, and as the outcome of the model says
 abbrev pub PerformsLowest : Statement → Moment → Moment → List OutputLine → Type 0
 PerformsLowest statement old new lines =
-    AreCaused old new lines × (IsTrue old.told → new.disk < last_count → new.shelf < last_count → (setting : Setting) → setting.gap ≡ plan_measure → IsSettingOf old setting
+    PerformsAnywhere statement old new lines × (IsTrue old.told → new.disk < last_count → new.shelf < last_count → (setting : Setting) → setting.gap ≡ plan_measure → IsSettingOf old setting
     → Outcome setting (rises_between old new) old.state statement lines new.state)
 
 -- beside these cursors over a catalog, which became those, whatever the shelf

@@ -4,7 +4,7 @@ ghost use Rattle.plan_cursor.specs.Standing.{IsAt};
 ghost use Rattle.plan_rows.specs.Rows.{counts_of};
 ghost use Rattle.sand_base.specs.declared.refusal.Refusal.TheVariants as why;
 ghost use Rattle.sand_model.specs.Cursor.{Cursor};
-ghost use Rattle.cursor_exec.specs.OpenCursors.{ClosesOf, HaveOwnNames, StandAll, is_open, named, without};
+ghost use Rattle.cursor_exec.specs.OpenCursors.{AreNamed, ClosesOf, HaveOwnNames, StandAll, is_open, named, without};
 
 use crate::OpenCursor;
 use crate::next_rows::place_of;
@@ -19,6 +19,7 @@ pub fn close<S: RowSource, T: RowStage>(
 ) -> Result<(), Refusal>
     ensures closes { (pages : PageMap) (cs : List Cursor) → HaveOwnNames cs → StandAll (λ r. IsAt S.At T.Stands T.closed (λ s. counts_of (S.seen s)) r) pages cursors.old.items cs
         → ClosesOf (named cs name.now) cs name.now result (StandAll (λ r. IsAt S.At T.Stands T.closed (λ s. counts_of (S.seen s)) r) pages cursors.new.items) }
+    ensures names { (cs : List Cursor) → HaveOwnNames cs → AreNamed cursors.old.items cs → ClosesOf (named cs name.now) cs name.now result (AreNamed cursors.new.items) }
     ensures unknown { IfErr result (λ w. w ≡ why.UnknownCursor) }
     ensures known { is_ok result ≡ is_open cursors.old.items name.now }
     ensures left { cursors.new.items ≡ without name.now cursors.old.items }

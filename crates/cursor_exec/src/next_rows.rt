@@ -1,4 +1,4 @@
-ghost use Rattle.std.specs.Prelude.{◌≡◌, List, IfOk, IfSome, OnErr, OnOk, map, position};
+ghost use Rattle.std.specs.Prelude.{◌≡◌, List, IfOk, IfSome, OnErr, OnOk, false, map, position};
 ghost use Rattle.best_first.specs.Visits.{told_pages};
 ghost use Rattle.output_text.specs.Writing.{Writes, WritesPrefix};
 ghost use Rattle.page_pool.specs.Reads.{IsRead};
@@ -6,6 +6,7 @@ ghost use Rattle.plan_cursor.specs.Standing.{IsAt};
 ghost use Rattle.plan_rows.specs.Rows.{counts_of};
 ghost use Rattle.row_output.specs.Printing.{IsPlainText};
 ghost use Rattle.sand_base.specs.Faults.{HasCause};
+ghost use Rattle.sand_base.specs.Streams.{Stays};
 ghost use Rattle.sand_model.specs.Cursor.{Cursor};
 ghost use Rattle.sand_model.specs.Database.{same_name};
 ghost use Rattle.statement_exec.specs.Causes.{BlamesNoFile};
@@ -42,6 +43,7 @@ pub fn print_next<S: RowSource, T: RowStage, D: Disk, K: Sink>(
     ensures cause { PagesHaveCause desk.old.pool desk.new.pool result }
     ensures no_file { IfOk result BlamesNoFile }
     ensures unknown { AnswersNext (is_open cursors.old.items name.now) result }
+    ensures silent { is_open cursors.old.items name.now ≡ false → Stays (K.took out.old) (K.took out.new) }
     ensures names { map (λ x. x.name) cursors.new.items ≡ map (λ x. x.name) cursors.old.items }
     ensures others { without name.now cursors.new.items ≡ without name.now cursors.old.items }
     ensures sink { HasCause (K.faults out.old) (K.faults out.new) result }

@@ -6,7 +6,7 @@ use Rattle.plan_rows.specs.Rows.{counts_of}
 use Rattle.sand_model.specs.Database.{same_name}
 use Rattle.row_output.proofs.PlainTexts.{plain_none}
 use Rattle.cursor_exec.proofs.NamedCursors.{next_none, next_in_hand, in_hand_stands, first_shown, none_shown}
-use Rattle.cursor_exec.proofs.OpenNames.{names_in_hand, next_known, next_unknown, others_in_hand}
+use Rattle.cursor_exec.proofs.OpenNames.{names_in_hand, next_known, next_open, next_unknown, others_in_hand}
 use Rattle.cursor_exec.proofs.next_rows.print_next.Goals as goal
 
 pub returns-in_default-clause-steps : goal.returns-in_default-clause-steps
@@ -70,4 +70,16 @@ returns-in-Err-clause-names g c = names_in_hand c.args.name.now c.args.cursors.n
 pub returns-in-Err-clause-others : goal.returns-in-Err-clause-others
 returns-in-Err-clause-others g c = others_in_hand c.args.name.now c.args.cursors.now.items c.in-Some.at c.index_mut-open.result.now c.print_steps.new.cursor
     c.index_mut-open.ensures.value
+    (first_shown c.deref.result.now c.args.cursors.now.items c.as_str.result.now c.args.name.now c.place_of.result c.in-Some.at c.place_of.ensures c.as_str.ensures c.deref.ensures.value c.in-Some.is)
+
+-- nothing was written where no cursor has the name
+pub returns-in_default-clause-silent : goal.returns-in_default-clause-silent
+returns-in_default-clause-silent g c = λ closed bytes took. took
+
+pub returns-in-Ok-clause-silent : goal.returns-in-Ok-clause-silent
+returns-in-Ok-clause-silent g c = next_open c.args.name.now c.args.cursors.now.items c.in-Some.at (g.K.Sink.took c.args.out.now) (g.K.Sink.took c.print_steps.new.out)
+    (first_shown c.deref.result.now c.args.cursors.now.items c.as_str.result.now c.args.name.now c.place_of.result c.in-Some.at c.place_of.ensures c.as_str.ensures c.deref.ensures.value c.in-Some.is)
+
+pub returns-in-Err-clause-silent : goal.returns-in-Err-clause-silent
+returns-in-Err-clause-silent g c = next_open c.args.name.now c.args.cursors.now.items c.in-Some.at (g.K.Sink.took c.args.out.now) (g.K.Sink.took c.print_steps.new.out)
     (first_shown c.deref.result.now c.args.cursors.now.items c.as_str.result.now c.args.name.now c.place_of.result c.in-Some.at c.place_of.ensures c.as_str.ensures c.deref.ensures.value c.in-Some.is)
