@@ -20,15 +20,18 @@ use Rattle.script_text.specs.declared.statement.Statement.{Statement}
 use Rattle.statement_exec.specs.Causes.{BlamesNone}
 use Rattle.statement_exec.specs.Ending.{refused_line}
 use Rattle.statement_exec.specs.Moment.{AreTold, Moment, rises_between}
-use Rattle.statement_exec.specs.Performing.{Performs, ShelfOutcome}
+use Rattle.statement_exec.specs.Deciding.{DecidesEarly}
+use Rattle.statement_exec.specs.Outline.{outline_of, bare}
+use Rattle.statement_exec.specs.Performing.{IsDecided, Performs, ShelfOutcome}
 use Rattle.statement_exec.proofs.CausedLines.{caused_inside, caused_none}
+use Rattle.statement_exec.proofs.Decided.{found_own, after_refusal, by_memory}
 use Rattle.statement_exec.proofs.Texts.{writes_none}
+use Rattle.script_run.specs.Said.{IsAnswered}
 use Rattle.script_run.specs.Carrying.{CarriesLine}
 use Rattle.script_run.specs.LineTurns.{LineTurns, LineBreaks}
 use Rattle.script_run.specs.Reading.{Says, Refuses, IsRefusedSo}
 use Rattle.script_run.specs.ShelfRun.{Finds}
 use Rattle.script_run.specs.Spoken.{IsLine, Tells, statement_of}
-use Rattle.script_run.specs.Unread.{AnswersSaid}
 use Rattle.script_run.specs.Turns.{Turns, Breaks, HasPlan, spoken}
 use Rattle.script_run.specs.declared.turn.Turn.{Turn}
 use Rattle.script_run.specs.declared.turn.Turn.TheVariants as turn
@@ -54,17 +57,18 @@ abbrev Goes : Moment → Moment → List OutputLine → Setting → ScriptLine �
 Goes old new lines setting told =
     (own : Setting) × Finds old.files setting told own × (LineOutcome own (rises_between old new) old.state told lines new.state ⊎ IsRefusedBy why.Memory old.state lines new.state)
 
--- whatever a statement prints, its line says it
-pub says_any : (line : List ℕ) (statement : Statement) (told : ScriptLine) (lines : List OutputLine) → Says line (Some statement) → IsLine (Some line) told → AnswersSaid told lines
-says_any line statement told lines says is = subst (λ (t : ScriptLine). AnswersSaid t lines) (sym (says.1 told is)) tt
+-- what is decided of a statement is what its line says
+pub said_decided : (line : List ℕ) (statement : Statement) (told : ScriptLine) (old new : Moment) (lines : List OutputLine) → Says line (Some statement) → IsLine (Some line) told
+    → IsDecided (spoken (statement_value statement)) old new lines → IsAnswered told old new lines
+said_decided line statement told old new lines says is h = subst (λ (t : ScriptLine). IsAnswered t old new lines) (sym (says.1 told is)) h
 
 -- a statement's outcome is that of its line
 of_statement : (line : List ℕ) (statement : Statement) (old new : Moment) (lines : List OutputLine) → Says line (Some statement) → Performs (spoken (statement_value statement)) old new lines
     → CarriesLine (Some line) old new lines
 of_statement line statement old new lines says h = (
-  h.0,
+  h.0.0,
   λ told is. (
-    says_any line statement told lines says is,
+    said_decided line statement told old new lines says is h.0.1,
     λ t disk shelf setting gap s.
         let found = outcome_found old.files setting (rises_between old new) old.state (spoken (statement_value statement)) lines new.state (h.1 t disk shelf setting s) in
         subst (Goes old new lines setting) (sym (says.1 told is)) (found.0, found.1, inl found.2),
@@ -76,46 +80,49 @@ pub passed_over : (line : List ℕ) (m : Moment) → Says line None → CarriesL
 passed_over line m says = (
   caused_none m m,
   λ told is. (
-    subst (λ (t : ScriptLine). AnswersSaid t []) (sym (says told is)) (inl refl),
+    subst (λ (t : ScriptLine). IsAnswered t m m []) (sym (says told is)) (λ setting s. (inl refl, refl)),
     λ t disk shelf setting gap s. subst (Goes m m [] setting) (sym (says told is)) (setting, refl, inl (refl, refl)),
   ),
 )
 
 -- want of memory in the place of a line that isn't too long
-memory_said : (line : List ℕ) (told : ScriptLine) → IsLine (Some line) told → AnswersSaid told (Refused why.Memory ∷ [])
-memory_said line Blank is = inr refl
-memory_said line TooLong is = absurd (not_long is.0 is.2) where
+memory_said : (line : List ℕ) (m : Moment) (told : ScriptLine) → IsLine (Some line) told → IsAnswered told m m (Refused why.Memory ∷ [])
+memory_said line m Blank is = λ setting s. (inr refl, refl)
+memory_said line m TooLong is = absurd (not_long is.0 is.2) where
   not_long : (answer : Result (Option StatementValue) LineFault) → Tells answer TooLong → ⊥
   not_long (Ok None) e = true≢false (ap is_too_long e)
   not_long (Ok (Some s)) e = true≢false (ap is_too_long e)
   not_long (Err (fault.Syntax column)) e = true≢false (ap is_too_long e)
   not_long (Err fault.Range) e = true≢false (ap is_too_long e)
   not_long (Err fault.Memory) e = e
-memory_said line (BadToken column) is = inr refl
-memory_said line OutOfRange is = inr refl
-memory_said line (SaysOf s) is = tt
+memory_said line m (BadToken column) is = λ setting s. (inr refl, refl)
+memory_said line m OutOfRange is = λ setting s. (inr refl, refl)
+memory_said line m (SaysOf statement) is = λ setting s. (
+  found_own m.files setting statement (λ own. DecidesEarly own (bare (outline_of m.state)) statement (Refused why.Memory ∷ [])) s.files (by_memory setting m.state statement),
+  sym (after_refusal (outline_of m.state) statement why.Memory),
+)
 
 -- a refusal by what a line says
-refused_said : (told : ScriptLine) (w : Refusal) → IsRefusedSo told w → AnswersSaid told (Refused w ∷ [])
-refused_said Blank w k = absurd k
-refused_said TooLong w k = absurd k
-refused_said (BadToken column) w k = inl (ap (λ (r : Refusal). Refused r ∷ []) k)
-refused_said OutOfRange w k = inl (ap (λ (r : Refusal). Refused r ∷ []) k)
-refused_said (SaysOf s) w k = absurd k
+refused_said : (m : Moment) (told : ScriptLine) (w : Refusal) → IsRefusedSo told w → IsAnswered told m m (Refused w ∷ [])
+refused_said m Blank w k = absurd k
+refused_said m TooLong w k = absurd k
+refused_said m (BadToken column) w k = λ setting s. (inl (ap (λ (r : Refusal). Refused r ∷ []) k), refl)
+refused_said m OutOfRange w k = λ setting s. (inl (ap (λ (r : Refusal). Refused r ∷ []) k), refl)
+refused_said m (SaysOf s) w k = absurd k
 
 -- a line that can't be read
 pub unread : (line : List ℕ) (m : Moment) (w : Refusal) → Refuses line w → BlamesNone w → CarriesLine (Some line) m m (Refused w ∷ [])
 unread line m w (inl e) none = (
   caused_inside m m w none,
   λ told is. (
-    subst (λ (r : Refusal). AnswersSaid told (Refused r ∷ [])) (sym e) (memory_said line told is),
+    subst (λ (r : Refusal). IsAnswered told m m (Refused r ∷ [])) (sym e) (memory_said line m told is),
     λ t disk shelf setting gap s. (setting, finds_own m.files setting told s.files, inr (ap (λ (r : Refusal). Refused r ∷ []) e, refl)),
   ),
 )
 unread line m w (inr h) none = (
   caused_inside m m w none,
   λ told is. (
-    refused_said told w (h told is),
+    refused_said m told w (h told is),
     λ t disk shelf setting gap s. (setting, finds_own m.files setting told s.files, inl (by_line setting told (h told is))),
   ),
 ) where
@@ -131,7 +138,7 @@ too_long : (m : Moment) → CarriesLine None m m (Refused why.LineTooLong ∷ []
 too_long m = (
   caused_inside m m why.LineTooLong tt,
   λ told is. (
-    subst (λ (t : ScriptLine). AnswersSaid t (Refused why.LineTooLong ∷ [])) (sym is) refl,
+    subst (λ (t : ScriptLine). IsAnswered t m m (Refused why.LineTooLong ∷ [])) (sym is) (λ setting s. (refl, refl)),
     λ t disk shelf setting gap s. subst (Goes m m (Refused why.LineTooLong ∷ []) setting) (sym is) (setting, refl, inl (refl, refl)),
   ),
 )

@@ -16,10 +16,11 @@ use Rattle.sand_model.specs.StatementChecks.{Setting}
 use Rattle.script_lines.specs.Lines.{clipped}
 use Rattle.statement_exec.specs.Causes.{AreCaused, IsCausedDamage, is_of_device, is_of_file}
 use Rattle.statement_exec.specs.Moment.{Moment, rises_between, IsSettingOf}
+use Rattle.statement_exec.specs.Outline.{Outline, outline_of}
+use Rattle.script_run.specs.Said.{AnswersSaid, AnswerInOrder}
 use Rattle.script_run.specs.Carrying.{CarriesLine, CarriesLines, Follows}
 use Rattle.script_run.specs.ShelfRun.{Finds, ShelfRun}
 use Rattle.script_run.specs.Spoken.{IsLine, AreLines}
-use Rattle.script_run.specs.Unread.{AnswersSaid, AnswerInOrder}
 
 -- a line of a run, or its want of memory
 abbrev Goes : Setting → Rises → State → ScriptLine → List OutputLine → State → Type 0
@@ -68,10 +69,24 @@ run_append files setting old mid new (x ∷ script) line before own all printed 
 )
 
 -- one more line printed by what it says, behind the others
-answer_append : (script : List ScriptLine) (line : ScriptLine) (printed more : List OutputLine) → AnswerInOrder script printed → AnswersSaid line more → AnswerInOrder (script ++ line ∷ []) (printed ++ more)
-answer_append [] line printed more none last = (more, [], last, refl, ap (λ (p : List OutputLine). p ++ more) none ∙ sym (append-nil more))
-answer_append (x ∷ script) line printed more (own, others, one, rest, is) last =
-    (own, others ++ more, one, answer_append script line others more rest last, ap (λ (p : List OutputLine). p ++ more) is ∙ append_assoc own others more)
+answer_append : (files : Option Files) (setting : Setting) (old mid new : Outline) (script : List ScriptLine) (line : ScriptLine) (printed more : List OutputLine)
+    → AnswerInOrder files setting old script printed mid → AnswersSaid files setting mid line more new → AnswerInOrder files setting old (script ++ line ∷ []) (printed ++ more) new
+answer_append files setting old mid new [] line printed more none last = (
+  more,
+  [],
+  new,
+  subst (λ (o : Outline). AnswersSaid files setting o line more new) none.1 last,
+  (refl, refl),
+  ap (λ (p : List OutputLine). p ++ more) none.0 ∙ sym (append-nil more),
+)
+answer_append files setting old mid new (x ∷ script) line printed more (own, others, next, one, rest, is) last = (
+  own,
+  others ++ more,
+  next,
+  one,
+  answer_append files setting next mid new script line others more rest last,
+  ap (λ (p : List OutputLine). p ++ more) is ∙ append_assoc own others more,
+)
 
 -- what lines and one more line say is what these say and what that one says
 split_lines : (lines : List (List ℕ)) (line : List ℕ) (script : List ScriptLine) → AreLines (lines ++ line ∷ []) script
@@ -116,7 +131,11 @@ lines_append old mid new lines line printed more f g ran own = (
       let last : ScriptLine = parts.1.0 in
       let one = own.1 last parts.1.1.1.1 in
       let others = ran.1 before parts.1.1.1.0 in (
-        subst (λ (xs : List ScriptLine). AnswerInOrder xs (printed ++ more)) (sym parts.1.1.0) (answer_append before last printed more others.0 one.0),
+        λ setting s.
+            let said : AnswersSaid old.files setting (outline_of mid.state) last more (outline_of new.state) =
+            subst (λ (x : Option Files). AnswersSaid x setting (outline_of mid.state) last more (outline_of new.state)) f.files (one.0 setting (setting_later old mid setting f s)) in
+            subst (λ (xs : List ScriptLine). AnswerInOrder old.files setting (outline_of old.state) xs (printed ++ more) (outline_of new.state)) (sym parts.1.1.0)
+            (answer_append old.files setting (outline_of old.state) (outline_of mid.state) (outline_of new.state) before last printed more (others.0 setting s) said),
         λ told disk shelf setting gap s.
             let disk_up : mid.disk ≤ new.disk = g.disk disk in
             let shelf_up : mid.shelf ≤ new.shelf = g.shelf shelf in

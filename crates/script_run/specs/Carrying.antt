@@ -10,9 +10,9 @@ use Rattle.sand_model.specs.Statement.{ScriptLine}
 use Rattle.sand_model.specs.StatementChecks.{Setting}
 use Rattle.statement_exec.specs.Causes.{AreCaused}
 use Rattle.statement_exec.specs.Moment.{Moment, rises_between, IsSettingOf}
+use Rattle.script_run.specs.Said.{IsAnswered, AreAnswered}
 use Rattle.script_run.specs.ShelfRun.{Finds, ShelfRun}
 use Rattle.script_run.specs.Spoken.{IsLine, AreLines}
-use Rattle.script_run.specs.Unread.{AnswersSaid, AnswerInOrder}
 
 -- What no statement changes: the limits, whether the disk tells, and the files. No count falls that isn't at its end.
 pub record Follows (old new : Moment) : Type 0 where
@@ -29,11 +29,11 @@ InEach old new P = IsTrue old.told → new.disk < last_count → new.shelf < las
 -- A line led from one moment to another and gave these lines of output, which have their causes, whatever it says: by what it says over any disk, and as the model has it in the setting that the line finds, or refused as out of memory.
 abbrev pub CarriesLine : Option (List ℕ) → Moment → Moment → List OutputLine → Type 0
 CarriesLine line old new printed =
-    AreCaused old new printed × ((told : ScriptLine) → IsLine line told → AnswersSaid told printed × InEach old new (λ setting. (own : Setting) × Finds old.files setting told own
+    AreCaused old new printed × ((told : ScriptLine) → IsLine line told → IsAnswered told old new printed × InEach old new (λ setting. (own : Setting) × Finds old.files setting told own
     × (LineOutcome own (rises_between old new) old.state told printed new.state ⊎ IsRefusedBy why.Memory old.state printed new.state)))
 
 -- lines led from one moment to another and gave these lines of output, which have their causes, whatever they say: by what each says over any disk, and as a run over the shelf does
 abbrev pub CarriesLines : List (List ℕ) → Moment → Moment → List OutputLine → Type 0
 CarriesLines lines old new printed =
     AreCaused old new printed × ((script : List ScriptLine) → AreLines lines script
-    → AnswerInOrder script printed × InEach old new (λ setting. ShelfRun old.files setting old.state script (rises_between old new) printed new.state))
+    → AreAnswered script old new printed × InEach old new (λ setting. ShelfRun old.files setting old.state script (rises_between old new) printed new.state))

@@ -5,7 +5,7 @@ pub mod Reading
 -- Runs over a shelf that tells its data files or not.
 pub mod ShelfRun
 -- What lines print by what they say, over any disk.
-pub mod Unread
+pub mod Said
 -- What carrying lines out does.
 pub mod Carrying
 -- What the turn of a statement and of a line comes to.

@@ -30,3 +30,10 @@ returns-in-Index-clause-answers g c =
     subst (λ (s : Statement). Answers (statement_value s) (moment_of c.args.store.now (g.H.Shelf.files c.args.shelf.now) (g.H.Shelf.faults c.args.shelf.now))
     (moment_of c.index.new.store (g.H.Shelf.files c.args.shelf.now) (g.H.Shelf.faults c.args.shelf.now)) (Ok c.index.result)) (sym c.in-Index.is)
     (c.index.ensures.performs (g.H.Shelf.files c.args.shelf.now) (g.H.Shelf.faults c.args.shelf.now))
+
+-- a load over its shelf
+pub returns-in-Load-clause-answers : goal.returns-in-Load-clause-answers
+returns-in-Load-clause-answers g c =
+    subst (λ (s : Statement). Answers (statement_value s) (moment_of c.args.store.now (g.H.Shelf.files c.args.shelf.now) (g.H.Shelf.faults c.args.shelf.now))
+    (moment_of c.load.new.store (g.H.Shelf.files c.load.new.shelf) (g.H.Shelf.faults c.load.new.shelf)) (Ok c.load.result)) (sym c.in-Load.is)
+    c.load.ensures.performs
