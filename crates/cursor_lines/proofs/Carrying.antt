@@ -23,13 +23,15 @@ use Rattle.statement_exec.proofs.CausedLines.{caused_inside}
 use Rattle.statement_exec.proofs.Outcomes.{outcome_done, outcome_early}
 use Rattle.sand_base.specs.Streams.{Stays}
 use Rattle.statement_exec.proofs.Texts.{breaks_with, writes_none, writes_then_stays}
+use Rattle.statement_exec.specs.Deciding.{ComesBehind}
 use Rattle.statement_exec.specs.Ending.{PagesHaveCause, WritesUpTo, is_refusal, refused_line}
 use Rattle.statement_exec.specs.LeafLines.{state_of}
 use Rattle.statement_exec.specs.Moment.{beside, rises_between}
 use Rattle.statement_exec.specs.Printing.{PrintsSome}
 use Rattle.statement_exec.specs.declared.reply.Reply.TheVariants as reply
 use Rattle.cursor_exec.proofs.CursorOutcomes.{next_performs, close_performs, close_unknown, change_refused}
-use Rattle.cursor_exec.proofs.OwnNames.{own_replaced, own_closed}
+use Rattle.cursor_exec.proofs.DecidedCursors.{early_decides, passing_decides, steps_up_to}
+use Rattle.cursor_exec.proofs.OwnNames.{own_replaced, own_closed, replaced_names}
 use Rattle.cursor_exec.specs.Beside.{RefusesBeside}
 use Rattle.cursor_exec.specs.OpenCursors.{Places, StandAll, HaveOwnNames, NextOf, ClosesOf, named}
 use Rattle.cursor_exec.specs.Outcomes.{PerformsBeside}
@@ -63,7 +65,10 @@ module _ (catalog : CatalogView) (cs : List Cursor) (old new : PoolState) (read 
   -- no cursor has the name, and pages were read
   pub unknown_performs : named cs name ≡ None → PerformsBeside (Next name count) catalog old new cs cs (Refused why.UnknownCursor ∷ [])
   unknown_performs is = λ files shelf. (
-    caused_inside (beside cs catalog old files shelf) (beside cs catalog new files shelf) why.UnknownCursor tt,
+    (
+      caused_inside (beside cs catalog old files shelf) (beside cs catalog new files shelf) why.UnknownCursor tt,
+      early_decides catalog cs cs old new files files shelf shelf (Next name count) refl why.UnknownCursor (λ setting. rw is refl),
+    ),
     λ told disk few setting gap s.
         let fails : early setting (state_of catalog old.pages cs) (Next name count) ≡ Some why.UnknownCursor = rw is refl in
         outcome_early setting (rises_between (beside cs catalog old files shelf) (beside cs catalog new files shelf)) (state_of catalog old.pages cs) (Next name count) (Refused why.UnknownCursor ∷ []) (state_of catalog new.pages cs)
@@ -74,7 +79,11 @@ module _ (catalog : CatalogView) (cs : List Cursor) (old new : PoolState) (read 
   pub memory_performs : (c after : Cursor) (lines : List OutputLine) → named cs name ≡ Some c → Steps plan_measure IsMemory count c lines after
       → PerformsBeside (Next name count) catalog old new cs (replaced name after cs) lines
   memory_performs c after lines is steps = λ files shelf. (
-    memory_caused (beside cs catalog old files shelf) (beside (replaced name after cs) catalog new files shelf) count c lines after steps,
+    (
+      memory_caused (beside cs catalog old files shelf) (beside (replaced name after cs) catalog new files shelf) count c lines after steps,
+      passing_decides catalog cs (replaced name after cs) old new files files shelf shelf (Next name count) (replaced_names cs name c after is (steps_kept IsMemory count c lines after steps).name) lines (λ setting. rw is refl)
+          (λ setting. steps_up_to plan_measure IsMemory (ComesBehind (Next name count)) (λ w k. subst (ComesBehind (Next name count)) (sym k) tt) count c lines after steps) refl,
+    ),
     λ told disk few setting gap s.
         let cs' : List Cursor = replaced name after cs in
         let passes : early setting (state_of catalog old.pages cs) (Next name count) ≡ None = rw is refl in
@@ -128,7 +137,7 @@ module _ (catalog : CatalogView) (cs : List Cursor) (old new : PoolState) (read 
             lines = s.steps.lines;
             written = s.steps.written;
             accepted = s.steps.accepted;
-            holds = next_performs catalog cs old new read name count c s.after end (s.steps.lines ++ refused_line end) is s.pages cause s.steps.holds;
+            holds = next_performs catalog cs old new read name count c s.after end (s.steps.lines ++ refused_line end) is kept.name s.pages cause s.steps.holds;
           } in
           record {
             after = replaced name s.after cs;

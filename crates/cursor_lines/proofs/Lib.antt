@@ -16,3 +16,5 @@ pub mod PlanOutcomes
 pub mod SaidLines
 -- The rows of a cursor that has no name.
 pub mod NewRows
+-- Over a disk that tells no pages.
+pub mod NextByName

@@ -3,7 +3,7 @@ use Rattle.std.proofs.Common.{ℕ, List, Some, sym, subst, inl}
 use Rattle.sand_model.specs.Cursor.{OutputLine}
 use Rattle.sand_model.specs.Run.{LineOutcome}
 use Rattle.sand_model.specs.Statement.{ScriptLine}
-use Rattle.script_run.proofs.LineCalls.{finds_own, says_any}
+use Rattle.script_run.proofs.LineCalls.{finds_own, said_decided}
 use Rattle.script_run.specs.Carrying.{CarriesLine}
 use Rattle.script_run.specs.Reading.{Says}
 use Rattle.script_run.specs.Turns.{spoken}
@@ -15,9 +15,9 @@ use Rattle.cursor_exec.specs.Outcomes.{PerformsLowest}
 pub said_beside : (line : List ℕ) (statement : Statement) (old new : Moment) (lines : List OutputLine) → Says line (Some statement) → PerformsLowest (spoken (statement_value statement)) old new lines
     → CarriesLine (Some line) old new lines
 said_beside line statement old new lines says h = (
-  h.0,
+  h.0.0,
   λ told is. (
-    says_any line statement told lines says is,
+    said_decided line statement told old new lines says is h.0.1,
     λ t disk shelf setting gap s. (
       setting,
       finds_own old.files setting told s.files,

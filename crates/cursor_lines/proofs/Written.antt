@@ -1,28 +1,30 @@
 -- Lines that were written: one, or those up to a refusal.
-use Rattle.std.proofs.Common.{◌≡◌, ℕ, Bool, List, [], ◌∷◌, Option, refl, sym, ◌∙◌, subst}
-use Rattle.std.specs.Prelude.{Result, Ok, Err, IfOk, IfErr, OnErr, is_err}
+use Rattle.std.proofs.Common.{◌≡◌, ℕ, Bool, List, [], ◌∷◌, Option, Some, refl, sym, ◌∙◌, subst, inl}
+use Rattle.std.specs.Prelude.{Result, Ok, Err, IfOk, OnErr, is_err}
 use Rattle.std.specs.List.{list_any}
 use Rattle.output_text.specs.Writing.{Writes, WritesPrefix}
 use Rattle.row_output.specs.Printing.{IsPlainText}
 use Rattle.sand_base.specs.declared.refusal.Refusal.{Refusal}
 use Rattle.sand_base.specs.declared.source.Failed.{Failed}
 use Rattle.page_pool.specs.Pool.{PoolState}
-use Rattle.sand_model.specs.Cursor.{Cursor, OutputLine, Accepted, Id, Loaded}
+use Rattle.sand_model.specs.Cursor.{Cursor, OutputLine}
 use Rattle.sand_model.specs.Plan.{Column}
 use Rattle.sand_model.specs.Statement.{Blocks}
 use Rattle.sand_store.specs.Catalog.{CatalogView}
 use Rattle.cursor_exec.specs.Outcomes.{PerformsBeside}
 use Rattle.sand_model.specs.OutputText.{IsText, is_refused}
-use Rattle.statement_exec.specs.Causes.{AreCausedIn, BlamesNone, BlamesNoFile}
 use Rattle.statement_exec.specs.Ending.{PagesHaveCause, WritesUpTo, Reads, is_refusal, refused_line}
 use Rattle.statement_exec.specs.Moment.{beside}
-use Rattle.statement_exec.proofs.CausedLines.{caused_inside, caused_plain, caused_up_to}
+use Rattle.statement_exec.proofs.CausedLines.{caused_plain, caused_up_to}
 use Rattle.statement_exec.specs.Performing.{line_of_answer}
 use Rattle.statement_exec.specs.Printing.{Prints, PrintsSome}
 use Rattle.statement_exec.specs.declared.reply.Reply.{Reply}
 use Rattle.statement_exec.specs.declared.reply.Reply.TheVariants as reply
 use Rattle.statement_exec.proofs.Endings.{printed, broken}
-use Rattle.cursor_lines.specs.Carried.{WritesOf}
+use Rattle.cursor_exec.proofs.CausedSteps.{pages_no_file}
+use Rattle.cursor_exec.proofs.DecidedCursors.{ended_up_to}
+use Rattle.cursor_exec.specs.Steps.{IsOfPages}
+use Rattle.cursor_lines.specs.Carried.{AreRowLines, WritesOf}
 
 pub refusal_mark : (answer : Result Reply Refusal) → is_err answer ≡ list_any is_refused (line_of_answer answer ∷ [])
 refusal_mark (Ok reply.Accepted) = refl
@@ -73,35 +75,25 @@ ending_written P a b c end up (Err failed) h k = broken P end a b c up k
 
 module _ (old new : PoolState) (told : new.disk.told ≡ old.disk.told) (a b : List ℕ → Type 0) where
   -- lines none of which is a refusal, and the line of one that has its cause
-  pub plain_written : (c : List ℕ → Type 0) (end : Option Refusal) → PagesHaveCause {E = Failed} old new (Ok end) → BlamesNoFile end → Writes IsPlainText a b → (r : Result Bool Failed)
-      → IfOk r (λ refused. (refused ≡ is_refusal end) × Writes (IsText (refused_line end)) b c) → OnErr r (WritesPrefix (IsText (refused_line end)) b c) → WritesOf (AreCausedIn old new) a c r
-  plain_written c end cause none w =
-      ending_written (AreCausedIn old new) a b c end (record {
+  pub rows_written : (c : List ℕ → Type 0) (end : Option Refusal) → PagesHaveCause {E = Failed} old new (Ok end) → IsOfPages end → Writes IsPlainText a b → (r : Result Bool Failed)
+      → IfOk r (λ refused. (refused ≡ is_refusal end) × Writes (IsText (refused_line end)) b c) → OnErr r (WritesPrefix (IsText (refused_line end)) b c) → WritesOf (AreRowLines old new) a c r
+  rows_written c end cause pages w =
+      ending_written (AreRowLines old new) a b c end (record {
         lines = w.holds.0;
         written = record { text = w.text; holds = w.holds.1; written = w.written };
         accepted = w.holds.2;
-        holds = caused_up_to Failed old new w.holds.0 end w.holds.2 told cause none;
+        holds = (
+          caused_up_to Failed old new w.holds.0 end w.holds.2 told cause (pages_no_file end pages),
+          ended_up_to (λ refusal. IsOfPages (Some refusal)) w.holds.0 end w.holds.2 (λ refusal e. subst IsOfPages e pages),
+        );
       })
 
   -- a prefix of lines none of which is a refusal
-  pub plain_broken : WritesPrefix IsPlainText a b → WritesPrefix (PrintsSome (AreCausedIn old new)) a b
-  plain_broken w =
-      some_written (AreCausedIn old new) a b w.holds.0
-      (λ files shelf cs cs' catalog. caused_plain (beside cs catalog old files shelf) (beside cs' catalog new files shelf) w.holds.0 w.holds.2)
+  pub rows_broken : WritesPrefix IsPlainText a b → WritesPrefix (PrintsSome (AreRowLines old new)) a b
+  rows_broken w =
+      some_written (AreRowLines old new) a b w.holds.0
+      (λ files shelf cs cs' catalog. caused_plain (beside cs catalog old files shelf) (beside cs' catalog new files shelf) w.holds.0 w.holds.2, inl w.holds.2)
       (record { text = w.text; holds = w.holds.1; prefix = w.prefix })
-
--- the line of an answer that blames nothing outside
-pub answer_caused : (pool : PoolState) (answer : Result Reply Refusal) → IfErr answer BlamesNone → AreCausedIn pool pool (line_of_answer answer ∷ [])
-answer_caused pool (Ok reply.Accepted) h = λ files shelf cs cs' catalog. caused_plain (beside cs catalog pool files shelf) (beside cs' catalog pool files shelf) (Accepted ∷ []) refl
-answer_caused pool (Ok (reply.Id id)) h = λ files shelf cs cs' catalog. caused_plain (beside cs catalog pool files shelf) (beside cs' catalog pool files shelf) (Id id ∷ []) refl
-answer_caused pool (Ok (reply.Loaded rows)) h = λ files shelf cs cs' catalog. caused_plain (beside cs catalog pool files shelf) (beside cs' catalog pool files shelf) (Loaded rows ∷ []) refl
-answer_caused pool (Err w) h = λ files shelf cs cs' catalog. caused_inside (beside cs catalog pool files shelf) (beside cs' catalog pool files shelf) w h
-
--- and it was written
-pub caused_written : (pool : PoolState) (a b : List ℕ → Type 0) (answer : Result Reply Refusal) → IfErr answer BlamesNone → (r : Result Bool Failed)
-    → IfOk r (λ refused. (refused ≡ is_err answer) × Writes (IsText (line_of_answer answer ∷ [])) a b) → OnErr r (WritesPrefix (IsText (line_of_answer answer ∷ [])) a b)
-    → WritesOf (AreCausedIn pool pool) a b r
-caused_written pool a b answer none = answer_written (AreCausedIn pool pool) a b answer (answer_caused pool answer none)
 
 -- what was printed up to this refusal, where there is one, and whether there is one
 abbrev pub mark_after : Result (Option Refusal) Failed → Result Bool Failed

@@ -1,5 +1,5 @@
 -- A statement that was carried out beside open cursors, with all that it prints.
-use Rattle.std.specs.Prelude.{◌≡◌, ◌⊎◌, ⊤, ℕ, ◌+◌, ◌≤◌, Bool, List, [], ◌∷◌, Option, Result, Ok, Err}
+use Rattle.std.specs.Prelude.{◌≡◌, ◌⊎◌, ⊤, ℕ, ◌+◌, ◌≤◌, Bool, List, [], ◌∷◌, Option, Some, Result, Ok, Err}
 use Rattle.output_text.specs.Writing.{Writes, WritesPrefix}
 use Rattle.page_pool.specs.Pool.{PoolState}
 use Rattle.plan_cursor.specs.Standing.{counts_among}
@@ -14,6 +14,8 @@ use Rattle.sand_model.specs.Statement.{Statement, Next}
 use Rattle.sand_store.specs.Catalog.{CatalogView}
 use Rattle.script_text.specs.Statement as text
 use Rattle.script_text.specs.Statement.{StatementValue}
+use Rattle.statement_exec.specs.Causes.{AreCausedIn}
+use Rattle.statement_exec.specs.Deciding.{PrintsUpTo}
 use Rattle.statement_exec.specs.Ending.{PagesHaveCause}
 use Rattle.statement_exec.specs.Printing.{Prints, PrintsSome}
 use Rattle.cursor_exec.specs.OpenCursors.{HaveOwnNames}
@@ -65,3 +67,7 @@ abbrev pub RowsOf : Cursor → ℕ → PoolState → PoolState → List OutputLi
 RowsOf c count old new lines =
     (after : Cursor) × (((end : Option Refusal) × IsOfPages end × PagesHaveCause {E = Failed} old new (Ok end) × GivesSteps c count after end lines)
     ⊎ Steps plan_measure (λ w. w ≡ why.Memory) count c lines after)
+
+-- These are lines of rows over any disk: none is a refusal but one of memory or of a page at their end, which has its cause.
+abbrev pub AreRowLines : PoolState → PoolState → List OutputLine → Type 0
+AreRowLines old new lines = AreCausedIn old new lines × PrintsUpTo (λ refusal. IsOfPages (Some refusal)) lines

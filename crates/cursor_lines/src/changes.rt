@@ -6,7 +6,6 @@ ghost use Rattle.sand_model.specs.Cursor.{Cursor};
 ghost use Rattle.sand_store.specs.Catalog.{IsCatalog};
 ghost use Rattle.script_run.specs.Turns.{spoken};
 ghost use Rattle.script_text.specs.Statement.{statement_value};
-ghost use Rattle.statement_exec.specs.Causes.{AreCausedIn};
 ghost use Rattle.cursor_exec.specs.Beside.{RefusesBeside};
 ghost use Rattle.cursor_exec.specs.Outcomes.{PerformsBeside};
 ghost use Rattle.cursor_lines.specs.Carried.{IsChange, WritesOf};
@@ -53,7 +52,6 @@ pub fn change_line<K: Sink>(
 ) -> Result<bool, Failed>
     requires catalog { IsCatalog catalog.now }
     requires change { IsChange (statement_value statement.now) }
-    ensures plain { (pool : PoolState) → WritesOf (AreCausedIn pool pool) (K.took out.old) (K.took out.new) result }
     ensures written { (pool : PoolState) (first : Cursor) (others : List Cursor) → WritesOf (PerformsBeside (spoken (statement_value statement.now)) catalog.now pool pool (first ∷ others) (first ∷ others)) (K.took out.old) (K.took out.new) result }
     ensures sink { HasCause (K.faults out.old) (K.faults out.new) result }
 {

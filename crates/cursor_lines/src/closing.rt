@@ -7,9 +7,8 @@ ghost use Rattle.sand_base.specs.Faults.{HasCause};
 ghost use Rattle.sand_model.specs.Cursor.{Cursor};
 ghost use Rattle.sand_model.specs.Statement.{CloseCursor};
 ghost use Rattle.sand_store.specs.Catalog.{CatalogView};
-ghost use Rattle.statement_exec.specs.Causes.{AreCausedIn};
-ghost use Rattle.cursor_exec.specs.OpenCursors.{HaveOwnNames, StandAll};
-ghost use Rattle.cursor_lines.specs.Carried.{CarriesBeside, WritesOf};
+ghost use Rattle.cursor_exec.specs.OpenCursors.{AreNamed, HaveOwnNames, StandAll};
+ghost use Rattle.cursor_lines.specs.Carried.{CarriesBeside};
 
 use crate::endings::answer_with;
 use cursor_exec::{OpenCursor, close};
@@ -24,7 +23,7 @@ pub fn close_line<S: RowSource, T: RowStage, K: Sink>(
     name: &Label,
     out: &mut K,
 ) -> Result<bool, Failed>
-    ensures plain { (pool : PoolState) → WritesOf (AreCausedIn pool pool) (K.took out.old) (K.took out.new) result }
+    ensures named { (cs : List Cursor) → HaveOwnNames cs → AreNamed cursors.old.items cs → (catalog : CatalogView) (pool : PoolState) → CarriesBeside (CloseCursor name.now) catalog pool pool cs (K.took out.old) (K.took out.new) result (AreNamed cursors.new.items) }
     ensures carried { (pages : PageMap) (cs : List Cursor) → HaveOwnNames cs → StandAll (λ r. IsAt S.At T.Stands T.closed (λ s. counts_of (S.seen s)) r) pages cursors.old.items cs
         → (catalog : CatalogView) (pool : PoolState) → CarriesBeside (CloseCursor name.now) catalog pool pool cs (K.took out.old) (K.took out.new) result (StandAll (λ r. IsAt S.At T.Stands T.closed (λ s. counts_of (S.seen s)) r) pages cursors.new.items) }
     ensures sink { HasCause (K.faults out.old) (K.faults out.new) result }

@@ -5,9 +5,8 @@ ghost use Rattle.plan_cursor.specs.Standing.{IsAt};
 ghost use Rattle.plan_rows.specs.Rows.{counts_of};
 ghost use Rattle.sand_base.specs.Faults.{HasCause};
 ghost use Rattle.sand_model.specs.Cursor.{Cursor};
-ghost use Rattle.statement_exec.specs.Causes.{AreCausedIn};
 ghost use Rattle.statement_exec.specs.Ending.{RisesByOne};
-ghost use Rattle.cursor_lines.specs.Carried.{RowsOf, WritesOf};
+ghost use Rattle.cursor_lines.specs.Carried.{AreRowLines, RowsOf, WritesOf};
 
 use crate::endings::end_with;
 use cursor_exec::print_steps;
@@ -28,7 +27,7 @@ pub fn rows_line<S: RowSource, T: RowStage, D: Disk, K: Sink>(
     out: &mut K,
 ) -> Result<bool, Failed>
     requires stands { IfSome (told_pages desk.old) (λ pages. (c : Cursor) × IsAt S.At T.Stands T.closed (λ s. counts_of (S.seen s)) cursor.old pages c) }
-    ensures plain { WritesOf (AreCausedIn desk.old.pool desk.new.pool) (K.took out.old) (K.took out.new) result }
+    ensures plain { WritesOf (AreRowLines desk.old.pool desk.new.pool) (K.took out.old) (K.took out.new) result }
     ensures written { IfSome (told_pages desk.old) (λ pages. (c : Cursor) → IsAt S.At T.Stands T.closed (λ s. counts_of (S.seen s)) cursor.old pages c → WritesOf (RowsOf c count desk.old.pool desk.new.pool) (K.took out.old) (K.took out.new) result) }
     ensures read { IsRead desk.old.pool desk.new.pool }
     ensures cause { RisesByOne desk.old.pool.disk.faults desk.new.pool.disk.faults }

@@ -1,4 +1,4 @@
-ghost use Rattle.std.specs.Prelude.{◌≡◌, List, IfSome};
+ghost use Rattle.std.specs.Prelude.{◌≡◌, false, List, IfSome};
 ghost use Rattle.best_first.specs.Visits.{told_pages};
 ghost use Rattle.page_pool.specs.Reads.{IsRead};
 ghost use Rattle.plan_cursor.specs.Standing.{IsAt};
@@ -7,10 +7,9 @@ ghost use Rattle.sand_base.specs.Faults.{HasCause};
 ghost use Rattle.sand_model.specs.Cursor.{Cursor};
 ghost use Rattle.sand_model.specs.Statement.{Next};
 ghost use Rattle.sand_store.specs.Catalog.{CatalogView};
-ghost use Rattle.statement_exec.specs.Causes.{AreCausedIn};
 ghost use Rattle.statement_exec.specs.Ending.{RisesByOne};
-ghost use Rattle.cursor_exec.specs.OpenCursors.{HaveOwnNames, StandAll};
-ghost use Rattle.cursor_lines.specs.Carried.{CarriesBeside, WritesOf};
+ghost use Rattle.cursor_exec.specs.OpenCursors.{AreNamed, HaveOwnNames, StandAll};
+ghost use Rattle.cursor_lines.specs.Carried.{CarriesBeside};
 
 use crate::endings::end_with;
 use cursor_exec::{OpenCursor, print_next};
@@ -31,7 +30,8 @@ pub fn next_line<S: RowSource, T: RowStage, D: Disk, K: Sink>(
     out: &mut K,
 ) -> Result<bool, Failed>
     requires stands { IfSome (told_pages desk.old) (λ pages. (cs : List Cursor) × StandAll (λ r. IsAt S.At T.Stands T.closed (λ s. counts_of (S.seen s)) r) pages cursors.old.items cs) }
-    ensures plain { WritesOf (AreCausedIn desk.old.pool desk.new.pool) (K.took out.old) (K.took out.new) result }
+    ensures named { (desk.old.pool.disk.told ≡ false) → (cs : List Cursor) → HaveOwnNames cs → AreNamed cursors.old.items cs
+        → (catalog : CatalogView) → CarriesBeside (Next name.now count) catalog desk.old.pool desk.new.pool cs (K.took out.old) (K.took out.new) result (AreNamed cursors.new.items) }
     ensures carried { IfSome (told_pages desk.old) (λ pages. (cs : List Cursor) → HaveOwnNames cs → StandAll (λ r. IsAt S.At T.Stands T.closed (λ s. counts_of (S.seen s)) r) pages cursors.old.items cs
         → (catalog : CatalogView) → CarriesBeside (Next name.now count) catalog desk.old.pool desk.new.pool cs (K.took out.old) (K.took out.new) result (StandAll (λ r. IsAt S.At T.Stands T.closed (λ s. counts_of (S.seen s)) r) pages cursors.new.items)) }
     ensures read { IsRead desk.old.pool desk.new.pool }

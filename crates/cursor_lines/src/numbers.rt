@@ -10,8 +10,7 @@ ghost use Rattle.sand_model.specs.Cursor.{Cursor};
 ghost use Rattle.sand_model.specs.OutputText.{IsText};
 ghost use Rattle.sand_model.specs.Statement.{Stats as StatsOf};
 ghost use Rattle.sand_store.specs.Catalog.{CatalogView};
-ghost use Rattle.statement_exec.specs.Causes.{AreCausedIn};
-ghost use Rattle.cursor_exec.specs.OpenCursors.{HaveOwnNames, StandAll};
+ghost use Rattle.cursor_exec.specs.OpenCursors.{AreNamed, HaveOwnNames, StandAll};
 ghost use Rattle.cursor_exec.specs.Outcomes.{PerformsBeside};
 ghost use Rattle.cursor_lines.specs.Carried.{AreCounted, WritesOf, line_of_numbers};
 
@@ -46,7 +45,7 @@ pub fn stats_line<S: RowSource, T: RowStage, K: Sink>(
     name: &Label,
     out: &mut K,
 ) -> Result<bool, Failed>
-    ensures plain { (pool : PoolState) → WritesOf (AreCausedIn pool pool) (K.took out.old) (K.took out.new) result }
+    ensures named { (cs : List Cursor) → AreNamed cursors.now cs → (catalog : CatalogView) (pool : PoolState) → (pool.disk.told ≡ false) → WritesOf (PerformsBeside (StatsOf name.now) catalog pool pool cs cs) (K.took out.old) (K.took out.new) result }
     ensures written { (pages : PageMap) (cs : List Cursor) → HaveOwnNames cs → StandAll (λ r. IsAt S.At T.Stands T.closed (λ s. counts_of (S.seen s)) r) pages cursors.now cs → AreCounted cs
         → (catalog : CatalogView) (pool : PoolState) → WritesOf (PerformsBeside (StatsOf name.now) catalog pool pool cs cs) (K.took out.old) (K.took out.new) result }
     ensures sink { HasCause (K.faults out.old) (K.faults out.new) result }

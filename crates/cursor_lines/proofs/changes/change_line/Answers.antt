@@ -3,8 +3,6 @@ use Rattle.std.specs.Prelude.{Ok, Err}
 use Rattle.script_run.specs.Turns.{spoken}
 use Rattle.script_text.specs.Statement.{statement_value}
 use Rattle.cursor_lines.proofs.Carrying.{change_carried}
-use Rattle.cursor_lines.proofs.Written.{caused_written}
-use Rattle.statement_exec.proofs.CausedLines.{check_blames_none}
 use Rattle.cursor_lines.proofs.changes.change_line.Goals as goal
 
 pub returns-in-Ok-clause-written : goal.returns-in-Ok-clause-written
@@ -16,13 +14,3 @@ pub returns-in-Err-clause-written : goal.returns-in-Err-clause-written
 returns-in-Err-clause-written g c = λ pool first others.
     change_carried c.args.catalog.now pool first others (spoken (statement_value c.args.statement.now)) (g.K.Sink.took c.args.out.now) (g.K.Sink.took c.answer_with.new.out) c.refused_change-why.result
     c.refused_change-why.ensures (Err c.in-Err.field-0) tt c.in-Err.ensures.prefix
-
-pub returns-in-Ok-clause-plain : goal.returns-in-Ok-clause-plain
-returns-in-Ok-clause-plain g c = λ pool.
-    caused_written pool (g.K.Sink.took c.args.out.now) (g.K.Sink.took c.answer_with.new.out) (Err c.refused_change-why.result)
-    (check_blames_none c.refused_change-why.result c.refused_change-why.ensures.0) (Ok c.in-Ok.refused) c.in-Ok.ensures.written tt
-
-pub returns-in-Err-clause-plain : goal.returns-in-Err-clause-plain
-returns-in-Err-clause-plain g c = λ pool.
-    caused_written pool (g.K.Sink.took c.args.out.now) (g.K.Sink.took c.answer_with.new.out) (Err c.refused_change-why.result)
-    (check_blames_none c.refused_change-why.result c.refused_change-why.ensures.0) (Err c.in-Err.field-0) tt c.in-Err.ensures.prefix

@@ -7,7 +7,7 @@ use Rattle.sand_base.specs.declared.source.Failed.{Failed}
 use Rattle.statement_exec.proofs.Endings.{at_most_one}
 use Rattle.cursor_lines.proofs.MoreSteps.{stays_refused}
 use Rattle.cursor_lines.proofs.NewRows.{told_rows, told_rows_broken}
-use Rattle.cursor_lines.proofs.Written.{plain_written, plain_broken}
+use Rattle.cursor_lines.proofs.Written.{rows_written, rows_broken}
 use Rattle.cursor_lines.proofs.new_rows.rows_line.Goals as goal
 
 pub returns-in-Ok-clause-written : goal.returns-in-Ok-clause-written
@@ -30,10 +30,10 @@ returns-in-Err-clause-written g c =
 
 pub returns-in-Ok-clause-plain : goal.returns-in-Ok-clause-plain
 returns-in-Ok-clause-plain g c =
-    plain_written c.args.desk.now.pool c.print_steps.new.desk.pool c.print_steps.ensures.read.told (g.K.Sink.took c.args.out.now) (g.K.Sink.took c.print_steps.new.out) (g.K.Sink.took c.end_with.new.out)
-    c.in-Ok.end c.in-Ok.ensures.cause c.in-Ok.ensures.no_file c.in-Ok.ensures.plain
+    rows_written c.args.desk.now.pool c.print_steps.new.desk.pool c.print_steps.ensures.read.told (g.K.Sink.took c.args.out.now) (g.K.Sink.took c.print_steps.new.out) (g.K.Sink.took c.end_with.new.out)
+    c.in-Ok.end c.in-Ok.ensures.cause c.in-Ok.ensures.pages c.in-Ok.ensures.plain
     c.end_with.result c.end_with.ensures.written c.end_with.ensures.prefix
 
 pub returns-in-Err-clause-plain : goal.returns-in-Err-clause-plain
 returns-in-Err-clause-plain g c =
-    plain_broken c.args.desk.now.pool c.print_steps.new.desk.pool c.print_steps.ensures.read.told (g.K.Sink.took c.args.out.now) (g.K.Sink.took c.print_steps.new.out) c.in-Err.ensures.broken
+    rows_broken c.args.desk.now.pool c.print_steps.new.desk.pool c.print_steps.ensures.read.told (g.K.Sink.took c.args.out.now) (g.K.Sink.took c.print_steps.new.out) c.in-Err.ensures.broken

@@ -7,7 +7,7 @@ use Rattle.sand_base.specs.declared.source.Failed.{Failed}
 use Rattle.statement_exec.proofs.Endings.{at_most_one}
 use Rattle.cursor_lines.proofs.MoreSteps.{stays_refused}
 use Rattle.cursor_lines.proofs.ToldSteps.{told_carried, told_broken}
-use Rattle.cursor_lines.proofs.Written.{plain_written, plain_broken}
+use Rattle.cursor_lines.proofs.NextByName.{next_by_name, next_broken_by_name}
 use Rattle.cursor_lines.proofs.next_rows.next_line.Goals as goal
 
 pub returns-in-Ok-clause-carried : goal.returns-in-Ok-clause-carried
@@ -26,12 +26,14 @@ returns-in-Err-clause-carried g c =
     c.in-Err.field-0 (λ r pages m at. stays_refused g.S.RowSource.At g.T.RowStage.Stands g.T.RowStage.closed (λ s. counts_of (g.S.RowSource.seen s)) r pages m at why.Memory)
     c.in-Err.ensures.steps
 
-pub returns-in-Ok-clause-plain : goal.returns-in-Ok-clause-plain
-returns-in-Ok-clause-plain g c =
-    plain_written c.args.desk.now.pool c.print_next.new.desk.pool c.print_next.ensures.read.told (g.K.Sink.took c.args.out.now) (g.K.Sink.took c.print_next.new.out) (g.K.Sink.took c.end_with.new.out)
-    c.in-Ok.end c.in-Ok.ensures.cause c.in-Ok.ensures.no_file c.in-Ok.ensures.plain
-    c.end_with.result c.end_with.ensures.written c.end_with.ensures.prefix
+-- by the names, whatever rows were printed
+pub returns-in-Ok-clause-named : goal.returns-in-Ok-clause-named
+returns-in-Ok-clause-named g c = λ untold cs own all catalog.
+    next_by_name catalog cs c.args.desk.now.pool c.print_next.new.desk.pool c.print_next.ensures.read c.args.name.now c.args.count untold c.args.cursors.now.items c.print_next.new.cursors.items own all
+    c.in-Ok.ensures.names (g.K.Sink.took c.args.out.now) (g.K.Sink.took c.print_next.new.out) (g.K.Sink.took c.end_with.new.out) c.in-Ok.end c.in-Ok.ensures.cause c.in-Ok.ensures.unknown
+    c.in-Ok.ensures.silent c.in-Ok.ensures.plain c.end_with.result c.end_with.ensures.written c.end_with.ensures.prefix
 
-pub returns-in-Err-clause-plain : goal.returns-in-Err-clause-plain
-returns-in-Err-clause-plain g c =
-    plain_broken c.args.desk.now.pool c.print_next.new.desk.pool c.print_next.ensures.read.told (g.K.Sink.took c.args.out.now) (g.K.Sink.took c.print_next.new.out) c.in-Err.ensures.broken
+pub returns-in-Err-clause-named : goal.returns-in-Err-clause-named
+returns-in-Err-clause-named g c = λ untold cs own all catalog.
+    next_broken_by_name catalog cs c.args.desk.now.pool c.print_next.new.desk.pool c.print_next.ensures.read c.args.name.now c.args.count untold c.args.cursors.now.items c.print_next.new.cursors.items own all
+    c.in-Err.ensures.names (g.K.Sink.took c.args.out.now) (g.K.Sink.took c.print_next.new.out) c.in-Err.field-0 c.in-Err.ensures.unknown c.in-Err.ensures.broken
