@@ -1,8 +1,9 @@
 -- The open cursors with one more behind them.
-use Rattle.std.proofs.Common.{◌≡◌, ◌≤◌, ◌+◌, ℕ, List, [], ◌∷◌, ◌++◌, sym, subst, arith}
+use Rattle.std.proofs.Common.{◌≡◌, ◌≤◌, ◌+◌, ℕ, List, [], ◌∷◌, ◌++◌, map, sym, ◌∙◌, ap, ap₂, subst, arith}
+use Rattle.std.proofs.lemmas.List.{map-append}
 use Rattle.page_pool.specs.Disk.{PageMap}
 use Rattle.sand_model.specs.Cursor.{Cursor}
-use Rattle.cursor_exec.specs.OpenCursors.{Places, StandAll}
+use Rattle.cursor_exec.specs.OpenCursors.{AreNamed, Places, StandAll}
 use Rattle.cursor_exec.specs.declared.open_cursor.OpenCursor.{OpenCursor}
 use Rattle.cursor_lines.specs.Carried.{GaveAtMost}
 
@@ -16,6 +17,13 @@ module _ {S T : Type 0} (At : Places S T) (pages : PageMap) (x : OpenCursor S T)
 
   pub all_stand : (xs ys : List (OpenCursor S T)) (cs : List Cursor) → ys ≡ xs ++ x ∷ [] → StandAll At pages xs cs → StandAll At pages ys (cs ++ c ∷ [])
   all_stand xs ys cs is h = subst (λ (zs : List (OpenCursor S T)). StandAll At pages zs (cs ++ c ∷ [])) (sym is) (behind xs cs h)
+
+-- they have the names, and the last one too
+pub all_named : {S T : Type 0} (x : OpenCursor S T) (c : Cursor) → c.name ≡ x.name → (xs ys : List (OpenCursor S T)) (cs : List Cursor) → ys ≡ xs ++ x ∷ [] → AreNamed xs cs → AreNamed ys (cs ++ c ∷ [])
+all_named {S} {T} x c name xs ys cs is h =
+    map-append (λ (k : Cursor). k.name) cs (c ∷ [])
+    ∙ (ap₂ (λ (ns : List (List ℕ)) (n : List ℕ). ns ++ n ∷ []) h name
+    ∙ (sym (map-append (λ (y : OpenCursor S T). y.name) xs (x ∷ [])) ∙ ap (λ (zs : List (OpenCursor S T)). map (λ (y : OpenCursor S T). y.name) zs) (sym is)))
 
 -- one that gave nothing gave no more
 pub most_opened : (bound more : ℕ) (cs : List Cursor) (c : Cursor) → c.given ≡ 0 → GaveAtMost bound cs → GaveAtMost (bound + more) (cs ++ c ∷ [])

@@ -1,7 +1,6 @@
 -- What is written of an opening, and what becomes of the open cursors.
 use Rattle.std.proofs.Common.{◌≡◌, ◌⊎◌, ℕ, Bool, true, false, List, [], ◌∷◌, ◌++◌, Option, Some, None, refl, sym, ◌∙◌, subst, inl, inr}
-use Rattle.std.specs.Prelude.{Result, Ok, Err, IfOk, OnErr, is_err, ⊤}
-use Rattle.std.specs.FinMap as map
+use Rattle.std.specs.Prelude.{Result, Ok, Err, IfOk, OnErr}
 use Rattle.best_first.proofs.Passing.{read_itself}
 use Rattle.output_text.specs.Writing.{Writes, WritesPrefix}
 use Rattle.page_pool.specs.Disk.{PageMap}
@@ -16,21 +15,16 @@ use Rattle.sand_model.specs.Plan.{Plan}
 use Rattle.sand_model.specs.Statement.{OpenCursor as Opens}
 use Rattle.sand_store.specs.Catalog.{CatalogView}
 use Rattle.sand_store.specs.Contents.{database_in}
-use Rattle.statement_exec.specs.Causes.{BlamesNone}
-use Rattle.statement_exec.proofs.CausedLines.{check_blames_none}
-use Rattle.statement_exec.proofs.PlanChecks.{plan_refuses}
-use Rattle.statement_exec.specs.Performing.{line_of_answer}
-use Rattle.statement_exec.specs.declared.reply.Reply.{Reply}
 use Rattle.statement_exec.specs.declared.reply.Reply.TheVariants as reply
 use Rattle.cursor_exec.proofs.CursorOutcomes.{open_performs}
 use Rattle.cursor_exec.proofs.OwnNames.{own_opened}
-use Rattle.cursor_exec.specs.OpenCursors.{HaveOwnNames, StandAll}
+use Rattle.cursor_exec.specs.OpenCursors.{AreNamed, HaveOwnNames, StandAll}
 use Rattle.cursor_exec.specs.Outcomes.{PerformsBeside}
 use Rattle.cursor_exec.specs.declared.open_cursor.OpenCursor.{OpenCursor}
 use Rattle.cursor_lines.proofs.Given.{most_more}
 use Rattle.cursor_lines.proofs.PlanOutcomes.{memory_refused, open_refused}
 use Rattle.cursor_lines.proofs.Written.{answer_written}
-use Rattle.cursor_lines.specs.Carried.{CarriesBeside, WritesOf}
+use Rattle.cursor_lines.specs.Carried.{CarriesBeside}
 use Rattle.plan_lines.proofs.Checked.{name_free, plan_passes}
 use Rattle.plan_lines.proofs.OneMore.{most_opened}
 use Rattle.plan_lines.specs.PlanCursors.{PlanAt, ChecksGive, OpensOf}
@@ -44,18 +38,18 @@ pub checks_given : (catalog : CatalogView) (shown xs : List (OpenCursor Source S
 checks_given catalog shown xs name p result end same is checks pages cs all = λ setting.
     checks pages cs (subst (λ (ys : List (OpenCursor Source Stage)). StandAll PlanAt pages ys cs) (sym same) all) setting ∙ is
 
+-- the same beside cursors of the names
+pub checks_named : (catalog : CatalogView) (shown xs : List (OpenCursor Source Stage)) (name : List ℕ) (p : Plan) (result end : Option Refusal) → shown ≡ xs → result ≡ end
+    → ((pages : PageMap) (cs : List Cursor) → AreNamed shown cs → ChecksGive catalog pages cs name p result)
+    → (pages : PageMap) (cs : List Cursor) → AreNamed xs cs → ChecksGive catalog pages cs name p end
+checks_named catalog shown xs name p result end same is checks pages cs all = λ setting.
+    checks pages cs (subst (λ (ys : List (OpenCursor Source Stage)). AreNamed ys cs) (sym same) all) setting ∙ is
+
 -- the plan is refused, though no check of the opening fails: it is memory
 pub only_memory : (catalog : CatalogView) (pages : PageMap) (cs : List Cursor) (name : List ℕ) (p : Plan) (w : Refusal) → ChecksGive catalog pages cs name p None
     → ((w ≡ why.Memory) ⊎ ((pages : PageMap) → check (database_in pages catalog.relations) p ≡ Some w)) → (w ≡ why.Memory) ⊎ ChecksGive catalog pages cs name p (Some w)
 only_memory catalog pages cs name p w passes (inl memory) = inl memory
 only_memory catalog pages cs name p w passes (inr fails) = let some = fails pages in let none = plan_passes catalog pages cs name p passes in absurd cc
-
--- why a plan isn't started blames nothing outside
-pub start_blames_none : (catalog : CatalogView) (p : Plan) (w : Refusal) → ((w ≡ why.Memory) ⊎ ((pages : PageMap) → check (database_in pages catalog.relations) p ≡ Some w)) → BlamesNone w
-start_blames_none catalog p w (inl memory) = subst BlamesNone (sym memory) tt
-start_blames_none catalog p w (inr fails) =
-    let no_pages : PageMap = map.empty in
-    check_blames_none w (plan_refuses (database_in no_pages catalog.relations) p w (fails no_pages))
 
 module _ (catalog : CatalogView) (pages : PageMap) (cs : List Cursor) (own : HaveOwnNames cs) (pool : PoolState) (same : pool.pages ≡ pages) (name : List ℕ) (p : Plan)
     (a b : List ℕ → Type 0) (At : List Cursor → Type 0) (r : Result Bool Failed) where

@@ -1,6 +1,6 @@
 -- What is written of the first rows of a plan.
 use Rattle.std.proofs.Common.{◌≡◌, ◌⊎◌, ℕ, Bool, true, false, List, [], ◌∷◌, Some, None, refl, sym, ◌∙◌, subst, inl, inr, true≢false}
-use Rattle.std.specs.Prelude.{Result, Err, IfOk, IfSome, OnErr, ⊤, if◌then◌else◌}
+use Rattle.std.specs.Prelude.{Result, Err, IfOk, IfSome, OnErr, if◌then◌else◌}
 use Rattle.best_first.proofs.Passing.{read_itself}
 use Rattle.best_first.specs.Visits.{told_pages}
 use Rattle.output_text.specs.Writing.{Writes, WritesPrefix}
@@ -19,11 +19,13 @@ use Rattle.sand_model.specs.Statement.{Show}
 use Rattle.sand_store.specs.Catalog.{CatalogView}
 use Rattle.sand_store.specs.Contents.{database_in}
 use Rattle.sand_store.specs.Standing.{CatalogStands, IsStore}
-use Rattle.statement_exec.specs.Causes.{AreCausedIn}
+use Rattle.statement_exec.specs.Deciding.{ComesBehind}
+use Rattle.cursor_exec.proofs.DecidedCursors.{pages_come, passing_decides, up_to_so}
 use Rattle.cursor_exec.specs.Outcomes.{PerformsBeside}
+use Rattle.cursor_exec.specs.Steps.{IsOfPages}
 use Rattle.cursor_lines.proofs.PlanOutcomes.{memory_refused, show_refused, show_performs, show_memory}
 use Rattle.cursor_lines.proofs.Written.{answer_written, writes_so}
-use Rattle.cursor_lines.specs.Carried.{RowsOf, WritesOf}
+use Rattle.cursor_lines.specs.Carried.{AreRowLines, RowsOf, WritesOf}
 
 -- what holds over all pages in which the catalog stands holds over the desk's
 pub over_store : (catalog : CatalogView) (desk : DeskState) (P : PageMap → Type 0) → IsStore catalog desk.pool → ((pages : PageMap) → CatalogStands pages catalog → P pages) → IfSome (told_pages desk) P
@@ -49,14 +51,21 @@ module _ (catalog : CatalogView) (count : ℕ) (p : Plan) (cs : List Cursor) whe
     rows_shown lines (after, inl ended) = show_performs catalog cs old new read count p (λ setting. passes old.pages) ended.0 after lines ended.1 ended.2 ended.3
     rows_shown lines (after, inr memory) = show_memory catalog cs old new read count p (λ setting. passes old.pages) after lines memory
 
-    -- over a disk that doesn't tell its pages any lines will do that have their causes
-    any_shown : old.disk.told ≡ false → (lines : List OutputLine) → AreCausedIn old new lines → PerformsBeside (Show count p) catalog old new cs cs lines
-    any_shown untold lines h = λ files shelf. (h files shelf cs cs catalog, λ told. absurd (true≢false (sym told ∙ untold)))
+    -- over a disk that doesn't tell its pages any lines of rows will do
+    any_shown : old.disk.told ≡ false → (lines : List OutputLine) → AreRowLines old new lines → PerformsBeside (Show count p) catalog old new cs cs lines
+    any_shown untold lines h = λ files shelf. (
+      (
+        h.0 files shelf cs cs catalog,
+        passing_decides catalog cs cs old new files files shelf shelf (Show count p) refl lines (λ setting. passes old.pages)
+            (λ setting. up_to_so (λ w. IsOfPages (Some w)) (ComesBehind (Show count p)) (pages_come (Show count p) refl) lines h.1) refl,
+      ),
+      λ told. absurd (true≢false (sym told ∙ untold)),
+    )
 
     -- the lines of the rows that were written
     pub show_written : (At : PageMap → Cursor → Type 0) (a b : List ℕ → Type 0) (r : Result Bool Failed) → IsStore catalog old
         → ((pages : PageMap) → CatalogStands pages catalog → (name : List ℕ) → At pages (new_cursor name p (database_in pages catalog.relations)))
-        → IfSome (if old.disk.told then Some old.pages else None) (λ pages. (c : Cursor) → At pages c → WritesOf (RowsOf c count old new) a b r) → WritesOf (AreCausedIn old new) a b r
+        → IfSome (if old.disk.told then Some old.pages else None) (λ pages. (c : Cursor) → At pages c → WritesOf (RowsOf c count old new) a b r) → WritesOf (AreRowLines old new) a b r
         → WritesOf (PerformsBeside (Show count p) catalog old new cs cs) a b r
     show_written At a b r s stands rows plain = go old.disk.told refl rows where
       go : (t : Bool) → old.disk.told ≡ t → IfSome (if t then Some old.pages else None) (λ pages. (c : Cursor) → At pages c → WritesOf (RowsOf c count old new) a b r)
@@ -64,4 +73,4 @@ module _ (catalog : CatalogView) (count : ℕ) (p : Plan) (cs : List Cursor) whe
       go true e h =
           writes_so (RowsOf (new_cursor [] p (database_in old.pages catalog.relations)) count old new) (PerformsBeside (Show count p) catalog old new cs cs) a b rows_shown r
           (h (new_cursor [] p (database_in old.pages catalog.relations)) (stands old.pages (s.stands e) []))
-      go false e h = writes_so (AreCausedIn old new) (PerformsBeside (Show count p) catalog old new cs cs) a b (any_shown e) r plain
+      go false e h = writes_so (AreRowLines old new) (PerformsBeside (Show count p) catalog old new cs cs) a b (any_shown e) r plain

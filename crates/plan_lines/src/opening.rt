@@ -1,4 +1,4 @@
-ghost use Rattle.std.specs.Prelude.{◌≡◌, List, IfErr};
+ghost use Rattle.std.specs.Prelude.{◌≡◌, List};
 ghost use Rattle.page_pool.specs.Disk.{PageMap};
 ghost use Rattle.page_pool.specs.Pool.{PoolState};
 ghost use Rattle.plan_check.specs.PlanValue.{plan_value};
@@ -9,9 +9,8 @@ ghost use Rattle.sand_store.specs.Catalog.{IsCatalog};
 ghost use Rattle.sand_store.specs.Standing.{CatalogStands};
 ghost use Rattle.script_text.specs.InRange.{IsPlanInRange};
 ghost use Rattle.script_text.specs.Plan as text;
-ghost use Rattle.statement_exec.specs.Causes.{AreCausedIn, BlamesNone};
-ghost use Rattle.cursor_exec.specs.OpenCursors.{HaveOwnNames, StandAll};
-ghost use Rattle.cursor_lines.specs.Carried.{CarriesBeside, WritesOf};
+ghost use Rattle.cursor_exec.specs.OpenCursors.{AreNamed, HaveOwnNames, StandAll};
+ghost use Rattle.cursor_lines.specs.Carried.{CarriesBeside};
 ghost use Rattle.plan_lines.specs.PlanCursors.{PlanAt, OpensOf};
 
 use crate::answers::answer_with;
@@ -36,7 +35,7 @@ fn open<'s>(
     requires in_range { IsPlanInRange (text.plan_value plan.now) }
     ensures opens { (pages : PageMap) → CatalogStands pages catalog.now → (cs : List Cursor) → StandAll PlanAt pages cursors.old.items cs
         → OpensOf catalog.now pages cs name.now (plan_value plan.now) result (StandAll PlanAt pages cursors.new.items) }
-    ensures inside { IfErr result BlamesNone }
+    ensures named { (pages : PageMap) (cs : List Cursor) → AreNamed cursors.old.items cs → OpensOf catalog.now pages cs name.now (plan_value plan.now) result (AreNamed cursors.new.items) }
 {
     if let Some(why) = refused_open(catalog, cursors, name, plan) {
         return Err(why);
@@ -71,7 +70,7 @@ pub fn open_line<'s, K: Sink>(
 ) -> Result<bool, Failed>
     requires described { IsCatalog catalog.now }
     requires in_range { IsPlanInRange (text.plan_value plan.now) }
-    ensures plain { (pool : PoolState) → WritesOf (AreCausedIn pool pool) (K.took out.old) (K.took out.new) result }
+    ensures named { (cs : List Cursor) → HaveOwnNames cs → AreNamed cursors.old.items cs → (pool : PoolState) → CarriesBeside (Opens name.now (plan_value plan.now)) catalog.now pool pool cs (K.took out.old) (K.took out.new) result (AreNamed cursors.new.items) }
     ensures carried { (pages : PageMap) → CatalogStands pages catalog.now → (cs : List Cursor) → HaveOwnNames cs → StandAll PlanAt pages cursors.old.items cs
         → (pool : PoolState) → pool.pages ≡ pages
         → CarriesBeside (Opens name.now (plan_value plan.now)) catalog.now pool pool cs (K.took out.old) (K.took out.new) result (StandAll PlanAt pages cursors.new.items) }

@@ -4,9 +4,8 @@ use Rattle.plan_check.specs.PlanValue.{plan_value}
 use Rattle.sand_model.specs.Cursor.{new_cursor}
 use Rattle.sand_store.specs.Contents.{database_in}
 use Rattle.plan_lines.specs.PlanCursors.{PlanAt}
-use Rattle.statement_exec.proofs.CausedLines.{check_blames_none}
-use Rattle.plan_lines.proofs.OneMore.{all_stand}
-use Rattle.plan_lines.proofs.Openings.{checks_given, only_memory, start_blames_none}
+use Rattle.plan_lines.proofs.OneMore.{all_named, all_stand}
+use Rattle.plan_lines.proofs.Openings.{checks_given, checks_named, only_memory}
 use Rattle.plan_lines.proofs.opening.open.Goals as goal
 
 -- the first check that fails
@@ -35,9 +34,27 @@ returns-in-Ok-push-clause-opens c = λ pages stands cs all. (
       (c.in-Ok.ensures.stands pages stands c.args.name.now) c.args.cursors.now.items c.push.new.self.items cs c.in-Ok-push.ensures.items all,
 )
 
--- no check blames anything outside, and no want of memory
-pub returns-in-Some-clause-inside : goal.returns-in-Some-clause-inside
-returns-in-Some-clause-inside c = check_blames_none c.in-Some.why c.in-Some.ensures.of_check
+-- the same by the names, wherever the cursors stand
 
-pub returns-in-Err-clause-inside : goal.returns-in-Err-clause-inside
-returns-in-Err-clause-inside c = start_blames_none c.args.catalog.now (plan_value c.args.plan.now) c.in-Err.why c.in-Err.ensures.refused
+pub returns-in-Some-clause-named : goal.returns-in-Some-clause-named
+returns-in-Some-clause-named c = λ pages cs all. (
+  inr (checks_named c.args.catalog.now c.deref.result.now c.args.cursors.now.items c.args.name.now (plan_value c.args.plan.now) c.refused_open.result (Some c.in-Some.why)
+      c.deref.ensures.value c.in-Some.is c.refused_open.ensures.names pages cs all),
+  all,
+)
+
+pub returns-in-Err-clause-named : goal.returns-in-Err-clause-named
+returns-in-Err-clause-named c = λ pages cs all. (
+  only_memory c.args.catalog.now pages cs c.args.name.now (plan_value c.args.plan.now) c.in-Err.why
+      (checks_named c.args.catalog.now c.deref.result.now c.args.cursors.now.items c.args.name.now (plan_value c.args.plan.now) c.refused_open.result None
+      c.deref.ensures.value c.in_default.is c.refused_open.ensures.names pages cs all) c.in-Err.ensures.refused,
+  all,
+)
+
+pub returns-in-Ok-push-clause-named : goal.returns-in-Ok-push-clause-named
+returns-in-Ok-push-clause-named c = λ pages cs all. (
+  checks_named c.args.catalog.now c.deref.result.now c.args.cursors.now.items c.args.name.now (plan_value c.args.plan.now) c.refused_open.result None
+      c.deref.ensures.value c.in_default.is c.refused_open.ensures.names pages cs all,
+  all_named (record { name = c.in-Ok-copy.copied; cursor = c.in-Ok.running.cursor }) (new_cursor c.args.name.now (plan_value c.args.plan.now) (database_in pages c.args.catalog.now.relations)) (sym c.in-Ok-copy.ensures)
+      c.args.cursors.now.items c.push.new.self.items cs c.in-Ok-push.ensures.items all,
+)
