@@ -1,5 +1,5 @@
 -- What a line does beside open cursors, from what it says.
-use Rattle.std.proofs.Common.{◌≡◌, ℕ, ◌+◌, ◌≤◌, arith, Bool, true, false, List, [], ◌∷◌, Some, None, refl, sym, ap, subst, inl, inr}
+use Rattle.std.proofs.Common.{◌≡◌, ℕ, ◌+◌, ◌≤◌, arith, Bool, true, false, List, [], ◌∷◌, Some, None, refl}
 use Rattle.std.specs.Prelude.{Result, Ok, IfOk, OnErr}
 use Rattle.output_text.specs.Writing.{Writes, WritesPrefix}
 use Rattle.page_pool.specs.Pool.{PoolState}
@@ -7,12 +7,9 @@ use Rattle.sand_base.specs.declared.refusal.Refusal.{Refusal}
 use Rattle.sand_base.specs.declared.source.Failed.{Failed}
 use Rattle.sand_model.specs.Cursor.{Cursor, Refused}
 use Rattle.sand_model.specs.OutputText.{IsText}
-use Rattle.sand_model.specs.Run.{LineOutcome}
-use Rattle.sand_model.specs.Statement.{ScriptLine, Blank, TooLong, BadToken, OutOfRange, Says as SaysOf}
-use Rattle.sand_model.specs.StatementChecks.{Setting}
 use Rattle.sand_store.specs.Catalog.{CatalogView}
 use Rattle.script_run.specs.Carrying.{CarriesLine}
-use Rattle.script_run.specs.Reading.{Says, Refuses, IsRefusedSo}
+use Rattle.script_run.specs.Reading.{Says, Refuses}
 use Rattle.script_run.specs.Turns.{spoken}
 use Rattle.script_text.specs.InRange.{IsInRange}
 use Rattle.script_text.specs.Statement as text
@@ -22,7 +19,7 @@ use Rattle.script_run.proofs.LineCalls.{passed_over, unread}
 use Rattle.statement_exec.specs.Causes.{BlamesNone}
 use Rattle.statement_exec.proofs.Texts.{writes_none}
 use Rattle.statement_exec.specs.Ending.{refused_line}
-use Rattle.statement_exec.specs.Moment.{Moment, beside, rises_between}
+use Rattle.statement_exec.specs.Moment.{beside}
 use Rattle.cursor_exec.specs.OpenCursors.{HaveOwnNames}
 use Rattle.cursor_exec.specs.Outcomes.{PerformsBeside}
 use Rattle.cursor_lines.proofs.Given.{most_more}

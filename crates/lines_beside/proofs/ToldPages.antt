@@ -18,10 +18,13 @@ pub same_told : (old new : DeskState) → IsRead old.pool new.pool → told_page
 same_told old new read = ap (λ (t : Bool). told_of t new.pool.pages) read.told ∙ ap (λ (m : PageMap). told_of old.pool.disk.told m) read.pages
 
 -- where no pages are told, the disk doesn't tell
-pub untold : (desk : DeskState) → told_pages desk ≡ None → IsTold desk.pool → ⊥
-untold desk none told =
-    let some : Some desk.pool.pages ≡ None = sym (ap (λ (t : Bool). told_of t desk.pool.pages) told) ∙ none in
-    absurd (true≢false (ap (λ (o : Option PageMap). is_some o) some))
+pub not_told : (desk : DeskState) → told_pages desk ≡ None → desk.pool.disk.told ≡ false
+not_told desk none = go desk.pool.disk.told refl where
+  go : (t : Bool) → desk.pool.disk.told ≡ t → t ≡ false
+  go false e = refl
+  go true e =
+      let some : Some desk.pool.pages ≡ None = sym (ap (λ (t : Bool). told_of t desk.pool.pages) e) ∙ none in
+      absurd (true≢false (ap (λ (o : Option PageMap). is_some o) some))
 
 -- the pages that are told are those of the pool, and the disk tells
 pub are_told : (desk : DeskState) (pages : PageMap) → told_pages desk ≡ Some pages → IsTold desk.pool × (desk.pool.pages ≡ pages)

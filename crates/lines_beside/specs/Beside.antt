@@ -11,14 +11,14 @@ use Rattle.sand_model.specs.Cursor.{Cursor}
 use Rattle.sand_store.specs.Catalog.{CatalogView}
 use Rattle.script_run.specs.Carrying.{CarriesLine}
 use Rattle.statement_exec.specs.Moment.{beside}
-use Rattle.cursor_exec.specs.OpenCursors.{HaveOwnNames, StandAll}
+use Rattle.cursor_exec.specs.OpenCursors.{AreNamed, HaveOwnNames, StandAll}
 use Rattle.cursor_exec.specs.declared.open_cursor.OpenCursor.{OpenCursor}
 use Rattle.cursor_lines.specs.Carried.{GaveAtMost, WritesOf}
 use Rattle.plan_lines.specs.PlanCursors.{PlanAt}
 
--- over the desk's pages, where its disk tells them, the open cursors stand where these of the model do
+-- the open cursors have the names of these of the model, and over the desk's pages, where its disk tells them, they stand where these do
 abbrev pub StandOver : DeskState → List (OpenCursor Source Stage) → List Cursor → Type 0
-StandOver desk items cs = IfSome (told_pages desk) (λ pages. StandAll PlanAt pages items cs)
+StandOver desk items cs = AreNamed items cs × IfSome (told_pages desk) (λ pages. StandAll PlanAt pages items cs)
 
 -- they stand where some of the model do
 abbrev pub AreStanding : DeskState → List (OpenCursor Source Stage) → Type 0

@@ -14,22 +14,22 @@ use Rattle.lines_beside.proofs.statements.statement_beside.Goals as goal
 pub returns-in-OpenCursor-clause-carried : goal.returns-in-OpenCursor-clause-carried
 returns-in-OpenCursor-clause-carried g c = λ cs own counted stand.
     subst (λ (s : Statement). CarriesBeside (spoken (statement_value s)) c.args.catalog.now c.args.desk.now.pool c.args.desk.now.pool cs (g.K.Sink.took c.args.out.now) (g.K.Sink.took c.open_line.new.out) c.open_line.result (StandOver c.args.desk.now c.open_line.new.cursors.items)) (sym c.in-OpenCursor.is)
-    (open_beside c.args.catalog.now c.args.desk.now (g.K.Sink.took c.args.out.now) (g.K.Sink.took c.open_line.new.out) c.open_line.result c.args.cursors.now.items cs own c.open_line.ensures.plain
-    c.in-OpenCursor.cursor (plan_value c.in-OpenCursor.plan) c.open_line.new.cursors.items c.requires.stored c.open_line.ensures.carried stand)
+    (open_beside c.args.catalog.now c.args.desk.now (g.K.Sink.took c.args.out.now) (g.K.Sink.took c.open_line.new.out) c.open_line.result c.args.cursors.now.items cs own
+    c.in-OpenCursor.cursor (plan_value c.in-OpenCursor.plan) c.open_line.new.cursors.items c.requires.stored c.open_line.ensures.named c.open_line.ensures.carried stand)
 
 -- over pages that are told the cursor of the name makes steps, or none has the name
 pub returns-in-Next-clause-carried : goal.returns-in-Next-clause-carried
 returns-in-Next-clause-carried g c = λ cs own counted stand.
     subst (λ (s : Statement). CarriesBeside (spoken (statement_value s)) c.args.catalog.now c.args.desk.now.pool c.next_line.new.desk.pool cs (g.K.Sink.took c.args.out.now) (g.K.Sink.took c.next_line.new.out) c.next_line.result (StandOver c.next_line.new.desk c.next_line.new.cursors.items)) (sym c.in-Next.is)
     (next_beside c.args.catalog.now c.args.desk.now c.next_line.new.desk c.next_line.ensures.read c.in-Next.cursor c.in-Next.count (g.K.Sink.took c.args.out.now) (g.K.Sink.took c.next_line.new.out) c.next_line.result
-    c.args.cursors.now.items c.next_line.new.cursors.items cs own c.next_line.ensures.plain c.next_line.ensures.carried stand)
+    c.args.cursors.now.items c.next_line.new.cursors.items cs own c.next_line.ensures.named c.next_line.ensures.carried stand)
 
 -- the cursor of the name is gone, or none has the name
 pub returns-in-CloseCursor-clause-carried : goal.returns-in-CloseCursor-clause-carried
 returns-in-CloseCursor-clause-carried g c = λ cs own counted stand.
     subst (λ (s : Statement). CarriesBeside (spoken (statement_value s)) c.args.catalog.now c.args.desk.now.pool c.args.desk.now.pool cs (g.K.Sink.took c.args.out.now) (g.K.Sink.took c.close_line.new.out) c.close_line.result (StandOver c.args.desk.now c.close_line.new.cursors.items)) (sym c.in-CloseCursor.is)
-    (close_beside c.args.catalog.now c.args.desk.now (g.K.Sink.took c.args.out.now) (g.K.Sink.took c.close_line.new.out) c.close_line.result c.args.cursors.now.items cs own c.close_line.ensures.plain
-    c.in-CloseCursor.cursor c.close_line.new.cursors.items c.close_line.ensures.carried stand)
+    (close_beside c.args.catalog.now c.args.desk.now (g.K.Sink.took c.args.out.now) (g.K.Sink.took c.close_line.new.out) c.close_line.result c.args.cursors.now.items cs own
+    c.in-CloseCursor.cursor c.close_line.new.cursors.items c.close_line.ensures.named c.close_line.ensures.carried stand)
 
 -- the open cursors are as they were, whatever was shown
 pub returns-in-Show-clause-carried : goal.returns-in-Show-clause-carried
@@ -42,8 +42,8 @@ returns-in-Show-clause-carried g c = λ cs own counted stand.
 pub returns-in-Stats-clause-carried : goal.returns-in-Stats-clause-carried
 returns-in-Stats-clause-carried g c = λ cs own counted stand.
     subst (λ (s : Statement). CarriesBeside (spoken (statement_value s)) c.args.catalog.now c.args.desk.now.pool c.args.desk.now.pool cs (g.K.Sink.took c.args.out.now) (g.K.Sink.took c.stats_line.new.out) c.stats_line.result (StandOver c.args.desk.now c.args.cursors.now.items)) (sym c.in-Stats.is)
-    (stats_beside c.args.catalog.now c.args.desk.now (g.K.Sink.took c.args.out.now) (g.K.Sink.took c.stats_line.new.out) c.stats_line.result c.args.cursors.now.items cs own c.stats_line.ensures.plain
-    c.in-Stats.cursor counted (rw c.deref.ensures.value at c.stats_line.ensures.written) stand)
+    (stats_beside c.args.catalog.now c.args.desk.now (g.K.Sink.took c.args.out.now) (g.K.Sink.took c.stats_line.new.out) c.stats_line.result c.args.cursors.now.items cs own
+    c.in-Stats.cursor counted (rw c.deref.ensures.value at c.stats_line.ensures.named) (rw c.deref.ensures.value at c.stats_line.ensures.written) stand)
 
 -- the open cursors are as they were, whatever leaves were printed
 pub returns-in-Blocks-clause-carried : goal.returns-in-Blocks-clause-carried
@@ -66,5 +66,5 @@ returns-in-Create-clause-carried g c = λ cs own counted stand.
         ]
       ]
     ] in
-    change_beside c.args.catalog.now c.args.desk.now (g.K.Sink.took c.args.out.now) (g.K.Sink.took c.change_line.new.out) c.change_line.result c.args.cursors.now.items cs own c.change_line.ensures.plain
+    change_beside c.args.catalog.now c.args.desk.now (g.K.Sink.took c.args.out.now) (g.K.Sink.took c.change_line.new.out) c.change_line.result c.args.cursors.now.items cs own
     (spoken (statement_value c.args.statement.now)) (c.requires.open change) c.change_line.ensures.written stand
