@@ -15,7 +15,7 @@ use Rattle.sand_model.specs.Statement.{ScriptLine}
 use Rattle.script_run.specs.Carrying.{CarriesLine, CarriesLines, Follows, InEach}
 use Rattle.script_run.specs.ShelfRun.{ShelfRun}
 use Rattle.script_run.specs.Spoken.{AreLines}
-use Rattle.script_run.specs.Unread.{AnswerInOrder}
+use Rattle.script_run.specs.Said.{AreAnswered}
 use Rattle.script_run.proofs.Runs.{lines_append, follows_on, follows_itself}
 use Rattle.statement_exec.specs.Moment.{Moment, rises_between}
 use Rattle.statement_exec.proofs.CausedLines.{caused_none}
@@ -28,8 +28,8 @@ use Rattle.session.specs.declared.status.Status.TheVariants as status
 no_lines : (first : Moment) → CarriesLines [] first first []
 no_lines first = (caused_none first first, none) where
   none : (script : List ScriptLine) → AreLines [] script
-      → AnswerInOrder script [] × InEach first first (λ setting. ShelfRun first.files setting first.state script (rises_between first first) [] first.state)
-  none [] are = (refl, λ told disk shelf setting lowest is. (refl, refl))
+      → AreAnswered script first first [] × InEach first first (λ setting. ShelfRun first.files setting first.state script (rises_between first first) [] first.state)
+  none [] are = (λ setting s. (refl, refl), λ told disk shelf setting lowest is. (refl, refl))
   none (line ∷ script) are = absurd are
 
 -- a test of more at the end

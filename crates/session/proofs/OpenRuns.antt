@@ -1,6 +1,6 @@
 -- A run while cursors are open: how statements and lines lead it on, and how it ends.
-use Rattle.std.proofs.Common.{◌≡◌, ℕ, suc, ◌+◌, ◌*◌, ◌<◌, ◌≤◌, Bool, true, false, true≢false, not, ◌||◌, eqb, if◌then◌else◌, List, [], ◌∷◌, ◌++◌, length, Option, None, Some, Result, Ok, Err, IfOk, IfErr, OnErr, IfSome, refl, sym, ap, ◌∙◌, subst, inl, inr, arith, length-append}
-use Rattle.std.proofs.lemmas.Bool.{cond_both, eqb-true, false≢true}
+use Rattle.std.proofs.Common.{◌≡◌, ℕ, suc, ◌+◌, ◌*◌, ◌<◌, ◌≤◌, Bool, true, false, true≢false, not, ◌||◌, eqb, List, [], ◌∷◌, ◌++◌, length, map, Option, None, Some, Result, Ok, Err, IfOk, IfErr, OnErr, IfSome, refl, sym, ap, ◌∙◌, subst, inl, inr, arith, length-append}
+use Rattle.std.proofs.lemmas.Bool.{cond_both, eqb-true}
 use Rattle.best_first.specs.Visits.{told_pages}
 use Rattle.cursor_exec.specs.OpenCursors.{HaveOwnNames, StandAll}
 use Rattle.cursor_exec.specs.Outcomes.{PerformsBeside}
@@ -21,7 +21,7 @@ use Rattle.sand_base.specs.Faults.{last_count}
 use Rattle.sand_base.specs.Shelf.{Files}
 use Rattle.sand_base.specs.declared.refusal.Refusal.TheVariants as why
 use Rattle.sand_base.specs.declared.source.Failed.{Failed}
-use Rattle.sand_model.specs.Cursor.{Cursor, OutputLine, State}
+use Rattle.sand_model.specs.Cursor.{Cursor, State}
 use Rattle.sand_model.specs.OutputText.{IsText}
 use Rattle.sand_store.specs.Catalog.{CatalogView, StoreState}
 use Rattle.script_lines.specs.Lines.{cut, onto, lines, last_line, is_short_line}
@@ -35,7 +35,6 @@ use Rattle.script_run.proofs.LineCalls.{turn_of_long, break_of_long}
 use Rattle.script_text.specs.Statement as text
 use Rattle.script_text.specs.Statement.{StatementValue, statement_value}
 use Rattle.script_text.specs.declared.statement.Statement.{Statement}
-use Rattle.statement_exec.specs.Causes.{AreCaused}
 use Rattle.statement_exec.specs.Ending.{RisesByOne, refused_line}
 use Rattle.statement_exec.specs.Moment.{Moment, beside, moment_of}
 use Rattle.statement_exec.specs.Printing.{Prints}
@@ -125,9 +124,6 @@ follows_read catalog old new cs cs' files shelf read up =
 follows_state : (first last : Moment) (state : State) → Follows first last → Follows first (record last { state = state })
 follows_state first last state f = record { limits = f.limits; told = f.told; files = f.files; disk = f.disk; shelf = f.shelf }
 
-caused_state : (first last : Moment) (state : State) (lines : List OutputLine) → AreCaused first last lines → AreCaused first (record last { state = state }) lines
-caused_state first last state lines c = record { device = c.device; file = c.file; damage = c.damage }
-
 ends_state : (why : Status) (last : Moment) (state : State) (left : Option (List ℕ)) (before now : List ℕ → Type 0) (first : Moment) (script : Option (List ℕ)) (text : List ℕ)
     → EndsAt why last left before now first script text → EndsAt why (record last { state = state }) left before now first script text
 ends_state why last state left before now first script text end = (end.0, end.1, follows_state first last state end.2)
@@ -169,14 +165,17 @@ long_beside None catalog pool cs a b result At is_long short long own at w p = r
 
 -- no cursor is open, in the model neither
 pub none_stand : (desk : DeskState) (items : List (OpenCursor Source Stage)) → items ≡ [] → StandOver desk items []
-none_stand desk items none = subst (λ xs. StandOver desk xs []) (sym none) (go (told_pages desk)) where
+none_stand desk items none = subst (λ xs. StandOver desk xs []) (sym none) (refl, go (told_pages desk)) where
   go : (told : Option PageMap) → IfSome told (λ pages. StandAll PlanAt pages [] [])
   go None = tt
   go (Some pages) = tt
 
-none_open : (pages : PageMap) (cs : List Cursor) → StandAll PlanAt pages [] cs → cs ≡ []
-none_open pages [] h = refl
-none_open pages (c ∷ cs) h = absurd h
+none_open : (cs : List Cursor) → map (λ (c : Cursor). c.name) cs ≡ [] → cs ≡ []
+none_open [] h = refl
+none_open (c ∷ cs) h = absurd (true≢false (ap (λ (ns : List (List ℕ)). some_more ns) h)) where
+  some_more : List (List ℕ) → Bool
+  some_more [] = false
+  some_more (n ∷ ns) = true
 
 -- no cursor is open
 pub no_items : (items : List (OpenCursor Source Stage)) (n : ℕ) → n ≡ length items → eqb n 0 ≡ true → items ≡ []
@@ -232,29 +231,7 @@ module _ (catalog : CatalogView) (old mid : Spot) (items : List (OpenCursor Sour
   Resumes-closed none files shelf first script text hand =
       let grown = run.resumes files shelf first script text hand in
       let stand : StandOver mid.desk [] run.cs = subst (λ xs. StandOver mid.desk xs run.cs) none run.stand in
-      (grown.0, grown.1, by_told first script (text ++ grown.0) mid.desk.pool.disk.told refl stand grown.2) where
-        by_told : (first : Moment) (script : Option (List ℕ)) (all : List ℕ) (told : Bool) → mid.desk.pool.disk.told ≡ told → StandOver mid.desk [] run.cs
-            → SoFar first script all (place_at mid catalog run.cs files shelf) → SoFar first script all (place_at mid catalog [] files shelf)
-        by_told first script all true e stand so_far =
-            let stands : StandAll PlanAt mid.desk.pool.pages [] run.cs =
-            subst (λ t. IfSome (if t then Some mid.desk.pool.pages else None) (λ pages. StandAll PlanAt pages [] run.cs)) e stand in
-            subst (λ cs. SoFar first script all (place_at mid catalog cs files shelf)) (none_open mid.desk.pool.pages run.cs stands) so_far
-        by_told first script all false e stand so_far = record {
-          bytes = so_far.bytes;
-          given = so_far.given;
-          consumed = so_far.consumed;
-          reads = so_far.reads;
-          follows = follows_state first (beside run.cs catalog mid.desk.pool files shelf) (beside [] catalog mid.desk.pool files shelf).state so_far.follows;
-          printed = record {
-            lines = so_far.printed.lines;
-            holds = (
-              caused_state first (beside run.cs catalog mid.desk.pool files shelf) (beside [] catalog mid.desk.pool files shelf).state so_far.printed.lines so_far.printed.holds.0,
-              λ said are. ((so_far.printed.holds.1 said are).0, λ told. absurd (false≢true (sym e ∙ so_far.follows.told ∙ told))),
-            );
-            told = so_far.printed.told;
-            refused = so_far.printed.refused;
-          };
-        }
+      (grown.0, grown.1, subst (λ cs. SoFar first script (text ++ grown.0) (place_at mid catalog cs files shelf)) (none_open run.cs stand.0) grown.2)
 
   module _ (reader' : ScriptLines) (left' : Option (List ℕ)) (is_long : Bool) (draws : Draws (Ok is_long) mid.reader reader' mid.left left') where
     -- no cursor gave more rows than are counted

@@ -15,9 +15,9 @@ use Rattle.output_text.specs.Writing.{Writes, WritesPrefix}
 use Rattle.script_lines.specs.Lines.{lines, ended_lines}
 use Rattle.script_lines.specs.declared.TheConstants.{LONGEST_SCRIPT}
 use Rattle.script_run.specs.Carrying.{InEach}
+use Rattle.script_run.specs.Said.{AreAnswered}
 use Rattle.script_run.specs.ShelfRun.{ShelfRun}
 use Rattle.script_run.specs.Spoken.{AreLines}
-use Rattle.script_run.specs.Unread.{AnswerInOrder}
 use Rattle.statement_exec.specs.Causes.{AreCaused}
 use Rattle.statement_exec.specs.Moment.{Moment, rises_between}
 use Rattle.statement_exec.specs.Printing.{Prints, PrintsSome}
@@ -25,10 +25,10 @@ use Rattle.session.specs.Outside.{SourceView, SinkView, Outside}
 use Rattle.session.specs.declared.status.Status.{Status}
 use Rattle.session.specs.declared.status.Status.TheVariants as status
 
--- The lines say this script, and these lines of output, whose refusals from outside have their causes and which each line of the script printed by what it says, are those of a run over the shelf that led from one moment to another; the run where the disk tells its pages and no count is at its end.
+-- The lines say this script. These lines of output, whose refusals from outside have their causes and which each line of the script printed as it is decided in the outline that the lines before it left, are those of a run over the shelf that led from one moment to another; the run where the disk tells its pages and no count is at its end.
 abbrev pub RunsOver : List (List ℕ) → Moment → Moment → List OutputLine → Type 0
 RunsOver lines old new printed =
-    (script : List ScriptLine) × AreLines lines script × AreCaused old new printed × AnswerInOrder script printed
+    (script : List ScriptLine) × AreLines lines script × AreCaused old new printed × AreAnswered script old new printed
     × InEach old new (λ setting. ShelfRun old.files setting old.state script (rises_between old new) printed new.state)
 
 -- a run over these lines led from one moment to another, its text was written, and the mark says whether a line was refused
