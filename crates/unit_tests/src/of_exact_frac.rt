@@ -4,9 +4,7 @@ use std::cmp::Ordering;
 use std::process::Abort;
 
 fn fraction(rt: &impl Abort, (num, den): (u128, u128)) -> Frac {
-    assert!(rt; num <= MAX_NUM, "numerator of {num}/{den}");
-    assert!(rt; 1 <= den, "denominator of {num}/{den}");
-    assert!(rt; den <= MAX_DEN, "denominator of {num}/{den}");
+    assert!(rt; num <= MAX_NUM && 1 <= den && den <= MAX_DEN, "{num}/{den}");
     Frac::new(num, den)
 }
 
@@ -28,10 +26,9 @@ const ORDERED: [((u128, u128), (u128, u128), Ordering); 11] = [
 fn are_ordered(rt: &impl Abort, cases: &[((u128, u128), (u128, u128), Ordering)]) {
     for &(left, right, want) in cases {
         let (a, b) = (fraction(rt, left), fraction(rt, right));
-        assert_eq!(rt; a.compare(&b), want, "{a:?} and {b:?}");
-        assert_eq!(rt; a == b, want.is_eq(), "{a:?} and {b:?}");
-        assert_eq!(rt; a < b, want.is_lt(), "{a:?} and {b:?}");
-        assert_eq!(rt; a.cmp(&b), want, "{a:?} and {b:?}");
+        let found = (a.compare(&b), a.cmp(&b), a == b, a < b);
+        let wanted = (want, want, want.is_eq(), want.is_lt());
+        assert_eq!(rt; found, wanted, "{a:?} and {b:?}");
     }
 }
 
@@ -43,8 +40,8 @@ fn fractions_are_ordered_by_their_values(rt: HostRuntime) {
 #[test]
 fn the_order_serves_a_bound(rt: HostRuntime) {
     let fractions = [Frac::new(3, 2), Frac::new(0, 7), Frac::new(4, 1)];
-    assert!(rt; fractions.iter().max() == Some(&Frac::new(8, 2)));
-    assert!(rt; fractions.iter().min() == Some(&Frac::new(0, 1)));
+    let (least, most) = (fractions.iter().min(), fractions.iter().max());
+    assert!(rt; least == Some(&Frac::new(0, 1)) && most == Some(&Frac::new(8, 2)));
 }
 
 const PRINTED: [((u128, u128), &str); 10] = [

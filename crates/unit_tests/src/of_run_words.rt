@@ -1,17 +1,20 @@
 // Which words are taken, by hand.
 use run_words::{WordFault, read_words};
-use sand_base::Label;
+use sand_base::{Label, NoMemory};
 use std::alloc::Global;
 use std::process::Abort;
 
-// The frames, the length of the page file's name, and the workload.
-fn ask(alloc: Global, words: &[&str]) -> Result<(u32, Option<usize>, Option<u32>), WordFault> {
+fn labels_of(alloc: Global, words: &[&str]) -> Result<Vec<Label>, NoMemory> {
     let mut labels = Vec::new(alloc);
     for word in words {
-        let Ok(()) = labels.push(Label::new(alloc, word)?) else {
-            return Err(WordFault::Memory);
-        };
+        labels.push(Label::new(alloc, word)?)?;
     }
+    Ok(labels)
+}
+
+// The frames, the length of the page file's name, and the workload.
+fn ask(alloc: Global, words: &[&str]) -> Result<(u32, Option<usize>, Option<u32>), WordFault> {
+    let labels = labels_of(alloc, words)?;
     let asked = read_words(alloc, &labels)?;
     let length = asked.store.as_ref().map(|name| name.as_str().len());
     Ok((asked.frames, length, asked.workload))

@@ -4,21 +4,30 @@ use sand_base::{
 };
 use std::alloc::{AllocError, Global};
 use std::process::Abort;
+use std::test::Fail;
+
+// Calls have these numbers and answers, one after the other.
+fn are_numbered(rt: &impl Abort, calls: &mut Calls, answers: &[(u64, Result<(), Failed>)]) {
+    for &(number, answer) in answers {
+        assert_eq!(rt; (calls.begin(), calls.made()), (answer, number));
+    }
+}
 
 #[test]
 fn calls_are_numbered_from_1_and_fail_where_the_list_names_them(
     rt: HostRuntime,
 ) -> Result<(), AllocError> {
     let mut calls = Calls::new(vec![in rt.alloc(); 3, 0, 1, 3]?);
-    for (number, answer) in [
-        (1, Err(Failed {})),
-        (2, Ok(())),
-        (3, Err(Failed {})),
-        (4, Ok(())),
-    ] {
-        assert_eq!(rt; calls.begin(), answer);
-        assert_eq!(rt; calls.made(), number);
-    }
+    are_numbered(
+        &rt,
+        &mut calls,
+        &[
+            (1, Err(Failed {})),
+            (2, Ok(())),
+            (3, Err(Failed {})),
+            (4, Ok(())),
+        ],
+    );
     Ok(())
 }
 
@@ -26,9 +35,34 @@ fn calls_are_numbered_from_1_and_fail_where_the_list_names_them(
 fn gives<S: Source>(rt: &impl Abort, source: &mut S, answers: &[(Result<usize, Failed>, [u8; 4])]) {
     for (count, bytes) in answers {
         let mut piece = [0; 4];
-        assert_eq!(rt; source.read(&mut piece), *count);
-        assert_eq!(rt; piece, *bytes);
+        assert_eq!(rt; (source.read(&mut piece), piece), (*count, *bytes));
     }
+}
+
+const END: (Result<usize, Failed>, [u8; 4]) = (Ok(0), [0; 4]);
+
+// A source of eight bytes gives them in chunks of three.
+fn gives_chunks_of_three(rt: &impl Abort, alloc: Global, bytes: Vec<u8>) {
+    let answers = [
+        (Ok(3), [1, 2, 3, 0]),
+        (Ok(3), [4, 5, 6, 0]),
+        (Ok(2), [7, 8, 0, 0]),
+        END,
+    ];
+    gives(rt, &mut SureSource::new(alloc, bytes, 3), &answers);
+}
+
+// And so does one that fails at this call, before and after.
+fn gives_them_after_a_failure(rt: &impl Abort, alloc: Global, bytes: Vec<u8>, failing: Vec<u64>) {
+    let answers = [
+        (Ok(3), [1, 2, 3, 0]),
+        (Err(Failed {}), [0; 4]),
+        (Ok(3), [4, 5, 6, 0]),
+        (Ok(2), [7, 8, 0, 0]),
+        END,
+    ];
+    let mut source = MemSource::new(alloc, bytes, 3, failing);
+    gives(rt, &mut source, &answers);
 }
 
 #[test]
@@ -36,39 +70,22 @@ fn a_source_gives_chunks_and_a_failed_read_loses_nothing(
     rt: HostRuntime,
 ) -> Result<(), AllocError> {
     let alloc = rt.alloc();
-    let end = (Ok(0), [0; 4]);
     let eight = vec![in alloc; 1, 2, 3, 4, 5, 6, 7, 8]?;
-    let mut sure = SureSource::new(alloc, eight.clone()?, 3);
-    gives(
-        &rt,
-        &mut sure,
-        &[
-            (Ok(3), [1, 2, 3, 0]),
-            (Ok(3), [4, 5, 6, 0]),
-            (Ok(2), [7, 8, 0, 0]),
-            end,
-        ],
-    );
-    let mut failing = MemSource::new(alloc, eight, 3, vec![in alloc; 2]?);
-    gives(
-        &rt,
-        &mut failing,
-        &[
-            (Ok(3), [1, 2, 3, 0]),
-            (Err(Failed {}), [0; 4]),
-            (Ok(3), [4, 5, 6, 0]),
-            (Ok(2), [7, 8, 0, 0]),
-            end,
-        ],
-    );
+    gives_chunks_of_three(&rt, alloc, eight.clone()?);
+    gives_them_after_a_failure(&rt, alloc, eight, vec![in alloc; 2]?);
+    Ok(())
+}
+
+#[test]
+fn a_read_gives_no_more_than_the_piece_holds(rt: HostRuntime) -> Result<(), AllocError> {
+    let alloc = rt.alloc();
     let mut wide = MemSource::new(alloc, vec![in alloc; 1, 2, 3, 4, 5, 6]?, 5, vec![in alloc]?);
     gives(
         &rt,
         &mut wide,
-        &[(Ok(4), [1, 2, 3, 4]), (Ok(2), [5, 6, 0, 0]), end],
+        &[(Ok(4), [1, 2, 3, 4]), (Ok(2), [5, 6, 0, 0]), END],
     );
-    let mut empty = SureSource::new(alloc, vec![in alloc]?, 1);
-    gives(&rt, &mut empty, &[end]);
+    gives(&rt, &mut SureSource::new(alloc, vec![in alloc]?, 1), &[END]);
     Ok(())
 }
 
@@ -76,33 +93,50 @@ fn a_source_gives_chunks_and_a_failed_read_loses_nothing(
 fn a_sink_takes_what_fits_and_fails_where_it_is_full(rt: HostRuntime) -> Result<(), NoMemory> {
     let alloc = rt.alloc();
     let mut sink = MemSink::new(alloc, 2, vec![in alloc; 1]?)?;
-    for (piece, count) in [
-        ([7, 8, 9], Err(Failed {})),
-        ([7, 8, 9], Ok(2)),
-        ([9, 9, 9], Err(Failed {})),
-    ] {
-        assert_eq!(rt; sink.write(&piece), count);
-    }
+    let answers = [
+        sink.write(&[7, 8, 9]),
+        sink.write(&[7, 8, 9]),
+        sink.write(&[9, 9, 9]),
+    ];
+    assert_eq!(rt; answers, [Err(Failed {}), Ok(2), Err(Failed {})]);
     assert_eq!(rt; sink.bytes(), [7, 8].as_slice());
     Ok(())
 }
 
 #[test]
-fn names_and_shapes_are_copied_where_memory_is_left(rt: HostRuntime) -> Result<(), NoMemory> {
+fn a_name_is_copied_where_memory_is_left(rt: HostRuntime) -> Result<(), NoMemory> {
     let alloc = rt.alloc();
     let label = Label::new(alloc, "north")?;
     assert_eq!(rt; label.copy(alloc)?.as_str(), "north");
+    Ok(())
+}
+
+// A row of a text and a triangle, if memory is left.
+fn row_of(alloc: Global, text: &str, at: Point) -> Option<Row> {
+    let Ok(text) = Label::new(alloc, text) else {
+        return None;
+    };
+    let ring = Ring::new(vec![in alloc; at; 3].ok()?).ok()?;
+    let values = vec![in alloc; Value::Text(text), Value::Shape(Shape::Polygon(ring))].ok()?;
+    Some(Row::new(values))
+}
+
+// Whether the row has this text, and a polygon whose three vertices are all here.
+fn is_row_of(row: &Row, text: &str, at: Point) -> bool {
+    match row.values() {
+        [Value::Text(name), Value::Shape(Shape::Polygon(ring))] => {
+            name.as_str() == text && ring.corners() == [at; 3].as_slice()
+        }
+        _ => false,
+    }
+}
+
+#[test]
+fn a_row_is_copied_where_memory_is_left(rt: HostRuntime) -> Result<(), Fail> {
     let at = Point { x: 3, y: 4 };
-    let Ok(ring) = Ring::new(vec![in alloc; at; 3]?) else {
-        panic!(rt; "three grid points are a ring");
-    };
-    let row = Row::new(vec![in alloc; Value::Text(label), Value::Shape(Shape::Polygon(ring))]?);
-    let copy = row.copy(alloc)?;
-    let [Value::Text(name), Value::Shape(Shape::Polygon(copied))] = copy.values() else {
-        panic!(rt; "the copy has a text and a polygon");
-    };
-    assert_eq!(rt; name.as_str(), "north");
-    assert_eq!(rt; copied.corners(), [at; 3].as_slice());
+    let row = row_of(rt.alloc(), "north", at).ok_or("no row is made")?;
+    let copy = row.copy(rt.alloc())?;
+    assert!(rt; is_row_of(&copy, "north", at));
     Ok(())
 }
 
@@ -121,12 +155,17 @@ fn a_shelf_opens_the_first_of_equal_names_and_none_after_a_fault(
 ) -> Result<(), NoMemory> {
     let alloc = rt.alloc();
     let mut shelf = MemShelf::new(alloc, three_files(alloc)?, vec![in alloc; 4]?);
+    assert_eq!(rt;
+        (shelf.choose("c"), shelf.choose("a")),
+        (Err(Failed {}), Ok(()))
+    );
     let mut piece = [0; 2];
-    assert_eq!(rt; shelf.choose("c"), Err(Failed {}));
-    assert_eq!(rt; shelf.choose("a"), Ok(()));
     assert_eq!(rt; (shelf.read(&mut piece), piece), (Ok(2), [1, 1]));
-    assert_eq!(rt; shelf.read(&mut piece), Err(Failed {}));
-    assert_eq!(rt; shelf.read(&mut piece), Ok(1));
-    assert_eq!(rt; shelf.read(&mut piece), Ok(0));
+    let more = [
+        shelf.read(&mut piece),
+        shelf.read(&mut piece),
+        shelf.read(&mut piece),
+    ];
+    assert_eq!(rt; more, [Err(Failed {}), Ok(1), Ok(0)]);
     Ok(())
 }

@@ -1,4 +1,5 @@
 // That the lines are those of a plain program in another language, and that all of them come.
+use std::process::Abort;
 use std::test::Fail;
 use work_gen::Workload;
 
@@ -17,17 +18,41 @@ const LINES_OF_ONE: [&str; 12] = [
     "close j",
 ];
 
+// The next line is this one.
+fn gives(rt: &impl Abort, workload: &mut Workload, expected: &str) -> Result<(), Fail> {
+    let line = workload.next_line().ok_or("a line is missing")?;
+    assert_eq!(rt; line, expected.as_bytes(), "{expected}");
+    Ok(())
+}
+
+// The next lines are these.
+fn gives_each(rt: &impl Abort, workload: &mut Workload, lines: &[&str]) -> Result<(), Fail> {
+    for expected in lines {
+        gives(rt, workload, expected)?;
+    }
+    Ok(())
+}
+
+// Passes over so many lines.
+fn pass(workload: &mut Workload, count: u32) -> Result<(), Fail> {
+    for _ in 0..count {
+        workload.next_line().ok_or("a line is missing")?;
+    }
+    Ok(())
+}
+
 #[test]
 fn one_turn_has_these_twelve_lines(rt: HostRuntime) -> Result<(), Fail> {
     let mut workload = Workload::new(1);
-    for expected in LINES_OF_ONE {
-        let line = workload.next_line().ok_or("a line is missing")?;
-        assert_eq!(rt; line, expected.as_bytes(), "{expected}");
-    }
-    assert!(rt; workload.next_line().is_none(), "no line after the last");
-    assert!(rt;
+    gives_each(&rt, &mut workload, &LINES_OF_ONE)?;
+    let ends = [
         workload.next_line().is_none(),
-        "and none when it is asked for again"
+        workload.next_line().is_none(),
+    ];
+    assert_eq!(rt;
+        ends,
+        [true; 2],
+        "none after the last, and none when it is asked for again"
     );
     Ok(())
 }
@@ -35,27 +60,13 @@ fn one_turn_has_these_twelve_lines(rt: HostRuntime) -> Result<(), Fail> {
 #[test]
 fn a_thousand_turns_have_2210_lines(rt: HostRuntime) -> Result<(), Fail> {
     let mut workload = Workload::new(1000);
-    for _ in 0..2003u32 {
-        workload.next_line().ok_or("an early line is missing")?;
-    }
-    let last_way = b"insert s (49669 25009)-(49920 25118)";
-    assert_eq!(rt;
-        workload.next_line().ok_or("no line 2004")?,
-        last_way.as_slice(),
-        "line 2004"
-    );
-    for _ in 0..201u32 {
-        workload.next_line().ok_or("a late line is missing")?;
-    }
-    let last_ranking = b"show 3 filter (rank p.at from (42325 16816)) where 1.pop >= 27296";
-    assert_eq!(rt;
-        workload.next_line().ok_or("no line 2206")?,
-        last_ranking.as_slice(),
-        "line 2206"
-    );
-    for _ in 0..4u32 {
-        workload.next_line().ok_or("the join is missing")?;
-    }
+    pass(&mut workload, 2003)?;
+    let last_way = "insert s (49669 25009)-(49920 25118)";
+    gives(&rt, &mut workload, last_way)?;
+    pass(&mut workload, 201)?;
+    let last_ranking = "show 3 filter (rank p.at from (42325 16816)) where 1.pop >= 27296";
+    gives(&rt, &mut workload, last_ranking)?;
+    pass(&mut workload, 4)?;
     assert!(rt; workload.next_line().is_none(), "no line 2211");
     Ok(())
 }

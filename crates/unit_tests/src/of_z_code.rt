@@ -12,8 +12,10 @@ fn point(rt: &impl Abort, corner: (u32, u32)) -> Point
     ensures { IsInPlane result }
 {
     let (x, y) = corner;
-    assert!(rt; x < 1 << COORDINATE_BITS, "x of ({x}, {y})");
-    assert!(rt; y < 1 << COORDINATE_BITS, "y of ({x}, {y})");
+    assert!(rt;
+        x < 1 << COORDINATE_BITS && y < 1 << COORDINATE_BITS,
+        "({x}, {y})"
+    );
     Point { x, y }
 }
 
@@ -48,9 +50,8 @@ fn have_codes(rt: &impl Abort, cases: &[((u32, u32), u64)]) {
     for &(corner, code) in cases {
         let p = point(rt, corner);
         let block = Block::of_point(p, POINT_LEVEL);
-        assert_eq!(rt; block.z, code, "{p:?}");
-        assert_eq!(rt; block.rect().low, p, "{code}");
-        assert_eq!(rt; block.range(), (code, code), "{p:?}");
+        let found = (block.z, block.rect().low, block.range());
+        assert_eq!(rt; found, (code, p, (code, code)), "{p:?}");
     }
 }
 
@@ -99,8 +100,8 @@ fn have_squares_and_ranges(
                 y: high.1,
             },
         };
-        assert_eq!(rt; block.rect(), square, "{corner:?} at {height}");
-        assert_eq!(rt; block.range(), (z, last), "{corner:?} at {height}");
+        let found = (block.rect(), block.range());
+        assert_eq!(rt; found, (square, (z, last)), "{corner:?} at {height}");
     }
 }
 
@@ -109,20 +110,19 @@ fn blocks_have_the_squares_and_the_ranges_of_their_heights(rt: HostRuntime) {
     have_squares_and_ranges(&rt, &SQUARES);
 }
 
+// The blocks are those of these points, a level above those of points alone.
+fn are_blocks_of(rt: &impl Abort, blocks: &[Block], corners: &[(u32, u32)]) {
+    for (block, corner) in blocks.iter().zip(corners) {
+        assert_eq!(rt; *block, block_of(rt, *corner, 1));
+    }
+}
+
 #[test]
 fn children_come_in_the_order_of_their_codes(rt: HostRuntime) {
     let block = Block::of_point(point(&rt, (5, 3)), POINT_LEVEL - 2);
-    let children = block.children();
-    let corners = [(4, 0), (6, 0), (4, 2), (6, 2)];
-    for (child, (x, y)) in children.iter().zip(corners) {
-        assert_eq!(rt;
-            *child,
-            Block::of_point(point(&rt, (x, y)), POINT_LEVEL - 1)
-        );
-    }
+    are_blocks_of(&rt, &block.children(), &[(4, 0), (6, 0), (4, 2), (6, 2)]);
     let first = Block::of_point(point(&rt, (7, 1)), POINT_LEVEL - 1);
-    assert_eq!(rt; first.parent(), block);
-    assert_eq!(rt; Block::root().level, 0);
+    assert_eq!(rt; (first.parent(), Block::root().level), (block, 0));
 }
 
 const HELD: [((u32, u32), u8, (u32, u32), u8, bool); 8] = [
@@ -161,7 +161,6 @@ fn blocks_are_in_order_by_code_and_then_by_level(rt: HostRuntime) {
         level: POINT_LEVEL - 2,
     };
     let next = Block { z: 17, level: 0 };
-    assert!(rt; large < small);
-    assert!(rt; small < next);
+    assert!(rt; large < small && small < next);
     assert_eq!(rt; [next, small, large].iter().min(), Some(&large));
 }
