@@ -5,10 +5,11 @@ mod refusing_queue;
 mod table;
 
 use crate::untold::{ZeroDisk, untold_desk};
-use best_first::{BestFirst, Item};
+use best_first::{BestFirst, Hit, Item};
 use page_pool::{Desk, PageFault};
 use rank_queue::{PairQueue, PlainQueue, Queue};
 use refusing_queue::RefusingQueue;
+use sand_base::NoMemory;
 use std::alloc::Global;
 use std::process::Abort;
 use std::test::Fail;
@@ -20,6 +21,23 @@ struct Answer {
     rows: Vec<(u128, u32)>,
     refused: u64,
     calls: u64,
+}
+
+// Notes what a call of the search gave, and tells whether it was the end.
+fn is_end(
+    rt: &impl Abort,
+    answer: &mut Answer,
+    given: Result<Option<Hit>, PageFault>,
+) -> Result<bool, Fail> {
+    match given {
+        Ok(Some(hit)) => answer.rows.push((hit.gap.num(), hit.left))?,
+        Ok(None) => return Ok(true),
+        Err(fault) => {
+            assert_eq!(rt; fault, PageFault::Memory);
+            answer.refused = answer.refused.saturating_add(1);
+        }
+    }
+    Ok(false)
 }
 
 // Asks for the next row until none is left, again where it is refused.
@@ -35,67 +53,146 @@ fn answer_of<Q: Queue<Item<u32>> + Drop>(
     ensures { desk.new.pool.disk.told ≡ false }
 {
     let mut search = BestFirst::start(alloc, table, queue)?;
-    let mut rows = Vec::new(alloc);
-    let mut refused = 0u64;
+    let mut answer = Answer {
+        rows: Vec::new(alloc),
+        refused: 0,
+        calls: 0,
+    };
     'rows: for _ in 0..100u8 {
-        match search.next(desk) {
-            Ok(Some(hit)) => rows.push((hit.gap.num(), hit.left))?,
-            Ok(None) => {
-                let calls = search.hierarchy().calls();
-                return Ok(Answer {
-                    rows,
-                    refused,
-                    calls,
-                });
-            }
-            Err(fault) => {
-                assert_eq!(rt; fault, PageFault::Memory);
-                refused = refused.saturating_add(1);
-            }
+        let given = search.next(desk);
+        if is_end(rt, &mut answer, given)? {
+            answer.calls = search.hierarchy().calls();
+            return Ok(answer);
         }
     }
     panic!(rt; "the search does not end")
 }
 
-// The same through the plain queue.
-fn plain_answer(
+// The search gave these rows, and so many of its calls were refused.
+fn gave(
     rt: &impl Abort,
-    alloc: Global,
-    table: Table,
-    desk: &mut Desk<ZeroDisk>,
-) -> Result<Answer, Fail>
+    answer: &Answer,
+    rows: &[(u128, u32)],
+    refused: u64,
+    name: &str,
+    number: u64,
+) {
+    assert_eq!(rt; answer.rows.as_slice(), rows, "{name} {number}");
+    assert_eq!(rt; answer.refused, refused, "{name} {number}");
+}
+
+// How many calls a search has of which none is refused.
+fn call_count(rt: &impl Abort, alloc: Global, desk: &mut Desk<ZeroDisk>) -> Result<u64, Fail>
     requires { desk.old.pool.disk.told ≡ false }
     ensures { desk.new.pool.disk.told ≡ false }
 {
     let queue: PlainQueue<Item<u32>> = PlainQueue::empty(alloc);
-    answer_of(rt, alloc, table, queue, desk)
+    let answer = answer_of(rt, alloc, Table::new(0, false, [0, 0]), queue, desk)?;
+    Ok(answer.calls)
 }
 
-// And through the pairing heap.
-fn pair_answer(
+// A search through the plain queue gives all rows, after so many refusals.
+fn plain_gives(
     rt: &impl Abort,
     alloc: Global,
     table: Table,
     desk: &mut Desk<ZeroDisk>,
-) -> Result<Answer, Fail>
+    refused: u64,
+    number: u64,
+) -> Result<(), Fail>
+    requires { desk.old.pool.disk.told ≡ false }
+    ensures { desk.new.pool.disk.told ≡ false }
+{
+    let queue: PlainQueue<Item<u32>> = PlainQueue::empty(alloc);
+    let answer = answer_of(rt, alloc, table, queue, desk)?;
+    gave(rt, &answer, &ROWS, refused, "plain", number);
+    Ok(())
+}
+
+// And through the pairing heap these.
+fn pair_gives(
+    rt: &impl Abort,
+    alloc: Global,
+    table: Table,
+    desk: &mut Desk<ZeroDisk>,
+    rows: &[(u128, u32)],
+    refused: u64,
+    number: u64,
+) -> Result<(), Fail>
     requires { desk.old.pool.disk.told ≡ false }
     ensures { desk.new.pool.disk.told ≡ false }
 {
     let queue: PairQueue<Item<u32>> = PairQueue::empty(alloc);
-    answer_of(rt, alloc, table, queue, desk)
+    let answer = answer_of(rt, alloc, table, queue, desk)?;
+    gave(rt, &answer, rows, refused, "paired", number);
+    Ok(())
+}
+
+// The rows come sorted where these nodes list their items the other way round, all of them and the near ones.
+fn come_sorted(
+    rt: &impl Abort,
+    alloc: Global,
+    desk: &mut Desk<ZeroDisk>,
+    turned: u16,
+) -> Result<(), Fail>
+    requires { desk.old.pool.disk.told ≡ false }
+    ensures { desk.new.pool.disk.told ≡ false }
+{
+    let number = u64::from(turned);
+    let all = Table::new(turned, false, [0, 0]);
+    plain_gives(rt, alloc, all, desk, 0, number)?;
+    let all = Table::new(turned, false, [0, 0]);
+    pair_gives(rt, alloc, all, desk, &ROWS, 0, number)?;
+    let near = Table::new(turned, true, [0, 0]);
+    pair_gives(rt, alloc, near, desk, &ROWS[..6], 0, number)
+}
+
+// And so in each of the 256 orders.
+fn come_sorted_in_each_order(
+    rt: &impl Abort,
+    alloc: Global,
+    desk: &mut Desk<ZeroDisk>,
+) -> Result<(), Fail>
+    requires { desk.old.pool.disk.told ≡ false }
+    ensures { desk.new.pool.disk.told ≡ false }
+{
+    'orders: for turned in 0..256u16 {
+        come_sorted(rt, alloc, desk, turned)?;
+    }
+    Ok(())
 }
 
 #[test]
 fn rows_come_sorted_in_whatever_order_the_nodes_list_them(rt: HostRuntime) -> Result<(), Fail> {
     let alloc = rt.alloc();
     let mut desk = untold_desk(alloc)?;
-    'orders: for turned in 0..256u16 {
-        let plain = plain_answer(&rt, alloc, Table::new(turned, false, [0, 0]), &mut desk)?;
-        assert_eq!(rt; plain.rows.as_slice(), ROWS.as_slice(), "plain, {turned}");
-        let pair = pair_answer(&rt, alloc, Table::new(turned, false, [0, 0]), &mut desk)?;
-        assert_eq!(rt; pair.rows.as_slice(), ROWS.as_slice(), "paired, {turned}");
-        let near = pair_answer(&rt, alloc, Table::new(turned, true, [0, 0]), &mut desk)?;
-        assert_eq!(rt; near.rows.as_slice(), &ROWS[..6], "near, {turned}");
+    come_sorted_in_each_order(&rt, alloc, &mut desk)
+}
+
+// No row is lost or repeated where this call of the hierarchy is refused, once and three times.
+fn survives_a_call(
+    rt: &impl Abort,
+    alloc: Global,
+    desk: &mut Desk<ZeroDisk>,
+    call: u64,
+) -> Result<(), Fail>
+    requires { desk.old.pool.disk.told ≡ false }
+    ensures { desk.new.pool.disk.told ≡ false }
+{
+    let once = Table::new(0, false, [call, call]);
+    plain_gives(rt, alloc, once, desk, 1, call)?;
+    let thrice = Table::new(255, false, [call, call.saturating_add(2)]);
+    pair_gives(rt, alloc, thrice, desk, &ROWS, 3, call)
+}
+
+// And so where any call is.
+fn survives_each_call(rt: &impl Abort, alloc: Global, desk: &mut Desk<ZeroDisk>) -> Result<(), Fail>
+    requires { desk.old.pool.disk.told ≡ false }
+    ensures { desk.new.pool.disk.told ≡ false }
+{
+    let calls = call_count(rt, alloc, desk)?;
+    'calls: for call in 1..=calls {
+        survives_a_call(rt, alloc, desk, call)?;
     }
     Ok(())
 }
@@ -106,20 +203,43 @@ fn a_refused_call_of_the_hierarchy_loses_no_row_and_repeats_none(
 ) -> Result<(), Fail> {
     let alloc = rt.alloc();
     let mut desk = untold_desk(alloc)?;
-    let undisturbed = plain_answer(&rt, alloc, Table::new(0, false, [0, 0]), &mut desk)?;
-    'calls: for call in 1..=undisturbed.calls {
-        let once = Table::new(0, false, [call, call]);
-        let plain = plain_answer(&rt, alloc, once, &mut desk)?;
-        assert_eq!(rt; plain.rows.as_slice(), ROWS.as_slice(), "once at {call}");
-        assert_eq!(rt; plain.refused, 1, "once at {call}");
-        let thrice = Table::new(255, false, [call, call.saturating_add(2)]);
-        let pair = pair_answer(&rt, alloc, thrice, &mut desk)?;
-        assert_eq!(rt;
-            pair.rows.as_slice(),
-            ROWS.as_slice(),
-            "three times at {call}"
-        );
-        assert_eq!(rt; pair.refused, 3, "three times at {call}");
+    survives_each_call(&rt, alloc, &mut desk)
+}
+
+// No search begins where its first reservation is refused.
+fn is_refused_at_the_start(alloc: Global) -> Result<bool, NoMemory> {
+    let queue = RefusingQueue::new(alloc, 1)?;
+    Ok(BestFirst::start(alloc, Table::new(0, false, [0, 0]), queue).is_err())
+}
+
+// No row is lost or repeated where this reservation is refused. (Each of the eight nodes reserves places once.)
+fn survives_a_reservation(
+    rt: &impl Abort,
+    alloc: Global,
+    desk: &mut Desk<ZeroDisk>,
+    call: u64,
+) -> Result<(), Fail>
+    requires { desk.old.pool.disk.told ≡ false }
+    ensures { desk.new.pool.disk.told ≡ false }
+{
+    let queue = RefusingQueue::new(alloc, call)?;
+    let answer = answer_of(rt, alloc, Table::new(0, false, [0, 0]), queue, desk)?;
+    let refused = u64::from(call < 10);
+    gave(rt, &answer, &ROWS, refused, "reservation", call);
+    Ok(())
+}
+
+// And so where any reservation after the first is.
+fn survives_each_reservation(
+    rt: &impl Abort,
+    alloc: Global,
+    desk: &mut Desk<ZeroDisk>,
+) -> Result<(), Fail>
+    requires { desk.old.pool.disk.told ≡ false }
+    ensures { desk.new.pool.disk.told ≡ false }
+{
+    'calls: for call in 2..=10u64 {
+        survives_a_reservation(rt, alloc, desk, call)?;
     }
     Ok(())
 }
@@ -127,29 +247,7 @@ fn a_refused_call_of_the_hierarchy_loses_no_row_and_repeats_none(
 #[test]
 fn a_refused_reservation_loses_no_row_and_repeats_none(rt: HostRuntime) -> Result<(), Fail> {
     let alloc = rt.alloc();
+    assert!(rt; is_refused_at_the_start(alloc)?);
     let mut desk = untold_desk(alloc)?;
-    let at_the_start = RefusingQueue::new(alloc, 1)?;
-    assert!(rt; BestFirst::start(alloc, Table::new(0, false, [0, 0]), at_the_start).is_err());
-    // (each of the eight nodes reserves places once)
-    'calls: for (call, refused) in [
-        (2, 1),
-        (3, 1),
-        (4, 1),
-        (5, 1),
-        (6, 1),
-        (7, 1),
-        (8, 1),
-        (9, 1),
-        (10, 0),
-    ] {
-        let queue = RefusingQueue::new(alloc, call)?;
-        let answer = answer_of(&rt, alloc, Table::new(0, false, [0, 0]), queue, &mut desk)?;
-        assert_eq!(rt;
-            answer.rows.as_slice(),
-            ROWS.as_slice(),
-            "reservation {call}"
-        );
-        assert_eq!(rt; answer.refused, refused, "reservation {call}");
-    }
-    Ok(())
+    survives_each_reservation(&rt, alloc, &mut desk)
 }

@@ -1,6 +1,7 @@
 use pair_heap::PairHeap;
 use sand_base::NoMemory;
 use std::alloc::Global;
+use std::process::Abort;
 use std::test::Fail;
 
 const MANY: u64 = 1_000_000;
@@ -39,15 +40,19 @@ fn a_million_nodes_below_one_another_are_dropped(rt: HostRuntime) -> Result<(), 
     Ok(())
 }
 
-#[test]
-fn a_thousand_numbers_come_in_order_before_the_drop(rt: HostRuntime) -> Result<(), Fail> {
-    let mut heap = ascending(rt.alloc())?;
-    for number in 0..1_000u64 {
+// The heap gives so many numbers, from 0 on.
+fn gives_numbers(rt: &impl Abort, heap: &mut PairHeap<u64>, count: u64) {
+    for number in 0..count {
         assert_eq!(rt; heap.peek(), Some(&number));
         assert_eq!(rt; heap.pop(), Some(number));
     }
-    assert_eq!(rt; heap.len() as u64, MANY - 1_000);
-    assert_eq!(rt; heap.spare(), 1_000);
+}
+
+#[test]
+fn a_thousand_numbers_come_in_order_before_the_drop(rt: HostRuntime) -> Result<(), Fail> {
+    let mut heap = ascending(rt.alloc())?;
+    gives_numbers(&rt, &mut heap, 1_000);
+    assert_eq!(rt; (heap.len() as u64, heap.spare()), (MANY - 1_000, 1_000));
     Ok(())
 }
 
@@ -58,9 +63,8 @@ fn borrowed_texts_come_in_order(rt: HostRuntime) -> Result<(), Fail> {
     heap.push("pear");
     heap.push("apple");
     heap.push("plum");
-    assert_eq!(rt; heap.pop(), Some("apple"));
-    assert_eq!(rt; heap.pop(), Some("pear"));
-    assert_eq!(rt; heap.pop(), Some("plum"));
-    assert_eq!(rt; heap.pop(), None);
+    for text in [Some("apple"), Some("pear"), Some("plum"), None] {
+        assert_eq!(rt; heap.pop(), text);
+    }
     Ok(())
 }

@@ -75,28 +75,49 @@ const CASES: [(&str, &[Step]); 6] = [
     ),
 ];
 
-// Takes the queue through the steps of each case.
-fn keeps_to_the_cases<Q: Queue<u8>>(rt: &impl Abort, queue: &mut Q) -> Result<(), Fail> {
-    for (name, steps) in CASES {
-        for step in steps {
-            match *step {
-                Push(item) => {
-                    queue.reserve(1)?;
-                    queue.push(item);
-                }
-                Pop(item) => {
-                    assert_eq!(rt; queue.peek(), Some(&item), "{name}");
-                    assert_eq!(rt; queue.pop(), Some(item), "{name}");
-                }
-                End => {
-                    assert_eq!(rt; queue.peek(), None, "{name}");
-                    assert_eq!(rt; queue.pop(), None, "{name}");
-                    assert_eq!(rt; queue.len(), 0, "{name}");
-                }
+// The queue shows this item and gives it, or has none.
+fn gives<Q: Queue<u8>>(rt: &impl Abort, queue: &mut Q, item: Option<u8>, name: &str) {
+    assert_eq!(rt; queue.peek(), item.as_ref(), "{name}");
+    assert_eq!(rt; queue.pop(), item, "{name}");
+}
+
+// Takes the queue through the steps of a case.
+fn keeps_to<Q: Queue<u8>>(
+    rt: &impl Abort,
+    queue: &mut Q,
+    name: &str,
+    steps: &[Step],
+) -> Result<(), Fail> {
+    for step in steps {
+        match *step {
+            Push(item) => {
+                queue.reserve(1)?;
+                queue.push(item);
+            }
+            Pop(item) => gives(rt, queue, Some(item), name),
+            End => {
+                gives(rt, queue, None, name);
+                assert_eq!(rt; queue.len(), 0, "{name}");
             }
         }
     }
     Ok(())
+}
+
+// Takes the queue through the steps of these cases.
+fn keeps_to_each<Q: Queue<u8>>(
+    rt: &impl Abort,
+    queue: &mut Q,
+    cases: &[(&str, &[Step])],
+) -> Result<(), Fail> {
+    for (name, steps) in cases {
+        keeps_to(rt, queue, name, steps)?;
+    }
+    Ok(())
+}
+
+fn keeps_to_the_cases<Q: Queue<u8>>(rt: &impl Abort, queue: &mut Q) -> Result<(), Fail> {
+    keeps_to_each(rt, queue, &CASES)
 }
 
 #[test]
@@ -111,19 +132,23 @@ fn the_pairing_queue_keeps_to_the_cases(rt: HostRuntime) -> Result<(), Fail> {
     keeps_to_the_cases(&rt, &mut queue)
 }
 
+// A push takes one of the places, however many a queue holds, and a pop gives it back.
+fn gives_a_place_back<Q: Queue<u8>>(rt: &impl Abort, queue: &mut Q) -> Result<(), Fail> {
+    queue.reserve(2)?;
+    let places = queue.spare();
+    queue.push(3);
+    let is_taken = queue.spare() < places;
+    assert_eq!(rt;
+        (is_taken, queue.pop(), queue.spare()),
+        (true, Some(3), places)
+    );
+    Ok(())
+}
+
 #[test]
 fn a_pop_gives_its_place_back(rt: HostRuntime) -> Result<(), Fail> {
     let mut plain: PlainQueue<u8> = PlainQueue::empty(rt.alloc());
     let mut pair: PairQueue<u8> = PairQueue::empty(rt.alloc());
-    plain.reserve(2)?;
-    pair.reserve(2)?;
-    plain.push(3);
-    pair.push(3);
-    assert_eq!(&rt; plain.spare(), 1);
-    assert_eq!(&rt; pair.spare(), 1);
-    assert_eq!(&rt; plain.pop(), Some(3));
-    assert_eq!(&rt; pair.pop(), Some(3));
-    assert_eq!(&rt; plain.spare(), 2);
-    assert_eq!(&rt; pair.spare(), 2);
-    Ok(())
+    gives_a_place_back(&rt, &mut plain)?;
+    gives_a_place_back(&rt, &mut pair)
 }

@@ -30,14 +30,11 @@ impl Disk for ZeroDisk {
     }
 }
 
-// 17 pages over 16 frames, all written, so that page 1 is on the disk alone.
-fn written(alloc: Global) -> Result<Pool<ZeroDisk>, PageFault>
-    ensures { IfOk result (λ pool. IsClosed pool) }
+// Writes 17 pages to the disk.
+fn fill(pool: &mut Pool<ZeroDisk>) -> Result<(), PageFault>
+    requires { IsClosed pool.old }
+    ensures { IfOk result (λ _. IsClosed pool.new) }
 {
-    let mut pool = match Pool::start(alloc, ZeroDisk { given: [0; 4096] }, None, 16) {
-        Ok(pool) => pool,
-        Err((fault, _disk)) => return Err(fault),
-    };
     pool.begin()?;
     'pages: for _ in 0..17u8 {
         let number = pool.allocate()?;
@@ -46,7 +43,18 @@ fn written(alloc: Global) -> Result<Pool<ZeroDisk>, PageFault>
         }
     }
     pool.commit();
-    pool.flush()?;
+    pool.flush()
+}
+
+// 17 pages over 16 frames, all written, so that page 1 is on the disk alone.
+fn written(alloc: Global) -> Result<Pool<ZeroDisk>, PageFault>
+    ensures { IfOk result (λ pool. IsClosed pool) }
+{
+    let mut pool = match Pool::start(alloc, ZeroDisk { given: [0; 4096] }, None, 16) {
+        Ok(pool) => pool,
+        Err((fault, _disk)) => return Err(fault),
+    };
+    fill(&mut pool)?;
     Ok(pool)
 }
 

@@ -1,6 +1,6 @@
 -- the disk doesn't tell its pages
 use Rattle.std.proofs.Common.{◌≡◌, false}
-use Rattle.search_tests.proofs.of_best_first.rows_come_sorted_in_whatever_order_the_nodes_list_them.Given as goal
+use Rattle.search_tests.proofs.of_best_first.come_sorted_in_each_order.Given as goal
 
 abbrev pub invariant-orders : goal.invariant-orders
 invariant-orders g l = l.desk.pool.disk.told ≡ false
