@@ -1,8 +1,8 @@
 // A pool with a command open, over a disk that doesn't tell its pages, and what is kept in its pages.
-ghost use Rattle.std.specs.Prelude.{◌≡◌, ◌≤◌, ◌<◌, ◌^◌, length, IsTrue, false, IfOk};
+ghost use Rattle.std.specs.Prelude.{◌≤◌, ◌<◌, ◌^◌, length};
 ghost use Rattle.attr_index.specs.Key.{IsAttribute};
-ghost use Rattle.page_pool.specs.Pool.{IsClosed};
 
+use crate::filled_pool::untold_pool;
 use crate::readers::Readers;
 use crate::shapes::Shapes;
 use crate::shy_disk::ShyDisk;
@@ -36,42 +36,6 @@ impl Model for OpenPool {
     ghost invariant = { λ a. IsOpen a.pool × (a.pool.disk.told ≡ false) };
 }
 
-// Pages more than there are frames, all written, so that page 1 is on the disk alone.
-fn written(alloc: Global, frames: u32) -> Result<Pool<ShyDisk>, PageFault>
-    requires least { 16 ≤ frames }
-    requires most { frames ≤ 4096 }
-    ensures { IfOk result (λ pool. IsClosed pool) }
-{
-    let mut pool = match Pool::start(alloc, ShyDisk::new(alloc), None, frames) {
-        Ok(pool) => pool,
-        Err((fault, _disk)) => return Err(fault),
-    };
-    pool.begin()?;
-    'pages: for _ in 0..=frames {
-        let number = pool.allocate()?;
-        if pool.is_live(number) {
-            pool.put(number, &[1; 4096])?;
-        }
-    }
-    pool.commit();
-    pool.flush()?;
-    Ok(pool)
-}
-
-// That page 1 comes back damaged shows that the disk doesn't tell.
-fn is_untold(pool: &mut Pool<ShyDisk>) -> bool
-    ensures closed { pool.new.beginning ≡ pool.old.beginning }
-    ensures untold { IsTrue result → pool.new.disk.told ≡ false }
-{
-    if !pool.is_live(1) {
-        return false;
-    }
-    match pool.get(1) {
-        Err(PageFault::Damaged { .. }) => true,
-        _ => false,
-    }
-}
-
 // Memory, for each fault of a tree but the pages'.
 fn of_pages(fault: PmrFault) -> PageFault {
     match fault {
@@ -87,10 +51,7 @@ impl OpenPool {
         requires least { 16 ≤ frames }
         requires most { frames ≤ 4096 }
     {
-        let mut pool = written(alloc, frames)?;
-        if !is_untold(&mut pool) {
-            return Err(PageFault::Memory);
-        }
+        let mut pool = untold_pool(alloc, frames, 0)?;
         pool.begin()?;
         Ok(OpenPool { pool })
     }

@@ -1,6 +1,6 @@
 // Plain quadtrees in memory, grown and shrunk by the definition. A tree is the list of its leaves in the order of their codes: a leaf
 // that has too many ids with a new one gives way to four, and four leaves that have too few ids together to one.
-ghost use Rattle.std.specs.Prelude.{◌<◌};
+ghost use Rattle.std.specs.Prelude.{◌<◌, IsTrue, IfSome};
 ghost use Rattle.z_code.specs.Block.{IsBlock};
 
 use crate::edge_shapes::shape_of_id;
@@ -55,6 +55,43 @@ fn part(alloc: Global, block: Block, ids: &[u32]) -> Result<PlainLeaf, NoMemory>
     Ok(PlainLeaf { block, ids: met })
 }
 
+// The ids of a leaf, with one more where its shape meets the leaf's square.
+fn with(alloc: Global, leaf: &PlainLeaf, id: u32) -> Result<Vec<u32>, NoMemory> {
+    let mut ids = without(alloc, &leaf.ids, id)?;
+    if meets(alloc, id, leaf.block)? {
+        ids.push(id)?;
+        ids.sort()?;
+    }
+    Ok(ids)
+}
+
+// Adds the four leaves in the place of one with these ids.
+fn push_four(
+    alloc: Global,
+    grown: &mut Vec<PlainLeaf>,
+    block: Block,
+    ids: &[u32],
+) -> Result<(), NoMemory>
+    requires block { IsBlock block }
+    requires up { block.level < COORDINATE_BITS }
+{
+    let [first, second, third, fourth] = block.children();
+    grown.push(part(alloc, first, ids)?)?;
+    grown.push(part(alloc, second, ids)?)?;
+    grown.push(part(alloc, third, ids)?)?;
+    grown.push(part(alloc, fourth, ids)?)?;
+    Ok(())
+}
+
+// Whether a leaf with these ids gives way to four: it has the new one, and more than the threshold allows.
+fn is_split(leaf: &PlainLeaf, ids: &[u32], threshold: u8) -> bool
+    ensures { IsTrue result → leaf.now.block.level < COORDINATE_BITS }
+{
+    ids.len() > leaf.ids.len()
+        && ids.len() > usize::from(threshold)
+        && u32::from(leaf.block.level) < COORDINATE_BITS
+}
+
 // Adds the leaf with the id more, or the four in its place, to the leaves of a grown tree.
 fn push_grown(
     alloc: Global,
@@ -63,30 +100,14 @@ fn push_grown(
     leaf: &PlainLeaf,
     id: u32,
 ) -> Result<(), NoMemory> {
-    let block = leaf.block;
-    let mut ids = Vec::new(alloc);
-    for other in &leaf.ids {
-        ids.push(*other)?;
+    let ids = with(alloc, leaf, id)?;
+    if is_split(leaf, &ids, threshold) {
+        return push_four(alloc, grown, leaf.block, &ids);
     }
-    if meets(alloc, id, block)? {
-        let at = leaf.ids.iter().take_while(|other| **other < id).count();
-        if at <= ids.len() {
-            ids.insert(at, id)?;
-        }
-    }
-    if ids.len() <= leaf.ids.len() || ids.len() <= threshold as usize {
-        grown.push(PlainLeaf { block, ids })?;
-        return Ok(());
-    }
-    if u32::from(block.level) >= COORDINATE_BITS {
-        grown.push(PlainLeaf { block, ids })?;
-        return Ok(());
-    }
-    let [first, second, third, fourth] = block.children();
-    grown.push(part(alloc, first, &ids)?)?;
-    grown.push(part(alloc, second, &ids)?)?;
-    grown.push(part(alloc, third, &ids)?)?;
-    grown.push(part(alloc, fourth, &ids)?)?;
+    grown.push(PlainLeaf {
+        block: leaf.block,
+        ids,
+    })?;
     Ok(())
 }
 
@@ -113,19 +134,45 @@ fn without(alloc: Global, ids: &[u32], id: u32) -> Result<Vec<u32>, NoMemory> {
     Ok(left)
 }
 
-// The ids of both lists, ascending, each once.
-fn union(alloc: Global, first: &[u32], second: &[u32]) -> Result<Vec<u32>, NoMemory> {
-    let mut all = Vec::new(alloc);
-    for id in first {
-        if !second.contains(id) {
+// Adds the ids that aren't there.
+fn add(all: &mut Vec<u32>, ids: &[u32]) -> Result<(), NoMemory> {
+    for id in ids {
+        if !all.contains(id) {
             all.push(*id)?;
         }
     }
-    for id in second {
-        all.push(*id)?;
-    }
+    Ok(())
+}
+
+// The ids of four leaves, ascending, each once.
+fn union(
+    alloc: Global,
+    a: &PlainLeaf,
+    b: &PlainLeaf,
+    c: &PlainLeaf,
+    d: &PlainLeaf,
+) -> Result<Vec<u32>, NoMemory> {
+    let mut all = Vec::new(alloc);
+    add(&mut all, &a.ids)?;
+    add(&mut all, &b.ids)?;
+    add(&mut all, &c.ids)?;
+    add(&mut all, &d.ids)?;
     all.sort()?;
     Ok(all)
+}
+
+// The block of this level whose children the first and the last of four leaves are, if they are.
+fn parent(first: &PlainLeaf, last: &PlainLeaf, level: u8) -> Option<Block>
+    ensures { IfSome result IsBlock }
+{
+    if first.block.level != level.saturating_add(1) || last.block.level != first.block.level {
+        return None;
+    }
+    let parent = first.block.parent();
+    if parent.z != first.block.z || !parent.holds(last.block) {
+        return None;
+    }
+    Some(parent)
 }
 
 // The four leaves from a place on, as one leaf of this level where they are the children of such a block and have fewer ids
@@ -139,20 +186,28 @@ fn merged(
     let [a, b, c, d, ..] = &tree.leaves[at.min(tree.leaves.len())..] else {
         return Ok(None);
     };
-    if a.block.level != level.saturating_add(1) || d.block.level != a.block.level {
+    let Some(block) = parent(a, d, level) else {
+        return Ok(None);
+    };
+    let ids = union(alloc, a, b, c, d)?;
+    if ids.len() >= usize::from(tree.threshold) {
         return Ok(None);
     }
-    let parent = a.block.parent();
-    if parent.z != a.block.z || !parent.holds(d.block) {
-        return Ok(None);
+    Ok(Some(PlainLeaf { block, ids }))
+}
+
+// The leaf at a place of the tree whose places of this level are merged, and how many leaves of the old one it is for.
+fn merged_or_kept(
+    alloc: Global,
+    tree: &PlainTree,
+    at: usize,
+    leaf: &PlainLeaf,
+    level: u8,
+) -> Result<(PlainLeaf, usize), NoMemory> {
+    match merged(alloc, tree, at, level)? {
+        Some(one) => Ok((one, 4)),
+        None => Ok((part_of(alloc, leaf)?, 1)),
     }
-    let low = union(alloc, &a.ids, &b.ids)?;
-    let high = union(alloc, &c.ids, &d.ids)?;
-    let ids = union(alloc, &low, &high)?;
-    if ids.len() >= tree.threshold as usize {
-        return Ok(None);
-    }
-    Ok(Some(PlainLeaf { block: parent, ids }))
 }
 
 // The tree whose places of this level are merged.
@@ -163,12 +218,9 @@ fn merged_at(alloc: Global, tree: &PlainTree, level: u8) -> Result<PlainTree, No
         if at < passed {
             continue;
         }
-        if let Some(one) = merged(alloc, tree, at, level)? {
-            leaves.push(one)?;
-            passed = at.saturating_add(4);
-            continue;
-        }
-        leaves.push(part_of(alloc, leaf)?)?;
+        let (next, count) = merged_or_kept(alloc, tree, at, leaf, level)?;
+        leaves.push(next)?;
+        passed = at.saturating_add(count);
     }
     Ok(PlainTree {
         leaves,
@@ -185,8 +237,8 @@ fn part_of(alloc: Global, leaf: &PlainLeaf) -> Result<PlainLeaf, NoMemory> {
     })
 }
 
-/// The tree without an id.
-pub fn shrunk(alloc: Global, tree: &PlainTree, id: u32) -> Result<PlainTree, NoMemory> {
+// The leaves of a tree without an id, none merged.
+fn thinned(alloc: Global, tree: &PlainTree, id: u32) -> Result<PlainTree, NoMemory> {
     let mut leaves = Vec::new(alloc);
     for leaf in &tree.leaves {
         let ids = without(alloc, &leaf.ids, id)?;
@@ -195,10 +247,15 @@ pub fn shrunk(alloc: Global, tree: &PlainTree, id: u32) -> Result<PlainTree, NoM
             ids,
         })?;
     }
-    let mut left = PlainTree {
+    Ok(PlainTree {
         leaves,
         threshold: tree.threshold,
-    };
+    })
+}
+
+/// The tree without an id.
+pub fn shrunk(alloc: Global, tree: &PlainTree, id: u32) -> Result<PlainTree, NoMemory> {
+    let mut left = thinned(alloc, tree, id)?;
     for level in (0..COORDINATE_BITS as u8).rev() {
         if left.leaves.iter().any(|leaf| leaf.block.level > level) {
             left = merged_at(alloc, &left, level)?;

@@ -1,11 +1,11 @@
 // A pool over disks that fail or give other bytes: each call of a disk fails in turn, and a page comes back with a flipped bit.
-ghost use Rattle.std.specs.Prelude.{◌≡◌, IsTrue, false, IfOk, OnOk};
-ghost use Rattle.std.specs.FinMap as map;
+ghost use Rattle.std.specs.Prelude.{◌≡◌, ◌≤◌, IsTrue, false, IfOk, OnOk};
 ghost use Rattle.page_pool.specs.Pool.{IsOpen, IsClosed};
 
-use page_pool::{Disk, DiskFault, MemDisk, PageFault, Pages, Pool};
+use crate::filled_pool::filled;
+use crate::shy_disk::ShyDisk;
+use page_pool::{MemDisk, PageFault, Pages, Pool};
 use std::alloc::Global;
-use std::collections::BTreeMap;
 use std::io;
 
 // A call within a command, or the reading of pages.
@@ -28,7 +28,7 @@ struct Command {
 }
 
 // 40 pages and more over 16 frames.
-const COMMANDS: [Command; 5] = [
+static COMMANDS: [Command; 5] = [
     Command {
         steps: &[Allocate(40)],
         is_kept: true,
@@ -62,15 +62,22 @@ const COMMANDS: [Command; 5] = [
 // and one more.
 const GIVEN: [u8; 5] = [8, 7, 8, 7, 41];
 
-// A pool, the byte of each page that must be there (0 where there is none), the numbers that were given, how many
-// calls were refused, and whether all that was seen is as it must be.
+// What is seen of a trial: the byte of each page that must be there (0 where there is none), the numbers that were given, how
+// many calls were refused, and whether all that was seen is as it must be.
+#[derive(Clone, Copy)]
+struct Seen {
+    bytes: [u8; 256],
+    given: [u8; 45],
+    givens: usize,
+    refused: u64,
+    is_right: bool,
+}
+
+// A pool, and what is seen of it.
 #[derive(Drop)]
 struct Trial {
     pool: Pool<MemDisk>,
-    bytes: [u8; 256],
-    given: Vec<u8>,
-    refused: u64,
-    is_right: bool,
+    seen: Seen,
 }
 
 // Starts over the same disk once more where the first time is refused.
@@ -92,19 +99,19 @@ fn started(alloc: Global, fails: Vec<u64>) -> Result<(Pool<MemDisk>, u64), PageF
 fn reads(run: &mut Trial, n: u8) -> bool
     ensures { run.new.pool.beginning ≡ run.old.pool.beginning }
 {
-    let byte = run.bytes[usize::from(n)];
+    let byte = run.seen.bytes[usize::from(n)];
     match run.pool.live_page(u64::from(n)) {
         Ok(page) => {
             let is_same = byte != 0 && *page == [byte; 4096];
-            run.is_right &= is_same;
+            run.seen.is_right &= is_same;
             true
         }
         Err(PageFault::Device) => {
-            run.refused = run.refused.saturating_add(1);
+            run.seen.refused = run.seen.refused.saturating_add(1);
             false
         }
         Err(_) => {
-            run.is_right &= byte == 0;
+            run.seen.is_right &= byte == 0;
             true
         }
     }
@@ -130,8 +137,8 @@ fn begins(run: &mut Trial) -> bool
     match run.pool.begin() {
         Ok(()) => true,
         Err(fault) => {
-            run.refused = run.refused.saturating_add(1);
-            run.is_right &= fault == PageFault::Device;
+            run.seen.refused = run.seen.refused.saturating_add(1);
+            run.seen.is_right &= fault == PageFault::Device;
             false
         }
     }
@@ -150,6 +157,15 @@ fn opens(run: &mut Trial) -> bool
     begins(run)
 }
 
+// Notes a number that was given.
+fn note(seen: &mut Seen, n: u8) {
+    match seen.given.get_mut(seen.givens) {
+        Some(place) => *place = n,
+        None => seen.is_right = false,
+    }
+    seen.givens = seen.givens.saturating_add(1);
+}
+
 // Allocates a page and fills it with its number.
 fn allocate(run: &mut Trial) -> Result<(), PageFault>
     requires { IsOpen run.old.pool }
@@ -159,9 +175,7 @@ fn allocate(run: &mut Trial) -> Result<(), PageFault>
     let Ok(n) = u8::try_from(number) else {
         return Err(PageFault::Memory);
     };
-    let Ok(()) = run.given.push(n) else {
-        return Err(PageFault::Memory);
-    };
+    note(&mut run.seen, n);
     put(run, n, n)
 }
 
@@ -183,7 +197,7 @@ fn put(run: &mut Trial, n: u8, byte: u8) -> Result<(), PageFault>
 {
     if run.pool.is_live(u64::from(n)) {
         run.pool.put(u64::from(n), &[byte; 4096])?;
-        run.bytes[usize::from(n)] = byte;
+        run.seen.bytes[usize::from(n)] = byte;
     }
     Ok(())
 }
@@ -195,7 +209,7 @@ fn free(run: &mut Trial, n: u8) -> Result<(), PageFault>
 {
     if run.pool.is_live(u64::from(n)) {
         run.pool.free(u64::from(n))?;
-        run.bytes[usize::from(n)] = 0;
+        run.seen.bytes[usize::from(n)] = 0;
     }
     Ok(())
 }
@@ -221,7 +235,7 @@ fn carry_out(run: &mut Trial, command: &Command) -> Result<(), PageFault>
     requires { IsClosed run.old.pool }
     ensures { OnOk result (IsClosed run.new.pool) }
 {
-    let before = run.bytes;
+    let before = run.seen.bytes;
     if !opens(run) {
         return Ok(());
     }
@@ -232,145 +246,103 @@ fn carry_out(run: &mut Trial, command: &Command) -> Result<(), PageFault>
         run.pool.commit();
     } else {
         run.pool.abort();
-        run.bytes = before;
+        run.seen.bytes = before;
     }
     Ok(())
 }
 
-// The commands over a disk that fails at these calls. At the end all pages are read.
-fn tried(alloc: Global, fails: Vec<u64>) -> Result<Trial, PageFault> {
+// Carries out the commands. At the end all pages are read.
+fn carry_out_all(run: &mut Trial) -> Result<(), PageFault>
+    requires { IsClosed run.old.pool }
+{
+    'commands: for each in &COMMANDS {
+        carry_out(run, each)?;
+    }
+    read_all(run, 1, 48);
+    Ok(())
+}
+
+// What is seen of the commands over a disk that fails at these calls, and how many calls it had.
+fn tried(alloc: Global, fails: Vec<u64>) -> Result<(Seen, u64), PageFault> {
     let (pool, refused) = started(alloc, fails)?;
-    let mut run = Trial {
-        pool,
+    let seen = Seen {
         bytes: [0; 256],
-        given: Vec::new(alloc),
+        given: [0; 45],
+        givens: 0,
         refused,
         is_right: true,
     };
-    'commands: for each in &COMMANDS {
-        carry_out(&mut run, each)?;
-    }
-    read_all(&mut run, 1, 48);
-    Ok(run)
+    let mut run = Trial { pool, seen };
+    carry_out_all(&mut run)?;
+    Ok((run.seen, run.pool.into_disk().calls()))
+}
+
+// Whether a trial without a fault was given the freed numbers again, and saw what it must.
+fn is_undisturbed(plain: &Seen) -> bool {
+    plain.is_right && plain.refused == 0 && plain.given.get(40..) == Some(GIVEN.as_slice())
 }
 
 // Whether a trial with one fault was refused once, and ended as the one without.
-fn ends_alike(disturbed: &Trial, bytes: &[u8; 256], given: &[u8]) -> bool {
+fn ends_alike(disturbed: &Seen, plain: &Seen) -> bool {
     disturbed.is_right
         && disturbed.refused == 1
-        && disturbed.bytes == *bytes
-        && disturbed.given.as_slice() == given
+        && disturbed.bytes == plain.bytes
+        && disturbed.given == plain.given
 }
 
-// The number of calls of the disk, each of which failed once: it was refused, and the rest ran as undisturbed.
-fn single_faults(alloc: Global) -> Result<Option<u64>, PageFault> {
-    let plain = tried(alloc, Vec::new(alloc))?;
-    if !plain.is_right || plain.refused != 0 || plain.given.get(40..) != Some(GIVEN.as_slice()) {
-        return Ok(None);
-    }
-    let calls = plain.pool.into_disk().calls();
-    for call in 1..=calls {
-        let mut fails = Vec::new(alloc);
-        let Ok(()) = fails.push(call) else {
-            return Err(PageFault::Memory);
-        };
-        let disturbed = tried(alloc, fails)?;
-        if !ends_alike(&disturbed, &plain.bytes, plain.given.as_slice()) {
-            return Ok(None);
-        }
-    }
-    Ok(Some(calls))
-}
-
-// All calls of the disk from this one on, as far as a trial goes.
-fn from_on(alloc: Global, call: u64) -> Result<Vec<u64>, PageFault> {
+// The calls from the first number up to the one before the last, as those that fail.
+fn calls_between(alloc: Global, first: u64, last: u64) -> Result<Vec<u64>, PageFault> {
     let mut fails = Vec::new(alloc);
-    for later in call..2_000 {
-        let Ok(()) = fails.push(later) else {
+    for call in first..last {
+        let Ok(()) = fails.push(call) else {
             return Err(PageFault::Memory);
         };
     }
     Ok(fails)
 }
 
-// How many times the disk failed from one of its calls on: each refusal was the disk's, and each page that could be
-// read was what it must be.
-fn lasting_faults(alloc: Global) -> Result<Option<u64>, PageFault> {
-    let plain = tried(alloc, Vec::new(alloc))?;
-    let calls = plain.pool.into_disk().calls();
-    let mut trials = 0u64;
-    for call in 2..=calls {
-        let disturbed = tried(alloc, from_on(alloc, call)?)?;
-        if !disturbed.is_right || disturbed.refused == 0 {
+// Whether a trial whose disk fails at this call alone ends as the one without a fault.
+fn is_single(alloc: Global, call: u64, plain: &Seen) -> Result<bool, PageFault> {
+    let fails = calls_between(alloc, call, call.saturating_add(1))?;
+    let (disturbed, _calls) = tried(alloc, fails)?;
+    Ok(ends_alike(&disturbed, plain))
+}
+
+// The number of calls of the disk, each of which failed once: it was refused, and the rest ran as undisturbed.
+fn single_faults(alloc: Global) -> Result<Option<u64>, PageFault> {
+    let (plain, calls) = tried(alloc, Vec::new(alloc))?;
+    if !is_undisturbed(&plain) {
+        return Ok(None);
+    }
+    for call in 1..=calls {
+        if !is_single(alloc, call, &plain)? {
             return Ok(None);
         }
-        trials = trials.saturating_add(1);
     }
-    Ok(Some(trials))
+    Ok(Some(calls))
 }
 
-// Pages in memory, of which nothing is told. A page that is read comes with one bit flipped.
-#[derive(Drop)]
-struct FlippingDisk {
-    pages: BTreeMap<u64, [u8; 4096]>,
-    flipped: usize,
-    given: [u8; 4096],
+// Whether in a trial whose disk fails from this call on each refusal is the disk's, and each page that can be read is
+// what it must be.
+fn is_lasting(alloc: Global, call: u64) -> Result<bool, PageFault> {
+    let (disturbed, _calls) = tried(alloc, calls_between(alloc, call, 2_000)?)?;
+    Ok(disturbed.is_right && disturbed.refused > 0)
 }
 
-impl Disk for FlippingDisk {
-    ghost seen = { λ d. record { told = false; pages = map.empty; given = d.given; faults = 0 } };
-
-    fn start(&mut self, _name: Option<&str>) -> Result<(), DiskFault> {
-        self.pages.clear();
-        Ok(())
-    }
-
-    fn read_page(&mut self, n: u64, page: &mut [u8; 4096]) -> Result<(), DiskFault> {
-        let Some(found) = self.pages.get(&n) else {
-            return Err(DiskFault::Memory);
-        };
-        *page = *found;
-        if let Some(byte) = page.get_mut(self.flipped) {
-            *byte ^= 1;
-        }
-        self.given = *page;
-        Ok(())
-    }
-
-    fn write_page(&mut self, n: u64, page: &[u8; 4096]) -> Result<(), DiskFault> {
-        self.pages.insert(n, *page)?;
-        Ok(())
-    }
-}
-
-// 17 pages in 16 frames, all written, so that page 1 is on the disk alone. Each is filled with its number.
-fn flipping(alloc: Global, flipped: usize) -> Result<Pool<FlippingDisk>, PageFault>
-    ensures { IfOk result (λ pool. IsClosed pool) }
-{
-    let disk = FlippingDisk {
-        pages: BTreeMap::new(alloc),
-        flipped,
-        given: [0; 4096],
-    };
-    let mut pool = match Pool::start(alloc, disk, None, 16) {
-        Ok(pool) => pool,
-        Err((fault, _disk)) => return Err(fault),
-    };
-    pool.begin()?;
-    'pages: for byte in 1..=17u8 {
-        let number = pool.allocate()?;
-        if pool.is_live(number) {
-            pool.put(number, &[byte; 4096])?;
+// How many times the disk failed from one of its calls on.
+fn lasting_faults(alloc: Global) -> Result<Option<u64>, PageFault> {
+    let (_plain, calls) = tried(alloc, Vec::new(alloc))?;
+    for call in 2..=calls {
+        if !is_lasting(alloc, call)? {
+            return Ok(None);
         }
     }
-    pool.commit();
-    pool.flush()?;
-    Ok(pool)
+    Ok(calls.checked_sub(1))
 }
 
-// What reading page 1 gives, where one of its bits is flipped.
+// What reading page 1 gives, where a bit of this byte of it comes back flipped. It is on the disk alone.
 fn damage(alloc: Global, flipped: usize) -> PageFault {
-    let mut pool = match flipping(alloc, flipped) {
+    let mut pool = match filled(alloc, ShyDisk::new(alloc, flipped, 0), 16, 17) {
         Ok(pool) => pool,
         Err(fault) => return fault,
     };
@@ -391,23 +363,35 @@ fn tell_damage(rt: &(impl Print + AllocGlobal), name: &str, flipped: usize) -> i
     }
 }
 
-/// Prints what became of a pool over disks that fail and disks that give other bytes.
-pub fn tell(rt: &(impl Print + AllocGlobal)) -> io::Result<()> {
+// Prints what became of a pool each of whose disk's calls failed once.
+fn tell_single_faults(rt: &(impl Print + AllocGlobal)) -> io::Result<()> {
     match single_faults(rt.alloc()) {
         Ok(Some(calls)) => rt.println(format_args!(
             "faults: {calls} calls of a disk failed once each; each was refused as the disk's, and the rest ran as undisturbed"
-        ))?,
-        _ => rt.println(format_args!(
-            "faults: a call that failed once shows, or memory was short"
-        ))?,
+        )),
+        _ => rt.println(format_args!("faults: a call that failed once shows, or memory was short")),
     }
+}
+
+// Prints what became of a pool whose disk failed from a call on.
+fn tell_lasting_faults(rt: &(impl Print + AllocGlobal)) -> io::Result<()> {
     match lasting_faults(rt.alloc()) {
         Ok(Some(trials)) => rt.println(format_args!(
             "faults: a disk failed {trials} times from a call on; each refusal was the disk's, and every page was what it must be"
-        ))?,
-        _ => rt.println(format_args!("faults: a fault that stays shows, or memory was short"))?,
+        )),
+        _ => rt.println(format_args!("faults: a fault that stays shows, or memory was short")),
     }
-    tell_damage(rt, "first", 0)?;
-    tell_damage(rt, "middle", 2_048)?;
-    tell_damage(rt, "last", 4_095)
+}
+
+// The bytes that come back with a flipped bit.
+static FLIPPED: [(&str, usize); 3] = [("first", 0), ("middle", 2_048), ("last", 4_095)];
+
+/// Prints what became of a pool over disks that fail and disks that give other bytes.
+pub fn tell(rt: &(impl Print + AllocGlobal)) -> io::Result<()> {
+    tell_single_faults(rt)?;
+    tell_lasting_faults(rt)?;
+    for (name, flipped) in &FLIPPED {
+        tell_damage(rt, name, *flipped)?;
+    }
+    Ok(())
 }

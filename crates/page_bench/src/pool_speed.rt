@@ -1,10 +1,11 @@
 // What `bench/pages.py` times of a pool of 10,000 pages: gets of pages in the frames and of pages on the disk, commands that put one
 // page, and digests of a page, the least that a get from the disk and a writing cost. The stored run shows how many calls of the disk
 // they take.
-ghost use Rattle.std.specs.Prelude.{◌≤◌, ◌<◌, IfOk, OnOk};
+ghost use Rattle.std.specs.Prelude.{◌≤◌, ◌<◌, OnOk};
 ghost use Rattle.page_pool.specs.Pool.{IsClosed};
 
 use crate::draws::Draws;
+use crate::filled_pool::{byte_of, filled};
 use page_pool::{MemDisk, PageFault, Pages, Pool};
 use sha2::{Digest, Sha256};
 use std::alloc::Global;
@@ -39,34 +40,6 @@ const FEW_FRAMES: u32 = 16;
 
 // The calls with which all pages come onto the disk: it starts, and each is written.
 const FILLING_CALLS: u64 = PAGES + 1;
-
-// The byte with which a page is filled.
-fn byte_of(number: u64) -> u8 {
-    (number % 251) as u8
-}
-
-// A pool whose pages are all on the disk, each filled with its byte. The last ones are in the frames too.
-fn filled(alloc: Global, frames: u32) -> Result<Pool<MemDisk>, PageFault>
-    requires least { 16 ≤ frames }
-    requires most { frames ≤ 4096 }
-    ensures { IfOk result (λ pool. IsClosed pool) }
-{
-    let disk = MemDisk::new(alloc, Vec::new(alloc));
-    let mut pool = match Pool::start(alloc, disk, None, frames) {
-        Ok(pool) => pool,
-        Err((fault, _disk)) => return Err(fault),
-    };
-    pool.begin()?;
-    'pages: for _ in 0..PAGES {
-        let number = pool.allocate()?;
-        if pool.is_live(number) {
-            pool.put(number, &[byte_of(number); 4096])?;
-        }
-    }
-    pool.commit();
-    pool.flush()?;
-    Ok(pool)
-}
 
 // The number of a drawn page of the last so many.
 fn drawn(draws: &mut Draws, last: u64) -> u64
@@ -154,29 +127,41 @@ fn tallied(pool: Pool<MemDisk>, right: u64) -> Tally {
     }
 }
 
+// How many frames the pool of a part has.
+fn frames_of(part: PoolPart) -> u32
+    ensures least { 16 ≤ result }
+    ensures most { result ≤ 4096 }
+{
+    match part {
+        PoolPart::Misses => FEW_FRAMES,
+        _ => MANY_FRAMES,
+    }
+}
+
+// Makes so many calls of a pool.
+fn called(pool: &mut Pool<MemDisk>, part: PoolPart, calls: u32) -> Result<u64, PageFault>
+    requires { IsClosed pool.old }
+{
+    match part {
+        PoolPart::Hits => got(pool, MANY_FRAMES.into(), calls),
+        PoolPart::Misses => got(pool, PAGES, calls),
+        PoolPart::Puts => put(pool, calls),
+        PoolPart::Digests => Ok(digested(calls)),
+    }
+}
+
 /// Makes a part with so many calls.
 pub fn made(alloc: Global, part: PoolPart, calls: u32) -> Result<Tally, PageFault> {
-    match part {
-        PoolPart::Hits => {
-            let mut pool = filled(alloc, MANY_FRAMES)?;
-            let right = got(&mut pool, MANY_FRAMES.into(), calls)?;
-            Ok(tallied(pool, right))
-        }
-        PoolPart::Misses => {
-            let mut pool = filled(alloc, FEW_FRAMES)?;
-            let right = got(&mut pool, PAGES, calls)?;
-            Ok(tallied(pool, right))
-        }
-        PoolPart::Puts => {
-            let mut pool = filled(alloc, MANY_FRAMES)?;
-            let right = put(&mut pool, calls)?;
-            Ok(tallied(pool, right))
-        }
-        PoolPart::Digests => Ok(Tally {
+    if let PoolPart::Digests = part {
+        return Ok(Tally {
             right: digested(calls),
             disk_calls: 0,
-        }),
+        });
     }
+    let disk = MemDisk::new(alloc, Vec::new(alloc));
+    let mut pool = filled(alloc, disk, frames_of(part), PAGES)?;
+    let right = called(&mut pool, part, calls)?;
+    Ok(tallied(pool, right))
 }
 
 /// The part that a word names.
@@ -191,7 +176,7 @@ pub fn part_named(word: &str) -> Option<PoolPart> {
 }
 
 // The parts of the stored run, with how many calls each makes.
-const TOLD: [(&str, PoolPart, u32); 3] = [
+static TOLD: [(&str, PoolPart, u32); 3] = [
     ("gets of pages in 4096 frames", PoolPart::Hits, 20_000),
     (
         "gets of 10000 pages over 16 frames",
@@ -203,8 +188,8 @@ const TOLD: [(&str, PoolPart, u32); 3] = [
 
 /// Prints how many calls of the disk each part takes.
 pub fn tell(rt: &(impl Print + AllocGlobal)) -> io::Result<()> {
-    for (name, part, calls) in TOLD {
-        match made(rt.alloc(), part, calls) {
+    for (name, part, calls) in &TOLD {
+        match made(rt.alloc(), *part, *calls) {
             Ok(tally) => rt.println(format_args!(
                 "{calls} {name}: {} are right, with {} calls of the disk",
                 tally.right, tally.disk_calls

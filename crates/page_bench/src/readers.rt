@@ -54,6 +54,25 @@ fn push(rows: &mut Vec<Hit>, hit: Hit) -> Result<(), PageFault> {
     }
 }
 
+// Adds so many rows of a search; tells whether its end came.
+fn add_rows<H: Hierarchy, Q: Queue<Item<H::Node>>>(
+    rows: &mut Vec<Hit>,
+    search: &mut BestFirst<H, Q>,
+    desk: &mut Desk<ShyDisk>,
+    most: u32,
+) -> Result<bool, PageFault>
+    requires { desk.old.pool.disk.told ≡ false }
+    ensures { desk.new.pool.disk.told ≡ false }
+{
+    'rows: for _ in 0..most {
+        let Some(hit) = search.next(desk)? else {
+            return Ok(true);
+        };
+        push(rows, hit)?;
+    }
+    Ok(false)
+}
+
 // So many rows of a search.
 fn first_rows<H: Hierarchy, Q: Queue<Item<H::Node>>>(
     alloc: Global,
@@ -65,20 +84,32 @@ fn first_rows<H: Hierarchy, Q: Queue<Item<H::Node>>>(
     ensures { desk.new.pool.disk.told ≡ false }
 {
     let mut rows = Vec::new(alloc);
-    let mut ended = false;
-    'rows: for _ in 0..most {
-        let Some(hit) = search.next(desk)? else {
-            ended = true;
-            break;
-        };
-        push(&mut rows, hit)?;
-    }
+    let ended = add_rows(&mut rows, search, desk, most)?;
     Ok(Found {
         rows,
         ended,
         visited: search.visited(),
         fetched: search.fetched(),
     })
+}
+
+// Adds so many pairs of a semi-join; tells whether its end came.
+fn add_pairs<H: Hierarchy, Q: Queue<Item<H::Node>>>(
+    rows: &mut Vec<Hit>,
+    semi: &mut Semi<H, Q>,
+    desk: &mut Desk<ShyDisk>,
+    most: u32,
+) -> Result<bool, PageFault>
+    requires { desk.old.pool.disk.told ≡ false }
+    ensures { desk.new.pool.disk.told ≡ false }
+{
+    'rows: for _ in 0..most {
+        let Some(hit) = semi.next(desk)? else {
+            return Ok(true);
+        };
+        push(rows, hit)?;
+    }
+    Ok(false)
 }
 
 // So many pairs of a semi-join.
@@ -92,14 +123,7 @@ fn first_pairs<H: Hierarchy, Q: Queue<Item<H::Node>>>(
     ensures { desk.new.pool.disk.told ≡ false }
 {
     let mut rows = Vec::new(alloc);
-    let mut ended = false;
-    'rows: for _ in 0..most {
-        let Some(hit) = semi.next(desk)? else {
-            ended = true;
-            break;
-        };
-        push(&mut rows, hit)?;
-    }
+    let ended = add_pairs(&mut rows, semi, desk, most)?;
     Ok(Found {
         rows,
         ended,

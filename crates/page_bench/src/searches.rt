@@ -127,7 +127,7 @@ pub fn found(alloc: Global, search: Search) -> Result<Found, PageFault> {
 }
 
 /// Each search with its name.
-pub const SEARCHES: [(&str, Search); 9] = [
+pub static SEARCHES: [(&str, Search); 9] = [
     (
         "two points at the corner of four blocks, from between them",
         Search::TieFromBetween,

@@ -46,6 +46,20 @@ pub fn filled(pool: &mut Pool<SureDisk>, lots: u32) -> Result<Tree, PageFault>
     Ok(tree)
 }
 
+// Looks up a lot of drawn keys; gives how many were there.
+fn look_lot(pool: &mut Pool<SureDisk>, tree: Tree, draws: &mut Draws) -> Result<u64, PageFault>
+    requires { IsTold pool.old → IsTree (pages_in pool.old) tree }
+    ensures { OnOk result (IsTold pool.new → IsTree (pages_in pool.new) tree) }
+{
+    let mut there = 0u64;
+    'keys: for _ in 0..LOT {
+        if tree.get(pool, draws.key())?.is_some() {
+            there = there.wrapping_add(1);
+        }
+    }
+    Ok(there)
+}
+
 // Looks up the drawn keys again; gives how many were there.
 fn look(pool: &mut Pool<SureDisk>, tree: Tree, lots: u32) -> Result<u64, PageFault>
     requires { IsTold pool.old → IsTree (pages_in pool.old) tree }
@@ -54,11 +68,7 @@ fn look(pool: &mut Pool<SureDisk>, tree: Tree, lots: u32) -> Result<u64, PageFau
     let mut draws = Draws::begin(1);
     let mut there = 0u64;
     'lots: for _ in 0..lots {
-        'keys: for _ in 0..LOT {
-            if tree.get(pool, draws.key())?.is_some() {
-                there = there.wrapping_add(1);
-            }
-        }
+        there = there.wrapping_add(look_lot(pool, tree, &mut draws)?);
     }
     Ok(there)
 }
@@ -86,35 +96,40 @@ pub fn run_through(pool: &mut Pool<SureDisk>, tree: Tree) -> u64
     pairs
 }
 
-/// The same in memory: a map of so many lots of drawn keys, where memory suffices.
-pub fn filled_twin(alloc: Global, lots: u32) -> Option<BTreeMap<u128, u128>> {
-    let mut twin = BTreeMap::new(alloc);
+/// The same in memory.
+pub type Twin = BTreeMap<u128, u128>;
+
+// Fills the map with so many drawn keys, where memory suffices.
+fn fill_twin(twin: &mut Twin, keys: u64) -> Option<()> {
     let mut draws = Draws::begin(1);
-    'lots: for _ in 0..lots {
-        'keys: for _ in 0..LOT {
-            let key = draws.key();
-            twin.insert(key, key).ok()?;
-        }
+    'keys: for _ in 0..keys {
+        let key = draws.key();
+        twin.insert(key, key).ok()?;
     }
+    Some(())
+}
+
+/// A map of so many lots of drawn keys in memory.
+pub fn filled_twin(alloc: Global, lots: u32) -> Option<Twin> {
+    let mut twin = BTreeMap::new(alloc);
+    fill_twin(&mut twin, u64::from(lots) * u64::from(LOT))?;
     Some(twin)
 }
 
 // The keys looked up again in memory; gives how many were there.
-fn look_twin(twin: &BTreeMap<u128, u128>, lots: u32) -> u64 {
+fn look_twin(twin: &Twin, lots: u32) -> u64 {
     let mut draws = Draws::begin(1);
     let mut there = 0u64;
-    'lots: for _ in 0..lots {
-        'keys: for _ in 0..LOT {
-            if twin.get(&draws.key()).is_some() {
-                there = there.wrapping_add(1);
-            }
+    'keys: for _ in 0..u64::from(lots) * u64::from(LOT) {
+        if twin.get(&draws.key()).is_some() {
+            there = there.wrapping_add(1);
         }
     }
     there
 }
 
 /// Each key looked up some rounds in memory; gives how often one was there.
-pub fn looked_up_twin(twin: &BTreeMap<u128, u128>, lots: u32) -> u64 {
+pub fn looked_up_twin(twin: &Twin, lots: u32) -> u64 {
     let mut there = 0u64;
     'rounds: for _ in 0..ROUNDS {
         there = there.wrapping_add(look_twin(twin, lots));
@@ -123,7 +138,7 @@ pub fn looked_up_twin(twin: &BTreeMap<u128, u128>, lots: u32) -> u64 {
 }
 
 /// All pairs in memory; gives how many there were.
-pub fn run_through_twin(twin: &BTreeMap<u128, u128>) -> u64 {
+pub fn run_through_twin(twin: &Twin) -> u64 {
     let mut pairs = 0u64;
     for (key, value) in twin.iter() {
         if *key == *value {

@@ -1,4 +1,5 @@
 // What `bench/pages.py` times: trees, files and searches of so many rows, in 4,096 frames.
+ghost use Rattle.std.specs.Prelude.{◌<◌, ◌^◌};
 ghost use Rattle.sand_base.specs.Grid.{IsInPlane};
 
 use crate::draws::Draws;
@@ -40,16 +41,28 @@ fn grown(alloc: Global, rows: u32) -> Result<(OpenPool, Pmr), PageFault> {
     Ok((pool, tree))
 }
 
+// How many ids the leaf of a code lists.
+fn ids_of(alloc: Global, pool: &mut OpenPool, tree: &Pmr, z: u64) -> Result<u64, PageFault>
+    requires { z < 2 ^ 32 }
+{
+    let (_block, list) = pool.leaf(alloc, tree, z)?;
+    Ok(list.as_slice().len() as u64)
+}
+
 // The leaves of drawn codes; gives how many ids they list.
-fn looked(alloc: Global, rows: u32) -> Result<u64, PageFault> {
-    let (mut pool, tree) = grown(alloc, rows)?;
+fn look(alloc: Global, pool: &mut OpenPool, tree: &Pmr, codes: u32) -> Result<u64, PageFault> {
     let mut draws = Draws::begin(1);
     let mut ids = 0u64;
-    'leaves: for _ in 0..rows {
-        let (_block, list) = pool.leaf(alloc, &tree, draws.word())?;
-        ids = ids.wrapping_add(list.as_slice().len() as u64);
+    'leaves: for _ in 0..codes {
+        ids = ids.wrapping_add(ids_of(alloc, pool, tree, draws.word())?);
     }
     Ok(ids)
+}
+
+// As many leaves as the tree has rows.
+fn looked(alloc: Global, rows: u32) -> Result<u64, PageFault> {
+    let (mut pool, tree) = grown(alloc, rows)?;
+    look(alloc, &mut pool, &tree, rows)
 }
 
 // A drawn goal.
@@ -61,18 +74,35 @@ fn goal(draws: &mut Draws) -> Point
     Point { x, y }
 }
 
+// The first ten rows from a goal; gives how many nodes they visit.
+fn visited_from(
+    alloc: Global,
+    pages: &mut Readers,
+    tree: &Pmr,
+    goal: Point,
+) -> Result<u64, PageFault>
+    requires { IsInPlane goal }
+{
+    let goal = Goal::Shape(Shape::Point(goal));
+    let found = pages.rank(alloc, tree, Shapes::Points, goal, None, 10)?;
+    Ok(found.visited)
+}
+
 // Rankings from drawn goals; gives how many nodes they visit.
-fn ranked(alloc: Global, rows: u32) -> Result<u64, PageFault> {
-    let (pool, tree) = grown(alloc, rows)?;
-    let mut pages = pool.close(alloc);
+fn rank(alloc: Global, pages: &mut Readers, tree: &Pmr) -> Result<u64, PageFault> {
     let mut draws = Draws::begin(2);
     let mut visited = 0u64;
     'goals: for _ in 0..1_000u32 {
-        let goal = Goal::Shape(Shape::Point(goal(&mut draws)));
-        let found = pages.rank(alloc, &tree, Shapes::Points, goal, None, 10)?;
-        visited = visited.wrapping_add(found.visited);
+        let goal = goal(&mut draws);
+        visited = visited.wrapping_add(visited_from(alloc, pages, tree, goal)?);
     }
     Ok(visited)
+}
+
+// Rankings over a tree of so many rows.
+fn ranked(alloc: Global, rows: u32) -> Result<u64, PageFault> {
+    let (pool, tree) = grown(alloc, rows)?;
+    rank(alloc, &mut pool.close(alloc), &tree)
 }
 
 // Two trees in one pool, the second of points, segments and triangles.
@@ -83,28 +113,50 @@ fn sides(alloc: Global, rows: u32) -> Result<(Readers, Pmr, Pmr), PageFault> {
     Ok((pool.close(alloc), left, right))
 }
 
+// The nearest pairs; gives how many pairs of nodes are visited.
+fn visited_by(
+    alloc: Global,
+    pages: &mut Readers,
+    left: &Pmr,
+    right: &Pmr,
+) -> Result<u64, PageFault> {
+    let found = pages.join(alloc, (left, Shapes::Points), (right, Shapes::Mixed), 100)?;
+    Ok(found.visited)
+}
+
 // The nearest pairs, some times; gives how many pairs of nodes are visited.
-fn joined(alloc: Global, rows: u32) -> Result<u64, PageFault> {
-    let (mut pages, left, right) = sides(alloc, rows)?;
+fn join(alloc: Global, pages: &mut Readers, left: &Pmr, right: &Pmr) -> Result<u64, PageFault> {
     let mut visited = 0u64;
     'times: for _ in 0..10u8 {
-        let found = pages.join(alloc, (&left, Shapes::Points), (&right, Shapes::Mixed), 100)?;
-        visited = visited.wrapping_add(found.visited);
+        visited = visited.wrapping_add(visited_by(alloc, pages, left, right)?);
     }
     Ok(visited)
 }
 
+// Joins of two trees of so many rows.
+fn joined(alloc: Global, rows: u32) -> Result<u64, PageFault> {
+    let (mut pages, left, right) = sides(alloc, rows)?;
+    join(alloc, &mut pages, &left, &right)
+}
+
 // A whole semi-join; gives how many pairs of nodes are visited.
+fn semi(
+    alloc: Global,
+    pages: &mut Readers,
+    left: &Pmr,
+    right: &Pmr,
+    rows: u32,
+) -> Result<u64, PageFault> {
+    let left = (left, Shapes::Points);
+    let right = (right, Shapes::Mixed);
+    let found = pages.semi(alloc, left, right, rows, rows)?;
+    Ok(found.visited)
+}
+
+// A semi-join of two trees of so many rows.
 fn first_pairs(alloc: Global, rows: u32) -> Result<u64, PageFault> {
     let (mut pages, left, right) = sides(alloc, rows)?;
-    let found = pages.semi(
-        alloc,
-        (&left, Shapes::Points),
-        (&right, Shapes::Mixed),
-        rows,
-        rows,
-    )?;
-    Ok(found.visited)
+    semi(alloc, &mut pages, &left, &right, rows)
 }
 
 /// Makes a part with so many rows; gives what it counts.

@@ -1,5 +1,5 @@
 // Quadtrees: mixed inserts and deletes, and their leaves.
-ghost use Rattle.std.specs.Prelude.{◌≤◌};
+ghost use Rattle.std.specs.Prelude.{◌≤◌, ◌<◌, ◌^◌};
 
 use crate::draws::Draws;
 use crate::open_pool::OpenPool;
@@ -28,6 +28,29 @@ fn behind(block: Block) -> u64 {
     block.z.saturating_add(1u64 << bits)
 }
 
+// The number with a leaf more told.
+fn told_leaf(digest: u64, block: Block, ids: &[u32]) -> u64 {
+    let mut digest = told(told(digest, block.z), u64::from(block.level));
+    'ids: for id in ids {
+        digest = told(digest, u64::from(*id));
+    }
+    digest
+}
+
+// The number with the leaf of a code more told, and the code behind the leaf.
+fn next_leaf(
+    alloc: Global,
+    pool: &mut OpenPool,
+    tree: &Pmr,
+    z: u64,
+    digest: u64,
+) -> Result<(u64, u64), PageFault>
+    requires { z < 2 ^ 32 }
+{
+    let (block, ids) = pool.leaf(alloc, tree, z)?;
+    Ok((told_leaf(digest, block, ids.as_slice()), behind(block)))
+}
+
 /// The leaves of a tree, in the order of their codes.
 pub fn leaves(alloc: Global, pool: &mut OpenPool, tree: &Pmr) -> Result<LeafDigest, PageFault> {
     let mut count = 0u64;
@@ -37,13 +60,10 @@ pub fn leaves(alloc: Global, pool: &mut OpenPool, tree: &Pmr) -> Result<LeafDige
         if z >= 4_294_967_296 {
             break;
         }
-        let (block, ids) = pool.leaf(alloc, tree, z)?;
-        digest = told(told(digest, block.z), u64::from(block.level));
-        'ids: for id in ids.as_slice() {
-            digest = told(digest, u64::from(*id));
-        }
+        let (told, next) = next_leaf(alloc, pool, tree, z, digest)?;
         count = count.wrapping_add(1);
-        z = behind(block);
+        digest = told;
+        z = next;
     }
     Ok(LeafDigest { count, digest })
 }

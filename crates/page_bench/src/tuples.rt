@@ -73,6 +73,31 @@ fn toggle(
     Ok(true)
 }
 
+// Whether both fetch the same row.
+fn fetches_same(
+    alloc: Global,
+    pool: &mut OpenPool,
+    schema: &Schema,
+    file: &TupleFile,
+    twin: &Twin,
+    id: u32,
+) -> Result<bool, PageFault> {
+    let row = pool.fetch(alloc, file, schema, id)?;
+    Ok(same(&row, twin.get(&id)))
+}
+
+// Whether both have the same least id from this one on.
+fn scans_same(
+    pool: &mut OpenPool,
+    file: &TupleFile,
+    twin: &Twin,
+    id: u32,
+) -> Result<bool, PageFault> {
+    let found = pool.scan(file, id)?;
+    let other = twin.keys().find(|key| **key >= id);
+    Ok(found == other.copied())
+}
+
 // One drawn call; tells whether both answer the same.
 fn call(
     alloc: Global,
@@ -90,50 +115,82 @@ fn call(
         return toggle(pool, file, twin, id, (number, length));
     }
     if kind == 2 {
-        let row = pool.fetch(alloc, file, schema, id)?;
-        return Ok(same(&row, twin.get(&id)));
+        return fetches_same(alloc, pool, schema, file, twin, id);
     }
-    let found = pool.scan(file, id)?;
-    let other = twin.keys().find(|key| **key >= id);
-    Ok(found == other.copied())
+    scans_same(pool, file, twin, id)
+}
+
+// So many drawn calls of a new file and of the map; tells whether all answers were the same.
+fn call_all(
+    alloc: Global,
+    pool: &mut OpenPool,
+    twin: &mut Twin,
+    calls: u32,
+) -> Result<bool, PageFault> {
+    let schema = columns(alloc)?;
+    let mut file = pool.plant_file()?;
+    let mut draws = Draws::begin(calls.into());
+    'calls: for _ in 0..calls {
+        if !call(alloc, pool, &schema, &mut file, twin, &mut draws)? {
+            return Ok(false);
+        }
+    }
+    Ok(true)
 }
 
 /// So many drawn calls of a file and of a map in memory; gives the number of rows left where all answers were the same.
 pub fn mixed(alloc: Global, pool: &mut OpenPool, calls: u32) -> Result<Option<usize>, PageFault> {
-    let schema = columns(alloc)?;
-    let mut file = pool.plant_file()?;
-    let mut draws = Draws::begin(calls.into());
     let mut twin = BTreeMap::new(alloc);
-    'calls: for _ in 0..calls {
-        if !call(alloc, pool, &schema, &mut file, &mut twin, &mut draws)? {
-            return Ok(None);
-        }
+    if !call_all(alloc, pool, &mut twin, calls)? {
+        return Ok(None);
     }
     Ok(Some(twin.len()))
 }
 
-// The pool and the file of so many rows.
-fn filled(alloc: Global, rows: u32) -> Result<(OpenPool, TupleFile), PageFault> {
-    let mut pool = OpenPool::start(alloc, 4_096)?;
+// A file of so many rows.
+fn filled(pool: &mut OpenPool, rows: u32) -> Result<TupleFile, PageFault> {
     let mut file = pool.plant_file()?;
     'rows: for id in 1..=rows {
-        put(&mut pool, &mut file, id, (i64::from(id), 40))?;
+        put(pool, &mut file, id, (i64::from(id), 40))?;
     }
-    Ok((pool, file))
+    Ok(file)
 }
 
-/// So many rows put into a file, and then so many fetched at random; gives how many are there.
-pub fn put_and_fetched(alloc: Global, rows: u32, fetches: u32) -> Result<u64, PageFault> {
+// Whether a row is there.
+fn is_there(
+    alloc: Global,
+    pool: &mut OpenPool,
+    schema: &Schema,
+    file: &TupleFile,
+    id: u32,
+) -> Result<bool, PageFault> {
+    let row = pool.fetch(alloc, file, schema, id)?;
+    Ok(row.is_some())
+}
+
+// So many rows fetched at random; gives how many are there.
+fn fetched(
+    alloc: Global,
+    pool: &mut OpenPool,
+    file: &TupleFile,
+    rows: u32,
+    fetches: u32,
+) -> Result<u64, PageFault> {
     let schema = columns(alloc)?;
-    let (mut pool, file) = filled(alloc, rows)?;
     let mut draws = Draws::begin(3);
     let mut there = 0u64;
     'fetches: for _ in 0..fetches {
         let id = draws.word() % u64::from(rows).max(1) + 1;
-        let row = pool.fetch(alloc, &file, &schema, id as u32)?;
-        if row.is_some() {
+        if is_there(alloc, pool, &schema, file, id as u32)? {
             there = there.wrapping_add(1);
         }
     }
     Ok(there)
+}
+
+/// So many rows put into a file, and then so many fetched at random; gives how many are there.
+pub fn put_and_fetched(alloc: Global, rows: u32, fetches: u32) -> Result<u64, PageFault> {
+    let mut pool = OpenPool::start(alloc, 4_096)?;
+    let file = filled(&mut pool, rows)?;
+    fetched(alloc, &mut pool, &file, rows, fetches)
 }

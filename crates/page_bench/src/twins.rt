@@ -63,6 +63,28 @@ fn same_pairs(pool: &mut Pool<SureDisk>, tree: Tree, twin: &Twin) -> bool
     others.next().is_none()
 }
 
+// So many drawn calls of both maps, with keys below this number; tells whether all answers were the same.
+fn call_all(
+    pool: &mut Pool<SureDisk>,
+    tree: &mut Tree,
+    twin: &mut Twin,
+    calls: u32,
+    keys: u64,
+) -> Result<bool, PageFault>
+    requires some { 1 ≤ keys }
+    requires opened { IsOpen pool.old }
+    requires tree { IsTold pool.old → IsTree (pages_in pool.old) tree.old }
+    ensures { OnOk result (IsTold pool.new → IsTree (pages_in pool.new) tree.new) }
+{
+    let mut draws = Draws::begin(calls.into());
+    'calls: for _ in 0..calls {
+        if !call(pool, tree, twin, &mut draws, keys)? {
+            return Ok(false);
+        }
+    }
+    Ok(true)
+}
+
 /// So many drawn calls of a map in pages and of one in memory, with keys below this number. Gives the number of
 /// pairs left where all answers and all pairs were the same.
 pub fn mixed(
@@ -74,18 +96,12 @@ pub fn mixed(
     requires some { 1 ≤ keys }
     requires opened { IsOpen pool.old }
 {
-    let mut draws = Draws::begin(calls.into());
-    let mut twin = BTreeMap::new(alloc);
     let mut tree = Tree::plant(pool)?;
-    'calls: for _ in 0..calls {
-        if !call(pool, &mut tree, &mut twin, &mut draws, keys)? {
-            return Ok(None);
-        }
+    let mut twin = BTreeMap::new(alloc);
+    if call_all(pool, &mut tree, &mut twin, calls, keys)? && same_pairs(pool, tree, &twin) {
+        return Ok(Some(tree.entries));
     }
-    if !same_pairs(pool, tree, &twin) {
-        return Ok(None);
-    }
-    Ok(Some(tree.entries))
+    Ok(None)
 }
 
 /// Puts the keys below this number into a map, from the least on, and takes them out again, from the least on.

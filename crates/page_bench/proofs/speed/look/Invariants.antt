@@ -5,6 +5,3 @@ use Rattle.page_bench.proofs.speed.look.Given as goal
 
 abbrev pub invariant-lots : goal.invariant-lots
 invariant-lots l = IsTold l.pool → IsTree (pages_in l.pool) l.tree
-
-abbrev pub invariant-keys : goal.invariant-keys
-invariant-keys l = IsTold l.pool → IsTree (pages_in l.pool) l.tree

@@ -1,7 +1,7 @@
 -- no command opens
 use Rattle.std.proofs.Common.{◌≡◌, false}
 use Rattle.page_pool.specs.Pool.{IsClosed}
-use Rattle.page_bench.proofs.frail_disk.crowd.Given as goal
+use Rattle.page_bench.proofs.filled_pool.crowd.Given as goal
 
 abbrev pub invariant-pages : goal.invariant-pages
 invariant-pages l = record {
