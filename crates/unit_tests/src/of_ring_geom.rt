@@ -71,7 +71,7 @@ const PLANE: &[[u32; 2]] = &[[0, 0], [FAR, 0], [FAR, FAR], [0, FAR]];
 const SLIVER: &[[u32; 2]] = &[[0, 0], [FAR, FAR], [FAR, FAR - 1]];
 
 // A figure of one vertex is a point, one of two a segment, and any other a polygon. The gap is in lowest terms.
-const PAIRS: [(&str, &[[u32; 2]], &[[u32; 2]], (u128, u128)); 62] = [
+const POINTS: [(&str, &[[u32; 2]], &[[u32; 2]], (u128, u128)); 37] = [
     ("inside a square", &[[3, 3]], SQUARE, (0, 1)),
     ("on its left edge", &[[2, 4]], SQUARE, (0, 1)),
     ("on its last vertex", &[[2, 6]], SQUARE, (0, 1)),
@@ -169,6 +169,9 @@ const PAIRS: [(&str, &[[u32; 2]], &[[u32; 2]], (u128, u128)); 62] = [
         SLIVER,
         (2_147_483_648, 1),
     ),
+];
+
+const SEGMENTS: [(&str, &[[u32; 2]], &[[u32; 2]], (u128, u128)); 12] = [
     ("a segment in a square", &[[3, 3], [5, 4]], SQUARE, (0, 1)),
     (
         "a segment through a square",
@@ -221,6 +224,9 @@ const PAIRS: [(&str, &[[u32; 2]], &[[u32; 2]], (u128, u128)); 62] = [
         ONE_POINT,
         (2_147_090_450, 1),
     ),
+];
+
+const POLYGONS: [(&str, &[[u32; 2]], &[[u32; 2]], (u128, u128)); 13] = [
     (
         "a triangle in a square",
         &[[3, 3], [5, 3], [4, 5]],
@@ -436,9 +442,18 @@ fn have_their_gaps(
 }
 
 #[test]
-fn gaps_of_two_figures(rt: HostRuntime) {
-    let alloc = rt.alloc();
-    have_their_gaps(&rt, alloc, &PAIRS);
+fn gaps_of_a_point_and_a_polygon(rt: HostRuntime) {
+    have_their_gaps(&rt, rt.alloc(), &POINTS);
+}
+
+#[test]
+fn gaps_of_a_segment_and_a_polygon(rt: HostRuntime) {
+    have_their_gaps(&rt, rt.alloc(), &SEGMENTS);
+}
+
+#[test]
+fn gaps_of_two_polygons(rt: HostRuntime) {
+    have_their_gaps(&rt, rt.alloc(), &POLYGONS);
 }
 
 #[test]
