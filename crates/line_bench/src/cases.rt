@@ -3,7 +3,7 @@ use sand_base::Kind;
 
 /// Lines that are read, and what each is printed as; lines that are not, by their first bad token or byte; and lines with
 /// a number or a length out of range.
-pub const LINES: [&str; 33] = [
+pub static LINES: [&str; 33] = [
     "  \t# a \"",
     "",
     "create create (create int,b segment)",
@@ -40,7 +40,7 @@ pub const LINES: [&str; 33] = [
 ];
 
 /// Bytes of a text that are no well-formed characters, behind 8 others.
-pub const BROKEN: [&[u8]; 4] = [
+pub static BROKEN: [&[u8]; 4] = [
     b"load p \"\x80\"",
     b"load p \"\xC0\x80\"",
     b"load p \"\xED\xA0\x80\"",
@@ -48,7 +48,7 @@ pub const BROKEN: [&[u8]; 4] = [
 ];
 
 /// Fields of a data file with the kinds of their columns.
-pub const FIELDS: [(Kind, &str); 12] = [
+pub static FIELDS: [(Kind, &str); 12] = [
     (Kind::Int, "-007"),
     (Kind::Int, " 7"),
     (Kind::Int, "-"),
@@ -63,15 +63,69 @@ pub const FIELDS: [(Kind, &str); 12] = [
     (Kind::Polygon, "((0 0)(1 0))"),
 ];
 
-/// Lines in three parts, of which the second stands there so many times.
-pub const LONG: [(&str, &str, usize, &str); 9] = [
-    ("insert p (7 ", "0", 8000, "9)"),
-    ("load p \"", "x", 255, "\""),
-    ("load p \"", "x", 256, "\""),
-    ("load p \"", "\"\"", 255, "\""),
-    ("insert p (", "(0 0)", 64, ")"),
-    ("insert p (", "(0 0)", 65, ")"),
-    ("create p (a int", ", a int", 11, ")"),
-    ("create p (a int", ", a int", 12, ")"),
-    ("show 1 ", "first 1(", 908, "scan p"),
+/// A line in three parts, of which the second stands there so many times.
+#[derive(Clone, Copy)]
+pub struct Repeated {
+    pub first: &'static str,
+    pub item: &'static str,
+    pub count: usize,
+    pub last: &'static str,
+}
+
+/// Long lines.
+pub static LONG: [Repeated; 9] = [
+    Repeated {
+        first: "insert p (7 ",
+        item: "0",
+        count: 8000,
+        last: "9)",
+    },
+    Repeated {
+        first: "load p \"",
+        item: "x",
+        count: 255,
+        last: "\"",
+    },
+    Repeated {
+        first: "load p \"",
+        item: "x",
+        count: 256,
+        last: "\"",
+    },
+    Repeated {
+        first: "load p \"",
+        item: "\"\"",
+        count: 255,
+        last: "\"",
+    },
+    Repeated {
+        first: "insert p (",
+        item: "(0 0)",
+        count: 64,
+        last: ")",
+    },
+    Repeated {
+        first: "insert p (",
+        item: "(0 0)",
+        count: 65,
+        last: ")",
+    },
+    Repeated {
+        first: "create p (a int",
+        item: ", a int",
+        count: 11,
+        last: ")",
+    },
+    Repeated {
+        first: "create p (a int",
+        item: ", a int",
+        count: 12,
+        last: ")",
+    },
+    Repeated {
+        first: "show 1 ",
+        item: "first 1(",
+        count: 908,
+        last: "scan p",
+    },
 ];

@@ -8,7 +8,7 @@
 mod cases;
 mod reading;
 
-use cases::{BROKEN, FIELDS, LINES, LONG};
+use cases::{BROKEN, FIELDS, LINES, LONG, Repeated};
 use reading::{Outcome, deepest, field, form, repeated, says};
 use std::alloc::Global;
 use std::{env, io, str};
@@ -16,26 +16,25 @@ use work_gen::Workload;
 
 // Prints the statement of a line.
 fn print(rt: &(impl Print + AllocGlobal), line: &[u8]) -> io::Result<()> {
-    let text = form(rt.alloc(), line);
-    match &text {
-        Some(bytes) => match str::from_utf8(bytes.as_slice()) {
-            Ok(text) => rt.println(format_args!("  {text}")),
-            Err(_) => rt.println(format_args!("  no text")),
-        },
+    match &form(rt.alloc(), line) {
+        Some(bytes) => rt.println(format_args!("  {}", text_of(bytes))),
         None => rt.println(format_args!("  memory was short")),
     }
 }
 
-// Prints what a line says; of a long one not the statement.
-fn tell(rt: &(impl Print + AllocGlobal), line: &[u8], is_long: bool) -> io::Result<()> {
-    match says(rt.alloc(), line) {
+// The bytes as a text.
+fn text_of(bytes: &[u8]) -> &str {
+    match str::from_utf8(bytes) {
+        Ok(text) => text,
+        Err(_) => "no text",
+    }
+}
+
+// Prints what a line says but for the statement.
+fn tell(rt: &impl Print, outcome: Outcome) -> io::Result<()> {
+    match outcome {
         Outcome::PassedOver => rt.println(format_args!("  passed over")),
-        Outcome::Read => {
-            if is_long {
-                return rt.println(format_args!("  read"));
-            }
-            print(rt, line)
-        }
+        Outcome::Read => rt.println(format_args!("  read")),
         Outcome::Syntax(column) => rt.println(format_args!("  a fault at column {column}")),
         Outcome::Range => rt.println(format_args!("  out of range")),
         Outcome::Memory => rt.println(format_args!("  memory was short")),
@@ -43,34 +42,48 @@ fn tell(rt: &(impl Print + AllocGlobal), line: &[u8], is_long: bool) -> io::Resu
     }
 }
 
+// Prints what a line says, and the statement.
+fn tell_line(rt: &(impl Print + AllocGlobal), line: &[u8]) -> io::Result<()> {
+    match says(rt.alloc(), line) {
+        Outcome::Read => print(rt, line),
+        other => tell(rt, other),
+    }
+}
+
 // The lines that are given in full.
 fn lines(rt: &(impl Print + AllocGlobal)) -> io::Result<()> {
-    for line in LINES {
+    for line in &LINES {
         rt.println(format_args!("{line:?}"))?;
-        tell(rt, line.as_bytes(), false)?;
-    }
-    for line in BROKEN {
-        rt.println(format_args!("{line:?}"))?;
-        tell(rt, line, true)?;
+        tell_line(rt, line.as_bytes())?;
     }
     Ok(())
 }
 
+// The lines with bytes that are no characters.
+fn broken_lines(rt: &(impl Print + AllocGlobal)) -> io::Result<()> {
+    for line in &BROKEN {
+        rt.println(format_args!("{line:?}"))?;
+        tell(rt, says(rt.alloc(), line))?;
+    }
+    Ok(())
+}
+
+// What a long line says.
+fn says_long(alloc: Global, parts: &Repeated) -> Outcome {
+    match &repeated(alloc, parts) {
+        Some(line) => says(alloc, line),
+        None => Outcome::Memory,
+    }
+}
+
 // The long ones.
 fn long_lines(rt: &(impl Print + AllocGlobal)) -> io::Result<()> {
-    for (first, item, count, last) in LONG {
-        rt.println(format_args!("{first:?}, {count} times {item:?}, {last:?}"))?;
-        let line = repeated(
-            rt.alloc(),
-            first.as_bytes(),
-            item.as_bytes(),
-            count,
-            last.as_bytes(),
-        );
-        match &line {
-            Some(bytes) => tell(rt, bytes.as_slice(), true)?,
-            None => rt.println(format_args!("  memory was short"))?,
-        }
+    for parts in &LONG {
+        rt.println(format_args!(
+            "{:?}, {} times {:?}, {:?}",
+            parts.first, parts.count, parts.item, parts.last
+        ))?;
+        tell(rt, says_long(rt.alloc(), parts))?;
     }
     Ok(())
 }
@@ -87,11 +100,20 @@ fn deep(rt: &(impl Print + AllocGlobal)) -> io::Result<()> {
 
 // The fields of data files.
 fn fields(rt: &(impl Print + AllocGlobal)) -> io::Result<()> {
-    for (kind, text) in FIELDS {
-        let read = field(rt.alloc(), text.as_bytes(), kind);
+    for (kind, text) in &FIELDS {
+        let read = field(rt.alloc(), text.as_bytes(), *kind);
         rt.println(format_args!("{kind:?} {text:?} is {read}"))?;
     }
     Ok(())
+}
+
+// All that is read where no number is given.
+fn all(rt: &(impl Print + AllocGlobal)) -> io::Result<()> {
+    lines(rt)?;
+    broken_lines(rt)?;
+    long_lines(rt)?;
+    deep(rt)?;
+    fields(rt)
 }
 
 // The number of lines of a workload that are read.
@@ -112,19 +134,20 @@ fn read_lines(alloc: Global, size: u32) -> Option<u64> {
     Some(count)
 }
 
-fn main(rt: HostRuntime) -> io::Result<()> {
-    let mut words = env::args(&rt)?.skip(1);
-    let Some(word) = words.next() else {
-        lines(&rt)?;
-        long_lines(&rt)?;
-        deep(&rt)?;
-        return fields(&rt);
+// Reads the lines of a workload.
+fn measure(rt: &(impl Print + AllocGlobal), size: &str) -> io::Result<()> {
+    let Ok(size) = size.parse() else {
+        return rt.println(format_args!("no number"));
     };
-    match word.as_str().parse() {
-        Ok(size) => match read_lines(rt.alloc(), size) {
-            Some(count) => println!(rt; "{count} lines"),
-            None => println!(rt; "no such workload"),
-        },
-        Err(_) => println!(rt; "no number"),
+    match read_lines(rt.alloc(), size) {
+        Some(count) => rt.println(format_args!("{count} lines")),
+        None => rt.println(format_args!("no such workload")),
+    }
+}
+
+fn main(rt: HostRuntime) -> io::Result<()> {
+    match &env::args(&rt)?.skip(1).next() {
+        Some(size) => measure(&rt, size.as_str()),
+        None => all(&rt),
     }
 }

@@ -2,9 +2,12 @@
 ghost use Rattle.std.specs.Prelude.{◌≤◌, length};
 ghost use Rattle.script_text.specs.declared.TheConstants.{LONGEST_LINE};
 
+use crate::cases::Repeated;
 use sand_base::{Kind, Value};
-use script_text::{LONGEST_LINE, LineFault, Statement, parse_line, print_statement, read_field};
-use std::alloc::Global;
+use script_text::{
+    LONGEST_LINE, LineFault, Plan, Statement, parse_line, print_statement, read_field,
+};
+use std::alloc::{AllocError, Global};
 
 /// What a line says.
 #[derive(Clone, Copy)]
@@ -22,11 +25,11 @@ pub fn says(alloc: Global, line: &[u8]) -> Outcome {
     if line.len() > LONGEST_LINE {
         return Outcome::TooLong;
     }
-    match parse_line(alloc, line) {
+    match &parse_line(alloc, line) {
         Ok(None) => Outcome::PassedOver,
         Ok(Some(_statement)) => Outcome::Read,
         Err(LineFault::Memory) => Outcome::Memory,
-        Err(LineFault::Syntax { column }) => Outcome::Syntax(column),
+        Err(LineFault::Syntax { column }) => Outcome::Syntax(*column),
         Err(LineFault::Range) => Outcome::Range,
     }
 }
@@ -36,18 +39,22 @@ fn statement(alloc: Global, line: &[u8]) -> Option<Statement> {
     if line.len() > LONGEST_LINE {
         return None;
     }
-    parse_line(alloc, line).ok()?
+    parse_line(alloc, line).ok().flatten()
+}
+
+// The printed form of a statement.
+fn printed(alloc: Global, statement: Option<&Statement>) -> Option<Vec<u8>> {
+    print_statement(alloc, statement?).ok()
 }
 
 /// The printed form of the statement that a line writes.
 pub fn form(alloc: Global, line: &[u8]) -> Option<Vec<u8>> {
-    let statement = statement(alloc, line)?;
-    print_statement(alloc, &statement).ok()
+    printed(alloc, statement(alloc, line).as_ref())
 }
 
 /// What a field of a column is, in a word.
 pub fn field(alloc: Global, bytes: &[u8], kind: Kind) -> &'static str {
-    match read_field(alloc, bytes, kind) {
+    match &read_field(alloc, bytes, kind) {
         Ok(None) => "no value",
         Ok(Some(Value::Int(_))) => "a number",
         Ok(Some(Value::Text(_))) => "a text",
@@ -56,45 +63,51 @@ pub fn field(alloc: Global, bytes: &[u8], kind: Kind) -> &'static str {
     }
 }
 
-/// A text, then another so many times, and then a third.
-pub fn repeated(
-    alloc: Global,
-    first: &[u8],
-    item: &[u8],
-    count: usize,
-    last: &[u8],
-) -> Option<Vec<u8>> {
-    let mut line = Vec::new(alloc);
-    line.extend_from_slice(first).ok()?;
+// Adds a text so many times.
+fn push_times(line: &mut Vec<u8>, item: &[u8], count: usize) -> Result<(), AllocError> {
     'items: for _ in 0..count {
-        line.extend_from_slice(item).ok()?;
+        line.extend_from_slice(item)?;
     }
-    line.extend_from_slice(last).ok()?;
+    Ok(())
+}
+
+/// The bytes of the line.
+pub fn repeated(alloc: Global, parts: &Repeated) -> Option<Vec<u8>> {
+    let mut line = parts.first.as_bytes().to_vec(alloc).ok()?;
+    push_times(&mut line, parts.item.as_bytes(), parts.count).ok()?;
+    line.extend_from_slice(parts.last.as_bytes()).ok()?;
     Some(line)
 }
 
 // A line of so many operators inside one another.
 fn nested(alloc: Global, depth: usize) -> Option<Vec<u8>> {
-    let mut line = repeated(alloc, b"show 1 ", b"first 1(", depth, b"scan p")?;
-    'brackets: for _ in 0..depth {
-        line.push(b')').ok()?;
-    }
+    let parts = Repeated {
+        first: "show 1 ",
+        item: "first 1(",
+        count: depth,
+        last: "scan p",
+    };
+    let mut line = repeated(alloc, &parts)?;
+    push_times(&mut line, b")", depth).ok()?;
     Some(line)
 }
 
+// How deep a plan is.
+fn depth(plan: Option<&Plan>) -> Option<usize> {
+    Some(plan?.depth())
+}
+
 // How deep the plan of a `show` is, read from its copy.
-fn depth(alloc: Global, statement: &Statement) -> Option<usize> {
-    let Statement::Show { plan, .. } = statement else {
+fn depth_of_copy(alloc: Global, statement: Option<&Statement>) -> Option<usize> {
+    let Some(Statement::Show { plan, .. }) = statement else {
         return None;
     };
-    let copy = plan.copy(alloc).ok()?;
-    Some(copy.depth())
+    depth(plan.copy(alloc).ok().as_ref())
 }
 
 // How deep the plan of a line is.
 fn depth_of(alloc: Global, line: &[u8]) -> Option<usize> {
-    let statement = statement(alloc, line)?;
-    depth(alloc, &statement)
+    depth_of_copy(alloc, statement(alloc, line).as_ref())
 }
 
 // In how many bytes the statement of a line is printed.
