@@ -1,5 +1,7 @@
 -- settings of a moment
 pub mod Settings
+-- The early checks read the outline of a state alone.
+pub mod Outlines
 -- runs over a shelf
 pub mod ShelfRuns
 -- the refusals that come from outside

@@ -14,6 +14,7 @@ ghost use Rattle.std.specs.Prelude.{ℕ, List};
 ghost use Rattle.run_laws.specs.Causes.{RefusalsHaveCauses};
 ghost use Rattle.run_laws.specs.Determined.{CalmRunsAreOne};
 ghost use Rattle.run_laws.specs.Following.{StepsGiveTheAnswer, OpenedCursorsAreNew, CursorsAreMovedByTheirNext, NextsFollowTheAnswer, NextsEndWithTheAnswer, NextsGiveTheAnswer};
+ghost use Rattle.run_laws.specs.Outlines.{EarlyChecksReadTheOutline};
 ghost use Rattle.run_laws.specs.Refused.{RefusedLinesChangeNoRelation, RefusedLinesChangeNothing, RefusedNextsMoveByTheirRows};
 ghost use Rattle.run_laws.specs.SeenRefusals.{RefusedLinesAreSeen};
 ghost use Rattle.run_laws.specs.Settings.{MomentsHaveSettings};
@@ -30,6 +31,12 @@ pub fn every_script_has_readings()
 /// Every moment has a setting, whether the shelf tells its files or not, so what is promised in every setting is not empty.
 pub fn every_moment_has_a_setting()
     ensures { MomentsHaveSettings }
+{}
+
+/// The checks before any page is touched read no more of a state than its outline, so what is decided in an outline is
+/// decided in every state of it.
+pub fn early_checks_read_the_outline()
+    ensures { EarlyChecksReadTheOutline }
 {}
 
 /// A run over a shelf is a run of the model where the shelf tells its files, and where no line loads one; so are its parts.
