@@ -1,6 +1,6 @@
 // A cursor whose disk fails at one call.
 use crate::harness::{Answer, Case, Fault, answer_of};
-use crate::trouble::{Trouble, agree, shared};
+use crate::trouble::{Trouble, agree, ended, shared, some};
 use sand_base::NoMemory;
 use session::Status;
 use std::alloc::Global;
@@ -49,29 +49,46 @@ pub fn answer_to(
     answer_of(alloc, &case, fault)
 }
 
-// The bytes of the last line.
-fn last_line(text: &[u8]) -> usize {
-    let bytes = text
-        .iter()
-        .rev()
-        .skip(1)
-        .take_while(|byte| **byte != b'\n')
-        .count();
-    bytes.saturating_add(1)
+// The text without its last line.
+fn without_last_line(text: &[u8]) -> &[u8] {
+    let (lines, _feed) = text.split_at(text.len().saturating_sub(1));
+    match lines.iter().rposition(|byte| *byte == b'\n') {
+        Some(feed) => &text[..=feed],
+        None => &[],
+    }
 }
 
 // The text with the line of a fault at the place, and without its last line, since one row fewer was taken.
-fn refused_at(alloc: Global, text: &[u8], place: usize) -> Result<Vec<u8>, Trouble> {
-    let kept = text.len().saturating_sub(last_line(text));
-    let mut wanted: Vec<u8> = text.iter().copied().take(place).collect(alloc)?;
+fn refused_at(alloc: Global, text: &[u8], place: usize) -> Result<Vec<u8>, NoMemory> {
+    let (front, rest) = text.split_at(place.min(text.len()));
+    let mut wanted = front.to_vec(alloc)?;
     wanted.extend_from_slice(REFUSED)?;
-    for byte in text.iter().skip(place).take(kept.saturating_sub(place)) {
-        wanted.push(*byte)?;
-    }
+    wanted.extend_from_slice(without_last_line(rest))?;
     Ok(wanted)
 }
 
-// One run in which a call of the struck rows fails: one line is the fault's, and the rows are those of the plain run.
+// The calls of the disk that fail: those behind the first ones, up to the last. The text before them has so many bytes.
+#[derive(Clone, Copy)]
+struct Struck {
+    first: u64,
+    last: u64,
+    least: usize,
+}
+
+// Whether one line of the text is the fault's, and the rows are those of the plain run.
+fn is_struck_once(
+    alloc: Global,
+    plain: &[u8],
+    least: usize,
+    call: u64,
+    given: &[u8],
+) -> Result<(), Trouble> {
+    let place = shared(plain, given).max(least);
+    let wanted = refused_at(alloc, plain, place)?;
+    agree(alloc, call, wanted.as_slice(), given)
+}
+
+// One run in which a call of the struck rows fails.
 fn try_call(
     alloc: Global,
     taking: &Taking,
@@ -82,41 +99,53 @@ fn try_call(
 ) -> Result<(), Trouble> {
     let parts = [taking.made, taking.before, taking.struck, taking.after];
     let given = answer_to(alloc, &parts, file, Fault::Disk(call))?;
-    let place = shared(plain, given.text()).max(least);
-    let wanted = refused_at(alloc, plain, place)?;
-    agree(alloc, call, wanted.as_slice(), given.text())?;
-    if given.status != Status::SomeRefused {
-        return Err(Trouble::Ended {
-            tried: call,
-            status: given.status.code(),
-        });
+    is_struck_once(alloc, plain, least, call, given.text())?;
+    ended(call, &given, Status::SomeRefused)
+}
+
+/// What comes of the parts without a fault.
+pub fn undisturbed(alloc: Global, parts: &[&str], file: &[u8]) -> Result<Answer, Trouble> {
+    let plain = answer_to(alloc, parts, file, Fault::Nothing)?;
+    ended(0, &plain, Status::Done)?;
+    Ok(plain)
+}
+
+/// The calls of the disk in the parts without a fault.
+pub fn calls_in(alloc: Global, parts: &[&str], file: &[u8]) -> Result<u64, Trouble> {
+    let plain = undisturbed(alloc, parts, file)?;
+    Ok(plain.calls)
+}
+
+// Which calls of the disk are in the struck rows.
+fn struck_calls(alloc: Global, taking: &Taking, file: &[u8]) -> Result<Struck, Trouble> {
+    let parts = [taking.made, taking.before, taking.struck];
+    let last = calls_in(alloc, &parts, file)?;
+    let begun = undisturbed(alloc, &[taking.made, taking.before], file)?;
+    Ok(Struck {
+        first: begun.calls,
+        last,
+        least: begun.text().len(),
+    })
+}
+
+// Has each of the calls fail in a run of its own; gives their number, which is above 0.
+fn try_all(
+    alloc: Global,
+    taking: &Taking,
+    file: &[u8],
+    plain: &[u8],
+    calls: Struck,
+) -> Result<u64, Trouble> {
+    for call in calls.first.saturating_add(1)..calls.last.saturating_add(1) {
+        try_call(alloc, taking, file, plain, calls.least, call)?;
     }
-    Ok(())
+    some(calls.last.saturating_sub(calls.first))
 }
 
 /// The number of calls of the disk in the struck rows, each of which was made to fail in a run of its own. There must be some.
 pub fn tried(alloc: Global, taking: &Taking, file: &[u8]) -> Result<u64, Trouble> {
-    let Taking {
-        made,
-        before,
-        struck,
-        after,
-    } = *taking;
-    let first = answer_to(alloc, &[made, before], file, Fault::Nothing)?;
-    let last = answer_to(alloc, &[made, before, struck], file, Fault::Nothing)?;
-    let plain = answer_to(alloc, &[made, before, struck, after], file, Fault::Nothing)?;
-    if plain.status != Status::Done {
-        return Err(Trouble::Ended {
-            tried: 0,
-            status: plain.status.code(),
-        });
-    }
-    let least = first.text().len();
-    for call in first.calls.saturating_add(1)..last.calls.saturating_add(1) {
-        try_call(alloc, taking, file, plain.text(), least, call)?;
-    }
-    match last.calls.saturating_sub(first.calls) {
-        0 => Err(Trouble::Counted(0)),
-        calls => Ok(calls),
-    }
+    let calls = struck_calls(alloc, taking, file)?;
+    let parts = [taking.made, taking.before, taking.struck, taking.after];
+    let plain = undisturbed(alloc, &parts, file)?;
+    try_all(alloc, taking, file, plain.text(), calls)
 }

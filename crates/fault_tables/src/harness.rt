@@ -89,13 +89,104 @@ fn labels(alloc: Global, words: &[&str]) -> Result<Vec<Label>, NoMemory> {
     Ok(labels)
 }
 
-// A shelf with these files.
-fn shelf(alloc: Global, files: &[(&str, &[u8])], fails: Vec<u64>) -> Result<MemShelf, NoMemory> {
+// A data file with its name, as a shelf takes it.
+fn named(alloc: Global, name: &str, bytes: &[u8]) -> Result<(Label, Vec<u8>), NoMemory> {
+    let label = Label::new(alloc, name)?;
+    Ok((label, bytes.to_vec(alloc)?))
+}
+
+// Data files, as a shelf takes them.
+fn kept(alloc: Global, files: &[(&str, &[u8])]) -> Result<Vec<(Label, Vec<u8>)>, NoMemory> {
     let mut kept = Vec::new(alloc);
     for (name, bytes) in files {
-        kept.push((Label::new(alloc, name)?, bytes.to_vec(alloc)?))?;
+        kept.push(named(alloc, name, bytes)?)?;
     }
-    Ok(MemShelf::new(alloc, kept, fails))
+    Ok(kept)
+}
+
+// A source of the script, with the call that fails.
+fn source(alloc: Global, script: &[u8], fails: Option<u64>) -> Result<MemSource, NoMemory> {
+    let bytes = script.to_vec(alloc)?;
+    Ok(MemSource::new(alloc, bytes, CHUNK, listed(alloc, fails)?))
+}
+
+// A shelf with these files, with the call that fails.
+fn shelf(alloc: Global, files: &[(&str, &[u8])], fails: Option<u64>) -> Result<MemShelf, NoMemory> {
+    let kept = kept(alloc, files)?;
+    Ok(MemShelf::new(alloc, kept, listed(alloc, fails)?))
+}
+
+// A disk, with the call that fails.
+fn disk(alloc: Global, fails: Option<u64>) -> Result<MemDisk, NoMemory> {
+    Ok(MemDisk::new(alloc, listed(alloc, fails)?))
+}
+
+// A sink with so much room, with the call that fails.
+fn sink(alloc: Global, room: usize, fails: Option<u64>) -> Result<MemSink, NoMemory> {
+    MemSink::new(alloc, room, listed(alloc, fails)?)
+}
+
+// All that a run reads and writes but its words.
+#[derive(Drop)]
+struct Streams {
+    source: MemSource,
+    shelf: MemShelf,
+    disk: MemDisk,
+    sink: MemSink,
+}
+
+// Both values, where memory sufficed for both.
+fn both<A: Drop, B: Drop>(
+    first: Result<A, NoMemory>,
+    second: Result<B, NoMemory>,
+) -> Result<(A, B), NoMemory> {
+    Ok((first?, second?))
+}
+
+// The streams of a run, with this fault.
+fn streams_of(alloc: Global, case: &Case, fault: Fault) -> Result<Streams, NoMemory> {
+    let [source_fails, sink_fails, shelf_fails, disk_fails] = failing(fault);
+    let inputs = both(
+        source(alloc, case.script, source_fails),
+        shelf(alloc, case.files, shelf_fails),
+    );
+    let outputs = both(
+        disk(alloc, disk_fails),
+        sink(alloc, room(fault), sink_fails),
+    );
+    let ((source, shelf), (disk, sink)) = both(inputs, outputs)?;
+    Ok(Streams {
+        source,
+        shelf,
+        disk,
+        sink,
+    })
+}
+
+// What comes of a run over these streams.
+fn ran(alloc: Global, limits: Limits, words: &[Label], streams: Streams) -> Answer
+    requires { IsLimits limits }
+{
+    let Streams {
+        mut source,
+        mut shelf,
+        disk,
+        mut sink,
+    } = streams;
+    let (status, disk) = run_within(
+        alloc,
+        limits,
+        words,
+        &mut source,
+        &mut shelf,
+        disk,
+        &mut sink,
+    );
+    Answer {
+        sink,
+        status,
+        calls: disk.calls(),
+    }
 }
 
 /// What comes of a run within these limits, with this fault.
@@ -108,26 +199,8 @@ pub fn answer_within(
     requires { IsLimits limits }
 {
     let words = labels(alloc, case.words)?;
-    let [source_fails, sink_fails, shelf_fails, disk_fails] = failing(fault);
-    let script = case.script.to_vec(alloc)?;
-    let mut source = MemSource::new(alloc, script, CHUNK, listed(alloc, source_fails)?);
-    let mut shelf = shelf(alloc, case.files, listed(alloc, shelf_fails)?)?;
-    let disk = MemDisk::new(alloc, listed(alloc, disk_fails)?);
-    let mut sink = MemSink::new(alloc, room(fault), listed(alloc, sink_fails)?)?;
-    let (status, disk) = run_within(
-        alloc,
-        limits,
-        words.as_slice(),
-        &mut source,
-        &mut shelf,
-        disk,
-        &mut sink,
-    );
-    Ok(Answer {
-        sink,
-        status,
-        calls: disk.calls(),
-    })
+    let streams = streams_of(alloc, case, fault)?;
+    Ok(ran(alloc, limits, words.as_slice(), streams))
 }
 
 /// What comes of a run within the limits of a plain one, with this fault.

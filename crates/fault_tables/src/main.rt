@@ -18,20 +18,14 @@ mod scripts;
 mod streams;
 mod trouble;
 
+use disk::Taking;
 use draws::{numbered_points, points};
 use harness::Case;
 use scripts::{CITIES, LOADING, LOADING_TEXT, PLANS, RANKING, TURNS, TURNS_TEXT, UNLOADED_TEXT};
 use std::alloc::Global;
 use std::{env, io, str};
 use streams::{Stream, Wanted};
-use trouble::Trouble;
-
-/// What the tables of the disk's calls are named.
-const RANKED: &str = "calls of the disk that fail in 41 rows of a ranking";
-
-const ALL_ROWS: &str = "calls of the disk for all rows of a ranking";
-
-const ONE_ROW: &str = "calls of the disk for the first row of a ranking";
+use trouble::{Difference, Trouble};
 
 /// Bytes as they are printed.
 pub(crate) fn text_of(bytes: &[u8]) -> &str {
@@ -41,18 +35,21 @@ pub(crate) fn text_of(bytes: &[u8]) -> &str {
     }
 }
 
+// Prints where a text differs.
+fn tell_difference(rt: &impl Print, table: &str, found: &Difference) -> io::Result<()> {
+    let wanted = text_of(found.wanted.as_slice());
+    let given = text_of(found.given.as_slice());
+    rt.println(format_args!(
+        "{table}: {} differs from byte {} on, wanted {wanted:?}, given {given:?}",
+        found.tried, found.place
+    ))
+}
+
 // Prints why a table does not hold.
-fn tell_trouble(rt: &impl Print, table: &str, trouble: Trouble) -> io::Result<()> {
+fn tell_trouble(rt: &impl Print, table: &str, trouble: &Trouble) -> io::Result<()> {
     match trouble {
         Trouble::Memory => rt.println(format_args!("{table}: memory was short")),
-        Trouble::Differs(found) => {
-            let wanted = text_of(found.wanted.as_slice());
-            let given = text_of(found.given.as_slice());
-            rt.println(format_args!(
-                "{table}: {} differs from byte {} on, wanted {wanted:?}, given {given:?}",
-                found.tried, found.place
-            ))
-        }
+        Trouble::Differs(found) => tell_difference(rt, table, found),
         Trouble::Ended { tried, status } => {
             rt.println(format_args!("{table}: {tried} ended with status {status}"))
         }
@@ -60,24 +57,12 @@ fn tell_trouble(rt: &impl Print, table: &str, trouble: Trouble) -> io::Result<()
     }
 }
 
-// Prints how many runs there were, which all came out as they should.
-fn tell(rt: &impl Print, table: &str, came: Result<u64, Trouble>) -> io::Result<()> {
+// Prints that all runs came out as they should, with their number where it is asked for.
+fn tell(rt: &impl Print, shows: bool, table: &str, came: &Result<u64, Trouble>) -> io::Result<()> {
     match came {
-        Ok(count) => rt.println(format_args!("{table}: {count}, all well")),
+        Ok(count) if shows => rt.println(format_args!("{table}: {count}, all well")),
+        Ok(_) => rt.println(format_args!("{table}: all well")),
         Err(trouble) => tell_trouble(rt, table, trouble),
-    }
-}
-
-// The same where the number of runs is that of the calls of the disk, which is printed where it is asked for.
-fn tell_calls(
-    rt: &impl Print,
-    shows: bool,
-    table: &str,
-    came: Result<u64, Trouble>,
-) -> io::Result<()> {
-    match came {
-        Ok(_) if !shows => rt.println(format_args!("{table}: all well")),
-        counted => tell(rt, table, counted),
     }
 }
 
@@ -108,34 +93,72 @@ fn ranking(alloc: Global) -> Result<u64, Trouble> {
     disk::tried(alloc, &RANKING, file.as_bytes())
 }
 
-// The cursors over other plans in which a call of the disk fails.
-fn plans(rt: &(impl Print + AllocGlobal), shows: bool) -> io::Result<()> {
-    let alloc = rt.alloc();
-    let Ok(file) = numbered_points(alloc, 1_200) else {
-        return rt.println(format_args!("memory was short"));
-    };
-    for (name, taking) in PLANS {
-        let came = disk::tried(alloc, &taking, file.as_bytes());
-        tell_calls(rt, shows, name, came)?;
+/// A table of runs in which a line, a data file or a stream is at fault.
+#[derive(Clone, Copy)]
+enum Table {
+    Refusals,
+    Fronts,
+    Reads,
+    Writes,
+    Files,
+}
+
+/// Each with its name.
+static TABLES: [(&str, Table); 5] = [
+    ("lines that are refused", Table::Refusals),
+    ("fronts of a data file", Table::Fronts),
+    ("reads of the script that fail", Table::Reads),
+    ("writes that fail", Table::Writes),
+    ("calls of a data file that fail", Table::Files),
+];
+
+// The number of runs of a table.
+fn counted(alloc: Global, table: Table) -> Result<u64, Trouble> {
+    match table {
+        Table::Refusals => refusals::tried(alloc),
+        Table::Fronts => cuts::tried(alloc),
+        Table::Reads => turns(alloc, Stream::Source),
+        Table::Writes => turns(alloc, Stream::Sink),
+        Table::Files => loads(alloc),
+    }
+}
+
+// Prints a line for each table.
+fn tables(rt: &(impl Print + AllocGlobal)) -> io::Result<()> {
+    for (name, table) in &TABLES {
+        tell(rt, true, name, &counted(rt.alloc(), *table))?;
     }
     Ok(())
 }
 
+// The cursors over other plans in which a call of the disk fails.
+fn plan(alloc: Global, taking: &Taking) -> Result<u64, Trouble> {
+    let file = numbered_points(alloc, 1_200)?;
+    disk::tried(alloc, taking, file.as_bytes())
+}
+
+// Prints a line for each of these.
+fn plans(rt: &(impl Print + AllocGlobal), shows: bool) -> io::Result<()> {
+    for (name, taking) in &PLANS {
+        tell(rt, shows, name, &plan(rt.alloc(), taking))?;
+    }
+    Ok(())
+}
+
+// Prints a line for each table whose runs are as many as the calls of the disk, which are printed where they are asked for.
+fn disk_tables(rt: &(impl Print + AllocGlobal), shows: bool) -> io::Result<()> {
+    let ranked = "calls of the disk that fail in 41 rows of a ranking";
+    tell(rt, shows, ranked, &ranking(rt.alloc()))?;
+    plans(rt, shows)?;
+    let all_rows = "calls of the disk for all rows of a ranking";
+    tell(rt, shows, all_rows, &reads::for_all_rows(rt.alloc()))?;
+    let one_row = "calls of the disk for the first row of a ranking";
+    tell(rt, shows, one_row, &reads::for_one_row(rt.alloc()))
+}
+
 fn main(rt: HostRuntime) -> io::Result<()> {
-    let alloc = rt.alloc();
     let shows = env::args(&rt)?.skip(1).next().is_some();
     outcomes::told(&rt)?;
-    tell(&rt, "lines that are refused", refusals::tried(alloc))?;
-    tell(&rt, "fronts of a data file", cuts::tried(alloc))?;
-    tell(
-        &rt,
-        "reads of the script that fail",
-        turns(alloc, Stream::Source),
-    )?;
-    tell(&rt, "writes that fail", turns(alloc, Stream::Sink))?;
-    tell(&rt, "calls of a data file that fail", loads(alloc))?;
-    tell_calls(&rt, shows, RANKED, ranking(alloc))?;
-    plans(&rt, shows)?;
-    tell_calls(&rt, shows, ALL_ROWS, reads::for_all_rows(alloc))?;
-    tell_calls(&rt, shows, ONE_ROW, reads::for_one_row(alloc))
+    tables(&rt)?;
+    disk_tables(&rt, shows)
 }

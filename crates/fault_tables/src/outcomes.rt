@@ -9,7 +9,7 @@ use std::io;
 const ONE_LINE: &str = "create p (at point)\n";
 
 /// Runs by their names: the script, and the fault that comes in it.
-const RUNS: [(&str, &str, Fault); 6] = [
+static RUNS: [(&str, &str, Fault); 6] = [
     ("a script of no bytes", "", Fault::Nothing),
     (
         "a last line without its line feed",
@@ -31,7 +31,7 @@ const RUNS: [(&str, &str, Fault); 6] = [
 ];
 
 /// Words with which the script of one line is run.
-const WORDS: [&[&str]; 8] = [
+static WORDS: [&[&str]; 8] = [
     &["--frames", "64"],
     &["--frames=4096"],
     &["--store", "db.pages"],
@@ -78,12 +78,20 @@ fn over(script: &[u8]) -> Case<'_> {
     }
 }
 
+// Adds a line of so many bytes.
+fn push_line(script: &mut Vec<u8>, bytes: usize) -> Result<(), NoMemory> {
+    for _ in 0..bytes {
+        script.push(b'x')?;
+    }
+    script.push(b'\n')?;
+    Ok(())
+}
+
 // A line that is a byte too long, one that isn't, and one of the grammar.
 fn long_lines(alloc: Global) -> Result<Answer, NoMemory> {
-    let mut script = vec![in alloc; b'x'; 8193]?;
-    script.push(b'\n')?;
-    script.extend_from_slice(vec![in alloc; b'x'; 8192]?.as_slice())?;
-    script.push(b'\n')?;
+    let mut script = Vec::new(alloc);
+    push_line(&mut script, 8193)?;
+    push_line(&mut script, 8192)?;
     script.extend_from_slice(ONE_LINE.as_bytes())?;
     answer_of(alloc, &over(script.as_slice()), Fault::Nothing)
 }
@@ -117,7 +125,7 @@ fn few_ids(alloc: Global) -> Result<Answer, NoMemory> {
 }
 
 // Prints what a run wrote and the status with which it ended.
-fn tell(rt: &impl Print, name: &str, came: Result<Answer, NoMemory>) -> io::Result<()> {
+fn tell(rt: &impl Print, name: &str, came: &Result<Answer, NoMemory>) -> io::Result<()> {
     match came {
         Ok(answer) => {
             let text = text_of(answer.text());
@@ -128,29 +136,68 @@ fn tell(rt: &impl Print, name: &str, came: Result<Answer, NoMemory>) -> io::Resu
     }
 }
 
+/// A run that is more than a script.
+#[derive(Clone, Copy)]
+enum Special {
+    LongLines,
+    Loads,
+    FewListings,
+    FewIds,
+}
+
+/// Each with its name.
+static SPECIALS: [(&str, Special); 4] = [
+    ("lines of 8193 and of 8192 bytes", Special::LongLines),
+    ("data files, loaded whole or not at all", Special::Loads),
+    ("five listings at most", Special::FewListings),
+    ("two ids at most", Special::FewIds),
+];
+
+// What comes of such a run.
+fn answer_in(alloc: Global, run: Special) -> Result<Answer, NoMemory> {
+    match run {
+        Special::LongLines => long_lines(alloc),
+        Special::Loads => loads(alloc),
+        Special::FewListings => few_listings(alloc),
+        Special::FewIds => few_ids(alloc),
+    }
+}
+
+// Prints a line for a list of words.
+fn tell_words(rt: &(impl Print + AllocGlobal), words: &[&str]) -> io::Result<()> {
+    let case = Case {
+        words: &*words,
+        script: ONE_LINE.as_bytes(),
+        files: &[],
+    };
+    rt.print(format_args!("the words {words:?} and "))?;
+    let came = answer_of(rt.alloc(), &case, Fault::Nothing);
+    tell(rt, "one line", &came)
+}
+
+// Prints a line for each run of a script.
+fn scripts_told(rt: &(impl Print + AllocGlobal)) -> io::Result<()> {
+    for (name, script, fault) in &RUNS {
+        let came = answer_of(rt.alloc(), &over(script.as_bytes()), *fault);
+        tell(rt, name, &came)?;
+    }
+    Ok(())
+}
+
 // Prints a line for each list of words.
-fn tell_words(rt: &(impl Print + AllocGlobal)) -> io::Result<()> {
-    for words in WORDS {
-        let case = Case {
-            words,
-            ..over(ONE_LINE.as_bytes())
-        };
-        rt.print(format_args!("the words {words:?} and "))?;
-        tell(rt, "one line", answer_of(rt.alloc(), &case, Fault::Nothing))?;
+fn words_told(rt: &(impl Print + AllocGlobal)) -> io::Result<()> {
+    for words in &WORDS {
+        tell_words(rt, words)?;
     }
     Ok(())
 }
 
 /// Prints a line for each run.
 pub fn told(rt: &(impl Print + AllocGlobal)) -> io::Result<()> {
-    let alloc = rt.alloc();
-    for (name, script, fault) in RUNS {
-        let came = answer_of(alloc, &over(script.as_bytes()), fault);
-        tell(rt, name, came)?;
+    scripts_told(rt)?;
+    words_told(rt)?;
+    for (name, run) in &SPECIALS {
+        tell(rt, name, &answer_in(rt.alloc(), *run))?;
     }
-    tell_words(rt)?;
-    tell(rt, "lines of 8193 and of 8192 bytes", long_lines(alloc))?;
-    tell(rt, "data files, loaded whole or not at all", loads(alloc))?;
-    tell(rt, "five listings at most", few_listings(alloc))?;
-    tell(rt, "two ids at most", few_ids(alloc))
+    Ok(())
 }

@@ -19,7 +19,7 @@ const NUMBERED: &str = "create p (at point, pop int)\n\
     insert p (65535 65535), 1\n";
 
 /// 41 rows of a ranking.
-pub const RANKING: Taking = Taking {
+pub static RANKING: Taking = Taking {
     made: POINTS,
     before: "open c = rank p.at from (30000 30000)\n",
     struck: "next c 1\nnext c 1\nnext c 1\nnext c 1\nnext c 1\nnext c 1\nnext c 1\nnext c 1\n\
@@ -36,7 +36,7 @@ const THREE: &str = "next c 1\nnext c 1\nnext c 1\n";
 
 /// Three rows of other plans. The `show` before them puts other pages into the pool. A semi-join and a sort read most pages
 /// for their first row.
-pub const PLANS: [(&str, Taking); 4] = [
+pub static PLANS: [(&str, Taking); 4] = [
     (
         "calls of the disk that fail in three rows of a filter",
         Taking {

@@ -1,6 +1,6 @@
 // A script whose source, sink or data file fails at one call.
-use crate::harness::{Case, Fault, answer_of};
-use crate::trouble::{Trouble, agree};
+use crate::harness::{Answer, Case, Fault, answer_of};
+use crate::trouble::{Trouble, agree, ended};
 use session::Status;
 use std::alloc::Global;
 
@@ -37,8 +37,8 @@ impl Stream {
 
 // Whether the text begins the other one.
 fn begins(alloc: Global, call: u64, text: &[u8], whole: &[u8]) -> Result<(), Trouble> {
-    let front: Vec<u8> = whole.iter().copied().take(text.len()).collect(alloc)?;
-    agree(alloc, call, front.as_slice(), text)
+    let (front, _rest) = whole.split_at(text.len().min(whole.len()));
+    agree(alloc, call, front, text)
 }
 
 /// What is written where a call fails.
@@ -48,6 +48,40 @@ pub enum Wanted<'a> {
     Front,
     /// This text.
     Text(&'a str),
+}
+
+// Looks at what came of a run. False where no call failed in it, so that it is the plain one.
+fn has_failed(
+    alloc: Global,
+    stream: Stream,
+    plain: &str,
+    wanted: Wanted,
+    call: u64,
+    given: &Answer,
+) -> Result<bool, Trouble> {
+    if given.status == Status::Done {
+        agree(alloc, call, plain.as_bytes(), given.text())?;
+        return Ok(false);
+    }
+    ended(call, given, stream.status())?;
+    match wanted {
+        Wanted::Front => begins(alloc, call, given.text(), plain.as_bytes())?,
+        Wanted::Text(text) => agree(alloc, call, text.as_bytes(), given.text())?,
+    }
+    Ok(true)
+}
+
+// Makes the run with this call failing, and looks at it.
+fn try_call(
+    alloc: Global,
+    case: &Case,
+    stream: Stream,
+    plain: &str,
+    wanted: Wanted,
+    call: u64,
+) -> Result<bool, Trouble> {
+    let given = answer_of(alloc, case, stream.fault(call))?;
+    has_failed(alloc, stream, plain, wanted, call, &given)
 }
 
 /// The number of calls in the run, each of which was made to fail in a run of its own: the run ends with the status of the
@@ -60,20 +94,8 @@ pub fn tried(
     wanted: Wanted,
 ) -> Result<u64, Trouble> {
     for call in 1..MOST {
-        let given = answer_of(alloc, case, stream.fault(call))?;
-        if given.status == Status::Done {
-            agree(alloc, call, plain.as_bytes(), given.text())?;
+        if !try_call(alloc, case, stream, plain, wanted, call)? {
             return Ok(call.saturating_sub(1));
-        }
-        if given.status != stream.status() {
-            return Err(Trouble::Ended {
-                tried: call,
-                status: given.status.code(),
-            });
-        }
-        match wanted {
-            Wanted::Front => begins(alloc, call, given.text(), plain.as_bytes())?,
-            Wanted::Text(text) => agree(alloc, call, text.as_bytes(), given.text())?,
         }
     }
     Err(Trouble::Counted(MOST))

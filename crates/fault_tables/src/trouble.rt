@@ -1,5 +1,7 @@
 // Why a table doesn't hold.
+use crate::harness::Answer;
 use sand_base::NoMemory;
+use session::Status;
 use std::alloc::{AllocError, AllocFailed, Global};
 
 /// The bytes of a text that are shown where it differs.
@@ -56,7 +58,9 @@ pub fn shared(a: &[u8], b: &[u8]) -> usize {
 
 // Some bytes from a place on.
 fn shown(alloc: Global, text: &[u8], place: usize) -> Result<Vec<u8>, Trouble> {
-    Ok(text.iter().copied().skip(place).take(SHOWN).collect(alloc)?)
+    let (_same, rest) = text.split_at(place.min(text.len()));
+    let (first, _rest) = rest.split_at(SHOWN.min(rest.len()));
+    Ok(first.to_vec(alloc)?)
 }
 
 /// Whether the text is the wanted one.
@@ -71,4 +75,23 @@ pub fn agree(alloc: Global, tried: u64, wanted: &[u8], given: &[u8]) -> Result<(
         wanted: shown(alloc, wanted, place)?,
         given: shown(alloc, given, place)?,
     }))
+}
+
+/// Whether the run ended with this status.
+pub fn ended(tried: u64, given: &Answer, status: Status) -> Result<(), Trouble> {
+    if given.status == status {
+        return Ok(());
+    }
+    Err(Trouble::Ended {
+        tried,
+        status: given.status.code(),
+    })
+}
+
+/// The count, where it is above 0.
+pub fn some(count: u64) -> Result<u64, Trouble> {
+    if count == 0 {
+        return Err(Trouble::Counted(count));
+    }
+    Ok(count)
 }
