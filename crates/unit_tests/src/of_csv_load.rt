@@ -27,7 +27,7 @@ fn count_rows(alloc: Global, bytes: &[u8], header: bool) -> Result<usize, LoadFa
     Ok(rows.len())
 }
 
-const WHOLE: [(&[u8], bool, usize); 9] = [
+static WHOLE: [(&[u8], bool, usize); 9] = [
     (b"", false, 0),
     (b"", true, 0),
     (b"\n\r\n\n", false, 0),
@@ -39,7 +39,7 @@ const WHOLE: [(&[u8], bool, usize); 9] = [
     (b"\"(1 1)\",\"5\"\n", false, 1),
 ];
 
-const BAD: [(&[u8], bool, u32, u32); 9] = [
+static BAD: [(&[u8], bool, u32, u32); 9] = [
     (b"(1 1),5\n(2 2),6\n(3 3),7\n(4 4),x\n", false, 4, 2),
     (b"at,pop\n", false, 1, 1),
     (b"at,pop\n(1 1),5\nx,y\n", true, 3, 1),

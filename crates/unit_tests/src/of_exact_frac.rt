@@ -8,7 +8,7 @@ fn fraction(rt: &impl Abort, (num, den): (u128, u128)) -> Frac {
     Frac::new(num, den)
 }
 
-const ORDERED: [((u128, u128), (u128, u128), Ordering); 11] = [
+static ORDERED: [((u128, u128), (u128, u128), Ordering); 11] = [
     ((4, 5), (4294836225, 4294836226), Ordering::Less),
     ((4294836225, 4294836226), (1, 1), Ordering::Less),
     ((1, 1), (4, 5), Ordering::Greater),
@@ -44,7 +44,7 @@ fn the_order_serves_a_bound(rt: HostRuntime) {
     assert!(rt; least == Some(&Frac::new(0, 1)) && most == Some(&Frac::new(8, 2)));
 }
 
-const PRINTED: [((u128, u128), &str); 10] = [
+static PRINTED: [((u128, u128), &str); 10] = [
     ((0, 7), "0"),
     ((25, 1), "25"),
     ((100, 4), "25"),
@@ -73,7 +73,7 @@ fn fractions_are_printed_in_lowest_terms(rt: HostRuntime) {
     are_printed(&rt, &PRINTED);
 }
 
-const LOWEST: [((u128, u128), (u128, u128)); 5] = [
+static LOWEST: [((u128, u128), (u128, u128)); 5] = [
     ((0, 7), (0, 1)),
     ((6, 4), (3, 2)),
     ((7, 7), (1, 1)),
@@ -94,7 +94,7 @@ fn lowest_terms_keep_the_value(rt: HostRuntime) {
     have_lowest_terms(&rt, &LOWEST);
 }
 
-const SQUARES: [((u128, u128), u32, bool); 7] = [
+static SQUARES: [((u128, u128), u32, bool); 7] = [
     ((0, 7), 0, true),
     ((1, MAX_DEN), 0, false),
     ((4, 1), 2, true),

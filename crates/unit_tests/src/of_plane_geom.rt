@@ -103,7 +103,7 @@ fn of_rects(a: Rect, b: Rect) -> Option<(u128, u128)> {
     }
 }
 
-const POINTS: [(&str, [u32; 2], [u32; 2], u128); 7] = [
+static POINTS: [(&str, [u32; 2], [u32; 2], u128); 7] = [
     ("the origin", [0, 0], [0, 0], 0),
     ("one point", [5, 7], [5, 7], 0),
     ("three and four", [0, 0], [3, 4], 25),
@@ -125,7 +125,7 @@ fn gaps_of_points(rt: HostRuntime) {
     are_points_apart(&rt, &POINTS);
 }
 
-const POINTS_AND_SEGMENTS: [(&str, [u32; 2], [u32; 4], (u128, u128), bool); 13] = [
+static POINTS_AND_SEGMENTS: [(&str, [u32; 2], [u32; 4], (u128, u128), bool); 13] = [
     ("length zero", [1, 2], [4, 6, 4, 6], (25, 1), false),
     ("its one point", [4, 6], [4, 6, 4, 6], (0, 1), true),
     ("behind", [0, 0], [1, 1, 5, 1], (2, 1), false),
@@ -166,7 +166,7 @@ fn gaps_of_a_point_and_a_segment(rt: HostRuntime) {
     is_point_apart_from_segment(&rt, &POINTS_AND_SEGMENTS);
 }
 
-const SEGMENTS: [(&str, [u32; 4], [u32; 4], (u128, u128)); 16] = [
+static SEGMENTS: [(&str, [u32; 4], [u32; 4], (u128, u128)); 16] = [
     ("crossing", [0, 0, 4, 4], [0, 4, 4, 0], (0, 1)),
     ("turned round", [4, 0, 0, 4], [4, 4, 0, 0], (0, 1)),
     ("diagonals", [0, 0, FAR, FAR], [0, FAR, FAR, 0], (0, 1)),
@@ -207,7 +207,7 @@ fn gaps_of_segments(rt: HostRuntime) {
     are_segments_apart(&rt, &SEGMENTS);
 }
 
-const POINTS_AND_RECTANGLES: [(&str, [u32; 2], [u32; 4], u128); 8] = [
+static POINTS_AND_RECTANGLES: [(&str, [u32; 2], [u32; 4], u128); 8] = [
     ("to a corner", [0, 0], [2, 2, 5, 4], 8),
     ("inside", [3, 3], [2, 2, 5, 4], 0),
     ("on a corner", [2, 4], [2, 2, 5, 4], 0),
@@ -234,7 +234,7 @@ fn gaps_of_a_point_and_a_rectangle(rt: HostRuntime) {
     is_point_apart_from_rectangle(&rt, &POINTS_AND_RECTANGLES);
 }
 
-const SEGMENTS_AND_RECTANGLES: [(&str, [u32; 4], [u32; 4], (u128, u128)); 10] = [
+static SEGMENTS_AND_RECTANGLES: [(&str, [u32; 4], [u32; 4], (u128, u128)); 10] = [
     ("inside", [3, 3, 4, 3], [2, 2, 6, 4], (0, 1)),
     ("right through", [0, 3, 9, 3], [2, 2, 6, 4], (0, 1)),
     ("from above", [4, 9, 4, 3], [2, 2, 6, 4], (0, 1)),
@@ -266,7 +266,7 @@ fn gaps_of_a_segment_and_a_rectangle(rt: HostRuntime) {
     is_segment_apart_from_rectangle(&rt, &SEGMENTS_AND_RECTANGLES);
 }
 
-const RECTANGLES: [(&str, [u32; 4], [u32; 4], u128); 6] = [
+static RECTANGLES: [(&str, [u32; 4], [u32; 4], u128); 6] = [
     ("corner to corner", [0, 0, 2, 2], [5, 6, 9, 9], 25),
     ("overlapping", [0, 0, 4, 4], [2, 2, 9, 9], 0),
     ("one shared corner", [0, 0, 2, 2], [2, 2, 3, 3], 0),

@@ -71,7 +71,7 @@ const PLANE: &[[u32; 2]] = &[[0, 0], [FAR, 0], [FAR, FAR], [0, FAR]];
 const SLIVER: &[[u32; 2]] = &[[0, 0], [FAR, FAR], [FAR, FAR - 1]];
 
 // A figure of one vertex is a point, one of two a segment, and any other a polygon. The gap is in lowest terms.
-const POINTS: [(&str, &[[u32; 2]], &[[u32; 2]], (u128, u128)); 37] = [
+static POINTS: [(&str, &[[u32; 2]], &[[u32; 2]], (u128, u128)); 37] = [
     ("inside a square", &[[3, 3]], SQUARE, (0, 1)),
     ("on its left edge", &[[2, 4]], SQUARE, (0, 1)),
     ("on its last vertex", &[[2, 6]], SQUARE, (0, 1)),
@@ -171,7 +171,7 @@ const POINTS: [(&str, &[[u32; 2]], &[[u32; 2]], (u128, u128)); 37] = [
     ),
 ];
 
-const SEGMENTS: [(&str, &[[u32; 2]], &[[u32; 2]], (u128, u128)); 12] = [
+static SEGMENTS: [(&str, &[[u32; 2]], &[[u32; 2]], (u128, u128)); 12] = [
     ("a segment in a square", &[[3, 3], [5, 4]], SQUARE, (0, 1)),
     (
         "a segment through a square",
@@ -226,7 +226,7 @@ const SEGMENTS: [(&str, &[[u32; 2]], &[[u32; 2]], (u128, u128)); 12] = [
     ),
 ];
 
-const POLYGONS: [(&str, &[[u32; 2]], &[[u32; 2]], (u128, u128)); 13] = [
+static POLYGONS: [(&str, &[[u32; 2]], &[[u32; 2]], (u128, u128)); 13] = [
     (
         "a triangle in a square",
         &[[3, 3], [5, 3], [4, 5]],
@@ -298,7 +298,7 @@ const POLYGONS: [(&str, &[[u32; 2]], &[[u32; 2]], (u128, u128)); 13] = [
 ];
 
 // The rectangle is given by its low and its high corner.
-const RECTANGLES: [(&str, &[[u32; 2]], [u32; 4], (u128, u128)); 18] = [
+static RECTANGLES: [(&str, &[[u32; 2]], [u32; 4], (u128, u128)); 18] = [
     ("a rectangle in a square", SQUARE, [3, 3, 5, 5], (0, 1)),
     ("a rectangle round a square", SQUARE, [0, 0, 9, 9], (0, 1)),
     ("the same rectangle", SQUARE, [2, 2, 6, 6], (0, 1)),

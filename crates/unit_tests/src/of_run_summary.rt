@@ -19,7 +19,7 @@ fn three_letters_in_two_pieces_have_the_digest_of_the_standard(
 }
 
 // Of the five lines that are ended the second and the fourth are refused.
-const PIECES: [&str; 4] = [
+static PIECES: [&str; 4] = [
     "ok\nrefu",
     "sed 1 Memory\nid 1\nrefused\n",
     "refuse\nref",
@@ -29,7 +29,7 @@ const PIECES: [&str; 4] = [
 #[test]
 fn refused_lines_are_counted_across_pieces(rt: HostRuntime) -> Result<(), Fail> {
     let mut sink = TallySink::new();
-    for piece in PIECES {
+    for piece in &PIECES {
         assert_eq!(rt; sink.write(piece.as_bytes()), Ok(piece.len()));
     }
     let text = sink.summary(6);

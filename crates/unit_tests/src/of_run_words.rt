@@ -20,7 +20,7 @@ fn ask(alloc: Global, words: &[&str]) -> Result<(u32, Option<usize>, Option<u32>
     Ok((asked.frames, length, asked.workload))
 }
 
-const TAKEN: [(&[&str], u32, Option<usize>, Option<u32>); 10] = [
+static TAKEN: [(&[&str], u32, Option<usize>, Option<u32>); 10] = [
     (&[], 256, None, None),
     (&["--frames", "64"], 64, None, None),
     (&["--frames=64"], 64, None, None),
@@ -43,7 +43,7 @@ const TAKEN: [(&[&str], u32, Option<usize>, Option<u32>); 10] = [
     (&["--"], 256, None, None),
 ];
 
-const REFUSED: [&[&str]; 13] = [
+static REFUSED: [&[&str]; 13] = [
     &["--frames", "15"],
     &["--frames", "4097"],
     &["--frames", "x"],

@@ -140,21 +140,29 @@ fn a_row_is_copied_where_memory_is_left(rt: HostRuntime) -> Result<(), Fail> {
     Ok(())
 }
 
+// A file of three bytes that are all this one.
+fn file(alloc: Global, name: &str, byte: u8) -> Result<(Label, Vec<u8>), NoMemory> {
+    let name = Label::new(alloc, name)?;
+    Ok((name, Vec::from_slice(alloc, &[byte; 3])?))
+}
+
 // Three files, two of them of one name.
 fn three_files(alloc: Global) -> Result<Vec<(Label, Vec<u8>)>, NoMemory> {
     let mut files = Vec::new(alloc);
-    for (name, bytes) in [("a", [1; 3]), ("b", [2; 3]), ("a", [3; 3])] {
-        files.push((Label::new(alloc, name)?, Vec::from_slice(alloc, &bytes)?))?;
+    for &(name, byte) in &[("a", 1), ("b", 2), ("a", 3)] {
+        files.push(file(alloc, name, byte)?)?;
     }
     Ok(files)
 }
 
-#[test]
-fn a_shelf_opens_the_first_of_equal_names_and_none_after_a_fault(
-    rt: HostRuntime,
-) -> Result<(), NoMemory> {
-    let alloc = rt.alloc();
-    let mut shelf = MemShelf::new(alloc, three_files(alloc)?, vec![in alloc; 4]?);
+// A shelf of these files, whose fourth call fails.
+fn shelf_of_three(alloc: Global) -> Result<MemShelf, NoMemory> {
+    let failing = vec![in alloc; 4]?;
+    Ok(MemShelf::new(alloc, three_files(alloc)?, failing))
+}
+
+// The shelf opens the first of two files of one name, and of its calls the fourth alone fails.
+fn opens_the_first(rt: &impl Abort, shelf: &mut MemShelf) {
     assert_eq!(rt;
         (shelf.choose("c"), shelf.choose("a")),
         (Err(Failed {}), Ok(()))
@@ -167,5 +175,13 @@ fn a_shelf_opens_the_first_of_equal_names_and_none_after_a_fault(
         shelf.read(&mut piece),
     ];
     assert_eq!(rt; more, [Err(Failed {}), Ok(1), Ok(0)]);
+}
+
+#[test]
+fn a_shelf_opens_the_first_of_equal_names_and_none_after_a_fault(
+    rt: HostRuntime,
+) -> Result<(), NoMemory> {
+    let mut shelf = shelf_of_three(rt.alloc())?;
+    opens_the_first(&rt, &mut shelf);
     Ok(())
 }

@@ -51,7 +51,7 @@ fn is_row_with_a_byte(alloc: Global, kinds: &[Kind], bytes: &[u8]) -> Result<boo
     is_row(alloc, kinds, &longer)
 }
 
-const KINDS: [Kind; 5] = [
+static KINDS: [Kind; 5] = [
     Kind::Int,
     Kind::Text,
     Kind::Point,
@@ -60,7 +60,7 @@ const KINDS: [Kind; 5] = [
 ];
 
 // -2, a text of two letters, (1 65535), (0 0)-(2 3) and a triangle.
-const ROW: [u8; 61] = [
+static ROW: [u8; 61] = [
     255, 255, 255, 255, 255, 255, 255, 254, // -2
     3, 65, 195, 169, // a text of three bytes
     0, 0, 0, 1, 0, 0, 255, 255, // a point
@@ -91,7 +91,7 @@ fn a_row_of_each_kind_is_read_and_made_again(rt: HostRuntime) -> Result<(), Fail
     is_read_as_a_whole(&rt, rt.alloc(), &KINDS, &ROW)
 }
 
-const VALUES: [(&str, Kind, &[u8], bool); 4] = [
+static VALUES: [(&str, Kind, &[u8], bool); 4] = [
     ("the empty text", Kind::Text, &[0], true),
     ("no UTF-8", Kind::Text, &[2, 195, 40], false),
     ("a control character", Kind::Text, &[2, 194, 133], false),
@@ -134,7 +134,7 @@ fn values_out_of_range_are_no_row(rt: HostRuntime) -> Result<(), Fail> {
     Ok(())
 }
 
-const LONG: [Kind; 9] = [
+static LONG: [Kind; 9] = [
     Kind::Polygon,
     Kind::Polygon,
     Kind::Polygon,

@@ -3,7 +3,7 @@ use std::process::Abort;
 use std::test::Fail;
 use work_gen::Workload;
 
-const LINES_OF_ONE: [&str; 12] = [
+static LINES_OF_ONE: [&str; 12] = [
     "create p (at point, pop int)",
     "create s (way segment)",
     "index p.at",

@@ -27,7 +27,7 @@ fn block_of(rt: &impl Abort, corner: (u32, u32), height: u8) -> Block
     Block::of_point(point(rt, corner), POINT_LEVEL - height)
 }
 
-const CODES: [((u32, u32), u64); 15] = [
+static CODES: [((u32, u32), u64); 15] = [
     ((0, 0), 0),
     ((1, 0), 0b01),
     ((0, 1), 0b10),
@@ -60,7 +60,7 @@ fn codes_interleave_the_bits_of_x_and_y(rt: HostRuntime) {
     have_codes(&rt, &CODES);
 }
 
-const SQUARES: [((u32, u32), u8, u64, (u32, u32), (u32, u32), u64); 9] = [
+static SQUARES: [((u32, u32), u8, u64, (u32, u32), (u32, u32), u64); 9] = [
     ((5, 3), 0, 27, (5, 3), (6, 4), 27),
     ((5, 3), 1, 24, (4, 2), (6, 4), 27),
     ((5, 3), 2, 16, (4, 0), (8, 4), 31),
@@ -125,7 +125,7 @@ fn children_come_in_the_order_of_their_codes(rt: HostRuntime) {
     assert_eq!(rt; (first.parent(), Block::root().level), (block, 0));
 }
 
-const HELD: [((u32, u32), u8, (u32, u32), u8, bool); 8] = [
+static HELD: [((u32, u32), u8, (u32, u32), u8, bool); 8] = [
     ((5, 3), 2, (5, 3), 2, true),
     ((5, 3), 2, (7, 0), 1, true),
     ((5, 3), 2, (4, 3), 0, true),
