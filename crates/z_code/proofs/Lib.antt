@@ -5,4 +5,5 @@ pub mod CodesOfPoints
 pub mod Places
 pub mod Blocks
 pub mod Children
+pub mod Quarters
 pub mod Containment

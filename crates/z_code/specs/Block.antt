@@ -1,6 +1,6 @@
 -- Blocks of the quadtree, as squares of the plane and as ranges of Morton codes. After I. Gargantini (1982) and H. Samet (2006).
 use Rattle.std.specs.Prelude.{◌≡◌, ℕ, ◌+◌, ◌-◌, ◌*◌, ◌/◌, ◌%◌, ◌^◌, ◌<◌, ◌≤◌, ◌↔◌, List, [], ◌∷◌}
-use Rattle.sand_base.specs.Plane.{IsInPlane}
+use Rattle.sand_base.specs.Plane.{IsInPlane, IsRectInClosedPlane}
 use Rattle.sand_base.specs.declared.TheConstants.{COORDINATE_BITS}
 use Rattle.sand_base.specs.declared.point.Point.{Point}
 use Rattle.sand_base.specs.declared.rect.Rect.{Rect}
@@ -25,15 +25,23 @@ pub record IsBlock (b : Block) : Type 0 where
 abbrev pub corner_of : Block → Point
 corner_of b = point_of b.z
 
+-- the closed square of a side from its low corner
+abbrev pub square_at : Point → ℕ → Rect
+square_at low side = record { low = low; high = record { x = low.x + side; y = low.y + side } }
+
 -- the closed square of a block
 abbrev pub square_of : Block → Rect
-square_of b = record {
-  low = corner_of b;
-  high = record {
-    x = (corner_of b).x + side_length b.level;
-    y = (corner_of b).y + side_length b.level;
-  };
-}
+square_of b = square_at (corner_of b) (side_length b.level)
+
+-- a block beside its closed square
+abbrev pub with_square : Block → Block × Rect
+with_square b = (b, square_of b)
+
+-- the block is one of the quadtree, and the square beside it is its own and lies in the closed plane
+pub record IsWithSquare (pair : Block × Rect) : Type 0 where
+  pub block : IsBlock pair.0
+  pub square : pair.1 ≡ square_of pair.0
+  pub in_closed_plane : IsRectInClosedPlane pair.1
 
 -- the point lies in the half-open square of the block, which has its low sides and not its high ones
 pub record HasPoint (b : Block) (p : Point) : Type 0 where

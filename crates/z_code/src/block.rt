@@ -1,9 +1,9 @@
-ghost use Rattle.std.specs.Prelude.{◌≡◌, ℕ, ◌+◌, ◌*◌, ◌/◌, ◌^◌, ◌<◌, ◌≤◌, ◌↔◌, IsTrue};
+ghost use Rattle.std.specs.Prelude.{◌≡◌, ℕ, ◌+◌, ◌*◌, ◌/◌, ◌^◌, ◌<◌, ◌≤◌, ◌↔◌, IsTrue, All, map};
 ghost use Rattle.std.specs.List.{Contains};
-ghost use Rattle.sand_base.specs.Plane.{IsInPlane, IsRectInClosedPlane};
+ghost use Rattle.sand_base.specs.Plane.{IsInPlane, IsInClosedPlane, IsRectInClosedPlane};
 ghost use Rattle.z_code.specs.Code.{code_of, Interleaves};
-ghost use Rattle.z_code.specs.Block.{IsBlock, side_length, code_count, square_of, HasPoint, HasCode, IsCodeOfPointIn};
-ghost use Rattle.z_code.specs.Block.{children_of, IsQuarter, IsDivided, IsContainment};
+ghost use Rattle.z_code.specs.Block.{IsBlock, side_length, code_count, square_at, square_of, HasPoint, HasCode, IsCodeOfPointIn};
+ghost use Rattle.z_code.specs.Block.{with_square, IsWithSquare, children_of, IsQuarter, IsDivided, IsContainment};
 
 use crate::code::{code_of, point_of};
 use sand_base::{COORDINATE_BITS, Point, Rect};
@@ -56,6 +56,36 @@ impl Block {
         ]
     }
 
+    /// The four quarters in the order of their codes, each with its closed square.
+    pub fn quarters(self) -> [(Block, Rect); 4]
+        requires block { IsBlock self }
+        requires above_points { self.level < COORDINATE_BITS }
+        ensures value { result ≡ map with_square (children_of self) }
+        ensures squares { All IsWithSquare result }
+    {
+        let [first, second, third, fourth] = self.children();
+        let low = point_of(self.z);
+        let side = side_length(self.level + 1);
+        let middle = Point {
+            x: low.x + side,
+            y: low.y + side,
+        };
+        let right = Point {
+            x: middle.x,
+            y: low.y,
+        };
+        let above = Point {
+            x: low.x,
+            y: middle.y,
+        };
+        [
+            (first, square_at(low, side)),
+            (second, square_at(right, side)),
+            (third, square_at(above, side)),
+            (fourth, square_at(middle, side)),
+        ]
+    }
+
     /// The block of which this one is a child.
     pub fn parent(self) -> Block
         requires block { IsBlock self }
@@ -80,15 +110,7 @@ impl Block {
         ensures code { code_of result.low ≡ self.z }
         ensures bits { Interleaves self.z result.low }
     {
-        let low = point_of(self.z);
-        let side = side_length(self.level);
-        Rect {
-            low,
-            high: Point {
-                x: low.x + side,
-                y: low.y + side,
-            },
-        }
+        square_at(point_of(self.z), side_length(self.level))
     }
 
     /// The least and the greatest code inside the block, both included.
@@ -125,6 +147,21 @@ impl Block {
         ensures { IsContainment (IsTrue result) self other }
     {
         self.level <= other.level && first_code(other.z, self.level) == self.z
+    }
+}
+
+// The closed square of the side, from its low corner.
+fn square_at(low: Point, side: u32) -> Rect
+    requires corner { IsInClosedPlane low }
+    requires side { side ≤ 2 ^ COORDINATE_BITS }
+    ensures { result ≡ square_at low side }
+{
+    Rect {
+        low,
+        high: Point {
+            x: low.x + side,
+            y: low.y + side,
+        },
     }
 }
 
