@@ -3,6 +3,8 @@ pub mod Grid
 pub mod Plane
 pub mod Shape
 pub mod InRange
+-- how the ids of a row are held
+pub mod Ids
 -- refusals
 pub mod Refusal
 -- the outside: when a call may fail, and what the streams in memory do

@@ -58,11 +58,14 @@ impl VisitLog {
         &self.visits
     }
 
-    /// Notes a visit. After a refusal the log is as it was.
+    /// Notes a visit. The first one takes room for 16, and after a refusal the log is as it was.
     pub fn push(&mut self, visit: Visit) -> Result<(), NoMemory>
         ensures noted { IfOk result (λ _. self.new ≡ self.old ++ visit ∷ []) }
         ensures kept { OnErr result (self.new ≡ self.old) }
     {
+        if self.visits.is_empty() {
+            self.visits.reserve(16)?;
+        }
         self.visits.push(visit)?;
         Ok(())
     }
