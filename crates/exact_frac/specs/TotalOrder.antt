@@ -23,7 +23,7 @@ scaled_by a b k h Equal m = nat_cmp_is (a * k) (b * k) Equal (ap (λ n. n * k) m
 scaled_by a b k h Greater m = nat_cmp_is (a * k) (b * k) Greater (mul-lt-mul_of_pos_right m h)
 
 -- a positive factor on both sides keeps the order
-scaled : (a b k : ℕ) → 1 ≤ k → nat_cmp a b ≡ nat_cmp (a * k) (b * k)
+pub scaled : (a b k : ℕ) → 1 ≤ k → nat_cmp a b ≡ nat_cmp (a * k) (b * k)
 scaled a b k h = scaled_by a b k h (nat_cmp a b) (ranked a b (nat_cmp a b) refl)
 
 -- from a/b < c/d and c/d < e/f follows a/b < e/f

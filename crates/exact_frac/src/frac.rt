@@ -50,11 +50,15 @@ impl Frac {
         self.den
     }
 
-    /// The order of the two values, by cross products.
+    /// The order of the two values, by cross products unless the denominators are equal.
     pub fn compare(&self, other: &Frac) -> Ordering
         ensures { result ≡ value_cmp self.now other.now }
     {
-        (self.num * other.den).cmp(&(other.num * self.den))
+        if self.den == other.den {
+            self.num.cmp(&other.num)
+        } else {
+            (self.num * other.den).cmp(&(other.num * self.den))
+        }
     }
 
     /// Whether the value is at most the square of `r`.
@@ -71,6 +75,9 @@ impl Frac {
         ensures value { SameValue result.num result.den self.now.num self.now.den }
         ensures lowest { IsGcd result.num result.den 1 }
     {
+        if self.den == 1 {
+            return *self;
+        }
         let common = greatest_common_divisor(self.num, self.den);
         Frac {
             num: self.num / common,

@@ -58,8 +58,26 @@ impl FracText {
     }
 }
 
-// Writes the digits so that they end at `end`, and returns where they start.
+// Writes the digits so that they end at `end`, and returns where they start. Digits are divided off in 128 bits only
+// until 64 hold what is left.
 fn write_number(bytes: &mut [u8], end: usize, number: u128) -> usize
+    requires fits { length (decimal number) ≤ end }
+    requires within { end ≤ length bytes.old }
+    ensures start { result + length (decimal number) ≡ end }
+    ensures written { drop result bytes.new ≡ decimal number ++ drop end bytes.old }
+{
+    let mut left = number;
+    let mut at = end;
+    'digits: while left > u128::from(u64::MAX) {
+        at -= 1;
+        bytes[at] = b'0' + (left % 10) as u8;
+        left /= 10;
+    }
+    write_small(bytes, at, left as u64)
+}
+
+// The same of a number of at most 64 bits.
+fn write_small(bytes: &mut [u8], end: usize, number: u64) -> usize
     requires fits { length (decimal number) ≤ end }
     requires within { end ≤ length bytes.old }
     ensures start { result + length (decimal number) ≡ end }
