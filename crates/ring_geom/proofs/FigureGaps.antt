@@ -46,6 +46,12 @@ pub ringless_gap : (a b : Goal) (m e : ℕ) → ((v : Point) → ¬ HoldsInside 
 ringless_gap a b m e ha hb h =
     least_gap a b m e (λ c. elim c [ inl k ↦ none_of hb (vertices_of a) k | inr k ↦ none_of ha (vertices_of b) k ]) h
 
+-- two points
+pub points_gap : (a b : Shape) (p q : Point) (m e : ℕ) → a ≡ shape.Point p → b ≡ shape.Point q → IsLeast (IsPoint p) (IsPoint q) m e
+    → IsGapOf (goal.Shape a) (goal.Shape b) m e
+points_gap a b p q m e is_a is_b h =
+    rw (is_a, is_b) (ringless_gap (goal.Shape (shape.Point p)) (goal.Shape (shape.Point q)) m e (λ v k. k) (λ v k. k) h)
+
 -- a point and a rectangle
 pub point_rect_gap : (p : Point) (r : Rect) (m e : ℕ) → IsLeast (IsPoint p) (IsInRect r) m e
     → IsGapOf (goal.Shape (shape.Point p)) (goal.Rect r) m e

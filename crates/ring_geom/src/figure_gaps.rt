@@ -23,6 +23,10 @@ pub fn gap_shapes(a: &Shape, b: &Shape) -> Frac
     requires b { IsShapeInClosedPlane b.now }
     ensures { IsFigureGap (goal.Shape a.now) (goal.Shape b.now) result }
 {
+    // Two points are the most usual, and neither has an inside.
+    if let (Shape::Point(p), Shape::Point(q)) = (a, b) {
+        return gap_points(*p, *q);
+    }
     if has_corner_in(a, b) || has_corner_in(b, a) {
         Frac::new(0, 1)
     } else {
