@@ -1,7 +1,7 @@
 -- The pairs of a key range, taken leaf by leaf.
-use Rattle.std.proofs.Common.{◌≡◌, ℕ, suc, ◌+◌, ◌-◌, ◌/◌, ◌<◌, ◌≤◌, cond, List, [], ◌∷◌, ◌++◌, length, take, drop, refl, sym, ◌∙◌, ap, ap₂, subst, inl, inr, arith, append_assoc, append-nil, length-append, length-drop, take-append-drop, drop-drop}
+use Rattle.std.proofs.Common.{◌≡◌, ℕ, suc, ◌+◌, ◌-◌, ◌/◌, ◌<◌, ◌≤◌, cond, List, [], ◌∷◌, ◌++◌, length, take, drop, refl, sym, ◌∙◌, ap, ap₂, subst, inl, inr, arith, append_assoc, append-nil, length-append, length-drop, take-append-drop}
 use Rattle.std.specs.Prelude.{Some, Result, Ok}
-use Rattle.std.proofs.lemmas.List.{drop_all, drop_more, drop-take}
+use Rattle.std.proofs.lemmas.List.{drop_all, drop_more, take_all}
 use Rattle.std.proofs.lemmas.List.Concat.{flat_map-append}
 use Rattle.std.proofs.lemmas.Bool.Decides.{leb_tells}
 use Rattle.page_pool.specs.declared.fault.PageFault.{PageFault}
@@ -23,43 +23,10 @@ use Rattle.code_btree.proofs.Inserts.{at_page}
 use Rattle.code_btree.proofs.PageRuns.{rank_from}
 use Rattle.code_btree.proofs.Chains.{chained-append, row_chained, items_chained, next_is, next_filled, path_from, leaf_by}
 
--- one entry more of a page
-pub add_step : (p : List ℕ) (n at to : ℕ) (old all new : List Pair) (k v : ℕ) → IsLeafOf p n → at < to → to ≤ n → k ≡ entry_key p at → v ≡ entry_value p at → new ≡ old ++ ((k, v) ∷ [])
-    → old ++ take (to - at) (drop at (entries_of (node_of p))) ≡ all → new ++ take (to - (at + 1)) (drop (at + 1) (entries_of (node_of p))) ≡ all
-add_step p n at to old all new k v is l m kk vv new_is so_far =
-    let es : List Pair = entries_of (node_of p) in
-    let more : List Pair = take (to - (at + 1)) (drop (at + 1) es) in
-    let e : drop at es ≡ (entry_key p at, entry_value p at) ∷ drop (at + 1) es = drop_more es at (0, 0) (omega (arith, is.counted, l, m)) ∙ ap (λ (x : Pair). x ∷ drop (at + 1) es) (entry_is p n at (0, 0) is (omega (arith, l, m))) in
-    let s : to - at ≡ suc (to - (at + 1)) = omega (arith, l) in
-    let t : take (to - at) (drop at es) ≡ (entry_key p at, entry_value p at) ∷ more = ap₂ (λ (i : ℕ) (x : List Pair). take i x) s e in
-    let kv : (k, v) ∷ more ≡ (entry_key p at, entry_value p at) ∷ more = ap₂ (λ (x y : ℕ). (x, y) ∷ more) kk vv in
-    ap (λ (x : List Pair). x ++ more) new_is ∙ (append_assoc old ((k, v) ∷ []) more ∙ (ap (λ (x : List Pair). old ++ x) (kv ∙ sym t) ∙ so_far))
-
 -- pairs on both sides of a key
 pub below-AtLeast : (k : ℕ) (es : List Pair) → AtLeast k es → items_below k es ≡ []
 below-AtLeast k [] h = refl
 below-AtLeast k (e ∷ es) h = rw (lt_not e.0 k h.0) (below-AtLeast k es h.1)
-
-AtLeast-drop : (k i : ℕ) (es : List Pair) → AtLeast k es → AtLeast k (drop i es)
-AtLeast-drop k i es h =
-    let P : List Pair → Type 0 = λ x. AtLeast k x in
-    Each-right (λ e. k ≤ e.0) (take i es) (drop i es) (subst P (sym (take-append-drop i es)) h)
-
-Below-drop : (k i : ℕ) (es : List Pair) → Below k es → Below k (drop i es)
-Below-drop k i es h =
-    let P : List Pair → Type 0 = λ x. Below k x in
-    Each-right (λ e. e.0 < k) (take i es) (drop i es) (subst P (sym (take-append-drop i es)) h)
-
-none_from : (k : ℕ) (es : List Pair) → items_from k es ≡ [] → items_below k es ≡ es
-none_from k [] h = refl
-none_from k (e ∷ es) h = elim (leb_tells (suc e.0) k) [
-  | inl l ↦
-      let i : items_from k es ≡ [] = sym (ap (λ b. cond b (items_from k es) (e ∷ items_from k es)) (lt_is e.0 k l.1)) ∙ h in
-      rw (lt_is e.0 k l.1) (ap (λ (x : List Pair). e ∷ x) (none_from k es i))
-  | inr l ↦
-      let i : e ∷ items_from k es ≡ [] = sym (ap (λ b. cond b (items_from k es) (e ∷ items_from k es)) (lt_not e.0 k (omega (arith, l.1)))) ∙ h in
-      absurd (cc)
-]
 
 between-append : (low high : ℕ) (xs ys : List Pair) → items_between low high (xs ++ ys) ≡ items_between low high xs ++ items_between low high ys
 between-append low high xs ys = ap (λ (es : List Pair). items_below high es) (items_from-append low xs ys) ∙ items_below-append high (items_from low xs) (items_from low ys)
@@ -67,8 +34,8 @@ between-append low high xs ys = ap (λ (es : List Pair). items_below high es) (i
 between-AtLeast : (low high : ℕ) (es : List Pair) → AtLeast low es → AtLeast high es → items_between low high es ≡ []
 between-AtLeast low high es l h = ap (λ (x : List Pair). items_below high x) (from-AtLeast low es l) ∙ below-AtLeast high es h
 
-between_all : (low high : ℕ) (es : List Pair) → AtLeast low es → items_from high es ≡ [] → items_between low high es ≡ es
-between_all low high es l h = ap (λ (x : List Pair). items_below high x) (from-AtLeast low es l) ∙ none_from high es h
+between_all : (low high : ℕ) (es : List Pair) → AtLeast low es → Below high es → items_between low high es ≡ es
+between_all low high es l h = ap (λ (x : List Pair). items_below high x) (from-AtLeast low es l) ∙ below-Below high es h
 
 -- where a pair is not below a key, none behind it is
 behind_high : (k : ℕ) (xs ys : List Pair) → Ascending (xs ++ ys) → 1 ≤ length (items_from k xs) → AtLeast k ys
@@ -86,61 +53,63 @@ pub record Ranked (p : List ℕ) (count key at : ℕ) : Type 0 where
   pub before : 1 ≤ at → entry_key p (at - 1) < key
   pub behind : at < count → key ≤ entry_key p at
 
-rank_below : (p : List ℕ) (count at k : ℕ) → IsLeafOf p count → Ranked p count k at → Ascending (entries_of (node_of p)) → Below k (take at (entries_of (node_of p)))
-rank_below p count at k is r asc = Below-rank k (entries_of (node_of p)) at (0, 0) asc (omega (arith, is.counted, r.place)) (λ o. ranked p count at k is r.place r.before o)
-
-rank_above : (p : List ℕ) (count at k : ℕ) → IsLeafOf p count → Ranked p count k at → Ascending (entries_of (node_of p)) → AtLeast k (drop at (entries_of (node_of p)))
-rank_above p count at k is r asc =
+-- one pair more of a page, which is below the end of the range
+pub take_step : (p : List ℕ) (n at high : ℕ) (old all new : List Pair) (k v : ℕ) → IsLeafOf p n → at < n → k ≡ entry_key p at → v ≡ entry_value p at → k < high → new ≡ old ++ ((k, v) ∷ [])
+    → old ++ items_below high (drop at (entries_of (node_of p))) ≡ all → new ++ items_below high (drop (at + 1) (entries_of (node_of p))) ≡ all
+take_step p n at high old all new k v is l kk vv lt new_is so_far =
     let es : List Pair = entries_of (node_of p) in
-    AtLeast-rank k es at (0, 0) asc (λ i.
-    let j : at < count = omega (arith, is.counted, i) in
-    omega (arith, r.behind j, ap (λ (x : Pair). x.0) (entry_is p count at (0, 0) is j)))
+    let rest : List Pair = drop (at + 1) es in
+    let more : List Pair = items_below high rest in
+    let pair : (entry_key p at, entry_value p at) ∷ rest ≡ (k, v) ∷ rest = ap₂ (λ (x y : ℕ). (x, y) ∷ rest) (sym kk) (sym vv) in
+    let e : drop at es ≡ (k, v) ∷ rest = drop_more es at (0, 0) (omega (arith, is.counted, l)) ∙ (ap (λ (x : Pair). x ∷ rest) (entry_is p n at (0, 0) is l) ∙ pair) in
+    let t : items_below high (drop at es) ≡ (k, v) ∷ more = ap (λ (x : List Pair). items_below high x) e ∙ ap (λ b. cond b ((k, v) ∷ more) more) (lt_is k high lt) in
+    ap (λ (x : List Pair). x ++ more) new_is ∙ (append_assoc old ((k, v) ∷ []) more ∙ (ap (λ (x : List Pair). old ++ x) (sym t) ∙ so_far))
 
--- the pairs of a range stand between the places of its two keys
-between_is : (p : List ℕ) (count from to low high : ℕ) → IsLeafOf p count → Ranked p count low from → Ranked p count high to → Ascending (entries_of (node_of p)) → take (to - from) (drop from (entries_of (node_of p))) ≡ items_between low high (entries_of (node_of p))
-between_is p count from to low high is f g asc =
+-- where no pair of the range is to come, all were taken
+taken_all : (p : List ℕ) (count from at low high : ℕ) (old new : List Pair) → IsLeafOf p count → Ranked p count low from → AtLeast high (drop at (entries_of (node_of p))) → Ascending (entries_of (node_of p))
+    → new ++ items_below high (drop at (entries_of (node_of p))) ≡ old ++ items_below high (drop from (entries_of (node_of p))) → new ≡ old ++ items_between low high (entries_of (node_of p))
+taken_all p count from at low high old new is f above asc so_far =
     let es : List Pair = entries_of (node_of p) in
-    let lower : items_from low es ≡ drop from es = sym (rank_from p count from low is f.place f.before f.behind asc) in
-    let above : AtLeast high (drop to es) = rank_above p count to high is g asc in
-    elim (leb_tells from to) [
-      | inl l ↦
-          let B : List Pair = take (to - from) (drop from es) in
-          let place : from + (to - from) ≡ to = omega (arith, l.1) in
-          let cut : drop from (take to es) ≡ B = ap (λ (i : ℕ). drop from (take i es)) (sym place) ∙ drop-take from (to - from) es in
-          let below : Below high B = let P : List Pair → Type 0 = λ x. Below high x in subst P cut (Below-drop high from (take to es) (rank_below p count to high is g asc)) in
-          let rest : drop (to - from) (drop from es) ≡ drop to es = drop-drop (to - from) from es ∙ ap (λ (i : ℕ). drop i es) (omega (arith, l.1)) in
-          let parts : drop from es ≡ B ++ drop to es = sym (take-append-drop (to - from) (drop from es)) ∙ ap (λ (x : List Pair). B ++ x) rest in
-          sym (ap (λ (x : List Pair). items_below high x) (lower ∙ parts)
-          ∙ (items_below-append high B (drop to es) ∙ (ap₂ (λ (x y : List Pair). x ++ y) (below-Below high B below) (below-AtLeast high (drop to es) above) ∙ append-nil B)))
-      | inr l ↦
-          let none : to - from ≡ 0 = omega (arith, l.1) in
-          let rest : drop (from - to) (drop to es) ≡ drop from es = drop-drop (from - to) to es ∙ ap (λ (i : ℕ). drop i es) (omega (arith, l.1)) in
-          let high_all : AtLeast high (drop from es) = let P : List Pair → Type 0 = λ x. AtLeast high x in subst P rest (AtLeast-drop high (from - to) (drop to es) above) in
-          ap (λ (i : ℕ). take i (drop from es)) none ∙ sym (ap (λ (x : List Pair). items_below high x) lower ∙ below-AtLeast high (drop from es) high_all)
-    ]
+    sym (append-nil new) ∙ (ap (λ (x : List Pair). new ++ x) (sym (below-AtLeast high (drop at es) above))
+    ∙ (so_far ∙ ap (λ (x : List Pair). old ++ items_below high x) (rank_from p count from low is f.place f.before f.behind asc)))
 
 -- a leaf with an entry at the end of the range or behind it leads nowhere
-pub takes_inside : (p : List ℕ) (count from to low high next : ℕ) (old new : List Pair) → IsLeafOf p count → Ranked p count low from → Ranked p count high to → to < count
-    → new ≡ old ++ take (to - from) (drop from (entries_of (node_of p))) → Ascending (entries_of (node_of p)) → Takes (entries_of (node_of p)) next low high old new 0
-takes_inside p count from to low high next old new is f g l e asc =
+pub takes_inside : (p : List ℕ) (count from at low high next : ℕ) (old new : List Pair) → IsLeafOf p count → Ranked p count low from → at < count → high ≤ entry_key p at
+    → new ++ items_below high (drop at (entries_of (node_of p))) ≡ old ++ items_below high (drop from (entries_of (node_of p))) → Ascending (entries_of (node_of p)) → Takes (entries_of (node_of p)) next low high old new 0
+takes_inside p count from at low high next old new is f l h so_far asc =
     let es : List Pair = entries_of (node_of p) in
-    let upper : drop to es ≡ items_from high es = rank_from p count to high is g.place g.before g.behind asc in
+    let above : AtLeast high (drop at es) = AtLeast-rank high es at (0, 0) asc (λ i. omega (arith, h, ap (λ (x : Pair). x.0) (entry_is p count at (0, 0) is l))) in
+    let cut : items_from high es ≡ items_from high (take at es) ++ drop at es =
+    ap (λ (x : List Pair). items_from high x) (sym (take-append-drop at es)) ∙ (items_from-append high (take at es) (drop at es) ∙ ap (λ (x : List Pair). items_from high (take at es) ++ x) (from-AtLeast high (drop at es) above)) in
     record {
-      taken = e ∙ ap (λ (x : List Pair). old ++ x) (between_is p count from to low high is f g asc);
-      ends = λ z. inr (omega (arith, ap (λ (x : List Pair). length x) upper, length-drop to es, is.counted, l));
+      taken = taken_all p count from at low high old new is f above asc so_far;
+      ends = λ z. inr (omega (arith, ap (λ (x : List Pair). length x) cut, length-append (items_from high (take at es)) (drop at es), length-drop at es, is.counted, l));
       goes = λ z. absurd (omega (arith, z));
     }
 
--- and one without leads on
-pub takes_on : (p : List ℕ) (count from to low high next on : ℕ) (old new : List Pair) → IsLeafOf p count → Ranked p count low from → Ranked p count high to → count ≤ to → on ≡ next
-    → new ≡ old ++ take (to - from) (drop from (entries_of (node_of p))) → Ascending (entries_of (node_of p)) → Takes (entries_of (node_of p)) next low high old new on
-takes_on p count from to low high next on old new is f g l n e asc =
+-- all entries are below the end of the range where the last one is, or where none was below its beginning or in it
+all_below : (p : List ℕ) (count from at low high : ℕ) → IsLeafOf p count → Ranked p count low from → count ≤ at → at ≤ count → (from < at → entry_key p (at - 1) < high) → Ascending (entries_of (node_of p)) → AtLeast low (entries_of (node_of p))
+    → Below high (entries_of (node_of p))
+all_below p count from at low high is f l u last asc least =
     let es : List Pair = entries_of (node_of p) in
-    let upper : drop to es ≡ items_from high es = rank_from p count to high is g.place g.before g.behind asc in
+    let B : List Pair → Type 0 = λ x. Below high x in
+    elim (leb_tells (suc from) at) [
+      | inl i ↦ subst B (take_all at es (omega (arith, is.counted, l))) (Below-rank high es at (0, 0) asc (omega (arith, is.counted, u)) (λ o. ranked p count at high is u (λ o. last (omega (arith, i.1))) o))
+      | inr i ↦
+          let none : es ≡ [] = sym (from-AtLeast low es least) ∙ (sym (rank_from p count from low is f.place f.before f.behind asc) ∙ drop_all from es (omega (arith, is.counted, l, i.1))) in
+          subst B (sym none) tt
+    ]
+
+-- and one without leads on
+pub takes_on : (p : List ℕ) (count from at low high next on : ℕ) (old new : List Pair) → IsLeafOf p count → Ranked p count low from → count ≤ at → at ≤ count → (from < at → entry_key p (at - 1) < high) → on ≡ next
+    → new ++ items_below high (drop at (entries_of (node_of p))) ≡ old ++ items_below high (drop from (entries_of (node_of p))) → Ascending (entries_of (node_of p)) → Takes (entries_of (node_of p)) next low high old new on
+takes_on p count from at low high next on old new is f l u last n so_far asc =
+    let es : List Pair = entries_of (node_of p) in
+    let above : AtLeast high (drop at es) = AtLeast-rank high es at (0, 0) asc (λ i. absurd (omega (arith, i, is.counted, l))) in
     record {
-      taken = e ∙ ap (λ (x : List Pair). old ++ x) (between_is p count from to low high is f g asc);
+      taken = taken_all p count from at low high old new is f above asc so_far;
       ends = λ z. inl (sym n ∙ z);
-      goes = λ z. (n, sym upper ∙ drop_all to es (omega (arith, is.counted, l)));
+      goes = λ z. (n, λ least. all_below p count from at low high is f l u last asc least);
     }
 
 -- a lone leaf is that of each key
@@ -316,7 +285,8 @@ taken_on m t low high lf left on old new want tree w i =
       found = found;
       fewer = omega (arith, sizes);
       full = λ l.
-          let all : items_between low high E ≡ E = between_all low high E (left_least low E C w.least) (takes.goes l).1 in
+          let least : AtLeast low E = left_least low E C w.least in
+          let all : items_between low high E ≡ E = between_all low high E least ((takes.goes l).1 least) in
           omega (arith, sizes, ap (λ (x : List Pair). length x) all, w.full);
     }
   where
@@ -361,12 +331,6 @@ part_price m t low high lf left old want new before now d = omega (arith, d.pric
 -- those of a leaf that was refused
 pub part_failed : (m : Store) (t : Tree) (low high lf left : ℕ) (old want new : List Pair) (before now then : ℕ) → 1 ≤ lf → IsPartDone m t low high lf left old want new before now → then ≤ now + 1 → then ≤ before + (1 + length want / 63)
 part_failed m t low high lf left old want new before now then l d more = omega (arith, d.tight l, more)
-
--- no entry is left to add
-pub add_done : (es old all : List Pair) (at to : ℕ) → to ≤ at → old ++ take (to - at) (drop at es) ≡ all → old ≡ all
-add_done es old all at to l so_far =
-    let none : to - at ≡ 0 = omega (arith, l) in
-    sym (append-nil old) ∙ (ap (λ (i : ℕ). old ++ take i (drop at es)) (sym none) ∙ so_far)
 
 -- gets of a descent, of a first leaf and of those behind it
 pub price_all : (a b d e h r n : ℕ) → 1 ≤ h → b ≤ a + (h - 1) → d ≤ b + 1 → e ≤ d + (1 + r / 63) → r ≤ n → e ≤ a + ((h + 1) + n / 63)

@@ -7,6 +7,7 @@ pub mod Orders
 pub mod Lists
 pub mod Moves
 pub mod Seps
+pub mod Searches
 pub mod Stores
 pub mod Halves
 pub mod Looks
@@ -22,6 +23,7 @@ pub mod Floors
 pub mod PageRuns
 pub mod Chains
 pub mod Betweens
+pub mod Nears
 pub mod Joins
 pub mod Balances
 pub mod Evens

@@ -14,11 +14,11 @@ items_between low high es = items_below high (items_from low es)
 abbrev pub AtLeast : ℕ → List Pair → Type 0
 AtLeast key = Each (λ e. key ≤ e.0)
 
--- A leaf of these entries, which leads to `next`, gave those of the range. It leads on where none of its entries is at the end of the range or behind it.
+-- A leaf of these entries, which leads to `next`, gave those of the range. It leads nowhere only where it is the last one or has an entry at the end of the range or behind it; where it leads on, it leads to the next one, and has no such entry if none is below the range.
 pub record Takes (es : List Pair) (next low high : ℕ) (old new : List Pair) (on : ℕ) : Type 0 where
   pub taken : new ≡ old ++ items_between low high es
   pub ends : on ≡ 0 → (next ≡ 0) ⊎ (1 ≤ length (items_from high es))
-  pub goes : 1 ≤ on → (on ≡ next) × (items_from high es ≡ [])
+  pub goes : 1 ≤ on → (on ≡ next) × (AtLeast low es → Below high es)
 
 -- the page at this number gave the entries of the range, or it is no leaf
 pub record IsTakenIn (m : Store) (n low high : ℕ) (old new : List Pair) (on : ℕ) : Type 0 where

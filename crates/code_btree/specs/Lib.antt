@@ -11,3 +11,4 @@ pub mod Steps
 pub mod Removals
 pub mod Chain
 pub mod Between
+pub mod Near

@@ -1,43 +1,33 @@
-ghost use Rattle.std.specs.Prelude.{◌≡◌, ◌+◌, ◌-◌, ◌/◌, ◌≤◌, ◌++◌, List, length, take, drop, IfOk, OnOk};
+ghost use Rattle.std.specs.Prelude.{◌≡◌, ◌+◌, ◌/◌, ◌≤◌, ◌∷◌, ◌++◌, [], List, length, IfOk, OnOk};
 ghost use Rattle.page_pool.specs.Pool.{IsTold};
 ghost use Rattle.code_btree.specs.Node.{Pair, IsLeafOf, node_of, entries_of, next_of};
 ghost use Rattle.code_btree.specs.Items.{Ascending};
 ghost use Rattle.code_btree.specs.Tree.{IsTree, pages_in, tree_items};
-ghost use Rattle.code_btree.specs.Steps.{Subtree};
-ghost use Rattle.code_btree.specs.Between.{items_between, Takes, IsTakenIn, IsLeafFor, IsRest};
+ghost use Rattle.code_btree.specs.Between.{items_between, Takes, IsTakenIn, IsRest};
+ghost use Rattle.code_btree.specs.Near.{IsNear};
 ghost use Rattle.code_btree.specs.Calls.{Looks, Peeks};
 
 use crate::Tree;
 use crate::bytes::Page;
 use crate::leaf::{entry_key_at, entry_value_at, leaf_count, next_at, rank};
-use crate::look::child_for;
+use crate::near::{Near, leaf_for};
 use page_pool::{PageFault, Pages};
 use sand_base::NoMemory;
 use std::alloc::Global;
 
-// Adds the entries of a leaf from one place to another.
-fn add_entries(
-    found: &mut Vec<(u128, u128)>,
-    page: &Page,
-    count: usize,
-    from: usize,
-    to: usize,
-) -> Result<(), NoMemory>
-    requires leaf { IsLeafOf page.now count }
-    requires within { to ≤ count }
-    ensures { OnOk result (found.new.items ≡ found.old.items ++ take (to - from) (drop from (entries_of (node_of page.now)))) }
+// Adds a pair; the first one of a list makes room for eight.
+fn add(found: &mut Vec<(u128, u128)>, pair: (u128, u128)) -> Result<(), NoMemory>
+    ensures { OnOk result (found.new.items ≡ found.old.items ++ pair ∷ []) }
 {
-    found.reserve(to.saturating_sub(from))?;
-    let mut at = from;
-    'entries: while at < to {
-        found.push_reserved((entry_key_at(page, at), entry_value_at(page, at)));
-        at += 1;
+    if found.is_empty() {
+        found.reserve(8)?;
     }
+    found.push(pair)?;
     Ok(())
 }
 
-// Takes the pairs of a leaf from `low` on and below `high`, and gives the leaf that follows; or 0, where an entry is
-// at `high` or behind it.
+// Takes the pairs of a leaf from `low` on and below `high`, and gives the leaf that follows; or 0, where an entry from
+// `low` on is at `high` or behind it.
 fn take_page(
     found: &mut Vec<(u128, u128)>,
     page: &Page,
@@ -49,10 +39,14 @@ fn take_page(
     ensures { IfOk result (λ next. Ascending (entries_of (node_of page.now)) → Takes (entries_of (node_of page.now)) (next_of (node_of page.now)) low high found.old.items found.new.items next) }
 {
     let from = rank(page, count, low);
-    let to = rank(page, count, high);
-    add_entries(found, page, count, from, to)?;
-    if to < count {
-        return Ok(0);
+    let mut at = from;
+    'entries: while at < count {
+        let key = entry_key_at(page, at);
+        if key >= high {
+            return Ok(0);
+        }
+        add(found, (key, entry_value_at(page, at)))?;
+        at += 1;
     }
     Ok(next_at(page))
 }
@@ -74,22 +68,6 @@ fn take_leaf<P: Pages>(
     };
     let next = take_page(found, page, count, low, high)?;
     Ok(next)
-}
-
-// The leaf under page `n` to which a key belongs: one get for each level above it.
-fn leaf_for<P: Pages>(pages: &mut P, level: u32, n: u64, key: u128) -> Result<u64, PageFault>
-    requires { IsTold (P.shown pages.old) → Subtree (pages_in (P.shown pages.old)) level n }
-    ensures value { IfOk result (λ leaf. IsTold (P.shown pages.old) → IsLeafFor (pages_in (P.shown pages.old)) level n key leaf) }
-    ensures peeks { Peeks (P.shown pages.old) (P.shown pages.new) level result }
-{
-    if level == 0 {
-        return Ok(n);
-    }
-    let Some(child) = child_for(pages, n, key)? else {
-        return Ok(0);
-    };
-    let leaf = leaf_for(pages, level - 1, child, key)?;
-    Ok(leaf)
 }
 
 // Takes the pairs of a range from a leaf on, one get for each leaf. A tree has no more leaves than entries.
@@ -133,11 +111,33 @@ impl Tree {
         ensures looks { Looks (P.shown pages.old) (P.shown pages.new) (self.now.height + self.now.entries) result }
         ensures price { IsTold (P.shown pages.old) → (P.shown pages.new).gets ≤ (P.shown pages.old).gets + (self.now.height + 1 + length (items_between low high (tree_items (pages_in (P.shown pages.old)) self.now)) / 63) }
     {
+        let mut near = Near::nowhere();
+        let found = self.between_near(alloc, pages, low, high, &mut near)?;
+        Ok(found)
+    }
+
+    /// The same pairs, with the leaf of the range before held in `near`, which has the leaf of this one afterwards. Where
+    /// they are one, the range takes no descent. What is held is worth nothing once the tree has changed.
+    pub fn between_near<P: Pages>(
+        &self,
+        alloc: Global,
+        pages: &mut P,
+        low: u128,
+        high: u128,
+        near: &mut Near,
+    ) -> Result<Vec<(u128, u128)>, PageFault>
+        requires tree { IsTold (P.shown pages.old) → IsTree (pages_in (P.shown pages.old)) self.now }
+        requires near { IsTold (P.shown pages.old) → IsNear (pages_in (P.shown pages.old)) self.now near.old }
+        ensures value { IfOk result (λ found. IsTold (P.shown pages.old) → found.items ≡ items_between low high (tree_items (pages_in (P.shown pages.old)) self.now)) }
+        ensures near { IsTold (P.shown pages.old) → IsNear (pages_in (P.shown pages.old)) self.now near.new }
+        ensures looks { Looks (P.shown pages.old) (P.shown pages.new) (self.now.height + self.now.entries) result }
+        ensures price { IsTold (P.shown pages.old) → (P.shown pages.new).gets ≤ (P.shown pages.old).gets + (self.now.height + 1 + length (items_between low high (tree_items (pages_in (P.shown pages.old)) self.now)) / 63) }
+    {
         if self.height == 0 {
             return Err(PageFault::Memory);
         }
         let mut found = Vec::new(alloc);
-        let leaf = leaf_for(pages, self.height - 1, self.root, low)?;
+        let leaf = leaf_for(pages, self.height - 1, self.root, low, near)?;
         let next = take_leaf(pages, leaf, low, high, &mut found)?;
         take_on(pages, *self, next, low, high, &mut found)?;
         Ok(found)

@@ -1,10 +1,11 @@
-ghost use Rattle.std.specs.Prelude.{◌≡◌, ◌+◌, ◌-◌, ◌*◌, ◌/◌, ◌%◌, ◌<◌, ◌≤◌, ◌≢◌, ◌∷◌, ◌++◌, [], length, take, drop, MatchOption};
+ghost use Rattle.std.specs.Prelude.{◌≡◌, ◌+◌, ◌-◌, ◌*◌, ◌/◌, ◌%◌, ◌<◌, ◌≤◌, ◌≢◌, ◌∷◌, ◌++◌, [], true, length, take, drop, IfSome, MatchOption};
 ghost use Rattle.code_btree.specs.Node.{IsInnerOf, key_in, child_in, keys_in, children_in, keys_of, children_of, node_of};
 ghost use Rattle.code_btree.specs.Node.Node.{inner};
 
 use crate::bytes::{
     Page, half_at, number_at, paste, put_half, put_number, put_word, splice, word_at,
 };
+use std::cmp::min;
 
 // The number of an inner page's keys; other bytes are no inner page.
 pub fn inner_count(page: &Page) -> Option<usize>
@@ -36,21 +37,65 @@ pub fn child_at(page: &Page, at: usize) -> u64
     word_at(page, 2736 + 8 * at)
 }
 
-// The place of the child under which a key belongs, by binary search.
+// Where an id, a key below 2^32, would belong if the keys stood at equal distances, as those between ids mostly do. A
+// greater key has no such place.
+fn guess(page: &Page, count: usize, key: u128) -> Option<usize>
+    requires { count ≤ 169 }
+    ensures { IfSome result (λ at. at ≤ count) }
+{
+    if count < 2 || key >= 1 << 32 {
+        return None;
+    }
+    let first = key_at(page, 0);
+    if key < first {
+        return Some(0);
+    }
+    let behind = key - first;
+    let distance = key_at(page, 1).saturating_sub(first);
+    if behind < distance {
+        return Some(1);
+    }
+    if distance == 0 {
+        return None;
+    }
+    let steps = behind as u64 / distance as u64;
+    Some(min(steps as usize + 1, count))
+}
+
+// Whether a key belongs under the child at this place.
+fn belongs_at(page: &Page, count: usize, at: usize, key: u128) -> bool
+    requires count { count ≤ 169 }
+    requires place { at ≤ count }
+    ensures before { result ≡ true → 1 ≤ at → key_in page.now (at - 1) ≤ key }
+    ensures behind { result ≡ true → at < count → key < key_in page.now at }
+{
+    if at > 0 && key_at(page, at - 1) > key {
+        return false;
+    }
+    at == count || key < key_at(page, at)
+}
+
+// The place of the child under which a key belongs. Where it isn't the one guessed, it is sought by steps of 128, 64
+// and so on to 1, each of which is taken where it passes keys up to this one alone.
 pub fn place_of(page: &Page, count: usize, key: u128) -> usize
     requires { count ≤ 169 }
     ensures bound { result ≤ count }
     ensures before { 1 ≤ result → key_in page.now (result - 1) ≤ key }
     ensures behind { result < count → key < key_in page.now result }
 {
+    if let Some(place) = guess(page, count, key)
+        && belongs_at(page, count, place, key)
+    {
+        return place;
+    }
     let mut low = 0;
-    let mut high = count;
-    'halves: while low < high {
-        let middle = low + (high - low) / 2;
-        if key_at(page, middle) <= key {
-            low = middle + 1;
-        } else {
-            high = middle;
+    let mut width = 256;
+    'steps: while width > 1 {
+        width /= 2;
+        let next = low + width;
+        let is_passed = key_at(page, min(next, 169) - 1) <= key;
+        if is_passed && next <= count {
+            low = next;
         }
     }
     low

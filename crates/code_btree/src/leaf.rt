@@ -1,4 +1,4 @@
-ghost use Rattle.std.specs.Prelude.{◌≡◌, ◌+◌, ◌-◌, ◌*◌, ◌/◌, ◌%◌, ◌<◌, ◌≤◌, ◌≢◌, ◌∷◌, ◌++◌, [], true, length, take, drop, MatchOption};
+ghost use Rattle.std.specs.Prelude.{◌≡◌, ◌+◌, ◌-◌, ◌*◌, ◌/◌, ◌%◌, ◌<◌, ◌≤◌, ◌≢◌, ◌∷◌, ◌++◌, [], true, length, take, drop, IfSome, MatchOption};
 ghost use Rattle.code_btree.specs.Node.{IsLeaf, IsLeafOf, entry_of, entry_key, entry_value, entries_in, entries_of, next_of, node_of};
 ghost use Rattle.code_btree.specs.Node.Node.{leaf};
 ghost use Rattle.code_btree.specs.Items.{Ascending, floor_item};
@@ -37,56 +37,56 @@ pub fn entry_value_at(page: &Page, at: usize) -> u128
     number_at(page, 48 + 32 * at)
 }
 
-// Where a key would stand if the keys were whole numbers in a row from the first one on, as ids mostly are.
-fn guess(page: &Page, count: usize, key: u128) -> usize
+// Where an id, a key below 2^32, would stand if the keys were whole numbers in a row from the first one on, as ids
+// mostly are. A greater key has no such place.
+fn guess(page: &Page, count: usize, key: u128) -> Option<usize>
     requires { count ≤ 127 }
-    ensures { result ≤ count }
+    ensures { IfSome result (λ at. at < count) }
 {
-    if count == 0 {
-        return 0;
+    if count == 0 || key >= 1 << 32 {
+        return None;
     }
     let steps = key.saturating_sub(entry_key_at(page, 0));
-    if steps < count as u128 {
-        return steps as usize;
+    if steps >= count as u128 {
+        return None;
     }
-    count
+    Some(steps as usize)
 }
 
 // Whether the key stands at this place and the one before it is less.
-fn stands_at(page: &Page, count: usize, at: usize, key: u128) -> bool
-    requires { count ≤ 127 }
-    ensures within { result ≡ true → at < count }
+fn stands_at(page: &Page, at: usize, key: u128) -> bool
+    requires { at < 127 }
     ensures before { result ≡ true → 1 ≤ at → entry_key page.now (at - 1) < key }
     ensures here { result ≡ true → entry_key page.now at ≡ key }
 {
-    if at >= count {
-        return false;
-    }
     if entry_key_at(page, at) != key {
         return false;
     }
     at == 0 || entry_key_at(page, at - 1) < key
 }
 
-// Where a key stands or would stand, by binary search where it isn't at the place guessed.
+// Where a key stands or would stand. Where it isn't at the place guessed, it is sought by steps of 64, 32 and so on to
+// 1, each of which is taken where it passes lesser keys alone. A step chooses between two numbers and not between two
+// ways, since a processor could foretell no way of a search.
 pub fn rank(page: &Page, count: usize, key: u128) -> usize
     requires { count ≤ 127 }
     ensures bound { result ≤ count }
     ensures before { 1 ≤ result → entry_key page.now (result - 1) < key }
     ensures behind { result < count → key ≤ entry_key page.now result }
 {
-    let place = guess(page, count, key);
-    if stands_at(page, count, place, key) {
+    if let Some(place) = guess(page, count, key)
+        && stands_at(page, place, key)
+    {
         return place;
     }
     let mut low = 0;
-    let mut high = count;
-    'halves: while low < high {
-        let middle = low + (high - low) / 2;
-        if entry_key_at(page, middle) < key {
-            low = middle + 1;
-        } else {
-            high = middle;
+    let mut width = 128;
+    'steps: while width > 1 {
+        width /= 2;
+        let next = low + width;
+        let is_less = entry_key_at(page, next - 1) < key;
+        if is_less && next <= count {
+            low = next;
         }
     }
     low

@@ -21,6 +21,7 @@ mod leaf;
 mod leaf_run;
 mod look;
 mod map;
+mod near;
 mod remove;
 mod split;
 mod steps;
@@ -28,4 +29,5 @@ mod store;
 
 pub use leaf_run::{Entry, PageRun, page_run};
 pub use map::Tree;
+pub use near::Near;
 pub use steps::Run;

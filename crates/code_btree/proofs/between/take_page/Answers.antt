@@ -1,18 +1,29 @@
--- the entries between the places of the two keys
-use Rattle.code_btree.specs.Node.{node_of, next_of}
-use Rattle.code_btree.proofs.Betweens.{takes_inside, takes_on}
+-- pair by pair, up to the first one behind the range
+use Rattle.std.proofs.Common.{◌≡◌, ℕ, ◌+◌, ◌-◌, ap, refl, arith}
+use Rattle.code_btree.specs.Node.{node_of, next_of, entry_key}
+use Rattle.code_btree.proofs.Betweens.{take_step, takes_inside, takes_on}
 use Rattle.code_btree.proofs.between.take_page.Goals as goal
 
-pub returns-then-to-count : goal.returns-then-to-count
-returns-then-to-count c = λ asc.
-    takes_inside c.args.page.now c.args.count c.rank-from.result c.rank-to.result c.args.low c.args.high (next_of (node_of c.args.page.now)) c.args.found.now.items _ c.requires
+pub entries-init : goal.entries-init
+entries-init c = record { within = c.rank-from.ensures.bound; before = λ l. absurd (omega (arith, l)); taken = refl }
+
+pub entries-preserved : goal.entries-preserved
+entries-preserved c = record {
+  within = omega (arith, c.entries-test.true);
+  before = λ l.
+      let here : (c.entries.at + 1) - 1 ≡ c.entries.at = omega arith in
+      omega (arith, ap (λ (i : ℕ). entry_key c.args.page.now i) here, c.entry_key_at-key.ensures, c.if-key-high.false);
+  taken = take_step c.args.page.now c.args.count c.entries.at c.args.high c.entries.found.items _ _ c.entry_key_at-key.result c.entry_value_at.result c.requires c.entries-test.true c.entry_key_at-key.ensures c.entry_value_at.ensures c.if-key-high.false c.in_ok-add.ensures c.entries.invariant.taken;
+}
+
+pub returns-then-key-high : goal.returns-then-key-high
+returns-then-key-high c = λ asc.
+    takes_inside c.args.page.now c.args.count c.rank-from.result c.entries.at c.args.low c.args.high (next_of (node_of c.args.page.now)) c.args.found.now.items _ c.requires
     (record { place = c.rank-from.ensures.bound; before = c.rank-from.ensures.before; behind = c.rank-from.ensures.behind })
-    (record { place = c.rank-to.ensures.bound; before = c.rank-to.ensures.before; behind = c.rank-to.ensures.behind })
-    c.if-to-count.true c.in_ok-add_entries.ensures asc
+    c.entries-test.true (omega (arith, c.entry_key_at-key.ensures, c.if-key-high.true)) c.entries.invariant.taken asc
 
 pub returns : goal.returns
 returns c = λ asc.
-    takes_on c.args.page.now c.args.count c.rank-from.result c.rank-to.result c.args.low c.args.high (next_of (node_of c.args.page.now)) c.next_at.result c.args.found.now.items _ c.requires
+    takes_on c.args.page.now c.args.count c.rank-from.result c.entries.at c.args.low c.args.high (next_of (node_of c.args.page.now)) c.next_at.result c.args.found.now.items _ c.requires
     (record { place = c.rank-from.ensures.bound; before = c.rank-from.ensures.before; behind = c.rank-from.ensures.behind })
-    (record { place = c.rank-to.ensures.bound; before = c.rank-to.ensures.before; behind = c.rank-to.ensures.behind })
-    c.if-to-count.false (c.next_at.ensures c.requires.is_leaf) c.in_ok-add_entries.ensures asc
+    c.entries-test.false c.entries.invariant.within c.entries.invariant.before (c.next_at.ensures c.requires.is_leaf) c.entries.invariant.taken asc

@@ -7,10 +7,10 @@ use Rattle.code_btree.specs.Between.{items_between, IsTakenIn, IsRest}
 use Rattle.code_btree.proofs.Stores.{same_store}
 use Rattle.code_btree.proofs.Roots.{subtree_of}
 use Rattle.code_btree.proofs.Betweens.{first_taken, price_all}
-use Rattle.code_btree.proofs.map.Tree.between.Goals as goal
+use Rattle.code_btree.proofs.map.Tree.between_near.Goals as goal
 
-pub leaf_for-requires : goal.leaf_for-requires
-leaf_for-requires g c = λ told. subtree_of (pages_in (g.P.Pages.shown c.args.pages.now)) (c.args.self.now.height - 1) c.args.self.now.root c.args.self.now.entries (c.requires told).at
+pub leaf_for-requires-clause-tree : goal.leaf_for-requires-clause-tree
+leaf_for-requires-clause-tree g c = λ told. subtree_of (pages_in (g.P.Pages.shown c.args.pages.now)) (c.args.self.now.height - 1) c.args.self.now.root c.args.self.now.entries (c.requires.tree told).at
 
 pub take_on-requires : goal.take_on-requires
 take_on-requires g c = λ told.
@@ -20,7 +20,7 @@ take_on-requires g c = λ told.
     let T : Store → Type 0 = λ x. IsTree x c.args.self.now in
     let r = c.in_ok-leaf.ensures.peeks.read in
     let s = c.in_ok-next.ensures.looks.read in
-    subst T (sym (same_store d b s.pages ∙ same_store b a r.pages)) (c.requires (sym r.told ∙ (sym s.told ∙ told)))
+    subst T (sym (same_store d b s.pages ∙ same_store b a r.pages)) (c.requires.tree (sym r.told ∙ (sym s.told ∙ told)))
 
 pub returns-in_err-take_on-clause-price : goal.returns-in_err-take_on-clause-price
 returns-in_err-take_on-clause-price g c = λ told.
@@ -31,7 +31,7 @@ returns-in_err-take_on-clause-price g c = λ told.
     let r = c.in_ok-leaf.ensures.peeks.read in
     let s = c.in_ok-next.ensures.looks.read in
     let W : Store → Type 0 = λ x. IsTakenIn x c.in_ok-leaf.leaf c.args.low c.args.high c.new-found.result.items c.take_leaf.new.found.items c.in_ok-next.next in
-    let f = first_taken (pages_in a) c.args.self.now c.args.low c.args.high c.in_ok-leaf.leaf c.in_ok-next.next c.new-found.result.items c.take_leaf.new.found.items (c.requires told) (c.in_ok-leaf.ensures.value told)
+    let f = first_taken (pages_in a) c.args.self.now c.args.low c.args.high c.in_ok-leaf.leaf c.in_ok-next.next c.new-found.result.items c.take_leaf.new.found.items (c.requires.tree told) (c.in_ok-leaf.ensures.value told)
     (subst W (same_store b a r.pages) (c.in_ok-next.ensures.value (r.told ∙ told))) in
     let R : Store → Type 0 = λ x. IsRest x c.args.self.now c.args.low c.args.high c.in_ok-next.next c.args.self.now.entries f.rest in
     let p = c.in_err-take_on.ensures.price (s.told ∙ (r.told ∙ told)) f.rest (subst R (sym (same_store d b s.pages ∙ same_store b a r.pages)) f.is) in
@@ -45,7 +45,7 @@ returns-clause-value g c = λ told.
     let r = c.in_ok-leaf.ensures.peeks.read in
     let s = c.in_ok-next.ensures.looks.read in
     let W : Store → Type 0 = λ x. IsTakenIn x c.in_ok-leaf.leaf c.args.low c.args.high c.new-found.result.items c.take_leaf.new.found.items c.in_ok-next.next in
-    let f = first_taken (pages_in a) c.args.self.now c.args.low c.args.high c.in_ok-leaf.leaf c.in_ok-next.next c.new-found.result.items c.take_leaf.new.found.items (c.requires told) (c.in_ok-leaf.ensures.value told)
+    let f = first_taken (pages_in a) c.args.self.now c.args.low c.args.high c.in_ok-leaf.leaf c.in_ok-next.next c.new-found.result.items c.take_leaf.new.found.items (c.requires.tree told) (c.in_ok-leaf.ensures.value told)
     (subst W (same_store b a r.pages) (c.in_ok-next.ensures.value (r.told ∙ told))) in
     let R : Store → Type 0 = λ x. IsRest x c.args.self.now c.args.low c.args.high c.in_ok-next.next c.args.self.now.entries f.rest in
     let v = c.in_ok-take_on.ensures.value (s.told ∙ (r.told ∙ told)) f.rest (subst R (sym (same_store d b s.pages ∙ same_store b a r.pages)) f.is) in
@@ -60,7 +60,7 @@ returns-clause-price g c = λ told.
     let r = c.in_ok-leaf.ensures.peeks.read in
     let s = c.in_ok-next.ensures.looks.read in
     let W : Store → Type 0 = λ x. IsTakenIn x c.in_ok-leaf.leaf c.args.low c.args.high c.new-found.result.items c.take_leaf.new.found.items c.in_ok-next.next in
-    let f = first_taken (pages_in a) c.args.self.now c.args.low c.args.high c.in_ok-leaf.leaf c.in_ok-next.next c.new-found.result.items c.take_leaf.new.found.items (c.requires told) (c.in_ok-leaf.ensures.value told)
+    let f = first_taken (pages_in a) c.args.self.now c.args.low c.args.high c.in_ok-leaf.leaf c.in_ok-next.next c.new-found.result.items c.take_leaf.new.found.items (c.requires.tree told) (c.in_ok-leaf.ensures.value told)
     (subst W (same_store b a r.pages) (c.in_ok-next.ensures.value (r.told ∙ told))) in
     let R : Store → Type 0 = λ x. IsRest x c.args.self.now c.args.low c.args.high c.in_ok-next.next c.args.self.now.entries f.rest in
     let p = c.in_ok-take_on.ensures.price (s.told ∙ (r.told ∙ told)) f.rest (subst R (sym (same_store d b s.pages ∙ same_store b a r.pages)) f.is) in

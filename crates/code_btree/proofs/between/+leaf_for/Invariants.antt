@@ -1,5 +1,0 @@
--- one level lower each time
-use Rattle.code_btree.proofs.between.+leaf_for.Given as goal
-
-abbrev pub decreases-leaf_for : goal.decreases-leaf_for
-decreases-leaf_for g l = l.level

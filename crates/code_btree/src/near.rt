@@ -1,0 +1,134 @@
+ghost use Rattle.std.specs.Prelude.{◌≡◌, ℕ, ◌-◌, ◌<◌, ◌≤◌, IfOk};
+ghost use Rattle.page_pool.specs.Pool.{IsTold};
+ghost use Rattle.code_btree.specs.Node.{key_in};
+ghost use Rattle.code_btree.specs.Tree.{Store, pages_in};
+ghost use Rattle.code_btree.specs.Steps.{Subtree};
+ghost use Rattle.code_btree.specs.Between.{IsLeafFor};
+ghost use Rattle.code_btree.specs.Near.{IsNearUnder, LeadsNear, IsFoundNear};
+ghost use Rattle.code_btree.specs.Calls.{Looks, Peeks};
+
+use crate::bytes::Page;
+use crate::inner::{child_at, inner_count, key_at, place_of};
+use page_pool::{PageFault, Pages};
+
+/// A page of a tree, and the keys that belong under it: those from `low` on and below `high`. Held from one range to
+/// the next, it is the leaf at which the one before began, and a range that begins with such a key needs no descent.
+#[derive(Clone, Copy, Debug)]
+pub struct Near {
+    page: u64,
+    low: u128,
+    high: u128,
+}
+
+impl Near {
+    ghost use Rattle.code_btree.specs.Tree.{Store};
+    ghost use Rattle.code_btree.specs.declared.map.Tree.{Tree};
+    ghost use Rattle.code_btree.specs.Near.{IsNear};
+
+    /// No page: no key belongs to it.
+    pub fn nowhere() -> Near
+        ensures { (m : Store) (t : Tree) → IsNear m t result }
+    {
+        Near {
+            page: 0,
+            low: 1,
+            high: 0,
+        }
+    }
+
+    // The page, with those of its keys alone that belong to this part as well.
+    fn within(self, part: Near) -> Near
+        ensures page { result.page ≡ self.page }
+        ensures low { self.low ≤ result.low }
+        ensures part_low { part.low ≤ result.low }
+        ensures high { result.high ≤ self.high }
+        ensures part_high { result.high ≤ part.high }
+    {
+        Near {
+            page: self.page,
+            low: self.low.max(part.low),
+            high: self.high.min(part.high),
+        }
+    }
+}
+
+// The least key under the child at this place, as far as the separator before it tells.
+fn low_at(page: &Page, at: usize) -> u128
+    requires { at ≤ 169 }
+    ensures { 1 ≤ at → key_in page.now (at - 1) ≤ result }
+{
+    if at == 0 {
+        return 0;
+    }
+    key_at(page, at - 1)
+}
+
+// The key below which all keys under the child at this place stay, as far as the separator behind it tells.
+fn high_at(page: &Page, count: usize, at: usize) -> u128
+    requires { count ≤ 169 }
+    ensures { at < count → result ≤ key_in page.now at }
+{
+    if at >= count {
+        return u128::MAX;
+    }
+    key_at(page, at)
+}
+
+// The child of page `n` under which a key belongs, with the keys that belong there: one get.
+fn part_for<P: Pages>(pages: &mut P, n: u64, key: u128) -> Result<Option<Near>, PageFault>
+    ensures value { IfOk result (λ part. IsTold (P.shown pages.old) → LeadsNear (pages_in (P.shown pages.old)) n key part) }
+    ensures looks { Looks (P.shown pages.old) (P.shown pages.new) 1 result }
+{
+    let page = pages.live_page(n)?;
+    let Some(count) = inner_count(page) else {
+        return Ok(None);
+    };
+    let at = place_of(page, count, key);
+    Ok(Some(Near {
+        page: child_at(page, at),
+        low: low_at(page, at),
+        high: high_at(page, count, at),
+    }))
+}
+
+// The leaf under page `n` to which a key belongs, and what other keys do: one get for each level above it.
+fn leaf_near<P: Pages>(pages: &mut P, level: u32, n: u64, key: u128) -> Result<Near, PageFault>
+    requires { IsTold (P.shown pages.old) → Subtree (pages_in (P.shown pages.old)) level n }
+    ensures value { IfOk result (λ near. IsTold (P.shown pages.old) → IsFoundNear (pages_in (P.shown pages.old)) level n key near) }
+    ensures peeks { Peeks (P.shown pages.old) (P.shown pages.new) level result }
+{
+    if level == 0 {
+        return Ok(Near {
+            page: n,
+            low: 0,
+            high: u128::MAX,
+        });
+    }
+    let Some(part) = part_for(pages, n, key)? else {
+        return Ok(Near::nowhere());
+    };
+    let leaf = leaf_near(pages, level - 1, part.page, key)?;
+    Ok(leaf.within(part))
+}
+
+/// The leaf under page `n` to which a key belongs: the one that is held, or else the one found by a descent, which is
+/// held from then on.
+pub fn leaf_for<P: Pages>(
+    pages: &mut P,
+    level: u32,
+    n: u64,
+    key: u128,
+    near: &mut Near,
+) -> Result<u64, PageFault>
+    requires tree { IsTold (P.shown pages.old) → Subtree (pages_in (P.shown pages.old)) level n }
+    requires near { IsTold (P.shown pages.old) → IsNearUnder (pages_in (P.shown pages.old)) level n near.old }
+    ensures value { IfOk result (λ leaf. IsTold (P.shown pages.old) → IsLeafFor (pages_in (P.shown pages.old)) level n key leaf) }
+    ensures near { IsTold (P.shown pages.old) → IsNearUnder (pages_in (P.shown pages.old)) level n near.new }
+    ensures peeks { Peeks (P.shown pages.old) (P.shown pages.new) level result }
+{
+    if near.low <= key && key < near.high {
+        return Ok(near.page);
+    }
+    *near = leaf_near(pages, level, n, key)?;
+    Ok(near.page)
+}
