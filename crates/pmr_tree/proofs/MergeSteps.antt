@@ -1,5 +1,5 @@
 -- Four leaves become one, where they have too few ids together; and an inner place whose children have shrunk.
-use Rattle.std.proofs.Common.{◌≡◌, ℕ, ◌<◌, ◌≤◌, Bool, true, false, cond, List, [], ◌∷◌, ◌++◌, length, get_or, refl, sym, ◌∙◌, ap, ap₂, subst, arith}
+use Rattle.std.proofs.Common.{◌≡◌, ℕ, ◌<◌, ◌≤◌, Bool, true, false, cond, List, [], ◌∷◌, ◌++◌, length, get_or, refl, sym, ◌∙◌, ap, subst, inl, inr, arith}
 use Rattle.std.specs.Prelude.{nat_lt}
 use Rattle.std.proofs.lemmas.Bool.Decides.{nat_tests}
 use Rattle.z_code.specs.Block.{child, children_of}
@@ -9,6 +9,7 @@ use Rattle.pmr_tree.specs.Lists.{Each, Rises, put_all, take_all}
 use Rattle.pmr_tree.specs.Keys.{leaf_keys, keys, own, IsId, IsShaped, Reads}
 use Rattle.pmr_tree.specs.Changes.{Stands, Becomes, merging, below_shrunk, shrunk_where}
 use Rattle.pmr_tree.specs.Leaves.{IsLeafOf, ids_of}
+use Rattle.pmr_tree.specs.Parts.{HasInner}
 use Rattle.pmr_tree.specs.declared.leaf.Kept.{Kept}
 use Rattle.pmr_tree.proofs.Orders.{take_all_append}
 use Rattle.pmr_tree.proofs.KeyLists.{Parts, reads_children, own_leaf, own_inner}
@@ -50,21 +51,14 @@ kept_inner n b k0 k1 stands none h same = subst (Becomes b (merging n) k0) (sym 
   here (Leaf ids) r = absurd (leaf_no b k0 ids r none)
   here (Inner p q r s) read = sym (h p q r s (reads_children b k0 p q r s read))
 
-pub first_inner : (n : ℕ) (b : Block) (cs : List Block) (d : Block) (k0 k1 : List ℕ) → cs ≡ children_of b → Stands b k0 → own b k0 ≡ [] → own (get_or cs 0 d) k0 ≡ [] → k1 ≡ k0 → Becomes b (merging n) k0 k1
-first_inner n b cs d k0 k1 is stands none inner same =
-    kept_inner n b k0 k1 stands none (λ p q r s parts. merged_first n (child b 0) k0 p q r s parts.first (at_child b cs 0 d (λ x. own x k0 ≡ []) is inner)) same
-
-pub second_inner : (n : ℕ) (b : Block) (cs : List Block) (d : Block) (k0 k1 : List ℕ) → cs ≡ children_of b → Stands b k0 → own b k0 ≡ [] → own (get_or cs 1 d) k0 ≡ [] → k1 ≡ k0 → Becomes b (merging n) k0 k1
-second_inner n b cs d k0 k1 is stands none inner same =
-    kept_inner n b k0 k1 stands none (λ p q r s parts. merged_second n (child b 1) k0 p q r s parts.second (at_child b cs 1 d (λ x. own x k0 ≡ []) is inner)) same
-
-pub third_inner : (n : ℕ) (b : Block) (cs : List Block) (d : Block) (k0 k1 : List ℕ) → cs ≡ children_of b → Stands b k0 → own b k0 ≡ [] → own (get_or cs 2 d) k0 ≡ [] → k1 ≡ k0 → Becomes b (merging n) k0 k1
-third_inner n b cs d k0 k1 is stands none inner same =
-    kept_inner n b k0 k1 stands none (λ p q r s parts. merged_third n (child b 2) k0 p q r s parts.third (at_child b cs 2 d (λ x. own x k0 ≡ []) is inner)) same
-
-pub fourth_inner : (n : ℕ) (b : Block) (cs : List Block) (d : Block) (k0 k1 : List ℕ) → cs ≡ children_of b → Stands b k0 → own b k0 ≡ [] → own (get_or cs 3 d) k0 ≡ [] → k1 ≡ k0 → Becomes b (merging n) k0 k1
-fourth_inner n b cs d k0 k1 is stands none inner same =
-    kept_inner n b k0 k1 stands none (λ p q r s parts. merged_fourth n (child b 3) k0 p q r s parts.fourth (at_child b cs 3 d (λ x. own x k0 ≡ []) is inner)) same
+-- nothing is merged where one of the children is an inner place
+pub some_inner : (n : ℕ) (b : Block) (k0 k1 : List ℕ) → Stands b k0 → own b k0 ≡ [] → HasInner b k0 → k1 ≡ k0 → Becomes b (merging n) k0 k1
+some_inner n b k0 k1 stands none inner same = kept_inner n b k0 k1 stands none (λ p q r s parts. apart p q r s parts inner) same where
+  apart : (p q r s : Tree) → Parts b k0 p q r s → HasInner b k0 → merged n p q r s ≡ Inner p q r s
+  apart p q r s parts (inl h) = merged_first n (child b 0) k0 p q r s parts.first h
+  apart p q r s parts (inr (inl h)) = merged_second n (child b 1) k0 p q r s parts.second h
+  apart p q r s parts (inr (inr (inl h))) = merged_third n (child b 2) k0 p q r s parts.third h
+  apart p q r s parts (inr (inr (inr h))) = merged_fourth n (child b 3) k0 p q r s parts.fourth h
 
 -- the four leaves of a place
 pub record Four (b : Block) (ks p q r s : List ℕ) : Type 0 where
@@ -72,15 +66,6 @@ pub record Four (b : Block) (ks p q r s : List ℕ) : Type 0 where
   pub second : IsLeafOf (child b 1) ks q
   pub third : IsLeafOf (child b 2) ks r
   pub fourth : IsLeafOf (child b 3) ks s
-
-pub four_leaves : (b : Block) (cs : List Block) (d0 d1 d2 d3 : Block) (ks p q r s : List ℕ) → cs ≡ children_of b
-    → IsLeafOf (get_or cs 0 d0) ks p → IsLeafOf (get_or cs 1 d1) ks q → IsLeafOf (get_or cs 2 d2) ks r → IsLeafOf (get_or cs 3 d3) ks s → Four b ks p q r s
-four_leaves b cs d0 d1 d2 d3 ks p q r s is a c d e = record {
-  first = at_child b cs 0 d0 (λ x. IsLeafOf x ks p) is a;
-  second = at_child b cs 1 d1 (λ x. IsLeafOf x ks q) is c;
-  third = at_child b cs 2 d2 (λ x. IsLeafOf x ks r) is d;
-  fourth = at_child b cs 3 d3 (λ x. IsLeafOf x ks s) is e;
-}
 
 inner_same : (p q r s p' q' r' s' : Tree) → p ≡ p' → q ≡ q' → r ≡ r' → s ≡ s' → Inner p q r s ≡ Inner p' q' r' s'
 inner_same p q r s p' q' r' s' a b c d = cc
@@ -158,13 +143,9 @@ take_four b cs d0 d1 d2 d3 d k0 k1 k2 k3 k4 k5 p q r s all is e0 e1 e2 e3 e4 =
     let f3 = at_child b cs 3 d3 (λ x. k4 ≡ take_all (leaf_keys x s) k3) is e3 in
     e4 ∙ ap (put_all (leaf_keys b all)) (f3 ∙ ap (take_all (leaf_keys (child b 3) s)) (f2 ∙ ap (take_all (leaf_keys (child b 2) r)) (f1 ∙ ap (take_all (leaf_keys (child b 1) q)) f0)))
 
--- the keys after one leaf took the place of four, by the lists that were read
-pub replaced : (b : Block) (k0 k4 k5 : List ℕ) (p p' q q' r r' s s' all all' : List Kept) → p' ≡ p → q' ≡ q → r' ≡ r → s' ≡ s → all' ≡ all → k4 ≡ k0
-    → k5 ≡ put_all (leaf_keys b (ids_of all')) (take_all (leaf_keys (child b 3) (ids_of s')) (take_all (leaf_keys (child b 2) (ids_of r')) (take_all (leaf_keys (child b 1) (ids_of q')) (take_all (leaf_keys (child b 0) (ids_of p')) k4))))
-    → k5 ≡ put_all (leaf_keys b (ids_of all)) (take_all (leaf_keys (child b 3) (ids_of s)) (take_all (leaf_keys (child b 2) (ids_of r)) (take_all (leaf_keys (child b 1) (ids_of q)) (take_all (leaf_keys (child b 0) (ids_of p)) k0))))
-replaced b k0 k4 k5 p p' q q' r r' s s' all all' ep eq er es ea ek e =
-    e ∙ ap₂ (λ x y. put_all (leaf_keys b (ids_of x)) y) ea (ap₂ (λ x y. take_all (leaf_keys (child b 3) (ids_of x)) y) es (ap₂ (λ x y. take_all (leaf_keys (child b 2) (ids_of x)) y) er
-    (ap₂ (λ x y. take_all (leaf_keys (child b 1) (ids_of x)) y) eq (ap₂ (λ x y. take_all (leaf_keys (child b 0) (ids_of x)) y) ep ek))))
+-- the keys without those of a leaf, by the list that was read
+pub cleared : (b : Block) (k0 k1 : List ℕ) (list read : List Kept) → read ≡ list → k1 ≡ take_all (leaf_keys b (ids_of read)) k0 → k1 ≡ take_all (leaf_keys b (ids_of list)) k0
+cleared b k0 k1 list read is e = e ∙ ap (λ x. take_all (leaf_keys b (ids_of x)) k0) is
 
 -- an inner place whose children have changed is one still
 pub still_inner : (b : Block) (f : Tree → Tree) (g h k l : Tree → Tree) (k0 k1 : List ℕ) → ((p q r s : Tree) → f (Inner p q r s) ≡ Inner (g p) (h q) (k r) (l s)) → Stands b k0 → own b k0 ≡ [] → Becomes b f k0 k1 → own b k1 ≡ []

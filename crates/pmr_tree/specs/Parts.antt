@@ -1,13 +1,14 @@
 -- The ids of a leaf, parted among the four children of its block.
-use Rattle.std.specs.Prelude.{◌≡◌, ◌↔◌, IsTrue, ℕ, Bool, cond, List, [], ◌∷◌, ◌++◌, filter}
+use Rattle.std.specs.Prelude.{◌≡◌, ◌↔◌, ◌⊎◌, IsTrue, ℕ, Bool, cond, List, [], ◌∷◌, ◌++◌, filter}
 use Rattle.sand_base.specs.declared.goal.Goal.TheVariants as figure
 use Rattle.sand_base.specs.declared.shape.Shape.{Shape}
 use Rattle.z_code.specs.Block.{child, square_of}
 use Rattle.z_code.specs.declared.block.Block.{Block}
 use Rattle.sand_model.specs.FigureGap.{IsMeeting}
-use Rattle.pmr_tree.specs.Lists.{put_all}
-use Rattle.pmr_tree.specs.Keys.{leaf_keys}
-use Rattle.pmr_tree.specs.Leaves.{ListPasses, ids_of}
+use Rattle.pmr_tree.specs.Lists.{put_all, take_all}
+use Rattle.sand_model.specs.Tree.{union}
+use Rattle.pmr_tree.specs.Keys.{leaf_keys, own}
+use Rattle.pmr_tree.specs.Leaves.{ListPasses, ids_of, IsLeafOf}
 use Rattle.pmr_tree.specs.declared.leaf.Kept.{Kept}
 use Rattle.pmr_tree.specs.declared.part.QuartersMet.{QuartersMet}
 use Rattle.pmr_tree.specs.declared.part.Parts.{Parts}
@@ -58,3 +59,26 @@ with_parts b parts ks =
     (put_all (leaf_keys (child b 2) (ids_of parts.third.items))
     (put_all (leaf_keys (child b 1) (ids_of parts.second.items))
     (put_all (leaf_keys (child b 0) (ids_of parts.first.items)) ks)))
+
+-- keys without those of four leaves, the children of a block with the ids of their parts
+abbrev pub without_parts : Block → Parts → List ℕ → List ℕ
+without_parts b parts ks =
+    take_all (leaf_keys (child b 3) (ids_of parts.fourth.items))
+    (take_all (leaf_keys (child b 2) (ids_of parts.third.items))
+    (take_all (leaf_keys (child b 1) (ids_of parts.second.items))
+    (take_all (leaf_keys (child b 0) (ids_of parts.first.items)) ks)))
+
+-- the four children of a block are leaves with these ids
+pub record AreLeaves (b : Block) (ks : List ℕ) (parts : Parts) : Type 0 where
+  pub first : IsLeafOf (child b 0) ks (ids_of parts.first.items)
+  pub second : IsLeafOf (child b 1) ks (ids_of parts.second.items)
+  pub third : IsLeafOf (child b 2) ks (ids_of parts.third.items)
+  pub fourth : IsLeafOf (child b 3) ks (ids_of parts.fourth.items)
+
+-- one of the four children of a block has no keys of its own
+abbrev pub HasInner : Block → List ℕ → Type 0
+HasInner b ks = (own (child b 0) ks ≡ []) ⊎ ((own (child b 1) ks ≡ []) ⊎ ((own (child b 2) ks ≡ []) ⊎ (own (child b 3) ks ≡ [])))
+
+-- the ids of the four parts together
+abbrev pub ids_together : Parts → List ℕ
+ids_together parts = union (ids_of parts.first.items) (union (ids_of parts.second.items) (union (ids_of parts.third.items) (union (ids_of parts.fourth.items) [])))

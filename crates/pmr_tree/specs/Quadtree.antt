@@ -3,6 +3,8 @@ use Rattle.std.specs.Prelude.{◌≡◌, ℕ, zero, suc, List, [], ◌∷◌, ma
 use Rattle.std.specs.FinMap as fin
 use Rattle.page_pool.specs.Disk.{PageMap}
 use Rattle.code_btree.specs.Tree.{Store, IsTree, tree_items, tree_pages}
+use Rattle.code_btree.specs.Near.{IsNear}
+use Rattle.code_btree.specs.declared.near.Near.{Near}
 use Rattle.sand_base.specs.declared.TheConstants.{COORDINATE_BITS}
 use Rattle.sand_base.specs.declared.shape.Shape.{Shape}
 use Rattle.z_code.specs.Block.{child}
@@ -81,3 +83,7 @@ IsListedWhereMet tree id s = (gap : Measure) → IsMeasure gap → ListsWhere (m
 -- the block is a place of the tree
 abbrev pub HasPlace : Tree → Block → Type 0
 HasPlace tree b = (place : Tree) × IsPlace tree b place
+
+-- what is held between two looks is right: the page with the entries of the last one, and the keys that belong there
+abbrev pub IsNearIn : PageMap → Pmr → Near → Type 0
+IsNearIn pages t near = IsNear (store_of pages) t.map near

@@ -35,14 +35,14 @@ pub fn id_in(key: u128) -> u32
 fn kept_of(alloc: Global, pairs: &[(u128, u128)]) -> Result<Vec<Kept>, AllocError>
     ensures { IfOk result (λ list. list.items ≡ kept_of pairs.now) }
 {
-    pairs
-        .iter()
-        .map(|pair| Kept {
-            id: id_in(pair.0),
-            value: pair.1,
-        })
-        .filter(|kept| kept.id != 0)
-        .collect(alloc)
+    let mut list = Vec::with_capacity(alloc, pairs.len())?;
+    'pairs: for pair in pairs {
+        let id = id_in(pair.0);
+        if id != 0 {
+            list.push_reserved(Kept { id, value: pair.1 });
+        }
+    }
+    Ok(list)
 }
 
 // The ids of the entries of a leaf, or None where there is no entry.

@@ -33,6 +33,7 @@ mod start;
 mod union;
 mod value;
 
+pub use code_btree::Near;
 pub use fault::PmrFault;
 use ground::Ground;
 use leaf::Kept;

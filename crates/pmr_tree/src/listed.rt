@@ -55,14 +55,17 @@ pub enum Node {
 fn listed_in(alloc: Global, pairs: &[(u128, u128)]) -> Result<Vec<Listed>, AllocError>
     ensures { IfOk result (λ list. list.items ≡ listed_in pairs.now) }
 {
-    pairs
-        .iter()
-        .map(|pair| Listed {
-            id: id_in(pair.0),
-            rough: rough_of(pair.1),
-        })
-        .filter(|listed| listed.id != 0)
-        .collect(alloc)
+    let mut list = Vec::with_capacity(alloc, pairs.len())?;
+    'pairs: for pair in pairs {
+        let id = id_in(pair.0);
+        if id != 0 {
+            list.push_reserved(Listed {
+                id,
+                rough: rough_of(pair.1),
+            });
+        }
+    }
+    Ok(list)
 }
 
 // The place of a block whose own entries these are. A block of the finest level is a leaf in any case.

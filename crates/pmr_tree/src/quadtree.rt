@@ -13,7 +13,7 @@ ghost use Rattle.page_pool.specs.Reads.{IsRead};
 ghost use Rattle.page_pool.specs.Causes.{HasPageCause};
 ghost use Rattle.page_pool.specs.Steps.{InCommand};
 ghost use Rattle.code_btree.specs.Tree.{times};
-ghost use Rattle.pmr_tree.specs.Quadtree.{pages_at, tree_at, IsPmr, FitsOthers, IsListedWhereMet, HasPlace};
+ghost use Rattle.pmr_tree.specs.Quadtree.{pages_at, tree_at, IsPmr, FitsOthers, IsListedWhereMet, HasPlace, IsNearIn};
 ghost use Rattle.pmr_tree.specs.Calls.{HasPmrCause, Plants, Grows, Shrinks, Finds, HasRoughs, IsFoundInRange, IsWithinPrice, GetsSome, NotesVisit};
 ghost use Rattle.pmr_tree.specs.declared.fault.PmrFault.TheVariants.{IndexFull};
 ghost use Rattle.pmr_tree.specs.declared.listed.Node.TheVariants as node;
@@ -23,7 +23,7 @@ use crate::code_leaf::{block_with, last_key, level_in};
 use crate::listed::{ids_at, node_in};
 use crate::range::own_entries;
 use crate::{Node, PmrFault, ShapeOf};
-use code_btree::Tree;
+use code_btree::{Near, Tree};
 use page_pool::{Desk, Disk, PageFault, Pages, Pool};
 use sand_base::{Ids, Shape, Visit};
 use std::alloc::Global;
@@ -143,9 +143,38 @@ impl Pmr {
         ensures some { GetsSome (P.shown pages.old) (P.shown pages.new) result }
         ensures price { IsTold (P.shown pages.old) → IsWithinPrice (P.shown pages.old).pages self.now block (P.shown pages.old) (P.shown pages.new) }
     {
+        let mut near = Near::nowhere();
+        let node = self.look_near(alloc, pages, block, &mut near)?;
+        Ok(node)
+    }
+
+    /// The same place, with the page of the look before held in `near`, which has the page of this one afterwards. Where
+    /// they are one, the look takes no descent, as for most places that lie near each other.
+    pub fn look_near<P: Pages>(
+        &self,
+        alloc: Global,
+        pages: &mut P,
+        block: Block,
+        near: &mut Near,
+    ) -> Result<Node, PageFault>
+        requires block { IsBlock block }
+        requires tree { IsTold (P.shown pages.old) → IsPmr (P.shown pages.old).pages self.now }
+        requires place { IsTold (P.shown pages.old) → HasPlace (tree_at (P.shown pages.old).pages self.now) block }
+        requires near { IsTold (P.shown pages.old) → IsNearIn (P.shown pages.old).pages self.now near.old }
+        ensures place { IfOk result (λ found. IsTold (P.shown pages.old) → Finds (tree_at (P.shown pages.old).pages self.now) block found) }
+        ensures roughs { IfOk result (λ found. IsTold (P.shown pages.old) → HasRoughs (P.shown pages.old).pages self.now found) }
+        ensures plane { IfOk result IsFoundInRange }
+        ensures above_points { IfOk result (λ found. found ≡ node.Inner → block.level < COORDINATE_BITS) }
+        ensures near { IsTold (P.shown pages.old) → IsNearIn (P.shown pages.old).pages self.now near.new }
+        ensures read { IsRead (P.shown pages.old) (P.shown pages.new) }
+        ensures cause { HasPageCause (P.shown pages.old) (P.shown pages.new) result }
+        ensures up { (P.shown pages.old).gets ≤ (P.shown pages.new).gets }
+        ensures some { GetsSome (P.shown pages.old) (P.shown pages.new) result }
+        ensures price { IsTold (P.shown pages.old) → IsWithinPrice (P.shown pages.old).pages self.now block (P.shown pages.old) (P.shown pages.new) }
+    {
         // For the proof alone: a count of gets is at most the greatest u64, so it doesn't fall.
         let _before = pages.gets();
-        let pairs = own_entries(alloc, self.map, pages, block)?;
+        let pairs = own_entries(alloc, self.map, pages, block, near)?;
         let node = node_in(alloc, block, &pairs)?;
         Ok(node)
     }
@@ -171,12 +200,41 @@ impl Pmr {
         ensures some { GetsSome desk.old.pool desk.new.pool result }
         ensures price { IsTold desk.old.pool → IsWithinPrice desk.old.pool.pages self.now block desk.old.pool desk.new.pool }
     {
+        let mut near = Near::nowhere();
+        let node = self.visit_near(alloc, desk, block, &mut near)?;
+        Ok(node)
+    }
+
+    /// Notes the block, then looks at it as `look_near` does.
+    pub fn visit_near<D: Disk>(
+        &self,
+        alloc: Global,
+        desk: &mut Desk<D>,
+        block: Block,
+        near: &mut Near,
+    ) -> Result<Node, PageFault>
+        requires block { IsBlock block }
+        requires tree { IsTold desk.old.pool → IsPmr desk.old.pool.pages self.now }
+        requires place { IsTold desk.old.pool → HasPlace (tree_at desk.old.pool.pages self.now) block }
+        requires near { IsTold desk.old.pool → IsNearIn desk.old.pool.pages self.now near.old }
+        ensures noted { NotesVisit (visit.Block self.now.number block.z block.level) desk.old desk.new result }
+        ensures place { IfOk result (λ found. IsTold desk.old.pool → Finds (tree_at desk.old.pool.pages self.now) block found) }
+        ensures roughs { IfOk result (λ found. IsTold desk.old.pool → HasRoughs desk.old.pool.pages self.now found) }
+        ensures plane { IfOk result IsFoundInRange }
+        ensures above_points { IfOk result (λ found. found ≡ node.Inner → block.level < COORDINATE_BITS) }
+        ensures near { IsTold desk.old.pool → IsNearIn desk.old.pool.pages self.now near.new }
+        ensures read { IsRead desk.old.pool desk.new.pool }
+        ensures cause { HasPageCause desk.old.pool desk.new.pool result }
+        ensures up { desk.old.pool.gets ≤ desk.new.pool.gets }
+        ensures some { GetsSome desk.old.pool desk.new.pool result }
+        ensures price { IsTold desk.old.pool → IsWithinPrice desk.old.pool.pages self.now block desk.old.pool desk.new.pool }
+    {
         desk.note(Visit::Block {
             tree: self.number,
             z: block.z,
             level: block.level,
         })?;
-        let node = self.look(alloc, desk.pages(), block)?;
+        let node = self.look_near(alloc, desk.pages(), block, near)?;
         Ok(node)
     }
 
@@ -202,7 +260,8 @@ impl Pmr {
         let _before = pages.gets();
         let found = self.map.floor(pages, last_key(z))?;
         let block = block_with(z, level_in(found));
-        let pairs = own_entries(alloc, self.map, pages, block)?;
+        let mut near = Near::nowhere();
+        let pairs = own_entries(alloc, self.map, pages, block, &mut near)?;
         let ids = ids_at(alloc, &pairs)?;
         Ok((block, Ids::new(ids)))
     }

@@ -5,11 +5,12 @@ ghost use Rattle.page_pool.specs.Pool.{IsTold};
 ghost use Rattle.page_pool.specs.Reads.{IsRead};
 ghost use Rattle.page_pool.specs.Causes.{HasPageCause};
 ghost use Rattle.code_btree.specs.Tree.{IsTree, pages_in, tree_items};
+ghost use Rattle.code_btree.specs.Near.{IsNear};
 ghost use Rattle.pmr_tree.specs.Lists.{is_between};
 ghost use Rattle.pmr_tree.specs.Leaves.{own_pairs};
 
 use crate::leaf::key_of;
-use code_btree::Tree;
+use code_btree::{Near, Tree};
 use page_pool::{PageFault, Pages};
 use std::alloc::Global;
 use z_code::Block;
@@ -31,16 +32,20 @@ pub fn entries_between<P: Pages>(
     Ok(found)
 }
 
-// The entries of a block itself, one get for each page on which they stand.
+// The entries of a block itself, one get for each page on which they stand, and a descent before where they don't begin
+// on the page that is held. Afterwards that on which they begin is held.
 pub fn own_entries<P: Pages>(
     alloc: Global,
     tree: Tree,
     pages: &mut P,
     block: Block,
+    near: &mut Near,
 ) -> Result<Vec<(u128, u128)>, PageFault>
     requires tree { IsTold (P.shown pages.old) → IsTree (pages_in (P.shown pages.old)) tree }
     requires block { IsBlock block }
+    requires near { IsTold (P.shown pages.old) → IsNear (pages_in (P.shown pages.old)) tree near.old }
     ensures found { IfOk result (λ found. IsTold (P.shown pages.old) → found.items ≡ own_pairs block (tree_items (pages_in (P.shown pages.old)) tree)) }
+    ensures near { IsTold (P.shown pages.old) → IsNear (pages_in (P.shown pages.old)) tree near.new }
     ensures read { IsRead (P.shown pages.old) (P.shown pages.new) }
     ensures cause { HasPageCause (P.shown pages.old) (P.shown pages.new) result }
     ensures up { min (P.shown pages.old).gets last_count ≤ (P.shown pages.new).gets }
@@ -48,6 +53,6 @@ pub fn own_entries<P: Pages>(
     ensures price { IsTold (P.shown pages.old) → (P.shown pages.new).gets ≤ (P.shown pages.old).gets + (tree.height + 1 + length (own_pairs block (tree_items (pages_in (P.shown pages.old)) tree)) / 63) }
 {
     let mark = key_of(block, 0);
-    let found = tree.between(alloc, pages, mark, mark + (1 << 32))?;
+    let found = tree.between_near(alloc, pages, mark, mark + (1 << 32), near)?;
     Ok(found)
 }

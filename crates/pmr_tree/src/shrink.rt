@@ -1,9 +1,11 @@
-ghost use Rattle.std.specs.Prelude.{◌≡◌, ℕ, ◌+◌, ◌-◌, ◌<◌, ◌≤◌, Bool, true, false, List, [], length, IfOk, OnOk};
+ghost use Rattle.std.specs.Prelude.{◌≡◌, ℕ, ◌+◌, ◌-◌, ◌<◌, ◌≤◌, Bool, true, false, List, [], length, IfOk, IfErr, IfSome, OnOk, MatchOption};
 ghost use Rattle.sand_base.specs.declared.TheConstants.{COORDINATE_BITS};
 ghost use Rattle.z_code.specs.Block.{IsBlock, child};
 ghost use Rattle.z_code.specs.declared.block.Block.{Block};
 ghost use Rattle.pmr_tree.specs.Lists.{put_all, take_all};
 ghost use Rattle.pmr_tree.specs.Keys.{IsId, own, leaf_keys};
+ghost use Rattle.pmr_tree.specs.Parts.{PartsPass, AreLeaves, HasInner, ids_together, without_parts};
+ghost use Rattle.pmr_tree.specs.declared.fault.PmrFault.TheVariants.{Memory};
 ghost use Rattle.pmr_tree.specs.Leaves.{firsts, ids_of, Passes, ListPasses, Told, fault_of};
 ghost use Rattle.pmr_tree.specs.Changes.{Stands, Becomes, merging, shrunk_where};
 ghost use Rattle.pmr_tree.specs.Starts.{HasLeaf, MeetsAlone};
@@ -12,6 +14,7 @@ use crate::code_leaf::block_with;
 use crate::fill::{clear, plant};
 use crate::leaf::leaf_of;
 use crate::leave::leave;
+use crate::part::Parts;
 use crate::union::join;
 use crate::{Ground, Kept, PmrFault};
 use sand_base::COORDINATE_BITS;
@@ -23,26 +26,75 @@ fn replace_four<P, S: Ground<P>>(
     ground: &mut S,
     pages: &mut P,
     block: Block,
-    p: &[Kept],
-    q: &[Kept],
-    r: &[Kept],
-    s: &[Kept],
+    parts: &Parts,
     all: &[Kept],
 ) -> Result<(), PmrFault>
     requires ready { S.IsReady ground.old pages.old }
     requires block { IsBlock block }
     requires above_points { block.level < COORDINATE_BITS }
     ensures leads { S.Leads ground.old pages.old ground.new pages.new (fault_of result) }
-    ensures keys { OnOk result (S.IsKnown ground.old pages.old → firsts (S.pairs ground.new pages.new) ≡ put_all (leaf_keys block (ids_of all.now)) (take_all (leaf_keys (child block 3) (ids_of s.now)) (take_all (leaf_keys (child block 2) (ids_of r.now)) (take_all (leaf_keys (child block 1) (ids_of q.now)) (take_all (leaf_keys (child block 0) (ids_of p.now)) (firsts (S.pairs ground.old pages.old))))))) }
+    ensures keys { OnOk result (S.IsKnown ground.old pages.old → firsts (S.pairs ground.new pages.new) ≡ put_all (leaf_keys block (ids_of all.now)) (without_parts block parts.now (firsts (S.pairs ground.old pages.old)))) }
     ensures values { OnOk result (S.IsKnown ground.old pages.old → (test : ℕ → ℕ → Bool) → ListPasses test all.now → Passes test (S.pairs ground.old pages.old) → Passes test (S.pairs ground.new pages.new)) }
 {
     let [first, second, third, fourth] = block.children();
-    clear(ground, pages, first, p)?;
-    clear(ground, pages, second, q)?;
-    clear(ground, pages, third, r)?;
-    clear(ground, pages, fourth, s)?;
+    clear(ground, pages, first, &parts.first)?;
+    clear(ground, pages, second, &parts.second)?;
+    clear(ground, pages, third, &parts.third)?;
+    clear(ground, pages, fourth, &parts.fourth)?;
     plant(ground, pages, block, all)?;
     Ok(())
+}
+
+// The ids of the four children of a block, or None where one of them is an inner place.
+fn leaves_of<P, S: Ground<P>>(
+    alloc: Global,
+    ground: &S,
+    pages: &mut P,
+    block: Block,
+) -> Result<Option<Parts>, PmrFault>
+    requires ready { S.IsReady ground.now pages.old }
+    requires block { IsBlock block }
+    requires above_points { block.level < COORDINATE_BITS }
+    ensures leads { S.Leads ground.now pages.old ground.now pages.new (fault_of result) }
+    ensures found { IfOk result (λ found. S.IsKnown ground.now pages.old → MatchOption found
+        (HasInner block (firsts (S.pairs ground.now pages.old)))
+        (λ parts. AreLeaves block (firsts (S.pairs ground.now pages.old)) parts)) }
+    ensures values { IfOk result (λ found. S.IsKnown ground.now pages.old → (test : ℕ → ℕ → Bool) → Passes test (S.pairs ground.now pages.old) → IfSome found (λ parts. PartsPass test parts)) }
+    ensures same { OnOk result (S.IsKnown ground.now pages.old → S.pairs ground.now pages.new ≡ S.pairs ground.now pages.old) }
+{
+    let [p, q, r, s] = block.children();
+    let Some(first) = leaf_of(alloc, ground, pages, p)? else {
+        return Ok(None);
+    };
+    let Some(second) = leaf_of(alloc, ground, pages, q)? else {
+        return Ok(None);
+    };
+    let Some(third) = leaf_of(alloc, ground, pages, r)? else {
+        return Ok(None);
+    };
+    let Some(fourth) = leaf_of(alloc, ground, pages, s)? else {
+        return Ok(None);
+    };
+    Ok(Some(Parts {
+        first,
+        second,
+        third,
+        fourth,
+    }))
+}
+
+// The ids of four leaves in one list.
+fn joined(alloc: Global, parts: &Parts) -> Result<Vec<Kept>, PmrFault>
+    ensures ids { IfOk result (λ all. ids_of all.items ≡ ids_together parts.now) }
+    ensures values { IfOk result (λ all. (test : ℕ → ℕ → Bool) → PartsPass test parts.now → ListPasses test all.items) }
+    ensures memory { IfErr result (λ e. e ≡ Memory) }
+{
+    let mut all = Vec::new(alloc);
+    join(&mut all, &parts.fourth)?;
+    join(&mut all, &parts.third)?;
+    join(&mut all, &parts.second)?;
+    join(&mut all, &parts.first)?;
+    Ok(all)
 }
 
 // Puts one leaf in place of the four children of a block, where these are leaves with fewer ids together than the
@@ -64,28 +116,14 @@ fn merge<P, S: Ground<P>>(
     ensures inner { IfOk result (λ merged. merged ≡ false → S.IsKnown ground.old pages.old → own block (firsts (S.pairs ground.new pages.new)) ≡ []) }
     ensures values { OnOk result (S.IsKnown ground.old pages.old → (test : ℕ → ℕ → Bool) → Passes test (S.pairs ground.old pages.old) → Passes test (S.pairs ground.new pages.new)) }
 {
-    let [first, second, third, fourth] = block.children();
-    let Some(p) = leaf_of(alloc, &*ground, pages, first)? else {
+    let Some(parts) = leaves_of(alloc, &*ground, pages, block)? else {
         return Ok(false);
     };
-    let Some(q) = leaf_of(alloc, &*ground, pages, second)? else {
-        return Ok(false);
-    };
-    let Some(r) = leaf_of(alloc, &*ground, pages, third)? else {
-        return Ok(false);
-    };
-    let Some(s) = leaf_of(alloc, &*ground, pages, fourth)? else {
-        return Ok(false);
-    };
-    let mut all = Vec::new(alloc);
-    join(&mut all, &s)?;
-    join(&mut all, &r)?;
-    join(&mut all, &q)?;
-    join(&mut all, &p)?;
+    let all = joined(alloc, &parts)?;
     if all.len() >= threshold as usize {
         return Ok(false);
     }
-    replace_four(ground, pages, block, &p, &q, &r, &s, &all)?;
+    replace_four(ground, pages, block, &parts, &all)?;
     Ok(true)
 }
 

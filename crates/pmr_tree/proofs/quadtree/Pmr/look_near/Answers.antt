@@ -3,7 +3,7 @@ use Rattle.std.proofs.Common.{◌∙◌, ap, sym, subst}
 use Rattle.pmr_tree.specs.Calls.{IsFoundInRange}
 use Rattle.pmr_tree.specs.Leaves.{node_in}
 use Rattle.pmr_tree.proofs.Looked.{looked, looked_roughs, looked_price, node_range, node_above}
-use Rattle.pmr_tree.proofs.quadtree.Pmr.look.Goals as goal
+use Rattle.pmr_tree.proofs.quadtree.Pmr.look_near.Goals as goal
 
 pub returns-in_err-pairs-clause-price : goal.returns-in_err-pairs-clause-price
 returns-in_err-pairs-clause-price g c = λ told place at.
