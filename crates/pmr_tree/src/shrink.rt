@@ -1,8 +1,8 @@
 ghost use Rattle.std.specs.Prelude.{◌≡◌, ℕ, ◌+◌, ◌-◌, ◌<◌, ◌≤◌, Bool, true, false, List, [], length, IfOk, IfErr, IfSome, OnOk, MatchOption};
 ghost use Rattle.sand_base.specs.declared.TheConstants.{COORDINATE_BITS};
-ghost use Rattle.z_code.specs.Block.{IsBlock, child};
+ghost use Rattle.z_code.specs.Block.{IsBlock};
 ghost use Rattle.z_code.specs.declared.block.Block.{Block};
-ghost use Rattle.pmr_tree.specs.Lists.{put_all, take_all};
+ghost use Rattle.pmr_tree.specs.Lists.{put_all};
 ghost use Rattle.pmr_tree.specs.Keys.{IsId, own, leaf_keys};
 ghost use Rattle.pmr_tree.specs.Parts.{PartsPass, AreLeaves, HasInner, ids_together, without_parts};
 ghost use Rattle.pmr_tree.specs.declared.fault.PmrFault.TheVariants.{Memory};
