@@ -18,11 +18,13 @@ use sand_base::NoMemory;
 use std::alloc::Global;
 
 /// A best-first search over a hierarchy: it gives the rows of the answer one by one, nearest first, and visits no
-/// node and fetches no geometry that the rows given so far do not need.
+/// node and fetches no geometry that the rows given so far do not need. It keeps one list, into which each node that
+/// it opens is read; between two calls what stands in it means nothing.
 #[derive(Drop)]
-pub struct BestFirst<H, Q> {
+pub struct BestFirst<H: Hierarchy, Q> {
     hierarchy: H,
     frontier: Frontier<Q>,
+    found: Vec<Item<H::Node>>,
     alloc: Global,
 }
 
@@ -51,6 +53,7 @@ impl<H: Hierarchy, Q: Queue<Item<H::Node>> + Drop> BestFirst<H, Q> {
         Ok(BestFirst {
             hierarchy,
             frontier,
+            found: Vec::new(alloc),
             alloc,
         })
     }
@@ -72,7 +75,13 @@ impl<H: Hierarchy, Q: Queue<Item<H::Node>>> BestFirst<H, Q> {
         ensures falls { Falls (steps (H.weight self.old.hierarchy) (Q.held self.old.frontier.queue)) (steps (H.weight self.old.hierarchy) (Q.held self.new.frontier.queue)) result }
         ensures still { IsSettled (item_cmp H.Node.cmp) (Q.held self.old.frontier.queue) → (desk.new ≡ desk.old) × IsOk result }
     {
-        match settle(self.alloc, &self.hierarchy, &mut self.frontier, desk) {
+        match settle(
+            self.alloc,
+            &self.hierarchy,
+            &mut self.frontier,
+            &mut self.found,
+            desk,
+        ) {
             Ok(()) => Ok(give_row(&mut self.frontier)),
             Err(fault) => Err(fault),
         }

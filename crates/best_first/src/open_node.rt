@@ -15,12 +15,13 @@ use page_pool::{Desk, Disk, PageFault};
 use rank_queue::Queue;
 use std::alloc::Global;
 
-// Opens the node at the front: what it finds takes its place. It reads into a list, then reserves, and only then
-// pops and pushes, so that a refusal leaves the frontier as it was.
+// Opens the node at the front: what it finds takes its place. It empties the list and reads into it, then reserves,
+// and only then pops and pushes, so that a refusal leaves the frontier as it was.
 pub fn open_node<H: Hierarchy, Q: Queue<Item<H::Node>>, D: Disk>(
     alloc: Global,
     hierarchy: &H,
     frontier: &mut Frontier<Q>,
+    found: &mut Vec<Item<H::Node>>,
     desk: &mut Desk<D>,
     gap: Frac,
     node: H::Node,
@@ -33,13 +34,13 @@ pub fn open_node<H: Hierarchy, Q: Queue<Item<H::Node>>, D: Disk>(
     ensures falls { MatchResult result (λ _. steps (H.weight hierarchy.now) (Q.held frontier.new.queue) < steps (H.weight hierarchy.now) (Q.held frontier.old.queue)) (λ _. Q.held frontier.new.queue ≡ Q.held frontier.old.queue) }
     ensures moves { MatchResult result (λ _. IfSome (told_pages desk.old) (λ p. Goes H.Node.cmp (H.meaning hierarchy.now p) (H.note hierarchy.now) (state (Q.held frontier.old.queue) frontier.old.last frontier.old.counts desk.old) (state (Q.held frontier.new.queue) frontier.new.last frontier.new.counts desk.new))) (λ _. IfSome (told_pages desk.old) (λ p. Fails H.Node.cmp (H.meaning hierarchy.now p) (H.note hierarchy.now) (state (Q.held frontier.old.queue) frontier.old.last frontier.old.counts desk.old) (state (Q.held frontier.new.queue) frontier.new.last frontier.new.counts desk.new))) }
 {
-    let mut found = Vec::new(alloc);
-    hierarchy.expand(alloc, desk, gap, node, &mut found)?;
+    found.clear();
+    hierarchy.expand(alloc, desk, gap, node, found)?;
     frontier.queue.reserve(found.len())?;
     let Some(_opened) = frontier.queue.pop() else {
         return Ok(())
     };
-    push_within(&mut frontier.queue, hierarchy.ceiling(), &found);
+    push_within(&mut frontier.queue, hierarchy.ceiling(), found);
     frontier.counts.visited = frontier.counts.visited.saturating_add(1);
     Ok(())
 }

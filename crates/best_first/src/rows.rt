@@ -11,13 +11,13 @@ use rank_queue::Queue;
 
 /// The rows to come, as a lazy iterator: each step is one `next`, and nothing is done before it is asked. It gives
 /// None at the end and after a fault, which `outcome` tells apart.
-pub struct Rows<'c, 'd, H, Q, D: Disk> {
+pub struct Rows<'c, 'd, H: Hierarchy, Q, D: Disk> {
     pub(crate) cursor: &'c mut BestFirst<H, Q>,
     pub(crate) desk: &'d mut Desk<D>,
     pub(crate) outcome: Result<bool, PageFault>,
 }
 
-impl<'c, 'd, H, Q, D: Disk> Drop for Rows<'c, 'd, H, Q, D> {
+impl<'c, 'd, H: Hierarchy, Q, D: Disk> Drop for Rows<'c, 'd, H, Q, D> {
     fn drop(self) {
         let Rows {
             cursor: _,
@@ -27,7 +27,7 @@ impl<'c, 'd, H, Q, D: Disk> Drop for Rows<'c, 'd, H, Q, D> {
     }
 }
 
-impl<'c, 'd, H, Q, D: Disk> Rows<'c, 'd, H, Q, D> {
+impl<'c, 'd, H: Hierarchy, Q, D: Disk> Rows<'c, 'd, H, Q, D> {
     /// Ok(true) exactly where a step found the answer exhausted, Ok(false) exactly where no step has given None,
     /// and the fault where one came.
     pub fn outcome(&self) -> Result<bool, PageFault>

@@ -17,6 +17,7 @@ pub fn settle<H: Hierarchy, Q: Queue<Item<H::Node>>, D: Disk>(
     alloc: Global,
     hierarchy: &H,
     frontier: &mut Frontier<Q>,
+    found: &mut Vec<Item<H::Node>>,
     desk: &mut Desk<D>,
 ) -> Result<(), PageFault>
     requires { IfSome (told_pages desk.old) (λ p. StandsOver H.Node.cmp (H.meaning hierarchy.now p) (Q.held frontier.old.queue) frontier.old.last) }
@@ -29,7 +30,7 @@ pub fn settle<H: Hierarchy, Q: Queue<Item<H::Node>>, D: Disk>(
     ensures still { IsSettled (item_cmp H.Node.cmp) (Q.held frontier.old.queue) → (desk.new ≡ desk.old) × IsOk result }
 {
     'steps: loop {
-        match step(alloc, hierarchy, frontier, desk) {
+        match step(alloc, hierarchy, frontier, found, desk) {
             Ok(true) => {}
             Ok(false) => return Ok(()),
             Err(fault) => return Err(fault),

@@ -20,6 +20,7 @@ pub fn step<H: Hierarchy, Q: Queue<Item<H::Node>>, D: Disk>(
     alloc: Global,
     hierarchy: &H,
     frontier: &mut Frontier<Q>,
+    found: &mut Vec<Item<H::Node>>,
     desk: &mut Desk<D>,
 ) -> Result<bool, PageFault>
     requires { IfSome (told_pages desk.old) (λ p. StandsOver H.Node.cmp (H.meaning hierarchy.now p) (Q.held frontier.old.queue) frontier.old.last) }
@@ -35,7 +36,7 @@ pub fn step<H: Hierarchy, Q: Queue<Item<H::Node>>, D: Disk>(
         Some(Item::Row { .. }) => Ok(false),
         Some(Item::Node { gap, node }) => {
             let (gap, node) = (*gap, *node);
-            if let Err(fault) = open_node(alloc, hierarchy, frontier, desk, gap, node) {
+            if let Err(fault) = open_node(alloc, hierarchy, frontier, found, desk, gap, node) {
                 return Err(fault);
             }
             Ok(true)

@@ -23,7 +23,7 @@ use std::alloc::Global;
 /// A semi-join over a best-first search: of the rows of its answer, in their order, the first one of each left id.
 /// Of the rows given it keeps one bit for each left id.
 #[derive(Drop)]
-pub struct Semi<H, Q> {
+pub struct Semi<H: Hierarchy, Q> {
     engine: BestFirst<H, Q>,
     lefts: Lefts,
 }

@@ -45,7 +45,7 @@ returns-clause-falls g c =
     let whole = c.deref.ensures.len in
     open_falls weight held rest found (g.Q.Queue.held c.push_within.new.queue) c.in-Some._opened popped.0 c.args.node c.ceiling.result popped.1 taken
     (subst (λ l. IsPermutation (kept (within c.ceiling.result) l ++ rest) (g.Q.Queue.held c.push_within.new.queue)) c.deref.ensures.value c.push_within.ensures)
-    (subst (λ l. AddsLess weight c.args.node l found) c.new-found.ensures.items c.in_ok-expand.ensures.falls)
+    (subst (λ l. AddsLess weight c.args.node l found) c.clear.ensures.items c.in_ok-expand.ensures.falls)
     (subst (λ (l : List _). length l < 2 ^ 64) c.deref.ensures.value (omega arith))
 
 pub returns-clause-moves : goal.returns-clause-moves
@@ -64,5 +64,5 @@ returns-clause-moves g c =
     c.in-Some._opened rest found c.ceiling.result c.args.gap popped.0 c.args.node c.requires.front popped.1 taken c.in-Some.ensures.least
     (subst (λ l. IsPermutation (kept (within c.ceiling.result) l ++ rest) new) c.deref.ensures.value c.push_within.ensures)
     c.ceiling.ensures.value refl c.saturating_add-frontier.ensures refl c.requires.stands
-    (subst (λ l. IfSome pages (λ p. FindsAlike ((meaning p).finds c.args.node) l found)) c.new-found.ensures.items c.in_ok-expand.ensures.found)
+    (subst (λ l. IfSome pages (λ p. FindsAlike ((meaning p).finds c.args.node) l found)) c.clear.ensures.items c.in_ok-expand.ensures.found)
     c.in_ok-expand.ensures.visits c.in_ok-expand.ensures.gets
