@@ -20,6 +20,9 @@ pub trait Hierarchy: Drop {
     /// A place of the tree.
     type Node: Ord + Copy;
 
+    /// What one expansion leaves to the next: where in the pages it has read.
+    type Near: Copy;
+
     // The tree, the rows and the prices, over these pages.
     ghost meaning: { Self → PageMap → Meaning Self.Node };
 
@@ -29,6 +32,9 @@ pub trait Hierarchy: Drop {
     // A whole number for each node, whatever the pages: the children that an expansion finds have less together.
     ghost weight: { Self → Self.Node → ℕ };
 
+    // Over these pages an expansion may be given this.
+    ghost IsNear: { Self → PageMap → Self.Near → Type 0 };
+
     /// The root and its gap. It reads no page.
     fn root(&self) -> (Frac, Self::Node)
         ensures { (pages : PageMap) → (result.1 ≡ (meaning self.now pages).root) × IsSameGap result.0 ((meaning self.now pages).gap result.1) };
@@ -37,6 +43,10 @@ pub trait Hierarchy: Drop {
     fn ceiling(&self) -> Option<u32>
         ensures value { (pages : PageMap) → result ≡ (meaning self.now pages).ceiling }
         ensures small { IfSome result (λ most. most < 2 ^ 22) };
+
+    /// What the first expansion is given, over any pages. It reads no page.
+    fn nowhere(&self) -> Self::Near
+        ensures { (pages : PageMap) → IsNear self.now pages result };
 
     /// Adds the node's children with their gaps, or the items of the leaf, at the end of `found`. It notes one
     /// visit of the node, and makes at least one page get where it is accepted. After a refusal `found` is as it
@@ -56,7 +66,33 @@ pub trait Hierarchy: Drop {
         ensures falls { OnOk result (AddsLess (weight self.now) node found.old.items found.new.items) }
         ensures refused { OnErr result (found.new.items ≡ found.old.items) }
         ensures visits { IfSome (told_pages desk.old) (λ p. VisitsOne (note self.now) (meaning self.now p).price (Item.Node gap node) desk.old desk.new result) }
-        ensures gets { IfSome (told_pages desk.old) (λ p. OnOk result (RoseBy 1 desk.old desk.new)) };
+        ensures gets { IfSome (told_pages desk.old) (λ p. OnOk result (RoseBy 1 desk.old desk.new)) }
+    {
+        let mut near = self.nowhere();
+        self.expand_near(alloc, desk, gap, node, &mut near, found)
+    }
+
+    /// As `expand`, given what an expansion before has left: this may save page gets, and changes no answer. After a
+    /// refusal too it leaves something.
+    fn expand_near<D: Disk>(
+        &self,
+        alloc: Global,
+        desk: &mut Desk<D>,
+        gap: Frac,
+        node: Self::Node,
+        near: &mut Self::Near,
+        found: &mut Vec<Item<Self::Node>>,
+    ) -> Result<(), PageFault>
+        requires node { IfSome (told_pages desk.old) (λ p. MeetsLaws (meaning self.now p) × IsNode (meaning self.now p) node × IsSameGap gap ((meaning self.now p).gap node)) }
+        requires near { IfSome (told_pages desk.old) (λ p. IsNear self.now p near.old) }
+        ensures read { IsRead desk.old.pool desk.new.pool }
+        ensures cause { HasPageCause desk.old.pool desk.new.pool result }
+        ensures found { IfSome (told_pages desk.old) (λ p. Finds ((meaning self.now p).finds node) found.old.items found.new.items result) }
+        ensures falls { OnOk result (AddsLess (weight self.now) node found.old.items found.new.items) }
+        ensures refused { OnErr result (found.new.items ≡ found.old.items) }
+        ensures visits { IfSome (told_pages desk.old) (λ p. VisitsOne (note self.now) (meaning self.now p).price (Item.Node gap node) desk.old desk.new result) }
+        ensures gets { IfSome (told_pages desk.old) (λ p. OnOk result (RoseBy 1 desk.old desk.new)) }
+        ensures near { IfSome (told_pages desk.old) (λ p. IsNear self.now p near.new) };
 
     /// Fetches the geometry of a rough object (refinement step): its exact squared distance. It notes one visit
     /// of the geometry. After a refusal at most the visit was noted.

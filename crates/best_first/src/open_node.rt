@@ -21,6 +21,7 @@ pub fn open_node<H: Hierarchy, Q: Queue<Item<H::Node>>, D: Disk>(
     alloc: Global,
     hierarchy: &H,
     frontier: &mut Frontier<Q>,
+    near: &mut H::Near,
     found: &mut Vec<Item<H::Node>>,
     desk: &mut Desk<D>,
     gap: Frac,
@@ -28,14 +29,16 @@ pub fn open_node<H: Hierarchy, Q: Queue<Item<H::Node>>, D: Disk>(
 ) -> Result<(), PageFault>
     requires front { IsFirst (item_cmp H.Node.cmp) (Item.Node gap node) (Q.held frontier.old.queue) }
     requires stands { IfSome (told_pages desk.old) (λ p. StandsOver H.Node.cmp (H.meaning hierarchy.now p) (Q.held frontier.old.queue) frontier.old.last) }
+    requires near { IfSome (told_pages desk.old) (λ p. H.IsNear hierarchy.now p near.old) }
     ensures read { IsRead desk.old.pool desk.new.pool }
     ensures cause { HasPageCause desk.old.pool desk.new.pool result }
     ensures last { frontier.new.last ≡ frontier.old.last }
     ensures falls { MatchResult result (λ _. steps (H.weight hierarchy.now) (Q.held frontier.new.queue) < steps (H.weight hierarchy.now) (Q.held frontier.old.queue)) (λ _. Q.held frontier.new.queue ≡ Q.held frontier.old.queue) }
     ensures moves { MatchResult result (λ _. IfSome (told_pages desk.old) (λ p. Goes H.Node.cmp (H.meaning hierarchy.now p) (H.note hierarchy.now) (state (Q.held frontier.old.queue) frontier.old.last frontier.old.counts desk.old) (state (Q.held frontier.new.queue) frontier.new.last frontier.new.counts desk.new))) (λ _. IfSome (told_pages desk.old) (λ p. Fails H.Node.cmp (H.meaning hierarchy.now p) (H.note hierarchy.now) (state (Q.held frontier.old.queue) frontier.old.last frontier.old.counts desk.old) (state (Q.held frontier.new.queue) frontier.new.last frontier.new.counts desk.new))) }
+    ensures near { IfSome (told_pages desk.old) (λ p. H.IsNear hierarchy.now p near.new) }
 {
     found.clear();
-    hierarchy.expand(alloc, desk, gap, node, found)?;
+    hierarchy.expand_near(alloc, desk, gap, node, near, found)?;
     frontier.queue.reserve(found.len())?;
     let Some(_opened) = frontier.queue.pop() else {
         return Ok(())

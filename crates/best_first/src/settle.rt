@@ -12,7 +12,8 @@ use page_pool::{Desk, Disk, PageFault};
 use rank_queue::Queue;
 use std::alloc::Global;
 
-// Steps until a row is at the front or nothing is queued.
+// Steps until a row is at the front or nothing is queued. The first expansion is given
+// nothing, and each one after it what the one before has left.
 pub fn settle<H: Hierarchy, Q: Queue<Item<H::Node>>, D: Disk>(
     alloc: Global,
     hierarchy: &H,
@@ -29,8 +30,9 @@ pub fn settle<H: Hierarchy, Q: Queue<Item<H::Node>>, D: Disk>(
     ensures settled { OnOk result (IsSettled (item_cmp H.Node.cmp) (Q.held frontier.new.queue)) }
     ensures still { IsSettled (item_cmp H.Node.cmp) (Q.held frontier.old.queue) → (desk.new ≡ desk.old) × IsOk result }
 {
+    let mut near = hierarchy.nowhere();
     'steps: loop {
-        match step(alloc, hierarchy, frontier, found, desk) {
+        match step(alloc, hierarchy, frontier, &mut near, found, desk) {
             Ok(true) => {}
             Ok(false) => return Ok(()),
             Err(fault) => return Err(fault),

@@ -20,23 +20,28 @@ pub fn step<H: Hierarchy, Q: Queue<Item<H::Node>>, D: Disk>(
     alloc: Global,
     hierarchy: &H,
     frontier: &mut Frontier<Q>,
+    near: &mut H::Near,
     found: &mut Vec<Item<H::Node>>,
     desk: &mut Desk<D>,
 ) -> Result<bool, PageFault>
-    requires { IfSome (told_pages desk.old) (λ p. StandsOver H.Node.cmp (H.meaning hierarchy.now p) (Q.held frontier.old.queue) frontier.old.last) }
+    requires stands { IfSome (told_pages desk.old) (λ p. StandsOver H.Node.cmp (H.meaning hierarchy.now p) (Q.held frontier.old.queue) frontier.old.last) }
+    requires near { IfSome (told_pages desk.old) (λ p. H.IsNear hierarchy.now p near.old) }
     ensures read { IsRead desk.old.pool desk.new.pool }
     ensures cause { HasPageCause desk.old.pool desk.new.pool result }
     ensures last { frontier.new.last ≡ frontier.old.last }
     ensures falls { StepFalls (steps (H.weight hierarchy.now) (Q.held frontier.old.queue)) (steps (H.weight hierarchy.now) (Q.held frontier.new.queue)) result }
     ensures moves { IfSome (told_pages desk.old) (λ p. StepMoves H.Node.cmp (H.meaning hierarchy.now p) (H.note hierarchy.now) (state (Q.held frontier.old.queue) frontier.old.last frontier.old.counts desk.old) (state (Q.held frontier.new.queue) frontier.new.last frontier.new.counts desk.new) result) }
     ensures settles { StepSettles (item_cmp H.Node.cmp) (state (Q.held frontier.old.queue) frontier.old.last frontier.old.counts desk.old) (state (Q.held frontier.new.queue) frontier.new.last frontier.new.counts desk.new) result }
+    ensures near { IfSome (told_pages desk.old) (λ p. H.IsNear hierarchy.now p near.new) }
 {
     match frontier.queue.peek() {
         None => Ok(false),
         Some(Item::Row { .. }) => Ok(false),
         Some(Item::Node { gap, node }) => {
             let (gap, node) = (*gap, *node);
-            if let Err(fault) = open_node(alloc, hierarchy, frontier, found, desk, gap, node) {
+            if let Err(fault) = open_node(
+                alloc, hierarchy, frontier, near, found, desk, gap, node,
+            ) {
                 return Err(fault);
             }
             Ok(true)

@@ -5,7 +5,7 @@ use Rattle.best_first.specs.Frontier.{StandsOver}
 use Rattle.best_first.specs.Visits.{told_pages, state, Goes, Fails}
 use Rattle.best_first.specs.Steps.{steps, IsSettled}
 use Rattle.best_first.specs.Inside.{StepFalls, StepSettles}
-use Rattle.best_first.proofs.Passing.{read_itself, read_both, told_read, cause_later, stays_over, stands_over, goes_over, fails_over}
+use Rattle.best_first.proofs.Passing.{read_itself, read_both, told_read, cause_later, all_over, stays_over, stands_over, goes_over, fails_over}
 use Rattle.best_first.proofs.settle.settle.Goals as goal
 
 pub steps-init : goal.steps-init
@@ -17,6 +17,7 @@ steps-init g c =
       last = refl;
       falls = omega arith;
       stands = c.requires;
+      near = all_over (told_pages c.args.desk.now) (λ p. g.H.Hierarchy.IsNear c.args.hierarchy.now p c.nowhere-near.result) c.nowhere-near.ensures;
       moves = stays_over g.H.Node.Ord.cmp (g.H.Hierarchy.meaning c.args.hierarchy.now) (g.H.Hierarchy.note c.args.hierarchy.now) (told_pages c.args.desk.now) (state (g.Q.Queue.held f.queue) f.last f.counts c.args.desk.now);
       still = λ _. (refl, refl);
     }
@@ -52,6 +53,7 @@ steps-preserved g c =
       last = e.last ∙ i.last;
       falls = omega arith;
       stands = subst (λ t. IfSome t (λ p. StandsOver cmp (meaning p) (g.Q.Queue.held n.queue) n.last)) (sym later) (stands_over cmp meaning note (told_pages c.steps.desk) mid new i.stands moves);
+      near = subst (λ t. IfSome t (λ p. g.H.Hierarchy.IsNear c.args.hierarchy.now p c.step.new.near)) (sym later) e.near;
       moves = goes_over cmp meaning note (told_pages c.args.desk.now) old mid new i.moves (subst (λ t. IfSome t (λ p. Goes cmp (meaning p) note mid new)) same moves);
       still = λ s. absurd (apart (subst (IsSettled (item_cmp cmp)) (sym (i.still s).1) s));
     }

@@ -6,7 +6,7 @@ use Rattle.best_first.specs.Visits.{told_pages, state, Goes}
 use Rattle.best_first.specs.Steps.{steps, IsSettled}
 use Rattle.best_first.proofs.settle.settle.Given as goal
 
--- the search stands, more was taken since the beginning, and nothing changed where the front was settled then
+-- the search stands, the next expansion may be given what is left, more was taken since the beginning, and nothing changed where the front was settled then
 abbrev pub invariant-steps : goal.invariant-steps
 invariant-steps g l = record {
   read : IsRead l.fn.desk.pool l.desk.pool;
@@ -14,6 +14,7 @@ invariant-steps g l = record {
   last : l.frontier.last ≡ l.fn.frontier.last;
   falls : steps (g.H.Hierarchy.weight l.hierarchy) (g.Q.Queue.held l.frontier.queue) ≤ steps (g.H.Hierarchy.weight l.hierarchy) (g.Q.Queue.held l.fn.frontier.queue);
   stands : IfSome (told_pages l.desk) (λ p. StandsOver g.H.Node.Ord.cmp (g.H.Hierarchy.meaning l.hierarchy p) (g.Q.Queue.held l.frontier.queue) l.frontier.last);
+  near : IfSome (told_pages l.desk) (λ p. g.H.Hierarchy.IsNear l.hierarchy p l.near);
   moves : IfSome (told_pages l.fn.desk) (λ p. Goes g.H.Node.Ord.cmp (g.H.Hierarchy.meaning l.hierarchy p) (g.H.Hierarchy.note l.hierarchy) (state (g.Q.Queue.held l.fn.frontier.queue) l.fn.frontier.last l.fn.frontier.counts l.fn.desk) (state (g.Q.Queue.held l.frontier.queue) l.frontier.last l.frontier.counts l.desk));
   still : IsSettled (item_cmp g.H.Node.Ord.cmp) (g.Q.Queue.held l.fn.frontier.queue) → (l.desk ≡ l.fn.desk) × (g.Q.Queue.held l.frontier.queue ≡ g.Q.Queue.held l.fn.frontier.queue);
 }
