@@ -138,6 +138,8 @@ impl Table {
 impl Hierarchy for Table {
     type Node = u32;
 
+    type Near = ();
+
     // (no contract asks what pages mean that aren't told, and over pages that are the table meets no law)
     ghost meaning = { λ t pages. record {
       IsReadable = Unit {0};
@@ -154,6 +156,8 @@ impl Hierarchy for Table {
 
     ghost weight = { λ t node. node };
 
+    ghost IsNear = { λ t pages near. Unit {0} };
+
     fn root(&self) -> (Frac, u32) {
         (self.root_gap, ROOT)
     }
@@ -162,12 +166,15 @@ impl Hierarchy for Table {
         if self.is_near { Some(2) } else { None }
     }
 
-    fn expand<D: Disk>(
+    fn nowhere(&self) {}
+
+    fn expand_near<D: Disk>(
         &self,
         _alloc: Global,
         desk: &mut Desk<D>,
         _gap: Frac,
         node: u32,
+        _near: &mut (),
         found: &mut Vec<Item<u32>>,
     ) -> Result<(), PageFault> {
         match self.begin() {

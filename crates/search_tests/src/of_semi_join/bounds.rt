@@ -72,6 +72,8 @@ impl Bounds {
 impl Hierarchy for Bounds {
     type Node = u8;
 
+    type Near = ();
+
     // (no contract asks what pages mean that aren't told, and over pages that are the tree meets no law)
     ghost meaning = { λ t pages. record {
       IsReadable = Unit {0};
@@ -88,6 +90,8 @@ impl Hierarchy for Bounds {
 
     ghost weight = { λ t node. node };
 
+    ghost IsNear = { λ t pages near. Unit {0} };
+
     fn root(&self) -> (Frac, u8) {
         (self.root_gap, ROOT)
     }
@@ -96,12 +100,15 @@ impl Hierarchy for Bounds {
         None
     }
 
-    fn expand<D: Disk>(
+    fn nowhere(&self) {}
+
+    fn expand_near<D: Disk>(
         &self,
         _alloc: Global,
         desk: &mut Desk<D>,
         _gap: Frac,
         node: u8,
+        _near: &mut (),
         found: &mut Vec<Item<u8>>,
     ) -> Result<(), PageFault> {
         match self.begin(node) {
