@@ -1,5 +1,5 @@
 -- Lists of items that stand for the same, one by one.
-use Rattle.std.proofs.Common.{◌≡◌, ℕ, ◌+◌, ◌<◌, List, [], ◌∷◌, ◌++◌, length, take, get_or, flat_map, refl, sym, ap, ◌∙◌, subst, append-nil}
+use Rattle.std.proofs.Common.{◌≡◌, ℕ, ◌+◌, ◌<◌, List, [], ◌∷◌, ◌++◌, length, take, get_or, map, flat_map, refl, sym, ap, ◌∙◌, subst, append-nil, append_assoc}
 use Rattle.std.proofs.lemmas.List.{take_more}
 use Rattle.std.proofs.lemmas.List.Concat.{flat_map-append}
 use Rattle.std.specs.List.{AllZip}
@@ -8,6 +8,7 @@ use Rattle.best_first.specs.Item.{IsAlike}
 use Rattle.best_first.specs.declared.item.Item.{Item}
 use Rattle.best_first.specs.declared.item.Item.TheVariants.{Node, Rough, Row}
 use Rattle.best_first.proofs.Gaps.{same_itself, same_trans}
+use Rattle.rank_cursor.proofs.Elements.{map_append}
 
 pub alike_itself : {N : Type 0} (x : Item N) → IsAlike x x
 alike_itself (Node g a) = (same_itself g, refl)
@@ -63,3 +64,31 @@ one_more {X} {N} f xs i d old new below so_far found =
     subst (AllZip IsAlike new) (sym (all ∙ ap (λ l. flat_map f (take i xs) ++ l) (append-nil (f x))))
     (subst (λ l. AllZip IsAlike l (flat_map f (take i xs) ++ f x)) (sym found.adds)
     (all_alike_append old (flat_map f (take i xs)) found.found (f x) so_far found.alike))
+
+-- ---- loops that add
+
+-- nothing was added yet
+pub none_added : {N : Type 0} (old new : List (Item N)) → new ≡ old → FindsAlike [] old new
+none_added old new same = record { found = []; adds = same ∙ sym (append-nil old); alike = tt }
+
+both_added : {X : Type 0} (first old new found more : List X) → old ≡ first ++ found → new ≡ old ++ more → new ≡ first ++ (found ++ more)
+both_added first old new found more h k = k ∙ ap (λ l. l ++ more) h ∙ append_assoc first found more
+
+-- what one more element gives was added
+pub one_added : {X N : Type 0} (f : X → List (Item N)) (xs : List X) (i : ℕ) (d : X) (first old new : List (Item N)) → i < length xs
+    → FindsAlike (flat_map f (take i xs)) first old → FindsAlike (f (get_or xs i d)) old new → FindsAlike (flat_map f (take (i + 1) xs)) first new
+one_added f xs i d first old new below h k = record {
+  found = h.found ++ k.found;
+  adds = both_added first old new h.found k.found h.adds k.adds;
+  alike = one_more f xs i d h.found (h.found ++ k.found) below h.alike (record { found = k.found; adds = refl; alike = k.alike });
+}
+
+-- one more item was pushed
+pub one_pushed : {X N : Type 0} (f : X → Item N) (xs : List X) (i : ℕ) (d : X) (first old new : List (Item N)) (pushed : Item N) → i < length xs
+    → FindsAlike (map f (take i xs)) first old → IsAlike pushed (f (get_or xs i d)) → new ≡ old ++ pushed ∷ [] → FindsAlike (map f (take (i + 1) xs)) first new
+one_pushed f xs i d first old new pushed below h same is = record {
+  found = h.found ++ pushed ∷ [];
+  adds = both_added first old new h.found (pushed ∷ []) h.adds is;
+  alike = subst (AllZip IsAlike (h.found ++ pushed ∷ [])) (sym (ap (map f) (take_more xs i d below) ∙ map_append f (take i xs) (get_or xs i d ∷ [])))
+      (all_alike_append h.found (map f (take i xs)) (pushed ∷ []) (f (get_or xs i d) ∷ []) h.alike (same, tt));
+}

@@ -1,5 +1,5 @@
 -- What the code finds at a place of a quadtree stands for what the ranking finds there.
-use Rattle.std.proofs.Common.{◌≡◌, ℕ, ◌*◌, ◌≤◌, arith, Bool, true, false, cond, not, true≢false, List, [], ◌∷◌, ◌++◌, map, filter, filter_map, flat_map, All, Option, None, Some, option_map, refl, sym, ap, ap₂, ◌∙◌, subst}
+use Rattle.std.proofs.Common.{◌≡◌, ℕ, ◌*◌, ◌<◌, ◌≤◌, arith, Bool, true, false, cond, not, true≢false, List, [], ◌∷◌, ◌++◌, length, map, filter, filter_map, flat_map, All, Option, None, Some, option_map, refl, sym, ap, ap₂, ◌∙◌, subst}
 use Rattle.std.specs.List.{AllZip}
 use Rattle.std.specs.Ordering.{is_lt}
 use Rattle.std.specs.Cmp.{alike_right}
@@ -9,10 +9,12 @@ use Rattle.exact_frac.specs.declared.frac.Frac.{Frac}
 use Rattle.sand_base.specs.Plane.{IsGoalInClosedPlane, IsShapeInPlane}
 use Rattle.sand_base.specs.declared.goal.Goal.{Goal}
 use Rattle.sand_base.specs.declared.goal.Goal.TheVariants as figure
+use Rattle.sand_base.specs.declared.rect.Rect.{Rect}
 use Rattle.sand_base.specs.declared.rough.Rough.{Rough}
 use Rattle.sand_base.specs.declared.rough.Rough.TheVariants as rough
 use Rattle.sand_base.specs.declared.shape.Shape.{Shape}
 use Rattle.sand_base.specs.declared.shape.Shape.TheVariants as shape
+use Rattle.z_code.specs.Block.{square_of, with_square, children_of}
 use Rattle.z_code.specs.declared.block.Block.{Block}
 use Rattle.sand_model.specs.Database.{shape_at}
 use Rattle.sand_model.specs.FigureGap.{IsFigureGap}
@@ -27,7 +29,7 @@ use Rattle.best_first.specs.Reach.{IsSameGap}
 use Rattle.best_first.specs.declared.item.Item.{Item}
 use Rattle.best_first.specs.declared.item.Item.TheVariants as item
 use Rattle.best_first.proofs.Gaps.{same_itself}
-use Rattle.rank_cursor.specs.Cursor.{the_measure, goal_gap, exact_found, entry_found}
+use Rattle.rank_cursor.specs.Cursor.{the_measure, goal_gap, block_found, exact_found, entry_found}
 use Rattle.rank_cursor.specs.Ranking.{Ranking, block_gap, leaf_item, shown}
 use Rattle.rank_cursor.proofs.AlikeLists.{all_alike_append}
 use Rattle.rank_cursor.proofs.Counted.{same_greater}
@@ -54,6 +56,13 @@ pub bound_same : (leaf : Frac) (id : ℕ) (g h : Frac) → IsSameGap g h → (i 
 bound_same leaf id g h same i is =
     subst (λ (x : Item Block). AllZip IsAlike (x ∷ []) (item.Rough (greater h leaf) id 0 ∷ [])) (sym is)
     ((same_greater g leaf h leaf same (same_itself leaf), refl, refl), tt)
+
+pub block_same : (goal : Goal) (pair : Block × Rect) (g : Frac) → pair.1 ≡ square_of pair.0 → IsSameGap g (goal_gap goal (figure.Rect pair.1)) → IsAlike (item.Node g pair.0) (block_found goal pair.0)
+block_same goal pair g is same = (subst (λ (r : Rect). IsSameGap g (goal_gap goal (figure.Rect r))) is same, refl)
+
+-- a block has four quarters
+pub below_four : (b : Block) (pairs : List (Block × Rect)) (i : ℕ) → pairs ≡ map with_square (children_of b) → i < 4 → i < length pairs
+below_four b pairs i is below = subst (λ n. i < n) (sym (ap length is)) below
 
 -- ---- rough shapes
 

@@ -44,7 +44,7 @@ impl<'s, G: ShapeOf + Drop> Hierarchy for RankTree<'s, G> {
             return Ok(());
         }
         match self.pmr.visit(alloc, desk, node) {
-            Ok(place) => match add_found(alloc, &self.goal, gap, node, &place, found) {
+            Ok(place) => match add_found(&self.goal, gap, node, &place, found) {
                 Ok(()) => Ok(()),
                 Err(NoMemory {}) => Err(PageFault::Memory),
             },

@@ -1,4 +1,4 @@
-ghost use Rattle.std.specs.Prelude.{◌≡◌, ◌<◌, List, map, flat_map, All, Option, option_to_list, IfOk, OnOk, OnErr};
+ghost use Rattle.std.specs.Prelude.{◌≡◌, ◌+◌, ◌<◌, ◌≤◌, map, flat_map, All, option_to_list, vec_len, vec_capacity, OnOk, OnErr};
 ghost use Rattle.std.specs.List.{AllZip};
 ghost use Rattle.sand_base.specs.Plane.{IsGoalInClosedPlane, IsRectInClosedPlane, IsShapeInClosedPlane};
 ghost use Rattle.sand_base.specs.declared.TheConstants.{COORDINATE_BITS};
@@ -20,7 +20,6 @@ use exact_frac::Frac;
 use pmr_tree::{Listed, Node};
 use ring_geom::{gap_goal, gap_goal_rect};
 use sand_base::{Goal, NoMemory, Rect, Rough, Shape};
-use std::alloc::Global;
 use z_code::Block;
 
 // The gap of a rectangle from the goal.
@@ -39,16 +38,6 @@ pub fn shape_gap(goal: &Goal, shape: &Shape) -> Frac
     ensures { IsSameGap result (goal_gap goal.now (figure.Shape shape.now)) }
 {
     gap_goal(goal, shape)
-}
-
-// A block as the frontier holds it.
-fn block_item(goal: &Goal, block: Block) -> Item<Block>
-    requires goal { IsGoalInClosedPlane goal.now }
-    requires block { IsBlock block }
-    ensures { IsAlike result (block_found goal.now block) }
-{
-    let gap = rect_gap(goal, block.rect());
-    Item::Node { gap, node: block }
 }
 
 // An exact item, unless it is nearer than its leaf: then it was given already.
@@ -90,81 +79,58 @@ fn entry_item(goal: &Goal, leaf: Frac, listed: Listed) -> Option<Item<Block>>
     }
 }
 
-// Adds what an entry of a leaf gives at the end of the list.
-fn push_entry(
-    goal: &Goal,
-    leaf: Frac,
-    listed: Listed,
-    items: &mut Vec<Item<Block>>,
-) -> Result<(), NoMemory>
+// Adds what an entry of a leaf gives at the end of a list that has room for it.
+fn push_entry(goal: &Goal, leaf: Frac, listed: Listed, found: &mut Vec<Item<Block>>)
     requires goal { IsGoalInClosedPlane goal.now }
     requires rough { IsRoughInPlane listed.rough }
-    ensures { OnOk result (FindsAlike (entry_found goal.now leaf listed.id listed.rough) items.old.items items.new.items) }
+    requires room { vec_len found.old < vec_capacity found.old }
+    ensures added { FindsAlike (entry_found goal.now leaf listed.id listed.rough) found.old.items found.new.items }
+    ensures len { vec_len found.new ≤ vec_len found.old + 1 }
+    ensures capacity { vec_capacity found.new ≡ vec_capacity found.old }
 {
-    let Some(item) = entry_item(goal, leaf, listed) else {
-        return Ok(());
-    };
-    items.push(item)?;
-    Ok(())
+    if let Some(item) = entry_item(goal, leaf, listed) {
+        found.push_reserved(item);
+    }
 }
 
-// The four children.
-fn child_items(alloc: Global, goal: &Goal, block: Block) -> Result<Vec<Item<Block>>, NoMemory>
-    requires goal { IsGoalInClosedPlane goal.now }
-    requires block { IsBlock block }
-    requires above_points { block.level < COORDINATE_BITS }
-    ensures { IfOk result (λ items. AllZip IsAlike items.items (map (block_found goal.now) (children_of block))) }
-{
-    let mut items = Vec::with_capacity(alloc, 4)?;
-    let [first, second, third, fourth] = block.children();
-    items.push(block_item(goal, first))?;
-    items.push(block_item(goal, second))?;
-    items.push(block_item(goal, third))?;
-    items.push(block_item(goal, fourth))?;
-    Ok(items)
-}
-
-// The items of a leaf.
-fn leaf_items(
-    alloc: Global,
+// Adds the items of a leaf at the end of the list.
+fn push_leaf(
     goal: &Goal,
     leaf: Frac,
     list: &[Listed],
-) -> Result<Vec<Item<Block>>, NoMemory>
+    found: &mut Vec<Item<Block>>,
+) -> Result<(), NoMemory>
     requires goal { IsGoalInClosedPlane goal.now }
     requires roughs { All (λ l. IsRoughInPlane l.rough) list.now }
-    ensures { IfOk result (λ items. AllZip IsAlike items.items (flat_map (λ l. entry_found goal.now leaf l.id l.rough) list.now)) }
+    ensures added { OnOk result (FindsAlike (flat_map (λ l. entry_found goal.now leaf l.id l.rough) list.now) found.old.items found.new.items) }
+    ensures unchanged { OnErr result (found.new.items ≡ found.old.items) }
 {
-    let mut items = Vec::with_capacity(alloc, list.len())?;
+    found.reserve(list.len())?;
     'entries: for listed in list {
-        push_entry(goal, leaf, *listed, &mut items)?;
+        push_entry(goal, leaf, *listed, found);
     }
-    Ok(items)
+    Ok(())
 }
 
-// What a place gives.
-fn place_items(
-    alloc: Global,
-    goal: &Goal,
-    leaf: Frac,
-    block: Block,
-    place: &Node,
-) -> Result<Vec<Item<Block>>, NoMemory>
+// Adds the four children at the end of the list.
+fn push_children(goal: &Goal, block: Block, found: &mut Vec<Item<Block>>) -> Result<(), NoMemory>
     requires goal { IsGoalInClosedPlane goal.now }
     requires block { IsBlock block }
-    requires above_points { place.now ≡ of_tree.Inner → block.level < COORDINATE_BITS }
-    requires range { IsFoundInRange place.now }
-    ensures { IfOk result (λ items. AllZip IsAlike items.items (place_found goal.now leaf block place.now)) }
+    requires above_points { block.level < COORDINATE_BITS }
+    ensures added { OnOk result (FindsAlike (map (block_found goal.now) (children_of block)) found.old.items found.new.items) }
+    ensures unchanged { OnErr result (found.new.items ≡ found.old.items) }
 {
-    match place {
-        Node::Inner => child_items(alloc, goal, block),
-        Node::Leaf(list) => leaf_items(alloc, goal, leaf, list.as_slice()),
+    found.reserve(4)?;
+    'children: for (child, square) in &block.quarters() {
+        let gap = rect_gap(goal, *square);
+        found.push_reserved(Item::Node { gap, node: *child });
     }
+    Ok(())
 }
 
-// Adds what a place gives at the end of the list, all or nothing.
+// Adds what a place gives at the end of the list. It takes room for all of it first, so that a refusal leaves the
+// list as it was.
 pub fn add_found(
-    alloc: Global,
     goal: &Goal,
     leaf: Frac,
     block: Block,
@@ -178,7 +144,8 @@ pub fn add_found(
     ensures added { OnOk result (FindsAlike (place_found goal.now leaf block place.now) found.old.items found.new.items) }
     ensures unchanged { OnErr result (found.new.items ≡ found.old.items) }
 {
-    let items = place_items(alloc, goal, leaf, block, place)?;
-    found.extend_from_slice(&items)?;
-    Ok(())
+    match place {
+        Node::Inner => push_children(goal, block, found),
+        Node::Leaf(list) => push_leaf(goal, leaf, list.as_slice(), found),
+    }
 }
