@@ -1,25 +1,25 @@
 -- What the code finds at a pair of leaves stands for what the join finds there.
-use Rattle.std.proofs.Common.{◌≡◌, ℕ, ◌+◌, ◌<◌, ◌≤◌, arith, length, take, get_or, Bool, true, false, cond, not, ◌||◌, true≢false, List, [], ◌∷◌, ◌++◌, map, filter, filter_map, flat_map, All, Contains, Option, None, Some, option_to_list, refl, sym, ap, ap₂, ◌∙◌, subst, append_assoc}
+use Rattle.std.proofs.Common.{◌≡◌, ℕ, ◌≤◌, arith, Bool, true, false, cond, not, ◌||◌, true≢false, List, [], ◌∷◌, ◌++◌, map, filter, filter_map, flat_map, All, Contains, Option, None, Some, option_to_list, refl, sym, ap, ap₂, ◌∙◌, subst}
 use Rattle.std.specs.List.{AllZip}
 use Rattle.std.specs.Ordering.{is_lt}
 use Rattle.std.specs.Cmp.{alike_right}
-use Rattle.std.proofs.lemmas.List.{take_more}
 use Rattle.std.proofs.lemmas.List.Elements.{All-contains}
 use Rattle.exact_frac.specs.Frac.{value_cmp, value_cmp_total}
 use Rattle.exact_frac.specs.declared.frac.Frac.{Frac}
 use Rattle.sand_base.specs.Plane.{IsShapeInPlane}
 use Rattle.sand_base.specs.declared.goal.Goal.{Goal}
 use Rattle.sand_base.specs.declared.goal.Goal.TheVariants as figure
+use Rattle.sand_base.specs.declared.rect.Rect.{Rect}
 use Rattle.sand_base.specs.declared.rough.Rough.{Rough}
 use Rattle.sand_base.specs.declared.rough.Rough.TheVariants as rough
 use Rattle.sand_base.specs.declared.shape.Shape.{Shape}
 use Rattle.sand_base.specs.declared.shape.Shape.TheVariants as shape
+use Rattle.z_code.specs.Block.{square_of}
 use Rattle.z_code.specs.declared.block.Block.{Block}
-use Rattle.sand_model.specs.Nodes.{LeafItem, pairs_of, pair_item, is_queued, is_rough, greater, rough_figure}
+use Rattle.sand_model.specs.Nodes.{LeafItem, pairs_of, pair_item, is_queued, is_rough, greater, rough_figure, square_figure}
 use Rattle.page_pool.specs.Disk.{PageMap}
 use Rattle.pmr_tree.specs.Entries.{figure_of}
 use Rattle.pmr_tree.specs.declared.listed.Listed.{Listed}
-use Rattle.best_first.specs.Hierarchy.{FindsAlike}
 use Rattle.best_first.specs.Item.{IsAlike}
 use Rattle.best_first.specs.Reach.{IsSameGap}
 use Rattle.best_first.specs.declared.item.Item.{Item}
@@ -27,12 +27,11 @@ use Rattle.best_first.specs.declared.item.Item.TheVariants as item
 use Rattle.best_first.proofs.Bags.{here, there}
 use Rattle.best_first.proofs.Gaps.{same_itself}
 use Rattle.rank_cursor.specs.Cursor.{the_measure}
-use Rattle.rank_cursor.proofs.AlikeLists.{all_alike_append, one_more}
+use Rattle.rank_cursor.proofs.AlikeLists.{all_alike_append}
 use Rattle.rank_cursor.proofs.Counted.{same_greater}
-use Rattle.rank_cursor.proofs.Elements.{map_append}
 use Rattle.rank_cursor.proofs.LeafEntries.{IsEntryOf}
 use Rattle.dist_join.specs.Joining.{Joining, node_at, squares_gap, leaf_item, shown}
-use Rattle.dist_join.specs.OverPages.{PageSide, joining_over, exact_found, is_bound, by_figures, entry_found, row_found}
+use Rattle.dist_join.specs.OverPages.{PageSide, joining_over, blocks_found, exact_found, is_bound, by_figures, entry_found, row_found}
 use Rattle.dist_join.proofs.JoinLaws.{flat_twice, one_item, pair_given}
 
 -- ---- rough shapes
@@ -224,26 +223,13 @@ module _ (leaf : Frac) (l r : Listed) (f g : Goal) (gap : Frac) (left_is : f ≡
       subst (λ c. AllZip IsAlike items (by_figures leaf l.id r.id (figure_of l.rough) (figure_of r.rough) c)) (sym (sym is ∙ fails))
       (exact_same leaf l.id r.id gap (the_measure (figure_of l.rough) (figure_of r.rough)) figures_near items exact)
 
--- ---- loops that add
+-- ---- pairs of blocks
 
-both_added : {X : Type 0} (first old new found more : List X) → old ≡ first ++ found → new ≡ old ++ more → new ≡ first ++ (found ++ more)
-both_added first old new found more h k = k ∙ ap (λ l. l ++ more) h ∙ append_assoc first found more
-
--- what one more element gives was added
-pub one_added : {X N : Type 0} (f : X → List (Item N)) (xs : List X) (i : ℕ) (d : X) (first old new : List (Item N)) → i < length xs
-    → FindsAlike (flat_map f (take i xs)) first old → FindsAlike (f (get_or xs i d)) old new → FindsAlike (flat_map f (take (i + 1) xs)) first new
-one_added f xs i d first old new below h k = record {
-  found = h.found ++ k.found;
-  adds = both_added first old new h.found k.found h.adds k.adds;
-  alike = one_more f xs i d h.found (h.found ++ k.found) below h.alike (record { found = k.found; adds = refl; alike = k.alike });
-}
-
--- one more item was pushed
-pub one_pushed : {X N : Type 0} (f : X → Item N) (xs : List X) (i : ℕ) (d : X) (first old new : List (Item N)) (pushed : Item N) → i < length xs
-    → FindsAlike (map f (take i xs)) first old → IsAlike pushed (f (get_or xs i d)) → new ≡ old ++ pushed ∷ [] → FindsAlike (map f (take (i + 1) xs)) first new
-one_pushed f xs i d first old new pushed below h same is = record {
-  found = h.found ++ pushed ∷ [];
-  adds = both_added first old new h.found (pushed ∷ []) h.adds is;
-  alike = subst (AllZip IsAlike (h.found ++ pushed ∷ [])) (sym (ap (map f) (take_more xs i d below) ∙ map_append f (take i xs) (get_or xs i d ∷ [])))
-      (all_alike_append h.found (map f (take i xs)) (pushed ∷ []) (f (get_or xs i d) ∷ []) h.alike (same, tt));
-}
+-- two blocks under the gap of their squares
+pub blocks_same : (left right : Block × Rect) (g : Frac) → left.1 ≡ square_of left.0 → right.1 ≡ square_of right.0 → IsSameGap g (the_measure (figure.Rect left.1) (figure.Rect right.1))
+    → IsAlike (item.Node g (left.0, right.0)) (blocks_found (left.0, right.0))
+blocks_same left right g is others same = (
+  subst (λ (r : Rect). IsSameGap g (the_measure (figure.Rect r) (square_figure right.0))) is
+      (subst (λ (r : Rect). IsSameGap g (the_measure (figure.Rect left.1) (figure.Rect r))) others same),
+  refl,
+)

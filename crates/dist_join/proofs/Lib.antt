@@ -10,5 +10,6 @@ pub mod Lawful
 -- the code
 pub mod FoundPairs
 pub mod Expanding
+pub mod RoomForPairs
 -- examples
 mod WorkedCases

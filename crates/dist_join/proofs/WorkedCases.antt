@@ -1,5 +1,5 @@
 -- Pairs of places, worked: into what they are divided, what they list, and how many stand below them.
-use Rattle.std.proofs.Common.{◌≡◌, ℕ, List, [], ◌∷◌, length, Some, refl}
+use Rattle.std.proofs.Common.{◌≡◌, [], ◌∷◌, length, Some, refl}
 use Rattle.z_code.specs.Block.{child}
 use Rattle.z_code.specs.declared.block.Block.{Block}
 use Rattle.sand_model.specs.Tree.{Tree, Leaf, Inner, root_block}

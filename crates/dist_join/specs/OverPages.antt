@@ -5,6 +5,7 @@ use Rattle.exact_frac.specs.Frac.{value_cmp}
 use Rattle.exact_frac.specs.declared.frac.Frac.{Frac}
 use Rattle.sand_base.specs.declared.TheConstants.{COORDINATE_BITS}
 use Rattle.sand_base.specs.declared.goal.Goal.{Goal}
+use Rattle.sand_base.specs.declared.rect.Rect.{Rect}
 use Rattle.sand_base.specs.declared.rough.Rough.{Rough}
 use Rattle.sand_base.specs.declared.rough.Rough.TheVariants as rough
 use Rattle.sand_base.specs.declared.shape.Shape.{Shape}
@@ -112,6 +113,10 @@ parts_of b (place.TheVariants.Leaf list) = b ∷ []
 -- a block with each of the others
 abbrev pub pairs_found : List Block → Block → List (Item (Block × Block))
 pairs_found others b = map (λ c. blocks_found (b, c)) others
+
+-- a block with each of the others, all beside their squares
+abbrev pub squares_found : List (Block × Rect) → Block × Rect → List (Item (Block × Block))
+squares_found others left = map (λ right. blocks_found (left.0, right.0)) others
 
 -- what a pair of places of two quadtrees gives
 abbrev pub places_found : Frac → Block × Block → place.Node → place.Node → List (Item (Block × Block))

@@ -4,7 +4,7 @@ ghost use Rattle.dist_join.specs.OverPages.{paged, joining_over, visit_of, pair_
 
 use crate::PairTree;
 use crate::blocks::are_blocks;
-use crate::figures::{figures_gap, squares_gap};
+use crate::figures::{figures_gap, rects_gap};
 use crate::looks::{fetch_both, look_at_both};
 use crate::places::add_found;
 use best_first::{Hierarchy, Item};
@@ -26,7 +26,8 @@ impl<'s, G: ShapeOf + Drop> Hierarchy for PairTree<'s, G> {
 
     fn root(&self) -> (Frac, (Block, Block)) {
         let block = Block::root();
-        (squares_gap(block, block), (block, block))
+        let square = block.rect();
+        (rects_gap(square, square), (block, block))
     }
 
     fn ceiling(&self) -> Option<u32> {
@@ -55,7 +56,7 @@ impl<'s, G: ShapeOf + Drop> Hierarchy for PairTree<'s, G> {
             Err(NoMemory {}) => return Err(PageFault::Memory),
         }
         match look_at_both(alloc, desk.pages(), &self.left, block, &self.right, other) {
-            Ok((place, second)) => match add_found(alloc, gap, node, &place, &second, found) {
+            Ok((place, second)) => match add_found(gap, node, &place, &second, found) {
                 Ok(()) => Ok(()),
                 Err(NoMemory {}) => Err(PageFault::Memory),
             },

@@ -1,4 +1,4 @@
-ghost use Rattle.std.specs.Prelude.{◌≡◌, ◌||◌, flat_map, All, option_to_list, OnOk};
+ghost use Rattle.std.specs.Prelude.{◌≡◌, ◌+◌, ◌<◌, ◌≤◌, ◌||◌, length, flat_map, All, option_to_list, vec_len, vec_capacity, OnOk, OnErr};
 ghost use Rattle.std.specs.List.{AllZip};
 ghost use Rattle.sand_model.specs.Nodes.{greater};
 ghost use Rattle.pmr_tree.specs.Entries.{IsRoughInPlane};
@@ -8,6 +8,7 @@ ghost use Rattle.best_first.specs.Item.{IsAlike};
 ghost use Rattle.dist_join.specs.OverPages.{is_bound as bounds, exact_found, entry_found, row_found};
 
 use crate::figures::{figure, figures_gap, is_bound};
+use crate::room::reserve_pairs;
 use best_first::Item;
 use exact_frac::Frac;
 use pmr_tree::Listed;
@@ -52,54 +53,49 @@ fn entry_item(leaf: Frac, left: Listed, right: Listed) -> Option<Item<(Block, Bl
     exact_item(leaf, left.id, right.id, gap)
 }
 
-// Adds what two entries give at the end of the list.
-fn push_entry(
-    leaf: Frac,
-    left: Listed,
-    right: Listed,
-    items: &mut Vec<Item<(Block, Block)>>,
-) -> Result<(), NoMemory>
+// Adds what two entries give at the end of a list that has room for it.
+fn push_entry(leaf: Frac, left: Listed, right: Listed, found: &mut Vec<Item<(Block, Block)>>)
     requires left { IsRoughInPlane left.rough }
     requires right { IsRoughInPlane right.rough }
-    ensures { OnOk result (FindsAlike (entry_found leaf left right) items.old.items items.new.items) }
+    requires room { vec_len found.old < vec_capacity found.old }
+    ensures added { FindsAlike (entry_found leaf left right) found.old.items found.new.items }
+    ensures len { vec_len found.new ≤ vec_len found.old + 1 }
+    ensures capacity { vec_capacity found.new ≡ vec_capacity found.old }
 {
-    let Some(item) = entry_item(leaf, left, right) else {
-        return Ok(());
-    };
-    items.push(item)?;
-    Ok(())
+    if let Some(item) = entry_item(leaf, left, right) {
+        found.push_reserved(item);
+    }
 }
 
-// Adds what an entry gives with those of the other leaf.
-fn push_row(
-    leaf: Frac,
-    left: Listed,
-    rights: &[Listed],
-    items: &mut Vec<Item<(Block, Block)>>,
-) -> Result<(), NoMemory>
+// Adds what an entry gives with those of the other leaf at the end of a list that has room for it.
+fn push_row(leaf: Frac, left: Listed, rights: &[Listed], found: &mut Vec<Item<(Block, Block)>>)
     requires left { IsRoughInPlane left.rough }
     requires rights { All (λ r. IsRoughInPlane r.rough) rights.now }
-    ensures { OnOk result (FindsAlike (row_found leaf rights.now left) items.old.items items.new.items) }
+    requires room { vec_len found.old + length rights.now ≤ vec_capacity found.old }
+    ensures added { FindsAlike (row_found leaf rights.now left) found.old.items found.new.items }
+    ensures len { vec_len found.new ≤ vec_len found.old + length rights.now }
+    ensures capacity { vec_capacity found.new ≡ vec_capacity found.old }
 {
     'rights: for right in rights {
-        push_entry(leaf, left, *right, items)?;
+        push_entry(leaf, left, *right, found);
     }
-    Ok(())
 }
 
-// Adds the items of two leaves.
+// Adds the items of two leaves at the end of the list.
 pub fn push_leaves(
     leaf: Frac,
     lefts: &[Listed],
     rights: &[Listed],
-    items: &mut Vec<Item<(Block, Block)>>,
+    found: &mut Vec<Item<(Block, Block)>>,
 ) -> Result<(), NoMemory>
     requires lefts { All (λ l. IsRoughInPlane l.rough) lefts.now }
     requires rights { All (λ r. IsRoughInPlane r.rough) rights.now }
-    ensures { OnOk result (FindsAlike (flat_map (row_found leaf rights.now) lefts.now) items.old.items items.new.items) }
+    ensures added { OnOk result (FindsAlike (flat_map (row_found leaf rights.now) lefts.now) found.old.items found.new.items) }
+    ensures unchanged { OnErr result (found.new.items ≡ found.old.items) }
 {
+    reserve_pairs(lefts.len(), rights.len(), found)?;
     'lefts: for left in lefts {
-        push_row(leaf, *left, rights, items)?;
+        push_row(leaf, *left, rights, found);
     }
     Ok(())
 }

@@ -1,16 +1,17 @@
 ghost use Rattle.std.specs.Prelude.{◌≡◌};
-ghost use Rattle.sand_base.specs.Plane.{IsGoalInClosedPlane};
-ghost use Rattle.z_code.specs.Block.{IsBlock};
+ghost use Rattle.sand_base.specs.Plane.{IsGoalInClosedPlane, IsRectInClosedPlane};
+ghost use Rattle.sand_base.specs.declared.goal.Goal.TheVariants as of_figure;
+ghost use Rattle.z_code.specs.Block.{IsWithSquare};
 ghost use Rattle.pmr_tree.specs.Entries.{figure_of, IsRoughInPlane};
 ghost use Rattle.best_first.specs.Item.{IsAlike};
 ghost use Rattle.best_first.specs.Reach.{IsSameGap};
 ghost use Rattle.rank_cursor.specs.Cursor.{the_measure};
-ghost use Rattle.dist_join.specs.OverPages.{blocks_gap, blocks_found, is_bound};
+ghost use Rattle.dist_join.specs.OverPages.{blocks_found, is_bound};
 
 use best_first::Item;
 use exact_frac::Frac;
 use ring_geom::{gap_goal, gap_goal_rect};
-use sand_base::{Goal, Rough, Shape};
+use sand_base::{Goal, Rect, Rough, Shape};
 use z_code::Block;
 
 // The gap of two figures.
@@ -25,25 +26,25 @@ pub fn figures_gap(a: &Goal, b: &Goal) -> Frac
     }
 }
 
-// The gap of the squares of two blocks.
-pub fn squares_gap(left: Block, right: Block) -> Frac
-    requires left { IsBlock left }
-    requires right { IsBlock right }
-    ensures { IsSameGap result (blocks_gap (left, right)) }
+// The gap of two rectangles.
+pub fn rects_gap(left: Rect, right: Rect) -> Frac
+    requires left { IsRectInClosedPlane left }
+    requires right { IsRectInClosedPlane right }
+    ensures { IsSameGap result (the_measure (of_figure.Rect left) (of_figure.Rect right)) }
 {
-    figures_gap(&Goal::Rect(left.rect()), &Goal::Rect(right.rect()))
+    gap_goal_rect(&Goal::Rect(left), right)
 }
 
-// Two blocks as the frontier holds them.
-pub fn pair_item(left: Block, right: Block) -> Item<(Block, Block)>
-    requires left { IsBlock left }
-    requires right { IsBlock right }
-    ensures { IsAlike result (blocks_found (left, right)) }
+// Two blocks as the frontier holds them, under the gap of their squares.
+pub fn pair_item(left: (Block, Rect), right: (Block, Rect)) -> Item<(Block, Block)>
+    requires left { IsWithSquare left }
+    requires right { IsWithSquare right }
+    ensures { IsAlike result (blocks_found (left.0, right.0)) }
 {
-    let gap = squares_gap(left, right);
+    let gap = rects_gap(left.1, right.1);
     Item::Node {
         gap,
-        node: (left, right),
+        node: (left.0, right.0),
     }
 }
 

@@ -17,6 +17,7 @@ mod laws;
 mod looks;
 mod pair_tree;
 mod places;
+mod room;
 
 pub use laws::join_laws;
 pub use pair_tree::PairTree;

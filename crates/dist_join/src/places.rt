@@ -1,134 +1,94 @@
-ghost use Rattle.std.specs.Prelude.{◌≡◌, ◌<◌, ◌∷◌, [], flat_map, All, IfOk, OnOk, OnErr};
-ghost use Rattle.std.specs.List.{AllZip};
+ghost use Rattle.std.specs.Prelude.{◌≡◌, ◌+◌, ◌<◌, ◌≤◌, length, map, flat_map, All, vec_len, vec_capacity, OnOk, OnErr};
 ghost use Rattle.sand_base.specs.declared.TheConstants.{COORDINATE_BITS};
-ghost use Rattle.z_code.specs.Block.{IsBlock};
+ghost use Rattle.z_code.specs.Block.{IsBlock, with_square, IsWithSquare};
 ghost use Rattle.pmr_tree.specs.Calls.{IsFoundInRange};
-ghost use Rattle.pmr_tree.specs.Entries.{IsRoughInPlane};
 ghost use Rattle.pmr_tree.specs.declared.listed.Node.TheVariants as of_tree;
 ghost use Rattle.best_first.specs.Hierarchy.{FindsAlike};
-ghost use Rattle.best_first.specs.Item.{IsAlike};
-ghost use Rattle.dist_join.specs.OverPages.{row_found, parts_of, pairs_found, places_found};
+ghost use Rattle.dist_join.specs.OverPages.{squares_found, parts_of, pairs_found, places_found};
 
 use crate::entries::push_leaves;
 use crate::figures::pair_item;
+use crate::room::reserve_pairs;
 use best_first::Item;
 use exact_frac::Frac;
-use pmr_tree::{Listed, Node};
-use sand_base::NoMemory;
-use std::alloc::Global;
+use pmr_tree::Node;
+use sand_base::{NoMemory, Rect};
 use z_code::Block;
 
-// The blocks into which a place is divided: its children, or itself where it is a leaf.
-fn parts(alloc: Global, block: Block, place: &Node) -> Result<Vec<Block>, NoMemory>
-    requires block { IsBlock block }
-    requires above_points { place.now ≡ of_tree.Inner → block.level < COORDINATE_BITS }
-    ensures parts { IfOk result (λ blocks. blocks.items ≡ parts_of block place.now) }
-    ensures blocks { IfOk result (λ blocks. All IsBlock blocks.items) }
-{
-    let mut blocks = Vec::with_capacity(alloc, 4)?;
-    match place {
-        Node::Inner => blocks.extend_from_slice(&block.children())?,
-        Node::Leaf(_) => blocks.push(block)?,
-    }
-    Ok(blocks)
-}
-
-// Adds a block with each of the others.
-fn push_with(
-    left: Block,
-    rights: &[Block],
-    items: &mut Vec<Item<(Block, Block)>>,
-) -> Result<(), NoMemory>
-    requires left { IsBlock left }
-    requires rights { All IsBlock rights.now }
-    ensures { OnOk result (FindsAlike (pairs_found rights.now left) items.old.items items.new.items) }
+// Adds a block with each of the others at the end of a list that has room for them.
+fn push_with(left: (Block, Rect), rights: &[(Block, Rect)], found: &mut Vec<Item<(Block, Block)>>)
+    requires left { IsWithSquare left }
+    requires rights { All IsWithSquare rights.now }
+    requires room { vec_len found.old + length rights.now ≤ vec_capacity found.old }
+    ensures added { FindsAlike (squares_found rights.now left) found.old.items found.new.items }
+    ensures len { vec_len found.new ≤ vec_len found.old + length rights.now }
+    ensures capacity { vec_capacity found.new ≡ vec_capacity found.old }
 {
     'rights: for right in rights {
-        items.push(pair_item(left, *right))?;
+        found.push_reserved(pair_item(left, *right));
     }
-    Ok(())
 }
 
 // Adds each block of one list with each of the other.
 fn push_pairs(
-    lefts: &[Block],
-    rights: &[Block],
-    items: &mut Vec<Item<(Block, Block)>>,
+    lefts: &[(Block, Rect)],
+    rights: &[(Block, Rect)],
+    found: &mut Vec<Item<(Block, Block)>>,
 ) -> Result<(), NoMemory>
-    requires lefts { All IsBlock lefts.now }
-    requires rights { All IsBlock rights.now }
-    ensures { OnOk result (FindsAlike (flat_map (pairs_found rights.now) lefts.now) items.old.items items.new.items) }
+    requires lefts { All IsWithSquare lefts.now }
+    requires rights { All IsWithSquare rights.now }
+    ensures added { OnOk result (FindsAlike (flat_map (squares_found rights.now) lefts.now) found.old.items found.new.items) }
+    ensures unchanged { OnErr result (found.new.items ≡ found.old.items) }
 {
+    reserve_pairs(lefts.len(), rights.len(), found)?;
     'lefts: for left in lefts {
-        push_with(*left, rights, items)?;
+        push_with(*left, rights, found);
     }
     Ok(())
 }
 
-// The pairs into which a pair of places is divided.
-fn pair_items(
-    alloc: Global,
-    node: (Block, Block),
-    place: &Node,
+// Adds each of some blocks with each into which another place is divided: its quarters, or itself where it is a leaf.
+fn push_beside(
+    lefts: &[(Block, Rect)],
+    block: Block,
     other: &Node,
-) -> Result<Vec<Item<(Block, Block)>>, NoMemory>
-    requires block { IsBlock node.0 }
-    requires other_block { IsBlock node.1 }
-    requires above_points { place.now ≡ of_tree.Inner → node.0.level < COORDINATE_BITS }
-    requires other_above { other.now ≡ of_tree.Inner → node.1.level < COORDINATE_BITS }
-    ensures { IfOk result (λ items. AllZip IsAlike items.items (flat_map (pairs_found (parts_of node.1 other.now)) (parts_of node.0 place.now))) }
+    found: &mut Vec<Item<(Block, Block)>>,
+) -> Result<(), NoMemory>
+    requires lefts { All IsWithSquare lefts.now }
+    requires block { IsBlock block }
+    requires above_points { other.now ≡ of_tree.Inner → block.level < COORDINATE_BITS }
+    ensures added { OnOk result (FindsAlike (flat_map (squares_found (map with_square (parts_of block other.now))) lefts.now) found.old.items found.new.items) }
+    ensures unchanged { OnErr result (found.new.items ≡ found.old.items) }
 {
-    let lefts = parts(alloc, node.0, place)?;
-    let rights = parts(alloc, node.1, other)?;
-    let mut items = Vec::with_capacity(alloc, lefts.len().saturating_mul(rights.len()))?;
-    push_pairs(&lefts, &rights, &mut items)?;
-    Ok(items)
-}
-
-// The items of two leaves.
-fn leaf_items(
-    alloc: Global,
-    leaf: Frac,
-    lefts: &[Listed],
-    rights: &[Listed],
-) -> Result<Vec<Item<(Block, Block)>>, NoMemory>
-    requires lefts { All (λ l. IsRoughInPlane l.rough) lefts.now }
-    requires rights { All (λ r. IsRoughInPlane r.rough) rights.now }
-    ensures { IfOk result (λ items. AllZip IsAlike items.items (flat_map (row_found leaf rights.now) lefts.now)) }
-{
-    let mut items = Vec::with_capacity(alloc, lefts.len().saturating_mul(rights.len()))?;
-    push_leaves(leaf, lefts, rights, &mut items)?;
-    Ok(items)
-}
-
-// What a pair of places gives.
-fn places_items(
-    alloc: Global,
-    leaf: Frac,
-    node: (Block, Block),
-    place: &Node,
-    other: &Node,
-) -> Result<Vec<Item<(Block, Block)>>, NoMemory>
-    requires block { IsBlock node.0 }
-    requires other_block { IsBlock node.1 }
-    requires above_points { place.now ≡ of_tree.Inner → node.0.level < COORDINATE_BITS }
-    requires other_above { other.now ≡ of_tree.Inner → node.1.level < COORDINATE_BITS }
-    requires range { IsFoundInRange place.now }
-    requires other_range { IsFoundInRange other.now }
-    ensures { IfOk result (λ items. AllZip IsAlike items.items (places_found leaf node place.now other.now)) }
-{
-    match place {
-        Node::Inner => pair_items(alloc, node, place, other),
-        Node::Leaf(lefts) => match other {
-            Node::Inner => pair_items(alloc, node, place, other),
-            Node::Leaf(rights) => leaf_items(alloc, leaf, lefts.as_slice(), rights.as_slice()),
-        },
+    match other {
+        Node::Inner => push_pairs(lefts, &block.quarters(), found),
+        Node::Leaf(_) => push_pairs(lefts, &[(block, block.rect())], found),
     }
 }
 
-// Adds what a pair of places gives at the end of the list, all or nothing.
+// Adds the pairs into which a pair of places is divided.
+fn push_parts(
+    node: (Block, Block),
+    place: &Node,
+    other: &Node,
+    found: &mut Vec<Item<(Block, Block)>>,
+) -> Result<(), NoMemory>
+    requires block { IsBlock node.0 }
+    requires other_block { IsBlock node.1 }
+    requires above_points { place.now ≡ of_tree.Inner → node.0.level < COORDINATE_BITS }
+    requires other_above { other.now ≡ of_tree.Inner → node.1.level < COORDINATE_BITS }
+    ensures added { OnOk result (FindsAlike (flat_map (pairs_found (parts_of node.1 other.now)) (parts_of node.0 place.now)) found.old.items found.new.items) }
+    ensures unchanged { OnErr result (found.new.items ≡ found.old.items) }
+{
+    match place {
+        Node::Inner => push_beside(&node.0.quarters(), node.1, other, found),
+        Node::Leaf(_) => push_beside(&[(node.0, node.0.rect())], node.1, other, found),
+    }
+}
+
+// Adds what a pair of places gives at the end of the list. It takes room for all of it first, so that a refusal
+// leaves the list as it was.
 pub fn add_found(
-    alloc: Global,
     leaf: Frac,
     node: (Block, Block),
     place: &Node,
@@ -144,7 +104,11 @@ pub fn add_found(
     ensures added { OnOk result (FindsAlike (places_found leaf node place.now other.now) found.old.items found.new.items) }
     ensures unchanged { OnErr result (found.new.items ≡ found.old.items) }
 {
-    let items = places_items(alloc, leaf, node, place, other)?;
-    found.extend_from_slice(&items)?;
-    Ok(())
+    match place {
+        Node::Inner => push_parts(node, place, other, found),
+        Node::Leaf(lefts) => match other {
+            Node::Inner => push_parts(node, place, other, found),
+            Node::Leaf(rights) => push_leaves(leaf, lefts.as_slice(), rights.as_slice(), found),
+        },
+    }
 }

@@ -1,9 +1,12 @@
--- What the entries of the left leaf so far give was added.
-use Rattle.std.proofs.Common.{take, flat_map}
+-- What the entries of the left leaf so far give.
+use Rattle.std.proofs.Common.{◌+◌, ◌*◌, ◌≤◌, length, take, flat_map, vec_len, vec_capacity}
 use Rattle.best_first.specs.Hierarchy.{FindsAlike}
 use Rattle.dist_join.specs.OverPages.{row_found}
 use Rattle.dist_join.proofs.entries.push_leaves.Given as goal
 
--- what the entries so far give was added
+-- what the entries so far give was added, and there is room for the rest
 abbrev pub invariant-lefts : goal.invariant-lefts
-invariant-lefts l = FindsAlike (flat_map (row_found l.leaf l.rights) (take l.left-index l.lefts)) l.fn.items.items l.items.items
+invariant-lefts l = record {
+  added : FindsAlike (flat_map (row_found l.leaf l.rights) (take l.left-index l.lefts)) l.fn.found.items l.found.items;
+  room : vec_len l.found + length l.lefts * length l.rights ≤ vec_capacity l.found + l.left-index * length l.rights;
+}
