@@ -1,15 +1,15 @@
 -- The laws of the rules, with rules inside one another to any depth; a depth above the number of tokens is enough.
-use Rattle.std.proofs.Common.{◌≡◌, ℕ, zero, suc, ◌+◌, ◌<◌, ◌≤◌, Bool, true, false, not, ◌&&◌, cond, List, [], ◌∷◌, ◌++◌, length, Some, Result, Ok, Err, refl, sym, ap, subst, ◌∙◌, inl, inr, arith, append_assoc, length-append}
-use Rattle.std.specs.Prelude.{⊤, ◌⊎◌, codes}
+use Rattle.std.proofs.Common.{◌≡◌, ℕ, zero, suc, ◌+◌, ◌<◌, ◌≤◌, Bool, true, false, not, cond, List, [], ◌∷◌, ◌++◌, length, Result, Ok, Err, refl, sym, ap, ◌∙◌, inl, inr, arith, length-append}
+use Rattle.std.specs.Prelude.{codes}
 use Rattle.std.proofs.lemmas.Bool.{and_parts, false≢true}
-use Rattle.script_text.specs.Form.{Class, a_word, a_name, got, fits, head_fits, Rule, a_plan, more_columns, more_values, more_spots, more_tests, more_places, RuleValue, Form, nothing, take, alt, seq, checked, rule, IsOne, Parts, IsChecked, Spells}
+use Rattle.script_text.specs.Form.{Class, head_fits, Rule, a_plan, more_columns, more_values, more_spots, more_tests, more_places, RuleValue, Form, nothing, take, alt, seq, checked, rule, Spells}
 use Rattle.script_text.specs.Grammar.{spelled_at, spelled, read_at, read_rule, reading}
 use Rattle.script_text.specs.Lexical.{Placed}
 use Rattle.script_text.specs.Plan as plan
-use Rattle.script_text.specs.Reading.{State, at, Read, pure, bind, go_on, take_in, front, taken, note, read}
+use Rattle.script_text.specs.Reading.{State, Read, pure, bind, go_on, take_in, note, read}
 use Rattle.script_text.specs.Rules.{body}
 use Rattle.script_text.specs.Token.{name}
-use Rattle.script_text.proofs.FormLaws.{IsTaken, Example, IsStuck, RuleLaws, both, form-ok, form-bad, form-reads, begins}
+use Rattle.script_text.proofs.FormLaws.{Example, RuleLaws, both, form-ok, form-bad, form-reads, begins}
 use Rattle.script_text.proofs.Predictive.{null_of, firsts_of, goes_of, may_end, firsts, goes, is_decided, is_guarded, Front, Stops}
 
 -- one token in hand decides each rule

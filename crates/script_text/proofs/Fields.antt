@@ -1,5 +1,5 @@
 -- Why a field is a value of a kind, or is none.
-use Rattle.std.proofs.Common.{◌≡◌, ℕ, ◌<◌, ◌≤◌, Bool, true, false, ◌||◌, ◌&&◌, not, cond, eqb, ltb, List, [], ◌∷◌, length, Option, Some, None, Result, Ok, Err, refl, sym, ap, subst, ◌∙◌, arith}
+use Rattle.std.proofs.Common.{◌≡◌, ℕ, ◌<◌, ◌≤◌, Bool, true, false, ◌||◌, cond, eqb, ltb, List, [], ◌∷◌, length, Some, None, Result, Ok, Err, refl, sym, ap, subst, ◌∙◌, arith}
 use Rattle.std.specs.Prelude.{ℤ, All, IsUtf8, chars}
 use Rattle.std.specs.Str.{IsAscii}
 use Rattle.std.proofs.lemmas.Str.Ascii.{IsAscii-cons}
@@ -19,7 +19,7 @@ use Rattle.sand_base.specs.declared.value.Value.{Value}
 use Rattle.sand_base.specs.declared.value.Value.TheVariants as value
 use Rattle.script_text.specs.Field.{IsShapeField, IsFieldOf, is_shape_byte}
 use Rattle.script_text.specs.Grammar.{IsOf, whole}
-use Rattle.script_text.specs.Lexical.{Placed, IsLexed, IsCut}
+use Rattle.script_text.specs.Lexical.{Placed, IsCut}
 use Rattle.script_text.specs.Lexing.{pieces, unread}
 use Rattle.script_text.specs.Number.{is_int, int, value_of}
 use Rattle.script_text.specs.Reading.{State, at, start}
@@ -28,7 +28,7 @@ use Rattle.script_text.specs.Token.{is_number, is_digits}
 use Rattle.script_text.proofs.CutLaws.{pieces-cut, cut-pieces, cut-unread}
 use Rattle.script_text.proofs.RunLemmas.{IsAscii-list_all}
 use Rattle.script_text.proofs.TextLemmas.{control-same}
-use Rattle.script_text.proofs.Whole.{of-whole, whole-of, one-value}
+use Rattle.script_text.proofs.Whole.{of-whole, whole-of}
 
 -- what a number in range is
 pub int-some : (field : List ℕ) (n : ℤ) → is_number field ≡ true → Some n ≡ int field → IsFieldOf kind.Int field (value.Int n)

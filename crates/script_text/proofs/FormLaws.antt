@@ -1,16 +1,15 @@
 -- The laws of all forms at once: what is read is written, what is written is read, and where the reader is stuck no other
 -- end would help.
-use Rattle.std.proofs.Common.{◌≡◌, ℕ, Bool, true, false, ◌&&◌, cond, List, [], ◌∷◌, ◌++◌, length, Option, Some, None, Result, Ok, Err, refl, sym, ap, subst, ◌∙◌, inl, inr, append_assoc, arith}
-use Rattle.std.specs.Prelude.{⊤, ◌⊎◌, is_some, pos, nat_le}
+use Rattle.std.proofs.Common.{◌≡◌, Bool, true, false, ◌&&◌, cond, List, [], ◌∷◌, ◌++◌, length, Option, Some, None, Result, Ok, Err, refl, sym, ap, subst, ◌∙◌, inl, inr, append_assoc, arith}
+use Rattle.std.specs.Prelude.{◌⊎◌, is_some, pos, nat_le}
 use Rattle.std.proofs.lemmas.Bool.{and_parts, and_from, cond-true, cond-false, false≢true, leb-true}
-use Rattle.std.proofs.lemmas.List.{append-nil}
-use Rattle.script_text.specs.Form.{Class, a_word, a_name, a_natural, an_int, a_text, a_mark, Got, got, where_true, fits, head_fits, Rule, RuleValue, Form, nothing, take, alt, seq, checked, rule, IsOne, Parts, IsChecked, Spells}
+use Rattle.script_text.specs.Form.{Class, a_word, a_name, a_natural, an_int, a_text, a_mark, Got, got, where_true, fits, head_fits, Rule, RuleValue, Form, nothing, take, alt, seq, checked, rule, IsOne, Parts, Spells}
 use Rattle.script_text.specs.Lexical.{Placed, ArePieces}
 use Rattle.script_text.specs.Reading.{State, at, Read, pure, bind, go_on, take_in, front, taken, note, read}
 use Rattle.script_text.specs.Number.{natural, or_zero}
 use Rattle.script_text.specs.Text.{IsInside, content}
 use Rattle.script_text.specs.Token.{Piece, name, number, text, mark, symbol_text, IsPiece}
-use Rattle.script_text.proofs.Predictive.{null_of, firsts_of, goes_of, may_end, firsts, goes, if_so, has_token, is_decided, all_apart, apart_from, FitsAny, Front, Stops, apart-stops, stops-parts, fits-left, fits-right, same-bytes}
+use Rattle.script_text.proofs.Predictive.{null_of, firsts_of, goes_of, may_end, firsts, goes, if_so, has_token, is_decided, all_apart, apart_from, Front, Stops, apart-stops, stops-parts, fits-left, fits-right, same-bytes}
 
 -- Both begin with the same token, or none is there in either.
 abbrev pub IsSameFront : List Placed → List Placed → Type 0

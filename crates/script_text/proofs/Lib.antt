@@ -2,7 +2,6 @@ pub mod CutLaws
 mod CutLemmas
 mod Depth
 mod Doubled
-mod Falls
 pub mod Fields
 mod FormLaws
 mod LexLemmas

@@ -1,5 +1,5 @@
 -- What a line says, by what the lexer and the reader made of it.
-use Rattle.std.proofs.Common.{◌≡◌, ℕ, ◌+◌, ◌≤◌, Bool, true, false, cond, eqb, List, [], ◌∷◌, ◌++◌, length, drop, Some, None, Result, Ok, Err, refl, sym, ap, subst, ◌∙◌, inl, inr, arith, append_assoc, length-append}
+use Rattle.std.proofs.Common.{◌≡◌, ℕ, ◌+◌, ◌≤◌, Bool, true, false, cond, eqb, List, [], ◌∷◌, ◌++◌, length, drop, Some, None, Ok, Err, refl, sym, ap, subst, ◌∙◌, inl, inr, arith, length-append}
 use Rattle.std.specs.Prelude.{◌⊎◌}
 use Rattle.std.proofs.Math.Numerals.{one-add}
 use Rattle.std.proofs.lemmas.Bool.{eqb-true}
@@ -10,7 +10,7 @@ use Rattle.script_text.specs.Grammar.{IsOf, room_at, whole}
 use Rattle.script_text.specs.Lexical.{Placed, IsCut, IsLexed, IsFault, IsColumn, is_blank, skip_blanks}
 use Rattle.script_text.specs.Lexing.{first_cut, pieces, unread, fault_room}
 use Rattle.script_text.specs.Line.{is_passed_over, IsReadAs, HasBadByte, HasBadToken, IsOutOfRange, Reads}
-use Rattle.script_text.specs.Reading.{State, at, start}
+use Rattle.script_text.specs.Reading.{State, start}
 use Rattle.script_text.specs.Rules.{statement_form}
 use Rattle.script_text.specs.Statement.{StatementValue}
 use Rattle.script_text.specs.Token.{Piece, IsToken}

@@ -1,5 +1,5 @@
--- How the rest of a list is read: it ends before another token, and else goes on with an item more.
-use Rattle.std.proofs.Common.{◌≡◌, ℕ, Bool, true, false, cond, List, [], ◌∷◌, ◌++◌, Result, Ok, Err, refl, sym, ap, ◌∙◌, append_assoc}
+-- How a list is read: an item, and behind a token that goes on the others.
+use Rattle.std.proofs.Common.{◌≡◌, ℕ, true, false, cond, List, [], ◌∷◌, ◌++◌, Result, Ok, Err, refl, sym, ap, ◌∙◌, append_assoc}
 use Rattle.std.specs.Prelude.{codes}
 use Rattle.std.proofs.lemmas.Bool.{cond-true, cond-false}
 use Rattle.std.proofs.lemmas.List.{append-nil}
@@ -9,134 +9,148 @@ use Rattle.sand_base.specs.declared.value.Value.{Value}
 use Rattle.script_text.specs.declared.column.Place.{Place}
 use Rattle.script_text.specs.declared.test.Test.{Test}
 use Rattle.script_text.specs.declared.token.Symbol.TheVariants.{Open, Comma}
-use Rattle.script_text.specs.Form.{Class, a_word, a_mark, head_fits, Form, seq, alt, nothing, rule, more_columns, more_values, more_spots, more_tests, more_places}
+use Rattle.script_text.specs.Accepting.{IsTaken}
+use Rattle.script_text.specs.Form.{Class, a_word, a_mark, head_fits, rule, more_columns, more_values, more_spots, more_tests, more_places}
 use Rattle.script_text.specs.Grammar.{reading}
 use Rattle.script_text.specs.Lexical.{Placed}
 use Rattle.script_text.specs.Reading.{State, Read, pure, bind, go_on, take_in, gone_on}
-use Rattle.script_text.specs.Rules.{after_word, after_sign, field_form, value_form, spot_rest, spot_form, test_form, place_form}
+use Rattle.script_text.specs.Rules.{field_form, columns_form, value_form, values_form, spot_rest, spot_form, spots_form, test_form, tests_form, place_form, places_form}
 use Rattle.script_text.proofs.Depth.{rule-body}
 
--- the rest of a list: an item, which begins with a token of the class, and the rest behind it, or nothing
-abbrev listed : {A : Type 0} → Class → Read A → Read (List A) → Read (List A)
-listed c item more s = cond (head_fits c s.left) (bind item (λ x. bind more (λ xs. pure (x ∷ xs))) s) (Ok ([], s))
+-- an item and the rest of a list
+abbrev item_rest : {A : Type 0} → Read A → Read (List A) → Read (List A)
+item_rest item more s = bind item (λ x. bind more (λ xs. pure (x ∷ xs))) s
+
+-- the rest of a list: after a token of the class a list, or nothing
+abbrev rest_after : {A : Type 0} → Class → Read (List A) → Read (List A)
+rest_after c whole s = cond (head_fits c s.left) (bind (take_in c (λ v. v)) (λ v. bind whole (λ xs. pure xs)) s) (Ok ([], s))
+
+-- the items that are there, before what is read
+abbrev behind : {A : Type 0} → List A → Result (List A × State) (List Placed) → Result (List A × State) (List Placed)
+behind xs r = go_on r (λ ys. pure (xs ++ ys))
 
 -- values behind one more item
 behind-one : {A : Type 0} (xs : List A) (x : A) (r : Result (List A × State) (List Placed))
-    → go_on (go_on r (λ ys. pure (x ∷ ys))) (λ ys. pure (xs ++ ys)) ≡ go_on r (λ ys. pure ((xs ++ x ∷ []) ++ ys))
+    → behind xs (go_on r (λ ys. pure (x ∷ ys))) ≡ behind (xs ++ x ∷ []) r
 behind-one xs x (Err bad) = refl
 behind-one xs x (Ok y) = ap (λ zs. Ok (zs, y.1)) (sym (append_assoc xs (x ∷ []) y.0))
 
--- a list whose rest is read so
-module _ {A : Type 0} (c : Class) (item : Read A) (more : Read (List A)) (unfolds : (s : State) → more s ≡ listed c item more s) where
-  -- it ends before a token of no such class
-  list-end : (xs : List A) (s : State) → head_fits c s.left ≡ false → gone_on xs more s ≡ Ok (xs, s)
-  list-end xs s h =
-      ap (λ r. go_on r (λ ys. pure (xs ++ ys))) (unfolds s ∙ cond-false (head_fits c s.left) _ _ h) ∙ ap (λ ys. Ok (ys, s)) (append-nil xs)
-
-  -- and goes on with an item more
-  list-step : (xs : List A) (s t : State) (x : A) → head_fits c s.left ≡ true → item s ≡ Ok (x, t) → gone_on (xs ++ x ∷ []) more t ≡ gone_on xs more s
-  list-step xs s t x h e =
-      sym (ap (λ r. go_on r (λ ys. pure (xs ++ ys))) (unfolds s ∙ cond-true (head_fits c s.left) _ _ h ∙ ap (λ r. go_on r (λ x. bind more (λ xs. pure (x ∷ xs)))) e)
-      ∙ behind-one xs x (more t))
-
-  -- or is stuck in it
-  list-stuck : (xs : List A) (s : State) (bad : List Placed) → head_fits c s.left ≡ true → item s ≡ Err bad → gone_on xs more s ≡ Err bad
-  list-stuck xs s bad h e =
-      ap (λ r. go_on r (λ ys. pure (xs ++ ys))) (unfolds s ∙ cond-true (head_fits c s.left) _ _ h ∙ ap (λ r. go_on r (λ x. bind more (λ xs. pure (x ∷ xs)))) e)
-
 -- what is given is given
-gives-same : {A : Type 0} (r : Result (A × State) (List Placed)) → go_on r (λ x. pure x) ≡ r
+pub gives-same : {A : Type 0} (r : Result (A × State) (List Placed)) → go_on r (λ x. pure x) ≡ r
 gives-same (Err bad) = refl
 gives-same (Ok y) = refl
 
--- an item and the rest of a list are what they are
-item-rest : {A : Type 0} (more : Read (List A)) (r : Result (A × State) (List Placed))
-    → go_on (go_on r (λ x. bind more (λ xs. pure (x ∷ xs)))) (λ xs. pure xs) ≡ go_on (go_on r (λ x. pure x)) (λ x. bind more (λ xs. pure (x ∷ xs)))
-item-rest more (Err bad) = refl
-item-rest more (Ok y) = gives-same (go_on (more y.1) (λ xs. pure (y.0 ∷ xs)))
+-- nothing stands before a list that begins
+pub list-start : {A : Type 0} (whole : Read (List A)) (s : State) → gone_on [] whole s ≡ whole s
+list-start whole s = gives-same (whole s)
 
--- a token, and then an item and the rest, are an item with its token and the rest
-regroup : {A : Type 0} (item : Read A) (more : Read (List A)) (r : Result (Unit {0} × State) (List Placed))
-    → go_on r (λ u. bind (bind item (λ x. bind more (λ xs. pure (x ∷ xs)))) (λ xs. pure xs)) ≡ go_on (go_on r (λ u. bind item (λ x. pure x))) (λ x. bind more (λ xs. pure (x ∷ xs)))
-regroup item more (Err bad) = refl
-regroup item more (Ok y) = item-rest more (item y.1)
+-- a list that is read as an item and the rest
+module _ {A : Type 0} (item : Read A) (more whole : Read (List A)) (front : (s : State) → whole s ≡ item_rest item more s) where
+  -- an item that is read stands behind those that are there
+  list-item : (xs : List A) (s t : State) (x : A) → item s ≡ Ok (x, t) → gone_on xs whole s ≡ behind (xs ++ x ∷ []) (more t)
+  list-item xs s t x e = ap (behind xs) (front s ∙ ap (λ r. go_on r (λ x. bind more (λ ys. pure (x ∷ ys)))) e) ∙ behind-one xs x (more t)
+
+  -- it is the last one where no rest comes
+  list-end : (xs : List A) (s t : State) (x : A) → item s ≡ Ok (x, t) → more t ≡ Ok ([], t) → gone_on xs whole s ≡ Ok (xs ++ x ∷ [], t)
+  list-end xs s t x e none =
+      list-item xs s t x e ∙ ap (behind (xs ++ x ∷ [])) none ∙ ap (λ ys. Ok (ys, t)) (append-nil (xs ++ x ∷ []))
+
+  -- and else a list goes on behind it
+  list-step : (xs : List A) (s t u : State) (x : A) → item s ≡ Ok (x, t) → more t ≡ whole u → gone_on (xs ++ x ∷ []) whole u ≡ gone_on xs whole s
+  list-step xs s t u x e on = sym (list-item xs s t x e ∙ ap (behind (xs ++ x ∷ [])) on)
+
+  -- no item is read
+  list-stuck : (xs : List A) (s : State) (bad : List Placed) → item s ≡ Err bad → gone_on xs whole s ≡ Err bad
+  list-stuck xs s bad e = ap (behind xs) (front s ∙ ap (λ r. go_on r (λ x. bind more (λ ys. pure (x ∷ ys)))) e)
+
+-- a rest that comes after a token of a class
+module _ {A : Type 0} (c : Class) (more whole : Read (List A)) (rest : (s : State) → more s ≡ rest_after c whole s) where
+  -- another token stands there
+  rest-none : (t : State) → head_fits c t.left ≡ false → more t ≡ Ok ([], t)
+  rest-none t h = rest t ∙ cond-false (head_fits c t.left) _ _ h
+
+  -- it is taken
+  rest-more : (t u : State) → IsTaken c t u → more t ≡ whole u
+  rest-more t u is =
+      rest t ∙ cond-true (head_fits c t.left) _ _ is.fits ∙ ap (λ r. go_on r (λ v. bind whole (λ xs. pure xs))) is.taken ∙ gives-same (whole u)
 
 -- columns
-columns_unfold : (s : State) → reading (rule more_columns) s ≡ listed (a_mark Comma) (reading (after_sign Comma field_form)) (reading (rule more_columns)) s
-columns_unfold s =
-    rule-body more_columns s
-    ∙ ap (λ r. cond (head_fits (a_mark Comma) s.left) r (Ok ([], s))) (regroup (reading field_form) (reading (rule more_columns)) (take_in (a_mark Comma) (λ v. v) s))
+columns_rest : (t : State) → reading (rule more_columns) t ≡ rest_after (a_mark Comma) (reading columns_form) t
+columns_rest t = rule-body more_columns t
 
-pub columns_end : (xs : List (List ℕ × Kind)) (s : State) → head_fits (a_mark Comma) s.left ≡ false → gone_on xs (reading (rule more_columns)) s ≡ Ok (xs, s)
-columns_end = list-end (a_mark Comma) (reading (after_sign Comma field_form)) (reading (rule more_columns)) columns_unfold
+pub columns_end : (xs : List (List ℕ × Kind)) (s t : State) (x : (List ℕ × Kind)) → reading field_form s ≡ Ok (x, t) → head_fits (a_mark Comma) t.left ≡ false → gone_on xs (reading columns_form) s ≡ Ok (xs ++ x ∷ [], t)
+columns_end xs s t x e h = list-end (reading field_form) (reading (rule more_columns)) (reading columns_form) (λ s. refl) xs s t x e (rest-none (a_mark Comma) (reading (rule more_columns)) (reading columns_form) columns_rest t h)
 
-pub columns_step : (xs : List (List ℕ × Kind)) (s t : State) (x : List ℕ × Kind) → head_fits (a_mark Comma) s.left ≡ true → reading (after_sign Comma field_form) s ≡ Ok (x, t)
-    → gone_on (xs ++ x ∷ []) (reading (rule more_columns)) t ≡ gone_on xs (reading (rule more_columns)) s
-columns_step = list-step (a_mark Comma) (reading (after_sign Comma field_form)) (reading (rule more_columns)) columns_unfold
+pub columns_step : (xs : List (List ℕ × Kind)) (s t u : State) (x : (List ℕ × Kind)) → reading field_form s ≡ Ok (x, t) → IsTaken (a_mark Comma) t u → gone_on (xs ++ x ∷ []) (reading columns_form) u ≡ gone_on xs (reading columns_form) s
+columns_step xs s t u x e is = list-step (reading field_form) (reading (rule more_columns)) (reading columns_form) (λ s. refl) xs s t u x e (rest-more (a_mark Comma) (reading (rule more_columns)) (reading columns_form) columns_rest t u is)
 
-pub columns_stuck : (xs : List (List ℕ × Kind)) (s : State) (bad : List Placed) → head_fits (a_mark Comma) s.left ≡ true → reading (after_sign Comma field_form) s ≡ Err bad → gone_on xs (reading (rule more_columns)) s ≡ Err bad
-columns_stuck = list-stuck (a_mark Comma) (reading (after_sign Comma field_form)) (reading (rule more_columns)) columns_unfold
+pub columns_stuck : (xs : List (List ℕ × Kind)) (s : State) (bad : List Placed) → reading field_form s ≡ Err bad → gone_on xs (reading columns_form) s ≡ Err bad
+columns_stuck = list-stuck (reading field_form) (reading (rule more_columns)) (reading columns_form) (λ s. refl)
 
 -- values
-values_unfold : (s : State) → reading (rule more_values) s ≡ listed (a_mark Comma) (reading (after_sign Comma value_form)) (reading (rule more_values)) s
-values_unfold s =
-    rule-body more_values s
-    ∙ ap (λ r. cond (head_fits (a_mark Comma) s.left) r (Ok ([], s))) (regroup (reading value_form) (reading (rule more_values)) (take_in (a_mark Comma) (λ v. v) s))
+values_rest : (t : State) → reading (rule more_values) t ≡ rest_after (a_mark Comma) (reading values_form) t
+values_rest t = rule-body more_values t
 
-pub values_end : (xs : List (Value)) (s : State) → head_fits (a_mark Comma) s.left ≡ false → gone_on xs (reading (rule more_values)) s ≡ Ok (xs, s)
-values_end = list-end (a_mark Comma) (reading (after_sign Comma value_form)) (reading (rule more_values)) values_unfold
+pub values_end : (xs : List Value) (s t : State) (x : Value) → reading value_form s ≡ Ok (x, t) → head_fits (a_mark Comma) t.left ≡ false → gone_on xs (reading values_form) s ≡ Ok (xs ++ x ∷ [], t)
+values_end xs s t x e h = list-end (reading value_form) (reading (rule more_values)) (reading values_form) (λ s. refl) xs s t x e (rest-none (a_mark Comma) (reading (rule more_values)) (reading values_form) values_rest t h)
 
-pub values_step : (xs : List (Value)) (s t : State) (x : Value) → head_fits (a_mark Comma) s.left ≡ true → reading (after_sign Comma value_form) s ≡ Ok (x, t)
-    → gone_on (xs ++ x ∷ []) (reading (rule more_values)) t ≡ gone_on xs (reading (rule more_values)) s
-values_step = list-step (a_mark Comma) (reading (after_sign Comma value_form)) (reading (rule more_values)) values_unfold
+pub values_step : (xs : List Value) (s t u : State) (x : Value) → reading value_form s ≡ Ok (x, t) → IsTaken (a_mark Comma) t u → gone_on (xs ++ x ∷ []) (reading values_form) u ≡ gone_on xs (reading values_form) s
+values_step xs s t u x e is = list-step (reading value_form) (reading (rule more_values)) (reading values_form) (λ s. refl) xs s t u x e (rest-more (a_mark Comma) (reading (rule more_values)) (reading values_form) values_rest t u is)
 
-pub values_stuck : (xs : List (Value)) (s : State) (bad : List Placed) → head_fits (a_mark Comma) s.left ≡ true → reading (after_sign Comma value_form) s ≡ Err bad → gone_on xs (reading (rule more_values)) s ≡ Err bad
-values_stuck = list-stuck (a_mark Comma) (reading (after_sign Comma value_form)) (reading (rule more_values)) values_unfold
-
--- spots
-spots_unfold : (s : State) → reading (rule more_spots) s ≡ listed (a_mark Open) (reading (spot_form)) (reading (rule more_spots)) s
-spots_unfold s =
-    rule-body more_spots s
-    ∙ ap (λ r. cond (head_fits (a_mark Open) s.left) r (Ok ([], s))) (regroup (reading spot_rest) (reading (rule more_spots)) (take_in (a_mark Open) (λ v. v) s))
-
-pub spots_end : (xs : List (Point)) (s : State) → head_fits (a_mark Open) s.left ≡ false → gone_on xs (reading (rule more_spots)) s ≡ Ok (xs, s)
-spots_end = list-end (a_mark Open) (reading (spot_form)) (reading (rule more_spots)) spots_unfold
-
-pub spots_step : (xs : List (Point)) (s t : State) (x : Point) → head_fits (a_mark Open) s.left ≡ true → reading (spot_form) s ≡ Ok (x, t)
-    → gone_on (xs ++ x ∷ []) (reading (rule more_spots)) t ≡ gone_on xs (reading (rule more_spots)) s
-spots_step = list-step (a_mark Open) (reading (spot_form)) (reading (rule more_spots)) spots_unfold
-
-pub spots_stuck : (xs : List (Point)) (s : State) (bad : List Placed) → head_fits (a_mark Open) s.left ≡ true → reading (spot_form) s ≡ Err bad → gone_on xs (reading (rule more_spots)) s ≡ Err bad
-spots_stuck = list-stuck (a_mark Open) (reading (spot_form)) (reading (rule more_spots)) spots_unfold
+pub values_stuck : (xs : List Value) (s : State) (bad : List Placed) → reading value_form s ≡ Err bad → gone_on xs (reading values_form) s ≡ Err bad
+values_stuck = list-stuck (reading value_form) (reading (rule more_values)) (reading values_form) (λ s. refl)
 
 -- tests
-tests_unfold : (s : State) → reading (rule more_tests) s ≡ listed (a_word (codes "and")) (reading (after_word (codes "and") test_form)) (reading (rule more_tests)) s
-tests_unfold s =
-    rule-body more_tests s
-    ∙ ap (λ r. cond (head_fits (a_word (codes "and")) s.left) r (Ok ([], s))) (regroup (reading test_form) (reading (rule more_tests)) (take_in (a_word (codes "and")) (λ v. v) s))
+tests_rest : (t : State) → reading (rule more_tests) t ≡ rest_after (a_word (codes "and")) (reading tests_form) t
+tests_rest t = rule-body more_tests t
 
-pub tests_end : (xs : List (Test)) (s : State) → head_fits (a_word (codes "and")) s.left ≡ false → gone_on xs (reading (rule more_tests)) s ≡ Ok (xs, s)
-tests_end = list-end (a_word (codes "and")) (reading (after_word (codes "and") test_form)) (reading (rule more_tests)) tests_unfold
+pub tests_end : (xs : List Test) (s t : State) (x : Test) → reading test_form s ≡ Ok (x, t) → head_fits (a_word (codes "and")) t.left ≡ false → gone_on xs (reading tests_form) s ≡ Ok (xs ++ x ∷ [], t)
+tests_end xs s t x e h = list-end (reading test_form) (reading (rule more_tests)) (reading tests_form) (λ s. refl) xs s t x e (rest-none (a_word (codes "and")) (reading (rule more_tests)) (reading tests_form) tests_rest t h)
 
-pub tests_step : (xs : List (Test)) (s t : State) (x : Test) → head_fits (a_word (codes "and")) s.left ≡ true → reading (after_word (codes "and") test_form) s ≡ Ok (x, t)
-    → gone_on (xs ++ x ∷ []) (reading (rule more_tests)) t ≡ gone_on xs (reading (rule more_tests)) s
-tests_step = list-step (a_word (codes "and")) (reading (after_word (codes "and") test_form)) (reading (rule more_tests)) tests_unfold
+pub tests_step : (xs : List Test) (s t u : State) (x : Test) → reading test_form s ≡ Ok (x, t) → IsTaken (a_word (codes "and")) t u → gone_on (xs ++ x ∷ []) (reading tests_form) u ≡ gone_on xs (reading tests_form) s
+tests_step xs s t u x e is = list-step (reading test_form) (reading (rule more_tests)) (reading tests_form) (λ s. refl) xs s t u x e (rest-more (a_word (codes "and")) (reading (rule more_tests)) (reading tests_form) tests_rest t u is)
 
-pub tests_stuck : (xs : List (Test)) (s : State) (bad : List Placed) → head_fits (a_word (codes "and")) s.left ≡ true → reading (after_word (codes "and") test_form) s ≡ Err bad → gone_on xs (reading (rule more_tests)) s ≡ Err bad
-tests_stuck = list-stuck (a_word (codes "and")) (reading (after_word (codes "and") test_form)) (reading (rule more_tests)) tests_unfold
+pub tests_stuck : (xs : List Test) (s : State) (bad : List Placed) → reading test_form s ≡ Err bad → gone_on xs (reading tests_form) s ≡ Err bad
+tests_stuck = list-stuck (reading test_form) (reading (rule more_tests)) (reading tests_form) (λ s. refl)
 
 -- places
-places_unfold : (s : State) → reading (rule more_places) s ≡ listed (a_mark Comma) (reading (after_sign Comma place_form)) (reading (rule more_places)) s
-places_unfold s =
-    rule-body more_places s
-    ∙ ap (λ r. cond (head_fits (a_mark Comma) s.left) r (Ok ([], s))) (regroup (reading place_form) (reading (rule more_places)) (take_in (a_mark Comma) (λ v. v) s))
+places_rest : (t : State) → reading (rule more_places) t ≡ rest_after (a_mark Comma) (reading places_form) t
+places_rest t = rule-body more_places t
 
-pub places_end : (xs : List (Place)) (s : State) → head_fits (a_mark Comma) s.left ≡ false → gone_on xs (reading (rule more_places)) s ≡ Ok (xs, s)
-places_end = list-end (a_mark Comma) (reading (after_sign Comma place_form)) (reading (rule more_places)) places_unfold
+pub places_end : (xs : List Place) (s t : State) (x : Place) → reading place_form s ≡ Ok (x, t) → head_fits (a_mark Comma) t.left ≡ false → gone_on xs (reading places_form) s ≡ Ok (xs ++ x ∷ [], t)
+places_end xs s t x e h = list-end (reading place_form) (reading (rule more_places)) (reading places_form) (λ s. refl) xs s t x e (rest-none (a_mark Comma) (reading (rule more_places)) (reading places_form) places_rest t h)
 
-pub places_step : (xs : List (Place)) (s t : State) (x : Place) → head_fits (a_mark Comma) s.left ≡ true → reading (after_sign Comma place_form) s ≡ Ok (x, t)
-    → gone_on (xs ++ x ∷ []) (reading (rule more_places)) t ≡ gone_on xs (reading (rule more_places)) s
-places_step = list-step (a_mark Comma) (reading (after_sign Comma place_form)) (reading (rule more_places)) places_unfold
+pub places_step : (xs : List Place) (s t u : State) (x : Place) → reading place_form s ≡ Ok (x, t) → IsTaken (a_mark Comma) t u → gone_on (xs ++ x ∷ []) (reading places_form) u ≡ gone_on xs (reading places_form) s
+places_step xs s t u x e is = list-step (reading place_form) (reading (rule more_places)) (reading places_form) (λ s. refl) xs s t u x e (rest-more (a_mark Comma) (reading (rule more_places)) (reading places_form) places_rest t u is)
 
-pub places_stuck : (xs : List (Place)) (s : State) (bad : List Placed) → head_fits (a_mark Comma) s.left ≡ true → reading (after_sign Comma place_form) s ≡ Err bad → gone_on xs (reading (rule more_places)) s ≡ Err bad
-places_stuck = list-stuck (a_mark Comma) (reading (after_sign Comma place_form)) (reading (rule more_places)) places_unfold
+pub places_stuck : (xs : List Place) (s : State) (bad : List Placed) → reading place_form s ≡ Err bad → gone_on xs (reading places_form) s ≡ Err bad
+places_stuck = list-stuck (reading place_form) (reading (rule more_places)) (reading places_form) (λ s. refl)
+
+-- a token, and then an item and the rest, are an item with its token and the rest
+regroup : {A : Type 0} (item : Read A) (more : Read (List A)) (r : Result (A × State) (List Placed))
+    → go_on (go_on r (λ x. bind more (λ xs. pure (x ∷ xs)))) (λ xs. pure xs) ≡ go_on (go_on r (λ x. pure x)) (λ x. bind more (λ xs. pure (x ∷ xs)))
+regroup item more (Err bad) = refl
+regroup item more (Ok y) = gives-same (go_on (more y.1) (λ xs. pure (y.0 ∷ xs)))
+
+-- the bracket of a spot is a token of the spot itself
+bracket : {A : Type 0} (item : Read A) (more : Read (List A)) (r : Result (Unit {0} × State) (List Placed))
+    → go_on r (λ u. bind (item_rest item more) (λ xs. pure xs)) ≡ go_on (go_on r (λ u. bind item (λ x. pure x))) (λ x. bind more (λ xs. pure (x ∷ xs)))
+bracket item more (Err bad) = refl
+bracket item more (Ok y) = regroup item more (item y.1)
+
+-- spots
+spots_rest : (t : State) → reading (rule more_spots) t ≡ cond (head_fits (a_mark Open) t.left) (reading spots_form t) (Ok ([], t))
+spots_rest t =
+    rule-body more_spots t
+    ∙ ap (λ r. cond (head_fits (a_mark Open) t.left) r (Ok ([], t))) (bracket (reading spot_rest) (reading (rule more_spots)) (take_in (a_mark Open) (λ v. v) t))
+
+pub spots_end : (xs : List Point) (s t : State) (x : Point) → reading spot_form s ≡ Ok (x, t) → head_fits (a_mark Open) t.left ≡ false → gone_on xs (reading spots_form) s ≡ Ok (xs ++ x ∷ [], t)
+spots_end xs s t x e h =
+    list-end (reading spot_form) (reading (rule more_spots)) (reading spots_form) (λ s. refl) xs s t x e (spots_rest t ∙ cond-false (head_fits (a_mark Open) t.left) _ _ h)
+
+pub spots_step : (xs : List Point) (s t : State) (x : Point) → reading spot_form s ≡ Ok (x, t) → head_fits (a_mark Open) t.left ≡ true → gone_on (xs ++ x ∷ []) (reading spots_form) t ≡ gone_on xs (reading spots_form) s
+spots_step xs s t x e h =
+    list-step (reading spot_form) (reading (rule more_spots)) (reading spots_form) (λ s. refl) xs s t t x e (spots_rest t ∙ cond-true (head_fits (a_mark Open) t.left) _ _ h)
+
+pub spots_stuck : (xs : List Point) (s : State) (bad : List Placed) → reading spot_form s ≡ Err bad → gone_on xs (reading spots_form) s ≡ Err bad
+spots_stuck = list-stuck (reading spot_form) (reading (rule more_spots)) (reading spots_form) (λ s. refl)

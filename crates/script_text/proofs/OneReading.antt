@@ -1,17 +1,17 @@
 -- A line has one reading.
-use Rattle.std.proofs.Common.{◌≡◌, ◌≢◌, ℕ, ◌+◌, ◌-◌, Bool, true, false, ◌&&◌, cond, List, [], ◌∷◌, ◌++◌, length, Option, Some, None, Result, Ok, Err, refl, sym, ap, subst, ◌∙◌, inl, inr, arith, append_assoc}
+use Rattle.std.proofs.Common.{◌≡◌, ◌≢◌, ℕ, ◌+◌, ◌-◌, Bool, true, false, cond, List, [], ◌∷◌, ◌++◌, length, Option, Some, None, Result, Ok, Err, refl, sym, ap, subst, ◌∙◌, inl, inr, arith, append_assoc}
 use Rattle.std.proofs.lemmas.Bool.{cond-true, cond-false}
 use Rattle.std.proofs.lemmas.List.{append-nil}
 use Rattle.script_text.specs.declared.parse.LineFault.{LineFault}
 use Rattle.script_text.specs.declared.parse.LineFault.TheVariants.{Memory, Syntax, Range}
-use Rattle.script_text.specs.Grammar.{IsOf, IsOfForm, IsFront, IsFirstBad, GoesWrong, room_at, whole, reading}
+use Rattle.script_text.specs.Grammar.{IsOf, IsOfForm, IsFront, IsFirstBad, GoesWrong, room_at, whole}
 use Rattle.script_text.specs.Lexical.{Placed, ArePieces, IsCut, IsLexed, IsFault, IsColumn}
-use Rattle.script_text.specs.Lexing.{pieces, unread, fault_room}
+use Rattle.script_text.specs.Lexing.{unread, fault_room}
 use Rattle.script_text.specs.Line.{is_passed_over, IsReadAs, IsOutOfRange, Reads}
 use Rattle.script_text.specs.Reading.{State, start, at}
 use Rattle.script_text.specs.Rules.{statement_form}
 use Rattle.script_text.specs.Statement.{StatementValue}
-use Rattle.script_text.proofs.CutLaws.{IsEnd, cut-are, pieces-cut, cut-pieces, cut-unread}
+use Rattle.script_text.proofs.CutLaws.{IsEnd, cut-are, cut-pieces, cut-unread}
 use Rattle.script_text.proofs.FormLaws.{are-append}
 use Rattle.script_text.proofs.LineLemmas.{token-counts, statement-decided}
 use Rattle.script_text.proofs.Whole.{of-whole, whole-of, whole-first_bad}

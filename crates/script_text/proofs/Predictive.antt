@@ -1,12 +1,12 @@
 -- Which tokens may come first in a form, which go on where it could end, and whether one token in hand decides it.
-use Rattle.std.proofs.Common.{◌≡◌, ℕ, Bool, true, false, not, ◌&&◌, ◌||◌, cond, eqb, leb, List, [], ◌∷◌, ◌++◌, length, Some, None, refl, sym, ap, ◌∙◌}
+use Rattle.std.proofs.Common.{◌≡◌, ℕ, Bool, true, false, not, ◌&&◌, ◌||◌, eqb, leb, List, [], ◌∷◌, ◌++◌, length, refl, sym, ap, ◌∙◌}
 use Rattle.std.specs.Prelude.{⊤, ◌⊎◌, codes, is_some}
 use Rattle.std.proofs.lemmas.Bool.{and_parts, false≢true, eq-eqb}
 use Rattle.std.proofs.lemmas.Slice.Eq.{bytes_eq-Decides}
 use Rattle.std.proofs.Common.{inl, inr}
 use Rattle.std.specs.Str.{bytes_eq}
 use Rattle.script_text.specs.declared.token.Symbol.TheVariants as symbol
-use Rattle.script_text.specs.Form.{Class, a_word, a_name, a_natural, an_int, a_text, a_mark, fits, got, head_fits, where_true, Rule, a_plan, more_columns, more_values, more_spots, more_tests, more_places, RuleValue, Form, nothing, take, alt, seq, checked, rule}
+use Rattle.script_text.specs.Form.{Class, a_word, a_name, a_natural, an_int, a_text, a_mark, fits, got, head_fits, where_true, Rule, a_plan, more_values, more_spots, more_tests, Form, nothing, take, alt, seq, checked, rule}
 use Rattle.script_text.specs.Lexical.{Placed}
 use Rattle.script_text.specs.Name.{is_name}
 use Rattle.script_text.specs.Token.{Piece, name, number, text, mark, symbol_text}

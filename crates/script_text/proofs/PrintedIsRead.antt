@@ -1,5 +1,5 @@
 -- The printed form of a statement in range is read as that statement.
-use Rattle.std.proofs.Common.{◌≡◌, ◌≢◌, ℕ, true, List, [], Option, Some, Result, Ok, Err, subst}
+use Rattle.std.proofs.Common.{◌≡◌, ◌≢◌, Option, Some, Result, Ok, Err, subst}
 use Rattle.script_text.specs.declared.parse.LineFault.{LineFault}
 use Rattle.script_text.specs.declared.parse.LineFault.TheVariants.{Memory}
 use Rattle.script_text.specs.Grammar.{IsOf}
@@ -8,7 +8,6 @@ use Rattle.script_text.specs.Lexical.{IsCut}
 use Rattle.script_text.specs.Lexing.{pieces}
 use Rattle.script_text.specs.Line.{IsReadAs, Reads}
 use Rattle.script_text.specs.Printing.{printed, words}
-use Rattle.script_text.specs.Rules.{statement_form}
 use Rattle.script_text.specs.Statement.{StatementValue}
 use Rattle.script_text.proofs.CutLaws.{pieces-cut}
 use Rattle.script_text.proofs.OneReading.{one-reading}

@@ -1,18 +1,18 @@
 -- Printed words fall into the words that were printed.
-use Rattle.std.proofs.Common.{◌≡◌, ℕ, suc, ◌+◌, ◌-◌, ◌<◌, Bool, true, false, not, ◌&&◌, ◌||◌, cond, eqb, List, [], ◌∷◌, ◌++◌, length, drop, Some, refl, sym, ap, ◌∙◌, arith, append_assoc}
+use Rattle.std.proofs.Common.{◌≡◌, ℕ, Bool, true, false, not, ◌||◌, cond, eqb, List, [], ◌∷◌, ◌++◌, length, Some, refl, ap, ◌∙◌, arith, append_assoc}
 use Rattle.std.specs.Prelude.{codes}
-use Rattle.std.proofs.lemmas.Bool.{and_parts, cond-true, cond-false, false≢true}
+use Rattle.std.proofs.lemmas.Bool.{and_parts, cond-false, false≢true}
 use Rattle.std.proofs.lemmas.Bool.Decides.{nat_tests}
 use Rattle.std.specs.Char.{is_ascii_digit}
 use Rattle.std.specs.List.{prefix_len}
 use Rattle.script_text.specs.declared.token.Symbol.{Symbol}
 use Rattle.script_text.specs.declared.token.Symbol.TheVariants.{Open, Close, Comma, Dot, Minus, Equal, NotEqual, Less, AtMost, Greater, AtLeast}
-use Rattle.script_text.specs.Lexical.{Placed, is_blank}
-use Rattle.script_text.specs.Lexing.{Cut, Lexed, first_cut, begins_equal, put, lex}
+use Rattle.script_text.specs.Lexical.{is_blank}
+use Rattle.script_text.specs.Lexing.{first_cut, begins_equal, put, lex}
 use Rattle.script_text.specs.Name.{continues_name}
-use Rattle.script_text.specs.Printing.{hugs_after, hugs_before, gap, printed_after, printed_words}
+use Rattle.script_text.specs.Printing.{hugs_after, hugs_before, printed_after, printed_words}
 use Rattle.script_text.specs.Text.{begins_quote}
-use Rattle.script_text.specs.Token.{Piece, name, number, text, mark, spelling, symbol_text, IsPiece}
+use Rattle.script_text.specs.Token.{Piece, name, number, text, mark, spelling, IsPiece}
 use Rattle.script_text.proofs.LexLemmas.{lex-cut}
 use Rattle.script_text.proofs.SpelledLemmas.{lex-name, lex-number, lex-text}
 use Rattle.script_text.proofs.Writes.{ArePieceWords, begins_open, is_calm, pieces_of}

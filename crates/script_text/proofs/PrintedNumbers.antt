@@ -1,5 +1,5 @@
 -- A printed number is a number of the language, and writes what was printed.
-use Rattle.std.proofs.Common.{◌≡◌, ℕ, zero, suc, ◌-◌, ◌<◌, ◌≤◌, ◌^◌, Bool, true, false, ◌&&◌, cond, eqb, leb, List, [], ◌∷◌, length, Some, refl, ap, ◌∙◌, arith}
+use Rattle.std.proofs.Common.{◌≡◌, ℕ, suc, ◌-◌, ◌<◌, ◌≤◌, ◌^◌, Bool, true, false, cond, eqb, leb, List, [], ◌∷◌, length, Some, refl, ap, ◌∙◌, arith}
 use Rattle.std.specs.Prelude.{ℤ, pos, negsuc, neg_ℤ}
 use Rattle.std.proofs.Math.Dec.{T}
 use Rattle.std.proofs.lemmas.Bool.{and_parts, and_from, lt-ltb, le-leb, leb-true, cond-true}
@@ -10,8 +10,8 @@ use Rattle.std.specs.Fmt.{decimal, signed_decimal}
 use Rattle.std.specs.List.{list_all}
 use Rattle.std.specs.Str.Parse.{digits_value}
 use Rattle.sand_base.specs.InRange.{IsIntInRange}
-use Rattle.script_text.specs.Number.{value_of, magnitude, is_minus, is_natural, natural, is_int, int}
-use Rattle.script_text.specs.Token.{is_number, is_digits}
+use Rattle.script_text.specs.Number.{magnitude, is_minus, is_natural, natural, is_int, int}
+use Rattle.script_text.specs.Token.{is_number}
 use Rattle.script_text.proofs.NumberLemmas.{numerals, value-natural, natural-from}
 
 -- digits without a minus are a number, and what they write is its magnitude

@@ -1,17 +1,17 @@
 -- A text in range, with its quotes doubled, is what may stand between quotes, and is read as itself.
-use Rattle.std.proofs.Common.{◌≡◌, ◌≢◌, ℕ, zero, suc, ◌+◌, ◌-◌, ◌<◌, ◌≤◌, Bool, true, false, ◌&&◌, not, cond, eqb, ltb, get_or, List, [], ◌∷◌, ◌++◌, length, take, drop, refl, sym, ap, subst, ◌∙◌, arith, length-append}
+use Rattle.std.proofs.Common.{◌≡◌, ◌≢◌, ℕ, suc, ◌+◌, ◌-◌, ◌<◌, ◌≤◌, Bool, true, false, not, cond, eqb, ltb, get_or, List, [], ◌∷◌, ◌++◌, length, take, drop, refl, sym, ap, subst, ◌∙◌, arith, length-append}
 use Rattle.std.specs.Prelude.{IsUtf8, chars, All}
 use Rattle.std.specs.Char.{encode_utf8, len_utf8}
 use lib.Utf8.{scalar, scalars}
 use Rattle.std.specs.Str.{encode_utf8_all}
 use Rattle.std.proofs.Math.Seq.{drop-append_seam}
-use Rattle.std.proofs.lemmas.Bool.{and_parts, and_from, cond-true, cond-false, eqb-true, eqb-false, ne_eqb, false≢true}
-use Rattle.std.proofs.lemmas.List.{append-nil, take_at, take-append-drop, take-append-le, length-drop, length-take-le}
+use Rattle.std.proofs.lemmas.Bool.{and_parts, and_from, cond-false, eqb-true, eqb-false, ne_eqb}
+use Rattle.std.proofs.lemmas.List.{append-nil, take_at, take-append-drop, take-append-le, length-drop}
 use Rattle.std.proofs.lemmas.List.Elements.{All-head, All-tail}
 use Rattle.std.proofs.lemmas.Str.{chars-encodes, encodes-chars, scalars-chars, chars_past_char, IsUtf8-past_char, length-encode, inside_one, encode_ascii}
 use Rattle.sand_base.specs.InRange.{is_control, IsTextInRange}
 use Rattle.script_text.specs.Text.{is_plain, plain_len, unit_len, run_after, content_after, content, doubled, IsInside}
-use Rattle.script_text.proofs.TextContent.{HasCode, has-code}
+use Rattle.script_text.proofs.TextContent.{has-code}
 use Rattle.script_text.proofs.TextLemmas.{plain_first, plain_second, plain_third, plain_fourth, plain-chars, plain-is, run-drop}
 
 -- the bytes with each quote doubled write the bytes

@@ -1,6 +1,6 @@
 -- What is written in range is in range.
-use Rattle.std.proofs.Common.{◌≡◌, ℕ, zero, suc, ◌+◌, ◌-◌, ◌≤◌, ◌^◌, Bool, true, false, ◌&&◌, cond, eqb, leb, List, [], ◌∷◌, ◌++◌, length, Option, Some, None, refl, sym, ap, subst, ◌∙◌, inl, inr, arith}
-use Rattle.std.specs.Prelude.{⊤, ◌⊎◌, All, ℤ, pos, neg_ℤ, codes}
+use Rattle.std.proofs.Common.{◌≡◌, ℕ, zero, suc, ◌-◌, ◌≤◌, ◌^◌, Bool, true, false, ◌&&◌, cond, eqb, leb, List, [], ◌∷◌, ◌++◌, length, Option, Some, None, refl, sym, ap, subst, ◌∙◌, inl, inr, arith}
+use Rattle.std.specs.Prelude.{⊤, All, ℤ, pos, neg_ℤ, codes}
 use Rattle.std.specs.Str.Parse.{digits_value}
 use Rattle.std.proofs.Math.Dec.{T}
 use Rattle.std.proofs.lemmas.Bool.{and_parts, leb-true, le-leb, false≢true}
@@ -14,8 +14,8 @@ use Rattle.sand_base.specs.Plane.{IsRectInPlane, IsShapeInPlane}
 use Rattle.script_text.specs.declared.TheConstants.{MOST_ROWS, MOST_WITHIN}
 use Rattle.script_text.specs.declared.column.Column.{Column}
 use Rattle.script_text.specs.declared.token.Symbol.{Symbol}
-use Rattle.script_text.specs.declared.token.Symbol.TheVariants.{Open, Close, Comma, Dot, Minus, Equal, NotEqual, Less, AtMost, Greater, AtLeast}
-use Rattle.script_text.specs.Form.{Class, a_word, a_name, a_natural, an_int, a_text, a_mark, Got, got, name_of, natural_of, int_of, text_of, Rule, RuleValue, a_plan, more_columns, more_values, more_spots, more_tests, more_places, Form, nothing, take, alt, seq, checked, rule, IsOne, Parts, IsChecked, Spells}
+use Rattle.script_text.specs.declared.token.Symbol.TheVariants.{Open, Close, Comma, Dot, Minus, Equal, NotEqual, Less, AtMost, Greater}
+use Rattle.script_text.specs.Form.{Class, a_word, a_name, a_natural, an_int, a_text, a_mark, Got, got, name_of, natural_of, int_of, text_of, Rule, RuleValue, a_plan, more_columns, more_values, more_spots, more_tests, more_places, Form, nothing, take, alt, seq, checked, rule, IsOne, Spells}
 use Rattle.script_text.specs.Grammar.{IsOf, spelled, spelled_at}
 use Rattle.script_text.specs.InRange.{IsColumnInRange, IsPlaceInRange, IsPlainInRange, IsTestInRange, IsFieldInRange, IsWithinInRange, IsThresholdInRange, IsCountInRange, SomeAre, IsPlanInRange, IsInRange}
 use Rattle.script_text.specs.Lexical.{Placed, ArePieces}

@@ -11,7 +11,7 @@ use Rattle.script_text.specs.declared.TheConstants.{LONGEST_NAME}
 use Rattle.script_text.specs.Lexical.{is_blank}
 use Rattle.script_text.specs.Lexing.{Cut, first_cut, name_cut, number_cut, text_cut, begins_number, put, lex}
 use Rattle.script_text.specs.Name.{starts_name, continues_name, IsName}
-use Rattle.script_text.specs.Text.{IsInside, begins_quote, text_run}
+use Rattle.script_text.specs.Text.{IsInside, begins_quote}
 use Rattle.script_text.specs.Token.{name, number, text, is_number, is_digits}
 use Rattle.script_text.proofs.LexLemmas.{lex-cut}
 use Rattle.script_text.proofs.TextRuns.{text-front}

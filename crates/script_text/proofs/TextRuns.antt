@@ -1,11 +1,11 @@
 -- The characters of a text are told by the bytes that they take, and by where they end.
-use Rattle.std.proofs.Common.{◌≡◌, ℕ, zero, suc, ◌+◌, ◌-◌, ◌<◌, ◌≤◌, Bool, true, false, cond, eqb, List, [], ◌∷◌, ◌++◌, length, take, drop, refl, sym, ap, subst, ◌∙◌, arith, length-drop}
+use Rattle.std.proofs.Common.{◌≡◌, ℕ, zero, suc, ◌+◌, ◌-◌, ◌<◌, ◌≤◌, Bool, true, false, cond, eqb, List, [], ◌∷◌, ◌++◌, length, take, drop, refl, sym, ap, ◌∙◌, arith, length-drop}
 use Rattle.std.proofs.Math.Numerals.{one-add}
 use Rattle.std.proofs.lemmas.Bool.{cond-true, cond-false, eqb-true, eqb-false, eq-eqb, false≢true}
 use Rattle.std.proofs.lemmas.List.{take_at, drop_at, drop-drop, take-take, take-append-drop, length-take-le}
 use Rattle.std.proofs.Math.Seq.{take-length, drop-nil}
 use Rattle.script_text.specs.Text.{is_plain, plain_len, begins_quote, unit_len, run_after, text_run, IsInside}
-use Rattle.script_text.proofs.TextLemmas.{plain_first, plain_second, plain_third, plain_fourth, plain_none, unit_within, run_end, run-drop}
+use Rattle.script_text.proofs.TextLemmas.{plain_first, plain_second, plain_third, plain_fourth, plain_none, unit_within, run-drop}
 
 -- a character at the front is told by its bytes
 plain_same : (bytes other : List ℕ) → 0 < plain_len bytes → ((k : ℕ) → k ≤ plain_len bytes → take k other ≡ take k bytes) → plain_len other ≡ plain_len bytes

@@ -19,7 +19,7 @@ use Rattle.script_text.proofs.SpelledLemmas.{first_cut-name, first_cut-number, f
 use Rattle.script_text.proofs.SymbolLemmas.{symbol-cut, same-piece}
 use Rattle.script_text.proofs.TextRuns.{text-cut, text-least}
 use Rattle.script_text.specs.Token as piece
-use Rattle.script_text.specs.Text.{IsInside, begins_quote, text_run}
+use Rattle.script_text.specs.Text.{begins_quote, text_run}
 
 -- a piece of the language is of its shape
 pub shaped-piece : (p : Piece) → IsPiece p → IsShaped p

@@ -1,15 +1,14 @@
 -- Reading a form to the last token: what is read is written, what is written is read, no tokens write two values, and the
 -- reader is stuck at the first bad token.
 use Rattle.std.proofs.Common.{◌≡◌, ℕ, suc, ◌+◌, ◌<◌, ◌≤◌, Bool, true, false, ◌&&◌, List, [], ◌∷◌, ◌++◌, length, take, Result, Ok, Err, refl, sym, ap, subst, ◌∙◌, inl, inr, arith, append_assoc, length-append}
-use Rattle.std.specs.Prelude.{⊤, ◌⊎◌}
-use Rattle.std.proofs.lemmas.Bool.{false≢true}
+use Rattle.std.specs.Prelude.{◌⊎◌}
 use Rattle.std.proofs.lemmas.List.{append-nil, take_at}
 use Rattle.script_text.specs.Form.{Class, Form, Spells}
 use Rattle.script_text.specs.Grammar.{IsOf, IsOfForm, IsFront, GoesWrong, IsFirstBad, spelled, spelled_at, read_at, reading, none_left, ended, whole}
-use Rattle.script_text.specs.Lexical.{Placed, ArePieces}
-use Rattle.script_text.specs.Reading.{State, at, Read, go_on, read}
+use Rattle.script_text.specs.Lexical.{Placed}
+use Rattle.script_text.specs.Reading.{State, at, go_on, read}
 use Rattle.script_text.proofs.Depth.{laws_at, gather, raise-form, reading-at}
-use Rattle.script_text.proofs.FormLaws.{IsTaken, IsStuck, IsSameFront, form-ok, form-bad, form-reads}
+use Rattle.script_text.proofs.FormLaws.{IsTaken, IsSameFront, form-ok, form-bad, form-reads}
 use Rattle.script_text.proofs.Predictive.{is_decided, goes, Stops}
 
 -- fronts of one length are the same

@@ -1,12 +1,10 @@
 -- The words of a statement in range write it.
-use Rattle.std.proofs.Common.{◌≡◌, ℕ, suc, ◌-◌, ◌<◌, ◌≤◌, ◌^◌, Bool, true, false, ◌&&◌, leb, List, [], ◌∷◌, ◌++◌, length, map, Option, Some, None, refl, sym, ap, subst, ◌∙◌, inl, inr, arith, append_assoc}
-use Rattle.std.specs.Prelude.{ℤ, pos, ⊤, All, codes, nat_le}
+use Rattle.std.proofs.Common.{◌≡◌, ℕ, ◌-◌, ◌<◌, ◌≤◌, ◌^◌, Bool, true, false, ◌&&◌, leb, List, [], ◌∷◌, ◌++◌, length, Option, Some, None, refl, sym, ap, subst, ◌∙◌, inl, inr, arith}
+use Rattle.std.specs.Prelude.{ℤ, pos, ⊤, All, codes}
 use Rattle.std.specs.Fmt.{decimal, signed_decimal}
 use Rattle.std.proofs.lemmas.Bool.{and_parts, and_from, le-leb, leb-true, false≢true}
-use Rattle.std.proofs.lemmas.List.{append-nil}
 use Rattle.std.proofs.lemmas.List.Elements.{All-head, All-tail}
 use Rattle.std.proofs.lemmas.Slice.Eq.{bytes_eq-Decides}
-use Rattle.std.specs.Str.{bytes_eq}
 use Rattle.sand_base.specs.declared.TheConstants.{COORDINATE_BITS}
 use Rattle.sand_base.specs.declared.kind.Kind.{Kind}
 use Rattle.sand_base.specs.declared.kind.Kind.TheVariants as kind
@@ -16,10 +14,10 @@ use Rattle.sand_base.specs.declared.shape.Shape.{Shape}
 use Rattle.sand_base.specs.declared.shape.Shape.TheVariants as shape
 use Rattle.sand_base.specs.declared.value.Value.{Value}
 use Rattle.sand_base.specs.declared.value.Value.TheVariants as value
-use Rattle.sand_base.specs.InRange.{IsIntInRange, IsTextInRange, IsValueInRange, IsSchemaInRange}
-use Rattle.sand_base.specs.Grid.{IsInPlane, IsRing}
+use Rattle.sand_base.specs.InRange.{IsIntInRange, IsTextInRange, IsValueInRange}
+use Rattle.sand_base.specs.Grid.{IsInPlane}
 use Rattle.sand_base.specs.Plane.{IsRectInPlane, IsShapeInPlane}
-use Rattle.script_text.specs.declared.TheConstants.{LONGEST_NAME, MOST_ROWS, MOST_WITHIN}
+use Rattle.script_text.specs.declared.TheConstants.{LONGEST_NAME, MOST_ROWS}
 use Rattle.script_text.specs.declared.column.Column.{Column}
 use Rattle.script_text.specs.declared.column.Place.{Place}
 use Rattle.script_text.specs.declared.test.Op.{Op}
@@ -27,7 +25,7 @@ use Rattle.script_text.specs.declared.test.Op.TheVariants as op
 use Rattle.script_text.specs.declared.test.Test.{Test}
 use Rattle.script_text.specs.declared.token.Symbol.{Symbol}
 use Rattle.script_text.specs.declared.token.Symbol.TheVariants.{Open, Close, Comma, Dot, Minus, Equal, NotEqual, Less, AtMost, Greater, AtLeast}
-use Rattle.script_text.specs.Form.{Class, where_true, a_word, a_name, a_natural, an_int, a_text, a_mark, Got, got, Rule, RuleValue, a_plan, more_columns, more_values, more_spots, more_tests, more_places, Form, nothing, take, alt, seq, checked, rule, IsOne, Parts, IsChecked, Spells}
+use Rattle.script_text.specs.Form.{Class, where_true, a_word, a_name, a_natural, an_int, a_text, a_mark, Got, got, Rule, RuleValue, a_plan, more_columns, more_values, more_spots, more_tests, more_places, Form, nothing, take, alt, seq, checked, rule, IsOne, Spells}
 use Rattle.script_text.specs.Grammar.{spelled}
 use Rattle.script_text.specs.InRange.{IsColumnInRange, IsPlaceInRange, IsPlainInRange, IsTestInRange, IsFieldInRange, IsWithinInRange, IsThresholdInRange, IsCountInRange, SomeAre, IsPlanInRange, IsInRange}
 use Rattle.script_text.specs.Lexical.{Placed}
@@ -36,10 +34,10 @@ use Rattle.script_text.specs.Number.{or_zero}
 use Rattle.script_text.specs.Plan.{PlanValue}
 use Rattle.script_text.specs.Plan as plan
 use Rattle.script_text.specs.Printing.{each, more_words, list_words, comma, fixed, column_words, place_words, spot_words, shape_words, value_words, kind_word, field_words, op_symbol, test_words, within_words, inner_words, plan_words, header_words, threshold_words, words}
-use Rattle.script_text.specs.Rules.{word, sign, after_word, after_sign, before_sign, case_word, case_sign, told, name_form, natural_form, int_form, coordinate_form, column_form, place_form, plain_form, spot_rest, spot_form, spots_form, is_ring, polygon, spot_or_way, way_form, spot_end, polygon_form, shape_form, value_form, values_form, spatial_form, kind_form, field_form, columns_form, op_form, test_form, tests_form, places_form, within_form, inner_form, is_ordered, corner_form, rect_form, plan_form, body, query_form, statement_form}
+use Rattle.script_text.specs.Rules.{word, sign, after_word, after_sign, before_sign, case_word, case_sign, told, name_form, natural_form, int_form, coordinate_form, column_form, place_form, plain_form, spot_rest, spot_form, spots_form, way_form, spot_end, shape_form, value_form, values_form, kind_form, field_form, columns_form, op_form, test_form, tests_form, places_form, within_form, inner_form, corner_form, rect_form, body, statement_form}
 use Rattle.script_text.specs.Statement.{StatementValue}
 use Rattle.script_text.specs.Statement as statement
-use Rattle.script_text.specs.Text.{content, doubled}
+use Rattle.script_text.specs.Text.{doubled}
 use Rattle.script_text.specs.Token.{Piece, name, number, text, mark, IsPiece}
 use Rattle.script_text.proofs.Depth.{fold}
 use Rattle.script_text.proofs.PrintedNumbers.{number-decimal, natural-decimal, number-int, int-int}

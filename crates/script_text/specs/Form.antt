@@ -1,11 +1,9 @@
 -- Forms: a grammar as data. A form says which tokens write which values, and the value is its type.
 -- After A. V. Aho and J. D. Ullman (1972); read from the left with one token in hand, P. M. Lewis and R. E. Stearns (1968).
-use Rattle.std.specs.Prelude.{◌≡◌, ◌⊎◌, ℕ, ℤ, pos, Bool, true, false, ◌&&◌, ◌||◌, not, nat_le, ◌==◌, List, [], ◌∷◌, ◌++◌, Option, Some, None, is_some, length, cond}
+use Rattle.std.specs.Prelude.{◌≡◌, ◌⊎◌, ℕ, ℤ, pos, Bool, true, false, ◌&&◌, nat_le, List, [], ◌∷◌, ◌++◌, Option, Some, None, is_some, length}
 use Rattle.std.specs.Str.{bytes_eq}
-use Rattle.script_text.specs.declared.TheConstants.{LONGEST_NAME}
 use Rattle.script_text.specs.declared.token.Symbol.{Symbol}
 use Rattle.script_text.specs.Lexical.{Placed}
-use Rattle.script_text.specs.Name.{is_name}
 use Rattle.script_text.specs.Number.{natural, int, or_zero}
 use Rattle.script_text.specs.Text.{content}
 use Rattle.sand_base.specs.declared.kind.Kind.{Kind}

@@ -3,7 +3,7 @@ use Rattle.std.specs.Prelude.{ℕ, ◌≤◌, List, length, All, Option, Some, N
 use Rattle.sand_base.specs.declared.kind.Kind.{Kind}
 use Rattle.sand_base.specs.declared.value.Value.{Value}
 use Rattle.sand_base.specs.declared.value.Value.TheVariants as value
-use Rattle.sand_base.specs.InRange.{IsIntInRange, IsTextInRange, IsValueInRange, IsRowInRange, IsSchemaInRange}
+use Rattle.sand_base.specs.InRange.{IsIntInRange, IsTextInRange, IsValueInRange, IsSchemaInRange}
 use Rattle.sand_base.specs.Plane.{IsRectInPlane, IsShapeInPlane}
 use Rattle.script_text.specs.declared.TheConstants.{MOST_ROWS, MOST_WITHIN}
 use Rattle.script_text.specs.declared.column.Column.{Column}

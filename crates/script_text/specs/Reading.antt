@@ -1,10 +1,11 @@
 -- How a form is read from the left with one token in hand: what each step takes, and what it makes of it.
-use Rattle.std.specs.Prelude.{◌≡◌, ℕ, zero, suc, Bool, true, false, ◌&&◌, cond, List, [], ◌∷◌, ◌++◌, Option, Some, None, Result, Ok, Err, ⊤, length}
+use Rattle.std.specs.Prelude.{◌≡◌, ℕ, Bool, true, ◌&&◌, cond, List, [], ◌∷◌, ◌++◌, Option, Some, None, Result, Ok, Err, ⊤}
 use Rattle.script_text.specs.declared.stuck.Stuck.{Stuck}
 use Rattle.script_text.specs.declared.stuck.Stuck.TheVariants as stuck
 use Rattle.script_text.specs.Lexical.{Placed}
 use Rattle.script_text.specs.Lexing.{pieces}
 use Rattle.script_text.specs.Form.{Class, Got, got, head_fits, Rule, RuleValue, Form, nothing, take, alt, seq, checked, rule}
+use Rattle.script_text.specs.Token.{Piece, IsPiece}
 
 -- the tokens that are left, and whether all so far was in range
 pub record State : Type 0 where
@@ -18,6 +19,12 @@ at left in_range = record { left = left; in_range = in_range }
 -- before a line
 abbrev pub start : List ℕ → State
 start line = at (pieces line) true
+
+-- the piece is the first of those that are left, and these bytes hold the others
+pub record IsHead (left : List Placed) (piece : Piece) (after : List ℕ) : Type 0 where
+  pub room : ℕ
+  pub place : left ≡ record { piece = piece; room = room } ∷ pieces after
+  pub shape : IsPiece piece
 
 -- a step takes tokens from the front and gives a value, or is stuck at the front of what it leaves
 abbrev pub Read : Type 0 → Type 0

@@ -1,5 +1,5 @@
 -- The grammar of the script language: one form a rule, in the order in which a line is written.
-use Rattle.std.specs.Prelude.{ℕ, ℤ, ◌^◌, ◌-◌, Bool, true, false, ◌&&◌, ◌||◌, ◌==◌, nat_le, nat_lt, cond, List, [], ◌∷◌, codes, length, Option, Some, None}
+use Rattle.std.specs.Prelude.{ℕ, ℤ, ◌^◌, ◌-◌, Bool, true, false, ◌&&◌, nat_le, nat_lt, cond, List, [], ◌∷◌, codes, length, Option, Some, None}
 use Rattle.std.specs.List.{list_all}
 use Rattle.sand_base.specs.declared.TheConstants.{COORDINATE_BITS}
 use Rattle.sand_base.specs.declared.kind.Kind.{Kind}
@@ -18,7 +18,7 @@ use Rattle.script_text.specs.declared.test.Op.TheVariants as op
 use Rattle.script_text.specs.declared.test.Test.{Test}
 use Rattle.script_text.specs.declared.token.Symbol.{Symbol}
 use Rattle.script_text.specs.declared.token.Symbol.TheVariants as symbol
-use Rattle.script_text.specs.Form.{Form, Class, a_word, a_name, a_natural, an_int, a_text, a_mark, Rule, a_plan, more_columns, more_values, more_spots, more_tests, more_places, RuleValue, nothing, take, alt, seq, checked, rule}
+use Rattle.script_text.specs.Form.{Form, a_word, a_name, a_natural, an_int, a_text, a_mark, Rule, a_plan, more_columns, more_values, more_spots, more_tests, more_places, RuleValue, nothing, take, alt, seq, checked, rule}
 use Rattle.script_text.specs.Plan.{PlanValue}
 use Rattle.script_text.specs.Plan as plan
 use Rattle.script_text.specs.Statement.{StatementValue}

@@ -1,9 +1,11 @@
-ghost use Rattle.std.specs.Prelude.{◌≡◌, ◌≤◌, ◌<◌, ◌^◌, ◌-◌, ◌&&◌, ℕ, true, IfOk, length};
+ghost use Rattle.std.specs.Prelude.{◌≡◌, ◌≤◌, ◌<◌, ◌^◌, ◌-◌, ◌&&◌, ℕ, true, [], IfOk, MatchOption, length};
+ghost use Rattle.script_text.specs.Accepting.{Accepts};
 ghost use Rattle.script_text.specs.Form.{a_word, a_name, a_natural, an_int, a_text, a_mark, head_fits};
 ghost use Rattle.script_text.specs.Grammar.{ended, room_at};
 ghost use Rattle.script_text.specs.Number.{natural, int};
-ghost use Rattle.script_text.specs.Reading.{Gives, at, start, take_in};
-ghost use Rattle.script_text.specs.Token.{is_number};
+ghost use Rattle.script_text.specs.Lexing.{pieces};
+ghost use Rattle.script_text.specs.Reading.{Gives, IsHead, at, start, take_in};
+ghost use Rattle.script_text.specs.Token.{is_number, piece_of};
 
 use crate::lexer::{next_token, skip_blanks};
 use crate::stuck::Stuck;
@@ -13,20 +15,26 @@ use sand_base::Label;
 use std::alloc::Global;
 use std::marker::Model;
 
-/// The rest of a line that is being read.
+/// The rest of a line that is being read. Its first token is kept with what stands after it, so that one is cut once,
+/// however often it is looked at.
 #[derive(Drop)]
 pub struct Cursor<'t> {
     rest: &'t [u8],
+    head: Option<(Token<'t>, &'t [u8])>,
     is_in_range: bool,
 }
 
 impl<'t> Model for Cursor<'t> {
-    ghost use Rattle.script_text.specs.Lexing.{pieces};
+    ghost use Rattle.std.specs.Prelude.{MatchOption};
+    ghost use Rattle.script_text.specs.Lexing.{pieces, IsNext, IsLast};
     ghost use Rattle.script_text.specs.Reading.{State};
+    ghost use Rattle.script_text.specs.Token.{piece_of};
 
     ghost Value = { State };
 
     ghost view = { λ cursor. record { left = pieces cursor.rest.now; in_range = cursor.is_in_range } };
+
+    ghost invariant = { λ cursor. MatchOption cursor.head (IsLast cursor.rest.now) (λ p. IsNext cursor.rest.now (piece_of p.0) p.1.now) };
 }
 
 // The number, where it is in this range.
@@ -58,8 +66,24 @@ impl<'t> Cursor<'t> {
     {
         Cursor {
             rest: line,
+            head: next_token(line),
             is_in_range: true,
         }
+    }
+
+    // The next token, and what stands after it.
+    fn peek(&self) -> Option<(Token<'t>, &'t [u8])>
+        ensures { MatchOption result (self.now.left ≡ []) (λ p. IsHead self.now.left (piece_of p.0) p.1.now) }
+    {
+        self.head
+    }
+
+    // Goes on with what stands after a token.
+    fn step(&mut self, after: &'t [u8])
+        ensures { self.new ≡ at (pieces after.now) self.old.in_range }
+    {
+        self.rest = after;
+        self.head = next_token(after);
     }
 
     /// Whether all so far was in range.
@@ -80,7 +104,7 @@ impl<'t> Cursor<'t> {
     pub fn room(&self) -> usize
         ensures { result ≡ room_at self.now.left }
     {
-        match next_token(self.rest) {
+        match self.head {
             Some(_) => skip_blanks(self.rest).len(),
             None => 0,
         }
@@ -90,23 +114,13 @@ impl<'t> Cursor<'t> {
     pub fn name(&mut self, alloc: Global) -> Result<Label, Stuck>
         ensures gives { Gives (take_in a_name (λ n. n)) self.old self.new result }
     {
-        match next_token(self.rest) {
+        match self.peek() {
             Some((Token::Name(text), after)) => {
                 let label = Label::new(alloc, text)?;
-                self.rest = after;
+                self.step(after);
                 Ok(label)
             }
             _ => Err(Stuck::Here),
-        }
-    }
-
-    /// Whether the name with this text comes next.
-    pub fn is_word(&self, word: &str) -> bool
-        ensures { result ≡ head_fits (a_word word.now) self.now.left }
-    {
-        match next_token(self.rest) {
-            Some((Token::Name(text), _)) => text == word,
-            _ => false,
         }
     }
 
@@ -115,9 +129,9 @@ impl<'t> Cursor<'t> {
         ensures gives { Gives (take_in (a_word word.now) (λ u. u)) self.old self.new result }
         ensures falls { IfOk result (λ _. length self.new.left < length self.old.left) }
     {
-        match next_token(self.rest) {
+        match self.peek() {
             Some((Token::Name(text), after)) if text == word => {
-                self.rest = after;
+                self.step(after);
                 Ok(())
             }
             _ => Err(Stuck::Here),
@@ -128,7 +142,7 @@ impl<'t> Cursor<'t> {
     pub fn is_mark(&self, wanted: Symbol) -> bool
         ensures { result ≡ head_fits (a_mark wanted) self.now.left }
     {
-        match next_token(self.rest) {
+        match self.peek() {
             Some((Token::Mark(symbol), _)) => symbol == wanted,
             _ => false,
         }
@@ -139,12 +153,38 @@ impl<'t> Cursor<'t> {
         ensures gives { Gives (take_in (a_mark wanted) (λ u. u)) self.old self.new result }
         ensures falls { IfOk result (λ _. length self.new.left < length self.old.left) }
     {
-        match next_token(self.rest) {
+        match self.peek() {
             Some((Token::Mark(symbol), after)) if symbol == wanted => {
-                self.rest = after;
+                self.step(after);
                 Ok(())
             }
             _ => Err(Stuck::Here),
+        }
+    }
+
+    /// Takes the name with this text where it comes next, and says whether it did.
+    pub fn accept_word(&mut self, word: &str) -> bool
+        ensures { Accepts (a_word word.now) self.old self.new result }
+    {
+        match self.peek() {
+            Some((Token::Name(text), after)) if text == word => {
+                self.step(after);
+                true
+            }
+            _ => false,
+        }
+    }
+
+    /// Takes this symbol where it comes next, and says whether it did.
+    pub fn accept_mark(&mut self, wanted: Symbol) -> bool
+        ensures { Accepts (a_mark wanted) self.old self.new result }
+    {
+        match self.peek() {
+            Some((Token::Mark(symbol), after)) if symbol == wanted => {
+                self.step(after);
+                true
+            }
+            _ => false,
         }
     }
 
@@ -153,7 +193,7 @@ impl<'t> Cursor<'t> {
         ensures natural { (least most : ℕ) → result ≡ head_fits (a_natural least most) self.now.left }
         ensures int { result ≡ head_fits an_int self.now.left }
     {
-        match next_token(self.rest) {
+        match self.peek() {
             Some((Token::Number(_), _)) => true,
             _ => false,
         }
@@ -164,13 +204,13 @@ impl<'t> Cursor<'t> {
         ensures gives { Gives (take_in (a_natural least most) (λ n. n)) self.old self.new result }
         ensures bound { IfOk result (λ n. n ≤ most) }
     {
-        match next_token(self.rest) {
+        match self.peek() {
             Some((Token::Number(text), after)) => {
-                self.rest = after;
+                self.step(after);
                 match natural(text, least, most) {
                     Some(n) => Ok(n),
                     None => {
-                        self.is_in_range = false;
+                        self.note(false);
                         Ok(0)
                     }
                 }
@@ -183,13 +223,13 @@ impl<'t> Cursor<'t> {
     pub fn int(&mut self) -> Result<i64, Stuck>
         ensures { Gives (take_in an_int (λ n. n)) self.old self.new result }
     {
-        match next_token(self.rest) {
+        match self.peek() {
             Some((Token::Number(text), after)) => {
-                self.rest = after;
+                self.step(after);
                 match int(text) {
                     Some(n) => Ok(n),
                     None => {
-                        self.is_in_range = false;
+                        self.note(false);
                         Ok(0)
                     }
                 }
@@ -202,7 +242,7 @@ impl<'t> Cursor<'t> {
     pub fn is_text(&self) -> bool
         ensures { result ≡ head_fits a_text self.now.left }
     {
-        match next_token(self.rest) {
+        match self.peek() {
             Some((Token::Text(_), _)) => true,
             _ => false,
         }
@@ -212,12 +252,11 @@ impl<'t> Cursor<'t> {
     pub fn text(&mut self, alloc: Global) -> Result<Label, Stuck>
         ensures { Gives (take_in a_text (λ t. t)) self.old self.new result }
     {
-        match next_token(self.rest) {
+        match self.peek() {
             Some((Token::Text(inside), after)) => {
                 let label = content(alloc, inside)?;
-                self.rest = after;
-                let is_short = label.as_str().len() <= 255;
-                self.is_in_range = is_short && self.is_in_range;
+                self.step(after);
+                self.note(label.as_str().len() <= 255);
                 Ok(label)
             }
             _ => Err(Stuck::Here),
@@ -228,7 +267,7 @@ impl<'t> Cursor<'t> {
     pub fn end(&mut self) -> Result<(), Stuck>
         ensures { Gives (ended tt) self.old self.new result }
     {
-        match next_token(self.rest) {
+        match self.peek() {
             None => Ok(()),
             Some(_) => Err(Stuck::Here),
         }

@@ -1,15 +1,24 @@
 ghost use Rattle.std.specs.Prelude.{◌≡◌, IfOk};
 ghost use Rattle.script_text.specs.Page.{put_all};
-ghost use Rattle.script_text.specs.Plan.{plan_value, Rank, Window, PickEqual, PickBetween, Join, Semi, Filter, Match, Fetch, First, SortBy, SortNear};
+ghost use Rattle.script_text.specs.Plan.{plan_value, Scan, Rank, Window, PickEqual, PickBetween, Join, Semi, Filter, Match, Fetch, First, SortBy, SortNear};
 ghost use Rattle.script_text.specs.Printing.{inner_words, plan_words};
 
 use crate::printer::Printer;
 use crate::token::Symbol;
 use crate::{Column, Place, Places, Plan, Tests};
-use sand_base::{NoMemory, Rect, Shape, Value};
+use sand_base::{Label, NoMemory, Rect, Shape, Value};
 
 #[tactic(auto, using(crate::proofs::Pages::put_append), unfolding(crate::specs::Page::put_all))]
 impl Printer {
+    // Writes a `scan`.
+    fn scan(&mut self, relation: &Label) -> Result<(), NoMemory>
+        ensures { IfOk result (λ _. self.new ≡ put_all self.old (plan_words (Scan relation.now))) }
+    {
+        self.name("scan")?;
+        self.name(relation.as_str())?;
+        Ok(())
+    }
+
     // Writes a `rank`.
     fn rank(&mut self, column: &Column, goal: &Shape, within: Option<u32>) -> Result<(), NoMemory>
         ensures { IfOk result (λ _. self.new ≡ put_all self.old (plan_words (Rank column.now goal.now within))) }
@@ -172,39 +181,35 @@ impl Printer {
         ensures { IfOk result (λ _. self.new ≡ put_all self.old (plan_words (plan_value plan.now))) }
     {
         match plan {
-            Plan::Scan { relation } => {
-                self.name("scan")?;
-                self.name(relation.as_str())?;
-            }
+            Plan::Scan { relation } => self.scan(relation),
             Plan::Rank {
                 column,
                 goal,
                 within,
-            } => self.rank(column, goal, *within)?,
-            Plan::Window { column, window } => self.window(column, *window)?,
-            Plan::PickEqual { column, value } => self.pick_equal(column, value)?,
-            Plan::PickBetween { column, low, high } => self.pick_between(column, *low, *high)?,
+            } => self.rank(column, goal, *within),
+            Plan::Window { column, window } => self.window(column, *window),
+            Plan::PickEqual { column, value } => self.pick_equal(column, value),
+            Plan::PickBetween { column, low, high } => self.pick_between(column, *low, *high),
             Plan::Join {
                 left,
                 right,
                 within,
-            } => self.join(left, right, *within)?,
+            } => self.join(left, right, *within),
             Plan::Semi {
                 left,
                 right,
                 within,
-            } => self.semi(left, right, *within)?,
-            Plan::Filter { plan, tests } => self.filter(plan, tests)?,
+            } => self.semi(left, right, *within),
+            Plan::Filter { plan, tests } => self.filter(plan, tests),
             Plan::Match {
                 plan,
                 place,
                 column,
-            } => self.matched(plan, place, column)?,
-            Plan::Fetch { plan, places } => self.fetch(plan, places)?,
-            Plan::First { count, plan } => self.first(*count, plan)?,
-            Plan::SortBy { plan, place } => self.sort_by(plan, place)?,
-            Plan::SortNear { plan, place, goal } => self.sort_near(plan, place, goal)?,
+            } => self.matched(plan, place, column),
+            Plan::Fetch { plan, places } => self.fetch(plan, places),
+            Plan::First { count, plan } => self.first(*count, plan),
+            Plan::SortBy { plan, place } => self.sort_by(plan, place),
+            Plan::SortNear { plan, place, goal } => self.sort_near(plan, place, goal),
         }
-        Ok(())
     }
 }

@@ -2,27 +2,26 @@ ghost use Rattle.std.specs.Prelude.{◌≡◌, codes, box_value};
 ghost use Rattle.script_text.specs.declared.token.Symbol.TheVariants.{Equal};
 ghost use Rattle.script_text.specs.Form.{a_plan, rule, seq};
 ghost use Rattle.script_text.specs.Grammar.{reading};
-ghost use Rattle.script_text.specs.Plan.{PickBetween, PickEqual, PlanValue, plan_value};
+ghost use Rattle.script_text.specs.Plan.{PickBetween, PlanValue, SortNear, plan_value};
 ghost use Rattle.script_text.specs.declared.column.Column.{Column};
 ghost use Rattle.script_text.specs.Reading.{Gives, GivesAs};
-ghost use Rattle.script_text.specs.Rules.{after_sign, after_word, column_form, int_form, plain_form, shape_form, told, within_form};
+ghost use Rattle.script_text.specs.Rules.{after_sign, after_word, column_form, int_form, place_form, shape_form, tests_form, within_form};
 ghost use Rattle.script_text.specs.Rules.{inner_form, scan_rest, rank_rest, window_rest, pick_rest, join_rest, semi_rest};
 ghost use Rattle.script_text.specs.Rules.{filter_rest, match_rest, fetch_rest, first_rest, sort_rest};
 
 use crate::cursor::Cursor;
 use crate::stuck::Stuck;
 use crate::token::Symbol;
-use crate::{Column, MOST_ROWS, Places, Plan, Tests};
+use crate::{Column, MOST_ROWS, Place, Places, Plan, Tests};
 use sand_base::{Shape, Value};
 use std::alloc::Global;
 use std::boxed::Box;
 
 impl<'t> Cursor<'t> {
-    // Reads a `scan`.
+    // Reads a `scan`, after its word.
     fn scan(&mut self, alloc: Global) -> Result<Plan, Stuck>
-        ensures { GivesAs plan_value (reading (after_word (codes "scan") scan_rest)) self.old self.new result }
+        ensures { GivesAs plan_value (reading scan_rest) self.old self.new result }
     {
-        self.word("scan")?;
         let relation = self.name(alloc)?;
         Ok(Plan::Scan { relation })
     }
@@ -37,11 +36,10 @@ impl<'t> Cursor<'t> {
         Ok((goal, within))
     }
 
-    // Reads a `rank`.
+    // Reads a `rank`, after its word.
     fn rank(&mut self, alloc: Global) -> Result<Plan, Stuck>
-        ensures { GivesAs plan_value (reading (after_word (codes "rank") rank_rest)) self.old self.new result }
+        ensures { GivesAs plan_value (reading rank_rest) self.old self.new result }
     {
-        self.word("rank")?;
         let column = self.column(alloc)?;
         let (goal, within) = self.goal(alloc)?;
         Ok(Plan::Rank {
@@ -51,22 +49,13 @@ impl<'t> Cursor<'t> {
         })
     }
 
-    // Reads a `window`.
+    // Reads a `window`, after its word.
     fn window(&mut self, alloc: Global) -> Result<Plan, Stuck>
-        ensures { GivesAs plan_value (reading (after_word (codes "window") window_rest)) self.old self.new result }
+        ensures { GivesAs plan_value (reading window_rest) self.old self.new result }
     {
-        self.word("window")?;
         let column = self.column(alloc)?;
         let window = self.rect()?;
         Ok(Plan::Window { column, window })
-    }
-
-    // Reads `=` and the value that is picked.
-    fn picked_value(&mut self, alloc: Global) -> Result<Value, Stuck>
-        ensures { GivesAs {A = Column → PlanValue} (λ v c. PickEqual c v) (reading (after_sign Equal (told (λ v c. PickEqual c v) plain_form))) self.old self.new result }
-    {
-        self.mark(Symbol::Equal)?;
-        self.plain(alloc)
     }
 
     // Reads the lowest and the highest number that are picked.
@@ -80,14 +69,13 @@ impl<'t> Cursor<'t> {
         Ok((low, high))
     }
 
-    // Reads a `pick`.
+    // Reads a `pick`, after its word.
     fn pick(&mut self, alloc: Global) -> Result<Plan, Stuck>
-        ensures { GivesAs plan_value (reading (after_word (codes "pick") pick_rest)) self.old self.new result }
+        ensures { GivesAs plan_value (reading pick_rest) self.old self.new result }
     {
-        self.word("pick")?;
         let column = self.column(alloc)?;
-        if self.is_mark(Symbol::Equal) {
-            let value = self.picked_value(alloc)?;
+        if self.accept_mark(Symbol::Equal) {
+            let value = self.plain(alloc)?;
             return Ok(Plan::PickEqual { column, value });
         }
         let (low, high) = self.picked_range()?;
@@ -103,11 +91,10 @@ impl<'t> Cursor<'t> {
         Ok((right, within))
     }
 
-    // Reads a `join`.
+    // Reads a `join`, after its word.
     fn join(&mut self, alloc: Global) -> Result<Plan, Stuck>
-        ensures { GivesAs plan_value (reading (after_word (codes "join") join_rest)) self.old self.new result }
+        ensures { GivesAs plan_value (reading join_rest) self.old self.new result }
     {
-        self.word("join")?;
         let left = self.column(alloc)?;
         let (right, within) = self.partner(alloc)?;
         Ok(Plan::Join {
@@ -117,11 +104,10 @@ impl<'t> Cursor<'t> {
         })
     }
 
-    // Reads a `semi`.
+    // Reads a `semi`, after its word.
     fn semi(&mut self, alloc: Global) -> Result<Plan, Stuck>
-        ensures { GivesAs plan_value (reading (after_word (codes "semi") semi_rest)) self.old self.new result }
+        ensures { GivesAs plan_value (reading semi_rest) self.old self.new result }
     {
-        self.word("semi")?;
         let left = self.column(alloc)?;
         let (right, within) = self.partner(alloc)?;
         Ok(Plan::Semi {
@@ -131,39 +117,73 @@ impl<'t> Cursor<'t> {
         })
     }
 
+    // Reads the tests that answers must pass.
+    fn condition(&mut self, alloc: Global) -> Result<Tests, Stuck>
+        ensures { Gives (reading (after_word (codes "where") tests_form)) self.old self.new result }
+    {
+        self.word("where")?;
+        let tests = self.tests(alloc)?;
+        Ok(Tests::new(tests))
+    }
+
+    // Reads the place and the column whose values must be the same.
+    fn equality(&mut self, alloc: Global) -> Result<(Place, Column), Stuck>
+        ensures { Gives (reading (seq (λ l c. (l, c)) place_form (after_sign Equal column_form))) self.old self.new result }
+    {
+        let place = self.place(alloc)?;
+        self.mark(Symbol::Equal)?;
+        let column = self.column(alloc)?;
+        Ok((place, column))
+    }
+
+    // Reads the place whose shapes answers are sorted by, and the shape that they are compared with.
+    fn sort_goal(&mut self, alloc: Global) -> Result<(Place, Shape), Stuck>
+        ensures { GivesAs {A = PlanValue → PlanValue} (λ q p. SortNear p q.0 q.1) (reading (after_word (codes "near") (seq (λ l g p. SortNear p l g) place_form (after_word (codes "from") shape_form)))) self.old self.new result }
+    {
+        self.word("near")?;
+        let place = self.place(alloc)?;
+        self.word("from")?;
+        let goal = self.shape(alloc)?;
+        Ok((place, goal))
+    }
+
+    // Reads a plan into a box.
+    #[cycle(plan)]
+    fn boxed(&mut self, alloc: Global) -> Result<Box<Plan>, Stuck>
+        ensures { GivesAs (λ b. plan_value (box_value b)) (reading (rule a_plan)) self.old self.new result }
+    {
+        let plan = self.plan(alloc)?;
+        Ok(Box::new(alloc, plan)?)
+    }
+
     // Reads a plan between brackets.
     #[cycle(plan)]
     fn inner(&mut self, alloc: Global) -> Result<Box<Plan>, Stuck>
         ensures { GivesAs (λ b. plan_value (box_value b)) (reading inner_form) self.old self.new result }
     {
         self.mark(Symbol::Open)?;
-        let plan = self.plan(alloc)?;
+        let plan = self.boxed(alloc)?;
         self.mark(Symbol::Close)?;
-        Ok(Box::new(alloc, plan)?)
+        Ok(plan)
     }
 
-    // Reads a `filter`.
+    // Reads a `filter`, after its word.
     #[cycle(plan)]
     fn filter(&mut self, alloc: Global) -> Result<Plan, Stuck>
-        ensures { GivesAs plan_value (reading (after_word (codes "filter") filter_rest)) self.old self.new result }
+        ensures { GivesAs plan_value (reading filter_rest) self.old self.new result }
     {
-        self.word("filter")?;
         let plan = self.inner(alloc)?;
-        self.word("where")?;
-        let tests = Tests::new(self.tests(alloc)?);
+        let tests = self.condition(alloc)?;
         Ok(Plan::Filter { plan, tests })
     }
 
-    // Reads a `match`.
+    // Reads a `match`, after its word.
     #[cycle(plan)]
     fn matched(&mut self, alloc: Global) -> Result<Plan, Stuck>
-        ensures { GivesAs plan_value (reading (after_word (codes "match") match_rest)) self.old self.new result }
+        ensures { GivesAs plan_value (reading match_rest) self.old self.new result }
     {
-        self.word("match")?;
         let plan = self.inner(alloc)?;
-        let place = self.place(alloc)?;
-        self.mark(Symbol::Equal)?;
-        let column = self.column(alloc)?;
+        let (place, column) = self.equality(alloc)?;
         Ok(Plan::Match {
             plan,
             place,
@@ -171,23 +191,21 @@ impl<'t> Cursor<'t> {
         })
     }
 
-    // Reads a `fetch`.
+    // Reads a `fetch`, after its word.
     #[cycle(plan)]
     fn fetch(&mut self, alloc: Global) -> Result<Plan, Stuck>
-        ensures { GivesAs plan_value (reading (after_word (codes "fetch") fetch_rest)) self.old self.new result }
+        ensures { GivesAs plan_value (reading fetch_rest) self.old self.new result }
     {
-        self.word("fetch")?;
         let plan = self.inner(alloc)?;
         let places = Places::new(self.places(alloc)?);
         Ok(Plan::Fetch { plan, places })
     }
 
-    // Reads a `first`.
+    // Reads a `first`, after its word.
     #[cycle(plan)]
     fn first(&mut self, alloc: Global) -> Result<Plan, Stuck>
-        ensures { GivesAs plan_value (reading (after_word (codes "first") first_rest)) self.old self.new result }
+        ensures { GivesAs plan_value (reading first_rest) self.old self.new result }
     {
-        self.word("first")?;
         let count = self.natural(1, MOST_ROWS)?;
         let plan = self.inner(alloc)?;
         Ok(Plan::First { count, plan })
@@ -200,15 +218,11 @@ impl<'t> Cursor<'t> {
     {
         self.word("sort")?;
         let plan = self.inner(alloc)?;
-        if self.is_word("by") {
-            self.word("by")?;
+        if self.accept_word("by") {
             let place = self.place(alloc)?;
             return Ok(Plan::SortBy { plan, place });
         }
-        self.word("near")?;
-        let place = self.place(alloc)?;
-        self.word("from")?;
-        let goal = self.shape(alloc)?;
+        let (place, goal) = self.sort_goal(alloc)?;
         Ok(Plan::SortNear { plan, place, goal })
     }
 
@@ -219,34 +233,34 @@ impl<'t> Cursor<'t> {
     pub fn plan(&mut self, alloc: Global) -> Result<Plan, Stuck>
         ensures { GivesAs plan_value (reading (rule a_plan)) self.old self.new result }
     {
-        if self.is_word("scan") {
+        if self.accept_word("scan") {
             return self.scan(alloc);
         }
-        if self.is_word("rank") {
+        if self.accept_word("rank") {
             return self.rank(alloc);
         }
-        if self.is_word("window") {
+        if self.accept_word("window") {
             return self.window(alloc);
         }
-        if self.is_word("pick") {
+        if self.accept_word("pick") {
             return self.pick(alloc);
         }
-        if self.is_word("join") {
+        if self.accept_word("join") {
             return self.join(alloc);
         }
-        if self.is_word("semi") {
+        if self.accept_word("semi") {
             return self.semi(alloc);
         }
-        if self.is_word("filter") {
+        if self.accept_word("filter") {
             return self.filter(alloc);
         }
-        if self.is_word("match") {
+        if self.accept_word("match") {
             return self.matched(alloc);
         }
-        if self.is_word("fetch") {
+        if self.accept_word("fetch") {
             return self.fetch(alloc);
         }
-        if self.is_word("first") {
+        if self.accept_word("first") {
             return self.first(alloc);
         }
         self.sort(alloc)

@@ -2,7 +2,7 @@ ghost use Rattle.std.specs.Prelude.{◌≡◌, IfOk};
 ghost use Rattle.script_text.specs.Page.{put_all};
 ghost use Rattle.script_text.specs.Plan.{plan_value};
 ghost use Rattle.script_text.specs.Printing.{printed, words};
-ghost use Rattle.script_text.specs.Statement.{statement_value, Create, Insert, Delete, Load, Index, OpenCursor, Next, Show};
+ghost use Rattle.script_text.specs.Statement.{statement_value, Create, Insert, Delete, Load, Index, OpenCursor, Next, CloseCursor, Show, Stats, Blocks};
 
 use crate::printer::Printer;
 use crate::token::Symbol;
@@ -100,37 +100,54 @@ impl Printer {
         Ok(())
     }
 
+    // Writes a `close`.
+    fn close(&mut self, cursor: &Label) -> Result<(), NoMemory>
+        ensures { IfOk result (λ _. self.new ≡ put_all self.old (words (CloseCursor cursor.now))) }
+    {
+        self.name("close")?;
+        self.name(cursor.as_str())?;
+        Ok(())
+    }
+
+    // Writes a `stats`.
+    fn stats(&mut self, cursor: &Label) -> Result<(), NoMemory>
+        ensures { IfOk result (λ _. self.new ≡ put_all self.old (words (Stats cursor.now))) }
+    {
+        self.name("stats")?;
+        self.name(cursor.as_str())?;
+        Ok(())
+    }
+
+    // Writes a `blocks`.
+    fn blocks(&mut self, column: &Column) -> Result<(), NoMemory>
+        ensures { IfOk result (λ _. self.new ≡ put_all self.old (words (Blocks column.now))) }
+    {
+        self.name("blocks")?;
+        self.column(column)?;
+        Ok(())
+    }
+
     // Writes a statement.
     fn statement(&mut self, statement: &Statement) -> Result<(), NoMemory>
         ensures { IfOk result (λ _. self.new ≡ put_all self.old (words (statement_value statement.now))) }
     {
         match statement {
-            Statement::Create { relation, columns } => self.create(relation, columns)?,
-            Statement::Insert { relation, values } => self.insert(relation, values)?,
-            Statement::Delete { relation, id } => self.delete(relation, *id)?,
+            Statement::Create { relation, columns } => self.create(relation, columns),
+            Statement::Insert { relation, values } => self.insert(relation, values),
+            Statement::Delete { relation, id } => self.delete(relation, *id),
             Statement::Load {
                 relation,
                 file,
                 header,
-            } => self.load(relation, file, *header)?,
-            Statement::Index { column, threshold } => self.index(column, *threshold)?,
-            Statement::OpenCursor { cursor, plan } => self.open(cursor, plan)?,
-            Statement::Next { cursor, count } => self.next(cursor, *count)?,
-            Statement::CloseCursor { cursor } => {
-                self.name("close")?;
-                self.name(cursor.as_str())?;
-            }
-            Statement::Show { count, plan } => self.show(*count, plan)?,
-            Statement::Stats { cursor } => {
-                self.name("stats")?;
-                self.name(cursor.as_str())?;
-            }
-            Statement::Blocks { column } => {
-                self.name("blocks")?;
-                self.column(column)?;
-            }
+            } => self.load(relation, file, *header),
+            Statement::Index { column, threshold } => self.index(column, *threshold),
+            Statement::OpenCursor { cursor, plan } => self.open(cursor, plan),
+            Statement::Next { cursor, count } => self.next(cursor, *count),
+            Statement::CloseCursor { cursor } => self.close(cursor),
+            Statement::Show { count, plan } => self.show(*count, plan),
+            Statement::Stats { cursor } => self.stats(cursor),
+            Statement::Blocks { column } => self.blocks(column),
         }
-        Ok(())
     }
 }
 

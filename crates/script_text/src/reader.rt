@@ -1,8 +1,7 @@
-ghost use Rattle.std.specs.Prelude.{◌≡◌, ◌<◌, IfOk, codes, length};
-ghost use Rattle.script_text.specs.declared.token.Symbol.TheVariants.{Comma, Open};
+ghost use Rattle.std.specs.Prelude.{◌≡◌, ◌<◌, IfOk, length};
 ghost use Rattle.script_text.specs.Grammar.{reading, whole};
 ghost use Rattle.script_text.specs.Reading.{Gives, GivesAs};
-ghost use Rattle.script_text.specs.Rules.{after_sign, after_word, column_form, columns_form, coordinate_form, corner_form};
+ghost use Rattle.script_text.specs.Rules.{column_form, columns_form, coordinate_form, corner_form};
 ghost use Rattle.script_text.specs.Rules.{field_form, kind_form, op_form, place_form, places_form, plain_form, rect_form};
 ghost use Rattle.script_text.specs.Rules.{shape_form, spatial_form, spot_form, spots_form, test_form, tests_form, value_form, values_form};
 ghost use Rattle.script_text.specs.Rules.{is_ordered, is_ring, point_or_segment_form, polygon, polygon_form, way_form, within_form};
@@ -76,25 +75,24 @@ impl<'t> Cursor<'t> {
     fn way(&mut self) -> Result<Option<Point>, Stuck>
         ensures { Gives (reading way_form) self.old self.new result }
     {
-        if !self.is_mark(Symbol::Minus) {
+        if !self.accept_mark(Symbol::Minus) {
             return Ok(None);
         }
-        self.mark(Symbol::Minus)?;
         let b = self.spot()?;
         Ok(Some(b))
     }
 
     // Reads the spots of a polygon.
-    #[tactic(auto, using(crate::proofs::ListReading::spots_end, crate::proofs::ListReading::spots_step, crate::proofs::ListReading::spots_stuck))]
     fn spots(&mut self, alloc: Global) -> Result<Vec<Point>, Stuck>
         ensures { GivesAs (λ list. list.items) (reading spots_form) self.old self.new result }
     {
         let mut items = Vec::new(alloc);
-        items.push(self.spot()?)?;
-        'spots: while self.is_mark(Symbol::Open) {
+        'spots: loop {
             items.push(self.spot()?)?;
+            if !self.is_mark(Symbol::Open) {
+                return Ok(items);
+            }
         }
-        Ok(items)
     }
 
     // Reads a point or a segment, after its first bracket.
@@ -173,38 +171,27 @@ impl<'t> Cursor<'t> {
         Ok(Value::Shape(shape))
     }
 
-    // Reads a comma and a value.
-    fn next_value(&mut self, alloc: Global) -> Result<Value, Stuck>
-        ensures gives { Gives (reading (after_sign Comma value_form)) self.old self.new result }
-        ensures falls { IfOk result (λ _. length self.new.left < length self.old.left) }
-    {
-        self.mark(Symbol::Comma)?;
-        self.value(alloc)
-    }
-
     /// Reads the values of a row.
-    #[tactic(auto, using(crate::proofs::ListReading::values_end, crate::proofs::ListReading::values_step, crate::proofs::ListReading::values_stuck))]
     pub fn values(&mut self, alloc: Global) -> Result<Vec<Value>, Stuck>
         ensures { GivesAs (λ list. list.items) (reading values_form) self.old self.new result }
     {
         let mut items = Vec::new(alloc);
-        items.push(self.value(alloc)?)?;
-        'values: while self.is_mark(Symbol::Comma) {
-            items.push(self.next_value(alloc)?)?;
+        'values: loop {
+            items.push(self.value(alloc)?)?;
+            if !self.accept_mark(Symbol::Comma) {
+                return Ok(items);
+            }
         }
-        Ok(items)
     }
 
     // Reads the word of a kind that shapes have.
     fn spatial_kind(&mut self) -> Result<Kind, Stuck>
         ensures { Gives (reading spatial_form) self.old self.new result }
     {
-        if self.is_word("point") {
-            self.word("point")?;
+        if self.accept_word("point") {
             return Ok(Kind::Point);
         }
-        if self.is_word("segment") {
-            self.word("segment")?;
+        if self.accept_word("segment") {
             return Ok(Kind::Segment);
         }
         self.word("polygon")?;
@@ -215,12 +202,10 @@ impl<'t> Cursor<'t> {
     fn kind(&mut self) -> Result<Kind, Stuck>
         ensures { Gives (reading kind_form) self.old self.new result }
     {
-        if self.is_word("int") {
-            self.word("int")?;
+        if self.accept_word("int") {
             return Ok(Kind::Int);
         }
-        if self.is_word("text") {
-            self.word("text")?;
+        if self.accept_word("text") {
             return Ok(Kind::Text);
         }
         self.spatial_kind()
@@ -235,50 +220,36 @@ impl<'t> Cursor<'t> {
         Ok((name, kind))
     }
 
-    // Reads a comma, a column's name and its kind.
-    fn next_field(&mut self, alloc: Global) -> Result<(Label, Kind), Stuck>
-        ensures gives { Gives (reading (after_sign Comma field_form)) self.old self.new result }
-        ensures falls { IfOk result (λ _. length self.new.left < length self.old.left) }
-    {
-        self.mark(Symbol::Comma)?;
-        self.field(alloc)
-    }
-
     /// Reads the columns of a relation.
-    #[tactic(auto, using(crate::proofs::ListReading::columns_end, crate::proofs::ListReading::columns_step, crate::proofs::ListReading::columns_stuck))]
     pub fn columns(&mut self, alloc: Global) -> Result<Vec<(Label, Kind)>, Stuck>
         ensures { GivesAs (λ list. list.items) (reading columns_form) self.old self.new result }
     {
         let mut items = Vec::new(alloc);
-        items.push(self.field(alloc)?)?;
-        'columns: while self.is_mark(Symbol::Comma) {
-            items.push(self.next_field(alloc)?)?;
+        'columns: loop {
+            items.push(self.field(alloc)?)?;
+            if !self.accept_mark(Symbol::Comma) {
+                return Ok(items);
+            }
         }
-        Ok(items)
     }
 
     // Reads how a test compares.
     fn op(&mut self) -> Result<Op, Stuck>
         ensures { Gives (reading op_form) self.old self.new result }
     {
-        if self.is_mark(Symbol::Equal) {
-            self.mark(Symbol::Equal)?;
+        if self.accept_mark(Symbol::Equal) {
             return Ok(Op::Equal);
         }
-        if self.is_mark(Symbol::NotEqual) {
-            self.mark(Symbol::NotEqual)?;
+        if self.accept_mark(Symbol::NotEqual) {
             return Ok(Op::NotEqual);
         }
-        if self.is_mark(Symbol::Less) {
-            self.mark(Symbol::Less)?;
+        if self.accept_mark(Symbol::Less) {
             return Ok(Op::Less);
         }
-        if self.is_mark(Symbol::AtMost) {
-            self.mark(Symbol::AtMost)?;
+        if self.accept_mark(Symbol::AtMost) {
             return Ok(Op::AtMost);
         }
-        if self.is_mark(Symbol::Greater) {
-            self.mark(Symbol::Greater)?;
+        if self.accept_mark(Symbol::Greater) {
             return Ok(Op::Greater);
         }
         self.mark(Symbol::AtLeast)?;
@@ -295,58 +266,39 @@ impl<'t> Cursor<'t> {
         Ok(Test { place, op, value })
     }
 
-    // Reads `and` and a test.
-    fn next_test(&mut self, alloc: Global) -> Result<Test, Stuck>
-        ensures gives { Gives (reading (after_word (codes "and") test_form)) self.old self.new result }
-        ensures falls { IfOk result (λ _. length self.new.left < length self.old.left) }
-    {
-        self.word("and")?;
-        self.test(alloc)
-    }
-
     /// Reads the tests of a `filter`.
-    #[tactic(auto, using(crate::proofs::ListReading::tests_end, crate::proofs::ListReading::tests_step, crate::proofs::ListReading::tests_stuck))]
     pub fn tests(&mut self, alloc: Global) -> Result<Vec<Test>, Stuck>
         ensures { GivesAs (λ list. list.items) (reading tests_form) self.old self.new result }
     {
         let mut items = Vec::new(alloc);
-        items.push(self.test(alloc)?)?;
-        'tests: while self.is_word("and") {
-            items.push(self.next_test(alloc)?)?;
+        'tests: loop {
+            items.push(self.test(alloc)?)?;
+            if !self.accept_word("and") {
+                return Ok(items);
+            }
         }
-        Ok(items)
-    }
-
-    // Reads a comma and a place.
-    fn next_place(&mut self, alloc: Global) -> Result<Place, Stuck>
-        ensures gives { Gives (reading (after_sign Comma place_form)) self.old self.new result }
-        ensures falls { IfOk result (λ _. length self.new.left < length self.old.left) }
-    {
-        self.mark(Symbol::Comma)?;
-        self.place(alloc)
     }
 
     /// Reads the places of a `fetch`.
-    #[tactic(auto, using(crate::proofs::ListReading::places_end, crate::proofs::ListReading::places_step, crate::proofs::ListReading::places_stuck))]
     pub fn places(&mut self, alloc: Global) -> Result<Vec<Place>, Stuck>
         ensures { GivesAs (λ list. list.items) (reading places_form) self.old self.new result }
     {
         let mut items = Vec::new(alloc);
-        items.push(self.place(alloc)?)?;
-        'places: while self.is_mark(Symbol::Comma) {
-            items.push(self.next_place(alloc)?)?;
+        'places: loop {
+            items.push(self.place(alloc)?)?;
+            if !self.accept_mark(Symbol::Comma) {
+                return Ok(items);
+            }
         }
-        Ok(items)
     }
 
     /// Reads `within` and a distance, where they stand.
     pub fn within(&mut self) -> Result<Option<u32>, Stuck>
         ensures { Gives (reading within_form) self.old self.new result }
     {
-        if !self.is_word("within") {
+        if !self.accept_word("within") {
             return Ok(None);
         }
-        self.word("within")?;
         let distance = self.natural(0, MOST_WITHIN)?;
         Ok(Some(distance))
     }

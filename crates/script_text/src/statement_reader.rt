@@ -14,11 +14,10 @@ use sand_base::{Row, Schema};
 use std::alloc::Global;
 
 impl<'t> Cursor<'t> {
-    // Reads a `create`.
+    // Reads a `create`, after its word.
     fn create(&mut self, alloc: Global) -> Result<Statement, Stuck>
-        ensures { GivesAs statement_value (reading (after_word (codes "create") create_rest)) self.old self.new result }
+        ensures { GivesAs statement_value (reading create_rest) self.old self.new result }
     {
-        self.word("create")?;
         let relation = self.name(alloc)?;
         self.mark(Symbol::Open)?;
         let columns = self.columns(alloc)?;
@@ -30,21 +29,19 @@ impl<'t> Cursor<'t> {
         })
     }
 
-    // Reads an `insert`.
+    // Reads an `insert`, after its word.
     fn insert(&mut self, alloc: Global) -> Result<Statement, Stuck>
-        ensures { GivesAs statement_value (reading (after_word (codes "insert") insert_rest)) self.old self.new result }
+        ensures { GivesAs statement_value (reading insert_rest) self.old self.new result }
     {
-        self.word("insert")?;
         let relation = self.name(alloc)?;
         let values = Row::new(self.values(alloc)?);
         Ok(Statement::Insert { relation, values })
     }
 
-    // Reads a `delete`.
+    // Reads a `delete`, after its word.
     fn delete(&mut self, alloc: Global) -> Result<Statement, Stuck>
-        ensures { GivesAs statement_value (reading (after_word (codes "delete") delete_rest)) self.old self.new result }
+        ensures { GivesAs statement_value (reading delete_rest) self.old self.new result }
     {
-        self.word("delete")?;
         let relation = self.name(alloc)?;
         let id = self.natural(0, u32::MAX)?;
         Ok(Statement::Delete { relation, id })
@@ -54,18 +51,13 @@ impl<'t> Cursor<'t> {
     fn header(&mut self) -> Result<bool, Stuck>
         ensures { Gives (reading (case_word (codes "header") (nothing true) (nothing false))) self.old self.new result }
     {
-        if !self.is_word("header") {
-            return Ok(false);
-        }
-        self.word("header")?;
-        Ok(true)
+        Ok(self.accept_word("header"))
     }
 
-    // Reads a `load`.
+    // Reads a `load`, after its word.
     fn load(&mut self, alloc: Global) -> Result<Statement, Stuck>
-        ensures { GivesAs statement_value (reading (after_word (codes "load") load_rest)) self.old self.new result }
+        ensures { GivesAs statement_value (reading load_rest) self.old self.new result }
     {
-        self.word("load")?;
         let relation = self.name(alloc)?;
         let file = self.text(alloc)?;
         let header = self.header()?;
@@ -87,61 +79,55 @@ impl<'t> Cursor<'t> {
         Ok(Some(threshold as u8))
     }
 
-    // Reads an `index`.
+    // Reads an `index`, after its word.
     fn index(&mut self, alloc: Global) -> Result<Statement, Stuck>
-        ensures { GivesAs statement_value (reading (after_word (codes "index") index_rest)) self.old self.new result }
+        ensures { GivesAs statement_value (reading index_rest) self.old self.new result }
     {
-        self.word("index")?;
         let column = self.column(alloc)?;
         let threshold = self.threshold()?;
         Ok(Statement::Index { column, threshold })
     }
 
-    // Reads an `open`.
+    // Reads an `open`, after its word.
     fn open(&mut self, alloc: Global) -> Result<Statement, Stuck>
-        ensures { GivesAs statement_value (reading (after_word (codes "open") open_rest)) self.old self.new result }
+        ensures { GivesAs statement_value (reading open_rest) self.old self.new result }
     {
-        self.word("open")?;
         let cursor = self.name(alloc)?;
         self.mark(Symbol::Equal)?;
         let plan = self.plan(alloc)?;
         Ok(Statement::OpenCursor { cursor, plan })
     }
 
-    // Reads a `next`.
+    // Reads a `next`, after its word.
     fn next(&mut self, alloc: Global) -> Result<Statement, Stuck>
-        ensures { GivesAs statement_value (reading (after_word (codes "next") next_rest)) self.old self.new result }
+        ensures { GivesAs statement_value (reading next_rest) self.old self.new result }
     {
-        self.word("next")?;
         let cursor = self.name(alloc)?;
         let count = self.natural(1, MOST_ROWS)?;
         Ok(Statement::Next { cursor, count })
     }
 
-    // Reads a `close`.
+    // Reads a `close`, after its word.
     fn close(&mut self, alloc: Global) -> Result<Statement, Stuck>
-        ensures { GivesAs statement_value (reading (after_word (codes "close") close_rest)) self.old self.new result }
+        ensures { GivesAs statement_value (reading close_rest) self.old self.new result }
     {
-        self.word("close")?;
         let cursor = self.name(alloc)?;
         Ok(Statement::CloseCursor { cursor })
     }
 
-    // Reads a `show`.
+    // Reads a `show`, after its word.
     fn show(&mut self, alloc: Global) -> Result<Statement, Stuck>
-        ensures { GivesAs statement_value (reading (after_word (codes "show") show_rest)) self.old self.new result }
+        ensures { GivesAs statement_value (reading show_rest) self.old self.new result }
     {
-        self.word("show")?;
         let count = self.natural(1, MOST_ROWS)?;
         let plan = self.plan(alloc)?;
         Ok(Statement::Show { count, plan })
     }
 
-    // Reads a `stats`.
+    // Reads a `stats`, after its word.
     fn stats(&mut self, alloc: Global) -> Result<Statement, Stuck>
-        ensures { GivesAs statement_value (reading (after_word (codes "stats") stats_rest)) self.old self.new result }
+        ensures { GivesAs statement_value (reading stats_rest) self.old self.new result }
     {
-        self.word("stats")?;
         let cursor = self.name(alloc)?;
         Ok(Statement::Stats { cursor })
     }
@@ -159,19 +145,19 @@ impl<'t> Cursor<'t> {
     fn query(&mut self, alloc: Global) -> Result<Statement, Stuck>
         ensures { GivesAs statement_value (reading query_form) self.old self.new result }
     {
-        if self.is_word("open") {
+        if self.accept_word("open") {
             return self.open(alloc);
         }
-        if self.is_word("next") {
+        if self.accept_word("next") {
             return self.next(alloc);
         }
-        if self.is_word("close") {
+        if self.accept_word("close") {
             return self.close(alloc);
         }
-        if self.is_word("show") {
+        if self.accept_word("show") {
             return self.show(alloc);
         }
-        if self.is_word("stats") {
+        if self.accept_word("stats") {
             return self.stats(alloc);
         }
         self.blocks(alloc)
@@ -181,19 +167,19 @@ impl<'t> Cursor<'t> {
     fn statement(&mut self, alloc: Global) -> Result<Statement, Stuck>
         ensures { GivesAs statement_value (reading statement_form) self.old self.new result }
     {
-        if self.is_word("create") {
+        if self.accept_word("create") {
             return self.create(alloc);
         }
-        if self.is_word("insert") {
+        if self.accept_word("insert") {
             return self.insert(alloc);
         }
-        if self.is_word("delete") {
+        if self.accept_word("delete") {
             return self.delete(alloc);
         }
-        if self.is_word("load") {
+        if self.accept_word("load") {
             return self.load(alloc);
         }
-        if self.is_word("index") {
+        if self.accept_word("index") {
             return self.index(alloc);
         }
         self.query(alloc)
