@@ -59,16 +59,13 @@ impl<'s> RowStage for Filter<'s> {
     }
 
     fn work<D: Disk>(&mut self, alloc: Global, desk: &mut Desk<D>) -> Result<Step, PageFault> {
-        let Some(row) = self.held.take() else {
-            return Ok(Step::Pass);
+        let passes = match &self.held {
+            None => return Ok(Step::Pass),
+            Some(row) => passes_all(alloc, desk.pages(), &self.tests, row.ids.as_slice())?,
         };
-        match passes_all(alloc, desk.pages(), &self.tests, row.ids.as_slice()) {
-            Ok(true) => Ok(Step::Row(row)),
-            Ok(false) => Ok(Step::Pass),
-            Err(fault) => {
-                self.held = Some(row);
-                Err(fault)
-            }
+        match self.held.take() {
+            Some(row) if passes => Ok(Step::Row(row)),
+            _ => Ok(Step::Pass),
         }
     }
 
