@@ -143,7 +143,7 @@ index_asked low high last l desk pool e h =
     let F : PageMap → Type 0 = λ pages. (d : Database) × ((p : Plan) × ((t : Taken) × IsPickBetween l low high last pages d p t)) in
     subst P (sym e) (λ told. (let k = asked desk F h told in ints_index low high last l desk.pool.pages k.0 k.1.0 k.1.1.0 k.1.1.1))
 
--- where memory is refused for a row, nothing is taken
+-- where a look is refused, nothing is taken
 pub between_refused : (l : LookUp) (low high : ℤ) (last : Option IntEntry) (fault : PageFault) (old new : DeskState) → Reads old new
     → IfSome (told_pages old) (λ pages. (d : Database) (p : Plan) (t : Taken) → IsPickBetween l low high last pages d p t → SourceStep d p t no_counts no_counts old new (Err fault) (λ u. IsPickBetween l low high last pages d p u))
 between_refused l low high last fault old new reads =

@@ -1,5 +1,5 @@
 -- A call of a source without distances: it gives the first row that is left, and visits nothing.
-use Rattle.std.proofs.Common.{◌≡◌, ℕ, zero, suc, ◌+◌, ◌<◌, ◌≤◌, true, false, Bool, cond, List, [], ◌∷◌, length, drop, refl, sym, ◌∙◌, ap, subst, arith, append-nil, true≢false, IsErr}
+use Rattle.std.proofs.Common.{◌≡◌, ℕ, zero, suc, ◌+◌, ◌<◌, ◌≤◌, true, false, Bool, cond, List, [], ◌∷◌, length, drop, refl, sym, ◌∙◌, ap, subst, arith, append-nil}
 use Rattle.std.specs.Prelude.{Option, Some, None, Ok, Err, Result, min, IfSome, ⊤, OnOk}
 use Rattle.std.proofs.lemmas.List.Elements.{All-nil}
 use Rattle.code_btree.proofs.Orders.{lt_is, lt_not}
@@ -146,11 +146,6 @@ reads_of old pool new e u =
     let P : PoolState → Type 0 = λ s. min s.gets last_count ≤ new.gets in record { log = refl; up = subst P e u }
 
 -- ---- what a call costs
-
--- a refusal leaves nothing to pay
-pub none_refused : {T : Type 0} (result : Result T PageFault) (n : ℕ) → IsErr result → unless_refused result n ≡ 0
-none_refused (Ok x) n refused = absurd (true≢false (sym refused))
-none_refused (Err fault) n refused = refl
 
 -- a call that reads a desk's pages, and notes nothing
 pub costs_read : (h : Heights) (step : ℕ) (owed left : PageMap → ℕ) (At : PageMap → Database → Plan → Taken → Type 0) (old : DeskState) (pool new : PoolState) (result : Result (Option Answer) PageFault)

@@ -77,13 +77,10 @@ impl<'s> RowSource for PickBetween<'s> {
     ) -> Result<Option<Answer>, PageFault> {
         let index = self.look_up.index;
         match index.between(desk.pages(), self.low, self.high, self.last) {
-            Ok(Some(entry)) => match plain_answer(alloc, entry.1) {
-                Ok(answer) => {
-                    self.last = Some(entry);
-                    Ok(Some(answer))
-                }
-                Err(fault) => Err(fault),
-            },
+            Ok(Some(entry)) => {
+                self.last = Some(entry);
+                Ok(Some(plain_answer(alloc, entry.1)))
+            }
             Ok(None) => Ok(None),
             Err(fault) => Err(fault),
         }

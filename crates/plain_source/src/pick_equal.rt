@@ -74,9 +74,8 @@ impl<'s> RowSource for PickEqual<'s> {
             .next(alloc, desk.pages(), &self.value, self.last)
         {
             Ok(Some(id)) => {
-                let answer = plain_answer(alloc, id)?;
                 self.last = id;
-                Ok(Some(answer))
+                Ok(Some(plain_answer(alloc, id)))
             }
             Ok(None) => {
                 // No id is greater, so that nothing is passed again where the end is asked for once more.

@@ -80,9 +80,8 @@ impl<'s> RowSource for Scan<'s> {
     ) -> Result<Option<Answer>, PageFault> {
         match self.following(desk.pages()) {
             Ok(Some(id)) => {
-                let answer = plain_answer(alloc, id)?;
                 self.last = id;
-                Ok(Some(answer))
+                Ok(Some(plain_answer(alloc, id)))
             }
             Ok(None) => Ok(None),
             Err(fault) => Err(fault),

@@ -12,18 +12,12 @@ between-requires g c =
     let s = c.args.self.now in
     index_asked s.low s.high s.last s.look_up c.args.desk.now c.pages.result.now c.pages.ensures.pool c.requires.stands
 
-pub returns-in-Ok-clause-step : goal.returns-in-Ok-clause-step
-returns-in-Ok-clause-step g c =
+pub returns-in-Ok-Some-clause-step : goal.returns-in-Ok-Some-clause-step
+returns-in-Ok-Some-clause-step g c =
     let s = c.args.self.now in
     let P : PoolState → Type 0 = λ pool. IsTold pool → Finds s.look_up s.low s.high s.last pool.pages (Some c.in-Ok-Some.entry) in
-    between_row s.look_up s.low s.high s.last c.in-Ok-Some.entry c.in-Ok.answer c.args.desk.now _ (subst P c.pages.ensures.pool (rw c.in-Ok-Some.field-0-is at c.in-Ok-Some.ensures.value))
-    c.in-Ok.ensures.row (reads_of c.args.desk.now c.pages.result.now c.between.new.pages c.pages.ensures.pool c.in-Ok-Some.ensures.peeks.up)
-
-pub returns-in-Err-plain_answer-clause-step : goal.returns-in-Err-plain_answer-clause-step
-returns-in-Err-plain_answer-clause-step g c =
-    let s = c.args.self.now in
-    between_refused s.look_up s.low s.high s.last c.in-Err-plain_answer.fault c.args.desk.now _
-    (reads_of c.args.desk.now c.pages.result.now c.between.new.pages c.pages.ensures.pool c.in-Ok-Some.ensures.peeks.up)
+    between_row s.look_up s.low s.high s.last c.in-Ok-Some.entry c.plain_answer.result c.args.desk.now _ (subst P c.pages.ensures.pool (rw c.in-Ok-Some.field-0-is at c.in-Ok-Some.ensures.value))
+    c.plain_answer.ensures.row (reads_of c.args.desk.now c.pages.result.now c.between.new.pages c.pages.ensures.pool c.in-Ok-Some.ensures.peeks.up)
 
 pub returns-in-Ok-None-clause-step : goal.returns-in-Ok-None-clause-step
 returns-in-Ok-None-clause-step g c =
@@ -40,14 +34,8 @@ returns-in-Err-clause-step g c =
 
 -- a descent of the index, whatever the answer
 
-pub returns-in-Ok-clause-costs : goal.returns-in-Ok-clause-costs
-returns-in-Ok-clause-costs g c =
-    let s = c.args.self.now in
-    let most = c.in-Ok-Some.ensures.peeks.within in
-    costs_read _ _ (λ pages. 0) (λ pages. 0) (IsPickBetween s.look_up s.low s.high s.last) c.args.desk.now c.pages.result.now c.between.new.pages _ c.pages.ensures.pool (λ told. omega (arith, most))
-
-pub returns-in-Err-plain_answer-clause-costs : goal.returns-in-Err-plain_answer-clause-costs
-returns-in-Err-plain_answer-clause-costs g c =
+pub returns-in-Ok-Some-clause-costs : goal.returns-in-Ok-Some-clause-costs
+returns-in-Ok-Some-clause-costs g c =
     let s = c.args.self.now in
     let most = c.in-Ok-Some.ensures.peeks.within in
     costs_read _ _ (λ pages. 0) (λ pages. 0) (IsPickBetween s.look_up s.low s.high s.last) c.args.desk.now c.pages.result.now c.between.new.pages _ c.pages.ensures.pool (λ told. omega (arith, most))

@@ -6,16 +6,16 @@ use Rattle.plan_places.specs.Prices.{entry_price}
 use Rattle.plan_places.proofs.LookUpPrices.{none_past_last}
 use Rattle.plain_source.specs.Plain.{IsPickEqual}
 use Rattle.plain_source.specs.Prices.{entries_price}
-use Rattle.plain_source.proofs.PlainSteps.{reads_of, none_refused, costs_read}
+use Rattle.plain_source.proofs.PlainSteps.{reads_of, costs_read}
 use Rattle.plain_source.proofs.Picks.{Looks, pick_row, pick_end, pick_refused}
 use Rattle.plain_source.proofs.pick_equal.PickEqualRowSource.next.Goals as goal
 
-pub returns-in_ok-answer-in-Ok-Some-clause-step : goal.returns-in_ok-answer-in-Ok-Some-clause-step
-returns-in_ok-answer-in-Ok-Some-clause-step g c =
+pub returns-in-Ok-Some-clause-step : goal.returns-in-Ok-Some-clause-step
+returns-in-Ok-Some-clause-step g c =
     let s = c.args.self.now in
     let P : PoolState → Type 0 = λ pool. IsTold pool → Looks s.look_up s.value s.last pool.pages (Some c.in-Ok-Some.id) in
-    pick_row s.look_up s.value s.last c.in-Ok-Some.id c.in_ok-answer-in-Ok-Some.answer c.args.desk.now _ (subst P c.pages.ensures.pool (rw c.in-Ok-Some.field-0-is at c.in-Ok-Some.ensures.first))
-    c.in_ok-answer-in-Ok-Some.ensures.row (reads_of c.args.desk.now c.pages.result.now c.next.new.pages c.pages.ensures.pool c.in-Ok-Some.ensures.up)
+    pick_row s.look_up s.value s.last c.in-Ok-Some.id c.plain_answer.result c.args.desk.now _ (subst P c.pages.ensures.pool (rw c.in-Ok-Some.field-0-is at c.in-Ok-Some.ensures.first))
+    c.plain_answer.ensures.row (reads_of c.args.desk.now c.pages.result.now c.next.new.pages c.pages.ensures.pool c.in-Ok-Some.ensures.up)
 
 pub returns-in-Ok-None-clause-step : goal.returns-in-Ok-None-clause-step
 returns-in-Ok-None-clause-step g c =
@@ -25,13 +25,6 @@ returns-in-Ok-None-clause-step g c =
     pick_end s.look_up s.value s.last 4294967295 c.args.desk.now _ fits (subst P c.pages.ensures.pool (rw c.in-Ok-None.field-0-is at c.in-Ok-None.ensures.first))
     (reads_of c.args.desk.now c.pages.result.now c.next.new.pages c.pages.ensures.pool c.in-Ok-None.ensures.up)
 
--- memory was refused for the row
-pub returns-in_err-answer-in-Ok-Some-clause-step : goal.returns-in_err-answer-in-Ok-Some-clause-step
-returns-in_err-answer-in-Ok-Some-clause-step g c =
-    let s = c.args.self.now in
-    pick_refused s.look_up s.value s.last c.from_residual.result c.args.desk.now _ c.from_residual.ensures.0
-    (reads_of c.args.desk.now c.pages.result.now c.next.new.pages c.pages.ensures.pool c.in-Ok-Some.ensures.up)
-
 pub returns-in-Err-clause-step : goal.returns-in-Err-clause-step
 returns-in-Err-clause-step g c =
     let s = c.args.self.now in
@@ -40,20 +33,12 @@ returns-in-Err-clause-step g c =
 
 -- the entries that were passed, and a descent at the end
 
-pub returns-in_ok-answer-in-Ok-Some-clause-costs : goal.returns-in_ok-answer-in-Ok-Some-clause-costs
-returns-in_ok-answer-in-Ok-Some-clause-costs g c =
+pub returns-in-Ok-Some-clause-costs : goal.returns-in-Ok-Some-clause-costs
+returns-in-Ok-Some-clause-costs g c =
     let s = c.args.self.now in
     let spent = rw c.in-Ok-Some.field-0-is at c.in-Ok-Some.ensures.costs in
     costs_read _ _ (λ pages. entries_price pages s.look_up s.value s.last) (λ pages. entries_price pages s.look_up s.value c.in-Ok-Some.id) (IsPickEqual s.look_up s.value s.last) c.args.desk.now
     c.pages.result.now c.next.new.pages _ c.pages.ensures.pool (λ told. let most = (spent told).1 in omega (arith, most))
-
-pub returns-in_err-answer-in-Ok-Some-clause-costs : goal.returns-in_err-answer-in-Ok-Some-clause-costs
-returns-in_err-answer-in-Ok-Some-clause-costs g c =
-    let s = c.args.self.now in
-    let spent = rw c.in-Ok-Some.field-0-is at c.in-Ok-Some.ensures.costs in
-    costs_read _ _ (λ pages. entries_price pages s.look_up s.value s.last) (λ pages. entries_price pages s.look_up s.value s.last) (IsPickEqual s.look_up s.value s.last) c.args.desk.now
-    c.pages.result.now c.next.new.pages c.from_residual.result c.pages.ensures.pool
-    (λ told. let most = (spent told).1 in let none = none_refused c.from_residual.result (entries_price c.pages.result.now.pages s.look_up s.value s.last) c.from_residual.ensures.0 in omega (arith, most, none))
 
 pub returns-in-Ok-None-clause-costs : goal.returns-in-Ok-None-clause-costs
 returns-in-Ok-None-clause-costs g c =

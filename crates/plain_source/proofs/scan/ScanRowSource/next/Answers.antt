@@ -4,16 +4,16 @@ use Rattle.std.specs.Prelude.{None, Some}
 use Rattle.page_pool.specs.Pool.{PoolState, IsTold}
 use Rattle.sand_store.specs.Contents.{rows_in}
 use Rattle.plain_source.specs.Plain.{GivesNext, ids_of, IsScan}
-use Rattle.plain_source.proofs.PlainSteps.{reads_of, none_refused, costs_read}
+use Rattle.plain_source.proofs.PlainSteps.{reads_of, costs_read}
 use Rattle.plain_source.proofs.Scans.{scan_row, scan_end, scan_refused}
 use Rattle.plain_source.proofs.scan.ScanRowSource.next.Goals as goal
 
-pub returns-in_ok-answer-in-Ok-Some-clause-step : goal.returns-in_ok-answer-in-Ok-Some-clause-step
-returns-in_ok-answer-in-Ok-Some-clause-step g c =
+pub returns-in-Ok-Some-clause-step : goal.returns-in-Ok-Some-clause-step
+returns-in-Ok-Some-clause-step g c =
     let s = c.args.self.now in
     let P : PoolState → Type 0 = λ pool. IsTold pool → GivesNext s.last (ids_of (rows_in pool.pages s.relation.now)) (Some c.in-Ok-Some.id) in
-    scan_row s.relation.now s.last c.in-Ok-Some.id c.in_ok-answer-in-Ok-Some.answer c.args.desk.now _ (subst P c.pages.ensures.pool (rw c.in-Ok-Some.field-0-is at c.in-Ok-Some.ensures.value))
-    c.in_ok-answer-in-Ok-Some.ensures.row (reads_of c.args.desk.now c.pages.result.now c.following.new.pages c.pages.ensures.pool c.in-Ok-Some.ensures.up)
+    scan_row s.relation.now s.last c.in-Ok-Some.id c.plain_answer.result c.args.desk.now _ (subst P c.pages.ensures.pool (rw c.in-Ok-Some.field-0-is at c.in-Ok-Some.ensures.value))
+    c.plain_answer.ensures.row (reads_of c.args.desk.now c.pages.result.now c.following.new.pages c.pages.ensures.pool c.in-Ok-Some.ensures.up)
 
 pub returns-in-Ok-None-clause-step : goal.returns-in-Ok-None-clause-step
 returns-in-Ok-None-clause-step g c =
@@ -21,13 +21,6 @@ returns-in-Ok-None-clause-step g c =
     let P : PoolState → Type 0 = λ pool. IsTold pool → GivesNext s.last (ids_of (rows_in pool.pages s.relation.now)) None in
     scan_end s.relation.now s.last c.args.desk.now _ (subst P c.pages.ensures.pool (rw c.in-Ok-None.field-0-is at c.in-Ok-None.ensures.value))
     (reads_of c.args.desk.now c.pages.result.now c.following.new.pages c.pages.ensures.pool c.in-Ok-None.ensures.up)
-
--- memory was refused for the row
-pub returns-in_err-answer-in-Ok-Some-clause-step : goal.returns-in_err-answer-in-Ok-Some-clause-step
-returns-in_err-answer-in-Ok-Some-clause-step g c =
-    let s = c.args.self.now in
-    scan_refused s.relation.now s.last c.from_residual.result c.args.desk.now _ c.from_residual.ensures.0
-    (reads_of c.args.desk.now c.pages.result.now c.following.new.pages c.pages.ensures.pool c.in-Ok-Some.ensures.up)
 
 pub returns-in-Err-clause-step : goal.returns-in-Err-clause-step
 returns-in-Err-clause-step g c =
@@ -37,18 +30,11 @@ returns-in-Err-clause-step g c =
 
 -- a descent of the file of rows, whatever the answer
 
-pub returns-in_ok-answer-in-Ok-Some-clause-costs : goal.returns-in_ok-answer-in-Ok-Some-clause-costs
-returns-in_ok-answer-in-Ok-Some-clause-costs g c =
+pub returns-in-Ok-Some-clause-costs : goal.returns-in-Ok-Some-clause-costs
+returns-in-Ok-Some-clause-costs g c =
     let s = c.args.self.now in
     let most = c.in-Ok-Some.ensures.most in
     costs_read _ _ (λ pages. 0) (λ pages. 0) (IsScan s.relation.now s.last) c.args.desk.now c.pages.result.now c.following.new.pages _ c.pages.ensures.pool (λ told. omega (arith, most))
-
-pub returns-in_err-answer-in-Ok-Some-clause-costs : goal.returns-in_err-answer-in-Ok-Some-clause-costs
-returns-in_err-answer-in-Ok-Some-clause-costs g c =
-    let s = c.args.self.now in
-    let most = c.in-Ok-Some.ensures.most in
-    let none = none_refused c.from_residual.result 0 c.from_residual.ensures.0 in
-    costs_read _ _ (λ pages. 0) (λ pages. 0) (IsScan s.relation.now s.last) c.args.desk.now c.pages.result.now c.following.new.pages c.from_residual.result c.pages.ensures.pool (λ told. omega (arith, most, none))
 
 pub returns-in-Ok-None-clause-costs : goal.returns-in-Ok-None-clause-costs
 returns-in-Ok-None-clause-costs g c =
