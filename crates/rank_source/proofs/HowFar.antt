@@ -12,13 +12,12 @@ use Rattle.best_first.specs.declared.hit.Hit.{Hit}
 use Rattle.best_first.specs.declared.item.Item.{Item}
 use Rattle.best_first.specs.Answer.{hit_cmp, IsNext, IsExhausted}
 use Rattle.best_first.specs.Frontier.{Stands}
-use Rattle.best_first.specs.Hierarchy.{Meaning, MeetsLaws, HasGap}
+use Rattle.best_first.specs.Hierarchy.{Meaning}
 use Rattle.best_first.specs.Item.{gap_of}
 use Rattle.best_first.specs.Reach.{IsSameGap, IsAtMost, IsReach, within, up_to}
 use Rattle.best_first.specs.Visits.{Reached, Bounds, GivesNext}
-use Rattle.best_first.proofs.Bags.{All-by, All-left, All-right}
+use Rattle.best_first.proofs.Bags.{All-by, All-left}
 use Rattle.best_first.proofs.Gaps.{within_reach, up_to_is, is_up_to, up_to_reach, same_back, reach_same}
-use Rattle.best_first.proofs.RowsToCome.{within_row}
 use Rattle.rank_cursor.specs.Answers.{IsTestOf, AreGiven, GivesList}
 use Rattle.rank_cursor.proofs.Counted.{row_is_reach, ceiling_is_reach}
 use Rattle.rank_source.proofs.NextRow.{next_or_none}
@@ -103,16 +102,7 @@ module _ {N : Type 0} (m : Meaning N) where
     before_next items near inside =
         ⊎_elim (λ (hit, next). up_to_row hit next items (near hit next)) (λ over. up_to_ceiling over items inside) (next_or_none hits_total m last)
 
-    -- what a search has taken before a call
-    pub far_before : {cmp : N → N → Ordering} → IsTotalOrder cmp → MeetsLaws m → (held done : List (Item N)) → Stands cmp m held last done → HowFar m to_next done
-    far_before o laws held done h =
-        before_next done
-        (λ hit next. All-by (λ item. IsAtMost (gap_of item) hit.gap) done (λ item at.
-        within_row o m laws held last hit (gap_of item) next (All-right (HasGap m) done held h.tracks.gaps)
-        (All-contains (λ taken. All (λ item. IsAtMost (gap_of taken) (gap_of item)) held) done item h.tracks.nearer at) h.covers))
-        (All-left (λ item. within m.ceiling (gap_of item) ≡ true) done held h.tracks.inside)
-
-    -- and after it
+    -- what a search has taken after a call
     pub far_after : {cmp : N → N → Ordering} (result : Result (Option Hit) PageFault) (held : List (Item N)) (after : Option Hit) (attempt all : List (Item N)) → GivesNext m last result
         → Stands cmp m held after all → Bounds cmp m last result attempt all → CallReach cmp m to_next result attempt all
     far_after {cmp} (Ok (Some hit)) held after attempt all next h bounds =

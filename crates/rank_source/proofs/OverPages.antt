@@ -18,7 +18,7 @@ use Rattle.rank_cursor.proofs.RankingLaws.{rank_laws}
 use Rattle.plan_rows.specs.SourceSteps.{SourceStep}
 use Rattle.plan_rows.specs.declared.answer.Answer.{Answer}
 use Rattle.rank_source.specs.Rankings.{by_code, ranking_of, HasTaken}
-use Rattle.rank_source.proofs.RankCalls.{TellsRow, counts_by, row_step, end_step, fault_step, still_step}
+use Rattle.rank_source.proofs.RankCalls.{TellsRow, counts_by, row_step, end_step, fault_step}
 
 -- the order of blocks is total
 blocks_total : IsTotalOrder by_code
@@ -64,8 +64,3 @@ module _ (number : ℕ) where
   fault_over None tree after old new fault same last makes = tt
   fault_over (Some m) tree after old new fault same last makes =
       unchanged (Some m) tree after old new (Err fault) same (λ d p t h. fault_step blocks_total (ranking_of tree m) number d p t old h new fault last makes)
-
-  -- where the search was not asked
-  pub still_over : (pages : Option PageMap) (tree : RankTree ColumnShapes) (s : SearchState Block) (fault : PageFault) → IfSome pages (StepOver tree tree s s (Err fault))
-  still_over None tree s fault = tt
-  still_over (Some m) tree s fault = λ d p t h. still_step blocks_total (ranking_of tree m) number d p t s h fault

@@ -1,5 +1,5 @@
 -- A call of a ranking as a source: what it gives, what it visits, and where the source stands then.
-use Rattle.std.proofs.Common.{◌≡◌, ⊎_elim, ℕ, suc, ◌+◌, ◌-◌, ◌≤◌, min, true, false, true≢false, List, [], ◌∷◌, ◌++◌, map, length, length-append, All, Contains, Option, None, Some, option_map, Result, Ok, Err, OnOk, refl, sym, ap, ◌∙◌, subst, arith, append-nil, Ordering}
+use Rattle.std.proofs.Common.{◌≡◌, ⊎_elim, ℕ, suc, ◌+◌, ◌-◌, ◌≤◌, min, true, false, true≢false, List, [], ◌∷◌, ◌++◌, map, length, length-append, All, Contains, Option, None, Some, option_map, Result, Ok, Err, OnOk, refl, sym, ap, ◌∙◌, subst, arith, Ordering}
 use Rattle.std.proofs.Math.Numerals.{add-one}
 use Rattle.std.specs.Cmp.{IsTotalOrder}
 use Rattle.std.proofs.lemmas.List.{map-append, length-map}
@@ -24,7 +24,7 @@ use Rattle.best_first.specs.Visits.{SearchState, IsVisit, CallVisits, MakesVisit
 use Rattle.best_first.specs.declared.counts.Counts.{Counts as Numbers}
 use Rattle.best_first.specs.declared.hit.Hit.{Hit}
 use Rattle.best_first.specs.declared.item.Item.{Item}
-use Rattle.best_first.proofs.Bags.{none as nothing, All-by, All-left, from_filter}
+use Rattle.best_first.proofs.Bags.{All-by, All-left, from_filter}
 use Rattle.best_first.proofs.Gaps.{same_back, same_trans}
 use Rattle.best_first.proofs.Pending.{nodes-append, roughs-append}
 use Rattle.rank_cursor.specs.Answers.{AreGiven, GivesList}
@@ -33,20 +33,18 @@ use Rattle.rank_cursor.specs.Ranking.{Ranking, rank_meaning}
 use Rattle.rank_cursor.proofs.Counted.{counts_as}
 use Rattle.rank_cursor.proofs.Elements.{from_map}
 use Rattle.rank_cursor.proofs.RankedRows.{gives_ranked}
-use Rattle.rank_cursor.proofs.RankingLaws.{rank_laws}
 use Rattle.rank_cursor.proofs.SortedRows.{from_sorted, at_is}
 use Rattle.ring_geom.proofs.Measured.{measured}
 use Rattle.plan_rows.proofs.LowestFractions.{lowest_same, lowest_one}
 use Rattle.plan_rows.proofs.CountedVisits.{counts_one}
 use Rattle.plan_rows.proofs.PlanMeasure.{plan_measure_is}
-use Rattle.plan_rows.proofs.VisitCounts.{plus_none}
 use Rattle.plan_rows.specs.Lowest.{lowest_of}
 use Rattle.plan_rows.specs.Rows.{plan_measure, row_of}
 use Rattle.plan_rows.specs.SourceSteps.{next_taken, counts_taken, node_count, MakesVisits as SourceVisits, SourceStep}
 use Rattle.plan_rows.specs.Visited.{◌plus◌, visit_counts, LiesWithin}
 use Rattle.plan_rows.specs.declared.answer.Answer.{Answer}
 use Rattle.rank_source.specs.Rankings.{HasTaken}
-use Rattle.rank_source.proofs.HowFar.{reach_from, HowFar, CallReach, far_before, far_after}
+use Rattle.rank_source.proofs.HowFar.{reach_from, HowFar, CallReach, far_after}
 use Rattle.rank_source.proofs.NextReach.{more_taken, none_taken, next_reach}
 use Rattle.rank_source.proofs.RankCounts.{block_count, geometry_count, no_more_taken, counted_is}
 use Rattle.rank_source.proofs.RankPlans.{IsTold, told_by}
@@ -119,15 +117,6 @@ module _ {cmp : Block → Block → Ordering} (o : IsTotalOrder cmp) (r : Rankin
     most : (held done : List (Item Block)) (last : Option Hit) → Stands cmp m held last done → HowFar m to done
         → (length (nodes_of done) ≤ block_count plan_measure r to) × (length (roughs_of done) ≤ geometry_count plan_measure r to)
     most held done last stands far = no_more_taken r h.sound plan_measure plan_measure_is o to far.test far.goes held done stands.tracks far.near
-
-    -- memory was refused before the search was asked
-    pub still_between : AreBetween (counts_by old.counts) (counts_taken d p (next_taken d p t)) (counts_by old.counts)
-    still_between =
-        let far = subst (λ x. HowFar m x h.done) (sym to_is) (far_before m rows gives t.rows old.last h.rows o (rank_laws r h.sound) old.held h.done h.stands) in
-        let (blocks, geometries) = most old.held h.done old.last h.stands far in
-        let (visited, fetched) = numbers old.held h.done old.counts old.last h.stands h.counted in
-        subst (λ (high : Counts). AreBetween (counts_by old.counts) high (counts_by old.counts)) (sym next_counts)
-        (record { blocks = (omega arith, omega (arith, blocks, visited)); pairs = (omega arith, omega arith); geometries = (omega arith, omega (arith, geometries, fetched)) })
 
     -- ---- a call of the search
 
@@ -292,22 +281,3 @@ module _ {cmp : Block → Block → Ordering} (o : IsTotalOrder cmp) (r : Rankin
           at = stands_at new (Err fault) tt call t (subst (AreGiven rows t.rows) (sym last) h.rows) h.ended;
           visits = visits new (Err fault) tt call (Err fault) tt;
         }
-
-    -- nothing was asked
-    pub still_step : (fault : PageFault) → Step old (Err fault)
-    still_step fault = record {
-      row = tt;
-      at = h;
-      visits = record {
-        completed = [];
-        attempted = [];
-        log = sym (append-nil old.desk.visits);
-        few = omega arith;
-        settled = tt;
-        counted = sym (plus_none (counts_by old.counts));
-        near = All-by (LiesWithin plan_measure d p to) [] (λ v at. absurd (nothing v at));
-        between = still_between;
-        exact = tt;
-        rose = omega arith;
-      };
-    }

@@ -1,5 +1,5 @@
 -- What a call of a ranking as a source costs: the prices of its visits, as the model tells them.
-use Rattle.std.proofs.Common.{◌≡◌, ℕ, ◌+◌, ◌≤◌, List, [], ◌∷◌, ◌++◌, map, Option, None, Some, IfSome, Result, Ok, Err, refl, sym, ap, ◌∙◌, arith, append-nil}
+use Rattle.std.proofs.Common.{◌≡◌, ℕ, ◌+◌, ◌≤◌, List, [], ◌∷◌, ◌++◌, map, Option, None, Some, IfSome, Result, Ok, Err, refl, sym, ap, ◌∙◌, arith}
 use Rattle.std.specs.Prelude.{sum_by}
 use Rattle.std.proofs.lemmas.List.Sums.{sum_by-cons}
 use Rattle.sand_base.specs.declared.goal.Goal.{Goal}
@@ -106,9 +106,3 @@ pub costs_over : (number : ℕ) (pages : Option PageMap) (tree : RankTree Column
 costs_over number None tree old new result answer makes = tt
 costs_over number (Some m) tree old new result answer makes =
     λ d p t k. search_costs number (heights_of tree) (ranking_of tree m) (refl, refl) d p t old new result answer k makes
-
--- where the search was not asked
-pub still_costs : (pages : Option PageMap) (tree : RankTree ColumnShapes) (s : SearchState Block) (fault : PageFault)
-    → IfSome pages (λ m. (d : Database) (p : Plan) (t : Taken) → HasTaken by_code (ranking_of tree m) s.held s.last s.counts d p t → Costs {T = Option Answer} (heights_of tree) 0 0 0 d p s.desk s.desk (Err fault))
-still_costs None tree s fault = tt
-still_costs (Some m) tree s fault = λ d p t k. record { noted = []; log = sym (append-nil s.desk.visits); most = omega arith }

@@ -1,4 +1,4 @@
-ghost use Rattle.std.specs.Prelude.{◌≡◌, ◌<◌, ◌^◌, [], ◌∷◌, length, Some, IfSome, IfOk};
+ghost use Rattle.std.specs.Prelude.{◌≡◌, ◌<◌, ◌^◌, [], ◌∷◌, Some, IfSome, IfOk};
 ghost use Rattle.sand_base.specs.Plane.{IsGoalInClosedPlane};
 ghost use Rattle.sand_model.specs.Reach.{no_counts};
 ghost use Rattle.best_first.specs.Steps.{steps};
@@ -42,17 +42,15 @@ impl<'s> RankSource<'s> {
     }
 }
 
-// A row that was found by its gap, its id in the room for it.
-fn answer_of(alloc: Global, mut ids: Vec<u32>, hit: Hit) -> Answer
-    requires { length ids.items ≡ 1 }
+// A row that was found by its gap.
+fn answer_of(alloc: Global, hit: Hit) -> Answer
     ensures gap { result.gap ≡ Some hit.gap }
     ensures ids { result.ids ≡ hit.left ∷ [] }
     ensures values { result.values ≡ [] }
 {
-    ids[0] = hit.left;
     Answer {
         gap: Some(hit.gap),
-        ids: Ids::new(ids),
+        ids: Ids::one(hit.left),
         values: Row::new(Vec::new(alloc)),
     }
 }
@@ -75,12 +73,8 @@ impl<'s> RowSource for RankSource<'s> {
         alloc: Global,
         desk: &mut Desk<D>,
     ) -> Result<Option<Answer>, PageFault> {
-        // Room for the id comes first: where memory is refused for it, nothing is taken.
-        let Ok(ids) = vec![in alloc; 0u32; 1] else {
-            return Err(PageFault::Memory);
-        };
         match self.search.next(desk) {
-            Ok(Some(hit)) => Ok(Some(answer_of(alloc, ids, hit))),
+            Ok(Some(hit)) => Ok(Some(answer_of(alloc, hit))),
             Ok(None) => Ok(None),
             Err(fault) => Err(fault),
         }

@@ -1,16 +1,10 @@
--- Each answer of the search is one of the source: its row, the end, or a refusal. A want of memory for the row takes nothing.
+-- Each answer of the search is one of the source: its row, the end, or a refusal.
 use Rattle.std.proofs.Common.{ap}
 use Rattle.best_first.specs.Visits.{told_pages, state}
 use Rattle.rank_source.specs.Rankings.{heights_of}
-use Rattle.rank_source.proofs.RankPrices.{costs_over, still_costs}
-use Rattle.rank_source.proofs.OverPages.{asked, row_over, end_over, fault_over, still_over}
+use Rattle.rank_source.proofs.RankPrices.{costs_over}
+use Rattle.rank_source.proofs.OverPages.{asked, row_over, end_over, fault_over}
 use Rattle.rank_source.proofs.rank_source.RankSourceRowSource.next.Goals as goal
-
--- memory is refused for the row, and the search is not asked
-pub returns-in_default-clause-step : goal.returns-in_default-clause-step
-returns-in_default-clause-step g c =
-    let s = c.args.self.now.search in
-    still_over s.hierarchy.pmr.number (told_pages c.args.desk.now) s.hierarchy (state s.frontier.queue.items s.frontier.last s.frontier.counts c.args.desk.now) _
 
 -- where something was taken the search stands
 pub next-requires : goal.next-requires
@@ -51,11 +45,6 @@ returns-in-Err-clause-step g c =
     c.in-Err.fault c.next.ensures.hierarchy c.in-Err.ensures.last c.in-Err.ensures.visits
 
 -- ---- what a call costs
-
-pub returns-in_default-clause-costs : goal.returns-in_default-clause-costs
-returns-in_default-clause-costs g c =
-    let s = c.args.self.now.search in
-    still_costs (told_pages c.args.desk.now) s.hierarchy (state s.frontier.queue.items s.frontier.last s.frontier.counts c.args.desk.now) _
 
 pub returns-in-Ok-Some-clause-costs : goal.returns-in-Ok-Some-clause-costs
 returns-in-Ok-Some-clause-costs g c =
