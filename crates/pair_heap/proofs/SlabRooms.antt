@@ -12,7 +12,7 @@ use base.Fraction.{full_share}
 use types.Logic.{Logic, sem}
 use types.Kit.{Item, Goal, Step, step, ‵, raw, ◌⊛◌, ◌$◌, ◌∵◌, !, qed, done, by, frame, assume, join, move, drop, split, split3, fsplit, fsplit3, fjoin, fpick, fpack, use0, use1, use2, rewrite}
 use denote.RattleType.{RattleType}
-use denote.RawPtr.{Ptr, block_ptr, ptr_val, Testable, in_a_block}
+use denote.RawPtr.{Ptr, block_ptr, ptr_val, Testable, lies_at, in_a_block}
 use denote.Param.{layout}
 use denote.Param.Laws.{Laws}
 use denote.Steps.{nothing}
@@ -21,11 +21,12 @@ use Rattle.core.specs.List.{swap}
 use Rattle.core.specs.List.Sorted.{apply_swaps, SwapsInRange}
 use Rattle.std.proofs.lemmas.List.Sorted.{length_permutation}
 use Rattle.std.specs.contracts.impls.GlobalAllocator.TheImpl.{ghosts}
-use Rattle.pair_heap.specs.Ownership.{heap}
+use Rattle.pair_heap.specs.Chain.{Chain, end, link, places}
+use Rattle.pair_heap.specs.Ownership.{heap, chain_owns}
 use Rattle.pair_heap.specs.Slab.{SlabFits, all_slots, slab_at, slabs_own, block_at, blocks_own}
 use Rattle.pair_heap.specs.Slot.{slot_owns, slots_own, fresh_own}
 use Rattle.pair_heap.specs.Spare.{spare_at, spares_own}
-use Rattle.pair_heap.proofs.Nodes.{R, N, S, word_glued}
+use Rattle.pair_heap.proofs.Nodes.{R, N, S, word_glued, node_with, node_val, node_out, emptied}
 
 module _ (U : RattleType) (L : Laws U) where
   abbrev node : Ty
@@ -162,6 +163,24 @@ module _ (U : RattleType) (L : Laws U) where
     apart [] qs = qed 𝓛 (‵ (slots_own (R U L) qs) ∷ []) ∵ nothing ! $ join ! $ done !
     apart (p ∷ ps) qs =
         qed 𝓛 (‵ (slots_own (R U L) (p ∷ (ps ++ qs))) ∷ []) ∵ fsplit ! $ move ! (1 ∷ []) $ use1 𝓛 (‵ (slots_own (R U L) ps) ⊛ ‵ (slots_own (R U L) qs)) (apart ps qs) $ split ! $ move ! (2 ∷ 0 ∷ []) $ fjoin ! $ join ! $ done !
+
+    pub together : (ps qs : List Ptr) → ent 𝓤 (sep 𝓤 (slots_at ps) (slots_at qs)) (slots_at (ps ++ qs))
+    together [] qs = qed 𝓛 (‵ (slots_own (R U L) []) ∷ ‵ (slots_own (R U L) qs) ∷ []) ∵ drop ! $ done !
+    together (p ∷ ps) qs =
+        qed 𝓛 (‵ (slots_own (R U L) (p ∷ ps)) ∷ ‵ (slots_own (R U L) qs) ∷ []) ∵ fsplit ! $ move ! (1 ∷ 2 ∷ []) $ use2 𝓛 (‵ (slots_own (R U L) (ps ++ qs))) (together ps qs) $ move ! (1 ∷ 0 ∷ []) $ fjoin ! $ done !
+
+    -- a chain of trees is its nodes' slots, once their items are let go
+    pub cleared : (c : Chain (R U L).Denot) (p : Ptr) → ent 𝓤 (sem 𝓛 (chain_owns (R U L) c p)) (slots_at (places c))
+    cleared end p = qed 𝓛 (‵ (chain_owns (R U L) end p) ∷ []) ∵ drop ! $ nothing ! $ done !
+    cleared (link q x kids rest) p =
+        qed 𝓛 (‵ (chain_owns (R U L) (link q x kids rest) p) ∷ []) ∵ fpick ! (λ same. fpick ! (λ links. fsplit ! $ fpick ! (λ may.
+        in_a_block ! p (λ r. lies_at (N U L) full_share r (node_with U L links.0 links.1 x)) (id⊢ 𝓤 _) (λ b o at_block. node_out U L ! (node_with U L links.0 links.1 x) b o (λ v good.
+        -- [the node's cell; the item; the chains of children and of what follows]
+        emptied U L ! b o (node_val U L links.0 links.1 v) $ fpack ! (Testable (block_ptr b o)) (λ _. froom node b o) (subst Testable at_block may) $ move ! (1 ∷ []) $ drop ! $
+        rewrite ! 0 (λ r. ‵ (slot_owns (R U L) r)) (sym (same ∙ at_block)) refl $
+        -- [the slot; the chains]
+        move ! (1 ∷ []) $ fsplit ! $ use1 𝓛 (‵ (slots_own (R U L) (places kids))) (cleared kids links.0) $ move ! (1 ∷ []) $ use1 𝓛 (‵ (slots_own (R U L) (places rest))) (cleared rest links.1) $
+        move ! (1 ∷ 0 ∷ []) $ use2 𝓛 (‵ (slots_own (R U L) (places kids ++ places rest))) (together (places kids) (places rest)) $ move ! (1 ∷ 0 ∷ []) $ fjoin ! $ done !)))))
 
     -- a slab with all of its slots is a whole block
     filled : (ps : List Ptr) (b o : ℕ) → ent 𝓤 (sep 𝓤 (slots_at ps) (sem 𝓛 (fwand (fsep (froom ty_ptr b (o + 0)) (slots_own (R U L) ps)) (froom slab b o)))) (sem 𝓛 (slab_back b o))

@@ -146,6 +146,21 @@ impl<T: Ord + Drop> Drop for PairHeap<T> {
             spare: _,
             alloc,
         } = self;
-        release_slabs(slabs, release(as_trees(root), spares), alloc);
+        release_slabs(slabs, Trees::end(), release(as_trees(root), spares), alloc);
+    }
+}
+
+impl<T: Ord + Copy> PairHeap<T> {
+    /// Ends the heap and gives all of its slabs back. Items that are `Copy` need no drop, so no node is looked at.
+    pub fn discard(self) {
+        let PairHeap {
+            root,
+            spares,
+            slabs,
+            len: _,
+            spare: _,
+            alloc,
+        } = self;
+        release_slabs(slabs, as_trees(root), spares, alloc);
     }
 }

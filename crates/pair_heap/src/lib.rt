@@ -6,6 +6,7 @@
 //! slot, where it stays until its pop: a tree in hand is a pointer to its root's node, two trees are compared through
 //! references into their nodes, and melding them writes two links. One type owns a tree behind a raw pointer, one a chain
 //! of trees, one the spare slots, and one the slabs but for their slots. All else is safe code over trees in hand.
+//! `discard` ends a heap of `Copy` items slab by slab, with no walk over its nodes.
 //! Above: `rank_queue`. Below: `sand_base`, std. Contracts see a list, whose order says nothing, and the number of
 //! spare slots; read `specs/Least.antt` first, then `specs/Chain.antt`.
 //! After M. L. Fredman, R. Sedgewick, D. D. Sleator and R. E. Tarjan (1986), The pairing heap;

@@ -32,11 +32,11 @@ pub(crate) fn release<T: Drop>(trees: Trees<T>, spares: Spares<T>) -> Spares<T>
     }
 }
 
-// Gives all slabs back, since all of their slots are spare.
-pub(crate) fn release_slabs<T>(slabs: Slabs<T>, spares: Spares<T>, alloc: Global)
-    requires { IsPermutation spares.places (all_slots slabs.slots) }
+// Gives all slabs back, since each of their slots is a node of the trees or is spare. The nodes' items aren't dropped.
+pub(crate) fn release_slabs<T>(slabs: Slabs<T>, trees: Trees<T>, spares: Spares<T>, alloc: Global)
+    requires { IsPermutation (places trees.chain ++ spares.places) (all_slots slabs.slots) }
 {
-    let mut rest = slabs.whole(spares);
+    let mut rest = slabs.whole(trees, spares);
     'blocks: loop {
         let Some((block, others)) = rest.take() else {
             return;
