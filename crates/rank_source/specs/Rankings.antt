@@ -65,7 +65,7 @@ pub record RanksColumn (r : Ranking) (d : Database) (p : Plan) : Type 0 where
 
 -- the search of a source: over the quadtree of a column of shapes, its frontier in a pairing heap
 abbrev pub Search : Type 0
-Search = BestFirst (RankTree ColumnShapes) (Queued (Item Block))
+Search = BestFirst (RankTree ColumnShapes) (Queued (Item Block)) Block
 
 -- the order of its nodes, by code and then by level
 abbrev pub by_code : Block → Block → Ordering
