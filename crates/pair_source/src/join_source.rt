@@ -11,7 +11,7 @@ use best_first::{BestFirst, Item};
 use dist_join::PairTree;
 use page_pool::{Desk, Disk, PageFault};
 use plan_rows::{Answer, RowSource, SourceCounts};
-use rank_queue::PairQueue;
+use rank_queue::CopyQueue;
 use rank_source::TreeColumn;
 use sand_base::NoMemory;
 use sand_store::ColumnShapes;
@@ -21,7 +21,7 @@ use z_code::Block;
 /// The pairs of rows of two columns by their distance, nearest first.
 #[derive(Drop)]
 pub struct JoinSource<'s> {
-    search: BestFirst<PairTree<'s, ColumnShapes<'s>>, PairQueue<Item<(Block, Block)>>>,
+    search: BestFirst<PairTree<'s, ColumnShapes<'s>>, CopyQueue<Item<(Block, Block)>>>,
 }
 
 impl<'s> JoinSource<'s> {

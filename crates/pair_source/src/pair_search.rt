@@ -9,7 +9,7 @@ ghost use Rattle.pair_source.specs.Joins.{join_view, joining_in};
 
 use best_first::{BestFirst, Item};
 use dist_join::PairTree;
-use rank_queue::{PairQueue, Queue};
+use rank_queue::{CopyQueue, Queue};
 use rank_source::TreeColumn;
 use sand_base::NoMemory;
 use sand_store::ColumnShapes;
@@ -22,7 +22,7 @@ pub fn pair_search<'s>(
     left: TreeColumn<'s>,
     right: TreeColumn<'s>,
     ceiling: Option<u32>,
-) -> Result<BestFirst<PairTree<'s, ColumnShapes<'s>>, PairQueue<Item<(Block, Block)>>>, NoMemory>
+) -> Result<BestFirst<PairTree<'s, ColumnShapes<'s>>, CopyQueue<Item<(Block, Block)>>>, NoMemory>
     requires small { IfSome ceiling (λ most. most < 2 ^ 22) }
     ensures view { IfOk result (λ s. join_view s.hierarchy.left_shapes.relation.now s.hierarchy.left_shapes.column s.hierarchy.left s.hierarchy.right_shapes.relation.now s.hierarchy.right_shapes.column s.hierarchy.right s.hierarchy.ceiling ≡ join_view left.entry.relation.now left.entry.column left.entry.tree.now right.entry.relation.now right.entry.column right.entry.tree.now ceiling) }
     ensures none_given { IfOk result (λ s. s.frontier.last ≡ None) }
@@ -36,6 +36,6 @@ pub fn pair_search<'s>(
         right.shapes(),
         ceiling,
     );
-    let search = BestFirst::start(alloc, hierarchy, PairQueue::empty(alloc))?;
+    let search = BestFirst::start(alloc, hierarchy, CopyQueue::empty(alloc))?;
     Ok(search)
 }

@@ -11,7 +11,7 @@ use best_first::Item;
 use dist_join::PairTree;
 use page_pool::{Desk, Disk, PageFault};
 use plan_rows::{Answer, RowSource, SourceCounts};
-use rank_queue::PairQueue;
+use rank_queue::CopyQueue;
 use rank_source::TreeColumn;
 use sand_base::NoMemory;
 use sand_store::ColumnShapes;
@@ -22,7 +22,7 @@ use z_code::Block;
 /// The first pair of each row of the left column, the one with the nearest row of the right column, nearest first.
 #[derive(Drop)]
 pub struct SemiSource<'s> {
-    semi: Semi<PairTree<'s, ColumnShapes<'s>>, PairQueue<Item<(Block, Block)>>>,
+    semi: Semi<PairTree<'s, ColumnShapes<'s>>, CopyQueue<Item<(Block, Block)>>>,
 }
 
 impl<'s> SemiSource<'s> {

@@ -5,12 +5,13 @@ use std::alloc::Global;
 use std::marker::Model;
 
 /// A queue in a pairing heap, whose items stay in their nodes as it grows: a push is one comparison, a pop takes
-/// logarithmic time on average over many calls (amortized). Its items are `Copy`, so that its drop looks at none.
-pub struct PairQueue<T: Ord + Copy> {
+/// logarithmic time on average over many calls (amortized).
+#[derive(Drop)]
+pub struct PairQueue<T: Ord> {
     heap: PairHeap<T>,
 }
 
-impl<T: Ord + Copy> Model for PairQueue<T> {
+impl<T: Ord> Model for PairQueue<T> {
     ghost use Rattle.pair_heap.specs.Queued.{Queued};
 
     ghost Value = { Queued T };
@@ -18,7 +19,7 @@ impl<T: Ord + Copy> Model for PairQueue<T> {
     ghost view = { λ q. q.heap };
 }
 
-impl<T: Ord + Copy> Queue<T> for PairQueue<T> {
+impl<T: Ord + Drop> Queue<T> for PairQueue<T> {
     ghost held = { λ q. q.items };
 
     ghost spare = { λ q. q.spare };
@@ -51,12 +52,5 @@ impl<T: Ord + Copy> Queue<T> for PairQueue<T> {
 
     fn spare(&self) -> usize {
         self.heap.spare()
-    }
-}
-
-impl<T: Ord + Copy> Drop for PairQueue<T> {
-    fn drop(self) {
-        let PairQueue { heap } = self;
-        heap.discard();
     }
 }
