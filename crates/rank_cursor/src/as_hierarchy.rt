@@ -1,3 +1,4 @@
+ghost use Rattle.pmr_tree.specs.Quadtree.{IsNearIn};
 ghost use Rattle.rank_cursor.specs.Cursor.{ranking_over, visit_of, block_weight};
 ghost use Rattle.rank_cursor.specs.Exact.{block_exact};
 ghost use Rattle.rank_cursor.specs.Ranking.{rank_meaning};
@@ -8,7 +9,7 @@ use crate::entries::{add_found, rect_gap, shape_gap};
 use best_first::{Hierarchy, Item};
 use exact_frac::Frac;
 use page_pool::{Desk, Disk, PageFault};
-use pmr_tree::ShapeOf;
+use pmr_tree::{Near, ShapeOf};
 use sand_base::{NoMemory, Visit};
 use std::alloc::Global;
 use z_code::Block;
@@ -16,11 +17,15 @@ use z_code::Block;
 impl<'s, G: ShapeOf + Drop> Hierarchy for RankTree<'s, G> {
     type Node = Block;
 
+    type Near = Near;
+
     ghost meaning = { λ t pages. rank_meaning (ranking_over (G.rows t.shapes) (G.Stands t.shapes) (G.price t.shapes) t.pmr t.goal t.ceiling pages) };
 
     ghost note = { λ t item. visit_of t.pmr.number item };
 
     ghost weight = { λ t b. block_weight b };
+
+    ghost IsNear = { λ t pages near. IsNearIn pages t.pmr near };
 
     fn root(&self) -> (Frac, Block) {
         let block = Block::root();
@@ -31,19 +36,24 @@ impl<'s, G: ShapeOf + Drop> Hierarchy for RankTree<'s, G> {
         self.ceiling
     }
 
-    fn expand<D: Disk>(
+    fn nowhere(&self) -> Near {
+        Near::nowhere()
+    }
+
+    fn expand_near<D: Disk>(
         &self,
         alloc: Global,
         desk: &mut Desk<D>,
         gap: Frac,
         node: Block,
+        near: &mut Near,
         found: &mut Vec<Item<Block>>,
     ) -> Result<(), PageFault> {
         // Over a disk that doesn't tell its pages any value may come.
         if !is_block(node) {
             return Ok(());
         }
-        match self.pmr.visit(alloc, desk, node) {
+        match self.pmr.visit_near(alloc, desk, node, near) {
             Ok(place) => match add_found(&self.goal, gap, node, &place, found) {
                 Ok(()) => Ok(()),
                 Err(NoMemory {}) => Err(PageFault::Memory),
