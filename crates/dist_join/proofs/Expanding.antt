@@ -62,6 +62,14 @@ use Rattle.dist_join.proofs.FoundPairs.{leaves_alike}
 use Rattle.dist_join.proofs.JoinLaws.{under_root, shown_is, one_item, row_among}
 use Rattle.dist_join.proofs.PairPlaces.{pair_stands}
 
+-- ---- the pages of a desk, lent
+
+pub at_desk : (d : DeskState) (X : PageMap → Type 0) (pool : PoolState) → pool ≡ d.pool → IfSome (told_pages d) X → IsTold pool → X pool.pages
+at_desk d X pool same h = subst (λ (q : PoolState). IsTold q → X q.pages) (sym same) (at_told d X h)
+
+pub by_desk : (d : DeskState) (X : PageMap → Type 0) (pool : PoolState) → pool ≡ d.pool → (IsTold pool → X pool.pages) → IfSome (told_pages d) X
+by_desk d X pool same h = by_told d X (subst (λ (q : PoolState). IsTold q → X q.pages) same h)
+
 -- ---- weights
 
 four_times : (k n : ℕ) → 0 < k → n ≡ k * 17 → 4 * k < n

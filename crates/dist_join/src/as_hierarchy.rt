@@ -1,5 +1,6 @@
 ghost use Rattle.dist_join.specs.Exact.{pair_exact};
 ghost use Rattle.dist_join.specs.Joining.{join_meaning};
+ghost use Rattle.dist_join.specs.Looks.{AreNear};
 ghost use Rattle.dist_join.specs.OverPages.{paged, joining_over, visit_of, pair_weight};
 
 use crate::PairTree;
@@ -10,7 +11,7 @@ use crate::places::add_found;
 use best_first::{Hierarchy, Item};
 use exact_frac::Frac;
 use page_pool::{Desk, Disk, PageFault};
-use pmr_tree::ShapeOf;
+use pmr_tree::{Near, ShapeOf};
 use sand_base::{Goal, NoMemory, Visit};
 use std::alloc::Global;
 use z_code::Block;
@@ -18,11 +19,15 @@ use z_code::Block;
 impl<'s, G: ShapeOf + Drop> Hierarchy for PairTree<'s, G> {
     type Node = (Block, Block);
 
+    type Near = (Near, Near);
+
     ghost meaning = { λ t pages. join_meaning (joining_over (paged (G.rows t.left_shapes) (G.Stands t.left_shapes) (G.price t.left_shapes) t.left) (paged (G.rows t.right_shapes) (G.Stands t.right_shapes) (G.price t.right_shapes) t.right) t.ceiling pages) };
 
     ghost note = { λ t item. visit_of t.left.number t.right.number item };
 
     ghost weight = { λ t pair. pair_weight pair };
+
+    ghost IsNear = { λ t pages near. AreNear pages t.left t.right near };
 
     fn root(&self) -> (Frac, (Block, Block)) {
         let block = Block::root();
@@ -34,12 +39,17 @@ impl<'s, G: ShapeOf + Drop> Hierarchy for PairTree<'s, G> {
         self.ceiling
     }
 
-    fn expand<D: Disk>(
+    fn nowhere(&self) -> (Near, Near) {
+        (Near::nowhere(), Near::nowhere())
+    }
+
+    fn expand_near<D: Disk>(
         &self,
         alloc: Global,
         desk: &mut Desk<D>,
         gap: Frac,
         node: (Block, Block),
+        near: &mut (Near, Near),
         found: &mut Vec<Item<(Block, Block)>>,
     ) -> Result<(), PageFault> {
         let (block, other) = node;
@@ -55,7 +65,15 @@ impl<'s, G: ShapeOf + Drop> Hierarchy for PairTree<'s, G> {
             Ok(()) => {}
             Err(NoMemory {}) => return Err(PageFault::Memory),
         }
-        match look_at_both(alloc, desk.pages(), &self.left, block, &self.right, other) {
+        match look_at_both(
+            alloc,
+            desk.pages(),
+            &self.left,
+            block,
+            &self.right,
+            other,
+            near,
+        ) {
             Ok((place, second)) => match add_found(gap, node, &place, &second, found) {
                 Ok(()) => Ok(()),
                 Err(NoMemory {}) => Err(PageFault::Memory),

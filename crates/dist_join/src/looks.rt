@@ -9,15 +9,15 @@ ghost use Rattle.page_pool.specs.Reads.{IsRead};
 ghost use Rattle.page_pool.specs.Causes.{HasPageCause};
 ghost use Rattle.pmr_tree.specs.Calls.{IsFoundInRange, GetsSome};
 ghost use Rattle.pmr_tree.specs.declared.listed.Node.TheVariants as of_tree;
-ghost use Rattle.dist_join.specs.Looks.{CanLook, Sees, IsWithinPairPrice};
+ghost use Rattle.dist_join.specs.Looks.{CanLook, Sees, AreNear, IsWithinPairPrice};
 
 use page_pool::{PageFault, Pages};
-use pmr_tree::{Node, Pmr, ShapeOf};
+use pmr_tree::{Near, Node, Pmr, ShapeOf};
 use sand_base::Shape;
 use std::alloc::Global;
 use z_code::Block;
 
-// The places of two quadtrees at two blocks.
+// The places of two quadtrees at two blocks, each looked at from where its last look began.
 pub fn look_at_both<P: Pages>(
     alloc: Global,
     pages: &mut P,
@@ -25,11 +25,13 @@ pub fn look_at_both<P: Pages>(
     block: Block,
     right: &Pmr,
     other: Block,
+    near: &mut (Near, Near),
 ) -> Result<(Node, Node), PageFault>
     requires block { IsBlock block }
     requires other { IsBlock other }
     requires left { IsTold (P.shown pages.old) → CanLook (P.shown pages.old).pages left.now block }
     requires right { IsTold (P.shown pages.old) → CanLook (P.shown pages.old).pages right.now other }
+    requires near { IsTold (P.shown pages.old) → AreNear (P.shown pages.old).pages left.now right.now near.old }
     ensures left { IfOk result (λ found. IsTold (P.shown pages.old) → Sees (P.shown pages.old).pages left.now block found.0) }
     ensures right { IfOk result (λ found. IsTold (P.shown pages.old) → Sees (P.shown pages.old).pages right.now other found.1) }
     ensures plane { IfOk result (λ found. IsFoundInRange found.0) }
@@ -41,9 +43,10 @@ pub fn look_at_both<P: Pages>(
     ensures up { (P.shown pages.old).gets ≤ (P.shown pages.new).gets }
     ensures some { GetsSome (P.shown pages.old) (P.shown pages.new) result }
     ensures price { IsTold (P.shown pages.old) → IsWithinPairPrice (P.shown pages.old).pages left.now block right.now other (P.shown pages.old) (P.shown pages.new) }
+    ensures near { IsTold (P.shown pages.old) → AreNear (P.shown pages.old).pages left.now right.now near.new }
 {
-    match left.look(alloc, pages, block) {
-        Ok(place) => match right.look(alloc, pages, other) {
+    match left.look_near(alloc, pages, block, &mut near.0) {
+        Ok(place) => match right.look_near(alloc, pages, other, &mut near.1) {
             Ok(second) => Ok((place, second)),
             Err(fault) => Err(fault),
         },
