@@ -15,6 +15,7 @@ use Rattle.sand_model.specs.Taken.{Taken}
 use Rattle.sand_model.specs.Tree.{listings}
 use Rattle.page_pool.specs.Disk.{PageMap}
 use Rattle.pair_heap.specs.Queued.{Queued}
+use Rattle.code_btree.specs.declared.near.Near.{Near}
 use Rattle.pmr_tree.specs.declared.quadtree.Pmr.{Pmr}
 use Rattle.sand_store.specs.declared.column.ColumnShapes.{ColumnShapes}
 use Rattle.sand_store.specs.Catalog.{RelationView, IsLimits, most_listings}
@@ -65,7 +66,7 @@ pub record RanksColumn (r : Ranking) (d : Database) (p : Plan) : Type 0 where
 
 -- the search of a source: over the quadtree of a column of shapes, its frontier in a pairing heap
 abbrev pub Search : Type 0
-Search = BestFirst (RankTree ColumnShapes) (Queued (Item Block)) Block
+Search = BestFirst (RankTree ColumnShapes) (Queued (Item Block)) Block Near
 
 -- the order of its nodes, by code and then by level
 abbrev pub by_code : Block → Block → Ordering
