@@ -1,0 +1,111 @@
+ghost use Rattle.std.specs.Prelude.{◌≡◌};
+
+use sand_base::{Failed, NoMemory};
+use std::alloc::Global;
+use std::cell::RefCell;
+use std::io::{BufWriter, Error, ErrorKind, Read, Result as IoResult, Write};
+
+/// A writer whose bytes are gathered, up to 8,192 of them, until they are handed on. Once that has failed every write
+/// fails.
+#[derive(Drop)]
+pub struct Outbox<W: Write + Drop> {
+    gathered: BufWriter<W>,
+    is_broken: bool,
+}
+
+impl<W: Write + Drop> Outbox<W> {
+    /// An empty outbox. It takes the memory of its bytes.
+    pub fn new(alloc: Global, output: W) -> Result<Outbox<W>, NoMemory> {
+        match BufWriter::new(alloc, output) {
+            Ok(gathered) => Ok(Outbox {
+                gathered,
+                is_broken: false,
+            }),
+            Err(_) => Err(NoMemory {}),
+        }
+    }
+
+    /// Hands on all that is gathered.
+    pub fn hand_on(&mut self) -> Result<(), Failed> {
+        if self.is_broken || self.gathered.flush().is_err() {
+            self.is_broken = true;
+            return Err(Failed {});
+        }
+        Ok(())
+    }
+
+    // Gathers bytes from the front of the piece, and hands on what was gathered before where there is no room.
+    fn gather(&mut self, piece: &[u8]) -> IoResult<usize> {
+        if self.is_broken {
+            return Err(Error::from(ErrorKind::BrokenPipe));
+        }
+        let gathered = self.gathered.write(piece);
+        self.is_broken = gathered.is_err();
+        gathered
+    }
+}
+
+/// Writes into an outbox that a reader hands on. It tells nothing of the bytes.
+pub struct OutboxWriter<'o, W: Write + Drop> {
+    outbox: &'o RefCell<Outbox<W>>,
+}
+
+impl<'o, W: Write + Drop> OutboxWriter<'o, W> {
+    pub fn new(outbox: &'o RefCell<Outbox<W>>) -> OutboxWriter<'o, W> {
+        OutboxWriter { outbox }
+    }
+}
+
+impl<'o, W: Write + Drop> Drop for OutboxWriter<'o, W> {
+    fn drop(self) {
+        let OutboxWriter { outbox: _ } = self;
+    }
+}
+
+impl<'o, W: Write + Drop> Write for OutboxWriter<'o, W> {
+    fn write(&mut self, piece: &[u8]) -> IoResult<usize> {
+        match self.outbox.try_borrow_mut() {
+            Ok(mut outbox) => outbox.gather(piece),
+            Err(_) => Err(Error::from(ErrorKind::Other)),
+        }
+    }
+
+    fn flush(&mut self) -> IoResult<()> {
+        Ok(())
+    }
+}
+
+/// Reads once all that an outbox has gathered is handed on, so that who is asked for more has what came before. Where
+/// that fails the read goes on, and the next write fails.
+pub struct PromptReader<'o, R: Read + Drop, W: Write + Drop> {
+    input: R,
+    outbox: &'o RefCell<Outbox<W>>,
+}
+
+impl<'o, R: Read + Drop, W: Write + Drop> PromptReader<'o, R, W> {
+    pub fn new(input: R, outbox: &'o RefCell<Outbox<W>>) -> PromptReader<'o, R, W>
+        ensures input { result.input ≡ input }
+    {
+        PromptReader { input, outbox }
+    }
+}
+
+impl<'o, R: Read + Drop, W: Write + Drop> Drop for PromptReader<'o, R, W> {
+    fn drop(self) {
+        let PromptReader {
+            input: _input,
+            outbox: _,
+        } = self;
+    }
+}
+
+impl<'o, R: Read + Drop, W: Write + Drop> Read for PromptReader<'o, R, W> {
+    ghost remaining = { λ r. R.remaining r.input };
+
+    fn read(&mut self, piece: &mut [u8]) -> IoResult<usize> {
+        if let Ok(mut outbox) = self.outbox.try_borrow_mut() {
+            let _ = outbox.hand_on();
+        }
+        self.input.read(piece)
+    }
+}
