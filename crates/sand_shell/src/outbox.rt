@@ -1,4 +1,5 @@
 ghost use Rattle.std.specs.Prelude.{◌≡◌};
+ghost use Rattle.std.specs.Io.{WritesAtMost};
 
 use sand_base::{Failed, NoMemory};
 use std::alloc::Global;
@@ -35,7 +36,9 @@ impl<W: Write + Drop> Outbox<W> {
     }
 
     // Gathers bytes from the front of the piece, and hands on what was gathered before where there is no room.
-    fn gather(&mut self, piece: &[u8]) -> IoResult<usize> {
+    fn gather(&mut self, piece: &[u8]) -> IoResult<usize>
+        ensures bound { WritesAtMost result piece.now }
+    {
         if self.is_broken {
             return Err(Error::from(ErrorKind::BrokenPipe));
         }
