@@ -5,21 +5,45 @@ ghost use Rattle.std.specs.Cmp.{eq_by_cmp_equiv, partial_equiv_from_equiv, parti
 ghost use Rattle.std.specs.Ordering.{eq_by_cmp, as_partial_cmp};
 ghost use Rattle.std.proofs.Common.{refl};
 ghost use Rattle.exact_frac.specs.declared.TheConstants.{MAX_NUM, MAX_DEN};
+ghost use Rattle.exact_frac.specs.Fraction.{num_in, den_in};
 ghost use Rattle.exact_frac.specs.Printed.{IsPrinted};
 ghost use Rattle.exact_frac.specs.Value.{SameValue};
 
 use crate::frac_text::FracText;
 use crate::gcd::greatest_common_divisor;
 use std::cmp::Ordering;
+use std::marker::Model;
 
-/// A fraction of whole numbers. Equality and order are those of its value, so 1/2 and 2/4 are equal.
+// How many bits of the first word lie below the denominator: a numerator has at most 19 beyond its first 64.
+const DEN_SHIFT: u32 = 22;
+
+// How many numbers a word has.
+const WORD: u128 = 1 << 64;
+
+/// A fraction of whole numbers, kept in two words. Equality and order are those of its value, so 1/2 and 2/4 are equal.
 #[derive(Clone, Copy, Debug)]
 pub struct Frac {
-    num: u128,
-    den: u128,
-    pub ghost small: { num ≤ MAX_NUM },
-    pub ghost positive: { 1 ≤ den },
-    pub ghost fits: { den ≤ MAX_DEN },
+    high: u64,
+    low: u64,
+    ghost small: { num_in high low ≤ MAX_NUM },
+    ghost positive: { 1 ≤ den_in high },
+    ghost fits: { den_in high ≤ MAX_DEN },
+    ghost word: { low < 2 ^ 64 },
+}
+
+impl Model for Frac {
+    ghost use Rattle.std.specs.Prelude.{◌+◌, ◌*◌, ◌/◌, ◌%◌, ◌^◌};
+    ghost use Rattle.exact_frac.specs.Fraction.{Fraction, num_in, den_in};
+
+    ghost Value = { Fraction };
+
+    ghost view = { λ f. record { num = num_in f.high f.low; den = den_in f.high; small = f.small; positive = f.positive; fits = f.fits } };
+
+    ghost use Rattle.exact_frac.specs.Words.{words_of, words_of_parts};
+
+    ghost inverse = { words_of };
+
+    ghost inverse_ok = { λ f _. words_of_parts f };
 }
 
 impl Frac {
@@ -33,31 +57,34 @@ impl Frac {
         ensures num { result.num ≡ num }
         ensures den { result.den ≡ den }
     {
-        Frac { num, den }
+        Frac {
+            high: den as u64 * (1 << DEN_SHIFT) + (num / WORD) as u64,
+            low: (num % WORD) as u64,
+        }
     }
 
     /// The numerator.
     pub fn num(&self) -> u128
         ensures { result ≡ self.now.num }
     {
-        self.num
+        u128::from(self.high % (1 << DEN_SHIFT)) * WORD + u128::from(self.low)
     }
 
     /// The denominator, which isn't 0.
     pub fn den(&self) -> u128
         ensures { result ≡ self.now.den }
     {
-        self.den
+        u128::from(self.high / (1 << DEN_SHIFT))
     }
 
     /// The order of the two values, by cross products unless the denominators are equal.
     pub fn compare(&self, other: &Frac) -> Ordering
         ensures { result ≡ value_cmp self.now other.now }
     {
-        if self.den == other.den {
-            self.num.cmp(&other.num)
+        if self.den() == other.den() {
+            self.num().cmp(&other.num())
         } else {
-            (self.num * other.den).cmp(&(other.num * self.den))
+            (self.num() * other.den()).cmp(&(other.num() * self.den()))
         }
     }
 
@@ -67,7 +94,7 @@ impl Frac {
         ensures { IsTrue result ↔ (self.now.num ≤ r * r * self.now.den) }
     {
         let r = r as u128;
-        self.num <= r * r * self.den
+        self.num() <= r * r * self.den()
     }
 
     /// The same value in lowest terms; 0 is 0/1.
@@ -75,14 +102,12 @@ impl Frac {
         ensures value { SameValue result.num result.den self.now.num self.now.den }
         ensures lowest { IsGcd result.num result.den 1 }
     {
-        if self.den == 1 {
+        let (num, den) = (self.num(), self.den());
+        if den == 1 {
             return *self;
         }
-        let common = greatest_common_divisor(self.num, self.den);
-        Frac {
-            num: self.num / common,
-            den: self.den / common,
-        }
+        let common = greatest_common_divisor(num, den);
+        Frac::new(num / common, den / common)
     }
 
     /// The printed text: `n/d` in lowest terms, and `n` where `d` is 1.
@@ -91,10 +116,10 @@ impl Frac {
         ensures short { length result ≤ 39 }
     {
         let lowest = self.lowest();
-        if lowest.den == 1 {
-            FracText::whole(lowest.num)
+        if lowest.den() == 1 {
+            FracText::whole(lowest.num())
         } else {
-            FracText::ratio(lowest.num, lowest.den)
+            FracText::ratio(lowest.num(), lowest.den())
         }
     }
 }
