@@ -20,10 +20,10 @@ new-requires-clause-positive c =
 pub returns-clause-value : goal.returns-clause-value
 returns-clause-value c =
     rw (c.new.ensures.num, c.new.ensures.den, sym c.num-num.ensures, sym c.den-den.ensures)
-      (quotients_same _ _ _ c.greatest_common_divisor-common.ensures.divisor)
+    (quotients_same _ _ _ c.greatest_common_divisor-common.ensures.divisor)
 
 -- a common divisor of the quotients would make the greatest one greater
 pub returns-clause-lowest : goal.returns-clause-lowest
 returns-clause-lowest c =
     rw (c.new.ensures.num, c.new.ensures.den)
-      (quotients_lowest _ _ _ c.greatest_common_divisor-common.ensures.positive c.greatest_common_divisor-common.ensures.divisor)
+    (quotients_lowest _ _ _ c.greatest_common_divisor-common.ensures.positive c.greatest_common_divisor-common.ensures.divisor)
