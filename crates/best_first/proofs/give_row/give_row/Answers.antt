@@ -3,7 +3,11 @@ use Rattle.best_first.specs.Order.{item_cmp}
 use Rattle.best_first.specs.Steps.{IsSettled}
 use Rattle.best_first.specs.Inside.{GivesRow}
 use Rattle.best_first.proofs.give_row.give_row.Goals as goal
+use Rattle.best_first.proofs.give_row.give_row.Goals.{in_default-via-in-Some+in_default, in_default-via-in_default}
 
 -- src/give_row.rt:19:9
 pub returns-in_default-clause-queue : goal.returns-in_default-clause-queue
-returns-in_default-clause-queue g c = ?
+returns-in_default-clause-queue g c = elim c.in_default.branch [
+  | in_default-via-in-Some+in_default w ↦ ?
+  | in_default-via-in_default w ↦ ?
+]
