@@ -15,10 +15,16 @@ pub fn give_row<N: Ord + Copy, Q: Queue<Item<N>>>(frontier: &mut Frontier<Q>) ->
     ensures last { MatchOption result (frontier.new.last ≡ frontier.old.last) (λ hit. frontier.new.last ≡ Some hit) }
     ensures queue { MatchOption result ((Q.held frontier.old.queue ≡ []) × (Q.held frontier.new.queue ≡ [])) (λ hit. GivesRow (item_cmp N.cmp) hit (Q.held frontier.old.queue) (Q.held frontier.new.queue)) }
 {
-    let Some(Item::Row { gap, left, right }) = frontier.queue.peek() else {
-        return None;
+    let Hit { gap, left, right } = match frontier.queue.peek() {
+        Some(Item::Row { gap, left, right }) => Hit {
+            gap: *gap,
+            left: *left,
+            right: *right,
+        },
+        Some(Item::Node { .. }) => return None,
+        Some(Item::Rough { .. }) => return None,
+        None => return None,
     };
-    let (gap, left, right) = (*gap, *left, *right);
     take_equal(&mut frontier.queue, &Item::Row { gap, left, right });
     frontier.last = Some(Hit { gap, left, right });
     frontier.last
