@@ -1,1 +1,3 @@
 pub mod KeepsFalling
+pub mod BitsOfNumbers
+pub mod BitsAndHeap

@@ -1,2 +1,5 @@
 pub mod Least
 pub mod Falling
+pub mod Bits
+pub mod NumberSet
+pub mod BitQueue

@@ -1,0 +1,157 @@
+ghost use Rattle.std.specs.Prelude.{◌≡◌, ℕ, ◌+◌, ◌<◌, ◌≤◌, List, [], ◌∷◌, length, map, OnOk, IfOk, MatchOption, IsPermutation};
+ghost use Rattle.std.specs.Bool.{MatchBool};
+ghost use Rattle.rank_queue.specs.Least.{IsFirst, IsLeast};
+ghost use Rattle.rank_queue.specs.BitQueue.{HeapIsNext, NumberIsNext};
+
+use crate::number_set::NumberSet;
+use crate::{Numbered, Queue};
+use pair_heap::PairHeap;
+use sand_base::NoMemory;
+use std::alloc::Global;
+use std::marker::Model;
+
+/// A queue that keeps items with numbers as bits, one for each number below a bound, and all others in a pairing heap:
+/// to push or to pop one that is a bit moves no item and compares it with the heap's first alone.
+pub struct BitQueue<T: Numbered> {
+    heap: PairHeap<T>,
+    numbers: NumberSet,
+    first: Option<T>,
+    spare: usize,
+}
+
+impl<T: Numbered> Model for BitQueue<T> {
+    ghost use Rattle.std.specs.Prelude.{map, ◌++◌};
+    ghost use Rattle.pair_heap.specs.Queued.{Queued};
+    ghost use Rattle.rank_queue.specs.BitQueue.{IsBitQueue};
+
+    ghost Value = { Queued T };
+
+    ghost view = { λ q. record { items = map T.item_of q.numbers ++ q.heap.items; spare = q.spare } };
+
+    ghost invariant = { IsBitQueue T.cmp T.item_of };
+}
+
+impl<T: Numbered> BitQueue<T> {
+    /// A queue with no item and no reserved place, which has a bit for each number below `count`.
+    pub fn with_numbers(alloc: Global, count: u32) -> Result<BitQueue<T>, NoMemory>
+        ensures items { IfOk result (λ q. q.items ≡ []) }
+        ensures spare { IfOk result (λ q. q.spare ≡ 0) }
+    {
+        let numbers = NumberSet::below(alloc, count)?;
+        Ok(BitQueue {
+            heap: PairHeap::empty(alloc),
+            numbers,
+            first: None,
+            spare: 0,
+        })
+    }
+}
+
+impl<T: Numbered> Queue<T> for BitQueue<T> {
+    ghost held = { λ q. q.items };
+
+    ghost spare = { λ q. q.spare };
+
+    fn empty(alloc: Global) -> Self {
+        BitQueue {
+            heap: PairHeap::empty(alloc),
+            numbers: NumberSet::none(alloc),
+            first: None,
+            spare: 0,
+        }
+    }
+
+    fn reserve(&mut self, count: usize) -> Result<(), NoMemory> {
+        if self.spare < count {
+            if usize::MAX - self.numbers.len() - self.heap.len() < count {
+                return Err(NoMemory {});
+            }
+            // A bit takes no slot, but its place is for any item once it is taken.
+            self.heap.reserve(self.numbers.len() + count)?;
+            self.spare = count;
+        }
+        Ok(())
+    }
+
+    fn push(&mut self, item: T) {
+        self.spare -= 1;
+        if insert_item(&mut self.numbers, &item) {
+            self.first = first_item(&self.numbers);
+        } else {
+            self.heap.push(item);
+        }
+    }
+
+    fn peek(&self) -> Option<&T> {
+        if heap_is_next(&self.heap, &self.first) {
+            self.heap.peek()
+        } else {
+            self.first.as_ref()
+        }
+    }
+
+    fn pop(&mut self) -> Option<T> {
+        if heap_is_next(&self.heap, &self.first) {
+            let Some(item) = self.heap.pop() else {
+                return None;
+            };
+            self.spare += 1;
+            return Some(item);
+        }
+        let Some(number) = self.numbers.take_least() else {
+            unreachable!();
+        };
+        self.first = first_item(&self.numbers);
+        self.spare += 1;
+        Some(T::of_number(number))
+    }
+
+    fn len(&self) -> usize {
+        self.numbers.len() + self.heap.len()
+    }
+
+    fn spare(&self) -> usize {
+        self.spare
+    }
+}
+
+impl<T: Numbered> Drop for BitQueue<T> {
+    fn drop(self) {
+        let BitQueue {
+            heap,
+            numbers: _,
+            first: _,
+            spare: _,
+        } = self;
+        heap.discard();
+    }
+}
+
+// Puts the item's number into the set, where it has one that has a bit and is not in the set; else all stays as it is.
+fn insert_item<T: Numbered>(numbers: &mut NumberSet, item: &T) -> bool
+    ensures { MatchBool result (IsPermutation (item.now ∷ map T.item_of numbers.old) (map T.item_of numbers.new)) (numbers.new ≡ numbers.old) }
+{
+    match item.number() {
+        Some(number) => numbers.insert(number),
+        None => false,
+    }
+}
+
+// The item of the least number.
+fn first_item<T: Numbered>(numbers: &NumberSet) -> Option<T>
+    ensures { MatchOption result (numbers.now ≡ []) (λ x. IsFirst T.cmp x (map T.item_of numbers.now)) }
+{
+    let number = numbers.least()?;
+    Some(T::of_number(number))
+}
+
+// Whether the heap's first item is the next one: where the numbers have none, or theirs comes after it.
+fn heap_is_next<T: Ord + Copy>(heap: &PairHeap<T>, first: &Option<T>) -> bool
+    ensures { MatchBool result (HeapIsNext T.cmp heap.now.items first.now) (NumberIsNext T.cmp heap.now.items first.now) }
+{
+    match (first, heap.peek()) {
+        (None, _) => true,
+        (Some(_), None) => false,
+        (Some(first), Some(top)) => first.cmp(top).is_gt(),
+    }
+}
