@@ -17,3 +17,4 @@ pub mod Passing
 pub mod Answering
 pub mod Beginning
 pub mod ForLayers
+pub mod ZeroGaps

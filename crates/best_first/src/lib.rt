@@ -17,6 +17,7 @@ mod give_row;
 mod hierarchy;
 mod hit;
 mod item;
+mod numbered;
 mod open_node;
 mod push_within;
 mod rows;
