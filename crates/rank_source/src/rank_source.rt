@@ -11,7 +11,7 @@ use best_first::{BestFirst, Hit, Item};
 use page_pool::{Desk, Disk, PageFault};
 use plan_rows::{Answer, RowSource, SourceCounts};
 use rank_cursor::RankTree;
-use rank_queue::{CopyQueue, Queue};
+use rank_queue::{BitQueue, Queue};
 use sand_base::{Goal, Ids, NoMemory, Row};
 use sand_store::ColumnShapes;
 use std::alloc::Global;
@@ -20,7 +20,7 @@ use z_code::Block;
 /// The rows of a column by their distance from a goal, nearest first.
 #[derive(Drop)]
 pub struct RankSource<'s> {
-    search: BestFirst<RankTree<'s, ColumnShapes<'s>>, CopyQueue<Item<Block>>>,
+    search: BestFirst<RankTree<'s, ColumnShapes<'s>>, BitQueue<Item<Block>>>,
 }
 
 impl<'s> RankSource<'s> {
@@ -37,8 +37,23 @@ impl<'s> RankSource<'s> {
         ensures begun { IfOk result (λ s. Begins (⟦<RankSource<'s> as RowSource>⟧.At s) column.entry.relation.now column.entry.column column.entry.tree.now goal ceiling) }
     {
         let hierarchy = RankTree::over(column.tree, column.shapes(), goal, ceiling);
-        let search = BestFirst::start(alloc, hierarchy, CopyQueue::empty(alloc))?;
+        let search = BestFirst::start(alloc, hierarchy, empty_queue(alloc, column, ceiling)?)?;
         Ok(RankSource { search })
+    }
+}
+
+// A queue with no item. Within the distance 0 all rows have the same gap and come in the order of their ids: there each
+// id has a bit.
+fn empty_queue(
+    alloc: Global,
+    column: TreeColumn,
+    ceiling: Option<u32>,
+) -> Result<BitQueue<Item<Block>>, NoMemory>
+    ensures { IfOk result (λ q. q.items ≡ []) }
+{
+    match ceiling {
+        Some(0) => BitQueue::with_numbers(alloc, column.relation.greatest().saturating_add(1)),
+        _ => Ok(BitQueue::empty(alloc)),
     }
 }
 
