@@ -32,16 +32,22 @@ fn toggle(
 
 // The least id in memory above this one with the number.
 fn equal(twin: &Twin, number: i64, after: u32) -> Option<u32> {
-    let found = twin
-        .iter()
-        .find(|entry| entry.0 == number && entry.1 > after)?;
-    Some(found.1)
+    'entries: for entry in twin.iter() {
+        if entry.0 == number && entry.1 > after {
+            return Some(entry.1);
+        }
+    }
+    None
 }
 
 // The least entry in memory after this one whose number is within the bounds.
 fn between(twin: &Twin, low: i64, high: i64, after: (i64, u32)) -> Option<(i64, u32)> {
-    let found = twin.iter().find(|entry| **entry > after && entry.0 >= low && entry.0 <= high)?;
-    Some(*found)
+    'entries: for entry in twin.iter() {
+        if *entry > after && entry.0 >= low && entry.0 <= high {
+            return Some(*entry);
+        }
+    }
+    None
 }
 
 // One drawn call; tells whether both answer the same.

@@ -9,7 +9,7 @@
 #![tactic(auto)]
 
 ghost use Rattle.std.specs.Prelude.{◌≤◌, IfOk};
-ghost use Rattle.page_pool.specs.Pool.{IsOpen, IsTold};
+ghost use Rattle.page_pool.specs.Pool.{IsClosed, IsOpen, IsTold};
 ghost use Rattle.code_btree.specs.Tree.{IsTree, pages_in};
 
 mod draws;
@@ -228,11 +228,18 @@ fn called(pool: &mut Pool<SureDisk>, part: Part, tree: Tree, lots: u32) -> Resul
     }
 }
 
-// Makes one kind of calls in pages, after the inserts.
+// The same after the inserts.
+fn filled_and_called(pool: &mut Pool<SureDisk>, part: Part, lots: u32) -> Result<u64, PageFault>
+    requires { IsClosed pool.old }
+{
+    let tree = filled(pool, lots)?;
+    called(pool, part, tree, lots)
+}
+
+// The same in a pool of its own.
 fn in_pages(alloc: Global, part: Part, lots: u32) -> Result<u64, PageFault> {
     let mut pool = started(alloc, SureDisk::new(alloc), 4_096)?;
-    let tree = filled(&mut pool, lots)?;
-    called(&mut pool, part, tree, lots)
+    filled_and_called(&mut pool, part, lots)
 }
 
 // Makes one kind of calls of a map in memory.

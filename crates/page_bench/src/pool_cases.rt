@@ -262,19 +262,37 @@ fn carry_out_all(run: &mut Trial) -> Result<(), PageFault>
     Ok(())
 }
 
-// What is seen of the commands over a disk that fails at these calls, and how many calls it had.
-fn tried(alloc: Global, fails: Vec<u64>) -> Result<(Seen, u64), PageFault> {
-    let (pool, refused) = started(alloc, fails)?;
-    let seen = Seen {
+// What is seen before the commands.
+fn unseen(refused: u64) -> Seen {
+    Seen {
         bytes: [0; 256],
         given: [0; 45],
         givens: 0,
         refused,
         is_right: true,
-    };
-    let mut run = Trial { pool, seen };
+    }
+}
+
+// A trial over a disk that fails at these calls.
+fn begun(alloc: Global, fails: Vec<u64>) -> Result<Trial, PageFault>
+    ensures { IfOk result (λ run. IsClosed run.pool) }
+{
+    let (pool, refused) = started(alloc, fails)?;
+    let seen = unseen(refused);
+    Ok(Trial { pool, seen })
+}
+
+// What was seen, and how many calls the disk had.
+fn ended(run: Trial) -> (Seen, u64) {
+    let Trial { pool, seen } = run;
+    (seen, pool.into_disk().calls())
+}
+
+// What is seen of the commands over a disk that fails at these calls, and how many calls it had.
+fn tried(alloc: Global, fails: Vec<u64>) -> Result<(Seen, u64), PageFault> {
+    let mut run = begun(alloc, fails)?;
     carry_out_all(&mut run)?;
-    Ok((run.seen, run.pool.into_disk().calls()))
+    Ok(ended(run))
 }
 
 // Whether a trial without a fault was given the freed numbers again, and saw what it must.

@@ -1,7 +1,7 @@
 // What `bench/pages.py` times of a pool of 10,000 pages: gets of pages in the frames and of pages on the disk, commands that put one
 // page, and digests of a page, the least that a get from the disk and a writing cost. The stored run shows how many calls of the disk
 // they take.
-ghost use Rattle.std.specs.Prelude.{◌≤◌, ◌<◌, OnOk};
+ghost use Rattle.std.specs.Prelude.{◌≤◌, ◌<◌, IfOk, OnOk};
 ghost use Rattle.page_pool.specs.Pool.{IsClosed};
 
 use crate::draws::Draws;
@@ -150,18 +150,30 @@ fn called(pool: &mut Pool<MemDisk>, part: PoolPart, calls: u32) -> Result<u64, P
     }
 }
 
-/// Makes a part with so many calls.
-pub fn made(alloc: Global, part: PoolPart, calls: u32) -> Result<Tally, PageFault> {
-    if let PoolPart::Digests = part {
-        return Ok(Tally {
-            right: digested(calls),
-            disk_calls: 0,
-        });
-    }
+// The pool of a part, with its pages.
+fn pool_of(alloc: Global, part: PoolPart) -> Result<Pool<MemDisk>, PageFault>
+    ensures { IfOk result (λ pool. IsClosed pool) }
+{
     let disk = MemDisk::new(alloc, Vec::new(alloc));
-    let mut pool = filled(alloc, disk, frames_of(part), PAGES)?;
+    filled(alloc, disk, frames_of(part), PAGES)
+}
+
+// Makes a part with so many calls of a pool.
+fn made_in_pages(alloc: Global, part: PoolPart, calls: u32) -> Result<Tally, PageFault> {
+    let mut pool = pool_of(alloc, part)?;
     let right = called(&mut pool, part, calls)?;
     Ok(tallied(pool, right))
+}
+
+/// Makes a part with so many calls.
+pub fn made(alloc: Global, part: PoolPart, calls: u32) -> Result<Tally, PageFault> {
+    match part {
+        PoolPart::Digests => Ok(Tally {
+            right: digested(calls),
+            disk_calls: 0,
+        }),
+        _ => made_in_pages(alloc, part, calls),
+    }
 }
 
 /// The part that a word names.

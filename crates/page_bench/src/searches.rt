@@ -5,7 +5,7 @@ ghost use Rattle.sand_base.specs.Grid.{IsInClosedPlane};
 use crate::open_pool::OpenPool;
 use crate::readers::{Found, Readers};
 use crate::shapes::Shapes;
-use crate::trees::planted;
+use crate::trees::{planted, planted_both};
 use page_pool::PageFault;
 use pmr_tree::Pmr;
 use sand_base::{Goal, Point, Rect, Shape};
@@ -96,13 +96,21 @@ fn joined(alloc: Global) -> Result<Found, PageFault> {
     pages.join(alloc, (&tree, TWO), (&tree, TWO), 5)
 }
 
+// The first pair of the rows of two trees.
+fn first_pair_of(
+    alloc: Global,
+    pages: &mut Readers,
+    left: &Pmr,
+    right: &Pmr,
+) -> Result<Found, PageFault> {
+    pages.semi(alloc, (left, ONE), (right, ABOVE_AND_BELOW), 1, 3)
+}
+
 // The first pair of one point with two others.
 fn first_pair(alloc: Global) -> Result<Found, PageFault> {
     let mut pool = OpenPool::start(alloc, 64)?;
-    let left = planted(alloc, &mut pool, 8, ONE, 1)?;
-    let right = planted(alloc, &mut pool, 8, ABOVE_AND_BELOW, 2)?;
-    let mut pages = pool.close(alloc);
-    pages.semi(alloc, (&left, ONE), (&right, ABOVE_AND_BELOW), 1, 3)
+    let (left, right) = planted_both(alloc, &mut pool, (ONE, 1), (ABOVE_AND_BELOW, 2))?;
+    first_pair_of(alloc, &mut pool.close(alloc), &left, &right)
 }
 
 const ORIGIN: Point = Point { x: 0, y: 0 };

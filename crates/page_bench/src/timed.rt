@@ -6,7 +6,7 @@ use crate::draws::Draws;
 use crate::open_pool::OpenPool;
 use crate::readers::Readers;
 use crate::shapes::Shapes;
-use crate::trees::planted;
+use crate::trees::{planted, planted_both};
 use crate::tuples;
 use page_pool::PageFault;
 use pmr_tree::Pmr;
@@ -108,8 +108,8 @@ fn ranked(alloc: Global, rows: u32) -> Result<u64, PageFault> {
 // Two trees in one pool, the second of points, segments and triangles.
 fn sides(alloc: Global, rows: u32) -> Result<(Readers, Pmr, Pmr), PageFault> {
     let mut pool = OpenPool::start(alloc, FRAMES)?;
-    let left = planted(alloc, &mut pool, 8, Shapes::Points, rows)?;
-    let right = planted(alloc, &mut pool, 8, Shapes::Mixed, rows)?;
+    let points = (Shapes::Points, rows);
+    let (left, right) = planted_both(alloc, &mut pool, points, (Shapes::Mixed, rows))?;
     Ok((pool.close(alloc), left, right))
 }
 

@@ -139,21 +139,42 @@ fn planted(pool: &mut Pool<ShyDisk>, threshold: u8) -> Result<Pmr, PageFault>
     Ok(tree)
 }
 
+// The tree in pages before the changes, with its pool.
+fn begun_in_pages(alloc: Global, course: Course) -> Result<(Pool<ShyDisk>, Pmr), PageFault>
+    ensures closed { IfOk result (λ both. IsClosed both.0) }
+    ensures untold { IfOk result (λ both. both.0.disk.told ≡ false) }
+{
+    let mut pool = untold_pool(alloc, FRAMES, course.fails)?;
+    let tree = planted(&mut pool, course.threshold.max(1).min(64))?;
+    Ok((pool, tree))
+}
+
+// A tree in pages beside a plain one, where none of the ids is there.
+fn beside(alloc: Global, pages: (Pool<ShyDisk>, Pmr), plain: PlainTree) -> Trial
+    requires closed { IsClosed pages.0 }
+    requires untold { pages.0.disk.told ≡ false }
+    ensures closed { IsClosed result.pool }
+    ensures untold { result.pool.disk.told ≡ false }
+{
+    let (pool, tree) = pages;
+    Trial {
+        pool,
+        tree,
+        plain,
+        there: BTreeSet::new(alloc),
+        same: true,
+        refused: 0,
+    }
+}
+
 // Both trees before the changes.
 fn begun(alloc: Global, course: Course) -> Result<Trial, PageFault>
     ensures closed { IfOk result (λ trial. IsClosed trial.pool) }
     ensures untold { IfOk result (λ trial. trial.pool.disk.told ≡ false) }
 {
-    let mut pool = untold_pool(alloc, FRAMES, course.fails)?;
-    let tree = planted(&mut pool, course.threshold.max(1).min(64))?;
-    Ok(Trial {
-        pool,
-        tree,
-        plain: plain(alloc, course.threshold)?,
-        there: BTreeSet::new(alloc),
-        same: true,
-        refused: 0,
-    })
+    let plain = plain(alloc, course.threshold)?;
+    let pages = begun_in_pages(alloc, course)?;
+    Ok(beside(alloc, pages, plain))
 }
 
 // Whether the trees are the same. False where the disk fails.

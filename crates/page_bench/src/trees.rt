@@ -126,3 +126,15 @@ pub fn planted(
     }
     Ok(tree)
 }
+
+/// Two trees of shapes in one pool, each of the ids up to its number.
+pub fn planted_both(
+    alloc: Global,
+    pool: &mut OpenPool,
+    left: (Shapes, u32),
+    right: (Shapes, u32),
+) -> Result<(Pmr, Pmr), PageFault> {
+    let first = planted(alloc, pool, 8, left.0, left.1)?;
+    let second = planted(alloc, pool, 8, right.0, right.1)?;
+    Ok((first, second))
+}

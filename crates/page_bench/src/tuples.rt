@@ -86,6 +86,16 @@ fn fetches_same(
     Ok(same(&row, twin.get(&id)))
 }
 
+// The least id in memory from this one on.
+fn least_from(twin: &Twin, id: u32) -> Option<u32> {
+    'ids: for key in twin.keys() {
+        if *key >= id {
+            return Some(*key);
+        }
+    }
+    None
+}
+
 // Whether both have the same least id from this one on.
 fn scans_same(
     pool: &mut OpenPool,
@@ -94,8 +104,7 @@ fn scans_same(
     id: u32,
 ) -> Result<bool, PageFault> {
     let found = pool.scan(file, id)?;
-    let other = twin.keys().find(|key| **key >= id);
-    Ok(found == other.copied())
+    Ok(found == least_from(twin, id))
 }
 
 // One drawn call; tells whether both answer the same.
