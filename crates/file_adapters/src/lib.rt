@@ -1,16 +1,25 @@
-//! The file system's edge: data files and a page file over the plain files of std.
+//! The edge of the program: data files and a page file over the plain files of std, the source and the sink over its
+//! readers and writers, and the outbox between these two.
 //!
 //! `FileShelf` is the shelf of a run, `ShellDisk` its disk: with a name it keeps the pages in that file, without one in
-//! memory. Each call of std that fails is one counted fault. Above: the program, whose `main` passes both to the top
-//! call. Below: `sand_base` and `page_pool`, whose traits `Shelf` and `Disk` carry the contracts.
-//! Contracts see what the opened file tells of its bytes (a file of the system tells nothing) and the count of faults,
-//! and of a disk the `DiskView`. Read `specs/Kept.antt` first.
+//! memory. `StdinSource` is where its script comes from, `StdoutSink` where its answers go. Each call of std that fails
+//! is one counted fault. An `Outbox` gathers the answers that an `OutboxWriter` writes, and a `PromptReader` hands them
+//! on before it reads more of the script. Above: the program, whose `main` passes all of them to the top call. Below:
+//! `sand_base` and `page_pool`, whose traits `Source`, `Sink`, `Shelf` and `Disk` carry the contracts.
+//! Contracts see what an opened file, a reader and a writer tell of their bytes (those of the system tell nothing) and
+//! the counts of faults, of a disk the `DiskView`, and of an outbox what is gathered. Read `specs/Kept.antt` first.
 #![tactic(auto)]
 
 mod file_shelf;
 mod kept;
+mod outbox;
 mod page_file;
 mod shell_disk;
+mod stdin_source;
+mod stdout_sink;
 
 pub use file_shelf::FileShelf;
+pub use outbox::{Outbox, OutboxWriter, PromptReader};
 pub use shell_disk::ShellDisk;
+pub use stdin_source::StdinSource;
+pub use stdout_sink::StdoutSink;

@@ -1,5 +1,7 @@
-ghost use Rattle.std.specs.Prelude.{◌≡◌};
+ghost use Rattle.std.specs.Prelude.{◌≡◌, [], false, is_err, IsTrue, IsErr, IfOk, OnOk};
 ghost use Rattle.std.specs.Io.{WritesAtMost};
+ghost use Rattle.std.specs.Io.KnownBytes.{Keeps, WriteAppends};
+ghost use Rattle.std.specs.Io.Buffered.{writer_buffer, writer_contents, writer_inner};
 
 use sand_base::{Failed, NoMemory};
 use std::alloc::Global;
@@ -16,7 +18,11 @@ pub struct Outbox<W: Write + Drop> {
 
 impl<W: Write + Drop> Outbox<W> {
     /// An empty outbox. It takes the memory of its bytes.
-    pub fn new(alloc: Global, output: W) -> Result<Outbox<W>, NoMemory> {
+    pub fn new(alloc: Global, output: W) -> Result<Outbox<W>, NoMemory>
+        ensures output { IfOk result (λ outbox. writer_inner outbox.gathered ≡ output) }
+        ensures empty { IfOk result (λ outbox. writer_buffer outbox.gathered ≡ []) }
+        ensures whole { IfOk result (λ outbox. outbox.is_broken ≡ false) }
+    {
         match BufWriter::new(alloc, output) {
             Ok(gathered) => Ok(Outbox {
                 gathered,
@@ -26,8 +32,14 @@ impl<W: Write + Drop> Outbox<W> {
         }
     }
 
-    /// Hands on all that is gathered.
-    pub fn hand_on(&mut self) -> Result<(), Failed> {
+    /// Hands on all that is gathered. After `Failed` the bytes that the output has not taken stay gathered, and the
+    /// outbox is broken: it hands nothing on any more.
+    pub fn hand_on(&mut self) -> Result<(), Failed>
+        ensures empty { OnOk result (writer_buffer self.new.gathered ≡ []) }
+        ensures kept { Keeps (writer_contents W.contents self.old.gathered) (writer_contents W.contents self.new.gathered) }
+        ensures broken { self.new.is_broken ≡ is_err result }
+        ensures stays { IsTrue self.old.is_broken → IsErr result }
+    {
         if self.is_broken || self.gathered.flush().is_err() {
             self.is_broken = true;
             return Err(Failed {});
@@ -38,6 +50,9 @@ impl<W: Write + Drop> Outbox<W> {
     // Gathers bytes from the front of the piece, and hands on what was gathered before where there is no room.
     fn gather(&mut self, piece: &[u8]) -> IoResult<usize>
         ensures bound { WritesAtMost result piece.now }
+        ensures bytes { WriteAppends (writer_contents W.contents self.old.gathered) (writer_contents W.contents self.new.gathered) result piece.now }
+        ensures broken { self.new.is_broken ≡ is_err result }
+        ensures stays { IsTrue self.old.is_broken → IsErr result }
     {
         if self.is_broken {
             return Err(Error::from(ErrorKind::BrokenPipe));
@@ -54,6 +69,7 @@ pub struct OutboxWriter<'o, W: Write + Drop> {
 }
 
 impl<'o, W: Write + Drop> OutboxWriter<'o, W> {
+    /// A writer into this outbox. Others may share it.
     pub fn new(outbox: &'o RefCell<Outbox<W>>) -> OutboxWriter<'o, W> {
         OutboxWriter { outbox }
     }
@@ -86,6 +102,7 @@ pub struct PromptReader<'o, R: Read + Drop, W: Write + Drop> {
 }
 
 impl<'o, R: Read + Drop, W: Write + Drop> PromptReader<'o, R, W> {
+    /// A reader of this input, which hands on what this outbox has gathered.
     pub fn new(input: R, outbox: &'o RefCell<Outbox<W>>) -> PromptReader<'o, R, W>
         ensures input { result.input ≡ input }
     {

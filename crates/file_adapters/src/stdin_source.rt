@@ -12,6 +12,7 @@ pub struct StdinSource<R: Read + Drop> {
 }
 
 impl<R: Read + Drop> StdinSource<R> {
+    /// A source of the bytes that this reader gives, with no fault so far.
     pub fn new(input: R) -> StdinSource<R>
         ensures input { result.input ≡ input }
         ensures faults { result.faults ≡ 0 }

@@ -1,5 +1,5 @@
 ghost use Rattle.std.specs.Prelude.{◌≡◌};
-ghost use Rattle.sand_shell.specs.Written.{AreHeld};
+ghost use Rattle.file_adapters.specs.Written.{AreHeld};
 
 use sand_base::{Failed, Sink};
 use std::io::Write;
@@ -13,6 +13,7 @@ pub struct StdoutSink<W: Write + Drop> {
 }
 
 impl<W: Write + Drop> StdoutSink<W> {
+    /// A sink into this writer, with no fault so far.
     pub fn new(output: W) -> StdoutSink<W>
         ensures output { result.output ≡ output }
         ensures faults { result.faults ≡ 0 }
