@@ -1,5 +1,5 @@
 -- Points, segments, texts and rings: their codes are prefix-free, and what stands in front of some bytes.
-use Rattle.std.proofs.Common.{◌≡◌, ℕ, ◌+◌, ◌*◌, ◌^◌, ◌<◌, ◌≤◌, List, [], ◌∷◌, ◌++◌, length, sym, refl, ap, ◌∙◌, arith, subst, append_assoc, length-append}
+use Rattle.std.proofs.Common.{◌≡◌, ℕ, ◌^◌, ◌<◌, List, [], ◌∷◌, ◌++◌, length, sym, refl, ap, ◌∙◌, arith, subst, append_assoc, length-append}
 use Rattle.std.specs.List.{flat_map, All}
 use Rattle.std.proofs.lemmas.List.Elements.{All-head, All-tail}
 use Rattle.std.proofs.lemmas.List.{nil_from_length}
@@ -8,11 +8,11 @@ use Rattle.sand_base.specs.declared.segment.Segment.{Segment}
 use Rattle.sand_base.specs.Plane.{IsInPlane, IsSegmentInPlane, IsRing}
 use Rattle.sand_base.specs.InRange.{IsTextInRange}
 use Rattle.tuple_codec.specs.Encoding.{coordinate_bytes, point_bytes, segment_bytes, ring_bytes, text_bytes}
-use Rattle.tuple_codec.specs.Front.{IsNoneInFront, Takes}
+use Rattle.tuple_codec.specs.Front.{IsNoneInFront}
 use Rattle.tuple_codec.proofs.PrefixFree.{IsPrefixFree, same_fronts, only, All-behind}
 use Rattle.tuple_codec.proofs.Numbers.{coordinates_free}
-use Rattle.tuple_codec.proofs.Pairs.{AreParts, first_of_two, none_first, none_second, both, pairs_free}
-use Rattle.tuple_codec.proofs.Lists.{HasRead, GoesOn, IsAll, begins, ends}
+use Rattle.tuple_codec.proofs.Pairs.{AreParts, first_of_two, none_second, pairs_free}
+use Rattle.tuple_codec.proofs.Lists.{HasRead, GoesOn, IsAll, ends}
 
 abbrev pub IsCoordinate : ℕ → Type 0
 IsCoordinate n = n < 2 ^ 32

@@ -14,3 +14,5 @@ pub mod Texts
 pub mod Sizes
 -- values and rows
 pub mod Rows
+-- values that are passed over
+pub mod Passes

@@ -1,7 +1,7 @@
 -- Many things one after another.
 use Rattle.std.proofs.Common.{◌≡◌, ℕ, List, [], ◌∷◌, ◌++◌, sym, refl, ap, ◌∙◌, append_assoc, append-nil}
 use Rattle.std.specs.List.{flat_map}
-use Rattle.std.proofs.lemmas.List.Concat.{flat_map-append, flat_map-cons}
+use Rattle.std.proofs.lemmas.List.Concat.{flat_map-append}
 use Rattle.tuple_codec.specs.Front.{IsNoneInFront}
 use Rattle.tuple_codec.proofs.PrefixFree.{IsPrefixFree, only}
 

@@ -1,5 +1,5 @@
 -- One thing after another: a code that is made of two.
-use Rattle.std.proofs.Common.{◌≡◌, ℕ, List, ◌++◌, sym, refl, ap, ◌∙◌, append_assoc}
+use Rattle.std.proofs.Common.{◌≡◌, ℕ, List, ◌++◌, sym, ap, ◌∙◌, append_assoc}
 use Rattle.tuple_codec.specs.Front.{IsNoneInFront}
 use Rattle.tuple_codec.proofs.PrefixFree.{IsPrefixFree, only}
 

@@ -1,6 +1,6 @@
 -- How long encodings are.
-use Rattle.std.proofs.Common.{◌≡◌, ℕ, ◌+◌, ◌*◌, List, [], ◌∷◌, ◌++◌, length, sym, refl, ap, ◌∙◌, arith, length-append}
-use Rattle.std.specs.List.{flat_map, sum_by}
+use Rattle.std.proofs.Common.{◌≡◌, ℕ, ◌+◌, ◌*◌, List, [], ◌∷◌, length, sym, refl, ap, ◌∙◌, arith, length-append}
+use Rattle.std.specs.List.{flat_map}
 use Rattle.std.proofs.lemmas.List.Sums.{sum_by-cons}
 use Rattle.sand_base.specs.declared.point.Point.{Point}
 use Rattle.sand_base.specs.declared.shape.Shape.TheVariants as shape
@@ -16,12 +16,12 @@ length-point p =
     omega (arith, length-append (coordinate_bytes p.x) (coordinate_bytes p.y), length-coordinate_bytes p.x, length-coordinate_bytes p.y)
 
 -- and each of many does
-length-points : (ps : List Point) → length (flat_map point_bytes ps) ≡ 8 * length ps
+pub length-points : (ps : List Point) → length (flat_map point_bytes ps) ≡ 8 * length ps
 length-points [] = refl
 length-points (p ∷ ps) = omega (arith, length-append (point_bytes p) (flat_map point_bytes ps), length-point p, length-points ps)
 
 -- a value takes as many bytes as its size says
-length-value : (v : Value) → length (value_bytes v) ≡ value_size v
+pub length-value : (v : Value) → length (value_bytes v) ≡ value_size v
 length-value (value.Int n) = length-int_bytes n
 length-value (value.Text bytes) = omega arith
 length-value (value.Shape (shape.Point p)) = length-point p

@@ -1,10 +1,12 @@
 ghost use Rattle.std.specs.Prelude.{◌≡◌, List, Some, IfSome, IfOk};
 ghost use Rattle.sand_base.specs.declared.value.Value.{Value as Held};
+ghost use Rattle.sand_model.specs.Database.{element};
 ghost use Rattle.tuple_codec.specs.Decoding.{IsEncodingOf};
 
+use crate::pass::pass_value;
 use crate::reader::Reader;
-use crate::values::read_values;
-use sand_base::{NoMemory, Row, Schema};
+use crate::values::{read_value, read_values};
+use sand_base::{NoMemory, Row, Schema, Value};
 use std::alloc::Global;
 
 /// The row of the schema of which the bytes are the encoding, or None where they are the encoding of none.
@@ -20,4 +22,28 @@ pub fn decode(alloc: Global, schema: &Schema, bytes: &[u8]) -> Result<Option<Row
         return Ok(None);
     }
     Ok(Some(Row::new(values)))
+}
+
+/// The value that the row of the schema of which the bytes are the encoding has in a column, or None where the
+/// schema has no such column. What stands before the value is passed over, and what stands behind it isn't read.
+pub fn decode_value(
+    alloc: Global,
+    schema: &Schema,
+    bytes: &[u8],
+    column: usize,
+) -> Result<Option<Value>, NoMemory>
+    ensures { IfOk result (λ found. (row : List Held) → IsEncodingOf schema.now row bytes.now → found ≡ element row column) }
+{
+    let columns = schema.columns();
+    let Some((_, kind)) = columns.get(column) else {
+        return Ok(None);
+    };
+    let mut reader = Reader::over(bytes);
+    'columns: for (_, before) in &columns[..column] {
+        if !pass_value(&mut reader, *before) {
+            return Ok(None);
+        }
+    }
+    let found = read_value(alloc, &mut reader, *kind)?;
+    Ok(found)
 }

@@ -14,13 +14,14 @@ mod encoder;
 mod fault;
 mod figures;
 mod laws;
+mod pass;
 mod reader;
 mod size;
 mod text;
 mod values;
 mod write;
 
-pub use decoder::decode;
+pub use decoder::{decode, decode_value};
 pub use encoder::encode;
 pub use fault::CodecFault;
 pub use laws::rows_with_one_encoding_are_one;

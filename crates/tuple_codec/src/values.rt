@@ -12,7 +12,11 @@ use sand_base::{Kind, Label, NoMemory, Shape, Value};
 use std::alloc::Global;
 
 // A value of the kind.
-fn read_value(alloc: Global, reader: &mut Reader, kind: Kind) -> Result<Option<Value>, NoMemory>
+pub(crate) fn read_value(
+    alloc: Global,
+    reader: &mut Reader,
+    kind: Kind,
+) -> Result<Option<Value>, NoMemory>
     ensures { IfOk result (λ found. Takes (IsValueOf kind) value_bytes reader.old.left.now found reader.new.left.now) }
 {
     match kind {

@@ -1,7 +1,5 @@
 -- What the loop over the vertices keeps.
 use Rattle.std.proofs.Common.{◌≡◌, length}
-use Rattle.sand_base.specs.Plane.{IsInPlane}
-use Rattle.std.specs.List.{All}
 use Rattle.tuple_codec.specs.Encoding.{point_bytes}
 use Rattle.tuple_codec.proofs.Lists.{HasRead}
 use Rattle.tuple_codec.proofs.Corners.{AreInClosedPlane}

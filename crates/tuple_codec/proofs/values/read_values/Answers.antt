@@ -1,5 +1,5 @@
 -- Why a row stands in front, or none does.
-use Rattle.std.proofs.Common.{◌≡◌, [], ◌∷◌, ◌++◌, ap, map, ◌∙◌, arith}
+use Rattle.std.proofs.Common.{[], ◌∷◌, ◌++◌, ap, map, ◌∙◌}
 use Rattle.std.proofs.lemmas.List.Elements.{All-nil, All-push, All-same}
 use Rattle.sand_base.specs.InRange.{IsValueInRange}
 use Rattle.sand_base.specs.Shape.{value_kind}

@@ -1,5 +1,4 @@
 -- Why a coordinate stands in front, or none does.
-use Rattle.std.specs.Prelude.{◌<◌}
 use Rattle.tuple_codec.specs.Encoding.{coordinate_bytes}
 use Rattle.tuple_codec.proofs.Numbers.{coordinate_short, front_is}
 use Rattle.tuple_codec.proofs.reader.Reader.coordinate.Goals as goal
