@@ -1,7 +1,6 @@
 ghost use Rattle.std.specs.Prelude.{◌≡◌, List, Some, IfSome, IfOk};
 ghost use Rattle.sand_base.specs.declared.value.Value.{Value as Held};
-ghost use Rattle.sand_model.specs.Database.{element};
-ghost use Rattle.tuple_codec.specs.Decoding.{IsEncodingOf};
+ghost use Rattle.tuple_codec.specs.Decoding.{IsEncodingOf, IsValueIn};
 
 use crate::pass::pass_value;
 use crate::reader::Reader;
@@ -32,7 +31,7 @@ pub fn decode_value(
     bytes: &[u8],
     column: usize,
 ) -> Result<Option<Value>, NoMemory>
-    ensures { IfOk result (λ found. (row : List Held) → IsEncodingOf schema.now row bytes.now → found ≡ element row column) }
+    ensures { IfOk result (λ value. IsValueIn schema.now bytes.now column value) }
 {
     let columns = schema.columns();
     let Some((_, kind)) = columns.get(column) else {
@@ -44,6 +43,6 @@ pub fn decode_value(
             return Ok(None);
         }
     }
-    let found = read_value(alloc, &mut reader, *kind)?;
-    Ok(found)
+    let value = read_value(alloc, &mut reader, *kind)?;
+    Ok(value)
 }

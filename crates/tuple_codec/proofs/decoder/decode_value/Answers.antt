@@ -31,6 +31,6 @@ returns c = λ row enc.
     let v = value_in_column columns c.args.schema.now column c.in-Some.field-0.now c.args.bytes.now c.columns-columns.ensures look.3.0 look.1
     row enc in
     let at = at_column columns column c.columns.before-index look.3.0 c.columns-test.false c.columns.auto.before-index-end in
-    found_there c.in-Some.field-0.now.1 v.0 c.columns.reader.left.now c.read_value.new.reader.left.now (encoding (drop (column + 1) row)) c.in_ok-found.found v.1.is
-    (c.columns.invariant row enc ∙ ap (λ n. encoding (drop n row)) at ∙ v.1.ahead) c.in_ok-found.ensures
+    found_there c.in-Some.field-0.now.1 v.0 c.columns.reader.left.now c.read_value.new.reader.left.now (encoding (drop (column + 1) row)) c.in_ok-value.value v.1.is
+    (c.columns.invariant row enc ∙ ap (λ n. encoding (drop n row)) at ∙ v.1.ahead) c.in_ok-value.ensures
     ∙ sym v.1.here
