@@ -1,9 +1,9 @@
--- A row that is fetched, and the least id.
-use Rattle.std.proofs.Common.{◌≡◌, ℕ, List, sym, ◌∙◌, ap, subst}
-use Rattle.std.specs.Prelude.{Option, None, Some, option_map, IfSome}
+-- A row that is fetched, a value of it, and the least id.
+use Rattle.std.proofs.Common.{◌≡◌, ℕ, List, refl, sym, ◌∙◌, ap, subst}
+use Rattle.std.specs.Prelude.{Option, None, Some, option_map, IfSome, MatchOption}
 use Rattle.sand_base.specs.declared.kind.Kind.{Kind}
 use Rattle.sand_base.specs.declared.value.Value.{Value}
-use Rattle.tuple_codec.specs.Decoding.{IsEncodingOf}
+use Rattle.tuple_codec.specs.Decoding.{IsEncodingOf, IsValueIn}
 use Rattle.code_btree.specs.Node.{Pair}
 use Rattle.code_btree.specs.Items.{find_item, ceiling_item}
 use Rattle.code_btree.specs.Tree.{Store, tree_items}
@@ -11,7 +11,7 @@ use Rattle.tuple_file.specs.declared.file.TupleFile.{TupleFile}
 use Rattle.tuple_file.specs.Page.{tuple_at}
 use Rattle.tuple_file.specs.Rows.{of_id, least_from}
 use Rattle.tuple_file.specs.File.{bytes_of, page_of, slot_of, tuple_of, file_rows}
-use Rattle.tuple_file.specs.Calls.{IsDecoded, IsRowAt}
+use Rattle.tuple_file.specs.Calls.{IsDecoded, IsRowAt, IsValueAt}
 use Rattle.tuple_file.proofs.Counts.{none_some}
 use Rattle.tuple_file.proofs.Lists.{tuples_find, tuples_least}
 use Rattle.tuple_file.proofs.Houses.{tuple_here}
@@ -30,15 +30,21 @@ row_here schema rows id tuple None e h = λ bytes row at is.
     h row (subst P (sym at ∙ e) is)
 row_here schema rows id tuple (Some row) e h = (tuple, (e, h))
 
+-- the bytes of the id, where the tree leads to them, and where it doesn't
+bytes_here : (m : Store) (f : TupleFile) (id v n slot : ℕ) → Some v ≡ find_item id (tree_items m f.tree) → n ≡ page_of v → slot ≡ slot_of v → of_id id (file_rows m f) ≡ Some (tuple_at (bytes_of (m n)) slot)
+bytes_here m f id v n slot e en es =
+    tuples_find m id (tree_items m f.tree) ∙ (ap (λ (o : Option ℕ). option_map (λ k. tuple_of m k) o) (sym e) ∙ ap (λ (b : List ℕ). Some b) (tuple_here m v n slot (sym en) (sym es)))
+
+bytes_absent : (m : Store) (f : TupleFile) (id : ℕ) → None ≡ find_item id (tree_items m f.tree) → of_id id (file_rows m f) ≡ None
+bytes_absent m f id e = tuples_find m id (tree_items m f.tree) ∙ ap (λ (o : Option ℕ). option_map (λ k. tuple_of m k) o) (sym e)
+
 pub row_found : (schema : List (List ℕ × Kind)) (m : Store) (f : TupleFile) (id v n slot : ℕ) (found : Option (List Value))
     → Some v ≡ find_item id (tree_items m f.tree) → n ≡ page_of v → slot ≡ slot_of v → IsDecoded schema (tuple_at (bytes_of (m n)) slot) found → IsRowAt schema (file_rows m f) id found
 row_found schema m f id v n slot found e en es h =
-    row_here schema (file_rows m f) id (tuple_at (bytes_of (m n)) slot) found
-    (tuples_find m id (tree_items m f.tree) ∙ (ap (λ (o : Option ℕ). option_map (λ k. tuple_of m k) o) (sym e) ∙ ap (λ (b : List ℕ). Some b) (tuple_here m v n slot (sym en) (sym es)))) h
+    row_here schema (file_rows m f) id (tuple_at (bytes_of (m n)) slot) found (bytes_here m f id v n slot e en es) h
 
 pub row_absent : (schema : List (List ℕ × Kind)) (m : Store) (f : TupleFile) (id : ℕ) → None ≡ find_item id (tree_items m f.tree) → IsRowAt schema (file_rows m f) id None
-row_absent schema m f id e = λ bytes row at is.
-    none_some bytes (sym at ∙ (tuples_find m id (tree_items m f.tree) ∙ ap (λ (o : Option ℕ). option_map (λ k. tuple_of m k) o) (sym e)))
+row_absent schema m f id e = λ bytes row at is. none_some bytes (sym at ∙ bytes_absent m f id e)
 
 pub least_is : (m : Store) (f : TupleFile) (from : ℕ) (o : Option Pair) → o ≡ ceiling_item from (tree_items m f.tree) → option_map (λ (e : Pair). e.0) o ≡ least_from from (file_rows m f)
 least_is m f from o e = ap (λ (p : Option Pair). option_map (λ (i : Pair). i.0) p) e ∙ sym (tuples_least m from (tree_items m f.tree))
@@ -55,3 +61,17 @@ row_absent_by schema m f id key place ek e is = row_absent schema m f id (sym is
 
 pub least_by : (m : Store) (f : TupleFile) (from key : ℕ) (o : Option Pair) (given : Option ℕ) → key ≡ from → o ≡ ceiling_item key (tree_items m f.tree) → option_map (λ (e : Pair). e.0) o ≡ given → given ≡ least_from from (file_rows m f)
 least_by m f from key o given ek e is = sym is ∙ least_is m f from o (e ∙ ap (λ (k : ℕ). ceiling_item k (tree_items m f.tree)) ek)
+
+-- the value in a column of the row of the id, and none where the id isn't there
+pub value_found_by : (schema : List (List ℕ × Kind)) (m x : Store) (f : TupleFile) (id key v n slot column : ℕ) (place : Option ℕ) (found : Option Value) → key ≡ id → x ≡ m
+    → place ≡ find_item key (tree_items m f.tree) → place ≡ Some v → n ≡ page_of v → slot ≡ slot_of v → IsValueIn schema (tuple_at (bytes_of (x n)) slot) column found → IsValueAt schema (file_rows m f) id column found
+value_found_by schema m x f id key v n slot column place found ek ex e is en es h =
+    let V : Store → Type 0 = λ s. IsValueIn schema (tuple_at (bytes_of (s n)) slot) column found in
+    let P : Option (List ℕ) → Type 0 = λ o. MatchOption o (found ≡ None) (λ bytes. IsValueIn schema bytes column found) in
+    subst P (sym (bytes_here m f id v n slot (sym is ∙ (e ∙ ap (λ (k : ℕ). find_item k (tree_items m f.tree)) ek)) en es)) (subst V ex h)
+
+pub value_absent_by : (schema : List (List ℕ × Kind)) (m : Store) (f : TupleFile) (id key column : ℕ) (place : Option ℕ) → key ≡ id → place ≡ find_item key (tree_items m f.tree) → place ≡ None → IsValueAt schema (file_rows m f) id column None
+value_absent_by schema m f id key column place ek e is =
+    let none : Option Value = None in
+    let P : Option (List ℕ) → Type 0 = λ o. MatchOption o (none ≡ None) (λ bytes. IsValueIn schema bytes column none) in
+    subst P (sym (bytes_absent m f id (sym is ∙ (e ∙ ap (λ (k : ℕ). find_item k (tree_items m f.tree)) ek)))) refl

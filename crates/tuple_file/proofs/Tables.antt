@@ -1,17 +1,17 @@
 -- Rows and their encodings, by id.
 use Rattle.std.proofs.Common.{◌≡◌, ℕ, ◌<◌, Bool, true, false, cond, List, [], ◌∷◌, ◌++◌, refl, sym, ◌∙◌, ap, ap₂, subst, arith}
-use Rattle.std.specs.Prelude.{Option, None, Some, nat_lt, nat_eq, not, option_map, IfSome}
+use Rattle.std.specs.Prelude.{Option, None, Some, nat_lt, nat_eq, not, option_map, IfSome, MatchOption}
 use Rattle.std.specs.List.{All, filter, find}
 use Rattle.std.proofs.lemmas.List.{map-append}
 use Rattle.std.proofs.lemmas.List.Elements.{All-tail}
 use Rattle.sand_base.specs.declared.kind.Kind.{Kind}
 use Rattle.sand_base.specs.declared.value.Value.{Value}
 use Rattle.tuple_codec.specs.Encoding.{encoding}
-use Rattle.tuple_codec.specs.Decoding.{IsRowFor, IsEncodingOf}
+use Rattle.tuple_codec.specs.Decoding.{IsRowFor, IsEncodingOf, HasValue, IsValueIn}
 use Rattle.tuple_codec.proofs.Rows.{one_encoding}
 use Rattle.code_btree.proofs.Orders.{lt_is, lt_not}
 use Rattle.tuple_file.specs.Rows.{of_id, with_id, without_id}
-use Rattle.tuple_file.specs.Calls.{IsRowAt}
+use Rattle.tuple_file.specs.Calls.{IsRowAt, IsValueAt}
 use Rattle.tuple_file.proofs.Counts.{none_some}
 use Rattle.tuple_file.specs.Table.{encodings, AreRowsFor}
 
@@ -60,6 +60,18 @@ same_answer schema rows id (Some r) (Some s) e is h =
 
 pub fetched : (schema : List (List ℕ × Kind)) (table : List (ℕ × List Value)) (id : ℕ) (found : Option (List Value)) → AreRowsFor schema table → IsRowAt schema (encodings table) id found → found ≡ of_id id table
 fetched schema table id found all h = same_answer schema (encodings table) id (of_id id table) found (encodings-find id table) (row_for schema id table all) h
+
+-- the value of an encoding is that of its row
+value_of_row : (schema : List (List ℕ × Kind)) (row : Option (List Value)) (column : ℕ) (value : Option Value) → IfSome row (λ r. IsRowFor schema r)
+    → MatchOption (option_map encoding row) (value ≡ None) (λ bytes. IsValueIn schema bytes column value) → MatchOption row (value ≡ None) (λ r. HasValue r column value)
+value_of_row schema None column value is h = h
+value_of_row schema (Some r) column value is h = h r (record { fitting = is; encoded = refl })
+
+pub value_fetched : (schema : List (List ℕ × Kind)) (table : List (ℕ × List Value)) (id column : ℕ) (value : Option Value) → AreRowsFor schema table → IsValueAt schema (encodings table) id column value
+    → MatchOption (of_id id table) (value ≡ None) (λ row. HasValue row column value)
+value_fetched schema table id column value all h =
+    let P : Option (List ℕ) → Type 0 = λ o. MatchOption o (value ≡ None) (λ bytes. IsValueIn schema bytes column value) in
+    value_of_row schema (of_id id table) column value (row_for schema id table all) (subst P (encodings-find id table) h)
 
 -- an id above all others
 all_below : (id : ℕ) (rows : List (ℕ × List ℕ)) → All (λ r. r.0 < id) rows → (filter (λ r. nat_lt r.0 id) rows ≡ rows) × (filter (λ r. nat_lt id r.0) rows ≡ [])

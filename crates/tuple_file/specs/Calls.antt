@@ -2,7 +2,7 @@
 use Rattle.std.specs.Prelude.{◌≡◌, ℕ, ◌≤◌, List, [], length, Option, None, Some, is_some, option_map, Bool, MatchOption}
 use Rattle.sand_base.specs.declared.kind.Kind.{Kind}
 use Rattle.sand_base.specs.declared.value.Value.{Value}
-use Rattle.tuple_codec.specs.Decoding.{IsEncodingOf}
+use Rattle.tuple_codec.specs.Decoding.{IsEncodingOf, IsValueIn}
 use Rattle.code_btree.specs.Items.{find_item}
 use Rattle.code_btree.specs.Tree.{Store, tree_items, times}
 use Rattle.code_btree.specs.Calls.{Keeps}
@@ -43,6 +43,11 @@ abbrev pub IsRowAt : List (List ℕ × Kind) → List (ℕ × List ℕ) → ℕ 
 IsRowAt schema rows id found =
     MatchOption found ((bytes : List ℕ) (row : List Value) → of_id id rows ≡ Some bytes → IsEncodingOf schema row bytes → ⊥)
     (λ row. (bytes : List ℕ) × ((of_id id rows ≡ Some bytes) × IsEncodingOf schema row bytes))
+
+-- The value is the one that the row of the schema of which the bytes of the id are the encoding has in the column; or the id isn't there, and none was found.
+abbrev pub IsValueAt : List (List ℕ × Kind) → List (ℕ × List ℕ) → ℕ → ℕ → Option Value → Type 0
+IsValueAt schema rows id column value =
+    MatchOption (of_id id rows) (value ≡ None) (λ bytes. IsValueIn schema bytes column value)
 
 -- the file is in w what it is in m: its list, its pages, and that it is a file
 pub record Unmoved (m w : Store) (f : TupleFile) : Type 0 where

@@ -6,14 +6,14 @@ ghost use Rattle.code_btree.specs.Tree.{pages_in};
 ghost use Rattle.code_btree.specs.Calls.{Looks};
 ghost use Rattle.tuple_file.specs.Rows.{of_id, least_from};
 ghost use Rattle.tuple_file.specs.File.{IsFile, file_rows};
-ghost use Rattle.tuple_file.specs.Calls.{Planted, Put, Taken, IsRowAt};
+ghost use Rattle.tuple_file.specs.Calls.{Planted, Put, Taken, IsRowAt, IsValueAt};
 
 use crate::place::{place_of, spot_of};
-use crate::row::row_at;
+use crate::row::{row_at, value_at};
 use crate::steps::{empty, settle};
 use code_btree::Tree;
 use page_pool::{Disk, PageFault, Pages, Pool};
-use sand_base::{Row, Schema};
+use sand_base::{Row, Schema, Value};
 use std::alloc::Global;
 
 /// A list of (id, bytes) by id in pages: the tree from the ids to the places of the tuples, and the page into
@@ -114,6 +114,30 @@ impl TupleFile {
         };
         let row = row_at(alloc, pages, schema, page, slot)?;
         Ok(row)
+    }
+
+    /// The value in a column of the row of the schema of which the bytes of the id are the encoding, without the
+    /// rest of the row. `None` comes where the id isn't there, or the schema has no such column.
+    pub fn fetch_value<P: Pages>(
+        &self,
+        alloc: Global,
+        pages: &mut P,
+        schema: &Schema,
+        id: u32,
+        column: usize,
+    ) -> Result<Option<Value>, PageFault>
+        requires { IsTold (P.shown pages.old) → IsFile (pages_in (P.shown pages.old)) self.now }
+        ensures value { IfOk result (λ value. IsTold (P.shown pages.old) → IsValueAt schema.now (file_rows (pages_in (P.shown pages.old)) self.now) id column value) }
+        ensures looks { Looks (P.shown pages.old) (P.shown pages.new) (self.now.tree.height + 1) result }
+    {
+        let Some(place) = self.tree.get(pages, u128::from(id))? else {
+            return Ok(None);
+        };
+        let Some((page, slot)) = spot_of(place) else {
+            return Err(PageFault::Memory);
+        };
+        let value = value_at(alloc, pages, schema, page, slot, column)?;
+        Ok(value)
     }
 
     /// The least id not below this one.

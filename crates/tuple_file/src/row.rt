@@ -2,15 +2,16 @@ ghost use Rattle.std.specs.Prelude.{IfOk};
 ghost use Rattle.page_pool.specs.Pool.{IsTold};
 ghost use Rattle.code_btree.specs.Tree.{pages_in};
 ghost use Rattle.code_btree.specs.Calls.{Looks};
+ghost use Rattle.tuple_codec.specs.Decoding.{IsValueIn};
 ghost use Rattle.tuple_file.specs.Page.{tuple_at};
 ghost use Rattle.tuple_file.specs.File.{bytes_of};
 ghost use Rattle.tuple_file.specs.Calls.{IsDecoded};
 
 use crate::page::tuple_of;
 use page_pool::{PageFault, Pages};
-use sand_base::{Row, Schema};
+use sand_base::{Row, Schema, Value};
 use std::alloc::Global;
-use tuple_codec::decode;
+use tuple_codec::{decode, decode_value};
 
 /// The row of which the tuple of a slot of page `n` is the encoding: one get.
 pub fn row_at<P: Pages>(
@@ -26,4 +27,21 @@ pub fn row_at<P: Pages>(
     let page = pages.live_page(n)?;
     let row = decode(alloc, schema, tuple_of(page, slot))?;
     Ok(row)
+}
+
+/// The value in a column of the row of which the tuple of a slot of page `n` is the encoding: one get.
+pub fn value_at<P: Pages>(
+    alloc: Global,
+    pages: &mut P,
+    schema: &Schema,
+    n: u64,
+    slot: u16,
+    column: usize,
+) -> Result<Option<Value>, PageFault>
+    ensures value { IfOk result (λ value. IsTold (P.shown pages.old) → IsValueIn schema.now (tuple_at (bytes_of (pages_in (P.shown pages.old) n)) slot) column value) }
+    ensures looks { Looks (P.shown pages.old) (P.shown pages.new) 1 result }
+{
+    let page = pages.live_page(n)?;
+    let value = decode_value(alloc, schema, tuple_of(page, slot), column)?;
+    Ok(value)
 }
