@@ -17,7 +17,7 @@ use work_gen::Workload;
 // Prints the statement of a line.
 fn print(rt: &(impl Print + AllocGlobal), line: &[u8]) -> io::Result<()> {
     match &form(rt.alloc(), line) {
-        Some(form) => rt.println(format_args!("  {}", text_of(&form.bytes))),
+        Some(bytes) => rt.println(format_args!("  {}", text_of(bytes))),
         None => rt.println(format_args!("  memory was short")),
     }
 }

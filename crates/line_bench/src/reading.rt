@@ -34,42 +34,22 @@ pub fn says(alloc: Global, line: &[u8]) -> Outcome {
     }
 }
 
-/// The printed form of a statement, and how deep the plan of a `show` is, read from its copy.
-#[derive(Drop)]
-pub struct Printed {
-    pub bytes: Vec<u8>,
-    pub depth: Option<usize>,
-}
-
-// How deep a plan is.
-fn depth(plan: Option<&Plan>) -> Option<usize> {
-    Some(plan?.depth())
-}
-
-// How deep the plan of a `show` is, read from its copy.
-fn depth_of_copy(alloc: Global, statement: &Statement) -> Option<usize> {
-    let Statement::Show { plan, .. } = statement else {
-        return None;
-    };
-    depth(plan.copy(alloc).ok().as_ref())
-}
-
-// The form of a statement.
-fn form_of(alloc: Global, statement: &Statement) -> Option<Printed> {
-    let depth = depth_of_copy(alloc, statement);
-    let bytes = print_statement(alloc, statement).ok()?;
-    Some(Printed { bytes, depth })
-}
-
-/// The form of the statement that a line writes.
-pub fn form(alloc: Global, line: &[u8]) -> Option<Printed> {
+// The statement that a line writes.
+fn statement(alloc: Global, line: &[u8]) -> Option<Statement> {
     if line.len() > LONGEST_LINE {
         return None;
     }
-    match &parse_line(alloc, line) {
-        Ok(Some(statement)) => form_of(alloc, statement),
-        _ => None,
-    }
+    parse_line(alloc, line).ok().flatten()
+}
+
+// The printed form of a statement.
+fn printed(alloc: Global, statement: Option<&Statement>) -> Option<Vec<u8>> {
+    print_statement(alloc, statement?).ok()
+}
+
+/// The printed form of the statement that a line writes.
+pub fn form(alloc: Global, line: &[u8]) -> Option<Vec<u8>> {
+    printed(alloc, statement(alloc, line).as_ref())
 }
 
 /// What a field of a column is, in a word.
@@ -112,10 +92,33 @@ fn nested(alloc: Global, depth: usize) -> Option<Vec<u8>> {
     Some(line)
 }
 
-// The depth of a line's plan, and in how many bytes the statement is printed.
+// How deep a plan is.
+fn depth(plan: Option<&Plan>) -> Option<usize> {
+    Some(plan?.depth())
+}
+
+// How deep the plan of a `show` is, read from its copy.
+fn depth_of_copy(alloc: Global, statement: Option<&Statement>) -> Option<usize> {
+    let Some(Statement::Show { plan, .. }) = statement else {
+        return None;
+    };
+    depth(plan.copy(alloc).ok().as_ref())
+}
+
+// How deep the plan of a line is.
+fn depth_of(alloc: Global, line: &[u8]) -> Option<usize> {
+    depth_of_copy(alloc, statement(alloc, line).as_ref())
+}
+
+// In how many bytes the statement of a line is printed.
+fn size_of(alloc: Global, line: &[u8]) -> Option<usize> {
+    let text = form(alloc, line)?;
+    Some(text.len())
+}
+
+// Both of a line.
 fn depth_and_size(alloc: Global, line: &[u8]) -> Option<(usize, usize)> {
-    let form = form(alloc, line)?;
-    Some((form.depth?, form.bytes.len()))
+    Some((depth_of(alloc, line)?, size_of(alloc, line)?))
 }
 
 /// How deep the deepest plan is that a line can hold, read from its copy, and how many bytes its statement is printed in.
