@@ -1,16 +1,18 @@
 -- The shapes of a column, by the ids of their rows.
 use Rattle.std.proofs.Common.{◌≡◌, ℕ, Bool, true, false, cond, nat_eq, List, [], ◌∷◌, refl, sym, ◌∙◌, ap, Option, Some, None, true≢false}
-use Rattle.std.specs.Prelude.{is_some}
+use Rattle.std.specs.Prelude.{is_some, MatchOption}
 use Rattle.std.specs.List.{find}
 use Rattle.std.specs.Option.{option_map}
 use Rattle.sand_base.specs.declared.kind.Kind.{Kind}
 use Rattle.sand_base.specs.declared.shape.Shape.{Shape}
 use Rattle.sand_base.specs.declared.value.Value.{Value}
-use Rattle.sand_model.specs.Database.{shape_in, shapes_of, shape_at}
+use Rattle.sand_base.specs.declared.value.Value.TheVariants as value
+use Rattle.sand_model.specs.Database.{element, shape_in, shapes_of, shape_at}
+use Rattle.tuple_codec.specs.Decoding.{HasValue}
 use Rattle.tuple_file.specs.Rows.{of_id}
-use Rattle.tuple_file.specs.Calls.{IsRowAt}
+use Rattle.tuple_file.specs.Calls.{IsValueAt}
 use Rattle.tuple_file.specs.Table.{encodings, AreRowsFor}
-use Rattle.tuple_file.proofs.Tables.{fetched}
+use Rattle.tuple_file.proofs.Tables.{value_fetched}
 
 -- the row of an id
 abbrev Rows : Type 0
@@ -44,7 +46,15 @@ shape_of_row (row ∷ rows) column id vs s e h =
     go (nat_eq row.0 id) refl e
 
 -- the shape that was read is that of the id
-pub shape_fetched : (schema : List (List ℕ × Kind)) (rows : Rows) (column id : ℕ) (found : Option (List Value)) (vs : List Value) (x s : Shape) → AreRowsFor schema rows
-    → IsRowAt schema (encodings rows) id found → found ≡ Some vs → shape_in column vs ≡ Some x → shape_at (shapes_of column rows) id ≡ Some s → x ≡ s
-shape_fetched schema rows column id found vs x s all row is shape at =
-    some_same x s (sym (shape_of_row rows column id vs x (sym (fetched schema rows id found all row) ∙ is) shape) ∙ at)
+pub shape_fetched : (schema : List (List ℕ × Kind)) (rows : Rows) (column id : ℕ) (found : Option Value) (x s : Shape) → AreRowsFor schema rows
+    → IsValueAt schema (encodings rows) id column found → found ≡ Some (value.Shape x) → shape_at (shapes_of column rows) id ≡ Some s → x ≡ s
+shape_fetched schema rows column id found x s all read is at =
+    let go : (o : Option (List Value)) → of_id id rows ≡ o → MatchOption o (found ≡ None) (λ vs. HasValue vs column found) → x ≡ s =
+    elim [
+      | None ↦ λ e none. absurd (none_some (value.Shape x) (sym none ∙ is))
+      | Some vs ↦ λ e has.
+          let there : element vs column ≡ Some (value.Shape x) = sym has ∙ is in
+          let shape : shape_in column vs ≡ Some x = rw there refl in
+          some_same x s (sym (shape_of_row rows column id vs x e shape) ∙ at)
+    ] in
+    go (of_id id rows) refl (value_fetched schema rows id column found all read)

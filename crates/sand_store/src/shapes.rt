@@ -1,8 +1,8 @@
 // Where trees read the shapes of rows, in the middle of a change and for readers.
-ghost use Rattle.std.specs.Prelude.{◌≡◌, ◌↔◌, List, true, Some, IfOk, IfErr, option_map};
+ghost use Rattle.std.specs.Prelude.{◌≡◌, ◌↔◌, true, Some, IfOk, IfErr, option_map};
 ghost use Rattle.sand_base.specs.Grid.{IsInPlane};
 ghost use Rattle.sand_base.specs.Plane.{IsShapeInPlane};
-ghost use Rattle.sand_base.specs.declared.value.Value.{Value as Held};
+ghost use Rattle.sand_base.specs.declared.value.Value.TheVariants as held;
 ghost use Rattle.sand_model.specs.Database.{element, shape_in};
 ghost use Rattle.page_pool.specs.Causes.{IsMemory};
 
@@ -47,23 +47,20 @@ pub fn shape_at<'r>(row: &'r Row, column: usize) -> Option<&'r Shape>
     }
 }
 
-// A copy of the shape that a row has in a column. Where there is none, or it lies outside the plane, it is out of
-// memory: no row of a store over a disk that tells is so.
-fn shape_of_row(alloc: Global, row: Option<Row>, column: usize) -> Result<Shape, PageFault>
-    ensures value { IfOk result (λ shape. (values : List Held) × ((row ≡ Some values) × (shape_in column values ≡ Some shape))) }
+// The shape that a value is. Where it is none, or it lies outside the plane, it is out of memory: no row of a store
+// over a disk that tells is so.
+fn shape_of_value(value: Option<Value>) -> Result<Shape, PageFault>
+    ensures value { IfOk result (λ shape. value ≡ Some (held.Shape shape)) }
     ensures plane { IfOk result IsShapeInPlane }
     ensures memory { IfErr result IsMemory }
 {
-    let Some(row) = row else {
+    let Some(Value::Shape(shape)) = value else {
         return Err(PageFault::Memory);
     };
-    let Some(Value::Shape(shape)) = row.values().get(column) else {
-        return Err(PageFault::Memory);
-    };
-    if !is_shape_in_plane(shape) {
+    if !is_shape_in_plane(&shape) {
         return Err(PageFault::Memory);
     }
-    Ok(shape.copy(alloc)?)
+    Ok(shape)
 }
 
 /// The shapes that the rows of a file have in a column.
@@ -100,8 +97,10 @@ impl<'s> ShapeOf for FileShapes<'s> {
     ) -> Result<Shape, PageFault> {
         // For the proof alone: a count of gets is at most the greatest u64, so it doesn't fall.
         let _before = pages.gets();
-        let row = self.file.fetch(alloc, pages, self.schema, id)?;
-        match shape_of_row(alloc, row, self.column) {
+        let value = self
+            .file
+            .fetch_value(alloc, pages, self.schema, id, self.column)?;
+        match shape_of_value(value) {
             Ok(shape) => Ok(shape),
             Err(why) => Err(why),
         }
