@@ -5,8 +5,8 @@ pub mod ColumnValues
 pub mod IntColumns
 -- names
 pub mod Naming
--- rows that are read
-pub mod RowsRead
+-- values that are read in place of rows
+pub mod ValuesRead
 -- look-ups
 pub mod EqualIds
 pub mod LookedUp

@@ -1,6 +1,6 @@
 -- A look-up over pages: what is left of the rows with an equal value while entries are passed over.
 use Rattle.std.proofs.Common.{◌≡◌, ℕ, ◌^◌, ◌<◌, ◌≤◌, Bool, true, false, cond, List, [], ◌∷◌, map, filter, refl, sym, ◌∙◌, ap, arith, All, true≢false, ℤ, subst}
-use Rattle.std.specs.Prelude.{Option, None, Some}
+use Rattle.std.specs.Prelude.{Option, None, Some, option_and_then}
 use Rattle.std.proofs.lemmas.List.Elements.{All-head, All-tail}
 use Rattle.code_btree.specs.Items.{Each}
 use Rattle.code_btree.proofs.Lists.{Each-map}
@@ -28,7 +28,7 @@ use Rattle.plan_places.proofs.Above.{Pairs, none_above}
 use Rattle.plan_places.proofs.ColumnValues.{Rows, values_are, each_value}
 use Rattle.plan_places.proofs.LookedUp.{RowsRise, Keeps, looked_none, looked_past, looked_found, looked_told}
 use Rattle.plan_places.proofs.IntColumns.{int_pairs}
-use Rattle.plan_places.specs.Steps.{IsInt, has_equal, values_at, found_in, IsCandidate}
+use Rattle.plan_places.specs.Steps.{value_of, IsInt, is_equal, has_equal, values_at, found_in, IsCandidate}
 
 rises_rows : (rows : Rows) → Rises (map (λ (r : ℕ × List Value). r.0) rows) → RowsRise rows
 rises_rows [] h = tt
@@ -73,21 +73,27 @@ no_candidate m l v last key o h s k e is =
     (ap (λ (bytes : List ℕ). equal_id (key_number bytes) last (entries_at (store_of m) l.index)) (sym k) ∙ (sym e ∙ is))
 
 -- an entry leads to a row
-pub candidate_is : (m w : PageMap) (l : LookUp) (v : Value) (last id : ℕ) (key : List ℕ) (o : Option ℕ) (found : Option (List Value)) (equal : Bool) → Holds m l → l.spot.relation.now.next ≤ 4294967296
-    → last < id → key ≡ key_bytes v → o ≡ equal_id (key_number key) last (entries_at (store_of m) l.index) → o ≡ Some id → w ≡ m → found ≡ of_id id (rows_in w l.spot.relation.now)
-    → equal ≡ has_equal l.spot.column v found → IsCandidate last (found_in m l v) id equal
+pub candidate_is : (m w : PageMap) (l : LookUp) (v : Value) (last id : ℕ) (key : List ℕ) (o : Option ℕ) (found : Option Value) (equal : Bool) → Holds m l → l.spot.relation.now.next ≤ 4294967296
+    → last < id → key ≡ key_bytes v → o ≡ equal_id (key_number key) last (entries_at (store_of m) l.index) → o ≡ Some id → w ≡ m → found ≡ value_of (rows_in w l.spot.relation.now) id l.spot.column
+    → equal ≡ is_equal v found → IsCandidate last (found_in m l v) id equal
 candidate_is m w l v last id key o found equal h s b k e is same f q =
-    go equal q
+    go equal (q ∙ ap (λ (x : Option Value). is_equal v x) held ∙ of_row (of_id id (rows_in m l.spot.relation.now)))
   where
     entry : equal_id (key_of v) last (entries_at (store_of m) l.index) ≡ Some id
     entry = ap (λ (bytes : List ℕ). equal_id (key_number bytes) last (entries_at (store_of m) l.index)) (sym k) ∙ (sym e ∙ is)
 
-    row : of_id id (rows_in m l.spot.relation.now) ≡ found
-    row = ap (λ (pages : PageMap). of_id id (rows_in pages l.spot.relation.now)) (sym same) ∙ sym f
+    held : found ≡ value_of (rows_in m l.spot.relation.now) id l.spot.column
+    held = f ∙ ap (λ (pages : PageMap). value_of (rows_in pages l.spot.relation.now) id l.spot.column) same
 
-    go : (b : Bool) → b ≡ has_equal l.spot.column v found → IsCandidate last (found_in m l v) id b
-    go true q = looked_found (store_of m) l.spot.column (rows_in m l.spot.relation.now) l.index v last id found (keeps_of m l h s) b entry row (sym q)
-    go false q = looked_past (store_of m) l.spot.column (rows_in m l.spot.relation.now) l.index v last id found (keeps_of m l h s) b entry row (sym q)
+    of_row : (row : Option (List Value)) → is_equal v (option_and_then (λ values. element values l.spot.column) row) ≡ has_equal l.spot.column v row
+    of_row None = refl
+    of_row (Some values) = refl
+
+    go : (b : Bool) → b ≡ has_equal l.spot.column v (of_id id (rows_in m l.spot.relation.now)) → IsCandidate last (found_in m l v) id b
+    go true q =
+        looked_found (store_of m) l.spot.column (rows_in m l.spot.relation.now) l.index v last id (of_id id (rows_in m l.spot.relation.now)) (keeps_of m l h s) b entry refl (sym q)
+    go false q =
+        looked_past (store_of m) l.spot.column (rows_in m l.spot.relation.now) l.index v last id (of_id id (rows_in m l.spot.relation.now)) (keeps_of m l h s) b entry refl (sym q)
 
 -- an entry of an int leads to a row with it, in a column of ints
 pub told_candidate : (m : PageMap) (l : LookUp) (v : Value) (last id : ℕ) (key : List ℕ) (o : Option ℕ) → Holds m l → HasInts l → IsInt v → IsFit v → l.spot.relation.now.next ≤ 4294967296 → last < id

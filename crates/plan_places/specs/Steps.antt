@@ -1,5 +1,5 @@
--- How an index leads to rows with an equal value: what only the proof of a look-up needs.
-use Rattle.std.specs.Prelude.{◌≡◌, ℕ, ℤ, ◌+◌, ◌*◌, ◌≤◌, min, Bool, true, false, List, [], ◌∷◌, filter, filter_map, Option, None, Some, option_map, Result, Ok, Err}
+-- A value of the row of an id, and how an index leads to rows with an equal value: what only proofs need.
+use Rattle.std.specs.Prelude.{◌≡◌, ℕ, ℤ, ◌+◌, ◌*◌, ◌≤◌, min, Bool, true, false, List, [], ◌∷◌, filter, filter_map, Option, None, Some, option_map, option_and_then, Result, Ok, Err}
 use Rattle.page_pool.specs.Disk.{PageMap}
 use Rattle.page_pool.specs.Pool.{PoolState, IsTold}
 use Rattle.page_pool.specs.Reads.{IsRead}
@@ -8,12 +8,17 @@ use Rattle.sand_base.specs.declared.value.Value.{Value}
 use Rattle.sand_base.specs.declared.value.Value.TheVariants as value
 use Rattle.sand_model.specs.Database.{element}
 use Rattle.sand_model.specs.Sources.{same_value}
+use Rattle.tuple_file.specs.Rows.{of_id}
 use Rattle.sand_store.specs.Contents.{rows_in}
 use Rattle.plan_places.specs.Equals.{above}
 use Rattle.page_pool.specs.declared.fault.PageFault.{PageFault}
 use Rattle.plan_places.specs.Prices.{entries_above, entry_price}
 use Rattle.plan_places.specs.declared.look_up.LookUp.{LookUp}
 use Rattle.plan_places.specs.declared.look_up.Candidate.{Candidate}
+
+-- the value that the row of the id has in a column
+abbrev pub value_of : List (ℕ × List Value) → ℕ → ℕ → Option Value
+value_of rows id at = option_and_then (λ values. element values at) (of_id id rows)
 
 -- the value is an int
 abbrev pub IsInt : Value → Type 0

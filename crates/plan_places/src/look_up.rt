@@ -15,13 +15,13 @@ ghost use Rattle.plan_places.specs.Prices.{is_int_kind, tells, LooksUp};
 ghost use Rattle.plan_places.specs.Spots.{LeadsTo, names_of};
 ghost use Rattle.plan_places.specs.Indexed.{Holds, HasInts, IsLookUp, LacksIndex};
 ghost use Rattle.attr_index.specs.Key.{IsAttribute};
-ghost use Rattle.plan_places.specs.Steps.{IsInt, has_equal, found_in, id_of, GivesCandidate};
+ghost use Rattle.plan_places.specs.Steps.{IsInt, is_equal, found_in, id_of, GivesCandidate};
 
 use crate::ColumnSpot;
-use crate::row::{is_same, row_of, value_in};
+use crate::row::{is_same, value_of};
 use attr_index::{AttrIndex, key_of};
 use page_pool::{PageFault, Pages};
-use sand_base::{Kind, Row, Value};
+use sand_base::{Kind, Value};
 use sand_store::Catalog;
 use std::alloc::Global;
 
@@ -39,15 +39,12 @@ struct Candidate {
     is_equal: bool,
 }
 
-// Whether the row has an equal value in the column.
-fn has_equal(row: &Option<Row>, column: usize, value: &Value) -> bool
-    ensures { result ≡ has_equal column value.now row.now }
+// Whether the value that was found, where there is one, equals the given one.
+fn has_equal(found: &Option<Value>, value: &Value) -> bool
+    ensures { result ≡ is_equal value.now found.now }
 {
-    let Some(row) = row else {
-        return false;
-    };
-    match value_in(row, column) {
-        Some(held) => is_same(held, value),
+    match found {
+        Some(found) => is_same(found, value),
         None => false,
     }
 }
@@ -116,10 +113,10 @@ impl<'s> LookUp<'s> {
         if self.is_told(value) {
             return Ok(Some(Candidate { id, is_equal: true }));
         }
-        match row_of(alloc, pages, self.spot.relation, id) {
-            Ok(row) => Ok(Some(Candidate {
+        match value_of(alloc, pages, self.spot.relation, id, self.spot.column) {
+            Ok(found) => Ok(Some(Candidate {
                 id,
-                is_equal: has_equal(&row, self.spot.column, value),
+                is_equal: has_equal(&found, value),
             })),
             Err(fault) => Err(fault),
         }

@@ -1,39 +1,35 @@
-// Rows by id, and their values.
-ghost use Rattle.std.specs.Prelude.{◌≡◌, ◌+◌, IfOk, option_map};
+// Values of rows by id.
+ghost use Rattle.std.specs.Prelude.{◌≡◌, ◌+◌, IfOk};
 ghost use Rattle.page_pool.specs.Pool.{IsTold};
 ghost use Rattle.code_btree.specs.Calls.{Looks};
-ghost use Rattle.sand_model.specs.Database.{element};
 ghost use Rattle.sand_model.specs.Operators.{kth};
 ghost use Rattle.sand_model.specs.Sources.{same_value};
-ghost use Rattle.tuple_file.specs.Rows.{of_id};
 ghost use Rattle.sand_store.specs.Contents.{rows_in};
 ghost use Rattle.plan_places.specs.Spots.{Stands};
+ghost use Rattle.plan_places.specs.Steps.{value_of};
 
 use page_pool::{PageFault, Pages};
-use sand_base::{Row, Value};
+use sand_base::Value;
 use sand_store::Relation;
 use std::alloc::Global;
 
-/// The row of the id, None where the relation has none of it.
-pub(crate) fn row_of<P: Pages>(
+/// The value that the row of the id has in a column, without the rest of the row: None where the relation has no such
+/// row, or the row no such column.
+pub(crate) fn value_of<P: Pages>(
     alloc: Global,
     pages: &mut P,
     relation: &Relation,
     id: u32,
-) -> Result<Option<Row>, PageFault>
+    column: usize,
+) -> Result<Option<Value>, PageFault>
     requires { IsTold (P.shown pages.old) → Stands (P.shown pages.old).pages relation.now }
-    ensures value { IfOk result (λ row. IsTold (P.shown pages.old) → row ≡ of_id id (rows_in (P.shown pages.old).pages relation.now)) }
+    ensures value { IfOk result (λ value. IsTold (P.shown pages.old) → value ≡ value_of (rows_in (P.shown pages.old).pages relation.now) id column) }
     ensures looks { Looks (P.shown pages.old) (P.shown pages.new) (relation.now.file.tree.height + 1) result }
 {
-    let row = relation.file().fetch(alloc, pages, relation.schema(), id)?;
-    Ok(row)
-}
-
-/// The value that a row has in a column.
-pub(crate) fn value_in<'r>(row: &'r Row, column: usize) -> Option<&'r Value>
-    ensures { option_map (λ v. v.now) result ≡ element row.now column }
-{
-    row.values().get(column)
+    let value = relation
+        .file()
+        .fetch_value(alloc, pages, relation.schema(), id, column)?;
+    Ok(value)
 }
 
 /// The k-th id, counted from 1.

@@ -10,7 +10,7 @@ ghost use Rattle.sand_store.specs.Standing.{CatalogStands};
 ghost use Rattle.plan_places.specs.Spots.{Stands, IsSpot, HasNoColumn, names_of};
 
 use crate::ColumnSpot;
-use crate::row::{kth as kth_id, row_of, value_in};
+use crate::row::{kth as kth_id, value_of};
 use page_pool::{PageFault, Pages};
 use sand_base::Value;
 use sand_store::{Catalog, Relation};
@@ -39,8 +39,8 @@ impl<'s> Spot<'s> {
         })
     }
 
-    /// A copy of the value at the place of a row with these ids. It reads the row of the k-th id, in one get more than
-    /// the height of the relation's tree at most. `None` comes where there is no k-th id, or no row of it.
+    /// The value at the place of a row with these ids. It is read in place of the row of the k-th id, in one get more
+    /// than the height of the relation's tree at most. `None` comes where there is no k-th id, or no row of it.
     pub fn value<P: Pages>(
         &self,
         alloc: Global,
@@ -54,12 +54,7 @@ impl<'s> Spot<'s> {
         let Some(id) = kth_id(ids, self.k) else {
             return Ok(None);
         };
-        let Some(row) = row_of(alloc, pages, self.relation, id)? else {
-            return Ok(None);
-        };
-        let Some(value) = value_in(&row, self.column) else {
-            return Ok(None);
-        };
-        Ok(Some(value.copy(alloc)?))
+        let value = value_of(alloc, pages, self.relation, id, self.column)?;
+        Ok(value)
     }
 }
