@@ -26,39 +26,42 @@ fn prints(rt: &impl Abort, alloc: Global, line: &LineRef, text: &str) -> Result<
     Ok(())
 }
 
-#[test]
-fn short_lines_have_their_texts(rt: HostRuntime) -> Result<(), NoMemory> {
-    let alloc = rt.alloc();
+// The counts of a cursor are written as this text.
+fn prints_counts(rt: &impl Abort, alloc: Global, text: &str) -> Result<(), NoMemory> {
     let stats = LineRef::Stats {
         blocks: 3,
         pairs: 0,
         geometries: 10,
         rows: 18_446_744_073_709_551_615,
     };
-    let text = "blocks 3 pairs 0 geometries 10 rows 18446744073709551615\n";
-    prints(&rt, alloc, &stats, text)?;
-    let why = Refusal::BadRecord { row: 4, column: 2 };
-    prints(
-        &rt,
-        alloc,
-        &LineRef::Refused(why),
-        "refused 16 BadRecord 4 2\n",
-    )?;
+    prints(rt, alloc, &stats, text)
+}
+
+// The refusal is written as this text.
+fn prints_refusal(
+    rt: &impl Abort,
+    alloc: Global,
+    why: Refusal,
+    text: &str,
+) -> Result<(), NoMemory> {
+    prints(rt, alloc, &LineRef::Refused(why), text)
+}
+
+// A leaf of these ids is written as this text.
+fn prints_leaf(rt: &impl Abort, alloc: Global, ids: &[u32], text: &str) -> Result<(), NoMemory> {
     let block = Block::of_point(Point { x: 16384, y: 0 }, 2);
-    let ids = [1, 2, 30].as_slice();
-    prints(
-        &rt,
-        alloc,
-        &LineRef::Leaf { block, ids },
-        "2\t16384\t0\t1 2 30\n",
-    )?;
-    let ids = [].as_slice();
-    prints(
-        &rt,
-        alloc,
-        &LineRef::Leaf { block, ids },
-        "2\t16384\t0\t-\n",
-    )?;
+    prints(rt, alloc, &LineRef::Leaf { block, ids }, text)
+}
+
+#[test]
+fn short_lines_have_their_texts(rt: HostRuntime) -> Result<(), NoMemory> {
+    let alloc = rt.alloc();
+    let text = "blocks 3 pairs 0 geometries 10 rows 18446744073709551615\n";
+    prints_counts(&rt, alloc, text)?;
+    let why = Refusal::BadRecord { row: 4, column: 2 };
+    prints_refusal(&rt, alloc, why, "refused 16 BadRecord 4 2\n")?;
+    prints_leaf(&rt, alloc, &[1, 2, 30], "2\t16384\t0\t1 2 30\n")?;
+    prints_leaf(&rt, alloc, &[], "2\t16384\t0\t-\n")?;
     Ok(())
 }
 
