@@ -1,4 +1,5 @@
 mod Digits
+mod OneDenominator
 mod Quotients
 pub mod LesserExists
 pub mod LowestTerms

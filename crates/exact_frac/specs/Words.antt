@@ -1,6 +1,6 @@
 -- The two words of a fraction, read off its parts.
 use Rattle.std.specs.Prelude.{◌≡◌, ℕ, ◌+◌, ◌*◌, ◌/◌, ◌%◌, ◌^◌, ◌<◌, ◌≤◌}
-use Rattle.std.proofs.Common.{arith, subst, sym, ap}
+use Rattle.std.proofs.Common.{arith, subst, sym}
 use Rattle.exact_frac.specs.declared.TheConstants.{MAX_NUM, MAX_DEN}
 use Rattle.exact_frac.specs.Fraction.{Fraction, num_in, den_in}
 use Rattle.exact_frac.specs.declared.frac.Frac.TheInside.{Inside}

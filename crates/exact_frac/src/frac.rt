@@ -81,8 +81,9 @@ impl Frac {
     pub fn compare(&self, other: &Frac) -> Ordering
         ensures { result ≡ value_cmp self.now other.now }
     {
-        if self.den() == other.den() {
-            self.num().cmp(&other.num())
+        if self.high / (1 << DEN_SHIFT) == other.high / (1 << DEN_SHIFT) {
+            // Over one denominator the words are in the order of the numerators: the first word ends in their upper bits.
+            self.high.cmp(&other.high).then(self.low.cmp(&other.low))
         } else {
             (self.num() * other.den()).cmp(&(other.num() * self.den()))
         }

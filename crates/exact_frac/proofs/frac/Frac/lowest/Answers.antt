@@ -1,8 +1,7 @@
 -- Why the quotients are a fraction in lowest terms of the same value.
-use Rattle.std.proofs.Common.{◌≤◌, subst, sym, ◌∙◌, le_trans, div-le_self}
+use Rattle.std.proofs.Common.{◌≤◌, subst, sym, ◌∙◌}
 use Rattle.std.proofs.Math.Nat.{one-dvd}
-use Rattle.std.specs.Int.{◌∣◌, IsGcd}
-use Rattle.exact_frac.specs.Value.{SameValue}
+use Rattle.std.specs.Int.{◌∣◌}
 use Rattle.exact_frac.proofs.Quotients.{quotients_lowest, quotients_same, quotient_positive}
 use Rattle.exact_frac.proofs.frac.Frac.lowest.Goals as goal
 
