@@ -8,7 +8,7 @@ use Rattle.std.specs.Ordering.{is_gt}
 use Rattle.std.specs.Cmp.{IsTotalOrder, upto}
 use Rattle.std.proofs.lemmas.List.{length-map}
 use Rattle.std.proofs.lemmas.List.Elements.{All-nil, All-cons, All-append, All-map, All-weaker, All-contains, Contains-append_left, Contains-append_right}
-use Rattle.std.proofs.lemmas.List.Sorted.{All-permutation, IsPermutation-trans, IsPermutation-map, IsPermutation-append_left, IsPermutation-append_right, IsPermutation-middle, IsPermutation-sym, length_permutation}
+use Rattle.std.proofs.lemmas.List.Sorted.{All-permutation, Contains-permutation, IsPermutation-trans, IsPermutation-map, IsPermutation-append_left, IsPermutation-append_right, IsPermutation-middle, IsPermutation-sym, length_permutation}
 use Rattle.pair_heap.proofs.OrderOfItems.{itself, least_through}
 use Rattle.rank_queue.specs.Least.{AtMost, IsLeast, IsFirst}
 use Rattle.rank_queue.specs.BitQueue.{HeapIsNext, NumberIsNext}
@@ -91,6 +91,23 @@ module _ {X : Type 0} {cmp : X → X → Ordering} (o : IsTotalOrder cmp) (item_
         queued = Contains-append_left (map item_of ns) heap x.now f.queued;
         least = All-append (AtMost cmp x.now) (map item_of ns) heap f.least l;
       }
+
+  -- the heap stays next as an item joins it
+  pub heap_still_next : (heap new : List X) (first : Option X) (x : X) → HeapIsNext cmp heap first → IsPermutation (x ∷ heap) new → HeapIsNext cmp new first
+  heap_still_next heap new None x before joined = before
+  heap_still_next heap new (Some y) x before joined =
+      (before.0, Contains-permutation (x ∷ heap) new before.0 joined (Contains-append_right (x ∷ []) heap before.0 before.1), before.2)
+
+  -- the numbers stay next as one joins them
+  pub numbers_still_next : (old new : List ℕ) (heap : List X) (first then : Option X) (x : X) → MatchOption first (old ≡ []) (λ y. IsFirst cmp y (map item_of old)) → NumberIsNext cmp heap first → IsPermutation (x ∷ map item_of old) (map item_of new) → MatchOption then (new ≡ []) (λ y. IsFirst cmp y (map item_of new)) → NumberIsNext cmp heap then
+  numbers_still_next old new heap None then x h after joined h' = absurd after
+  numbers_still_next old new heap (Some y) then x h after joined h' =
+      let held : Contains (map item_of new) y = Contains-permutation (x ∷ map item_of old) (map item_of new) y joined (Contains-append_right (x ∷ []) (map item_of old) y h.queued) in
+      first_below then held h'
+    where
+      first_below : (then : Option X) → Contains (map item_of new) y → MatchOption then (new ≡ []) (λ y. IsFirst cmp y (map item_of new)) → NumberIsNext cmp heap then
+      first_below None held empty = none y (subst (λ l. Contains (map item_of l) y) empty held)
+      first_below (Some z) held f = least_through o z y heap (All-contains (AtMost cmp z) (map item_of new) y f.least held) after
 
   -- nothing is in both, where the heap comes first and is empty
   pub both_empty : (ns : List ℕ) (heap : List X) (first : Option X) → MatchOption first (ns ≡ []) (λ y. IsFirst cmp y (map item_of ns)) → HeapIsNext cmp heap first → heap ≡ [] → map item_of ns ++ heap ≡ []

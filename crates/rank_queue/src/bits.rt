@@ -11,11 +11,13 @@ use std::alloc::Global;
 use std::marker::Model;
 
 /// A queue that keeps items with numbers as bits, one for each number below a bound, and all others in a pairing heap:
-/// to push or to pop one that is a bit moves no item and compares it with the heap's first alone.
+/// to push or to pop one that is a bit moves no item and compares it with the heap's first alone. Which of the heap's and
+/// the numbers' first item comes next is kept, so that `peek` compares nothing.
 pub struct BitQueue<T: Numbered> {
     heap: PairHeap<T>,
     numbers: NumberSet,
     first: Option<T>,
+    is_heap_next: bool,
     spare: usize,
 }
 
@@ -42,6 +44,7 @@ impl<T: Numbered> BitQueue<T> {
             heap: PairHeap::empty(alloc),
             numbers,
             first: None,
+            is_heap_next: true,
             spare: 0,
         })
     }
@@ -57,6 +60,7 @@ impl<T: Numbered> Queue<T> for BitQueue<T> {
             heap: PairHeap::empty(alloc),
             numbers: NumberSet::none(alloc),
             first: None,
+            is_heap_next: true,
             spare: 0,
         }
     }
@@ -77,13 +81,21 @@ impl<T: Numbered> Queue<T> for BitQueue<T> {
         self.spare -= 1;
         if insert_item(&mut self.numbers, &item) {
             self.first = first_item(&self.numbers);
+            // Where the numbers were next, they still are, since their first item comes no later than before.
+            if self.is_heap_next {
+                self.is_heap_next = heap_is_next(&self.heap, &self.first);
+            }
         } else {
             self.heap.push(item);
+            // Where the heap was next, it still is, since its first item comes no later than before.
+            if !self.is_heap_next {
+                self.is_heap_next = heap_is_next(&self.heap, &self.first);
+            }
         }
     }
 
     fn peek(&self) -> Option<&T> {
-        if heap_is_next(&self.heap, &self.first) {
+        if self.is_heap_next {
             self.heap.peek()
         } else {
             self.first.as_ref()
@@ -91,11 +103,12 @@ impl<T: Numbered> Queue<T> for BitQueue<T> {
     }
 
     fn pop(&mut self) -> Option<T> {
-        if heap_is_next(&self.heap, &self.first) {
+        if self.is_heap_next {
             let Some(item) = self.heap.pop() else {
                 return None;
             };
             self.spare += 1;
+            self.is_heap_next = heap_is_next(&self.heap, &self.first);
             return Some(item);
         }
         let Some(number) = self.numbers.take_least() else {
@@ -103,6 +116,7 @@ impl<T: Numbered> Queue<T> for BitQueue<T> {
         };
         self.first = first_item(&self.numbers);
         self.spare += 1;
+        self.is_heap_next = heap_is_next(&self.heap, &self.first);
         Some(T::of_number(number))
     }
 
@@ -121,6 +135,7 @@ impl<T: Numbered> Drop for BitQueue<T> {
             heap,
             numbers: _,
             first: _,
+            is_heap_next: _,
             spare: _,
         } = self;
         heap.discard();
