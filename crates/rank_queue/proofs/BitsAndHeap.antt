@@ -1,5 +1,5 @@
 -- A queue of numbers, which stand for items, and a heap: which item of both is the first, and what a push and a pop leave.
-use Rattle.std.proofs.Common.{◌≡◌, ℕ, zero, suc, Bool, true, false, List, [], ◌∷◌, ◌++◌, length, map, Contains, Option, None, Some, MatchOption, IsPermutation, sym, ap, ap₂, ◌∙◌, subst, arith, nat_cmp}
+use Rattle.std.proofs.Common.{◌≡◌, ℕ, zero, suc, Bool, true, false, List, [], ◌∷◌, ◌++◌, length, map, Contains, Option, None, Some, MatchOption, IsPermutation, refl, sym, ap, ap₂, ◌∙◌, subst, arith, nat_cmp}
 use Rattle.std.specs.Prelude.{option_copied}
 use Rattle.std.specs.Bool.{MatchBool}
 use Rattle.std.specs.Borrow.{Bor}
@@ -11,7 +11,7 @@ use Rattle.std.proofs.lemmas.List.Elements.{All-nil, All-cons, All-append, All-m
 use Rattle.std.proofs.lemmas.List.Sorted.{All-permutation, Contains-permutation, IsPermutation-trans, IsPermutation-map, IsPermutation-append_left, IsPermutation-append_right, IsPermutation-middle, IsPermutation-sym, length_permutation}
 use Rattle.pair_heap.proofs.OrderOfItems.{itself, least_through}
 use Rattle.rank_queue.specs.Least.{AtMost, IsLeast, IsFirst}
-use Rattle.rank_queue.specs.BitQueue.{HeapIsNext, NumberIsNext}
+use Rattle.rank_queue.specs.BitQueue.{HasAtMost, HeapIsNext, NumberIsNext}
 
 none : {X : Type 0} (x : X) → Contains [] x → ⊥
 none x (k, below, is) = absurd (omega arith)
@@ -37,9 +37,14 @@ first_item cmp item_of in_order ns n x e h = subst (λ y. IsFirst cmp y (map ite
 }
 
 -- a number that joins the others is its item, which joins theirs
-pub item_joins : {X : Type 0} (item_of : ℕ → X) (x : X) (n : ℕ) (old new : List ℕ) (r : Bool) → x ≡ item_of n → MatchBool r (IsPermutation (n ∷ old) new) (new ≡ old) → MatchBool r (IsPermutation (x ∷ map item_of old) (map item_of new)) (new ≡ old)
-item_joins item_of x n old new true e h = subst (λ y. IsPermutation (y ∷ map item_of old) (map item_of new)) (sym e) (IsPermutation-map item_of (n ∷ old) new h)
-item_joins item_of x n old new false e h = h
+pub item_joins : {X : Type 0} (item_of : ℕ → X) (x : X) (n : ℕ) (old new : List ℕ) → x ≡ item_of n → IsPermutation (n ∷ old) new → IsPermutation (x ∷ map item_of old) (map item_of new)
+item_joins item_of x n old new e h = subst (λ y. IsPermutation (y ∷ map item_of old) (map item_of new)) (sym e) (IsPermutation-map item_of (n ∷ old) new h)
+
+-- a number that is the least of some, or is not, is so as its item
+pub item_is_least : {X : Type 0} (cmp : X → X → Ordering) (item_of : ℕ → X) → ((m n : ℕ) → cmp (item_of m) (item_of n) ≡ nat_cmp m n) → (ns : List ℕ) (n : ℕ) (x : X) (r : Bool) → x ≡ item_of n → MatchBool r (IsLeast nat_cmp n ns) (HasAtMost nat_cmp ns n) → MatchBool r (IsLeast cmp x (map item_of ns)) (HasAtMost cmp (map item_of ns) x)
+item_is_least cmp item_of in_order ns n x true e h = subst (λ y. IsLeast cmp y (map item_of ns)) (sym e) (least_item cmp item_of in_order ns n h)
+item_is_least cmp item_of in_order ns n x false e h =
+    (item_of h.0, mapped item_of ns h.0 h.1, subst (λ y. AtMost cmp (item_of h.0) y) (sym e) (ap is_gt (in_order h.0 n) ∙ h.2))
 
 -- one number more
 pub one_longer : {X : Type 0} (item_of : ℕ → X) (x : X) (old new : List ℕ) → IsPermutation (x ∷ map item_of old) (map item_of new) → length new ≡ suc (length old)
@@ -98,16 +103,26 @@ module _ {X : Type 0} {cmp : X → X → Ordering} (o : IsTotalOrder cmp) (item_
   heap_still_next heap new (Some y) x before joined =
       (before.0, Contains-permutation (x ∷ heap) new before.0 joined (Contains-append_right (x ∷ []) heap before.0 before.1), before.2)
 
-  -- the numbers stay next as one joins them
-  pub numbers_still_next : (old new : List ℕ) (heap : List X) (first then : Option X) (x : X) → MatchOption first (old ≡ []) (λ y. IsFirst cmp y (map item_of old)) → NumberIsNext cmp heap first → IsPermutation (x ∷ map item_of old) (map item_of new) → MatchOption then (new ≡ []) (λ y. IsFirst cmp y (map item_of new)) → NumberIsNext cmp heap then
-  numbers_still_next old new heap None then x h after joined h' = absurd after
-  numbers_still_next old new heap (Some y) then x h after joined h' =
-      let held : Contains (map item_of new) y = Contains-permutation (x ∷ map item_of old) (map item_of new) y joined (Contains-append_right (x ∷ []) (map item_of old) y h.queued) in
-      first_below then held h'
-    where
-      first_below : (then : Option X) → Contains (map item_of new) y → MatchOption then (new ≡ []) (λ y. IsFirst cmp y (map item_of new)) → NumberIsNext cmp heap then
-      first_below None held empty = none y (subst (λ l. Contains (map item_of l) y) empty held)
-      first_below (Some z) held f = least_through o z y heap (All-contains (AtMost cmp z) (map item_of new) y f.least held) after
+  -- an item that joins the others as their least is the first of all
+  pub joins_first : (ns new : List ℕ) (x : X) → IsLeast cmp x (map item_of ns) → IsPermutation (x ∷ map item_of ns) (map item_of new) → IsFirst cmp x (map item_of new)
+  joins_first ns new x least joined = record {
+    queued = Contains-permutation (x ∷ map item_of ns) (map item_of new) x joined (0, omega arith, refl);
+    least = All-permutation (AtMost cmp x) (x ∷ map item_of ns) (map item_of new) joined (All-cons (AtMost cmp x) x (map item_of ns) (itself o x) least);
+  }
+
+  -- the first item stays, where one of the others does not come after the item that joins
+  pub first_stays : (ns new : List ℕ) (first : Option X) (x : X) → MatchOption first (ns ≡ []) (λ y. IsFirst cmp y (map item_of ns)) → HasAtMost cmp (map item_of ns) x → IsPermutation (x ∷ map item_of ns) (map item_of new) → MatchOption first (new ≡ []) (λ y. IsFirst cmp y (map item_of new))
+  first_stays ns new None x empty before joined = absurd (none before.0 (subst (λ l. Contains (map item_of l) before.0) empty before.1))
+  first_stays ns new (Some y) x f before joined = record {
+    queued = Contains-permutation (x ∷ map item_of ns) (map item_of new) y joined (Contains-append_right (x ∷ []) (map item_of ns) y f.queued);
+    least = All-permutation (AtMost cmp y) (x ∷ map item_of ns) (map item_of new) joined
+        (All-cons (AtMost cmp y) x (map item_of ns) (upto o y before.0 x (All-contains (AtMost cmp y) (map item_of ns) before.0 f.least before.1) before.2) f.least);
+  }
+
+  -- the numbers stay next as one joins them whose item is the least
+  pub numbers_still_next : (ns : List ℕ) (heap : List X) (first : Option X) (x : X) → MatchOption first (ns ≡ []) (λ y. IsFirst cmp y (map item_of ns)) → NumberIsNext cmp heap first → IsLeast cmp x (map item_of ns) → IsLeast cmp x heap
+  numbers_still_next ns heap None x empty after least = absurd after
+  numbers_still_next ns heap (Some y) x f after least = least_through o x y heap (All-contains (AtMost cmp x) (map item_of ns) y least f.queued) after
 
   -- nothing is in both, where the heap comes first and is empty
   pub both_empty : (ns : List ℕ) (heap : List X) (first : Option X) → MatchOption first (ns ≡ []) (λ y. IsFirst cmp y (map item_of ns)) → HeapIsNext cmp heap first → heap ≡ [] → map item_of ns ++ heap ≡ []

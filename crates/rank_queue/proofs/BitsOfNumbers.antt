@@ -1,21 +1,24 @@
 -- Numbers as bits of words: which numbers a list of words has, and what becomes of them where a bit is set or cleared.
 use Rattle.std.proofs.Common.{◌≡◌, ◌≢◌, ℕ, zero, suc, ◌*◌, ◌/◌, ◌%◌, ◌+◌, ◌<◌, ◌≤◌, ◌^◌, min, Bool, true, false, cond, List, [], ◌∷◌, length, get_or, set, replicate, All, Contains, Option, None, Some, MatchOption, IsPermutation, ⊎_elim, refl, sym, ap, ap₂, ◌∙◌, subst, arith, nat_cmp, true≢false}
-use Rattle.std.specs.Prelude.{nat_eq}
+use Rattle.std.specs.Prelude.{nat_eq, nat_lt}
+use Rattle.std.specs.Bool.{MatchBool}
 use mir.Val.{bits}
 use Rattle.std.specs.Int.{bit_at, bit_not, w64, trailing_zeros}
 use Rattle.std.specs.Int.RustNames.{bit_or}
 use lib.Bits.{bit_and}
 use Rattle.std.specs.Ordering.{is_gt}
-use Rattle.std.specs.Cmp.{nat_cmp_is}
+use Rattle.std.specs.Cmp.{nat_cmp_is, nat_cmp_total}
 use Rattle.std.specs.declared.cmp.Ordering.TheVariants.{Less, Equal}
-use Rattle.std.proofs.lemmas.Bool.{cases_eq, cases_lt, ne_eqb}
+use Rattle.std.proofs.lemmas.Bool.{cases_eq, cases_lt, ne_eqb, ltb-true, lt-ltb}
 use Rattle.std.proofs.lemmas.List.{get_or-set_same, get_or-set_other, get_or_read, get_or_past, get_or-replicate, length-set, length-replicate}
 use Rattle.std.proofs.lemmas.List.Elements.{All-nil, All-cons, Contains-append_right}
 use Rattle.std.proofs.lemmas.List.Sorted.{IsPermutation-refl, IsPermutation-trans, IsPermutation-cons, IsPermutation-middle, IsPermutation-sym}
 use Rattle.std.proofs.lemmas.Nat.{one_shl, pow_pos}
 use Rattle.std.proofs.Math.Nat.{one-mul, min-eq_left, min-eq_right, min-le_left}
 use Rattle.std.proofs.lemmas.Nat.Bits.{bit_at-zero, bit_at-trailing_zeros, and_pow, bit_at_set_same, bit_at_set_other, bit_at_clear_same, bit_at_clear_other}
+use Rattle.pair_heap.proofs.OrderOfItems.{least_through}
 use Rattle.rank_queue.specs.Least.{AtMost, IsLeast, IsFirst}
+use Rattle.rank_queue.specs.BitQueue.{HasAtMost}
 use Rattle.rank_queue.specs.Bits.{has_bit, numbers_below, HasNoBit, IsLeastBit}
 
 -- ---- the numbers whose bits are set
@@ -101,6 +104,14 @@ least_first words (Some n) h = record {
   queued = is_one words n (64 * length words) h.inside h.set;
   least = at_least words n (64 * length words) h.before;
 }
+
+-- a number is at most all of some where it is below their first, and else that one is at most the number
+pub above_or_not : (m n : ℕ) (ns : List ℕ) → IsFirst nat_cmp m ns → MatchBool (nat_lt n m) (IsLeast nat_cmp n ns) (HasAtMost nat_cmp ns n)
+above_or_not m n ns first =
+    let go : (r : Bool) → nat_lt n m ≡ r → MatchBool r (IsLeast nat_cmp n ns) (HasAtMost nat_cmp ns n) = elim [
+      | true ↦ λ e. let less : n < m = ltb-true n m e in least_through nat_cmp_total n m ns (at_most n m (omega arith)) first.least
+      | false ↦ λ e. (m, first.queued, at_most m n (⊎_elim (λ less. absurd (true≢false (sym (lt-ltb n m less) ∙ e))) (λ rest. rest) (cases_lt n m)))
+    ] in go (nat_lt n m) refl
 
 -- where there is no least bit there is none of them
 pub none_least : (words : List ℕ) (least : Option ℕ) → MatchOption least (HasNoBit words) (IsLeastBit words) → least ≡ None → numbers_below words (64 * length words) ≡ []

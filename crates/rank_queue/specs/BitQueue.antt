@@ -5,9 +5,13 @@ use Rattle.std.specs.declared.cmp.Ordering.{Ordering}
 use Rattle.rank_queue.specs.declared.bits.BitQueue.TheInside.{Inside}
 use Rattle.rank_queue.specs.Least.{AtMost, IsLeast, IsFirst}
 
+-- one of the items does not come after x
+abbrev pub HasAtMost : {X : Type 0} → (X → X → Ordering) → List X → X → Type 0
+HasAtMost {X} cmp xs x = (y : X) × Contains xs y × AtMost cmp y x
+
 -- the heap holds an item that does not come after the first one of the numbers, where they have one
 abbrev pub HeapIsNext : {X : Type 0} → (X → X → Ordering) → List X → Option X → Type 0
-HeapIsNext {X} cmp heap first = IfSome first (λ x. (y : X) × Contains heap y × AtMost cmp y x)
+HeapIsNext cmp heap first = IfSome first (HasAtMost cmp heap)
 
 -- the numbers have a first item, and none of the heap comes before it
 abbrev pub NumberIsNext : {X : Type 0} → (X → X → Ordering) → List X → Option X → Type 0

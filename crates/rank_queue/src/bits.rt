@@ -1,7 +1,7 @@
-ghost use Rattle.std.specs.Prelude.{◌≡◌, ℕ, ◌+◌, ◌<◌, ◌≤◌, List, [], ◌∷◌, length, map, OnOk, IfOk, MatchOption, IsPermutation};
+ghost use Rattle.std.specs.Prelude.{◌≡◌, ℕ, ◌+◌, ◌<◌, ◌≤◌, List, [], ◌∷◌, length, map, OnOk, IfOk, IfSome, MatchOption, IsPermutation};
 ghost use Rattle.std.specs.Bool.{MatchBool};
 ghost use Rattle.rank_queue.specs.Least.{IsFirst, IsLeast};
-ghost use Rattle.rank_queue.specs.BitQueue.{HeapIsNext, NumberIsNext};
+ghost use Rattle.rank_queue.specs.BitQueue.{HasAtMost, HeapIsNext, NumberIsNext};
 
 use crate::number_set::NumberSet;
 use crate::{Numbered, Queue};
@@ -79,16 +79,18 @@ impl<T: Numbered> Queue<T> for BitQueue<T> {
 
     fn push(&mut self, item: T) {
         self.spare -= 1;
-        if insert_item(&mut self.numbers, &item) {
-            self.first = first_item(&self.numbers);
-            // Where the numbers were next, they still are, since their first item comes no later than before.
-            if self.is_heap_next {
-                self.is_heap_next = heap_is_next(&self.heap, &self.first);
-            }
-        } else {
+        let Some(is_first) = insert_item(&mut self.numbers, &item) else {
             self.heap.push(item);
             // Where the heap was next, it still is, since its first item comes no later than before.
             if !self.is_heap_next {
+                self.is_heap_next = heap_is_next(&self.heap, &self.first);
+            }
+            return;
+        };
+        if is_first {
+            self.first = Some(item);
+            // Where the numbers were next, they still are, since their first item comes no later than before.
+            if self.is_heap_next {
                 self.is_heap_next = heap_is_next(&self.heap, &self.first);
             }
         }
@@ -143,13 +145,17 @@ impl<T: Numbered> Drop for BitQueue<T> {
 }
 
 // Puts the item's number into the set, where it has one that has a bit and is not in the set; else all stays as it is.
-fn insert_item<T: Numbered>(numbers: &mut NumberSet, item: &T) -> bool
-    ensures { MatchBool result (IsPermutation (item.now ∷ map T.item_of numbers.old) (map T.item_of numbers.new)) (numbers.new ≡ numbers.old) }
+// At Some, it says whether the item comes before those of all other numbers.
+fn insert_item<T: Numbered>(numbers: &mut NumberSet, item: &T) -> Option<bool>
+    ensures joined { MatchOption result (numbers.new ≡ numbers.old) (λ _. IsPermutation (item.now ∷ map T.item_of numbers.old) (map T.item_of numbers.new)) }
+    ensures is_first { IfSome result (λ is_first. MatchBool is_first (IsLeast T.cmp item.now (map T.item_of numbers.old)) (HasAtMost T.cmp (map T.item_of numbers.old) item.now)) }
 {
-    match item.number() {
-        Some(number) => numbers.insert(number),
-        None => false,
+    let number = item.number()?;
+    let is_first = numbers.is_above(number);
+    if numbers.insert(number) {
+        return Some(is_first);
     }
+    None
 }
 
 // The item of the least number.

@@ -3,6 +3,7 @@ ghost use Rattle.std.specs.Bool.{MatchBool};
 ghost use Rattle.std.specs.Ordering.{nat_cmp};
 ghost use Rattle.rank_queue.specs.Least.{IsFirst, IsLeast};
 ghost use Rattle.rank_queue.specs.Bits.{has_bit, HasNoBit, IsLeastBit};
+ghost use Rattle.rank_queue.specs.BitQueue.{HasAtMost};
 
 use sand_base::NoMemory;
 use std::alloc::Global;
@@ -78,6 +79,16 @@ impl NumberSet {
         ensures { MatchOption result (self.now ≡ []) (λ n. IsFirst nat_cmp n self.now) }
     {
         self.least
+    }
+
+    // Whether the set's numbers are all above this one.
+    pub fn is_above(&self, number: u32) -> bool
+        ensures { MatchBool result (IsLeast nat_cmp number self.now) (HasAtMost nat_cmp self.now number) }
+    {
+        match self.least() {
+            Some(least) => number < least,
+            None => true,
+        }
     }
 
     // Takes the least number out.
