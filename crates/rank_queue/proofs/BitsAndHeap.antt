@@ -13,7 +13,8 @@ use Rattle.pair_heap.proofs.OrderOfItems.{itself, least_through}
 use Rattle.rank_queue.specs.Least.{AtMost, IsLeast, IsFirst}
 use Rattle.rank_queue.specs.BitQueue.{HasAtMost, HeapIsNext, NumberIsNext}
 
-none : {X : Type 0} (x : X) → Contains [] x → ⊥
+-- an empty list contains nothing
+pub none : {X : Type 0} (x : X) → Contains [] x → ⊥
 none x (k, below, is) = absurd (omega arith)
 
 mapped : {X : Type 0} (item_of : ℕ → X) (ns : List ℕ) (n : ℕ) → Contains ns n → Contains (map item_of ns) (item_of n)

@@ -1,3 +1,4 @@
 pub mod KeepsFalling
 pub mod BitsOfNumbers
 pub mod BitsAndHeap
+pub mod Bags

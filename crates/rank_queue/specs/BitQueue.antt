@@ -1,4 +1,4 @@
--- A queue of a heap and a set of numbers, which stand for items.
+-- A queue of a heap and a bag of numbers, which stand for items.
 use Rattle.std.specs.Prelude.{◌≡◌, ℕ, ◌+◌, ◌^◌, ◌<◌, ◌≤◌, List, [], length, map, Option, IfSome, MatchOption, Contains}
 use Rattle.std.specs.Bool.{MatchBool}
 use Rattle.std.specs.declared.cmp.Ordering.{Ordering}

@@ -3,19 +3,20 @@ ghost use Rattle.std.specs.Bool.{MatchBool};
 ghost use Rattle.rank_queue.specs.Least.{IsFirst, IsLeast};
 ghost use Rattle.rank_queue.specs.BitQueue.{HasAtMost, HeapIsNext, NumberIsNext};
 
-use crate::number_set::NumberSet;
+use crate::number_bag::NumberBag;
 use crate::{Numbered, Queue};
 use pair_heap::PairHeap;
 use sand_base::NoMemory;
 use std::alloc::Global;
 use std::marker::Model;
 
-/// A queue that keeps items with numbers as bits, one for each number below a bound, and all others in a pairing heap:
-/// to push or to pop one that is a bit moves no item and compares it with the heap's first alone. Which of the heap's and
-/// the numbers' first item comes next is kept, so that `peek` compares nothing.
+/// A queue that keeps items with numbers as bits, two for each number below a bound, and all others in a pairing heap:
+/// to push or to pop one that is a bit moves no item and compares it with the heap's first alone. A number may be queued
+/// twice as bits, the second time in a set of its own, since a point on the border of two blocks is found in both. Which of
+/// the heap's and the numbers' first item comes next is kept, so that `peek` compares nothing.
 pub struct BitQueue<T: Numbered> {
     heap: PairHeap<T>,
-    numbers: NumberSet,
+    numbers: NumberBag,
     first: Option<T>,
     is_heap_next: bool,
     spare: usize,
@@ -34,12 +35,12 @@ impl<T: Numbered> Model for BitQueue<T> {
 }
 
 impl<T: Numbered> BitQueue<T> {
-    /// A queue with no item and no reserved place, which has a bit for each number below `count`.
+    /// A queue with no item and no reserved place, which has two bits for each number below `count`.
     pub fn with_numbers(alloc: Global, count: u32) -> Result<BitQueue<T>, NoMemory>
         ensures items { IfOk result (λ q. q.items ≡ []) }
         ensures spare { IfOk result (λ q. q.spare ≡ 0) }
     {
-        let numbers = NumberSet::below(alloc, count)?;
+        let numbers = NumberBag::below(alloc, count)?;
         Ok(BitQueue {
             heap: PairHeap::empty(alloc),
             numbers,
@@ -58,7 +59,7 @@ impl<T: Numbered> Queue<T> for BitQueue<T> {
     fn empty(alloc: Global) -> Self {
         BitQueue {
             heap: PairHeap::empty(alloc),
-            numbers: NumberSet::none(alloc),
+            numbers: NumberBag::none(alloc),
             first: None,
             is_heap_next: true,
             spare: 0,
@@ -144,9 +145,9 @@ impl<T: Numbered> Drop for BitQueue<T> {
     }
 }
 
-// Puts the item's number into the set, where it has one that has a bit and is not in the set; else all stays as it is.
+// Puts the item's number into the bag, where it has one with a bit that is not set; else all stays as it is.
 // At Some, it says whether the item comes before those of all other numbers.
-fn insert_item<T: Numbered>(numbers: &mut NumberSet, item: &T) -> Option<bool>
+fn insert_item<T: Numbered>(numbers: &mut NumberBag, item: &T) -> Option<bool>
     ensures joined { MatchOption result (numbers.new ≡ numbers.old) (λ _. IsPermutation (item.now ∷ map T.item_of numbers.old) (map T.item_of numbers.new)) }
     ensures is_first { IfSome result (λ is_first. MatchBool is_first (IsLeast T.cmp item.now (map T.item_of numbers.old)) (HasAtMost T.cmp (map T.item_of numbers.old) item.now)) }
 {
@@ -159,7 +160,7 @@ fn insert_item<T: Numbered>(numbers: &mut NumberSet, item: &T) -> Option<bool>
 }
 
 // The item of the least number.
-fn first_item<T: Numbered>(numbers: &NumberSet) -> Option<T>
+fn first_item<T: Numbered>(numbers: &NumberBag) -> Option<T>
     ensures { MatchOption result (numbers.now ≡ []) (λ x. IsFirst T.cmp x (map T.item_of numbers.now)) }
 {
     let number = numbers.least()?;

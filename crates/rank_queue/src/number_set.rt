@@ -108,7 +108,8 @@ impl NumberSet {
 
     // How many numbers there are.
     pub fn len(&self) -> usize
-        ensures { result ≡ length self.now }
+        ensures is { result ≡ length self.now }
+        ensures few { result ≤ 2 ^ 32 }
     {
         self.len
     }
