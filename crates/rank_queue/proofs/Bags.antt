@@ -23,12 +23,12 @@ least_of_others n xs ys before least =
 
 -- ---- a number joins
 
--- where it is new to the former set
+-- the former set takes it, or nothing changes
 pub joins_former : (r : Bool) (n : ℕ) (xs new ys : List ℕ) → MatchBool r (IsPermutation (n ∷ xs) new) (new ≡ xs) → MatchBool r (IsPermutation (n ∷ (xs ++ ys)) (new ++ ys)) (new ++ ys ≡ xs ++ ys)
 joins_former true n xs new ys h = IsPermutation-append_left ys (n ∷ xs) new h
 joins_former false n xs new ys h = ap (λ l. l ++ ys) h
 
--- where the former set stays as it is
+-- the latter set takes it, or nothing changes, where the former stays as it is
 pub joins_latter : (r : Bool) (n : ℕ) (xs same ys new : List ℕ) → same ≡ xs → MatchBool r (IsPermutation (n ∷ ys) new) (new ≡ ys) → MatchBool r (IsPermutation (n ∷ (xs ++ ys)) (same ++ new)) (same ++ new ≡ xs ++ ys)
 joins_latter true n xs same ys new e h = subst (λ l. IsPermutation (n ∷ (xs ++ ys)) (l ++ new)) (sym e) (joins_heap xs ys new n h)
 joins_latter false n xs same ys new e h = ap₂ (λ a b. a ++ b) e h
@@ -46,7 +46,7 @@ not_above_former n xs ys one = (one.0, Contains-append_left xs ys one.0 one.1, o
 
 -- ---- the first number of both sets
 
--- the first of the former set
+-- it is that of the former set, where each of the latter has one of the former at most it
 pub first_of_former : (r : Option ℕ) (xs ys : List ℕ) → All (HasAtMost nat_cmp xs) ys → MatchOption r (xs ≡ []) (λ n. IsFirst nat_cmp n xs) → MatchOption r (xs ++ ys ≡ []) (λ n. IsFirst nat_cmp n (xs ++ ys))
 first_of_former None xs ys before empty = ap₂ (λ a b. a ++ b) empty (no_others xs ys before empty)
 first_of_former (Some n) xs ys before first = record {
@@ -54,7 +54,7 @@ first_of_former (Some n) xs ys before first = record {
   least = All-append (AtMost nat_cmp n) xs ys first.least (least_of_others n xs ys before first.least);
 }
 
--- the first of the latter set
+-- it is that of the latter set, where each of the former has one of the latter at most it
 pub first_of_latter : (r : Option ℕ) (xs ys : List ℕ) → All (HasAtMost nat_cmp ys) xs → MatchOption r (ys ≡ []) (λ n. IsFirst nat_cmp n ys) → MatchOption r (xs ++ ys ≡ []) (λ n. IsFirst nat_cmp n (xs ++ ys))
 first_of_latter None xs ys before empty = ap₂ (λ a b. a ++ b) (no_others ys xs before empty) empty
 first_of_latter (Some n) xs ys before first = record {
@@ -64,7 +64,7 @@ first_of_latter (Some n) xs ys before first = record {
 
 -- ---- the least number is taken
 
--- the least number and those that are left are at least it
+-- a number that leaves as the least of those that stay was the least of all
 least_of_all : (n : ℕ) (xs new : List ℕ) → IsPermutation xs (n ∷ new) → IsLeast nat_cmp n new → IsLeast nat_cmp n xs
 least_of_all n xs new moved least =
     All-permutation (AtMost nat_cmp n) (n ∷ new) xs (IsPermutation-sym xs (n ∷ new) moved) (All-cons (AtMost nat_cmp n) n new (itself nat_cmp_total n) least)
