@@ -1,5 +1,6 @@
 pub mod Decimals
 pub mod Forming
+pub mod Gaps
 pub mod Lines
 pub mod Listed
 pub mod Parts

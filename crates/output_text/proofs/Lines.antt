@@ -24,42 +24,41 @@ measured gap ids values = record { gap = Some gap; ids = ids; values = values }
 abbrev rest_text : List ℕ → List Value → List ℕ
 rest_text ids values = led (9 ∷ []) (map decimal ids ++ map value_text values)
 
-row-printed : (gap : Frac) (ids : List ℕ) (values : List Value) (text shown : List ℕ) → IsPrinted gap.num gap.den text → shown ≡ text
-    → PrintsRow (measured gap ids values) (shown ++ rest_text ids values)
-row-printed gap ids values text shown printed is = (
+row-printed : (gap : Frac) (ids : List ℕ) (values : List Value) (text : List ℕ) → IsPrinted gap.num gap.den text
+    → PrintsRow (measured gap ids values) (text ++ rest_text ids values)
+row-printed gap ids values text printed = (
   text ∷ [],
   (text, printed, refl),
-  ap (λ t. t ++ rest_text ids values) is ∙ sym (joined-led (9 ∷ []) text (map decimal ids ++ map value_text values)),
+  sym (joined-led (9 ∷ []) text (map decimal ids ++ map value_text values)),
 )
 
 -- a row is formed
-pub row-formed : (gap : Frac) (ids : List ℕ) (values : List Value) (text shown old held new : List ℕ) (before mid now : List ℕ → Type 0)
-    → IsPrinted gap.num gap.den text → shown ≡ text → Forms before mid old held shown → Forms mid now held new (rest_text ids values)
+pub row-formed : (gap : Frac) (ids : List ℕ) (values : List Value) (old held new : List ℕ) (before mid now : List ℕ → Type 0)
+    → FormsSome (IsPrinted gap.num gap.den) before mid old held → Forms mid now held new (rest_text ids values)
     → FormsSome (PrintsRow (measured gap ids values)) before now old new
-row-formed gap ids values text shown old held new before mid now printed is first second = record {
-  text = shown ++ rest_text ids values;
-  holds = row-printed gap ids values text shown printed is;
-  formed = Forms-both before mid now old held new shown (rest_text ids values) _ first second refl;
+row-formed gap ids values old held new before mid now first second = record {
+  text = first.text ++ rest_text ids values;
+  holds = row-printed gap ids values first.text first.holds;
+  formed = Forms-both before mid now old held new first.text (rest_text ids values) _ first.formed second refl;
 }
 
 -- the gap of a row broke off
-pub row-first : (gap : Frac) (ids : List ℕ) (values : List Value) (text shown old : List ℕ) (before now : List ℕ → Type 0)
-    → IsPrinted gap.num gap.den text → shown ≡ text → AddsPrefix before now (old ++ shown)
-    → BreaksSome (PrintsRow (measured gap ids values)) before now old
-row-first gap ids values text shown old before now printed is broken = record {
-  text = shown ++ rest_text ids values;
-  holds = row-printed gap ids values text shown printed is;
-  prefix = AddsPrefix-more before now old shown (rest_text ids values) broken;
+pub row-first : (gap : Frac) (ids : List ℕ) (values : List Value) (old : List ℕ) (before now : List ℕ → Type 0)
+    → BreaksSome (IsPrinted gap.num gap.den) before now old → BreaksSome (PrintsRow (measured gap ids values)) before now old
+row-first gap ids values old before now broken = record {
+  text = broken.text ++ rest_text ids values;
+  holds = row-printed gap ids values broken.text broken.holds;
+  prefix = AddsPrefix-more before now old broken.text (rest_text ids values) broken.prefix;
 }
 
 -- a row broke off behind its gap
-pub row-second : (gap : Frac) (ids : List ℕ) (values : List Value) (text shown old held : List ℕ) (before mid now : List ℕ → Type 0)
-    → IsPrinted gap.num gap.den text → shown ≡ text → Forms before mid old held shown → AddsPrefix mid now (held ++ rest_text ids values)
+pub row-second : (gap : Frac) (ids : List ℕ) (values : List Value) (old held : List ℕ) (before mid now : List ℕ → Type 0)
+    → FormsSome (IsPrinted gap.num gap.den) before mid old held → AddsPrefix mid now (held ++ rest_text ids values)
     → BreaksSome (PrintsRow (measured gap ids values)) before now old
-row-second gap ids values text shown old held before mid now printed is first broken = record {
-  text = shown ++ rest_text ids values;
-  holds = row-printed gap ids values text shown printed is;
-  prefix = AddsPrefix-second before mid now old held shown (rest_text ids values) _ first broken refl;
+row-second gap ids values old held before mid now first broken = record {
+  text = first.text ++ rest_text ids values;
+  holds = row-printed gap ids values first.text first.holds;
+  prefix = AddsPrefix-second before mid now old held first.text (rest_text ids values) _ first.formed broken refl;
 }
 
 -- the text of a line with its line feed

@@ -11,8 +11,8 @@ use crate::sinks::write_all;
 use sand_base::{Failed, Sink};
 use std::marker::Model;
 
-/// How many bytes are joined at most: a text of a row and some numbers.
-pub const CAPACITY: usize = 256;
+/// How many bytes are joined at most: some numbers of a row and a short text.
+pub const CAPACITY: usize = 128;
 
 /// How many digits a number of 64 bits has at most.
 pub const MOST_DIGITS: usize = 20;
@@ -38,17 +38,22 @@ impl Model for Pending {
     ghost invariant = { λ a. a.len ≤ CAPACITY };
 }
 
-// A number in decimal at the end, for which there is room.
+// A number in decimal at the end, for which there is room. Its digits are found from the last to the first.
 fn append_digits(line: &mut Pending, number: u64)
     requires { length line.old + length (decimal number) ≤ CAPACITY }
     ensures { line.new ≡ line.old ++ decimal number }
 {
-    if number < 10 {
-        line.push(b'0' + number as u8);
-        return;
+    let mut digits = [0; MOST_DIGITS];
+    let mut start = MOST_DIGITS;
+    let mut left = number;
+    'digits: while left >= 10 {
+        start -= 1;
+        digits[start] = b'0' + (left % 10) as u8;
+        left /= 10;
     }
-    append_digits(line, number / 10);
-    line.push(b'0' + (number % 10) as u8);
+    start -= 1;
+    digits[start] = b'0' + left as u8;
+    line.append(&digits[start..]);
 }
 
 impl Pending {
@@ -100,9 +105,9 @@ impl Pending {
         ensures text { self.new ≡ self.old ++ more.now }
         ensures len { length self.new ≡ length self.old + length more.now }
     {
-        for byte in more {
-            self.push(*byte);
-        }
+        let end = self.len + more.len();
+        self.bytes[self.len..end].copy_from_slice(more);
+        self.len = end;
     }
 
     /// A number in decimal, for which there is room.

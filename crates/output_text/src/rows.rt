@@ -1,6 +1,7 @@
 // The text of a row.
 ghost use Rattle.std.specs.Prelude.{◌≡◌, ◌∷◌, ◌++◌, [], map, Option, OnOk, OnErr};
 ghost use Rattle.std.specs.Fmt.{decimal};
+ghost use Rattle.exact_frac.specs.Printed.{IsPrinted};
 ghost use Rattle.sand_base.specs.Faults.{HasCause};
 ghost use Rattle.sand_model.specs.OutputText.{PrintsRow, tabbed, value_text};
 ghost use Rattle.output_text.specs.Forming.{BreaksSome, Forms, FormsSome};
@@ -85,6 +86,21 @@ impl Pending {
         Ok(())
     }
 
+    // A gap: one that is a whole number of 64 bits goes without a text of its own.
+    fn put_gap<K: Sink>(&mut self, out: &mut K, gap: Frac) -> Result<(), Failed>
+        ensures formed { OnOk result (FormsSome (IsPrinted gap.num gap.den) (K.took out.old) (K.took out.new) self.old self.new) }
+        ensures prefix { OnErr result (BreaksSome (IsPrinted gap.num gap.den) (K.took out.old) (K.took out.new) self.old) }
+        ensures cause { HasCause (K.faults out.old) (K.faults out.new) result }
+    {
+        if gap.den() == 1 && gap.num() <= u128::from(u64::MAX) {
+            self.put_number(out, b"", gap.num() as u64)?;
+            return Ok(());
+        }
+        let text = gap.text();
+        self.put(out, text.as_bytes())?;
+        Ok(())
+    }
+
     // A row whose gap is there.
     fn put_measured<K: Sink>(
         &mut self,
@@ -97,8 +113,7 @@ impl Pending {
         ensures prefix { OnErr result (BreaksSome (PrintsRow (record { gap = Some gap; ids = ids.now; values = values.now })) (K.took out.old) (K.took out.new) self.old) }
         ensures cause { HasCause (K.faults out.old) (K.faults out.new) result }
     {
-        let text = gap.text();
-        self.put(out, text.as_bytes())?;
+        self.put_gap(out, gap)?;
         self.put_more_places(out, ids, values)?;
         Ok(())
     }
