@@ -1,8 +1,8 @@
 -- Numbers in decimal: their lengths, and their digits as they are written from the last one to the first.
-use Rattle.std.proofs.Common.{◌≡◌, ℕ, ◌+◌, ◌-◌, ◌^◌, ◌/◌, ◌%◌, ◌<◌, ◌≤◌, List, length, [], ◌∷◌, ◌++◌, take, drop, set, sym, ap, ◌∙◌, arith, append_assoc, length-append, length-set, inl, inr, eq-zero-or-pos}
+use Rattle.std.proofs.Common.{◌≡◌, ℕ, zero, suc, ◌+◌, ◌-◌, ◌*◌, ◌^◌, ◌/◌, ◌%◌, ◌<◌, ◌≤◌, List, length, [], ◌∷◌, ◌++◌, drop, set, sym, ap, ◌∙◌, arith, append_assoc, length-append, inl, inr, eq-zero-or-pos}
 use Rattle.std.specs.Fmt.{decimal}
 use Rattle.std.proofs.lemmas.Fmt.{decimal_step, decimal_digit, length-decimal-le}
-use Rattle.std.proofs.lemmas.List.{drop-set, take_rest}
+use Rattle.std.proofs.lemmas.List.{drop-set}
 
 -- a number from ten on has one digit more than its tenth
 pub length-decimal-step : (n : ℕ) → 10 ≤ n → n < 2 ^ 64 → length (decimal n) ≡ length (decimal (n / 10)) + 1
@@ -41,12 +41,16 @@ first-written bytes at n low some within =
     let next : at - 1 + 1 ≡ at = omega arith in
     rw (drop-set bytes (at - 1) (48 + n) here, next, decimal_digit n low)
 
--- with the first digit all of the number is written, from there to the end
-pub all-written : (bytes : List ℕ) (size at n number : ℕ) → length bytes ≡ size → n < 10 → 1 ≤ at → at ≤ length bytes
-    → decimal n ++ drop at bytes ≡ decimal number
-    → take (size - (at - 1)) (drop (at - 1) (set bytes (at - 1) (48 + n))) ≡ decimal number
-all-written bytes size at n number is low some within so_far =
-    let filled = set bytes (at - 1) (48 + n) in
-    let same : size ≡ length filled = sym (length-set bytes (at - 1) (48 + n) ∙ is) in
-    ap (λ m. take (m - (at - 1)) (drop (at - 1) filled)) same ∙ take_rest filled (at - 1)
-    ∙ first-written bytes at n low some within ∙ so_far
+-- with the first digit all of the number is written
+pub all-written : (bytes : List ℕ) (at n number : ℕ) → n < 10 → at ≡ length (decimal n) → at ≤ length bytes
+    → decimal n ++ drop at bytes ≡ decimal number → set bytes 0 (48 + n) ≡ decimal number
+all-written bytes at n number low is within so_far =
+    let one : at ≡ 1 = is ∙ length-decimal-digit n low in
+    first-written bytes 1 n low (omega arith) (omega arith) ∙ ap (λ k. decimal n ++ drop k bytes) (sym one) ∙ so_far
+
+-- a number between two powers of ten has as many digits as the lower one
+pub length-decimal-between : (k n : ℕ) → 10 ^ k ≤ n → n < 10 * 10 ^ k → n < 2 ^ 64 → length (decimal n) ≡ k + 1
+length-decimal-between zero n least most high = length-decimal-digit n (omega arith)
+length-decimal-between (suc k) n least most high =
+    let shorter = length-decimal-between k (n / 10) (omega arith) (omega arith) (omega arith) in
+    length-decimal-step n (omega arith) high ∙ ap (λ m. m + 1) shorter ∙ omega arith

@@ -38,22 +38,39 @@ impl Model for Pending {
     ghost invariant = { λ a. a.len ≤ CAPACITY };
 }
 
-// A number in decimal at the end, for which there is room. Its digits are found from the last to the first.
+// How many digits a number has in decimal.
+fn count_digits(number: u64) -> usize
+    ensures { result ≡ length (decimal number) }
+{
+    if number < 10 {
+        return 1;
+    }
+    number.ilog10() as usize + 1
+}
+
+// Writes a number in decimal into as many bytes as it has digits, from the last digit to the first.
+fn write_digits(digits: &mut [u8], number: u64)
+    requires { length digits.old ≡ length (decimal number) }
+    ensures { digits.new ≡ decimal number }
+{
+    let mut at = digits.len();
+    let mut left = number;
+    'digits: while left >= 10 {
+        at -= 1;
+        digits[at] = b'0' + (left % 10) as u8;
+        left /= 10;
+    }
+    digits[0] = b'0' + left as u8;
+}
+
+// A number in decimal at the end, for which there is room.
 fn append_digits(line: &mut Pending, number: u64)
     requires { length line.old + length (decimal number) ≤ CAPACITY }
     ensures { line.new ≡ line.old ++ decimal number }
 {
-    let mut digits = [0; MOST_DIGITS];
-    let mut start = MOST_DIGITS;
-    let mut left = number;
-    'digits: while left >= 10 {
-        start -= 1;
-        digits[start] = b'0' + (left % 10) as u8;
-        left /= 10;
-    }
-    start -= 1;
-    digits[start] = b'0' + left as u8;
-    line.append(&digits[start..]);
+    let end = line.len + count_digits(number);
+    write_digits(&mut line.bytes[line.len..end], number);
+    line.len = end;
 }
 
 impl Pending {
@@ -99,12 +116,26 @@ impl Pending {
         self.len += 1;
     }
 
+    // A few more bytes, one by one, which takes less time than a call that copies them.
+    fn append_short(&mut self, more: &[u8])
+        requires { length self.old + length more.now ≤ CAPACITY }
+        ensures { self.new ≡ self.old ++ more.now }
+    {
+        'bytes: for byte in more {
+            self.push(*byte);
+        }
+    }
+
     /// More bytes, for which there is room.
     pub fn append(&mut self, more: &[u8])
         requires { length self.old + length more.now ≤ CAPACITY }
         ensures text { self.new ≡ self.old ++ more.now }
         ensures len { length self.new ≡ length self.old + length more.now }
     {
+        if more.len() <= MOST_BEFORE {
+            self.append_short(more);
+            return;
+        }
         let end = self.len + more.len();
         self.bytes[self.len..end].copy_from_slice(more);
         self.len = end;
