@@ -92,6 +92,21 @@ pub fn rank(page: &Page, count: usize, key: u128) -> usize
     low
 }
 
+// The same place, guessed from a key that stands first in the leaf if any does, as the separator above tells: so no byte
+// of the page is waited for before those at the place itself.
+pub fn rank_behind(page: &Page, count: usize, first: u128, key: u128) -> usize
+    requires { count ≤ 127 }
+    ensures bound { result ≤ count }
+    ensures before { 1 ≤ result → entry_key page.now (result - 1) < key }
+    ensures behind { result < count → key ≤ entry_key page.now result }
+{
+    let steps = key.saturating_sub(first);
+    if steps < count as u128 && stands_at(page, steps as usize, key) {
+        return steps as usize;
+    }
+    rank(page, count, key)
+}
+
 // The value of a key, where it stands at this place.
 pub fn value_found(page: &Page, count: usize, at: usize, key: u128) -> Option<u128>
     requires { count ≤ 127 }

@@ -5,8 +5,8 @@ ghost use Rattle.code_btree.specs.Items.{find_item, floor_item};
 ghost use Rattle.code_btree.specs.Steps.{Subtree, LeadsTo, IsFoundIn, IsFloorIn};
 ghost use Rattle.code_btree.specs.Calls.{Looks};
 
-use crate::inner::{child_at, inner_count, place_of};
-use crate::leaf::{floor_of, leaf_count, rank, value_found};
+use crate::inner::{child_at, inner_count, key_at, place_of};
+use crate::leaf::{floor_of, leaf_count, rank_behind, value_found};
 use page_pool::{PageFault, Pages};
 
 // The child of page `n` under which a key belongs: one get.
@@ -21,8 +21,27 @@ pub fn child_for<P: Pages>(pages: &mut P, n: u64, key: u128) -> Result<Option<u6
     Ok(Some(child_at(page, place_of(page, count, key))))
 }
 
-// The value of a key in leaf `n`: one get.
-fn find_in_leaf<P: Pages>(pages: &mut P, n: u64, key: u128) -> Result<Option<u128>, PageFault>
+// The child of page `n` under which a key belongs, with the separator before it, or 1 where there is none: one get.
+fn part_for<P: Pages>(pages: &mut P, n: u64, key: u128) -> Result<(Option<u64>, u128), PageFault>
+    ensures value { IfOk result (λ part. IsTold (P.shown pages.old) → LeadsTo (pages_in (P.shown pages.old)) n key part.0) }
+    ensures looks { Looks (P.shown pages.old) (P.shown pages.new) 1 result }
+{
+    let page = pages.live_page(n)?;
+    let Some(count) = inner_count(page) else {
+        return Ok((None, 1));
+    };
+    let at = place_of(page, count, key);
+    let first = if at == 0 { 1 } else { key_at(page, at - 1) };
+    Ok((Some(child_at(page, at)), first))
+}
+
+// The value of a key in leaf `n`, which begins with the key `first` if it has it: one get.
+fn find_in_leaf<P: Pages>(
+    pages: &mut P,
+    n: u64,
+    first: u128,
+    key: u128,
+) -> Result<Option<u128>, PageFault>
     ensures value { IfOk result (λ found. IsTold (P.shown pages.old) → IsFoundIn (pages_in (P.shown pages.old)) n key found) }
     ensures looks { Looks (P.shown pages.old) (P.shown pages.new) 1 result }
 {
@@ -30,14 +49,16 @@ fn find_in_leaf<P: Pages>(pages: &mut P, n: u64, key: u128) -> Result<Option<u12
     let Some(count) = leaf_count(page) else {
         return Ok(None);
     };
-    Ok(value_found(page, count, rank(page, count, key), key))
+    Ok(value_found(page, count, rank_behind(page, count, first, key), key))
 }
 
-/// The value of a key under page `n`, which stands `level` above the leaves.
+/// The value of a key under page `n`, which stands `level` above the leaves. `first` is the separator before the page, or
+/// 1: whatever it is, it changes no answer.
 pub fn find_under<P: Pages>(
     pages: &mut P,
     level: u32,
     n: u64,
+    first: u128,
     key: u128,
 ) -> Result<Option<u128>, PageFault>
     requires { IsTold (P.shown pages.old) → Subtree (pages_in (P.shown pages.old)) level n }
@@ -45,13 +66,14 @@ pub fn find_under<P: Pages>(
     ensures looks { Looks (P.shown pages.old) (P.shown pages.new) (level + 1) result }
 {
     if level == 0 {
-        let found = find_in_leaf(pages, n, key)?;
+        let found = find_in_leaf(pages, n, first, key)?;
         return Ok(found);
     }
-    let Some(child) = child_for(pages, n, key)? else {
+    let part = part_for(pages, n, key)?;
+    let Some(child) = part.0 else {
         return Ok(None);
     };
-    let found = find_under(pages, level - 1, child, key)?;
+    let found = find_under(pages, level - 1, child, part.1, key)?;
     Ok(found)
 }
 

@@ -123,7 +123,7 @@ impl Tree {
         if self.height == 0 {
             return Err(PageFault::Memory);
         }
-        let found = find_under(pages, self.height - 1, self.root, key)?;
+        let found = find_under(pages, self.height - 1, self.root, 1, key)?;
         Ok(found)
     }
 

@@ -10,17 +10,17 @@ use Rattle.code_btree.proofs.Finds.{led, found_in}
 use Rattle.code_btree.proofs.look.+find_under.Goals as goal
 
 pub find_under-requires : goal.find_under-requires
-find_under-requires g t c κs within = (omega arith, (within, (λ told. tree (sym c.in_ok-child.ensures.looks.read.told ∙ told))))
+find_under-requires g t c κs within = (omega arith, (within, (λ told. tree (sym c.in_ok-part.ensures.looks.read.told ∙ told))))
   where
-    tree : IsTold (g.P.Pages.shown c.args.pages.now) → Subtree (pages_in (g.P.Pages.shown c.child_for.new.pages)) (c.args.level - 1) c.in-Some.child
+    tree : IsTold (g.P.Pages.shown c.args.pages.now) → Subtree (pages_in (g.P.Pages.shown c.part_for.new.pages)) (c.args.level - 1) c.in-Some.child
     tree told =
         let m : Store = pages_in (g.P.Pages.shown c.args.pages.now) in
         let l : c.args.level ≡ suc (c.args.level - 1) = omega arith in
         let S : ℕ → Type 0 = λ x. Subtree m x c.args.n in
         let C : Option ℕ → Type 0 = λ x. LeadsTo m c.args.n c.args.key x in
         let M : Store → Type 0 = λ x. Subtree x (c.args.level - 1) c.in-Some.child in
-        let d = led m (c.args.level - 1) c.args.n c.args.key c.in-Some.child (subst S l (c.requires told)) (subst C c.in-Some.is (c.in_ok-child.ensures.value told)) in
-        subst M (sym (same_store (g.P.Pages.shown c.child_for.new.pages) (g.P.Pages.shown c.args.pages.now) c.in_ok-child.ensures.looks.read.pages)) d.child
+        let d = led m (c.args.level - 1) c.args.n c.args.key c.in-Some.child (subst S l (c.requires told)) (subst C c.in-Some.is (c.in_ok-part.ensures.value told)) in
+        subst M (sym (same_store (g.P.Pages.shown c.part_for.new.pages) (g.P.Pages.shown c.args.pages.now) c.in_ok-part.ensures.looks.read.pages)) d.child
 
 pub returns-then-level-eq0-clause-value : goal.returns-then-level-eq0-clause-value
 returns-then-level-eq0-clause-value g t c = λ told.
@@ -35,8 +35,8 @@ returns-clause-value g t c = λ told.
     let l : c.args.level ≡ suc (c.args.level - 1) = omega arith in
     let S : ℕ → Type 0 = λ x. Subtree m x c.args.n in
     let C : Option ℕ → Type 0 = λ x. LeadsTo m c.args.n c.args.key x in
-    let d = led m (c.args.level - 1) c.args.n c.args.key c.in-Some.child (subst S l (c.requires told)) (subst C c.in-Some.is (c.in_ok-child.ensures.value told)) in
-    let e = same_store (g.P.Pages.shown c.child_for.new.pages) (g.P.Pages.shown c.args.pages.now) c.in_ok-child.ensures.looks.read.pages in
-    c.in_ok-found-2.ensures.value (c.in_ok-child.ensures.looks.read.told ∙ told)
+    let d = led m (c.args.level - 1) c.args.n c.args.key c.in-Some.child (subst S l (c.requires told)) (subst C c.in-Some.is (c.in_ok-part.ensures.value told)) in
+    let e = same_store (g.P.Pages.shown c.part_for.new.pages) (g.P.Pages.shown c.args.pages.now) c.in_ok-part.ensures.looks.read.pages in
+    c.in_ok-found-2.ensures.value (c.in_ok-part.ensures.looks.read.told ∙ told)
     ∙ (ap (λ (x : Store). find_item c.args.key (items x (c.args.level - 1) c.in-Some.child)) e
     ∙ (sym d.same ∙ ap (λ (x : ℕ). find_item c.args.key (items m x c.args.n)) (sym l)))
