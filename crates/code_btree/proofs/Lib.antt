@@ -7,7 +7,6 @@ pub mod Orders
 pub mod Lists
 pub mod Moves
 pub mod Seps
-pub mod Searches
 pub mod Stores
 pub mod Halves
 pub mod Looks

@@ -7,6 +7,7 @@ pub mod Tree
 pub mod Calls
 pub mod Run
 -- What only the proof needs.
+pub mod Search
 pub mod Steps
 pub mod Removals
 pub mod Chain

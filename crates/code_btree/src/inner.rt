@@ -1,6 +1,7 @@
-ghost use Rattle.std.specs.Prelude.{◌≡◌, ◌+◌, ◌-◌, ◌*◌, ◌/◌, ◌%◌, ◌<◌, ◌≤◌, ◌≢◌, ◌∷◌, ◌++◌, [], true, length, take, drop, IfSome, MatchOption};
+ghost use Rattle.std.specs.Prelude.{◌≡◌, ◌+◌, ◌-◌, ◌*◌, ◌/◌, ◌%◌, ◌<◌, ◌≤◌, ◌≢◌, ◌∷◌, ◌++◌, [], true, false, length, take, drop, IfSome, MatchOption};
 ghost use Rattle.code_btree.specs.Node.{IsInnerOf, key_in, child_in, keys_in, children_in, keys_of, children_of, node_of};
 ghost use Rattle.code_btree.specs.Node.Node.{inner};
+ghost use Rattle.code_btree.specs.Search.{IsInnerSearch};
 
 use crate::bytes::{
     Page, half_at, number_at, paste, put_half, put_number, put_word, splice, word_at,
@@ -75,8 +76,41 @@ fn belongs_at(page: &Page, count: usize, at: usize, key: u128) -> bool
     at == count || key < key_at(page, at)
 }
 
-// The place of the child under which a key belongs. Where it isn't the one guessed, it is sought by steps of 128, 64
-// and so on to 1, each of which is taken where it passes keys up to this one alone.
+// Whether there are so many keys and the last of them is at most this one. `&` asks both, so that no branch is taken.
+fn passes(page: &Page, count: usize, next: usize, key: u128) -> bool
+    requires count { count ≤ 169 }
+    requires some { 1 ≤ next }
+    ensures passed { result ≡ true → (next ≤ count) × (key_in page.now (next - 1) ≤ key) }
+    ensures kept { result ≡ false → next ≤ count → key < key_in page.now (next - 1) }
+{
+    (key_at(page, min(next, 169) - 1) <= key) & (next <= count)
+}
+
+// A round of a search: of four widths from `low` on it leaves one. Its three looks don't wait for each other, and it
+// chooses between numbers and not between ways, since a processor could foretell no way of a search.
+fn quarter(page: &Page, count: usize, low: usize, width: usize, key: u128) -> usize
+    requires count { count ≤ 169 }
+    requires some { 1 ≤ width }
+    requires fits { width ≤ 64 }
+    requires search { IsInnerSearch page.now count key low (4 * width) }
+    ensures { IsInnerSearch page.now count key result width }
+{
+    let first = passes(page, count, low + width, key);
+    let second = passes(page, count, low + 2 * width, key);
+    let third = passes(page, count, low + 3 * width, key);
+    if third {
+        low + 3 * width
+    } else if second {
+        low + 2 * width
+    } else if first {
+        low + width
+    } else {
+        low
+    }
+}
+
+// The place of the child under which a key belongs. Where it isn't the one guessed, it is sought by rounds, each of a
+// quarter of the width of the one before.
 pub fn place_of(page: &Page, count: usize, key: u128) -> usize
     requires { count ≤ 169 }
     ensures bound { result ≤ count }
@@ -88,17 +122,10 @@ pub fn place_of(page: &Page, count: usize, key: u128) -> usize
     {
         return place;
     }
-    let mut low = 0;
-    let mut width = 256;
-    'steps: while width > 1 {
-        width /= 2;
-        let next = low + width;
-        let is_passed = key_at(page, min(next, 169) - 1) <= key;
-        if is_passed && next <= count {
-            low = next;
-        }
-    }
-    low
+    let low = quarter(page, count, 0, 64, key);
+    let low = quarter(page, count, low, 16, key);
+    let low = quarter(page, count, low, 4, key);
+    quarter(page, count, low, 1, key)
 }
 
 // The 16 bytes of a key.

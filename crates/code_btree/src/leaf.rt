@@ -1,7 +1,8 @@
-ghost use Rattle.std.specs.Prelude.{◌≡◌, ◌+◌, ◌-◌, ◌*◌, ◌/◌, ◌%◌, ◌<◌, ◌≤◌, ◌≢◌, ◌∷◌, ◌++◌, [], true, length, take, drop, IfSome, MatchOption};
+ghost use Rattle.std.specs.Prelude.{◌≡◌, ◌+◌, ◌-◌, ◌*◌, ◌/◌, ◌%◌, ◌<◌, ◌≤◌, ◌≢◌, ◌∷◌, ◌++◌, [], true, false, length, take, drop, IfSome, MatchOption};
 ghost use Rattle.code_btree.specs.Node.{IsLeaf, IsLeafOf, entry_of, entry_key, entry_value, entries_in, entries_of, next_of, node_of};
 ghost use Rattle.code_btree.specs.Node.Node.{leaf};
 ghost use Rattle.code_btree.specs.Items.{Ascending, floor_item};
+ghost use Rattle.code_btree.specs.Search.{IsLeafSearch};
 
 use crate::bytes::{
     Page, half_at, number_at, paste, put_half, put_number, put_word, splice, word_at,
@@ -65,9 +66,41 @@ fn stands_at(page: &Page, at: usize, key: u128) -> bool
     at == 0 || entry_key_at(page, at - 1) < key
 }
 
-// Where a key stands or would stand. Where it isn't at the place guessed, it is sought by steps of 64, 32 and so on to
-// 1, each of which is taken where it passes lesser keys alone. A step chooses between two numbers and not between two
-// ways, since a processor could foretell no way of a search.
+// Whether there are so many entries and the last of them has a lesser key. `&` asks both, so that no branch is taken.
+fn passes(page: &Page, count: usize, next: usize, key: u128) -> bool
+    requires some { 1 ≤ next }
+    requires fits { next ≤ 127 }
+    ensures passed { result ≡ true → (next ≤ count) × (entry_key page.now (next - 1) < key) }
+    ensures kept { result ≡ false → next ≤ count → key ≤ entry_key page.now (next - 1) }
+{
+    (entry_key_at(page, next - 1) < key) & (next <= count)
+}
+
+// A round of a search: of four widths from `low` on it leaves one. Its three looks don't wait for each other, and it
+// chooses between numbers and not between ways, since a processor could foretell no way of a search.
+fn quarter(page: &Page, count: usize, low: usize, width: usize, key: u128) -> usize
+    requires some { 1 ≤ width }
+    requires fits { low + 4 * width ≤ 128 }
+    requires search { IsLeafSearch page.now count key low (4 * width) }
+    ensures fits { result + width ≤ low + 4 * width }
+    ensures search { IsLeafSearch page.now count key result width }
+{
+    let first = passes(page, count, low + width, key);
+    let second = passes(page, count, low + 2 * width, key);
+    let third = passes(page, count, low + 3 * width, key);
+    if third {
+        low + 3 * width
+    } else if second {
+        low + 2 * width
+    } else if first {
+        low + width
+    } else {
+        low
+    }
+}
+
+// Where a key stands or would stand. Where it isn't at the place guessed, it is sought by rounds, each of a quarter of
+// the width of the one before.
 pub fn rank(page: &Page, count: usize, key: u128) -> usize
     requires { count ≤ 127 }
     ensures bound { result ≤ count }
@@ -79,15 +112,11 @@ pub fn rank(page: &Page, count: usize, key: u128) -> usize
     {
         return place;
     }
-    let mut low = 0;
-    let mut width = 128;
-    'steps: while width > 1 {
-        width /= 2;
-        let next = low + width;
-        let is_less = entry_key_at(page, next - 1) < key;
-        if is_less && next <= count {
-            low = next;
-        }
+    let low = quarter(page, count, 0, 32, key);
+    let low = quarter(page, count, low, 8, key);
+    let low = quarter(page, count, low, 2, key);
+    if passes(page, count, low + 1, key) {
+        return low + 1;
     }
     low
 }
