@@ -157,3 +157,7 @@ if_found found B x e h = subst (λ f. IfSome f B) e h
 pub length_ids : (list : List Kept) → length (ids_of list) ≡ length list
 length_ids [] = refl
 length_ids (k ∷ ks) = ap suc (length_ids ks)
+
+-- a leaf is the same one later, where no key has changed
+pub leaf_later : (b : Block) (k0 k1 : List ℕ) (items list : List Kept) → k1 ≡ k0 → list ≡ items → IsLeafOf b k0 (ids_of items) → IsLeafOf b k1 (ids_of list)
+leaf_later b k0 k1 items list same is leaf = subst (λ k. IsLeafOf b k (ids_of list)) (sym same) (subst (λ x. IsLeafOf b k0 (ids_of x)) (sym is) leaf)

@@ -4,6 +4,7 @@ pub mod KeyLists
 pub mod Growth
 pub mod Steps
 pub mod Entries
+pub mod Refusals
 pub mod LeafSteps
 pub mod SplitSteps
 pub mod PartSteps

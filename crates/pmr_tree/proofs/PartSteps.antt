@@ -5,6 +5,7 @@ use Rattle.std.proofs.lemmas.Bool.{false≢true}
 use Rattle.std.proofs.lemmas.Bool.Decides.{nat_tests}
 use Rattle.sand_base.specs.declared.TheConstants.{COORDINATE_BITS}
 use Rattle.sand_base.specs.declared.goal.Goal.TheVariants as figure
+use Rattle.sand_base.specs.declared.rect.Rect.{Rect}
 use Rattle.sand_base.specs.declared.shape.Shape.{Shape}
 use Rattle.z_code.specs.Block.{IsBlock, child, children_of, square_of}
 use Rattle.z_code.specs.declared.block.Block.{Block}
@@ -49,6 +50,13 @@ pub other_shape : (first id : ℕ) (z s : Shape) (rows : List (ℕ × Shape)) �
 other_shape first id z s rows apart at = sym (there_shape (first, z) rows id (differs first id apart)) ∙ at where
   differs : (x y : ℕ) → (y ≡ x → ⊥) → nat_eq x y ≡ false
   differs x y h = grind (arith, nat_tests)
+
+-- whether a shape meets the square of a block, as what is told of it says
+pub meeting_told : (s t : Shape) (b : Block) (r : Rect) (met holds : Bool) → t ≡ s → r ≡ square_of b → IsTrue met ↔ IsMeeting (figure.Shape s) (figure.Rect r)
+    → IsTrue holds ↔ IsMeeting (figure.Shape t) (figure.Rect (square_of b)) → met ≡ holds
+meeting_told s t b r met holds same square met_is holds_is =
+    one_answer met holds (subst (λ x. IsTrue met ↔ IsMeeting (figure.Shape s) (figure.Rect x)) square met_is)
+    (subst (λ x. IsTrue holds ↔ IsMeeting (figure.Shape x) (figure.Rect (square_of b))) same holds_is)
 
 -- four answers, as calls on the children of a block gave them
 pub four_told : (s : Shape) (b : Block) (cs : List Block) (d0 d1 d2 d3 : Block) (met : QuartersMet) → cs ≡ children_of b

@@ -1,8 +1,22 @@
 -- The mark gives way to the first id; another id comes beside those that are there.
 use Rattle.std.proofs.Common.{◌≡◌, ◌<◌, length, arith}
+use Rattle.pmr_tree.proofs.Refusals.{passed_on}
 use Rattle.pmr_tree.proofs.Entries.{key_passes}
 use Rattle.pmr_tree.proofs.LeafSteps.{first_entered, next_entered}
 use Rattle.pmr_tree.proofs.enter.enter.Goals as goal
+
+-- accepted calls lead on to the refused one, and its refusal is passed on
+pub returns-in_err-take-clause-leads : goal.returns-in_err-take-clause-leads
+returns-in_err-take-clause-leads g c =
+    passed_on _ _ (g.S.Ground.Leads c.args.ground.now c.args.pages.now c.take.new.self c.take.new.pages) c.from_residual.ensures c.in_err-take.ensures.leads
+
+pub returns-in_err-put-clause-leads : goal.returns-in_err-put-clause-leads
+returns-in_err-put-clause-leads g c =
+    passed_on _ _ (g.S.Ground.Leads c.args.ground.now c.args.pages.now c.put.new.self c.put.new.pages) c.from_residual-in_err-put.ensures
+    (g.met.S.Ground.onward _ _ _ _ _ _ _ c.in_ok-take.ensures.leads c.in_err-put.ensures.leads)
+
+pub returns-then-list-eq0-clause-leads : goal.returns-then-list-eq0-clause-leads
+returns-then-list-eq0-clause-leads g c = g.met.S.Ground.onward _ _ _ _ _ _ _ c.in_ok-take.ensures.leads c.in_ok-put.ensures.leads
 
 pub returns-then-list-eq0-clause-keys : goal.returns-then-list-eq0-clause-keys
 returns-then-list-eq0-clause-keys g c = λ k.

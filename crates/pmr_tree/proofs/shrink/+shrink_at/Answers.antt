@@ -1,6 +1,7 @@
 -- The id leaves at the leaf; each place above it merges, or is an inner one still.
 use Rattle.std.proofs.Common.{arith}
 use Rattle.pmr_tree.specs.Leaves.{firsts}
+use Rattle.pmr_tree.proofs.Refusals.{passed_on}
 use Rattle.pmr_tree.proofs.Ends.{Step, step_of, child_stands, block_stands, block_inner, block_kept, block_merged}
 use Rattle.pmr_tree.proofs.shrink.+shrink_at.Goals as goal
 
@@ -34,6 +35,30 @@ shrink_at-requires g t c κs live =
         ),
       ),
     )
+
+-- accepted calls lead on to the refused one, and its refusal is passed on
+pub returns-in_err-shrink-clause-leads : goal.returns-in_err-shrink-clause-leads
+returns-in_err-shrink-clause-leads g t c =
+    passed_on _ _ (g.S.Ground.Leads c.args.ground.now c.args.pages.now c.shrink.new.ground c.shrink.new.pages) c.from_residual.ensures c.in_err-shrink.ensures.leads
+
+pub returns-in_err-shrink_at-clause-leads : goal.returns-in_err-shrink_at-clause-leads
+returns-in_err-shrink_at-clause-leads g t c =
+    passed_on _ _ (g.S.Ground.Leads c.args.ground.now c.args.pages.now c.shrink_at.new.ground c.shrink_at.new.pages) c.from_residual-in_err-shrink_at.ensures c.in_err-shrink_at.ensures.leads
+
+pub returns-then-not-branch-clause-leads : goal.returns-then-not-branch-clause-leads
+returns-then-not-branch-clause-leads g t c = c.in_ok-shrink_at.ensures.leads
+
+-- accepted calls leave the pages ready for the next one
+pub merge-requires-clause-ready : goal.merge-requires-clause-ready
+merge-requires-clause-ready g t c = g.met.S.Ground.ready _ _ _ _ c.in_ok-shrink_at.ensures.leads c.requires.ready
+
+pub returns-in_err-merged-clause-leads : goal.returns-in_err-merged-clause-leads
+returns-in_err-merged-clause-leads g t c =
+    passed_on _ _ (g.S.Ground.Leads c.args.ground.now c.args.pages.now c.merge.new.ground c.merge.new.pages) c.from_residual-in_err-merged.ensures
+    (g.met.S.Ground.onward _ _ _ _ _ _ _ c.in_ok-shrink_at.ensures.leads c.in_err-merged.ensures.leads)
+
+pub returns-clause-leads : goal.returns-clause-leads
+returns-clause-leads g t c = g.met.S.Ground.onward _ _ _ _ _ _ _ c.in_ok-shrink_at.ensures.leads c.in_ok-merged.ensures.leads
 
 pub returns-then-not-branch-clause-keys : goal.returns-then-not-branch-clause-keys
 returns-then-not-branch-clause-keys g t c = λ k m has tells one.
