@@ -1,7 +1,14 @@
 -- One key more is put, with the value of its id, and the rest of the list is left.
 use Rattle.std.proofs.Common.{◌≡◌, ◌<◌, ◌∙◌, true, length, arith}
+use Rattle.pmr_tree.proofs.Refusals.{passed_on}
 use Rattle.pmr_tree.proofs.Entries.{put_step, each_at, key_passes}
 use Rattle.pmr_tree.proofs.fill.put_ids.Goals as goal
+
+-- accepted calls lead on to the refused one, and its refusal is passed on
+pub returns-in_err-put-clause-leads : goal.returns-in_err-put-clause-leads
+returns-in_err-put-clause-leads g c =
+    passed_on _ _ (g.S.Ground.Leads c.args.ground.now c.args.pages.now c.put.new.self c.put.new.pages) c.from_residual.ensures
+    (g.met.S.Ground.onward _ _ _ _ _ _ _ c.loop-kept.invariant.leads c.in_err-put.ensures.leads)
 
 pub loop-kept-preserved : goal.loop-kept-preserved
 loop-kept-preserved g c =

@@ -1,7 +1,14 @@
 -- One key more is taken, and the rest of the list is left.
 use Rattle.std.proofs.Common.{◌<◌, ◌∙◌, length, arith}
+use Rattle.pmr_tree.proofs.Refusals.{passed_on}
 use Rattle.pmr_tree.proofs.Entries.{take_step}
 use Rattle.pmr_tree.proofs.fill.take_ids.Goals as goal
+
+-- accepted calls lead on to the refused one, and its refusal is passed on
+pub returns-in_err-take-clause-leads : goal.returns-in_err-take-clause-leads
+returns-in_err-take-clause-leads g c =
+    passed_on _ _ (g.S.Ground.Leads c.args.ground.now c.args.pages.now c.take.new.self c.take.new.pages) c.from_residual.ensures
+    (g.met.S.Ground.onward _ _ _ _ _ _ _ c.loop-kept.invariant.leads c.in_err-take.ensures.leads)
 
 pub loop-kept-preserved : goal.loop-kept-preserved
 loop-kept-preserved g c =
