@@ -1,5 +1,4 @@
 mod Digits
-mod OneDenominator
 mod Quotients
 pub mod LesserExists
 pub mod LowestTerms

@@ -1,5 +1,5 @@
 // Fractions by their parts, and their order by value.
-ghost use Rattle.std.specs.Prelude.{◌≡◌, ◌*◌, ◌≤◌, ◌<◌, ◌^◌, ◌↔◌, IsTrue, length};
+ghost use Rattle.std.specs.Prelude.{◌≡◌, ◌+◌, ◌*◌, ◌≤◌, ◌<◌, ◌^◌, ◌↔◌, IsTrue, length};
 ghost use Rattle.std.specs.Int.{IsGcd};
 ghost use Rattle.std.specs.Cmp.{eq_by_cmp_equiv, partial_equiv_from_equiv, partial_order_from_total};
 ghost use Rattle.std.specs.Ordering.{eq_by_cmp, as_partial_cmp};
@@ -8,6 +8,7 @@ ghost use Rattle.exact_frac.specs.declared.TheConstants.{MAX_NUM, MAX_DEN};
 ghost use Rattle.exact_frac.specs.Fraction.{num_in, den_in};
 ghost use Rattle.exact_frac.specs.Printed.{IsPrinted};
 ghost use Rattle.exact_frac.specs.Value.{SameValue};
+ghost use Rattle.exact_frac.specs.Frac.{value_cmp};
 
 use crate::frac_text::FracText;
 use crate::gcd::greatest_common_divisor;
@@ -64,6 +65,7 @@ impl Frac {
     }
 
     /// The numerator.
+    #[inline]
     pub fn num(&self) -> u128
         ensures { result ≡ self.now.num }
     {
@@ -71,6 +73,7 @@ impl Frac {
     }
 
     /// The denominator, which isn't 0.
+    #[inline]
     pub fn den(&self) -> u128
         ensures { result ≡ self.now.den }
     {
@@ -78,14 +81,15 @@ impl Frac {
     }
 
     /// The order of the two values, by cross products unless the denominators are equal.
+    #[inline]
     pub fn compare(&self, other: &Frac) -> Ordering
         ensures { result ≡ value_cmp self.now other.now }
     {
         if self.high / (1 << DEN_SHIFT) == other.high / (1 << DEN_SHIFT) {
             // Over one denominator the words are in the order of the numerators: the first word ends in their upper bits.
-            self.high.cmp(&other.high).then(self.low.cmp(&other.low))
+            both_words(self).cmp(&both_words(other))
         } else {
-            (self.num() * other.den()).cmp(&(other.num() * self.den()))
+            compare_products(self, other)
         }
     }
 
@@ -125,6 +129,22 @@ impl Frac {
     }
 }
 
+// The two words as one number: the denominator stands above the 86 bits of the numerator.
+#[inline]
+fn both_words(f: &Frac) -> u128
+    ensures { result ≡ f.now.den * 2 ^ 86 + f.now.num }
+{
+    u128::from(f.high) * WORD + u128::from(f.low)
+}
+
+// The order of the two values by cross products. It stays out of the callers of a comparison, which it would make large.
+#[inline(never)]
+fn compare_products(one: &Frac, other: &Frac) -> Ordering
+    ensures { result ≡ value_cmp one.now other.now }
+{
+    (one.num() * other.den()).cmp(&(other.num() * one.den()))
+}
+
 impl PartialEq for Frac {
     ghost use Rattle.exact_frac.specs.Frac.{value_cmp, value_cmp_total};
 
@@ -132,6 +152,7 @@ impl PartialEq for Frac {
 
     ghost laws = { partial_equiv_from_equiv (eq_by_cmp_equiv value_cmp_total) };
 
+    #[inline]
     fn eq(&self, other: &Frac) -> bool {
         self.compare(other).is_eq()
     }
@@ -150,6 +171,7 @@ impl PartialOrd for Frac {
 
     ghost laws = { partial_order_from_total value_cmp_total };
 
+    #[inline]
     fn partial_cmp(&self, other: &Frac) -> Option<Ordering> {
         Some(self.compare(other))
     }
@@ -166,6 +188,7 @@ impl Ord for Frac {
 
     ghost matches_eq = { λ x y. refl };
 
+    #[inline]
     fn cmp(&self, other: &Frac) -> Ordering {
         self.compare(other)
     }
