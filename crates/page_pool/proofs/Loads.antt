@@ -1,4 +1,4 @@
--- One get of a page, whatever its answer.
+-- A page that is read in, whatever the answer.
 use Rattle.std.proofs.Common.{◌≡◌, ◌≢◌, ℕ, List, [], ◌∷◌, Bool, true, false, not, ◌&&◌, nat_eq, refl, sym, ap, ◌∙◌, Option, Some, None, is_some, IsTrue, Result, Err, IfErr}
 use mathlib.Core.Bool.{true≢false}
 use lib.Pointwise.{pointwise}
@@ -7,16 +7,14 @@ use Rattle.std.specs.Option.{option_copied}
 use Rattle.std.specs.Cmp.{nat_eq_equiv}
 use Rattle.std.specs.FinMap as map
 use Rattle.sha2.specs.Sha256.{sha256}
-use Rattle.sand_base.specs.Faults.{next_count}
 use Rattle.page_pool.specs.declared.disk.DiskFault.{DiskFault}
 use Rattle.page_pool.specs.declared.disk.DiskFault.TheVariants as of_disk
 use Rattle.page_pool.specs.declared.fault.PageFault.{PageFault}
 use Rattle.page_pool.specs.Disk.{PageMap, DigestMap, DiskView}
 use Rattle.page_pool.specs.Disk as disk_words
-use Rattle.page_pool.specs.Inside.{ChangeMap, StagedState, FramesState, NumbersState, IsWhole, state_of}
+use Rattle.page_pool.specs.Inside.{ChangeMap, StagedState, FramesState, NumbersState, IsWhole, state_of, ReadsIn}
 use Rattle.page_pool.specs.Pool.{PoolState}
 use Rattle.page_pool.specs.Causes.{page_fault, faults_at, faults_after, IsDamageIfDamaged, Names, IsNoDamage}
-use Rattle.page_pool.specs.Reads.{Gets}
 use Rattle.page_pool.proofs.States.{read_state}
 use Rattle.page_pool.proofs.Seen.{some_one}
 
@@ -48,25 +46,25 @@ damage_untold disk kept changes frames numbers is_open n page digest read whole 
   | false ↦ λ _. refl
 ]) refl
 
--- a get, whatever its answer
-pub gets_state : {T : Type 0} (disk disk' : DiskView) (kept : DigestMap) (staged : StagedState) (frames frames' : FramesState) (numbers : NumbersState) (is_open : Bool) (gets gets' : ℕ) (n : ℕ) (result : Result T PageFault)
-    → disk'.told ≡ disk.told → disk'.pages ≡ disk.pages → frames'.most ≡ frames.most → gets' ≡ next_count gets → disk'.faults ≡ faults_after disk.faults result
-    → IfErr result (IsDamageIfDamaged (state_of disk' kept staged frames' numbers is_open gets')) → IfErr result (Names n)
-    → Gets (state_of disk kept staged frames numbers is_open gets) (state_of disk' kept staged frames' numbers is_open gets') n result
-gets_state disk disk' kept staged frames frames' numbers is_open gets gets' n result told pages most counted faults damaged named = record {
-  read = read_state disk disk' kept staged frames frames' numbers is_open gets gets' told pages most;
-  gets = counted;
+-- the page is read in, whatever the answer
+pub read_in_state : {T : Type 0} (disk disk' : DiskView) (kept : DigestMap) (staged : StagedState) (frames frames' : FramesState) (numbers : NumbersState) (is_open : Bool) (gets : ℕ) (n : ℕ) (result : Result T PageFault)
+    → disk'.told ≡ disk.told → disk'.pages ≡ disk.pages → frames'.most ≡ frames.most → disk'.faults ≡ faults_after disk.faults result
+    → IfErr result (IsDamageIfDamaged (state_of disk' kept staged frames' numbers is_open gets)) → IfErr result (Names n)
+    → ReadsIn (state_of disk kept staged frames numbers is_open gets) (state_of disk' kept staged frames' numbers is_open gets) n result
+read_in_state disk disk' kept staged frames frames' numbers is_open gets n result told pages most faults damaged named = record {
+  read = read_state disk disk' kept staged frames frames' numbers is_open gets gets told pages most;
+  gets = refl;
   cause = record { counted = faults; damaged = damaged };
   named = named;
 }
 
--- a get that the disk refused
-pub gets_refused : {T : Type 0} (disk disk' : DiskView) (kept : DigestMap) (staged : StagedState) (frames frames' : FramesState) (numbers : NumbersState) (is_open : Bool) (gets gets' : ℕ) (n : ℕ) (why : DiskFault)
-    → disk'.told ≡ disk.told → disk'.pages ≡ disk.pages → frames'.most ≡ frames.most → gets' ≡ next_count gets → disk'.faults ≡ disk_words.faults_at disk.faults why
-    → Gets {T = T} (state_of disk kept staged frames numbers is_open gets) (state_of disk' kept staged frames' numbers is_open gets') n (Err (page_fault why))
-gets_refused disk disk' kept staged frames frames' numbers is_open gets gets' n why told pages most counted faults =
-    gets_state disk disk' kept staged frames frames' numbers is_open gets gets' n (Err (page_fault why)) told pages most counted (faults ∙ faults_passed disk.faults why)
-    (passed_undamaged (state_of disk' kept staged frames' numbers is_open gets') why) (passed_names n why)
+-- the disk refused
+pub read_in_refused : {T : Type 0} (disk disk' : DiskView) (kept : DigestMap) (staged : StagedState) (frames frames' : FramesState) (numbers : NumbersState) (is_open : Bool) (gets : ℕ) (n : ℕ) (why : DiskFault)
+    → disk'.told ≡ disk.told → disk'.pages ≡ disk.pages → frames'.most ≡ frames.most → disk'.faults ≡ disk_words.faults_at disk.faults why
+    → ReadsIn {T = T} (state_of disk kept staged frames numbers is_open gets) (state_of disk' kept staged frames' numbers is_open gets) n (Err (page_fault why))
+read_in_refused disk disk' kept staged frames frames' numbers is_open gets n why told pages most faults =
+    read_in_state disk disk' kept staged frames frames' numbers is_open gets n (Err (page_fault why)) told pages most (faults ∙ faults_passed disk.faults why)
+    (passed_undamaged (state_of disk' kept staged frames' numbers is_open gets) why) (passed_names n why)
 
 -- a list is itself, byte by byte
 same_bytes : (xs : List ℕ) → pointwise nat_eq xs xs ≡ true

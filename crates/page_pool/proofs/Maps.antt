@@ -1,5 +1,5 @@
 -- An ordered map of std, seen as a finite map.
-use Rattle.std.proofs.Common.{◌≡◌, ◌≢◌, ◌≤◌, ℕ, List, [], ◌∷◌, Bool, true, false, cond, refl, sym, ap, ◌∙◌, Option, Some, None, is_some, eqb-true, ◌<◌, ◌+◌, ◌⊎◌, inl, inr, arith}
+use Rattle.std.proofs.Common.{◌≡◌, ◌≢◌, ℕ, List, [], ◌∷◌, Bool, true, false, cond, refl, sym, ap, ◌∙◌, Option, Some, None, is_some, eqb-true, ◌<◌, ◌+◌, ◌⊎◌, inl, inr, arith}
 use mathlib.Core.Bool.{true≢false}
 use Rattle.std.specs.Ordering.{nat_cmp, is_eq, eq_by_cmp}
 use Rattle.std.specs.Cmp.{nat_cmp_total, eq_by_cmp_equiv, tied_itself, unsigned_tied}
@@ -8,8 +8,6 @@ use Rattle.std.specs.BTreeMap as tree
 use Rattle.std.specs.BTreeMap.{BTreeMap}
 use Rattle.std.specs.FinMap as map
 use Rattle.std.specs.FinMap.{find, nat_cmp-IsAntisymmetric}
-use Rattle.page_pool.specs.Disk.{DigestMap}
-use Rattle.page_pool.specs.Inside.{EndsBy}
 
 -- the finite map of these entries
 abbrev pub of_entries : {X : Type 0} → List (ℕ × X) → map.FinMap nat_cmp X
@@ -76,17 +74,6 @@ get-remove_same m k = get-remove m k k ∙ ap (λ b. cond b None (map.get m k)) 
 
 pub get-remove_other : {X : Type 0} (m : map.FinMap nat_cmp X) (k q : ℕ) → q ≢ k → map.get (map.remove m k) q ≡ map.get m q
 get-remove_other m k q apart = get-remove m k q ∙ ap (λ b. cond b None (map.get m q)) (tie_apart q k apart)
-
-nothing_else : {X : Type 0} (b : Bool) (o : Option X) → o ≡ None → cond b None o ≡ None
-nothing_else true o none = refl
-nothing_else false o none = none
-
--- digests end where no page was written above
-pub ends-insert : (kept : DigestMap) (last top place : ℕ) (digest : List ℕ) → EndsBy kept last → last ≤ top → place ≤ top → EndsBy (map.insert kept place digest) top
-ends-insert kept last top place digest ends before here = λ q above. get-insert_other kept place digest q (λ is. omega (arith, is)) ∙ ends q (omega arith)
-
-pub ends-remove : (kept : DigestMap) (last place : ℕ) → EndsBy kept last → EndsBy (map.remove kept place) last
-ends-remove kept last place ends = λ q above. get-remove kept place q ∙ nothing_else (eq_by_cmp nat_cmp q place) (map.get kept q) (ends q above)
 
 -- whether something is there after a choice
 pub some_or : {X : Type 0} (b : Bool) (v : X) (o : Option X) → is_some (cond b (Some v) o) ≡ cond b true (is_some o)

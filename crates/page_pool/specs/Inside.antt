@@ -1,5 +1,5 @@
 -- How a pool's parts make up what contracts see of it. (For proofs; no clause above speaks of it.)
-use Rattle.std.specs.Prelude.{◌≡◌, ℕ, suc, ◌+◌, ◌-◌, ◌^◌, ◌≤◌, List, [], ◌∷◌, length, slice_get, Bool, true, false, cond, ◌||◌, nat_eq, nat_lt, IsTrue, Option, None, Some, is_some, ◌⊎◌, ⊤, refl}
+use Rattle.std.specs.Prelude.{◌≡◌, ℕ, suc, ◌+◌, ◌-◌, ◌^◌, ◌≤◌, List, [], ◌∷◌, length, slice_get, Bool, true, false, cond, ◌||◌, nat_eq, nat_lt, IsTrue, Option, None, Some, is_some, Result, IfErr, ◌⊎◌, ⊤, refl}
 use Rattle.std.specs.FinMap as map
 use Rattle.std.specs.FinSet as set
 use Rattle.std.specs.BTreeSet as tree
@@ -9,7 +9,10 @@ use Rattle.std.specs.Coded.{Coded, code_by, coded×, coded_ℕ, coded_list, code
 use Rattle.sha2.specs.Sha256.{sha256}
 use Rattle.lru.specs.LruCache.{LruCache}
 use Rattle.page_pool.specs.Disk.{PageMap, DigestMap, NumberSet, DiskView}
+use Rattle.page_pool.specs.declared.fault.PageFault.{PageFault}
 use Rattle.page_pool.specs.Pool.{PoolState}
+use Rattle.page_pool.specs.Causes.{HasPageCause, Names}
+use Rattle.page_pool.specs.Reads.{IsRead}
 
 -- what the open command, or those since the last writing, did to each page: its bytes, or None where it was freed
 abbrev pub ChangeMap : Type 0
@@ -103,9 +106,12 @@ pub record IsAccount (in_use : ℕ → Bool) (top : ℕ) (spare : NumberSet) : T
 abbrev pub IsUnstaged : PoolState → ℕ → Type 0
 IsUnstaged s n = (set.contains s.dirty n ≡ false) × (set.contains s.freed n ≡ false)
 
--- no digest is kept above this place
-abbrev pub EndsBy : DigestMap → ℕ → Type 0
-EndsBy kept last = (place : ℕ) → last + 1 ≤ place → map.get kept place ≡ None
+-- Page n is read in, whatever the answer, and its get was counted before: nothing else changes, and a refusal has its cause in this call and names this page.
+pub record ReadsIn {T : Type 0} (old new : PoolState) (n : ℕ) (result : Result T PageFault) : Type 0 where
+  pub read : IsRead old new
+  pub gets : new.gets ≡ old.gets
+  pub cause : HasPageCause old new result
+  pub named : IfErr result (Names n)
 
 -- the number has a staged change or a kept digest
 abbrev pub is_used : ChangeMap → DigestMap → ℕ → Bool

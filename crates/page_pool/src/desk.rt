@@ -83,10 +83,12 @@ impl<D: Disk> Desk<D> {
 impl<D: Disk> Pages for Desk<D> {
     ghost shown = { λ s. s.pool };
 
+    #[inline]
     fn page(&mut self, n: u64) -> Result<&[u8; 4096], PageFault> {
         self.pool.page(n)
     }
 
+    #[inline]
     fn live_page(&mut self, n: u64) -> Result<&[u8; 4096], PageFault> {
         self.pool.live_page(n)
     }

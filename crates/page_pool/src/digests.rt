@@ -1,7 +1,6 @@
 ghost use Rattle.std.specs.Prelude.{◌≡◌, OnOk, OnErr};
 ghost use Rattle.std.specs.FinMap as map;
 ghost use Rattle.std.specs.Option.{option_copied};
-ghost use Rattle.page_pool.specs.Inside.{EndsBy};
 
 use sand_base::NoMemory;
 use std::alloc::Global;
@@ -12,21 +11,18 @@ use std::marker::Model;
 #[derive(Drop)]
 pub(crate) struct Digests {
     kept: BTreeMap<u64, [u8; 32]>,
-    last: u64,
 }
 
 impl Model for Digests {
     ghost use Rattle.std.specs.FinMap as map;
     ghost use Rattle.page_pool.specs.Disk.{DigestMap};
-    ghost use Rattle.page_pool.specs.Inside.{page_map_code, EndsBy};
+    ghost use Rattle.page_pool.specs.Inside.{page_map_code};
 
     ghost Value = { DigestMap };
 
     ghost coded = { page_map_code };
 
     ghost view = { λ a. map.from_entries a.kept.entries };
-
-    ghost invariant = { λ a. EndsBy (map.from_entries a.kept.entries) a.last };
 }
 
 impl Digests {
@@ -35,7 +31,6 @@ impl Digests {
     {
         Digests {
             kept: BTreeMap::new(alloc),
-            last: 0,
         }
     }
 
@@ -50,15 +45,7 @@ impl Digests {
         ensures unchanged { OnErr result (self.new ≡ self.old) }
     {
         self.kept.insert(place, digest)?;
-        self.last = self.last.max(place);
         Ok(())
-    }
-
-    // No digest is kept above this place. (The greatest place so far; a removal leaves it.)
-    pub(crate) fn last(&self) -> u64
-        ensures { EndsBy self.now result }
-    {
-        self.last
     }
 
     pub(crate) fn remove(&mut self, place: u64)

@@ -30,6 +30,7 @@ impl Frame {
         }
     }
 
+    #[inline]
     pub(crate) fn page(&self) -> &Page
         ensures { result.now ≡ self.now }
     {
@@ -37,6 +38,7 @@ impl Frame {
     }
 
     // The page has the mark from now on.
+    #[inline]
     pub(crate) fn mark(&self) {
         if !self.is_used.get() {
             self.is_used.set(true);

@@ -51,19 +51,21 @@ impl Frames {
         })
     }
 
-    // Whether the page is there; it is marked as used.
-    pub(crate) fn touch(&self, place: u64) -> bool
-        ensures { result ≡ map.contains_key self.now.pages place }
+    // The page, which is marked as used.
+    #[inline]
+    pub(crate) fn used(&self, place: u64) -> Option<&Page>
+        ensures { option_copied result ≡ map.get self.now.pages place }
     {
         match self.table.get(place) {
             Some(frame) => {
                 frame.mark();
-                true
+                Some(frame.page())
             }
-            None => false,
+            None => None,
         }
     }
 
+    #[inline]
     pub(crate) fn get(&self, place: u64) -> Option<&Page>
         ensures { option_copied result ≡ map.get self.now.pages place }
     {

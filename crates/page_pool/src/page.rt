@@ -33,6 +33,7 @@ impl Page {
         })
     }
 
+    #[inline]
     pub(crate) fn bytes(&self) -> &[u8; 4096]
         ensures { result.now ≡ self.now }
     {

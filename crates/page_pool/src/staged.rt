@@ -41,6 +41,7 @@ impl Staged {
         }
     }
 
+    #[inline]
     pub(crate) fn get(&self, n: u64) -> Option<&Option<Page>>
         ensures { option_copied result ≡ map.get self.now.changes n }
     {

@@ -37,6 +37,7 @@ impl<T: Drop> Table<T> {
         }
     }
 
+    #[inline]
     pub(crate) fn get(&self, n: u64) -> Option<&T>
         ensures { option_copied result ≡ map.get self.now n }
     {

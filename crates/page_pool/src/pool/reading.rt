@@ -1,8 +1,8 @@
-ghost use Rattle.std.specs.Prelude.{◌≡◌, IfSome, IfOk, IfErr, OnOk, IsTrue, false};
+ghost use Rattle.std.specs.Prelude.{◌≡◌, IfSome, IfOk, IfErr, OnOk, false};
 ghost use Rattle.std.specs.Borrow.{sem};
 ghost use Rattle.std.specs.Io.BufRead.{Rests};
 ghost use Rattle.std.specs.FinMap as map;
-ghost use Rattle.page_pool.specs.Inside.{IsUnstaged};
+ghost use Rattle.page_pool.specs.Inside.{IsUnstaged, ReadsIn};
 ghost use Rattle.page_pool.specs.Pool.{IsLive, IsPage};
 ghost use Rattle.page_pool.specs.Causes.{IsMemory};
 ghost use Rattle.page_pool.specs.Reads.{Gets};
@@ -23,7 +23,8 @@ impl<D: Disk> Pool<D> {
         self.find(n)
     }
 
-    // Page `n`, if it is live: one get.
+    // Page `n`, if it is live: one get. A page that is held is found by one look or two, and no fault is built for it.
+    #[inline]
     fn find(&mut self, n: u64) -> Result<&[u8; 4096], PageFault>
         ensures live { OnOk result (IsLive self.old n) }
         ensures missing { map.contains_key self.old.pages n ≡ false → IfErr result IsMemory }
@@ -31,12 +32,35 @@ impl<D: Disk> Pool<D> {
         ensures* after { sem 𝓛 (Rests (the_row D.row D.Disk) self.entry (λ new.
             Gets self.old new n result)) }
     {
-        match self.load(n) {
-            Ok(true) => match self.framed_page(n) {
+        self.gets = self.gets.saturating_add(1);
+        if self.staged.get(n).is_some() {
+            return match self.staged_page(n) {
                 Some(page) => Ok(page),
                 None => Err(PageFault::Memory),
-            },
-            Ok(false) => match self.staged_page(n) {
+            };
+        }
+        if self.frames.get(n).is_some() {
+            return match self.used_page(n) {
+                Some(page) => Ok(page),
+                None => Err(PageFault::Memory),
+            };
+        }
+        self.read_in(n)
+    }
+
+    // Page `n`, which is neither staged nor in a frame, if it is live. Its get was counted.
+    #[cold]
+    #[inline(never)]
+    fn read_in(&mut self, n: u64) -> Result<&[u8; 4096], PageFault>
+        requires { IsUnstaged self.old n }
+        ensures live { OnOk result (IsLive self.old n) }
+        ensures missing { map.contains_key self.old.pages n ≡ false → IfErr result IsMemory }
+        ensures value { IfOk result (λ page. IsPage self.old n page.now) }
+        ensures* after { sem 𝓛 (Rests (the_row D.row D.Disk) self.entry (λ new.
+            ReadsIn self.old new n result)) }
+    {
+        match self.load(n) {
+            Ok(()) => match self.framed_page(n) {
                 Some(page) => Ok(page),
                 None => Err(PageFault::Memory),
             },
@@ -44,20 +68,12 @@ impl<D: Disk> Pool<D> {
         }
     }
 
-    // One get. Afterwards the page is in a frame at true, and at false it is staged, if it is live. Above the pages
-    // that were written all are staged, which takes no search.
-    fn load(&mut self, n: u64) -> Result<bool, PageFault>
+    // Page `n`, which isn't staged, read from the disk into a frame, if it has the kept digest. Its get was counted.
+    fn load(&mut self, n: u64) -> Result<(), PageFault>
+        requires { IsUnstaged self.old n }
         ensures missing { map.contains_key self.old.pages n ≡ false → IfErr result IsMemory }
-        ensures framed { IfOk result (λ is_framed. IsTrue is_framed → IsUnstaged self.new n) }
-        ensures gets { Gets self.old self.new n result }
+        ensures read_in { ReadsIn self.old self.new n result }
     {
-        self.gets = self.gets.saturating_add(1);
-        if n > self.digests.last() || self.staged.get(n).is_some() {
-            return Ok(false);
-        }
-        if self.frames.touch(n) {
-            return Ok(true);
-        }
         let Some(kept) = self.digests.get(n) else {
             return Err(PageFault::Memory);
         };
@@ -71,10 +87,11 @@ impl<D: Disk> Pool<D> {
             });
         }
         self.frames.put(n, page)?;
-        Ok(true)
+        Ok(())
     }
 
     // The page, where it is staged.
+    #[inline]
     fn staged_page(&self, n: u64) -> Option<&[u8; 4096]>
         ensures live { IfSome result (λ _. IsLive self.now n) }
         ensures value { IfSome result (λ page. IsPage self.now n page.now) }
@@ -82,6 +99,19 @@ impl<D: Disk> Pool<D> {
         match self.staged.get(n) {
             Some(Some(page)) => Some(page.bytes()),
             _ => None,
+        }
+    }
+
+    // The page, where it is in a frame, which is marked as used.
+    #[inline]
+    fn used_page(&self, n: u64) -> Option<&[u8; 4096]>
+        requires { IsUnstaged self.now n }
+        ensures live { IfSome result (λ _. IsLive self.now n) }
+        ensures value { IfSome result (λ page. IsPage self.now n page.now) }
+    {
+        match self.frames.used(n) {
+            Some(page) => Some(page.bytes()),
+            None => None,
         }
     }
 
@@ -101,10 +131,12 @@ impl<D: Disk> Pool<D> {
 impl<D: Disk> Pages for Pool<D> {
     ghost shown = { λ s. s };
 
+    #[inline]
     fn page(&mut self, n: u64) -> Result<&[u8; 4096], PageFault> {
         self.find(n)
     }
 
+    #[inline]
     fn live_page(&mut self, n: u64) -> Result<&[u8; 4096], PageFault> {
         self.find(n)
     }
