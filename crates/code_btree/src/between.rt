@@ -112,8 +112,7 @@ impl Tree {
         ensures price { IsTold (P.shown pages.old) → (P.shown pages.new).gets ≤ (P.shown pages.old).gets + (self.now.height + 1 + length (items_between low high (tree_items (pages_in (P.shown pages.old)) self.now)) / 63) }
     {
         let mut near = Near::nowhere();
-        let found = self.between_near(alloc, pages, low, high, &mut near)?;
-        Ok(found)
+        self.between_near(alloc, pages, low, high, &mut near)
     }
 
     /// The same pairs, with the leaf of the range before held in `near`, which has the leaf of this one afterwards. Where

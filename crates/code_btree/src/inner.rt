@@ -9,6 +9,7 @@ use crate::bytes::{
 use std::cmp::min;
 
 // The number of an inner page's keys; other bytes are no inner page.
+#[inline]
 pub fn inner_count(page: &Page) -> Option<usize>
     ensures { MatchOption result (node_of page.now ≢ inner (keys_of (node_of page.now)) (children_of (node_of page.now))) (λ count. IsInnerOf page.now count) }
 {

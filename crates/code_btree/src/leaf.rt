@@ -9,6 +9,7 @@ use crate::bytes::{
 };
 
 // The number of a leaf's entries; other bytes are no leaf.
+#[inline]
 pub fn leaf_count(page: &Page) -> Option<usize>
     ensures { MatchOption result (node_of page.now ≢ leaf (entries_of (node_of page.now)) (next_of (node_of page.now))) (λ count. IsLeafOf page.now count) }
 {
@@ -55,6 +56,7 @@ fn guess(page: &Page, count: usize, key: u128) -> Option<usize>
 }
 
 // Whether the key stands at this place and the one before it is less.
+#[inline]
 fn stands_at(page: &Page, at: usize, key: u128) -> bool
     requires { at < 127 }
     ensures before { result ≡ true → 1 ≤ at → entry_key page.now (at - 1) < key }
@@ -123,6 +125,7 @@ pub fn rank(page: &Page, count: usize, key: u128) -> usize
 
 // The same place, guessed from a key that stands first in the leaf if any does, as the separator above tells: so no byte
 // of the page is waited for before those at the place itself.
+#[inline]
 pub fn rank_behind(page: &Page, count: usize, first: u128, key: u128) -> usize
     requires { count ≤ 127 }
     ensures bound { result ≤ count }
@@ -137,6 +140,7 @@ pub fn rank_behind(page: &Page, count: usize, first: u128, key: u128) -> usize
 }
 
 // The value of a key, where it stands at this place.
+#[inline]
 pub fn value_found(page: &Page, count: usize, at: usize, key: u128) -> Option<u128>
     requires { count ≤ 127 }
     ensures { MatchOption result (at < count → entry_key page.now at ≢ key) (λ value. (at < count) × (entry_key page.now at ≡ key) × (value ≡ entry_value page.now at)) }

@@ -10,6 +10,7 @@ use crate::leaf::{floor_of, leaf_count, rank_behind, value_found};
 use page_pool::{PageFault, Pages};
 
 // The child of page `n` under which a key belongs: one get.
+#[inline]
 pub fn child_for<P: Pages>(pages: &mut P, n: u64, key: u128) -> Result<Option<u64>, PageFault>
     ensures value { IfOk result (λ child. IsTold (P.shown pages.old) → LeadsTo (pages_in (P.shown pages.old)) n key child) }
     ensures looks { Looks (P.shown pages.old) (P.shown pages.new) 1 result }
@@ -22,6 +23,7 @@ pub fn child_for<P: Pages>(pages: &mut P, n: u64, key: u128) -> Result<Option<u6
 }
 
 // The child of page `n` under which a key belongs, with the separator before it, or 1 where there is none: one get.
+#[inline]
 fn part_for<P: Pages>(pages: &mut P, n: u64, key: u128) -> Result<(Option<u64>, u128), PageFault>
     ensures value { IfOk result (λ part. IsTold (P.shown pages.old) → LeadsTo (pages_in (P.shown pages.old)) n key part.0) }
     ensures looks { Looks (P.shown pages.old) (P.shown pages.new) 1 result }
@@ -36,6 +38,7 @@ fn part_for<P: Pages>(pages: &mut P, n: u64, key: u128) -> Result<(Option<u64>, 
 }
 
 // The value of a key in leaf `n`, which begins with the key `first` if it has it: one get.
+#[inline]
 fn find_in_leaf<P: Pages>(
     pages: &mut P,
     n: u64,
@@ -66,15 +69,13 @@ pub fn find_under<P: Pages>(
     ensures looks { Looks (P.shown pages.old) (P.shown pages.new) (level + 1) result }
 {
     if level == 0 {
-        let found = find_in_leaf(pages, n, first, key)?;
-        return Ok(found);
+        return find_in_leaf(pages, n, first, key);
     }
     let part = part_for(pages, n, key)?;
     let Some(child) = part.0 else {
         return Ok(None);
     };
-    let found = find_under(pages, level - 1, child, part.1, key)?;
-    Ok(found)
+    find_under(pages, level - 1, child, part.1, key)
 }
 
 // The entry of the greatest key not above this one in leaf `n`: one get.
@@ -105,12 +106,10 @@ pub fn floor_under<P: Pages>(
     ensures looks { Looks (P.shown pages.old) (P.shown pages.new) (level + 1) result }
 {
     if level == 0 {
-        let found = floor_in_leaf(pages, n, key)?;
-        return Ok(found);
+        return floor_in_leaf(pages, n, key);
     }
     let Some(child) = child_for(pages, n, key)? else {
         return Ok(None);
     };
-    let found = floor_under(pages, level - 1, child, key)?;
-    Ok(found)
+    floor_under(pages, level - 1, child, key)
 }

@@ -123,8 +123,7 @@ impl Tree {
         if self.height == 0 {
             return Err(PageFault::Memory);
         }
-        let found = find_under(pages, self.height - 1, self.root, 1, key)?;
-        Ok(found)
+        find_under(pages, self.height - 1, self.root, 1, key)
     }
 
     /// The pair of the greatest key not above this one.
@@ -140,8 +139,7 @@ impl Tree {
         if self.height == 0 {
             return Err(PageFault::Memory);
         }
-        let found = floor_under(pages, self.height - 1, self.root, key)?;
-        Ok(found)
+        floor_under(pages, self.height - 1, self.root, key)
     }
 
     /// The pair of the least key not below this one. It makes one get more than the height at most.

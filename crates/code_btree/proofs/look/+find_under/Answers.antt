@@ -1,5 +1,6 @@
 -- the child has the key's pair, where there is one
 use Rattle.std.proofs.Common.{◌≡◌, ◌-◌, ℕ, suc, sym, ◌∙◌, ap, subst, arith}
+use Rattle.std.proofs.lemmas.Result.{IfOk-weaker}
 use Rattle.std.specs.Prelude.{Option}
 use Rattle.page_pool.specs.Pool.{IsTold}
 use Rattle.code_btree.specs.Items.{find_item}
@@ -23,20 +24,24 @@ find_under-requires g t c κs within = (omega arith, (within, (λ told. tree (sy
         subst M (sym (same_store (g.P.Pages.shown c.part_for.new.pages) (g.P.Pages.shown c.args.pages.now) c.in_ok-part.ensures.looks.read.pages)) d.child
 
 pub returns-then-level-eq0-clause-value : goal.returns-then-level-eq0-clause-value
-returns-then-level-eq0-clause-value g t c = λ told.
+returns-then-level-eq0-clause-value g t c =
     let m : Store = pages_in (g.P.Pages.shown c.args.pages.now) in
     let S : ℕ → Type 0 = λ x. Subtree m x c.args.n in
-    found_in m c.args.n c.args.key c.in_ok-found.found (subst S c.if-level-eq0.true (c.requires told)) (c.in_ok-found.ensures.value told)
-    ∙ ap (λ (x : ℕ). find_item c.args.key (items m x c.args.n)) (sym c.if-level-eq0.true)
+    IfOk-weaker c.find_in_leaf.result _ _
+    (λ found leaf told. found_in m c.args.n c.args.key found (subst S c.if-level-eq0.true (c.requires told)) (leaf told) ∙ ap (λ (x : ℕ). find_item c.args.key (items m x c.args.n)) (sym c.if-level-eq0.true))
+    c.find_in_leaf.ensures.value
 
 pub returns-clause-value : goal.returns-clause-value
-returns-clause-value g t c = λ told.
+returns-clause-value g t c =
     let m : Store = pages_in (g.P.Pages.shown c.args.pages.now) in
     let l : c.args.level ≡ suc (c.args.level - 1) = omega arith in
     let S : ℕ → Type 0 = λ x. Subtree m x c.args.n in
     let C : Option ℕ → Type 0 = λ x. LeadsTo m c.args.n c.args.key x in
-    let d = led m (c.args.level - 1) c.args.n c.args.key c.in-Some.child (subst S l (c.requires told)) (subst C c.in-Some.is (c.in_ok-part.ensures.value told)) in
     let e = same_store (g.P.Pages.shown c.part_for.new.pages) (g.P.Pages.shown c.args.pages.now) c.in_ok-part.ensures.looks.read.pages in
-    c.in_ok-found-2.ensures.value (c.in_ok-part.ensures.looks.read.told ∙ told)
+    IfOk-weaker c.find_under.result _ _
+    (λ found under told.
+    let d = led m (c.args.level - 1) c.args.n c.args.key c.in-Some.child (subst S l (c.requires told)) (subst C c.in-Some.is (c.in_ok-part.ensures.value told)) in
+    under (c.in_ok-part.ensures.looks.read.told ∙ told)
     ∙ (ap (λ (x : Store). find_item c.args.key (items x (c.args.level - 1) c.in-Some.child)) e
-    ∙ (sym d.same ∙ ap (λ (x : ℕ). find_item c.args.key (items m x c.args.n)) (sym l)))
+    ∙ (sym d.same ∙ ap (λ (x : ℕ). find_item c.args.key (items m x c.args.n)) (sym l))))
+    c.find_under.ensures.value
