@@ -24,6 +24,7 @@ pub enum Item<N> {
 
 impl<N> Item<N> {
     /// The squared distance under which the item stands.
+    #[inline]
     pub fn gap(&self) -> Frac
         ensures { result ≡ gap_of self.now }
     {
@@ -37,6 +38,7 @@ impl<N> Item<N> {
 
 impl<N: Ord> Item<N> {
     // The order among items of equal gap: nodes, then rough objects, then rows.
+    #[inline(never)]
     fn kind_cmp(&self, other: &Item<N>) -> Ordering
         ensures { result ≡ kind_cmp N.cmp self.now other.now }
     {
@@ -71,8 +73,20 @@ impl<N: Ord> PartialEq for Item<N> {
 
     ghost laws = { partial_equiv_from_equiv (eq_by_cmp_equiv (item_total N.total)) };
 
+    // Two rows that differ in an id need no comparison of their gaps.
+    #[inline]
     fn eq(&self, other: &Item<N>) -> bool {
-        self.cmp(other).is_eq()
+        match (self, other) {
+            (
+                Item::Row { left, right, .. },
+                Item::Row {
+                    left: l,
+                    right: r,
+                    ..
+                },
+            ) if left != l || right != r => false,
+            _ => self.cmp(other).is_eq(),
+        }
     }
 }
 
@@ -100,6 +114,7 @@ impl<N: Ord> Ord for Item<N> {
     ghost matches_eq = { λ x y. refl };
 
     /// By the value of the gap, then nodes before rough objects before rows, then by node or by the ids.
+    #[inline(always)]
     fn cmp(&self, other: &Item<N>) -> Ordering {
         match self.gap().cmp(&other.gap()) {
             Ordering::Equal => self.kind_cmp(other),

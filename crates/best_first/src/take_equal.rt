@@ -12,7 +12,7 @@ pub fn take_equal<T: Ord + Drop, Q: Queue<T>>(queue: &mut Q, front: &T)
 {
     let Some(_first) = queue.pop() else { return };
     'equal: while let Some(item) = queue.peek() {
-        if !front.cmp(item).is_eq() {
+        if front != item {
             return;
         }
         let Some(_other) = queue.pop() else { return };
