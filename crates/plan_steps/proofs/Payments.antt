@@ -1,5 +1,5 @@
 -- What a step of an operator pays, from what the step beneath and the stage pay.
-use Rattle.std.proofs.Common.{◌≡◌, ℕ, ◌+◌, ◌*◌, ◌≤◌, Bool, true, false, cond, ◌||◌, List, ◌∷◌, sum_by, Result, Ok, Err, refl, sym, ap, ap₂, ◌∙◌, arith}
+use Rattle.std.proofs.Common.{◌≡◌, ℕ, ◌+◌, ◌*◌, ◌≤◌, min, Bool, true, false, cond, ◌||◌, List, ◌∷◌, sum_by, Result, Ok, Err, refl, sym, ap, ap₂, ◌∙◌, arith}
 use Rattle.std.specs.Global.{Box}
 use Rattle.sand_base.specs.declared.visit.Visit.{Visit}
 use Rattle.page_pool.specs.Disk.{PageMap}
@@ -163,3 +163,12 @@ pub pays_stop : (gets gets' owed left step step' old noted all all' n n' : ℕ) 
     → gets' + left + (old + step * n + 0) ≤ gets + (owed + step) + (all' + step' * n' + 0)
 pays_stop gets gets' owed left step step' old noted all all' n n' s a e m most =
     let steps : step' * n' ≡ step * n = ap₂ (λ x y. x * y) s m in omega (arith, s, a, e, steps, most)
+
+-- what a pass left to pay is what the step after it had left
+pub pays_both : (gets gets' gets'' left left' left'' paid paid' paid'' : ℕ) → gets' + left' + paid ≤ gets + left + paid' → gets'' + left'' + paid' ≤ gets' + left' + paid''
+    → gets'' + left'' + paid ≤ gets + left + paid''
+pays_both gets gets' gets'' left left' left'' paid paid' paid'' first second = omega (arith, first, second)
+
+-- a number that doesn't fall, and doesn't fall again, below a bound
+pub up_both : (a b c most : ℕ) → min a most ≤ b → min b most ≤ c → min a most ≤ c
+up_both a b c most first second = omega (arith, first, second)

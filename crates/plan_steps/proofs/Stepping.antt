@@ -1,5 +1,5 @@
 -- A step of an operator, from the step of the stage or of the operator beneath.
-use Rattle.std.proofs.Common.{◌≡◌, ◌≢◌, ◌⊎◌, inl, inr, ℕ, ◌+◌, ◌≤◌, min, Bool, true, false, cond, nat_lt, ◌||◌, true≢false, List, [], ◌∷◌, ◌++◌, length, take, sum_by, Option, Result, Ok, Err, refl, sym, ap, ap₂, ◌∙◌, subst, le_of_eq, arith}
+use Rattle.std.proofs.Common.{◌≡◌, ◌≢◌, ◌⊎◌, inl, inr, ℕ, ◌<◌, ◌+◌, ◌≤◌, min, Bool, true, false, cond, nat_lt, ◌||◌, true≢false, List, [], ◌∷◌, ◌++◌, length, take, sum_by, Option, Result, Ok, Err, refl, sym, ap, ap₂, ◌∙◌, subst, le_of_eq, arith}
 use Rattle.std.specs.Prelude.{⊤}
 use Rattle.std.specs.Global.{Box}
 use Rattle.std.proofs.lemmas.List.Sums.{sum_by_push}
@@ -22,13 +22,13 @@ use Rattle.plan_steps.specs.Following.{Taking, Follows}
 use Rattle.plan_steps.specs.Outermost.{inner, made, is_filled, source_rows, over_rows, beneath, Begins}
 use Rattle.plan_steps.specs.Paying.{Prices, owed_by, left_of, left_after, paid, HasSamePrices, IsPaid}
 use Rattle.plan_steps.specs.Stages.{Standing, GivesFront, OpensLate, IsFilled, Works, Finishes, IsDry}
-use Rattle.plan_steps.specs.Steps.{given_after, AtEnd, is_full_at, IsSpent, IsAsked, AsksOnce, IsDone, GoesOn, Goes}
+use Rattle.plan_steps.specs.Steps.{given_after, AtEnd, is_full_at, IsSpent, IsAsked, AsksOnce, IsDone, GoesOn, Goes, Lowers}
 use Rattle.plan_steps.specs.declared.operator.Operator.{Operator, Over'}
 use Rattle.plan_steps.specs.declared.step.Step.{Step}
 use Rattle.plan_steps.specs.declared.step.Step.TheVariants.{Row, Pass, End}
 use Rattle.plan_steps.proofs.Fronts.{begins_whole, begins_taken, settled}
 use Rattle.plan_steps.proofs.Levels.{over_made, source_inner, whole_made, lazy_inner, sort_inner, beneath_lazy, beneath_inner, full_inner, filled_plain, filled_front, spent_inner, spent_filled}
-use Rattle.plan_steps.proofs.Payments.{paid_over, left_open, same_over, left_worked, left_finished, pays_work, pays_hold, pays_none}
+use Rattle.plan_steps.proofs.Payments.{paid_over, left_open, same_over, left_worked, left_finished, pays_work, pays_hold, pays_none, pays_both, up_both}
 
 -- ---- one level up
 
@@ -354,3 +354,91 @@ finishes_over {S} {T} At Stands closed q pages d p t given before now old new re
     ended (Ok Pass) h = tt
     ended (Ok End) h = record { all = h ∙ sym (whole_made d p); spent = spent_inner d p g.taken g.ends.spent }
     ended (Err fault) h = tt
+
+-- ---- a pass, and a step after it that asks nothing beneath
+
+-- a number that a pass lowered
+pub lowers_both : (a b c : ℕ) (result : Result Step PageFault) → b < a → Lowers b c result → Lowers a c result
+lowers_both a b c (Ok (Row x)) first second = omega (arith, first, second)
+lowers_both a b c (Ok Pass) first second = omega (arith, first, second)
+lowers_both a b c (Ok End) first second = omega (arith, first, second)
+lowers_both a b c (Err fault) first second = omega (arith, first, second)
+
+-- the visits of a call of the source, where no more were noted after it
+visits_later : (d : Database) (p : Plan) (t : Taken) (before now : Counts) (old mid new : DeskState) (answer : Result (Option Answer) PageFault)
+    → new.visits ≡ mid.visits → min mid.pool.gets last_count ≤ new.pool.gets → MakesVisits d p t before now old mid answer → MakesVisits d p t before now old new answer
+visits_later d p t before now old mid new answer log up m = record {
+  completed = m.completed;
+  attempted = m.attempted;
+  log = log ∙ m.log;
+  few = m.few;
+  settled = m.settled;
+  counted = m.counted;
+  near = m.near;
+  between = m.between;
+  exact = m.exact;
+  rose = up_both _ mid.pool.gets new.pool.gets last_count m.rose up;
+}
+
+-- the source was asked by the pass, or is as it was
+asks_later : (d : Database) (p : Plan) (t after : Taken) (given : List PlanRow) (before now : Counts) (old mid new : DeskState) (result : Result Step PageFault)
+    → new.visits ≡ mid.visits → min mid.pool.gets last_count ≤ new.pool.gets
+    → AsksOnce d p t after given before now old mid (Ok Pass) → AsksOnce d p t after given before now old new result
+asks_later d p t after given before now old mid new result log up (inl a) = inl record {
+  answer = a.answer;
+  asked = a.asked;
+  taken = a.taken;
+  visits = visits_later d p t before now old mid new a.answer log up a.visits;
+  refused = λ fault e. absurd (pass-err (a.refused fault e));
+}
+  where
+    pass-err : {fault : PageFault} → Ok Pass ≡ Err fault → ⊥
+    pass-err e = true≢false (ap is_ok e)
+      where
+        is_ok : Result Step PageFault → Bool
+        is_ok (Ok x) = true
+        is_ok (Err x) = false
+asks_later d p t after given before now old mid new result log up (inr r) =
+    inr record { taken = r.taken; counts = r.counts; log = log ∙ r.log; up = up_both old.pool.gets mid.pool.gets new.pool.gets last_count r.up up }
+
+-- a pass, and a step after it that takes nothing of the source
+passes_over : {S T : Type 0} (At : S → Taking) (Stands : T → Standing) (closed : T → Bool) (q : Prices S T)
+    → (pages : PageMap) (d : Database) (p : Plan) (t : Taken) (given : List PlanRow) (before now : Counts) (old mid new : DeskState) (result : Result Step PageFault) (o o' o'' : Operator S T)
+    → (f : Follows At Stands closed o pages d p t given) (g : Goes d p t given before now old mid (Ok Pass) (IsPaid At Stands closed q o o' pages d p t given f old mid (Ok Pass)))
+    → new.visits ≡ mid.visits → min mid.pool.gets last_count ≤ new.pool.gets
+    → IsPaid At Stands closed q o' o'' pages d p g.taken given g.follows.follows mid new result g.taken (given_after given result)
+    → AtEnd result (IsDone d p g.taken given)
+    → Goes d p t given before now old new result (IsPaid At Stands closed q o o'' pages d p t given f old new result)
+passes_over At Stands closed q pages d p t given before now old mid new result o o' o'' f g log up w ends = record {
+  taken = g.taken;
+  follows = record {
+    follows = w.follows;
+    same = record {
+      heights = w.same.heights ∙ g.follows.same.heights;
+      step = w.same.step ∙ g.follows.same.step;
+      rows = w.same.rows ∙ g.follows.same.rows;
+    };
+    most =
+        pays_both old.pool.gets mid.pool.gets new.pool.gets (left_of closed q o pages d p) (left_of closed q o' pages d p) (left_after closed q o'' pages d p result)
+        (paid At Stands closed q o pages d p t given f old.visits) (paid At Stands closed q o' pages d p g.taken given g.follows.follows mid.visits)
+        (paid At Stands closed q o'' pages d p g.taken (given_after given result) w.follows new.visits) g.follows.most w.most;
+  };
+  asks = asks_later d p t g.taken given before now old mid new result log up g.asks;
+  ends = ends;
+}
+
+-- the stage took a row, and then worked
+pub holds_works_over : {S T : Type 0} (At : S → Taking) (Stands : T → Standing) (closed : T → Bool) (q : Prices S T) → GivesFront Stands → OpensLate Stands closed
+    → (pages : PageMap) (d : Database) (p : Plan) (t : Taken) (given : List PlanRow) (before now : Counts) (old mid new : DeskState) (result : Result Step PageFault)
+    → (stage stage' stage'' : T) (pointer pointer' pointer'' : Box Unit) (below below' : Operator S T) → closed stage'' ≡ closed stage' → q.row stage'' ≡ q.row stage'
+    → new.visits ≡ mid.visits → min mid.pool.gets last_count ≤ new.pool.gets
+    → ((taken given : List PlanRow) → Stands stage' pages d p taken given → Works d p taken given (closed stage'') result (Stands stage'' pages d p taken))
+    → ((taken given : List PlanRow) → Stands stage' pages d p taken given → new.pool.gets + unless_refused result (q.held stage'' pages d p) ≤ mid.pool.gets + q.held stage' pages d p)
+    → (f : Follows At Stands closed (Over' stage pointer below) pages d p t given)
+    → Goes d p t given before now old mid (Ok Pass) (IsPaid At Stands closed q (Over' stage pointer below) (Over' stage' pointer' below') pages d p t given f old mid (Ok Pass))
+    → Goes d p t given before now old new result (IsPaid At Stands closed q (Over' stage pointer below) (Over' stage'' pointer'' below') pages d p t given f old new result)
+unfolding works_over
+holds_works_over At Stands closed q front late pages d p t given before now old mid new result stage stage' stage'' pointer pointer' pointer'' below below' same price log up work costs f g =
+    passes_over At Stands closed q pages d p t given before now old mid new result (Over' stage pointer below) (Over' stage' pointer' below') (Over' stage'' pointer'' below') f g log up
+    (works_over At Stands closed q front late pages d p g.taken given now mid new result stage' stage'' pointer' pointer'' below' same price log up work costs g.follows.follows).follows
+    (works_over At Stands closed q front late pages d p g.taken given now mid new result stage' stage'' pointer' pointer'' below' same price log up work costs g.follows.follows).ends

@@ -1,15 +1,17 @@
 -- The steps of sources and of operators over others, where the disk tells its pages.
-use Rattle.std.proofs.Common.{◌≡◌, ◌∙◌, ◌+◌, ◌≤◌, min, Bool, true, false, true≢false, List, [], ◌∷◌, ◌++◌, Option, Some, None, Result, Ok, IfSome, refl, sym, subst}
+use Rattle.std.proofs.Common.{◌≡◌, ◌∙◌, ◌+◌, ◌≤◌, min, Bool, true, false, true≢false, List, [], ◌∷◌, ◌++◌, Option, Some, None, if◌then◌else◌, Result, Ok, IfSome, refl, sym, ap₂, subst}
 use Rattle.std.specs.Global.{Box}
 use Rattle.sand_base.specs.Faults.{last_count}
 use Rattle.page_pool.specs.Desk.{DeskState}
 use Rattle.page_pool.specs.Disk.{PageMap}
+use Rattle.page_pool.specs.Reads.{IsRead}
 use Rattle.page_pool.specs.declared.fault.PageFault.{PageFault}
 use Rattle.sand_model.specs.Database.{Database}
 use Rattle.sand_model.specs.Operators.{PlanRow}
 use Rattle.sand_model.specs.Plan.{Plan}
 use Rattle.sand_model.specs.Reach.{Counts}
 use Rattle.sand_model.specs.Taken.{Taken, is_lazy}
+use Rattle.best_first.specs.Visits.{told_pages}
 use Rattle.plan_rows.specs.Prices.{unless_refused, Costs}
 use Rattle.plan_rows.specs.Rows.{row_of}
 use Rattle.plan_rows.specs.SourceSteps.{SourceStep}
@@ -23,7 +25,7 @@ use Rattle.plan_steps.specs.declared.operator.Operator.{Operator, Source, Over'}
 use Rattle.plan_steps.specs.declared.step.Step.{Step}
 use Rattle.plan_steps.specs.declared.step.Step.TheVariants.{Row, Pass, End}
 use Rattle.plan_steps.proofs.Sourcing.{as_step, source_goes}
-use Rattle.plan_steps.proofs.Stepping.{works_over, holds_over, IsQuiet, waits_over, finishes_over}
+use Rattle.plan_steps.proofs.Stepping.{works_over, holds_over, holds_works_over, IsQuiet, waits_over, finishes_over}
 
 -- what is told
 pub on_told : (o : Option PageMap) (P Q : PageMap → Type 0) → ((pages : PageMap) → P pages → Q pages) → IfSome o P → IfSome o Q
@@ -34,6 +36,19 @@ on_told None P Q h p = tt
 both_told : (told : Option PageMap) (P Q R : PageMap → Type 0) → ((pages : PageMap) → P pages → Q pages → R pages) → IfSome told P → IfSome told Q → IfSome told R
 both_told (Some pages) P Q R h p q = h pages p q
 both_told None P Q R h p q = tt
+
+-- what follows of three
+three_told : (told : Option PageMap) (P Q R U : PageMap → Type 0) → ((pages : PageMap) → P pages → Q pages → R pages → U pages) → IfSome told P → IfSome told Q → IfSome told R → IfSome told U
+three_told (Some pages) P Q R U h p q r = h pages p q r
+three_told None P Q R U h p q r = tt
+
+-- what holds of the same pages
+still_told : (o o' : Option PageMap) (P : PageMap → Type 0) → o ≡ o' → IfSome o P → IfSome o' P
+still_told o o' P e h = subst (λ told. IfSome told P) e h
+
+-- reading leaves what is told of pages
+pub same_told : (old new : DeskState) → IsRead old.pool new.pool → told_pages new ≡ told_pages old
+same_told old new r = ap₂ (λ (t : Bool) (p : PageMap). if t then Some p else None) r.told r.pages
 
 -- a stage that wants a row isn't closed
 pub is_open : {T : Type 0} (closed waits : T → Bool) → ClosedWaits closed waits → (stage : T) → waits stage ≡ false → closed stage ≡ false
@@ -94,6 +109,32 @@ module _ {S T : Type 0} (At : S → Taking) (Stands : T → Standing) (closed : 
         (λ pages k d p t given f. holds_over At Stands closed q pages d p t given (seen (source_of below)) (seen (source_of below')) old new a stage stage' pointer pointer' below below'
         open_ (same ∙ open_) price (owes pages d p) (dry pages d p) (hold pages d p) (λ taken g. k d (inner p) t taken g) f)
         (beneath_told (Ok (Row a)) is)
+
+    -- a row came from beneath, and the stage worked on it at once
+    pub holds_works_told : GivesFront Stands → OpensLate Stands closed → (last : DeskState) (result : Result Step PageFault) (a : Answer) (stage' stage'' : T) (pointer'' : Box Unit) → below_gave ≡ Ok (Row a)
+        → closed stage' ≡ closed stage → q.row stage' ≡ q.row stage → ((pages : PageMap) (d : Database) (p : Plan) → q.held stage' pages d p ≤ q.row stage pages d p (row_of a))
+        → ((pages : PageMap) (d : Database) (p : Plan) (taken given : List PlanRow) → Stands stage pages d p taken given → Stands stage' pages d p (taken ++ row_of a ∷ []) given)
+        → closed stage'' ≡ closed stage' → q.row stage'' ≡ q.row stage' → last.visits ≡ new.visits → min new.pool.gets last_count ≤ last.pool.gets
+        → (later : Option PageMap) → later ≡ told
+        → IfSome later (λ pages. (d : Database) (p : Plan) (taken given : List PlanRow) → Stands stage' pages d p taken given
+        → Works d p taken given (closed stage'') result (Stands stage'' pages d p taken))
+        → IfSome later (λ pages. (d : Database) (p : Plan) (taken given : List PlanRow) → Stands stage' pages d p taken given
+        → last.pool.gets + unless_refused result (q.held stage'' pages d p) ≤ new.pool.gets + q.held stage' pages d p)
+        → IfSome told (GoesPaid At Stands closed q seen (Over' stage pointer below) (Over' stage'' pointer'' below') old last result)
+    holds_works_told front late last result a stage' stage'' pointer'' is same price owes hold same' price' log up later alike works costs =
+        three_told told (GoesPaid At Stands closed q seen (Over' stage pointer below) (Over' stage' pointer' below') old new (Ok Pass))
+        (λ pages. (d : Database) (p : Plan) (taken given : List PlanRow) → Stands stage' pages d p taken given
+        → Works d p taken given (closed stage'') result (Stands stage'' pages d p taken))
+        (λ pages. (d : Database) (p : Plan) (taken given : List PlanRow) → Stands stage' pages d p taken given
+        → last.pool.gets + unless_refused result (q.held stage'' pages d p) ≤ new.pool.gets + q.held stage' pages d p)
+        (GoesPaid At Stands closed q seen (Over' stage pointer below) (Over' stage'' pointer'' below') old last result)
+        (λ pages k w c d p t given f. holds_works_over At Stands closed q front late pages d p t given (seen (source_of below)) (seen (source_of below')) old new last result
+        stage stage' stage'' pointer pointer' pointer'' below below' same' price' log up (w d p) (c d p) f (k d p t given f))
+        (holds_told a stage' is same price owes hold)
+        (still_told later told (λ pages. (d : Database) (p : Plan) (taken given : List PlanRow) → Stands stage' pages d p taken given
+        → Works d p taken given (closed stage'') result (Stands stage'' pages d p taken)) alike works)
+        (still_told later told (λ pages. (d : Database) (p : Plan) (taken given : List PlanRow) → Stands stage' pages d p taken given
+        → last.pool.gets + unless_refused result (q.held stage'' pages d p) ≤ new.pool.gets + q.held stage' pages d p) alike costs)
 
     -- nothing came from beneath yet, or a refusal
     pub waits_told : (result : Result Step PageFault) → below_gave ≡ result → IsQuiet result

@@ -34,9 +34,10 @@ pub struct Over<S, T> {
 }
 
 impl<S: RowSource, T: RowStage> Operator<S, T> {
-    /// Makes one step. After a refusal no row is lost, and `step` may be called again. Its page gets are at most the
-    /// price of the visits that it noted, of one step of the source where it asked it, and of the rows that stages
-    /// handled; the price of a row that a stage holds is left to pay in later steps.
+    /// Makes one step. A stage works at once on a row that it takes, where it can. After a refusal no row is lost, and
+    /// `step` may be called again. Its page gets are at most the price of the visits that it noted, of one step of the
+    /// source where it asked it, and of the rows that stages handled; what a stage has still to do for a row that it
+    /// holds is left to pay in later steps.
     #[cycle(step)]
     pub fn step<D: Disk>(&mut self, alloc: Global, desk: &mut Desk<D>) -> Result<Step, PageFault>
         requires stands { IfSome (told_pages desk.old) (λ pages. (d : Database) × ((p : Plan) × ((t : Taken) × ((given : List PlanRow) × Follows S.At T.Stands T.closed self.old pages d p t given)))) }
@@ -57,7 +58,7 @@ impl<S: RowSource, T: RowStage> Operator<S, T> {
 }
 
 impl<S: RowSource, T: RowStage> Over<S, T> {
-    // Lets the stage work, or gives it the next row beneath.
+    // Lets the stage work, or gives it the next row beneath, on which it works at once where it can.
     #[cycle(step)]
     fn step<D: Disk>(&mut self, alloc: Global, desk: &mut Desk<D>) -> Result<Step, PageFault>
         requires stands { IfSome (told_pages desk.old) (λ pages. (d : Database) × ((p : Plan) × ((t : Taken) × ((given : List PlanRow) × Follows S.At T.Stands T.closed (Operator.Over self.old) pages d p t given)))) }
@@ -72,7 +73,11 @@ impl<S: RowSource, T: RowStage> Over<S, T> {
         match self.below.step(alloc, desk) {
             Ok(Step::Row(row)) => {
                 self.stage.hold(row);
-                Ok(Step::Pass)
+                if self.stage.is_busy() {
+                    self.stage.work(alloc, desk)
+                } else {
+                    Ok(Step::Pass)
+                }
             }
             Ok(Step::Pass) => Ok(Step::Pass),
             Ok(Step::End) => self.stage.finish(alloc),
