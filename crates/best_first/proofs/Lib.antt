@@ -17,4 +17,3 @@ pub mod Passing
 pub mod Answering
 pub mod Beginning
 pub mod ForLayers
-pub mod ZeroGaps

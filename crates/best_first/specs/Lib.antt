@@ -9,4 +9,3 @@ pub mod Rows
 pub mod Order
 pub mod OrderLaws
 pub mod Inside
-pub mod RowsAtZero

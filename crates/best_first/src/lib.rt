@@ -17,7 +17,6 @@ mod give_row;
 mod hierarchy;
 mod hit;
 mod item;
-mod numbered;
 mod open_node;
 mod push_within;
 mod rows;

@@ -4,7 +4,6 @@ use Rattle.std.specs.Ordering.{ordering_then}
 use Rattle.std.specs.declared.cmp.Ordering.{Ordering}
 use Rattle.z_code.specs.declared.block.Block.{Block}
 use Rattle.best_first.specs.Steps.{steps}
-use Rattle.rank_cursor.specs.Cursor.{block_weight}
 use Rattle.dist_join.specs.OverPages.{pair_weight}
 use Rattle.page_pool.specs.Disk.{PageMap}
 use Rattle.sand_model.specs.Price.{scan_price}
@@ -14,7 +13,7 @@ use Rattle.plan_rows.specs.declared.stats.SourceCounts.{SourceCounts}
 use Rattle.plan_steps.specs.Following.{Taking}
 use Rattle.plain_source.specs.Plain.{IsScan, IsPickEqual, IsPickBetween, steps_left}
 use Rattle.plain_source.specs.Prices.{heights_of as plain_heights, entries_price}
-use Rattle.rank_source.specs.Rankings.{IsAt, by_code, heights_of as rank_heights}
+use Rattle.rank_source.specs.Rankings.{IsAt, by_code, hierarchy_of, seen_of, steps_of, heights_of as rank_heights}
 use Rattle.pair_source.specs.declared.join_source.JoinSource.{JoinSource}
 use Rattle.pair_source.specs.declared.semi_source.SemiSource.{SemiSource}
 use Rattle.pair_source.specs.Joins.{join_view, joining_in, heights_of as join_heights, HasTaken, HasTakenFirsts}
@@ -55,8 +54,7 @@ abbrev pub source_seen : Source → SourceCounts
 source_seen (source.Scan s) = record { blocks = 0; pairs = 0; geometries = 0 }
 source_seen (source.PickEqual s) = record { blocks = 0; pairs = 0; geometries = 0 }
 source_seen (source.PickBetween s) = record { blocks = 0; pairs = 0; geometries = 0 }
-source_seen (source.Rank s) =
-    record { blocks = s.search.frontier.counts.visited; pairs = 0; geometries = s.search.frontier.counts.fetched }
+source_seen (source.Rank s) = seen_of s.search
 source_seen (source.Join s) =
     record { blocks = 0; pairs = s.search.frontier.counts.visited; geometries = s.search.frontier.counts.fetched }
 source_seen (source.Semi s) =
@@ -67,7 +65,7 @@ abbrev pub source_steps : Source → ℕ
 source_steps (source.Scan s) = 4294967296 - s.last
 source_steps (source.PickEqual s) = 4294967296 - s.last
 source_steps (source.PickBetween s) = steps_left s.low s.high s.last
-source_steps (source.Rank s) = steps block_weight s.search.frontier.queue.items
+source_steps (source.Rank s) = steps_of s.search
 source_steps (source.Join s) = steps pair_weight s.search.frontier.queue.items
 source_steps (source.Semi s) = steps pair_weight s.semi.engine.frontier.queue.items
 
@@ -76,7 +74,7 @@ abbrev pub source_heights : Source → Heights
 source_heights (source.Scan s) = plain_heights 0 s.relation.now.file.tree.height
 source_heights (source.PickEqual s) = plain_heights s.look_up.index.tree.height s.look_up.spot.relation.now.file.tree.height
 source_heights (source.PickBetween s) = plain_heights s.look_up.index.tree.height s.look_up.spot.relation.now.file.tree.height
-source_heights (source.Rank s) = rank_heights s.search.hierarchy
+source_heights (source.Rank s) = rank_heights (hierarchy_of s.search)
 source_heights (source.Join s) =
     let h = s.search.hierarchy in
     join_heights

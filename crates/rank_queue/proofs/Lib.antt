@@ -1,4 +1,1 @@
 pub mod KeepsFalling
-pub mod BitsOfNumbers
-pub mod BitsAndHeap
-pub mod Bags

@@ -1,5 +1,2 @@
 pub mod Least
 pub mod Falling
-pub mod Bits
-pub mod NumberSet
-pub mod BitQueue

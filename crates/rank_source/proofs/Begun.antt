@@ -64,14 +64,21 @@ module _ (pages : PageMap) (limits : Limits) (r : RelationView) (at : ℕ) (tree
       ended = λ e. absurd (true≢false (sym e));
     }
 
--- the search that was made stands where nothing was taken, over all pages
+-- a hierarchy that was made of these has the ranking of these
+pub made_ranking : (relation : RelationView) (at : ℕ) (tree : Pmr) (goal : Goal) (ceiling : Option ℕ) (made : RankTree ColumnShapes) → made.shapes.relation.now ≡ relation → made.shapes.column ≡ at
+    → made.pmr ≡ tree → made.goal ≡ goal → made.ceiling ≡ ceiling → (m : PageMap) → ranking_of made m ≡ ranking_in m relation at tree goal ceiling
+made_ranking relation at tree goal ceiling made r a t g c m i = ranking_in m (r i) (a i) (t i) (g i) (c i)
+
+-- the search that was made has its ceiling, and stands where nothing was taken, over all pages
 pub begun_over : (relation : RelationView) (at : ℕ) (tree : Pmr) (goal : Goal) (ceiling : Option ℕ) → IsGoalInClosedPlane goal → (made kept : RankTree ColumnShapes) → kept ≡ made
     → ((m : PageMap) → ranking_of made m ≡ ranking_in m relation at tree goal ceiling) → (held : List (Item Block)) (last : Option Hit) (counts : Counts) → last ≡ None → IsCounted {N = Block} [] counts
     → ((m : PageMap) → MeetsLaws (rank_meaning (ranking_of made m)) → Stands by_code (rank_meaning (ranking_of made m)) held last [])
-    → Begins (λ m d p t. HasTaken by_code (ranking_of kept m) held last counts d p t) relation at tree goal ceiling
-begun_over relation at tree goal ceiling plane made kept still same held last counts none counted stands is m limits small h d column of p r =
+    → (ceiled : Type 0) → ceiled → Begins (λ m d p t. ceiled × HasTaken by_code (ranking_of kept m) held last counts d p t) relation at tree goal ceiling
+begun_over relation at tree goal ceiling plane made kept still same held last counts none counted stands ceiled has_it is m limits small h d column of p r =
     let search : MeetsLaws (rank_meaning (ranking_in m relation at tree goal ceiling)) → Stands by_code (rank_meaning (ranking_in m relation at tree goal ceiling)) held last [] =
-    subst (λ (x : Ranking). MeetsLaws (rank_meaning x) → Stands by_code (rank_meaning x) held last []) (same m) (stands m) in
-    subst (λ (x : RankTree ColumnShapes). HasTaken by_code (ranking_of x m) held last counts d p nothing_taken) (sym still)
-    (subst (λ (x : Ranking). HasTaken by_code x held last counts d p nothing_taken) (sym (same m))
-    (begun m limits relation at tree d column of is goal plane ceiling small h held last counts none counted search p r))
+    subst (λ (x : Ranking). MeetsLaws (rank_meaning x) → Stands by_code (rank_meaning x) held last []) (same m) (stands m) in (
+      has_it,
+      subst (λ (x : RankTree ColumnShapes). HasTaken by_code (ranking_of x m) held last counts d p nothing_taken) (sym still)
+          (subst (λ (x : Ranking). HasTaken by_code x held last counts d p nothing_taken) (sym (same m))
+          (begun m limits relation at tree d column of is goal plane ceiling small h held last counts none counted search p r)),
+    )

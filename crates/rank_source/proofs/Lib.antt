@@ -10,6 +10,7 @@ pub mod RankVisits
 pub mod RankCounts
 pub mod RankPlans
 pub mod RankCalls
+pub mod SingleItems
 pub mod OverPages
 -- how a source begins
 pub mod Begun

@@ -1,5 +1,5 @@
 -- The source of a plan that ranks a column: where it stands when so much of it was taken.
-use Rattle.std.specs.Prelude.{◌≡◌, ℕ, ◌+◌, ◌≤◌, true, List, length, Option, Some}
+use Rattle.std.specs.Prelude.{◌≡◌, ℕ, ◌+◌, ◌≤◌, true, List, length, Option, Some, ⊤}
 use Rattle.std.specs.Ordering.{nat_cmp, ordering_then}
 use Rattle.std.specs.declared.cmp.Ordering.{Ordering}
 use Rattle.sand_base.specs.declared.goal.Goal.{Goal}
@@ -13,28 +13,31 @@ use Rattle.sand_model.specs.Reach.{quadtree_of}
 use Rattle.sand_model.specs.Sources.{column_shapes, ranked}
 use Rattle.sand_model.specs.Taken.{Taken}
 use Rattle.sand_model.specs.Tree.{listings}
+use Rattle.page_pool.specs.Desk.{DeskState}
 use Rattle.page_pool.specs.Disk.{PageMap}
-use Rattle.pair_heap.specs.Queued.{Queued}
-use Rattle.code_btree.specs.declared.near.Near.{Near}
 use Rattle.pmr_tree.specs.declared.quadtree.Pmr.{Pmr}
 use Rattle.sand_store.specs.declared.column.ColumnShapes.{ColumnShapes}
 use Rattle.sand_store.specs.Catalog.{RelationView, IsLimits, most_listings}
 use Rattle.sand_store.specs.Contents.{rows_in, relation_in}
 use Rattle.sand_store.specs.Paths.{IsTreeOf}
 use Rattle.sand_store.specs.Standing.{TableStands, RelationStands}
-use Rattle.best_first.specs.Frontier.{Stands}
-use Rattle.best_first.specs.Visits.{IsCounted}
-use Rattle.best_first.specs.declared.engine.BestFirst.{BestFirst}
+use Rattle.best_first.specs.Frontier.{Stands, StandsOver}
+use Rattle.best_first.specs.Steps.{steps}
+use Rattle.best_first.specs.Visits.{SearchState, state, IsCounted}
 use Rattle.best_first.specs.declared.counts.Counts.{Counts}
 use Rattle.best_first.specs.declared.hit.Hit.{Hit}
 use Rattle.best_first.specs.declared.item.Item.{Item}
+use Rattle.zero_search.specs.ZeroItems.{items_of}
 use Rattle.rank_cursor.specs.Answers.{AreGiven}
-use Rattle.rank_cursor.specs.Cursor.{ranking_over}
+use Rattle.rank_cursor.specs.Cursor.{ranking_over, block_weight}
 use Rattle.rank_cursor.specs.declared.rank_tree.RankTree.{RankTree}
 use Rattle.rank_cursor.specs.Ranking.{Ranking, IsSound, rank_meaning}
 use Rattle.plan_rows.specs.Prices.{Heights}
 use Rattle.plan_rows.specs.Rows.{plan_measure}
 use Rattle.plan_rows.specs.SourceSteps.{nothing_taken}
+use Rattle.plan_rows.specs.declared.stats.SourceCounts.{SourceCounts}
+use Rattle.rank_source.specs.declared.search.Search.{Search}
+use Rattle.rank_source.specs.declared.search.Search.TheVariants.{Nearest, AtZero}
 
 -- ---- what is ranked
 
@@ -64,10 +67,6 @@ pub record RanksColumn (r : Ranking) (d : Database) (p : Plan) : Type 0 where
 
 -- ---- the search
 
--- the search of a source: over the quadtree of a column of shapes, its frontier in a pairing heap
-abbrev pub Search : Type 0
-Search = BestFirst (RankTree ColumnShapes) (Queued (Item Block)) Block Near
-
 -- the order of its nodes, by code and then by level
 abbrev pub by_code : Block → Block → Ordering
 by_code a b = ordering_then (nat_cmp a.z b.z) (nat_cmp a.level b.level)
@@ -82,6 +81,47 @@ abbrev pub heights_of : RankTree ColumnShapes → Heights
 heights_of tree =
     record { index = tree.pmr.map.height; rows = tree.shapes.relation.now.file.tree.height; right_index = 0; right_rows = 0 }
 
+-- the hierarchy of a search of either kind
+abbrev pub hierarchy_of : Search → RankTree ColumnShapes
+hierarchy_of (Nearest s) = s.hierarchy
+hierarchy_of (AtZero s) = s.hierarchy
+
+-- what it has queued
+abbrev pub held_of : Search → List (Item Block)
+held_of (Nearest s) = s.frontier.queue.items
+held_of (AtZero s) = items_of s.frontier.queue
+
+-- the last row that it gave
+abbrev pub last_of : Search → Option Hit
+last_of (Nearest s) = s.frontier.last
+last_of (AtZero s) = s.frontier.last
+
+-- the counts of its visits
+abbrev pub counted_by : Search → Counts
+counted_by (Nearest s) = s.frontier.counts
+counted_by (AtZero s) = s.frontier.counts
+
+-- the search and its desk at one moment
+abbrev pub state_of : Search → DeskState → SearchState Block
+state_of s desk = state (held_of s) (last_of s) (counted_by s) desk
+
+-- how many steps it may still make
+abbrev pub steps_of : Search → ℕ
+steps_of s = steps block_weight (held_of s)
+
+-- what it has visited
+abbrev pub seen_of : Search → SourceCounts
+seen_of s = record { blocks = (counted_by s).visited; pairs = 0; geometries = (counted_by s).fetched }
+
+-- a search of the rows at the distance 0 has the ceiling 0, and one by distance has any
+abbrev pub HasItsCeiling : Search → Type 0
+HasItsCeiling (Nearest s) = ⊤
+HasItsCeiling (AtZero s) = s.hierarchy.ceiling ≡ Some 0
+
+-- the search has its ceiling, and stands over these pages, whatever it has taken
+abbrev pub StandsOn : Search → PageMap → Type 0
+StandsOn s pages = HasItsCeiling s × StandsOver by_code (rank_meaning (ranking_of (hierarchy_of s) pages)) (held_of s) (last_of s)
+
 -- ---- where it stands
 
 -- So much was taken of the plan's source: the ranking can be searched, the search stands where it has taken all that its counts count, its rows are the first of the ranked ones, and at its end all.
@@ -94,10 +134,9 @@ pub record HasTaken (cmp : Block → Block → Ordering) (r : Ranking) (held : L
   pub rows : AreGiven (ranked plan_measure r.goal r.ceiling r.shapes) t.rows last
   pub ended : t.is_ended ≡ true → t.rows ≡ length (ranked plan_measure r.goal r.ceiling r.shapes)
 
--- so much was taken of the plan's source, over these pages
+-- so much was taken of the plan's source, over these pages, by a search that has its ceiling
 abbrev pub IsAt : Search → PageMap → Database → Plan → Taken → Type 0
-IsAt s pages d p t =
-    HasTaken by_code (ranking_of s.hierarchy pages) s.frontier.queue.items s.frontier.last s.frontier.counts d p t
+IsAt s pages d p t = HasItsCeiling s × HasTaken by_code (ranking_of (hierarchy_of s) pages) (held_of s) (last_of s) (counted_by s) d p t
 
 -- Nothing was taken of a ranking's source: over all pages where the relation stands, the tree is that of its column, and the plan ranks this column.
 abbrev pub Begins : (PageMap → Database → Plan → Taken → Type 0) → RelationView → ℕ → Pmr → Goal → Option ℕ → Type 0

@@ -1,26 +1,24 @@
 ghost use Rattle.std.specs.Prelude.{◌≡◌, ◌<◌, ◌^◌, [], ◌∷◌, Some, IfSome, IfOk};
 ghost use Rattle.sand_base.specs.Plane.{IsGoalInClosedPlane};
 ghost use Rattle.sand_model.specs.Reach.{no_counts};
-ghost use Rattle.best_first.specs.Steps.{steps};
-ghost use Rattle.rank_cursor.specs.Cursor.{block_weight};
 ghost use Rattle.plan_rows.specs.Rows.{counts_of};
-ghost use Rattle.rank_source.specs.Rankings.{IsAt, Begins, heights_of};
+ghost use Rattle.rank_source.specs.Rankings.{IsAt, Begins, hierarchy_of, seen_of, steps_of, heights_of};
 
 use crate::TreeColumn;
-use best_first::{BestFirst, Hit, Item};
+use crate::search::Search;
+use best_first::{BestFirst, Hit};
 use page_pool::{Desk, Disk, PageFault};
 use plan_rows::{Answer, RowSource, SourceCounts};
 use rank_cursor::RankTree;
-use rank_queue::{BitQueue, Queue};
+use rank_queue::{CopyQueue, Queue};
 use sand_base::{Goal, Ids, NoMemory, Row};
-use sand_store::ColumnShapes;
 use std::alloc::Global;
-use z_code::Block;
+use zero_search::ZeroSearch;
 
 /// The rows of a column by their distance from a goal, nearest first.
 #[derive(Drop)]
 pub struct RankSource<'s> {
-    search: BestFirst<RankTree<'s, ColumnShapes<'s>>, BitQueue<Item<Block>>>,
+    search: Search<'s>,
 }
 
 impl<'s> RankSource<'s> {
@@ -37,23 +35,22 @@ impl<'s> RankSource<'s> {
         ensures begun { IfOk result (λ s. Begins (⟦<RankSource<'s> as RowSource>⟧.At s) column.entry.relation.now column.entry.column column.entry.tree.now goal ceiling) }
     {
         let hierarchy = RankTree::over(column.tree, column.shapes(), goal, ceiling);
-        let search = BestFirst::start(alloc, hierarchy, empty_queue(alloc, column, ceiling)?)?;
-        Ok(RankSource { search })
-    }
-}
-
-// A queue with no item. Within the distance 0 all rows have the same gap and come in the order of their ids: there each
-// id has a bit.
-fn empty_queue(
-    alloc: Global,
-    column: TreeColumn,
-    ceiling: Option<u32>,
-) -> Result<BitQueue<Item<Block>>, NoMemory>
-    ensures { IfOk result (λ q. q.items ≡ []) }
-{
-    match ceiling {
-        Some(0) => BitQueue::with_numbers(alloc, column.relation.greatest().saturating_add(1)),
-        _ => Ok(BitQueue::empty(alloc)),
+        match ceiling {
+            // Each id of a row has a bit.
+            Some(0) => {
+                let count = column.relation.greatest().saturating_add(1);
+                let search = ZeroSearch::start(alloc, hierarchy, count)?;
+                Ok(RankSource {
+                    search: Search::AtZero(search),
+                })
+            }
+            _ => {
+                let search = BestFirst::start(alloc, hierarchy, CopyQueue::empty(alloc))?;
+                Ok(RankSource {
+                    search: Search::Nearest(search),
+                })
+            }
+        }
     }
 }
 
@@ -73,15 +70,15 @@ fn answer_of(alloc: Global, hit: Hit) -> Answer
 impl<'s> RowSource for RankSource<'s> {
     ghost At = { λ s pages d p t. IsAt s.search pages d p t };
 
-    ghost seen = { λ s. record { blocks = s.search.frontier.counts.visited; pairs = 0; geometries = s.search.frontier.counts.fetched } };
+    ghost seen = { λ s. seen_of s.search };
 
-    ghost heights = { λ s. heights_of s.search.hierarchy };
+    ghost heights = { λ s. heights_of (hierarchy_of s.search) };
 
     ghost step_price = { λ s. 0 };
 
     ghost owed = { λ s pages. 0 };
 
-    ghost steps = { λ s. steps block_weight s.search.frontier.queue.items };
+    ghost steps = { λ s. steps_of s.search };
 
     fn next<D: Disk>(
         &mut self,

@@ -1,14 +1,40 @@
--- The search stands over all pages where the relation does, and has taken nothing.
-use Rattle.std.proofs.Common.{◌∙◌}
-use Rattle.rank_source.specs.Rankings.{ranking_in}
-use Rattle.rank_source.proofs.Begun.{begun_over}
+-- The search has its ceiling, stands over all pages where the relation does, and has taken nothing.
+use Rattle.std.proofs.Common.{◌≡◌, ℕ, Some, sym, ap, ◌∙◌}
+use Rattle.std.specs.Prelude.{⊤}
+use Rattle.sand_store.specs.declared.column.ColumnShapes.{ColumnShapes}
+use Rattle.zero_search.specs.ZeroItems.{items_of}
+use Rattle.rank_cursor.specs.declared.rank_tree.RankTree.{RankTree}
+use Rattle.rank_source.specs.Rankings.{ranking_of}
+use Rattle.rank_source.proofs.Begun.{made_ranking, begun_over}
+use Rattle.rank_source.proofs.SingleItems.{within_zero}
 use Rattle.rank_source.proofs.rank_source.RankSource.start.Goals as goal
 
-pub returns-clause-begun : goal.returns-clause-begun
-returns-clause-begun c =
+-- within the distance 0
+pub returns-in_ok-search-in-Some-eq0-clause-begun : goal.returns-in_ok-search-in-Some-eq0-clause-begun
+returns-in_ok-search-in-Some-eq0-clause-begun c =
+    let r = c.args.column.relation.now in
+    let t = c.args.column.tree.now in
     let over = c.over-hierarchy in
-    let s = c.in_ok-search.search in
-    begun_over c.args.column.relation.now c.args.column.column c.args.column.tree.now c.args.goal c.args.ceiling c.requires.plane over.result s.hierarchy c.in_ok-search.ensures.hierarchy
-    (λ m i. ranking_in m (((λ j. (over.ensures.shapes j).relation) ∙ c.shapes.ensures.relation) i).now (((λ j. (over.ensures.shapes j).column) ∙ c.shapes.ensures.column) i)
-    (over.ensures.pmr i) (over.ensures.goal i) (over.ensures.ceiling i))
-    s.frontier.queue.items s.frontier.last s.frontier.counts c.in_ok-search.ensures.none_given c.in_ok-search.ensures.none_taken c.in_ok-search.ensures.stands
+    let s = c.in_ok-search-in-Some-eq0.search in
+    let h = c.in_ok-search-in-Some-eq0.ensures in
+    let at_zero : over.result.ceiling ≡ Some 0 = over.ensures.ceiling ∙ c.in-Some-eq0.is ∙ ap (λ (n : ℕ). Some n) (sym c.in-Some-eq0.field-0-is ∙ c.in-Some-eq0.field-0-test) in
+    begun_over r c.args.column.column t c.args.goal c.args.ceiling c.requires.plane over.result s.hierarchy h.hierarchy
+    (made_ranking r c.args.column.column t c.args.goal c.args.ceiling over.result
+    (ap (λ (x : ColumnShapes). x.relation.now) over.ensures.shapes ∙ (λ i. (c.shapes.ensures.relation i).now)) (ap (λ (x : ColumnShapes). x.column) over.ensures.shapes ∙ c.shapes.ensures.column)
+    over.ensures.pmr over.ensures.goal over.ensures.ceiling)
+    (items_of s.frontier.queue) s.frontier.last s.frontier.counts h.none_given h.none_taken (λ m laws. h.stands m laws (within_zero (ranking_of over.result m) at_zero))
+    (s.hierarchy.ceiling ≡ Some 0) (ap (λ (x : RankTree ColumnShapes). x.ceiling) h.hierarchy ∙ at_zero)
+
+-- by distance
+pub returns-in_ok-search-in_default-clause-begun : goal.returns-in_ok-search-in_default-clause-begun
+returns-in_ok-search-in_default-clause-begun c =
+    let r = c.args.column.relation.now in
+    let t = c.args.column.tree.now in
+    let over = c.over-hierarchy in
+    let s = c.in_ok-search-in_default.search in
+    let h = c.in_ok-search-in_default.ensures in
+    begun_over r c.args.column.column t c.args.goal c.args.ceiling c.requires.plane over.result s.hierarchy h.hierarchy
+    (made_ranking r c.args.column.column t c.args.goal c.args.ceiling over.result
+    (ap (λ (x : ColumnShapes). x.relation.now) over.ensures.shapes ∙ (λ i. (c.shapes.ensures.relation i).now)) (ap (λ (x : ColumnShapes). x.column) over.ensures.shapes ∙ c.shapes.ensures.column)
+    over.ensures.pmr over.ensures.goal over.ensures.ceiling)
+    s.frontier.queue.items s.frontier.last s.frontier.counts h.none_given h.none_taken h.stands ⊤ tt

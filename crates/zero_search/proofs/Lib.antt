@@ -1,0 +1,10 @@
+pub mod BitsOfNumbers
+pub mod ZeroGaps
+pub mod Ids
+pub mod Queued
+pub mod Thinned
+pub mod Leveled
+pub mod ZeroSteps
+pub mod Rows
+pub mod Begun
+pub mod OverPages

@@ -1,0 +1,10 @@
+-- sets of small numbers as bits
+pub mod Bits
+pub mod IdSet
+-- what a search within the distance 0 keeps
+pub mod RowsAtZero
+pub mod ZeroItems
+-- what is asked of the hierarchy
+pub mod WithinZero
+-- the steps inside a call
+pub mod Inside
