@@ -9,7 +9,7 @@ ghost use Rattle.code_btree.specs.Calls.{Looks, Peeks};
 
 use crate::Tree;
 use crate::bytes::Page;
-use crate::leaf::{entry_key_at, entry_value_at, leaf_count, next_at, rank};
+use crate::leaf::{entry_key_at, entry_value_at, leaf_count, next_at, rank_from};
 use crate::near::{Near, leaf_for};
 use page_pool::{PageFault, Pages};
 use sand_base::NoMemory;
@@ -27,37 +27,43 @@ fn add(found: &mut Vec<(u128, u128)>, pair: (u128, u128)) -> Result<(), NoMemory
 }
 
 // Takes the pairs of a leaf from `low` on and below `high`, and gives the leaf that follows; or 0, where an entry from
-// `low` on is at `high` or behind it.
+// `low` on is at `high` or behind it. The first of them is sought at `place` before anywhere else; `place` is then where
+// the pairs of the range end.
 fn take_page(
     found: &mut Vec<(u128, u128)>,
     page: &Page,
     count: usize,
     low: u128,
     high: u128,
+    place: &mut usize,
 ) -> Result<u64, NoMemory>
     requires { IsLeafOf page.now count }
     ensures { IfOk result (λ next. Ascending (entries_of (node_of page.now)) → Takes (entries_of (node_of page.now)) (next_of (node_of page.now)) low high found.old.items found.new.items next) }
 {
-    let from = rank(page, count, low);
+    let from = rank_from(page, count, *place, low);
     let mut at = from;
     'entries: while at < count {
         let key = entry_key_at(page, at);
         if key >= high {
+            *place = at;
             return Ok(0);
         }
         add(found, (key, entry_value_at(page, at)))?;
         at += 1;
     }
+    *place = at;
     Ok(next_at(page))
 }
 
-// Takes the pairs of leaf `n` from `low` on and below `high`, and gives the leaf that follows: one get.
+// Takes the pairs of leaf `n` from `low` on and below `high`, and gives the leaf that follows: one get. The first of
+// them is sought at `place` before anywhere else; `place` is then where the pairs of the range end.
 fn take_leaf<P: Pages>(
     pages: &mut P,
     n: u64,
     low: u128,
     high: u128,
     found: &mut Vec<(u128, u128)>,
+    place: &mut usize,
 ) -> Result<u64, PageFault>
     ensures value { IfOk result (λ next. IsTold (P.shown pages.old) → IsTakenIn (pages_in (P.shown pages.old)) n low high found.old.items found.new.items next) }
     ensures looks { Looks (P.shown pages.old) (P.shown pages.new) 1 result }
@@ -66,11 +72,12 @@ fn take_leaf<P: Pages>(
     let Some(count) = leaf_count(page) else {
         return Ok(0);
     };
-    let next = take_page(found, page, count, low, high)?;
+    let next = take_page(found, page, count, low, high, place)?;
     Ok(next)
 }
 
-// Takes the pairs of a range from a leaf on, one get for each leaf. A tree has no more leaves than entries.
+// Takes the pairs of a range from a leaf on, one get for each leaf: all of those leaves begin in the range or behind it.
+// A tree has no more leaves than entries.
 fn take_on<P: Pages>(
     pages: &mut P,
     tree: Tree,
@@ -90,7 +97,8 @@ fn take_on<P: Pages>(
         if leaf == 0 {
             return Ok(());
         }
-        leaf = take_leaf(pages, leaf, low, high, found)?;
+        let mut place = 0;
+        leaf = take_leaf(pages, leaf, low, high, found, &mut place)?;
         left -= 1;
     }
     Ok(())
@@ -137,7 +145,7 @@ impl Tree {
         }
         let mut found = Vec::new(alloc);
         let leaf = leaf_for(pages, self.height - 1, self.root, low, near)?;
-        let next = take_leaf(pages, leaf, low, high, &mut found)?;
+        let next = take_leaf(pages, leaf, low, high, &mut found, &mut near.at)?;
         take_on(pages, *self, next, low, high, &mut found)?;
         Ok(found)
     }

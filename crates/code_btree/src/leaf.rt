@@ -139,6 +139,37 @@ pub fn rank_behind(page: &Page, count: usize, first: u128, key: u128) -> usize
     rank(page, count, key)
 }
 
+// Whether a key stands or would stand at this place: the one before it is less, and the one at it isn't.
+#[inline]
+fn belongs_at(page: &Page, count: usize, at: usize, key: u128) -> bool
+    requires { count ≤ 127 }
+    ensures bound { result ≡ true → at ≤ count }
+    ensures before { result ≡ true → 1 ≤ at → entry_key page.now (at - 1) < key }
+    ensures behind { result ≡ true → at < count → key ≤ entry_key page.now at }
+{
+    if at > count {
+        return false;
+    }
+    if at > 0 && entry_key_at(page, at - 1) >= key {
+        return false;
+    }
+    at == count || key <= entry_key_at(page, at)
+}
+
+// The same place, where another one is tried first; any will do.
+#[inline]
+pub fn rank_from(page: &Page, count: usize, first: usize, key: u128) -> usize
+    requires { count ≤ 127 }
+    ensures bound { result ≤ count }
+    ensures before { 1 ≤ result → entry_key page.now (result - 1) < key }
+    ensures behind { result < count → key ≤ entry_key page.now result }
+{
+    if belongs_at(page, count, first, key) {
+        return first;
+    }
+    rank(page, count, key)
+}
+
 // The value of a key, where it stands at this place.
 #[inline]
 pub fn value_found(page: &Page, count: usize, at: usize, key: u128) -> Option<u128>

@@ -11,13 +11,19 @@ use crate::bytes::Page;
 use crate::inner::{child_at, inner_count, key_at, place_of};
 use page_pool::{PageFault, Pages};
 
+/// More than any place in a leaf: which one it is, isn't known.
+const NO_PLACE: usize = 128;
+
 /// A page of a tree, and the keys that belong under it: those from `low` on and below `high`. Held from one range to
 /// the next, it is the leaf at which the one before began, and a range that begins with such a key needs no descent.
+/// `at` is the place in the leaf at which the range before ended, where the next one mostly begins: it is looked at
+/// first, and whatever it is, it changes no answer.
 #[derive(Clone, Copy, Debug)]
 pub struct Near {
     page: u64,
     low: u128,
     high: u128,
+    pub(crate) at: usize,
 }
 
 impl Near {
@@ -33,6 +39,7 @@ impl Near {
             page: 0,
             low: 1,
             high: 0,
+            at: NO_PLACE,
         }
     }
 
@@ -48,6 +55,7 @@ impl Near {
             page: self.page,
             low: self.low.max(part.low),
             high: self.high.min(part.high),
+            at: self.at,
         }
     }
 }
@@ -88,6 +96,7 @@ fn part_for<P: Pages>(pages: &mut P, n: u64, key: u128) -> Result<Option<Near>, 
         page: child_at(page, at),
         low: low_at(page, at),
         high: high_at(page, count, at),
+        at: NO_PLACE,
     }))
 }
 
@@ -102,6 +111,7 @@ fn leaf_near<P: Pages>(pages: &mut P, level: u32, n: u64, key: u128) -> Result<N
             page: n,
             low: 0,
             high: u128::MAX,
+            at: NO_PLACE,
         });
     }
     let Some(part) = part_for(pages, n, key)? else {

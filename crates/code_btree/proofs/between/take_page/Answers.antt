@@ -5,7 +5,7 @@ use Rattle.code_btree.proofs.Betweens.{take_step, takes_inside, takes_on}
 use Rattle.code_btree.proofs.between.take_page.Goals as goal
 
 pub entries-init : goal.entries-init
-entries-init c = record { within = c.rank-from.ensures.bound; before = λ l. absurd (omega (arith, l)); taken = refl }
+entries-init c = record { within = c.rank_from-from.ensures.bound; before = λ l. absurd (omega (arith, l)); taken = refl }
 
 pub entries-preserved : goal.entries-preserved
 entries-preserved c = record {
@@ -18,12 +18,12 @@ entries-preserved c = record {
 
 pub returns-then-key-high : goal.returns-then-key-high
 returns-then-key-high c = λ asc.
-    takes_inside c.args.page.now c.args.count c.rank-from.result c.entries.at c.args.low c.args.high (next_of (node_of c.args.page.now)) c.args.found.now.items _ c.requires
-    (record { place = c.rank-from.ensures.bound; before = c.rank-from.ensures.before; behind = c.rank-from.ensures.behind })
+    takes_inside c.args.page.now c.args.count c.rank_from-from.result c.entries.at c.args.low c.args.high (next_of (node_of c.args.page.now)) c.args.found.now.items _ c.requires
+    (record { place = c.rank_from-from.ensures.bound; before = c.rank_from-from.ensures.before; behind = c.rank_from-from.ensures.behind })
     c.entries-test.true (omega (arith, c.entry_key_at-key.ensures, c.if-key-high.true)) c.entries.invariant.taken asc
 
 pub returns : goal.returns
 returns c = λ asc.
-    takes_on c.args.page.now c.args.count c.rank-from.result c.entries.at c.args.low c.args.high (next_of (node_of c.args.page.now)) c.next_at.result c.args.found.now.items _ c.requires
-    (record { place = c.rank-from.ensures.bound; before = c.rank-from.ensures.before; behind = c.rank-from.ensures.behind })
+    takes_on c.args.page.now c.args.count c.rank_from-from.result c.entries.at c.args.low c.args.high (next_of (node_of c.args.page.now)) c.next_at.result c.args.found.now.items _ c.requires
+    (record { place = c.rank_from-from.ensures.bound; before = c.rank_from-from.ensures.before; behind = c.rank_from-from.ensures.behind })
     c.entries-test.false c.entries.invariant.within c.entries.invariant.before (c.next_at.ensures c.requires.is_leaf) c.entries.invariant.taken asc
