@@ -1,11 +1,11 @@
 -- A key looked up, one level after the other.
-use Rattle.std.proofs.Common.{◌≡◌, ℕ, suc, ◌+◌, List, [], ◌∷◌, take, drop, sym, ◌∙◌, ap, subst, arith}
-use Rattle.std.specs.Prelude.{Option, None, Some}
-use Rattle.code_btree.specs.Node.{Pair, Node, leaf, inner, node_of, entries_of, next_of, keys_of, children_of, child_in}
-use Rattle.code_btree.specs.Items.{find_item}
+use Rattle.std.proofs.Common.{◌≡◌, ◌≢◌, ℕ, suc, ◌+◌, ◌-◌, ◌<◌, ◌≤◌, List, [], ◌∷◌, length, get_or, take, drop, sym, ◌∙◌, ap, subst, arith}
+use Rattle.std.specs.Prelude.{Option, None, Some, MatchOption}
+use Rattle.code_btree.specs.Node.{Pair, Node, leaf, inner, node_of, entries_of, next_of, keys_of, children_of, IsLeafOf, entry_key, entry_value, child_in}
+use Rattle.code_btree.specs.Items.{Ascending, find_item}
 use Rattle.code_btree.specs.Tree.{Store, node, items, all_items}
-use Rattle.code_btree.specs.Steps.{Subtree, LeadsTo, InnerStep, IsFoundIn, LeafStep}
-use Rattle.code_btree.proofs.Orders.{find_middle, leaf_hit, leaf_miss}
+use Rattle.code_btree.specs.Steps.{Subtree, LeadsTo, InnerStep, IsFoundIn}
+use Rattle.code_btree.proofs.Orders.{find_middle, rising, leaf_hit, leaf_miss}
 use Rattle.code_btree.proofs.Moves.{items-three}
 use Rattle.code_btree.proofs.Looks.{entry_is}
 use Rattle.code_btree.proofs.Leaves.{here, ranked, missed, leaf_sound}
@@ -42,15 +42,25 @@ led_none m h n k s l =
     let P : Node → Type 0 = λ o. o ≡ inner (keys_of o) (children_of o) in
     l.step (subst P hh s.sound.0.is_inner)
 
-found_by : (m : Store) (n k : ℕ) (p : List ℕ) (found : Option ℕ) → m n ≡ Some p → Subtree m 0 n → LeafStep p k found → found ≡ find_item k (entries_of (node_of p))
-found_by m n k p None e s t = sym (leaf_miss k [] (entries_of (node_of p)) t.at (0, 0) (leaf_sound m n p e s) (omega (arith, t.place, t.is.counted)) (λ o. ranked p t.count t.at k t.is t.place t.before o) (λ i. missed p t.count t.at k t.is t.place t.behind t.value i)).1
-found_by m n k p (Some v) e s t =
-    let entry = entry_is p t.count t.at (0, 0) t.is t.value.0 in
-    sym ((leaf_hit k [] (entries_of (node_of p)) t.at (0, 0) (leaf_sound m n p e s) (omega (arith, t.value.0, t.is.counted)) (λ o. ranked p t.count t.at k t.is t.place t.before o) (ap (λ (x : Pair). x.0) entry ∙ t.value.1)).1
-    ∙ ap (λ (x : ℕ). Some x) (ap (λ (x : Pair). x.1) entry ∙ sym t.value.2))
+-- in the code's words
+pub found_at : (p : List ℕ) (count at k : ℕ) (found : Option ℕ) → IsLeafOf p count → Ascending (entries_of (node_of p)) → at ≤ count → (1 ≤ at → entry_key p (at - 1) < k) → (at < count → k ≤ entry_key p at)
+    → MatchOption found (at < count → entry_key p at ≢ k) (λ value. (at < count) × (entry_key p at ≡ k) × (value ≡ entry_value p at)) → found ≡ find_item k (entries_of (node_of p))
+found_at p count at k None is a l f g miss = sym (leaf_miss k [] (entries_of (node_of p)) at (0, 0) a (omega (arith, l, is.counted)) (λ o. ranked p count at k is l f o) (λ i. missed p count at k is l g miss i)).1
+found_at p count at k (Some v) is a l f g hit =
+    let entry = entry_is p count at (0, 0) is hit.0 in
+    sym ((leaf_hit k [] (entries_of (node_of p)) at (0, 0) a (omega (arith, hit.0, is.counted)) (λ o. ranked p count at k is l f o) (ap (λ (x : Pair). x.0) entry ∙ hit.1)).1
+    ∙ ap (λ (x : ℕ). Some x) (ap (λ (x : Pair). x.1) entry ∙ sym hit.2))
+
+pub found_here : (p : List ℕ) (count at k v : ℕ) → IsLeafOf p count → Ascending (entries_of (node_of p)) → (at < count) × (entry_key p at ≡ k) × (v ≡ entry_value p at) → Some v ≡ find_item k (entries_of (node_of p))
+found_here p count at k v is a hit =
+    let es : List Pair = entries_of (node_of p) in
+    let entry = entry_is p count at (0, 0) is hit.0 in
+    let here_is : (get_or es at (0, 0)).0 ≡ k = ap (λ (x : Pair). x.0) entry ∙ hit.1 in
+    let l : at < length es = omega (arith, hit.0, is.counted) in
+    sym ((leaf_hit k [] es at (0, 0) a l (λ o. omega (arith, rising es at (0, 0) a l o, here_is)) here_is).1 ∙ ap (λ (x : ℕ). Some x) (ap (λ (x : Pair). x.1) entry ∙ sym hit.2))
 
 pub found_in : (m : Store) (n k : ℕ) (found : Option ℕ) → Subtree m 0 n → IsFoundIn m n k found → found ≡ find_item k (items m 0 n)
 found_in m n k found s f =
     let hh : node m n ≡ node_of f.page = here m n f.page f.read in
     let P : Node → Type 0 = λ o. o ≡ leaf (entries_of o) (next_of o) in
-    found_by m n k f.page found f.read s (f.step (subst P hh s.sound.is_leaf)) ∙ ap (λ (x : Node). find_item k (entries_of x)) (sym hh)
+    f.step (subst P hh s.sound.is_leaf) (leaf_sound m n f.page f.read s) ∙ ap (λ (x : Node). find_item k (entries_of x)) (sym hh)

@@ -226,6 +226,15 @@ alter_one k x v o e = rw (lt_not x k (omega arith), lt_not k x (omega arith)) (a
 pub split_at : (es : List Pair) (at : ℕ) (d : Pair) → at < length es → es ≡ take at es ++ ((get_or es at d ∷ []) ++ drop (at + 1) es)
 split_at es at d l = sym (take-append-drop at es) ∙ ap (λ (r : List Pair). take at es ++ r) (drop_more es at d l)
 
+-- each key is above the one before it
+pub rising : (es : List Pair) (at : ℕ) (d : Pair) → Ascending es → at < length es → 1 ≤ at → (get_or es (at - 1) d).0 < (get_or es at d).0
+rising es at d h l o =
+    let i : (at - 1) + 1 ≡ at = omega (arith, o) in
+    let A : List Pair → Type 0 = λ x. Ascending x in
+    let tail : Ascending (get_or es (at - 1) d ∷ drop ((at - 1) + 1) es) = subst A (drop_more es (at - 1) d (omega (arith, l, o))) (ascending_drop es (at - 1) h) in
+    let P : List Pair → Type 0 = λ x. Above (get_or es (at - 1) d).0 x in
+    (subst P (ap (λ (j : ℕ). drop j es) i ∙ drop_more es at d l) tail.0).0
+
 -- a key that stands at its place
 pub leaf_hit : (k : ℕ) (o es : List Pair) (at : ℕ) (d : Pair) → Ascending es → at < length es → (1 ≤ at → (get_or es (at - 1) d).0 < k) → (get_or es at d).0 ≡ k
     → (alter k o es ≡ take at es ++ (o ++ drop (at + 1) es)) × (find_item k es ≡ Some (get_or es at d).1)

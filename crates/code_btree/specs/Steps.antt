@@ -147,21 +147,11 @@ pub record LeadsTo (m : Store) (n key : ℕ) (child : Option ℕ) : Type 0 where
   pub read : m n ≡ Some page
   pub step : MatchOption child (node_of page ≢ inner (keys_of (node_of page)) (children_of (node_of page))) (λ c. InnerStep page key c)
 
--- where a key stands in a leaf, and its value
-pub record LeafStep (page : List ℕ) (key : ℕ) (found : Option ℕ) : Type 0 where
-  pub count : ℕ
-  pub at : ℕ
-  pub is : IsLeafOf page count
-  pub place : at ≤ count
-  pub before : 1 ≤ at → entry_key page (at - 1) < key
-  pub behind : at < count → key ≤ entry_key page at
-  pub value : MatchOption found (at < count → entry_key page at ≢ key) (λ value. (at < count) × (entry_key page at ≡ key) × (value ≡ entry_value page at))
-
 -- the leaf at this number has this value, or it is no leaf
 pub record IsFoundIn (m : Store) (n key : ℕ) (found : Option ℕ) : Type 0 where
   pub page : List ℕ
   pub read : m n ≡ Some page
-  pub step : node_of page ≡ leaf (entries_of (node_of page)) (next_of (node_of page)) → LeafStep page key found
+  pub step : node_of page ≡ leaf (entries_of (node_of page)) (next_of (node_of page)) → Ascending (entries_of (node_of page)) → found ≡ find_item key (entries_of (node_of page))
 
 -- the leaf at this number has this pair as that of the greatest key not above, or it is no leaf
 pub record IsFloorIn (m : Store) (n key : ℕ) (found : Option Pair) : Type 0 where

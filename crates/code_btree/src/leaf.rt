@@ -1,7 +1,7 @@
 ghost use Rattle.std.specs.Prelude.{◌≡◌, ◌+◌, ◌-◌, ◌*◌, ◌/◌, ◌%◌, ◌<◌, ◌≤◌, ◌≢◌, ◌∷◌, ◌++◌, [], true, false, length, take, drop, IfSome, MatchOption};
 ghost use Rattle.code_btree.specs.Node.{IsLeaf, IsLeafOf, entry_of, entry_key, entry_value, entries_in, entries_of, next_of, node_of};
 ghost use Rattle.code_btree.specs.Node.Node.{leaf};
-ghost use Rattle.code_btree.specs.Items.{Ascending, floor_item};
+ghost use Rattle.code_btree.specs.Items.{Ascending, find_item, floor_item};
 ghost use Rattle.code_btree.specs.Search.{IsLeafSearch};
 
 use crate::bytes::{
@@ -123,22 +123,6 @@ pub fn rank(page: &Page, count: usize, key: u128) -> usize
     low
 }
 
-// The same place, guessed from a key that stands first in the leaf if any does, as the separator above tells: so no byte
-// of the page is waited for before those at the place itself.
-#[inline]
-pub fn rank_behind(page: &Page, count: usize, first: u128, key: u128) -> usize
-    requires { count ≤ 127 }
-    ensures bound { result ≤ count }
-    ensures before { 1 ≤ result → entry_key page.now (result - 1) < key }
-    ensures behind { result < count → key ≤ entry_key page.now result }
-{
-    let steps = key.saturating_sub(first);
-    if steps < count as u128 && stands_at(page, steps as usize, key) {
-        return steps as usize;
-    }
-    rank(page, count, key)
-}
-
 // Whether a key stands or would stand at this place: the one before it is less, and the one at it isn't.
 #[inline]
 fn belongs_at(page: &Page, count: usize, at: usize, key: u128) -> bool
@@ -183,6 +167,24 @@ pub fn value_found(page: &Page, count: usize, at: usize, key: u128) -> Option<u1
         return None;
     }
     Some(entry_value_at(page, at))
+}
+
+// The value of a key. It is looked at first where the key would stand if the keys were whole numbers in a row from
+// `first` on, which the separator above the leaf tells: so no byte of the page is waited for before those at the place
+// itself.
+#[inline]
+pub fn find_behind(page: &Page, count: usize, first: u128, key: u128) -> Option<u128>
+    requires { count ≤ 127 }
+    ensures { IsLeafOf page.now count → Ascending (entries_of (node_of page.now)) → result ≡ find_item key (entries_of (node_of page.now)) }
+{
+    let steps = key.saturating_sub(first);
+    if steps < count as u128
+        && let Some(value) = value_found(page, count, steps as usize, key)
+    {
+        return Some(value);
+    }
+    let at = rank(page, count, key);
+    value_found(page, count, at, key)
 }
 
 // The entry of the greatest key not above this one.

@@ -6,7 +6,7 @@ ghost use Rattle.code_btree.specs.Steps.{Subtree, LeadsTo, IsFoundIn, IsFloorIn}
 ghost use Rattle.code_btree.specs.Calls.{Looks};
 
 use crate::inner::{child_at, inner_count, key_at, place_of};
-use crate::leaf::{floor_of, leaf_count, rank_behind, value_found};
+use crate::leaf::{find_behind, floor_of, leaf_count};
 use page_pool::{PageFault, Pages};
 
 // The child of page `n` under which a key belongs: one get.
@@ -52,7 +52,7 @@ fn find_in_leaf<P: Pages>(
     let Some(count) = leaf_count(page) else {
         return Ok(None);
     };
-    Ok(value_found(page, count, rank_behind(page, count, first, key), key))
+    Ok(find_behind(page, count, first, key))
 }
 
 /// The value of a key under page `n`, which stands `level` above the leaves. `first` is the separator before the page, or
