@@ -2,7 +2,7 @@
 use Rattle.std.specs.Prelude.{◌≡◌, ℕ, ◌+◌, ◌-◌, ◌≤◌, ◌<◌, List, [], ◌∷◌, ◌++◌, take, drop, length, Option, None, Some, MatchOption, ◌≢◌}
 use Rattle.code_btree.specs.declared.insert.Grown.{Grown}
 use Rattle.code_btree.specs.declared.insert.Grown.TheVariants.{Kept, Split}
-use Rattle.code_btree.specs.Node.{Pair, Node, leaf, inner, node_of, entries_of, next_of, keys_of, children_of, size_of, IsLeafOf, IsInnerOf, entry_key, entry_value, key_in, child_in}
+use Rattle.code_btree.specs.Node.{Pair, Node, leaf, inner, node_of, entries_of, next_of, keys_of, children_of, size_of, IsInnerOf, key_in, child_in}
 use Rattle.code_btree.specs.Items.{Each, Ascending, items_below, items_above, find_item, floor_item}
 use Rattle.code_btree.specs.Tree.{Store, items, pages, links, all_items, all_pages, all_links, first_key, least, same, times, live, Owns, Path, few, Sound}
 
