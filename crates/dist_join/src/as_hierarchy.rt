@@ -74,7 +74,7 @@ impl<'s, G: ShapeOf + Drop> Hierarchy for PairTree<'s, G> {
             other,
             near,
         ) {
-            Ok((place, second)) => match add_found(gap, node, &place, &second, found) {
+            Ok((place, second)) => match add_found(alloc, gap, node, &place, &second, found) {
                 Ok(()) => Ok(()),
                 Err(NoMemory {}) => Err(PageFault::Memory),
             },

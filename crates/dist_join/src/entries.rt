@@ -11,8 +11,9 @@ use crate::figures::{figure, figures_gap, is_bound};
 use crate::room::reserve_pairs;
 use best_first::Item;
 use exact_frac::Frac;
-use pmr_tree::Listed;
+use pmr_tree::{LeafList, Listed};
 use sand_base::NoMemory;
+use std::alloc::Global;
 use z_code::Block;
 
 // An exact item, unless it is nearer than its leaves: then it was given already.
@@ -82,7 +83,7 @@ fn push_row(leaf: Frac, left: Listed, rights: &[Listed], found: &mut Vec<Item<(B
 }
 
 // Adds the items of two leaves at the end of the list.
-pub fn push_leaves(
+fn push_leaves(
     leaf: Frac,
     lefts: &[Listed],
     rights: &[Listed],
@@ -98,4 +99,22 @@ pub fn push_leaves(
         push_row(leaf, *left, rights, found);
     }
     Ok(())
+}
+
+// Adds the items of the leaves of two trees at the end of the list. Each leaf is decoded once for all of its pairs.
+pub fn push_lists(
+    alloc: Global,
+    leaf: Frac,
+    lefts: &LeafList,
+    rights: &LeafList,
+    found: &mut Vec<Item<(Block, Block)>>,
+) -> Result<(), NoMemory>
+    requires lefts { All (λ l. IsRoughInPlane l.rough) lefts.now }
+    requires rights { All (λ r. IsRoughInPlane r.rough) rights.now }
+    ensures added { OnOk result (FindsAlike (flat_map (row_found leaf rights.now) lefts.now) found.old.items found.new.items) }
+    ensures unchanged { OnErr result (found.new.items ≡ found.old.items) }
+{
+    let of_left = lefts.to_vec(alloc)?;
+    let of_right = rights.to_vec(alloc)?;
+    push_leaves(leaf, &of_left, &of_right, found)
 }

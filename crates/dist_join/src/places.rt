@@ -6,13 +6,14 @@ ghost use Rattle.pmr_tree.specs.declared.listed.Node.TheVariants as of_tree;
 ghost use Rattle.best_first.specs.Hierarchy.{FindsAlike};
 ghost use Rattle.dist_join.specs.OverPages.{squares_found, parts_of, pairs_found, places_found};
 
-use crate::entries::push_leaves;
+use crate::entries::push_lists;
 use crate::figures::pair_item;
 use crate::room::reserve_pairs;
 use best_first::Item;
 use exact_frac::Frac;
 use pmr_tree::Node;
 use sand_base::{NoMemory, Rect};
+use std::alloc::Global;
 use z_code::Block;
 
 // Adds a block with each of the others at the end of a list that has room for them.
@@ -89,6 +90,7 @@ fn push_parts(
 // Adds what a pair of places gives at the end of the list. It takes room for all of it first, so that a refusal
 // leaves the list as it was.
 pub fn add_found(
+    alloc: Global,
     leaf: Frac,
     node: (Block, Block),
     place: &Node,
@@ -108,7 +110,7 @@ pub fn add_found(
         Node::Inner => push_parts(node, place, other, found),
         Node::Leaf(lefts) => match other {
             Node::Inner => push_parts(node, place, other, found),
-            Node::Leaf(rights) => push_leaves(leaf, lefts.as_slice(), rights.as_slice(), found),
+            Node::Leaf(rights) => push_lists(alloc, leaf, lefts, rights, found),
         },
     }
 }

@@ -8,7 +8,8 @@ use Rattle.std.proofs.lemmas.List.Elements.{filter-append}
 use Rattle.sand_model.specs.Tree.{Tree, Leaf, Inner, add, without}
 use Rattle.pmr_tree.specs.Lists.{Each, is_between, put_all, take_all}
 use Rattle.pmr_tree.specs.Keys.{key_of, mark_of, leaf_keys, own, IsId, Reads, id_in, ids_in}
-use Rattle.pmr_tree.specs.Leaves.{Pair, firsts, Passes, own_pairs, kept_of, ids_of, ListPasses, IsLeafOf}
+use Rattle.pmr_tree.specs.Leaves.{firsts, Passes, own_pairs, kept_of, ids_of, ListPasses, IsLeafOf}
+use Rattle.pmr_tree.specs.Listing.{Pair}
 use Rattle.pmr_tree.specs.declared.leaf.Kept.{Kept}
 use Rattle.pmr_tree.proofs.Orders.{holds, fails, test, each_filter}
 use Rattle.pmr_tree.proofs.KeyLists.{own_leaf, own_inner}

@@ -6,7 +6,8 @@ use Rattle.z_code.specs.declared.block.Block.{Block}
 use Rattle.sand_model.specs.Tree.{Tree}
 use Rattle.pmr_tree.specs.Keys.{own}
 use Rattle.pmr_tree.specs.Changes.{Stands, Becomes, grown_where, below_grown}
-use Rattle.pmr_tree.specs.Leaves.{Pair, Passes, id_test, Told}
+use Rattle.pmr_tree.specs.Leaves.{Passes, id_test, Told}
+use Rattle.pmr_tree.specs.Listing.{Pair}
 use Rattle.pmr_tree.proofs.Quarter.{child_block}
 use Rattle.pmr_tree.proofs.Steps.{stands_0, stands_1, stands_2, stands_3, stands_sibling, becomes_four}
 use Rattle.pmr_tree.proofs.LeafSteps.{becomes_grown_inner}

@@ -21,7 +21,8 @@ use Rattle.ring_geom.specs.MeasureLaws.{ChildrenMeet, TestIsMeeting}
 use Rattle.ring_geom.specs.Laws.{GapExists}
 use Rattle.pmr_tree.specs.Lists.{Each}
 use Rattle.pmr_tree.specs.Keys.{id_in}
-use Rattle.pmr_tree.specs.Leaves.{Pair, Passes, id_test, Told}
+use Rattle.pmr_tree.specs.Leaves.{Passes, id_test, Told}
+use Rattle.pmr_tree.specs.Listing.{Pair}
 use Rattle.pmr_tree.specs.Changes.{Becomes, grown_where}
 use Rattle.pmr_tree.specs.Entries.{value_of}
 use Rattle.pmr_tree.specs.Laws.{AreInPlane}

@@ -13,7 +13,8 @@ use Rattle.z_code.proofs.Blocks.{same_block}
 use Rattle.sand_model.specs.Tree.{Tree, Leaf, Inner, places, root_block, IsPlace}
 use Rattle.pmr_tree.specs.Lists.{Each}
 use Rattle.pmr_tree.specs.Keys.{key_of, leaf_keys, keys, IsId, IsShaped, id_in, ids_in}
-use Rattle.pmr_tree.specs.Leaves.{Pair, firsts, own_pairs, last_key, level_in, ids_at}
+use Rattle.pmr_tree.specs.Leaves.{firsts, own_pairs, last_key, level_in, ids_at}
+use Rattle.pmr_tree.specs.Listing.{Pair}
 use Rattle.pmr_tree.specs.Quadtree.{entries_at, keys_at, tree_at, IsPmr}
 use Rattle.pmr_tree.specs.declared.quadtree.Pmr.{Pmr}
 use Rattle.pmr_tree.proofs.Orders.{each_map, each_append}

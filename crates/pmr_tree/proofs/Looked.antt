@@ -14,7 +14,8 @@ use Rattle.sand_model.specs.Tree.{Tree, Leaf, Inner, root_block, IsPlace}
 use Rattle.pmr_tree.specs.Lists.{Each}
 use Rattle.pmr_tree.specs.Keys.{key_of, mark_of, leaf_keys, IsId, Reads, id_in, ids_in}
 use Rattle.pmr_tree.specs.Entries.{value_of, figure_of, IsRoughInPlane, listed_of, IsNodeOf, id_count, KeepsIn}
-use Rattle.pmr_tree.specs.Leaves.{Pair, firsts, own_pairs, rough_in, listed_in, node_in}
+use Rattle.pmr_tree.specs.Leaves.{firsts, own_pairs, node_in}
+use Rattle.pmr_tree.specs.Listing.{Pair, rough_in, listed_in}
 use Rattle.pmr_tree.specs.Quadtree.{entries_at, keys_at, tree_at, IsPmr}
 use Rattle.pmr_tree.specs.Calls.{Finds, HasRoughs, IsFoundInRange}
 use Rattle.pmr_tree.specs.declared.listed.Listed.{Listed}

@@ -7,7 +7,8 @@ use Rattle.code_btree.specs.Items as btree
 use Rattle.sand_model.specs.Tree.{add, without}
 use Rattle.pmr_tree.specs.Lists.{Each, Above, Rises}
 use Rattle.pmr_tree.specs.Keys.{id_in}
-use Rattle.pmr_tree.specs.Leaves.{Pair, firsts, Passes}
+use Rattle.pmr_tree.specs.Leaves.{firsts, Passes}
+use Rattle.pmr_tree.specs.Listing.{Pair}
 use Rattle.pmr_tree.proofs.Orders.{each_append, order, below, same, above}
 
 less_true : (x y : ℕ) → x < y → nat_lt x y ≡ true

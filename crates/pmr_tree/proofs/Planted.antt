@@ -9,7 +9,8 @@ use Rattle.sand_model.specs.Nodes.{rough_figure}
 use Rattle.sand_model.specs.Tree.{Leaf, root_block, empty_tree, IsFull}
 use Rattle.pmr_tree.specs.Keys.{keys, id_in, IsShaped, Reads}
 use Rattle.pmr_tree.specs.Lists.{Each}
-use Rattle.pmr_tree.specs.Leaves.{Pair, firsts}
+use Rattle.pmr_tree.specs.Leaves.{firsts}
+use Rattle.pmr_tree.specs.Listing.{Pair}
 use Rattle.pmr_tree.specs.Entries.{value_of}
 use Rattle.pmr_tree.specs.Quadtree.{store_of, entries_at, keys_at, pages_at, tree_at, IsPmr}
 use Rattle.pmr_tree.specs.Calls.{Plants}

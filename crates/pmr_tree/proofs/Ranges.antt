@@ -6,7 +6,8 @@ use Rattle.code_btree.specs.Between.{items_between}
 use Rattle.z_code.specs.declared.block.Block.{Block}
 use Rattle.pmr_tree.specs.Lists.{is_between}
 use Rattle.pmr_tree.specs.Keys.{mark_of}
-use Rattle.pmr_tree.specs.Leaves.{Pair, own_pairs}
+use Rattle.pmr_tree.specs.Leaves.{own_pairs}
+use Rattle.pmr_tree.specs.Listing.{Pair}
 use Rattle.pmr_tree.proofs.Orders.{holds, fails, test}
 
 at_least : (low x : ℕ) → nat_lt x low ≡ false → nat_le low x ≡ true

@@ -11,7 +11,7 @@ use Rattle.sand_base.specs.declared.shape.Shape.{Shape}
 use Rattle.sand_base.specs.declared.shape.Shape.TheVariants as shape
 use Rattle.sand_model.specs.Nodes.{rough_figure, bound_from}
 use Rattle.pmr_tree.specs.Entries.{packed, value_of, figure_of, IsRoughInPlane}
-use Rattle.pmr_tree.specs.Leaves.{coordinate_in, point_in, rect_round, rough_in}
+use Rattle.pmr_tree.specs.Listing.{coordinate_in, point_in, rect_round, rough_in}
 
 coordinate_small : (value bit : ℕ) → coordinate_in value bit < 2 ^ COORDINATE_BITS
 coordinate_small value bit = omega arith

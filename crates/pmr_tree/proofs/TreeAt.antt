@@ -9,7 +9,8 @@ use Rattle.z_code.specs.declared.block.Block.{Block}
 use Rattle.sand_model.specs.Tree.{Tree, Leaf, Inner, root_block, Fits, IsShallow}
 use Rattle.pmr_tree.specs.Lists.{Each}
 use Rattle.pmr_tree.specs.Keys.{key_of, leaf_keys, keys, is_inside, within, outside, own, id_in, ids_in, IsId, IsShaped, Reads}
-use Rattle.pmr_tree.specs.Leaves.{Pair, firsts}
+use Rattle.pmr_tree.specs.Leaves.{firsts}
+use Rattle.pmr_tree.specs.Listing.{Pair}
 use Rattle.pmr_tree.specs.Changes.{Stands, Becomes}
 use Rattle.pmr_tree.specs.Quadtree.{entries_at, keys_at, tree_in, tree_at, IsPmr, is_inner}
 use Rattle.pmr_tree.specs.declared.quadtree.Pmr.{Pmr}

@@ -1,6 +1,7 @@
 -- keys and entries
 pub mod Lists
 pub mod Keys
+pub mod Listing
 pub mod Entries
 -- quadtrees in pages
 pub mod Quadtree

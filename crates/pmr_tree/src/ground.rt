@@ -8,7 +8,8 @@ ghost use Rattle.pmr_tree.specs.declared.fault.PmrFault.TheVariants.{Memory};
 ghost use Rattle.pmr_tree.specs.Parts.{AreQuarters};
 ghost use Rattle.pmr_tree.specs.Lists.{is_between};
 ghost use Rattle.pmr_tree.specs.Keys.{id_in};
-ghost use Rattle.pmr_tree.specs.Leaves.{Pair, firsts, Passes, fault_of};
+ghost use Rattle.pmr_tree.specs.Leaves.{firsts, Passes, fault_of};
+ghost use Rattle.pmr_tree.specs.Listing.{Pair};
 
 use crate::PmrFault;
 use crate::part::QuartersMet;

@@ -2,7 +2,8 @@ ghost use Rattle.std.specs.Prelude.{◌≡◌, ◌≢◌, ℕ, ◌+◌, ◌<◌,
 ghost use Rattle.z_code.specs.Block.{IsBlock};
 ghost use Rattle.pmr_tree.specs.Keys.{key_of, mark_of, id_in, own};
 ghost use Rattle.pmr_tree.specs.Lists.{is_between};
-ghost use Rattle.pmr_tree.specs.Leaves.{Pair, firsts, own_pairs, kept_of, ids_of, Passes, ListPasses, id_test, IsLeafOf, fault_of};
+ghost use Rattle.pmr_tree.specs.Leaves.{firsts, own_pairs, kept_of, ids_of, Passes, ListPasses, id_test, IsLeafOf, fault_of};
+ghost use Rattle.pmr_tree.specs.Listing.{Pair};
 
 use crate::{Ground, PmrFault};
 use std::alloc::{AllocError, Global};

@@ -37,6 +37,6 @@ pub use code_btree::Near;
 pub use fault::PmrFault;
 use ground::Ground;
 use leaf::Kept;
-pub use listed::{LeafList, Listed, Node};
+pub use listed::{LeafList, Listed, Node, listed_of};
 pub use quadtree::Pmr;
 pub use shapes::ShapeOf;

@@ -1,5 +1,7 @@
-ghost use Rattle.std.specs.Prelude.{◌≡◌, IfOk};
-ghost use Rattle.pmr_tree.specs.Leaves.{ids_at, listed_in, node_in};
+ghost use Rattle.std.specs.Prelude.{◌≡◌, [], ◌∷◌, IfOk, IfSome, option_to_list};
+ghost use Rattle.pmr_tree.specs.Entries.{IsRoughInPlane};
+ghost use Rattle.pmr_tree.specs.Leaves.{ids_at, node_in};
+ghost use Rattle.pmr_tree.specs.Listing.{listed_in};
 
 use crate::leaf::id_in;
 use crate::value::rough_of;
@@ -15,32 +17,61 @@ pub struct Listed {
     pub rough: Rough,
 }
 
-/// The ids of a leaf in ascending order. Contracts see the list.
+/// What an entry of a leaf lists: its id with its rough shape, or nothing where it marks an empty leaf.
+#[inline]
+pub fn listed_of(pair: (u128, u128)) -> Option<Listed>
+    ensures listed { option_to_list result ≡ listed_in (pair ∷ []) }
+    ensures plane { IfSome result (λ l. IsRoughInPlane l.rough) }
+{
+    let id = id_in(pair.0);
+    if id == 0 {
+        return None;
+    }
+    Some(Listed {
+        id,
+        rough: rough_of(pair.1),
+    })
+}
+
+/// The ids of a leaf in ascending order. It holds the entries of the leaf as pages have them, and whoever reads it
+/// decodes them. Contracts see the list.
 #[derive(Drop)]
 pub struct LeafList {
-    items: Vec<Listed>,
+    pairs: Vec<(u128, u128)>,
 }
 
 impl Model for LeafList {
     ghost use Rattle.std.specs.Prelude.{List};
     ghost use Rattle.pmr_tree.specs.declared.listed.Listed.{Listed};
+    ghost use Rattle.pmr_tree.specs.Listing.{listed_in};
 
     ghost Value = { List Listed };
 
-    ghost view = { λ list. list.items.items };
+    ghost view = { λ list. listed_in list.pairs.items };
 }
 
 impl LeafList {
-    pub fn new(items: Vec<Listed>) -> LeafList
-        ensures { result ≡ items.items }
+    /// The list of these entries.
+    pub fn new(pairs: Vec<(u128, u128)>) -> LeafList
+        ensures { result ≡ listed_in pairs.items }
     {
-        LeafList { items }
+        LeafList { pairs }
     }
 
-    pub fn as_slice(&self) -> &[Listed]
-        ensures { result.now ≡ self.now }
+    /// The entries, each for `listed_of`.
+    #[inline]
+    pub fn pairs(&self) -> &[(u128, u128)]
+        ensures { listed_in result.now ≡ self.now }
     {
-        &self.items
+        &self.pairs
+    }
+
+    /// The list decoded, for whoever reads it more than once.
+    pub fn to_vec(&self, alloc: Global) -> Result<Vec<Listed>, NoMemory>
+        ensures { IfOk result (λ list. list.items ≡ self.now) }
+    {
+        let list = listed_in(alloc, &self.pairs)?;
+        Ok(list)
     }
 }
 
@@ -51,32 +82,27 @@ pub enum Node {
     Leaf(LeafList),
 }
 
-// The ids of the entries of a leaf.
+// The ids of the entries of a leaf, each with its rough shape.
 fn listed_in(alloc: Global, pairs: &[(u128, u128)]) -> Result<Vec<Listed>, AllocError>
     ensures { IfOk result (λ list. list.items ≡ listed_in pairs.now) }
 {
     let mut list = Vec::with_capacity(alloc, pairs.len())?;
     'pairs: for pair in pairs {
-        let id = id_in(pair.0);
-        if id != 0 {
-            list.push_reserved(Listed {
-                id,
-                rough: rough_of(pair.1),
-            });
+        if let Some(listed) = listed_of(*pair) {
+            list.push_reserved(listed);
         }
     }
     Ok(list)
 }
 
 // The place of a block whose own entries these are. A block of the finest level is a leaf in any case.
-pub fn node_in(alloc: Global, block: Block, pairs: &[(u128, u128)]) -> Result<Node, NoMemory>
-    ensures { IfOk result (λ node. node ≡ node_in block pairs.now) }
+pub fn node_in(block: Block, pairs: Vec<(u128, u128)>) -> Node
+    ensures { result ≡ node_in block pairs.items }
 {
     if pairs.len() == 0 && u32::from(block.level) < COORDINATE_BITS {
-        return Ok(Node::Inner);
+        return Node::Inner;
     }
-    let list = listed_in(alloc, pairs)?;
-    Ok(Node::Leaf(LeafList::new(list)))
+    Node::Leaf(LeafList::new(pairs))
 }
 
 // The ids alone of the entries of a leaf.

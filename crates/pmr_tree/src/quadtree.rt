@@ -175,8 +175,7 @@ impl Pmr {
         // For the proof alone: a count of gets is at most the greatest u64, so it doesn't fall.
         let _before = pages.gets();
         let pairs = own_entries(alloc, self.map, pages, block, near)?;
-        let node = node_in(alloc, block, &pairs)?;
-        Ok(node)
+        Ok(node_in(block, pairs))
     }
 
     /// Notes the block in the log, then looks at it. A visit that was noted stays so where the look is refused.

@@ -2,7 +2,7 @@ ghost use Rattle.std.specs.Prelude.{◌≡◌, ◌<◌, ◌≤◌, ◌^◌};
 ghost use Rattle.sand_base.specs.Plane.{IsShapeInPlane};
 ghost use Rattle.sand_model.specs.Nodes.{rough_figure};
 ghost use Rattle.pmr_tree.specs.Entries.{packed, value_of, IsPolygon};
-ghost use Rattle.pmr_tree.specs.Leaves.{coordinate_in, point_in, rect_round, rough_in};
+ghost use Rattle.pmr_tree.specs.Listing.{coordinate_in, point_in, rect_round, rough_in};
 
 use ring_geom::{bounding, measure_laws};
 use sand_base::{COORDINATE_BITS, Point, Rect, Rough, Segment, Shape};

@@ -1,8 +1,10 @@
 -- What the code finds at a place of a quadtree stands for what the ranking finds there.
-use Rattle.std.proofs.Common.{◌≡◌, ℕ, ◌*◌, ◌<◌, ◌≤◌, arith, Bool, true, false, cond, not, true≢false, List, [], ◌∷◌, ◌++◌, length, map, filter, filter_map, flat_map, All, Option, None, Some, option_map, refl, sym, ap, ap₂, ◌∙◌, subst}
+use Rattle.std.proofs.Common.{◌≡◌, ℕ, ◌*◌, ◌<◌, ◌≤◌, arith, Bool, true, false, cond, not, true≢false, List, [], ◌∷◌, ◌++◌, length, take, map, filter, append-nil, filter_map, flat_map, All, Option, None, Some, option_map, refl, sym, ap, ap₂, ◌∙◌, subst}
+use Rattle.std.specs.Prelude.{nat_eq}
 use Rattle.std.specs.List.{AllZip}
 use Rattle.std.specs.Ordering.{is_lt}
 use Rattle.std.specs.Cmp.{alike_right}
+use Rattle.std.proofs.lemmas.List.{take_all}
 use Rattle.std.proofs.lemmas.List.Elements.{All-head, All-tail}
 use Rattle.exact_frac.specs.Frac.{value_cmp, value_cmp_total}
 use Rattle.exact_frac.specs.declared.frac.Frac.{Frac}
@@ -23,7 +25,10 @@ use Rattle.ring_geom.proofs.Farther.{gap_unique}
 use Rattle.ring_geom.proofs.Measured.{measured}
 use Rattle.ring_geom.proofs.TreeLaws.{same_compares}
 use Rattle.pmr_tree.specs.Entries.{figure_of}
+use Rattle.pmr_tree.specs.Keys.{id_in}
+use Rattle.pmr_tree.specs.Listing.{Pair, rough_in, listed_in}
 use Rattle.pmr_tree.specs.declared.listed.Listed.{Listed}
+use Rattle.best_first.specs.Hierarchy.{FindsAlike}
 use Rattle.best_first.specs.Item.{IsAlike}
 use Rattle.best_first.specs.Reach.{IsSameGap}
 use Rattle.best_first.specs.declared.item.Item.{Item}
@@ -31,7 +36,7 @@ use Rattle.best_first.specs.declared.item.Item.TheVariants as item
 use Rattle.best_first.proofs.Gaps.{same_itself}
 use Rattle.rank_cursor.specs.Cursor.{the_measure, goal_gap, block_found, exact_found, entry_found}
 use Rattle.rank_cursor.specs.Ranking.{Ranking, block_gap, leaf_item, shown}
-use Rattle.rank_cursor.proofs.AlikeLists.{all_alike_append}
+use Rattle.rank_cursor.proofs.AlikeLists.{all_alike_append, none_added}
 use Rattle.rank_cursor.proofs.Counted.{same_greater}
 use Rattle.rank_cursor.proofs.RankingLaws.{one_item}
 
@@ -175,3 +180,42 @@ module _ (r : Ranking) (same : r.measure ≡ the_measure) (b : Block) (leaf : Fr
       with_first : Option LeafItem → List LeafItem → List LeafItem
       with_first None xs = xs
       with_first (Some x) xs = x ∷ xs
+
+-- ---- entries as pages have them
+
+-- what the id of an entry gives, and nothing where the entry marks an empty leaf
+abbrev pub pair_found : Goal → Frac → Pair → List (Item Block)
+pair_found goal leaf pair = flat_map (λ l. entry_found goal leaf l.id l.rough) (listed_in (pair ∷ []))
+
+-- what an entry listed was added
+pub some_found : (goal : Goal) (leaf : Frac) (pair : Pair) (l : Listed) (old new : List (Item Block)) → l ∷ [] ≡ listed_in (pair ∷ []) → FindsAlike (entry_found goal leaf l.id l.rough) old new
+    → FindsAlike (pair_found goal leaf pair) old new
+some_found goal leaf pair l old new is h =
+    subst (λ list. FindsAlike (flat_map (λ m. entry_found goal leaf m.id m.rough) list) old new) is
+    (subst (λ found. FindsAlike found old new) (sym (append-nil (entry_found goal leaf l.id l.rough))) h)
+
+-- an entry that lists nothing adds nothing
+pub none_found : (goal : Goal) (leaf : Frac) (pair : Pair) (old : List (Item Block)) → [] ≡ listed_in (pair ∷ []) → FindsAlike (pair_found goal leaf pair) old old
+none_found goal leaf pair old is =
+    subst (λ list. FindsAlike (flat_map (λ m. entry_found goal leaf m.id m.rough) list) old old) is (none_added old old refl)
+
+-- the entries together give what their list gives
+pub pairs_found : (goal : Goal) (leaf : Frac) (pairs : List Pair) → flat_map (pair_found goal leaf) pairs ≡ flat_map (λ l. entry_found goal leaf l.id l.rough) (listed_in pairs)
+pairs_found goal leaf [] = refl
+pairs_found goal leaf (pair ∷ pairs) = go (not (nat_eq (id_in pair.0) 0)) (pairs_found goal leaf pairs) where
+  listed : Listed
+  listed = record { id = id_in pair.0; rough = rough_in pair.1 }
+
+  found : Listed → List (Item Block)
+  found l = entry_found goal leaf l.id l.rough
+
+  go : (k : Bool) → flat_map (pair_found goal leaf) pairs ≡ flat_map found (listed_in pairs)
+      → flat_map found (cond k (listed ∷ []) []) ++ flat_map (pair_found goal leaf) pairs ≡ flat_map found (cond k (listed ∷ listed_in pairs) (listed_in pairs))
+  go true rest = ap₂ (λ xs ys. xs ++ ys) (append-nil (found listed)) rest
+  go false rest = rest
+
+pub all_found : (goal : Goal) (leaf : Frac) (pairs : List Pair) (i : ℕ) (list : List Listed) (old new : List (Item Block)) → length pairs ≤ i → listed_in pairs ≡ list
+    → FindsAlike (flat_map (pair_found goal leaf) (take i pairs)) old new → FindsAlike (flat_map (λ l. entry_found goal leaf l.id l.rough) list) old new
+all_found goal leaf pairs i list old new end is h =
+    subst (λ found. FindsAlike found old new)
+    (ap (flat_map (pair_found goal leaf)) (take_all i pairs end) ∙ pairs_found goal leaf pairs ∙ ap (flat_map (λ l. entry_found goal leaf l.id l.rough)) is) h

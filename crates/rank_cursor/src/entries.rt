@@ -17,7 +17,7 @@ ghost use Rattle.rank_cursor.specs.Cursor.{goal_gap, block_found, exact_found, e
 
 use best_first::Item;
 use exact_frac::Frac;
-use pmr_tree::{Listed, Node};
+use pmr_tree::{LeafList, Listed, Node, listed_of};
 use ring_geom::{gap_goal, gap_goal_rect};
 use sand_base::{Goal, NoMemory, Rect, Rough, Shape};
 use z_code::Block;
@@ -97,7 +97,7 @@ fn push_entry(goal: &Goal, leaf: Frac, listed: Listed, found: &mut Vec<Item<Bloc
 fn push_leaf(
     goal: &Goal,
     leaf: Frac,
-    list: &[Listed],
+    list: &LeafList,
     found: &mut Vec<Item<Block>>,
 ) -> Result<(), NoMemory>
     requires goal { IsGoalInClosedPlane goal.now }
@@ -105,9 +105,12 @@ fn push_leaf(
     ensures added { OnOk result (FindsAlike (flat_map (λ l. entry_found goal.now leaf l.id l.rough) list.now) found.old.items found.new.items) }
     ensures unchanged { OnErr result (found.new.items ≡ found.old.items) }
 {
-    found.reserve(list.len())?;
-    'entries: for listed in list {
-        push_entry(goal, leaf, *listed, found);
+    let pairs = list.pairs();
+    found.reserve(pairs.len())?;
+    'entries: for pair in pairs {
+        if let Some(listed) = listed_of(*pair) {
+            push_entry(goal, leaf, listed, found);
+        }
     }
     Ok(())
 }
@@ -146,6 +149,6 @@ pub fn add_found(
 {
     match place {
         Node::Inner => push_children(goal, block, found),
-        Node::Leaf(list) => push_leaf(goal, leaf, list.as_slice(), found),
+        Node::Leaf(list) => push_leaf(goal, leaf, list, found),
     }
 }

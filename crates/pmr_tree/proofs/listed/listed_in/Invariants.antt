@@ -1,6 +1,6 @@
 -- The ids of the entries so far are listed, and there is room for the rest.
 use Rattle.std.proofs.Common.{◌≡◌, ◌+◌, ◌≤◌, length, take, vec_len, vec_capacity}
-use Rattle.pmr_tree.specs.Leaves.{listed_in}
+use Rattle.pmr_tree.specs.Listing.{listed_in}
 use Rattle.pmr_tree.proofs.listed.listed_in.Given as goal
 
 abbrev pub invariant-pairs : goal.invariant-pairs
