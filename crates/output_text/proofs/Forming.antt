@@ -1,5 +1,6 @@
 -- Texts that are formed part by part.
-use Rattle.std.proofs.Common.{◌≡◌, ℕ, List, [], ◌++◌, Result, Ok, Err, OnErr, sym, ap, ◌∙◌, subst, append_assoc, append-nil}
+use Rattle.std.proofs.Common.{◌≡◌, ℕ, ◌-◌, List, [], ◌++◌, length, take, drop, Result, Ok, Err, OnErr, sym, ap, ◌∙◌, subst, append_assoc, append-nil, take-append-drop}
+use Rattle.std.proofs.lemmas.List.{take_rest}
 use Rattle.sand_base.specs.Streams.{Adds}
 use Rattle.output_text.specs.Forming.{Forms}
 use Rattle.output_text.specs.Writing.{AddsPrefix}
@@ -121,3 +122,19 @@ pub AddsPrefix-second : (before mid now : List ℕ → Type 0) (old held part le
     → AddsPrefix mid now (held ++ left) → part ++ left ≡ whole → AddsPrefix before now (old ++ whole)
 AddsPrefix-second before mid now old held part left whole first broken is =
     subst (λ t. AddsPrefix before now (old ++ t)) is (Forms-broken before mid now old held part left first broken)
+
+-- a text is its beginning and the rest
+beginning-rest : (at : ℕ) (text : List ℕ) → take at text ++ take (length text - at) (drop at text) ≡ text
+beginning-rest at text = ap (λ r. take at text ++ r) (take_rest text at) ∙ take-append-drop at text
+
+-- the beginning of a text is written, and then the rest
+pub rest-written : (at : ℕ) (text : List ℕ) (before mid now : List ℕ → Type 0) → Adds before mid (take at text)
+    → Adds mid now (take (length text - at) (drop at text)) → Adds before now text
+rest-written at text before mid now first second =
+    subst (Adds before now) (beginning-rest at text) (Adds-trans before mid now (take at text) _ first second)
+
+-- the beginning of a text is written, and the rest broke off
+pub rest-broken : (at : ℕ) (text : List ℕ) (before mid now : List ℕ → Type 0) → Adds before mid (take at text)
+    → AddsPrefix mid now (take (length text - at) (drop at text)) → AddsPrefix before now text
+rest-broken at text before mid now first broken =
+    subst (AddsPrefix before now) (beginning-rest at text) (AddsPrefix-past before mid now (take at text) _ first broken)

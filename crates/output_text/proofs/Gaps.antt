@@ -8,7 +8,7 @@ use Rattle.output_text.specs.Forming.{BreaksSome, Forms, FormsSome}
 use Rattle.output_text.specs.Writing.{AddsPrefix}
 
 -- the text of a whole number is its numerator in decimal
-whole-printed : (num den shown : ℕ) → den ≡ 1 → shown ≡ num → IsPrinted num den (decimal shown)
+pub whole-printed : (num den shown : ℕ) → den ≡ 1 → shown ≡ num → IsPrinted num den (decimal shown)
 whole-printed num den shown one is = record {
   n = num;
   d = 1;

@@ -1,17 +1,18 @@
 -- Rows and lines whose texts are formed or broke off.
-use Rattle.std.proofs.Common.{◌≡◌, ℕ, List, [], ◌∷◌, ◌++◌, map, refl, sym, ap, ◌∙◌, subst, append_assoc}
+use Rattle.std.proofs.Common.{◌≡◌, ℕ, List, [], ◌∷◌, ◌++◌, map, refl, sym, ap, ◌∙◌, subst, append_assoc, append-nil}
 use Rattle.std.specs.Prelude.{Some}
 use Rattle.std.specs.Fmt.{decimal}
 use Rattle.exact_frac.specs.Printed.{IsPrinted}
 use Rattle.exact_frac.specs.declared.frac.Frac.{Frac}
 use Rattle.sand_base.specs.Streams.{Adds}
 use Rattle.sand_base.specs.declared.value.Value.{Value}
-use Rattle.sand_model.specs.Cursor.{OutputLine}
+use Rattle.sand_model.specs.Cursor.{OutputLine, Row}
 use Rattle.sand_model.specs.Operators.{PlanRow}
 use Rattle.sand_model.specs.OutputText.{IsText, PrintsLine, PrintsRow, value_text}
 use Rattle.output_text.specs.Forming.{BreaksSome, Forms, FormsSome}
 use Rattle.output_text.specs.Joined.{led}
 use Rattle.output_text.specs.Writing.{AddsPrefix, Writes, WritesPrefix}
+use Rattle.output_text.proofs.Gaps.{whole-printed}
 use Rattle.output_text.proofs.Forming.{Forms-both, AddsPrefix-second, AddsPrefix-more}
 use Rattle.output_text.proofs.Listed.{joined-led}
 use Rattle.output_text.proofs.WrittenPrefix.{Adds-trans}
@@ -97,4 +98,41 @@ line-cut o start held before mid now empty line broken = record {
   holds = line-text o line.text line.holds;
   prefix = behind-nothing start (line.text ++ 10 ∷ []) before now empty
       (AddsPrefix-second before mid now start held line.text (10 ∷ []) (line.text ++ 10 ∷ []) line.formed broken refl);
+}
+
+-- the text of a short row: a whole number, and the ids behind tabs
+abbrev short_text : ℕ → List ℕ → List ℕ
+short_text shown ids = decimal shown ++ led (9 ∷ []) (map decimal ids)
+
+short-printed : (gap : Frac) (ids : List ℕ) (shown : ℕ) → gap.den ≡ 1 → shown ≡ gap.num
+    → IsText (Row (measured gap ids []) ∷ []) (short_text shown ids ++ 10 ∷ [])
+short-printed gap ids shown one is =
+    line-text (Row (measured gap ids [])) (short_text shown ids)
+    (subst (λ texts. PrintsRow (measured gap ids []) (decimal shown ++ led (9 ∷ []) texts)) (append-nil (map decimal ids))
+    (row-printed gap ids [] (decimal shown) (whole-printed gap.num gap.den shown one is)))
+
+-- its parts, appended to nothing
+short-held : (ids start mid held : List ℕ) (shown : ℕ) → start ≡ [] → mid ≡ start ++ decimal shown → held ≡ mid ++ led (9 ∷ []) (map decimal ids)
+    → held ≡ short_text shown ids
+short-held ids start mid held shown empty first second =
+    second ∙ ap (λ t. t ++ led (9 ∷ []) (map decimal ids)) (first ∙ ap (λ s. s ++ decimal shown) empty)
+
+-- a short row is written
+pub short-written : (gap : Frac) (ids start mid held : List ℕ) (shown : ℕ) (before now : List ℕ → Type 0) → gap.den ≡ 1 → shown ≡ gap.num
+    → start ≡ [] → mid ≡ start ++ decimal shown → held ≡ mid ++ led (9 ∷ []) (map decimal ids) → Adds before now (held ++ 10 ∷ [])
+    → Writes (IsText (Row (measured gap ids []) ∷ [])) before now
+short-written gap ids start mid held shown before now one is empty first second added = record {
+  text = short_text shown ids ++ 10 ∷ [];
+  holds = short-printed gap ids shown one is;
+  written = subst (λ t. Adds before now (t ++ 10 ∷ [])) (short-held ids start mid held shown empty first second) added;
+}
+
+-- a short row broke off
+pub short-broken : (gap : Frac) (ids start mid held : List ℕ) (shown : ℕ) (before now : List ℕ → Type 0) → gap.den ≡ 1 → shown ≡ gap.num
+    → start ≡ [] → mid ≡ start ++ decimal shown → held ≡ mid ++ led (9 ∷ []) (map decimal ids) → AddsPrefix before now (held ++ 10 ∷ [])
+    → WritesPrefix (IsText (Row (measured gap ids []) ∷ [])) before now
+short-broken gap ids start mid held shown before now one is empty first second broken = record {
+  text = short_text shown ids ++ 10 ∷ [];
+  holds = short-printed gap ids shown one is;
+  prefix = subst (λ t. AddsPrefix before now (t ++ 10 ∷ [])) (short-held ids start mid held shown empty first second) broken;
 }

@@ -2,6 +2,7 @@
 use Rattle.std.proofs.Common.{◌≡◌, ℕ, zero, suc, ◌+◌, ◌-◌, ◌<◌, ◌≤◌, List, [], ◌∷◌, ◌++◌, length, get_or, take, drop, map, refl, sym, ap, ◌∙◌, subst, append_assoc, append-nil, arith}
 use Rattle.std.proofs.Math.Seq.{drop-length}
 use Rattle.std.proofs.lemmas.List.{take_rest}
+use Rattle.std.specs.Fmt.{decimal}
 use Rattle.sand_model.specs.OutputText.{joined}
 use Rattle.output_text.specs.Forming.{Forms}
 use Rattle.output_text.specs.Joined.{led}
@@ -81,3 +82,15 @@ pub joined-first : {A : Type 0} (between : List ℕ) (f : A → List ℕ) (xs : 
 joined-first between f xs x d some is =
     sym (joined-led between (f x) (map f (take (length xs - 1) (drop 1 xs))))
     ∙ ap (λ ys. joined between (map f ys)) (sym (first-rest xs x d some is))
+
+-- one more number is appended behind a tab
+pub tabbed-step : (start held mid new rest left whole : List ℕ) (n : ℕ) → held ++ rest ≡ start ++ whole → rest ≡ ((9 ∷ []) ++ decimal n) ++ left
+    → mid ≡ held ++ 9 ∷ [] → new ≡ mid ++ decimal n → new ++ left ≡ start ++ whole
+tabbed-step start held mid new rest left whole n so_far is first second =
+    ap (λ t. t ++ left) (second ∙ ap (λ t. t ++ decimal n) first ∙ append_assoc held (9 ∷ []) (decimal n))
+    ∙ append_assoc held ((9 ∷ []) ++ decimal n) left ∙ ap (λ t. held ++ t) (sym is) ∙ so_far
+
+-- no number is left
+pub tabbed-end : (start held whole : List ℕ) (xs : List ℕ) → held ++ led (9 ∷ []) (map decimal (drop (length xs) xs)) ≡ start ++ whole → held ≡ start ++ whole
+tabbed-end start held whole xs so_far =
+    sym (append-nil held) ∙ ap (λ t. held ++ t) (sym (led-end (9 ∷ []) decimal xs)) ∙ so_far

@@ -12,6 +12,7 @@ mod pending;
 mod print;
 mod rows;
 mod shapes;
+mod short_rows;
 mod sinks;
 
 pub use line::LineRef;

@@ -1,4 +1,4 @@
-ghost use Rattle.std.specs.Prelude.{◌≡◌, ◌+◌, ◌<◌, ◌≤◌, [], ◌∷◌, ◌++◌, length, map, OnOk, OnErr};
+ghost use Rattle.std.specs.Prelude.{◌≡◌, ◌+◌, ◌*◌, ◌<◌, ◌≤◌, [], ◌∷◌, ◌++◌, length, map, OnOk, OnErr};
 ghost use Rattle.std.specs.Fmt.{decimal, signed_decimal};
 ghost use Rattle.sand_base.specs.Faults.{HasCause};
 ghost use Rattle.sand_base.specs.Streams.{Adds};
@@ -237,6 +237,30 @@ impl Pending {
         'numbers: for number in numbers {
             self.put_number(out, before, u64::from(*number))?;
         }
+        Ok(())
+    }
+
+    /// Numbers, each behind a tab, for which there is room.
+    pub fn append_tabbed(&mut self, numbers: &[u32])
+        requires { length self.old + length numbers.now * (MOST_DIGITS + 1) ≤ CAPACITY }
+        ensures text { self.new ≡ self.old ++ led (9 ∷ []) (map decimal numbers.now) }
+        ensures len { length self.new ≤ length self.old + length numbers.now * (MOST_DIGITS + 1) }
+    {
+        'numbers: for number in numbers {
+            self.push(b'\t');
+            self.append_number(u64::from(*number));
+        }
+    }
+
+    /// The line feed, for which there is room; then all is written.
+    pub fn end_short<K: Sink>(&mut self, out: &mut K) -> Result<(), Failed>
+        requires { length self.old < CAPACITY }
+        ensures written { OnOk result (Adds (K.took out.old) (K.took out.new) (self.old ++ 10 ∷ [])) }
+        ensures prefix { OnErr result (AddsPrefix (K.took out.old) (K.took out.new) (self.old ++ 10 ∷ [])) }
+        ensures cause { HasCause (K.faults out.old) (K.faults out.new) result }
+    {
+        self.push(b'\n');
+        write_all(out, self.as_bytes())?;
         Ok(())
     }
 

@@ -12,6 +12,7 @@ ghost use Rattle.output_text.specs.Writing.{AddsPrefix, Writes, WritesPrefix};
 
 use crate::LineRef;
 use crate::pending::{MOST_DIGITS, Pending};
+use crate::short_rows::{is_short, write_short_row};
 use sand_base::{Failed, Refusal, Sink};
 use z_code::Block;
 
@@ -180,9 +181,9 @@ impl Pending {
     }
 }
 
-/// Writes a line with its line feed. It takes no memory. A failed write is not tried again: after `Failed` the sink
-/// took a prefix of the line.
-pub fn write_line<K: Sink>(out: &mut K, line: &LineRef) -> Result<(), Failed>
+// Writes a line with its line feed, part by part.
+#[inline(never)]
+fn write_parts<K: Sink>(out: &mut K, line: &LineRef) -> Result<(), Failed>
     requires { IsPrintable line.now }
     ensures written { OnOk result (Writes (IsText (line_of line.now ∷ [])) (K.took out.old) (K.took out.new)) }
     ensures prefix { OnErr result (WritesPrefix (IsText (line_of line.now ∷ [])) (K.took out.old) (K.took out.new)) }
@@ -192,4 +193,29 @@ pub fn write_line<K: Sink>(out: &mut K, line: &LineRef) -> Result<(), Failed>
     pending.put_line(out, line)?;
     pending.end(out)?;
     Ok(())
+}
+
+/// Writes a line with its line feed. It takes no memory. A failed write is not tried again: after `Failed` the sink
+/// took a prefix of the line.
+#[inline]
+pub fn write_line<K: Sink>(out: &mut K, line: &LineRef) -> Result<(), Failed>
+    requires { IsPrintable line.now }
+    ensures written { OnOk result (Writes (IsText (line_of line.now ∷ [])) (K.took out.old) (K.took out.new)) }
+    ensures prefix { OnErr result (WritesPrefix (IsText (line_of line.now ∷ [])) (K.took out.old) (K.took out.new)) }
+    ensures cause { HasCause (K.faults out.old) (K.faults out.new) result }
+{
+    match line {
+        LineRef::Row {
+            gap: Some(gap),
+            ids,
+            values,
+        } if is_short(gap, ids, values) => {
+            write_short_row(out, *gap, ids)?;
+            Ok(())
+        }
+        _ => {
+            write_parts(out, line)?;
+            Ok(())
+        }
+    }
 }

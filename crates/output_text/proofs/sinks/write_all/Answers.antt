@@ -1,12 +1,8 @@
--- each write adds what it takes to the prefix of the text
-use Rattle.output_text.proofs.Forming.{on_err}
-use Rattle.output_text.proofs.WrittenPrefix.{WrittenPrefix-grows, AddsPrefix-stop}
+-- the rest broke off
+use Rattle.output_text.proofs.Forming.{on_err, rest-broken}
 use Rattle.output_text.proofs.sinks.write_all.Goals as goal
 
-pub pieces-preserved : goal.pieces-preserved
-pieces-preserved g c =
-    WrittenPrefix-grows _ _ _ _ _ _ _ _ _ c.pieces.invariant c.in_ok-at.ensures.count.1 c.in_ok-at.ensures.bytes c.in_ok-at.ensures.cause.done
-
-pub returns-in_err-at-clause-prefix : goal.returns-in_err-at-clause-prefix
-returns-in_err-at-clause-prefix g c =
-    on_err c.from_residual.result (AddsPrefix-stop c.pieces.at _ _ _ _ c.pieces.invariant.taken c.in_err-at.ensures.bytes)
+pub returns-in_err-write_pieces-clause-prefix : goal.returns-in_err-write_pieces-clause-prefix
+returns-in_err-write_pieces-clause-prefix g c =
+    on_err c.from_residual-in_err-write_pieces.result
+    (rest-broken c.in_ok-count.count c.args.text.now _ _ _ c.in_ok-count.ensures.bytes c.in_err-write_pieces.ensures.prefix)

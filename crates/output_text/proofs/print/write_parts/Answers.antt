@@ -2,7 +2,7 @@
 use Rattle.output_text.proofs.Forming.{on_err}
 use Rattle.output_text.proofs.Lines.{line-cut, line-prefix, line-written}
 use Rattle.output_text.specs.Line.{line_of}
-use Rattle.output_text.proofs.print.write_line.Goals as goal
+use Rattle.output_text.proofs.print.write_parts.Goals as goal
 
 pub returns-in_err-put_line-clause-prefix : goal.returns-in_err-put_line-clause-prefix
 returns-in_err-put_line-clause-prefix g c =

@@ -1,5 +1,5 @@
 use Rattle.std.proofs.Common.{◌-◌, length}
-use Rattle.output_text.proofs.sinks.write_all.Given as goal
+use Rattle.output_text.proofs.sinks.write_pieces.Given as goal
 use Rattle.output_text.proofs.WrittenPrefix.{WrittenPrefix}
 
 abbrev pub invariant-pieces : goal.invariant-pieces
