@@ -1,5 +1,5 @@
 -- Gets that add up.
-use Rattle.std.proofs.Common.{ℕ, ◌+◌, ◌≤◌, refl, arith}
+use Rattle.std.proofs.Common.{◌≡◌, ℕ, ◌+◌, ◌≤◌, refl, subst, arith}
 use Rattle.std.specs.Prelude.{Result, Ok, Err, OnOk}
 use Rattle.sand_base.specs.Faults.{next_count}
 use Rattle.page_pool.specs.declared.fault.PageFault.{PageFault}
@@ -78,3 +78,9 @@ peeks_none a k x = record { read = IsRead-refl a; within = omega arith; up = ome
 pub looks_peeks : {T : Type 0} (a b : PoolState) (k : ℕ) (r : Result T PageFault) → Looks a b k r → Peeks a b k r
 looks_peeks a b k (Ok x) g = record { read = g.read; within = g.within; up = g.up; cause = g.cause }
 looks_peeks a b k (Err e) g = record { read = g.read; within = g.within; up = g.up; cause = g.cause }
+
+-- one get, whose answer was this
+pub peeked : {T U : Type 0} (a b : PoolState) (n : ℕ) (x : T) (y : U) (r : Result T PageFault) → r ≡ Ok x → Gets a b n r → Peeks a b 1 (Ok y)
+peeked {T = T} a b n x y r e g =
+    let G : Result T PageFault → Type 0 = λ q. Gets a b n q in
+    looks_peeks a b 1 (Ok y) (looked a b n x y (subst G e g))

@@ -1,4 +1,5 @@
 ghost use Rattle.std.specs.Prelude.{◌≡◌, ◌+◌, ◌-◌, ◌*◌, ◌/◌, ◌%◌, ◌<◌, ◌≤◌, ◌≢◌, ◌∷◌, ◌++◌, [], true, false, length, take, drop, IfSome, MatchOption};
+ghost use Rattle.code_btree.specs.Bytes.{piece, word_of};
 ghost use Rattle.code_btree.specs.Node.{IsInnerOf, key_in, child_in, keys_in, children_in, keys_of, children_of, node_of};
 ghost use Rattle.code_btree.specs.Node.Node.{inner};
 ghost use Rattle.code_btree.specs.Search.{IsInnerSearch};
@@ -39,8 +40,17 @@ pub fn child_at(page: &Page, at: usize) -> u64
     word_at(page, 2736 + 8 * at)
 }
 
+// The low word of a key: the whole key, where it is an id.
+fn low_word_at(page: &Page, at: usize) -> u64
+    requires { at < 169 }
+    ensures { result ≡ word_of (piece 8 (40 + 16 * at) page.now) }
+{
+    word_at(page, 40 + 16 * at)
+}
+
 // Where an id, a key below 2^32, would belong if the keys stood at equal distances, as those between ids mostly do. A
-// greater key has no such place.
+// greater key has no such place. It looks at the low words of the keys alone, and at the low half of what is between
+// them: whatever is above those, a guess is all that it spoils.
 fn guess(page: &Page, count: usize, key: u128) -> Option<usize>
     requires { count ≤ 169 }
     ensures { IfSome result (λ at. at ≤ count) }
@@ -48,19 +58,20 @@ fn guess(page: &Page, count: usize, key: u128) -> Option<usize>
     if count < 2 || key >= 1 << 32 {
         return None;
     }
-    let first = key_at(page, 0);
-    if key < first {
+    let id = key as u64;
+    let first = low_word_at(page, 0);
+    if id < first {
         return Some(0);
     }
-    let behind = key - first;
-    let distance = key_at(page, 1).saturating_sub(first);
+    let behind = (id - first) as u32;
+    let distance = (low_word_at(page, 1).wrapping_sub(first) % (1 << 32)) as u32;
     if behind < distance {
         return Some(1);
     }
     if distance == 0 {
         return None;
     }
-    let steps = behind as u64 / distance as u64;
+    let steps = behind / distance;
     Some(min(steps as usize + 1, count))
 }
 

@@ -22,21 +22,6 @@ pub fn child_for<P: Pages>(pages: &mut P, n: u64, key: u128) -> Result<Option<u6
     Ok(Some(child_at(page, place_of(page, count, key))))
 }
 
-// The child of page `n` under which a key belongs, with the separator before it, or 1 where there is none: one get.
-#[inline]
-fn part_for<P: Pages>(pages: &mut P, n: u64, key: u128) -> Result<(Option<u64>, u128), PageFault>
-    ensures value { IfOk result (λ part. IsTold (P.shown pages.old) → LeadsTo (pages_in (P.shown pages.old)) n key part.0) }
-    ensures looks { Looks (P.shown pages.old) (P.shown pages.new) 1 result }
-{
-    let page = pages.live_page(n)?;
-    let Some(count) = inner_count(page) else {
-        return Ok((None, 1));
-    };
-    let at = place_of(page, count, key);
-    let first = if at == 0 { 1 } else { key_at(page, at - 1) };
-    Ok((Some(child_at(page, at)), first))
-}
-
 // The value of a key in leaf `n`, which begins with the key `first` if it has it: one get.
 #[inline]
 fn find_in_leaf<P: Pages>(
@@ -68,14 +53,20 @@ pub fn find_under<P: Pages>(
     ensures value { IfOk result (λ found. IsTold (P.shown pages.old) → found ≡ find_item key (items (pages_in (P.shown pages.old)) level n)) }
     ensures looks { Looks (P.shown pages.old) (P.shown pages.new) (level + 1) result }
 {
-    if level == 0 {
-        return find_in_leaf(pages, n, first, key);
+    let mut left = level;
+    let mut place = n;
+    let mut begin = first;
+    'levels: while left > 0 {
+        let page = pages.live_page(place)?;
+        let Some(count) = inner_count(page) else {
+            return Ok(None);
+        };
+        let at = place_of(page, count, key);
+        begin = if at == 0 { 1 } else { key_at(page, at - 1) };
+        place = child_at(page, at);
+        left -= 1;
     }
-    let part = part_for(pages, n, key)?;
-    let Some(child) = part.0 else {
-        return Ok(None);
-    };
-    find_under(pages, level - 1, child, part.1, key)
+    find_in_leaf(pages, place, begin, key)
 }
 
 // The entry of the greatest key not above this one in leaf `n`: one get.
