@@ -1,6 +1,5 @@
 -- each level leads to the child that has the key's pair, where there is one
 use Rattle.std.proofs.Common.{◌≡◌, ◌-◌, ◌+◌, ℕ, suc, sym, ◌∙◌, ap, subst, arith, Ok, None, Some}
-use Rattle.std.specs.Prelude.{Option}
 use Rattle.page_pool.specs.Pool.{PoolState, IsTold}
 use Rattle.code_btree.specs.Items.{find_item}
 use Rattle.code_btree.specs.Tree.{Store, items, pages_in}
