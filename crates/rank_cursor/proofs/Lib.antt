@@ -12,5 +12,8 @@ pub mod Counted
 pub mod AlikeLists
 pub mod Fitted
 pub mod LeafEntries
+pub mod AtZeroEntries
+pub mod Touching
 pub mod Lawful
 pub mod Searching
+pub mod OpenedAtZero

@@ -5,6 +5,7 @@ pub mod Answers
 pub mod Laws
 -- its code over pages
 pub mod Cursor
+pub mod AtZero
 -- facts that the code's ghost items cite
 pub mod Props
 pub mod Exact

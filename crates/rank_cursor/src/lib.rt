@@ -10,6 +10,8 @@
 #![tactic(auto)]
 
 mod as_hierarchy;
+mod as_zero_hierarchy;
+mod at_zero;
 mod blocks;
 mod entries;
 mod laws;

@@ -1,5 +1,5 @@
 -- The beginning of a search within the distance 0: the root is queued where its gap is 0, and lies outside the ceiling elsewhere.
-use Rattle.std.proofs.Common.{◌≡◌, ◌*◌, ◌≤◌, ◌≢◌, [], ◌∷◌, ◌++◌, Bool, true, false, None, Some, refl, sym, ap, ◌∙◌, arith, append-nil, leb-true, Ordering, Equal}
+use Rattle.std.proofs.Common.{◌≡◌, ℕ, ◌*◌, ◌≤◌, ◌≢◌, [], ◌∷◌, ◌++◌, Bool, true, false, None, Some, refl, sym, ap, ◌∙◌, arith, append-nil, leb-true, Ordering, Equal}
 use Rattle.std.specs.Cmp.{IsTotalOrder, nat_cmp_is}
 use Rattle.exact_frac.specs.declared.frac.Frac.{Frac}
 use Rattle.best_first.specs.declared.item.Item.{Item}
@@ -37,8 +37,8 @@ beyond_zero gap far =
 
 module _ {N : Type 0} {cmp : N → N → Ordering} (o : IsTotalOrder cmp) (m : Meaning N) (laws : MeetsLaws m) (zero : IsWithinZero m) (gap : Frac) (node : N) (root : (node ≡ m.root) × IsSameGap gap (m.gap node)) where
   -- the root is queued
-  pub begun_near : (empty new q : ZeroItems N) → gap.num ≡ 0 → empty ≡ record { nodes = []; roughs = []; rows = [] } → new ≡ record empty { nodes = empty.nodes ++ node ∷ [] } → q ≡ new → Stands cmp m (items_of q) None []
-  begun_near empty new q near nothing added is =
+  pub begun_near : (below : ℕ) (empty new q : ZeroItems N) → gap.num ≡ 0 → empty ≡ record { nodes = []; roughs = []; rows = []; below = below } → new ≡ record empty { nodes = empty.nodes ++ node ∷ [] } → q ≡ new → Stands cmp m (items_of q) None []
+  begun_near below empty new q near nothing added is =
       let first : Item N = node_at_zero node in
       let inside : within m.ceiling zero_gap ≡ true = ap (λ c. within c zero_gap) zero.ceiling in
       let queued : items_of q ≡ first ∷ [] = ap items_of (is ∙ added ∙ ap (λ (l : ZeroItems N). record l { nodes = l.nodes ++ node ∷ [] }) nothing) in
@@ -48,8 +48,8 @@ module _ {N : Type 0} {cmp : N → N → Ordering} (o : IsTotalOrder cmp) (m : M
       (IsPermutation-same (kept (within m.ceiling) (first ∷ []) ++ []) (items_of q) all)
 
   -- the root is outside the ceiling, and nothing is queued
-  pub begun_far : (empty q : ZeroItems N) → gap.num ≢ 0 → empty ≡ record { nodes = []; roughs = []; rows = [] } → q ≡ empty → Stands cmp m (items_of q) None []
-  begun_far empty q far nothing is =
+  pub begun_far : (below : ℕ) (empty q : ZeroItems N) → gap.num ≢ 0 → empty ≡ record { nodes = []; roughs = []; rows = []; below = below } → q ≡ empty → Stands cmp m (items_of q) None []
+  begun_far below empty q far nothing is =
       let first : Item N = Node gap node in
       let outside : within m.ceiling gap ≡ false = ap (λ c. within c gap) zero.ceiling ∙ beyond_zero gap far in
       let all : kept (within m.ceiling) (first ∷ []) ++ [] ≡ items_of q =

@@ -118,7 +118,7 @@ all_alike (x ∷ xs) (y ∷ ys) one h = (leveled_alike x y (All-head IsSingle y 
 
 -- what is queued and these items, with all doubles
 abbrev pub with_all : {N : Type 0} → List (Item N) → ZeroItems N → ZeroItems N
-with_all items q = record { nodes = nodes_of items ++ q.nodes; roughs = flat_map rough_id_in items ++ q.roughs; rows = flat_map row_id_in items ++ q.rows }
+with_all items q = record { nodes = nodes_of items ++ q.nodes; roughs = flat_map rough_id_in items ++ q.roughs; rows = flat_map row_id_in items ++ q.rows; below = q.below }
 
 -- the items go to their places
 pub levels_put : {N : Type 0} (items : List (Item N)) (q : ZeroItems N) → IsPermutation (map level items ++ items_of q) (items_of (with_all items q))
@@ -177,7 +177,7 @@ no_nodes f bare [] = refl
 no_nodes f bare (id ∷ ids) = ap₂ (λ a b. a ++ b) (bare id) (no_nodes f bare ids)
 
 -- what was put into the two sets, less what was there before
-pub thins_put : {N : Type 0} (nodes : List N) (rough_ids roughs row_ids rows : List ℕ) (new : ZeroItems N) → IsPermutation nodes new.nodes → PutIn rough_ids roughs new.roughs → PutIn row_ids rows new.rows → Thins (items_of (record { nodes = nodes; roughs = rough_ids ++ roughs; rows = row_ids ++ rows })) (items_of new)
+pub thins_put : {N : Type 0} (nodes : List N) (rough_ids roughs row_ids rows : List ℕ) (new : ZeroItems N) → IsPermutation nodes new.nodes → PutIn rough_ids roughs new.roughs → PutIn row_ids rows new.rows → Thins (items_of (record { nodes = nodes; roughs = rough_ids ++ roughs; rows = row_ids ++ rows; below = new.below })) (items_of new)
 thins_put {N} nodes rough_ids roughs row_ids rows new moved rough row =
     let a : List (Item N) = map node_at_zero new.nodes in
     let b : List (Item N) = map rough_at_zero rough.again in

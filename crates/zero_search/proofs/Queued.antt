@@ -60,7 +60,7 @@ puts_more more added old mid new first second = record {
 
 -- nothing was found
 pub opens_none : {N : Type 0} (q : ZeroItems N) → Opens q.nodes [] q q
-opens_none q = record { nodes = IsPermutation-refl q.nodes; roughs = puts_none q.roughs; rows = puts_none q.rows }
+opens_none q = record { nodes = IsPermutation-refl q.nodes; roughs = puts_none q.roughs; rows = puts_none q.rows; below = refl }
 
 -- one more item is at the distance 0, or it is left out
 one_more : {N : Type 0} {A : Type 0} (f : Item N → List A) (item : Item N) (items : List (Item N)) → flat_map f (at_zero (item ∷ items)) ≡ flat_map f (at_zero (item ∷ [])) ++ flat_map f (at_zero items)
@@ -76,45 +76,82 @@ opens_more rest item items old mid new first second = record {
       second.nodes));
   roughs = subst (λ l. PutIn l old.roughs new.roughs) (sym (one_more rough_id_in item items)) (puts_more (flat_map rough_id_in (at_zero (item ∷ []))) (flat_map rough_id_in (at_zero items)) old.roughs mid.roughs new.roughs first.roughs second.roughs);
   rows = subst (λ l. PutIn l old.rows new.rows) (sym (one_more row_id_in item items)) (puts_more (flat_map row_id_in (at_zero (item ∷ []))) (flat_map row_id_in (at_zero items)) old.rows mid.rows new.rows first.rows second.rows);
+  below = second.below ∙ first.below;
 }
 
 -- what one item at the distance 0 brings
 brought : {N : Type 0} {A : Type 0} (f : Item N → List A) (item : Item N) → is_at_zero item ≡ true → flat_map f (at_zero (item ∷ [])) ≡ f item
 brought f item near = ap (λ b. flat_map f (cond b (item ∷ []) [])) near ∙ append-nil (f item)
 
-joins : {N : Type 0} (item : Item N) (old new : ZeroItems N) → (gap_of item).num ≡ 0 → IsPermutation (node_of item ++ old.nodes) new.nodes → PutIn (rough_id_in item) old.roughs new.roughs → PutIn (row_id_in item) old.rows new.rows → Opens old.nodes (item ∷ []) old new
-joins item old new zero nodes roughs rows =
+joins : {N : Type 0} (item : Item N) (old new : ZeroItems N) → (gap_of item).num ≡ 0 → IsPermutation (node_of item ++ old.nodes) new.nodes → PutIn (rough_id_in item) old.roughs new.roughs → PutIn (row_id_in item) old.rows new.rows → new.below ≡ old.below → Opens old.nodes (item ∷ []) old new
+joins item old new zero nodes roughs rows below =
     let near : is_at_zero item ≡ true = ap (λ n. nat_eq n 0) zero in
     record {
       nodes = subst (λ l. IsPermutation (l ++ old.nodes) new.nodes) (sym (brought node_of item near)) nodes;
       roughs = subst (λ l. PutIn l old.roughs new.roughs) (sym (brought rough_id_in item near)) roughs;
       rows = subst (λ l. PutIn l old.rows new.rows) (sym (brought row_id_in item near)) rows;
+      below = below;
     }
 
 -- a node was found
-pub node_joins : {N : Type 0} (item : Item N) (gap : Frac) (node : N) (q : ZeroItems N) (nodes : List N) → item ≡ Node gap node → (gap_of item).num ≡ 0 → nodes ≡ q.nodes ++ node ∷ [] → Opens q.nodes (item ∷ []) q (record { nodes = nodes; roughs = q.roughs; rows = q.rows })
+pub node_joins : {N : Type 0} (item : Item N) (gap : Frac) (node : N) (q : ZeroItems N) (nodes : List N) → item ≡ Node gap node → (gap_of item).num ≡ 0 → nodes ≡ q.nodes ++ node ∷ [] → Opens q.nodes (item ∷ []) q (record q { nodes = nodes })
 node_joins item gap node q nodes is zero adds =
-    joins item q (record { nodes = nodes; roughs = q.roughs; rows = q.rows }) zero
+    joins item q (record q { nodes = nodes }) zero
     (subst (λ i. IsPermutation (node_of i ++ q.nodes) nodes) (sym is)
     (subst (IsPermutation (node ∷ q.nodes)) (sym adds) (IsPermutation-append_comm (node ∷ []) q.nodes)))
     (subst (λ i. PutIn (rough_id_in i) q.roughs q.roughs) (sym is) (puts_none q.roughs))
-    (subst (λ i. PutIn (row_id_in i) q.rows q.rows) (sym is) (puts_none q.rows))
+    (subst (λ i. PutIn (row_id_in i) q.rows q.rows) (sym is) (puts_none q.rows)) refl
 
 -- a rough object was found
-pub rough_joins : {N : Type 0} (item : Item N) (gap : Frac) (left right : ℕ) (q : ZeroItems N) (roughs : List ℕ) → item ≡ Rough gap left right → (gap_of item).num ≡ 0 → PutIn (left ∷ []) q.roughs roughs → Opens q.nodes (item ∷ []) q (record { nodes = q.nodes; roughs = roughs; rows = q.rows })
+pub rough_joins : {N : Type 0} (item : Item N) (gap : Frac) (left right : ℕ) (q : ZeroItems N) (roughs : List ℕ) → item ≡ Rough gap left right → (gap_of item).num ≡ 0 → PutIn (left ∷ []) q.roughs roughs → Opens q.nodes (item ∷ []) q (record q { roughs = roughs })
 rough_joins item gap left right q roughs is zero puts =
-    joins item q (record { nodes = q.nodes; roughs = roughs; rows = q.rows }) zero
+    joins item q (record q { roughs = roughs }) zero
     (subst (λ i. IsPermutation (node_of i ++ q.nodes) q.nodes) (sym is) (IsPermutation-refl q.nodes))
     (subst (λ i. PutIn (rough_id_in i) q.roughs roughs) (sym is) puts)
-    (subst (λ i. PutIn (row_id_in i) q.rows q.rows) (sym is) (puts_none q.rows))
+    (subst (λ i. PutIn (row_id_in i) q.rows q.rows) (sym is) (puts_none q.rows)) refl
 
 -- a row was found
-pub row_joins : {N : Type 0} (item : Item N) (gap : Frac) (left right : ℕ) (q : ZeroItems N) (rows : List ℕ) → item ≡ Row gap left right → (gap_of item).num ≡ 0 → PutIn (left ∷ []) q.rows rows → Opens q.nodes (item ∷ []) q (record { nodes = q.nodes; roughs = q.roughs; rows = rows })
-row_joins item gap left right q rows is zero puts =
-    joins item q (record { nodes = q.nodes; roughs = q.roughs; rows = rows }) zero
+pub row_joins : {N : Type 0} (item : Item N) (gap : Frac) (left right : ℕ) (q : ZeroItems N) (rows : List ℕ) (below : ℕ) → item ≡ Row gap left right → (gap_of item).num ≡ 0 → below ≡ q.below → PutIn (left ∷ []) q.rows rows → Opens q.nodes (item ∷ []) q (record q { rows = rows; below = below })
+row_joins item gap left right q rows below is zero kept puts =
+    joins item q (record q { rows = rows; below = below }) zero
     (subst (λ i. IsPermutation (node_of i ++ q.nodes) q.nodes) (sym is) (IsPermutation-refl q.nodes))
     (subst (λ i. PutIn (rough_id_in i) q.roughs q.roughs) (sym is) (puts_none q.roughs))
-    (subst (λ i. PutIn (row_id_in i) q.rows rows) (sym is) puts)
+    (subst (λ i. PutIn (row_id_in i) q.rows rows) (sym is) puts) kept
+
+-- ---- what is found in the order of a leaf
+
+-- what was put in is so in any order
+puts_swapped : (first second old new : List ℕ) → PutIn (second ++ first) old new → PutIn (first ++ second) old new
+puts_swapped first second old new puts = record {
+  again = puts.again;
+  split = IsPermutation-trans ((first ++ second) ++ old) ((second ++ first) ++ old) (puts.again ++ new)
+      (IsPermutation-append_left old (first ++ second) (second ++ first) (IsPermutation-append_comm first second)) puts.split;
+  there = puts.there;
+}
+
+-- some items joined, and then others
+pub opens_then : {N : Type 0} (rest : List N) (first second : List (Item N)) (old mid new : ZeroItems N) → Opens rest first old mid → Opens mid.nodes second mid new → Opens rest (first ++ second) old new
+opens_then {N} rest first second old mid new before after = record {
+  nodes = subst (λ l. IsPermutation (l ++ rest) new.nodes) (sym (both node_of))
+      (IsPermutation-trans ((nodes_of (at_zero first) ++ nodes_of (at_zero second)) ++ rest) ((nodes_of (at_zero second) ++ nodes_of (at_zero first)) ++ rest) new.nodes
+      (IsPermutation-append_left rest (nodes_of (at_zero first) ++ nodes_of (at_zero second)) (nodes_of (at_zero second) ++ nodes_of (at_zero first)) (IsPermutation-append_comm (nodes_of (at_zero first)) (nodes_of (at_zero second))))
+      (subst (λ l. IsPermutation l new.nodes) (sym (append_assoc (nodes_of (at_zero second)) (nodes_of (at_zero first)) rest))
+      (IsPermutation-trans (nodes_of (at_zero second) ++ (nodes_of (at_zero first) ++ rest)) (nodes_of (at_zero second) ++ mid.nodes) new.nodes
+      (IsPermutation-append_right (nodes_of (at_zero second)) (nodes_of (at_zero first) ++ rest) mid.nodes before.nodes)
+      after.nodes)));
+  roughs = put rough_id_in old.roughs mid.roughs new.roughs before.roughs after.roughs;
+  rows = put row_id_in old.rows mid.rows new.rows before.rows after.rows;
+  below = after.below ∙ before.below;
+}
+  where
+    both : {A : Type 0} (f : Item N → List A) → flat_map f (at_zero (first ++ second)) ≡ flat_map f (at_zero first) ++ flat_map f (at_zero second)
+    both f = ap (flat_map f) (filter-append is_at_zero first second) ∙ flat_map-append f (at_zero first) (at_zero second)
+
+    put : (f : Item N → List ℕ) (was then now : List ℕ) → PutIn (flat_map f (at_zero first)) was then → PutIn (flat_map f (at_zero second)) then now → PutIn (flat_map f (at_zero (first ++ second))) was now
+    put f was then now one other =
+        subst (λ l. PutIn l was now) (sym (both f))
+        (puts_swapped (flat_map f (at_zero first)) (flat_map f (at_zero second)) was now
+        (puts_more (flat_map f (at_zero second)) (flat_map f (at_zero first)) was then now one other))
 
 -- ---- the least id
 

@@ -70,11 +70,11 @@ fetched_row near exact id = record { gap = cond near zero_gap exact; left = id; 
 
 -- what is queued without the rough object
 abbrev pub fetched_rest : {N : Type 0} → ZeroItems N → ZeroItems N → ZeroItems N
-fetched_rest was now = record { nodes = []; roughs = now.roughs; rows = was.rows }
+fetched_rest was now = record { nodes = []; roughs = now.roughs; rows = was.rows; below = was.below }
 
 -- and with its row, where that is at the distance 0
 abbrev pub fetched_all : {N : Type 0} → ℕ → Bool → ZeroItems N → ZeroItems N → ZeroItems N
-fetched_all id near was now = record { nodes = []; roughs = now.roughs; rows = row_if near id ++ was.rows }
+fetched_all id near was now = record { nodes = []; roughs = now.roughs; rows = row_if near id ++ was.rows; below = was.below }
 
 -- rough objects at the distance 0 come in the order of their ids
 rough_later : {N : Type 0} (cmp : N → N → Ordering) (id other : ℕ) → id < other → IsAfter cmp (rough_at_zero id) (rough_at_zero other)

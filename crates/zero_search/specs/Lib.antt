@@ -4,7 +4,8 @@ pub mod IdSet
 -- what a search within the distance 0 keeps
 pub mod RowsAtZero
 pub mod ZeroItems
--- what is asked of the hierarchy
+-- what is asked of the hierarchy, and what it does to what is queued
 pub mod WithinZero
+pub mod OpensAs
 -- the steps inside a call
 pub mod Inside

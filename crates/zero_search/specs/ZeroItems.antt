@@ -32,11 +32,12 @@ TakesLeast id old new = IsPermutation old (id ∷ new) × All (λ other. id < ot
 
 -- ---- what is queued
 
--- Nodes, the last to be opened first, and the ids of rough objects and of rows, all at the distance 0; each id has a bit.
+-- Nodes, the last to be opened first, and the ids of rough objects and of rows, all at the distance 0; ids below the bound have bits.
 pub record ZeroItems (N : Type 0) : Type 0 where
   pub nodes : List N
   pub roughs : List ℕ
   pub rows : List ℕ
+  pub below : ℕ
 
 -- a node at the distance 0
 abbrev pub node_at_zero : {N : Type 0} → N → Item N
@@ -82,11 +83,12 @@ HasBit below (Row gap left right) = left < below
 abbrev pub at_zero : {N : Type 0} → List (Item N) → List (Item N)
 at_zero items = filter is_at_zero items
 
--- A node was opened: the nodes that were found at the distance 0 take its place, in any order, and the ids of the rough objects and rows found there are put in.
+-- A node was opened: the nodes that were found at the distance 0 take its place, in any order, and the ids of the rough objects and rows found there are put in. The same ids have bits.
 pub record Opens {N : Type 0} (rest : List N) (found : List (Item N)) (old new : ZeroItems N) : Type 0 where
   pub nodes : IsPermutation (nodes_of (at_zero found) ++ rest) new.nodes
   pub roughs : PutIn (flat_map rough_id_in (at_zero found)) old.roughs new.roughs
   pub rows : PutIn (flat_map row_id_in (at_zero found)) old.rows new.rows
+  pub below : new.below ≡ old.below
 
 -- the id, where its row is at the distance 0
 abbrev pub row_if : Bool → ℕ → List ℕ

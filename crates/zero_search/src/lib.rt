@@ -15,6 +15,9 @@ mod open_node;
 mod search;
 mod settle;
 mod step;
+mod zero_hierarchy;
 mod zero_queue;
 
 pub use search::ZeroSearch;
+pub use zero_hierarchy::ZeroHierarchy;
+pub use zero_queue::ZeroQueue;

@@ -6,20 +6,18 @@ ghost use Rattle.best_first.specs.Steps.{steps};
 ghost use Rattle.zero_search.specs.ZeroItems.{items_of};
 ghost use Rattle.zero_search.specs.WithinZero.{StandsWithin};
 
-use crate::zero_queue::ZeroQueue;
-use best_first::{Frontier, Hierarchy, Item};
-use exact_frac::Frac;
+use crate::{ZeroHierarchy, ZeroQueue};
+use best_first::Frontier;
 use page_pool::{Desk, Disk, PageFault};
 use std::alloc::Global;
 
-// Opens the node that is next: what it finds at the distance 0 takes its place. It empties the list and reads into it, and
-// only then changes the frontier, which a refusal leaves as it was.
-pub fn open_node<H: Hierarchy, D: Disk>(
+// Opens the node that is next: what the hierarchy finds at the distance 0 takes its place, and the visit is counted. A
+// refusal leaves the frontier as it was.
+pub fn open_node<H: ZeroHierarchy, D: Disk>(
     alloc: Global,
     hierarchy: &H,
     frontier: &mut Frontier<ZeroQueue<H::Node>>,
     near: &mut H::Near,
-    found: &mut Vec<Item<H::Node>>,
     desk: &mut Desk<D>,
     node: H::Node,
 ) -> Result<(), PageFault>
@@ -33,9 +31,7 @@ pub fn open_node<H: Hierarchy, D: Disk>(
     ensures moves { MatchResult result (λ _. IfSome (told_pages desk.old) (λ p. Goes H.Node.cmp (H.meaning hierarchy.now p) (H.note hierarchy.now) (state (items_of frontier.old.queue) frontier.old.last frontier.old.counts desk.old) (state (items_of frontier.new.queue) frontier.new.last frontier.new.counts desk.new))) (λ _. IfSome (told_pages desk.old) (λ p. Fails H.Node.cmp (H.meaning hierarchy.now p) (H.note hierarchy.now) (state (items_of frontier.old.queue) frontier.old.last frontier.old.counts desk.old) (state (items_of frontier.new.queue) frontier.new.last frontier.new.counts desk.new))) }
     ensures near { IfSome (told_pages desk.old) (λ p. H.IsNear hierarchy.now p near.new) }
 {
-    found.clear();
-    hierarchy.expand_near(alloc, desk, Frac::new(0, 1), node, near, found)?;
-    frontier.queue.open(found)?;
+    hierarchy.open_near(alloc, desk, node, near, &mut frontier.queue)?;
     frontier.counts.visited = frontier.counts.visited.saturating_add(1);
     Ok(())
 }

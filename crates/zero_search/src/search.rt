@@ -11,8 +11,8 @@ ghost use Rattle.zero_search.specs.WithinZero.{IsWithinZero, StandsWithin};
 
 use crate::give_row::give_row;
 use crate::settle::settle;
-use crate::zero_queue::ZeroQueue;
-use best_first::{Counts, Frontier, Hierarchy, Hit, Item};
+use crate::{ZeroHierarchy, ZeroQueue};
+use best_first::{Counts, Frontier, Hit};
 use page_pool::{Desk, Disk, PageFault};
 use sand_base::NoMemory;
 use std::alloc::Global;
@@ -21,14 +21,13 @@ use std::alloc::Global;
 /// one, by their ids. Its first call opens each node at the distance 0 and fetches each rough object there, and no other;
 /// those after it read nothing.
 #[derive(Drop)]
-pub struct ZeroSearch<H: Hierarchy> {
+pub struct ZeroSearch<H: ZeroHierarchy> {
     hierarchy: H,
     frontier: Frontier<ZeroQueue<H::Node>>,
-    found: Vec<Item<H::Node>>,
     alloc: Global,
 }
 
-impl<H: Hierarchy> ZeroSearch<H> {
+impl<H: ZeroHierarchy> ZeroSearch<H> {
     /// A search that has given nothing, for ids below `count`: a greater one is refused as out of memory. It stands over all
     /// pages over which the hierarchy meets its laws within the distance 0, and no page was read. After a refusal the hierarchy is dropped.
     pub fn start(alloc: Global, hierarchy: H, count: u32) -> Result<ZeroSearch<H>, NoMemory>
@@ -54,7 +53,6 @@ impl<H: Hierarchy> ZeroSearch<H> {
         Ok(ZeroSearch {
             hierarchy,
             frontier,
-            found: Vec::new(alloc),
             alloc,
         })
     }
@@ -73,13 +71,7 @@ impl<H: Hierarchy> ZeroSearch<H> {
         ensures falls { Falls (steps (H.weight self.old.hierarchy) (items_of self.old.frontier.queue)) (steps (H.weight self.old.hierarchy) (items_of self.new.frontier.queue)) result }
         ensures still { AreRows self.old.frontier.queue → (desk.new ≡ desk.old) × IsOk result }
     {
-        match settle(
-            self.alloc,
-            &self.hierarchy,
-            &mut self.frontier,
-            &mut self.found,
-            desk,
-        ) {
+        match settle(self.alloc, &self.hierarchy, &mut self.frontier, desk) {
             Ok(()) => Ok(give_row(&mut self.frontier)),
             Err(fault) => Err(fault),
         }

@@ -7,18 +7,17 @@ ghost use Rattle.zero_search.specs.ZeroItems.{items_of, AreRows};
 ghost use Rattle.zero_search.specs.WithinZero.{StandsWithin};
 
 use crate::step::step;
-use crate::zero_queue::ZeroQueue;
-use best_first::{Frontier, Hierarchy, Item};
+use crate::{ZeroHierarchy, ZeroQueue};
+use best_first::Frontier;
 use page_pool::{Desk, Disk, PageFault};
 use std::alloc::Global;
 
 // Steps until rows alone are left. The first expansion is given nothing, and each one after it what the one before has
 // left.
-pub fn settle<H: Hierarchy, D: Disk>(
+pub fn settle<H: ZeroHierarchy, D: Disk>(
     alloc: Global,
     hierarchy: &H,
     frontier: &mut Frontier<ZeroQueue<H::Node>>,
-    found: &mut Vec<Item<H::Node>>,
     desk: &mut Desk<D>,
 ) -> Result<(), PageFault>
     requires { IfSome (told_pages desk.old) (λ p. StandsWithin H.Node.cmp (H.meaning hierarchy.now p) (items_of frontier.old.queue) frontier.old.last) }
@@ -32,7 +31,7 @@ pub fn settle<H: Hierarchy, D: Disk>(
 {
     let mut near = hierarchy.nowhere();
     'steps: loop {
-        match step(alloc, hierarchy, frontier, &mut near, found, desk) {
+        match step(alloc, hierarchy, frontier, &mut near, desk) {
             Ok(true) => {}
             Ok(false) => return Ok(()),
             Err(fault) => return Err(fault),

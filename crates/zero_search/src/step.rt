@@ -10,18 +10,17 @@ ghost use Rattle.zero_search.specs.Inside.{StepSettles};
 
 use crate::fetch_rough::fetch_rough;
 use crate::open_node::open_node;
-use crate::zero_queue::ZeroQueue;
-use best_first::{Frontier, Hierarchy, Item};
+use crate::{ZeroHierarchy, ZeroQueue};
+use best_first::Frontier;
 use page_pool::{Desk, Disk, PageFault};
 use std::alloc::Global;
 
 // One step: the next node is opened, or where there is none the next rough object is fetched. False where there is neither.
-pub fn step<H: Hierarchy, D: Disk>(
+pub fn step<H: ZeroHierarchy, D: Disk>(
     alloc: Global,
     hierarchy: &H,
     frontier: &mut Frontier<ZeroQueue<H::Node>>,
     near: &mut H::Near,
-    found: &mut Vec<Item<H::Node>>,
     desk: &mut Desk<D>,
 ) -> Result<bool, PageFault>
     requires stands { IfSome (told_pages desk.old) (λ p. StandsWithin H.Node.cmp (H.meaning hierarchy.now p) (items_of frontier.old.queue) frontier.old.last) }
@@ -35,7 +34,7 @@ pub fn step<H: Hierarchy, D: Disk>(
     ensures near { IfSome (told_pages desk.old) (λ p. H.IsNear hierarchy.now p near.new) }
 {
     if let Some(node) = frontier.queue.node() {
-        if let Err(fault) = open_node(alloc, hierarchy, frontier, near, found, desk, node) {
+        if let Err(fault) = open_node(alloc, hierarchy, frontier, near, desk, node) {
             return Err(fault);
         }
         return Ok(true);

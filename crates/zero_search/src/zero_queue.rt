@@ -1,5 +1,6 @@
 ghost use Rattle.std.specs.Prelude.{◌≡◌, ◌+◌, ◌<◌, ◌≤◌, ◌↔◌, ◌++◌, [], ◌∷◌, List, length, OnOk, OnErr, IfOk, MatchOption, IsTrue, All, vec_len, vec_capacity};
-ghost use Rattle.zero_search.specs.ZeroItems.{IsLeastOf, HasBit, Opens, Fetches, Gives};
+ghost use Rattle.zero_search.specs.ZeroItems.{IsLeastOf, HasBit, Opens, Fetches, Gives, bits_for, rough_at_zero};
+ghost use Rattle.zero_search.specs.RowsAtZero.{row_at_zero};
 
 use crate::id_set::IdSet;
 use best_first::Item;
@@ -8,7 +9,7 @@ use std::alloc::Global;
 use std::marker::Model;
 
 /// What a search within the distance 0 has still to take: nodes, and rough objects and rows by their ids. Contracts see
-/// the three lists.
+/// the three lists, and the bound below which ids have bits.
 #[derive(Drop)]
 pub struct ZeroQueue<N> {
     nodes: Vec<N>,
@@ -22,7 +23,7 @@ impl<N> Model for ZeroQueue<N> {
 
     ghost Value = { ZeroItems N };
 
-    ghost view = { λ q. record { nodes = q.nodes.items; roughs = q.roughs.ids; rows = q.rows.ids } };
+    ghost view = { λ q. record { nodes = q.nodes.items; roughs = q.roughs.ids; rows = q.rows.ids; below = q.rows.below } };
 
     ghost invariant = { λ q. q.rows.below ≡ q.roughs.below };
 }
@@ -30,7 +31,7 @@ impl<N> Model for ZeroQueue<N> {
 impl<N: Copy + Drop> ZeroQueue<N> {
     // Nothing, and bits for each id below `count`.
     pub fn below(alloc: Global, count: u32) -> Result<ZeroQueue<N>, NoMemory>
-        ensures { IfOk result (λ q. q ≡ record { nodes = []; roughs = []; rows = [] }) }
+        ensures { IfOk result (λ q. q ≡ record { nodes = []; roughs = []; rows = []; below = bits_for count }) }
     {
         let roughs = IdSet::below(alloc, count)?;
         let rows = IdSet::below(alloc, count)?;
@@ -71,6 +72,40 @@ impl<N: Copy + Drop> ZeroQueue<N> {
         let _opened = self.nodes.pop();
         add_all(&mut self.nodes, &mut self.roughs, &mut self.rows, found);
         Ok(())
+    }
+
+    // Takes the node that is opened next.
+    #[inline]
+    pub fn take_node(&mut self)
+        ensures { (node : N) (rest : List N) → self.old.nodes ≡ rest ++ node ∷ [] → self.new ≡ record self.old { nodes = rest } }
+    {
+        let _taken = self.nodes.pop();
+    }
+
+    // Whether there is a bit for the id.
+    #[inline]
+    pub fn has_bit(&self, id: u32) -> bool
+        ensures { IsTrue result ↔ (id < self.now.below) }
+    {
+        self.rows.has_bit(id)
+    }
+
+    // Adds a rough object at the distance 0 by its id, for which there is a bit.
+    #[inline]
+    pub fn add_rough(&mut self, id: u32)
+        requires { id < self.old.below }
+        ensures { Opens self.old.nodes (rough_at_zero id ∷ []) self.old self.new }
+    {
+        self.roughs.insert(id);
+    }
+
+    // Adds a row at the distance 0 by its id, for which there is a bit.
+    #[inline]
+    pub fn add_row(&mut self, id: u32)
+        requires { id < self.old.below }
+        ensures { Opens self.old.nodes (row_at_zero id ∷ []) self.old self.new }
+    {
+        self.rows.insert(id);
     }
 
     // The id of the rough object that is fetched next, the least, None exactly where there is none.
@@ -135,7 +170,7 @@ fn add_all<N: Copy + Drop>(
     requires room { vec_len nodes.old + length found.now ≤ vec_capacity nodes.old }
     requires bits { All (HasBit rows.old.below) found.now }
     requires same { rows.old.below ≡ roughs.old.below }
-    ensures added { Opens nodes.old.items found.now (record { nodes = nodes.old.items; roughs = roughs.old.ids; rows = rows.old.ids }) (record { nodes = nodes.new.items; roughs = roughs.new.ids; rows = rows.new.ids }) }
+    ensures added { Opens nodes.old.items found.now (record { nodes = nodes.old.items; roughs = roughs.old.ids; rows = rows.old.ids; below = rows.old.below }) (record { nodes = nodes.new.items; roughs = roughs.new.ids; rows = rows.new.ids; below = rows.new.below }) }
     ensures bits { (roughs.new.below ≡ roughs.old.below) × (rows.new.below ≡ rows.old.below) }
 {
     let mut at = found.len();
@@ -151,7 +186,7 @@ fn add<N: Copy + Drop>(nodes: &mut Vec<N>, roughs: &mut IdSet, rows: &mut IdSet,
     requires room { vec_len nodes.old < vec_capacity nodes.old }
     requires bit { HasBit rows.old.below item.now }
     requires same { rows.old.below ≡ roughs.old.below }
-    ensures added { Opens nodes.old.items (item.now ∷ []) (record { nodes = nodes.old.items; roughs = roughs.old.ids; rows = rows.old.ids }) (record { nodes = nodes.new.items; roughs = roughs.new.ids; rows = rows.new.ids }) }
+    ensures added { Opens nodes.old.items (item.now ∷ []) (record { nodes = nodes.old.items; roughs = roughs.old.ids; rows = rows.old.ids; below = rows.old.below }) (record { nodes = nodes.new.items; roughs = roughs.new.ids; rows = rows.new.ids; below = rows.new.below }) }
     ensures bits { (roughs.new.below ≡ roughs.old.below) × (rows.new.below ≡ rows.old.below) }
     ensures len { vec_len nodes.new ≤ vec_len nodes.old + 1 }
     ensures capacity { vec_capacity nodes.new ≡ vec_capacity nodes.old }

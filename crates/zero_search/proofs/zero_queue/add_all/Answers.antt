@@ -14,9 +14,9 @@ found-preserved g c =
     let below : before < length found = let positive = c.found-test.true in let most = c.found.invariant.inside in omega arith in
     let next : before + 1 ≡ c.found.at = let positive = c.found-test.true in omega arith in
     let here : drop before found ≡ item ∷ drop c.found.at found = drop_more found before item below ∙ ap₂ (λ x xs. x ∷ xs) (sym c.index-found-at.is) (ap (λ n. drop n found) next) in
-    let old : ZeroItems g.row.N.Denot = record { nodes = c.args.nodes.now.items; roughs = c.args.roughs.now.ids; rows = c.args.rows.now.ids } in
-    let mid : ZeroItems g.row.N.Denot = record { nodes = c.found.nodes.items; roughs = c.found.roughs.ids; rows = c.found.rows.ids } in
-    let new : ZeroItems g.row.N.Denot = record { nodes = c.add.new.nodes.items; roughs = c.add.new.roughs.ids; rows = c.add.new.rows.ids } in
+    let old : ZeroItems g.row.N.Denot = record { nodes = c.args.nodes.now.items; roughs = c.args.roughs.now.ids; rows = c.args.rows.now.ids; below = c.args.rows.now.below } in
+    let mid : ZeroItems g.row.N.Denot = record { nodes = c.found.nodes.items; roughs = c.found.roughs.ids; rows = c.found.rows.ids; below = c.found.rows.below } in
+    let new : ZeroItems g.row.N.Denot = record { nodes = c.add.new.nodes.items; roughs = c.add.new.roughs.ids; rows = c.add.new.rows.ids; below = c.add.new.rows.below } in
     let room = c.found.invariant.room in
     let len = c.add.ensures.len in
     let capacity = c.add.ensures.capacity in
