@@ -1,5 +1,5 @@
 pub mod BitsOfNumbers
-pub mod ZeroGaps
+pub mod FracParts
 pub mod Ids
 pub mod Queued
 pub mod Thinned

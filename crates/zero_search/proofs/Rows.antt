@@ -12,7 +12,7 @@ use Rattle.best_first.specs.Order.{item_cmp}
 use Rattle.best_first.specs.Inside.{GivesRow}
 use Rattle.zero_search.specs.RowsAtZero.{zero_gap, row_at_zero, rows_in_order}
 use Rattle.best_first.proofs.Bags.{here, All-one}
-use Rattle.zero_search.proofs.ZeroGaps.{frac_one}
+use Rattle.zero_search.proofs.FracParts.{frac_one}
 use Rattle.zero_search.specs.ZeroItems.{ZeroItems, node_at_zero, rough_at_zero, items_of, AreRows, Gives}
 
 -- ---- rows alone
