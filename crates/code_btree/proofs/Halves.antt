@@ -20,33 +20,33 @@ put_right {A = A} n j x xs ys h =
 kept_front : {A : Type 0} (i n : ℕ) (xs : List A) → length xs ≡ n → take i xs ++ ([] ++ drop n xs) ≡ take i xs
 kept_front {A = A} i n xs h = ap (λ (b : List A). take i xs ++ b) (drop_all n xs (omega arith)) ∙ append-nil (take i xs)
 
-pub halves_low : (at : ℕ) (x : Pair) (es : List Pair) → length es ≡ 127 → at ≤ 63
-    → HalvesLeaf (put_at at x (take 63 es ++ ([] ++ drop 127 es))) (take 0 es ++ ([] ++ drop 63 es)) (put_at at x es)
+pub halves_low : (at : ℕ) (x : Pair) (es : List Pair) → length es ≡ 127 → at ≤ 62
+    → HalvesLeaf (put_at at x (take 62 es ++ ([] ++ drop 127 es))) (take 0 es ++ ([] ++ drop 62 es)) (put_at at x es)
 halves_low at x es l h =
-    let f = kept_front 63 127 es l in
-    let lt : length (take 63 es) ≡ 63 = omega (arith, length-take 63 es) in
-    let ll : length (put_at at x (take 63 es ++ ([] ++ drop 127 es))) ≡ 64 = ap (λ (a : List Pair). length (put_at at x a)) f ∙ (length-put_at at x (take 63 es) (omega arith) ∙ omega arith) in
-    let lr : length (drop 63 es) ≡ 64 = omega (arith, length-drop 63 es) in
+    let f = kept_front 62 127 es l in
+    let lt : length (take 62 es) ≡ 62 = omega (arith, length-take 62 es) in
+    let ll : length (put_at at x (take 62 es ++ ([] ++ drop 127 es))) ≡ 63 = ap (λ (a : List Pair). length (put_at at x a)) f ∙ (length-put_at at x (take 62 es) (omega arith) ∙ omega arith) in
+    let lr : length (drop 62 es) ≡ 65 = omega (arith, length-drop 62 es) in
     record {
-      joined = ap (λ (a : List Pair). put_at at x a ++ drop 63 es) f ∙ (sym (put_left at x (take 63 es) (drop 63 es) (omega arith)) ∙ ap (λ (a : List Pair). put_at at x a) (take-append-drop 63 es));
+      joined = ap (λ (a : List Pair). put_at at x a ++ drop 62 es) f ∙ (sym (put_left at x (take 62 es) (drop 62 es) (omega arith)) ∙ ap (λ (a : List Pair). put_at at x a) (take-append-drop 62 es));
       left_full = omega arith;
       right_full = omega arith;
       left_fits = omega arith;
       right_fits = omega arith;
     }
 
-pub halves_high : (at : ℕ) (x : Pair) (es : List Pair) → length es ≡ 127 → 64 ≤ at → at ≤ 127
-    → HalvesLeaf (take 64 es ++ ([] ++ drop 127 es)) (put_at (at - 64) x (take 0 es ++ ([] ++ drop 64 es))) (put_at at x es)
+pub halves_high : (at : ℕ) (x : Pair) (es : List Pair) → length es ≡ 127 → 63 ≤ at → at ≤ 127
+    → HalvesLeaf (take 63 es ++ ([] ++ drop 127 es)) (put_at (at - 63) x (take 0 es ++ ([] ++ drop 63 es))) (put_at at x es)
 halves_high at x es l h k =
-    let f = kept_front 64 127 es l in
-    let lt : length (take 64 es) ≡ 64 = omega (arith, length-take 64 es) in
-    let ll : length (take 64 es ++ ([] ++ drop 127 es)) ≡ 64 = ap (λ (a : List Pair). length a) f ∙ lt in
-    let ld : length (drop 64 es) ≡ 63 = omega (arith, length-drop 64 es) in
-    let lr : length (put_at (at - 64) x (drop 64 es)) ≡ 64 = length-put_at (at - 64) x (drop 64 es) (omega arith) ∙ omega arith in
-    let e : 64 + (at - 64) ≡ at = omega arith in
+    let f = kept_front 63 127 es l in
+    let lt : length (take 63 es) ≡ 63 = omega (arith, length-take 63 es) in
+    let ll : length (take 63 es ++ ([] ++ drop 127 es)) ≡ 63 = ap (λ (a : List Pair). length a) f ∙ lt in
+    let ld : length (drop 63 es) ≡ 64 = omega (arith, length-drop 63 es) in
+    let lr : length (put_at (at - 63) x (drop 63 es)) ≡ 65 = length-put_at (at - 63) x (drop 63 es) (omega arith) ∙ omega arith in
+    let e : 63 + (at - 63) ≡ at = omega arith in
     record {
-      joined = ap (λ (a : List Pair). a ++ put_at (at - 64) x (drop 64 es)) f
-          ∙ (sym (put_right 64 (at - 64) x (take 64 es) (drop 64 es) lt) ∙ ap₂ (λ (i : ℕ) (a : List Pair). put_at i x a) e (take-append-drop 64 es));
+      joined = ap (λ (a : List Pair). a ++ put_at (at - 63) x (drop 63 es)) f
+          ∙ (sym (put_right 63 (at - 63) x (take 63 es) (drop 63 es) lt) ∙ ap₂ (λ (i : ℕ) (a : List Pair). put_at i x a) e (take-append-drop 63 es));
       left_full = omega arith;
       right_full = omega arith;
       left_fits = omega arith;

@@ -118,6 +118,24 @@ pub first_least : (w : Store) (h : ℕ) (rc : List ℕ) → 1 ≤ length rc → 
 first_least w h [] l e = absurd (omega arith)
 first_least w h (c ∷ rc) l e = first_key-append (items w h c) (all_items w h rc) (filled_some w h c e.0)
 
+-- a page whose child was split is live still
+adopter_live : (m0 m w : Store) (h n k val count at up r : ℕ) (p : List ℕ) (was : Option ℕ) → m0 ≡ m → At m h n k p count at → InsertsUnder m0 w h (child_in p at) k val was (Split up r) → live w n ≡ 1
+adopter_live m0 m w h n k val count at up r p was e0 t i0 =
+    let i : InsertsUnder m w h (child_in p at) k val was (Split up r) = (let P : Store → Type 0 = λ x. InsertsUnder x w h (child_in p at) k val was (Split up r) in subst P e0 i0) in
+    let xs : List ℕ = take at (children_of (node_of p)) in
+    let ys : List ℕ = drop (at + 1) (children_of (node_of p)) in
+    let c : ℕ = child_in p at in
+    let a = rowed m w h k xs c ys (c ∷ (r ∷ [])) ((k, val) ∷ []) was t.descent i.alters in
+    let st : w n ≡ m n = top_stays m w h n (xs ++ (c ∷ ys)) (xs ++ (c ∷ (r ∷ ys))) t.tree t.split a.change in
+    omega (arith, top_live m h n t.tree, ap (λ (x : Option (List ℕ)). live (λ q. x) n) st)
+
+-- a page that took a child in has a key more
+pub adopted_more : (m0 m w v : Store) (h n k val count at up r : ℕ) (p : List ℕ) (was : Option ℕ) → m0 ≡ m → At m h n k p count at → InsertsUnder m0 w h (child_in p at) k val was (Split up r)
+    → (live w n ≡ 1 → Adopts w v n (put_at at up (keys_of (node_of p))) (put_at (at + 1) r (children_of (node_of p))) Kept) → size_of (node m n) + 1 ≤ size_of (node v n)
+adopted_more m0 m w v h n k val count at up r p was e0 t i0 ad =
+    let wr = ad (adopter_live m0 m w h n k val count at up r p was e0 t i0) in
+    omega (arith, ap (λ (x : Node). size_of x) (here m n p t.read ∙ t.is.is_inner), ap (λ (x : Node). size_of x) wr.0.node, length-put_at at up (keys_of (node_of p)) (omega (arith, t.is.counted, t.place)))
+
 -- the child was split: this page takes the new one in
 pub insert_adopted : (m0 m w v : Store) (h n k val count at up r : ℕ) (p : List ℕ) (was : Option ℕ) (grown : Grown) → m0 ≡ m → At m h n k p count at → InsertsUnder m0 w h (child_in p at) k val was (Split up r)
     → (live w n ≡ 1 → Adopts w v n (put_at at up (keys_of (node_of p))) (put_at (at + 1) r (children_of (node_of p))) grown) → InsertsUnder m v (suc h) n k val was grown
@@ -154,8 +172,7 @@ insert_adopted m0 m w v h n k val count at up r p was grown e0 t i0 ad =
     ap (λ (x : List ℕ). put_at (at + 1) r x) whole ∙ put_right at 1 r xs (c ∷ ys) t.front in
     let full : Each (λ x. few h ≤ size_of (node w x)) new =
     Each-append (λ x. few h ≤ size_of (node w x)) xs (c ∷ (r ∷ ys)) (row_full m w h xs lx (fulls m h xs d.left)) (i.grows.0, (i.grows.1.0, row_full m w h ys ly (fulls m h ys d.right))) in
-    let st : w n ≡ m n = top_stays m w h n (xs ++ (c ∷ ys)) new t.tree t.split a.change in
-    let lw : live w n ≡ 1 = omega (arith, top_live m h n t.tree, ap (λ (x : Option (List ℕ)). live (λ q. x) n) st) in
+    let lw : live w n ≡ 1 = adopter_live m0 m w h n k val count at up r p was e0 t i0 in
     go grown (let A : List ℕ → Type 0 = λ x. Adopts w v n ks x grown in subst A kids (ad lw)) a seps full
   where
     go : (grown : Grown) → Adopts w v n (put_at at up (keys_of (node_of p))) (take at (children_of (node_of p)) ++ (child_in p at ∷ (r ∷ drop (at + 1) (children_of (node_of p))))) grown

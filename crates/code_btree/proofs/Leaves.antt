@@ -39,14 +39,14 @@ first_get : (es : List Pair) → first_key es ≡ (get_or es 0 (0, 0)).0
 first_get [] = refl
 first_get (e ∷ es) = refl
 
-pub leaf_split_done : (m u v : Store) (n r up nx : ℕ) (pl pr p1 : List ℕ) (es : List Pair) → live m n ≡ 1 → Gained m u r pr → Wrote u v n p1 → node_of p1 ≡ leaf (entries_of (node_of pl)) r → IsLeafOf pr 64
+pub leaf_split_done : (m u v : Store) (n r up nx : ℕ) (pl pr p1 : List ℕ) (es : List Pair) → live m n ≡ 1 → Gained m u r pr → Wrote u v n p1 → node_of p1 ≡ leaf (entries_of (node_of pl)) r → IsLeafOf pr 65
     → next_of (node_of pr) ≡ nx → HalvesLeaf (entries_of (node_of pl)) (entries_of (node_of pr)) es → up ≡ entry_key pr 0 → SplitsLeaf m v n r up es nx
 leaf_split_done m u v n r up nx pl pr p1 es l g wr e is nxt halves ue = record {
   left = entries_of (node_of pl);
   right = entries_of (node_of pr);
   cuts = cuts_of m u v n r p1 pr _ _ l g wr e (is.is_leaf ∙ ap (λ (x : ℕ). leaf (entries_of (node_of pr)) x) nxt);
   halves = halves;
-  up_is = ue ∙ sym (first_get (entries_of (node_of pr)) ∙ ap (λ (x : Pair). x.0) (entry_is pr 64 0 (0, 0) is (omega arith)));
+  up_is = ue ∙ sym (first_get (entries_of (node_of pr)) ∙ ap (λ (x : Pair). x.0) (entry_is pr 65 0 (0, 0) is (omega arith)));
 }
 
 pub inner_split_done : (m u v : Store) (n r up : ℕ) (pl pr : List ℕ) (ks cs : List ℕ) → live m n ≡ 1 → Gained m u r pr → Wrote u v n pl → node_of pl ≡ inner (keys_of (node_of pl)) (children_of (node_of pl))

@@ -27,5 +27,6 @@ pub mod Joins
 pub mod Balances
 pub mod Evens
 pub mod Removes
+pub mod Packs
 pub mod Falls
 pub mod RunSteps

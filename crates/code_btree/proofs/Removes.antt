@@ -130,9 +130,10 @@ get_second us a b zs j e =
     ap (λ (x : List ℕ). get_or x (j + 1) 0) (sym moved) ∙ get_first (us ++ (a ∷ [])) b zs (j + 1) (omega (arith, length-append us (a ∷ [])))
 
 -- the row after two neighbours in it were balanced
-pub record Mended (m mid : Store) (h j k : ℕ) (cs ks : List ℕ) (was : Option ℕ) (up : Option ℕ) : Type 0 where
+pub record Mended (w mid : Store) (h j : ℕ) (cs ks : List ℕ) (up : Option ℕ) : Type 0 where
   pub new : List ℕ
-  pub alters : Alters m mid h cs new k [] was
+  pub change : Change w mid h cs new
+  pub items : all_items mid h new ≡ all_items w h cs
   pub seps : mended_keys j up ks ≡ drop 1 (map (λ x. least mid h x) new)
   pub children : mended_children j up cs ≡ new
   pub full : Each (λ x. few h ≤ size_of (node mid x)) new
@@ -199,9 +200,9 @@ row_length : (a b : ℕ) (us vs : List ℕ) (up : Option ℕ) → (1 ≤ length 
 row_length a b us vs None = (omega (arith, length-append us (a ∷ vs)), omega (arith, length-append us (a ∷ vs), length-append us (a ∷ (b ∷ vs))))
 row_length a b us vs (Some k) = (omega (arith, length-append us (a ∷ (b ∷ vs))), omega arith)
 
-pub mended : (m w mid : Store) (h j k : ℕ) (cs ks : List ℕ) (was up : Option ℕ) → Owns m h cs → Alters m w h cs cs k [] was → ks ≡ drop 1 (map (λ x. least w h x) cs) → Beside w h j cs
-    → (get_or ks j 0 ≡ least w h (get_or cs (j + 1) 0) → Neighbours w h (get_or cs j 0) (get_or cs (j + 1) 0) → Balances w mid h (get_or cs j 0) (get_or cs (j + 1) 0) up) → Mended m mid h j k cs ks was up
-mended m w mid h j k cs ks was up o al e be f =
+pub mended : (w mid : Store) (h j : ℕ) (cs ks : List ℕ) (up : Option ℕ) → Owns w h cs → Each (λ x. Sound w h x) cs → ks ≡ drop 1 (map (λ x. least w h x) cs) → Beside w h j cs
+    → (get_or ks j 0 ≡ least w h (get_or cs (j + 1) 0) → Neighbours w h (get_or cs j 0) (get_or cs (j + 1) 0) → Balances w mid h (get_or cs j 0) (get_or cs (j + 1) 0) up) → Mended w mid h j cs ks up
+mended w mid h j cs ks up o sound e be f =
     let us : List ℕ = be.us in
     let vs : List ℕ = be.vs in
     let a : ℕ = be.a in
@@ -209,11 +210,10 @@ mended m w mid h j k cs ks was up o al e be f =
     let row : List ℕ = us ++ (a ∷ (b ∷ vs)) in
     let ga : get_or cs j 0 ≡ a = ap (λ (x : List ℕ). get_or x j 0) be.whole ∙ get_first us a (b ∷ vs) j be.place in
     let gb : get_or cs (j + 1) 0 ≡ b = ap (λ (x : List ℕ). get_or x (j + 1) 0) be.whole ∙ get_second us a b vs j be.place in
-    let owns_w : Owns w h cs = owns_after m w h cs cs al.change o in
     let O : List ℕ → Type 0 = λ x. Owns w h x in
     let S : List ℕ → Type 0 = λ x. Each (λ y. Sound w h y) x in
-    let owned : Owns w h row = subst O be.whole owns_w in
-    let sounds : Each (λ y. Sound w h y) row = subst S be.whole al.change.sound in
+    let owned : Owns w h row = subst O be.whole o in
+    let sounds : Each (λ y. Sound w h y) row = subst S be.whole sound in
     let nb : Neighbours w h a b = neighbours w h a b us vs sounds owned be.size be.right_size in
     let kr : ks ≡ drop 1 (map (λ x. least w h x) row) = e ∙ ap (λ (x : List ℕ). drop 1 (map (λ y. least w h y) x)) be.whole in
     let fs : List ℕ = map (λ x. least w h x) us in
@@ -237,11 +237,8 @@ mended m w mid h j k cs ks was up o al e be f =
     let lens = row_length a b us vs up in
     record {
       new = new;
-      alters = record {
-        change = change_next m w mid h cs cs new o al.change (subst C (sym be.whole) wide);
-        items = same_items ∙ al.items;
-        found = al.found;
-      };
+      change = subst C (sym be.whole) wide;
+      items = same_items;
       seps = mended_seps w mid h j a b us vs ks up be.place kr l r (first_stays w mid h a b up nb bl) bl;
       children = ap (λ (x : List ℕ). mended_children j up x) be.whole ∙ mended_row w h j a b us vs up be.place;
       full = Each-append (λ x. few h ≤ size_of (node mid x)) us ((a ∷ left_over b up) ++ vs) (row_full w mid h us l be.left)
@@ -307,7 +304,7 @@ removed m w v h n k at size p s o short t al z l f first behind = record {
 full_row : (m w : Store) (h n k at : ℕ) (p : List ℕ) (s : Shrunk) (t : Taken m w h n k p at s) → s.short ≡ false → Each (λ x. few h ≤ size_of (node w x)) (t.xs ++ (t.c ∷ t.ys))
 full_row m w h n k at p s t b = Each-append (λ x. few h ≤ size_of (node w x)) t.xs (t.c ∷ t.ys) t.left (t.removes.filled b, t.right)
 
-top_size : (m : Store) (n count : ℕ) (p : List ℕ) → m n ≡ Some p → IsInnerOf p count → size_of (node m n) ≡ count
+pub top_size : (m : Store) (n count : ℕ) (p : List ℕ) → m n ≡ Some p → IsInnerOf p count → size_of (node m n) ≡ count
 top_size m n count p e is = omega (arith, ap (λ (x : Node). size_of x) (here m n p e ∙ is.is_inner), is.counted)
 
 -- neither the page nor its children's fills are touched
@@ -335,7 +332,7 @@ removed_noted m w v h n k count at p q s o short a t e is wr b f first behind =
     removed m w v h n k at count p s o short t (up_written m w v h n k cs cs ks [] s.was t.tree t.kids t.row wo t.seps (omega (arith, length-append t.xs (t.c ∷ t.ys))) fits (full_row m w h n k at p s t b))
     (ap (λ (x : Node). size_of x) wo.node ∙ lk) (omega (arith, sm)) f first behind
 
-mended_length : (j : ℕ) (up : Option ℕ) (ks : List ℕ) → j < length ks → length ks ≤ length (mended_keys j up ks) + 1
+pub mended_length : (j : ℕ) (up : Option ℕ) (ks : List ℕ) → j < length ks → length ks ≤ length (mended_keys j up ks) + 1
 mended_length j None ks l = omega (arith, length-append (take j ks) (drop (j + 1) ks), length-take j ks, length-drop (j + 1) ks)
 mended_length j (Some k) ks l = omega (arith, length-append (take j ks) (k ∷ drop (j + 1) ks), length-take j ks, length-drop (j + 1) ks)
 
@@ -351,14 +348,19 @@ removed_mended m w v h n k count at j size p q s o short a t e is ej me f first 
     let M : List ℕ → Type 0 = λ x. Mends w v h n j ks x size in
     let md : Mends w v h n j ks cs size = subst M cq me in
     let be : Beside w h j cs = beside w h j t.xs t.c t.ys t.left t.right (omega (arith, t.removes.lost, t.descent.filled.1)) (omega (arith, ej, t.front)) md.inside in
-    let d = mended m w md.mid h j k cs ks s.was md.up t.descent.owns_row t.row (kq ∙ t.seps) be md.balances in
+    let d = mended w md.mid h j cs ks md.up (owns_after m w h cs cs t.row.change t.descent.owns_row) t.row.change.sound (kq ∙ t.seps) be md.balances in
+    let al : Alters m md.mid h cs d.new k [] s.was = record {
+      change = change_next m w md.mid h cs cs d.new t.descent.owns_row t.row.change d.change;
+      items = d.items ∙ t.row.items;
+      found = t.row.found;
+    } in
     let mk : List ℕ = mended_keys j md.up ks in
     let W : List ℕ → Type 0 = λ x. Writes md.mid v n (inner mk x) in
     let wo : Writes md.mid v n (inner mk d.new) = subst W d.children md.writes in
     let sm = top_size m n count p a.read a.is in
     let fits : length d.new ≤ 170 = omega (arith, d.fewer, t.tree.sound.0.fits, ap (λ (x : List ℕ). length x) t.kids) in
     let lost : length ks ≤ length mk + 1 = mended_length j md.up ks (omega (arith, is.counted, md.inside, is.children, ap (λ (x : List ℕ). length x) cq)) in
-    removed m w v h n k at size p s o short t (up_written m md.mid v h n k cs d.new mk [] s.was t.tree t.kids d.alters wo d.seps d.some fits d.full)
+    removed m w v h n k at size p s o short t (up_written m md.mid v h n k cs d.new mk [] s.was t.tree t.kids al wo d.seps d.some fits d.full)
     (ap (λ (x : Node). size_of x) wo.node ∙ sym md.counted) (omega (arith, sm, lost, is.counted, md.counted)) f first behind
 
 first_taken : (at : ℕ) (es zs : List Pair) → 1 ≤ at → 1 ≤ length es → first_key (take at es ++ zs) ≡ first_key es

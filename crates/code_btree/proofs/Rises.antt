@@ -135,18 +135,33 @@ topped m w v h n cs new news s e f a tops moved =
     }
 
 -- a row that changed, under tops that were written for it
+raise : (m w v : Store) (h n : ℕ) (cs new news : List ℕ) → Subtree m (suc h) n → children_of (node m n) ≡ cs → all_kids v news ≡ new → Change m w h cs new
+    → ((q : ℕ) → same q n ≡ 0 → times q news ≡ 0 → v q ≡ w q) → ((q : ℕ) → live v q + same q n ≡ live w q + times q news)
+    → Each (λ t. TopOk (λ c. least w h c) (node v t)) news → Each (λ c. few h ≤ size_of (node w c)) new → Change m v (suc h) (n ∷ []) news × (all_items v (suc h) news ≡ all_items w h new)
+raise m w v h n cs new news s e f a tops moved ok full =
+    let F : List ℕ → Type 0 = λ r. Each (λ c. few h ≤ size_of (node w c)) r in
+    let t : Topped m w v h (n ∷ []) news = topped m w v h n cs new news s e f a tops moved in
+    (lift m w v h (n ∷ []) news t ok (subst F (sym f) full), lift-items m w v h (n ∷ []) news t ∙ ap (λ (r : List ℕ). all_items w h r) f)
+
+-- the pairs under a page are those of its row
+pub items_beneath : (m : Store) (h n : ℕ) (cs : List ℕ) → children_of (node m n) ≡ cs → all_items m (suc h) (n ∷ []) ≡ all_items m h cs
+items_beneath m h n cs e = items_up m h (n ∷ []) ∙ ap (λ (r : List ℕ). all_items m h r) (one_kids m n ∙ e)
+
+-- what the row's pairs became is what those under the top became
+altered : (m w v : Store) (h n k : ℕ) (cs new news : List ℕ) (o : List Pair) (was : Option ℕ) → children_of (node m n) ≡ cs → Alters m w h cs new k o was
+    → Change m v (suc h) (n ∷ []) news × (all_items v (suc h) news ≡ all_items w h new) → Alters m v (suc h) (n ∷ []) news k o was
+altered m w v h n k cs new news o was e a r =
+    let old : all_items m (suc h) (n ∷ []) ≡ all_items m h cs = items_beneath m h n cs e in
+    record {
+      change = r.0;
+      items = r.1 ∙ (a.items ∙ ap (λ (es : List Pair). alter k o es) (sym old));
+      found = a.found ∙ ap (λ (es : List Pair). find_item k es) (sym old);
+    }
+
 pub up : (m w v : Store) (h n k : ℕ) (cs new news : List ℕ) (o : List Pair) (was : Option ℕ) → Subtree m (suc h) n → children_of (node m n) ≡ cs → all_kids v news ≡ new → Alters m w h cs new k o was
     → ((q : ℕ) → same q n ≡ 0 → times q news ≡ 0 → v q ≡ w q) → ((q : ℕ) → live v q + same q n ≡ live w q + times q news)
     → Each (λ t. TopOk (λ c. least w h c) (node v t)) news → Each (λ c. few h ≤ size_of (node w c)) new → Alters m v (suc h) (n ∷ []) news k o was
-up m w v h n k cs new news o was s e f a tops moved ok full =
-    let F : List ℕ → Type 0 = λ r. Each (λ c. few h ≤ size_of (node w c)) r in
-    let t : Topped m w v h (n ∷ []) news = topped m w v h n cs new news s e f a.change tops moved in
-    let old : all_items m (suc h) (n ∷ []) ≡ all_items m h cs = items_up m h (n ∷ []) ∙ ap (λ (r : List ℕ). all_items m h r) (one_kids m n ∙ e) in
-    record {
-      change = lift m w v h (n ∷ []) news t ok (subst F (sym f) full);
-      items = lift-items m w v h (n ∷ []) news t ∙ (ap (λ (r : List ℕ). all_items w h r) f ∙ (a.items ∙ ap (λ (es : List Pair). alter k o es) (sym old)));
-      found = a.found ∙ ap (λ (es : List Pair). find_item k es) (sym old);
-    }
+up m w v h n k cs new news o was s e f a tops moved ok full = altered m w v h n k cs new news o was e a (raise m w v h n cs new news s e f a.change tops moved ok full)
 
 pub top_made : (f : ℕ → ℕ) (o : Node) (ks cs : List ℕ) → o ≡ inner ks cs → ks ≡ drop 1 (map f cs) → 1 ≤ length cs → length cs ≤ 170 → TopOk f o
 top_made f o ks cs e s l u =
@@ -175,17 +190,21 @@ up_quiet m w h n k cs o was s e a seps full =
     full
 
 -- the top is written
-pub up_written : (m w v : Store) (h n k : ℕ) (cs new ks : List ℕ) (o : List Pair) (was : Option ℕ) → Subtree m (suc h) n → children_of (node m n) ≡ cs → Alters m w h cs new k o was
-    → Writes w v n (inner ks new) → ks ≡ drop 1 (map (λ c. least w h c) new) → 1 ≤ length new → length new ≤ 170 → Each (λ c. few h ≤ size_of (node w c)) new → Alters m v (suc h) (n ∷ []) (n ∷ []) k o was
-up_written m w v h n k cs new ks o was s e a wr seps l u full =
+pub raise_written : (m w v : Store) (h n : ℕ) (cs new ks : List ℕ) → Subtree m (suc h) n → children_of (node m n) ≡ cs → Change m w h cs new → Writes w v n (inner ks new) → ks ≡ drop 1 (map (λ c. least w h c) new)
+    → 1 ≤ length new → length new ≤ 170 → Each (λ c. few h ≤ size_of (node w c)) new → Change m v (suc h) (n ∷ []) (n ∷ []) × (all_items v (suc h) (n ∷ []) ≡ all_items w h new)
+raise_written m w v h n cs new ks s e a wr seps l u full =
     let kids : children_of (node v n) ≡ new = ap (λ (x : Node). children_of x) wr.node in
-    up m w v h n k cs new (n ∷ []) o was s e (one_kids v n ∙ kids) a (λ q x y. wr.others q x)
+    raise m w v h n cs new (n ∷ []) s e (one_kids v n ∙ kids) a (λ q x y. wr.others q x)
     (λ q. elim (same_cases q n) [
       | inl i ↦ omega (arith, wr.before, wr.now, ap (λ (x : ℕ). live v x) i.1, ap (λ (x : ℕ). live w x) i.1)
       | inr i ↦ omega (arith, live_same w v q (wr.others q i.0))
     ])
     (top_made (λ c. least w h c) (node v n) ks new wr.node seps l u, tt)
     full
+
+pub up_written : (m w v : Store) (h n k : ℕ) (cs new ks : List ℕ) (o : List Pair) (was : Option ℕ) → Subtree m (suc h) n → children_of (node m n) ≡ cs → Alters m w h cs new k o was
+    → Writes w v n (inner ks new) → ks ≡ drop 1 (map (λ c. least w h c) new) → 1 ≤ length new → length new ≤ 170 → Each (λ c. few h ≤ size_of (node w c)) new → Alters m v (suc h) (n ∷ []) (n ∷ []) k o was
+up_written m w v h n k cs new ks o was s e a wr seps l u full = altered m w v h n k cs new (n ∷ []) o was e a (raise_written m w v h n cs new ks s e a.change wr seps l u full)
 
 pub cut_moved : (w v : Store) (n r : ℕ) (o p : Node) → Cuts w v n r o p → (q : ℕ) → live v q + same q n ≡ live w q + times q (n ∷ (r ∷ []))
 cut_moved w v n r o p cut q = elim (same_cases q n) [

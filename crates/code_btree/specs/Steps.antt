@@ -105,6 +105,12 @@ pub record Alters (m w : Store) (level : ℕ) (old new : List ℕ) (key : ℕ) (
   pub items : all_items w level new ≡ alter key o (all_items m level old)
   pub found : was ≡ find_item key (all_items m level old)
 
+-- neighbours under page n became one: the pairs are the same, and the page has one key less at most
+pub record Packs (m w : Store) (level n : ℕ) : Type 0 where
+  pub change : Change m w level (n ∷ []) (n ∷ [])
+  pub items : all_items w level (n ∷ []) ≡ all_items m level (n ∷ [])
+  pub lost : size_of (Rattle.code_btree.specs.Tree.node m n) ≤ size_of (Rattle.code_btree.specs.Tree.node w n) + 1
+
 -- the page that a split gained
 abbrev pub gained_by : Grown → List ℕ
 gained_by Kept = []

@@ -1,16 +1,17 @@
-ghost use Rattle.std.specs.Prelude.{◌≡◌, ◌≤◌, ◌<◌, ◌+◌, IfOk, IfSome, Some};
+ghost use Rattle.std.specs.Prelude.{◌≡◌, ◌≤◌, ◌<◌, ◌+◌, IfOk, IfSome, OnOk, Some};
 ghost use Rattle.page_pool.specs.Pool.{IsOpen, IsTold};
 ghost use Rattle.page_pool.specs.Causes.{HasPageCause};
 ghost use Rattle.page_pool.specs.Steps.{InCommand};
 ghost use Rattle.code_btree.specs.Node.{IsLeafOf, IsInnerOf, node_of, entries_of, next_of, keys_of, children_of};
 ghost use Rattle.code_btree.specs.Tree.{live, pages_in};
-ghost use Rattle.code_btree.specs.Steps.{put_at, Subtree, InsertsUnder, SplitsLeaf, Adopts, count_after};
+ghost use Rattle.code_btree.specs.Steps.{put_at, Subtree, InsertsUnder, SplitsLeaf, Adopts, Packs, count_after};
 
 use crate::bytes::Page;
 use crate::inner::{child_at, inner_count, place_of};
 use crate::leaf::{
     entry_bytes, entry_key_at, leaf_count, rank, set_next, splice_entries, value_found,
 };
+use crate::remove::mend;
 use crate::split::{cut_inner, cut_leaf, put_child, put_entry};
 use crate::store::{gain, read, write};
 use page_pool::{Disk, PageFault, Pool};
@@ -42,7 +43,7 @@ fn split_leaf<D: Disk>(
 {
     let right = cut_leaf(page, at, key, value);
     let r = gain(pool, &right)?;
-    set_next(page, 64, r);
+    set_next(page, 63, r);
     write(pool, n, page)?;
     Ok((entry_key_at(&right, 0), r))
 }
@@ -108,6 +109,49 @@ fn adopt<D: Disk>(
     Ok(Grown::Split(up, r))
 }
 
+// Whether one leaf has room for what two pages hold.
+fn fit_in_one<D: Disk>(pool: &mut Pool<D>, a: u64, b: u64) -> Result<bool, PageFault>
+    ensures same { pool.new.pages ≡ pool.old.pages }
+    ensures within { InCommand pool.old pool.new }
+    ensures cause { HasPageCause pool.old pool.new result }
+{
+    let mut page = [0; 4096];
+    read(pool, a, &mut page)?;
+    let Some(count) = leaf_count(&page) else {
+        return Ok(false);
+    };
+    read(pool, b, &mut page)?;
+    let Some(more) = leaf_count(&page) else {
+        return Ok(false);
+    };
+    Ok(count + more <= 127)
+}
+
+// Child `at` of page `n` and the one in front of it become one leaf, where one has room for both. So leaves fill up
+// where keys come in order, which else would stay half full.
+fn pack<D: Disk>(pool: &mut Pool<D>, n: u64, at: usize) -> Result<(), PageFault>
+    requires opened { IsOpen pool.old }
+    requires place { at ≤ 169 }
+    requires tree { IsTold pool.old → Subtree (pages_in pool.old) 1 n }
+    ensures value { OnOk result (IsTold pool.old → Packs (pages_in pool.old) (pages_in pool.new) 1 n) }
+    ensures within { InCommand pool.old pool.new }
+    ensures cause { HasPageCause pool.old pool.new result }
+{
+    if at == 0 {
+        return Ok(());
+    }
+    let mut page = [0; 4096];
+    read(pool, n, &mut page)?;
+    let Some(count) = inner_count(&page) else {
+        return Err(PageFault::Memory);
+    };
+    if !fit_in_one(pool, child_at(&page, at - 1), child_at(&page, at))? {
+        return Ok(());
+    }
+    mend(pool, 0, n, &mut page, count, at - 1)?;
+    Ok(())
+}
+
 /// Puts a pair into the tree under page `n`, which stands `level` above the leaves.
 pub fn insert_under<D: Disk>(
     pool: &mut Pool<D>,
@@ -137,7 +181,13 @@ pub fn insert_under<D: Disk>(
         Grown::Kept => Ok((was, Grown::Kept)),
         Grown::Split(up, right) => {
             let grown = adopt(pool, n, &mut page, count, at, up, right)?;
-            Ok((was, grown))
+            match grown {
+                Grown::Kept if level == 1 => {
+                    pack(pool, n, at)?;
+                    Ok((was, Grown::Kept))
+                }
+                _ => Ok((was, grown)),
+            }
         }
     }
 }

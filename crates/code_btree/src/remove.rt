@@ -121,8 +121,8 @@ fn passed(at: usize, least: Option<u128>) -> Option<u128>
     least
 }
 
-// The children `j` and `j + 1` of page `n` are balanced, and the page is written. Gives the number of its keys.
-fn mend<D: Disk>(
+/// The children `j` and `j + 1` of page `n` are balanced, and the page is written. Gives the number of its keys.
+pub fn mend<D: Disk>(
     pool: &mut Pool<D>,
     level: u32,
     n: u64,

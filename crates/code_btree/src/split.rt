@@ -18,25 +18,26 @@ pub fn put_entry(page: &mut Page, count: usize, at: usize, key: u128, value: u12
     splice_entries(page, count, at, at, &entry_bytes(key, value));
 }
 
-// A full leaf with one entry more, cut in two: the page keeps the first half, and the second comes back.
+// A full leaf with one entry more, cut in two: the page keeps as few entries as a leaf may have, so that one page may
+// hold them and those of the leaf in front, and the others come back.
 pub fn cut_leaf(page: &mut Page, at: usize, key: u128, value: u128) -> Page
     requires leaf { IsLeafOf page.old 127 }
     requires place { at ≤ 127 }
     ensures halves { HalvesLeaf (entries_of (node_of page.new)) (entries_of (node_of result)) (put_at at (key, value) (entries_of (node_of page.old))) }
     ensures next { next_of (node_of result) ≡ next_of (node_of page.old) }
-    ensures is { IsLeafOf page.new 64 }
-    ensures right { IsLeafOf result 64 }
+    ensures is { IsLeafOf page.new 63 }
+    ensures right { IsLeafOf result 65 }
 {
     let mut right = *page;
-    if at <= 63 {
-        splice_entries(&mut right, 127, 0, 63, &[]);
-        splice_entries(page, 127, 63, 127, &[]);
-        put_entry(page, 63, at, key, value);
+    if at <= 62 {
+        splice_entries(&mut right, 127, 0, 62, &[]);
+        splice_entries(page, 127, 62, 127, &[]);
+        put_entry(page, 62, at, key, value);
         return right;
     }
-    splice_entries(&mut right, 127, 0, 64, &[]);
-    splice_entries(page, 127, 64, 127, &[]);
-    put_entry(&mut right, 63, at - 64, key, value);
+    splice_entries(&mut right, 127, 0, 63, &[]);
+    splice_entries(page, 127, 63, 127, &[]);
+    put_entry(&mut right, 64, at - 63, key, value);
     right
 }
 
