@@ -121,8 +121,22 @@ fn quarter(page: &Page, count: usize, low: usize, width: usize, key: u128) -> us
     }
 }
 
-// The place of the child under which a key belongs. Where it isn't the one guessed, it is sought by rounds, each of a
-// quarter of the width of the one before.
+// The place of the child under which a key belongs, by rounds, each of a quarter of the width of the one before.
+#[inline(never)]
+fn place_sought(page: &Page, count: usize, key: u128) -> usize
+    requires { count ≤ 169 }
+    ensures bound { result ≤ count }
+    ensures before { 1 ≤ result → key_in page.now (result - 1) ≤ key }
+    ensures behind { result < count → key < key_in page.now result }
+{
+    let low = quarter(page, count, 0, 64, key);
+    let low = quarter(page, count, low, 16, key);
+    let low = quarter(page, count, low, 4, key);
+    quarter(page, count, low, 1, key)
+}
+
+// The place of the child under which a key belongs: the one guessed, or else the one sought.
+#[inline]
 pub fn place_of(page: &Page, count: usize, key: u128) -> usize
     requires { count ≤ 169 }
     ensures bound { result ≤ count }
@@ -134,10 +148,7 @@ pub fn place_of(page: &Page, count: usize, key: u128) -> usize
     {
         return place;
     }
-    let low = quarter(page, count, 0, 64, key);
-    let low = quarter(page, count, low, 16, key);
-    let low = quarter(page, count, low, 4, key);
-    quarter(page, count, low, 1, key)
+    place_sought(page, count, key)
 }
 
 // The 16 bytes of a key.

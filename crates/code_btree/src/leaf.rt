@@ -101,8 +101,25 @@ fn quarter(page: &Page, count: usize, low: usize, width: usize, key: u128) -> us
     }
 }
 
-// Where a key stands or would stand. Where it isn't at the place guessed, it is sought by rounds, each of a quarter of
-// the width of the one before.
+// Where a key stands or would stand, by rounds, each of a quarter of the width of the one before.
+#[inline(never)]
+fn rank_sought(page: &Page, count: usize, key: u128) -> usize
+    requires { count ≤ 127 }
+    ensures bound { result ≤ count }
+    ensures before { 1 ≤ result → entry_key page.now (result - 1) < key }
+    ensures behind { result < count → key ≤ entry_key page.now result }
+{
+    let low = quarter(page, count, 0, 32, key);
+    let low = quarter(page, count, low, 8, key);
+    let low = quarter(page, count, low, 2, key);
+    if passes(page, count, low + 1, key) {
+        return low + 1;
+    }
+    low
+}
+
+// Where a key stands or would stand: at the place guessed, or else at the one sought.
+#[inline]
 pub fn rank(page: &Page, count: usize, key: u128) -> usize
     requires { count ≤ 127 }
     ensures bound { result ≤ count }
@@ -114,13 +131,7 @@ pub fn rank(page: &Page, count: usize, key: u128) -> usize
     {
         return place;
     }
-    let low = quarter(page, count, 0, 32, key);
-    let low = quarter(page, count, low, 8, key);
-    let low = quarter(page, count, low, 2, key);
-    if passes(page, count, low + 1, key) {
-        return low + 1;
-    }
-    low
+    rank_sought(page, count, key)
 }
 
 // Whether a key stands or would stand at this place: the one before it is less, and the one at it isn't.

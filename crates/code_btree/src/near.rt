@@ -4,8 +4,8 @@ ghost use Rattle.code_btree.specs.Node.{key_in};
 ghost use Rattle.code_btree.specs.Tree.{Store, pages_in};
 ghost use Rattle.code_btree.specs.Steps.{Subtree};
 ghost use Rattle.code_btree.specs.Between.{IsLeafFor};
-ghost use Rattle.code_btree.specs.Near.{IsNearUnder, LeadsNear, IsFoundNear};
-ghost use Rattle.code_btree.specs.Calls.{Looks, Peeks};
+ghost use Rattle.code_btree.specs.Near.{IsNearUnder, IsFoundNear};
+ghost use Rattle.code_btree.specs.Calls.{Peeks};
 
 use crate::bytes::Page;
 use crate::inner::{child_at, inner_count, key_at, place_of};
@@ -43,18 +43,18 @@ impl Near {
         }
     }
 
-    // The page, with those of its keys alone that belong to this part as well.
-    fn within(self, part: Near) -> Near
-        ensures page { result.page ≡ self.page }
+    // A page under this one, with those of its keys alone that belong to this one as well.
+    fn under(self, page: u64, low: u128, high: u128) -> Near
+        ensures page { result.page ≡ page }
         ensures low { self.low ≤ result.low }
-        ensures part_low { part.low ≤ result.low }
+        ensures part_low { low ≤ result.low }
         ensures high { result.high ≤ self.high }
-        ensures part_high { result.high ≤ part.high }
+        ensures part_high { result.high ≤ high }
     {
         Near {
-            page: self.page,
-            low: self.low.max(part.low),
-            high: self.high.min(part.high),
+            page,
+            low: self.low.max(low),
+            high: self.high.min(high),
             at: self.at,
         }
     }
@@ -82,43 +82,33 @@ fn high_at(page: &Page, count: usize, at: usize) -> u128
     key_at(page, at)
 }
 
-// The child of page `n` under which a key belongs, with the keys that belong there: one get.
-fn part_for<P: Pages>(pages: &mut P, n: u64, key: u128) -> Result<Option<Near>, PageFault>
-    ensures value { IfOk result (λ part. IsTold (P.shown pages.old) → LeadsNear (pages_in (P.shown pages.old)) n key part) }
-    ensures looks { Looks (P.shown pages.old) (P.shown pages.new) 1 result }
-{
-    let page = pages.live_page(n)?;
-    let Some(count) = inner_count(page) else {
-        return Ok(None);
-    };
-    let at = place_of(page, count, key);
-    Ok(Some(Near {
-        page: child_at(page, at),
-        low: low_at(page, at),
-        high: high_at(page, count, at),
-        at: NO_PLACE,
-    }))
-}
-
 // The leaf under page `n` to which a key belongs, and what other keys do: one get for each level above it.
 fn leaf_near<P: Pages>(pages: &mut P, level: u32, n: u64, key: u128) -> Result<Near, PageFault>
     requires { IsTold (P.shown pages.old) → Subtree (pages_in (P.shown pages.old)) level n }
     ensures value { IfOk result (λ near. IsTold (P.shown pages.old) → IsFoundNear (pages_in (P.shown pages.old)) level n key near) }
     ensures peeks { Peeks (P.shown pages.old) (P.shown pages.new) level result }
 {
-    if level == 0 {
-        return Ok(Near {
-            page: n,
-            low: 0,
-            high: u128::MAX,
-            at: NO_PLACE,
-        });
-    }
-    let Some(part) = part_for(pages, n, key)? else {
-        return Ok(Near::nowhere());
+    let mut near = Near {
+        page: n,
+        low: 0,
+        high: u128::MAX,
+        at: NO_PLACE,
     };
-    let leaf = leaf_near(pages, level - 1, part.page, key)?;
-    Ok(leaf.within(part))
+    let mut left = level;
+    'levels: while left > 0 {
+        let page = pages.live_page(near.page)?;
+        let Some(count) = inner_count(page) else {
+            return Ok(Near::nowhere());
+        };
+        let at = place_of(page, count, key);
+        near = near.under(
+            child_at(page, at),
+            low_at(page, at),
+            high_at(page, count, at),
+        );
+        left -= 1;
+    }
+    Ok(near)
 }
 
 /// The leaf under page `n` to which a key belongs: the one that is held, or else the one found by a descent, which is
