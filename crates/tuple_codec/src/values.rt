@@ -11,12 +11,24 @@ use crate::text::read_text;
 use sand_base::{Kind, Label, NoMemory, Shape, Value};
 use std::alloc::Global;
 
-// A value of the kind.
+// A value of the kind. An int is read in the caller.
+#[inline]
 pub(crate) fn read_value(
     alloc: Global,
     reader: &mut Reader,
     kind: Kind,
 ) -> Result<Option<Value>, NoMemory>
+    ensures { IfOk result (λ found. Takes (IsValueOf kind) value_bytes reader.old.left.now found reader.new.left.now) }
+{
+    match kind {
+        Kind::Int => Ok(reader.int().map(|number| Value::Int(number))),
+        _ => read_longer(alloc, reader, kind),
+    }
+}
+
+// A value of the kind. Texts and shapes take much code, which stays out of the callers.
+#[inline(never)]
+fn read_longer(alloc: Global, reader: &mut Reader, kind: Kind) -> Result<Option<Value>, NoMemory>
     ensures { IfOk result (λ found. Takes (IsValueOf kind) value_bytes reader.old.left.now found reader.new.left.now) }
 {
     match kind {
