@@ -1,5 +1,5 @@
 -- What a step of an operator pays, from what the step beneath and the stage pay.
-use Rattle.std.proofs.Common.{◌≡◌, ℕ, ◌+◌, ◌*◌, ◌≤◌, min, Bool, true, false, cond, ◌||◌, List, ◌∷◌, sum_by, Result, Ok, Err, refl, sym, ap, ap₂, ◌∙◌, arith}
+use Rattle.std.proofs.Common.{◌≡◌, ℕ, ◌+◌, ◌*◌, ◌≤◌, min, Bool, true, false, cond, ◌||◌, List, ◌∷◌, sum_by, Result, Ok, Err, refl, sym, ap, ap₂, ◌∙◌, le_of_eq, arith}
 use Rattle.std.specs.Global.{Box}
 use Rattle.sand_base.specs.declared.visit.Visit.{Visit}
 use Rattle.page_pool.specs.Disk.{PageMap}
@@ -116,6 +116,18 @@ module _ {S T : Type 0} (At : S → Taking) (Stands : T → Standing) (closed : 
       go (Ok End) = ends (q.held stage' pages d p) (q.held stage pages d p) (owed_by q below pages d (inner p)) (asked stage)
       go (Err fault) = fails (q.held stage pages d p) (owed_by q below pages d (inner p)) (asked stage)
 
+  -- after an open stage worked on a row from beneath
+  pub left_taken : (stage' : T) (pointer' : Box Unit) (below' : Operator S T) (pages : PageMap) (d : Database) (p : Plan) (result : Result Step PageFault) → closed stage' ≡ false
+      → left_after closed q (Over' stage' pointer' below') pages d p result ≤ unless_refused result (q.held stage' pages d p) + left_of closed q below' pages d (inner p)
+  left_taken stage' pointer' below' pages d p (Ok (Row a)) open_ = le_of_eq (left_open stage' pointer' below' pages d p open_)
+  left_taken stage' pointer' below' pages d p (Ok Pass) open_ = le_of_eq (left_open stage' pointer' below' pages d p open_)
+  left_taken stage' pointer' below' pages d p (Ok End) open_ =
+      ends (q.held stage' pages d p) (owed_by q below' pages d (inner p)) (cond (is_shut closed below') 0 (q.step (source_of below')))
+    where
+      ends : (held owed step : ℕ) → held + owed ≤ held + (owed + step)
+      ends held owed step = omega arith
+  left_taken stage' pointer' below' pages d p (Err fault) open_ = omega arith
+
   -- after the end beneath, which the stage took
   pub left_finished : (stage stage' : T) (pointer' : Box Unit) (below' : Operator S T) (pages : PageMap) (d : Database) (p : Plan) (result : Result Step PageFault)
       → q.held stage' pages d p ≤ q.held stage pages d p → GoesOn result (closed stage' ≡ true)
@@ -141,11 +153,10 @@ pub pays_work : (gets gets' left left' held unless paid paid' : ℕ) → left' +
     → gets' + left' + paid ≤ gets + left + paid'
 pays_work gets gets' left left' held unless paid paid' rest costs same = omega (arith, rest, costs, same)
 
--- the stage holds a row from beneath, whose price is paid for
-pub pays_hold : (gets gets' left left' held held' beneath beneath' paid paid' below below' rows rows' price : ℕ) → left ≡ held + beneath → left' ≡ held' + beneath'
-    → paid ≡ below + rows → paid' ≡ below' + rows' → rows' ≡ rows + price → held' ≤ price → gets' + beneath' + below ≤ gets + beneath + below'
-    → gets' + left' + paid ≤ gets + left + paid'
-pays_hold gets gets' left left' held held' beneath beneath' paid paid' below below' rows rows' price l l' p p' r owes most = omega (arith, l, l', p, p', r, owes, most)
+-- the stage took a row from beneath and worked on it, whose price is paid for
+pub pays_take : (gets mid gets' left left' held unless beneath beneath' paid paid' below below' rows rows' price : ℕ) → left ≡ held + beneath → left' ≤ unless + beneath'
+    → paid ≡ below + rows → paid' ≡ below' + rows' → rows' ≡ rows + price → gets' + unless ≤ mid + price → mid + beneath' + below ≤ gets + beneath + below' → gets' + left' + paid ≤ gets + left + paid'
+pays_take gets mid gets' left left' held unless beneath beneath' paid paid' below below' rows rows' price l l' p p' r costs most = omega (arith, l, l', p, p', r, costs, most)
 
 -- the stage took no row
 pub pays_none : (gets gets' left left' held beneath beneath' paid paid' below below' rows : ℕ) → left ≡ held + beneath → left' ≤ held + beneath'
@@ -163,11 +174,6 @@ pub pays_stop : (gets gets' owed left step step' old noted all all' n n' : ℕ) 
     → gets' + left + (old + step * n + 0) ≤ gets + (owed + step) + (all' + step' * n' + 0)
 pays_stop gets gets' owed left step step' old noted all all' n n' s a e m most =
     let steps : step' * n' ≡ step * n = ap₂ (λ x y. x * y) s m in omega (arith, s, a, e, steps, most)
-
--- what a pass left to pay is what the step after it had left
-pub pays_both : (gets gets' gets'' left left' left'' paid paid' paid'' : ℕ) → gets' + left' + paid ≤ gets + left + paid' → gets'' + left'' + paid' ≤ gets' + left' + paid''
-    → gets'' + left'' + paid ≤ gets + left + paid''
-pays_both gets gets' gets'' left left' left'' paid paid' paid'' first second = omega (arith, first, second)
 
 -- a number that doesn't fall, and doesn't fall again, below a bound
 pub up_both : (a b c most : ℕ) → min a most ≤ b → min b most ≤ c → min a most ≤ c

@@ -28,7 +28,7 @@ use Rattle.plan_steps.specs.declared.step.Step.{Step}
 use Rattle.plan_steps.specs.declared.step.Step.TheVariants.{Row, Pass, End}
 use Rattle.plan_steps.proofs.Fronts.{begins_whole, begins_taken, settled}
 use Rattle.plan_steps.proofs.Levels.{over_made, source_inner, whole_made, lazy_inner, sort_inner, beneath_lazy, beneath_inner, full_inner, filled_plain, filled_front, spent_inner, spent_filled}
-use Rattle.plan_steps.proofs.Payments.{paid_over, left_open, same_over, left_worked, left_finished, pays_work, pays_hold, pays_none, pays_both, up_both}
+use Rattle.plan_steps.proofs.Payments.{paid_over, left_open, same_over, left_worked, left_taken, left_finished, pays_work, pays_take, pays_none, up_both}
 
 -- ---- one level up
 
@@ -116,6 +116,44 @@ IsQuiet (Ok Pass) = ⊤
 IsQuiet (Ok End) = ⊥
 IsQuiet (Err fault) = ⊤
 
+-- where a stage that worked is at its end, all rows were given, and nothing more will be taken
+worked_ends : {S T : Type 0} (At : S → Taking) (Stands : T → Standing) (closed : T → Bool) → GivesFront Stands → OpensLate Stands closed
+    → (pages : PageMap) (d : Database) (p : Plan) (t : Taken) (below : Operator S T) (taken given : List PlanRow) (shut : Bool) → Follows At Stands closed below pages d (inner p) t taken
+    → (shut ≡ true → IsSpent d (beneath_sort (inner p)) t) → (r : Result Step PageFault) → AtEnd r (Begins taken (beneath d p) → given ≡ made d p (beneath d p))
+    → AtEnd r (IsFilled p taken ⊎ (shut ≡ true)) → AtEnd r (IsDone d p t given)
+worked_ends At Stands closed front late pages d p t below taken given shut f spent = ended
+  where
+    of_first : IsFilled p taken → IsSpent d (beneath_sort p) t
+    of_first h = go (is_lazy p) refl
+      where
+        by_below : (taken ≡ []) ⊎ IsSpent d (beneath_sort (inner p)) t → taken ≢ [] → IsSpent d (beneath_sort p) t
+        by_below (inl none) some = absurd (some none)
+        by_below (inr spent) some = spent_inner d p t spent
+
+        go : (b : Bool) → is_lazy p ≡ b → IsSpent d (beneath_sort p) t
+        go true e =
+            spent_filled d p t e
+            (filled_front p taken (over_rows d (inner p) (take t.rows (source_rows d p)))
+            (subst (λ all. Begins taken (over_rows d (inner p) (take t.rows all))) (source_inner d p) (begins_taken At Stands closed front below pages d (inner p) t taken f (lazy_inner p e)))
+            h.full)
+        go false e =
+            by_below (settled At Stands closed front late below pages d (inner p) t taken f (sort_inner p e (filled_plain p taken h.full)))
+            (h.begun e)
+
+    is_spent : IsFilled p taken ⊎ (shut ≡ true) → IsSpent d (beneath_sort p) t
+    is_spent (inl h) = of_first h
+    is_spent (inr e) = spent_inner d p t (spent e)
+
+    ended : (r : Result Step PageFault) → AtEnd r (Begins taken (beneath d p) → given ≡ made d p (beneath d p))
+        → AtEnd r (IsFilled p taken ⊎ (shut ≡ true)) → AtEnd r (IsDone d p t given)
+    ended (Ok (Row a)) all full = tt
+    ended (Ok Pass) all full = tt
+    ended (Ok End) all full = record {
+      all = all (begins_whole At Stands closed front below pages d (inner p) t taken f) ∙ sym (whole_made d p);
+      spent = is_spent full;
+    }
+    ended (Err fault) all full = tt
+
 -- the stage worked
 pub works_over : {S T : Type 0} (At : S → Taking) (Stands : T → Standing) (closed : T → Bool) (q : Prices S T) → GivesFront Stands → OpensLate Stands closed
     → (pages : PageMap) (d : Database) (p : Plan) (t : Taken) (given : List PlanRow) (count : Counts) (old new : DeskState) (result : Result Step PageFault)
@@ -137,7 +175,7 @@ works_over {S} {T} At Stands closed q front late pages d p t given count old new
         (left_worked At Stands closed q stage stage' pointer pointer' below pages d p result same) (costs f.taken given f.stands) (paid_same new.visits log);
   };
   asks = inr record { taken = refl; counts = refl; log = log; up = up };
-  ends = ended result w.whole w.full;
+  ends = worked_ends At Stands closed front late pages d p t below f.taken given (closed stage') f.beneath spent result w.whole w.full;
 }
   where
     w : Works d p f.taken given (closed stage') result (Stands stage' pages d p f.taken)
@@ -155,87 +193,6 @@ works_over {S} {T} At Stands closed q front late pages d p t given count old new
         paid_over At Stands closed q stage' pointer' below pages d p t (given_after given result) now visits
         ∙ ap₂ (λ (l : List Visit) (row : PageMap → Database → Plan → PlanRow → ℕ). paid At Stands closed q below pages d (inner p) t f.taken f.beneath l + sum_by (row pages d p) f.taken) log price
         ∙ sym (paid_over At Stands closed q stage pointer below pages d p t given f old.visits)
-
-    of_first : IsFilled p f.taken → IsSpent d (beneath_sort p) t
-    of_first h = go (is_lazy p) refl
-      where
-        by_below : (f.taken ≡ []) ⊎ IsSpent d (beneath_sort (inner p)) t → f.taken ≢ [] → IsSpent d (beneath_sort p) t
-        by_below (inl none) some = absurd (some none)
-        by_below (inr spent) some = spent_inner d p t spent
-
-        go : (b : Bool) → is_lazy p ≡ b → IsSpent d (beneath_sort p) t
-        go true e =
-            spent_filled d p t e
-            (filled_front p f.taken (over_rows d (inner p) (take t.rows (source_rows d p)))
-            (subst (λ all. Begins f.taken (over_rows d (inner p) (take t.rows all))) (source_inner d p) (begins_taken At Stands closed front below pages d (inner p) t f.taken f.beneath (lazy_inner p e)))
-            h.full)
-        go false e =
-            by_below (settled At Stands closed front late below pages d (inner p) t f.taken f.beneath (sort_inner p e (filled_plain p f.taken h.full)))
-            (h.begun e)
-
-    is_spent : IsFilled p f.taken ⊎ (closed stage' ≡ true) → IsSpent d (beneath_sort p) t
-    is_spent (inl h) = of_first h
-    is_spent (inr e) = spent_inner d p t (spent e)
-
-    ended : (r : Result Step PageFault) → AtEnd r (Begins f.taken (beneath d p) → given ≡ made d p (beneath d p))
-        → AtEnd r (IsFilled p f.taken ⊎ (closed stage' ≡ true)) → AtEnd r (IsDone d p t given)
-    ended (Ok (Row a)) all full = tt
-    ended (Ok Pass) all full = tt
-    ended (Ok End) all full = record {
-      all = all (begins_whole At Stands closed front below pages d (inner p) t f.taken f.beneath) ∙ sym (whole_made d p);
-      spent = is_spent full;
-    }
-    ended (Err fault) all full = tt
-
--- a row came from beneath, and the stage holds it
-pub holds_over : {S T : Type 0} (At : S → Taking) (Stands : T → Standing) (closed : T → Bool) (q : Prices S T)
-    → (pages : PageMap) (d : Database) (p : Plan) (t : Taken) (given : List PlanRow) (before now : Counts) (old new : DeskState) (a : Answer)
-    → (stage stage' : T) (pointer pointer' : Box Unit) (below below' : Operator S T) → closed stage ≡ false → closed stage' ≡ false → q.row stage' ≡ q.row stage
-    → q.held stage' pages d p ≤ q.row stage pages d p (row_of a)
-    → ((taken given : List PlanRow) → Stands stage pages d p taken given → is_lazy p ≡ true → IsDry d p taken given)
-    → ((taken given : List PlanRow) → Stands stage pages d p taken given → Stands stage' pages d p (taken ++ row_of a ∷ []) given)
-    → ((taken : List PlanRow) (f : Follows At Stands closed below pages d (inner p) t taken)
-    → Goes d (inner p) t taken before now old new (Ok (Row a)) (IsPaid At Stands closed q below below' pages d (inner p) t taken f old new (Ok (Row a))))
-    → (f : Follows At Stands closed (Over' stage pointer below) pages d p t given)
-    → Goes d p t given before now old new (Ok Pass) (IsPaid At Stands closed q (Over' stage pointer below) (Over' stage' pointer' below') pages d p t given f old new (Ok Pass))
-holds_over {S} {T} At Stands closed q pages d p t given before now old new a stage stage' pointer pointer' below below' was_open open_ price owes dry hold step f = record {
-  taken = g.taken;
-  follows = record {
-    follows = held;
-    same = same_over At Stands closed q stage stage' pointer pointer' below below' price g.follows.same;
-    most =
-        pays_hold old.pool.gets new.pool.gets (left_of closed q (Over' stage pointer below) pages d p) (left_of closed q (Over' stage' pointer' below') pages d p)
-        (q.held stage pages d p) (q.held stage' pages d p) (left_of closed q below pages d (inner p)) (left_of closed q below' pages d (inner p))
-        (paid At Stands closed q (Over' stage pointer below) pages d p t given f old.visits) (paid At Stands closed q (Over' stage' pointer' below') pages d p g.taken given held new.visits)
-        (paid At Stands closed q below pages d (inner p) t f.taken f.beneath old.visits)
-        (paid At Stands closed q below' pages d (inner p) g.taken (f.taken ++ row_of a ∷ []) g.follows.follows new.visits)
-        (sum_by (q.row stage pages d p) f.taken) (sum_by (q.row stage' pages d p) (f.taken ++ row_of a ∷ [])) (q.row stage pages d p (row_of a))
-        (left_open At Stands closed q stage pointer below pages d p was_open) (left_open At Stands closed q stage' pointer' below' pages d p open_)
-        (paid_over At Stands closed q stage pointer below pages d p t given f old.visits) (paid_over At Stands closed q stage' pointer' below' pages d p g.taken given held new.visits)
-        (ap (λ (row : PageMap → Database → Plan → PlanRow → ℕ). sum_by (row pages d p) (f.taken ++ row_of a ∷ [])) price ∙ sum_by_push (q.row stage pages d p) f.taken (row_of a))
-        owes g.follows.most;
-  };
-  asks = asks_up d p t g.taken f.taken given before now old new (Ok (Row a)) (Ok Pass) (dry f.taken given f.stands) (λ fault e. absurd (ok-err e)) g.asks;
-  ends = tt;
-}
-  where
-    g : Goes d (inner p) t f.taken before now old new (Ok (Row a)) (IsPaid At Stands closed q below below' pages d (inner p) t f.taken f.beneath old new (Ok (Row a)))
-    g = step f.taken f.beneath
-
-    held : Follows At Stands closed (Over' stage' pointer' below') pages d p g.taken given
-    held = record {
-      taken = f.taken ++ row_of a ∷ [];
-      beneath = g.follows.follows;
-      stands = hold f.taken given f.stands;
-      spent = λ e. absurd (true≢false (sym e ∙ open_));
-    }
-
-    ok-err : {fault : PageFault} → Ok (Row a) ≡ Err fault → ⊥
-    ok-err e = true≢false (ap is_ok e)
-      where
-        is_ok : Result Step PageFault → Bool
-        is_ok (Ok x) = true
-        is_ok (Err x) = false
 
 -- nothing came from beneath yet, or a refusal
 pub waits_over : {S T : Type 0} (At : S → Taking) (Stands : T → Standing) (closed : T → Bool) (q : Prices S T)
@@ -355,7 +312,7 @@ finishes_over {S} {T} At Stands closed q pages d p t given before now old new re
     ended (Ok End) h = record { all = h ∙ sym (whole_made d p); spent = spent_inner d p g.taken g.ends.spent }
     ended (Err fault) h = tt
 
--- ---- a pass, and a step after it that asks nothing beneath
+-- ---- a row from beneath, and the work on it
 
 -- a number that a pass lowered
 pub lowers_both : (a b c : ℕ) (result : Result Step PageFault) → b < a → Lowers b c result → Lowers a c result
@@ -401,44 +358,70 @@ asks_later d p t after given before now old mid new result log up (inl a) = inl 
 asks_later d p t after given before now old mid new result log up (inr r) =
     inr record { taken = r.taken; counts = r.counts; log = log ∙ r.log; up = up_both old.pool.gets mid.pool.gets new.pool.gets last_count r.up up }
 
--- a pass, and a step after it that takes nothing of the source
-passes_over : {S T : Type 0} (At : S → Taking) (Stands : T → Standing) (closed : T → Bool) (q : Prices S T)
-    → (pages : PageMap) (d : Database) (p : Plan) (t : Taken) (given : List PlanRow) (before now : Counts) (old mid new : DeskState) (result : Result Step PageFault) (o o' o'' : Operator S T)
-    → (f : Follows At Stands closed o pages d p t given) (g : Goes d p t given before now old mid (Ok Pass) (IsPaid At Stands closed q o o' pages d p t given f old mid (Ok Pass)))
+-- a row came from beneath, and the stage took it and worked on it
+pub takes_over : {S T : Type 0} (At : S → Taking) (Stands : T → Standing) (closed : T → Bool) (q : Prices S T) → GivesFront Stands → OpensLate Stands closed
+    → (pages : PageMap) (d : Database) (p : Plan) (t : Taken) (given : List PlanRow) (before now : Counts) (old mid new : DeskState) (result : Result Step PageFault) (a : Answer)
+    → (stage stage' : T) (pointer pointer' : Box Unit) (below below' : Operator S T) → closed stage ≡ false → closed stage' ≡ closed stage → q.row stage' ≡ q.row stage
     → new.visits ≡ mid.visits → min mid.pool.gets last_count ≤ new.pool.gets
-    → IsPaid At Stands closed q o' o'' pages d p g.taken given g.follows.follows mid new result g.taken (given_after given result)
-    → AtEnd result (IsDone d p g.taken given)
-    → Goes d p t given before now old new result (IsPaid At Stands closed q o o'' pages d p t given f old new result)
-passes_over At Stands closed q pages d p t given before now old mid new result o o' o'' f g log up w ends = record {
+    → ((taken given : List PlanRow) → Stands stage pages d p taken given → is_lazy p ≡ true → IsDry d p taken given)
+    → ((taken given : List PlanRow) → Stands stage pages d p taken given
+    → Works d p (taken ++ row_of a ∷ []) given (closed stage') result (Stands stage' pages d p (taken ++ row_of a ∷ [])))
+    → ((taken given : List PlanRow) → Stands stage pages d p taken given → new.pool.gets + unless_refused result (q.held stage' pages d p) ≤ mid.pool.gets + q.row stage pages d p (row_of a))
+    → ((taken : List PlanRow) (f : Follows At Stands closed below pages d (inner p) t taken)
+    → Goes d (inner p) t taken before now old mid (Ok (Row a)) (IsPaid At Stands closed q below below' pages d (inner p) t taken f old mid (Ok (Row a))))
+    → (f : Follows At Stands closed (Over' stage pointer below) pages d p t given)
+    → Goes d p t given before now old new result (IsPaid At Stands closed q (Over' stage pointer below) (Over' stage' pointer' below') pages d p t given f old new result)
+takes_over {S} {T} At Stands closed q front late pages d p t given before now old mid new result a stage stage' pointer pointer' below below' was_open same price log up dry work costs step f = record {
   taken = g.taken;
   follows = record {
-    follows = w.follows;
-    same = record {
-      heights = w.same.heights ∙ g.follows.same.heights;
-      step = w.same.step ∙ g.follows.same.step;
-      rows = w.same.rows ∙ g.follows.same.rows;
-    };
+    follows = now_taken;
+    same = same_over At Stands closed q stage stage' pointer pointer' below below' price g.follows.same;
     most =
-        pays_both old.pool.gets mid.pool.gets new.pool.gets (left_of closed q o pages d p) (left_of closed q o' pages d p) (left_after closed q o'' pages d p result)
-        (paid At Stands closed q o pages d p t given f old.visits) (paid At Stands closed q o' pages d p g.taken given g.follows.follows mid.visits)
-        (paid At Stands closed q o'' pages d p g.taken (given_after given result) w.follows new.visits) g.follows.most w.most;
+        pays_take old.pool.gets mid.pool.gets new.pool.gets (left_of closed q (Over' stage pointer below) pages d p) (left_after closed q (Over' stage' pointer' below') pages d p result)
+        (q.held stage pages d p) (unless_refused result (q.held stage' pages d p)) (left_of closed q below pages d (inner p)) (left_of closed q below' pages d (inner p))
+        (paid At Stands closed q (Over' stage pointer below) pages d p t given f old.visits) (paid At Stands closed q (Over' stage' pointer' below') pages d p g.taken (given_after given result) now_taken new.visits)
+        (paid At Stands closed q below pages d (inner p) t f.taken f.beneath old.visits) (paid At Stands closed q below' pages d (inner p) g.taken (f.taken ++ row_of a ∷ []) g.follows.follows mid.visits)
+        (sum_by (q.row stage pages d p) f.taken) (sum_by (q.row stage' pages d p) (f.taken ++ row_of a ∷ [])) (q.row stage pages d p (row_of a))
+        (left_open At Stands closed q stage pointer below pages d p was_open) (left_taken At Stands closed q stage' pointer' below' pages d p result open_)
+        (paid_over At Stands closed q stage pointer below pages d p t given f old.visits) (paid_later new.visits log)
+        (ap (λ (row : PageMap → Database → Plan → PlanRow → ℕ). sum_by (row pages d p) (f.taken ++ row_of a ∷ [])) price ∙ sum_by_push (q.row stage pages d p) f.taken (row_of a))
+        (costs f.taken given f.stands) g.follows.most;
   };
-  asks = asks_later d p t g.taken given before now old mid new result log up g.asks;
-  ends = ends;
+  asks =
+      asks_later d p t g.taken given before now old mid new result log up
+      (asks_up d p t g.taken f.taken given before now old mid (Ok (Row a)) (Ok Pass) (dry f.taken given f.stands) (λ fault e. absurd (ok-err e)) g.asks);
+  ends =
+      worked_ends At Stands closed front late pages d p g.taken below' (f.taken ++ row_of a ∷ []) given (closed stage') g.follows.follows (λ e. absurd (true≢false (sym e ∙ open_)))
+      result w.whole w.full;
 }
+  where
+    open_ : closed stage' ≡ false
+    open_ = same ∙ was_open
 
--- the stage took a row, and then worked
-pub holds_works_over : {S T : Type 0} (At : S → Taking) (Stands : T → Standing) (closed : T → Bool) (q : Prices S T) → GivesFront Stands → OpensLate Stands closed
-    → (pages : PageMap) (d : Database) (p : Plan) (t : Taken) (given : List PlanRow) (before now : Counts) (old mid new : DeskState) (result : Result Step PageFault)
-    → (stage stage' stage'' : T) (pointer pointer' pointer'' : Box Unit) (below below' : Operator S T) → closed stage'' ≡ closed stage' → q.row stage'' ≡ q.row stage'
-    → new.visits ≡ mid.visits → min mid.pool.gets last_count ≤ new.pool.gets
-    → ((taken given : List PlanRow) → Stands stage' pages d p taken given → Works d p taken given (closed stage'') result (Stands stage'' pages d p taken))
-    → ((taken given : List PlanRow) → Stands stage' pages d p taken given → new.pool.gets + unless_refused result (q.held stage'' pages d p) ≤ mid.pool.gets + q.held stage' pages d p)
-    → (f : Follows At Stands closed (Over' stage pointer below) pages d p t given)
-    → Goes d p t given before now old mid (Ok Pass) (IsPaid At Stands closed q (Over' stage pointer below) (Over' stage' pointer' below') pages d p t given f old mid (Ok Pass))
-    → Goes d p t given before now old new result (IsPaid At Stands closed q (Over' stage pointer below) (Over' stage'' pointer'' below') pages d p t given f old new result)
-unfolding works_over
-holds_works_over At Stands closed q front late pages d p t given before now old mid new result stage stage' stage'' pointer pointer' pointer'' below below' same price log up work costs f g =
-    passes_over At Stands closed q pages d p t given before now old mid new result (Over' stage pointer below) (Over' stage' pointer' below') (Over' stage'' pointer'' below') f g log up
-    (works_over At Stands closed q front late pages d p g.taken given now mid new result stage' stage'' pointer' pointer'' below' same price log up work costs g.follows.follows).follows
-    (works_over At Stands closed q front late pages d p g.taken given now mid new result stage' stage'' pointer' pointer'' below' same price log up work costs g.follows.follows).ends
+    g : Goes d (inner p) t f.taken before now old mid (Ok (Row a)) (IsPaid At Stands closed q below below' pages d (inner p) t f.taken f.beneath old mid (Ok (Row a)))
+    g = step f.taken f.beneath
+
+    w : Works d p (f.taken ++ row_of a ∷ []) given (closed stage') result (Stands stage' pages d p (f.taken ++ row_of a ∷ []))
+    w = work f.taken given f.stands
+
+    now_taken : Follows At Stands closed (Over' stage' pointer' below') pages d p g.taken (given_after given result)
+    now_taken = record {
+      taken = f.taken ++ row_of a ∷ [];
+      beneath = g.follows.follows;
+      stands = w.stands;
+      spent = λ e. absurd (true≢false (sym e ∙ open_));
+    }
+
+    paid_later : (visits : List Visit) → visits ≡ mid.visits
+        → paid At Stands closed q (Over' stage' pointer' below') pages d p g.taken (given_after given result) now_taken visits
+        ≡ paid At Stands closed q below' pages d (inner p) g.taken (f.taken ++ row_of a ∷ []) g.follows.follows mid.visits + sum_by (q.row stage' pages d p) (f.taken ++ row_of a ∷ [])
+    paid_later visits log =
+        paid_over At Stands closed q stage' pointer' below' pages d p g.taken (given_after given result) now_taken visits
+        ∙ ap (λ (l : List Visit). paid At Stands closed q below' pages d (inner p) g.taken (f.taken ++ row_of a ∷ []) g.follows.follows l + sum_by (q.row stage' pages d p) (f.taken ++ row_of a ∷ [])) log
+
+    ok-err : {fault : PageFault} → Ok (Row a) ≡ Err fault → ⊥
+    ok-err e = true≢false (ap is_ok e)
+      where
+        is_ok : Result Step PageFault → Bool
+        is_ok (Ok x) = true
+        is_ok (Err x) = false

@@ -25,7 +25,7 @@ use Rattle.plan_steps.specs.declared.operator.Operator.{Operator, Source, Over'}
 use Rattle.plan_steps.specs.declared.step.Step.{Step}
 use Rattle.plan_steps.specs.declared.step.Step.TheVariants.{Row, Pass, End}
 use Rattle.plan_steps.proofs.Sourcing.{as_step, source_goes}
-use Rattle.plan_steps.proofs.Stepping.{works_over, holds_over, holds_works_over, IsQuiet, waits_over, finishes_over}
+use Rattle.plan_steps.proofs.Stepping.{works_over, takes_over, IsQuiet, waits_over, finishes_over}
 
 -- what is told
 pub on_told : (o : Option PageMap) (P Q : PageMap → Type 0) → ((pages : PageMap) → P pages → Q pages) → IfSome o P → IfSome o Q
@@ -98,43 +98,29 @@ module _ {S T : Type 0} (At : S → Taking) (Stands : T → Standing) (closed : 
     beneath_told : (r : Result Step PageFault) → below_gave ≡ r → IfSome told (GoesPaid At Stands closed q seen below below' old new r)
     beneath_told r is = subst (λ r. IfSome told (GoesPaid At Stands closed q seen below below' old new r)) is goes
 
-    -- a row came from beneath
-    pub holds_told : (a : Answer) (stage' : T) → below_gave ≡ Ok (Row a) → closed stage' ≡ closed stage → q.row stage' ≡ q.row stage
-        → ((pages : PageMap) (d : Database) (p : Plan) → q.held stage' pages d p ≤ q.row stage pages d p (row_of a))
-        → ((pages : PageMap) (d : Database) (p : Plan) (taken given : List PlanRow) → Stands stage pages d p taken given → Stands stage' pages d p (taken ++ row_of a ∷ []) given)
-        → IfSome told (GoesPaid At Stands closed q seen (Over' stage pointer below) (Over' stage' pointer' below') old new (Ok Pass))
-    holds_told a stage' is same price owes hold =
-        on_told told (GoesPaid At Stands closed q seen below below' old new (Ok (Row a)))
-        (GoesPaid At Stands closed q seen (Over' stage pointer below) (Over' stage' pointer' below') old new (Ok Pass))
-        (λ pages k d p t given f. holds_over At Stands closed q pages d p t given (seen (source_of below)) (seen (source_of below')) old new a stage stage' pointer pointer' below below'
-        open_ (same ∙ open_) price (owes pages d p) (dry pages d p) (hold pages d p) (λ taken g. k d (inner p) t taken g) f)
-        (beneath_told (Ok (Row a)) is)
-
-    -- a row came from beneath, and the stage worked on it at once
-    pub holds_works_told : GivesFront Stands → OpensLate Stands closed → (last : DeskState) (result : Result Step PageFault) (a : Answer) (stage' stage'' : T) (pointer'' : Box Unit) → below_gave ≡ Ok (Row a)
-        → closed stage' ≡ closed stage → q.row stage' ≡ q.row stage → ((pages : PageMap) (d : Database) (p : Plan) → q.held stage' pages d p ≤ q.row stage pages d p (row_of a))
-        → ((pages : PageMap) (d : Database) (p : Plan) (taken given : List PlanRow) → Stands stage pages d p taken given → Stands stage' pages d p (taken ++ row_of a ∷ []) given)
-        → closed stage'' ≡ closed stage' → q.row stage'' ≡ q.row stage' → last.visits ≡ new.visits → min new.pool.gets last_count ≤ last.pool.gets
+    -- a row came from beneath, which the stage took and worked on
+    pub takes_told : GivesFront Stands → OpensLate Stands closed → (last : DeskState) (result : Result Step PageFault) (a : Answer) (stage' : T) → below_gave ≡ Ok (Row a)
+        → closed stage' ≡ closed stage → q.row stage' ≡ q.row stage → last.visits ≡ new.visits → min new.pool.gets last_count ≤ last.pool.gets
         → (later : Option PageMap) → later ≡ told
-        → IfSome later (λ pages. (d : Database) (p : Plan) (taken given : List PlanRow) → Stands stage' pages d p taken given
-        → Works d p taken given (closed stage'') result (Stands stage'' pages d p taken))
-        → IfSome later (λ pages. (d : Database) (p : Plan) (taken given : List PlanRow) → Stands stage' pages d p taken given
-        → last.pool.gets + unless_refused result (q.held stage'' pages d p) ≤ new.pool.gets + q.held stage' pages d p)
-        → IfSome told (GoesPaid At Stands closed q seen (Over' stage pointer below) (Over' stage'' pointer'' below') old last result)
-    holds_works_told front late last result a stage' stage'' pointer'' is same price owes hold same' price' log up later alike works costs =
-        three_told told (GoesPaid At Stands closed q seen (Over' stage pointer below) (Over' stage' pointer' below') old new (Ok Pass))
-        (λ pages. (d : Database) (p : Plan) (taken given : List PlanRow) → Stands stage' pages d p taken given
-        → Works d p taken given (closed stage'') result (Stands stage'' pages d p taken))
-        (λ pages. (d : Database) (p : Plan) (taken given : List PlanRow) → Stands stage' pages d p taken given
-        → last.pool.gets + unless_refused result (q.held stage'' pages d p) ≤ new.pool.gets + q.held stage' pages d p)
-        (GoesPaid At Stands closed q seen (Over' stage pointer below) (Over' stage'' pointer'' below') old last result)
-        (λ pages k w c d p t given f. holds_works_over At Stands closed q front late pages d p t given (seen (source_of below)) (seen (source_of below')) old new last result
-        stage stage' stage'' pointer pointer' pointer'' below below' same' price' log up (w d p) (c d p) f (k d p t given f))
-        (holds_told a stage' is same price owes hold)
-        (still_told later told (λ pages. (d : Database) (p : Plan) (taken given : List PlanRow) → Stands stage' pages d p taken given
-        → Works d p taken given (closed stage'') result (Stands stage'' pages d p taken)) alike works)
-        (still_told later told (λ pages. (d : Database) (p : Plan) (taken given : List PlanRow) → Stands stage' pages d p taken given
-        → last.pool.gets + unless_refused result (q.held stage'' pages d p) ≤ new.pool.gets + q.held stage' pages d p) alike costs)
+        → IfSome later (λ pages. (d : Database) (p : Plan) (taken given : List PlanRow) → Stands stage pages d p taken given
+        → Works d p (taken ++ row_of a ∷ []) given (closed stage') result (Stands stage' pages d p (taken ++ row_of a ∷ [])))
+        → IfSome later (λ pages. (d : Database) (p : Plan) (taken given : List PlanRow) → Stands stage pages d p taken given
+        → last.pool.gets + unless_refused result (q.held stage' pages d p) ≤ new.pool.gets + q.row stage pages d p (row_of a))
+        → IfSome told (GoesPaid At Stands closed q seen (Over' stage pointer below) (Over' stage' pointer' below') old last result)
+    takes_told front late last result a stage' is same price log up later alike works costs =
+        three_told told (GoesPaid At Stands closed q seen below below' old new (Ok (Row a)))
+        (λ pages. (d : Database) (p : Plan) (taken given : List PlanRow) → Stands stage pages d p taken given
+        → Works d p (taken ++ row_of a ∷ []) given (closed stage') result (Stands stage' pages d p (taken ++ row_of a ∷ [])))
+        (λ pages. (d : Database) (p : Plan) (taken given : List PlanRow) → Stands stage pages d p taken given
+        → last.pool.gets + unless_refused result (q.held stage' pages d p) ≤ new.pool.gets + q.row stage pages d p (row_of a))
+        (GoesPaid At Stands closed q seen (Over' stage pointer below) (Over' stage' pointer' below') old last result)
+        (λ pages k w c d p t given f. takes_over At Stands closed q front late pages d p t given (seen (source_of below)) (seen (source_of below')) old new last result a
+        stage stage' pointer pointer' below below' open_ same price log up (dry pages d p) (w d p) (c d p) (λ taken g. k d (inner p) t taken g) f)
+        (beneath_told (Ok (Row a)) is)
+        (still_told later told (λ pages. (d : Database) (p : Plan) (taken given : List PlanRow) → Stands stage pages d p taken given
+        → Works d p (taken ++ row_of a ∷ []) given (closed stage') result (Stands stage' pages d p (taken ++ row_of a ∷ []))) alike works)
+        (still_told later told (λ pages. (d : Database) (p : Plan) (taken given : List PlanRow) → Stands stage pages d p taken given
+        → last.pool.gets + unless_refused result (q.held stage' pages d p) ≤ new.pool.gets + q.row stage pages d p (row_of a)) alike costs)
 
     -- nothing came from beneath yet, or a refusal
     pub waits_told : (result : Result Step PageFault) → below_gave ≡ result → IsQuiet result

@@ -38,7 +38,6 @@ impl<S: RowSource, T: RowStage> Operator<S, T> {
     /// `step` may be called again. Its page gets are at most the price of the visits that it noted, of one step of the
     /// source where it asked it, and of the rows that stages handled; what a stage has still to do for a row that it
     /// holds is left to pay in later steps.
-    #[cycle(step)]
     pub fn step<D: Disk>(&mut self, alloc: Global, desk: &mut Desk<D>) -> Result<Step, PageFault>
         requires stands { IfSome (told_pages desk.old) (λ pages. (d : Database) × ((p : Plan) × ((t : Taken) × ((given : List PlanRow) × Follows S.At T.Stands T.closed self.old pages d p t given)))) }
         ensures read { IsRead desk.old.pool desk.new.pool }
@@ -59,7 +58,6 @@ impl<S: RowSource, T: RowStage> Operator<S, T> {
 
 impl<S: RowSource, T: RowStage> Over<S, T> {
     // Lets the stage work, or gives it the next row beneath, on which it works at once where it can.
-    #[cycle(step)]
     fn step<D: Disk>(&mut self, alloc: Global, desk: &mut Desk<D>) -> Result<Step, PageFault>
         requires stands { IfSome (told_pages desk.old) (λ pages. (d : Database) × ((p : Plan) × ((t : Taken) × ((given : List PlanRow) × Follows S.At T.Stands T.closed (Operator.Over self.old) pages d p t given)))) }
         ensures read { IsRead desk.old.pool desk.new.pool }
@@ -70,18 +68,18 @@ impl<S: RowSource, T: RowStage> Over<S, T> {
         if self.stage.is_busy() {
             return self.stage.work(alloc, desk);
         }
-        match self.below.step(alloc, desk) {
-            Ok(Step::Row(row)) => {
-                self.stage.hold(row);
-                if self.stage.is_busy() {
-                    self.stage.work(alloc, desk)
-                } else {
-                    Ok(Step::Pass)
-                }
-            }
-            Ok(Step::Pass) => Ok(Step::Pass),
-            Ok(Step::End) => self.stage.finish(alloc),
-            Err(fault) => Err(fault),
+        match &mut *self.below {
+            Operator::Source(source) => match source.next(alloc, desk) {
+                Ok(Some(row)) => self.stage.take(alloc, desk, row),
+                Ok(None) => self.stage.finish(alloc),
+                Err(fault) => Err(fault),
+            },
+            Operator::Over(over) => match over.step(alloc, desk) {
+                Ok(Step::Row(row)) => self.stage.take(alloc, desk, row),
+                Ok(Step::Pass) => Ok(Step::Pass),
+                Ok(Step::End) => self.stage.finish(alloc),
+                Err(fault) => Err(fault),
+            },
         }
     }
 }

@@ -80,6 +80,33 @@ pub trait RowStage: Drop {
         ensures price { price self.new ≡ price self.old }
         ensures costs { IfSome (told_pages desk.old) (λ pages. (d : Database) (p : Plan) (taken given : List PlanRow) → Stands self.old pages d p taken given → desk.new.pool.gets + unless_refused result (owed self.new pages d p) ≤ desk.old.pool.gets + owed self.old pages d p) };
 
+    /// Takes the next row, and works on it at once where it can. After a refusal the row is taken.
+    fn take<D: Disk>(
+        &mut self,
+        alloc: Global,
+        desk: &mut Desk<D>,
+        row: Answer,
+    ) -> Result<Step, PageFault>
+        requires free { waits self.old ≡ false }
+        requires stands { IfSome (told_pages desk.old) (λ pages. (d : Database) × ((p : Plan) × ((taken : List PlanRow) × ((given : List PlanRow) × Stands self.old pages d p taken given)))) }
+        ensures read { IsRead desk.old.pool desk.new.pool }
+        ensures log { desk.new.visits ≡ desk.old.visits }
+        ensures up { min desk.old.pool.gets last_count ≤ desk.new.pool.gets }
+        ensures cause { HasPageCause desk.old.pool desk.new.pool result }
+        ensures falls { (m n : ℕ) → m < n → Lowers (steps self.old n) (steps self.new m) result }
+        ensures closed { closed self.new ≡ closed self.old }
+        ensures step { IfSome (told_pages desk.old) (λ pages. (d : Database) (p : Plan) (taken given : List PlanRow) → Stands self.old pages d p taken given → Works d p (taken ++ row_of row ∷ []) given (closed self.new) result (Stands self.new pages d p (taken ++ row_of row ∷ []))) }
+        ensures price { price self.new ≡ price self.old }
+        ensures costs { IfSome (told_pages desk.old) (λ pages. (d : Database) (p : Plan) (taken given : List PlanRow) → Stands self.old pages d p taken given → desk.new.pool.gets + unless_refused result (owed self.new pages d p) ≤ desk.old.pool.gets + price self.old pages d p (row_of row)) }
+    {
+        self.hold(row);
+        if self.is_busy() {
+            self.work(alloc, desk)
+        } else {
+            Ok(Step::Pass)
+        }
+    }
+
     ghost outermost: { IsOutermost Stands };
 
     ghost front: { GivesFront Stands };
