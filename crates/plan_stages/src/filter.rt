@@ -69,6 +69,22 @@ impl<'s> RowStage for Filter<'s> {
         }
     }
 
+    fn take<D: Disk>(
+        &mut self,
+        alloc: Global,
+        desk: &mut Desk<D>,
+        row: Answer,
+    ) -> Result<Step, PageFault> {
+        match passes_all(alloc, desk.pages(), &self.tests, row.ids.as_slice()) {
+            Ok(true) => Ok(Step::Row(row)),
+            Ok(false) => Ok(Step::Pass),
+            Err(fault) => {
+                self.held = Some(row);
+                Err(fault)
+            }
+        }
+    }
+
     ghost use Rattle.std.specs.Prelude.{filter};
     ghost use Rattle.sand_model.specs.Operators.{passes_all, relations_of};
     ghost use Rattle.plan_stages.specs.Splits.{waiting, wait_count};

@@ -60,6 +60,7 @@ fn passes(op: Op, held: &Value, asked: &Value) -> bool
 }
 
 // Whether a row with these ids passes the test.
+#[inline]
 fn passes_one<P: Pages>(
     alloc: Global,
     pages: &mut P,
@@ -80,8 +81,9 @@ fn passes_one<P: Pages>(
     }
 }
 
-/// Whether a row with these ids passes all tests, each of which reads one value.
-pub(crate) fn passes_all<P: Pages>(
+// Whether a row with these ids passes each of the tests, of which each reads one value.
+#[inline(never)]
+fn passes_each<P: Pages>(
     alloc: Global,
     pages: &mut P,
     tests: &[SpotTest<'_>],
@@ -97,9 +99,30 @@ pub(crate) fn passes_all<P: Pages>(
     match tests {
         [] => Ok(true),
         [test, rest @ ..] => match passes_one(alloc, pages, test, ids) {
-            Ok(true) => passes_all(alloc, pages, rest, ids),
+            Ok(true) => passes_each(alloc, pages, rest, ids),
             Ok(false) => Ok(false),
             Err(fault) => Err(fault),
         },
+    }
+}
+
+/// Whether a row with these ids passes all tests, each of which reads one value. Mostly there is one.
+#[inline]
+pub(crate) fn passes_all<P: Pages>(
+    alloc: Global,
+    pages: &mut P,
+    tests: &[SpotTest<'_>],
+    ids: &[u32],
+) -> Result<bool, PageFault>
+    requires stands { TestsStand (P.shown pages.old) tests.now }
+    ensures value { IfOk result (λ passed. IsTold (P.shown pages.old) → (d : Database) (names : List (List ℕ)) (asked : List Test) (row : PlanRow) → AreTests d names (P.shown pages.old).pages tests.now asked → row.ids ≡ ids.now → passed ≡ passes_all d names asked row) }
+    ensures read { IsRead (P.shown pages.old) (P.shown pages.new) }
+    ensures up { min (P.shown pages.old).gets last_count ≤ (P.shown pages.new).gets }
+    ensures cause { HasPageCause (P.shown pages.old) (P.shown pages.new) result }
+    ensures most { (P.shown pages.new).gets ≤ (P.shown pages.old).gets + tests_price tests.now }
+{
+    match tests {
+        [test] => passes_one(alloc, pages, test, ids),
+        _ => passes_each(alloc, pages, tests, ids),
     }
 }

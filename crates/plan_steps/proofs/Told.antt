@@ -23,7 +23,7 @@ use Rattle.plan_steps.specs.Stages.{Standing, GivesFront, OpensLate, ClosedWaits
 use Rattle.plan_steps.specs.Steps.{GoesOn}
 use Rattle.plan_steps.specs.declared.operator.Operator.{Operator, Source, Over'}
 use Rattle.plan_steps.specs.declared.step.Step.{Step}
-use Rattle.plan_steps.specs.declared.step.Step.TheVariants.{Row, Pass, End}
+use Rattle.plan_steps.specs.declared.step.Step.TheVariants.{Row, End}
 use Rattle.plan_steps.proofs.Sourcing.{as_step, source_goes}
 use Rattle.plan_steps.proofs.Stepping.{works_over, takes_over, IsQuiet, waits_over, finishes_over}
 

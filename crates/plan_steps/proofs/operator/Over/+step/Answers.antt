@@ -1,5 +1,5 @@
 -- A step keeps what each operator took and gave, and pays for what it asks and handles.
-use Rattle.std.proofs.Common.{Ok, Err, Some, None, IfSome, refl, ap, sym, subst, ◌∙◌, ◌<◌, ◌≤◌}
+use Rattle.std.proofs.Common.{Ok, Err, IfSome, refl, ap, sym, subst, ◌∙◌, ◌<◌, ◌≤◌}
 use Rattle.best_first.specs.Visits.{told_pages}
 use Rattle.plan_rows.specs.Rows.{counts_of}
 use Rattle.plan_rows.specs.SourceSteps.{Falls}

@@ -1,0 +1,6 @@
+-- Each call has a test less.
+use Rattle.std.proofs.Common.{length}
+use Rattle.plan_stages.proofs.tests.+passes_each.Given as goal
+
+abbrev pub decreases-passes_each : goal.decreases-passes_each
+decreases-passes_each g l = length l.tests.now
