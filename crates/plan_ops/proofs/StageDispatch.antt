@@ -63,6 +63,19 @@ WorksPaying desk later after result s =
     IfSome (told_pages desk) (λ pages. (d : Database) (p : Plan) (taken given : List PlanRow) → StageStands s pages d p taken given
     → later.pool.gets + unless_refused result (stage_owed after pages d p) ≤ desk.pool.gets + stage_owed s pages d p)
 
+abbrev pub TakesFalling : Stage → Result Step PageFault → Stage → Type 0
+TakesFalling after result s = (m n : ℕ) → m < n → Lowers (stage_steps s n) (stage_steps after m) result
+
+abbrev pub Took : DeskState → Stage → Result Step PageFault → Answer → Stage → Type 0
+Took desk after result row s =
+    IfSome (told_pages desk) (λ pages. (d : Database) (p : Plan) (taken given : List PlanRow) → StageStands s pages d p taken given
+    → Works d p (taken ++ row_of row ∷ []) given (is_closed after) result (StageStands after pages d p (taken ++ row_of row ∷ [])))
+
+abbrev pub TakesPaying : DeskState → DeskState → Stage → Result Step PageFault → Answer → Stage → Type 0
+TakesPaying desk later after result row s =
+    IfSome (told_pages desk) (λ pages. (d : Database) (p : Plan) (taken given : List PlanRow) → StageStands s pages d p taken given
+    → later.pool.gets + unless_refused result (stage_owed after pages d p) ≤ desk.pool.gets + stage_price s pages d p (row_of row))
+
 -- the stage that it is
 pub of_kind : (X : Stage → Type 0) (s kind : Stage) → s ≡ kind → X kind → X s
 of_kind X s kind e h = subst X (sym e) h

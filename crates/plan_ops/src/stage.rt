@@ -75,6 +75,22 @@ impl<'s> RowStage for Stage<'s> {
         }
     }
 
+    fn take<D: Disk>(
+        &mut self,
+        alloc: Global,
+        desk: &mut Desk<D>,
+        row: Answer,
+    ) -> Result<Step, PageFault> {
+        match self {
+            Stage::First(stage) => stage.take(alloc, desk, row),
+            Stage::Filter(stage) => stage.take(alloc, desk, row),
+            Stage::Fetch(stage) => stage.take(alloc, desk, row),
+            Stage::Match(stage) => stage.take(alloc, desk, row),
+            Stage::SortBy(stage) => stage.take(alloc, desk, row),
+            Stage::SortNear(stage) => stage.take(alloc, desk, row),
+        }
+    }
+
     ghost use Rattle.plan_ops.specs.StageLaws.{stage_outermost, stage_front, stage_late, stage_closed_waits, stage_rises};
 
     ghost outermost = { stage_outermost };
