@@ -6,8 +6,9 @@ ghost use Rattle.pair_heap.specs.Tree.{IsTree, tree_items, tree_places};
 use crate::tree::Tree;
 use crate::trees::Trees;
 
-// One tree of both: the one of them whose item comes later becomes the other's first child.
-#[inline(always)]
+// One tree of both: the one of them whose item comes later becomes the other's first child. Which of them it is can't be
+// foreseen: in a call of its own it is chosen without a branch.
+#[inline(never)]
 pub(crate) fn meld<T: Ord + Drop>(one: Tree<T>, other: Tree<T>) -> Tree<T>
     requires one { IsTree T.cmp one }
     requires other { IsTree T.cmp other }
@@ -15,11 +16,12 @@ pub(crate) fn meld<T: Ord + Drop>(one: Tree<T>, other: Tree<T>) -> Tree<T>
     ensures items { IsPermutation (tree_items one ++ tree_items other) (tree_items result) }
     ensures slots { IsPermutation (tree_places one ++ tree_places other) (tree_places result) }
 {
-    if one.item().cmp(other.item()).is_gt() {
-        other.over(one)
+    let (top, below) = if one.item().cmp(other.item()).is_gt() {
+        (other, one)
     } else {
-        one.over(other)
-    }
+        (one, other)
+    };
+    top.over(below)
 }
 
 // The first pass: each two neighbours become one tree, and the last of an odd row stays alone.
