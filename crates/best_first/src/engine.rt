@@ -82,8 +82,8 @@ impl<H: Hierarchy, Q: Queue<Item<H::Node>>> BestFirst<H, Q> {
             &mut self.found,
             desk,
         ) {
-            Ok(()) => Ok(give_row(&mut self.frontier)),
-            Err(fault) => Err(fault),
+            Ok(()) => return Ok(give_row(&mut self.frontier)),
+            Err(fault) => return Err(fault),
         }
     }
 

@@ -54,10 +54,10 @@ impl<S: RowSource, T: RowStage> RowCursor<S, T> {
         match advance(&mut self.operator, alloc, desk) {
             Ok(Some(row)) => {
                 self.given = self.given.saturating_add(1);
-                Ok(Some(row))
+                return Ok(Some(row));
             }
-            Ok(None) => Ok(None),
-            Err(fault) => Err(fault),
+            Ok(None) => return Ok(None),
+            Err(fault) => return Err(fault),
         }
     }
 

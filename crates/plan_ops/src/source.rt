@@ -37,12 +37,12 @@ impl<'s> RowSource for Source<'s> {
         desk: &mut Desk<D>,
     ) -> Result<Option<Answer>, PageFault> {
         match self {
-            Source::Scan(source) => source.next(alloc, desk),
-            Source::PickEqual(source) => source.next(alloc, desk),
-            Source::PickBetween(source) => source.next(alloc, desk),
-            Source::Rank(source) => source.next(alloc, desk),
-            Source::Join(source) => source.next(alloc, desk),
-            Source::Semi(source) => source.next(alloc, desk),
+            Source::Scan(source) => return source.next(alloc, desk),
+            Source::PickEqual(source) => return source.next(alloc, desk),
+            Source::PickBetween(source) => return source.next(alloc, desk),
+            Source::Rank(source) => return source.next(alloc, desk),
+            Source::Join(source) => return source.next(alloc, desk),
+            Source::Semi(source) => return source.next(alloc, desk),
         }
     }
 

@@ -66,12 +66,12 @@ impl<'s> RowStage for Stage<'s> {
 
     fn work<D: Disk>(&mut self, alloc: Global, desk: &mut Desk<D>) -> Result<Step, PageFault> {
         match self {
-            Stage::First(stage) => stage.work(alloc, desk),
-            Stage::Filter(stage) => stage.work(alloc, desk),
-            Stage::Fetch(stage) => stage.work(alloc, desk),
-            Stage::Match(stage) => stage.work(alloc, desk),
-            Stage::SortBy(stage) => stage.work(alloc, desk),
-            Stage::SortNear(stage) => stage.work(alloc, desk),
+            Stage::First(stage) => return stage.work(alloc, desk),
+            Stage::Filter(stage) => return stage.work(alloc, desk),
+            Stage::Fetch(stage) => return stage.work(alloc, desk),
+            Stage::Match(stage) => return stage.work(alloc, desk),
+            Stage::SortBy(stage) => return stage.work(alloc, desk),
+            Stage::SortNear(stage) => return stage.work(alloc, desk),
         }
     }
 
@@ -82,12 +82,12 @@ impl<'s> RowStage for Stage<'s> {
         row: Answer,
     ) -> Result<Step, PageFault> {
         match self {
-            Stage::First(stage) => stage.take(alloc, desk, row),
-            Stage::Filter(stage) => stage.take(alloc, desk, row),
-            Stage::Fetch(stage) => stage.take(alloc, desk, row),
-            Stage::Match(stage) => stage.take(alloc, desk, row),
-            Stage::SortBy(stage) => stage.take(alloc, desk, row),
-            Stage::SortNear(stage) => stage.take(alloc, desk, row),
+            Stage::First(stage) => return stage.take(alloc, desk, row),
+            Stage::Filter(stage) => return stage.take(alloc, desk, row),
+            Stage::Fetch(stage) => return stage.take(alloc, desk, row),
+            Stage::Match(stage) => return stage.take(alloc, desk, row),
+            Stage::SortBy(stage) => return stage.take(alloc, desk, row),
+            Stage::SortNear(stage) => return stage.take(alloc, desk, row),
         }
     }
 

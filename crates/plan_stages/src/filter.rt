@@ -76,11 +76,11 @@ impl<'s> RowStage for Filter<'s> {
         row: Answer,
     ) -> Result<Step, PageFault> {
         match passes_all(alloc, desk.pages(), &self.tests, row.ids.as_slice()) {
-            Ok(true) => Ok(Step::Row(row)),
-            Ok(false) => Ok(Step::Pass),
+            Ok(true) => return Ok(Step::Row(row)),
+            Ok(false) => return Ok(Step::Pass),
             Err(fault) => {
                 self.held = Some(row);
-                Err(fault)
+                return Err(fault);
             }
         }
     }

@@ -75,9 +75,9 @@ fn passes_one<P: Pages>(
     ensures most { (P.shown pages.new).gets ≤ (P.shown pages.old).gets + spot_price test.now.spot }
 {
     match test.spot.value(alloc, pages, ids) {
-        Ok(Some(value)) => Ok(passes(test.op, &value, &test.value)),
-        Ok(None) => Ok(false),
-        Err(fault) => Err(fault),
+        Ok(Some(value)) => return Ok(passes(test.op, &value, &test.value)),
+        Ok(None) => return Ok(false),
+        Err(fault) => return Err(fault),
     }
 }
 
@@ -122,7 +122,7 @@ pub(crate) fn passes_all<P: Pages>(
     ensures most { (P.shown pages.new).gets ≤ (P.shown pages.old).gets + tests_price tests.now }
 {
     match tests {
-        [test] => passes_one(alloc, pages, test, ids),
-        _ => passes_each(alloc, pages, tests, ids),
+        [test] => return passes_one(alloc, pages, test, ids),
+        _ => return passes_each(alloc, pages, tests, ids),
     }
 }

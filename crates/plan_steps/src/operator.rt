@@ -47,11 +47,11 @@ impl<S: RowSource, T: RowStage> Operator<S, T> {
     {
         match self {
             Operator::Source(source) => match source.next(alloc, desk) {
-                Ok(Some(row)) => Ok(Step::Row(row)),
-                Ok(None) => Ok(Step::End),
-                Err(fault) => Err(fault),
+                Ok(Some(row)) => return Ok(Step::Row(row)),
+                Ok(None) => return Ok(Step::End),
+                Err(fault) => return Err(fault),
             },
-            Operator::Over(over) => over.step(alloc, desk),
+            Operator::Over(over) => return over.step(alloc, desk),
         }
     }
 }
@@ -70,15 +70,15 @@ impl<S: RowSource, T: RowStage> Over<S, T> {
         }
         match &mut *self.below {
             Operator::Source(source) => match source.next(alloc, desk) {
-                Ok(Some(row)) => self.stage.take(alloc, desk, row),
-                Ok(None) => self.stage.finish(alloc),
-                Err(fault) => Err(fault),
+                Ok(Some(row)) => return self.stage.take(alloc, desk, row),
+                Ok(None) => return self.stage.finish(alloc),
+                Err(fault) => return Err(fault),
             },
             Operator::Over(over) => match over.step(alloc, desk) {
-                Ok(Step::Row(row)) => self.stage.take(alloc, desk, row),
-                Ok(Step::Pass) => Ok(Step::Pass),
-                Ok(Step::End) => self.stage.finish(alloc),
-                Err(fault) => Err(fault),
+                Ok(Step::Row(row)) => return self.stage.take(alloc, desk, row),
+                Ok(Step::Pass) => return Ok(Step::Pass),
+                Ok(Step::End) => return self.stage.finish(alloc),
+                Err(fault) => return Err(fault),
             },
         }
     }

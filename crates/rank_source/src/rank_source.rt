@@ -86,9 +86,9 @@ impl<'s> RowSource for RankSource<'s> {
         desk: &mut Desk<D>,
     ) -> Result<Option<Answer>, PageFault> {
         match self.search.next(desk) {
-            Ok(Some(hit)) => Ok(Some(answer_of(alloc, hit))),
-            Ok(None) => Ok(None),
-            Err(fault) => Err(fault),
+            Ok(Some(hit)) => return Ok(Some(answer_of(alloc, hit))),
+            Ok(None) => return Ok(None),
+            Err(fault) => return Err(fault),
         }
     }
 

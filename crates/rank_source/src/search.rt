@@ -38,8 +38,8 @@ impl<'s> Search<'s> {
         ensures falls { Falls (steps_of self.old) (steps_of self.new) result }
     {
         match self {
-            Search::Nearest(search) => search.next(desk),
-            Search::AtZero(search) => search.next(desk),
+            Search::Nearest(search) => return search.next(desk),
+            Search::AtZero(search) => return search.next(desk),
         }
     }
 
