@@ -55,10 +55,10 @@ impl<'s, G: ShapeOf + Drop> Hierarchy for RankTree<'s, G> {
         }
         match self.pmr.visit_near(alloc, desk, node, near) {
             Ok(place) => match add_found(&self.goal, gap, node, &place, found) {
-                Ok(()) => return Ok(()),
-                Err(NoMemory {}) => return Err(PageFault::Memory),
+                Ok(()) => Ok(()),
+                Err(NoMemory {}) => Err(PageFault::Memory),
             },
-            Err(fault) => return Err(fault),
+            Err(fault) => Err(fault),
         }
     }
 
