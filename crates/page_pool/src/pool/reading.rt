@@ -34,18 +34,18 @@ impl<D: Disk> Pool<D> {
     {
         self.gets = self.gets.saturating_add(1);
         if self.staged.get(n).is_some() {
-            return match self.staged_page(n) {
-                Some(page) => Ok(page),
-                None => Err(PageFault::Memory),
-            };
+            match self.staged_page(n) {
+                Some(page) => return Ok(page),
+                None => return Err(PageFault::Memory),
+            }
         }
         if self.frames.get(n).is_some() {
-            return match self.used_page(n) {
-                Some(page) => Ok(page),
-                None => Err(PageFault::Memory),
-            };
+            match self.used_page(n) {
+                Some(page) => return Ok(page),
+                None => return Err(PageFault::Memory),
+            }
         }
-        self.read_in(n)
+        return self.read_in(n);
     }
 
     // Page `n`, which is neither staged nor in a frame, if it is live. Its get was counted.
