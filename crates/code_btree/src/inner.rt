@@ -48,9 +48,14 @@ fn low_word_at(page: &Page, at: usize) -> u64
     word_at(page, 40 + 16 * at)
 }
 
+// How far the separators of the lowest inner pages mostly stand apart where ids come in order: as many as a leaf has
+// entries once it was filled by the first part of the one behind it.
+const PACKED_LEAF: u32 = 126;
+
 // Where an id, a key below 2^32, would belong if the keys stood at equal distances, as those between ids mostly do. A
 // greater key has no such place. It looks at the low words of the keys alone, and at the low half of what is between
-// them: whatever is above those, a guess is all that it spoils.
+// them: whatever is above those, a guess is all that it spoils. The distance of packed leaves has a branch of its own,
+// since a division by a constant is a multiplication, and much quicker than one by a number that was just read.
 fn guess(page: &Page, count: usize, key: u128) -> Option<usize>
     requires { count ≤ 169 }
     ensures { IfSome result (λ at. at ≤ count) }
@@ -71,7 +76,11 @@ fn guess(page: &Page, count: usize, key: u128) -> Option<usize>
     if distance == 0 {
         return None;
     }
-    let steps = behind / distance;
+    let steps = if distance == PACKED_LEAF {
+        behind / PACKED_LEAF
+    } else {
+        behind / distance
+    };
     Some(min(steps as usize + 1, count))
 }
 

@@ -37,7 +37,7 @@ fn find_in_leaf<P: Pages>(
     let Some(count) = leaf_count(page) else {
         return Ok(None);
     };
-    Ok(find_behind(page, count, first, key))
+    return Ok(find_behind(page, count, first, key));
 }
 
 /// The value of a key under page `n`, which stands `level` above the leaves. `first` is the separator before the page, or
@@ -66,7 +66,7 @@ pub fn find_under<P: Pages>(
         place = child_at(page, at);
         left -= 1;
     }
-    find_in_leaf(pages, place, begin, key)
+    return find_in_leaf(pages, place, begin, key);
 }
 
 // The entry of the greatest key not above this one in leaf `n`: one get.

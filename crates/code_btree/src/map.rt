@@ -123,7 +123,7 @@ impl Tree {
         if self.height == 0 {
             return Err(PageFault::Memory);
         }
-        find_under(pages, self.height - 1, self.root, 1, key)
+        return find_under(pages, self.height - 1, self.root, 1, key);
     }
 
     /// The pair of the greatest key not above this one.
