@@ -136,8 +136,7 @@ impl TupleFile {
         let Some((page, slot)) = spot_of(place) else {
             return Err(PageFault::Memory);
         };
-        let value = value_at(alloc, pages, schema, page, slot, column)?;
-        Ok(value)
+        return value_at(alloc, pages, schema, page, slot, column);
     }
 
     /// The least id not below this one.

@@ -42,6 +42,8 @@ pub fn value_at<P: Pages>(
     ensures looks { Looks (P.shown pages.old) (P.shown pages.new) 1 result }
 {
     let page = pages.live_page(n)?;
-    let value = decode_value(alloc, schema, tuple_of(page, slot), column)?;
-    Ok(value)
+    match decode_value(alloc, schema, tuple_of(page, slot), column) {
+        Ok(value) => return Ok(value),
+        Err(_) => return Err(PageFault::Memory),
+    }
 }
