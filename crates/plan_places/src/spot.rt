@@ -54,7 +54,6 @@ impl<'s> Spot<'s> {
         let Some(id) = kth_id(ids, self.k) else {
             return Ok(None);
         };
-        let value = value_of(alloc, pages, self.relation, id, self.column)?;
-        Ok(value)
+        return value_of(alloc, pages, self.relation, id, self.column);
     }
 }
