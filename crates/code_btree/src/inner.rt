@@ -130,7 +130,8 @@ fn quarter(page: &Page, count: usize, low: usize, width: usize, key: u128) -> us
     }
 }
 
-// The place of the child under which a key belongs, by rounds, each of a quarter of the width of the one before.
+// The place of the child under which a key belongs, by rounds, each of a quarter of the width of the one before. A page
+// of few keys, as a root mostly is, needs only the last two.
 #[inline(never)]
 fn place_sought(page: &Page, count: usize, key: u128) -> usize
     requires { count ≤ 169 }
@@ -138,6 +139,10 @@ fn place_sought(page: &Page, count: usize, key: u128) -> usize
     ensures before { 1 ≤ result → key_in page.now (result - 1) ≤ key }
     ensures behind { result < count → key < key_in page.now result }
 {
+    if count < 16 {
+        let low = quarter(page, count, 0, 4, key);
+        return quarter(page, count, low, 1, key);
+    }
     let low = quarter(page, count, 0, 64, key);
     let low = quarter(page, count, low, 16, key);
     let low = quarter(page, count, low, 4, key);
