@@ -33,3 +33,13 @@ module _ {X : Type 0} where
   -- an item melded in behind the others is one in front of them
   pub pushed : (x : X) (xs ys : List X) → IsPermutation (xs ++ x ∷ []) ys → IsPermutation (x ∷ xs) ys
   pushed x xs ys h = IsPermutation-trans (x ∷ xs) (xs ++ x ∷ []) ys (IsPermutation-sym (xs ++ x ∷ []) (x ∷ xs) (IsPermutation-to_front xs x)) h
+
+  -- the last item of the list goes before those of the chain
+  pub handed_over : (x : X) (start rest all : List X) → IsPermutation start ((rest ++ x ∷ []) ++ all) → IsPermutation start (rest ++ (x ∷ all))
+  handed_over x start rest all kept = subst (IsPermutation start) (append_assoc rest (x ∷ []) all) kept
+
+  -- an item is taken, and those below it and the added ones become one tree
+  pub exchanged : (x : X) (added below mixed all : List X) → IsPermutation (added ++ below) mixed → IsPermutation mixed all → IsPermutation (added ++ (x ∷ below)) (x ∷ all)
+  exchanged x added below mixed all put joined =
+      IsPermutation-trans (added ++ (x ∷ below)) (x ∷ (added ++ below)) (x ∷ all) (IsPermutation-middle added x below)
+      (IsPermutation-cons x (added ++ below) all (IsPermutation-trans (added ++ below) mixed all put joined))

@@ -20,11 +20,21 @@ module _ {X : Type 0} where
       IsPermutation-trans (more ++ rest) (root ++ (p ∷ rest)) all (subst (IsPermutation (more ++ rest)) (append_assoc root (p ∷ []) rest)
       (IsPermutation-append_left rest more (root ++ (p ∷ [])) (IsPermutation-sym (root ++ (p ∷ [])) more filled))) kept
 
+  -- a spare slot takes an item whose tree goes before the others
+  pub slot_taken : (p : X) (start all rest : List X) → IsPermutation start (all ++ (p ∷ rest)) → IsPermutation start ((p ∷ all) ++ rest)
+  slot_taken p start all rest kept = IsPermutation-trans start (all ++ (p ∷ rest)) (p ∷ (all ++ rest)) kept (IsPermutation-middle all p rest)
+
   -- a slot loses its item and is spare
   pub slot_emptied : (p : X) (root spares all less : List X) → IsPermutation (root ++ spares) all → IsPermutation root (p ∷ less) → IsPermutation (less ++ (p ∷ spares)) all
   slot_emptied p root spares all less kept emptied =
       IsPermutation-trans (less ++ (p ∷ spares)) (p ∷ (less ++ spares)) all (IsPermutation-middle less p spares)
       (IsPermutation-trans (p ∷ (less ++ spares)) (root ++ spares) all (IsPermutation-append_left spares (p ∷ less) root (IsPermutation-sym root (p ∷ less) emptied)) kept)
+
+  -- a slot loses its item and is spare, before others take their items, and what is left is joined
+  pub slots_exchanged : (p : X) (below spares mixed left root : List X) → IsPermutation (below ++ (p ∷ spares)) (mixed ++ left) → IsPermutation mixed root → IsPermutation ((p ∷ below) ++ spares) (root ++ left)
+  slots_exchanged p below spares mixed left root filled joined =
+      IsPermutation-trans ((p ∷ below) ++ spares) (below ++ (p ∷ spares)) (root ++ left) (IsPermutation-sym (below ++ (p ∷ spares)) (p ∷ (below ++ spares)) (IsPermutation-middle below p spares))
+      (IsPermutation-trans (below ++ (p ∷ spares)) (mixed ++ left) (root ++ left) filled (IsPermutation-append_left left mixed root joined))
 
   -- a place goes from the front of the first list to that of the second
   pub handed_on : (p : X) (start firsts seconds : List X) → IsPermutation start ((p ∷ firsts) ++ seconds) → IsPermutation start (firsts ++ (p ∷ seconds))

@@ -1,8 +1,8 @@
-ghost use Rattle.std.specs.Prelude.{◌≡◌, ◌+◌, ◌<◌, ◌≤◌, [], ◌∷◌, length, OnOk, MatchOption, IsPermutation};
+ghost use Rattle.std.specs.Prelude.{◌≡◌, ◌+◌, ◌<◌, ◌≤◌, [], ◌∷◌, ◌++◌, length, OnOk, MatchOption, IsPermutation};
 ghost use Rattle.pair_heap.specs.Least.{IsFirst, IsLeast};
 
 use crate::release::{release, release_slabs};
-use crate::root::{as_trees, meld_in, take_least};
+use crate::root::{as_trees, meld_in, replace_least, take_least};
 use crate::slab::{SLAB_NODES, Slab, Slabs, put_slab};
 use crate::spare::{Spares, put_fresh, put_spare, take_spare};
 use crate::tree::Tree;
@@ -118,6 +118,23 @@ impl<T: Ord + Drop> PairHeap<T> {
         put_spare(&mut self.spares, slot);
         self.len -= 1;
         self.spare += 1;
+        Some(item)
+    }
+
+    /// Takes an item that no other comes before, and adds those of the list, which is empty afterwards. They are paired with
+    /// the root's children, where pushed items would hang below the new root, to be paired at the next pop. None exactly
+    /// where there is no item, and then none is added.
+    pub fn replace_first(&mut self, items: &mut Vec<T>) -> Option<T>
+        requires room { length items.old.items ≤ self.old.spare }
+        ensures items { MatchOption result ((self.old.items ≡ []) × (self.new.items ≡ [])) (λ x. IsPermutation (items.old.items ++ self.old.items) (x ∷ self.new.items)) }
+        ensures first { MatchOption result (self.old.items ≡ []) (λ x. IsFirst T.cmp x self.old.items) }
+        ensures added { MatchOption result (items.new.items ≡ items.old.items) (λ _. items.new.items ≡ []) }
+        ensures spare { MatchOption result (self.new.spare ≡ self.old.spare) (λ _. self.new.spare + length items.old.items ≡ self.old.spare + 1) }
+    {
+        let added = items.len();
+        let item = replace_least(&mut self.root, items, &mut self.spares)?;
+        self.len = self.len - 1 + added;
+        self.spare = self.spare + 1 - added;
         Some(item)
     }
 
