@@ -1,1 +1,2 @@
 pub mod KeepsFalling
+mod FirstReplaced

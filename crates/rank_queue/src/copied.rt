@@ -45,6 +45,10 @@ impl<T: Ord + Copy> Queue<T> for CopyQueue<T> {
         self.heap.pop()
     }
 
+    fn replace_first(&mut self, items: &mut Vec<T>) -> Option<T> {
+        self.heap.replace_first(items)
+    }
+
     fn len(&self) -> usize {
         self.heap.len()
     }

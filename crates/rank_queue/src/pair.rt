@@ -46,6 +46,10 @@ impl<T: Ord + Drop> Queue<T> for PairQueue<T> {
         self.heap.pop()
     }
 
+    fn replace_first(&mut self, items: &mut Vec<T>) -> Option<T> {
+        self.heap.replace_first(items)
+    }
+
     fn len(&self) -> usize {
         self.heap.len()
     }

@@ -1,4 +1,4 @@
-ghost use Rattle.std.specs.Prelude.{◌≡◌, ℕ, ◌+◌, ◌<◌, ◌≤◌, List, [], ◌∷◌, length, OnOk, MatchOption, IsPermutation};
+ghost use Rattle.std.specs.Prelude.{◌≡◌, ℕ, ◌+◌, ◌<◌, ◌≤◌, List, [], ◌∷◌, ◌++◌, length, OnOk, MatchOption, IsPermutation};
 ghost use Rattle.rank_queue.specs.Least.{IsFirst, IsLeast};
 
 use sand_base::NoMemory;
@@ -38,6 +38,22 @@ pub trait Queue<T: Ord> {
         ensures items { MatchOption result ((held self.old ≡ []) × (held self.new ≡ [])) (λ x. IsPermutation (held self.old) (x ∷ held self.new)) }
         ensures least { MatchOption result (held self.old ≡ []) (λ x. IsLeast T.cmp x (held self.new)) }
         ensures spare { MatchOption result (spare self.new ≡ spare self.old) (λ _. spare self.new ≡ spare self.old + 1) };
+
+    /// Takes an item that no other comes before, and adds those of the list, which is empty afterwards. None exactly
+    /// where there is no item, and then none is added.
+    fn replace_first(&mut self, items: &mut Vec<T>) -> Option<T>
+        requires room { length items.old.items ≤ spare self.old }
+        ensures items { MatchOption result ((held self.old ≡ []) × (held self.new ≡ [])) (λ x. IsPermutation (items.old.items ++ held self.old) (x ∷ held self.new)) }
+        ensures first { MatchOption result (held self.old ≡ []) (λ x. IsFirst T.cmp x (held self.old)) }
+        ensures added { MatchOption result (items.new.items ≡ items.old.items) (λ _. items.new.items ≡ []) }
+        ensures spare { MatchOption result (spare self.new ≡ spare self.old) (λ _. spare self.new + length items.old.items ≡ spare self.old + 1) }
+    {
+        let first = self.pop()?;
+        'items: while let Some(item) = items.pop() {
+            self.push(item);
+        }
+        Some(first)
+    }
 
     /// The number of items.
     fn len(&self) -> usize
