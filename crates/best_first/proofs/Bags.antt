@@ -1,5 +1,5 @@
 -- Lists as bags: what stands in a list, and what a flat_map and a filter do to a permutation.
-use Rattle.std.proofs.Common.{◌≡◌, ℕ, zero, suc, ◌<◌, Bool, true, false, cond, List, [], ◌∷◌, ◌++◌, length, get_or, set, swap, All, Contains, filter, flat_map, IsPermutation, ◌⊎◌, inl, inr, ⊎_elim, refl, sym, ap, ◌∙◌, subst, arith, true≢false, append_assoc}
+use Rattle.std.proofs.Common.{◌≡◌, ℕ, zero, suc, ◌<◌, ◌≤◌, Bool, true, false, cond, List, [], ◌∷◌, ◌++◌, length, get_or, set, swap, All, Contains, filter, flat_map, IsPermutation, ◌⊎◌, inl, inr, ⊎_elim, refl, sym, ap, ◌∙◌, subst, arith, true≢false, append_assoc}
 use Rattle.std.proofs.lemmas.List.{get_or_default}
 use Rattle.std.proofs.lemmas.List.Elements.{All-contains, All-contains_itself, All-nil, All-cons, All-head, All-tail, All-filter, filter_passes, filter-append, Contains-get_or, Contains-append_left, Contains-append_right, Contains-append_cases}
 use Rattle.std.proofs.lemmas.List.Sorted.{IsPermutation-refl, IsPermutation-trans, IsPermutation-append_left, IsPermutation-append_right, IsPermutation-append_comm, IsPermutation-keeps}
@@ -89,6 +89,14 @@ filter_here p x xs e = filter_all_by x (filter p xs) (p x) e
 
 pub filter_skips : {X : Type 0} (p : X → Bool) (x : X) (xs : List X) → p x ≡ false → filter p (x ∷ xs) ≡ filter p xs
 filter_skips p x xs e = filter_none_by x (filter p xs) (p x) e
+
+-- a filter leaves no more
+pub filter_short : {X : Type 0} (p : X → Bool) (xs : List X) → length (filter p xs) ≤ length xs
+filter_short p [] = omega arith
+filter_short p (x ∷ xs) =
+    let rest = filter_short p xs in
+    let go : (b : Bool) → p x ≡ b → length (filter p (x ∷ xs)) ≤ length (x ∷ xs) = elim [ true ↦ λ e. (let same = ap length (filter_here p x xs e) in omega arith) | false ↦ λ e. (let same = ap length (filter_skips p x xs e) in omega arith) ] in
+    go (p x) refl
 
 pub filter_all : {X : Type 0} (p : X → Bool) (xs : List X) → All (λ x. p x ≡ true) xs → filter p xs ≡ xs
 filter_all p [] h = refl

@@ -10,6 +10,7 @@ pub mod Replaced
 pub mod WithinReach
 pub mod Journeys
 pub mod Queues
+pub mod Removals
 pub mod Falling
 pub mod Moves
 pub mod Lifts

@@ -1,9 +1,9 @@
--- Taking what is one with the front from a queue, and queueing what lies within the ceiling.
-use Rattle.std.proofs.Common.{◌≡◌, ℕ, ◌+◌, ◌<◌, List, [], ◌∷◌, ◌++◌, length, take, get_or, filter, cond, Bool, true, false, Option, All, Contains, IsPermutation, ⊎_elim, refl, sym, ap, ◌∙◌, subst, append-nil, append_assoc, true≢false, arith, Ordering, Less, Equal, Greater}
+-- Taking what is one with the front from a queue, and queueing a row that was fetched.
+use Rattle.std.proofs.Common.{◌≡◌, ℕ, List, [], ◌∷◌, ◌++◌, true, false, Option, All, Contains, IsPermutation, ⊎_elim, refl, sym, ap, ◌∙◌, subst, append_assoc, true≢false, arith, Ordering, Less, Equal, Greater}
 use Rattle.std.specs.Ordering.{is_gt, is_eq, ordering_reverse}
 use Rattle.std.specs.Cmp.{IsTotalOrder, tied_itself, alike_right}
-use Rattle.std.proofs.lemmas.List.Elements.{All-contains, All-tail, All-append, All-nil, All-weaker, filter_more}
-use Rattle.std.proofs.lemmas.List.Sorted.{IsPermutation-refl, IsPermutation-sym, IsPermutation-trans, IsPermutation-cons, IsPermutation-append_right, IsPermutation-middle, All-permutation, Contains-permutation}
+use Rattle.std.proofs.lemmas.List.Elements.{All-contains, All-tail, All-append, All-nil, All-weaker}
+use Rattle.std.proofs.lemmas.List.Sorted.{IsPermutation-refl, IsPermutation-sym, IsPermutation-trans, IsPermutation-append_right, All-permutation, Contains-permutation}
 use Rattle.exact_frac.specs.declared.frac.Frac.{Frac}
 use Rattle.exact_frac.specs.Frac.{value_cmp}
 use Rattle.rank_queue.specs.Least.{IsFirst, IsLeast}
@@ -86,28 +86,6 @@ module _ {T : Type 0} {cmp : T → T → Ordering} (o : IsTotalOrder cmp) where
 
   pub never_empty : (front : T) (old : List T) → IsFirst cmp front old → old ≡ [] → ⊥
   never_empty front old first empty = Rattle.best_first.proofs.Bags.none front (subst (λ l. Contains l front) empty first.queued)
-
--- ---- queueing what lies within the ceiling
-
-pub push_step : {X : Type 0} (p : X → Bool) (found : List X) (i : ℕ) (x : X) (start held new : List X) → i < length found → x ≡ get_or found i x → p x ≡ true → IsPermutation (filter p (take i found) ++ start) held → IsPermutation (x ∷ held) new → IsPermutation (filter p (take (i + 1) found) ++ start) new
-push_step p found i x start held new below is passes before put =
-    let so = filter p (take i found) in
-    let grown : filter p (take (i + 1) found) ≡ so ++ x ∷ [] =
-    filter_more p found i x below
-    ∙ ap (λ l. so ++ l) (subst (λ y. cond (p y) (y ∷ []) [] ≡ x ∷ []) is (ap (λ b. cond b (x ∷ []) []) passes)) in
-    subst (λ l. IsPermutation (l ++ start) new) (sym grown)
-    (subst (λ l. IsPermutation l new) (sym (append_assoc so (x ∷ []) start))
-    (IsPermutation-trans (so ++ (x ∷ start)) (x ∷ (so ++ start)) new (IsPermutation-middle so x start)
-    (IsPermutation-trans (x ∷ (so ++ start)) (x ∷ held) new (IsPermutation-cons x (so ++ start) held before) put)))
-
-pub skip_step : {X : Type 0} (p : X → Bool) (found : List X) (i : ℕ) (x : X) (start held : List X) → i < length found → x ≡ get_or found i x → p x ≡ false → IsPermutation (filter p (take i found) ++ start) held → IsPermutation (filter p (take (i + 1) found) ++ start) held
-skip_step p found i x start held below is fails before =
-    let so = filter p (take i found) in
-    let same : filter p (take (i + 1) found) ≡ so =
-    filter_more p found i x below
-    ∙ ap (λ l. so ++ l) (subst (λ y. cond (p y) (y ∷ []) [] ≡ []) is (ap (λ b. cond b (x ∷ []) []) fails))
-    ∙ append-nil so in
-    subst (λ l. IsPermutation (l ++ start) held) (sym same) before
 
 -- ---- queueing a row that was fetched
 

@@ -8,7 +8,7 @@ ghost use Rattle.best_first.specs.Frontier.{StandsOver};
 ghost use Rattle.best_first.specs.Visits.{told_pages, state, Goes, Fails};
 ghost use Rattle.best_first.specs.Steps.{steps};
 
-use crate::push_within::push_within;
+use crate::push_within::keep_within;
 use crate::{Frontier, Hierarchy, Item};
 use exact_frac::Frac;
 use page_pool::{Desk, Disk, PageFault};
@@ -16,7 +16,7 @@ use rank_queue::Queue;
 use std::alloc::Global;
 
 // Opens the node at the front: what it finds takes its place. It empties the list and reads into it, then reserves,
-// and only then pops and pushes, so that a refusal leaves the frontier as it was.
+// and only then replaces the node, so that a refusal leaves the frontier as it was.
 pub fn open_node<H: Hierarchy, Q: Queue<Item<H::Node>>, D: Disk>(
     alloc: Global,
     hierarchy: &H,
@@ -40,10 +40,10 @@ pub fn open_node<H: Hierarchy, Q: Queue<Item<H::Node>>, D: Disk>(
     found.clear();
     hierarchy.expand_near(alloc, desk, gap, node, near, found)?;
     frontier.queue.reserve(found.len())?;
-    let Some(_opened) = frontier.queue.pop() else {
+    keep_within(hierarchy.ceiling(), found);
+    let Some(_opened) = frontier.queue.replace_first(found) else {
         return Ok(())
     };
-    push_within(&mut frontier.queue, hierarchy.ceiling(), found);
     frontier.counts.visited = frontier.counts.visited.saturating_add(1);
     Ok(())
 }

@@ -1,5 +1,6 @@
 ghost use Rattle.best_first.specs.declared.item.Item.{Item};
-ghost use Rattle.std.specs.Prelude.{[], ◌∷◌, ◌≡◌, ◌<◌, ◌≤◌, ◌^◌, ◌++◌, length, IfSome, IsPermutation};
+ghost use Rattle.std.specs.Prelude.{[], ◌∷◌, ◌≡◌, ◌<◌, ◌≤◌, ◌^◌, ◌++◌, IfSome, IsPermutation};
+ghost use Rattle.best_first.specs.Item.{gap_of};
 ghost use Rattle.best_first.specs.Reach.{within};
 ghost use Rattle.best_first.specs.Hierarchy.{kept};
 ghost use Rattle.best_first.specs.Inside.{AddsRow};
@@ -19,20 +20,18 @@ fn is_within(ceiling: Option<u32>, gap: &Frac) -> bool
     }
 }
 
-// Queues each item that is within the ceiling. Places for all of them are reserved.
-pub fn push_within<N: Ord + Copy, Q: Queue<Item<N>>>(
-    queue: &mut Q,
-    ceiling: Option<u32>,
-    found: &[Item<N>],
-)
-    requires small { IfSome ceiling (λ most. most < 2 ^ 22) }
-    requires room { length found.now ≤ Q.spare queue.old }
-    ensures { IsPermutation (kept (within ceiling) found.now ++ Q.held queue.old) (Q.held queue.new) }
+// Leaves in the list the items that are within the ceiling, which are all of them where there is no ceiling.
+pub fn keep_within<N: Ord + Copy>(ceiling: Option<u32>, found: &mut Vec<Item<N>>)
+    requires { IfSome ceiling (λ most. most < 2 ^ 22) }
+    ensures { found.new.items ≡ kept (within ceiling) found.old.items }
 {
-    for item in found {
-        if is_within(ceiling, &item.gap()) {
-            queue.push(*item);
-        }
+    if ceiling.is_some() {
+        found.retain(
+            |item|
+                requires { IfSome ceiling (λ most. most < 2 ^ 22) }
+                ensures { result ≡ within ceiling (gap_of item.now) }
+            { is_within(ceiling, &item.gap()) },
+        );
     }
 }
 
