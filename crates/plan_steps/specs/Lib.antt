@@ -4,6 +4,8 @@ pub mod Outermost
 pub mod Steps
 -- stages: what one operator does with the rows beneath it
 pub mod Stages
+-- what a stage says of a row that it looks at
+pub mod Sifts
 -- operators over operators over a source
 pub mod Following
 -- what steps pay

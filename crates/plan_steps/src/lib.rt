@@ -5,14 +5,17 @@
 //! a row that it takes, where it can. So nothing is taken ahead, and after a refusal no row is lost, and a step may be
 //! made again. Above: the plans with their real sources and stages. Below: `plan_rows`. Contracts see the rows that each
 //! operator took and gave, and that page gets are paid; read `specs/Outermost.antt` first, then `specs/Stages.antt`,
-//! `specs/Following.antt`, `specs/Steps.antt` and `specs/Paying.antt`.
+//! `specs/Sifts.antt`, `specs/Following.antt`, `specs/Steps.antt` and `specs/Paying.antt`.
 //! After G. Graefe, Query evaluation techniques for large databases (1993).
 #![tactic(auto)]
 
 mod operator;
 mod row_stage;
+mod sifted;
 mod step;
+mod take_row;
 
 pub use operator::{Operator, Over};
 pub use row_stage::RowStage;
+pub use sifted::Sifted;
 pub use step::Step;

@@ -11,6 +11,7 @@ ghost use Rattle.plan_steps.specs.Following.{Follows, IsOver, steps_of};
 ghost use Rattle.plan_steps.specs.Paying.{GoesPaid, prices};
 ghost use Rattle.plan_steps.specs.Steps.{Lowers};
 
+use crate::take_row::take_row;
 use crate::{RowStage, Step};
 use page_pool::{Desk, Disk, PageFault};
 use plan_rows::RowSource;
@@ -70,12 +71,12 @@ impl<S: RowSource, T: RowStage> Over<S, T> {
         }
         match &mut *self.below {
             Operator::Source(source) => match source.next(alloc, desk) {
-                Ok(Some(row)) => return self.stage.take(alloc, desk, row),
+                Ok(Some(row)) => return take_row(&mut self.stage, alloc, desk, row),
                 Ok(None) => return self.stage.finish(alloc),
                 Err(fault) => return Err(fault),
             },
             Operator::Over(over) => match over.step(alloc, desk) {
-                Ok(Step::Row(row)) => return self.stage.take(alloc, desk, row),
+                Ok(Step::Row(row)) => return take_row(&mut self.stage, alloc, desk, row),
                 Ok(Step::Pass) => return Ok(Step::Pass),
                 Ok(Step::End) => return self.stage.finish(alloc),
                 Err(fault) => return Err(fault),

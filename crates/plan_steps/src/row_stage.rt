@@ -1,4 +1,4 @@
-ghost use Rattle.std.specs.Prelude.{◌≡◌, ◌<◌, ◌+◌, ◌≤◌, min, ℕ, Bool, true, false, List, [], ◌∷◌, ◌++◌, IfSome, IfErr};
+ghost use Rattle.std.specs.Prelude.{Ok, ◌≡◌, ◌<◌, ◌+◌, ◌≤◌, min, ℕ, Bool, true, false, List, [], ◌∷◌, ◌++◌, IfSome, IfErr};
 ghost use Rattle.sand_base.specs.Faults.{last_count};
 ghost use Rattle.page_pool.specs.Causes.{HasPageCause, IsMemory};
 ghost use Rattle.page_pool.specs.Disk.{PageMap};
@@ -11,10 +11,11 @@ ghost use Rattle.best_first.specs.Visits.{told_pages};
 ghost use Rattle.plan_rows.specs.Prices.{unless_refused};
 ghost use Rattle.plan_rows.specs.Rows.{row_of};
 ghost use Rattle.plan_steps.specs.Outermost.{beneath};
+ghost use Rattle.plan_steps.specs.Sifts.{IfDone, LooksPaid};
 ghost use Rattle.plan_steps.specs.Stages.{Standing, Works, Finishes, IsOutermost, GivesFront, OpensLate, ClosedWaits, Rises, IsDry};
 ghost use Rattle.plan_steps.specs.Steps.{Lowers, GoesOn};
 
-use crate::Step;
+use crate::{Sifted, Step};
 use page_pool::{Desk, Disk, PageFault};
 use plan_rows::Answer;
 use std::alloc::Global;
@@ -80,31 +81,25 @@ pub trait RowStage: Drop {
         ensures price { price self.new ≡ price self.old }
         ensures costs { IfSome (told_pages desk.old) (λ pages. (d : Database) (p : Plan) (taken given : List PlanRow) → Stands self.old pages d p taken given → desk.new.pool.gets + unless_refused result (owed self.new pages d p) ≤ desk.old.pool.gets + owed self.old pages d p) };
 
-    /// Takes the next row, and works on it at once where it can. After a refusal the row is taken.
-    fn take<D: Disk>(
-        &mut self,
+    /// Looks at the next row before it is taken. Where it is lost, or given as it is, the stage is done with it; where
+    /// it is wanted, nothing was done. After a refusal the row is to be held.
+    fn sift<D: Disk>(
+        &self,
         alloc: Global,
         desk: &mut Desk<D>,
-        row: Answer,
-    ) -> Result<Step, PageFault>
-        requires free { waits self.old ≡ false }
-        requires stands { IfSome (told_pages desk.old) (λ pages. (d : Database) × ((p : Plan) × ((taken : List PlanRow) × ((given : List PlanRow) × Stands self.old pages d p taken given)))) }
+        row: &Answer,
+    ) -> Result<Sifted, PageFault>
+        requires free { waits self.now ≡ false }
+        requires stands { IfSome (told_pages desk.old) (λ pages. (d : Database) × ((p : Plan) × ((taken : List PlanRow) × ((given : List PlanRow) × Stands self.now pages d p taken given)))) }
         ensures read { IsRead desk.old.pool desk.new.pool }
         ensures log { desk.new.visits ≡ desk.old.visits }
         ensures up { min desk.old.pool.gets last_count ≤ desk.new.pool.gets }
         ensures cause { HasPageCause desk.old.pool desk.new.pool result }
-        ensures falls { (m n : ℕ) → m < n → Lowers (steps self.old n) (steps self.new m) result }
-        ensures closed { closed self.new ≡ closed self.old }
-        ensures step { IfSome (told_pages desk.old) (λ pages. (d : Database) (p : Plan) (taken given : List PlanRow) → Stands self.old pages d p taken given → Works d p (taken ++ row_of row ∷ []) given (closed self.new) result (Stands self.new pages d p (taken ++ row_of row ∷ []))) }
-        ensures price { price self.new ≡ price self.old }
-        ensures costs { IfSome (told_pages desk.old) (λ pages. (d : Database) (p : Plan) (taken given : List PlanRow) → Stands self.old pages d p taken given → desk.new.pool.gets + unless_refused result (owed self.new pages d p) ≤ desk.old.pool.gets + price self.old pages d p (row_of row)) }
+        ensures step { IfSome (told_pages desk.old) (λ pages. (d : Database) (p : Plan) (taken given : List PlanRow) → Stands self.now pages d p taken given → IfDone row.now result (λ made. Works d p (taken ++ row_of row.now ∷ []) given (closed self.now) made (Stands self.now pages d p (taken ++ row_of row.now ∷ [])))) }
+        ensures still { result ≡ Ok Sifted.Wanted → desk.new ≡ desk.old }
+        ensures costs { IfSome (told_pages desk.old) (λ pages. (d : Database) (p : Plan) (taken given : List PlanRow) → Stands self.now pages d p taken given → LooksPaid result desk.old.pool.gets desk.new.pool.gets (owed self.now pages d p) (price self.now pages d p (row_of row.now))) }
     {
-        self.hold(row);
-        if self.is_busy() {
-            self.work(alloc, desk)
-        } else {
-            Ok(Step::Pass)
-        }
+        Ok(Sifted::Wanted)
     }
 
     ghost outermost: { IsOutermost Stands };

@@ -24,7 +24,7 @@ returns-then-is_busy-clause-step g t c =
 
 pub returns-in-Ok-Some-clause-falls : goal.returns-in-Ok-Some-clause-falls
 returns-in-Ok-Some-clause-falls g t c =
-    c.take.ensures.falls (g.S.RowSource.steps c.next.new.self) (steps_of g.S.RowSource.steps g.T.RowStage.steps c.args.self.now.below.value)
+    c.take_row.ensures.falls (g.S.RowSource.steps c.next.new.self) (steps_of g.S.RowSource.steps g.T.RowStage.steps c.args.self.now.below.value)
     (subst (λ o. g.S.RowSource.steps c.next.new.self < steps_of g.S.RowSource.steps g.T.RowStage.steps o) (sym c.in-Source.is ∙ c.deref_mut.ensures.value)
     (subst (λ r. Falls (g.S.RowSource.steps c.in-Source.source) (g.S.RowSource.steps c.next.new.self) r) (c.in-Ok-Some.is ∙ ap Ok c.in-Ok-Some.field-0-is) c.next.ensures.falls))
 
@@ -35,8 +35,8 @@ returns-in-Ok-Some-clause-step g t c =
     (source_told g.S.RowSource.At g.T.RowStage.Stands g.T.RowStage.closed (prices g.S.RowSource.heights g.S.RowSource.step_price g.S.RowSource.owed g.T.RowStage.price g.T.RowStage.owed) (λ s. counts_of (g.S.RowSource.seen s)) (told_pages c.args.desk.now) c.args.desk.now c.next.new.desk
     c.args.self.now.below.value c.in-Source.source c.next.new.self c.next.result (Ok (Row c.in-Ok-Some.row)) (sym c.deref_mut.ensures.value ∙ c.in-Source.is)
     (ap as_step (c.in-Ok-Some.is ∙ ap Ok c.in-Ok-Some.field-0-is)) c.next.ensures.heights c.next.ensures.step_price c.next.ensures.step c.next.ensures.costs)
-    g.met.T.RowStage.front g.met.T.RowStage.late c.take.new.desk c.take.result c.in-Ok-Some.row c.take.new.self refl c.take.ensures.closed c.take.ensures.price c.take.ensures.log c.take.ensures.up
-    (told_pages c.next.new.desk) (same_told c.args.desk.now c.next.new.desk c.next.ensures.read) c.take.ensures.step c.take.ensures.costs
+    g.met.T.RowStage.front g.met.T.RowStage.late c.take_row.new.desk c.take_row.result c.in-Ok-Some.row c.take_row.new.stage refl c.take_row.ensures.closed c.take_row.ensures.price c.take_row.ensures.log c.take_row.ensures.up
+    (told_pages c.next.new.desk) (same_told c.args.desk.now c.next.new.desk c.next.ensures.read) c.take_row.ensures.step c.take_row.ensures.costs
 
 pub returns-in-Ok-None-clause-falls : goal.returns-in-Ok-None-clause-falls
 returns-in-Ok-None-clause-falls g t c =
@@ -64,7 +64,7 @@ returns-in-Err-clause-step g t c =
 
 pub returns-in-Ok-Row-clause-falls : goal.returns-in-Ok-Row-clause-falls
 returns-in-Ok-Row-clause-falls g t c =
-    c.take-in-Ok-Row.ensures.falls (steps_of g.S.RowSource.steps g.T.RowStage.steps (operator.Over c.step.new.self)) (steps_of g.S.RowSource.steps g.T.RowStage.steps c.args.self.now.below.value)
+    c.take_row-in-Ok-Row.ensures.falls (steps_of g.S.RowSource.steps g.T.RowStage.steps (operator.Over c.step.new.self)) (steps_of g.S.RowSource.steps g.T.RowStage.steps c.args.self.now.below.value)
     (subst (λ o. steps_of g.S.RowSource.steps g.T.RowStage.steps (operator.Over c.step.new.self) < steps_of g.S.RowSource.steps g.T.RowStage.steps o) (sym c.in-Over.is ∙ c.deref_mut.ensures.value)
     (subst (λ r. Lowers (steps_of g.S.RowSource.steps g.T.RowStage.steps (operator.Over c.in-Over.over)) (steps_of g.S.RowSource.steps g.T.RowStage.steps (operator.Over c.step.new.self)) r) (c.in-Ok-Row.is ∙ ap Ok c.in-Ok-Row.field-0-is) c.step.ensures.falls))
 
@@ -74,8 +74,8 @@ returns-in-Ok-Row-clause-step g t c =
     c.args.self.now.below.value (operator.Over c.step.new.self) (is_open g.T.RowStage.closed g.T.RowStage.waits g.met.T.RowStage.closed_waits c.args.self.now.stage (sym c.is_busy.ensures.busy ∙ c.if-is_busy.false)) (c.is_busy.ensures.dry c.if-is_busy.false)
     (subst (λ o. IfSome (told_pages c.args.desk.now) (GoesPaid g.S.RowSource.At g.T.RowStage.Stands g.T.RowStage.closed (prices g.S.RowSource.heights g.S.RowSource.step_price g.S.RowSource.owed g.T.RowStage.price g.T.RowStage.owed) (λ s. counts_of (g.S.RowSource.seen s)) o (operator.Over c.step.new.self) c.args.desk.now c.step.new.desk c.step.result))
     (sym c.in-Over.is ∙ c.deref_mut.ensures.value) c.step.ensures.step)
-    g.met.T.RowStage.front g.met.T.RowStage.late c.take-in-Ok-Row.new.desk c.take-in-Ok-Row.result c.in-Ok-Row.row c.take-in-Ok-Row.new.self (c.in-Ok-Row.is ∙ ap Ok c.in-Ok-Row.field-0-is) c.take-in-Ok-Row.ensures.closed c.take-in-Ok-Row.ensures.price c.take-in-Ok-Row.ensures.log c.take-in-Ok-Row.ensures.up
-    (told_pages c.step.new.desk) (same_told c.args.desk.now c.step.new.desk c.step.ensures.read) c.take-in-Ok-Row.ensures.step c.take-in-Ok-Row.ensures.costs
+    g.met.T.RowStage.front g.met.T.RowStage.late c.take_row-in-Ok-Row.new.desk c.take_row-in-Ok-Row.result c.in-Ok-Row.row c.take_row-in-Ok-Row.new.stage (c.in-Ok-Row.is ∙ ap Ok c.in-Ok-Row.field-0-is) c.take_row-in-Ok-Row.ensures.closed c.take_row-in-Ok-Row.ensures.price c.take_row-in-Ok-Row.ensures.log c.take_row-in-Ok-Row.ensures.up
+    (told_pages c.step.new.desk) (same_told c.args.desk.now c.step.new.desk c.step.ensures.read) c.take_row-in-Ok-Row.ensures.step c.take_row-in-Ok-Row.ensures.costs
 
 pub returns-in-Ok-Pass-clause-step : goal.returns-in-Ok-Pass-clause-step
 returns-in-Ok-Pass-clause-step g t c =
