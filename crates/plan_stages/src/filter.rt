@@ -6,7 +6,7 @@ use crate::SpotTest;
 use crate::tests::passes_all;
 use page_pool::{Desk, Disk, PageFault};
 use plan_rows::Answer;
-use plan_steps::{RowStage, Step};
+use plan_steps::{RowStage, Sifted, Step};
 use std::alloc::Global;
 
 /// `filter`: the rows that pass all tests. It holds a row until its tests are read.
@@ -69,19 +69,17 @@ impl<'s> RowStage for Filter<'s> {
         }
     }
 
-    fn take<D: Disk>(
-        &mut self,
+    #[inline]
+    fn sift<D: Disk>(
+        &self,
         alloc: Global,
         desk: &mut Desk<D>,
-        row: Answer,
-    ) -> Result<Step, PageFault> {
+        row: &Answer,
+    ) -> Result<Sifted, PageFault> {
         match passes_all(alloc, desk.pages(), &self.tests, row.ids.as_slice()) {
-            Ok(true) => return Ok(Step::Row(row)),
-            Ok(false) => return Ok(Step::Pass),
-            Err(fault) => {
-                self.held = Some(row);
-                return Err(fault);
-            }
+            Ok(true) => return Ok(Sifted::Given),
+            Ok(false) => return Ok(Sifted::Lost),
+            Err(fault) => return Err(fault),
         }
     }
 

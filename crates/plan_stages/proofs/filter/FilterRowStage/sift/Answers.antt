@@ -3,7 +3,7 @@ use Rattle.std.proofs.Common.{List, subst, sym}
 use Rattle.plan_stages.specs.Tests.{TestsStand}
 use Rattle.plan_stages.specs.declared.tests.SpotTest.{SpotTest}
 use Rattle.plan_stages.proofs.Ready.{filter_ready}
-use Rattle.plan_stages.proofs.filter.FilterRowStage.take.Goals as goal
+use Rattle.plan_stages.proofs.filter.FilterRowStage.sift.Goals as goal
 
 pub passes_all-requires : goal.passes_all-requires
 passes_all-requires g c = record {
