@@ -12,8 +12,10 @@ use Rattle.plan_rows.specs.Prices.{unless_refused}
 use Rattle.plan_rows.specs.Rows.{row_of}
 use Rattle.plan_rows.specs.declared.answer.Answer.{Answer}
 use Rattle.plan_steps.specs.Outermost.{beneath}
+use Rattle.plan_steps.specs.Sifts.{IfDone, LooksPaid}
 use Rattle.plan_steps.specs.Stages.{Works, Finishes, IsDry}
 use Rattle.plan_steps.specs.Steps.{Lowers}
+use Rattle.plan_steps.specs.declared.sifted.Sifted.{Sifted}
 use Rattle.plan_steps.specs.declared.step.Step.{Step}
 use Rattle.plan_ops.specs.Stages.{StageStands, is_closed, stage_steps, stage_price, stage_owed}
 use Rattle.plan_ops.specs.declared.stage.Stage.{Stage}
@@ -63,18 +65,15 @@ WorksPaying desk later after result s =
     IfSome (told_pages desk) (λ pages. (d : Database) (p : Plan) (taken given : List PlanRow) → StageStands s pages d p taken given
     → later.pool.gets + unless_refused result (stage_owed after pages d p) ≤ desk.pool.gets + stage_owed s pages d p)
 
-abbrev pub TakesFalling : Stage → Result Step PageFault → Stage → Type 0
-TakesFalling after result s = (m n : ℕ) → m < n → Lowers (stage_steps s n) (stage_steps after m) result
-
-abbrev pub Took : DeskState → Stage → Result Step PageFault → Answer → Stage → Type 0
-Took desk after result row s =
+abbrev pub Said : DeskState → Result Sifted PageFault → Answer → Stage → Type 0
+Said desk result row s =
     IfSome (told_pages desk) (λ pages. (d : Database) (p : Plan) (taken given : List PlanRow) → StageStands s pages d p taken given
-    → Works d p (taken ++ row_of row ∷ []) given (is_closed after) result (StageStands after pages d p (taken ++ row_of row ∷ [])))
+    → IfDone row result (λ made. Works d p (taken ++ row_of row ∷ []) given (is_closed s) made (StageStands s pages d p (taken ++ row_of row ∷ []))))
 
-abbrev pub TakesPaying : DeskState → DeskState → Stage → Result Step PageFault → Answer → Stage → Type 0
-TakesPaying desk later after result row s =
+abbrev pub SaysPaying : DeskState → DeskState → Result Sifted PageFault → Answer → Stage → Type 0
+SaysPaying desk later result row s =
     IfSome (told_pages desk) (λ pages. (d : Database) (p : Plan) (taken given : List PlanRow) → StageStands s pages d p taken given
-    → later.pool.gets + unless_refused result (stage_owed after pages d p) ≤ desk.pool.gets + stage_price s pages d p (row_of row))
+    → LooksPaid result desk.pool.gets later.pool.gets (stage_owed s pages d p) (stage_price s pages d p (row_of row)))
 
 -- the stage that it is
 pub of_kind : (X : Stage → Type 0) (s kind : Stage) → s ≡ kind → X kind → X s

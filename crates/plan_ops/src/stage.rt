@@ -3,7 +3,7 @@ ghost use Rattle.plan_ops.specs.Stages.{StageStands, stage_waits, is_closed, sta
 use page_pool::{Desk, Disk, PageFault};
 use plan_rows::Answer;
 use plan_stages::{Fetch, Filter, First, Match};
-use plan_steps::{RowStage, Step};
+use plan_steps::{RowStage, Sifted, Step};
 use sort_stages::{SortBy, SortNear};
 use std::alloc::Global;
 
@@ -75,19 +75,16 @@ impl<'s> RowStage for Stage<'s> {
         }
     }
 
-    fn take<D: Disk>(
-        &mut self,
+    #[inline]
+    fn sift<D: Disk>(
+        &self,
         alloc: Global,
         desk: &mut Desk<D>,
-        row: Answer,
-    ) -> Result<Step, PageFault> {
+        row: &Answer,
+    ) -> Result<Sifted, PageFault> {
         match self {
-            Stage::First(stage) => return stage.take(alloc, desk, row),
-            Stage::Filter(stage) => return stage.take(alloc, desk, row),
-            Stage::Fetch(stage) => return stage.take(alloc, desk, row),
-            Stage::Match(stage) => return stage.take(alloc, desk, row),
-            Stage::SortBy(stage) => return stage.take(alloc, desk, row),
-            Stage::SortNear(stage) => return stage.take(alloc, desk, row),
+            Stage::Filter(stage) => return stage.sift(alloc, desk, row),
+            _ => return Ok(Sifted::Wanted),
         }
     }
 
