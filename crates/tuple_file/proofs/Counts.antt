@@ -63,7 +63,8 @@ place_is v n slot h k = omega (arith, h, k)
 pub find_past : (k : ℕ) (e : Pair) (es : List Pair) (o : Option ℕ) → e.0 ≢ k → find_item k (e ∷ es) ≡ o → find_item k es ≡ o
 find_past k e es o n h = elim (eqb_tells e.0 k) [ inl y ↦ absurd (n y.1) | inr y ↦ sym (ap (λ (b : Bool). cond b (Some e.1) (find_item k es)) y.0) ∙ h ]
 
-find_first : (k : ℕ) (e : Pair) (es : List Pair) (o : Option ℕ) → e.0 ≡ k → find_item k (e ∷ es) ≡ o → Some e.1 ≡ o
+-- and the first one's is found there
+pub find_first : (k : ℕ) (e : Pair) (es : List Pair) (o : Option ℕ) → e.0 ≡ k → find_item k (e ∷ es) ≡ o → Some e.1 ≡ o
 find_first k e es o n h = elim (eqb_tells e.0 k) [ inl y ↦ sym (ap (λ (b : Bool). cond b (Some e.1) (find_item k es)) y.0) ∙ h | inr y ↦ absurd (y.1 n) ]
 
 pub none_some : {A : Type 0} (x : A) → Some x ≡ None → ⊥

@@ -1,5 +1,5 @@
 -- A row that is fetched, a value of it, and the least id.
-use Rattle.std.proofs.Common.{◌≡◌, ℕ, List, refl, sym, ◌∙◌, ap, subst}
+use Rattle.std.proofs.Common.{◌≡◌, ℕ, ◌+◌, ◌-◌, ◌*◌, ◌<◌, ◌≤◌, List, get_or, arith, refl, sym, ◌∙◌, ap, ap₂, subst}
 use Rattle.std.specs.Prelude.{Option, None, Some, option_map, IfSome, MatchOption}
 use Rattle.sand_base.specs.declared.kind.Kind.{Kind}
 use Rattle.sand_base.specs.declared.value.Value.{Value}
@@ -12,7 +12,11 @@ use Rattle.tuple_file.specs.Page.{tuple_at}
 use Rattle.tuple_file.specs.Rows.{of_id, least_from}
 use Rattle.tuple_file.specs.File.{bytes_of, page_of, slot_of, tuple_of, file_rows}
 use Rattle.tuple_file.specs.Calls.{IsDecoded, IsRowAt, IsValueAt}
-use Rattle.tuple_file.proofs.Counts.{none_some}
+use Rattle.tuple_file.specs.declared.span.Span.{Span}
+use Rattle.tuple_file.specs.Spans.{Lies, AreKnown, span_of}
+use Rattle.tuple_file.proofs.Counts.{none_some, page_back, slot_back}
+use Rattle.tuple_file.proofs.Pastes.{tuple_in}
+use Rattle.code_btree.specs.Bytes.{piece}
 use Rattle.tuple_file.proofs.Lists.{tuples_find, tuples_least}
 use Rattle.tuple_file.proofs.Houses.{tuple_here}
 
@@ -75,3 +79,19 @@ value_absent_by schema m f id key column place ek e is =
     let none : Option Value = None in
     let P : Option (List ℕ) → Type 0 = λ o. MatchOption o (none ≡ None) (λ bytes. IsValueIn schema bytes column none) in
     subst P (sym (bytes_absent m f id (sym is ∙ (e ∙ ap (λ (k : ℕ). find_item k (tree_items m f.tree)) ek)))) refl
+
+-- and of an id of which it is known where its tuple lies
+pub value_placed : (schema : List (List ℕ × Kind)) (m : Store) (f : TupleFile) (spans : List ℕ) (id column : ℕ) (span : Span) (found : Option Value) → AreKnown m f spans → 1 ≤ id → 1 ≤ get_or spans (id - 1) 0
+    → span ≡ span_of (get_or spans (id - 1) 0) → IsValueIn schema (piece span.length span.start (bytes_of (m span.page))) column found → IsValueAt schema (file_rows m f) id column found
+value_placed schema m f spans id column span found known l k e h =
+    let same : id - 1 + 1 ≡ id = omega (arith, l) in
+    let P : ℕ → Type 0 = λ i. Lies m f i (span_of (get_or spans (id - 1) 0)) in
+    let Q : Span → Type 0 = λ s. Lies m f id s in
+    let at : Lies m f id span = subst Q (sym e) (subst P same (known (id - 1) k)) in
+    let page : List ℕ = bytes_of (m span.page) in
+    let small : at.slot < 65536 = omega (arith, at.has.there) in
+    let here : of_id id (file_rows m f) ≡ Some (tuple_at page at.slot) =
+    bytes_here m f id (span.page * 65536 + at.slot) span.page at.slot (sym at.leads) (sym (page_back span.page at.slot small)) (sym (slot_back span.page at.slot small)) in
+    let tuple : tuple_at page at.slot ≡ piece span.length span.start page = tuple_in page at.slot at.has.there ∙ ap₂ (λ (w a : ℕ). piece w a page) at.has.length_is at.has.start_is in
+    let V : Option (List ℕ) → Type 0 = λ o. MatchOption o (found ≡ None) (λ bytes. IsValueIn schema bytes column found) in
+    subst V (sym (here ∙ ap (λ (b : List ℕ). Some b) tuple)) h

@@ -1,17 +1,18 @@
 -- A file's pages, counted; its live pages; what it is where its pages stay.
-use Rattle.std.proofs.Common.{◌≡◌, ℕ, zero, suc, ◌+◌, ◌≤◌, ◌⊎◌, Bool, true, false, cond, List, [], ◌++◌, take, drop, min, refl, sym, ◌∙◌, ap, ap₂, subst, inl, inr, arith}
+use Rattle.std.proofs.Common.{◌≡◌, ℕ, zero, suc, ◌+◌, ◌*◌, ◌<◌, ◌≤◌, ◌⊎◌, Bool, true, false, cond, List, [], ◌++◌, take, drop, min, refl, sym, ◌∙◌, ap, ap₂, subst, inl, inr, arith}
 use Rattle.std.specs.Prelude.{Option, None, Some, nat_lt}
 use Rattle.std.proofs.lemmas.Bool.Decides.{leb_tells}
 use Rattle.code_btree.specs.Bytes.{piece}
 use Rattle.code_btree.specs.Node.{Pair}
+use Rattle.code_btree.specs.Items.{find_item}
 use Rattle.code_btree.specs.Tree.{Store, same, times, live, tree_items, tree_pages}
 use Rattle.code_btree.proofs.Lists.{same_cases, live_small, live_none, none_live, live_same, times-append}
 use Rattle.code_btree.proofs.Frame.{frame}
 use Rattle.tuple_file.specs.declared.file.TupleFile.{TupleFile}
-use Rattle.tuple_file.specs.Page.{IsTuples, slot_count, place_in, length_in, tuple_at, some}
+use Rattle.tuple_file.specs.Page.{IsTuples, HasAt, slot_count, place_in, length_in, tuple_at, some}
 use Rattle.tuple_file.specs.File.{bytes_of, page_of, slot_of, tuple_of, tuples, places, homes, once, file_pages, IsFile}
 use Rattle.tuple_file.specs.Calls.{Unmoved}
-use Rattle.tuple_file.proofs.Counts.{times-once, times-up}
+use Rattle.tuple_file.proofs.Counts.{times-once, times-up, found_leads, page_back}
 use Rattle.tuple_file.proofs.Lists.{tuples_same}
 
 pub by_test : {A : Type 0} (b : Bool) → (b ≡ false → A) → (b ≡ true → A) → A
@@ -84,6 +85,10 @@ led_all m f n h g v e = elim (leb_tells 1 (times n (homes (tree_items m f.tree))
 pub owns_then : (m w : Store) (before after : List ℕ) → ((q : ℕ) → times q before ≤ live m q) → ((q : ℕ) → live w q + times q before ≡ live m q + times q after) → (q : ℕ) → times q after ≤ live w q
 owns_then m w before after o h q = omega (arith, o q, h q)
 
+-- a page to a slot of which an id leads is one of the file
+pub leads_home : (es : List Pair) (i page slot : ℕ) → slot < 65536 → find_item i es ≡ Some (page * 65536 + slot) → 1 ≤ times page (homes es)
+leads_home es i page slot small h = omega (arith, found_leads i (page * 65536 + slot) es h, times-up (page * 65536 + slot) es, ap (λ (k : ℕ). times k (homes es)) (page_back page slot small))
+
 -- a file depends only on its own pages
 pub unmoved : (m w : Store) (f : TupleFile) → ((q : ℕ) → 1 ≤ times q (file_pages m f) → w q ≡ m q) → Unmoved m w f
 unmoved m w f h =
@@ -95,6 +100,13 @@ unmoved m w f h =
     record {
       rows = ap (λ (xs : List Pair). tuples w xs) t.items ∙ tuples_same m w es (λ v l. tuple_same m w v (home (page_of v) (omega (arith, l, times-up v es))));
       pages = pages;
+      stay = λ i span l.
+          let R : Option (List ℕ) → Type 0 = λ o. HasAt (bytes_of o) l.slot span.start span.length in
+          record {
+            slot = l.slot;
+            leads = ap (λ (xs : List Pair). find_item i xs) t.items ∙ l.leads;
+            has = subst R (sym (home span.page (leads_home es i span.page l.slot (omega (arith, l.has.there)) l.leads))) l.has;
+          };
       file = λ i. record {
         tree = t.tree i.tree;
         owns = λ q. elim (leb_tells 1 (times q (file_pages m f))) [

@@ -3,8 +3,9 @@ pub mod Pastes
 -- places, pages and ids, counted and listed
 pub mod Counts
 pub mod Lists
--- a file and its pages
+-- a file and its pages, and the places to which ids lead
 pub mod Houses
+pub mod Leads
 -- the writing calls
 pub mod Settles
 pub mod Puts

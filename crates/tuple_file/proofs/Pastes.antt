@@ -111,7 +111,7 @@ tuple_same : (p q : List ℕ) (i : ℕ) → i < slot_count p → i < slot_count 
 tuple_same p q i hp hq place length_same same =
     tuple_in q i hq ∙ (ap₂ (λ (w a : ℕ). piece w a q) length_same place ∙ (same ∙ sym (tuple_in p i hp)))
 
-pub added : (p q bytes : List ℕ) (slot place : ℕ) → slot ≡ slot_count p → place + length bytes ≡ low p → HasRoom p (length bytes) → Made p q bytes slot place → IsTuples p → Added p q bytes slot
+pub added : (p q bytes : List ℕ) (slot place : ℕ) → slot ≡ slot_count p → place + length bytes ≡ low p → HasRoom p (length bytes) → Made p q bytes slot place → IsTuples p → Added p q bytes slot place
 added p q bytes slot place es ep room m h =
     let few : slot < 1022 = omega (arith, room.0, room.1) in
     let count : slot_count q ≡ suc slot = omega (arith, m.count) in
@@ -139,6 +139,10 @@ added p q bytes slot place es ep room m h =
         | inl x ↦ tuple_same p q i (omega (arith, x.1)) (omega (arith, count, x.1)) (m.places i x.1) (m.lengths i x.1) (m.above (length_in p i) (place_in p i) (omega (arith, (h.within i (omega (arith, x.1))).0)))
         | inr x ↦ let far : suc slot ≤ i = omega (arith, x.1, n) in tuple_out q i (omega (arith, count)) ∙ sym (tuple_out p i (omega arith))
       ];
+      has = record { there = omega (arith, count); start_is = m.place_is; length_is = m.length_is };
+      stays = λ i at many has.
+          let below : i < slot = omega (arith, has.there, es) in
+          record { there = omega (arith, below, count); start_is = m.places i below ∙ has.start_is; length_is = m.lengths i below ∙ has.length_is };
     }
 
 pub cleared : (p q : List ℕ) (slot from : ℕ) → slot < slot_count p → from ≡ slot → q ≡ pasted p (10 + 4 * from) (half_bytes 0) → IsTuples p → Cleared p q slot
@@ -172,11 +176,12 @@ cleared p q slot from l ef ep h =
             (apart (length_in p i) (place_in p i) p q at b e h.size fits (inr (omega (arith, (h.within i x.1).0, table, n))))
         | inr x ↦ tuple_out q i (omega (arith, count, x.1)) ∙ sym (tuple_out p i (omega (arith, x.1)))
       ];
+      stays = λ i at many d has. record { there = omega (arith, has.there, count); start_is = places i ∙ has.start_is; length_is = lengths i d ∙ has.length_is };
     }
 
 -- no such slot: nothing is to be done
 pub cleared_none : (p : List ℕ) (slot : ℕ) → slot_count p ≤ slot → IsTuples p → Cleared p p slot
-cleared_none p slot l h = record { sound = h; here = tuple_out p slot l; others = λ i d. refl }
+cleared_none p slot l h = record { sound = h; here = tuple_out p slot l; others = λ i d. refl; stays = λ i at many d has. has }
 
 pub bare_by : (p : List ℕ) → ((i : ℕ) → i < slot_count p → length_in p i ≡ 0) → (i : ℕ) → tuple_at p i ≡ []
 bare_by p h i = elim (leb_tells (suc i) (slot_count p)) [
@@ -199,7 +204,7 @@ tuple_left p i l n h =
 pub added_by : (p q r s t bytes : List ℕ) (slot lowest from from' here size count : ℕ) → slot ≡ slot_count p → lowest ≡ low p → HasRoom p (length bytes)
     → from ≡ slot → from' ≡ slot → here ≡ lowest - length bytes → size ≡ length bytes → count ≡ slot + 1
     → q ≡ pasted p (lowest - length bytes) bytes → r ≡ pasted q (8 + 4 * from) (half_bytes here) → s ≡ pasted r (10 + 4 * from') (half_bytes size) → t ≡ pasted s 2 (half_bytes count)
-    → IsTuples p → Added p t bytes slot
+    → IsTuples p → Added p t bytes slot (lowest - length bytes)
 added_by p q r s t bytes slot lowest from from' here size count es el room ef ef' eh ez ec eq er es' et h =
     let few : slot < 1022 = omega (arith, room.0, room.1, es) in
     let least : 8 + 4 * (slot + 1) ≤ lowest - length bytes = omega (arith, room.0, es, el) in
@@ -217,6 +222,11 @@ zeros = replicate 4096 0
 zero_count : half_of (piece 2 2 (pasted zeros 0 (3 ∷ []))) ≡ 0
 unfolding half_of
 zero_count = refl
+
+-- no page has a slot
+pub no_slot : slot_count [] ≡ 0
+unfolding half_of
+no_slot = refl
 
 -- a page of zeros but for the kind
 pub blank_is : (q : List ℕ) → q ≡ pasted (replicate 4096 0) 0 (3 ∷ []) → IsBlank q

@@ -13,21 +13,24 @@ use Rattle.code_btree.proofs.Orders.{lt_is, lt_not, eq_is, eq_not}
 use Rattle.code_btree.proofs.Roots.{keeps_of}
 use Rattle.code_btree.proofs.Frame.{frame}
 use Rattle.tuple_file.specs.declared.file.TupleFile.{TupleFile}
-use Rattle.tuple_file.specs.Page.{IsTuples, some, Added}
+use Rattle.tuple_file.specs.Page.{IsTuples, HasAt, some, Added}
 use Rattle.tuple_file.specs.Rows.{of_id, with_id}
 use Rattle.tuple_file.specs.File.{bytes_of, page_of, slot_of, tuple_of, tuples, places, homes, file_rows, file_pages, IsHoused, IsFile}
 use Rattle.tuple_file.specs.Calls.{Planted, Put}
+use Rattle.tuple_file.specs.Spans.{Lies}
 use Rattle.tuple_file.specs.Steps.{Settled}
 use Rattle.tuple_file.proofs.Counts.{times-up, times-put, page_back, slot_back, place_is, some_same, none_some}
 use Rattle.tuple_file.proofs.Lists.{tuples_put, tuples_find, tuples_same}
-use Rattle.tuple_file.proofs.Houses.{tuple_here, tuple_same, pages_count, home_live, tree_apart, Ground, ground, led_all, owns_then}
+use Rattle.tuple_file.proofs.Houses.{tuple_here, tuple_same, pages_count, home_live, leads_home, tree_apart, Ground, ground, led_all, owns_then}
+use Rattle.tuple_file.proofs.Leads.{put_leads}
 
 -- a tuple was put at place v, and no other tuple of the file was touched
 record Placed (m w : Store) (es : List Pair) (n slot v : ℕ) (bytes : List ℕ) : Type 0 where
   page_is : page_of v ≡ n
   slot_is : slot_of v ≡ slot
   home : (q : ℕ) → 1 ≤ times q (homes es) → same q n ≡ 0 → w q ≡ m q
-  added : Added (bytes_of (m n)) (bytes_of (w n)) bytes slot
+  start : ℕ
+  added : Added (bytes_of (m n)) (bytes_of (w n)) bytes slot start
   all : (y : ℕ) → page_of y ≡ n → times y (places es) ≡ some (tuple_of m y)
 
 -- the place had no tuple, so no id led there
@@ -86,6 +89,19 @@ houses_put m w es fs n slot v bytes h p size hc pc = record {
     some_of [] k = absurd (omega arith)
     some_of (x ∷ xs) k = refl
 
+-- a tuple lies where it lay
+has_put : (m w : Store) (es : List Pair) (n slot v : ℕ) (bytes : List ℕ) → Placed m w es n slot v bytes → (i page at from count : ℕ) → find_item i es ≡ Some (page * 65536 + at)
+    → HasAt (bytes_of (m page)) at from count → HasAt (bytes_of (w page)) at from count
+has_put m w es n slot v bytes p i page at from count leads has = elim (same_cases page n) [
+  | inl j ↦
+      let P : ℕ → Type 0 = λ k. HasAt (bytes_of (m k)) at from count in
+      let Q : ℕ → Type 0 = λ k. HasAt (bytes_of (w k)) at from count in
+      subst Q (sym j.1) (p.added.stays at from count (subst P j.1 has))
+  | inr j ↦
+      let R : Option (List ℕ) → Type 0 = λ o. HasAt (bytes_of o) at from count in
+      subst R (sym (p.home page (leads_home es i page at (omega (arith, has.there)) leads) j.0)) has
+]
+
 none_of : {A B : Type 0} (f : A → B) (o : Option A) → option_map f o ≡ None → o ≡ None
 none_of f None h = refl
 none_of f (Some x) h = absurd (none_some (f x) h)
@@ -101,9 +117,9 @@ find_above k (e ∷ es) zs = elim (leb_tells (suc e.0) k) [
 find_put : (k v : ℕ) (es : List Pair) → find_item k (put_item k v es) ≡ Some v
 find_put k v es = find_above k es ((k, v) ∷ items_above k es) ∙ ap (λ (b : Bool). cond b (Some v) (find_item k (items_above k es))) (eq_is k k refl)
 
-pub put_done : (m x w : Store) (f : TupleFile) (u : Tree) (id n slot v : ℕ) (bytes : List ℕ) (was : Option ℕ) → IsFile m f → of_id id (file_rows m f) ≡ None → 1 ≤ length bytes
-    → Settled m x f.newest n slot bytes → v ≡ n * 65536 + slot → Inserted x w f.tree u id v was → Put m w f (record { tree = u; newest = Some n }) id bytes
-put_done m x w f u id n slot v bytes was file fresh size s ev i =
+pub put_done : (m x w : Store) (f : TupleFile) (u : Tree) (id n slot start v : ℕ) (bytes : List ℕ) (was : Option ℕ) → IsFile m f → of_id id (file_rows m f) ≡ None → 1 ≤ length bytes
+    → Settled m x f.newest n slot start bytes → v ≡ n * 65536 + slot → Inserted x w f.tree u id v was → Put m w f (record { tree = u; newest = Some n }) id bytes
+put_done m x w f u id n slot start v bytes was file fresh size s ev i =
     let es : List Pair = tree_items m f.tree in
     let ts : List ℕ = tree_pages m f.tree in
     let fs : List Pair = tree_items w u in
@@ -119,13 +135,14 @@ put_done m x w f u id n slot v bytes was file fresh size s ev i =
     let pc : (y : ℕ) → times y (places fs) ≡ same y v + times y (places es) = λ y. ap (λ (xs : List Pair). times y (places xs)) items ∙ times-put (λ e. e.1) y id v es none in
     let tp : (q : ℕ) → times q (tree_pages x f.tree) ≡ times q ts = λ q. ap (λ (ps : List ℕ). times q ps) t.pages in
     let wn : w n ≡ x n = i.keeps.others n s.is_live (tp n ∙ gr.apart) in
-    let A : Option (List ℕ) → Type 0 = λ o. Added (bytes_of (m n)) (bytes_of o) bytes slot in
+    let A : Option (List ℕ) → Type 0 = λ o. Added (bytes_of (m n)) (bytes_of o) bytes slot start in
     let p : Placed m w es n slot v bytes = record {
       page_is = page_is;
       slot_is = slot_is;
       home = λ q l d.
           let k = home_live m f q file l in
           i.keeps.others q (live_same m x q (s.others q d) ∙ k.0) (tp q ∙ k.1) ∙ s.others q d;
+      start = start;
       added = subst A (sym wn) s.added;
       all = led_all m f n file gr;
     } in
@@ -147,12 +164,35 @@ put_done m x w f u id n slot v bytes was file fresh size s ev i =
       begins = λ q full e.
           let N : ℕ → Type 0 = λ k. m k ≡ None in
           subst N (some_same n q e) (elim s.from [ inl i ↦ absurd (full n i.0 i.1) | inr i ↦ i ]);
+      stay = λ i span l.
+          let place : ℕ = span.page * 65536 + l.slot in
+          let P : List Pair → Type 0 = λ xs. find_item i xs ≡ Some place in
+          record {
+            slot = l.slot;
+            leads = subst P (sym items) (put_leads id v i place es (λ e. none_some place (sym l.leads ∙ (ap (λ (k : ℕ). find_item k es) e ∙ none))) l.leads);
+            has = has_put m w es n slot v bytes p i span.page l.slot span.start span.length l.leads l.has;
+          };
       keeps = keeps_of m w (file_pages m f) (file_pages w g)
           (λ q l z.
           let c = pages_count m f q in
           let d : same q n ≡ 0 = elim (same_cases q n) [ inl j ↦ absurd (omega (arith, l, z, c, gr.both, ap (λ (k : ℕ). live m k) j.1, ap (λ (k : ℕ). times k (homes es)) j.1)) | inr j ↦ j.0 ] in
           i.keeps.others q (live_same m x q (s.others q d) ∙ l) (omega (arith, tp q, z, c)) ∙ s.others q d)
           moved;
+    }
+
+-- where the tuple lies that was put
+pub put_lies : (m x w : Store) (f : TupleFile) (u : Tree) (id n slot start count v : ℕ) (bytes : List ℕ) (was : Option ℕ) → IsFile m f → count ≡ length bytes
+    → Settled m x f.newest n slot start bytes → v ≡ n * 65536 + slot → Inserted x w f.tree u id v was → Lies w (record { tree = u; newest = Some n }) id (record { page = n; start = start; length = count })
+put_lies m x w f u id n slot start count v bytes was file ec s ev i =
+    let gr : Ground m f n = ground m f n file s.from in
+    let t = frame m x f.tree (λ q l. s.others q (tree_apart m f n q gr.apart l)) in
+    let wn : w n ≡ x n = i.keeps.others n s.is_live (ap (λ (ps : List ℕ). times n ps) t.pages ∙ gr.apart) in
+    let H : Option (List ℕ) → Type 0 = λ o. HasAt (bytes_of o) slot start count in
+    let C : ℕ → Type 0 = λ k. HasAt (bytes_of (x n)) slot start k in
+    record {
+      slot = slot;
+      leads = ap (λ (xs : List Pair). find_item id xs) i.items ∙ (find_put id v (tree_items x f.tree) ∙ ap (λ (k : ℕ). Some k) ev);
+      has = subst H (sym wn) (subst C (sym ec) s.added.has);
     }
 
 -- a file of no tuples is its tree alone
@@ -174,8 +214,8 @@ planted m w u h =
     }
 
 -- the tree stays while a tuple is put into a page
-pub settled_tree : (m x : Store) (f : TupleFile) (n slot : ℕ) (bytes : List ℕ) → IsFile m f → Settled m x f.newest n slot bytes → IsTree x f.tree
-settled_tree m x f n slot bytes file s =
+pub settled_tree : (m x : Store) (f : TupleFile) (n slot start : ℕ) (bytes : List ℕ) → IsFile m f → Settled m x f.newest n slot start bytes → IsTree x f.tree
+settled_tree m x f n slot start bytes file s =
     let gr : Ground m f n = ground m f n file s.from in
     (frame m x f.tree (λ q l. s.others q (tree_apart m f n q gr.apart l))).tree file.tree
 

@@ -11,13 +11,14 @@ use Rattle.code_btree.proofs.Lists.{same_cases, same_self, live_none, live_same}
 use Rattle.code_btree.proofs.Roots.{keeps_of}
 use Rattle.code_btree.proofs.Frame.{frame}
 use Rattle.tuple_file.specs.declared.file.TupleFile.{TupleFile}
-use Rattle.tuple_file.specs.Page.{IsTuples, tuple_at, some}
+use Rattle.tuple_file.specs.Page.{IsTuples, HasAt, tuple_at, some}
 use Rattle.tuple_file.specs.File.{bytes_of, page_of, slot_of, tuple_of, tuples, places, homes, file_pages, IsHoused, IsFile}
 use Rattle.tuple_file.specs.Calls.{Taken}
 use Rattle.tuple_file.specs.Steps.{Left, Gone, Emptied}
 use Rattle.tuple_file.proofs.Counts.{times-up, times-drop, times-drop_none, none_home, found_leads, page_back, slot_back, some_same, none_some}
 use Rattle.tuple_file.proofs.Lists.{tuples_drop, tuples_find, tuples_same}
-use Rattle.tuple_file.proofs.Houses.{by_test, tuple_here, tuple_same, pages_count, home_live, owns_then}
+use Rattle.tuple_file.proofs.Houses.{by_test, tuple_here, tuple_same, pages_count, home_live, leads_home, owns_then}
+use Rattle.tuple_file.proofs.Leads.{drop_leads}
 use Rattle.tuple_file.proofs.Puts.{one_place, apart_slots, apart_pages}
 
 -- The tuple at place v was taken, page n has others or is freed, and no other tuple of the file was touched.
@@ -115,6 +116,33 @@ pub record IsNewest (old new : Option ℕ) (n : ℕ) (freed : Bool) : Type 0 whe
   pub is_left : (q : ℕ) → freed ≡ true → new ≡ Some q → q ≢ n
   pub kept : (q : ℕ) → old ≡ Some q → (freed ≡ true → q ≢ n) → new ≡ Some q
 
+-- a tuple to which an id leads still lies where it lay
+has_take : (m w : Store) (es fs : List Pair) (n slot v : ℕ) (freed : Bool) → IsHoused m es → Vacated m w es fs n slot v freed → (i page at from count : ℕ) → find_item i es ≡ Some (page * 65536 + at)
+    → find_item i fs ≡ Some (page * 65536 + at) → HasAt (bytes_of (m page)) at from count → HasAt (bytes_of (w page)) at from count
+has_take m w es fs n slot v freed h p i page at from count led leads has =
+    let y : ℕ = page * 65536 + at in
+    let small : at < 65536 = omega (arith, has.there) in
+    let here : 1 ≤ times y (places fs) = found_leads i y fs leads in
+    elim (same_cases page n) [
+      | inl j ↦
+          let P : ℕ → Type 0 = λ k. HasAt (bytes_of (m k)) at from count in
+          let Q : ℕ → Type 0 = λ k. HasAt (bytes_of (w k)) at from count in
+          let e : page_of y ≡ n = page_back page at small ∙ j.1 in
+          elim (eqb_tells at slot) [
+            | inl z ↦ absurd (omega (arith, here, unled m w es fs n slot v freed h p, ap (λ (k : ℕ). times k (places fs)) (one_place y v n slot e (slot_back page at small ∙ z.1) p.page_is p.slot_is)))
+            | inr z ↦
+                let t : Left m w n slot = still m w es fs n slot v freed h p (omega (arith, here, times-up y fs, ap (λ (k : ℕ). times k (homes fs)) e)) in
+                subst Q (sym j.1) (t.cleared.stays at from count z.1 (subst P j.1 has))
+          ]
+      | inr j ↦
+          let R : Option (List ℕ) → Type 0 = λ o. HasAt (bytes_of o) at from count in
+          subst R (sym (p.home page (leads_home es i page at small led) j.0)) has
+    ]
+
+-- from another id the tree leads where it led
+leads_on : (id i place : ℕ) (es fs : List Pair) → fs ≡ drop_item id es → i ≢ id → find_item i es ≡ Some place → find_item i fs ≡ Some place
+leads_on id i place es fs items d h = let P : List Pair → Type 0 = λ xs. find_item i xs ≡ Some place in subst P (sym items) (drop_leads id i place es d h)
+
 pub take_done : (m x w : Store) (f : TupleFile) (u : Tree) (id n slot v : ℕ) (freed : Bool) (newest : Option ℕ) → IsFile m f → Removed m x f.tree u id (Some v)
     → n ≡ page_of v → slot ≡ slot_of v → Emptied x w n slot freed → IsNewest f.newest newest n freed → Taken m w f (record { tree = u; newest = newest }) id true
 take_done m x w f u id n slot v freed newest file r en es' e last =
@@ -170,6 +198,9 @@ take_done m x w f u id n slot v freed newest file r en es' e last =
       rows = tuples_same m w fs (tuples_stay m w es fs n slot v freed file.housed p) ∙ (ap (λ (xs : List Pair). tuples m xs) items ∙ tuples_drop m id es asc);
       found = sym (ap (λ (o : Option (List ℕ)). is_some o) (tuples_find m id es ∙ ap (λ (o : Option ℕ). option_map (λ k. tuple_of m k) o) found));
       stays = λ q k l. last.kept q k (λ b z. absurd (omega (arith, l, owns q, ap (λ (i : ℕ). live w i) z, live_none w n (p.gone b).freed)));
+      stay = λ i span d l.
+          let leads = leads_on id i (span.page * 65536 + l.slot) es fs items d l.leads in
+          record { slot = l.slot; leads = leads; has = has_take m w es fs n slot v freed file.housed p i span.page l.slot span.start span.length l.leads leads l.has };
       keeps = keeps_of m w (file_pages m f) (file_pages w g)
           (λ q l z.
           let c = pages_count m f q in
@@ -217,6 +248,13 @@ take_none m w f u id file r =
       rows = tuples_same m w fs (λ v l. tuple_same m w v (home (page_of v) (omega (arith, l, pc v, times-up v es)))) ∙ (ap (λ (xs : List Pair). tuples m xs) r.items ∙ tuples_drop m id es file.tree.at.ascending);
       found = sym (ap (λ (o : Option (List ℕ)). is_some o) (tuples_find m id es ∙ ap (λ (o : Option ℕ). option_map (λ k. tuple_of m k) o) found));
       stays = λ q k l. k;
+      stay = λ i span d l.
+          let R : Option (List ℕ) → Type 0 = λ o. HasAt (bytes_of o) l.slot span.start span.length in
+          record {
+            slot = l.slot;
+            leads = leads_on id i (span.page * 65536 + l.slot) es fs r.items d l.leads;
+            has = subst R (sym (home span.page (leads_home es i span.page l.slot (omega (arith, l.has.there)) l.leads))) l.has;
+          };
       keeps = keeps_of m w (file_pages m f) (file_pages w g) (λ q l z. r.keeps.others q l (omega (arith, z, pages_count m f q))) moved;
     }
 

@@ -39,19 +39,28 @@ abbrev pub some : List ℕ → ℕ
 some [] = 0
 some (b ∷ bs) = 1
 
--- the tuple is in a slot that had none, and every other slot is as it was
-pub record Added (old new bytes : List ℕ) (slot : ℕ) : Type 0 where
+-- the page has slot i, and its tuple begins there and is so long
+pub record HasAt (page : List ℕ) (i start count : ℕ) : Type 0 where
+  pub there : i < slot_count page
+  pub start_is : place_in page i ≡ start
+  pub length_is : length_in page i ≡ count
+
+-- the tuple is in a slot that had none, from the place on, and every other slot is as it was
+pub record Added (old new bytes : List ℕ) (slot start : ℕ) : Type 0 where
   pub sound : IsTuples new
   pub small : slot < 1022
   pub here : tuple_at new slot ≡ bytes
   pub was : tuple_at old slot ≡ []
   pub others : (i : ℕ) → i ≢ slot → tuple_at new i ≡ tuple_at old i
+  pub has : HasAt new slot start (length bytes)
+  pub stays : (i at count : ℕ) → HasAt old i at count → HasAt new i at count
 
 -- the tuple of a slot was taken, and every other slot is as it was
 pub record Cleared (old new : List ℕ) (slot : ℕ) : Type 0 where
   pub sound : IsTuples new
   pub here : tuple_at new slot ≡ []
   pub others : (i : ℕ) → i ≢ slot → tuple_at new i ≡ tuple_at old i
+  pub stays : (i at count : ℕ) → i ≢ slot → HasAt old i at count → HasAt new i at count
 
 -- a page of no tuple, with room for any of 3,900 bytes
 pub record IsBlank (page : List ℕ) : Type 0 where

@@ -7,9 +7,12 @@ ghost use Rattle.code_btree.specs.Calls.{Looks};
 ghost use Rattle.tuple_file.specs.Rows.{of_id, least_from};
 ghost use Rattle.tuple_file.specs.File.{IsFile, file_rows};
 ghost use Rattle.tuple_file.specs.Calls.{Planted, Put, Taken, IsRowAt, IsValueAt};
+ghost use Rattle.tuple_file.specs.Spans.{AreKnown, Lies};
 
 use crate::place::{place_of, spot_of};
-use crate::row::{row_at, value_at};
+use crate::row::{row_at, value_at, value_within};
+use crate::span::Span;
+use crate::spans::Spans;
 use crate::steps::{empty, settle};
 use code_btree::Tree;
 use page_pool::{Disk, PageFault, Pages, Pool};
@@ -54,14 +57,40 @@ impl TupleFile {
         ensures within { InCommand pool.old pool.new }
         ensures cause { HasPageCause pool.old pool.new result }
     {
+        let _span = self.put_placed(pool, id, bytes)?;
+        Ok(())
+    }
+
+    /// `put`, which tells where the tuple lies then.
+    pub fn put_placed<D: Disk>(
+        &mut self,
+        pool: &mut Pool<D>,
+        id: u32,
+        bytes: &[u8],
+    ) -> Result<Span, PageFault>
+        requires opened { IsOpen pool.old }
+        requires some { 1 ≤ length bytes.now }
+        requires short { length bytes.now ≤ 3900 }
+        requires file { IsTold pool.old → IsFile (pages_in pool.old) self.old }
+        requires fresh { IsTold pool.old → of_id id (file_rows (pages_in pool.old) self.old) ≡ None }
+        ensures value { OnOk result (IsTold pool.old → Put (pages_in pool.old) (pages_in pool.new) self.old self.new id bytes.now) }
+        ensures placed { IfOk result (λ span. IsTold pool.old → Lies (pages_in pool.new) self.new id span) }
+        ensures unchanged { OnErr result (self.new ≡ self.old) }
+        ensures within { InCommand pool.old pool.new }
+        ensures cause { HasPageCause pool.old pool.new result }
+    {
         let mut tree = self.tree;
-        let (page, slot) = settle(pool, self.newest, bytes)?;
-        let _was = tree.insert(pool, u128::from(id), place_of(page, slot))?;
+        let spot = settle(pool, self.newest, bytes)?;
+        let _was = tree.insert(pool, u128::from(id), place_of(spot.page, spot.slot))?;
         *self = TupleFile {
             tree,
-            newest: Some(page),
+            newest: Some(spot.page),
         };
-        Ok(())
+        Ok(Span {
+            page: spot.page,
+            start: spot.start,
+            length: bytes.len() as u16,
+        })
     }
 
     /// Takes an id out of the list, and says whether it was there. A page whose last tuple goes is freed. After a
@@ -137,6 +166,28 @@ impl TupleFile {
             return Err(PageFault::Memory);
         };
         return value_at(alloc, pages, schema, page, slot, column);
+    }
+
+    /// `fetch_value` with what is known of where the file's tuples lie: where it is known of that of the id, one page is
+    /// read, and the tree isn't asked.
+    pub fn fetch_placed_value<P: Pages>(
+        &self,
+        alloc: Global,
+        pages: &mut P,
+        spans: &Spans,
+        schema: &Schema,
+        id: u32,
+        column: usize,
+    ) -> Result<Option<Value>, PageFault>
+        requires file { IsTold (P.shown pages.old) → IsFile (pages_in (P.shown pages.old)) self.now }
+        requires known { IsTold (P.shown pages.old) → AreKnown (pages_in (P.shown pages.old)) self.now spans.now }
+        ensures value { IfOk result (λ value. IsTold (P.shown pages.old) → IsValueAt schema.now (file_rows (pages_in (P.shown pages.old)) self.now) id column value) }
+        ensures looks { Looks (P.shown pages.old) (P.shown pages.new) (self.now.tree.height + 1) result }
+    {
+        match spans.of(id) {
+            Some(span) => return value_within(alloc, pages, schema, span, column),
+            None => return self.fetch_value(alloc, pages, schema, id, column),
+        }
     }
 
     /// The least id not below this one.

@@ -33,8 +33,8 @@ fn paste_half(page: &mut Page, at: usize, half: u16)
     paste(page, at, &half.to_be_bytes());
 }
 
-// So many bytes from a place on, as far as the page goes.
-fn piece_of(page: &Page, at: usize, count: usize) -> &[u8]
+/// So many bytes from a place on, as far as the page goes.
+pub fn piece_of(page: &Page, at: usize, count: usize) -> &[u8]
     ensures { result.now ≡ piece count at page.now }
 {
     let rest = &page[at.min(4096)..];
@@ -107,18 +107,18 @@ pub fn blank() -> Page
     page
 }
 
-/// Puts a tuple in, and gives its slot. A slot whose tuple was taken isn't used again.
-pub fn add_tuple(page: &mut Page, bytes: &[u8]) -> u16
+/// Puts a tuple in, and gives its slot, and where it begins. A slot whose tuple was taken isn't used again.
+pub fn add_tuple(page: &mut Page, bytes: &[u8]) -> (u16, u16)
     requires { HasRoom page.old (length bytes.now) }
-    ensures { IsTuples page.old → Added page.old page.new bytes.now result }
+    ensures { IsTuples page.old → Added page.old page.new bytes.now result.0 result.1 }
 {
     let slot = count_of(page);
-    let place = low_of(page) - bytes.len();
-    paste(page, place, bytes);
-    paste_half(page, 8 + 4 * usize::from(slot), place as u16);
+    let start = low_of(page) - bytes.len();
+    paste(page, start, bytes);
+    paste_half(page, 8 + 4 * usize::from(slot), start as u16);
     paste_half(page, 10 + 4 * usize::from(slot), bytes.len() as u16);
     paste_half(page, 2, slot + 1);
-    slot
+    (slot, start as u16)
 }
 
 /// Takes the tuple of a slot out.

@@ -3,11 +3,13 @@ ghost use Rattle.page_pool.specs.Pool.{IsTold};
 ghost use Rattle.code_btree.specs.Tree.{pages_in};
 ghost use Rattle.code_btree.specs.Calls.{Looks};
 ghost use Rattle.tuple_codec.specs.Decoding.{IsValueIn};
+ghost use Rattle.code_btree.specs.Bytes.{piece};
 ghost use Rattle.tuple_file.specs.Page.{tuple_at};
 ghost use Rattle.tuple_file.specs.File.{bytes_of};
 ghost use Rattle.tuple_file.specs.Calls.{IsDecoded};
 
-use crate::page::tuple_of;
+use crate::page::{piece_of, tuple_of};
+use crate::span::Span;
 use page_pool::{PageFault, Pages};
 use sand_base::{Row, Schema, Value};
 use std::alloc::Global;
@@ -43,6 +45,25 @@ pub fn value_at<P: Pages>(
 {
     let page = pages.live_page(n)?;
     match decode_value(alloc, schema, tuple_of(page, slot), column) {
+        Ok(value) => return Ok(value),
+        Err(_) => return Err(PageFault::Memory),
+    }
+}
+
+/// The value in a column of the row of which the bytes of a span are the encoding: one get.
+pub fn value_within<P: Pages>(
+    alloc: Global,
+    pages: &mut P,
+    schema: &Schema,
+    span: Span,
+    column: usize,
+) -> Result<Option<Value>, PageFault>
+    ensures value { IfOk result (λ value. IsTold (P.shown pages.old) → IsValueIn schema.now (piece span.length span.start (bytes_of (pages_in (P.shown pages.old) span.page))) column value) }
+    ensures looks { Looks (P.shown pages.old) (P.shown pages.new) 1 result }
+{
+    let page = pages.live_page(span.page)?;
+    let bytes = piece_of(page, usize::from(span.start), usize::from(span.length));
+    match decode_value(alloc, schema, bytes, column) {
         Ok(value) => return Ok(value),
         Err(_) => return Err(PageFault::Memory),
     }

@@ -11,30 +11,42 @@ use crate::page::{add_tuple, blank, clear, has_room, is_bare};
 use crate::store::{gain, read, release, write};
 use page_pool::{Disk, PageFault, Pool};
 
-// Puts a tuple into a new page; its number, and the slot.
-fn begin_page<D: Disk>(pool: &mut Pool<D>, bytes: &[u8]) -> Result<(u64, u16), PageFault>
+/// Where a tuple was put: the page, its slot there, and where its bytes begin.
+#[derive(Clone, Copy)]
+pub struct Spot {
+    pub page: u64,
+    pub slot: u16,
+    pub start: u16,
+}
+
+// Puts a tuple into a new page; its spot there.
+fn begin_page<D: Disk>(pool: &mut Pool<D>, bytes: &[u8]) -> Result<Spot, PageFault>
     requires opened { IsOpen pool.old }
     requires short { length bytes.now ≤ 3900 }
-    ensures value { IfOk result (λ spot. Begun (pages_in pool.old) (pages_in pool.new) spot.0 spot.1 bytes.now) }
+    ensures value { IfOk result (λ spot. Begun (pages_in pool.old) (pages_in pool.new) spot.page spot.slot spot.start bytes.now) }
     ensures within { InCommand pool.old pool.new }
     ensures cause { HasPageCause pool.old pool.new result }
 {
     let mut page = blank();
-    let slot = add_tuple(&mut page, bytes);
+    let (slot, start) = add_tuple(&mut page, bytes);
     let n = gain(pool, &page)?;
-    Ok((n, slot))
+    Ok(Spot {
+        page: n,
+        slot,
+        start,
+    })
 }
 
-/// Puts a tuple into the newest page, where it fits, and else into a new one; the page's number, and the slot.
+/// Puts a tuple into the newest page, where it fits, and else into a new one; its spot.
 pub fn settle<D: Disk>(
     pool: &mut Pool<D>,
     newest: Option<u64>,
     bytes: &[u8],
-) -> Result<(u64, u16), PageFault>
+) -> Result<Spot, PageFault>
     requires opened { IsOpen pool.old }
     requires short { length bytes.now ≤ 3900 }
     requires sound { IfSome newest (λ n. IsTold pool.old → IsTuples (bytes_of (pages_in pool.old n))) }
-    ensures value { IfOk result (λ spot. IsTold pool.old → Settled (pages_in pool.old) (pages_in pool.new) newest spot.0 spot.1 bytes.now) }
+    ensures value { IfOk result (λ spot. IsTold pool.old → Settled (pages_in pool.old) (pages_in pool.new) newest spot.page spot.slot spot.start bytes.now) }
     ensures within { InCommand pool.old pool.new }
     ensures cause { HasPageCause pool.old pool.new result }
 {
@@ -48,9 +60,13 @@ pub fn settle<D: Disk>(
         let spot = begin_page(pool, bytes)?;
         return Ok(spot);
     }
-    let slot = add_tuple(&mut page, bytes);
+    let (slot, start) = add_tuple(&mut page, bytes);
     write(pool, n, &page)?;
-    Ok((n, slot))
+    Ok(Spot {
+        page: n,
+        slot,
+        start,
+    })
 }
 
 /// Takes the tuple of a slot of page `n`, and frees the page where it was the last one; whether it did.
