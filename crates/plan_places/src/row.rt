@@ -26,10 +26,14 @@ pub(crate) fn value_of<P: Pages>(
     ensures value { IfOk result (λ value. IsTold (P.shown pages.old) → value ≡ value_of (rows_in (P.shown pages.old).pages relation.now) id column) }
     ensures looks { Looks (P.shown pages.old) (P.shown pages.new) (relation.now.file.tree.height + 1) result }
 {
-    let value = relation
-        .file()
-        .fetch_value(alloc, pages, relation.schema(), id, column)?;
-    Ok(value)
+    return relation.file().fetch_placed_value(
+        alloc,
+        pages,
+        relation.spans(),
+        relation.schema(),
+        id,
+        column,
+    );
 }
 
 /// The k-th id, counted from 1.

@@ -21,6 +21,7 @@ use Rattle.sand_base.specs.declared.value.Value.{Value}
 use Rattle.sand_model.specs.Database.{Database, Relation, new_relation, with_relation}
 use Rattle.sand_model.specs.Kept.{longest_row, has_twice}
 use Rattle.sand_model.specs.RowSize.{row_size}
+use Rattle.tuple_file.proofs.Leads.{none_known}
 use Rattle.sand_store.specs.Catalog.{RelationView, new_view, IsPathOf, IsDescribed, IsCatalog}
 use Rattle.sand_store.specs.Contents.{rows_in, relation_in, database_in}
 use Rattle.sand_store.specs.Ownership.{relation_pages, catalog_pages, Owns}
@@ -63,6 +64,7 @@ new_stands w limits name schema file is e =
       };
       short = subst Short (sym none) (All-nil (λ (row : ℕ × List Value). row_size row.1 ≤ longest_row));
       given_out = subst Given (sym none) (All-nil (λ (row : ℕ × List Value). (1 ≤ row.0) × (row.0 < 1)));
+      known = none_known (store_of w) file;
       paths = All-nil (PathStands w limits schema (rows_in w r));
     }
 

@@ -242,6 +242,7 @@ index_became m w limits r at threshold a h owns b =
         table = was.table;
         short = was.short;
         given_out = was.given_out;
+        known = was.known;
         paths = All-push (PathStands w limits r.schema (rows_in w r)) r.paths (at, a) was.paths (subst P (sym rows) b.stands);
       };
       means = λ gap is.

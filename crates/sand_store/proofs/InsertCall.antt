@@ -119,9 +119,9 @@ bytes_there limits r row bytes seen h of e same =
     subst P (sym (same ∙ e)) (row_some r.schema row h.schema.some of.of_schema)
 
 -- the relation with the row is described
-pub grown_described : (limits : Limits) (r : RelationView) (file : TupleFile) (after : List (ℕ × AccessPath)) (row : List Value) → IsDescribed limits r → row_check limits r row ≡ None
-    → SamePlaces r.schema r.paths after → IsDescribed limits (grown_view r file after)
-grown_described limits r file after row h passes p = record {
+pub grown_described : (limits : Limits) (r : RelationView) (file : TupleFile) (after : List (ℕ × AccessPath)) (spans : List ℕ) (row : List Value) → IsDescribed limits r → row_check limits r row ≡ None
+    → SamePlaces r.schema r.paths after → IsDescribed limits (grown_view r file after spans)
+grown_described limits r file after spans row h passes p = record {
   schema = h.schema;
   columns = h.columns;
   begun = omega arith;

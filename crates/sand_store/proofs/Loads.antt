@@ -37,14 +37,14 @@ abbrev Rows : Type 0
 Rows = List (List Value)
 
 -- a relation that took in a row
-pub counts_one : (limits : Limits) (r : RelationView) (file : TupleFile) (paths : List (ℕ × AccessPath)) (row : List Value) → IsDescribed limits r
-    → row_check limits r row ≡ None → SamePlaces r.schema r.paths paths → Counts limits r (grown_view r file paths) 1
-counts_one limits r file paths row h passes same = record {
+pub counts_one : (limits : Limits) (r : RelationView) (file : TupleFile) (paths : List (ℕ × AccessPath)) (known : List ℕ) (row : List Value) → IsDescribed limits r
+    → row_check limits r row ≡ None → SamePlaces r.schema r.paths paths → Counts limits r (grown_view r file paths known) 1
+counts_one limits r file paths known row h passes same = record {
   name = refl;
   schema = refl;
   next = refl;
   places = same.places;
-  described = grown_described limits r file paths row h passes same;
+  described = grown_described limits r file paths known row h passes same;
 }
 
 -- the first row of a load passes, and the others enter the relation with it

@@ -32,12 +32,15 @@ use Rattle.tuple_file.specs.Table.{encodings}
 use Rattle.tuple_file.proofs.Tables.{greatest_last}
 use Rattle.tuple_file.specs.Rows.{of_id}
 use Rattle.tuple_file.proofs.Houses as houses
+use Rattle.tuple_file.proofs.Leads.{put_known, still_known}
+use Rattle.tuple_file.specs.declared.span.Span.{Span}
+use Rattle.tuple_file.specs.Spans.{Lies, Learnt}
 use Rattle.sand_store.specs.declared.path.AccessPath.{AccessPath}
 use Rattle.sand_store.specs.Catalog.{RelationView}
 use Rattle.sand_store.specs.Contents.{rows_at, rows_in, indexes_in, relation_in}
 use Rattle.sand_store.specs.Ownership.{paths_pages, relation_pages}
 use Rattle.sand_store.specs.Standing.{PathStands, TableStands, RelationStands}
-use Rattle.sand_store.specs.Steps.{AllCanGrow, AllGrew, Became, grown_view}
+use Rattle.sand_store.specs.Steps.{AllCanGrow, AllGrew, Became, Grew, grown_view}
 use Rattle.sand_store.specs.TableLaws.{SameOn, rows_same, table_same}
 use Rattle.sand_store.specs.Tuples.{row_in}
 use Rattle.sand_store.proofs.Databases.{rises_at}
@@ -111,12 +114,12 @@ file_same : (w v : PageMap) (limits : Limits) (schema : List (List ℕ × Kind))
 file_same w v limits schema g id row paths after c a =
     untouched (store_of w) (store_of v) (paths_pages w paths) (paths_pages v after) (file_pages (store_of w) g) a.keeps c.apart
 
--- A relation got a row.
-pub row_became : (m w v : PageMap) (limits : Limits) (r : RelationView) (g : TupleFile) (row : List Value) (after : List (ℕ × AccessPath)) → RelationStands m limits r
+-- A relation got a row, and it may be known where it lies.
+row_became : (m w v : PageMap) (limits : Limits) (r : RelationView) (g : TupleFile) (row : List Value) (after : List (ℕ × AccessPath)) (span : Span) (spans : List ℕ) → RelationStands m limits r
     → IsRowFor r.schema row → row_size row ≤ longest_row → 1 ≤ r.next → ((q : ℕ) → times q (relation_pages m r) ≤ live (store_of m) q)
     → Put (store_of m) (store_of w) r.file g r.next (encoding row) → AllGrew w v limits r.schema (rows_at w r.schema g) r.next r.paths after
-    → Became m v limits r (grown_view r g after) (λ gap. with_row gap row)
-row_became m w v limits r g row after h of short begun owns p a =
+    → Lies (store_of w) g r.next span → Learnt r.spans r.next span spans → Became m v limits r (grown_view r g after spans) (λ gap. with_row gap row)
+row_became m w v limits r g row after span spans h of short begun owns p a leads learnt =
     let can = can_grow m w limits r g row h of owns p in
     let file : SameOn w v (file_pages (store_of w) g) = file_same w v limits r.schema g r.next row r.paths after can a in
     let paths : SameOn m w (paths_pages m r.paths) = paths_same m w r g (encoding row) owns p in
@@ -136,14 +139,16 @@ row_became m w v limits r g row after h of short begun owns p a =
         given_out = subst Given (sym f) (All-push (λ (x : ℕ × List Value). (1 ≤ x.0) × (x.0 < r.next + 1)) (rows_in m r) (r.next, row)
             (All-weaker (λ (x : ℕ × List Value). (1 ≤ x.0) × (x.0 < r.next)) (λ (x : ℕ × List Value). (1 ≤ x.0) × (x.0 < r.next + 1)) (λ x b. (b.0, omega (arith, b.1))) (rows_in m r) h.given_out)
             (begun, omega arith));
+        known = still_known (store_of w) (store_of v) g spans (houses.unmoved (store_of w) (store_of v) g file)
+            (put_known (store_of m) (store_of w) r.file g r.next span (encoding row) r.spans spans p leads h.known learnt);
         paths = subst Stand (sym (rows_same w v r.schema g file)) a.stands;
       };
       means = λ gap is. ap₂ (λ (rows : Rows) (indexes : List (ℕ × Index)). record { name = r.name; schema = r.schema; rows = rows; next = r.next + 1; indexes = indexes }) f
           (a.means gap is ∙ ap₂ (λ (rows : Rows) (is : List (ℕ × Index)). map (index_with gap rows r.next) is) e (indexes_stay m w r.paths paths));
-      keeps = keeps_then (store_of m) (store_of w) (store_of v) (relation_pages m r) mid (relation_pages v (grown_view r g after))
+      keeps = keeps_then (store_of m) (store_of w) (store_of v) (relation_pages m r) mid (relation_pages v (grown_view r g after spans))
           (keeps_with (store_of m) (store_of w) (file_pages (store_of m) r.file) (file_pages (store_of w) g) (paths_pages m r.paths) (relation_pages m r) mid p.keeps
           (λ q. times-append q (file_pages (store_of m) r.file) (paths_pages m r.paths)) (λ q. times-append q (file_pages (store_of w) g) (paths_pages m r.paths)))
-          (keeps_with (store_of w) (store_of v) (paths_pages w r.paths) (paths_pages v after) (file_pages (store_of w) g) mid (relation_pages v (grown_view r g after)) a.keeps
+          (keeps_with (store_of w) (store_of v) (paths_pages w r.paths) (paths_pages v after) (file_pages (store_of w) g) mid (relation_pages v (grown_view r g after spans)) a.keeps
           (λ q. omega (arith, times-append q (file_pages (store_of w) g) (paths_pages m r.paths), ap (λ (ps : List ℕ). times q ps) pages_paths))
           (λ q. omega (arith, times-append q (file_pages (store_of v) g) (paths_pages v after), ap (λ (ps : List ℕ). times q ps) pages_file)));
     }
@@ -188,17 +193,20 @@ asks m w limits x r g row bytes paths e b ps h of owns p =
     subst A (sym ps) (can_grow m w limits x g row (subst H (sym e) h) (subst F (sym e) of) (subst (OwnsOf m) (sym e) owns) (subst P b p))
 
 -- What it gives.
-pub got : (m w v : PageMap) (limits : Limits) (x r : RelationView) (g : TupleFile) (row : List Value) (bytes : List ℕ) (paths after : List (ℕ × AccessPath)) → x ≡ r → bytes ≡ encoding row → paths ≡ x.paths
+pub got : (m w v : PageMap) (limits : Limits) (x r : RelationView) (g : TupleFile) (row : List Value) (bytes : List ℕ) (paths after : List (ℕ × AccessPath)) (span : Span) → x ≡ r → bytes ≡ encoding row → paths ≡ x.paths
     → RelationStands m limits r → IsRowFor r.schema row → row_size row ≤ longest_row → 1 ≤ r.next → OwnsOf m r → Put (store_of m) (store_of w) x.file g x.next bytes
-    → AllGrew w v limits x.schema (rows_at w x.schema g) x.next paths after → Became m v limits r (grown_view r g after) (λ gap. with_row gap row)
-got m w v limits x r g row bytes paths after e b ps h of short begun owns p a =
+    → AllGrew w v limits x.schema (rows_at w x.schema g) x.next paths after → Lies (store_of w) g x.next span → Grew m v limits r g after span row
+got m w v limits x r g row bytes paths after span e b ps h of short begun owns p a leads =
     let A : List (ℕ × AccessPath) → Type 0 = λ xs. AllGrew w v limits x.schema (rows_at w x.schema g) x.next xs after in
     let H : RelationView → Type 0 = λ y. RelationStands m limits y in
     let F : RelationView → Type 0 = λ y. IsRowFor y.schema row in
     let N : RelationView → Type 0 = λ y. 1 ≤ y.next in
     let P : List ℕ → Type 0 = λ bs. Put (store_of m) (store_of w) x.file g x.next bs in
-    let B : RelationView → Type 0 = λ y. Became m v limits y (grown_view y g after) (λ gap. with_row gap row) in
-    subst B e (row_became m w v limits x g row after (subst H (sym e) h) (subst F (sym e) of) short (subst N (sym e) begun) (subst (OwnsOf m) (sym e) owns) (subst P b p) (subst A ps a))
+    let B : RelationView → Type 0 = λ y. Grew m v limits y g after span row in
+    subst B e (record {
+      became = λ spans learnt.
+          row_became m w v limits x g row after span spans (subst H (sym e) h) (subst F (sym e) of) short (subst N (sym e) begun) (subst (OwnsOf m) (sym e) owns) (subst P b p) (subst A ps a) leads learnt;
+    })
 
 -- And why it may be refused.
 pub too_full : (m w : PageMap) (limits : Limits) (x r : RelationView) (g : TupleFile) (row : List Value) (bytes : List ℕ) (paths : List (ℕ × AccessPath)) (gap : Measure) → x ≡ r → bytes ≡ encoding row → paths ≡ x.paths

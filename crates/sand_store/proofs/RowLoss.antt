@@ -21,6 +21,8 @@ use Rattle.tuple_file.specs.File.{file_rows, file_pages}
 use Rattle.tuple_file.specs.Rows.{without_id}
 use Rattle.tuple_file.specs.Table.{encodings}
 use Rattle.tuple_file.proofs.Houses as houses
+use Rattle.tuple_file.proofs.Leads.{still_known, taken_known}
+use Rattle.tuple_file.specs.Spans.{forgotten}
 use Rattle.tuple_file.proofs.Tables.{encodings-without}
 use Rattle.sand_store.specs.declared.path.AccessPath.{AccessPath}
 use Rattle.sand_store.specs.Catalog.{RelationView, IsPathOf}
@@ -94,7 +96,7 @@ can_lose m w limits r g id row was h t = record {
 -- A relation lost a row.
 row_lost : (m w v : PageMap) (limits : Limits) (r : RelationView) (g : TupleFile) (id : ℕ) (row : List Value) (was : Bool) (after : List (ℕ × AccessPath)) → RelationCanLose m limits r id row
     → Taken (store_of m) (store_of w) r.file g id was → AllChanged w v (losing (held_by m limits r) id) r.paths after
-    → Became m v limits r (shrunk_view r g after) (λ gap. without_row id)
+    → Became m v limits r (shrunk_view r id g after) (λ gap. without_row id)
 row_lost m w v limits r g id row was after h t a =
     let file : SameOn w v (file_pages (store_of w) g) =
     untouched (store_of w) (store_of v) (paths_pages w r.paths) (paths_pages v after) (file_pages (store_of w) g) a.keeps (apart_taken m w limits r g id row was h t) in
@@ -112,14 +114,16 @@ row_lost m w v limits r g id row was after h t a =
         table = table_same w v r.schema g file (table_taken m w limits r g id row was h t);
         short = subst Short (sym f) (All-filter other (λ (x : ℕ × List Value). row_size x.1 ≤ longest_row) (rows_in m r) h.stands.short);
         given_out = subst Given (sym f) (All-filter other (λ (x : ℕ × List Value). (1 ≤ x.0) × (x.0 < r.next)) (rows_in m r) h.stands.given_out);
+        known = still_known (store_of w) (store_of v) g (forgotten id r.spans) (houses.unmoved (store_of w) (store_of v) g file)
+            (taken_known (store_of m) (store_of w) r.file g id was r.spans t h.stands.known);
         paths = subst Stand (sym f) a.stands;
       };
       means = λ gap is. ap₂ (λ (rows : Rows) (indexes : List (ℕ × Index)). record { name = r.name; schema = r.schema; rows = rows; next = r.next; indexes = indexes }) f
           (a.means gap is ∙ ap (λ (xs : List (ℕ × Index)). map (index_without id) xs) (indexes_stay m w r.paths paths));
-      keeps = keeps_then (store_of m) (store_of w) (store_of v) (relation_pages m r) mid (relation_pages v (shrunk_view r g after))
+      keeps = keeps_then (store_of m) (store_of w) (store_of v) (relation_pages m r) mid (relation_pages v (shrunk_view r id g after))
           (keeps_with (store_of m) (store_of w) (file_pages (store_of m) r.file) (file_pages (store_of w) g) (paths_pages m r.paths) (relation_pages m r) mid t.keeps
           (λ q. times-append q (file_pages (store_of m) r.file) (paths_pages m r.paths)) (λ q. times-append q (file_pages (store_of w) g) (paths_pages m r.paths)))
-          (keeps_with (store_of w) (store_of v) (paths_pages w r.paths) (paths_pages v after) (file_pages (store_of w) g) mid (relation_pages v (shrunk_view r g after)) a.keeps
+          (keeps_with (store_of w) (store_of v) (paths_pages w r.paths) (paths_pages v after) (file_pages (store_of w) g) mid (relation_pages v (shrunk_view r id g after)) a.keeps
           (λ q. omega (arith, times-append q (file_pages (store_of w) g) (paths_pages m r.paths), ap (λ (ps : List ℕ). times q ps) pages_paths))
           (λ q. omega (arith, times-append q (file_pages (store_of v) g) (paths_pages v after), ap (λ (ps : List ℕ). times q ps) pages_file)));
     }
@@ -136,11 +140,11 @@ loss_asks m w limits x r g id row was paths e ps h t =
 pub loss_got : (m w v : PageMap) (limits : Limits) (x r : RelationView) (g : TupleFile) (id : ℕ) (row : List Value) (was : Bool) (paths after : List (ℕ × AccessPath)) → x ≡ r → paths ≡ x.paths
     → RelationCanLose m limits r id row → Taken (store_of m) (store_of w) x.file g id was
     → ((held : Holding) → AllCanLose w held id row paths → AllChanged w v (losing held id) paths after)
-    → Became m v limits r (shrunk_view r g after) (λ gap. without_row id)
+    → Became m v limits r (shrunk_view r id g after) (λ gap. without_row id)
 loss_got m w v limits x r g id row was paths after e ps h t lost =
     let A : List (ℕ × AccessPath) → Type 0 = λ xs. AllChanged w v (losing (held_by m limits x) id) xs after in
     let H : RelationView → Type 0 = λ y. RelationCanLose m limits y id row in
-    let B : RelationView → Type 0 = λ y. Became m v limits y (shrunk_view y g after) (λ gap. without_row id) in
+    let B : RelationView → Type 0 = λ y. Became m v limits y (shrunk_view y id g after) (λ gap. without_row id) in
     subst B e (row_lost m w v limits x g id row was after (subst H (sym e) h) t
     (subst A ps (lost (held_by m limits x) (loss_asks m w limits x r g id row was paths e ps h t))))
 

@@ -19,6 +19,7 @@ use Rattle.pmr_tree.specs.Entries.{KeepsIn}
 use Rattle.pmr_tree.proofs.OwnLaws.{pmr_unmoved}
 use Rattle.tuple_file.specs.File.{file_pages}
 use Rattle.tuple_file.proofs.Houses as houses
+use Rattle.tuple_file.proofs.Leads.{still_known}
 use Rattle.attr_index.specs.Entries.{Entry, entry_number}
 use Rattle.attr_index.proofs.Changes as attributes
 use Rattle.sand_store.specs.declared.path.AccessPath.{AccessPath}
@@ -114,6 +115,7 @@ relation_stands m w limits r same h =
       table = table_same m w r.schema r.file here h.table;
       short = subst Short (sym e) h.short;
       given_out = subst Given (sym e) h.given_out;
+      known = still_known (store_of m) (store_of w) r.file r.spans (houses.unmoved (store_of m) (store_of w) r.file here) h.known;
       paths = subst Paths (sym e) (paths_stand m w limits r.schema (rows_in m r) r.paths (same_right m w (file_pages (store_of m) r.file) (paths_pages m r.paths) same) h.paths);
     }
 

@@ -1,4 +1,4 @@
--- A catalog as contracts see it: of each relation its name, its columns, the next id, and the numbers under which its rows and indexes stand in pages.
+-- A catalog as contracts see it: of each relation its name, its columns, the next id, the numbers under which its rows and indexes stand in pages, and what is known of where its rows lie.
 use Rattle.std.specs.Prelude.{◌≡◌, ℕ, ◌+◌, ◌≤◌, Bool, true, false, List, [], length, map, All, Some}
 use Rattle.page_pool.specs.Pool.{PoolState}
 use Rattle.sand_base.specs.declared.kind.Kind.{Kind}
@@ -17,6 +17,7 @@ pub record RelationView : Type 0 where
   pub schema : List (List ℕ × Kind)
   pub next : ℕ
   pub file : TupleFile
+  pub spans : List ℕ
   pub paths : List (ℕ × AccessPath)
 
 -- the relations, the oldest first, and the limits within which they grow
@@ -71,7 +72,7 @@ pub record IsCatalog (catalog : CatalogView) : Type 0 where
 
 -- a relation whose file was just planted
 abbrev pub new_view : List ℕ → List (List ℕ × Kind) → TupleFile → RelationView
-new_view name schema file = record { name = name; schema = schema; next = 1; file = file; paths = [] }
+new_view name schema file = record { name = name; schema = schema; next = 1; file = file; spans = []; paths = [] }
 
 -- a catalog without relations
 abbrev pub new_catalog : Limits → CatalogView

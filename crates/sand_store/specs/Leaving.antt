@@ -13,6 +13,7 @@ use Rattle.sand_base.specs.declared.value.Value.{Value}
 use Rattle.sand_model.specs.Database.{Index, index_without}
 use Rattle.sand_model.specs.Measure.{Measure, IsMeasure}
 use Rattle.tuple_file.specs.declared.file.TupleFile.{TupleFile}
+use Rattle.tuple_file.specs.Spans.{forgotten}
 use Rattle.tuple_file.specs.Rows.{of_id, without_id}
 use Rattle.tuple_file.specs.Table.{AreRowsFor}
 use Rattle.sand_store.specs.declared.path.AccessPath.{AccessPath}
@@ -82,9 +83,9 @@ pub record RelationCanLose (m : PageMap) (limits : Limits) (r : RelationView) (i
   pub small : r.next ≤ 2 ^ 32
   pub there : of_id id (rows_in m r) ≡ Some row
 
--- a relation that lost a row, with the numbers that lead to its file and its access paths then
-abbrev pub shrunk_view : RelationView → TupleFile → List (ℕ × AccessPath) → RelationView
-shrunk_view r file paths = record { name = r.name; schema = r.schema; next = r.next; file = file; paths = paths }
+-- a relation that lost the row of an id, with the numbers that lead to its file and its access paths then
+abbrev pub shrunk_view : RelationView → ℕ → TupleFile → List (ℕ × AccessPath) → RelationView
+shrunk_view r id file paths = record { name = r.name; schema = r.schema; next = r.next; file = file; spans = forgotten id r.spans; paths = paths }
 
 -- the refusal comes from outside, or the id has no row
 abbrev pub IsOutsideOrMissing : Refusal → Type 0

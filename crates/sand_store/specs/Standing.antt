@@ -15,6 +15,7 @@ use Rattle.pmr_tree.specs.Quadtree.{store_of, tree_at, FitsRows}
 use Rattle.pmr_tree.specs.declared.quadtree.Pmr.{Pmr}
 use Rattle.tuple_file.specs.declared.file.TupleFile.{TupleFile}
 use Rattle.tuple_file.specs.File.{IsFile, file_rows}
+use Rattle.tuple_file.specs.Spans.{AreKnown}
 use Rattle.tuple_file.specs.Table.{encodings, AreRowsFor}
 use Rattle.attr_index.specs.declared.index.AttrIndex.{AttrIndex}
 use Rattle.attr_index.specs.Entries.{Entry, entry_number}
@@ -57,11 +58,12 @@ pub record TableStands (pages : PageMap) (schema : List (List ℕ × Kind)) (at 
   pub tuples : file_rows (store_of pages) at ≡ encodings (rows_at pages schema at)
   pub rows : AreRowsFor schema (rows_at pages schema at)
 
--- A relation: its file holds rows of the schema under ids that were given out, and each access path holds what these have.
+-- A relation: its file holds rows of the schema under ids that were given out, what is known of where they lie is true, and each access path holds what the rows have.
 pub record RelationStands (pages : PageMap) (limits : Limits) (r : RelationView) : Type 0 where
   pub table : TableStands pages r.schema r.file
   pub short : All (λ row. row_size row.1 ≤ longest_row) (rows_in pages r)
   pub given_out : All (λ row. (1 ≤ row.0) × (row.0 < r.next)) (rows_in pages r)
+  pub known : AreKnown (store_of pages) r.file r.spans
   pub paths : All (PathStands pages limits r.schema (rows_in pages r)) r.paths
 
 -- all relations stand, and no page is one of two structures

@@ -11,13 +11,15 @@ use Rattle.pmr_tree.specs.declared.fault.PmrFault.TheVariants as tree
 use Rattle.tuple_file.specs.declared.file.TupleFile.{TupleFile}
 use Rattle.tuple_file.specs.File.{file_pages}
 use Rattle.tuple_file.specs.Calls.{Planted}
+use Rattle.tuple_file.specs.declared.span.Span.{Span}
+use Rattle.tuple_file.specs.Spans.{Learnt}
 use Rattle.sand_base.specs.declared.kind.Kind.{Kind}
 use Rattle.sand_base.specs.declared.limits.Limits.{Limits}
 use Rattle.sand_base.specs.declared.refusal.Refusal.{Refusal}
 use Rattle.sand_base.specs.declared.refusal.Refusal.TheVariants as why
 use Rattle.sand_base.specs.declared.value.Value.{Value}
 use Rattle.sand_model.specs.Checks.{first_refusal}
-use Rattle.sand_model.specs.Database.{Relation, index_with}
+use Rattle.sand_model.specs.Database.{Relation, index_with, with_row}
 use Rattle.sand_model.specs.Measure.{Measure, IsMeasure}
 use Rattle.sand_model.specs.Kept.{has_twice, most_relations}
 use Rattle.sand_model.specs.StatementChecks.{refused_where, is_there, is_row_of, check_length}
@@ -118,9 +120,13 @@ pub record SamePlaces (schema : List (List ℕ × Kind)) (before after : List (�
   pub places : map (λ p. p.0) after ≡ map (λ p. p.0) before
   pub paths : All (IsPathOf schema) after
 
--- a relation that got a row, with the numbers that lead to its file and its access paths then
-abbrev pub grown_view : RelationView → TupleFile → List (ℕ × AccessPath) → RelationView
-grown_view r file paths = record { name = r.name; schema = r.schema; next = r.next + 1; file = file; paths = paths }
+-- a relation that got a row, with the numbers that lead to its file and its access paths then, and what is known of where its rows lie
+abbrev pub grown_view : RelationView → TupleFile → List (ℕ × AccessPath) → List ℕ → RelationView
+grown_view r file paths spans = record { name = r.name; schema = r.schema; next = r.next + 1; file = file; spans = spans; paths = paths }
+
+-- A relation got a row that lies in the span, whatever is known then of where rows lie: what was, and that of the row, or less.
+pub record Grew (m w : PageMap) (limits : Limits) (r : RelationView) (file : TupleFile) (paths : List (ℕ × AccessPath)) (span : Span) (row : List Value) : Type 0 where
+  pub became : (spans : List ℕ) → Learnt r.spans r.next span spans → Became m w limits r (grown_view r file paths spans) (λ gap. with_row gap row)
 
 -- the checks of a row of a relation, and of one of a relation that is to be found
 

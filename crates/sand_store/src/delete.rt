@@ -60,7 +60,7 @@ fn without_row<D: Disk>(
     requires opened { IsOpen pool.old }
     requires id { 1 ≤ id }
     requires can { IsTold pool.old → (bounds : Bounds) × RelationCanLose pool.old.pages bounds relation.now id row.now }
-    ensures became { IfOk result (λ roots. IsTold pool.old → (bounds : Bounds) → RelationCanLose pool.old.pages bounds relation.now id row.now → Became pool.old.pages pool.new.pages bounds relation.now (shrunk_view relation.now roots.file roots.paths.items) (λ gap. without_row id)) }
+    ensures became { IfOk result (λ roots. IsTold pool.old → (bounds : Bounds) → RelationCanLose pool.old.pages bounds relation.now id row.now → Became pool.old.pages pool.new.pages bounds relation.now (shrunk_view relation.now id roots.file roots.paths.items) (λ gap. without_row id)) }
     ensures places { IfOk result (λ roots. All (IsPathOf relation.now.schema) relation.now.paths → SamePlaces relation.now.schema relation.now.paths roots.paths.items) }
     ensures outside { IfErr result IsOutside }
     ensures within { InCommand pool.old pool.new }
@@ -91,7 +91,7 @@ fn remove<D: Disk>(
     requires can { IsTold pool.old → (bounds : Bounds) × RelationCanLose pool.old.pages bounds relation.now id row.now }
     ensures closed { IsClosed pool.new }
     ensures told { pool.new.disk.told ≡ pool.old.disk.told }
-    ensures became { IfOk result (λ roots. IsTold pool.old → (bounds : Bounds) → RelationCanLose pool.old.pages bounds relation.now id row.now → Became pool.old.pages pool.new.pages bounds relation.now (shrunk_view relation.now roots.file roots.paths.items) (λ gap. without_row id)) }
+    ensures became { IfOk result (λ roots. IsTold pool.old → (bounds : Bounds) → RelationCanLose pool.old.pages bounds relation.now id row.now → Became pool.old.pages pool.new.pages bounds relation.now (shrunk_view relation.now id roots.file roots.paths.items) (λ gap. without_row id)) }
     ensures places { IfOk result (λ roots. All (IsPathOf relation.now.schema) relation.now.paths → SamePlaces relation.now.schema relation.now.paths roots.paths.items) }
     ensures reverted { OnErr result (IsTold pool.old → pool.new.pages ≡ pool.old.pages) }
     ensures outside { IfErr result IsOutside }
@@ -142,6 +142,6 @@ pub fn delete<D: Disk>(
         Ok(roots) => roots,
         Err(why) => return Err(why),
     };
-    relations[at].lead_to(roots);
+    relations[at].lead_to(id, roots);
     Ok(())
 }

@@ -19,12 +19,12 @@ ghost use Rattle.sand_store.specs.Calls.{HasCause, Inserted, IsUnchanged, IsRefu
 ghost use Rattle.sand_store.specs.Catalog.{IsDescribed};
 ghost use Rattle.sand_store.specs.Ownership.{relation_pages};
 ghost use Rattle.sand_store.specs.Standing.{RelationStands, IsStore};
-ghost use Rattle.sand_store.specs.Steps.{Became, SamePlaces, IsOutsideOrFull, grown_view, store_from};
+ghost use Rattle.sand_store.specs.Steps.{SamePlaces, IsOutsideOrFull, Grew, store_from};
 
 use crate::admit::admitted;
 use crate::grow::grown_paths;
 use crate::refusal::refusal_of;
-use crate::relation::{Relation, Roots, place_of};
+use crate::relation::{Growth, Relation, place_of};
 use page_pool::{Disk, Pool};
 use sand_base::{Limits, Refusal, Row};
 use std::alloc::Global;
@@ -38,7 +38,7 @@ pub fn with_row<D: Disk>(
     row: &Row,
     bytes: &[u8],
     limits: Limits,
-) -> Result<Roots, Refusal>
+) -> Result<Growth, Refusal>
     requires opened { IsOpen pool.old }
     requires row { IsRowFor relation.now.schema row.now }
     requires bytes { bytes.now ≡ encoding row.now }
@@ -48,8 +48,8 @@ pub fn with_row<D: Disk>(
     requires described { IsDescribed limits relation.now }
     requires stands { IsTold pool.old → RelationStands pool.old.pages limits relation.now }
     requires owns { IsTold pool.old → (q : ℕ) → times q (relation_pages pool.old.pages relation.now) ≤ live (store_of pool.old.pages) q }
-    ensures became { IfOk result (λ roots. IsTold pool.old → Became pool.old.pages pool.new.pages limits relation.now (grown_view relation.now roots.file roots.paths.items) (λ gap. with_row gap row.now)) }
-    ensures places { IfOk result (λ roots. SamePlaces relation.now.schema relation.now.paths roots.paths.items) }
+    ensures grew { IfOk result (λ growth. IsTold pool.old → Grew pool.old.pages pool.new.pages limits relation.now growth.file growth.paths.items growth.span row.now) }
+    ensures places { IfOk result (λ growth. SamePlaces relation.now.schema relation.now.paths growth.paths.items) }
     ensures full { IfErr result (λ e. e ≡ why.IndexFull → IsTold pool.old → (gap : Measure) → IsMeasure gap → check_listings limits (with_row gap row.now (relation_in pool.old.pages relation.now)) ≡ Some why.IndexFull) }
     ensures outside { IfErr result IsOutsideOrFull }
     ensures within { InCommand pool.old pool.new }
@@ -57,10 +57,10 @@ pub fn with_row<D: Disk>(
 {
     let id = relation.next;
     let mut file = relation.file;
-    match file.put(pool, id, bytes) {
-        Ok(()) => {}
+    let span = match file.put_placed(pool, id, bytes) {
+        Ok(span) => span,
         Err(why) => return Err(refusal_of(why)),
-    }
+    };
     match grown_paths(
         alloc,
         pool,
@@ -71,7 +71,7 @@ pub fn with_row<D: Disk>(
         row,
         limits,
     ) {
-        Ok(paths) => Ok(Roots { file, paths }),
+        Ok(paths) => Ok(Growth { file, span, paths }),
         Err(why) => Err(why),
     }
 }
@@ -84,7 +84,7 @@ fn add<D: Disk>(
     row: &Row,
     bytes: &[u8],
     limits: Limits,
-) -> Result<Roots, Refusal>
+) -> Result<Growth, Refusal>
     requires closed { IsClosed pool.old }
     requires row { IsRowFor relation.now.schema row.now }
     requires bytes { bytes.now ≡ encoding row.now }
@@ -96,8 +96,8 @@ fn add<D: Disk>(
     requires owns { IsTold pool.old → (q : ℕ) → times q (relation_pages pool.old.pages relation.now) ≤ live (store_of pool.old.pages) q }
     ensures closed { IsClosed pool.new }
     ensures told { pool.new.disk.told ≡ pool.old.disk.told }
-    ensures became { IfOk result (λ roots. IsTold pool.old → Became pool.old.pages pool.new.pages limits relation.now (grown_view relation.now roots.file roots.paths.items) (λ gap. with_row gap row.now)) }
-    ensures places { IfOk result (λ roots. SamePlaces relation.now.schema relation.now.paths roots.paths.items) }
+    ensures grew { IfOk result (λ growth. IsTold pool.old → Grew pool.old.pages pool.new.pages limits relation.now growth.file growth.paths.items growth.span row.now) }
+    ensures places { IfOk result (λ growth. SamePlaces relation.now.schema relation.now.paths growth.paths.items) }
     ensures reverted { OnErr result (IsTold pool.old → pool.new.pages ≡ pool.old.pages) }
     ensures full { IfErr result (λ e. e ≡ why.IndexFull → IsTold pool.old → (gap : Measure) → IsMeasure gap → check_listings limits (with_row gap row.now (relation_in pool.old.pages relation.now)) ≡ Some why.IndexFull) }
     ensures outside { IfErr result IsOutsideOrFull }
@@ -108,9 +108,9 @@ fn add<D: Disk>(
         Err(why) => return Err(refusal_of(why)),
     }
     match with_row(alloc, pool, relation, row, bytes, limits) {
-        Ok(roots) => {
+        Ok(growth) => {
             pool.commit();
-            Ok(roots)
+            Ok(growth)
         }
         Err(why) => {
             pool.abort();
@@ -146,10 +146,10 @@ pub fn insert<D: Disk>(
         Ok(bytes) => bytes,
         Err(why) => return Err(why),
     };
-    let roots = match add(alloc, pool, relation, row, &bytes, limits) {
-        Ok(roots) => roots,
+    let growth = match add(alloc, pool, relation, row, &bytes, limits) {
+        Ok(growth) => growth,
         Err(why) => return Err(why),
     };
-    relations[at].take_over(roots);
+    relations[at].take_over(growth);
     Ok(id)
 }

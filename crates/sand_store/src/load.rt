@@ -31,6 +31,7 @@ fn copy_of(alloc: Global, relation: &Relation) -> Result<Relation, NoMemory>
         schema: relation.schema.copy(alloc)?,
         next: relation.next,
         file: relation.file,
+        spans: relation.spans.copy(alloc)?,
         paths: Vec::from_slice(alloc, &relation.paths)?,
     })
 }
@@ -63,8 +64,8 @@ fn enter<D: Disk>(
         Err(why) => return Err(why),
     };
     match with_row(alloc, pool, relation, row, &bytes, limits) {
-        Ok(roots) => {
-            relation.take_over(roots);
+        Ok(growth) => {
+            relation.take_over(growth);
             Ok(())
         }
         Err(why) => Err(why),

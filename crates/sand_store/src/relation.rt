@@ -5,19 +5,29 @@ use crate::AccessPath;
 use sand_base::{Label, Schema};
 use std::alloc::Global;
 use std::marker::Model;
-use tuple_file::TupleFile;
+use tuple_file::{Span, Spans, TupleFile};
 
-/// A relation of the catalog: its columns, and the numbers that lead to its rows and indexes.
+/// A relation of the catalog: its columns, the numbers that lead to its rows and indexes, and where its rows lie, as far
+/// as it is known.
 #[derive(Drop)]
 pub struct Relation {
     pub(crate) name: Label,
     pub(crate) schema: Schema,
     pub(crate) next: u32,
     pub(crate) file: TupleFile,
+    pub(crate) spans: Spans,
     pub(crate) paths: Vec<(usize, AccessPath)>,
 }
 
-/// The numbers that lead to a relation's rows and indexes, as a change makes them.
+/// The numbers that lead to a relation's rows and indexes, as a new row makes them, and where the row lies.
+#[derive(Drop)]
+pub(crate) struct Growth {
+    pub(crate) file: TupleFile,
+    pub(crate) span: Span,
+    pub(crate) paths: Vec<(usize, AccessPath)>,
+}
+
+/// The numbers that lead to a relation's rows and indexes, as the loss of a row makes them.
 #[derive(Drop)]
 pub(crate) struct Roots {
     pub(crate) file: TupleFile,
@@ -34,6 +44,7 @@ impl Model for Relation {
       schema = r.schema;
       next = r.next;
       file = r.file;
+      spans = r.spans;
       paths = r.paths.items;
     } };
 }
@@ -42,6 +53,7 @@ impl Relation {
     ghost use Rattle.sand_store.specs.Catalog.{new_view};
     ghost use Rattle.sand_store.specs.Steps.{grown_view};
     ghost use Rattle.sand_store.specs.Leaving.{shrunk_view};
+    ghost use Rattle.tuple_file.specs.Spans.{Learnt};
 
     /// A relation without access paths, whose ids begin at 1.
     pub fn new(alloc: Global, name: Label, schema: Schema, file: TupleFile) -> Relation
@@ -52,24 +64,28 @@ impl Relation {
             schema,
             next: 1,
             file,
+            spans: Spans::new(alloc),
             paths: Vec::new(alloc),
         }
     }
 
     /// The relation with the numbers that a new row gave it, under the id that was its next one.
-    pub(crate) fn take_over(&mut self, roots: Roots)
+    pub(crate) fn take_over(&mut self, growth: Growth)
         requires { self.old.next < 4294967295 }
-        ensures { self.new ≡ grown_view self.old roots.file roots.paths.items }
+        ensures grown { self.new ≡ grown_view self.old growth.file growth.paths.items self.new.spans }
+        ensures learnt { Learnt self.old.spans self.old.next growth.span self.new.spans }
     {
+        self.spans.learn(self.next, growth.span);
         self.next += 1;
-        self.file = roots.file;
-        self.paths = roots.paths;
+        self.file = growth.file;
+        self.paths = growth.paths;
     }
 
-    /// The relation with the numbers that the loss of a row gave it.
-    pub(crate) fn lead_to(&mut self, roots: Roots)
-        ensures { self.new ≡ shrunk_view self.old roots.file roots.paths.items }
+    /// The relation with the numbers that the loss of the row of an id gave it.
+    pub(crate) fn lead_to(&mut self, id: u32, roots: Roots)
+        ensures { self.new ≡ shrunk_view self.old id roots.file roots.paths.items }
     {
+        self.spans.forget(id);
         self.file = roots.file;
         self.paths = roots.paths;
     }
@@ -93,6 +109,13 @@ impl Relation {
         ensures { result.now ≡ self.now.file }
     {
         &self.file
+    }
+
+    /// What is known of where the file's rows lie.
+    pub fn spans(&self) -> &Spans
+        ensures { result.now ≡ self.now.spans }
+    {
+        &self.spans
     }
 }
 

@@ -1,9 +1,10 @@
 -- a row has a byte at least, and the relation that took it in is described
 use Rattle.std.proofs.Common.{◌≡◌, ℕ, ◌≤◌, List, length, None, sym, ◌∙◌, subst}
 use Rattle.page_pool.specs.Pool.{IsTold}
+use Rattle.sand_model.specs.Database.{with_row}
 use Rattle.sand_store.specs.Catalog.{RelationView}
 use Rattle.sand_store.specs.Loads.{Counts}
-use Rattle.sand_store.specs.Steps.{row_check}
+use Rattle.sand_store.specs.Steps.{Became, row_check}
 use Rattle.sand_store.proofs.Loads.{counts_one}
 use Rattle.sand_store.proofs.PlainChecks.{row_fails}
 use Rattle.sand_store.proofs.RowChecks.{check_stops}
@@ -19,9 +20,14 @@ with_row-requires-clause-some g c =
 pub returns-in-Ok-with_row-clause-counts : goal.returns-in-Ok-with_row-clause-counts
 returns-in-Ok-with_row-clause-counts g c =
     let P : RelationView → Type 0 = λ u. Counts c.args.limits c.args.relation.now u 1 in
-    subst P (sym c.take_over.ensures)
-    (counts_one c.args.limits c.args.relation.now c.in-Ok-with_row.roots.file c.in-Ok-with_row.roots.paths.items c.args.row.now c.requires.described
+    subst P (sym c.take_over.ensures.grown)
+    (counts_one c.args.limits c.args.relation.now c.in-Ok-with_row.growth.file c.in-Ok-with_row.growth.paths.items c.take_over.new.self.spans c.args.row.now c.requires.described
     c.in-Ok.ensures.passes c.in-Ok-with_row.ensures.places)
+
+pub returns-in-Ok-with_row-clause-became : goal.returns-in-Ok-with_row-clause-became
+returns-in-Ok-with_row-clause-became g c = λ told.
+    let P : RelationView → Type 0 = λ u. Became c.args.pool.now.pages c.with_row.new.pool.pages c.args.limits c.args.relation.now u (λ gap. with_row gap c.args.row.now) in
+    subst P (sym c.take_over.ensures.grown) ((c.in-Ok-with_row.ensures.grew told).became c.take_over.new.self.spans c.take_over.ensures.learnt)
 
 -- a check of the row fails
 pub returns-in-Err-clause-stops : goal.returns-in-Err-clause-stops
