@@ -1,4 +1,5 @@
-ghost use Rattle.std.specs.Prelude.{◌≡◌, ℕ, ◌<◌, ◌^◌, IfSome, IfOk, OnOk, OnErr};
+ghost use Rattle.std.specs.Prelude.{◌≡◌, ℕ, ◌<◌, IfSome, IfOk, OnOk, OnErr};
+ghost use Rattle.sand_base.specs.InRange.{IsCeilingInRange};
 ghost use Rattle.std.specs.declared.cmp.Ordering.{Ordering};
 ghost use Rattle.sand_base.specs.declared.visit.Visit.{Visit};
 ghost use Rattle.page_pool.specs.Disk.{PageMap};
@@ -42,7 +43,7 @@ pub trait Hierarchy: Drop {
     /// The greatest distance of a row, None where there is no such ceiling.
     fn ceiling(&self) -> Option<u32>
         ensures value { (pages : PageMap) → result ≡ (meaning self.now pages).ceiling }
-        ensures small { IfSome result (λ most. most < 2 ^ 22) };
+        ensures small { IsCeilingInRange result };
 
     /// What the first expansion is given, over any pages. It reads no page.
     fn nowhere(&self) -> Self::Near

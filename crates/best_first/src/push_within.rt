@@ -1,5 +1,6 @@
 ghost use Rattle.best_first.specs.declared.item.Item.{Item};
-ghost use Rattle.std.specs.Prelude.{[], ◌∷◌, ◌≡◌, ◌<◌, ◌≤◌, ◌^◌, ◌++◌, IfSome, IsPermutation};
+ghost use Rattle.std.specs.Prelude.{[], ◌∷◌, ◌≡◌, ◌<◌, ◌≤◌, ◌++◌, IsPermutation};
+ghost use Rattle.sand_base.specs.InRange.{IsCeilingInRange};
 ghost use Rattle.best_first.specs.Item.{gap_of};
 ghost use Rattle.best_first.specs.Reach.{within};
 ghost use Rattle.best_first.specs.Hierarchy.{kept};
@@ -11,7 +12,7 @@ use rank_queue::Queue;
 
 // Whether the gap is within the ceiling.
 fn is_within(ceiling: Option<u32>, gap: &Frac) -> bool
-    requires { IfSome ceiling (λ most. most < 2 ^ 22) }
+    requires { IsCeilingInRange ceiling }
     ensures { result ≡ within ceiling gap.now }
 {
     match ceiling {
@@ -22,13 +23,13 @@ fn is_within(ceiling: Option<u32>, gap: &Frac) -> bool
 
 // Leaves in the list the items that are within the ceiling, which are all of them where there is no ceiling.
 pub fn keep_within<N: Ord + Copy>(ceiling: Option<u32>, found: &mut Vec<Item<N>>)
-    requires { IfSome ceiling (λ most. most < 2 ^ 22) }
+    requires { IsCeilingInRange ceiling }
     ensures { found.new.items ≡ kept (within ceiling) found.old.items }
 {
     if ceiling.is_some() {
         found.retain(
             |item|
-                requires { IfSome ceiling (λ most. most < 2 ^ 22) }
+                requires { IsCeilingInRange ceiling }
                 ensures { result ≡ within ceiling (gap_of item.now) }
             { is_within(ceiling, &item.gap()) },
         );
@@ -42,7 +43,7 @@ pub fn push_root<N: Ord + Copy, Q: Queue<Item<N>>>(
     gap: Frac,
     node: N,
 )
-    requires small { IfSome ceiling (λ most. most < 2 ^ 22) }
+    requires small { IsCeilingInRange ceiling }
     requires room { 1 ≤ Q.spare queue.old }
     ensures { IsPermutation (kept (within ceiling) (Item.Node gap node ∷ []) ++ Q.held queue.old) (Q.held queue.new) }
 {
@@ -59,7 +60,7 @@ pub fn push_row<N: Ord + Copy, Q: Queue<Item<N>>>(
     rough: &Frac,
     hit: Hit,
 )
-    requires small { IfSome ceiling (λ most. most < 2 ^ 22) }
+    requires small { IsCeilingInRange ceiling }
     requires room { 1 ≤ Q.spare queue.old }
     ensures { AddsRow ceiling rough.now hit (Q.held queue.old) (Q.held queue.new) }
 {

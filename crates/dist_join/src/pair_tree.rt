@@ -1,4 +1,5 @@
-ghost use Rattle.std.specs.Prelude.{◌≡◌, ℕ, ◌<◌, ◌^◌, IfSome};
+ghost use Rattle.std.specs.Prelude.{◌≡◌, ℕ, ◌<◌};
+ghost use Rattle.sand_base.specs.InRange.{IsCeilingInRange};
 ghost use Rattle.std.proofs.Props.{props};
 
 use pmr_tree::{Pmr, ShapeOf};
@@ -14,7 +15,7 @@ pub struct PairTree<'s, G> {
     pub(crate) right_shapes: G,
     pub(crate) ceiling: Option<u32>,
     borrow: PhantomData<&'s Pmr>,
-    ghost small: { IfSome ceiling (λ most. most < 2 ^ 22) } by { Prim.hlevel props },
+    ghost small: { IsCeilingInRange ceiling } by { Prim.hlevel props },
 }
 
 impl<'s, G: ShapeOf> PairTree<'s, G> {
@@ -28,7 +29,7 @@ impl<'s, G: ShapeOf> PairTree<'s, G> {
         right_shapes: G,
         ceiling: Option<u32>,
     ) -> PairTree<'s, G>
-        requires small { IfSome ceiling (λ most. most < 2 ^ 22) }
+        requires small { IsCeilingInRange ceiling }
         ensures left { result.left ≡ left.now }
         ensures left_shapes { result.left_shapes ≡ left_shapes }
         ensures right { result.right ≡ right.now }

@@ -1,5 +1,6 @@
 // Searches over the quadtrees of a pool whose disk doesn't tell its pages.
-ghost use Rattle.std.specs.Prelude.{◌≡◌, ◌<◌, ◌^◌, None, false, IfOk, IfSome};
+ghost use Rattle.std.specs.Prelude.{◌≡◌, ◌<◌, None, false, IfOk};
+ghost use Rattle.sand_base.specs.InRange.{IsCeilingInRange};
 ghost use Rattle.sand_base.specs.Plane.{IsGoalInClosedPlane};
 
 use crate::shapes::Shapes;
@@ -165,7 +166,7 @@ impl Readers {
         most: u32,
     ) -> Result<Found, PageFault>
         requires plane { IsGoalInClosedPlane goal }
-        requires small { IfSome ceiling (λ most. most < 2 ^ 22) }
+        requires small { IsCeilingInRange ceiling }
     {
         let hierarchy = RankTree::over(tree, shapes, goal, ceiling);
         let mut search = search(alloc, hierarchy)?;

@@ -1,5 +1,6 @@
 // Small searches that were worked out by hand.
-ghost use Rattle.std.specs.Prelude.{◌≤◌, ◌<◌, ◌^◌, IfSome};
+ghost use Rattle.std.specs.Prelude.{◌≤◌, ◌<◌};
+ghost use Rattle.sand_base.specs.InRange.{IsCeilingInRange};
 ghost use Rattle.sand_base.specs.Grid.{IsInClosedPlane};
 
 use crate::open_pool::OpenPool;
@@ -71,7 +72,7 @@ fn from_point(
     requires least { 1 ≤ threshold }
     requires all { threshold ≤ 64 }
     requires plane { IsInClosedPlane goal }
-    requires small { IfSome ceiling (λ most. most < 2 ^ 22) }
+    requires small { IsCeilingInRange ceiling }
 {
     let (mut pages, tree) = grown(alloc, threshold, shapes, ids)?;
     let goal = Goal::Shape(Shape::Point(goal));

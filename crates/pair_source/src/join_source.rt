@@ -1,4 +1,5 @@
-ghost use Rattle.std.specs.Prelude.{◌≡◌, ℕ, ◌<◌, ◌^◌, IfSome, IfOk};
+ghost use Rattle.std.specs.Prelude.{◌≡◌, ℕ, ◌<◌, IfOk};
+ghost use Rattle.sand_base.specs.InRange.{IsCeilingInRange};
 ghost use Rattle.best_first.specs.Steps.{steps};
 ghost use Rattle.dist_join.specs.OverPages.{pair_weight};
 ghost use Rattle.sand_model.specs.Reach.{no_counts};
@@ -32,7 +33,7 @@ impl<'s> JoinSource<'s> {
         right: TreeColumn<'s>,
         ceiling: Option<u32>,
     ) -> Result<JoinSource<'s>, NoMemory>
-        requires small { IfSome ceiling (λ most. most < 2 ^ 22) }
+        requires small { IsCeilingInRange ceiling }
         ensures counts { IfOk result (λ s. counts_of (⟦<JoinSource<'s> as RowSource>⟧.seen s) ≡ no_counts) }
         ensures begun { IfOk result (λ s. Begins (⟦<JoinSource<'s> as RowSource>⟧.At s) (join_view left.entry.relation.now left.entry.column left.entry.tree.now right.entry.relation.now right.entry.column right.entry.tree.now ceiling)) }
     {

@@ -1,4 +1,5 @@
-ghost use Rattle.std.specs.Prelude.{◌≡◌, ◌<◌, ◌^◌, [], None, IfSome, IfOk};
+ghost use Rattle.std.specs.Prelude.{◌≡◌, ◌<◌, [], None, IfOk};
+ghost use Rattle.sand_base.specs.InRange.{IsCeilingInRange};
 ghost use Rattle.page_pool.specs.Disk.{PageMap};
 ghost use Rattle.best_first.specs.Frontier.{Stands};
 ghost use Rattle.best_first.specs.Hierarchy.{MeetsLaws};
@@ -23,7 +24,7 @@ pub fn pair_search<'s>(
     right: TreeColumn<'s>,
     ceiling: Option<u32>,
 ) -> Result<BestFirst<PairTree<'s, ColumnShapes<'s>>, CopyQueue<Item<(Block, Block)>>>, NoMemory>
-    requires small { IfSome ceiling (λ most. most < 2 ^ 22) }
+    requires small { IsCeilingInRange ceiling }
     ensures view { IfOk result (λ s. join_view s.hierarchy.left_shapes.relation.now s.hierarchy.left_shapes.column s.hierarchy.left s.hierarchy.right_shapes.relation.now s.hierarchy.right_shapes.column s.hierarchy.right s.hierarchy.ceiling ≡ join_view left.entry.relation.now left.entry.column left.entry.tree.now right.entry.relation.now right.entry.column right.entry.tree.now ceiling) }
     ensures none_given { IfOk result (λ s. s.frontier.last ≡ None) }
     ensures none_taken { IfOk result (λ s. IsCounted {N = Place × Place} [] s.frontier.counts) }

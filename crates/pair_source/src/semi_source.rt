@@ -1,4 +1,5 @@
-ghost use Rattle.std.specs.Prelude.{◌≡◌, ◌<◌, ◌^◌, IfSome, IfOk};
+ghost use Rattle.std.specs.Prelude.{◌≡◌, ◌<◌, IfOk};
+ghost use Rattle.sand_base.specs.InRange.{IsCeilingInRange};
 ghost use Rattle.sand_model.specs.Reach.{no_counts};
 ghost use Rattle.best_first.specs.Steps.{steps};
 ghost use Rattle.dist_join.specs.OverPages.{pair_weight};
@@ -34,7 +35,7 @@ impl<'s> SemiSource<'s> {
         right: TreeColumn<'s>,
         ceiling: Option<u32>,
     ) -> Result<SemiSource<'s>, NoMemory>
-        requires small { IfSome ceiling (λ most. most < 2 ^ 22) }
+        requires small { IsCeilingInRange ceiling }
         ensures counts { IfOk result (λ s. counts_of (⟦<SemiSource<'s> as RowSource>⟧.seen s) ≡ no_counts) }
         ensures begun { IfOk result (λ s. BeginsFirsts (⟦<SemiSource<'s> as RowSource>⟧.At s) (join_view left.entry.relation.now left.entry.column left.entry.tree.now right.entry.relation.now right.entry.column right.entry.tree.now ceiling)) }
     {

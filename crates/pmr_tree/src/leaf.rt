@@ -1,4 +1,5 @@
-ghost use Rattle.std.specs.Prelude.{◌≡◌, ◌≢◌, ℕ, ◌+◌, ◌<◌, ◌≤◌, ◌^◌, Bool, List, [], length, filter, IfOk, OnOk, IfSome, IsNone, MatchOption, Option, None, Some};
+ghost use Rattle.std.specs.Prelude.{◌≡◌, ◌≢◌, ℕ, ◌+◌, ◌*◌, ◌<◌, ◌≤◌, ◌^◌, Bool, List, [], length, filter, IfOk, OnOk, IfSome, IsNone, MatchOption, Option, None, Some};
+ghost use Rattle.sand_base.specs.declared.TheConstants.{COORDINATE_BITS};
 ghost use Rattle.z_code.specs.Block.{IsBlock};
 ghost use Rattle.pmr_tree.specs.Keys.{key_of, mark_of, id_in, own};
 ghost use Rattle.pmr_tree.specs.Lists.{is_between};
@@ -20,7 +21,7 @@ pub struct Kept {
 pub fn key_of(block: Block, id: u32) -> u128
     requires { IsBlock block }
     ensures value { result ≡ key_of block id }
-    ensures small { result < 2 ^ 73 }
+    ensures small { result < 2 ^ (2 * COORDINATE_BITS + 41) }
 {
     (u128::from(block.z) << 40) + (u128::from(block.level) << 32) + u128::from(id)
 }

@@ -1,4 +1,5 @@
-ghost use Rattle.std.specs.Prelude.{◌≡◌, ℕ, ◌<◌, ◌^◌, IfSome};
+ghost use Rattle.std.specs.Prelude.{◌≡◌, ℕ, ◌<◌};
+ghost use Rattle.sand_base.specs.InRange.{IsCeilingInRange};
 ghost use Rattle.std.proofs.Props.{props};
 ghost use Rattle.sand_base.specs.Plane.{IsGoalInClosedPlane};
 ghost use Rattle.rank_cursor.specs.Props.{closed_goal_prop};
@@ -16,7 +17,7 @@ pub struct RankTree<'s, G> {
     pub(crate) ceiling: Option<u32>,
     borrow: PhantomData<&'s Pmr>,
     ghost plane: { IsGoalInClosedPlane goal } by { closed_goal_prop goal },
-    ghost small: { IfSome ceiling (λ most. most < 2 ^ 22) } by { Prim.hlevel props },
+    ghost small: { IsCeilingInRange ceiling } by { Prim.hlevel props },
 }
 
 impl<'s, G: ShapeOf> RankTree<'s, G> {
@@ -25,7 +26,7 @@ impl<'s, G: ShapeOf> RankTree<'s, G> {
     /// The ranking from the goal, with a greatest distance where there is a ceiling. No page is read.
     pub fn over(pmr: &'s Pmr, shapes: G, goal: Goal, ceiling: Option<u32>) -> RankTree<'s, G>
         requires plane { IsGoalInClosedPlane goal }
-        requires small { IfSome ceiling (λ most. most < 2 ^ 22) }
+        requires small { IsCeilingInRange ceiling }
         ensures pmr { result.pmr ≡ pmr.now }
         ensures shapes { result.shapes ≡ shapes }
         ensures goal { result.goal ≡ goal }

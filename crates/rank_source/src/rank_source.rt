@@ -1,4 +1,5 @@
-ghost use Rattle.std.specs.Prelude.{◌≡◌, ◌<◌, ◌^◌, [], ◌∷◌, Some, IfSome, IfOk};
+ghost use Rattle.std.specs.Prelude.{◌≡◌, ◌<◌, [], ◌∷◌, Some, IfOk};
+ghost use Rattle.sand_base.specs.InRange.{IsCeilingInRange};
 ghost use Rattle.sand_base.specs.Plane.{IsGoalInClosedPlane};
 ghost use Rattle.sand_model.specs.Reach.{no_counts};
 ghost use Rattle.plan_rows.specs.Rows.{counts_of};
@@ -30,7 +31,7 @@ impl<'s> RankSource<'s> {
         ceiling: Option<u32>,
     ) -> Result<RankSource<'s>, NoMemory>
         requires plane { IsGoalInClosedPlane goal }
-        requires small { IfSome ceiling (λ most. most < 2 ^ 22) }
+        requires small { IsCeilingInRange ceiling }
         ensures counts { IfOk result (λ s. counts_of (⟦<RankSource<'s> as RowSource>⟧.seen s) ≡ no_counts) }
         ensures begun { IfOk result (λ s. Begins (⟦<RankSource<'s> as RowSource>⟧.At s) column.entry.relation.now column.entry.column column.entry.tree.now goal ceiling) }
     {

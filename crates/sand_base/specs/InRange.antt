@@ -1,5 +1,6 @@
--- Which values, rows and schemas are in range: what the grammar, the codec, the store and the geometry ask of them.
-use Rattle.std.specs.Prelude.{◌≡◌, ℕ, ℤ, ◌-◌, ◌≤◌, ◌^◌, Bool, false, ◌&&◌, ◌||◌, nat_lt, nat_le, pos, negsuc, ◌≤ℤ◌, List, length, map, All, IsUtf8, chars}
+-- Which values, rows, schemas and ceilings are in range: what the grammar, the codec, the store and the geometry ask of them.
+use Rattle.std.specs.Prelude.{◌≡◌, ℕ, ℤ, ◌+◌, ◌-◌, ◌≤◌, ◌<◌, ◌^◌, Bool, false, ◌&&◌, ◌||◌, nat_lt, nat_le, pos, negsuc, ◌≤ℤ◌, List, length, map, Option, IfSome, All, IsUtf8, chars}
+use Rattle.sand_base.specs.declared.TheConstants.{COORDINATE_BITS}
 use Rattle.sand_base.specs.declared.kind.Kind.{Kind}
 use Rattle.sand_base.specs.declared.value.Value.{Value}
 use Rattle.sand_base.specs.declared.value.Value.TheVariants as value
@@ -39,3 +40,7 @@ pub record IsSchemaInRange (schema : List (List ℕ × Kind)) : Type 0 where
 -- the row is of the schema: a value of its kind for each column
 abbrev pub IsRowOf : List (List ℕ × Kind) → List Value → Type 0
 IsRowOf schema row = map value_kind row ≡ map (λ column. column.1) schema
+
+-- the greatest distance of a search, if any, is at most some four widths of the plane
+abbrev pub IsCeilingInRange : Option ℕ → Type 0
+IsCeilingInRange ceiling = IfSome ceiling (λ most. most < 2 ^ (COORDINATE_BITS + 2))

@@ -66,4 +66,4 @@ pub use visit::{Visit, VisitLog};
 
 /// The number of bits of a coordinate. Grid points of the plane have coordinates below 2 to this power, and
 /// corners of blocks reach it.
-pub const COORDINATE_BITS: u32 = 16;
+pub const COORDINATE_BITS: u32 = 20;

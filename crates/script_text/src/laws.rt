@@ -25,5 +25,5 @@ pub fn the_limits()
     ensures name { LONGEST_NAME ≡ 32 }
     ensures line { LONGEST_LINE ≡ 8192 }
     ensures rows { MOST_ROWS ≡ 1000000 }
-    ensures distance { MOST_WITHIN ≡ 131071 }
+    ensures distance { MOST_WITHIN ≡ 2097151 }
 {}

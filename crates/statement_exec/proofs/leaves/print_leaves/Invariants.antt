@@ -4,6 +4,7 @@ use Rattle.page_pool.specs.Pool.{IsTold}
 use Rattle.pmr_tree.specs.Quadtree.{tree_at}
 use Rattle.sand_model.specs.Tree.{leaves, root_block}
 use Rattle.statement_exec.proofs.LeafLoop.{Walking}
+use Rattle.statement_exec.specs.LeafWalk.{code_end}
 use Rattle.statement_exec.proofs.leaves.print_leaves.Given as goal
 
 abbrev pub invariant-leaves : goal.invariant-leaves
@@ -12,4 +13,4 @@ invariant-leaves g l =
     (g.K.Sink.took l.initial.out) (g.K.Sink.took l.out) (g.K.Sink.faults l.initial.out) (g.K.Sink.faults l.out)
 
 abbrev pub decreases-leaves : goal.decreases-leaves
-decreases-leaves g l = 4294967296 - l.code
+decreases-leaves g l = code_end - l.code
