@@ -16,7 +16,7 @@ use sand_base::{Goal, NoMemory, Visit};
 use std::alloc::Global;
 use z_code::Block;
 
-impl<'s, G: ShapeOf + Drop> Hierarchy for PairTree<'s, G> {
+impl<G: ShapeOf + Drop> Hierarchy for PairTree<G> {
     type Node = (Block, Block);
 
     type Near = (Near, Near);

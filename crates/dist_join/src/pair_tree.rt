@@ -3,47 +3,44 @@ ghost use Rattle.sand_base.specs.InRange.{IsCeilingInRange};
 ghost use Rattle.std.proofs.Props.{props};
 
 use pmr_tree::{Pmr, ShapeOf};
-use std::marker::PhantomData;
 
 /// Two quadtrees and the rows that they index, joined by distance. Its nodes are pairs of blocks, one of each tree;
 /// the two may be one, where a relation is joined with itself.
 #[derive(Drop)]
-pub struct PairTree<'s, G> {
+pub struct PairTree<G> {
     pub(crate) left: Pmr,
     pub(crate) left_shapes: G,
     pub(crate) right: Pmr,
     pub(crate) right_shapes: G,
     pub(crate) ceiling: Option<u32>,
-    borrow: PhantomData<&'s Pmr>,
     ghost small: { IsCeilingInRange ceiling } by { Prim.hlevel props },
 }
 
-impl<'s, G: ShapeOf> PairTree<'s, G> {
+impl<G: ShapeOf> PairTree<G> {
     ghost use Rattle.dist_join.specs.OverPages.{paged, IsLawfulOver};
 
     /// The join of both sides, with a greatest distance where there is a ceiling. No page is read.
     pub fn over(
-        left: &'s Pmr,
+        left: Pmr,
         left_shapes: G,
-        right: &'s Pmr,
+        right: Pmr,
         right_shapes: G,
         ceiling: Option<u32>,
-    ) -> PairTree<'s, G>
+    ) -> PairTree<G>
         requires small { IsCeilingInRange ceiling }
-        ensures left { result.left ≡ left.now }
+        ensures left { result.left ≡ left }
         ensures left_shapes { result.left_shapes ≡ left_shapes }
-        ensures right { result.right ≡ right.now }
+        ensures right { result.right ≡ right }
         ensures right_shapes { result.right_shapes ≡ right_shapes }
         ensures ceiling { result.ceiling ≡ ceiling }
-        ensures laws { IsLawfulOver (paged (G.rows left_shapes) (G.Stands left_shapes) (G.price left_shapes) left.now) (paged (G.rows right_shapes) (G.Stands right_shapes) (G.price right_shapes) right.now) ceiling }
+        ensures laws { IsLawfulOver (paged (G.rows left_shapes) (G.Stands left_shapes) (G.price left_shapes) left) (paged (G.rows right_shapes) (G.Stands right_shapes) (G.price right_shapes) right) ceiling }
     {
         let tree = PairTree {
-            left: *left,
+            left,
             left_shapes,
-            right: *right,
+            right,
             right_shapes,
             ceiling,
-            borrow: PhantomData,
         };
         tree.laws();
         tree

@@ -3,7 +3,7 @@ use crate::disk::Taking;
 
 /// A relation of points, indexed. The last insert has the pages of the index written.
 pub const POINTS: &str =
-    "create p (at point)\nload p \"points.csv\"\nindex p.at\ninsert p (65535 65535)\n";
+    "create p (at point)\nload p \"points.csv\"\nindex p.at\ninsert p (1048575 1048575)\n";
 
 /// A relation of points with numbers, both indexed, and another one of four points.
 const NUMBERED: &str = "create p (at point, pop int)\n\
@@ -16,7 +16,7 @@ const NUMBERED: &str = "create p (at point, pop int)\n\
     insert q (40000 30000)\n\
     insert q (60000 10000)\n\
     index q.at\n\
-    insert p (65535 65535), 1\n";
+    insert p (1048575 1048575), 1\n";
 
 /// 41 rows of a ranking.
 pub static RANKING: Taking = Taking {

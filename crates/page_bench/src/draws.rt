@@ -1,4 +1,7 @@
-ghost use Rattle.std.specs.Prelude.{◌^◌, ◌<◌};
+ghost use Rattle.std.specs.Prelude.{◌*◌, ◌^◌, ◌<◌};
+ghost use Rattle.sand_base.specs.declared.TheConstants.{COORDINATE_BITS};
+
+use sand_base::COORDINATE_BITS;
 
 /// Draws numbers, one after the other.
 #[derive(Drop)]
@@ -23,10 +26,29 @@ impl Draws {
         self.seed / 4_294_967_296
     }
 
+    /// A coordinate of the plane.
+    pub fn coordinate(&mut self) -> u32
+        ensures { result < 2 ^ COORDINATE_BITS }
+    {
+        (self.word() % (1 << COORDINATE_BITS)) as u32
+    }
+
+    /// The code of a grid point.
+    pub fn code(&mut self) -> u64
+        ensures { result < 2 ^ (2 * COORDINATE_BITS) }
+    {
+        self.long_word() % (1 << (2 * COORDINATE_BITS))
+    }
+
+    // A number of 64 bits.
+    fn long_word(&mut self) -> u64 {
+        self.word() * 4_294_967_296 + self.word()
+    }
+
     /// A number of 128 bits.
     pub fn key(&mut self) -> u128 {
-        let high = self.word() * 4_294_967_296 + self.word();
-        let low = self.word() * 4_294_967_296 + self.word();
+        let high = self.long_word();
+        let low = self.long_word();
         u128::from(high) * 18_446_744_073_709_551_616 + u128::from(low)
     }
 }

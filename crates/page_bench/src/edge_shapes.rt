@@ -6,18 +6,24 @@ ghost use Rattle.sand_base.specs.Plane.{IsShapeInPlane};
 use crate::draws::Draws;
 use page_pool::{PageFault, Pages};
 use pmr_tree::ShapeOf;
-use sand_base::{NoMemory, Point, Ring, Segment, Shape};
+use sand_base::{COORDINATE_BITS, NoMemory, Point, Ring, Segment, Shape};
 use std::alloc::Global;
 
 /// Shapes on the edges and corners of blocks, and one grid point beside them, by their ids.
 #[derive(Clone, Copy)]
 pub struct EdgeShapes {}
 
-const LAST: u32 = 65_535;
+const LAST: u32 = (1 << COORDINATE_BITS) - 1;
+
+// The length of a side of a large block.
+const LARGE: u32 = 1 << (COORDINATE_BITS - 3);
+
+// The length of a side of a small block.
+const SMALL: u32 = 1 << (COORDINATE_BITS - 8);
 
 // A coordinate on an edge of large blocks, or beside it.
 fn coordinate(draws: &mut Draws) -> u32 {
-    let edge = (draws.word() % 9) as u32 * 8_192;
+    let edge = (draws.word() % 9) as u32 * LARGE;
     edge.saturating_sub((draws.word() % 2) as u32)
 }
 
@@ -36,9 +42,9 @@ fn reach(draws: &mut Draws) -> u32 {
     match draws.word() % 5 {
         0 => 0,
         1 => 1,
-        2 => 255,
-        3 => 256,
-        _ => 512,
+        2 => SMALL - 1,
+        3 => SMALL,
+        _ => 2 * SMALL,
     }
 }
 

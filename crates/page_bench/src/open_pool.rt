@@ -1,5 +1,6 @@
 // A pool with a command open, over a disk that doesn't tell its pages, and what is kept in its pages.
-ghost use Rattle.std.specs.Prelude.{◌≤◌, ◌<◌, ◌^◌, length};
+ghost use Rattle.std.specs.Prelude.{◌≤◌, ◌<◌, ◌*◌, ◌^◌, length};
+ghost use Rattle.sand_base.specs.declared.TheConstants.{COORDINATE_BITS};
 ghost use Rattle.attr_index.specs.Key.{IsAttribute};
 
 use crate::filled_pool::untold_pool;
@@ -110,7 +111,7 @@ impl OpenPool {
 
     /// The leaf of a code, with its ids.
     pub fn leaf(&mut self, alloc: Global, tree: &Pmr, z: u64) -> Result<(Block, Ids), PageFault>
-        requires { z < 2 ^ 32 }
+        requires { z < 2 ^ (2 * COORDINATE_BITS) }
     {
         tree.leaf_at(alloc, &mut self.pool, z)
     }

@@ -168,7 +168,7 @@ impl Readers {
         requires plane { IsGoalInClosedPlane goal }
         requires small { IsCeilingInRange ceiling }
     {
-        let hierarchy = RankTree::over(tree, shapes, goal, ceiling);
+        let hierarchy = RankTree::over(*tree, shapes, goal, ceiling);
         let mut search = search(alloc, hierarchy)?;
         first_rows(alloc, &mut search, &mut self.desk, most)
     }
@@ -181,7 +181,7 @@ impl Readers {
         right: (&Pmr, Shapes),
         most: u32,
     ) -> Result<Found, PageFault> {
-        let hierarchy = PairTree::over(left.0, left.1, right.0, right.1, None);
+        let hierarchy = PairTree::over(*left.0, left.1, *right.0, right.1, None);
         let mut search = search(alloc, hierarchy)?;
         first_rows(alloc, &mut search, &mut self.desk, most)
     }
@@ -195,7 +195,7 @@ impl Readers {
         lefts: u32,
         most: u32,
     ) -> Result<Found, PageFault> {
-        let hierarchy = PairTree::over(left.0, left.1, right.0, right.1, None);
+        let hierarchy = PairTree::over(*left.0, left.1, *right.0, right.1, None);
         let search = search(alloc, hierarchy)?;
         let mut semi = match Semi::start(alloc, search, lefts, lefts) {
             Ok(semi) => semi,

@@ -12,7 +12,7 @@ use pmr_tree::Pmr;
 use sand_base::{Goal, Point, Rect, Shape};
 use std::alloc::Global;
 
-const TIE: Shapes = Shapes::Listed(&[[32768, 32772], [32768, 32768]]);
+const TIE: Shapes = Shapes::Listed(&[[524288, 524292], [524288, 524288]]);
 
 const TWO: Shapes = Shapes::Listed(&[[0, 0], [3, 4]]);
 
@@ -20,14 +20,14 @@ const ONE: Shapes = Shapes::Listed(&[[10, 10]]);
 
 const ABOVE_AND_BELOW: Shapes = Shapes::Listed(&[[10, 12], [10, 8]]);
 
-const SPREAD: Shapes = Shapes::Listed(&[[0, 0], [60000, 60000], [100, 0]]);
+const SPREAD: Shapes = Shapes::Listed(&[[0, 0], [960000, 960000], [1600, 0]]);
 
 const THREE: Shapes = Shapes::Listed(&[[0, 0], [10, 10], [11, 10]]);
 
 const REGIONS: Shapes = Shapes::Polygons(&[
-    &[[0, 0], [60000, 0], [60000, 60000], [0, 60000]],
-    &[[40000, 40000], [50000, 40000], [50000, 50000]],
-    &[[1000, 1000], [2000, 1000], [2000, 2000]],
+    &[[0, 0], [960000, 0], [960000, 960000], [0, 960000]],
+    &[[640000, 640000], [800000, 640000], [800000, 800000]],
+    &[[16000, 16000], [32000, 16000], [32000, 32000]],
 ]);
 
 /// A search that is looked at.
@@ -120,10 +120,32 @@ const ORIGIN: Point = Point { x: 0, y: 0 };
 pub fn found(alloc: Global, search: Search) -> Result<Found, PageFault> {
     match search {
         Search::TieFromBetween => {
-            from_point(alloc, 1, TIE, 2, Point { x: 32768, y: 32770 }, None, 3)
+            from_point(
+                alloc,
+                1,
+                TIE,
+                2,
+                Point {
+                    x: 524288,
+                    y: 524290,
+                },
+                None,
+                3,
+            )
         }
         Search::PolygonsFromInside => {
-            from_point(alloc, 1, REGIONS, 3, Point { x: 20000, y: 20000 }, None, 4)
+            from_point(
+                alloc,
+                1,
+                REGIONS,
+                3,
+                Point {
+                    x: 320000,
+                    y: 320000,
+                },
+                None,
+                4,
+            )
         }
         Search::TwoWithThemselves => joined(alloc),
         Search::OneToTwo => first_pair(alloc),

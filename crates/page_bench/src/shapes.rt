@@ -5,7 +5,7 @@ ghost use Rattle.sand_base.specs.Grid.{IsInPlane};
 use crate::draws::Draws;
 use page_pool::{PageFault, Pages};
 use pmr_tree::ShapeOf;
-use sand_base::{NoMemory, Point, Ring, Segment, Shape};
+use sand_base::{COORDINATE_BITS, NoMemory, Point, Ring, Segment, Shape};
 use std::alloc::Global;
 
 /// The shapes of a relation by their ids, from 1 on.
@@ -21,7 +21,7 @@ pub enum Shapes {
     Polygons(&'static [&'static [[u32; 2]]]),
 }
 
-const LAST: u32 = 65_535;
+const LAST: u32 = (1 << COORDINATE_BITS) - 1;
 
 // The point of the plane that is nearest to these coordinates.
 fn point(at: [u32; 2]) -> Point
@@ -48,14 +48,9 @@ fn polygon(alloc: Global, corners: &[[u32; 2]]) -> Result<Shape, NoMemory>
     }
 }
 
-// A coordinate that is drawn.
-fn coordinate(draws: &mut Draws) -> u32 {
-    (draws.word() % 65_536) as u32
-}
-
-// A length that is drawn, below 2,000.
+// A length that is drawn, below a thirty-second of the plane's side.
 fn length(draws: &mut Draws) -> u32 {
-    (draws.word() % 2_000) as u32
+    (draws.word() % (1 << (COORDINATE_BITS - 5))) as u32
 }
 
 // A drawn point, segment or triangle.
@@ -65,8 +60,8 @@ fn drawn(alloc: Global, id: u32, kinds: u64) -> Result<Shape, NoMemory>
 {
     let mut draws = Draws::begin(id.into());
     let kind = draws.word() % kinds;
-    let x = coordinate(&mut draws);
-    let y = coordinate(&mut draws);
+    let x = draws.coordinate();
+    let y = draws.coordinate();
     let right = x.saturating_add(length(&mut draws));
     let up = y.saturating_add(length(&mut draws));
     match kind {

@@ -1,5 +1,6 @@
 // What `bench/pages.py` times: trees, files and searches of so many rows, in 4,096 frames.
-ghost use Rattle.std.specs.Prelude.{◌<◌, ◌^◌};
+ghost use Rattle.std.specs.Prelude.{◌<◌, ◌*◌, ◌^◌};
+ghost use Rattle.sand_base.specs.declared.TheConstants.{COORDINATE_BITS};
 ghost use Rattle.sand_base.specs.Grid.{IsInPlane};
 
 use crate::draws::Draws;
@@ -43,7 +44,7 @@ fn grown(alloc: Global, rows: u32) -> Result<(OpenPool, Pmr), PageFault> {
 
 // How many ids the leaf of a code lists.
 fn ids_of(alloc: Global, pool: &mut OpenPool, tree: &Pmr, z: u64) -> Result<u64, PageFault>
-    requires { z < 2 ^ 32 }
+    requires { z < 2 ^ (2 * COORDINATE_BITS) }
 {
     let (_block, list) = pool.leaf(alloc, tree, z)?;
     Ok(list.as_slice().len() as u64)
@@ -54,7 +55,7 @@ fn look(alloc: Global, pool: &mut OpenPool, tree: &Pmr, codes: u32) -> Result<u6
     let mut draws = Draws::begin(1);
     let mut ids = 0u64;
     'leaves: for _ in 0..codes {
-        ids = ids.wrapping_add(ids_of(alloc, pool, tree, draws.word())?);
+        ids = ids.wrapping_add(ids_of(alloc, pool, tree, draws.code())?);
     }
     Ok(ids)
 }
@@ -69,8 +70,8 @@ fn looked(alloc: Global, rows: u32) -> Result<u64, PageFault> {
 fn goal(draws: &mut Draws) -> Point
     ensures { IsInPlane result }
 {
-    let x = (draws.word() % 65_536) as u32;
-    let y = (draws.word() % 65_536) as u32;
+    let x = draws.coordinate();
+    let y = draws.coordinate();
     Point { x, y }
 }
 

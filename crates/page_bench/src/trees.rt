@@ -1,11 +1,13 @@
 // Quadtrees: mixed inserts and deletes, and their leaves.
-ghost use Rattle.std.specs.Prelude.{◌≤◌, ◌<◌, ◌^◌};
+ghost use Rattle.std.specs.Prelude.{◌≤◌, ◌<◌, ◌*◌, ◌^◌};
+ghost use Rattle.sand_base.specs.declared.TheConstants.{COORDINATE_BITS};
 
 use crate::draws::Draws;
 use crate::open_pool::OpenPool;
 use crate::shapes::Shapes;
 use page_pool::PageFault;
 use pmr_tree::Pmr;
+use sand_base::COORDINATE_BITS;
 use std::alloc::Global;
 use std::collections::BTreeSet;
 use z_code::Block;
@@ -24,7 +26,7 @@ fn told(digest: u64, number: u64) -> u64 {
 
 // The code behind a block's.
 fn behind(block: Block) -> u64 {
-    let bits = 32u32.saturating_sub(u32::from(block.level) * 2);
+    let bits = (2 * COORDINATE_BITS).saturating_sub(u32::from(block.level) * 2);
     block.z.saturating_add(1u64 << bits)
 }
 
@@ -45,7 +47,7 @@ fn next_leaf(
     z: u64,
     digest: u64,
 ) -> Result<(u64, u64), PageFault>
-    requires { z < 2 ^ 32 }
+    requires { z < 2 ^ (2 * COORDINATE_BITS) }
 {
     let (block, ids) = pool.leaf(alloc, tree, z)?;
     Ok((told_leaf(digest, block, ids.as_slice()), behind(block)))
@@ -57,7 +59,7 @@ pub fn leaves(alloc: Global, pool: &mut OpenPool, tree: &Pmr) -> Result<LeafDige
     let mut digest = 0u64;
     let mut z = 0u64;
     'leaves: for _ in 0..1_000_000u32 {
-        if z >= 4_294_967_296 {
+        if z >= 1 << (2 * COORDINATE_BITS) {
             break;
         }
         let (told, next) = next_leaf(alloc, pool, tree, z, digest)?;

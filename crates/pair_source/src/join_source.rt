@@ -22,7 +22,7 @@ use z_code::Block;
 /// The pairs of rows of two columns by their distance, nearest first.
 #[derive(Drop)]
 pub struct JoinSource<'s> {
-    search: BestFirst<PairTree<'s, ColumnShapes<'s>>, CopyQueue<Item<(Block, Block)>>>,
+    search: BestFirst<PairTree<ColumnShapes<'s>>, CopyQueue<Item<(Block, Block)>>>,
 }
 
 impl<'s> JoinSource<'s> {

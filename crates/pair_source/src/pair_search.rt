@@ -23,7 +23,7 @@ pub fn pair_search<'s>(
     left: TreeColumn<'s>,
     right: TreeColumn<'s>,
     ceiling: Option<u32>,
-) -> Result<BestFirst<PairTree<'s, ColumnShapes<'s>>, CopyQueue<Item<(Block, Block)>>>, NoMemory>
+) -> Result<BestFirst<PairTree<ColumnShapes<'s>>, CopyQueue<Item<(Block, Block)>>>, NoMemory>
     requires small { IsCeilingInRange ceiling }
     ensures view { IfOk result (λ s. join_view s.hierarchy.left_shapes.relation.now s.hierarchy.left_shapes.column s.hierarchy.left s.hierarchy.right_shapes.relation.now s.hierarchy.right_shapes.column s.hierarchy.right s.hierarchy.ceiling ≡ join_view left.entry.relation.now left.entry.column left.entry.tree.now right.entry.relation.now right.entry.column right.entry.tree.now ceiling) }
     ensures none_given { IfOk result (λ s. s.frontier.last ≡ None) }
@@ -31,9 +31,9 @@ pub fn pair_search<'s>(
     ensures stands { IfOk result (λ s. (p : PageMap) → MeetsLaws (join_meaning (joining_in (join_view left.entry.relation.now left.entry.column left.entry.tree.now right.entry.relation.now right.entry.column right.entry.tree.now ceiling) p)) → Stands ⟦<(Block, Block) as Ord>⟧.cmp (join_meaning (joining_in (join_view left.entry.relation.now left.entry.column left.entry.tree.now right.entry.relation.now right.entry.column right.entry.tree.now ceiling) p)) s.frontier.queue.items s.frontier.last []) }
 {
     let hierarchy = PairTree::over(
-        left.tree,
+        *left.tree,
         left.shapes(),
-        right.tree,
+        *right.tree,
         right.shapes(),
         ceiling,
     );

@@ -23,7 +23,7 @@ use z_code::Block;
 /// The first pair of each row of the left column, the one with the nearest row of the right column, nearest first.
 #[derive(Drop)]
 pub struct SemiSource<'s> {
-    semi: Semi<PairTree<'s, ColumnShapes<'s>>, CopyQueue<Item<(Block, Block)>>>,
+    semi: Semi<PairTree<ColumnShapes<'s>>, CopyQueue<Item<(Block, Block)>>>,
 }
 
 impl<'s> SemiSource<'s> {

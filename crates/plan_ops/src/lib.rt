@@ -15,6 +15,7 @@ mod stage;
 mod start_source;
 mod start_stage;
 
+pub use plan_check::check;
 pub use plan_rows::{Answer, Stats};
 pub use running::Running;
 pub use source::Source;

@@ -14,7 +14,7 @@ use sand_base::{NoMemory, Visit};
 use std::alloc::Global;
 use z_code::Block;
 
-impl<'s, G: ShapeOf + Drop> Hierarchy for RankTree<'s, G> {
+impl<G: ShapeOf + Drop> Hierarchy for RankTree<G> {
     type Node = Block;
 
     type Near = Near;

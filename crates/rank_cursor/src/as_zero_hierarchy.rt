@@ -8,7 +8,7 @@ use std::alloc::Global;
 use z_code::Block;
 use zero_search::{ZeroHierarchy, ZeroQueue};
 
-impl<'s, G: ShapeOf + Drop> ZeroHierarchy for RankTree<'s, G> {
+impl<G: ShapeOf + Drop> ZeroHierarchy for RankTree<G> {
     fn open_near<D: Disk>(
         &self,
         alloc: Global,

@@ -6,39 +6,36 @@ ghost use Rattle.rank_cursor.specs.Props.{closed_goal_prop};
 
 use pmr_tree::{Pmr, ShapeOf};
 use sand_base::Goal;
-use std::marker::PhantomData;
 
 /// A quadtree and the rows that it indexes, ranked by their distance from a goal. Its nodes are blocks.
 #[derive(Drop)]
-pub struct RankTree<'s, G> {
+pub struct RankTree<G> {
     pub(crate) pmr: Pmr,
     pub(crate) shapes: G,
     pub(crate) goal: Goal,
     pub(crate) ceiling: Option<u32>,
-    borrow: PhantomData<&'s Pmr>,
     ghost plane: { IsGoalInClosedPlane goal } by { closed_goal_prop goal },
     ghost small: { IsCeilingInRange ceiling } by { Prim.hlevel props },
 }
 
-impl<'s, G: ShapeOf> RankTree<'s, G> {
+impl<G: ShapeOf> RankTree<G> {
     ghost use Rattle.rank_cursor.specs.Cursor.{IsLawfulOver};
 
     /// The ranking from the goal, with a greatest distance where there is a ceiling. No page is read.
-    pub fn over(pmr: &'s Pmr, shapes: G, goal: Goal, ceiling: Option<u32>) -> RankTree<'s, G>
+    pub fn over(pmr: Pmr, shapes: G, goal: Goal, ceiling: Option<u32>) -> RankTree<G>
         requires plane { IsGoalInClosedPlane goal }
         requires small { IsCeilingInRange ceiling }
-        ensures pmr { result.pmr ≡ pmr.now }
+        ensures pmr { result.pmr ≡ pmr }
         ensures shapes { result.shapes ≡ shapes }
         ensures goal { result.goal ≡ goal }
         ensures ceiling { result.ceiling ≡ ceiling }
-        ensures laws { IsLawfulOver (G.rows shapes) (G.Stands shapes) (G.price shapes) pmr.now goal ceiling }
+        ensures laws { IsLawfulOver (G.rows shapes) (G.Stands shapes) (G.price shapes) pmr goal ceiling }
     {
         let tree = RankTree {
-            pmr: *pmr,
+            pmr,
             shapes,
             goal,
             ceiling,
-            borrow: PhantomData,
         };
         tree.laws();
         tree

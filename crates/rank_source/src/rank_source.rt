@@ -35,7 +35,7 @@ impl<'s> RankSource<'s> {
         ensures counts { IfOk result (λ s. counts_of (⟦<RankSource<'s> as RowSource>⟧.seen s) ≡ no_counts) }
         ensures begun { IfOk result (λ s. Begins (⟦<RankSource<'s> as RowSource>⟧.At s) column.entry.relation.now column.entry.column column.entry.tree.now goal ceiling) }
     {
-        let hierarchy = RankTree::over(column.tree, column.shapes(), goal, ceiling);
+        let hierarchy = RankTree::over(*column.tree, column.shapes(), goal, ceiling);
         match ceiling {
             // Each id of a row has a bit.
             Some(0) => {

@@ -19,9 +19,9 @@ use zero_search::ZeroSearch;
 #[derive(Drop)]
 pub enum Search<'s> {
     /// The rows by their distance, from a frontier in a pairing heap.
-    Nearest(BestFirst<RankTree<'s, ColumnShapes<'s>>, CopyQueue<Item<Block>>>),
+    Nearest(BestFirst<RankTree<ColumnShapes<'s>>, CopyQueue<Item<Block>>>),
     /// The rows at the distance 0, by their ids.
-    AtZero(ZeroSearch<RankTree<'s, ColumnShapes<'s>>>),
+    AtZero(ZeroSearch<RankTree<ColumnShapes<'s>>>),
 }
 
 impl<'s> Search<'s> {

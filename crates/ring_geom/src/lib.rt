@@ -14,7 +14,7 @@ mod bounds;
 mod corners_inside;
 mod edges;
 mod figure_gaps;
-mod laws;
+pub mod laws;
 mod meeting;
 mod point_in_ring;
 mod ring_gaps;

@@ -49,7 +49,7 @@ fn prints_refusal(
 
 // A leaf of these ids is written as this text.
 fn prints_leaf(rt: &impl Abort, alloc: Global, ids: &[u32], text: &str) -> Result<(), NoMemory> {
-    let block = Block::of_point(Point { x: 16384, y: 0 }, 2);
+    let block = Block::of_point(Point { x: 262144, y: 0 }, 2);
     prints(rt, alloc, &LineRef::Leaf { block, ids }, text)
 }
 
@@ -60,14 +60,14 @@ fn short_lines_have_their_texts(rt: HostRuntime) -> Result<(), NoMemory> {
     prints_counts(&rt, alloc, text)?;
     let why = Refusal::BadRecord { row: 4, column: 2 };
     prints_refusal(&rt, alloc, why, "refused 16 BadRecord 4 2\n")?;
-    prints_leaf(&rt, alloc, &[1, 2, 30], "2\t16384\t0\t1 2 30\n")?;
-    prints_leaf(&rt, alloc, &[], "2\t16384\t0\t-\n")?;
+    prints_leaf(&rt, alloc, &[1, 2, 30], "2\t262144\t0\t1 2 30\n")?;
+    prints_leaf(&rt, alloc, &[], "2\t262144\t0\t-\n")?;
     Ok(())
 }
 
 const LOW: Point = Point { x: 0, y: 1 };
 
-const HIGH: Point = Point { x: 2, y: 65535 };
+const HIGH: Point = Point { x: 2, y: 1048575 };
 
 // A polygon of these vertices, if they are enough and memory is left.
 fn polygon(vertices: Vec<Point>) -> Option<Value> {
@@ -89,7 +89,7 @@ fn four_values(alloc: Global) -> Option<[Value; 4]> {
 }
 
 const ROW: &str =
-    "4/5\t1\t20\t-9223372036854775808\ta \"b\" \u{e9}\t(0 1)-(2 65535)\t((0 1) (2 65535) (0 1))\n";
+    "4/5\t1\t20\t-9223372036854775808\ta \"b\" \u{e9}\t(0 1)-(2 1048575)\t((0 1) (2 1048575) (0 1))\n";
 
 // The row of these values with a gap and two ids is written as this text.
 fn prints_row(

@@ -11,8 +11,6 @@ use std::process::Abort;
 
 const WIDTH: u32 = 1 << COORDINATE_BITS;
 
-const FAR: u32 = 65_536;
-
 fn at([x, y]: [u32; 2]) -> Point {
     Point { x, y }
 }
@@ -109,8 +107,8 @@ static POINTS: [(&str, [u32; 2], [u32; 2], u128); 7] = [
     ("three and four", [0, 0], [3, 4], 25),
     ("the same way back", [3, 4], [0, 0], 25),
     ("down to the right", [0, 4], [3, 0], 25),
-    ("one border", [0, 0], [FAR, 0], 4_294_967_296),
-    ("across", [0, FAR], [FAR, 0], 8_589_934_592),
+    ("one border", [0, 0], [WIDTH, 0], 1_099_511_627_776),
+    ("across", [0, WIDTH], [WIDTH, 0], 2_199_023_255_552),
 ];
 
 // The points of each case have this squared distance.
@@ -137,11 +135,11 @@ static POINTS_AND_SEGMENTS: [(&str, [u32; 2], [u32; 4], (u128, u128), bool); 13]
     ("on the line", [6, 1], [1, 1, 5, 1], (1, 1), false),
     ("over a slope", [0, 2], [0, 0, 2, 2], (2, 1), false),
     ("a fifth away", [0, 1], [0, 0, 1, 2], (1, 5), false),
-    ("a diagonal", [1, 1], [0, 0, FAR, FAR], (0, 1), true),
+    ("a diagonal", [1, 1], [0, 0, WIDTH, WIDTH], (0, 1), true),
     (
         "the far corner",
-        [0, FAR],
-        [0, 0, FAR, FAR],
+        [0, WIDTH],
+        [0, 0, WIDTH, WIDTH],
         (2_147_483_648, 1),
         false,
     ),
@@ -169,7 +167,7 @@ fn gaps_of_a_point_and_a_segment(rt: HostRuntime) {
 static SEGMENTS: [(&str, [u32; 4], [u32; 4], (u128, u128)); 16] = [
     ("crossing", [0, 0, 4, 4], [0, 4, 4, 0], (0, 1)),
     ("turned round", [4, 0, 0, 4], [4, 4, 0, 0], (0, 1)),
-    ("diagonals", [0, 0, FAR, FAR], [0, FAR, FAR, 0], (0, 1)),
+    ("diagonals", [0, 0, WIDTH, WIDTH], [0, WIDTH, WIDTH, 0], (0, 1)),
     ("end on end", [0, 0, 2, 2], [2, 2, 5, 1], (0, 1)),
     ("end in the midst", [0, 0, 4, 0], [2, 0, 2, 5], (0, 1)),
     ("one line, shared", [0, 0, 4, 0], [2, 0, 6, 0], (0, 1)),
@@ -183,15 +181,15 @@ static SEGMENTS: [(&str, [u32; 4], [u32; 4], (u128, u128)); 16] = [
     ("beside a slope", [0, 0, 4, 4], [3, 2, 6, 0], (1, 2)),
     (
         "two borders",
-        [0, 0, 0, FAR],
-        [FAR, 0, FAR, FAR],
-        (4_294_967_296, 1),
+        [0, 0, 0, WIDTH],
+        [WIDTH, 0, WIDTH, WIDTH],
+        (1_099_511_627_776, 1),
     ),
     (
         "nearly met",
-        [0, 0, FAR, 65_535],
+        [0, 0, WIDTH, WIDTH - 1],
         [1, 1, 1, 1],
-        (1, 8_589_803_521),
+        (1, 2_199_021_158_401),
     ),
 ];
 
@@ -215,7 +213,7 @@ static POINTS_AND_RECTANGLES: [(&str, [u32; 2], [u32; 4], u128); 8] = [
     ("above", [3, 9], [2, 2, 5, 4], 25),
     ("above to the right", [7, 7], [2, 2, 5, 4], 13),
     ("a point as rectangle", [0, 7], [3, 3, 3, 3], 25),
-    ("across", [0, 0], [FAR, FAR, FAR, FAR], 8_589_934_592),
+    ("across", [0, 0], [WIDTH, WIDTH, WIDTH, WIDTH], 2_199_023_255_552),
 ];
 
 // The point of each case has this gap to the rectangle.
@@ -272,7 +270,7 @@ static RECTANGLES: [(&str, [u32; 4], [u32; 4], u128); 6] = [
     ("one shared corner", [0, 0, 2, 2], [2, 2, 3, 3], 0),
     ("inside", [0, 0, 9, 9], [3, 3, 4, 4], 0),
     ("two lines", [0, 0, 4, 0], [2, 3, 2, 8], 9),
-    ("borders", [0, 0, 0, 9], [FAR, 0, FAR, 9], 4_294_967_296),
+    ("borders", [0, 0, 0, 9], [WIDTH, 0, WIDTH, 9], 1_099_511_627_776),
 ];
 
 // The rectangles of each case have this gap.

@@ -148,7 +148,7 @@ static POINTS: [(&str, &[[u32; 2]], &[[u32; 2]], (u128, u128)); 37] = [
         "the farthest corner from vertices that are all equal",
         &[[REACH, REACH]],
         ONE_POINT,
-        (8_589_148_178, 1),
+        (2_199_010_672_658, 1),
     ),
     (
         "outside a ring round the plane",
@@ -167,7 +167,7 @@ static POINTS: [(&str, &[[u32; 2]], &[[u32; 2]], (u128, u128)); 37] = [
         "a corner far from a sliver",
         &[[0, REACH]],
         SLIVER,
-        (2_147_483_648, 1),
+        (549_755_813_888, 1),
     ),
 ];
 
@@ -222,7 +222,7 @@ static SEGMENTS: [(&str, &[[u32; 2]], &[[u32; 2]], (u128, u128)); 12] = [
         "a segment across the plane",
         &[[0, REACH], [REACH, 0]],
         ONE_POINT,
-        (2_147_090_450, 1),
+        (549_749_522_450, 1),
     ),
 ];
 
@@ -483,7 +483,7 @@ fn gaps_of_a_polygon_and_a_rectangle(rt: HostRuntime) {
 
 // The gap of the middle of the plane and a ring that goes round the plane, with more vertices at the last corner.
 fn of_middle(alloc: Global, rounds: u8, last: &[[u32; 2]]) -> Option<(u128, u128)> {
-    let middle = figure(alloc, &[[32_768, 32_768]])?;
+    let middle = figure(alloc, &[[524_288, 524_288]])?;
     let ring = polygon(alloc, PLANE, rounds, last)?;
     Some(parts(gap_shapes(&middle, &ring)))
 }
@@ -499,7 +499,7 @@ fn rings_of_64_vertices_at_the_corners_of_the_plane(rt: HostRuntime) {
     ];
     assert_eq!(rt;
         found,
-        [Some((0, 1)), Some((1_073_676_289, 1)), None],
+        [Some((0, 1)), Some((274_876_858_369, 1)), None],
         "15 rounds hold the middle, 16 rounds do not, and 65 vertices are no ring"
     );
 }

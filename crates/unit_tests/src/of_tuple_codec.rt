@@ -59,11 +59,11 @@ static KINDS: [Kind; 5] = [
     Kind::Polygon,
 ];
 
-// -2, a text of two letters, (1 65535), (0 0)-(2 3) and a triangle.
+// -2, a text of two letters, (1 1048575), (0 0)-(2 3) and a triangle.
 static ROW: [u8; 61] = [
     255, 255, 255, 255, 255, 255, 255, 254, // -2
     3, 65, 195, 169, // a text of three bytes
-    0, 0, 0, 1, 0, 0, 255, 255, // a point
+    0, 0, 0, 1, 0, 15, 255, 255, // a point
     0, 0, 0, 0, 0, 0, 0, 0, 0, 0, 0, 2, 0, 0, 0, 3, // a segment
     3, 0, 0, 0, 0, 0, 0, 0, 0, 0, 0, 0, 4, 0, 0, 0, 0, 0, 0, 0, 0, 0, 0, 0, 5, // a ring
 ];
@@ -96,9 +96,9 @@ static VALUES: [(&str, Kind, &[u8], bool); 4] = [
     ("no UTF-8", Kind::Text, &[2, 195, 40], false),
     ("a control character", Kind::Text, &[2, 194, 133], false),
     (
-        "an x of 65536",
+        "an x of 1048576",
         Kind::Point,
-        &[0, 1, 0, 0, 0, 0, 0, 0],
+        &[0, 16, 0, 0, 0, 0, 0, 0],
         false,
     ),
 ];
