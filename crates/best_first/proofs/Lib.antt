@@ -4,6 +4,7 @@ pub mod Trees
 pub mod Pending
 pub mod Alikes
 pub mod Ranks
+pub mod RowSteps
 pub mod RowsToCome
 pub mod Tracked
 pub mod Replaced

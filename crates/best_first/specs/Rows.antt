@@ -1,5 +1,6 @@
 -- The steps of the lazy iterator over the rows to come, and its outcome.
-use Rattle.std.specs.Prelude.{◌≡◌, ◌⊎◌, Bool, true, false, List, Option, None, Some, Result, Ok, Err, IfOk, Ordering, ⊤}
+use Rattle.std.specs.Prelude.{◌≡◌, ◌⊎◌, Bool, true, false, List, Option, None, Some, Result, Ok, Err, IfOk, ⊤}
+use Rattle.std.specs.declared.cmp.Ordering.{Ordering}
 use Rattle.page_pool.specs.Causes.{HasPageCause}
 use Rattle.page_pool.specs.Desk.{DeskState}
 use Rattle.page_pool.specs.Reads.{IsRead}
