@@ -140,7 +140,7 @@ static POINTS_AND_SEGMENTS: [(&str, [u32; 2], [u32; 4], (u128, u128), bool); 13]
         "the far corner",
         [0, WIDTH],
         [0, 0, WIDTH, WIDTH],
-        (2_147_483_648, 1),
+        (549_755_813_888, 1),
         false,
     ),
 ];
