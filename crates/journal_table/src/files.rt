@@ -1,0 +1,38 @@
+// Files of records made by hand.
+use crate::draws::Draws;
+use sand_base::NoMemory;
+use std::alloc::Global;
+
+/// A file of whole records and a shut gate, and the places of its gates.
+#[derive(Drop)]
+pub struct Sample {
+    pub bytes: Vec<u8>,
+    pub gates: Vec<usize>,
+}
+
+// A body of at most 30 bytes.
+fn drawn_body(alloc: Global, draws: &mut Draws) -> Result<Vec<u8>, NoMemory> {
+    let mut body = Vec::new(alloc);
+    let size = draws.below(31);
+    for _ in 0..size {
+        body.push(draws.byte())?;
+    }
+    Ok(body)
+}
+
+/// A file of so many records.
+pub fn make_sample(alloc: Global, seed: u32, count: u32) -> Result<Sample, NoMemory> {
+    let mut draws = Draws::new(seed);
+    let mut bytes = Vec::new(alloc);
+    let mut gates = Vec::new(alloc);
+    for _ in 0..count {
+        let body = drawn_body(alloc, &mut draws)?;
+        gates.push(bytes.len())?;
+        bytes.push(1)?;
+        bytes.extend_from_slice(&u32::try_from(body.len()).unwrap_or(0).to_be_bytes())?;
+        bytes.extend_from_slice(&body)?;
+    }
+    gates.push(bytes.len())?;
+    bytes.push(0)?;
+    Ok(Sample { bytes, gates })
+}
