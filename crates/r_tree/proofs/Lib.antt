@@ -1,0 +1,13 @@
+pub mod Bags
+pub mod Rows
+pub mod Writes
+pub mod Raises
+pub mod Inserts
+pub mod Hulls
+pub mod Joins
+pub mod Removes
+pub mod Passes
+pub mod Weights
+pub mod Roots
+pub mod Wholes
+pub mod Cells

@@ -1,0 +1,9 @@
+-- Read in this order. What an entry keeps, and the bytes of a node.
+pub mod Entry
+pub mod Page
+-- The tree over pages, and what each call does.
+pub mod Tree
+pub mod Calls
+pub mod Nodes
+-- What only the proof needs.
+pub mod Steps
