@@ -1,16 +1,31 @@
-# make run   builds the program, which means proving it, and runs a script: make run SCRIPT=examples/first.sand
-# make test  the whole gate: proofs, must-fail edits, tests, stored runs and examples
+# The ways in; `make` alone prints them.
 
 SCRIPT ?= examples/first.sand
+PREFIX ?= /usr/local
+DESTDIR ?=
 
-.PHONY: run test
+.DEFAULT_GOAL := help
+.PHONY: help try run install test dist picture
+
+help:
+	@bash .ci/ways
+
+try:
+	@bash .ci/try "$(SCRIPT)"
 
 run:
+	@[ -r "$(SCRIPT)" ] || { echo "there is no script $(SCRIPT)"; exit 1; }
 	@bash .ci/build
-	@echo "-- the script $(SCRIPT):"
-	@cat $(SCRIPT)
-	@echo "-- and its answer:"
-	@./sand <$(SCRIPT)
+	@bash .ci/show "$(SCRIPT)"
+
+install:
+	@bash .ci/install "$(DESTDIR)$(PREFIX)"
 
 test:
 	@bash .ci/test
+
+dist:
+	@bash .ci/dist
+
+picture:
+	@bash .ci/picture
