@@ -89,9 +89,11 @@ pub record IsInnerOf (page : List ℕ) (count : ℕ) : Type 0 where
 abbrev pub entries_in : List ℕ → List Pair
 entries_in bytes = map entry_of (cells 32 0 (length bytes / 32) bytes)
 
+-- the keys in a row of bytes, 16 each
 abbrev pub keys_in : List ℕ → List ℕ
 keys_in bytes = map number_of (cells 16 0 (length bytes / 16) bytes)
 
+-- the children in a row of bytes, 8 each
 abbrev pub children_in : List ℕ → List ℕ
 children_in bytes = map word_of (cells 8 0 (length bytes / 8) bytes)
 
@@ -99,11 +101,14 @@ children_in bytes = map word_of (cells 8 0 (length bytes / 8) bytes)
 abbrev pub entry_key : List ℕ → ℕ → ℕ
 entry_key page i = number_of (piece 16 (32 + 32 * i) page)
 
+-- the value of entry i of a leaf
 abbrev pub entry_value : List ℕ → ℕ → ℕ
 entry_value page i = number_of (piece 16 (48 + 32 * i) page)
 
+-- key i of an inner page
 abbrev pub key_in : List ℕ → ℕ → ℕ
 key_in page i = number_of (piece 16 (32 + 16 * i) page)
 
+-- child i of an inner page
 abbrev pub child_in : List ℕ → ℕ → ℕ
 child_in page i = word_of (piece 8 (2736 + 8 * i) page)

@@ -68,6 +68,7 @@ abbrev pub mended_keys : ℕ → Option ℕ → List ℕ → List ℕ
 mended_keys j None ks = take j ks ++ ([] ++ drop (j + 1) ks)
 mended_keys j (Some k) ks = take j ks ++ ((k ∷ []) ++ drop (j + 1) ks)
 
+-- the children where child j and the next one became one, or stayed two
 abbrev pub mended_children : ℕ → Option ℕ → List ℕ → List ℕ
 mended_children j None cs = take (j + 1) cs ++ ([] ++ drop (j + 2) cs)
 mended_children j (Some k) cs = cs

@@ -54,6 +54,7 @@ pub record RunView : Type 0 where
   pub spot : Spot
   pub outcome : Result Bool PageFault
 
+-- what contracts see of a run
 abbrev pub run_view : {P : Type 0} → (P → PoolState) → Run P → RunView
 run_view shown r = record { pool = shown r.pages.now; spot = r.spot; outcome = r.outcome }
 

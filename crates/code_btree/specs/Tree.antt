@@ -20,6 +20,7 @@ abbrev pub node_in : Option (List ℕ) → Node
 node_in None = blank
 node_in (Some page) = node_of page
 
+-- the node in a page
 abbrev pub node : Store → ℕ → Node
 node m n = node_in (m n)
 
@@ -42,9 +43,11 @@ links m (suc level) n = flat_map (λ c. links m level c) (children_of (node m n)
 abbrev pub all_items : Store → ℕ → List ℕ → List Pair
 all_items m level cs = flat_map (λ c. items m level c) cs
 
+-- the pages of subtrees side by side
 abbrev pub all_pages : Store → ℕ → List ℕ → List ℕ
 all_pages m level cs = flat_map (λ c. pages m level c) cs
 
+-- the links of leaves of subtrees side by side
 abbrev pub all_links : Store → ℕ → List ℕ → List (ℕ × ℕ)
 all_links m level cs = flat_map (λ c. links m level c) cs
 

@@ -1,8 +1,8 @@
 //! The rows of a data file: records of comma-separated fields, each field read by the kind of its column.
 //!
 //! A file is read whole from a shelf (`read_file`), and its bytes are then read as rows of a schema, record by record
-//! (`rows_of`): the first record that is no row refuses the file, with its leftmost bad column. Above: `session`, which
-//! enters the rows. Below: `sand_base`, `script_text` for the fields, and the crate `csv`, whose own definition says what the
+//! (`rows_of`): the first record that is no row refuses the file, with its leftmost bad column. Above: `statement_exec`,
+//! which enters the rows. Below: `sand_base`, `script_text` for the fields, and the crate `csv`, whose own definition says what the
 //! records of some bytes are. Contracts see a file as its bytes and a row as the list of its values; read
 //! `specs/FieldValue.antt` first, then `specs/FileRows.antt`.
 //!

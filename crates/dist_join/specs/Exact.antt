@@ -13,6 +13,7 @@ both_equal Greater b e = absurd (true≢false (ap is_gt e))
 abbrev by_code : Block → Block → Ordering
 by_code a b = ordering_then (nat_cmp a.z b.z) (nat_cmp a.level b.level)
 
+-- pairs of blocks that compare equal are equal
 pub pair_exact : (a b : Block × Block) → ordering_then (by_code a.0 b.0) (by_code a.1 b.1) ≡ Equal → a ≡ b
 pair_exact a b e =
     let h = both_equal (by_code a.0 b.0) (by_code a.1 b.1) e in

@@ -11,6 +11,7 @@
 mod frac;
 mod frac_text;
 mod gcd;
+pub mod laws;
 
 pub use frac::Frac;
 pub use frac_text::FracText;

@@ -4,7 +4,7 @@
 //! `FileShelf` is the shelf of a run, `ShellDisk` its disk: with a name it keeps the pages in that file, without one in
 //! memory. `StdinSource` is where its script comes from, `StdoutSink` where its answers go. Each call of std that fails
 //! is one counted fault. An `Outbox` gathers the answers that an `OutboxWriter` writes, and a `PromptReader` hands them
-//! on before it reads more of the script. Above: the program, whose `main` passes all of them to the top call. Below:
+//! on before it reads more of the script. Above: `sand_shell`, whose `main` passes all of them to the top call. Below:
 //! `sand_base` and `page_pool`, whose traits `Source`, `Sink`, `Shelf` and `Disk` carry the contracts.
 //! Contracts see what an opened file, a reader and a writer tell of their bytes (those of the system tell nothing) and
 //! the counts of faults, of a disk the `DiskView`, and of an outbox what is gathered. Read `specs/Kept.antt` first.

@@ -2,7 +2,7 @@
 //!
 //! A line falls from the left into tokens, to its end or to a first byte at which none begins; and the tokens write a
 //! statement, in range or not, or have a first bad one. So a promise about all readings of a line is never empty.
-//! Nothing runs here. Above: the crates that carry lines out. Below: `script_text`, whose reader answers one reading of
+//! Nothing runs here. Above: `run_laws`. Below: `script_text`, whose reader answers one reading of
 //! each line, or that memory was refused.
 //! Read `specs/Line.antt` of `script_text` first, and then `proofs/Readings.antt`.
 #![tactic(auto)]

@@ -36,11 +36,11 @@ fn refuse<K: Sink>(out: &mut K, why: Refusal) -> Result<bool, Failed>
 }
 
 /// Carries a line out while a cursor is open, and writes what it prints. The answer says whether it was refused.
-pub fn line_beside<'s, D: Disk, K: Sink>(
+pub fn line_beside<D: Disk, K: Sink>(
     alloc: Global,
-    catalog: &'s Catalog,
+    catalog: &Catalog,
     desk: &mut Desk<D>,
-    cursors: &mut Vec<OpenCursor<Source<'s>, Stage<'s>>>,
+    cursors: &mut Vec<OpenCursor<Source, Stage>>,
     line: &[u8],
     out: &mut K,
 ) -> Result<bool, Failed>

@@ -24,11 +24,11 @@ use std::alloc::Global;
 
 /// Carries a statement out beside open cursors, and writes its lines. The answer says whether it was refused. One that
 /// changes relations is refused; it may come only while a cursor is open.
-pub fn statement_beside<'s, D: Disk, K: Sink>(
+pub fn statement_beside<D: Disk, K: Sink>(
     alloc: Global,
-    catalog: &'s Catalog,
+    catalog: &Catalog,
     desk: &mut Desk<D>,
-    cursors: &mut Vec<OpenCursor<Source<'s>, Stage<'s>>>,
+    cursors: &mut Vec<OpenCursor<Source, Stage>>,
     statement: &Statement,
     out: &mut K,
 ) -> Result<bool, Failed>

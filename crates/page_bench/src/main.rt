@@ -4,7 +4,8 @@
 //! drawn inserts and deletes, what some small searches find, and what becomes of a pool and of quadtrees whose disk fails. With
 //! three words, as `pages look 20`, it makes inserts, look-ups or a run over so many lots of 50,000 drawn keys of the map instead,
 //! for `bench/btree.py`; with two, as `rank 100000`, it makes the trees, files or searches that `bench/pages.py` times, or, as
-//! `misses 20000`, so many calls of a pool. Above: nothing. Below: the crates over pages. The draws are those of a linear
+//! `misses 20000`, so many calls of a pool. Above: nothing. Below: `page_pool`, `code_btree`, `tuple_file`, `attr_index`,
+//! `pmr_tree`, `rank_cursor`, `dist_join` and `semi_join`. The draws are those of a linear
 //! congruential generator.
 #![tactic(auto)]
 

@@ -37,6 +37,7 @@ run (Some n ∷ marks) [] = []
 run (Some n ∷ marks) (rest ∷ []) = []
 run (Some n ∷ marks) (rest ∷ (kids ∷ stack)) = run marks (link n.0 n.1 kids rest ∷ stack)
 
+-- a chain that is written out is read back
 pub run_written : {X : Type 0} (c : Chain X) (marks : List (Option (Ptr × X))) (stack : List (Chain X)) → run (written c marks) stack ≡ run marks (c ∷ stack)
 run_written end marks stack = refl
 run_written (link p x kids rest) marks stack = run_written kids (written rest (Some (p, x) ∷ marks)) stack ∙ run_written rest (Some (p, x) ∷ marks) (kids ∷ stack)

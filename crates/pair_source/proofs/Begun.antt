@@ -23,7 +23,7 @@ use Rattle.dist_join.specs.Joining.{IsSound, join_meaning}
 use Rattle.dist_join.specs.OverPages.{side_at, IsFitted}
 use Rattle.dist_join.proofs.Expanding.{sound}
 use Rattle.dist_join.proofs.JoinLaws.{join_laws}
-use Rattle.pair_source.specs.Joins.{ColumnView, JoinView, side_in, joining_in, IsSideOf, IsSearched, HasTaken, AreColumnsOf, HaveTrees, Begins}
+use Rattle.pair_source.specs.Joins.{ColumnView, JoinedColumns, JoinView, side_of, join_view, side_in, joining_in, IsSideOf, IsSearched, HasTaken, AreColumnsOf, HaveTrees, Begins}
 use Rattle.rank_source.specs.Rankings.{IsColumnOf}
 use Rattle.pair_source.proofs.PairOrder.{pair_cmp}
 
@@ -36,37 +36,37 @@ tree_is : (pages : PageMap) (c : ColumnView) (d : Database) (column : Column) �
 tree_is pages c d column of is = rw of.0 (rw of.1 (rw (is.index pages) refl))
 
 is_side : (pages : PageMap) (limits : Limits) (c : ColumnView) (d : Database) (column : Column) → IsLimits limits → RelationStands pages limits c.relation → IsColumnOf pages c.relation c.at d column
-    → IsTreeOf c.relation c.at c.tree → IsSideOf (side_at (side_in c) pages) d column
+    → IsTreeOf c.relation c.at c.tree → IsSideOf (side_at (side_in (side_of c)) pages) d column
 is_side pages limits c d column small stands of is = record {
   shapes = shapes_are pages c d column of;
   tree = tree_is pages c d column of is;
   few = le_trans (is.fits pages limits stands).few small.few_listings;
 }
 
-fitted : (pages : PageMap) (limits : Limits) (c : ColumnView) → RelationStands pages limits c.relation → IsTreeOf c.relation c.at c.tree → IsFitted (side_in c) pages
+fitted : (pages : PageMap) (limits : Limits) (c : ColumnView) → RelationStands pages limits c.relation → IsTreeOf c.relation c.at c.tree → IsFitted (side_in (side_of c)) pages
 fitted pages limits c stands is = ((is.fits pages limits stands).fits, stands.table)
 
 -- ---- a join
 
-module _ (v : JoinView) (trees : HaveTrees v) (pages : PageMap) (d : Database) (left right : Column) (of : AreColumnsOf v pages d left right) where
-  pub left_side : IsSideOf (joining_in v pages).left d left
+module _ (v : JoinedColumns) (trees : HaveTrees v) (pages : PageMap) (d : Database) (left right : Column) (of : AreColumnsOf v pages d left right) where
+  pub left_side : IsSideOf (joining_in (join_view v) pages).left d left
   left_side = is_side pages of.limits v.left d left of.small of.left_stands of.left_column trees.0
 
-  pub right_side : IsSideOf (joining_in v pages).right d right
+  pub right_side : IsSideOf (joining_in (join_view v) pages).right d right
   right_side = is_side pages of.limits v.right d right of.small of.right_stands of.right_column trees.1
 
-  pub is_sound : IsSound (joining_in v pages)
+  pub is_sound : IsSound (joining_in (join_view v) pages)
   is_sound =
-      sound (side_in v.left) (side_in v.right) v.ceiling (λ m h. shapes_plane v.left.relation.schema v.left.at (rows_in m v.left.relation) h.rows)
+      sound (side_in (side_of v.left)) (side_in (side_of v.right)) v.ceiling (λ m h. shapes_plane v.left.relation.schema v.left.at (rows_in m v.left.relation) h.rows)
       (λ m h. shapes_plane v.right.relation.schema v.right.at (rows_in m v.right.relation) h.rows) pages
       (fitted pages of.limits v.left of.left_stands trees.0) (fitted pages of.limits v.right of.right_stands trees.1)
 
   pub searched : (held : List (Item (Block × Block))) (last : Option Hit) (counts : Counts) → IsCounted {N = Block × Block} [] counts
-      → (MeetsLaws (join_meaning (joining_in v pages)) → Stands pair_cmp (join_meaning (joining_in v pages)) held last []) → IsSearched pair_cmp (joining_in v pages) held last counts
+      → (MeetsLaws (join_meaning (joining_in (join_view v) pages)) → Stands pair_cmp (join_meaning (joining_in (join_view v) pages)) held last []) → IsSearched pair_cmp (joining_in (join_view v) pages) held last counts
   searched held last counts counted search = record {
     sound = is_sound;
     done = [];
-    stands = search (join_laws (joining_in v pages) is_sound);
+    stands = search (join_laws (joining_in (join_view v) pages) is_sound);
     counted = counted;
   }
 
@@ -78,8 +78,8 @@ moved_search wanted made same held last stands =
     subst (λ (x : JoinView). (m : PageMap) → MeetsLaws (join_meaning (joining_in x m)) → Stands pair_cmp (join_meaning (joining_in x m)) held last []) same stands
 
 -- the source that keeps this search has taken nothing, over all pages
-pub begun_over : (wanted kept : JoinView) → kept ≡ wanted → (held : List (Item (Block × Block))) (last : Option Hit) (counts : Counts) → last ≡ None
-    → IsCounted {N = Block × Block} [] counts → ((m : PageMap) → MeetsLaws (join_meaning (joining_in wanted m)) → Stands pair_cmp (join_meaning (joining_in wanted m)) held last [])
+pub begun_over : (wanted : JoinedColumns) (kept : JoinView) → kept ≡ join_view wanted → (held : List (Item (Block × Block))) (last : Option Hit) (counts : Counts) → last ≡ None
+    → IsCounted {N = Block × Block} [] counts → ((m : PageMap) → MeetsLaws (join_meaning (joining_in (join_view wanted) m)) → Stands pair_cmp (join_meaning (joining_in (join_view wanted) m)) held last [])
     → Begins (λ m d p t. HasTaken pair_cmp (joining_in kept m) held last counts d p t) wanted
 begun_over wanted kept same held last counts none counted stands =
     subst (λ (x : JoinView). Begins (λ m d p t. HasTaken pair_cmp (joining_in x m) held last counts d p t) wanted) (sym same)

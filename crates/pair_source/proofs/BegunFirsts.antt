@@ -24,7 +24,7 @@ use Rattle.dist_join.proofs.CountedPairs.{nothing_counted}
 use Rattle.dist_join.proofs.JoinLaws.{join_laws}
 use Rattle.dist_join.proofs.JoinedRows.{has_lefts}
 use Rattle.plan_rows.specs.Rows.{plan_measure}
-use Rattle.pair_source.specs.Joins.{JoinView, joining_in, pairs_in, HasTakenFirsts, BeginsFirsts}
+use Rattle.pair_source.specs.Joins.{JoinedColumns, JoinView, join_view, joining_in, pairs_in, HasTakenFirsts, BeginsFirsts}
 use Rattle.pair_source.proofs.Begun.{left_side, right_side, is_sound, searched}
 use Rattle.pair_source.proofs.LeftShapes.{shapes_long, shapes_small}
 use Rattle.pair_source.proofs.PairOrder.{pair_cmp}
@@ -46,8 +46,8 @@ abbrev pub HasIdsUpTo : RelationView → ℕ → Type 0
 HasIdsUpTo r greatest = (pages : PageMap) (limits : Limits) → RelationStands pages limits r → All (λ row. row.0 ≤ greatest) (rows_in pages r)
 
 -- where the source keeps a search of which nothing was taken
-begun_alone : (wanted kept : JoinView) → kept ≡ wanted → (held : List (Item (Block × Block))) (last : Option Hit) (counts : Counts) → last ≡ None
-    → IsCounted {N = Block × Block} [] counts → ((m : PageMap) → MeetsLaws (join_meaning (joining_in wanted m)) → Stands pair_cmp (join_meaning (joining_in wanted m)) held last [])
+begun_alone : (wanted : JoinedColumns) (kept : JoinView) → kept ≡ join_view wanted → (held : List (Item (Block × Block))) (last : Option Hit) (counts : Counts) → last ≡ None
+    → IsCounted {N = Block × Block} [] counts → ((m : PageMap) → MeetsLaws (join_meaning (joining_in (join_view wanted) m)) → Stands pair_cmp (join_meaning (joining_in (join_view wanted) m)) held last [])
     → (lefts : LeftRows) (count greatest : ℕ) → lefts.given ≡ set.empty → lefts.waiting ≡ count → HasRowCount wanted.left.relation count → HasIdsUpTo wanted.left.relation greatest
     → ((m : PageMap) → StandsOver pair_cmp (join_meaning (joining_in kept m)) held last → HasLefts (join_meaning (joining_in kept m)) count greatest → SemiStands pair_cmp (join_meaning (joining_in kept m)) held last lefts)
     → BeginsFirsts (λ m d p t. HasTakenFirsts pair_cmp (joining_in kept m) held last counts lefts d p t) wanted
@@ -55,7 +55,7 @@ begun_alone wanted kept same held last counts none counted stands lefts count gr
     subst (λ (x : JoinView). ((m : PageMap) → StandsOver pair_cmp (join_meaning (joining_in x m)) held last → HasLefts (join_meaning (joining_in x m)) count greatest
     → SemiStands pair_cmp (join_meaning (joining_in x m)) held last lefts) → BeginsFirsts (λ m d p t. HasTakenFirsts pair_cmp (joining_in x m) held last counts lefts d p t) wanted) (sym same)
     (λ standing trees column m d left right of.
-    let j = joining_in wanted m in
+    let j = joining_in (join_view wanted) m in
     let sound = is_sound wanted trees m d left right of in
     let found = searched wanted trees m d left right of held last counts counted (stands m) in
     let side = left_side wanted trees m d left right of in
@@ -90,8 +90,8 @@ pub record SearchParts : Type 0 where
   pub counts : Counts
 
 -- the source that keeps the search that was made has taken nothing, over all pages
-pub begun_over : (wanted : JoinView) (made kept : SearchParts) → kept ≡ made → made.view ≡ wanted → made.last ≡ None → IsCounted {N = Block × Block} [] made.counts
-    → ((m : PageMap) → MeetsLaws (join_meaning (joining_in wanted m)) → Stands pair_cmp (join_meaning (joining_in wanted m)) made.held made.last [])
+pub begun_over : (wanted : JoinedColumns) (made kept : SearchParts) → kept ≡ made → made.view ≡ join_view wanted → made.last ≡ None → IsCounted {N = Block × Block} [] made.counts
+    → ((m : PageMap) → MeetsLaws (join_meaning (joining_in (join_view wanted) m)) → Stands pair_cmp (join_meaning (joining_in (join_view wanted) m)) made.held made.last [])
     → (lefts : LeftRows) (count greatest : ℕ) → lefts.given ≡ set.empty → lefts.waiting ≡ count → HasRowCount wanted.left.relation count → HasIdsUpTo wanted.left.relation greatest
     → ((m : PageMap) → StandsOver pair_cmp (join_meaning (joining_in made.view m)) made.held made.last → HasLefts (join_meaning (joining_in made.view m)) count greatest
     → SemiStands pair_cmp (join_meaning (joining_in made.view m)) kept.held kept.last lefts)

@@ -12,9 +12,12 @@ use Rattle.sand_model.specs.Taken.{Taken}
 use Rattle.sand_model.specs.Tree.{listings}
 use Rattle.page_pool.specs.Disk.{PageMap}
 use Rattle.pmr_tree.specs.declared.quadtree.Pmr.{Pmr}
+use Rattle.sand_base.specs.declared.kind.Kind.{Kind}
 use Rattle.sand_base.specs.declared.limits.Limits.{Limits}
+use Rattle.tuple_file.specs.declared.file.TupleFile.{TupleFile}
 use Rattle.sand_store.specs.Catalog.{RelationView, IsLimits, IsColumnAt, most_listings}
-use Rattle.sand_store.specs.Contents.{rows_in}
+use Rattle.sand_store.specs.Contents.{rows_at}
+use Rattle.sand_store.specs.declared.column.FileShapes.{FileShapes}
 use Rattle.sand_store.specs.Paths.{IsTreeOf}
 use Rattle.sand_store.specs.Standing.{TableStands, RelationStands}
 use Rattle.best_first.specs.Frontier.{Stands}
@@ -31,7 +34,9 @@ use Rattle.dist_join.specs.OverPages.{PageSide, paged, joining_over}
 use Rattle.plan_rows.specs.Prices.{Heights}
 use Rattle.plan_rows.specs.Rows.{plan_measure}
 use Rattle.plan_rows.specs.SourceSteps.{nothing_taken}
+use Rattle.dist_join.specs.declared.pair_tree.PairTree.{PairTree}
 use Rattle.rank_source.specs.Rankings.{IsColumnOf}
+use Rattle.rank_source.specs.declared.tree_column.TreeColumn.{TreeColumn}
 
 -- ---- what is joined
 
@@ -42,23 +47,51 @@ pub record ColumnView : Type 0 where
   pub tree : Pmr
 
 -- two columns that are joined, with the ceiling
-pub record JoinView : Type 0 where
+pub record JoinedColumns : Type 0 where
   pub left : ColumnView
   pub right : ColumnView
   pub ceiling : Option ℕ
 
--- the join of two columns, each by its relation, its place and its quadtree
-abbrev pub join_view : RelationView → ℕ → Pmr → RelationView → ℕ → Pmr → Option ℕ → JoinView
-join_view one at tree two place other ceiling = record {
-  left = record { relation = one; at = at; tree = tree };
-  right = record { relation = two; at = place; tree = other };
-  ceiling = ceiling;
-}
+-- the column of a relation of the catalog
+abbrev pub column_view : TreeColumn → ColumnView
+column_view column = record { relation = column.relation.now; at = column.column; tree = column.tree.now }
+
+-- two columns of the catalog, with the ceiling
+abbrev pub joined_columns : TreeColumn → TreeColumn → Option ℕ → JoinedColumns
+joined_columns one two ceiling = record { left = column_view one; right = column_view two; ceiling = ceiling }
+
+-- what a search keeps of a column: the schema and the file of the rows, the column's place there, and its quadtree
+pub record SideView : Type 0 where
+  pub schema : List (List ℕ × Kind)
+  pub file : TupleFile
+  pub at : ℕ
+  pub tree : Pmr
+
+-- what a search keeps of two columns, with the ceiling
+pub record JoinView : Type 0 where
+  pub left : SideView
+  pub right : SideView
+  pub ceiling : Option ℕ
+
+-- a column, as a search keeps it
+abbrev pub side_of : ColumnView → SideView
+side_of c = record { schema = c.relation.schema; file = c.relation.file; at = c.at; tree = c.tree }
+
+-- two columns, as a search keeps them
+abbrev pub join_view : JoinedColumns → JoinView
+join_view columns = record { left = side_of columns.left; right = side_of columns.right; ceiling = columns.ceiling }
+
+-- the shapes of a column with its quadtree, as a hierarchy has them
+abbrev pub side_kept : FileShapes → Pmr → SideView
+side_kept shapes tree = record { schema = shapes.schema; file = shapes.file; at = shapes.column; tree = tree }
+
+-- the join that a hierarchy is
+abbrev pub join_of : PairTree FileShapes → JoinView
+join_of tree = record { left = side_kept tree.left_shapes tree.left; right = side_kept tree.right_shapes tree.right; ceiling = tree.ceiling }
 
 -- the shapes of a column over pages, with its quadtree
-abbrev pub side_in : ColumnView → PageSide
-side_in c =
-    paged (λ pages. shapes_of c.at (rows_in pages c.relation)) (λ pages. TableStands pages c.relation.schema c.relation.file) (c.relation.file.tree.height + 1) c.tree
+abbrev pub side_in : SideView → PageSide
+side_in s = paged (λ pages. shapes_of s.at (rows_at pages s.schema s.file)) (λ pages. TableStands pages s.schema s.file) (s.file.tree.height + 1) s.tree
 
 -- the join of the columns over pages
 abbrev pub joining_in : JoinView → PageMap → Joining
@@ -68,9 +101,9 @@ joining_in v pages = joining_over (side_in v.left) (side_in v.right) v.ceiling p
 abbrev pub heights_of : JoinView → Heights
 heights_of v = record {
   index = v.left.tree.map.height;
-  rows = v.left.relation.file.tree.height;
+  rows = v.left.file.tree.height;
   right_index = v.right.tree.map.height;
-  right_rows = v.right.relation.file.tree.height;
+  right_rows = v.right.file.tree.height;
 }
 
 -- A side of a join has the column's shapes and its quadtree, with no more listings than a quadtree may have.
@@ -123,7 +156,7 @@ pub record HasTakenFirsts (cmp : Block × Block → Block × Block → Ordering)
 -- ---- how a source begins
 
 -- both relations stand over the pages, within limits, and the database has their columns under these names
-pub record AreColumnsOf (v : JoinView) (pages : PageMap) (d : Database) (left right : Column) : Type 0 where
+pub record AreColumnsOf (v : JoinedColumns) (pages : PageMap) (d : Database) (left right : Column) : Type 0 where
   pub limits : Limits
   pub small : IsLimits limits
   pub left_stands : RelationStands pages limits v.left.relation
@@ -132,16 +165,16 @@ pub record AreColumnsOf (v : JoinView) (pages : PageMap) (d : Database) (left ri
   pub right_column : IsColumnOf pages v.right.relation v.right.at d right
 
 -- the quadtrees are those of the columns
-abbrev pub HaveTrees : JoinView → Type 0
+abbrev pub HaveTrees : JoinedColumns → Type 0
 HaveTrees v = IsTreeOf v.left.relation v.left.at v.left.tree × IsTreeOf v.right.relation v.right.at v.right.tree
 
 -- Nothing was taken of a join, over all pages where its relations stand.
-abbrev pub Begins : (PageMap → Database → Plan → Taken → Type 0) → JoinView → Type 0
+abbrev pub Begins : (PageMap → Database → Plan → Taken → Type 0) → JoinedColumns → Type 0
 Begins At v =
     HaveTrees v → (pages : PageMap) (d : Database) (left right : Column) → AreColumnsOf v pages d left right → At pages d (plan.Join left right v.ceiling) nothing_taken
 
 -- Nothing was taken of a semi-join, over all pages where its relations stand; its left column is one of shapes.
-abbrev pub BeginsFirsts : (PageMap → Database → Plan → Taken → Type 0) → JoinView → Type 0
+abbrev pub BeginsFirsts : (PageMap → Database → Plan → Taken → Type 0) → JoinedColumns → Type 0
 BeginsFirsts At v =
     HaveTrees v → IsColumnAt v.left.relation.schema v.left.at true → (pages : PageMap) (d : Database) (left right : Column) → AreColumnsOf v pages d left right
     → At pages d (plan.Semi left right v.ceiling) nothing_taken

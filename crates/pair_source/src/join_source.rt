@@ -4,7 +4,7 @@ ghost use Rattle.best_first.specs.Steps.{steps};
 ghost use Rattle.dist_join.specs.OverPages.{pair_weight};
 ghost use Rattle.sand_model.specs.Reach.{no_counts};
 ghost use Rattle.plan_rows.specs.Rows.{counts_of};
-ghost use Rattle.pair_source.specs.Joins.{join_view, joining_in, heights_of, HasTaken, Begins};
+ghost use Rattle.pair_source.specs.Joins.{joined_columns, join_of, joining_in, heights_of, HasTaken, Begins};
 
 use crate::pair_answer::{pair_answer, room};
 use crate::pair_search::pair_search;
@@ -15,39 +15,39 @@ use plan_rows::{Answer, RowSource, SourceCounts};
 use rank_queue::CopyQueue;
 use rank_source::TreeColumn;
 use sand_base::NoMemory;
-use sand_store::ColumnShapes;
+use sand_store::FileShapes;
 use std::alloc::Global;
 use z_code::Block;
 
 /// The pairs of rows of two columns by their distance, nearest first.
 #[derive(Drop)]
-pub struct JoinSource<'s> {
-    search: BestFirst<PairTree<ColumnShapes<'s>>, CopyQueue<Item<(Block, Block)>>>,
+pub struct JoinSource {
+    search: BestFirst<PairTree<FileShapes>, CopyQueue<Item<(Block, Block)>>>,
 }
 
-impl<'s> JoinSource<'s> {
+impl JoinSource {
     /// The join of two columns, with a greatest distance where there is a ceiling. No page is read.
     pub fn start(
         alloc: Global,
-        left: TreeColumn<'s>,
-        right: TreeColumn<'s>,
+        left: TreeColumn,
+        right: TreeColumn,
         ceiling: Option<u32>,
-    ) -> Result<JoinSource<'s>, NoMemory>
+    ) -> Result<JoinSource, NoMemory>
         requires small { IsCeilingInRange ceiling }
-        ensures counts { IfOk result (λ s. counts_of (⟦<JoinSource<'s> as RowSource>⟧.seen s) ≡ no_counts) }
-        ensures begun { IfOk result (λ s. Begins (⟦<JoinSource<'s> as RowSource>⟧.At s) (join_view left.entry.relation.now left.entry.column left.entry.tree.now right.entry.relation.now right.entry.column right.entry.tree.now ceiling)) }
+        ensures counts { IfOk result (λ s. counts_of (⟦<JoinSource as RowSource>⟧.seen s) ≡ no_counts) }
+        ensures begun { IfOk result (λ s. Begins (⟦<JoinSource as RowSource>⟧.At s) (joined_columns left.entry right.entry ceiling)) }
     {
         let search = pair_search(alloc, left, right, ceiling)?;
         Ok(JoinSource { search })
     }
 }
 
-impl<'s> RowSource for JoinSource<'s> {
-    ghost At = { λ s pages d p t. HasTaken ⟦<(Block, Block) as Ord>⟧.cmp (joining_in (join_view s.search.hierarchy.left_shapes.relation.now s.search.hierarchy.left_shapes.column s.search.hierarchy.left s.search.hierarchy.right_shapes.relation.now s.search.hierarchy.right_shapes.column s.search.hierarchy.right s.search.hierarchy.ceiling) pages) s.search.frontier.queue.items s.search.frontier.last s.search.frontier.counts d p t };
+impl RowSource for JoinSource {
+    ghost At = { λ s pages d p t. HasTaken ⟦<(Block, Block) as Ord>⟧.cmp (joining_in (join_of s.search.hierarchy) pages) s.search.frontier.queue.items s.search.frontier.last s.search.frontier.counts d p t };
 
     ghost seen = { λ s. record { blocks = 0; pairs = s.search.frontier.counts.visited; geometries = s.search.frontier.counts.fetched } };
 
-    ghost heights = { λ s. heights_of (join_view s.search.hierarchy.left_shapes.relation.now s.search.hierarchy.left_shapes.column s.search.hierarchy.left s.search.hierarchy.right_shapes.relation.now s.search.hierarchy.right_shapes.column s.search.hierarchy.right s.search.hierarchy.ceiling) };
+    ghost heights = { λ s. heights_of (join_of s.search.hierarchy) };
 
     ghost step_price = { λ s. 0 };
 

@@ -6,37 +6,33 @@ ghost use Rattle.best_first.specs.Hierarchy.{MeetsLaws};
 ghost use Rattle.best_first.specs.Visits.{IsCounted};
 ghost use Rattle.z_code.specs.declared.block.Block.{Block as Place};
 ghost use Rattle.dist_join.specs.Joining.{join_meaning};
-ghost use Rattle.pair_source.specs.Joins.{join_view, joining_in};
+ghost use Rattle.pair_source.specs.Joins.{joined_columns, join_view, join_of, joining_in};
 
 use best_first::{BestFirst, Item};
 use dist_join::PairTree;
 use rank_queue::{CopyQueue, Queue};
 use rank_source::TreeColumn;
 use sand_base::NoMemory;
-use sand_store::ColumnShapes;
+use sand_store::FileShapes;
 use std::alloc::Global;
 use z_code::Block;
 
 // The search over the pairs of places of two quadtrees, which has given nothing.
-pub fn pair_search<'s>(
+pub fn pair_search(
     alloc: Global,
-    left: TreeColumn<'s>,
-    right: TreeColumn<'s>,
+    left: TreeColumn,
+    right: TreeColumn,
     ceiling: Option<u32>,
-) -> Result<BestFirst<PairTree<ColumnShapes<'s>>, CopyQueue<Item<(Block, Block)>>>, NoMemory>
+) -> Result<BestFirst<PairTree<FileShapes>, CopyQueue<Item<(Block, Block)>>>, NoMemory>
     requires small { IsCeilingInRange ceiling }
-    ensures view { IfOk result (λ s. join_view s.hierarchy.left_shapes.relation.now s.hierarchy.left_shapes.column s.hierarchy.left s.hierarchy.right_shapes.relation.now s.hierarchy.right_shapes.column s.hierarchy.right s.hierarchy.ceiling ≡ join_view left.entry.relation.now left.entry.column left.entry.tree.now right.entry.relation.now right.entry.column right.entry.tree.now ceiling) }
+    ensures view { IfOk result (λ s. join_of s.hierarchy ≡ join_view (joined_columns left.entry right.entry ceiling)) }
     ensures none_given { IfOk result (λ s. s.frontier.last ≡ None) }
     ensures none_taken { IfOk result (λ s. IsCounted {N = Place × Place} [] s.frontier.counts) }
-    ensures stands { IfOk result (λ s. (p : PageMap) → MeetsLaws (join_meaning (joining_in (join_view left.entry.relation.now left.entry.column left.entry.tree.now right.entry.relation.now right.entry.column right.entry.tree.now ceiling) p)) → Stands ⟦<(Block, Block) as Ord>⟧.cmp (join_meaning (joining_in (join_view left.entry.relation.now left.entry.column left.entry.tree.now right.entry.relation.now right.entry.column right.entry.tree.now ceiling) p)) s.frontier.queue.items s.frontier.last []) }
+    ensures stands { IfOk result (λ s. (p : PageMap) → MeetsLaws (join_meaning (joining_in (join_view (joined_columns left.entry right.entry ceiling)) p)) → Stands ⟦<(Block, Block) as Ord>⟧.cmp (join_meaning (joining_in (join_view (joined_columns left.entry right.entry ceiling)) p)) s.frontier.queue.items s.frontier.last []) }
 {
-    let hierarchy = PairTree::over(
-        *left.tree,
-        left.shapes(),
-        *right.tree,
-        right.shapes(),
-        ceiling,
-    );
+    let left_shapes = left.shapes(alloc)?;
+    let right_shapes = right.shapes(alloc)?;
+    let hierarchy = PairTree::over(*left.tree, left_shapes, *right.tree, right_shapes, ceiling);
     let search = BestFirst::start(alloc, hierarchy, CopyQueue::empty(alloc))?;
     Ok(search)
 }

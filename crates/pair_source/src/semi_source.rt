@@ -4,7 +4,7 @@ ghost use Rattle.sand_model.specs.Reach.{no_counts};
 ghost use Rattle.best_first.specs.Steps.{steps};
 ghost use Rattle.dist_join.specs.OverPages.{pair_weight};
 ghost use Rattle.plan_rows.specs.Rows.{counts_of};
-ghost use Rattle.pair_source.specs.Joins.{join_view, joining_in, heights_of, HasTakenFirsts, BeginsFirsts};
+ghost use Rattle.pair_source.specs.Joins.{joined_columns, join_of, joining_in, heights_of, HasTakenFirsts, BeginsFirsts};
 
 use crate::pair_answer::{pair_answer, room};
 use crate::pair_search::pair_search;
@@ -15,29 +15,29 @@ use plan_rows::{Answer, RowSource, SourceCounts};
 use rank_queue::CopyQueue;
 use rank_source::TreeColumn;
 use sand_base::NoMemory;
-use sand_store::ColumnShapes;
+use sand_store::FileShapes;
 use semi_join::Semi;
 use std::alloc::Global;
 use z_code::Block;
 
 /// The first pair of each row of the left column, the one with the nearest row of the right column, nearest first.
 #[derive(Drop)]
-pub struct SemiSource<'s> {
-    semi: Semi<PairTree<ColumnShapes<'s>>, CopyQueue<Item<(Block, Block)>>>,
+pub struct SemiSource {
+    semi: Semi<PairTree<FileShapes>, CopyQueue<Item<(Block, Block)>>>,
 }
 
-impl<'s> SemiSource<'s> {
+impl SemiSource {
     /// The semi-join of two columns, with a greatest distance where there is a ceiling. It takes one bit for each id
     /// of the left relation. No page is read.
     pub fn start(
         alloc: Global,
-        left: TreeColumn<'s>,
-        right: TreeColumn<'s>,
+        left: TreeColumn,
+        right: TreeColumn,
         ceiling: Option<u32>,
-    ) -> Result<SemiSource<'s>, NoMemory>
+    ) -> Result<SemiSource, NoMemory>
         requires small { IsCeilingInRange ceiling }
-        ensures counts { IfOk result (λ s. counts_of (⟦<SemiSource<'s> as RowSource>⟧.seen s) ≡ no_counts) }
-        ensures begun { IfOk result (λ s. BeginsFirsts (⟦<SemiSource<'s> as RowSource>⟧.At s) (join_view left.entry.relation.now left.entry.column left.entry.tree.now right.entry.relation.now right.entry.column right.entry.tree.now ceiling)) }
+        ensures counts { IfOk result (λ s. counts_of (⟦<SemiSource as RowSource>⟧.seen s) ≡ no_counts) }
+        ensures begun { IfOk result (λ s. BeginsFirsts (⟦<SemiSource as RowSource>⟧.At s) (joined_columns left.entry right.entry ceiling)) }
     {
         let search = pair_search(alloc, left, right, ceiling)?;
         let semi = Semi::start(
@@ -50,12 +50,12 @@ impl<'s> SemiSource<'s> {
     }
 }
 
-impl<'s> RowSource for SemiSource<'s> {
-    ghost At = { λ s pages d p t. HasTakenFirsts ⟦<(Block, Block) as Ord>⟧.cmp (joining_in (join_view s.semi.engine.hierarchy.left_shapes.relation.now s.semi.engine.hierarchy.left_shapes.column s.semi.engine.hierarchy.left s.semi.engine.hierarchy.right_shapes.relation.now s.semi.engine.hierarchy.right_shapes.column s.semi.engine.hierarchy.right s.semi.engine.hierarchy.ceiling) pages) s.semi.engine.frontier.queue.items s.semi.engine.frontier.last s.semi.engine.frontier.counts s.semi.lefts d p t };
+impl RowSource for SemiSource {
+    ghost At = { λ s pages d p t. HasTakenFirsts ⟦<(Block, Block) as Ord>⟧.cmp (joining_in (join_of s.semi.engine.hierarchy) pages) s.semi.engine.frontier.queue.items s.semi.engine.frontier.last s.semi.engine.frontier.counts s.semi.lefts d p t };
 
     ghost seen = { λ s. record { blocks = 0; pairs = s.semi.engine.frontier.counts.visited; geometries = s.semi.engine.frontier.counts.fetched } };
 
-    ghost heights = { λ s. heights_of (join_view s.semi.engine.hierarchy.left_shapes.relation.now s.semi.engine.hierarchy.left_shapes.column s.semi.engine.hierarchy.left s.semi.engine.hierarchy.right_shapes.relation.now s.semi.engine.hierarchy.right_shapes.column s.semi.engine.hierarchy.right s.semi.engine.hierarchy.ceiling) };
+    ghost heights = { λ s. heights_of (join_of s.semi.engine.hierarchy) };
 
     ghost step_price = { λ s. 0 };
 

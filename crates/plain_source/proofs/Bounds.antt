@@ -58,16 +58,16 @@ asked desk F =
     go desk.pool.disk.told refl
 
 -- where nothing was taken all rows within the bounds are left
-pub between_begun : (m : PageMap) (l : LookUp) (d : Database) (column : Column) (low high : ℤ) (greatest : ℕ) → IsLookUp d column l m → HasInts l → FitsSigned w64 low → FitsSigned w64 high → greatest ≡ l.spot.relation.now.next - 1 → greatest < 2 ^ 32
+pub between_begun : (m : PageMap) (l : LookUp) (d : Database) (column : Column) (low high : ℤ) (greatest : ℕ) → IsLookUp d column l m → HasInts l → FitsSigned w64 low → FitsSigned w64 high → greatest ≡ l.spot.relation.value.next - 1 → greatest < 2 ^ 32
     → IsPickBetween l low high None m d (plan.PickBetween column low high) nothing_taken
 between_begun m l d column low high greatest h i lf hf g s =
-    let rows : List (ℕ × List Value) = rows_in m l.spot.relation.now in
+    let rows : List (ℕ × List Value) = rows_in m l.spot.relation.value in
     let at : ℕ = l.spot.column in
     let ps : Pairs = values_at at rows in
     let es : List Entry = entries_at (store_of m) l.index in
     let kept = keeps_of m l h.holds (omega (arith, g, s)) in
-    let fitting : Each (λ (row : ℕ × List Value). IsRowFor l.spot.relation.now.schema row.1) rows = each_all (λ row. IsRowFor l.spot.relation.now.schema row.1) rows h.holds.stands.1.table.rows in
-    let pairs : Each IsIntPair ps = int_pairs l.spot.relation.now.schema at rows fitting kept.small i in
+    let fitting : Each (λ (row : ℕ × List Value). IsRowFor l.spot.relation.value.schema row.1) rows = each_all (λ row. IsRowFor l.spot.relation.value.schema row.1) rows h.holds.stands.1.table.rows in
+    let pairs : Each IsIntPair ps = int_pairs l.spot.relation.value.schema at rows fitting kept.small i in
     let counted : (n : ℕ) → times n (map entry_number es) ≡ times n (numbers ps) = λ n. kept.entries n ∙ ap (λ (ns : List ℕ). times n ns) (numbers_are at rows) in
     let part : Pairs = filter (λ p. is_between low high p.1) ps in
     let small : Each (λ (p : ℕ × Value). p.0 < 2 ^ 32) (sorted number_cmp part) =
@@ -82,7 +82,7 @@ between_begun m l d column low high greatest h i lf hf g s =
       high_fits = hf;
       last_fits = tt;
       left =
-          ap (λ (xs : Pairs). map (λ (p : ℕ × Value). plain_row p.0) (sorted number_cmp (filter (λ p. is_between low high p.1) xs))) (values_are d column (relation_in m l.spot.relation.now) at h.is.relation h.is.at)
+          ap (λ (xs : Pairs). map (λ (p : ℕ × Value). plain_row p.0) (sorted number_cmp (filter (λ p. is_between low high p.1) xs))) (values_are d column (relation_in m l.spot.relation.value) at h.is.relation h.is.at)
           ∙ (rows_of_pairs (sorted number_cmp part) small
           ∙ ap (λ (ns : List ℕ). map row_of_number ns) (sorted_numbers low high ps es pairs (in_order at rows kept.rise) (entries_in_order (tree_items (store_of m) l.index.tree) kept.is.tree.at.ascending) counted
           ∙ sym (filter_none 0 kept_numbers all)));

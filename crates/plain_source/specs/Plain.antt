@@ -31,9 +31,11 @@ left_of d p t = drop t.rows (source plan_measure d p)
 
 -- the ids of rows, and those above an id
 
+-- the ids of rows
 abbrev pub ids_of : {A : Type 0} → List (ℕ × A) → List ℕ
 ids_of rows = map (λ row. row.0) rows
 
+-- those of ids that are above an id
 abbrev pub ids_above : ℕ → List ℕ → List ℕ
 ids_above id ids = filter (nat_lt id) ids
 

@@ -1,4 +1,4 @@
-ghost use Rattle.std.specs.Prelude.{◌≡◌, ◌-◌, false, None, IfSome};
+ghost use Rattle.std.specs.Prelude.{◌≡◌, ◌-◌, false, None, Ok};
 ghost use Rattle.page_pool.specs.Disk.{PageMap};
 ghost use Rattle.sand_model.specs.Plan.{PickEqual as of_column};
 ghost use Rattle.sand_model.specs.Reach.{no_counts};
@@ -6,7 +6,7 @@ ghost use Rattle.sand_store.specs.Catalog.{IsCatalog};
 ghost use Rattle.sand_store.specs.Contents.{database_in};
 ghost use Rattle.sand_store.specs.Standing.{CatalogStands};
 ghost use Rattle.plan_places.specs.Indexed.{LacksIndex};
-ghost use Rattle.plan_places.specs.Spots.{names_of};
+ghost use Rattle.plan_places.specs.Spots.{IfFound, names_of};
 ghost use Rattle.plan_rows.specs.Rows.{counts_of};
 ghost use Rattle.plan_rows.specs.SourceSteps.{nothing_taken};
 ghost use Rattle.plan_places.specs.Prices.{descent_price};
@@ -17,46 +17,49 @@ use crate::answer::{NO_VISITS, plain_answer};
 use page_pool::{Desk, Disk, PageFault};
 use plan_places::LookUp;
 use plan_rows::{Answer, RowSource, SourceCounts};
-use sand_base::Value;
+use sand_base::{NoMemory, Value};
 use sand_store::Catalog;
 use std::alloc::Global;
 
 /// The rows of a column whose value equals a given one, by id.
 #[derive(Drop)]
-pub struct PickEqual<'s> {
-    look_up: LookUp<'s>,
+pub struct PickEqual {
+    look_up: LookUp,
     value: Value,
     last: u32,
 }
 
-impl<'s> PickEqual<'s> {
+impl PickEqual {
     /// The pick of a value from the column of these names. `None` comes where there is no such column, or it has no
     /// attribute index. No page is read.
     pub fn start(
-        catalog: &'s Catalog,
+        alloc: Global,
+        catalog: &Catalog,
         relation: &str,
         column: &str,
         value: Value,
-    ) -> Option<PickEqual<'s>>
-        ensures counts { IfSome result (λ s. counts_of (⟦<PickEqual<'s> as RowSource>⟧.seen s) ≡ no_counts) }
-        ensures begun { IfSome result (λ s. (pages : PageMap) → CatalogStands pages catalog.now → ⟦<PickEqual<'s> as RowSource>⟧.At s pages (database_in pages catalog.now.relations) (of_column (names_of relation.now column.now) value) nothing_taken) }
-        ensures none { result ≡ None → IsCatalog catalog.now → (pages : PageMap) → LacksIndex (database_in pages catalog.now.relations) (names_of relation.now column.now) false }
+    ) -> Result<Option<PickEqual>, NoMemory>
+        ensures counts { IfFound result (λ s. counts_of (⟦<PickEqual as RowSource>⟧.seen s) ≡ no_counts) }
+        ensures begun { IfFound result (λ s. (pages : PageMap) → CatalogStands pages catalog.now → ⟦<PickEqual as RowSource>⟧.At s pages (database_in pages catalog.now.relations) (of_column (names_of relation.now column.now) value) nothing_taken) }
+        ensures none { result ≡ Ok None → IsCatalog catalog.now → (pages : PageMap) → LacksIndex (database_in pages catalog.now.relations) (names_of relation.now column.now) false }
     {
-        let look_up = LookUp::named(catalog, relation, column)?;
-        Some(PickEqual {
+        let Some(look_up) = LookUp::named(alloc, catalog, relation, column)? else {
+            return Ok(None);
+        };
+        Ok(Some(PickEqual {
             look_up,
             value,
             last: 0,
-        })
+        }))
     }
 }
 
-impl<'s> RowSource for PickEqual<'s> {
+impl RowSource for PickEqual {
     ghost At = { λ s pages d p t. IsPickEqual s.look_up s.value s.last pages d p t };
 
     ghost seen = { λ s. record { blocks = 0; pairs = 0; geometries = 0 } };
 
-    ghost heights = { λ s. heights_of s.look_up.index.tree.height s.look_up.spot.relation.now.file.tree.height };
+    ghost heights = { λ s. heights_of s.look_up.index.tree.height s.look_up.spot.relation.value.file.tree.height };
 
     ghost step_price = { λ s. descent_price s.look_up };
 

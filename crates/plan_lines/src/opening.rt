@@ -24,10 +24,10 @@ use statement_exec::Reply;
 use std::alloc::Global;
 
 // Opens a cursor over the plan behind the others.
-fn open<'s>(
+fn open(
     alloc: Global,
-    catalog: &'s Catalog,
-    cursors: &mut Vec<OpenCursor<Source<'s>, Stage<'s>>>,
+    catalog: &Catalog,
+    cursors: &mut Vec<OpenCursor<Source, Stage>>,
     name: &Label,
     plan: &Plan,
 ) -> Result<(), Refusal>
@@ -60,10 +60,10 @@ fn open<'s>(
 
 /// `open`: a cursor over the plan is opened under the name, behind the others, and the line of it is written. It reads no
 /// page. Where it is refused, the open cursors are as they were. The answer says whether it was refused.
-pub fn open_line<'s, K: Sink>(
+pub fn open_line<K: Sink>(
     alloc: Global,
-    catalog: &'s Catalog,
-    cursors: &mut Vec<OpenCursor<Source<'s>, Stage<'s>>>,
+    catalog: &Catalog,
+    cursors: &mut Vec<OpenCursor<Source, Stage>>,
     name: &Label,
     plan: &Plan,
     out: &mut K,

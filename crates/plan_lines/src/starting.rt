@@ -21,11 +21,7 @@ use std::alloc::Global;
 
 // A cursor that has given nothing. The checks come first, that of the depth last: making the cursor calls itself once
 // for each operator, of which an unchecked plan may have hundreds.
-pub(crate) fn started<'s>(
-    alloc: Global,
-    catalog: &'s Catalog,
-    plan: &Plan,
-) -> Result<Running<'s>, Refusal>
+pub(crate) fn started(alloc: Global, catalog: &Catalog, plan: &Plan) -> Result<Running, Refusal>
     requires described { IsCatalog catalog.now }
     requires in_range { IsPlanInRange (text.plan_value plan.now) }
     ensures passes { IfOk result (λ r. (pages : PageMap) → check (database_in pages catalog.now.relations) (plan_value plan.now) ≡ None) }

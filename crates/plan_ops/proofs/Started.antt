@@ -25,7 +25,7 @@ use Rattle.plan_check.proofs.Passed.{first_passed, second_passed}
 use Rattle.plan_rows.specs.SourceSteps.{nothing_taken}
 use Rattle.plan_steps.specs.Following.{Taking}
 use Rattle.rank_source.specs.Rankings.{IsColumnOf, Ranks, Begins}
-use Rattle.pair_source.specs.Joins.{join_view, Begins as BeginsPairs, BeginsFirsts}
+use Rattle.pair_source.specs.Joins.{JoinedColumns, Begins as BeginsPairs, BeginsFirsts}
 use Rattle.plan_ops.specs.Checked.{IsChecked}
 use Rattle.plan_ops.specs.Openable.{IsOpenable}
 
@@ -118,7 +118,11 @@ window_ranks p column window is =
 
 module _ (catalog : CatalogView) (p : Plan) (left right : Column) (within : Option ℕ) (one : RelationView) (at : ℕ) (tree : Pmr) (two : RelationView) (place : ℕ) (other : Pmr) (o : IsOpenable catalog p)
     (found : IsFound catalog left one at tree) (second : IsFound catalog right two place other) (At : Taking) where
-  pub join_untaken : p ≡ declared.Join left right within → BeginsPairs At (join_view one at tree two place other within) → Untaken At catalog (plan_value p)
+  -- the two columns
+  abbrev columns : JoinedColumns
+  columns = record { left = record { relation = one; at = at; tree = tree }; right = record { relation = two; at = place; tree = other }; ceiling = within }
+
+  pub join_untaken : p ≡ declared.Join left right within → BeginsPairs At columns → Untaken At catalog (plan_value p)
   join_untaken is begins =
       subst (λ (q : Plan). Untaken At catalog (plan_value q)) (sym is) (λ pages h.
       begins (found.tree_of, second.tree_of) pages (base_of catalog pages) (column_value left) (column_value right) (record {
@@ -130,7 +134,7 @@ module _ (catalog : CatalogView) (p : Plan) (left right : Column) (within : Opti
         right_column = second.named pages;
       }))
 
-  pub semi_untaken : p ≡ declared.Semi left right within → BeginsFirsts At (join_view one at tree two place other within) → Untaken At catalog (plan_value p)
+  pub semi_untaken : p ≡ declared.Semi left right within → BeginsFirsts At columns → Untaken At catalog (plan_value p)
   semi_untaken is begins =
       subst (λ (q : Plan). Untaken At catalog (plan_value q)) (sym is) (λ pages h.
       begins (found.tree_of, second.tree_of) found.spatial pages (base_of catalog pages) (column_value left) (column_value right) (record {

@@ -16,7 +16,7 @@ use Rattle.plain_source.specs.Prices.{heights_of as plain_heights, entries_price
 use Rattle.rank_source.specs.Rankings.{IsAt, by_code, hierarchy_of, seen_of, steps_of, heights_of as rank_heights}
 use Rattle.pair_source.specs.declared.join_source.JoinSource.{JoinSource}
 use Rattle.pair_source.specs.declared.semi_source.SemiSource.{SemiSource}
-use Rattle.pair_source.specs.Joins.{join_view, joining_in, heights_of as join_heights, HasTaken, HasTakenFirsts}
+use Rattle.pair_source.specs.Joins.{join_of, joining_in, heights_of as join_heights, HasTaken, HasTakenFirsts}
 use Rattle.plan_ops.specs.declared.source.Source.{Source}
 use Rattle.plan_ops.specs.declared.source.Source.TheVariants as source
 
@@ -26,23 +26,25 @@ by_codes a b = ordering_then (by_code a.0 b.0) (by_code a.1 b.1)
 
 -- so much was taken of a join, and of a semi-join
 
+-- so much was taken of a join
 abbrev pub join_at : JoinSource → Taking
 join_at s pages d p t =
     let h = s.search.hierarchy in
     HasTaken by_codes
-    (joining_in (join_view h.left_shapes.relation.now h.left_shapes.column h.left h.right_shapes.relation.now h.right_shapes.column h.right h.ceiling) pages)
+    (joining_in (join_of h) pages)
     s.search.frontier.queue.items s.search.frontier.last s.search.frontier.counts d p t
 
+-- so much was taken of a semi-join
 abbrev pub semi_at : SemiSource → Taking
 semi_at s pages d p t =
     let h = s.semi.engine.hierarchy in
     HasTakenFirsts by_codes
-    (joining_in (join_view h.left_shapes.relation.now h.left_shapes.column h.left h.right_shapes.relation.now h.right_shapes.column h.right h.ceiling) pages)
+    (joining_in (join_of h) pages)
     s.semi.engine.frontier.queue.items s.semi.engine.frontier.last s.semi.engine.frontier.counts s.semi.lefts d p t
 
 -- so much was taken of it
 abbrev pub source_at : Source → Taking
-source_at (source.Scan s) = IsScan s.relation.now s.last
+source_at (source.Scan s) = IsScan s.relation.value s.last
 source_at (source.PickEqual s) = IsPickEqual s.look_up s.value s.last
 source_at (source.PickBetween s) = IsPickBetween s.look_up s.low s.high s.last
 source_at (source.Rank s) = IsAt s.search
@@ -71,22 +73,22 @@ source_steps (source.Semi s) = steps pair_weight s.semi.engine.frontier.queue.it
 
 -- the heights of the B-trees that it reads
 abbrev pub source_heights : Source → Heights
-source_heights (source.Scan s) = plain_heights 0 s.relation.now.file.tree.height
-source_heights (source.PickEqual s) = plain_heights s.look_up.index.tree.height s.look_up.spot.relation.now.file.tree.height
-source_heights (source.PickBetween s) = plain_heights s.look_up.index.tree.height s.look_up.spot.relation.now.file.tree.height
+source_heights (source.Scan s) = plain_heights 0 s.relation.value.file.tree.height
+source_heights (source.PickEqual s) = plain_heights s.look_up.index.tree.height s.look_up.spot.relation.value.file.tree.height
+source_heights (source.PickBetween s) = plain_heights s.look_up.index.tree.height s.look_up.spot.relation.value.file.tree.height
 source_heights (source.Rank s) = rank_heights (hierarchy_of s.search)
 source_heights (source.Join s) =
     let h = s.search.hierarchy in
     join_heights
-    (join_view h.left_shapes.relation.now h.left_shapes.column h.left h.right_shapes.relation.now h.right_shapes.column h.right h.ceiling)
+    (join_of h)
 source_heights (source.Semi s) =
     let h = s.semi.engine.hierarchy in
     join_heights
-    (join_view h.left_shapes.relation.now h.left_shapes.column h.left h.right_shapes.relation.now h.right_shapes.column h.right h.ceiling)
+    (join_of h)
 
 -- the price of a step: a descent of the file of the rows or of the index; a search pays for its visits alone
 abbrev pub source_step_price : Source → ℕ
-source_step_price (source.Scan s) = scan_price s.relation.now.file.tree.height
+source_step_price (source.Scan s) = scan_price s.relation.value.file.tree.height
 source_step_price (source.PickEqual s) = descent_price s.look_up
 source_step_price (source.PickBetween s) = descent_price s.look_up
 source_step_price _ = 0

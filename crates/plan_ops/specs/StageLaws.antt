@@ -13,6 +13,7 @@ use Rattle.sort_stages.specs.SortLaws.{by_outermost, near_outermost, front_of as
 use Rattle.plan_ops.specs.Stages.{StageStands, stage_waits, is_closed, stage_steps}
 use Rattle.plan_ops.specs.declared.stage.Stage.TheVariants as stage
 
+-- a stage is of an operator, and of no source
 pub stage_outermost : IsOutermost StageStands
 stage_outermost (stage.First s) pages d p taken given f = f.splits.operator
 stage_outermost (stage.Filter s) pages d p taken given f = f.splits.operator
@@ -21,6 +22,7 @@ stage_outermost (stage.Match s) pages d p taken given f = f.splits.operator
 stage_outermost (stage.SortBy s) pages d p taken given f = by_outermost f.below f.place f.is
 stage_outermost (stage.SortNear s) pages d p taken given f = near_outermost f.below f.place s.goal f.is
 
+-- a stage gives the rows at its front, by its kind
 pub stage_front : GivesFront StageStands
 stage_front (stage.First s) pages d p taken given all f b whole = front_of d p taken given (waiting s.held) all f.splits b
 stage_front (stage.Filter s) pages d p taken given all f b whole =
@@ -34,6 +36,7 @@ stage_front (stage.SortBy s) pages d p taken given all f b whole =
 stage_front (stage.SortNear s) pages d p taken given all f b whole =
     sort_front s.closed (HasGap d (relations_of f.below) f.place s.goal) gapped_row d p s.held s.rows taken given all f.sorts b whole
 
+-- a sort opens late, any other stage is open
 pub stage_late : OpensLate StageStands is_closed
 stage_late (stage.First s) pages d p taken given f sort = late_of d p taken given (waiting s.held) _ f.splits sort
 stage_late (stage.Filter s) pages d p taken given f sort =
@@ -47,6 +50,7 @@ stage_late (stage.SortBy s) pages d p taken given f sort =
 stage_late (stage.SortNear s) pages d p taken given f sort =
     sort_late s.closed (HasGap d (relations_of f.below) f.place s.goal) gapped_row d p s.held s.rows taken given f.sorts
 
+-- a closed sort holds no row that waits
 pub stage_closed_waits : ClosedWaits is_closed stage_waits
 stage_closed_waits (stage.First s) = open_of _
 stage_closed_waits (stage.Filter s) = open_of _
@@ -55,6 +59,7 @@ stage_closed_waits (stage.Match s) = open_of _
 stage_closed_waits (stage.SortBy s) = closed_waits_of s.held s.closed
 stage_closed_waits (stage.SortNear s) = closed_waits_of s.held s.closed
 
+-- the steps of a stage rise with those of its source
 pub stage_rises : Rises stage_steps
 stage_rises (stage.First s) = rises_of (wait_count s.held)
 stage_rises (stage.Filter s) = rises_of (wait_count s.held)

@@ -1,5 +1,5 @@
 // Columns that passed their checks.
-ghost use Rattle.std.specs.Prelude.{◌≡◌, true, false};
+ghost use Rattle.std.specs.Prelude.{◌≡◌, true, false, IfOk};
 ghost use Rattle.page_pool.specs.Disk.{PageMap};
 ghost use Rattle.sand_store.specs.Catalog.{IsCatalog, IsColumnAt};
 ghost use Rattle.sand_store.specs.Contents.{database_in};
@@ -12,8 +12,10 @@ ghost use Rattle.plan_ops.specs.Checked.{IsChecked};
 
 use plan_places::LookUp;
 use rank_source::TreeColumn;
+use sand_base::NoMemory;
 use sand_store::Catalog;
 use script_text::Column;
+use std::alloc::Global;
 
 /// The column of shapes of these names with its quadtree.
 pub(crate) fn tree_column<'s>(catalog: &'s Catalog, column: &Column) -> TreeColumn<'s>
@@ -41,14 +43,14 @@ pub(crate) fn tree_column<'s>(catalog: &'s Catalog, column: &Column) -> TreeColu
 }
 
 /// The column of ints or texts of these names with its index.
-pub(crate) fn look_up<'s>(catalog: &'s Catalog, column: &Column) -> LookUp<'s>
+pub(crate) fn look_up(alloc: Global, catalog: &Catalog, column: &Column) -> Result<LookUp, NoMemory>
     requires described { IsCatalog catalog.now }
     requires checked { (pages : PageMap) → IsChecked (database_in pages catalog.now.relations) (column_value column.now) false }
-    ensures { (pages : PageMap) → CatalogStands pages catalog.now → IsLookUp (database_in pages catalog.now.relations) (column_value column.now) result pages }
+    ensures { IfOk result (λ found. (pages : PageMap) → CatalogStands pages catalog.now → IsLookUp (database_in pages catalog.now.relations) (column_value column.now) found pages) }
 {
-    let Some(found) = LookUp::named(catalog, column.relation.as_str(), column.column.as_str())
-    else {
-        unreachable!()
-    };
-    found
+    let relation = column.relation.as_str();
+    match LookUp::named(alloc, catalog, relation, column.column.as_str())? {
+        Some(found) => Ok(found),
+        None => unreachable!(),
+    }
 }

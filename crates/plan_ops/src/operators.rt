@@ -22,11 +22,11 @@ use std::boxed::Box;
 
 /// The operator of a plan, which has taken and given nothing. No page is read.
 #[cycle(operator_of)]
-pub(crate) fn operator_of<'s>(
+pub(crate) fn operator_of(
     alloc: Global,
-    catalog: &'s Catalog,
+    catalog: &Catalog,
     plan: &Plan,
-) -> Result<Operator<Source<'s>, Stage<'s>>, NoMemory>
+) -> Result<Operator<Source, Stage>, NoMemory>
     requires { IsOpenable catalog.now plan.now }
     ensures counts { IfOk result (λ o. counts_of (source_seen (source_of o)) ≡ no_counts) }
     ensures begun { IfOk result (λ o. (pages : PageMap) → CatalogStands pages catalog.now → Follows source_at StageStands is_closed o pages (database_in pages catalog.now.relations) (plan_value plan.now) nothing_taken []) }

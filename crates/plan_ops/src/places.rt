@@ -22,44 +22,51 @@ use script_text::{Place, Plan, Test};
 use std::alloc::Global;
 
 /// The place of the rows of a plan.
-pub(crate) fn spot<'s>(catalog: &'s Catalog, plan: &Plan, place: &Place) -> Spot<'s>
+pub(crate) fn spot(
+    alloc: Global,
+    catalog: &Catalog,
+    plan: &Plan,
+    place: &Place,
+) -> Result<Spot, NoMemory>
     requires { (pages : PageMap) → IsPlaceChecked (database_in pages catalog.now.relations) (relations_of (plan_value plan.now)) (place_value place.now) }
-    ensures { (pages : PageMap) → CatalogStands pages catalog.now → IsSpot (database_in pages catalog.now.relations) (relations_of (plan_value plan.now)) (place_value place.now) result pages }
+    ensures { IfOk result (λ found. (pages : PageMap) → CatalogStands pages catalog.now → IsSpot (database_in pages catalog.now.relations) (relations_of (plan_value plan.now)) (place_value place.now) found pages) }
 {
     let Some(name) = relation_name(plan, place.k) else {
         unreachable!()
     };
-    let Some(spot) = Spot::named(catalog, name.as_str(), place.column.as_str(), place.k) else {
-        unreachable!()
-    };
-    spot
+    let column = place.column.as_str();
+    match Spot::named(alloc, catalog, name.as_str(), column, place.k)? {
+        Some(spot) => Ok(spot),
+        None => unreachable!(),
+    }
 }
 
 // A test of the rows of a plan.
-fn spot_test<'s>(
+fn spot_test(
     alloc: Global,
-    catalog: &'s Catalog,
+    catalog: &Catalog,
     plan: &Plan,
     test: &Test,
-) -> Result<SpotTest<'s>, NoMemory>
+) -> Result<SpotTest, NoMemory>
     requires { (pages : PageMap) → IsPlaceChecked (database_in pages catalog.now.relations) (relations_of (plan_value plan.now)) (place_value test.now.place) }
     ensures { IfOk result (λ found. (pages : PageMap) → CatalogStands pages catalog.now → IsTest (database_in pages catalog.now.relations) (relations_of (plan_value plan.now)) pages found (test_value test.now)) }
 {
     let value = test.value.copy(alloc)?;
+    let spot = spot(alloc, catalog, plan, &test.place)?;
     Ok(SpotTest {
-        spot: spot(catalog, plan, &test.place),
+        spot,
         op: test.op,
         value,
     })
 }
 
 /// Adds the tests of the rows of a plan, in their order.
-pub(crate) fn add_tests<'s>(
+pub(crate) fn add_tests(
     alloc: Global,
-    catalog: &'s Catalog,
+    catalog: &Catalog,
     plan: &Plan,
     tests: &[Test],
-    found: &mut Vec<SpotTest<'s>>,
+    found: &mut Vec<SpotTest>,
 ) -> Result<(), NoMemory>
     requires { (pages : PageMap) → check_tests (database_in pages catalog.now.relations) (relations_of (plan_value plan.now)) (map test_value tests.now) ≡ None }
     ensures { OnOk result ((pages : PageMap) → CatalogStands pages catalog.now → (added : List Test') × ((found.new.items ≡ found.old.items ++ added) × AreTests (database_in pages catalog.now.relations) (relations_of (plan_value plan.now)) pages added (map test_value tests.now))) }
@@ -75,11 +82,12 @@ pub(crate) fn add_tests<'s>(
 }
 
 /// Adds the places of the rows of a plan, in their order.
-pub(crate) fn add_spots<'s>(
-    catalog: &'s Catalog,
+pub(crate) fn add_spots(
+    alloc: Global,
+    catalog: &Catalog,
     plan: &Plan,
     places: &[Place],
-    found: &mut Vec<Spot<'s>>,
+    found: &mut Vec<Spot>,
 ) -> Result<(), NoMemory>
     requires { (pages : PageMap) → check_places (database_in pages catalog.now.relations) (relations_of (plan_value plan.now)) (map place_value places.now) ≡ None }
     ensures { OnOk result ((pages : PageMap) → CatalogStands pages catalog.now → (added : List Place') × ((found.new.items ≡ found.old.items ++ added) × AreSpots (database_in pages catalog.now.relations) (relations_of (plan_value plan.now)) pages added (map place_value places.now))) }
@@ -87,8 +95,8 @@ pub(crate) fn add_spots<'s>(
     match places {
         [] => Ok(()),
         [place, rest @ ..] => {
-            found.push(spot(catalog, plan, place))?;
-            add_spots(catalog, plan, rest, found)?;
+            found.push(spot(alloc, catalog, plan, place)?)?;
+            add_spots(alloc, catalog, plan, rest, found)?;
             Ok(())
         }
     }

@@ -24,13 +24,13 @@ use std::alloc::Global;
 
 /// A cursor over a plan. It borrows the catalog, so nothing is written while it lives.
 #[derive(Drop)]
-pub struct Running<'s> {
-    pub cursor: RowCursor<Source<'s>, Stage<'s>>,
+pub struct Running {
+    pub cursor: RowCursor<Source, Stage>,
 }
 
-impl<'s> Running<'s> {
+impl Running {
     /// A cursor that has given nothing. No page is read. Condition: the checks of the plan's operators pass.
-    pub fn start(alloc: Global, catalog: &'s Catalog, plan: &Plan) -> Result<Running<'s>, NoMemory>
+    pub fn start(alloc: Global, catalog: &Catalog, plan: &Plan) -> Result<Running, NoMemory>
         requires { IsOpenable catalog.now plan.now }
         ensures { IfOk result (λ r. (pages : PageMap) → CatalogStands pages catalog.now → (name : List ℕ) → StandsAt r pages (new_cursor name (plan_value plan.now) (database_in pages catalog.now.relations))) }
     {

@@ -9,16 +9,16 @@ use std::alloc::Global;
 
 /// The source of any plan. A window is a ranking within the distance 0.
 #[derive(Drop)]
-pub enum Source<'s> {
-    Scan(Scan<'s>),
-    PickEqual(PickEqual<'s>),
-    PickBetween(PickBetween<'s>),
-    Rank(RankSource<'s>),
-    Join(JoinSource<'s>),
-    Semi(SemiSource<'s>),
+pub enum Source {
+    Scan(Scan),
+    PickEqual(PickEqual),
+    PickBetween(PickBetween),
+    Rank(RankSource),
+    Join(JoinSource),
+    Semi(SemiSource),
 }
 
-impl<'s> RowSource for Source<'s> {
+impl RowSource for Source {
     ghost At = { source_at };
 
     ghost seen = { source_seen };

@@ -9,16 +9,16 @@ use std::alloc::Global;
 
 /// A stage of any kind.
 #[derive(Drop)]
-pub enum Stage<'s> {
+pub enum Stage {
     First(First),
-    Filter(Filter<'s>),
-    Fetch(Fetch<'s>),
-    Match(Match<'s>),
-    SortBy(SortBy<'s>),
-    SortNear(SortNear<'s>),
+    Filter(Filter),
+    Fetch(Fetch),
+    Match(Match),
+    SortBy(SortBy),
+    SortNear(SortNear),
 }
 
-impl<'s> RowStage for Stage<'s> {
+impl RowStage for Stage {
     ghost Stands = { StageStands };
 
     ghost waits = { stage_waits };

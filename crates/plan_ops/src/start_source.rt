@@ -27,16 +27,19 @@ use sand_store::Catalog;
 use script_text::{Column, Plan};
 use std::alloc::Global;
 
-impl<'s> Source<'s> {
+impl Source {
     /// The source of a plan that is a source alone, of which nothing was taken. No page is read.
-    pub fn start(alloc: Global, catalog: &'s Catalog, plan: &Plan) -> Result<Source<'s>, NoMemory>
+    pub fn start(alloc: Global, catalog: &Catalog, plan: &Plan) -> Result<Source, NoMemory>
         requires openable { IsOpenable catalog.now plan.now }
         requires source { is_source (plan_value plan.now) ≡ true }
         ensures counts { IfOk result (λ s. counts_of (source_seen s) ≡ no_counts) }
         ensures begun { IfOk result (λ s. (pages : PageMap) → CatalogStands pages catalog.now → source_at s pages (database_in pages catalog.now.relations) (plan_value plan.now) nothing_taken) }
     {
         match plan {
-            Plan::Scan { relation } => Ok(Source::Scan(scan(catalog, relation.as_str()))),
+            Plan::Scan { relation } => {
+                let scan = scan(alloc, catalog, relation.as_str())?;
+                Ok(Source::Scan(scan))
+            }
             Plan::Rank {
                 column,
                 goal,
@@ -53,10 +56,11 @@ impl<'s> Source<'s> {
             }
             Plan::PickEqual { column, value } => {
                 let value = value.copy(alloc)?;
-                Ok(Source::PickEqual(pick_equal(catalog, column, value)))
+                let pick = pick_equal(alloc, catalog, column, value)?;
+                Ok(Source::PickEqual(pick))
             }
             Plan::PickBetween { column, low, high } => {
-                let pick = pick_between(catalog, column, *low, *high);
+                let pick = pick_between(alloc, catalog, column, *low, *high)?;
                 Ok(Source::PickBetween(pick))
             }
             Plan::Join {
@@ -88,50 +92,63 @@ impl<'s> Source<'s> {
 }
 
 // The scan of a relation that is there.
-fn scan<'s>(catalog: &'s Catalog, relation: &str) -> Scan<'s>
+fn scan(alloc: Global, catalog: &Catalog, relation: &str) -> Result<Scan, NoMemory>
     requires { (pages : PageMap) → check_relation (database_in pages catalog.now.relations) relation.now ≡ None }
-    ensures counts { counts_of (⟦<Scan<'s> as RowSource>⟧.seen result) ≡ no_counts }
-    ensures begun { (pages : PageMap) → CatalogStands pages catalog.now → ⟦<Scan<'s> as RowSource>⟧.At result pages (database_in pages catalog.now.relations) (of_relation relation.now) nothing_taken }
+    ensures counts { IfOk result (λ s. counts_of (⟦<Scan as RowSource>⟧.seen s) ≡ no_counts) }
+    ensures begun { IfOk result (λ s. (pages : PageMap) → CatalogStands pages catalog.now → ⟦<Scan as RowSource>⟧.At s pages (database_in pages catalog.now.relations) (of_relation relation.now) nothing_taken) }
 {
-    match Scan::start(catalog, relation) {
-        Some(scan) => scan,
+    match Scan::start(alloc, catalog, relation)? {
+        Some(scan) => Ok(scan),
         None => unreachable!(),
     }
 }
 
 // The pick of a value from a column of ints or texts that has an index.
-fn pick_equal<'s>(catalog: &'s Catalog, column: &Column, value: Value) -> PickEqual<'s>
+fn pick_equal(
+    alloc: Global,
+    catalog: &Catalog,
+    column: &Column,
+    value: Value,
+) -> Result<PickEqual, NoMemory>
     requires described { IsCatalog catalog.now }
     requires checked { (pages : PageMap) → IsChecked (database_in pages catalog.now.relations) (column_value column.now) false }
-    ensures counts { counts_of (⟦<PickEqual<'s> as RowSource>⟧.seen result) ≡ no_counts }
-    ensures begun { (pages : PageMap) → CatalogStands pages catalog.now → ⟦<PickEqual<'s> as RowSource>⟧.At result pages (database_in pages catalog.now.relations) (of_column (column_value column.now) value) nothing_taken }
+    ensures counts { IfOk result (λ s. counts_of (⟦<PickEqual as RowSource>⟧.seen s) ≡ no_counts) }
+    ensures begun { IfOk result (λ s. (pages : PageMap) → CatalogStands pages catalog.now → ⟦<PickEqual as RowSource>⟧.At s pages (database_in pages catalog.now.relations) (of_column (column_value column.now) value) nothing_taken) }
 {
     match PickEqual::start(
+        alloc,
         catalog,
         column.relation.as_str(),
         column.column.as_str(),
         value,
-    ) {
-        Some(pick) => pick,
+    )? {
+        Some(pick) => Ok(pick),
         None => unreachable!(),
     }
 }
 
 // The pick of the ints within bounds from a column of ints that has an index.
-fn pick_between<'s>(catalog: &'s Catalog, column: &Column, low: i64, high: i64) -> PickBetween<'s>
+fn pick_between(
+    alloc: Global,
+    catalog: &Catalog,
+    column: &Column,
+    low: i64,
+    high: i64,
+) -> Result<PickBetween, NoMemory>
     requires described { IsCatalog catalog.now }
     requires checked { (pages : PageMap) → check_column (database_in pages catalog.now.relations) (column_value column.now) (same_kind Int) ≡ None }
-    ensures counts { counts_of (⟦<PickBetween<'s> as RowSource>⟧.seen result) ≡ no_counts }
-    ensures begun { (pages : PageMap) → CatalogStands pages catalog.now → ⟦<PickBetween<'s> as RowSource>⟧.At result pages (database_in pages catalog.now.relations) (of_ints (column_value column.now) low high) nothing_taken }
+    ensures counts { IfOk result (λ s. counts_of (⟦<PickBetween as RowSource>⟧.seen s) ≡ no_counts) }
+    ensures begun { IfOk result (λ s. (pages : PageMap) → CatalogStands pages catalog.now → ⟦<PickBetween as RowSource>⟧.At s pages (database_in pages catalog.now.relations) (of_ints (column_value column.now) low high) nothing_taken) }
 {
     match PickBetween::start(
+        alloc,
         catalog,
         column.relation.as_str(),
         column.column.as_str(),
         low,
         high,
-    ) {
-        Some(pick) => pick,
+    )? {
+        Some(pick) => Ok(pick),
         None => unreachable!(),
     }
 }

@@ -17,10 +17,10 @@ use script_text::Plan;
 use sort_stages::{SortBy, SortNear};
 use std::alloc::Global;
 
-impl<'s> Stage<'s> {
+impl Stage {
     /// The stage of the outermost operator of a plan, which took nothing. No page is read. Counts are at least 1, so
     /// that no `first` opens its sort without a row.
-    pub fn start(alloc: Global, catalog: &'s Catalog, plan: &Plan) -> Result<Stage<'s>, NoMemory>
+    pub fn start(alloc: Global, catalog: &Catalog, plan: &Plan) -> Result<Stage, NoMemory>
         requires openable { IsOpenable catalog.now plan.now }
         requires operator { is_source (plan_value plan.now) ≡ false }
         ensures open { IfOk result (λ s. is_closed s ≡ false) }
@@ -36,19 +36,25 @@ impl<'s> Stage<'s> {
                 plan,
                 place,
                 column,
-            } => Ok(Stage::Match(Match::new(spot(catalog, plan, place), look_up(catalog, column)))),
+            } => {
+                let spot = spot(alloc, catalog, plan, place)?;
+                let look_up = look_up(alloc, catalog, column)?;
+                Ok(Stage::Match(Match::new(spot, look_up)))
+            }
             Plan::Fetch { plan, places } => {
                 let mut found = Vec::new(alloc);
-                add_spots(catalog, plan, places.as_slice(), &mut found)?;
+                add_spots(alloc, catalog, plan, places.as_slice(), &mut found)?;
                 Ok(Stage::Fetch(Fetch::new(found)))
             }
             Plan::First { count, .. } => Ok(Stage::First(First::new(*count, false))),
             Plan::SortBy { plan, place } => {
-                Ok(Stage::SortBy(SortBy::new(alloc, spot(catalog, plan, place))))
+                let spot = spot(alloc, catalog, plan, place)?;
+                Ok(Stage::SortBy(SortBy::new(alloc, spot)))
             }
             Plan::SortNear { plan, place, goal } => {
                 let goal = goal.copy(alloc)?;
-                let sort = SortNear::new(alloc, spot(catalog, plan, place), goal);
+                let spot = spot(alloc, catalog, plan, place)?;
+                let sort = SortNear::new(alloc, spot, goal);
                 Ok(Stage::SortNear(sort))
             }
             Plan::Scan { .. }

@@ -37,9 +37,9 @@ value_read m r schema file id column found s f h is =
 
 -- it is the value at the place of a row with the id
 pub spot_value : (d : Database) (names : List (List ℕ)) (place : Place) (spot : Spot) (m : PageMap) (row : PlanRow) (ids : List ℕ) (id : ℕ) (found : Option Value)
-    → IsSpot d names place spot m → row.ids ≡ ids → kth ids spot.k ≡ Some id → found ≡ value_of (rows_in m spot.relation.now) id spot.column → found ≡ value_at d names row place
+    → IsSpot d names place spot m → row.ids ≡ ids → kth ids spot.k ≡ Some id → found ≡ value_of (rows_in m spot.relation.value) id spot.column → found ≡ value_at d names row place
 spot_value d names place spot m row ids id found is e at h =
     let here : kth row.ids place.k ≡ Some id = ap (λ (xs : List ℕ). kth xs place.k) e ∙ ap (λ (k : ℕ). kth ids k) (sym is.number) ∙ at in
-    let go : (o : Option (List Value)) → of_id id (rows_in m spot.relation.now) ≡ o → value_of (rows_in m spot.relation.now) id spot.column ≡ value_at d names row place =
+    let go : (o : Option (List Value)) → of_id id (rows_in m spot.relation.value) ≡ o → value_of (rows_in m spot.relation.value) id spot.column ≡ value_at d names row place =
     elim [ None ↦ λ n. rw (is.named, here, is.relation, is.at, n) refl | Some values ↦ λ n. rw (is.named, here, is.relation, is.at, n) refl ] in
-    h ∙ go (of_id id (rows_in m spot.relation.now)) refl
+    h ∙ go (of_id id (rows_in m spot.relation.value)) refl

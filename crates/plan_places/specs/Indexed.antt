@@ -6,21 +6,14 @@ use Rattle.sand_model.specs.Database.{Database, Relation, relation_named, column
 use Rattle.sand_model.specs.Plan.{Column}
 use Rattle.sand_store.specs.Catalog.{IsColumnAt}
 use Rattle.sand_store.specs.Contents.{rows_in}
-use Rattle.sand_store.specs.Paths.{IsTreeOf}
 use Rattle.sand_store.specs.Standing.{HoldsColumn, kind_at}
 use Rattle.plan_places.specs.Spots.{Stands, IsColumn}
-use Rattle.plan_places.specs.declared.column.TreeSpot.{TreeSpot}
 use Rattle.plan_places.specs.declared.look_up.LookUp.{LookUp}
 
 -- the relation stands over these pages, and the index holds what its rows have in the column
 pub record Holds (pages : PageMap) (look_up : LookUp) : Type 0 where
-  pub stands : Stands pages look_up.spot.relation.now
-  pub index : HoldsColumn pages look_up.spot.relation.now.schema (rows_in pages look_up.spot.relation.now) look_up.spot.column look_up.index
-
--- the column is that of the catalog, and the quadtree is its index
-pub record HasTree (d : Database) (column : Column) (tree : TreeSpot) (pages : PageMap) : Type 0 where
-  pub is : IsColumn d column tree.spot pages
-  pub tree_of : IsTreeOf tree.spot.relation.now tree.spot.column tree.tree
+  pub stands : Stands pages look_up.spot.relation.value
+  pub index : HoldsColumn pages look_up.spot.relation.value.schema (rows_in pages look_up.spot.relation.value) look_up.spot.column look_up.index
 
 -- the column, where it is one of shapes or isn't, has no index
 abbrev pub LacksIndex : Database → Column → Bool → Type 0
@@ -29,7 +22,7 @@ LacksIndex d column spatial =
 
 -- the column is one of ints
 abbrev pub HasInts : LookUp → Type 0
-HasInts l = kind_at l.spot.relation.now.schema l.spot.column ≡ Some kind.Int
+HasInts l = kind_at l.spot.relation.value.schema l.spot.column ≡ Some kind.Int
 
 -- the column is that of the catalog, and the index holds what its rows have there
 pub record IsLookUp (d : Database) (column : Column) (look_up : LookUp) (pages : PageMap) : Type 0 where

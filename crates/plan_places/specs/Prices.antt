@@ -30,7 +30,7 @@ is_int_kind _ = false
 
 -- an entry tells the value: it is an int of a column of ints
 abbrev pub tells : LookUp → Value → Bool
-tells l (value.Int n) = is_int_kind (kind_at l.spot.relation.now.schema l.spot.column)
+tells l (value.Int n) = is_int_kind (kind_at l.spot.relation.value.schema l.spot.column)
 tells l v = false
 
 -- one descent of the index
@@ -39,7 +39,7 @@ descent_price l = l.index.tree.height + 1
 
 -- the tuple of an entry, where the entry doesn't tell the value
 abbrev pub entry_tuple_price : LookUp → Value → ℕ
-entry_tuple_price l v = cond (tells l v) 0 (tuple_price l.spot.relation.now.file.tree.height)
+entry_tuple_price l v = cond (tells l v) 0 (tuple_price l.spot.relation.value.file.tree.height)
 
 -- to pass an entry
 abbrev pub entry_price : LookUp → Value → ℕ

@@ -44,7 +44,7 @@ matches at rows v = filter (λ pair. same_value pair.1 v) (values_at at rows)
 
 -- the rows with an equal value
 abbrev pub found_in : PageMap → LookUp → Value → List (ℕ × Value)
-found_in pages l v = matches l.spot.column (rows_in pages l.spot.relation.now) v
+found_in pages l v = matches l.spot.column (rows_in pages l.spot.relation.value) v
 
 -- the next entry leads to the next row with the value, or to a row below that one
 abbrev pub IsCandidate : ℕ → List (ℕ × Value) → ℕ → Bool → Type 0

@@ -1,4 +1,4 @@
-ghost use Rattle.std.specs.Prelude.{◌≡◌, ◌<◌, ◌≤◌, min, true, false, None, IfOk, IfSome};
+ghost use Rattle.std.specs.Prelude.{◌≡◌, ◌<◌, ◌≤◌, min, true, false, None, Ok, IfOk, IfSome};
 ghost use Rattle.sand_base.specs.Faults.{last_count};
 ghost use Rattle.page_pool.specs.Disk.{PageMap};
 ghost use Rattle.page_pool.specs.Pool.{IsTold};
@@ -12,7 +12,7 @@ ghost use Rattle.sand_store.specs.Contents.{database_in};
 ghost use Rattle.sand_store.specs.Standing.{CatalogStands};
 ghost use Rattle.sand_store.specs.Standing.{kind_at};
 ghost use Rattle.plan_places.specs.Prices.{is_int_kind, tells, LooksUp};
-ghost use Rattle.plan_places.specs.Spots.{LeadsTo, names_of};
+ghost use Rattle.plan_places.specs.Spots.{LeadsTo, IfFound, names_of};
 ghost use Rattle.plan_places.specs.Indexed.{Holds, HasInts, IsLookUp, LacksIndex};
 ghost use Rattle.attr_index.specs.Key.{IsAttribute};
 ghost use Rattle.plan_places.specs.Steps.{IsInt, is_equal, found_in, id_of, GivesCandidate};
@@ -21,14 +21,14 @@ use crate::ColumnSpot;
 use crate::row::{is_same, value_of};
 use attr_index::{AttrIndex, key_of};
 use page_pool::{PageFault, Pages};
-use sand_base::{Kind, Value};
+use sand_base::{Kind, NoMemory, Value};
 use sand_store::Catalog;
 use std::alloc::Global;
 
 /// A column of ints or texts with its index, in which rows are looked up by their value.
-#[derive(Clone, Copy)]
-pub struct LookUp<'s> {
-    pub spot: ColumnSpot<'s>,
+#[derive(Drop)]
+pub struct LookUp {
+    pub spot: ColumnSpot,
     pub index: AttrIndex,
 }
 
@@ -49,29 +49,36 @@ fn has_equal(found: &Option<Value>, value: &Value) -> bool
     }
 }
 
-impl<'s> LookUp<'s> {
+impl LookUp {
     /// The column of these names with its attribute index. `None` comes where there is no such column, or it has no
     /// such index.
-    pub fn named(catalog: &'s Catalog, relation: &str, column: &str) -> Option<LookUp<'s>>
-        ensures leads { IfSome result (λ l. (pages : PageMap) → LeadsTo (database_in pages catalog.now.relations) (names_of relation.now column.now) l.spot pages) }
-        ensures found { IfSome result (λ l. (pages : PageMap) → CatalogStands pages catalog.now → IsLookUp (database_in pages catalog.now.relations) (names_of relation.now column.now) l pages) }
-        ensures none { result ≡ None → IsCatalog catalog.now → (pages : PageMap) → LacksIndex (database_in pages catalog.now.relations) (names_of relation.now column.now) false }
+    pub fn named(
+        alloc: Global,
+        catalog: &Catalog,
+        relation: &str,
+        column: &str,
+    ) -> Result<Option<LookUp>, NoMemory>
+        ensures leads { IfFound result (λ l. (pages : PageMap) → LeadsTo (database_in pages catalog.now.relations) (names_of relation.now column.now) l.spot pages) }
+        ensures found { IfFound result (λ l. (pages : PageMap) → CatalogStands pages catalog.now → IsLookUp (database_in pages catalog.now.relations) (names_of relation.now column.now) l pages) }
+        ensures none { result ≡ Ok None → IsCatalog catalog.now → (pages : PageMap) → LacksIndex (database_in pages catalog.now.relations) (names_of relation.now column.now) false }
     {
-        let spot = ColumnSpot::named(catalog, relation, column)?;
-        let index = spot.relation.attribute(spot.column)?;
-        Some(LookUp {
-            spot,
-            index: *index,
-        })
+        let Some(spot) = ColumnSpot::named(alloc, catalog, relation, column)? else {
+            return Ok(None);
+        };
+        let Some(index) = spot.relation.attribute(spot.column) else {
+            return Ok(None);
+        };
+        let index = *index;
+        Ok(Some(LookUp { spot, index }))
     }
 
     /// Whether the column is one of ints.
     pub fn has_ints(&self) -> bool
         ensures ints { result ≡ true → HasInts self.now }
         ensures other { result ≡ false → HasInts self.now → ⊥ }
-        ensures kind { result ≡ is_int_kind (kind_at self.now.spot.relation.now.schema self.now.spot.column) }
+        ensures kind { result ≡ is_int_kind (kind_at self.now.spot.relation.value.schema self.now.spot.column) }
     {
-        let spot = self.spot;
+        let spot = &self.spot;
         match spot.relation.schema().columns().get(spot.column) {
             Some((_, Kind::Int)) => true,
             _ => false,
@@ -98,7 +105,7 @@ impl<'s> LookUp<'s> {
         last: u32,
     ) -> Result<Option<Candidate>, PageFault>
         requires attribute { IsAttribute value.now }
-        requires small { self.now.spot.relation.now.next ≤ 4294967296 }
+        requires small { self.now.spot.relation.value.next ≤ 4294967296 }
         requires holds { IsTold (P.shown pages.old) → Holds (P.shown pages.old).pages self.now }
         ensures candidate { IfOk result (λ found. IsTold (P.shown pages.old) → GivesCandidate last (found_in (P.shown pages.old).pages self.now value.now) found) }
         ensures rises { IfOk result (λ found. IfSome found (λ c. last < c.id)) }
@@ -113,7 +120,7 @@ impl<'s> LookUp<'s> {
         if self.is_told(value) {
             return Ok(Some(Candidate { id, is_equal: true }));
         }
-        match value_of(alloc, pages, self.spot.relation, id, self.spot.column) {
+        match value_of(alloc, pages, &self.spot.relation, id, self.spot.column) {
             Ok(found) => Ok(Some(Candidate {
                 id,
                 is_equal: has_equal(&found, value),

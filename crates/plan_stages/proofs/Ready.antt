@@ -34,12 +34,12 @@ none P = λ k d less. absurd (omega (arith, less))
 
 -- the relations of tests stand
 pub tests_stand : (d : Database) (names : List (List ℕ)) (pages : PageMap) (tests : List SpotTest) (asked : List Test) → AreTests d names pages tests asked
-    → All (λ (test : SpotTest). Stands pages test.spot.relation.now) tests
-tests_stand d names pages [] [] h = none (λ (test : SpotTest). Stands pages test.spot.relation.now)
+    → All (λ (test : SpotTest). Stands pages test.spot.relation.value) tests
+tests_stand d names pages [] [] h = none (λ (test : SpotTest). Stands pages test.spot.relation.value)
 tests_stand d names pages [] (a ∷ more) h = absurd h
 tests_stand d names pages (t ∷ ts) [] h = absurd h
 tests_stand d names pages (t ∷ ts) (a ∷ more) h =
-    all_cons (λ (test : SpotTest). Stands pages test.spot.relation.now) t ts h.0.spot.stands (tests_stand d names pages ts more h.1)
+    all_cons (λ (test : SpotTest). Stands pages test.spot.relation.value) t ts h.0.spot.stands (tests_stand d names pages ts more h.1)
 
 pub filter_ready : (f : Filter) (desk : DeskState)
     → IfSome (told_pages desk) (λ pages. (d : Database) × ((p : Plan) × ((taken : List PlanRow) × ((given : List PlanRow) × FilterStands f pages d p taken given))))
@@ -50,12 +50,12 @@ filter_ready f desk h pool is told =
 
 -- the relations of places stand
 pub spots_stand : (d : Database) (names : List (List ℕ)) (pages : PageMap) (spots : List Spot) (places : List Place) → AreSpots d names pages spots places
-    → All (λ (spot : Spot). Stands pages spot.relation.now) spots
-spots_stand d names pages [] [] h = none (λ (spot : Spot). Stands pages spot.relation.now)
+    → All (λ (spot : Spot). Stands pages spot.relation.value) spots
+spots_stand d names pages [] [] h = none (λ (spot : Spot). Stands pages spot.relation.value)
 spots_stand d names pages [] (a ∷ more) h = absurd h
 spots_stand d names pages (t ∷ ts) [] h = absurd h
 spots_stand d names pages (t ∷ ts) (a ∷ more) h =
-    all_cons (λ (spot : Spot). Stands pages spot.relation.now) t ts h.0.stands (spots_stand d names pages ts more h.1)
+    all_cons (λ (spot : Spot). Stands pages spot.relation.value) t ts h.0.stands (spots_stand d names pages ts more h.1)
 
 pub fetch_ready : (f : Fetch) (desk : DeskState)
     → IfSome (told_pages desk) (λ pages. (d : Database) × ((p : Plan) × ((taken : List PlanRow) × ((given : List PlanRow) × FetchStands f pages d p taken given))))

@@ -18,7 +18,7 @@ AreSpots d names pages spots places = AllZip (λ spot place. IsSpot d names plac
 
 -- the relations of the places stand, where the pages are told
 abbrev pub SpotsStand : PoolState → List Spot → Type 0
-SpotsStand s spots = IsTold s → All (λ spot. Stands s.pages spot.relation.now) spots
+SpotsStand s spots = IsTold s → All (λ spot. Stands s.pages spot.relation.value) spots
 
 -- a row waits
 abbrev pub fetch_waits : Fetch → Bool

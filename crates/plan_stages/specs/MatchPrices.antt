@@ -21,13 +21,15 @@ use Rattle.plan_stages.specs.declared.probe.Probe.{Probe}
 
 -- the heights of the B-trees that a match reads: of the file with the row's value, of the index, and of the file of the column's rows
 abbrev pub value_height : Spot → ℕ
-value_height spot = spot.relation.now.file.tree.height
+value_height spot = spot.relation.value.file.tree.height
 
+-- the height of the index in which a match looks up
 abbrev pub index_height : LookUp → ℕ
 index_height l = l.index.tree.height
 
+-- the height of the file of the rows that a match finds
 abbrev pub others_height : LookUp → ℕ
-others_height l = l.spot.relation.now.file.tree.height
+others_height l = l.spot.relation.value.file.tree.height
 
 -- To handle a row with this value, if any: the model's price of a match, with the entries of the value's key. Without a value its tuple alone is read.
 abbrev pub matches_price : Spot → LookUp → PageMap → Option Value → ℕ

@@ -7,7 +7,7 @@ use Rattle.plan_stages.specs.declared.tests.SpotTest.{SpotTest}
 
 -- to read a place of a row: a tuple of its relation
 abbrev pub spot_price : Spot → ℕ
-spot_price s = tuple_price s.relation.now.file.tree.height
+spot_price s = tuple_price s.relation.value.file.tree.height
 
 -- to read some places
 abbrev pub spots_price : List Spot → ℕ

@@ -21,4 +21,4 @@ AreTests d names pages tests asked = AllZip (IsTest d names pages) tests asked
 
 -- the relations of the tests stand, where the pages are told
 abbrev pub TestsStand : PoolState → List SpotTest → Type 0
-TestsStand s tests = IsTold s → All (λ test. Stands s.pages test.spot.relation.now) tests
+TestsStand s tests = IsTold s → All (λ test. Stands s.pages test.spot.relation.value) tests

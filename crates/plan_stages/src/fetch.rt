@@ -11,12 +11,12 @@ use std::alloc::Global;
 
 /// `fetch`: the rows with the values at places. It holds a row until these are read.
 #[derive(Drop)]
-pub struct Fetch<'s> {
-    spots: Vec<Spot<'s>>,
+pub struct Fetch {
+    spots: Vec<Spot>,
     held: Option<Answer>,
 }
 
-impl<'s> Fetch<'s> {
+impl Fetch {
     ghost use Rattle.std.specs.Prelude.{◌≡◌, List, []};
     ghost use Rattle.page_pool.specs.Disk.{PageMap};
     ghost use Rattle.sand_model.specs.Database.{Database};
@@ -26,14 +26,14 @@ impl<'s> Fetch<'s> {
     ghost use Rattle.plan_stages.specs.Fetches.{AreSpots};
 
     /// The stage of a fetch of these places.
-    pub fn new(spots: Vec<Spot<'s>>) -> Fetch<'s>
-        ensures { (pages : PageMap) (d : Database) (below : Plan) (places : List Place) → AreSpots d (relations_of below) pages spots.entry.items places → FetchStands result pages d (plan.Fetch below places) [] [] }
+    pub fn new(spots: Vec<Spot>) -> Fetch
+        ensures { (pages : PageMap) (d : Database) (below : Plan) (places : List Place) → AreSpots d (relations_of below) pages spots.items places → FetchStands result pages d (plan.Fetch below places) [] [] }
     {
         Fetch { spots, held: None }
     }
 }
 
-impl<'s> RowStage for Fetch<'s> {
+impl RowStage for Fetch {
     ghost Stands = { FetchStands };
 
     ghost waits = { fetch_waits };

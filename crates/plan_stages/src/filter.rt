@@ -11,12 +11,12 @@ use std::alloc::Global;
 
 /// `filter`: the rows that pass all tests. It holds a row until its tests are read.
 #[derive(Drop)]
-pub struct Filter<'s> {
-    tests: Vec<SpotTest<'s>>,
+pub struct Filter {
+    tests: Vec<SpotTest>,
     held: Option<Answer>,
 }
 
-impl<'s> Filter<'s> {
+impl Filter {
     ghost use Rattle.std.specs.Prelude.{◌≡◌, List, []};
     ghost use Rattle.page_pool.specs.Disk.{PageMap};
     ghost use Rattle.sand_model.specs.Database.{Database};
@@ -26,14 +26,14 @@ impl<'s> Filter<'s> {
     ghost use Rattle.plan_stages.specs.Tests.{AreTests};
 
     /// The stage of a filter by these tests.
-    pub fn new(tests: Vec<SpotTest<'s>>) -> Filter<'s>
-        ensures { (pages : PageMap) (d : Database) (below : Plan) (asked : List Test) → AreTests d (relations_of below) pages tests.entry.items asked → FilterStands result pages d (plan.Filter below asked) [] [] }
+    pub fn new(tests: Vec<SpotTest>) -> Filter
+        ensures { (pages : PageMap) (d : Database) (below : Plan) (asked : List Test) → AreTests d (relations_of below) pages tests.items asked → FilterStands result pages d (plan.Filter below asked) [] [] }
     {
         Filter { tests, held: None }
     }
 }
 
-impl<'s> RowStage for Filter<'s> {
+impl RowStage for Filter {
     ghost Stands = { FilterStands };
 
     ghost waits = { filter_waits };

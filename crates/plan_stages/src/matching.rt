@@ -23,21 +23,21 @@ pub enum Held {
 /// `match`: each row with each row of a column whose value equals the one at the place. It holds a row until no more
 /// match, reads its value once, and keeps its place.
 #[derive(Drop)]
-pub struct Match<'s> {
-    spot: Spot<'s>,
-    look_up: LookUp<'s>,
+pub struct Match {
+    spot: Spot,
+    look_up: LookUp,
     held: Option<Held>,
 }
 
-impl<'s> Match<'s> {
+impl Match {
     ghost use Rattle.page_pool.specs.Disk.{PageMap};
     ghost use Rattle.sand_model.specs.Operators.{relations_of};
     ghost use Rattle.sand_model.specs.Plan as plan;
     ghost use Rattle.sand_model.specs.Plan.{Plan};
 
     /// The stage of a match of this place with this column.
-    pub fn new(spot: Spot<'s>, look_up: LookUp<'s>) -> Match<'s>
-        ensures { (pages : PageMap) (d : Database) (below : Plan) (place : Place) (column : Column) → IsSpot d (relations_of below) place spot.entry pages → IsLookUp d column look_up.entry pages → MatchStands result pages d (plan.Match below place column) [] [] }
+    pub fn new(spot: Spot, look_up: LookUp) -> Match
+        ensures { (pages : PageMap) (d : Database) (below : Plan) (place : Place) (column : Column) → IsSpot d (relations_of below) place spot pages → IsLookUp d column look_up pages → MatchStands result pages d (plan.Match below place column) [] [] }
     {
         Match {
             spot,
@@ -47,7 +47,7 @@ impl<'s> Match<'s> {
     }
 }
 
-impl<'s> RowStage for Match<'s> {
+impl RowStage for Match {
     ghost Stands = { MatchStands };
 
     ghost waits = { match_waits };

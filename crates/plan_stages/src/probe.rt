@@ -55,7 +55,7 @@ impl Probe {
         &mut self,
         alloc: Global,
         pages: &mut P,
-        look_up: &LookUp<'_>,
+        look_up: &LookUp,
     ) -> Result<Option<Answer>, PageFault>
         requires { IsTold (P.shown pages.old) → Holds (P.shown pages.old).pages look_up.now }
         ensures gives { IsTold (P.shown pages.old) → (d : Database) (column : Column) → IsLookUp d column look_up.now (P.shown pages.old).pages → GivesNext d column self.old result self.new }

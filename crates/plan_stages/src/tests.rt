@@ -21,8 +21,8 @@ use std::cmp::Ordering;
 
 /// A test of a filter, its place looked up.
 #[derive(Drop)]
-pub struct SpotTest<'s> {
-    pub spot: Spot<'s>,
+pub struct SpotTest {
+    pub spot: Spot,
     pub op: Op,
     pub value: Value,
 }
@@ -64,10 +64,10 @@ fn passes(op: Op, held: &Value, asked: &Value) -> bool
 fn passes_one<P: Pages>(
     alloc: Global,
     pages: &mut P,
-    test: &SpotTest<'_>,
+    test: &SpotTest,
     ids: &[u32],
 ) -> Result<bool, PageFault>
-    requires stands { IsTold (P.shown pages.old) → Stands (P.shown pages.old).pages test.now.spot.relation.now }
+    requires stands { IsTold (P.shown pages.old) → Stands (P.shown pages.old).pages test.now.spot.relation.value }
     ensures value { IfOk result (λ passed. IsTold (P.shown pages.old) → (d : Database) (names : List (List ℕ)) (asked : Test) (row : PlanRow) → IsTest d names (P.shown pages.old).pages test.now asked → row.ids ≡ ids.now → passed ≡ passes_test d names row asked) }
     ensures read { IsRead (P.shown pages.old) (P.shown pages.new) }
     ensures up { min (P.shown pages.old).gets last_count ≤ (P.shown pages.new).gets }
@@ -86,7 +86,7 @@ fn passes_one<P: Pages>(
 fn passes_each<P: Pages>(
     alloc: Global,
     pages: &mut P,
-    tests: &[SpotTest<'_>],
+    tests: &[SpotTest],
     ids: &[u32],
 ) -> Result<bool, PageFault>
     requires stands { TestsStand (P.shown pages.old) tests.now }
@@ -111,7 +111,7 @@ fn passes_each<P: Pages>(
 pub(crate) fn passes_all<P: Pages>(
     alloc: Global,
     pages: &mut P,
-    tests: &[SpotTest<'_>],
+    tests: &[SpotTest],
     ids: &[u32],
 ) -> Result<bool, PageFault>
     requires stands { TestsStand (P.shown pages.old) tests.now }

@@ -42,11 +42,11 @@ fn push(values: &mut Vec<Value>, value: Value) -> Result<(), NoMemory>
 fn add_value<P: Pages>(
     alloc: Global,
     pages: &mut P,
-    spot: &Spot<'_>,
+    spot: &Spot,
     ids: &[u32],
     values: &mut Vec<Value>,
 ) -> Result<(), PageFault>
-    requires stands { IsTold (P.shown pages.old) → Stands (P.shown pages.old).pages spot.now.relation.now }
+    requires stands { IsTold (P.shown pages.old) → Stands (P.shown pages.old).pages spot.now.relation.value }
     ensures value { OnOk result (IsTold (P.shown pages.old) → (d : Database) (names : List (List ℕ)) (place : Place) (row : PlanRow) → IsSpot d names place spot.now (P.shown pages.old).pages → row.ids ≡ ids.now → values.new.items ≡ values.old.items ++ option_to_list (value_at d names row place)) }
     ensures read { IsRead (P.shown pages.old) (P.shown pages.new) }
     ensures up { min (P.shown pages.old).gets last_count ≤ (P.shown pages.new).gets }
@@ -67,7 +67,7 @@ fn add_value<P: Pages>(
 fn add_values<P: Pages>(
     alloc: Global,
     pages: &mut P,
-    spots: &[Spot<'_>],
+    spots: &[Spot],
     ids: &[u32],
     values: &mut Vec<Value>,
 ) -> Result<(), PageFault>
@@ -91,7 +91,7 @@ fn add_values<P: Pages>(
 pub(crate) fn with_values<P: Pages>(
     alloc: Global,
     pages: &mut P,
-    spots: &[Spot<'_>],
+    spots: &[Spot],
     row: &Answer,
 ) -> Result<Row, PageFault>
     requires stands { SpotsStand (P.shown pages.old) spots.now }

@@ -3,7 +3,7 @@
 //! A plan is a source and stages over it, one for each operator. A step of an operator asks the one beneath it at most
 //! once and has no loop: it gives a row, or only comes nearer to one, or finds the end. A stage works in the same step on
 //! a row that it takes, where it can. So nothing is taken ahead, and after a refusal no row is lost, and a step may be
-//! made again. Above: the plans with their real sources and stages. Below: `plan_rows`. Contracts see the rows that each
+//! made again. Above: `plan_stages`, `sort_stages` and `plan_cursor`. Below: `plan_rows`. Contracts see the rows that each
 //! operator took and gave, and that page gets are paid; read `specs/Outermost.antt` first, then `specs/Stages.antt`,
 //! `specs/Sifts.antt`, `specs/Following.antt`, `specs/Steps.antt` and `specs/Paying.antt`.
 //! After G. Graefe, Query evaluation techniques for large databases (1993).

@@ -32,6 +32,7 @@ GrownIsFull =
     → IsShallow root_block tree → Fits (meets_block gap rows) ids root_block tree → IsFull threshold tree
     → IsFull threshold (tree_with gap rows threshold id tree)
 
+-- an insertion leaves no leaf below the last level
 abbrev pub GrownIsShallow : Type 0
 GrownIsShallow =
     (gap : Measure) (rows : List (ℕ × Shape)) (threshold id : ℕ) (tree : Tree) → IsShallow root_block tree
@@ -43,9 +44,11 @@ ShrunkFits =
     (gap : Measure) → IsMeasure gap → (rows : List (ℕ × Shape)) (ids : List ℕ) (threshold id : ℕ) (tree : Tree) → AreInPlane rows → Rises ids
     → IsShallow root_block tree → Fits (meets_block gap rows) ids root_block tree → Fits (meets_block gap rows) (without id ids) root_block (shrunk threshold id tree)
 
+-- a deletion leaves no four leaves that could be one
 abbrev pub ShrunkIsFull : Type 0
 ShrunkIsFull = (threshold id : ℕ) (tree : Tree) → IsFull threshold (shrunk threshold id tree)
 
+-- a deletion leaves no leaf below the last level
 abbrev pub ShrunkIsShallow : Type 0
 ShrunkIsShallow = (threshold id : ℕ) (tree : Tree) → IsShallow root_block tree → IsShallow root_block (shrunk threshold id tree)
 

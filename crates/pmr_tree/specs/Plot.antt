@@ -103,6 +103,7 @@ pub LeadsOn-from : {S Z : Type 0} (rows : S → PageMap → List (ℕ × Shape))
 LeadsOn-from rows shape Stands Owns s0 s1 z0 z1 t p u q end e f h =
     subst (λ s. LeadsOn (rows s) (shape z0) (Stands s) (Owns s) t p u q end) e (subst (λ z. LeadsOn (rows s1) (shape z) (Stands s1) (Owns s1) t p u q end) f h)
 
+-- what is ready for one value is ready for an equal one
 pub IsReadyOn-from : {S Z : Type 0} (shape : Z → Shape) (Stands : S → PageMap → Type 0) (Owns : S → PageMap → ℕ → Type 0) (s0 s1 : S) (z0 z1 : Z) (t : Tree) (p : PoolState) → s1 ≡ s0 → z1 ≡ z0
     → IsReadyOn (shape z0) (Stands s0) (Owns s0) t p → IsReadyOn (shape z1) (Stands s1) (Owns s1) t p
 IsReadyOn-from shape Stands Owns s0 s1 z0 z1 t p e f h =

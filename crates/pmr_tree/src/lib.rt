@@ -2,8 +2,8 @@
 //!
 //! A tree is kept as its leaves alone: a key for each listed id, in the order of Morton codes, so that a
 //! leaf is one range of keys and an inner place has none of its own. Growing, splitting and merging are then
-//! keys taken and put inside the range of a block, with all else untouched. Above: the hierarchies that
-//! search it and the store that changes it. Below: `code_btree` for the entries, `z_code` for blocks and
+//! keys taken and put inside the range of a block, with all else untouched. Above: `rank_cursor` and `dist_join`, which
+//! search it, and `sand_store`, which changes it. Below: `code_btree` for the entries, `z_code` for blocks and
 //! `sand_model` for the tree as a value.
 //! Contracts see the tree as a value, over the pages in which it lies; read `specs/Quadtree.antt` first, then
 //! `specs/Calls.antt`.

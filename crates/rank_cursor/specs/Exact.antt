@@ -9,6 +9,7 @@ both_equal Less b e = absurd (true≢false (ap is_lt e))
 both_equal Equal b e = (refl, e)
 both_equal Greater b e = absurd (true≢false (ap is_gt e))
 
+-- blocks that compare equal are equal
 pub block_exact : (a b : Block) → ordering_then (nat_cmp a.z b.z) (nat_cmp a.level b.level) ≡ Equal → a ≡ b
 block_exact a b e =
     let h = both_equal (nat_cmp a.z b.z) (nat_cmp a.level b.level) e in

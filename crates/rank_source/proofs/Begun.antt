@@ -11,7 +11,7 @@ use Rattle.sand_model.specs.Database.{Database, shapes_of}
 use Rattle.sand_model.specs.Plan.{Plan, Column}
 use Rattle.sand_model.specs.Reach.{quadtree_of}
 use Rattle.sand_model.specs.Sources.{column_shapes}
-use Rattle.sand_store.specs.declared.column.ColumnShapes.{ColumnShapes}
+use Rattle.sand_store.specs.declared.column.FileShapes.{FileShapes}
 use Rattle.sand_store.specs.Catalog.{RelationView, IsLimits}
 use Rattle.sand_store.specs.Contents.{rows_in}
 use Rattle.sand_store.specs.Paths.{IsTreeOf}
@@ -41,44 +41,44 @@ module _ (pages : PageMap) (limits : Limits) (r : RelationView) (at : ℕ) (tree
 
   module _ (goal : Goal) (plane : IsGoalInClosedPlane goal) (ceiling : Option ℕ) (small : IsLimits limits) (stands : RelationStands pages limits r) where
     -- the ranking is sound
-    is_sound : IsSound (ranking_in pages r at tree goal ceiling)
+    is_sound : IsSound (ranking_in pages r.schema r.file at tree goal ceiling)
     is_sound =
         sound (λ m. shapes_of at (rows_in m r)) (λ m. TableStands m r.schema r.file) (r.file.tree.height + 1) tree goal ceiling
         (λ m h. shapes_plane r.schema at (rows_in m r) h.rows) plane pages (is.fits pages limits stands).fits stands.table
 
     -- a plan that ranks the column has this ranking
-    ranks_column : (p : Plan) → Ranks p column goal ceiling → RanksColumn (ranking_in pages r at tree goal ceiling) d p
+    ranks_column : (p : Plan) → Ranks p column goal ceiling → RanksColumn (ranking_in pages r.schema r.file at tree goal ceiling) d p
     ranks_column p h = record { column = column; ranks = h; shapes = shapes_are; tree = tree_is; few = le_trans (is.fits pages limits stands).few small.few_listings }
 
     -- a search that has given nothing has taken nothing
     pub begun : {cmp : Block → Block → Ordering} (held : List (Item Block)) (last : Option Hit) (counts : Counts) → last ≡ None → IsCounted {N = Block} [] counts
-        → (MeetsLaws (rank_meaning (ranking_in pages r at tree goal ceiling)) → Stands cmp (rank_meaning (ranking_in pages r at tree goal ceiling)) held last []) → (p : Plan) → Ranks p column goal ceiling
-        → HasTaken cmp (ranking_in pages r at tree goal ceiling) held last counts d p nothing_taken
+        → (MeetsLaws (rank_meaning (ranking_in pages r.schema r.file at tree goal ceiling)) → Stands cmp (rank_meaning (ranking_in pages r.schema r.file at tree goal ceiling)) held last []) → (p : Plan) → Ranks p column goal ceiling
+        → HasTaken cmp (ranking_in pages r.schema r.file at tree goal ceiling) held last counts d p nothing_taken
     begun held last counts none counted search p h = record {
       ranks = ranks_column p h;
       sound = is_sound;
       done = [];
-      stands = search (rank_laws (ranking_in pages r at tree goal ceiling) is_sound);
+      stands = search (rank_laws (ranking_in pages r.schema r.file at tree goal ceiling) is_sound);
       counted = counted;
       rows = none;
       ended = λ e. absurd (true≢false (sym e));
     }
 
 -- a hierarchy that was made of these has the ranking of these
-pub made_ranking : (relation : RelationView) (at : ℕ) (tree : Pmr) (goal : Goal) (ceiling : Option ℕ) (made : RankTree ColumnShapes) → made.shapes.relation.now ≡ relation → made.shapes.column ≡ at
-    → made.pmr ≡ tree → made.goal ≡ goal → made.ceiling ≡ ceiling → (m : PageMap) → ranking_of made m ≡ ranking_in m relation at tree goal ceiling
-made_ranking relation at tree goal ceiling made r a t g c m i = ranking_in m (r i) (a i) (t i) (g i) (c i)
+pub made_ranking : (relation : RelationView) (at : ℕ) (tree : Pmr) (goal : Goal) (ceiling : Option ℕ) (made : RankTree FileShapes) → made.shapes.schema ≡ relation.schema → made.shapes.file ≡ relation.file → made.shapes.column ≡ at
+    → made.pmr ≡ tree → made.goal ≡ goal → made.ceiling ≡ ceiling → (m : PageMap) → ranking_of made m ≡ ranking_in m relation.schema relation.file at tree goal ceiling
+made_ranking relation at tree goal ceiling made s f a t g c m i = ranking_in m (s i) (f i) (a i) (t i) (g i) (c i)
 
 -- the search that was made has its ceiling, and stands where nothing was taken, over all pages
-pub begun_over : (relation : RelationView) (at : ℕ) (tree : Pmr) (goal : Goal) (ceiling : Option ℕ) → IsGoalInClosedPlane goal → (made kept : RankTree ColumnShapes) → kept ≡ made
-    → ((m : PageMap) → ranking_of made m ≡ ranking_in m relation at tree goal ceiling) → (held : List (Item Block)) (last : Option Hit) (counts : Counts) → last ≡ None → IsCounted {N = Block} [] counts
+pub begun_over : (relation : RelationView) (at : ℕ) (tree : Pmr) (goal : Goal) (ceiling : Option ℕ) → IsGoalInClosedPlane goal → (made kept : RankTree FileShapes) → kept ≡ made
+    → ((m : PageMap) → ranking_of made m ≡ ranking_in m relation.schema relation.file at tree goal ceiling) → (held : List (Item Block)) (last : Option Hit) (counts : Counts) → last ≡ None → IsCounted {N = Block} [] counts
     → ((m : PageMap) → MeetsLaws (rank_meaning (ranking_of made m)) → Stands by_code (rank_meaning (ranking_of made m)) held last [])
     → (ceiled : Type 0) → ceiled → Begins (λ m d p t. ceiled × HasTaken by_code (ranking_of kept m) held last counts d p t) relation at tree goal ceiling
 begun_over relation at tree goal ceiling plane made kept still same held last counts none counted stands ceiled has_it is m limits small h d column of p r =
-    let search : MeetsLaws (rank_meaning (ranking_in m relation at tree goal ceiling)) → Stands by_code (rank_meaning (ranking_in m relation at tree goal ceiling)) held last [] =
+    let search : MeetsLaws (rank_meaning (ranking_in m relation.schema relation.file at tree goal ceiling)) → Stands by_code (rank_meaning (ranking_in m relation.schema relation.file at tree goal ceiling)) held last [] =
     subst (λ (x : Ranking). MeetsLaws (rank_meaning x) → Stands by_code (rank_meaning x) held last []) (same m) (stands m) in (
       has_it,
-      subst (λ (x : RankTree ColumnShapes). HasTaken by_code (ranking_of x m) held last counts d p nothing_taken) (sym still)
+      subst (λ (x : RankTree FileShapes). HasTaken by_code (ranking_of x m) held last counts d p nothing_taken) (sym still)
           (subst (λ (x : Ranking). HasTaken by_code x held last counts d p nothing_taken) (sym (same m))
           (begun m limits relation at tree d column of is goal plane ceiling small h held last counts none counted search p r)),
     )

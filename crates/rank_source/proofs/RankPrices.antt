@@ -14,7 +14,7 @@ use Rattle.sand_model.specs.Price.{block_price}
 use Rattle.sand_model.specs.Reach.{quadtree_of}
 use Rattle.sand_model.specs.Taken.{Taken}
 use Rattle.sand_model.specs.Tree.{Tree, Leaf, Inner}
-use Rattle.sand_store.specs.declared.column.ColumnShapes.{ColumnShapes}
+use Rattle.sand_store.specs.declared.column.FileShapes.{FileShapes}
 use Rattle.best_first.specs.Visits.{SearchState, MakesVisits}
 use Rattle.best_first.specs.declared.hit.Hit.{Hit}
 use Rattle.best_first.specs.declared.item.Item.{Item}
@@ -100,7 +100,7 @@ search_costs number h r knows d p t old new result answer k makes =
     none_left (Err fault) = refl
 
 -- over whatever pages the disk tells, by a search that has its ceiling
-pub costs_over : (number : ℕ) (pages : Option PageMap) (ceiled : Type 0) (tree : RankTree ColumnShapes) (old new : SearchState Block) (result : Result (Option Hit) PageFault) (answer : Result (Option Answer) PageFault)
+pub costs_over : (number : ℕ) (pages : Option PageMap) (ceiled : Type 0) (tree : RankTree FileShapes) (old new : SearchState Block) (result : Result (Option Hit) PageFault) (answer : Result (Option Answer) PageFault)
     → IfSome pages (λ m. MakesVisits by_code (rank_meaning (ranking_of tree m)) (visit_of number) old new result)
     → IfSome pages (λ m. (d : Database) (p : Plan) (t : Taken) → ceiled × HasTaken by_code (ranking_of tree m) old.held old.last old.counts d p t → Costs (heights_of tree) 0 0 0 d p old.desk new.desk answer)
 costs_over number None ceiled tree old new result answer makes = tt

@@ -4,7 +4,9 @@ use Rattle.std.specs.Ordering.{nat_cmp, ordering_then}
 use Rattle.std.specs.declared.cmp.Ordering.{Ordering}
 use Rattle.sand_base.specs.declared.goal.Goal.{Goal}
 use Rattle.sand_base.specs.declared.goal.Goal.TheVariants as figure
+use Rattle.sand_base.specs.declared.kind.Kind.{Kind}
 use Rattle.sand_base.specs.declared.limits.Limits.{Limits}
+use Rattle.tuple_file.specs.declared.file.TupleFile.{TupleFile}
 use Rattle.z_code.specs.declared.block.Block.{Block}
 use Rattle.sand_model.specs.Database.{Database, shapes_of, relation_named, column_named}
 use Rattle.sand_model.specs.Plan as plan
@@ -16,9 +18,9 @@ use Rattle.sand_model.specs.Tree.{listings}
 use Rattle.page_pool.specs.Desk.{DeskState}
 use Rattle.page_pool.specs.Disk.{PageMap}
 use Rattle.pmr_tree.specs.declared.quadtree.Pmr.{Pmr}
-use Rattle.sand_store.specs.declared.column.ColumnShapes.{ColumnShapes}
+use Rattle.sand_store.specs.declared.column.FileShapes.{FileShapes}
 use Rattle.sand_store.specs.Catalog.{RelationView, IsLimits, most_listings}
-use Rattle.sand_store.specs.Contents.{rows_in, relation_in}
+use Rattle.sand_store.specs.Contents.{rows_at, relation_in}
 use Rattle.sand_store.specs.Paths.{IsTreeOf}
 use Rattle.sand_store.specs.Standing.{TableStands, RelationStands}
 use Rattle.best_first.specs.Frontier.{Stands, StandsOver}
@@ -52,10 +54,10 @@ abbrev pub IsColumnOf : PageMap → RelationView → ℕ → Database → Column
 IsColumnOf pages relation at d column =
     (relation_named d column.relation ≡ Some (relation_in pages relation)) × (column_named relation.schema column.column ≡ Some at)
 
--- the ranking of a relation's column over pages, by its quadtree
-abbrev pub ranking_in : PageMap → RelationView → ℕ → Pmr → Goal → Option ℕ → Ranking
-ranking_in pages relation at tree goal ceiling =
-    ranking_over (λ m. shapes_of at (rows_in m relation)) (λ m. TableStands m relation.schema relation.file) (relation.file.tree.height + 1) tree goal ceiling pages
+-- the ranking over pages of a column of a file, of rows of a schema, by the column's quadtree
+abbrev pub ranking_in : PageMap → List (List ℕ × Kind) → TupleFile → ℕ → Pmr → Goal → Option ℕ → Ranking
+ranking_in pages schema file at tree goal ceiling =
+    ranking_over (λ m. shapes_of at (rows_at m schema file)) (λ m. TableStands m schema file) (file.tree.height + 1) tree goal ceiling pages
 
 -- The plan ranks a column of the database: the ranking has the column's shapes and its quadtree, with no more listings than a quadtree may have.
 pub record RanksColumn (r : Ranking) (d : Database) (p : Plan) : Type 0 where
@@ -72,17 +74,17 @@ abbrev pub by_code : Block → Block → Ordering
 by_code a b = ordering_then (nat_cmp a.z b.z) (nat_cmp a.level b.level)
 
 -- the ranking that its hierarchy is over pages
-abbrev pub ranking_of : RankTree ColumnShapes → PageMap → Ranking
+abbrev pub ranking_of : RankTree FileShapes → PageMap → Ranking
 ranking_of tree pages =
-    ranking_in pages tree.shapes.relation.now tree.shapes.column tree.pmr tree.goal tree.ceiling
+    ranking_in pages tree.shapes.schema tree.shapes.file tree.shapes.column tree.pmr tree.goal tree.ceiling
 
 -- the heights of the B-trees that it reads: of the quadtree's map and of the file of the rows
-abbrev pub heights_of : RankTree ColumnShapes → Heights
+abbrev pub heights_of : RankTree FileShapes → Heights
 heights_of tree =
-    record { index = tree.pmr.map.height; rows = tree.shapes.relation.now.file.tree.height; right_index = 0; right_rows = 0 }
+    record { index = tree.pmr.map.height; rows = tree.shapes.file.tree.height; right_index = 0; right_rows = 0 }
 
 -- the hierarchy of a search of either kind
-abbrev pub hierarchy_of : Search → RankTree ColumnShapes
+abbrev pub hierarchy_of : Search → RankTree FileShapes
 hierarchy_of (Nearest s) = s.hierarchy
 hierarchy_of (AtZero s) = s.hierarchy
 

@@ -18,24 +18,25 @@ use zero_search::ZeroSearch;
 
 /// The rows of a column by their distance from a goal, nearest first.
 #[derive(Drop)]
-pub struct RankSource<'s> {
-    search: Search<'s>,
+pub struct RankSource {
+    search: Search,
 }
 
-impl<'s> RankSource<'s> {
+impl RankSource {
     /// The ranking of a column from a goal, with a greatest distance where there is a ceiling. No page is read.
     pub fn start(
         alloc: Global,
-        column: TreeColumn<'s>,
+        column: TreeColumn,
         goal: Goal,
         ceiling: Option<u32>,
-    ) -> Result<RankSource<'s>, NoMemory>
+    ) -> Result<RankSource, NoMemory>
         requires plane { IsGoalInClosedPlane goal }
         requires small { IsCeilingInRange ceiling }
-        ensures counts { IfOk result (λ s. counts_of (⟦<RankSource<'s> as RowSource>⟧.seen s) ≡ no_counts) }
-        ensures begun { IfOk result (λ s. Begins (⟦<RankSource<'s> as RowSource>⟧.At s) column.entry.relation.now column.entry.column column.entry.tree.now goal ceiling) }
+        ensures counts { IfOk result (λ s. counts_of (⟦<RankSource as RowSource>⟧.seen s) ≡ no_counts) }
+        ensures begun { IfOk result (λ s. Begins (⟦<RankSource as RowSource>⟧.At s) column.entry.relation.now column.entry.column column.entry.tree.now goal ceiling) }
     {
-        let hierarchy = RankTree::over(*column.tree, column.shapes(), goal, ceiling);
+        let shapes = column.shapes(alloc)?;
+        let hierarchy = RankTree::over(*column.tree, shapes, goal, ceiling);
         match ceiling {
             // Each id of a row has a bit.
             Some(0) => {
@@ -68,7 +69,7 @@ fn answer_of(alloc: Global, hit: Hit) -> Answer
     }
 }
 
-impl<'s> RowSource for RankSource<'s> {
+impl RowSource for RankSource {
     ghost At = { λ s pages d p t. IsAt s.search pages d p t };
 
     ghost seen = { λ s. seen_of s.search };

@@ -11,20 +11,20 @@ use best_first::{BestFirst, Hit, Item};
 use page_pool::{Desk, Disk, PageFault};
 use rank_cursor::RankTree;
 use rank_queue::CopyQueue;
-use sand_store::ColumnShapes;
+use sand_store::FileShapes;
 use z_code::Block;
 use zero_search::ZeroSearch;
 
 /// The search of a ranking, of one of two kinds: within the distance 0 no gaps have to be compared.
 #[derive(Drop)]
-pub enum Search<'s> {
+pub enum Search {
     /// The rows by their distance, from a frontier in a pairing heap.
-    Nearest(BestFirst<RankTree<ColumnShapes<'s>>, CopyQueue<Item<Block>>>),
+    Nearest(BestFirst<RankTree<FileShapes>, CopyQueue<Item<Block>>>),
     /// The rows at the distance 0, by their ids.
-    AtZero(ZeroSearch<RankTree<ColumnShapes<'s>>>),
+    AtZero(ZeroSearch<RankTree<FileShapes>>),
 }
 
-impl<'s> Search<'s> {
+impl Search {
     // The next row. After a refusal the same rows are left.
     pub fn next<D: Disk>(&mut self, desk: &mut Desk<D>) -> Result<Option<Hit>, PageFault>
         requires { IfSome (told_pages desk.old) (StandsOn self.old) }

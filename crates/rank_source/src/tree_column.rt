@@ -1,5 +1,7 @@
 use pmr_tree::Pmr;
-use sand_store::{ColumnShapes, Relation};
+use sand_base::NoMemory;
+use sand_store::{FileShapes, Relation};
+use std::alloc::Global;
 
 /// A column of shapes: its relation, its place there, counted from 0, and its quadtree.
 #[derive(Clone, Copy)]
@@ -10,16 +12,14 @@ pub struct TreeColumn<'s> {
 }
 
 impl<'s> TreeColumn<'s> {
-    ghost use Rattle.std.specs.Prelude.{◌≡◌};
+    ghost use Rattle.std.specs.Prelude.{◌≡◌, IfOk};
 
     /// The shapes of the column.
-    pub fn shapes(self) -> ColumnShapes<'s>
-        ensures relation { result.relation ≡ self.entry.relation }
-        ensures column { result.column ≡ self.entry.column }
+    pub fn shapes(self, alloc: Global) -> Result<FileShapes, NoMemory>
+        ensures file { IfOk result (λ shapes. shapes.file ≡ self.entry.relation.now.file) }
+        ensures schema { IfOk result (λ shapes. shapes.schema ≡ self.entry.relation.now.schema) }
+        ensures column { IfOk result (λ shapes. shapes.column ≡ self.entry.column) }
     {
-        ColumnShapes {
-            relation: self.relation,
-            column: self.column,
-        }
+        self.relation.shapes(alloc, self.column)
     }
 }

@@ -2,7 +2,7 @@
 //!
 //! One idea: the grid points of a rectangle that no edge of a ring meets are inside the ring, all or none. So a
 //! polygon meets a square exactly where it meets a quarter of it, and a bounding rectangle is no farther than
-//! what it holds. Above: the quadtree, and whoever ranks or joins by distance. Below: `plane_geom` for points,
+//! what it holds. Above: `pmr_tree`, `rank_cursor` and `dist_join`, which search by it. Below: `plane_geom` for points,
 //! segments and rectangles, `sand_model` for what inside, gap and a tree are, `z_code` for blocks.
 //! Contracts see a ring as the list of its vertices; read `specs/Rings.antt` and `specs/FigureGap.antt` of
 //! `sand_model` first, then `specs/Laws.antt` here.

@@ -14,9 +14,11 @@ option_rule name parser = record (new_rule name) { long = Some name; action = So
 abbrev pub frames_rule : Rule
 frames_rule = option_rule (codes "frames") (Some (vp.Unsigned 16 4096))
 
+-- the rule of the word that names the page file
 abbrev pub store_rule : Rule
 store_rule = option_rule (codes "store") None
 
+-- the rule of the word that asks for a workload
 abbrev pub workload_rule : Rule
 workload_rule = option_rule (codes "workload") (Some (vp.Unsigned 1 100000))
 
@@ -24,6 +26,7 @@ workload_rule = option_rule (codes "workload") (Some (vp.Unsigned 1 100000))
 abbrev pub bare_shape : Shape → Shape
 bare_shape s = record s { no_binary_name = true; disable_help_flag = true; disable_version_flag = true }
 
+-- the command with no words of its own
 abbrev pub bare_app : App
 bare_app = on_top bare_shape (new_app (codes "sand"))
 

@@ -8,6 +8,7 @@
 
 mod asked;
 mod command;
+pub mod laws;
 mod matching;
 mod numbers;
 mod reading;

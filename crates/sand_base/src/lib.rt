@@ -15,6 +15,7 @@ mod goal;
 mod ids;
 mod kind;
 mod label;
+pub mod laws;
 mod limits;
 mod mem_shelf;
 mod mem_sink;

@@ -47,6 +47,7 @@ places_price heights = sum_by tuple_price heights
 abbrev pub match_price : ℕ → ℕ → ℕ → ℕ
 match_price rows_height height entries = tuple_price rows_height + lookup_price height entries
 
+-- what a match by a text costs: the rows of all entries are read too
 abbrev pub text_match_price : ℕ → ℕ → ℕ → ℕ → ℕ
 text_match_price rows_height height entries others_height =
     tuple_price rows_height + text_lookup_price height entries others_height

@@ -40,12 +40,15 @@ pub record IsSetting (setting : Setting) : Type 0 where
 
 -- the longest data file, the most open cursors, and the threshold where none is given
 
+-- the longest data file, in bytes
 abbrev pub longest_file : ℕ
 longest_file = 67108864
 
+-- the most cursors that may be open
 abbrev pub most_cursors : ℕ
 most_cursors = 16
 
+-- the threshold of a quadtree where none is given
 abbrev pub plain_threshold : ℕ
 plain_threshold = 8
 

@@ -148,9 +148,9 @@ became_read old mid new rs limits at r u id row h read l here there b told =
     subst P read.pages (b after limits (can_lose_read old mid rs limits at r id row h read l here there after))
 
 -- the relation without the row is described
-pub shrunk_described : (limits : Limits) (r : RelationView) (id : ℕ) (file : TupleFile) (after : List (ℕ × AccessPath)) → IsDescribed limits r → SamePlaces r.schema r.paths after
-    → IsDescribed limits (shrunk_view r id file after)
-shrunk_described limits r id file after h p = record {
+pub shrunk_described : (limits : Limits) (r : RelationView) (spans : List ℕ) (file : TupleFile) (after : List (ℕ × AccessPath)) → IsDescribed limits r → SamePlaces r.schema r.paths after
+    → IsDescribed limits (shrunk_view r spans file after)
+shrunk_described limits r spans file after h p = record {
   schema = h.schema;
   columns = h.columns;
   begun = h.begun;

@@ -21,8 +21,8 @@ use Rattle.tuple_file.specs.File.{file_rows, file_pages}
 use Rattle.tuple_file.specs.Rows.{without_id}
 use Rattle.tuple_file.specs.Table.{encodings}
 use Rattle.tuple_file.proofs.Houses as houses
-use Rattle.tuple_file.proofs.Leads.{still_known, taken_known}
-use Rattle.tuple_file.specs.Spans.{forgotten}
+use Rattle.tuple_file.proofs.Leads.{still_known, lost_known}
+use Rattle.tuple_file.specs.Spans.{Forgot}
 use Rattle.tuple_file.proofs.Tables.{encodings-without}
 use Rattle.sand_store.specs.declared.path.AccessPath.{AccessPath}
 use Rattle.sand_store.specs.Catalog.{RelationView, IsPathOf}
@@ -30,7 +30,7 @@ use Rattle.sand_store.specs.Contents.{rows_at, rows_in}
 use Rattle.sand_store.specs.Ownership.{paths_pages, relation_pages}
 use Rattle.sand_store.specs.Standing.{PathStands, TableStands}
 use Rattle.sand_store.specs.Steps.{Became, SamePlaces}
-use Rattle.sand_store.specs.Leaving.{Holding, HasRow, losing, AllCanLose, AllChanged, RelationCanLose, shrunk_view}
+use Rattle.sand_store.specs.Leaving.{Holding, HasRow, losing, AllCanLose, AllChanged, RelationCanLose, Shrank, shrunk_view}
 use Rattle.sand_store.specs.TableLaws.{SameOn, rows_same, table_same}
 use Rattle.sand_store.specs.Tuples.{row_in}
 use Rattle.sand_store.proofs.Databases.{rises_at}
@@ -96,8 +96,8 @@ can_lose m w limits r g id row was h t = record {
 -- A relation lost a row.
 row_lost : (m w v : PageMap) (limits : Limits) (r : RelationView) (g : TupleFile) (id : ℕ) (row : List Value) (was : Bool) (after : List (ℕ × AccessPath)) → RelationCanLose m limits r id row
     → Taken (store_of m) (store_of w) r.file g id was → AllChanged w v (losing (held_by m limits r) id) r.paths after
-    → Became m v limits r (shrunk_view r id g after) (λ gap. without_row id)
-row_lost m w v limits r g id row was after h t a =
+    → (spans : List ℕ) → Forgot r.spans id spans → Became m v limits r (shrunk_view r spans g after) (λ gap. without_row id)
+row_lost m w v limits r g id row was after h t a spans forgot =
     let file : SameOn w v (file_pages (store_of w) g) =
     untouched (store_of w) (store_of v) (paths_pages w r.paths) (paths_pages v after) (file_pages (store_of w) g) a.keeps (apart_taken m w limits r g id row was h t) in
     let paths : SameOn m w (paths_pages m r.paths) = paths_same m w limits r g id row was h t in
@@ -114,16 +114,16 @@ row_lost m w v limits r g id row was after h t a =
         table = table_same w v r.schema g file (table_taken m w limits r g id row was h t);
         short = subst Short (sym f) (All-filter other (λ (x : ℕ × List Value). row_size x.1 ≤ longest_row) (rows_in m r) h.stands.short);
         given_out = subst Given (sym f) (All-filter other (λ (x : ℕ × List Value). (1 ≤ x.0) × (x.0 < r.next)) (rows_in m r) h.stands.given_out);
-        known = still_known (store_of w) (store_of v) g (forgotten id r.spans) (houses.unmoved (store_of w) (store_of v) g file)
-            (taken_known (store_of m) (store_of w) r.file g id was r.spans t h.stands.known);
+        known = still_known (store_of w) (store_of v) g spans (houses.unmoved (store_of w) (store_of v) g file)
+            (lost_known (store_of m) (store_of w) r.file g id was r.spans spans t h.stands.known forgot);
         paths = subst Stand (sym f) a.stands;
       };
       means = λ gap is. ap₂ (λ (rows : Rows) (indexes : List (ℕ × Index)). record { name = r.name; schema = r.schema; rows = rows; next = r.next; indexes = indexes }) f
           (a.means gap is ∙ ap (λ (xs : List (ℕ × Index)). map (index_without id) xs) (indexes_stay m w r.paths paths));
-      keeps = keeps_then (store_of m) (store_of w) (store_of v) (relation_pages m r) mid (relation_pages v (shrunk_view r id g after))
+      keeps = keeps_then (store_of m) (store_of w) (store_of v) (relation_pages m r) mid (relation_pages v (shrunk_view r spans g after))
           (keeps_with (store_of m) (store_of w) (file_pages (store_of m) r.file) (file_pages (store_of w) g) (paths_pages m r.paths) (relation_pages m r) mid t.keeps
           (λ q. times-append q (file_pages (store_of m) r.file) (paths_pages m r.paths)) (λ q. times-append q (file_pages (store_of w) g) (paths_pages m r.paths)))
-          (keeps_with (store_of w) (store_of v) (paths_pages w r.paths) (paths_pages v after) (file_pages (store_of w) g) mid (relation_pages v (shrunk_view r id g after)) a.keeps
+          (keeps_with (store_of w) (store_of v) (paths_pages w r.paths) (paths_pages v after) (file_pages (store_of w) g) mid (relation_pages v (shrunk_view r spans g after)) a.keeps
           (λ q. omega (arith, times-append q (file_pages (store_of w) g) (paths_pages m r.paths), ap (λ (ps : List ℕ). times q ps) pages_paths))
           (λ q. omega (arith, times-append q (file_pages (store_of v) g) (paths_pages v after), ap (λ (ps : List ℕ). times q ps) pages_file)));
     }
@@ -140,13 +140,15 @@ loss_asks m w limits x r g id row was paths e ps h t =
 pub loss_got : (m w v : PageMap) (limits : Limits) (x r : RelationView) (g : TupleFile) (id : ℕ) (row : List Value) (was : Bool) (paths after : List (ℕ × AccessPath)) → x ≡ r → paths ≡ x.paths
     → RelationCanLose m limits r id row → Taken (store_of m) (store_of w) x.file g id was
     → ((held : Holding) → AllCanLose w held id row paths → AllChanged w v (losing held id) paths after)
-    → Became m v limits r (shrunk_view r id g after) (λ gap. without_row id)
+    → Shrank m v limits r id g after
 loss_got m w v limits x r g id row was paths after e ps h t lost =
     let A : List (ℕ × AccessPath) → Type 0 = λ xs. AllChanged w v (losing (held_by m limits x) id) xs after in
     let H : RelationView → Type 0 = λ y. RelationCanLose m limits y id row in
-    let B : RelationView → Type 0 = λ y. Became m v limits y (shrunk_view y id g after) (λ gap. without_row id) in
-    subst B e (row_lost m w v limits x g id row was after (subst H (sym e) h) t
-    (subst A ps (lost (held_by m limits x) (loss_asks m w limits x r g id row was paths e ps h t))))
+    let B : RelationView → Type 0 = λ y. Shrank m v limits y id g after in
+    subst B e (record {
+      became = row_lost m w v limits x g id row was after (subst H (sym e) h) t
+          (subst A ps (lost (held_by m limits x) (loss_asks m w limits x r g id row was paths e ps h t)));
+    })
 
 -- Its access paths are of the same columns.
 pub loss_places : (x r : RelationView) (paths after : List (ℕ × AccessPath)) → x ≡ r → paths ≡ x.paths
@@ -156,11 +158,11 @@ loss_places x r paths after e ps same of =
     subst P (ps ∙ ap (λ (y : RelationView). y.paths) e) (same r.schema) of
 
 -- What a command came to, told by the pages before it began and after it ended.
-pub loss_committed : (m b w n : PageMap) (bounds : Limits) (r u : RelationView) (id : ℕ) (row : List Value) → b ≡ m → n ≡ w
-    → ((limits : Limits) → RelationCanLose b limits r id row → Became b w limits r u (λ gap. without_row id)) → RelationCanLose m bounds r id row
-    → Became m n bounds r u (λ gap. without_row id)
-loss_committed m b w n bounds r u id row begun ended became can =
+pub loss_committed : (m b w n : PageMap) (bounds : Limits) (r : RelationView) (id : ℕ) (row : List Value) (file : TupleFile) (paths : List (ℕ × AccessPath)) → b ≡ m → n ≡ w
+    → ((limits : Limits) → RelationCanLose b limits r id row → Shrank b w limits r id file paths) → RelationCanLose m bounds r id row
+    → Shrank m n bounds r id file paths
+loss_committed m b w n bounds r id row file paths begun ended shrank can =
     let C : PageMap → Type 0 = λ x. RelationCanLose x bounds r id row in
-    let B : PageMap → Type 0 = λ x. Became x w bounds r u (λ gap. without_row id) in
-    let E : PageMap → Type 0 = λ x. Became m x bounds r u (λ gap. without_row id) in
-    subst E (sym ended) (subst B begun (became bounds (subst C (sym begun) can)))
+    let B : PageMap → Type 0 = λ x. Shrank x w bounds r id file paths in
+    let E : PageMap → Type 0 = λ x. Shrank m x bounds r id file paths in
+    subst E (sym ended) (subst B begun (shrank bounds (subst C (sym begun) can)))

@@ -46,8 +46,8 @@ kept_in_place rs us at r u l here is same = ap (λ (xs : List RelationView). map
 pub grown_sketch : (r : RelationView) (file : TupleFile) (paths : List (ℕ × AccessPath)) (spans : List ℕ) → SamePlaces r.schema r.paths paths → sketch_of (grown_view r file paths spans) ≡ with_ids 1 (sketch_of r)
 grown_sketch r file paths spans p = ap (λ (ns : List ℕ). record { name = r.name; schema = r.schema; next = r.next + 1; indexed = ns }) p.places
 
-pub shrunk_sketch : (r : RelationView) (id : ℕ) (file : TupleFile) (paths : List (ℕ × AccessPath)) → SamePlaces r.schema r.paths paths → sketch_of (shrunk_view r id file paths) ≡ sketch_of r
-shrunk_sketch r id file paths p = ap (λ (ns : List ℕ). record { name = r.name; schema = r.schema; next = r.next; indexed = ns }) p.places
+pub shrunk_sketch : (r : RelationView) (spans : List ℕ) (file : TupleFile) (paths : List (ℕ × AccessPath)) → SamePlaces r.schema r.paths paths → sketch_of (shrunk_view r spans file paths) ≡ sketch_of r
+shrunk_sketch r spans file paths p = ap (λ (ns : List ℕ). record { name = r.name; schema = r.schema; next = r.next; indexed = ns }) p.places
 
 -- an index more
 pub indexed_sketch : (r u : RelationView) (name : List ℕ) (at : ℕ) → column_named r.schema name ≡ Some at → HasPath r u at → sketch_of u ≡ with_indexed name (sketch_of r)

@@ -29,6 +29,7 @@ use Rattle.sand_store.specs.Standing.{TableStands, PathStands}
 
 -- the checks of an index of a relation's column, and of one of a relation that is to be found
 
+-- the checks of an index of a column of a relation, by the names and the threshold that are given
 abbrev pub index_check : RelationView → List ℕ → Option ℕ → Option Refusal
 index_check r name given = of_place (column_named r.schema name) where
   of_column : ℕ → Option (List ℕ × Kind) → Option Refusal
@@ -40,6 +41,7 @@ index_check r name given = of_place (column_named r.schema name) where
   of_place None = Some why.UnknownColumn
   of_place (Some at) = of_column at (element r.schema at)
 
+-- the checks of an index of a relation that is to be found
 abbrev pub found_index_check : List ℕ → Option ℕ → Option RelationView → Option Refusal
 found_index_check name given None = Some why.UnknownRelation
 found_index_check name given (Some r) = index_check r name given

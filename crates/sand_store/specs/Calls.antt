@@ -64,9 +64,11 @@ alone d = record { database = d; cursors = [] }
 
 -- the checks of a statement before any page is touched, and those with the change
 
+-- the first refusal of a statement before any page is touched, if any
 abbrev pub early_at : Setting → StoreState → Statement → Option Refusal
 early_at setting store statement = early setting (alone (database store)) statement
 
+-- the first refusal of a statement with its change, if any
 abbrev pub late_at : Setting → StoreState → Statement → Option Refusal
 late_at setting store statement = late setting (alone (database store)) statement
 
@@ -96,14 +98,17 @@ Passes store statement =
 
 -- the refusals that only the change can find
 
+-- only the change can find that a quadtree would be too large
 abbrev pub is_full : Refusal → Bool
 is_full why.IndexFull = true
 is_full _ = false
 
+-- only the change can find that there is no row of the id
 abbrev pub is_missing : Refusal → Bool
 is_missing why.NoSuchId = true
 is_missing _ = false
 
+-- only a load finds, row by row, that one is of other kinds, too long, over the ids or over the listings
 abbrev pub is_of_a_row : Refusal → Bool
 is_of_a_row why.WrongKind = true
 is_of_a_row why.TupleTooLong = true
@@ -111,6 +116,7 @@ is_of_a_row why.IdsSpent = true
 is_of_a_row why.IndexFull = true
 is_of_a_row _ = false
 
+-- no refusal is found by the change alone
 abbrev pub is_none : Refusal → Bool
 is_none _ = false
 
@@ -163,9 +169,11 @@ loaded setting (row ∷ rows) relation =
 
 -- the checks of a load of rows: its relation is there; each row passes
 
+-- the first refusal of a load before any page is touched: its relation is there
 abbrev pub load_early : StoreState → List ℕ → Option Refusal
 load_early store name = in_relation (database store) name (λ relation. None)
 
+-- the first refusal of the rows of a load, one after the other
 abbrev pub load_late : Setting → StoreState → List ℕ → List (List Value) → Option Refusal
 load_late setting store name rows = in_relation (database store) name (λ relation. (loaded setting rows relation).0)
 
@@ -176,11 +184,13 @@ LoadIsRefusedBy store name rows refusal =
 
 -- the checks of rows that need no page, each row under the id that it would get
 
+-- the checks of rows that need no page, each row under the id that it would get
 abbrev pub plain_checks : Limits → List (List Value) → Relation → Option Refusal
 plain_checks limits [] relation = None
 plain_checks limits (row ∷ rows) relation =
     first_refusal (check_kinds relation row ∷ check_length row ∷ check_ids limits relation ∷ plain_checks limits rows (record relation { next = relation.next + 1 }) ∷ [])
 
+-- the checks of the rows of a load that need no page
 abbrev pub load_plain : StoreState → List ℕ → List (List Value) → Option Refusal
 load_plain store name rows = in_relation (database store) name (plain_checks store.catalog.limits rows)
 

@@ -32,9 +32,11 @@ pub record StoreState : Type 0 where
 
 -- the most ids that a relation may be allowed to give out, and the most listings that a quadtree may be allowed
 
+-- the most ids that a relation may be allowed to give out
 abbrev pub most_ids : ℕ
 most_ids = 1000000
 
+-- the most listings that a quadtree may be allowed
 abbrev pub most_listings : ℕ
 most_listings = 16000000
 

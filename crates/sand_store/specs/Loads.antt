@@ -29,10 +29,12 @@ row_refusal setting row relation =
 
 -- the checks of a row that need no page, under an id that is to be given out, and those of rows from that id on
 
+-- the checks of a row that need no page, under an id that is to be given out
 abbrev pub check_from : Limits → List (List ℕ × Kind) → ℕ → List Value → Option Refusal
 check_from limits schema next row =
     first_refusal (refused_where (not (is_row_of schema row)) why.WrongKind ∷ check_length row ∷ refused_where (nat_le limits.ids (next - 1)) why.IdsSpent ∷ [])
 
+-- the checks of rows that need no page, from that id on
 abbrev pub checks_from : Limits → List (List ℕ × Kind) → ℕ → List (List Value) → Option Refusal
 checks_from limits schema next [] = None
 checks_from limits schema next (row ∷ rows) = first_refusal (check_from limits schema next row ∷ checks_from limits schema (next + 1) rows ∷ [])

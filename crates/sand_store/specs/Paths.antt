@@ -18,10 +18,12 @@ path_at paths column = option_map (λ p. p.1) (find (λ p. nat_eq p.0 column) pa
 
 -- the quadtree that an access path is, and the attribute index
 
+-- the quadtree that an access path is, if it is one
 abbrev pub tree_in_path : Option AccessPath → Option Pmr
 tree_in_path (Some (Quadtree tree)) = Some tree
 tree_in_path _ = None
 
+-- the attribute index that an access path is, if it is one
 abbrev pub attribute_in_path : Option AccessPath → Option AttrIndex
 attribute_in_path (Some (Attribute index)) = Some index
 attribute_in_path _ = None

@@ -11,6 +11,7 @@ pub record Sketch : Type 0 where
   pub next : ℕ
   pub indexed : List ℕ
 
+-- what is known of a relation without a page
 abbrev pub sketch_of : RelationView → Sketch
 sketch_of r = record { name = r.name; schema = r.schema; next = r.next; indexed = map (λ path. path.0) r.paths }
 

@@ -130,10 +130,12 @@ pub record Grew (m w : PageMap) (limits : Limits) (r : RelationView) (file : Tup
 
 -- the checks of a row of a relation, and of one of a relation that is to be found
 
+-- the checks of a row of a relation
 abbrev pub row_check : Limits → RelationView → List Value → Option Refusal
 row_check limits r row =
     first_refusal (refused_where (not (is_row_of r.schema row)) why.WrongKind ∷ check_length row ∷ refused_where (nat_le limits.ids (r.next - 1)) why.IdsSpent ∷ [])
 
+-- the checks of a row of a relation that is to be found
 abbrev pub found_check : Limits → List Value → Option RelationView → Option Refusal
 found_check limits row None = Some why.UnknownRelation
 found_check limits row (Some r) = row_check limits r row

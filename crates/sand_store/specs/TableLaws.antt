@@ -26,13 +26,16 @@ use Rattle.sand_store.specs.Tuples.{row_in}
 abbrev pub SameOn : PageMap → PageMap → List ℕ → Type 0
 SameOn m w owned = (q : ℕ) → 1 ≤ times q owned → store_of w q ≡ store_of m q
 
+-- a file whose pages stay has the same rows
 pub rows_same : (m w : PageMap) (schema : List (List ℕ × Kind)) (file : TupleFile) → SameOn m w (file_pages (store_of m) file) → rows_at w schema file ≡ rows_at m schema file
 rows_same m w schema file same = ap (λ (ts : List (ℕ × List ℕ)). map (λ t. (t.0, row_in schema t.1)) ts) (unmoved (store_of m) (store_of w) file same).rows
 
+-- a file whose pages stay has the same shapes in a column
 pub shapes_same : (m w : PageMap) (schema : List (List ℕ × Kind)) (file : TupleFile) (column : ℕ) → SameOn m w (file_pages (store_of m) file)
     → shapes_of column (rows_at w schema file) ≡ shapes_of column (rows_at m schema file)
 shapes_same m w schema file column same = ap (λ (rows : List (ℕ × List Value)). shapes_of column rows) (rows_same m w schema file same)
 
+-- a table whose pages stay still stands
 pub table_same : (m w : PageMap) (schema : List (List ℕ × Kind)) (file : TupleFile) → SameOn m w (file_pages (store_of m) file) → TableStands m schema file → TableStands w schema file
 table_same m w schema file same h =
     let u = unmoved (store_of m) (store_of w) file same in
@@ -43,6 +46,7 @@ table_same m w schema file same h =
       rows = subst (AreRowsFor schema) (sym e) h.rows;
     }
 
+-- a file whose pages stay has no page more
 pub pages_same : (m w : PageMap) (file : TupleFile) → SameOn m w (file_pages (store_of m) file) → (q : ℕ) → 1 ≤ times q (file_pages (store_of w) file) → 1 ≤ times q (file_pages (store_of m) file)
 pages_same m w file same q l =
     let P : List ℕ → Type 0 = λ ps. 1 ≤ times q ps in

@@ -11,9 +11,11 @@ use Rattle.tuple_codec.specs.Encoding.{value_bytes}
 
 -- the coordinate in the first 4 bytes, and the point in the first 8
 
+-- the coordinate in the first 4 bytes
 abbrev pub coordinate_in : List ℕ → ℕ
 coordinate_in bytes = from_be_bytes w32 (take 4 bytes)
 
+-- the point in the first 8 bytes
 abbrev pub point_in : List ℕ → Point
 point_in bytes = record { x = coordinate_in bytes; y = coordinate_in (drop 4 bytes) }
 

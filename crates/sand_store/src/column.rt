@@ -3,13 +3,15 @@ ghost use Rattle.std.specs.Prelude.{◌≡◌, position, option_map};
 ghost use Rattle.sand_model.specs.Database.{same_name};
 ghost use Rattle.sand_store.specs.Paths.{path_at};
 
-use crate::shapes::FileShapes;
+use crate::shapes::RowShapes;
 use crate::{AccessPath, Relation};
 use attr_index::AttrIndex;
 use page_pool::{PageFault, Pages};
 use pmr_tree::{Pmr, ShapeOf};
-use sand_base::{Kind, Label, Refusal, Shape};
+use sand_base::{Kind, Label, NoMemory, Refusal, Schema, Shape};
 use std::alloc::Global;
+use std::rc::Rc;
+use tuple_file::TupleFile;
 
 // The place of the first column of the name.
 fn place_in(columns: &[(Label, Kind)], name: &str) -> Option<usize>
@@ -27,7 +29,7 @@ fn path_in(paths: &[(usize, AccessPath)], column: usize) -> Option<&AccessPath>
 }
 
 impl Relation {
-    ghost use Rattle.std.specs.Prelude.{◌≡◌, ℕ, ◌-◌, ◌≤◌, ◌<◌, true, false, length, All, None, IfSome, IfErr, OnOk, OnErr, option_map};
+    ghost use Rattle.std.specs.Prelude.{◌≡◌, ℕ, ◌-◌, ◌≤◌, ◌<◌, true, false, length, All, None, IfOk, IfSome, IfErr, OnOk, OnErr, option_map};
     ghost use Rattle.sand_base.specs.declared.refusal.Refusal.TheVariants as why;
     ghost use Rattle.page_pool.specs.Disk.{PageMap};
     ghost use Rattle.sand_base.specs.declared.limits.Limits.{Limits};
@@ -90,6 +92,30 @@ impl Relation {
         }
     }
 
+    /// The shapes that the rows have in a column.
+    pub fn shapes(&self, alloc: Global, column: usize) -> Result<FileShapes, NoMemory>
+        ensures file { IfOk result (λ shapes. shapes.file ≡ self.now.file) }
+        ensures schema { IfOk result (λ shapes. shapes.schema ≡ self.now.schema) }
+        ensures column { IfOk result (λ shapes. shapes.column ≡ column) }
+    {
+        let schema = self.schema.copy(alloc)?;
+        Ok(FileShapes {
+            file: self.file,
+            schema,
+            column,
+        })
+    }
+
+    /// The relation as it is now, for cursors, which keep it while the catalog's goes on.
+    pub fn shared(&self, alloc: Global) -> Result<Rc<Relation>, NoMemory>
+        ensures { IfOk result (λ shared. shared.value ≡ self.now) }
+    {
+        match Rc::new(alloc, self.copy(alloc)?) {
+            Ok(shared) => Ok(shared),
+            Err(_full) => Err(NoMemory {}),
+        }
+    }
+
     /// The number of rows.
     pub fn rows(&self) -> u32
         ensures { (pages : PageMap) (limits : Limits) → RelationStands pages limits self.now → result ≡ length (rows_in pages self.now) }
@@ -107,30 +133,31 @@ impl Relation {
     }
 }
 
-/// The shapes that the rows of a relation have in a column of shapes.
-#[derive(Clone, Copy)]
-pub struct ColumnShapes<'s> {
-    pub relation: &'s Relation,
+/// The shapes that the rows of a file have in a column of shapes, for searches, which keep what they need.
+#[derive(Drop)]
+pub struct FileShapes {
+    pub file: TupleFile,
+    pub schema: Schema,
     pub column: usize,
 }
 
-impl<'s> ShapeOf for ColumnShapes<'s> {
+impl ShapeOf for FileShapes {
     ghost use Rattle.std.specs.Prelude.{◌+◌, ◌≤◌};
     ghost use Rattle.code_btree.specs.Tree.{times};
     ghost use Rattle.pmr_tree.specs.Quadtree.{store_of};
     ghost use Rattle.sand_model.specs.Database.{shapes_of};
     ghost use Rattle.tuple_file.specs.File.{file_pages};
-    ghost use Rattle.sand_store.specs.Contents.{rows_in};
+    ghost use Rattle.sand_store.specs.Contents.{rows_at};
     ghost use Rattle.sand_store.specs.Standing.{TableStands};
     ghost use Rattle.sand_store.specs.TableLaws.{table_same, shapes_same, pages_same, shapes_plane};
 
-    ghost rows = { λ s pages. shapes_of s.column (rows_in pages s.relation.now) };
+    ghost rows = { λ s pages. shapes_of s.column (rows_at pages s.schema s.file) };
 
-    ghost Stands = { λ s pages. TableStands pages s.relation.now.schema s.relation.now.file };
+    ghost Stands = { λ s pages. TableStands pages s.schema s.file };
 
-    ghost Owns = { λ s pages n. 1 ≤ times n (file_pages (store_of pages) s.relation.now.file) };
+    ghost Owns = { λ s pages n. 1 ≤ times n (file_pages (store_of pages) s.file) };
 
-    ghost price = { λ s. s.relation.now.file.tree.height + 1 };
+    ghost price = { λ s. s.file.tree.height + 1 };
 
     fn shape_of<P: Pages>(
         &self,
@@ -138,9 +165,9 @@ impl<'s> ShapeOf for ColumnShapes<'s> {
         pages: &mut P,
         id: u32,
     ) -> Result<Shape, PageFault> {
-        let shapes = FileShapes {
-            file: *self.relation.file(),
-            schema: self.relation.schema(),
+        let shapes = RowShapes {
+            file: self.file,
+            schema: &self.schema,
             column: self.column,
         };
         match shapes.shape_of(alloc, pages, id) {
@@ -149,11 +176,11 @@ impl<'s> ShapeOf for ColumnShapes<'s> {
         }
     }
 
-    ghost in_plane = { λ s pages h. shapes_plane s.relation.now.schema s.column (rows_in pages s.relation.now) h.rows };
+    ghost in_plane = { λ s pages h. shapes_plane s.schema s.column (rows_at pages s.schema s.file) h.rows };
 
-    ghost own_stands = { λ s m w h same. table_same m w s.relation.now.schema s.relation.now.file same h };
+    ghost own_stands = { λ s m w h same. table_same m w s.schema s.file same h };
 
-    ghost own_rows = { λ s m w h same. shapes_same m w s.relation.now.schema s.relation.now.file s.column same };
+    ghost own_rows = { λ s m w h same. shapes_same m w s.schema s.file s.column same };
 
-    ghost own_pages = { λ s m w h same. pages_same m w s.relation.now.file same };
+    ghost own_pages = { λ s m w h same. pages_same m w s.file same };
 }

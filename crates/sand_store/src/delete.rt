@@ -6,14 +6,13 @@ ghost use Rattle.page_pool.specs.Steps.{InCommand};
 ghost use Rattle.tuple_file.specs.Rows.{of_id};
 ghost use Rattle.sand_base.specs.declared.limits.Limits.{Limits as Bounds};
 ghost use Rattle.sand_base.specs.declared.refusal.Refusal.TheVariants as why;
-ghost use Rattle.sand_model.specs.Database.{without_row};
 ghost use Rattle.sand_model.specs.Statement.{Delete};
 ghost use Rattle.sand_store.specs.Calls.{HasCause, Deleted, IsUnchanged, IsRefusedBy, is_missing};
 ghost use Rattle.sand_store.specs.Catalog.{IsPathOf};
 ghost use Rattle.sand_store.specs.Contents.{rows_in};
-ghost use Rattle.sand_store.specs.Leaving.{RelationCanLose, shrunk_view, IsOutsideOrMissing};
+ghost use Rattle.sand_store.specs.Leaving.{RelationCanLose, Shrank, IsOutsideOrMissing};
 ghost use Rattle.sand_store.specs.Standing.{RelationStands, IsStore};
-ghost use Rattle.sand_store.specs.Steps.{Became, SamePlaces, IsOutside, store_from};
+ghost use Rattle.sand_store.specs.Steps.{SamePlaces, IsOutside, store_from};
 ghost use Rattle.std.specs.List.{All};
 
 use crate::refusal::refusal_of;
@@ -60,7 +59,7 @@ fn without_row<D: Disk>(
     requires opened { IsOpen pool.old }
     requires id { 1 ≤ id }
     requires can { IsTold pool.old → (bounds : Bounds) × RelationCanLose pool.old.pages bounds relation.now id row.now }
-    ensures became { IfOk result (λ roots. IsTold pool.old → (bounds : Bounds) → RelationCanLose pool.old.pages bounds relation.now id row.now → Became pool.old.pages pool.new.pages bounds relation.now (shrunk_view relation.now id roots.file roots.paths.items) (λ gap. without_row id)) }
+    ensures shrank { IfOk result (λ roots. IsTold pool.old → (bounds : Bounds) → RelationCanLose pool.old.pages bounds relation.now id row.now → Shrank pool.old.pages pool.new.pages bounds relation.now id roots.file roots.paths.items) }
     ensures places { IfOk result (λ roots. All (IsPathOf relation.now.schema) relation.now.paths → SamePlaces relation.now.schema relation.now.paths roots.paths.items) }
     ensures outside { IfErr result IsOutside }
     ensures within { InCommand pool.old pool.new }
@@ -91,7 +90,7 @@ fn remove<D: Disk>(
     requires can { IsTold pool.old → (bounds : Bounds) × RelationCanLose pool.old.pages bounds relation.now id row.now }
     ensures closed { IsClosed pool.new }
     ensures told { pool.new.disk.told ≡ pool.old.disk.told }
-    ensures became { IfOk result (λ roots. IsTold pool.old → (bounds : Bounds) → RelationCanLose pool.old.pages bounds relation.now id row.now → Became pool.old.pages pool.new.pages bounds relation.now (shrunk_view relation.now id roots.file roots.paths.items) (λ gap. without_row id)) }
+    ensures shrank { IfOk result (λ roots. IsTold pool.old → (bounds : Bounds) → RelationCanLose pool.old.pages bounds relation.now id row.now → Shrank pool.old.pages pool.new.pages bounds relation.now id roots.file roots.paths.items) }
     ensures places { IfOk result (λ roots. All (IsPathOf relation.now.schema) relation.now.paths → SamePlaces relation.now.schema relation.now.paths roots.paths.items) }
     ensures reverted { OnErr result (IsTold pool.old → pool.new.pages ≡ pool.old.pages) }
     ensures outside { IfErr result IsOutside }

@@ -20,7 +20,7 @@ ghost use Rattle.sand_store.specs.Steps.{CanGrow, PathGrew, AllCanGrow, AllGrew,
 
 use crate::AccessPath;
 use crate::refusal::{refusal_of, refusal_of_tree};
-use crate::shapes::{FileShapes, shape_at, value_at};
+use crate::shapes::{RowShapes, shape_at, value_at};
 use attr_index::AttrIndex;
 use page_pool::{Disk, Pool};
 use pmr_tree::Pmr;
@@ -34,7 +34,7 @@ fn grown_tree<D: Disk>(
     alloc: Global,
     pool: &mut Pool<D>,
     tree: Pmr,
-    shapes: &FileShapes,
+    shapes: &RowShapes,
     id: u32,
     row: &Row,
     limits: Limits,
@@ -65,7 +65,7 @@ fn grown_tree<D: Disk>(
 fn grown_index<D: Disk>(
     pool: &mut Pool<D>,
     index: AttrIndex,
-    shapes: &FileShapes,
+    shapes: &RowShapes,
     id: u32,
     row: &Row,
     limits: Limits,
@@ -99,7 +99,7 @@ impl AccessPath {
         &self,
         alloc: Global,
         pool: &mut Pool<D>,
-        shapes: &FileShapes,
+        shapes: &RowShapes,
         id: u32,
         row: &Row,
         limits: Limits,
@@ -160,7 +160,7 @@ pub fn grown_paths<D: Disk>(
     let mut grown = Vec::new(alloc);
     'paths: for at in 0..paths.len() {
         let (column, path) = paths[at];
-        let shapes = FileShapes {
+        let shapes = RowShapes {
             file,
             schema,
             column,

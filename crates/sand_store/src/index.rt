@@ -24,7 +24,7 @@ ghost use Rattle.sand_store.specs.Steps.{store_from, Became, IsOutside, IsOutsid
 
 use crate::refusal::{refusal_of, refusal_of_tree};
 use crate::relation::place_of;
-use crate::shapes::{FileShapes, is_shape_in_plane, shape_at, value_at};
+use crate::shapes::{RowShapes, is_shape_in_plane, shape_at, value_at};
 use crate::{AccessPath, Relation};
 use attr_index::AttrIndex;
 use page_pool::{Disk, Pool};
@@ -108,7 +108,7 @@ fn tree_with<D: Disk>(
     alloc: Global,
     pool: &mut Pool<D>,
     tree: Pmr,
-    shapes: &FileShapes,
+    shapes: &RowShapes,
     id: u32,
     row: &Row,
     limits: Limits,
@@ -152,7 +152,7 @@ fn is_attribute(value: &Value) -> bool
 fn index_with_row<D: Disk>(
     pool: &mut Pool<D>,
     index: AttrIndex,
-    shapes: &FileShapes,
+    shapes: &RowShapes,
     id: u32,
     row: &Row,
     limits: Limits,
@@ -186,7 +186,7 @@ impl AccessPath {
         &self,
         alloc: Global,
         pool: &mut Pool<D>,
-        shapes: &FileShapes,
+        shapes: &RowShapes,
         id: u32,
         row: &Row,
         limits: Limits,
@@ -222,7 +222,7 @@ impl AccessPath {
 fn row_from<D: Disk>(
     alloc: Global,
     pool: &mut Pool<D>,
-    shapes: &FileShapes,
+    shapes: &RowShapes,
     from: u32,
 ) -> Result<Option<(u32, Row)>, Refusal>
     requires { IsTold pool.old → TableStands pool.old.pages shapes.now.schema.now shapes.now.file }
@@ -250,7 +250,7 @@ fn filled<D: Disk>(
     alloc: Global,
     pool: &mut Pool<D>,
     path: AccessPath,
-    shapes: &FileShapes,
+    shapes: &RowShapes,
     limits: Limits,
 ) -> Result<AccessPath, Refusal>
     requires opened { IsOpen pool.old }
@@ -308,7 +308,7 @@ fn built<D: Disk>(
         Ok(path) => path,
         Err(why) => return Err(why),
     };
-    let shapes = FileShapes {
+    let shapes = RowShapes {
         file: relation.file,
         schema: &relation.schema,
         column,

@@ -22,20 +22,6 @@ use page_pool::{Disk, Pool};
 use sand_base::{Limits, NoMemory, Refusal, Row};
 use std::alloc::Global;
 
-// A relation with the same numbers, which lead to the same pages.
-fn copy_of(alloc: Global, relation: &Relation) -> Result<Relation, NoMemory>
-    ensures { IfOk result (λ copy. copy ≡ relation.now) }
-{
-    Ok(Relation {
-        name: relation.name.copy(alloc)?,
-        schema: relation.schema.copy(alloc)?,
-        next: relation.next,
-        file: relation.file,
-        spans: relation.spans.copy(alloc)?,
-        paths: Vec::from_slice(alloc, &relation.paths)?,
-    })
-}
-
 // Checks a row and puts it into the relation's file and indexes, in an open command. After a refusal the command is to
 // be aborted.
 fn enter<D: Disk>(
@@ -127,7 +113,7 @@ fn add_all<D: Disk>(
     ensures plain { IfErr result (RefusesRows (plain_of limits relation.now rows.now) (OnePasses rows.now (plain_of limits relation.now))) }
     ensures cause { HasCause pool.old pool.new result }
 {
-    let Ok(mut grown) = copy_of(alloc, relation) else {
+    let Ok(mut grown) = relation.copy(alloc) else {
         return Err(Refusal::Memory);
     };
     match pool.begin() {

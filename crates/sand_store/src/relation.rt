@@ -2,7 +2,7 @@ ghost use Rattle.std.specs.Prelude.{◌≡◌, ◌<◌, find, position, option_m
 ghost use Rattle.sand_store.specs.Catalog.{is_named};
 
 use crate::AccessPath;
-use sand_base::{Label, Schema};
+use sand_base::{Label, NoMemory, Schema};
 use std::alloc::Global;
 use std::marker::Model;
 use tuple_file::{Span, Spans, TupleFile};
@@ -50,10 +50,11 @@ impl Model for Relation {
 }
 
 impl Relation {
+    ghost use Rattle.std.specs.Prelude.{IfOk};
     ghost use Rattle.sand_store.specs.Catalog.{new_view};
     ghost use Rattle.sand_store.specs.Steps.{grown_view};
     ghost use Rattle.sand_store.specs.Leaving.{shrunk_view};
-    ghost use Rattle.tuple_file.specs.Spans.{Learnt};
+    ghost use Rattle.tuple_file.specs.Spans.{Learnt, Forgot};
 
     /// A relation without access paths, whose ids begin at 1.
     pub fn new(alloc: Global, name: Label, schema: Schema, file: TupleFile) -> Relation
@@ -67,6 +68,20 @@ impl Relation {
             spans: Spans::new(alloc),
             paths: Vec::new(alloc),
         }
+    }
+
+    // A relation with the same numbers, which lead to the same pages.
+    pub(crate) fn copy(&self, alloc: Global) -> Result<Relation, NoMemory>
+        ensures { IfOk result (λ copy. copy ≡ self.now) }
+    {
+        Ok(Relation {
+            name: self.name.copy(alloc)?,
+            schema: self.schema.copy(alloc)?,
+            next: self.next,
+            file: self.file,
+            spans: self.spans.copy()?,
+            paths: Vec::from_slice(alloc, &self.paths)?,
+        })
     }
 
     /// The relation with the numbers that a new row gave it, under the id that was its next one.
@@ -83,7 +98,8 @@ impl Relation {
 
     /// The relation with the numbers that the loss of the row of an id gave it.
     pub(crate) fn lead_to(&mut self, id: u32, roots: Roots)
-        ensures { self.new ≡ shrunk_view self.old id roots.file roots.paths.items }
+        ensures shrunk { self.new ≡ shrunk_view self.old self.new.spans roots.file roots.paths.items }
+        ensures forgot { Forgot self.old.spans id self.new.spans }
     {
         self.spans.forget(id);
         self.file = roots.file;

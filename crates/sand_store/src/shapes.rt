@@ -65,13 +65,13 @@ fn shape_of_value(value: Option<Value>) -> Result<Shape, PageFault>
 
 /// The shapes that the rows of a file have in a column.
 #[derive(Clone, Copy)]
-pub struct FileShapes<'s> {
+pub struct RowShapes<'s> {
     pub file: TupleFile,
     pub schema: &'s Schema,
     pub column: usize,
 }
 
-impl<'s> ShapeOf for FileShapes<'s> {
+impl<'s> ShapeOf for RowShapes<'s> {
     ghost use Rattle.std.specs.Prelude.{◌+◌, ◌≤◌};
     ghost use Rattle.code_btree.specs.Tree.{times};
     ghost use Rattle.pmr_tree.specs.Quadtree.{store_of};

@@ -7,6 +7,7 @@
 #![tactic(auto)]
 
 mod chunk;
+pub mod laws;
 mod open_line;
 mod script_lines;
 

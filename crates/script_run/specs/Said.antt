@@ -29,10 +29,12 @@ AnswerInOrder files setting old (told ∷ script) printed new =
 
 -- in every setting of the first of two moments, between their outlines
 
+-- in every setting of the first of two moments, the line is answered between their outlines
 abbrev pub IsAnswered : ScriptLine → Moment → Moment → List OutputLine → Type 0
 IsAnswered told old new printed =
     (setting : Setting) → IsSettingOf old setting → AnswersSaid old.files setting (outline_of old.state) told printed (outline_of new.state)
 
+-- in every setting of the first of two moments, the lines are answered between their outlines
 abbrev pub AreAnswered : List ScriptLine → Moment → Moment → List OutputLine → Type 0
 AreAnswered script old new printed =
     (setting : Setting) → IsSettingOf old setting → AnswerInOrder old.files setting (outline_of old.state) script printed (outline_of new.state)

@@ -71,5 +71,6 @@ none_left x s (t ∷ tokens) = Err (t ∷ tokens)
 abbrev pub ended : {A : Type 0} → A → Read A
 ended x s = none_left x s s.left
 
+-- a form read to the end of the line
 unfoldable pub whole : {A : Type 0} → Form A → Read A
 whole f s = go_on (reading f s) ended

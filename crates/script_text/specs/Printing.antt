@@ -24,9 +24,11 @@ use Rattle.script_text.specs.Token.{Piece, name, number, text, mark, spelling}
 abbrev pub fixed : List ℕ → List Piece
 fixed w = name w ∷ []
 
+-- a natural number
 abbrev pub natural_words : ℕ → List Piece
 natural_words n = number (decimal n) ∷ []
 
+-- an int, with its sign where it is negative
 abbrev pub int_words : ℤ → List Piece
 int_words n = number (signed_decimal n) ∷ []
 
@@ -35,10 +37,12 @@ abbrev pub each : {A : Type 0} → (A → List Piece) → List A → List Piece
 each words [] = []
 each words (x ∷ xs) = words x ++ each words xs
 
+-- the words of each element behind a separator
 abbrev pub more_words : {A : Type 0} → List Piece → (A → List Piece) → List A → List Piece
 more_words between words [] = []
 more_words between words (x ∷ xs) = between ++ (words x ++ more_words between words xs)
 
+-- the words of the elements with a separator between them
 abbrev pub list_words : {A : Type 0} → List Piece → (A → List Piece) → List A → List Piece
 list_words between words [] = []
 list_words between words (x ∷ xs) = words x ++ more_words between words xs
@@ -47,6 +51,7 @@ list_words between words (x ∷ xs) = words x ++ more_words between words xs
 abbrev pub column_words : Column → List Piece
 column_words c = name c.relation ∷ mark symbol.Dot ∷ name c.column ∷ []
 
+-- a place, as `k.c`
 abbrev pub place_words : Place → List Piece
 place_words p = number (decimal p.k) ∷ mark symbol.Dot ∷ name p.column ∷ []
 
@@ -126,6 +131,7 @@ abbrev pub header_words : Bool → List Piece
 header_words true = fixed (codes "header")
 header_words false = []
 
+-- a threshold, if one is given
 abbrev pub threshold_words : Option ℕ → List Piece
 threshold_words None = []
 threshold_words (Some n) = natural_words n

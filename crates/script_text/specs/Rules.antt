@@ -28,6 +28,7 @@ use Rattle.script_text.specs.Statement as statement
 abbrev pub word : List ℕ → Form (Unit {0})
 word w = take (a_word w) (λ u. u)
 
+-- a symbol alone
 abbrev pub sign : Symbol → Form (Unit {0})
 sign s = take (a_mark s) (λ u. u)
 
@@ -35,6 +36,7 @@ sign s = take (a_mark s) (λ u. u)
 abbrev pub after_word : {A : Type 0} → List ℕ → Form A → Form A
 after_word w f = seq (λ (u : Unit {0}) x. x) (word w) f
 
+-- a form behind a symbol
 abbrev pub after_sign : {A : Type 0} → Symbol → Form A → Form A
 after_sign s f = seq (λ (u : Unit {0}) x. x) (sign s) f
 
@@ -46,6 +48,7 @@ before_sign f s = seq (λ x (u : Unit {0}). x) f (sign s)
 abbrev pub case_word : {A : Type 0} → List ℕ → Form A → Form A → Form A
 case_word w f g = alt (a_word w) (λ (u : Unit {0}) x. x) f g
 
+-- one form behind a symbol where it stands, else another form
 abbrev pub case_sign : {A : Type 0} → Symbol → Form A → Form A → Form A
 case_sign s f g = alt (a_mark s) (λ (u : Unit {0}) x. x) f g
 
@@ -85,6 +88,7 @@ plain_form = alt an_int (λ n (u : Unit {0}). value.Int n) (nothing tt) (take a_
 abbrev pub spot_rest : Form Point
 spot_rest = seq (λ x y. record { x = x; y = y }) coordinate_form (before_sign coordinate_form symbol.Close)
 
+-- a spot: a point in brackets
 abbrev pub spot_form : Form Point
 spot_form = after_sign symbol.Open spot_rest
 
@@ -215,6 +219,7 @@ pick_rest = seq (λ c (p : Column → PlanValue). p c) column_form
 abbrev pub join_rest : Form PlanValue
 join_rest = seq (λ l (r : Column × Option ℕ). plan.Join l r.0 r.1) column_form (seq (λ r w. (r, w)) column_form within_form)
 
+-- what follows the word of a semi-join
 abbrev pub semi_rest : Form PlanValue
 semi_rest = seq (λ l (r : Column × Option ℕ). plan.Semi l r.0 r.1) column_form (seq (λ r w. (r, w)) column_form within_form)
 
@@ -294,6 +299,7 @@ show_rest = seq (λ n p. statement.Show n p) (natural_form 1 MOST_ROWS) (rule a_
 abbrev pub close_rest : Form StatementValue
 close_rest = take a_name (λ c. statement.CloseCursor c)
 
+-- what follows the word of the counts
 abbrev pub stats_rest : Form StatementValue
 stats_rest = take a_name (λ c. statement.Stats c)
 

@@ -33,11 +33,11 @@ use script_text::Statement;
 use std::alloc::Global;
 
 // Carries the line in hand out while a cursor is open. The answer says whether it was refused.
-fn carry_open<'s, D: Disk, K: Sink>(
+fn carry_open<D: Disk, K: Sink>(
     alloc: Global,
-    catalog: &'s Catalog,
+    catalog: &Catalog,
     desk: &mut Desk<D>,
-    cursors: &mut Vec<OpenCursor<PlanSource<'s>, Stage<'s>>>,
+    cursors: &mut Vec<OpenCursor<PlanSource, Stage>>,
     lines: &ScriptLines,
     is_long: bool,
     out: &mut K,
@@ -66,11 +66,11 @@ fn carry_open<'s, D: Disk, K: Sink>(
 }
 
 // Carries a statement with a plan out where no cursor is open, and then lines while one is.
-fn carry_beside<'s, S: Source, D: Disk, K: Sink>(
+fn carry_beside<S: Source, D: Disk, K: Sink>(
     alloc: Global,
-    catalog: &'s Catalog,
+    catalog: &Catalog,
     desk: &mut Desk<D>,
-    cursors: &mut Vec<OpenCursor<PlanSource<'s>, Stage<'s>>>,
+    cursors: &mut Vec<OpenCursor<PlanSource, Stage>>,
     statement: &Statement,
     some_refused: bool,
     lines: &mut ScriptLines,

@@ -70,5 +70,5 @@ spot_plane d names place spot pages row s h e = go (kth row.ids place.k) refl
     go : (o : Option ℕ) → kth row.ids place.k ≡ o → IsShapeInPlane s
     go None k = absurd (not_some (value.Shape s) (sym (unseen d names row place h.name h.named k) ∙ e))
     go (Some id) k =
-        in_rows spot.relation.now.schema (rows_in pages spot.relation.now) id spot.column s h.stands.1.table.rows
-        (sym (seen d names row place h.name id (relation_in pages spot.relation.now) spot.column h.named k h.relation h.at) ∙ e)
+        in_rows spot.relation.value.schema (rows_in pages spot.relation.value) id spot.column s h.stands.1.table.rows
+        (sym (seen d names row place h.name id (relation_in pages spot.relation.value) spot.column h.named k h.relation h.at) ∙ e)

@@ -6,7 +6,7 @@ use Rattle.plan_places.specs.declared.spot.Spot.{Spot}
 
 -- to read the key of a row at a place: a tuple of its relation
 abbrev pub key_price : Spot → ℕ
-key_price s = tuple_price s.relation.now.file.tree.height
+key_price s = tuple_price s.relation.value.file.tree.height
 
 -- the price of a row that waits for its key
 abbrev pub if_waiting : Option Answer → ℕ → ℕ

@@ -14,9 +14,11 @@ use Rattle.sort_stages.specs.Sorting.{Sorts, sort_waits, sort_steps}
 
 -- a sort is no source
 
+-- a sort by a column is no source
 pub by_outermost : (below : Plan) (place : Place) {p : Plan} → p ≡ plan.SortBy below place → is_source p ≡ false
 by_outermost below place is = ap is_source is
 
+-- a sort by nearness is no source
 pub near_outermost : (below : Plan) (place : Place) (goal : Shape) {p : Plan} → p ≡ plan.SortNear below place goal → is_source p ≡ false
 near_outermost below place goal is = ap is_source is
 

@@ -55,10 +55,10 @@ fn gap_between(goal: &Shape, shape: &Shape) -> Option<Frac>
 pub(crate) fn number<P: Pages>(
     alloc: Global,
     pages: &mut P,
-    spot: &Spot<'_>,
+    spot: &Spot,
     ids: &[u32],
 ) -> Result<i64, PageFault>
-    requires stands { IsTold (P.shown pages.old) → Stands (P.shown pages.old).pages spot.now.relation.now }
+    requires stands { IsTold (P.shown pages.old) → Stands (P.shown pages.old).pages spot.now.relation.value }
     ensures number { IfOk result (λ key. IsTold (P.shown pages.old) → (d : Database) (names : List (List ℕ)) (place : Place) (row : PlanRow) → IsSpot d names place spot.now (P.shown pages.old).pages → row.ids ≡ ids.now → key ≡ number_at d names place row) }
     ensures read { IsRead (P.shown pages.old) (P.shown pages.new) }
     ensures up { min (P.shown pages.old).gets last_count ≤ (P.shown pages.new).gets }
@@ -76,11 +76,11 @@ pub(crate) fn number<P: Pages>(
 pub(crate) fn gap<P: Pages>(
     alloc: Global,
     pages: &mut P,
-    spot: &Spot<'_>,
+    spot: &Spot,
     goal: &Shape,
     ids: &[u32],
 ) -> Result<Option<Frac>, PageFault>
-    requires stands { IsTold (P.shown pages.old) → Stands (P.shown pages.old).pages spot.now.relation.now }
+    requires stands { IsTold (P.shown pages.old) → Stands (P.shown pages.old).pages spot.now.relation.value }
     ensures gap { IfOk result (λ key. IsTold (P.shown pages.old) → IsShapeInPlane goal.now → (d : Database) (names : List (List ℕ)) (place : Place) (row : PlanRow) → IsSpot d names place spot.now (P.shown pages.old).pages → row.ids ≡ ids.now → record row { gap = option_map lowest_of key } ≡ with_gap plan_measure d names place goal.now row) }
     ensures read { IsRead (P.shown pages.old) (P.shown pages.new) }
     ensures up { min (P.shown pages.old).gets last_count ≤ (P.shown pages.new).gets }

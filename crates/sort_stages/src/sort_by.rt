@@ -13,14 +13,14 @@ use std::alloc::Global;
 
 /// `sort by`: all rows, by the int at a place. It holds a row until its int is read.
 #[derive(Drop)]
-pub struct SortBy<'s> {
-    spot: Spot<'s>,
+pub struct SortBy {
+    spot: Spot,
     held: Option<Answer>,
     rows: RowSort<i64>,
     closed: bool,
 }
 
-impl<'s> SortBy<'s> {
+impl SortBy {
     ghost use Rattle.std.specs.Prelude.{◌≡◌, false, []};
     ghost use Rattle.page_pool.specs.Disk.{PageMap};
     ghost use Rattle.sand_model.specs.Database.{Database};
@@ -30,9 +30,9 @@ impl<'s> SortBy<'s> {
     ghost use Rattle.plan_places.specs.Spots.{IsSpot};
 
     /// The stage of a sort by this place. It takes no memory.
-    pub fn new(alloc: Global, spot: Spot<'s>) -> SortBy<'s>
+    pub fn new(alloc: Global, spot: Spot) -> SortBy
         ensures open { result.closed ≡ false }
-        ensures begun { (pages : PageMap) (d : Database) (below : Plan) (place : Place) → IsSpot d (relations_of below) place spot.entry pages → SortByStands result pages d (plan.SortBy below place) [] [] }
+        ensures begun { (pages : PageMap) (d : Database) (below : Plan) (place : Place) → IsSpot d (relations_of below) place spot pages → SortByStands result pages d (plan.SortBy below place) [] [] }
     {
         SortBy {
             spot,
@@ -43,7 +43,7 @@ impl<'s> SortBy<'s> {
     }
 }
 
-impl<'s> RowStage for SortBy<'s> {
+impl RowStage for SortBy {
     ghost Stands = { SortByStands };
 
     ghost waits = { λ s. sort_waits s.held s.closed };

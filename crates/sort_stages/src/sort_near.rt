@@ -15,15 +15,15 @@ use std::alloc::Global;
 /// `sort near`: all rows, by the gap of the shape at a place from a goal, which each then has as its own. It holds a row
 /// until this shape is read.
 #[derive(Drop)]
-pub struct SortNear<'s> {
-    spot: Spot<'s>,
+pub struct SortNear {
+    spot: Spot,
     goal: Shape,
     held: Option<Answer>,
     rows: RowSort<Option<Frac>>,
     closed: bool,
 }
 
-impl<'s> SortNear<'s> {
+impl SortNear {
     ghost use Rattle.std.specs.Prelude.{◌≡◌, false, []};
     ghost use Rattle.sand_base.specs.Plane.{IsShapeInPlane};
     ghost use Rattle.page_pool.specs.Disk.{PageMap};
@@ -34,9 +34,9 @@ impl<'s> SortNear<'s> {
     ghost use Rattle.plan_places.specs.Spots.{IsSpot};
 
     /// The stage of a sort by the gaps of what stands at this place from the goal. It takes no memory.
-    pub fn new(alloc: Global, spot: Spot<'s>, goal: Shape) -> SortNear<'s>
+    pub fn new(alloc: Global, spot: Spot, goal: Shape) -> SortNear
         ensures open { result.closed ≡ false }
-        ensures begun { IsShapeInPlane goal → (pages : PageMap) (d : Database) (below : Plan) (place : Place) → IsSpot d (relations_of below) place spot.entry pages → SortNearStands result pages d (plan.SortNear below place goal) [] [] }
+        ensures begun { IsShapeInPlane goal → (pages : PageMap) (d : Database) (below : Plan) (place : Place) → IsSpot d (relations_of below) place spot pages → SortNearStands result pages d (plan.SortNear below place goal) [] [] }
     {
         SortNear {
             spot,
@@ -48,7 +48,7 @@ impl<'s> SortNear<'s> {
     }
 }
 
-impl<'s> RowStage for SortNear<'s> {
+impl RowStage for SortNear {
     ghost Stands = { SortNearStands };
 
     ghost waits = { λ s. sort_waits s.held s.closed };

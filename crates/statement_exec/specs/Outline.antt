@@ -15,6 +15,7 @@ pub record Outline : Type 0 where
 abbrev pub sketch_in : Relation → Sketch
 sketch_in r = record { name = r.name; schema = r.schema; next = r.next; indexed = map (λ index. index.0) r.indexes }
 
+-- what is known of a state without a page
 abbrev pub outline_of : State → Outline
 outline_of state = record { relations = map sketch_in state.database; cursors = map (λ cursor. cursor.name) state.cursors }
 

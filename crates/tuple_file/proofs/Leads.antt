@@ -10,7 +10,7 @@ use Rattle.code_btree.proofs.Orders.{lt_is, lt_not, eq_is, eq_not}
 use Rattle.tuple_file.specs.declared.file.TupleFile.{TupleFile}
 use Rattle.tuple_file.specs.Calls.{Put, Taken, Unmoved}
 use Rattle.tuple_file.specs.declared.span.Span.{Span}
-use Rattle.tuple_file.specs.Spans.{Lies, AreKnown, Learnt, span_of, forgotten}
+use Rattle.tuple_file.specs.Spans.{Lies, AreKnown, Learnt, Forgot, span_of, forgotten}
 use Rattle.tuple_file.proofs.Counts.{find_past, find_first, none_some}
 
 -- the pairs below a key lead from a lesser one where all led
@@ -88,6 +88,13 @@ taken_known m w f g (suc i) was spans taken known n l = elim (eqb_tells n i) [
       let other : get_or (set spans i 0) n 0 ≡ get_or spans n 0 = get_or-set_other spans i n 0 0 x.1 in
       let P : ℕ → Type 0 = λ p. Lies w g (n + 1) (span_of p) in
       subst P (sym other) (taken.stay (n + 1) (span_of (get_or spans n 0)) (omega (arith, x.1)) (known n (omega (arith, l, other))))
+]
+
+-- so it does where the span of the id is forgotten, alone or with all others
+pub lost_known : (m w : Store) (f g : TupleFile) (id : ℕ) (was : Bool) (old new : List ℕ) → Taken m w f g id was → AreKnown m f old → Forgot old id new → AreKnown w g new
+lost_known m w f g id was old new taken known lost = elim lost [
+  | inl one ↦ subst (AreKnown w g) (sym one) (taken_known m w f g id was old taken known)
+  | inr all ↦ subst (AreKnown w g) (sym all) (none_known w g)
 ]
 
 -- and where the file's pages stay

@@ -14,6 +14,7 @@ bytes_of (Some page) = page
 abbrev pub page_of : ℕ → ℕ
 page_of place = place / 65536
 
+-- the slot of a place in its page
 abbrev pub slot_of : ℕ → ℕ
 slot_of place = place % 65536
 
@@ -25,6 +26,7 @@ tuple_of m place = tuple_at (bytes_of (m (page_of place))) (slot_of place)
 abbrev pub places : List Pair → List ℕ
 places es = map (λ e. e.1) es
 
+-- the pages of the places to which entries lead
 abbrev pub homes : List Pair → List ℕ
 homes es = map (λ e. page_of e.1) es
 

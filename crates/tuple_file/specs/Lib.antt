@@ -4,7 +4,8 @@ pub mod Page
 pub mod Rows
 pub mod File
 pub mod Calls
--- Where tuples lie, as far as it is known without the tree.
+-- Where tuples lie, as far as it is known without the tree, in a list that copies share.
+pub mod Numbers
 pub mod Spans
 -- The list of rows whose encodings are kept.
 pub mod Table

@@ -1,5 +1,5 @@
 -- Where tuples lie, and what is known of it: a list of numbers, of which the n-th, counted from 0, tells the span of the tuple of id n + 1, and is 0 where it isn't known.
-use Rattle.std.specs.Prelude.{◌≡◌, ℕ, zero, suc, ◌+◌, ◌*◌, ◌/◌, ◌%◌, ◌≤◌, ◌⊎◌, List, get_or, set, Some}
+use Rattle.std.specs.Prelude.{◌≡◌, ℕ, zero, suc, ◌+◌, ◌*◌, ◌/◌, ◌%◌, ◌≤◌, ◌⊎◌, List, [], get_or, set, Some}
 use Rattle.code_btree.specs.Items.{find_item}
 use Rattle.code_btree.specs.Tree.{Store, tree_items}
 use Rattle.tuple_file.specs.declared.file.TupleFile.{TupleFile}
@@ -29,3 +29,7 @@ Learnt old id span new = (n : ℕ) → 1 ≤ get_or new n 0 → (get_or new n 0 
 abbrev pub forgotten : ℕ → List ℕ → List ℕ
 forgotten zero spans = spans
 forgotten (suc n) spans = set spans n 0
+
+-- the span of the id is known no more, or none is
+abbrev pub Forgot : List ℕ → ℕ → List ℕ → Type 0
+Forgot old id new = (new ≡ forgotten id old) ⊎ (new ≡ [])

@@ -1,26 +1,69 @@
 // Where tuples lie, as far as it is known.
-ghost use Rattle.std.specs.Prelude.{◌≡◌, ◌-◌, ◌≤◌, get_or, IfSome, IfOk};
-ghost use Rattle.tuple_file.specs.Spans.{Learnt, forgotten, span_of};
+ghost use Rattle.std.specs.Prelude.{◌≡◌, ◌-◌, ◌≤◌, length, get_or, set, IfSome, IfOk};
+ghost use Rattle.tuple_file.specs.Numbers.{numbers_in, Extends, Clears};
+ghost use Rattle.tuple_file.specs.Spans.{Learnt, Forgot, span_of};
 
 use crate::span::Span;
 use sand_base::NoMemory;
 use std::alloc::Global;
 use std::marker::Model;
+use std::rc::Rc;
 
 /// Where the tuples of a file lie, by id, as far as it is known: eight bytes an id, and no page. A tuple of which it is
-/// known is read without a look at the tree or at the slots of its page.
+/// known is read without a look at the tree or at the slots of its page. Copies share the list until one of them changes.
 #[derive(Drop)]
 pub struct Spans {
+    alloc: Global,
     // That of id n + 1 is at n, as page * 2^32 + start * 2^16 + length, and 0 where it isn't known.
-    numbers: Vec<u64>,
+    numbers: Option<Rc<Vec<u64>>>,
 }
 
 impl Model for Spans {
     ghost use Rattle.std.specs.Prelude.{ℕ, List};
+    ghost use Rattle.tuple_file.specs.Numbers.{numbers_in};
 
     ghost Value = { List ℕ };
 
-    ghost view = { λ spans. spans.numbers.items };
+    ghost view = { λ spans. numbers_in spans.numbers };
+}
+
+// The list with a number more, if there is memory for it.
+fn with_number(alloc: Global, numbers: Option<Rc<Vec<u64>>>, number: u64) -> Option<Rc<Vec<u64>>>
+    ensures { Extends (numbers_in numbers) number (numbers_in result) }
+{
+    let mut shared = match numbers {
+        Some(shared) => shared,
+        None => Rc::new(alloc, Vec::new(alloc)).ok()?,
+    };
+    match Rc::make_mut(&mut shared) {
+        Ok(list) => match list.push(number) {
+            Ok(()) => {}
+            Err(_full) => {}
+        },
+        Err(_full) => {}
+    }
+    Some(shared)
+}
+
+// Writes 0 in this place.
+fn clear(list: &mut Vec<u64>, at: usize)
+    ensures { list.new.items ≡ set list.old.items at 0 }
+{
+    if at < list.len() {
+        list[at] = 0;
+    }
+}
+
+// The list with 0 in this place, and no list where there is no memory to change a copy of it.
+fn without_number(numbers: Option<Rc<Vec<u64>>>, at: usize) -> Option<Rc<Vec<u64>>>
+    ensures { Clears (numbers_in numbers) at (numbers_in result) }
+{
+    let mut shared = numbers?;
+    match Rc::make_mut(&mut shared) {
+        Ok(list) => clear(list, at),
+        Err(_full) => return None,
+    }
+    Some(shared)
 }
 
 impl Spans {
@@ -31,16 +74,22 @@ impl Spans {
         ensures { result ≡ [] }
     {
         Spans {
-            numbers: Vec::new(alloc),
+            alloc,
+            numbers: None,
         }
     }
 
     /// The same knowledge.
-    pub fn copy(&self, alloc: Global) -> Result<Spans, NoMemory>
+    pub fn copy(&self) -> Result<Spans, NoMemory>
         ensures { IfOk result (λ copy. copy ≡ self.now) }
     {
+        let numbers = match &self.numbers {
+            Some(shared) => Some(shared.clone()?),
+            None => None,
+        };
         Ok(Spans {
-            numbers: Vec::from_slice(alloc, &self.numbers)?,
+            alloc: self.alloc,
+            numbers,
         })
     }
 
@@ -51,7 +100,8 @@ impl Spans {
         ensures span { IfSome result (λ span. span ≡ span_of (get_or self.now (id - 1) 0)) }
     {
         let at = id.checked_sub(1)?;
-        let number = *self.numbers.get(at as usize)?;
+        let numbers = self.numbers.as_ref()?;
+        let number = *numbers.get(at as usize)?;
         if number == 0 {
             return None;
         }
@@ -60,6 +110,16 @@ impl Spans {
             start: (number / 65_536 % 65_536) as u16,
             length: (number % 65_536) as u16,
         })
+    }
+
+    // How many ids it has heard of.
+    fn count(&self) -> usize
+        ensures { result ≡ length self.now }
+    {
+        match &self.numbers {
+            Some(numbers) => numbers.len(),
+            None => 0,
+        }
     }
 
     /// Learns where the tuple of the id lies that comes behind all those it has heard of. Of another id, or without
@@ -73,24 +133,18 @@ impl Spans {
         let number = u64::from(page) * 4_294_967_296
             + u64::from(span.start) * 65_536
             + u64::from(span.length);
-        if id as usize == self.numbers.len() + 1 {
-            match self.numbers.push(number) {
-                Ok(()) => {}
-                Err(_full) => {}
-            }
+        if id as usize == self.count() + 1 {
+            self.numbers = with_number(self.alloc, self.numbers.take(), number);
         }
     }
 
-    /// Forgets where the tuple of an id lay.
+    /// Forgets where the tuple of an id lay, and where all lay without memory for a change of a shared list.
     pub fn forget(&mut self, id: u32)
-        ensures { self.new ≡ forgotten id self.old }
+        ensures { Forgot self.old id self.new }
     {
         let Some(at) = id.checked_sub(1) else {
             return;
         };
-        let at = at as usize;
-        if at < self.numbers.len() {
-            self.numbers[at] = 0;
-        }
+        self.numbers = without_number(self.numbers.take(), at as usize);
     }
 }

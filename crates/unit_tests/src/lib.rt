@@ -2,7 +2,8 @@
 //!
 //! A module for each library. A test's build proves all functions of its own crate once more, so the tests stand apart from the
 //! libraries, in a crate with no function besides. They compare with values from outside, and show that calls which take memory
-//! succeed where some is left. Above: nothing. Below: the twelve libraries.
+//! succeed where some is left. Above: nothing. Below: `sand_base`, `exact_frac`, `z_code`, `plane_geom`, `ring_geom`, `tuple_codec`,
+//! `output_text`, `work_gen`, `run_words`, `csv_load`, `run_summary` and `work_source`.
 #![tactic(auto)]
 
 #[cfg(test)]

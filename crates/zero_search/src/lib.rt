@@ -2,7 +2,7 @@
 //!
 //! One idea: within the distance 0 all gaps are 0, so no gap is compared. Each node at the distance 0 is opened, in any
 //! order, then each rough object there is fetched, and then the rows come in the order of their ids, which are bits of
-//! a set. Above: the plans that rank. Below: `best_first`, whose search this is for the ceiling 0, `page_pool` for the
+//! a set. Above: `rank_cursor` and `rank_source`. Below: `best_first`, whose search this is for the ceiling 0, `page_pool` for the
 //! desk. Contracts see the same frontier, rows and visits as those of `best_first`; read `specs/ZeroItems.antt` first,
 //! then `specs/WithinZero.antt`.
 //! After G. R. Hjaltason and H. Samet, Distance browsing in spatial databases (1999).

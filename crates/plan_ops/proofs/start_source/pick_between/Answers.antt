@@ -1,6 +1,6 @@
 -- The checks say that it is there. They hold over any pages, so over none.
 use Rattle.std.specs.FinMap as map
-use Rattle.std.proofs.Common.{ap₂, subst}
+use Rattle.std.proofs.Common.{ap₂, subst, Ok, ◌∙◌}
 use Rattle.page_pool.specs.Disk.{PageMap}
 use Rattle.plain_source.specs.Plain.{LacksInts}
 use Rattle.plan_check.specs.PlanValue.{column_value}
@@ -15,4 +15,4 @@ unreachable-requires c =
     let pages : PageMap = map.empty in
     let d = database_in pages c.args.catalog.now.relations in
     not_lacking_ints d (column_value c.args.column.now) (c.requires.checked pages)
-    (subst (λ (column : Column). LacksInts d column) (ap₂ names_of c.as_str.ensures c.as_str-2.ensures) (c.start.ensures.none c.in-None.is c.requires.described pages))
+    (subst (λ (column : Column). LacksInts d column) (ap₂ names_of c.as_str.ensures c.as_str-2.ensures) (c.start.ensures.none (c.in_ok-pick.was ∙ (λ i. Ok (c.in-None.is i))) c.requires.described pages))

@@ -18,8 +18,8 @@ shrunk_paths-requires-clause-can g c = λ after.
           (c.requires.can told).1 (c.in-Ok.ensures.value told),
     )
 
-pub returns-in-Ok-shrunk_paths-clause-became : goal.returns-in-Ok-shrunk_paths-clause-became
-returns-in-Ok-shrunk_paths-clause-became g c = λ told bounds can.
+pub returns-in-Ok-shrunk_paths-clause-shrank : goal.returns-in-Ok-shrunk_paths-clause-shrank
+returns-in-Ok-shrunk_paths-clause-shrank g c = λ told bounds can.
     loss_got c.args.pool.now.pages c.take.new.pool.pages c.shrunk_paths.new.pool.pages bounds _ c.args.relation.now c.take.new.self c.args.id c.args.row.now _ c.deref.result.now c.in-Ok-shrunk_paths.paths.items
     c.relation.view_is c.deref.ensures.value can (c.in-Ok.ensures.value told) (c.in-Ok-shrunk_paths.ensures.lost (c.in-Ok.ensures.within.told ∙ told))
 

@@ -1,5 +1,5 @@
 -- The search stands over all pages where the relations do, and has taken nothing.
-use Rattle.pair_source.specs.Joins.{join_view}
+use Rattle.pair_source.specs.Joins.{joined_columns, join_of}
 use Rattle.pair_source.proofs.Begun.{begun_over}
 use Rattle.pair_source.proofs.join_source.JoinSource.start.Goals as goal
 
@@ -9,6 +9,6 @@ returns-clause-begun c =
     let two = c.args.right in
     let s = c.in_ok-search.search in
     begun_over
-    (join_view one.relation.now one.column one.tree.now two.relation.now two.column two.tree.now c.args.ceiling)
-    (join_view s.hierarchy.left_shapes.relation.now s.hierarchy.left_shapes.column s.hierarchy.left s.hierarchy.right_shapes.relation.now s.hierarchy.right_shapes.column s.hierarchy.right s.hierarchy.ceiling)
+    (joined_columns one two c.args.ceiling)
+    (join_of s.hierarchy)
     c.in_ok-search.ensures.view s.frontier.queue.items s.frontier.last s.frontier.counts c.in_ok-search.ensures.none_given c.in_ok-search.ensures.none_taken c.in_ok-search.ensures.stands

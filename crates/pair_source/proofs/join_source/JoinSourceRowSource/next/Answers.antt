@@ -1,6 +1,6 @@
 -- Each answer of the search is one of the source: its row, the end, or a refusal. A want of memory for the row takes nothing.
 use Rattle.best_first.specs.Visits.{told_pages, state}
-use Rattle.pair_source.specs.Joins.{join_view, heights_of}
+use Rattle.pair_source.specs.Joins.{join_of, heights_of}
 use Rattle.pair_source.proofs.PairPrices.{join_costs, join_still}
 use Rattle.pair_source.proofs.JoinOverPages.{asked, row_over, end_over, fault_over, still_over}
 use Rattle.pair_source.proofs.join_source.JoinSourceRowSource.next.Goals as goal
@@ -10,7 +10,7 @@ pub returns-in_default-clause-step : goal.returns-in_default-clause-step
 returns-in_default-clause-step g c =
     let s = c.args.self.now.search in
     still_over s.hierarchy.left.number s.hierarchy.right.number (told_pages c.args.desk.now)
-    (join_view s.hierarchy.left_shapes.relation.now s.hierarchy.left_shapes.column s.hierarchy.left s.hierarchy.right_shapes.relation.now s.hierarchy.right_shapes.column s.hierarchy.right s.hierarchy.ceiling)
+    (join_of s.hierarchy)
     (state s.frontier.queue.items s.frontier.last s.frontier.counts c.args.desk.now) _
 
 -- where something was taken the search stands
@@ -18,7 +18,7 @@ pub next-requires : goal.next-requires
 next-requires g c =
     let s = c.args.self.now.search in
     asked (told_pages c.args.desk.now)
-    (join_view s.hierarchy.left_shapes.relation.now s.hierarchy.left_shapes.column s.hierarchy.left s.hierarchy.right_shapes.relation.now s.hierarchy.right_shapes.column s.hierarchy.right s.hierarchy.ceiling)
+    (join_of s.hierarchy)
     (state s.frontier.queue.items s.frontier.last s.frontier.counts c.args.desk.now) c.requires.stands
 
 -- a row
@@ -27,12 +27,12 @@ returns-in-Ok-Some-clause-step g c =
     let s = c.args.self.now.search in
     let n = c.next.new.self in
     row_over s.hierarchy.left.number s.hierarchy.right.number (told_pages c.args.desk.now)
-    (join_view s.hierarchy.left_shapes.relation.now s.hierarchy.left_shapes.column s.hierarchy.left s.hierarchy.right_shapes.relation.now s.hierarchy.right_shapes.column s.hierarchy.right s.hierarchy.ceiling)
-    (join_view n.hierarchy.left_shapes.relation.now n.hierarchy.left_shapes.column n.hierarchy.left n.hierarchy.right_shapes.relation.now n.hierarchy.right_shapes.column n.hierarchy.right n.hierarchy.ceiling)
+    (join_of s.hierarchy)
+    (join_of n.hierarchy)
     (state s.frontier.queue.items s.frontier.last s.frontier.counts c.args.desk.now)
     (state n.frontier.queue.items n.frontier.last n.frontier.counts c.next.new.desk)
     c.in-Ok-Some.hit c.pair_answer.result
-    (λ i. let h = c.next.ensures.hierarchy i in join_view h.left_shapes.relation.now h.left_shapes.column h.left h.right_shapes.relation.now h.right_shapes.column h.right h.ceiling)
+    (λ i. let h = c.next.ensures.hierarchy i in join_of h)
     (c.pair_answer.ensures.gap, c.pair_answer.ensures.ids, c.pair_answer.ensures.values)
     (rw c.in-Ok-Some.field-0-is at c.in-Ok-Some.ensures.last) (rw c.in-Ok-Some.field-0-is at c.in-Ok-Some.ensures.row) (rw c.in-Ok-Some.field-0-is at c.in-Ok-Some.ensures.visits)
 
@@ -42,11 +42,11 @@ returns-in-Ok-None-clause-step g c =
     let s = c.args.self.now.search in
     let n = c.next.new.self in
     end_over s.hierarchy.left.number s.hierarchy.right.number (told_pages c.args.desk.now)
-    (join_view s.hierarchy.left_shapes.relation.now s.hierarchy.left_shapes.column s.hierarchy.left s.hierarchy.right_shapes.relation.now s.hierarchy.right_shapes.column s.hierarchy.right s.hierarchy.ceiling)
-    (join_view n.hierarchy.left_shapes.relation.now n.hierarchy.left_shapes.column n.hierarchy.left n.hierarchy.right_shapes.relation.now n.hierarchy.right_shapes.column n.hierarchy.right n.hierarchy.ceiling)
+    (join_of s.hierarchy)
+    (join_of n.hierarchy)
     (state s.frontier.queue.items s.frontier.last s.frontier.counts c.args.desk.now)
     (state n.frontier.queue.items n.frontier.last n.frontier.counts c.next.new.desk)
-    (λ i. let h = c.next.ensures.hierarchy i in join_view h.left_shapes.relation.now h.left_shapes.column h.left h.right_shapes.relation.now h.right_shapes.column h.right h.ceiling)
+    (λ i. let h = c.next.ensures.hierarchy i in join_of h)
     (rw c.in-Ok-None.field-0-is at c.in-Ok-None.ensures.last) (rw c.in-Ok-None.field-0-is at c.in-Ok-None.ensures.row) (rw c.in-Ok-None.field-0-is at c.in-Ok-None.ensures.visits)
 
 -- a refusal
@@ -55,12 +55,12 @@ returns-in-Err-clause-step g c =
     let s = c.args.self.now.search in
     let n = c.next.new.self in
     fault_over s.hierarchy.left.number s.hierarchy.right.number (told_pages c.args.desk.now)
-    (join_view s.hierarchy.left_shapes.relation.now s.hierarchy.left_shapes.column s.hierarchy.left s.hierarchy.right_shapes.relation.now s.hierarchy.right_shapes.column s.hierarchy.right s.hierarchy.ceiling)
-    (join_view n.hierarchy.left_shapes.relation.now n.hierarchy.left_shapes.column n.hierarchy.left n.hierarchy.right_shapes.relation.now n.hierarchy.right_shapes.column n.hierarchy.right n.hierarchy.ceiling)
+    (join_of s.hierarchy)
+    (join_of n.hierarchy)
     (state s.frontier.queue.items s.frontier.last s.frontier.counts c.args.desk.now)
     (state n.frontier.queue.items n.frontier.last n.frontier.counts c.next.new.desk)
     c.in-Err.fault
-    (λ i. let h = c.next.ensures.hierarchy i in join_view h.left_shapes.relation.now h.left_shapes.column h.left h.right_shapes.relation.now h.right_shapes.column h.right h.ceiling)
+    (λ i. let h = c.next.ensures.hierarchy i in join_of h)
     c.in-Err.ensures.last c.in-Err.ensures.visits
 
 -- ---- what a call costs
@@ -69,7 +69,7 @@ pub returns-in_default-clause-costs : goal.returns-in_default-clause-costs
 returns-in_default-clause-costs g c =
     let s = c.args.self.now.search in
     join_still (told_pages c.args.desk.now)
-    (join_view s.hierarchy.left_shapes.relation.now s.hierarchy.left_shapes.column s.hierarchy.left s.hierarchy.right_shapes.relation.now s.hierarchy.right_shapes.column s.hierarchy.right s.hierarchy.ceiling)
+    (join_of s.hierarchy)
     (state s.frontier.queue.items s.frontier.last s.frontier.counts c.args.desk.now) _
 
 pub returns-in-Ok-Some-clause-costs : goal.returns-in-Ok-Some-clause-costs
@@ -77,36 +77,36 @@ returns-in-Ok-Some-clause-costs g c =
     let s = c.args.self.now.search in
     let n = c.next.new.self in
     join_costs s.hierarchy.left.number s.hierarchy.right.number (told_pages c.args.desk.now)
-    (join_view s.hierarchy.left_shapes.relation.now s.hierarchy.left_shapes.column s.hierarchy.left s.hierarchy.right_shapes.relation.now s.hierarchy.right_shapes.column s.hierarchy.right s.hierarchy.ceiling)
+    (join_of s.hierarchy)
     (state s.frontier.queue.items s.frontier.last s.frontier.counts c.args.desk.now)
     (state n.frontier.queue.items n.frontier.last n.frontier.counts c.next.new.desk) _ _ (rw c.in-Ok-Some.field-0-is at c.in-Ok-Some.ensures.visits)
 
 pub returns-in-Ok-Some-clause-heights : goal.returns-in-Ok-Some-clause-heights
 returns-in-Ok-Some-clause-heights g c =
-    λ i. let h = c.next.ensures.hierarchy i in heights_of (join_view h.left_shapes.relation.now h.left_shapes.column h.left h.right_shapes.relation.now h.right_shapes.column h.right h.ceiling)
+    λ i. let h = c.next.ensures.hierarchy i in heights_of (join_of h)
 
 pub returns-in-Ok-None-clause-costs : goal.returns-in-Ok-None-clause-costs
 returns-in-Ok-None-clause-costs g c =
     let s = c.args.self.now.search in
     let n = c.next.new.self in
     join_costs s.hierarchy.left.number s.hierarchy.right.number (told_pages c.args.desk.now)
-    (join_view s.hierarchy.left_shapes.relation.now s.hierarchy.left_shapes.column s.hierarchy.left s.hierarchy.right_shapes.relation.now s.hierarchy.right_shapes.column s.hierarchy.right s.hierarchy.ceiling)
+    (join_of s.hierarchy)
     (state s.frontier.queue.items s.frontier.last s.frontier.counts c.args.desk.now)
     (state n.frontier.queue.items n.frontier.last n.frontier.counts c.next.new.desk) _ _ (rw c.in-Ok-None.field-0-is at c.in-Ok-None.ensures.visits)
 
 pub returns-in-Ok-None-clause-heights : goal.returns-in-Ok-None-clause-heights
 returns-in-Ok-None-clause-heights g c =
-    λ i. let h = c.next.ensures.hierarchy i in heights_of (join_view h.left_shapes.relation.now h.left_shapes.column h.left h.right_shapes.relation.now h.right_shapes.column h.right h.ceiling)
+    λ i. let h = c.next.ensures.hierarchy i in heights_of (join_of h)
 
 pub returns-in-Err-clause-costs : goal.returns-in-Err-clause-costs
 returns-in-Err-clause-costs g c =
     let s = c.args.self.now.search in
     let n = c.next.new.self in
     join_costs s.hierarchy.left.number s.hierarchy.right.number (told_pages c.args.desk.now)
-    (join_view s.hierarchy.left_shapes.relation.now s.hierarchy.left_shapes.column s.hierarchy.left s.hierarchy.right_shapes.relation.now s.hierarchy.right_shapes.column s.hierarchy.right s.hierarchy.ceiling)
+    (join_of s.hierarchy)
     (state s.frontier.queue.items s.frontier.last s.frontier.counts c.args.desk.now)
     (state n.frontier.queue.items n.frontier.last n.frontier.counts c.next.new.desk) _ _ c.in-Err.ensures.visits
 
 pub returns-in-Err-clause-heights : goal.returns-in-Err-clause-heights
 returns-in-Err-clause-heights g c =
-    λ i. let h = c.next.ensures.hierarchy i in heights_of (join_view h.left_shapes.relation.now h.left_shapes.column h.left h.right_shapes.relation.now h.right_shapes.column h.right h.ceiling)
+    λ i. let h = c.next.ensures.hierarchy i in heights_of (join_of h)

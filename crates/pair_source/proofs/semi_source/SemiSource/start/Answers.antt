@@ -1,5 +1,5 @@
 -- The search stands over all pages where the relations do, and has taken nothing.
-use Rattle.pair_source.specs.Joins.{join_view}
+use Rattle.pair_source.specs.Joins.{joined_columns, join_of}
 use Rattle.pair_source.proofs.BegunFirsts.{begun_over}
 use Rattle.pair_source.proofs.semi_source.SemiSource.start.Goals as goal
 
@@ -10,9 +10,9 @@ returns-clause-begun c =
     let e = c.in_ok-search.search in
     let s = c.in_ok-semi.semi in
     begun_over
-    (join_view one.relation.now one.column one.tree.now two.relation.now two.column two.tree.now c.args.ceiling)
-    (record { view = (join_view e.hierarchy.left_shapes.relation.now e.hierarchy.left_shapes.column e.hierarchy.left e.hierarchy.right_shapes.relation.now e.hierarchy.right_shapes.column e.hierarchy.right e.hierarchy.ceiling); held = e.frontier.queue.items; last = e.frontier.last; counts = e.frontier.counts })
-    (record { view = (join_view s.engine.hierarchy.left_shapes.relation.now s.engine.hierarchy.left_shapes.column s.engine.hierarchy.left s.engine.hierarchy.right_shapes.relation.now s.engine.hierarchy.right_shapes.column s.engine.hierarchy.right s.engine.hierarchy.ceiling); held = s.engine.frontier.queue.items; last = s.engine.frontier.last; counts = s.engine.frontier.counts })
-    (λ i. let h = c.in_ok-semi.ensures.engine i in record { view = (join_view h.hierarchy.left_shapes.relation.now h.hierarchy.left_shapes.column h.hierarchy.left h.hierarchy.right_shapes.relation.now h.hierarchy.right_shapes.column h.hierarchy.right h.hierarchy.ceiling); held = h.frontier.queue.items; last = h.frontier.last; counts = h.frontier.counts })
+    (joined_columns one two c.args.ceiling)
+    (record { view = (join_of e.hierarchy); held = e.frontier.queue.items; last = e.frontier.last; counts = e.frontier.counts })
+    (record { view = (join_of s.engine.hierarchy); held = s.engine.frontier.queue.items; last = s.engine.frontier.last; counts = s.engine.frontier.counts })
+    (λ i. let h = c.in_ok-semi.ensures.engine i in record { view = (join_of h.hierarchy); held = h.frontier.queue.items; last = h.frontier.last; counts = h.frontier.counts })
     c.in_ok-search.ensures.view c.in_ok-search.ensures.none_given c.in_ok-search.ensures.none_taken c.in_ok-search.ensures.stands
     s.lefts c.rows.result c.greatest.result c.in_ok-semi.ensures.none_given c.in_ok-semi.ensures.all_wait c.rows.ensures c.greatest.ensures.greatest c.in_ok-semi.ensures.stands

@@ -26,8 +26,8 @@ pub pick_equal-requires-clause-checked : goal.pick_equal-requires-clause-checked
 pick_equal-requires-clause-checked c =
     pick_checked c.args.catalog.now c.args.plan.now c.in-PickEqual.column c.in-PickEqual.value c.in-PickEqual.is c.requires.openable
 
-pub pick_between-pick-requires-clause-checked : goal.pick_between-pick-requires-clause-checked
-pick_between-pick-requires-clause-checked c =
+pub pick_between-requires-clause-checked : goal.pick_between-requires-clause-checked
+pick_between-requires-clause-checked c =
     ints_checked c.args.catalog.now c.args.plan.now c.in-PickBetween.column c.in-PickBetween.low c.in-PickBetween.high c.in-PickBetween.is c.requires.openable
 
 pub tree_column-left-requires-clause-checked : goal.tree_column-left-requires-clause-checked

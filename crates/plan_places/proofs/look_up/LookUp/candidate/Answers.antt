@@ -14,7 +14,7 @@ pub returns-in-Ok-clause-candidate : goal.returns-in-Ok-clause-candidate
 returns-in-Ok-clause-candidate g c = λ told.
     let P : Option ℕ → Type 0 = λ o. IfSome o (λ id. c.args.last < id) in
     candidate_is (g.P.Pages.shown c.args.pages.now).pages (g.P.Pages.shown c.equal.new.pages).pages c.args.self.now c.args.value.now c.args.last c.in-Some.id c.key_of.result.0 c.in_ok-id.field-0 c.in-Ok.found c.has_equal.result
-    (c.requires.holds told) c.requires.small (subst P c.in-Some.is c.in_ok-id.ensures.rises) c.key_of.ensures.value (c.in_ok-id.ensures.value told) c.in-Some.is c.in_ok-id.ensures.peeks.read.pages (c.in-Ok.ensures.value (c.in_ok-id.ensures.peeks.read.told ∙ told)) c.has_equal.ensures
+    (c.requires.holds told) c.requires.small (subst P c.in-Some.is c.in_ok-id.ensures.rises) c.key_of.ensures.value (c.in_ok-id.ensures.value told) c.in-Some.is c.in_ok-id.ensures.peeks.read.pages ((rw c.deref.ensures at c.in-Ok.ensures.value) (c.in_ok-id.ensures.peeks.read.told ∙ told)) c.has_equal.ensures
 
 pub returns-then-is_told-clause-candidate : goal.returns-then-is_told-clause-candidate
 returns-then-is_told-clause-candidate g c = λ told.
@@ -36,7 +36,7 @@ returns-in-Ok-clause-costs g c = λ told.
     let P : Option ℕ → Type 0 = λ o. IfSome o (λ id. c.args.last < id) in
     entry_read (g.P.Pages.shown c.args.pages.now).pages c.args.self.now c.args.value.now c.args.last c.in-Some.id c.key_of.result.0 c.in_ok-id.field-0 (subst P c.in-Some.is c.in_ok-id.ensures.rises) c.key_of.ensures.value
     (c.in_ok-id.ensures.value told) c.in-Some.is (sym c.is_told.ensures.tells ∙ c.if-is_told.false) (g.P.Pages.shown c.args.pages.now).gets (g.P.Pages.shown c.equal.new.pages).gets (g.P.Pages.shown c.value_of.new.pages).gets
-    c.in_ok-id.ensures.peeks.within c.in-Ok.ensures.looks.within
+    c.in_ok-id.ensures.peeks.within (rw c.deref.ensures at c.in-Ok.ensures.looks.within)
 
 -- also where the tuple is refused
 pub returns-in-Err-clause-costs : goal.returns-in-Err-clause-costs
@@ -44,4 +44,4 @@ returns-in-Err-clause-costs g c = λ told.
     let P : Option ℕ → Type 0 = λ o. IfSome o (λ id. c.args.last < id) in
     entry_refused (g.P.Pages.shown c.args.pages.now).pages c.args.self.now c.args.value.now c.args.last c.in-Some.id c.key_of.result.0 c.in_ok-id.field-0 (subst P c.in-Some.is c.in_ok-id.ensures.rises) c.key_of.ensures.value
     (c.in_ok-id.ensures.value told) c.in-Some.is (sym c.is_told.ensures.tells ∙ c.if-is_told.false) (g.P.Pages.shown c.args.pages.now).gets (g.P.Pages.shown c.equal.new.pages).gets (g.P.Pages.shown c.value_of.new.pages).gets
-    c.in_ok-id.ensures.peeks.within c.in-Err.ensures.looks.within
+    c.in_ok-id.ensures.peeks.within (rw c.deref.ensures at c.in-Err.ensures.looks.within)

@@ -8,4 +8,4 @@ returns-in-Shape-clause-first g c = λ told d column h. none_of_shape d column c
 pub returns-clause-first : goal.returns-clause-first
 returns-clause-first g c = λ told d column h.
     all_looked_up d column (g.P.Pages.shown c.args.pages.now).pages c.args.self.now c.args.value.now c.args.after c.entries.last c.greatest-greatest.result h
-    (c.greatest-greatest.ensures.greatest (g.P.Pages.shown c.args.pages.now).pages h.holds.stands.0 h.holds.stands.1) c.entries-test.false (c.entries.invariant.left told)
+    ((rw c.deref.ensures at c.greatest-greatest.ensures.greatest) (g.P.Pages.shown c.args.pages.now).pages h.holds.stands.0 h.holds.stands.1) c.entries-test.false (c.entries.invariant.left told)

@@ -9,4 +9,4 @@ returns-clause-value g c =
     IfOk-weaker c.value_of.result _ _
     (λ value read told d names place row is ids.
     spot_value d names place c.args.self.now (g.P.Pages.shown c.args.pages.now).pages row c.args.ids.now c.in-Some.id value is ids (sym c.kth.ensures ∙ c.in-Some.is) (read told))
-    c.value_of.ensures.value
+    (rw c.deref.ensures at c.value_of.ensures.value)

@@ -1,7 +1,7 @@
 -- The search has its ceiling, stands over all pages where the relation does, and has taken nothing.
 use Rattle.std.proofs.Common.{◌≡◌, ℕ, Some, sym, ap, ◌∙◌}
 use Rattle.std.specs.Prelude.{⊤}
-use Rattle.sand_store.specs.declared.column.ColumnShapes.{ColumnShapes}
+use Rattle.sand_store.specs.declared.column.FileShapes.{FileShapes}
 use Rattle.zero_search.specs.ZeroItems.{items_of}
 use Rattle.rank_cursor.specs.declared.rank_tree.RankTree.{RankTree}
 use Rattle.rank_source.specs.Rankings.{ranking_of}
@@ -20,10 +20,11 @@ returns-in_ok-search-in-Some-eq0-clause-begun c =
     let at_zero : over.result.ceiling ≡ Some 0 = over.ensures.ceiling ∙ c.in-Some-eq0.is ∙ ap (λ (n : ℕ). Some n) (sym c.in-Some-eq0.field-0-is ∙ c.in-Some-eq0.field-0-test) in
     begun_over r c.args.column.column t c.args.goal c.args.ceiling c.requires.plane over.result s.hierarchy h.hierarchy
     (made_ranking r c.args.column.column t c.args.goal c.args.ceiling over.result
-    (ap (λ (x : ColumnShapes). x.relation.now) over.ensures.shapes ∙ (λ i. (c.shapes.ensures.relation i).now)) (ap (λ (x : ColumnShapes). x.column) over.ensures.shapes ∙ c.shapes.ensures.column)
+    (ap (λ (x : FileShapes). x.schema) over.ensures.shapes ∙ c.in_ok-shapes.ensures.schema) (ap (λ (x : FileShapes). x.file) over.ensures.shapes ∙ c.in_ok-shapes.ensures.file)
+    (ap (λ (x : FileShapes). x.column) over.ensures.shapes ∙ c.in_ok-shapes.ensures.column)
     over.ensures.pmr over.ensures.goal over.ensures.ceiling)
     (items_of s.frontier.queue) s.frontier.last s.frontier.counts h.none_given h.none_taken (λ m laws. h.stands m laws (within_zero (ranking_of over.result m) at_zero))
-    (s.hierarchy.ceiling ≡ Some 0) (ap (λ (x : RankTree ColumnShapes). x.ceiling) h.hierarchy ∙ at_zero)
+    (s.hierarchy.ceiling ≡ Some 0) (ap (λ (x : RankTree FileShapes). x.ceiling) h.hierarchy ∙ at_zero)
 
 -- by distance
 pub returns-in_ok-search-in_default-clause-begun : goal.returns-in_ok-search-in_default-clause-begun
@@ -35,6 +36,7 @@ returns-in_ok-search-in_default-clause-begun c =
     let h = c.in_ok-search-in_default.ensures in
     begun_over r c.args.column.column t c.args.goal c.args.ceiling c.requires.plane over.result s.hierarchy h.hierarchy
     (made_ranking r c.args.column.column t c.args.goal c.args.ceiling over.result
-    (ap (λ (x : ColumnShapes). x.relation.now) over.ensures.shapes ∙ (λ i. (c.shapes.ensures.relation i).now)) (ap (λ (x : ColumnShapes). x.column) over.ensures.shapes ∙ c.shapes.ensures.column)
+    (ap (λ (x : FileShapes). x.schema) over.ensures.shapes ∙ c.in_ok-shapes.ensures.schema) (ap (λ (x : FileShapes). x.file) over.ensures.shapes ∙ c.in_ok-shapes.ensures.file)
+    (ap (λ (x : FileShapes). x.column) over.ensures.shapes ∙ c.in_ok-shapes.ensures.column)
     over.ensures.pmr over.ensures.goal over.ensures.ceiling)
     s.frontier.queue.items s.frontier.last s.frontier.counts h.none_given h.none_taken h.stands ⊤ tt

@@ -2,7 +2,7 @@
 use Rattle.std.proofs.Common.{ap, ◌∙◌}
 use Rattle.best_first.specs.Visits.{told_pages}
 use Rattle.rank_cursor.specs.declared.rank_tree.RankTree.{RankTree}
-use Rattle.sand_store.specs.declared.column.ColumnShapes.{ColumnShapes}
+use Rattle.sand_store.specs.declared.column.FileShapes.{FileShapes}
 use Rattle.zero_search.specs.ZeroItems.{items_of}
 use Rattle.rank_source.proofs.OverPages.{stands_over, stands_within}
 use Rattle.rank_source.proofs.search.Search.next.Goals as goal
@@ -42,7 +42,7 @@ pub returns-in-AtZero-clause-hierarchy : goal.returns-in-AtZero-clause-hierarchy
 returns-in-AtZero-clause-hierarchy g c = rw c.in-AtZero.is c.next-in-AtZero.ensures.hierarchy
 
 pub returns-in-AtZero-clause-ceiling : goal.returns-in-AtZero-clause-ceiling
-returns-in-AtZero-clause-ceiling g c = rw c.in-AtZero.is (λ e. ap (λ (tree : RankTree ColumnShapes). tree.ceiling) c.next-in-AtZero.ensures.hierarchy ∙ e)
+returns-in-AtZero-clause-ceiling g c = rw c.in-AtZero.is (λ e. ap (λ (tree : RankTree FileShapes). tree.ceiling) c.next-in-AtZero.ensures.hierarchy ∙ e)
 
 pub returns-in-AtZero-clause-row : goal.returns-in-AtZero-clause-row
 returns-in-AtZero-clause-row g c = rw c.in-AtZero.is c.next-in-AtZero.ensures.row

@@ -3,7 +3,7 @@ use Rattle.std.proofs.Common.{subst, ℕ, List}
 use Rattle.tuple_file.specs.Calls.{IsValueAt}
 use Rattle.sand_store.specs.Contents.{rows_at}
 use Rattle.sand_store.proofs.ColumnsOfShapes.{shape_fetched}
-use Rattle.sand_store.proofs.shapes.FileShapesShapeOf.shape_of.Goals as goal
+use Rattle.sand_store.proofs.shapes.RowShapesShapeOf.shape_of.Goals as goal
 
 pub returns-in-Ok-clause-value : goal.returns-in-Ok-clause-value
 returns-in-Ok-clause-value g c = λ told s at.
