@@ -6,6 +6,8 @@
 import random
 import sys
 
+WIDTH = 1 << 20
+
 
 def main() -> None:
     kind, inserts, rankings = sys.argv[1], int(sys.argv[2]), int(sys.argv[3])
@@ -16,16 +18,16 @@ def main() -> None:
         return f"({x} {y})"
 
     def value() -> str:
-        x, y = draw.randrange(65536), draw.randrange(65536)
+        x, y = draw.randrange(WIDTH), draw.randrange(WIDTH)
         if kind == "point":
             return spot(x, y)
-        return spot(x, y) + "-" + spot(min(65535, x + draw.randrange(256)), min(65535, y + draw.randrange(256)))
+        return spot(x, y) + "-" + spot(min(WIDTH - 1, x + draw.randrange(4096)), min(WIDTH - 1, y + draw.randrange(4096)))
 
     write(f"create r (a {kind})\nindex r.a\n")
     for _ in range(inserts):
         write(f"insert r {value()}\n")
     for _ in range(rankings):
-        write(f"show 10 rank r.a from {spot(draw.randrange(65536), draw.randrange(65536))}\n")
+        write(f"show 10 rank r.a from {spot(draw.randrange(WIDTH), draw.randrange(WIDTH))}\n")
 
 
 main()

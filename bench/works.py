@@ -25,7 +25,7 @@ import time
 HERE = os.path.dirname(os.path.abspath(__file__))
 PROGRAM = os.path.join(HERE, "..", "crates", "sand_shell", "out", "sand_shell")
 WORKS = "build knn10 knn100 browse100 browse1000 window join100 semi100 update".split()
-LAST = 65535
+LAST = (1 << 20) - 1
 
 
 def clamp(value: float) -> int:
@@ -37,7 +37,7 @@ class Data:
 
     def __init__(self, folder: str, size: int, kind: str) -> None:
         self.folder, self.size, draw = folder, size, random.Random(f"{kind} {size}")
-        centres = [(draw.uniform(0, LAST), draw.uniform(0, LAST), draw.uniform(200, 3000)) for _ in range(64)]
+        centres = [(draw.uniform(0, LAST), draw.uniform(0, LAST), draw.uniform(3_200, 48_000)) for _ in range(64)]
 
         def place() -> tuple[int, int]:
             if kind == "uniform":
@@ -49,7 +49,7 @@ class Data:
             for number in range(size):
                 x, y = place()
                 file.write(f"({x} {y}),place {number},{draw.randint(0, 9_999_999)}\n")
-        reach = max(4, 20_000 // round(size**0.5))
+        reach = max(4, 320_000 // round(size**0.5))
         with open(os.path.join(folder, "ways.csv"), "w", encoding="utf-8") as file:
             for _ in range(size):
                 x, y = place()
