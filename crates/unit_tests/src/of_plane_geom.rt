@@ -167,7 +167,12 @@ fn gaps_of_a_point_and_a_segment(rt: HostRuntime) {
 static SEGMENTS: [(&str, [u32; 4], [u32; 4], (u128, u128)); 16] = [
     ("crossing", [0, 0, 4, 4], [0, 4, 4, 0], (0, 1)),
     ("turned round", [4, 0, 0, 4], [4, 4, 0, 0], (0, 1)),
-    ("diagonals", [0, 0, WIDTH, WIDTH], [0, WIDTH, WIDTH, 0], (0, 1)),
+    (
+        "diagonals",
+        [0, 0, WIDTH, WIDTH],
+        [0, WIDTH, WIDTH, 0],
+        (0, 1),
+    ),
     ("end on end", [0, 0, 2, 2], [2, 2, 5, 1], (0, 1)),
     ("end in the midst", [0, 0, 4, 0], [2, 0, 2, 5], (0, 1)),
     ("one line, shared", [0, 0, 4, 0], [2, 0, 6, 0], (0, 1)),
@@ -213,7 +218,12 @@ static POINTS_AND_RECTANGLES: [(&str, [u32; 2], [u32; 4], u128); 8] = [
     ("above", [3, 9], [2, 2, 5, 4], 25),
     ("above to the right", [7, 7], [2, 2, 5, 4], 13),
     ("a point as rectangle", [0, 7], [3, 3, 3, 3], 25),
-    ("across", [0, 0], [WIDTH, WIDTH, WIDTH, WIDTH], 2_199_023_255_552),
+    (
+        "across",
+        [0, 0],
+        [WIDTH, WIDTH, WIDTH, WIDTH],
+        2_199_023_255_552,
+    ),
 ];
 
 // The point of each case has this gap to the rectangle.
@@ -270,7 +280,12 @@ static RECTANGLES: [(&str, [u32; 4], [u32; 4], u128); 6] = [
     ("one shared corner", [0, 0, 2, 2], [2, 2, 3, 3], 0),
     ("inside", [0, 0, 9, 9], [3, 3, 4, 4], 0),
     ("two lines", [0, 0, 4, 0], [2, 3, 2, 8], 9),
-    ("borders", [0, 0, 0, 9], [WIDTH, 0, WIDTH, 9], 1_099_511_627_776),
+    (
+        "borders",
+        [0, 0, 0, 9],
+        [WIDTH, 0, WIDTH, 9],
+        1_099_511_627_776,
+    ),
 ];
 
 // The rectangles of each case have this gap.

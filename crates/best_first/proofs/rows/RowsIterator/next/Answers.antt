@@ -34,13 +34,14 @@ returns-in-Ok-Some-clause-steps g c =
     let note = g.H.Hierarchy.note old.hierarchy in
     let pages = told_pages c.args.self.now.desk.now in
     let found = stepped g.H.Node.Ord.cmp m note pages before after (Ok c.in-Ok-Some.field-0) e.stands e.visits in
-    let calm : HasPageCause {T = Bool} c.args.self.now.desk.now.pool c.next.new.desk.pool (Ok false) = record { counted = e.cause.counted; damaged = tt } in
-    ((given, given),
-    (λ _. (e.read, subst (λ (r : Result Bool PageFault). HasPageCause {T = Bool} c.args.self.now.desk.now.pool c.next.new.desk.pool r) (sym given) calm)),
-    (λ _. subst (λ (r : Option Hit). IfSome pages (λ p. GivesNext (m p) old.frontier.last (Ok r))) c.in-Ok-Some.field-0-is e.row),
-    (λ _. (e.hierarchy, subst (λ (r : Option Hit). new.frontier.last ≡ last_after old.frontier.last (Ok r)) c.in-Ok-Some.field-0-is e.last)),
-    (λ _. subst (λ (r : Option Hit). IfSome pages (λ p. StepsSearch g.H.Node.Ord.cmp (m p) note before after (Ok r))) c.in-Ok-Some.field-0-is found),
-    λ other. absurd (other given))
+    let calm : HasPageCause {T = Bool} c.args.self.now.desk.now.pool c.next.new.desk.pool (Ok false) = record { counted = e.cause.counted; damaged = tt } in (
+      (given, given),
+      (λ _. (e.read, subst (λ (r : Result Bool PageFault). HasPageCause {T = Bool} c.args.self.now.desk.now.pool c.next.new.desk.pool r) (sym given) calm)),
+      (λ _. subst (λ (r : Option Hit). IfSome pages (λ p. GivesNext (m p) old.frontier.last (Ok r))) c.in-Ok-Some.field-0-is e.row),
+      (λ _. (e.hierarchy, subst (λ (r : Option Hit). new.frontier.last ≡ last_after old.frontier.last (Ok r)) c.in-Ok-Some.field-0-is e.last)),
+      (λ _. subst (λ (r : Option Hit). IfSome pages (λ p. StepsSearch g.H.Node.Ord.cmp (m p) note before after (Ok r))) c.in-Ok-Some.field-0-is found),
+      λ other. absurd (other given),
+    )
 
 -- each clause of the step of the search, which found the end
 pub returns-in-Ok-None-clause-steps : goal.returns-in-Ok-None-clause-steps
@@ -54,10 +55,11 @@ returns-in-Ok-None-clause-steps g c =
     let m = g.H.Hierarchy.meaning old.hierarchy in
     let note = g.H.Hierarchy.note old.hierarchy in
     let pages = told_pages c.args.self.now.desk.now in
-    let found = stepped g.H.Node.Ord.cmp m note pages before after (Ok c.in-Ok-None.field-0) e.stands e.visits in
-    ((refl, inl given),
-    (λ _. (e.read, record { counted = e.cause.counted; damaged = tt })),
-    (λ _. subst (λ (r : Option Hit). IfSome pages (λ p. GivesNext (m p) old.frontier.last (Ok r))) c.in-Ok-None.field-0-is e.row),
-    (λ _. (e.hierarchy, subst (λ (r : Option Hit). new.frontier.last ≡ last_after old.frontier.last (Ok r)) c.in-Ok-None.field-0-is e.last)),
-    (λ _. subst (λ (r : Option Hit). IfSome pages (λ p. StepsSearch g.H.Node.Ord.cmp (m p) note before after (Ok r))) c.in-Ok-None.field-0-is found),
-    λ other. absurd (other given))
+    let found = stepped g.H.Node.Ord.cmp m note pages before after (Ok c.in-Ok-None.field-0) e.stands e.visits in (
+      (refl, inl given),
+      (λ _. (e.read, record { counted = e.cause.counted; damaged = tt })),
+      (λ _. subst (λ (r : Option Hit). IfSome pages (λ p. GivesNext (m p) old.frontier.last (Ok r))) c.in-Ok-None.field-0-is e.row),
+      (λ _. (e.hierarchy, subst (λ (r : Option Hit). new.frontier.last ≡ last_after old.frontier.last (Ok r)) c.in-Ok-None.field-0-is e.last)),
+      (λ _. subst (λ (r : Option Hit). IfSome pages (λ p. StepsSearch g.H.Node.Ord.cmp (m p) note before after (Ok r))) c.in-Ok-None.field-0-is found),
+      λ other. absurd (other given),
+    )
