@@ -6,6 +6,7 @@ use Rattle.page_pool.specs.Disk.{PageMap}
 use Rattle.page_pool.specs.Pool.{PoolState}
 use Rattle.page_pool.specs.Desk.{DeskState}
 use Rattle.page_pool.specs.Reads.{IsRead}
+use Rattle.page_pool.specs.Steps.{IsRead-refl, IsRead-trans}
 use Rattle.page_pool.specs.Causes.{HasPageCause}
 use Rattle.page_pool.specs.declared.fault.PageFault.{PageFault}
 use Rattle.page_pool.specs.declared.fault.PageFault.TheVariants.{Memory, Device, Damaged}
@@ -26,21 +27,10 @@ use Rattle.best_first.proofs.Queues.{both_first}
 use Rattle.best_first.proofs.Journeys.{stays, goes_both, goes_fails}
 
 pub read_itself : (s : PoolState) → IsRead s s
-read_itself s = record { pages = refl; beginning = refl; dirty = refl; freed = refl; kept = refl; top = refl; spare = refl; told = refl; stored = refl; frames = refl }
+read_itself s = IsRead-refl s
 
 pub read_both : (a b c : PoolState) → IsRead a b → IsRead b c → IsRead a c
-read_both a b c p q = record {
-  pages = q.pages ∙ p.pages;
-  beginning = q.beginning ∙ p.beginning;
-  dirty = q.dirty ∙ p.dirty;
-  freed = q.freed ∙ p.freed;
-  kept = q.kept ∙ p.kept;
-  top = q.top ∙ p.top;
-  spare = q.spare ∙ p.spare;
-  told = q.told ∙ p.told;
-  stored = q.stored ∙ p.stored;
-  frames = q.frames ∙ p.frames;
-}
+read_both a b c p q = IsRead-trans a b c p q
 
 pub told_read : (old new : DeskState) → IsRead old.pool new.pool → told_pages new ≡ told_pages old
 told_read old new r = ap₂ (λ (t : Bool) (p : PageMap). if t then Some p else None) r.told r.pages

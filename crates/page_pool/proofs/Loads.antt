@@ -1,81 +1,97 @@
 -- A page that is read in, whatever the answer.
-use Rattle.std.proofs.Common.{◌≡◌, ◌≢◌, ℕ, List, [], ◌∷◌, Bool, true, false, not, ◌&&◌, nat_eq, refl, sym, ap, ◌∙◌, Option, Some, None, is_some, IsTrue, Result, Err, IfErr}
+use Rattle.std.proofs.Common.{◌≡◌, ℕ, List, Bool, false, refl, sym, ap, subst, ◌∙◌, Option, Some, None, is_some, ◌⊎◌, inl, inr, Result, Ok, Err, IfErr}
 use mathlib.Core.Bool.{true≢false}
-use lib.Pointwise.{pointwise}
 use denote.Ref.{Bor}
 use Rattle.std.specs.Option.{option_copied}
-use Rattle.std.specs.Cmp.{nat_eq_equiv}
 use Rattle.std.specs.FinMap as map
-use Rattle.sha2.specs.Sha256.{sha256}
-use Rattle.page_pool.specs.declared.disk.DiskFault.{DiskFault}
-use Rattle.page_pool.specs.declared.disk.DiskFault.TheVariants as of_disk
 use Rattle.page_pool.specs.declared.fault.PageFault.{PageFault}
-use Rattle.page_pool.specs.Disk.{PageMap, DigestMap, DiskView}
-use Rattle.page_pool.specs.Disk as disk_words
-use Rattle.page_pool.specs.Inside.{ChangeMap, StagedState, FramesState, NumbersState, IsWhole, state_of, ReadsIn}
+use Rattle.page_pool.specs.declared.fault.PageFault.TheVariants.{Memory, Device, Damaged}
+use Rattle.page_pool.specs.Disk.{DigestMap}
+use Rattle.page_pool.specs.Archive.{ArchiveState, IsArchive, IsReadArchive, IsImageDamage}
+use Rattle.page_pool.specs.Inside.{ChangeMap, StagedState, CacheState, NumbersState, IsImageOf, IsWhole, state_of, Compares, ReadsIn}
 use Rattle.page_pool.specs.Pool.{PoolState}
-use Rattle.page_pool.specs.Causes.{page_fault, faults_at, faults_after, IsDamageIfDamaged, Names, IsNoDamage}
+use Rattle.page_pool.specs.Causes.{faults_after, refused_after, IsDamageIfDamaged, IsNoDamage, Names}
 use Rattle.page_pool.proofs.States.{read_state}
-use Rattle.page_pool.proofs.Seen.{some_one}
 
--- the counts of the disk's fault and of what it becomes agree
-pub faults_passed : (before : ℕ) (why : DiskFault) → disk_words.faults_at before why ≡ faults_at before (page_fault why)
-faults_passed before of_disk.Memory = refl
-faults_passed before of_disk.Failed = refl
+-- the damage of an image is one of its page, and names it
+pub damage_of : {T : Type 0} (s : PoolState) (kept : DigestMap) (n : ℕ) (result : Result T PageFault) → s.kept ≡ kept → IfErr result (IsImageDamage s.disk kept n) → IfErr result (IsDamageIfDamaged s) × IfErr result (Names n)
+damage_of s kept n (Ok x) same h = (tt, tt)
+damage_of s kept n (Err Memory) same h = (tt, tt)
+damage_of s kept n (Err Device) same h = (tt, tt)
+damage_of s kept n (Err (Damaged page digest read)) same h =
+    (record { kept_is = (λ i. map.get (same i) (h.0 i)) ∙ h.1.0; read_is = h.1.1.0; differ = h.1.1.1.0; untold = h.1.1.1.1 }, h.0)
 
--- a disk's fault is no damage
-pub passed_undamaged : (s : PoolState) (why : DiskFault) → IsDamageIfDamaged s (page_fault why)
-passed_undamaged s of_disk.Memory = tt
-passed_undamaged s of_disk.Failed = tt
+-- the page is read and compared, whatever the answer
+pub compares_state : {T : Type 0} (a b : ArchiveState) (staged : StagedState) (frames frames' : CacheState) (numbers : NumbersState) (is_open : Bool) (gets refused : ℕ) (n : ℕ) (result : Result T PageFault)
+    → IsReadArchive a b → frames'.most ≡ frames.most → b.disk.faults ≡ faults_after a.disk.faults result → IfErr result (IsImageDamage b.disk a.kept n)
+    → Compares (state_of a staged frames numbers is_open gets refused) (state_of b staged frames' numbers is_open gets refused) n result
+compares_state a b staged frames frames' numbers is_open gets refused n result read most faults damaged =
+    let cause = damage_of (state_of b staged frames' numbers is_open gets refused) a.kept n result (ap (λ s. s.kept) read.same) damaged in
+    record {
+      read = read_state a b staged frames frames' numbers is_open gets gets refused refused read most;
+      gets = refl;
+      refused = refl;
+      cause = record { counted = faults; damaged = cause.0 };
+      named = cause.1;
+    }
 
-pub passed_names : (n : ℕ) (why : DiskFault) → Names n (page_fault why)
-passed_names n of_disk.Memory = tt
-passed_names n of_disk.Failed = tt
-
-pub passed_no_damage : (why : DiskFault) → IsNoDamage (page_fault why)
-passed_no_damage of_disk.Memory = tt
-passed_no_damage of_disk.Failed = tt
-
--- a page whose digest isn't the kept one comes from a disk that doesn't tell
-pub damage_untold : (disk : DiskView) (kept : DigestMap) (changes : ChangeMap) (frames : FramesState) (numbers : NumbersState) (is_open : Bool) (n : ℕ) (page digest read : List ℕ) → IsWhole disk kept changes frames numbers is_open
-    → map.get changes n ≡ None → map.get kept n ≡ Some digest → (IsTrue disk.told → map.get disk.pages n ≡ Some page) → read ≡ sha256 page → digest ≢ read → disk.told ≡ false
-damage_untold disk kept changes frames numbers is_open n page digest read whole none has gives is differ = (elim disk.told as (λ b. disk.told ≡ b → b ≡ false) [
-  | true ↦ λ told. let there = whole.stands told n digest has (λ _. none) in
-      let one : there.0 ≡ page = some_one there.0 page (sym there.1.0 ∙ gives told) in
-      absurd (differ (there.1.1 ∙ ap sha256 one ∙ sym is))
-  | false ↦ λ _. refl
-]) refl
-
--- the page is read in, whatever the answer
-pub read_in_state : {T : Type 0} (disk disk' : DiskView) (kept : DigestMap) (staged : StagedState) (frames frames' : FramesState) (numbers : NumbersState) (is_open : Bool) (gets : ℕ) (n : ℕ) (result : Result T PageFault)
-    → disk'.told ≡ disk.told → disk'.pages ≡ disk.pages → frames'.most ≡ frames.most → disk'.faults ≡ faults_after disk.faults result
-    → IfErr result (IsDamageIfDamaged (state_of disk' kept staged frames' numbers is_open gets)) → IfErr result (Names n)
-    → ReadsIn (state_of disk kept staged frames numbers is_open gets) (state_of disk' kept staged frames' numbers is_open gets) n result
-read_in_state disk disk' kept staged frames frames' numbers is_open gets n result told pages most faults damaged named = record {
-  read = read_state disk disk' kept staged frames frames' numbers is_open gets gets told pages most;
-  gets = refl;
-  cause = record { counted = faults; damaged = damaged };
-  named = named;
-}
-
--- the disk refused
-pub read_in_refused : {T : Type 0} (disk disk' : DiskView) (kept : DigestMap) (staged : StagedState) (frames frames' : FramesState) (numbers : NumbersState) (is_open : Bool) (gets : ℕ) (n : ℕ) (why : DiskFault)
-    → disk'.told ≡ disk.told → disk'.pages ≡ disk.pages → frames'.most ≡ frames.most → disk'.faults ≡ disk_words.faults_at disk.faults why
-    → ReadsIn {T = T} (state_of disk kept staged frames numbers is_open gets) (state_of disk' kept staged frames' numbers is_open gets) n (Err (page_fault why))
-read_in_refused disk disk' kept staged frames frames' numbers is_open gets n why told pages most faults =
-    read_in_state disk disk' kept staged frames frames' numbers is_open gets n (Err (page_fault why)) told pages most (faults ∙ faults_passed disk.faults why)
-    (passed_undamaged (state_of disk' kept staged frames' numbers is_open gets) why) (passed_names n why)
-
--- a list is itself, byte by byte
-same_bytes : (xs : List ℕ) → pointwise nat_eq xs xs ≡ true
-same_bytes [] = refl
-same_bytes (x ∷ xs) = λ i. nat_eq_equiv.refl x i && same_bytes xs i
-
--- two lists that a comparison tells apart
-pub bytes_differ : (read kept : List ℕ) → not (pointwise nat_eq read kept) ≡ true → kept ≢ read
-bytes_differ read kept apart same = true≢false (sym apart ∙ ap not (ap (pointwise nat_eq read) same ∙ same_bytes read))
+-- the frames have this image of page n more, at most
+pub whole_read : (a b : ArchiveState) (changes : ChangeMap) (frames frames' : CacheState) (numbers : NumbersState) (is_open : Bool) (n : ℕ) → IsReadArchive a b → IsArchive b
+    → ((q : ℕ) (bytes : List ℕ) → map.get frames'.newest q ≡ Some bytes → ((q ≡ n) × IsImageOf a.disk.told a.pages a.kept n bytes) ⊎ (map.get frames.newest q ≡ Some bytes))
+    → ((q : ℕ) (bytes : List ℕ) → map.get frames'.past q ≡ Some bytes → map.get frames.past q ≡ Some bytes)
+    → IsWhole a changes frames numbers is_open → IsWhole b changes frames' numbers is_open
+whole_read a b changes frames frames' numbers is_open n read archive framed framed_past w =
+    subst (λ s. IsWhole s changes frames' numbers is_open) (sym read.same) record {
+      archived = subst IsArchive read.same archive;
+      stands = λ q none digest has tells. w.stands q none digest has (sym read.told ∙ tells);
+      newest = λ q bytes is. elim (framed q bytes is) [
+        | inl this ↦ let one : q ≡ n = this.0 in (ap (map.get a.kept) one ∙ this.1.0, λ tells. ap (map.get a.pages) one ∙ this.1.1 (sym read.told ∙ tells))
+        | inr before ↦ let was = w.newest q bytes before in (was.0, λ tells. was.1 (sym read.told ∙ tells))
+      ];
+      past = λ id f frozen q place bytes is there. let was = w.past id f frozen q place bytes is (framed_past place bytes there) in (was.0, λ tells. was.1 (sym read.told ∙ tells));
+      replaced = λ q place bytes is there. w.replaced q place bytes is (framed_past place bytes there);
+      numbers_now = w.numbers_now;
+      numbers_before = w.numbers_before;
+      early = w.early;
+    }
 
 -- what isn't there when looked up isn't there
 pub not_there : {X : Type 0} (o : Option (Bor X)) → is_some o ≡ false → option_copied o ≡ None
 not_there None h = refl
 not_there (Some x) h = absurd (true≢false h)
+
+-- a page that was read and compared, and its refusal counted
+pub counted_in : {T : Type 0} (old mid new : PoolState) (n : ℕ) (result : Result T PageFault) → Compares old mid n result → new ≡ record mid { refused = refused_after mid.refused result } → ReadsIn old new n result
+counted_in {T = T} old mid new n result h is = subst (λ s. ReadsIn old s n result) (sym is) record {
+  read = record {
+    pages = h.read.pages;
+    beginning = h.read.beginning;
+    dirty = h.read.dirty;
+    freed = h.read.freed;
+    kept = h.read.kept;
+    top = h.read.top;
+    spare = h.read.spare;
+    told = h.read.told;
+    stored = h.read.stored;
+    frames = h.read.frames;
+    stamps = h.read.stamps;
+    live = h.read.live;
+    places = h.read.places;
+  };
+  gets = h.gets;
+  refused = ap (λ k. refused_after k result) h.refused;
+  cause = record { counted = h.cause.counted; damaged = damage_same result h.cause.damaged };
+  named = h.named;
+}
+  where
+    damage_same : (r : Result T PageFault) → IfErr r (IsDamageIfDamaged mid) → IfErr r (IsDamageIfDamaged (record mid { refused = refused_after mid.refused result }))
+    damage_same (Ok x) h = tt
+    damage_same (Err Memory) h = tt
+    damage_same (Err Device) h = tt
+    damage_same (Err (Damaged page kept read)) h = record { kept_is = h.kept_is; read_is = h.read_is; differ = h.differ; untold = h.untold }
+
+-- a refusal that is no damage needs no more than its count
+pub undamaged_cause : (s : PoolState) (fault : PageFault) → IsNoDamage fault → IsDamageIfDamaged s fault
+undamaged_cause s Memory h = tt
+undamaged_cause s Device h = tt
+undamaged_cause s (Damaged page kept read) h = absurd h

@@ -1,5 +1,5 @@
 -- An ordered map of std, seen as a finite map.
-use Rattle.std.proofs.Common.{◌≡◌, ◌≢◌, ℕ, List, [], ◌∷◌, Bool, true, false, cond, refl, sym, ap, ◌∙◌, Option, Some, None, is_some, eqb-true, ◌<◌, ◌+◌, ◌⊎◌, inl, inr, arith}
+use Rattle.std.proofs.Common.{◌≡◌, ◌-◌, ◌≤◌, ◌≢◌, ℕ, List, [], ◌∷◌, Bool, true, false, cond, refl, sym, ap, ◌∙◌, Option, Some, None, is_some, eqb-true, ◌<◌, ◌+◌, ◌⊎◌, inl, inr, arith}
 use mathlib.Core.Bool.{true≢false}
 use Rattle.std.specs.Ordering.{nat_cmp, is_eq, eq_by_cmp}
 use Rattle.std.specs.Cmp.{nat_cmp_total, eq_by_cmp_equiv, tied_itself, unsigned_tied}
@@ -100,23 +100,28 @@ undone m n o k item none put taken = same o m (λ q.
       | false ↦ λ _. refl
     ]) refl
 
--- fewer items are left where one is taken out
-pub fewer_left : {X : Type 0} (m n : map.FinMap nat_cmp X) (k : ℕ) → map.contains_key m k ≡ true → n ≡ map.remove m k → map.len n < map.len m
-fewer_left {X = X} m n k there left = by_item (map.get m k) refl there
+-- an item that is taken out was one
+pub len_without : {X : Type 0} (m : map.FinMap nat_cmp X) (k : ℕ) → map.contains_key m k ≡ true → map.len m ≡ map.len (map.remove m k) + 1
+len_without {X = X} m k there = by_item (map.get m k) refl there
   where
-    by_item : (o : Option X) → map.get m k ≡ o → map.contains_key m k ≡ true → map.len n < map.len m
+    by_item : (o : Option X) → map.get m k ≡ o → map.contains_key m k ≡ true → map.len m ≡ map.len (map.remove m k) + 1
     by_item None is h = absurd (true≢false (sym h ∙ ap is_some is))
     by_item (Some item) is h =
         let whole : m ≡ map.insert (map.remove m k) k item = same _ _ (λ q. sym (get-insert (map.remove m k) k item q ∙ ap (cond (eq_by_cmp nat_cmp q k) (Some item)) (get-remove m k q) ∙ by_tie item is q)) in
         let gone : map.contains_key (map.remove m k) k ≡ false = ap is_some (get-remove m k k) ∙ ap (λ b. is_some (cond b None (map.get m k))) (tie_itself k) in
-        let size : map.len m ≡ map.len (map.remove m k) + 1 = ap map.len whole ∙ map.len-insert nat_cmp_total (map.remove m k) k item ∙ ap (λ b. cond b (map.len (map.remove m k)) (map.len (map.remove m k) + 1)) gone in
-        let less : map.len n ≡ map.len (map.remove m k) = ap map.len left in omega arith
+        ap map.len whole ∙ map.len-insert nat_cmp_total (map.remove m k) k item ∙ ap (λ b. cond b (map.len (map.remove m k)) (map.len (map.remove m k) + 1)) gone
       where
         by_tie : (item : X) → map.get m k ≡ Some item → (q : ℕ) → cond (eq_by_cmp nat_cmp q k) (Some item) (cond (eq_by_cmp nat_cmp q k) None (map.get m q)) ≡ map.get m q
         by_tie item is q = (elim (eq_by_cmp nat_cmp q k) as (λ b. eq_by_cmp nat_cmp q k ≡ b → cond b (Some item) (cond b None (map.get m q)) ≡ map.get m q) [
           | true ↦ λ tie. sym (ap (map.get m) (tied q k tie) ∙ is)
           | false ↦ λ _. refl
         ]) refl
+
+-- so fewer are left
+pub fewer_left : {X : Type 0} (m n : map.FinMap nat_cmp X) (k : ℕ) → map.contains_key m k ≡ true → n ≡ map.remove m k → map.len n < map.len m
+fewer_left m n k there left =
+    let size = len_without m k there in
+    let less : map.len n ≡ map.len (map.remove m k) = ap map.len left in omega arith
 
 -- two maps with the same keys have the same after an insertion
 pub keys-insert : {X Y : Type 0} (m : map.FinMap nat_cmp X) (n : map.FinMap nat_cmp Y) (k : ℕ) (v : X) (w : Y) → ((q : ℕ) → map.contains_key m q ≡ map.contains_key n q)
@@ -133,6 +138,22 @@ keys-remove m n k is q =
     ∙ sym (ap is_some (get-remove n k q) ∙ none_or (eq_by_cmp nat_cmp q k) (map.get n q))
 
 -- what is found after a removal was found before
+-- an insertion adds at most one
+pub one_more : {X : Type 0} (m n : map.FinMap nat_cmp X) (k : ℕ) (item : X) → n ≡ map.insert m k item → map.len n ≤ map.len m + 1
+one_more m n k item put = by_key (map.contains_key m k) (ap map.len put ∙ map.len-insert nat_cmp_total m k item)
+  where
+    by_key : (b : Bool) → map.len n ≡ cond b (map.len m) (map.len m + 1) → map.len n ≤ map.len m + 1
+    by_key true is = omega arith
+    by_key false is = omega arith
+
+-- a removal leaves no more
+pub no_more_left : {X : Type 0} (m n : map.FinMap nat_cmp X) (k : ℕ) → n ≡ map.remove m k → map.len n ≤ map.len m
+no_more_left m n k left = by_key (map.contains_key m k) (ap map.len left ∙ map.len-remove nat_cmp_total m k)
+  where
+    by_key : (b : Bool) → map.len n ≡ cond b (map.len m - 1) (map.len m) → map.len n ≤ map.len m
+    by_key true is = omega arith
+    by_key false is = omega arith
+
 pub found-remove : {X : Type 0} (m : map.FinMap nat_cmp X) (k q : ℕ) (v : X) → map.get (map.remove m k) q ≡ Some v → map.get m q ≡ Some v
 found-remove m k q v found = by_tie (eq_by_cmp nat_cmp q k) (sym (get-remove m k q) ∙ found)
   where

@@ -1,13 +1,13 @@
 -- What the maps and sets of a pool answer, by its staged changes and what is stored.
-use Rattle.std.proofs.Common.{◌≡◌, ℕ, List, [], ◌∷◌, Bool, true, false, cond, not, ◌&&◌, ◌||◌, refl, sym, ap, ◌∙◌, Option, Some, None, is_some}
+use Rattle.std.proofs.Common.{◌≡◌, ℕ, List, [], ◌∷◌, Bool, true, false, cond, not, ◌&&◌, ◌||◌, refl, sym, ap, ◌∙◌, Option, Some, None}
 use Rattle.std.specs.Ordering.{nat_cmp, eq_by_cmp}
 use Rattle.std.specs.Cmp.{nat_cmp_total}
 use Rattle.std.specs.Option.{unwrap_or}
 use Rattle.std.specs.FinMap as map
 use Rattle.std.specs.FinMap.{find, nat_cmp-IsAntisymmetric}
 use Rattle.std.specs.FinSet as set
-use Rattle.page_pool.specs.Disk.{PageMap, DigestMap, NumberSet, DiskView}
-use Rattle.page_pool.specs.Inside.{ChangeMap, overlay, written, dropped, overlaid, dirty_of, freed_of, stored}
+use Rattle.page_pool.specs.Disk.{PageMap, NumberSet}
+use Rattle.page_pool.specs.Inside.{ChangeMap, overlay, written, dropped, overlaid, dirty_of, freed_of}
 pub use Rattle.page_pool.specs.Inside.{is_page}
 use Rattle.page_pool.proofs.Maps.{get-insert, get-remove}
 
@@ -65,11 +65,3 @@ contains-dirty changes q = contains-written (map.entries changes) q ∙ ap is_pa
 pub contains-freed : (changes : ChangeMap) (q : ℕ) → set.contains (freed_of changes) q ≡ is_gone (map.get changes q)
 unfolding freed_of
 contains-freed changes q = contains-dropped (map.entries changes) q ∙ ap is_gone (sym (map.get-entries changes q))
-
--- what is stored: the disk's page where it tells and a digest is kept, and else the digest
-pub get-stored : (disk : DiskView) (kept : DigestMap) (q : ℕ) → map.get (stored disk kept) q ≡ cond disk.told (cond (map.contains_key kept q) (map.get disk.pages q) None) (map.get kept q)
-unfolding stored
-get-stored disk kept q = elim disk.told as (λ b. map.get (cond b (map.retain_keys disk.pages (λ n. map.contains_key kept n)) kept) q ≡ cond b (cond (map.contains_key kept q) (map.get disk.pages q) None) (map.get kept q)) [
-  | true ↦ map.get-retain_keys disk.pages (λ n. map.contains_key kept n) q (λ x tie. ap is_some (map.get_tied nat_cmp_total kept q x tie))
-  | false ↦ refl
-]

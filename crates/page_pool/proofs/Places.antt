@@ -1,11 +1,12 @@
 -- A table of items by number, seen as a finite map.
-use Rattle.std.proofs.Common.{◌≡◌, ◌≤◌, ◌<◌, ℕ, suc, zero, ◌+◌, List, [], ◌∷◌, cond, refl, sym, ap, ◌∙◌, Option, Some, None, get_or, set, length, inl, inr, arith, Result, Ok, Err, OnErr}
+use Rattle.std.proofs.Common.{◌≡◌, ◌≤◌, ◌<◌, ℕ, suc, zero, ◌+◌, List, [], ◌∷◌, cond, false, refl, sym, ap, ◌∙◌, Option, Some, None, get_or, set, length, is_some, count_by, inl, inr, arith, Result, Ok, Err, OnErr}
 use Rattle.std.specs.Ordering.{nat_cmp, eq_by_cmp}
 use Rattle.std.specs.Cmp.{nat_cmp_total}
 use Rattle.std.specs.FinMap as map
 use Rattle.std.specs.FinMap.{find}
 use Rattle.std.proofs.lemmas.Bool.{cases_eq}
 use Rattle.std.proofs.lemmas.List.{get_or-set_same, get_or-set_other, get_or_past}
+use Rattle.std.proofs.lemmas.List.Sums.{sum_by-cons}
 use Rattle.page_pool.specs.Inside.{entries_from, items_in}
 use Rattle.page_pool.proofs.Maps.{same, get-insert, get-remove, tie_itself, tie_apart}
 
@@ -68,6 +69,21 @@ items-past places n above = same _ _ (λ q. at q ∙ sym (get-remove (items_in p
       | inl one ↦ ap (map.get (items_in places)) one ∙ past places n above ∙ sym (ap (λ b. cond b None (map.get (items_in places) q)) (ap (λ k. eq_by_cmp nat_cmp k n) one ∙ tie_itself n))
       | inr apart ↦ sym (ap (λ b. cond b None (map.get (items_in places) q)) (tie_apart q n apart))
     ]
+
+-- the items in a table are as many as the places that aren't empty
+as_many : {X : Type 0} (n : ℕ) (places : List (Option X)) → map.len {R = nat_cmp} (map.from_entries (entries_from n places)) ≡ count_by (λ place. is_some place) places
+as_many {X = X} n [] = map.len-empty nat_cmp X
+as_many n (None ∷ places) = let rest = as_many (suc n) places in let more : count_by (λ place. is_some place) (None ∷ places) ≡ 0 + count_by (λ place. is_some place) places = sum_by-cons (λ place. cond (is_some place) 1 0) None places in omega arith
+as_many {X = X} n (Some item ∷ places) =
+    let rest = as_many (suc n) places in
+    let others : map.FinMap nat_cmp X = map.from_entries (entries_from (suc n) places) in
+    let new : map.contains_key others n ≡ false = ap is_some (map.get-from_entries nat_cmp_total (entries_from (suc n) places) n ∙ below (suc n) n places (omega arith)) in
+    let size : map.len (map.insert others n item) ≡ map.len others + 1 = map.len-insert nat_cmp_total others n item ∙ ap (λ b. cond b (map.len others) (map.len others + 1)) new in
+    let more : count_by (λ place. is_some place) (Some item ∷ places) ≡ 1 + count_by (λ place. is_some place) places = sum_by-cons (λ place. cond (is_some place) 1 0) (Some item) places in omega arith
+
+pub counted_items : {X : Type 0} (places : List (Option X)) → count_by (λ place. is_some place) places ≡ map.len (items_in places)
+unfolding items_in
+counted_items places = sym (as_many 0 places)
 
 -- what holds, holds on a refusal
 pub on_err : {T E P : Type 0} (r : Result T E) → P → OnErr r P

@@ -25,6 +25,13 @@ abbrev pub faults_after : {T : Type 0} → ℕ → Result T PageFault → ℕ
 faults_after before (Ok _) = before
 faults_after before (Err fault) = faults_at before fault
 
+-- the count of refused gets after a get: one more where the disk failed or the page is damaged
+abbrev pub refused_after : {T : Type 0} → ℕ → Result T PageFault → ℕ
+refused_after before (Ok _) = before
+refused_after before (Err Memory) = before
+refused_after before (Err Device) = next_count before
+refused_after before (Err (Damaged page kept read)) = next_count before
+
 -- a page is damaged only where the digest kept for it differs from that of the page that the disk gave last, and the disk doesn't tell
 pub record IsDamage (s : PoolState) (page : ℕ) (kept read : List ℕ) : Type 0 where
   pub kept_is : map.get s.kept page ≡ Some kept

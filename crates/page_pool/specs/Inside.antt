@@ -1,18 +1,21 @@
 -- How a pool's parts make up what contracts see of it. (For proofs; no clause above speaks of it.)
-use Rattle.std.specs.Prelude.{◌≡◌, ℕ, suc, ◌+◌, ◌-◌, ◌^◌, ◌≤◌, List, [], ◌∷◌, length, slice_get, Bool, true, false, cond, ◌||◌, nat_eq, nat_lt, IsTrue, Option, None, Some, is_some, Result, IfErr, ◌⊎◌, ⊤, refl}
+use Rattle.std.specs.Prelude.{◌≡◌, ℕ, zero, suc, ◌+◌, ◌-◌, ◌^◌, ◌≤◌, ◌<◌, List, [], ◌∷◌, length, slice_get, Bool, true, false, cond, ◌||◌, nat_eq, nat_lt, IsTrue, Option, None, Some, is_some, Result, IfErr, ◌⊎◌, ⊤, refl}
 use Rattle.std.specs.FinMap as map
 use Rattle.std.specs.FinSet as set
 use Rattle.std.specs.BTreeSet as tree
 use Rattle.std.specs.BTreeSet.{BTreeSet}
+use Rattle.std.specs.Option.{option_map}
 use Rattle.std.specs.Ordering.{nat_cmp}
 use Rattle.std.specs.Coded.{Coded, code_by, coded×, coded_ℕ, coded_list, coded_option, coded_bool}
 use Rattle.sha2.specs.Sha256.{sha256}
 use Rattle.lru.specs.LruCache.{LruCache}
 use Rattle.page_pool.specs.Disk.{PageMap, DigestMap, NumberSet, DiskView}
 use Rattle.page_pool.specs.declared.fault.PageFault.{PageFault}
-use Rattle.page_pool.specs.Pool.{PoolState}
-use Rattle.page_pool.specs.Causes.{HasPageCause, Names}
+use Rattle.page_pool.specs.Pool.{PoolState, Shown, StampMap}
+use Rattle.page_pool.specs.Causes.{HasPageCause, Names, refused_after}
 use Rattle.page_pool.specs.Reads.{IsRead}
+use Rattle.page_pool.specs.Archive.{ImageMap, ArchiveState, IsArchive, IsFrozen, StandsWritten}
+use Rattle.page_pool.specs.InsideArchive.{collected}
 
 -- what the open command, or those since the last writing, did to each page: its bytes, or None where it was freed
 abbrev pub ChangeMap : Type 0
@@ -44,6 +47,21 @@ pub record FramesState : Type 0 where
   pub count : ℕ
   pub most : ℕ
 
+-- the newest images that are in frames by the numbers of their pages, the replaced ones by their places, how many they are, and how many they may be
+pub record CacheState : Type 0 where
+  pub newest : PageMap
+  pub past : PageMap
+  pub count : ℕ
+  pub most : ℕ
+
+-- the frames of newest images and those of replaced ones, together
+abbrev pub cache_of : FramesState → FramesState → CacheState
+cache_of newest past = record { newest = newest.pages; past = past.pages; count = newest.count + past.count; most = newest.most }
+
+-- together they are no more than there may be, which is a number of 32 bits
+abbrev pub FitTogether : FramesState → FramesState → Type 0
+FitTogether newest past = (newest.count + past.count ≤ newest.most) × (newest.most < 2 ^ 32)
+
 -- the places in a queue
 abbrev pub queued : LruCache ℕ ⊤ → map.FinMap nat_cmp ⊤
 queued queue = map.from_entries queue.entries
@@ -60,25 +78,37 @@ pub record NumbersState : Type 0 where
   pub past_top : ℕ
   pub past_spare : NumberSet
 
+-- pages, by their numbers
 abbrev pub page_map_code : Coded PageMap
 page_map_code = map.code coded_ℕ (coded_list coded_ℕ)
 
+-- a set of numbers, by its list
 abbrev pub number_set_code : Coded NumberSet
 number_set_code = set.code coded_ℕ
 
+-- a disk, by whether it tells, its pages, the page that it gave last and its count of faults
 abbrev pub disk_code : Coded DiskView
 disk_code = code_by (Bool × (PageMap × (List ℕ × ℕ))) (coded× coded_bool (coded× page_map_code (coded× (coded_list coded_ℕ) coded_ℕ)))
     (λ d. (d.told, (d.pages, (d.given, d.faults)))) (λ p. record { told = p.0; pages = p.1.0; given = p.1.1.0; faults = p.1.1.1 }) (λ _. refl)
 
+-- changes, by the numbers of their pages
 abbrev pub change_map_code : Coded ChangeMap
 change_map_code = map.code coded_ℕ (coded_option (coded_list coded_ℕ))
 
+-- staged changes, and how many are pages
 abbrev pub staged_code : Coded StagedState
 staged_code = code_by (ChangeMap × ℕ) (coded× change_map_code coded_ℕ) (λ s. (s.changes, s.count)) (λ p. record { changes = p.0; count = p.1 }) (λ _. refl)
 
+-- pages in frames, how many they are and may be
 abbrev pub frames_code : Coded FramesState
 frames_code = code_by (PageMap × (ℕ × ℕ)) (coded× page_map_code (coded× coded_ℕ coded_ℕ)) (λ s. (s.pages, (s.count, s.most))) (λ p. record { pages = p.0; count = p.1.0; most = p.1.1 }) (λ _. refl)
 
+-- newest images and replaced ones in frames, how many they are and may be
+abbrev pub cache_code : Coded CacheState
+cache_code = code_by (PageMap × (PageMap × (ℕ × ℕ))) (coded× page_map_code (coded× page_map_code (coded× coded_ℕ coded_ℕ)))
+    (λ s. (s.newest, (s.past, (s.count, s.most)))) (λ p. record { newest = p.0; past = p.1.0; count = p.1.1.0; most = p.1.1.1 }) (λ _. refl)
+
+-- the number that is given next, then those given and free, now and at the command's beginning
 abbrev pub numbers_code : Coded NumbersState
 numbers_code = code_by (Option ℕ × (ℕ × (NumberSet × (ℕ × NumberSet)))) (coded× (coded_option coded_ℕ) (coded× coded_ℕ (coded× number_set_code (coded× coded_ℕ number_set_code))))
     (λ s. (s.next, (s.top, (s.spare, (s.past_top, s.past_spare))))) (λ p. record { next = p.0; top = p.1.0; spare = p.1.1.0; past_top = p.1.1.1.0; past_spare = p.1.1.1.1 }) (λ _. refl)
@@ -110,6 +140,15 @@ IsUnstaged s n = (set.contains s.dirty n ≡ false) × (set.contains s.freed n �
 pub record ReadsIn {T : Type 0} (old new : PoolState) (n : ℕ) (result : Result T PageFault) : Type 0 where
   pub read : IsRead old new
   pub gets : new.gets ≡ old.gets
+  pub refused : new.refused ≡ refused_after old.refused result
+  pub cause : HasPageCause old new result
+  pub named : IfErr result (Names n)
+
+-- Page n is read and compared, whatever the answer, and nothing is counted: nothing else changes, and a refusal has its cause in this call and names this page.
+pub record Compares {T : Type 0} (old new : PoolState) (n : ℕ) (result : Result T PageFault) : Type 0 where
+  pub read : IsRead old new
+  pub gets : new.gets ≡ old.gets
+  pub refused : new.refused ≡ old.refused
   pub cause : HasPageCause old new result
   pub named : IfErr result (Names n)
 
@@ -117,23 +156,39 @@ pub record ReadsIn {T : Type 0} (old new : PoolState) (n : ℕ) (result : Result
 abbrev pub is_used : ChangeMap → DigestMap → ℕ → Bool
 is_used changes kept n = map.contains_key changes n || map.contains_key kept n
 
+-- a map, by its pages, its dirty ones and its digests
+abbrev pub shown_code : Coded Shown
+shown_code = code_by (PageMap × (NumberSet × DigestMap)) (coded× page_map_code (coded× number_set_code page_map_code))
+    (λ s. (s.pages, (s.dirty, s.kept))) (λ p. record { pages = p.0; dirty = p.1.0; kept = p.1.1 }) (λ _. refl)
+
+-- the maps of held stamps, by the numbers of these
+abbrev pub stamp_map_code : Coded StampMap
+stamp_map_code = map.code coded_ℕ shown_code
+
+-- a pool's map that is shown and what comes of it, then its numbers and its disk, then its counts, then its maps that are kept
 abbrev pub pool_code : Coded PoolState
 pool_code = code_by
-    (PageMap × (Option PageMap × (NumberSet × (NumberSet × (DigestMap × (ℕ × (NumberSet × (DiskView × (ℕ × (ℕ × ℕ))))))))))
-    (coded× page_map_code (coded× (coded_option page_map_code) (coded× number_set_code (coded× number_set_code (coded× page_map_code (coded× coded_ℕ (coded× number_set_code (coded× disk_code (coded× coded_ℕ (coded× coded_ℕ coded_ℕ))))))))))
-    (λ s. (s.pages, (s.beginning, (s.dirty, (s.freed, (s.kept, (s.top, (s.spare, (s.disk, (s.frames, (s.held, s.gets)))))))))))
+    ((PageMap × (Option PageMap × (NumberSet × (NumberSet × DigestMap)))) × ((ℕ × (NumberSet × DiskView)) × ((ℕ × (ℕ × (ℕ × ℕ))) × (StampMap × (Option Shown × ℕ)))))
+    (coded× (coded× page_map_code (coded× (coded_option page_map_code) (coded× number_set_code (coded× number_set_code page_map_code))))
+    (coded× (coded× coded_ℕ (coded× number_set_code disk_code))
+    (coded× (coded× coded_ℕ (coded× coded_ℕ (coded× coded_ℕ coded_ℕ))) (coded× stamp_map_code (coded× (coded_option shown_code) coded_ℕ)))))
+    (λ s. ((s.pages, (s.beginning, (s.dirty, (s.freed, s.kept)))), ((s.top, (s.spare, s.disk)), ((s.frames, (s.held, (s.gets, s.refused))), (s.stamps, (s.live, s.places))))))
     (λ p. record {
-      pages = p.0;
-      beginning = p.1.0;
-      dirty = p.1.1.0;
-      freed = p.1.1.1.0;
-      kept = p.1.1.1.1.0;
-      top = p.1.1.1.1.1.0;
-      spare = p.1.1.1.1.1.1.0;
-      disk = p.1.1.1.1.1.1.1.0;
-      frames = p.1.1.1.1.1.1.1.1.0;
-      held = p.1.1.1.1.1.1.1.1.1.0;
-      gets = p.1.1.1.1.1.1.1.1.1.1;
+      pages = p.0.0;
+      beginning = p.0.1.0;
+      dirty = p.0.1.1.0;
+      freed = p.0.1.1.1.0;
+      kept = p.0.1.1.1.1;
+      top = p.1.0.0;
+      spare = p.1.0.1.0;
+      disk = p.1.0.1.1;
+      frames = p.1.1.0.0;
+      held = p.1.1.0.1.0;
+      gets = p.1.1.0.1.1.0;
+      refused = p.1.1.0.1.1.1;
+      stamps = p.1.1.1.0;
+      live = p.1.1.1.1.0;
+      places = p.1.1.1.1.1;
     })
     (λ _. refl)
 
@@ -155,17 +210,15 @@ dropped [] = set.empty
 dropped ((n, None) ∷ changes) = set.insert (dropped changes) n
 dropped ((n, Some page) ∷ changes) = set.remove (dropped changes) n
 
--- the pages that the disk has: those with a kept digest, or the digests themselves where it doesn't tell
-unfoldable pub stored : DiskView → DigestMap → PageMap
-stored disk kept = cond disk.told (map.retain_keys disk.pages (λ n. map.contains_key kept n)) kept
-
--- the live pages, the dirty ones and the freed numbers of a map of changes
+-- the live pages of a map of changes over those that are stored
 unfoldable pub overlaid : ChangeMap → PageMap → PageMap
 overlaid changes pages = overlay (map.entries changes) pages
 
+-- the numbers of the pages among the changes
 unfoldable pub dirty_of : ChangeMap → NumberSet
 dirty_of changes = written (map.entries changes)
 
+-- the numbers that the changes freed
 unfoldable pub freed_of : ChangeMap → NumberSet
 freed_of changes = dropped (map.entries changes)
 
@@ -177,28 +230,67 @@ staged_of changes = record { changes = changes; count = set.len (dirty_of change
 abbrev pub HasNumbersOf : ChangeMap → BTreeSet ℕ → Type 0
 HasNumbersOf changes numbers = (n : ℕ) → tree.contains nat_cmp numbers n ≡ map.contains_key changes n
 
+-- the map of a stamp: its images, and what is staged upon them if no command began since it was taken
+abbrev pub shown_images : ℕ → ChangeMap → ImageMap → Shown
+shown_images begun changes f = cond (nat_lt f.at begun)
+    (record { pages = f.pages; dirty = set.empty; kept = f.kept })
+    (record { pages = overlaid changes f.pages; dirty = dirty_of changes; kept = f.kept })
+
+-- the map of the stamp in a slot
+abbrev pub shown_slot : ArchiveState → ChangeMap → ℕ → Option Shown
+shown_slot archive changes id = option_map (shown_images archive.begun changes) (map.get archive.stamps id)
+
+-- the maps of the held stamps
+unfoldable pub shown_stamps : ArchiveState → ChangeMap → StampMap
+shown_stamps archive changes = collected (shown_slot archive changes) (map.keys archive.stamps)
+
+-- the pages with a staged change whose newest image a stamp of an earlier command sees
+abbrev pub staged_shared : NumberSet → ChangeMap → NumberSet
+staged_shared shared changes = set.retain shared (λ n. map.contains_key changes n)
+
+-- how many of the numbers from 1 on pass the test
+abbrev pub count_upto : (ℕ → Bool) → ℕ → ℕ
+count_upto test zero = 0
+count_upto test (suc n) = count_upto test n + cond (test (suc n)) 1 0
+
+-- how many images are kept: those of the live map, the replaced ones that stamps see, and those that are about to be replaced
+abbrev pub place_count : ArchiveState → ChangeMap → ℕ
+place_count archive changes = map.len (overlaid changes archive.pages) + (archive.seen + set.len (staged_shared archive.shared changes))
+
 -- what contracts see of a pool's parts
-abbrev pub state_of : DiskView → DigestMap → StagedState → FramesState → NumbersState → Bool → ℕ → PoolState
-state_of disk kept staged frames numbers is_open gets = record {
-  pages = overlaid staged.changes (stored disk kept);
-  beginning = cond is_open (Some (stored disk kept)) None;
+abbrev pub state_of : ArchiveState → StagedState → CacheState → NumbersState → Bool → ℕ → ℕ → PoolState
+state_of archive staged frames numbers is_open gets refused = record {
+  pages = overlaid staged.changes archive.pages;
+  beginning = cond is_open (Some archive.pages) None;
   dirty = dirty_of staged.changes;
   freed = freed_of staged.changes;
-  kept = kept;
+  kept = archive.kept;
   top = numbers.top;
   spare = numbers.spare;
-  disk = disk;
+  disk = archive.disk;
   frames = frames.most;
   held = frames.count + staged.count;
   gets = gets;
+  refused = refused;
+  stamps = shown_stamps archive staged.changes;
+  live = None;
+  places = place_count archive staged.changes;
 }
 
--- What holds of a pool's parts. A kept digest is that of the disk's page, unless the page waits to be written and no command is open, since a failed writing may have spoiled it.
--- A clean page has the kept digest, and is the disk's. No number is lost, now and at the beginning of the open command.
-pub record IsWhole (disk : DiskView) (kept : DigestMap) (changes : ChangeMap) (frames : FramesState) (numbers : NumbersState) (is_open : Bool) : Type 0 where
-  pub stands : IsTrue disk.told → (n : ℕ) (digest : List ℕ) → map.get kept n ≡ Some digest → (is_open ≡ false → map.get changes n ≡ None)
-      → (page : List ℕ) × ((map.get disk.pages n ≡ Some page) × (digest ≡ sha256 page))
-  pub digested : (n : ℕ) (page : List ℕ) → map.get frames.pages n ≡ Some page → map.get kept n ≡ Some (sha256 page)
-  pub same : IsTrue disk.told → (n : ℕ) (page : List ℕ) → map.get frames.pages n ≡ Some page → map.get disk.pages n ≡ Some page
-  pub numbers_now : IsAccount (is_used changes kept) numbers.top numbers.spare
-  pub numbers_before : is_open ≡ true → IsAccount (λ n. map.contains_key kept n) numbers.past_top numbers.past_spare
+-- these bytes are page n of these images: they have its digest, and where the disk tells they are its bytes
+abbrev pub IsImageOf : Bool → PageMap → DigestMap → ℕ → List ℕ → Type 0
+IsImageOf told pages kept n page = (map.get kept n ≡ Some (sha256 page)) × (IsTrue told → map.get pages n ≡ Some page)
+
+-- What holds of a pool's parts. Each newest image stands on the disk, unless its page waits to be written and no command is open, since a failed writing may have spoiled it.
+-- A page in a frame is the newest image of its number, or the replaced one that stamps of earlier commands see at its place, where no newest image lies.
+-- No number is lost, now and at the beginning of the open command, which began after each stamp was taken.
+pub record IsWhole (archive : ArchiveState) (changes : ChangeMap) (frames : CacheState) (numbers : NumbersState) (is_open : Bool) : Type 0 where
+  pub archived : IsArchive archive
+  pub stands : (n : ℕ) → (is_open ≡ false → map.get changes n ≡ None) → StandsWritten archive.disk.told archive.pages archive.kept n
+  pub newest : (n : ℕ) (page : List ℕ) → map.get frames.newest n ≡ Some page → IsImageOf archive.disk.told archive.pages archive.kept n page
+  pub past : (id : ℕ) (f : ImageMap) → IsFrozen archive id f → (n place : ℕ) (page : List ℕ) → map.get f.places n ≡ Some place → map.get frames.past place ≡ Some page
+      → IsImageOf archive.disk.told f.pages f.kept n page
+  pub replaced : (n place : ℕ) (page : List ℕ) → map.get archive.places n ≡ Some place → map.get frames.past place ≡ Some page → ⊥
+  pub numbers_now : IsAccount (is_used changes archive.kept) numbers.top numbers.spare
+  pub numbers_before : is_open ≡ true → IsAccount (λ n. map.contains_key archive.kept n) numbers.past_top numbers.past_spare
+  pub early : is_open ≡ true → (id : ℕ) (f : ImageMap) → map.get archive.stamps id ≡ Some f → f.at < archive.begun

@@ -4,7 +4,12 @@ pub mod Causes
 pub mod Reads
 pub mod Commands
 pub mod Steps
+pub mod Stamps
 pub mod Desk
 pub mod MemDisk
 pub mod Inside
+pub mod Readers
+pub mod Images
+pub mod Archive
+pub mod InsideArchive
 pub mod Codes

@@ -1,25 +1,43 @@
 -- How the calls of a caller that is lent pages add up.
-use Rattle.std.specs.Prelude.{◌≡◌, Result, Ok, Err, refl}
-use Rattle.std.proofs.Common.{◌∙◌, ap}
+use Rattle.std.specs.Prelude.{◌≡◌, Option, None, Some, IsNone, Result, Ok, Err, refl}
+use Rattle.std.proofs.Common.{◌∙◌, ap, sym, subst, true≢false}
+use Rattle.std.specs.Option.{option_map_or}
 use Rattle.page_pool.specs.declared.fault.PageFault.{PageFault}
 use Rattle.page_pool.specs.declared.fault.PageFault.TheVariants.{Memory}
 use Rattle.page_pool.specs.Disk.{PageMap, NumberSet}
-use Rattle.page_pool.specs.Pool.{PoolState}
+use Rattle.page_pool.specs.Pool.{PoolState, Shown, IsClosed, live_again, back}
 use Rattle.page_pool.specs.Causes.{HasPageCause, faults_after}
 use Rattle.page_pool.specs.Reads.{IsRead}
 use Rattle.page_pool.specs.Commands.{Changes}
 
--- What neither reading nor changing pages in an open command changes: the command's beginning, the kept digests, whether the disk tells and its pages, the frames.
+-- What neither reading nor changing pages in an open command changes: the command's beginning, the kept digests, whether the disk tells and its pages,
+-- the frames, the maps of the held stamps, and which map is shown.
 pub record InCommand (old new : PoolState) : Type 0 where
   pub beginning : new.beginning ≡ old.beginning
   pub kept : new.kept ≡ old.kept
   pub told : new.disk.told ≡ old.disk.told
   pub stored : new.disk.pages ≡ old.disk.pages
   pub frames : new.frames ≡ old.frames
+  pub stamps : new.stamps ≡ old.stamps
+  pub live : new.live ≡ old.live
 
 -- no call at all
 pub IsRead-refl : (s : PoolState) → IsRead s s
-IsRead-refl s = record { pages = refl; beginning = refl; dirty = refl; freed = refl; kept = refl; top = refl; spare = refl; told = refl; stored = refl; frames = refl }
+IsRead-refl s = record {
+  pages = refl;
+  beginning = refl;
+  dirty = refl;
+  freed = refl;
+  kept = refl;
+  top = refl;
+  spare = refl;
+  told = refl;
+  stored = refl;
+  frames = refl;
+  stamps = refl;
+  live = refl;
+  places = refl;
+}
 
 -- two readings are one
 pub IsRead-trans : (a b c : PoolState) → IsRead a b → IsRead b c → IsRead a c
@@ -34,11 +52,16 @@ IsRead-trans a b c h k = record {
   told = k.told ∙ h.told;
   stored = k.stored ∙ h.stored;
   frames = k.frames ∙ h.frames;
+  stamps = k.stamps ∙ h.stamps;
+  live = k.live ∙ h.live;
+  places = k.places ∙ h.places;
 }
 
+-- no call changes nothing within a command
 pub InCommand-refl : (s : PoolState) → InCommand s s
-InCommand-refl s = record { beginning = refl; kept = refl; told = refl; stored = refl; frames = refl }
+InCommand-refl s = record { beginning = refl; kept = refl; told = refl; stored = refl; frames = refl; stamps = refl; live = refl }
 
+-- two calls within a command are one
 pub InCommand-trans : (a b c : PoolState) → InCommand a b → InCommand b c → InCommand a c
 InCommand-trans a b c h k = record {
   beginning = k.beginning ∙ h.beginning;
@@ -46,11 +69,13 @@ InCommand-trans a b c h k = record {
   told = k.told ∙ h.told;
   stored = k.stored ∙ h.stored;
   frames = k.frames ∙ h.frames;
+  stamps = k.stamps ∙ h.stamps;
+  live = k.live ∙ h.live;
 }
 
 -- a reading is within a command
 pub InCommand-read : (a b : PoolState) → IsRead a b → InCommand a b
-InCommand-read a b h = record { beginning = h.beginning; kept = h.kept; told = h.told; stored = h.stored; frames = h.frames }
+InCommand-read a b h = record { beginning = h.beginning; kept = h.kept; told = h.told; stored = h.stored; frames = h.frames; stamps = h.stamps; live = h.live }
 
 -- so is a change
 pub InCommand-changes : (a b : PoolState) (live : PageMap) (unwritten : NumberSet) → Changes a b live unwritten → InCommand a b
@@ -60,7 +85,21 @@ InCommand-changes a b live unwritten h = record {
   told = ap (λ d. d.told) h.keeps.disk;
   stored = ap (λ d. d.pages) h.keeps.disk;
   frames = h.keeps.frames;
+  stamps = h.keeps.stamps;
+  live = h.keeps.live;
 }
+
+-- a pool that was read is closed as before
+pub IsClosed-read : (a b : PoolState) → IsRead a b → IsClosed a → IsClosed b
+IsClosed-read a b h closed = (subst IsNone (sym h.beginning) closed.0, subst IsNone (sym h.live) closed.1)
+
+-- a pool that shows its live map is as it is
+pub back-live : (s : PoolState) → IsNone s.live → back s ≡ s
+back-live s none = by_live s.live none
+  where
+    by_live : (o : Option Shown) → IsNone o → option_map_or (live_again s) o s ≡ s
+    by_live None h = refl
+    by_live (Some live) h = absurd (true≢false h)
 
 -- what came before a refused call was accepted, and counted no fault
 pub HasPageCause-before : {T : Type 0} (a b c : PoolState) (result : Result T PageFault) → b.disk.faults ≡ a.disk.faults → HasPageCause b c result → HasPageCause a c result

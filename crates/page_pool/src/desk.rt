@@ -1,10 +1,11 @@
-ghost use Rattle.std.specs.Prelude.{◌≡◌, [], ◌∷◌, ◌++◌, OnOk, OnErr};
+ghost use Rattle.std.specs.Prelude.{◌≡◌, [], ◌∷◌, ◌++◌, IsTrue, OnOk, OnErr};
 ghost use Rattle.std.specs.Borrow.{sem, Lends};
-ghost use Rattle.page_pool.specs.Pool.{IsClosed};
+ghost use Rattle.page_pool.specs.Pool.{IsClosed, back, seen_at};
+ghost use Rattle.std.specs.FinMap as map;
 ghost use Rattle.page_pool.specs.contracts.desk.Desk.{the_row};
-ghost use Rattle.page_pool.specs.contracts.pool.Pool.{the_row as pool_row};
+ghost use Rattle.page_pool.specs.contracts.reader.PoolReader.{the_row as reader_row};
 
-use crate::{Disk, PageFault, Pages, Pool};
+use crate::{Disk, PageFault, Pages, Pool, PoolReader, Stamp};
 use sand_base::{NoMemory, Visit, VisitLog};
 use std::alloc::Global;
 use std::marker::Model;
@@ -13,7 +14,7 @@ use std::mem;
 /// The pages of a pool, lent for reading, with a log of the visits that their reader notes.
 #[derive(Drop)]
 pub struct Desk<D: Disk> {
-    pool: Pool<D>,
+    reader: PoolReader<D>,
     log: VisitLog,
     alloc: Global,
 }
@@ -27,7 +28,7 @@ impl<D: Disk> Model for Desk<D> {
 
     ghost coded = { Prim.hlevel (codes, pool_code) };
 
-    ghost view = { λ a. record { pool = a.pool; visits = a.log } };
+    ghost view = { λ a. record { pool = a.reader; visits = a.log } };
 }
 
 impl<D: Disk> Desk<D> {
@@ -37,7 +38,20 @@ impl<D: Disk> Desk<D> {
         ensures { result ≡ record { pool = pool; visits = [] } }
     {
         Desk {
-            pool,
+            reader: PoolReader::over(pool),
+            log: VisitLog::new(alloc),
+            alloc,
+        }
+    }
+
+    /// The pages of the stamp's map, with no visits. It takes no memory.
+    pub fn at(alloc: Global, pool: Pool<D>, stamp: &Stamp) -> Desk<D>
+        requires closed { IsClosed pool }
+        requires held { IsTrue (map.contains_key pool.stamps stamp.now) }
+        ensures { result ≡ record { pool = seen_at pool stamp.now; visits = [] } }
+    {
+        Desk {
+            reader: PoolReader::at(pool, stamp),
             log: VisitLog::new(alloc),
             alloc,
         }
@@ -59,24 +73,25 @@ impl<D: Disk> Desk<D> {
         mem::replace(&mut self.log, VisitLog::new(self.alloc))
     }
 
-    /// The pages alone, for a reader that notes its visits itself: the log stays.
-    pub fn pages(&mut self) -> &mut Pool<D>
+    /// The pages alone, for a reader that notes its visits itself: the log stays. They are lent for reading, so that
+    /// nothing is changed beside a desk.
+    pub fn pages(&mut self) -> &mut PoolReader<D>
         ensures pool { result.now ≡ self.old.pool }
-        ensures* log { sem 𝓛 (Lends (the_row D.row D.Disk) (pool_row D.row D.Disk) self.entry result (λ pool. record self.old { pool = pool })) }
+        ensures* log { sem 𝓛 (Lends (the_row D.row D.Disk) (reader_row D.row D.Disk) self.entry result (λ pool. record self.old { pool = pool })) }
     {
-        &mut self.pool
+        &mut self.reader
     }
 
-    /// The pool.
+    /// The pool, which shows its live pages again.
     pub fn close(self) -> Pool<D>
-        ensures { result ≡ self.pool }
+        ensures { result ≡ back self.pool }
     {
         let Desk {
-            pool,
+            reader,
             log: _,
             alloc: _,
         } = self;
-        pool
+        reader.into_pool()
     }
 }
 
@@ -85,19 +100,19 @@ impl<D: Disk> Pages for Desk<D> {
 
     #[inline]
     fn page(&mut self, n: u64) -> Result<&[u8; 4096], PageFault> {
-        self.pool.page(n)
+        self.reader.page(n)
     }
 
     #[inline]
     fn live_page(&mut self, n: u64) -> Result<&[u8; 4096], PageFault> {
-        self.pool.live_page(n)
+        self.reader.live_page(n)
     }
 
     fn is_live(&self, n: u64) -> bool {
-        self.pool.is_live(n)
+        self.reader.is_live(n)
     }
 
     fn gets(&self) -> u64 {
-        self.pool.gets()
+        self.reader.gets()
     }
 }

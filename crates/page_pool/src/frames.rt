@@ -1,4 +1,4 @@
-ghost use Rattle.std.specs.Prelude.{◌≡◌, ◌<◌, ◌≤◌, ◌^◌, ◌⊎◌, ℕ, List, Some, OnOk, IfOk, IfSome, IfNone, IsTrue};
+ghost use Rattle.std.specs.Prelude.{◌≡◌, ◌<◌, ◌≤◌, ◌+◌, ◌^◌, ◌⊎◌, ℕ, List, Some, OnOk, IfOk, IfSome, IfNone, IsTrue};
 ghost use Rattle.std.specs.FinMap as map;
 ghost use Rattle.std.specs.Option.{option_copied};
 ghost use Rattle.page_pool.specs.Inside.{queued};
@@ -80,6 +80,7 @@ impl Frames {
         ensures sound { (q : ℕ) (bytes : List ℕ) → map.get self.new.pages q ≡ Some bytes
             → ((q ≡ place) × (bytes ≡ page)) ⊎ (map.get self.old.pages q ≡ Some bytes) }
         ensures added { OnOk result (map.get self.new.pages place ≡ Some page) }
+        ensures count { self.new.count ≤ self.old.count + 1 }
         ensures most { self.new.most ≡ self.old.most }
     {
         self.make_room();
@@ -98,11 +99,22 @@ impl Frames {
     fn make_room(&mut self)
         ensures sound { (q : ℕ) (bytes : List ℕ) → map.get self.new.pages q ≡ Some bytes → map.get self.old.pages q ≡ Some bytes }
         ensures room { self.new.count < self.new.most }
+        ensures count { self.new.count ≤ self.old.count }
         ensures most { self.new.most ≡ self.old.most }
     {
         if self.queue.len() < self.queue.cap().get() {
             return;
         }
+        self.drop_last();
+    }
+
+    // Lets the page go that was queued longest ago, where one is there.
+    pub(crate) fn drop_last(&mut self)
+        ensures sound { (q : ℕ) (bytes : List ℕ) → map.get self.new.pages q ≡ Some bytes → map.get self.old.pages q ≡ Some bytes }
+        ensures fewer { 0 < self.old.count → self.new.count < self.old.count }
+        ensures count { self.new.count ≤ self.old.count }
+        ensures most { self.new.most ≡ self.old.most }
+    {
         queue_used(&self.table, &mut self.queue);
         if let Some(place) = self.last() {
             self.forget(place);
@@ -121,26 +133,24 @@ impl Frames {
         }
     }
 
-    // Keeps a page that was written, where memory is left.
-    pub(crate) fn keep(&mut self, place: u64, change: Option<Option<Page>>)
-        ensures sound { (q : ℕ) (bytes : List ℕ) → map.get self.new.pages q ≡ Some bytes
-            → ((q ≡ place) × (change ≡ Some (Some bytes))) ⊎ (map.get self.old.pages q ≡ Some bytes) }
-        ensures most { self.new.most ≡ self.old.most }
-    {
-        if let Some(Some(page)) = change {
-            let _ = self.put(place, page);
-        }
-    }
-
     // Lets the page go.
     pub(crate) fn forget(&mut self, place: u64)
         ensures pages { self.new.pages ≡ map.remove self.old.pages place }
         ensures fewer { IsTrue (map.contains_key self.old.pages place) → self.new.count < self.old.count }
+        ensures count { self.new.count ≤ self.old.count }
         ensures most { self.new.most ≡ self.old.most }
     {
         let _count = self.queue.len(); // (its contract says that the places differ)
         self.queue.pop(&place);
         self.table.take(place);
+    }
+
+    // How many pages may be there.
+    pub(crate) fn most(&self) -> usize
+        ensures most { result ≡ self.now.most }
+        ensures positive { 0 < result }
+    {
+        self.queue.cap().get()
     }
 
     // How many pages are there.

@@ -48,6 +48,13 @@ impl Numbers {
         }
     }
 
+    // The greatest number given so far.
+    pub(crate) fn top(&self) -> u64
+        ensures { result ≡ self.now.top }
+    {
+        self.top
+    }
+
     // The number that `take` gives: a freed one where one waits, and else the next above all. None at the end.
     pub(crate) fn next(&self) -> Option<u64>
         ensures { result ≡ self.now.next }

@@ -3,8 +3,8 @@ ghost use Rattle.page_pool.specs.Disk.{DiskView};
 ghost use Rattle.page_pool.specs.Pool.{new_pool, IsPool, LosesNoNumber};
 ghost use Rattle.page_pool.specs.Causes.{IsNoDamage, faults_at};
 
-use crate::digests::Digests;
-use crate::frames::Frames;
+use crate::archive::Archive;
+use crate::cache::Cache;
 use crate::numbers::Numbers;
 use crate::staged::Staged;
 use crate::{Disk, PageFault};
@@ -13,18 +13,20 @@ use std::marker::Model;
 
 mod command;
 mod reading;
+mod seeing;
+mod stamps;
 mod writing;
 
 /// Pages over a disk. A command changes them, and commits or leaves all as it was.
 #[derive(Drop)]
 pub struct Pool<D: Disk> {
-    disk: D,
-    digests: Digests,
+    archive: Archive<D>,
     staged: Staged,
-    frames: Frames,
+    frames: Cache,
     numbers: Numbers,
     is_open: bool,
     gets: u64,
+    refused: u64,
     alloc: Global,
 }
 
@@ -36,9 +38,9 @@ impl<D: Disk> Model for Pool<D> {
 
     ghost coded = { pool_code };
 
-    ghost view = { λ a. state_of (D.seen a.disk) a.digests a.staged a.frames a.numbers a.is_open a.gets };
+    ghost view = { λ a. state_of a.archive a.staged a.frames a.numbers a.is_open a.gets a.refused };
 
-    ghost invariant = { λ a. IsWhole (D.seen a.disk) a.digests a.staged.changes a.frames a.numbers a.is_open };
+    ghost invariant = { λ a. IsWhole a.archive a.staged.changes a.frames a.numbers a.is_open };
 }
 
 impl<D: Disk> Pool<D> {
@@ -46,7 +48,7 @@ impl<D: Disk> Pool<D> {
     /// back.
     pub fn start(
         alloc: Global,
-        mut disk: D,
+        disk: D,
         name: Option<&str>,
         frames: u32,
     ) -> Result<Pool<D>, (PageFault, D)>
@@ -57,20 +59,21 @@ impl<D: Disk> Pool<D> {
         ensures refused { IfErr result (λ e. (D.seen e.1).faults ≡ faults_at (D.seen disk).faults e.0) }
         ensures undamaged { IfErr result (λ e. IsNoDamage e.0) }
     {
-        if let Err(why) = disk.start(name) {
-            return Err((PageFault::from(why), disk));
-        }
-        let Ok(frames) = Frames::new(alloc, frames) else {
-            return Err((PageFault::Memory, disk));
+        let archive = match Archive::start(alloc, disk, name) {
+            Ok(archive) => archive,
+            Err(refused) => return Err(refused),
+        };
+        let Ok(frames) = Cache::new(alloc, frames) else {
+            return Err((PageFault::Memory, archive.into_disk()));
         };
         Ok(Pool {
-            disk,
-            digests: Digests::new(alloc),
+            archive,
             staged: Staged::new(alloc),
             frames,
             numbers: Numbers::new(alloc),
             is_open: false,
             gets: 0,
+            refused: 0,
             alloc,
         })
     }
@@ -89,15 +92,15 @@ impl<D: Disk> Pool<D> {
         ensures { D.seen result ≡ self.disk }
     {
         let Pool {
-            disk,
-            digests: _,
+            archive,
             staged: _,
             frames: _,
             numbers: _,
             is_open: _,
             gets: _,
+            refused: _,
             alloc: _,
         } = self;
-        disk
+        archive.into_disk()
     }
 }

@@ -1,4 +1,4 @@
-ghost use Rattle.std.specs.Prelude.{◌≡◌, ◌<◌, ◌≤◌, ◌^◌, Some, OnOk, OnErr, IfSome, IfNone, IsTrue, true, false};
+ghost use Rattle.std.specs.Prelude.{◌≡◌, ℕ, ◌<◌, ◌≤◌, ◌^◌, Some, OnOk, OnErr, IfSome, IfNone, IsTrue, true, false};
 ghost use Rattle.std.specs.FinMap as map;
 ghost use Rattle.std.specs.FinSet as set;
 ghost use Rattle.std.specs.Option.{option_copied};
@@ -87,6 +87,7 @@ impl Staged {
     // The least number with a change.
     pub(crate) fn first(&self) -> Option<u64>
         ensures found { IfSome result (λ n. IsTrue (map.contains_key self.now.changes n)) }
+        ensures least { IfSome result (λ n. (q : ℕ) → IsTrue (map.contains_key self.now.changes q) → n ≤ q) }
         ensures none { IfNone result (self.now ≡ record { changes = map.empty; count = 0 }) }
     {
         match self.numbers.first() {

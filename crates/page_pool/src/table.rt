@@ -58,6 +58,14 @@ impl<T: Drop> Table<T> {
         Ok(())
     }
 
+    // How many items are there.
+    pub(crate) fn len(&self) -> usize
+        ensures len { result ≡ map.len self.now }
+        ensures small { result < 2 ^ 63 }
+    {
+        count_items(&self.places)
+    }
+
     // Takes the item of this number out.
     pub(crate) fn take(&mut self, n: u64) -> Option<T>
         ensures taken { result ≡ map.get self.old n }
@@ -102,6 +110,14 @@ fn grow<T: Drop>(places: &mut Vec<Option<T>>, place: usize) -> Result<(), NoMemo
         places.push(None)?;
     }
     Ok(())
+}
+
+// How many items are in these places.
+fn count_items<T>(places: &[Option<T>]) -> usize
+    ensures count { result ≡ count_by (λ place. is_some place) places.now }
+    ensures small { result < 2 ^ 63 }
+{
+    places.iter().filter(|place| place.is_some()).count()
 }
 
 // How many pages are in these places.

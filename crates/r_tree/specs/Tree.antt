@@ -27,10 +27,11 @@ abbrev pub pages_below : Store → ℕ → List NodeEntry → List ℕ
 pages_below m zero es = []
 pages_below m (suc level) es = flat_map (λ e. e.child ∷ pages_below m level (entries_at m e.child)) es
 
--- what is listed under page n, and its pages
+-- what is listed under page n
 abbrev pub members_under : Store → ℕ → ℕ → List Member
 members_under m level n = members_in m level (entries_at m n)
 
+-- page n, and the pages under it
 abbrev pub pages_under : Store → ℕ → ℕ → List ℕ
 pages_under m level n = n ∷ pages_below m level (entries_at m n)
 

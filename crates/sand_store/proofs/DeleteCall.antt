@@ -1,12 +1,13 @@
 -- What the call answers that deletes a row: why it is refused, and what the store is after it.
 use Rattle.std.proofs.Common.{◌≡◌, ℕ, ◌<◌, ◌≤◌, List, [], ◌∷◌, length, get_or, set, Option, Some, None, refl, sym, ◌∙◌, ap, subst, arith, All, inl, inr}
-use Rattle.std.specs.Prelude.{not, IsNone}
+use Rattle.std.specs.Prelude.{not}
 use Rattle.std.specs.List.{find, position}
 use Rattle.std.proofs.lemmas.Bool.Decides.{eqb_tells}
 use Rattle.std.proofs.lemmas.List.Elements.{All-head, All-tail}
 use Rattle.page_pool.specs.Disk.{PageMap}
 use Rattle.page_pool.specs.Pool.{PoolState, IsTold}
 use Rattle.page_pool.specs.Reads.{IsRead}
+use Rattle.page_pool.specs.Steps.{IsClosed-read}
 use Rattle.sand_base.specs.declared.limits.Limits.{Limits}
 use Rattle.sand_base.specs.declared.refusal.Refusal.{Refusal}
 use Rattle.sand_base.specs.declared.refusal.Refusal.TheVariants as why
@@ -108,7 +109,7 @@ read_store : (old new : PoolState) (catalog : CatalogView) → IsRead old new �
 read_store old new catalog read h =
     let P : PageMap → Type 0 = λ m. CatalogStands m catalog in
     record {
-      closed = subst IsNone (sym read.beginning) h.closed;
+      closed = IsClosed-read old new read h.closed;
       described = h.described;
       stands = λ told. subst P (sym read.pages) (h.stands (sym read.told ∙ told));
     }

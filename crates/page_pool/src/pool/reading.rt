@@ -2,12 +2,12 @@ ghost use Rattle.std.specs.Prelude.{◌≡◌, IfSome, IfOk, IfErr, OnOk, false}
 ghost use Rattle.std.specs.Borrow.{sem};
 ghost use Rattle.std.specs.Io.BufRead.{Rests};
 ghost use Rattle.std.specs.FinMap as map;
-ghost use Rattle.page_pool.specs.Inside.{IsUnstaged, ReadsIn};
+ghost use Rattle.page_pool.specs.Inside.{IsUnstaged, ReadsIn, Compares};
 ghost use Rattle.page_pool.specs.Pool.{IsLive, IsPage};
-ghost use Rattle.page_pool.specs.Causes.{IsMemory};
+ghost use Rattle.page_pool.specs.Causes.{IsMemory, refused_after};
 ghost use Rattle.page_pool.specs.Reads.{Gets};
 
-use crate::page::{Page, read_fresh};
+use crate::page::Page;
 use crate::{Disk, PageFault, Pages, Pool};
 
 impl<D: Disk> Pool<D> {
@@ -68,24 +68,33 @@ impl<D: Disk> Pool<D> {
         }
     }
 
-    // Page `n`, which isn't staged, read from the disk into a frame, if it has the kept digest. Its get was counted.
+    // Page `n`, which isn't staged, read from the disk into a frame. Its get was counted, and its refusal is.
     fn load(&mut self, n: u64) -> Result<(), PageFault>
         requires { IsUnstaged self.old n }
         ensures missing { map.contains_key self.old.pages n ≡ false → IfErr result IsMemory }
         ensures read_in { ReadsIn self.old self.new n result }
     {
-        let Some(kept) = self.digests.get(n) else {
-            return Err(PageFault::Memory);
-        };
-        let page = read_fresh(self.alloc, &mut self.disk, n)?;
-        let read = page.digest();
-        if read != *kept {
-            return Err(PageFault::Damaged {
-                page: n,
-                kept: *kept,
-                read,
-            });
+        let read = self.read_compared(n);
+        self.count_refused(&read);
+        read
+    }
+
+    // One more refused get, unless the page was had or memory was refused.
+    pub(super) fn count_refused(&mut self, read: &Result<(), PageFault>)
+        ensures { self.new ≡ record self.old { refused = refused_after self.old.refused read.now } }
+    {
+        if let Err(PageFault::Device | PageFault::Damaged { .. }) = read {
+            self.refused = self.refused.saturating_add(1);
         }
+    }
+
+    // Page `n`, which isn't staged, read from the disk into a frame, if it has the kept digest.
+    fn read_compared(&mut self, n: u64) -> Result<(), PageFault>
+        requires { IsUnstaged self.old n }
+        ensures missing { map.contains_key self.old.pages n ≡ false → IfErr result IsMemory }
+        ensures read { Compares self.old self.new n result }
+    {
+        let page = self.archive.read(n)?;
         self.frames.put(n, page)?;
         Ok(())
     }
@@ -144,7 +153,7 @@ impl<D: Disk> Pages for Pool<D> {
     fn is_live(&self, n: u64) -> bool {
         match self.staged.get(n) {
             Some(change) => change.is_some(),
-            None => self.digests.get(n).is_some(),
+            None => self.archive.place(n).is_some(),
         }
     }
 

@@ -1,4 +1,4 @@
-ghost use Rattle.std.specs.Prelude.{◌≡◌, Some, None, true, IsTrue, ◌⊎◌, OnOk, OnErr, IfSome, IfNone};
+ghost use Rattle.std.specs.Prelude.{◌≡◌, ◌≤◌, ℕ, Some, None, true, IsTrue, ◌⊎◌, OnOk, OnErr, IfSome, IfNone};
 ghost use Rattle.std.specs.FinSet as set;
 ghost use Rattle.page_pool.specs.Pool.{IsClosed, IsDirty};
 ghost use Rattle.page_pool.specs.Commands.{WritesAll, WritesOne, IsWritten};
@@ -15,6 +15,7 @@ impl<D: Disk> Pool<D> {
         ensures closed { OnErr result (self.new.beginning ≡ None) }
     {
         self.flush()?;
+        self.archive.advance()?;
         self.numbers.settle();
         self.is_open = true;
         Ok(())
@@ -36,6 +37,7 @@ impl<D: Disk> Pool<D> {
     // The least number that waits for the next writing.
     fn first_waiting(&self) -> Option<u64>
         ensures found { IfSome result (λ n. IsDirty self.now n ⊎ IsTrue (set.contains self.now.freed n)) }
+        ensures least { IfSome result (λ n. (q : ℕ) → IsDirty self.now q → n ≤ q) }
         ensures none { IfNone result (IsWritten self.now) }
     {
         self.staged.first()
@@ -45,43 +47,42 @@ impl<D: Disk> Pool<D> {
     fn write_one(&mut self, n: u64) -> Result<(), PageFault>
         requires closed { IsClosed self.old }
         requires waiting { IsDirty self.old n ⊎ IsTrue (set.contains self.old.freed n) }
-        ensures { WritesOne self.old self.new result }
+        ensures { WritesOne self.old self.new n result }
     {
         match self.staged.get(n) {
             Some(Some(_)) => self.write_page(n),
-            Some(None) => self.release(n),
+            Some(None) => self.let_go(n),
             None => Ok(()),
         }
     }
 
-    // Writes page `n`, which moves into a frame. A failed writing may spoil the disk's page, so a frame with its
-    // old bytes is let go before.
+    // Writes page `n`, which moves into a frame. A failed writing may spoil its image, so a frame with its old bytes
+    // is let go before; so is one with what lay at the place where it is written.
     fn write_page(&mut self, n: u64) -> Result<(), PageFault>
         requires closed { IsClosed self.old }
         requires dirty { IsDirty self.old n }
-        ensures { WritesOne self.old self.new result }
+        ensures { WritesOne self.old self.new n result }
     {
         let Some(Some(page)) = self.staged.get(n) else {
             return Err(PageFault::Memory);
         };
-        let digest = page.digest();
         self.frames.forget(n);
-        self.disk.write_page(n, page.bytes())?;
-        self.digests.insert(n, digest)?;
+        let place = self.archive.write(n, page)?;
+        self.frames.forget_past(place);
         let change = self.staged.take(n);
         self.frames.keep(n, change);
         Ok(())
     }
 
     // The number `n` of a page that was freed is given again from now on.
-    fn release(&mut self, n: u64) -> Result<(), PageFault>
+    fn let_go(&mut self, n: u64) -> Result<(), PageFault>
         requires closed { IsClosed self.old }
         requires freed { IsTrue (set.contains self.old.freed n) }
-        ensures { WritesOne self.old self.new result }
+        ensures { WritesOne self.old self.new n result }
     {
         self.frames.forget(n);
+        self.archive.leave(n)?;
         self.numbers.add(n)?;
-        self.digests.remove(n);
         self.staged.take(n);
         Ok(())
     }

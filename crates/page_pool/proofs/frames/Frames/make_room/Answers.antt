@@ -1,6 +1,5 @@
-use Rattle.std.proofs.Common.{◌≡◌, sym, ap, ◌∙◌, arith}
+use Rattle.std.proofs.Common.{◌≡◌, ◌<◌, ap, ◌∙◌, arith}
 use Rattle.std.specs.FinMap as map
-use Rattle.page_pool.proofs.Maps.{found-remove}
 use Rattle.page_pool.proofs.Queued.{page_count}
 use Rattle.page_pool.proofs.frames.Frames.make_room.Goals as goal
 
@@ -14,14 +13,17 @@ returns-then-len-get-clause-room c =
     let count_is : map.len c.self.inside.table ≡ c.args.self.now.count = ap (λ s. s.count) c.self.view_is in
     let most_is : c.self.inside.queue.cap ≡ c.args.self.now.most = ap (λ s. s.most) c.self.view_is in omega arith
 
-pub returns-in-Some-clause-sound : goal.returns-in-Some-clause-sound
-returns-in-Some-clause-sound c = λ q bytes found.
-    ap (λ s. map.get s.pages q) (sym c.self.view_is) ∙ found-remove c.self.inside.table c.in-Some.place q bytes (ap (λ m. map.get m q) (sym c.forget.ensures.pages) ∙ found)
-
--- one page fewer than before
-pub returns-in-Some-clause-room : goal.returns-in-Some-clause-room
-returns-in-Some-clause-room c =
+-- the queue is full, so a page leaves
+pub returns-clause-room : goal.returns-clause-room
+returns-clause-room c =
     let size = page_count c.self.inside.table c.self.inside.queue c.len.ensures.valid.0 c.self.invariant in
     let fits = c.len.ensures.valid.1 in
-    let less = c.forget.ensures.fewer c.in-Some.ensures.found in
-    let most_is = c.forget.ensures.most ∙ c.queue_used.ensures.cap in omega arith
+    let full = c.if-len-get.false in
+    let queued_is = c.len.ensures.len in
+    let cap_is = c.get.ensures.value ∙ c.cap.ensures in
+    let positive = c.get.ensures.nonzero in
+    let most_is = c.drop_last.ensures.most in
+    let count_is : map.len c.self.inside.table ≡ c.args.self.now.count = ap (λ s. s.count) c.self.view_is in
+    let cap_most : c.self.inside.queue.cap ≡ c.args.self.now.most = ap (λ s. s.most) c.self.view_is in
+    let some : 0 < c.args.self.now.count = omega arith in
+    let less = c.drop_last.ensures.fewer some in omega arith

@@ -1,6 +1,6 @@
-use Rattle.std.proofs.Common.{◌≡◌, Some, inl, inr, sym, ap, ◌∙◌, arith}
+use Rattle.std.proofs.Common.{◌≡◌, ◌≤◌, ◌+◌, Some, inl, inr, sym, ap, ◌∙◌, arith}
 use Rattle.std.specs.FinMap as map
-use Rattle.page_pool.proofs.Maps.{undone, found-insert, get-insert_same}
+use Rattle.page_pool.proofs.Maps.{one_more, no_more_left, undone, found-insert, get-insert_same}
 use Rattle.page_pool.proofs.Queued.{queue-put, queue-kept, no_page, page_count}
 use Rattle.page_pool.proofs.frames.Frames.put.Goals as goal
 
@@ -39,3 +39,16 @@ pub returns-in-Err-clause-sound : goal.returns-in-Err-clause-sound
 returns-in-Err-clause-sound c = λ q bytes found.
     let kept = undone c.self.inside.table c.insert.new.self c.take.new.self c.args.place c.new.result (no_page c.self.inside.table c.args.place c.self.inside.queue c.in-Err.ensures.succeeds c.self.invariant) c.in_ok-insert.ensures.changed c.take.ensures.left in
     inr (c.make_room.ensures.sound q bytes (ap (λ s. map.get s.pages q) (sym c.self.view_is) ∙ ap (λ m. map.get m q) (sym kept) ∙ found))
+
+pub returns-in-Ok-clause-count : goal.returns-in-Ok-clause-count
+returns-in-Ok-clause-count c =
+    let more : map.len c.insert.new.self ≤ map.len c.self.inside.table + 1 = one_more c.self.inside.table c.insert.new.self c.args.place c.new.result c.in_ok-insert.ensures.changed in
+    let fewer = c.make_room.ensures.count in
+    let count_is : map.len c.self.inside.table ≡ c.make_room.new.self.count = ap (λ s. s.count) c.self.view_is in omega arith
+
+pub returns-in-Err-clause-count : goal.returns-in-Err-clause-count
+returns-in-Err-clause-count c =
+    let more : map.len c.insert.new.self ≤ map.len c.self.inside.table + 1 = one_more c.self.inside.table c.insert.new.self c.args.place c.new.result c.in_ok-insert.ensures.changed in
+    let less : map.len c.take.new.self ≤ map.len c.insert.new.self = no_more_left c.insert.new.self c.take.new.self c.args.place c.take.ensures.left in
+    let fewer = c.make_room.ensures.count in
+    let count_is : map.len c.self.inside.table ≡ c.make_room.new.self.count = ap (λ s. s.count) c.self.view_is in omega arith

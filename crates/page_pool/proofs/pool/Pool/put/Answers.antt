@@ -1,7 +1,6 @@
 use Rattle.std.proofs.Common.{◌≡◌, Some, true, IsSome, sym, ap, subst, ◌∙◌}
 use Rattle.std.specs.FinMap as map
-use Rattle.page_pool.specs.Disk.{DiskView}
-use Rattle.page_pool.specs.Inside.{IsWhole, state_of, stored, overlaid}
+use Rattle.page_pool.specs.Inside.{IsWhole, state_of, overlaid}
 use Rattle.page_pool.specs.Commands.{Puts}
 use Rattle.page_pool.proofs.Whole.{open_is, live_used, live_there, whole-changed}
 use Rattle.page_pool.proofs.States.{puts_state}
@@ -10,18 +9,17 @@ use Rattle.page_pool.proofs.pool.Pool.put.Goals as goal
 -- a live page has a staged change or a kept digest
 pub invariant_of-self-2 : goal.invariant_of-self-2
 invariant_of-self-2 g c =
-    let disk : DiskView = g.D.Disk.seen c.self.inside.disk in
-    let opened : c.self.inside.is_open ≡ true = open_is c.self.inside.is_open (stored disk c.self.inside.digests) (subst (λ s. IsSome s.beginning) (sym c.self.view_is) c.requires.open) in
-    let live : map.contains_key (overlaid c.self.inside.staged.changes (stored disk c.self.inside.digests)) c.args.n ≡ true = ap (λ s. map.contains_key s.pages c.args.n) c.self.view_is ∙ c.requires.live in
-    subst (λ changes. IsWhole disk c.self.inside.digests changes c.self.inside.frames c.self.inside.numbers c.self.inside.is_open) (sym c.in_ok-put.ensures.staged)
-    (whole-changed disk c.self.inside.digests c.self.inside.staged.changes c.self.inside.frames c.self.inside.numbers c.self.inside.is_open c.args.n (Some c.args.bytes.now) opened
-    (live_used disk c.self.inside.digests c.self.inside.staged.changes c.args.n live) c.self.invariant)
+    let opened : c.self.inside.is_open ≡ true = open_is c.self.inside.is_open c.self.inside.archive.pages (subst (λ s. IsSome s.beginning) (sym c.self.view_is) c.requires.open) in
+    let live : map.contains_key (overlaid c.self.inside.staged.changes c.self.inside.archive.pages) c.args.n ≡ true = ap (λ s. map.contains_key s.pages c.args.n) c.self.view_is ∙ c.requires.live in
+    subst (λ changes. IsWhole c.self.inside.archive changes c.self.inside.frames c.self.inside.numbers c.self.inside.is_open) (sym c.in_ok-put.ensures.staged)
+    (whole-changed c.self.inside.archive c.self.inside.staged.changes c.self.inside.frames c.self.inside.numbers c.self.inside.is_open c.args.n (Some c.args.bytes.now) opened
+    (live_used c.self.inside.archive c.self.invariant.archived c.self.inside.staged.changes c.args.n live) c.self.invariant)
 
 pub returns-clause-put : goal.returns-clause-put
 returns-clause-put g c =
-    let disk : DiskView = g.D.Disk.seen c.self.inside.disk in
-    let live : map.contains_key (overlaid c.self.inside.staged.changes (stored disk c.self.inside.digests)) c.args.n ≡ true = ap (λ s. map.contains_key s.pages c.args.n) c.self.view_is ∙ c.requires.live in
-    subst (λ old. Puts old (state_of disk c.self.inside.digests c.put.new.self c.self.inside.frames c.self.inside.numbers c.self.inside.is_open c.self.inside.gets) c.args.n c.args.bytes.now) c.self.view_is
-    (puts_state disk c.self.inside.digests c.self.inside.staged c.put.new.self c.self.inside.frames c.self.inside.numbers c.self.inside.is_open c.self.inside.gets c.args.n c.args.bytes.now
-    c.in_ok-put.ensures.staged
-    (live_there disk c.self.inside.digests c.self.inside.staged.changes c.args.n live))
+    let opened : c.self.inside.is_open ≡ true = open_is c.self.inside.is_open c.self.inside.archive.pages (subst (λ s. IsSome s.beginning) (sym c.self.view_is) c.requires.open) in
+    let live : map.contains_key (overlaid c.self.inside.staged.changes c.self.inside.archive.pages) c.args.n ≡ true = ap (λ s. map.contains_key s.pages c.args.n) c.self.view_is ∙ c.requires.live in
+    subst (λ old. Puts old (state_of c.self.inside.archive c.put.new.self c.self.inside.frames c.self.inside.numbers c.self.inside.is_open c.self.inside.gets c.self.inside.refused) c.args.n c.args.bytes.now) c.self.view_is
+    (puts_state c.self.inside.archive c.self.inside.staged c.put.new.self c.self.inside.frames c.self.inside.numbers c.self.inside.is_open c.self.inside.gets c.self.inside.refused opened c.self.invariant c.args.n c.args.bytes.now
+    c.in_ok-put.ensures.staged live
+    (live_there c.self.inside.archive c.self.invariant.archived c.self.inside.staged.changes c.args.n live))

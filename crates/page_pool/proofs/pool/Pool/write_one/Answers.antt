@@ -9,8 +9,8 @@ write_page-requires-clause-dirty g c =
     subst (λ s. IsTrue (set.contains s.dirty c.args.n)) c.self.view_is
     (contains-dirty c.self.inside.staged.changes c.args.n ∙ ap is_page (sym c.in-Some-Some.ensures ∙ ap (λ change. Some change) c.in-Some-Some.field-0-is))
 
-pub release-requires-clause-freed : goal.release-requires-clause-freed
-release-requires-clause-freed g c =
+pub let_go-requires-clause-freed : goal.let_go-requires-clause-freed
+let_go-requires-clause-freed g c =
     subst (λ s. IsTrue (set.contains s.freed c.args.n)) c.self.view_is
     (contains-freed c.self.inside.staged.changes c.args.n ∙ ap is_gone (sym c.in-Some-None.ensures ∙ ap (λ change. Some change) c.in-Some-None.field-0-is))
 

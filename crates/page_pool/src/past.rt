@@ -1,0 +1,130 @@
+ghost use Rattle.std.specs.Prelude.{◌≡◌, ℕ, Some, None, IfSome, IfNone, IsSomeAnd, OnOk, OnErr, true, false};
+ghost use Rattle.std.specs.FinMap as map;
+ghost use Rattle.std.specs.FinSet as set;
+ghost use Rattle.std.specs.Option.{option_copied};
+ghost use Rattle.page_pool.specs.Images.{IsUnseen, is_shown, past_map, past_seen};
+
+use crate::held::Held;
+use sand_base::NoMemory;
+use std::alloc::Global;
+use std::collections::BTreeMap;
+use std::marker::Model;
+
+/// A replaced image: its page, and how many commands had begun as it was written and as it was replaced.
+#[derive(Clone, Copy)]
+pub(crate) struct Past {
+    pub(crate) number: u64,
+    pub(crate) made: u64,
+    pub(crate) until: u64,
+}
+
+impl Past {
+    // Whether the stamp sees it as page `n`.
+    fn is_shown(self, n: u64, at: u64) -> bool
+        ensures { result ≡ is_shown n at (Some self) }
+    {
+        self.number == n && self.made <= at && at < self.until
+    }
+}
+
+/// The replaced images by the places where they lie.
+#[derive(Drop)]
+pub(crate) struct Replaced {
+    images: BTreeMap<u64, Past>,
+}
+
+impl Model for Replaced {
+    ghost use Rattle.std.specs.FinMap as map;
+    ghost use Rattle.page_pool.specs.Images.{PastMap, past_map};
+    ghost use Rattle.page_pool.specs.Codes.{past_map_code};
+
+    ghost Value = { PastMap };
+
+    ghost coded = { past_map_code };
+
+    ghost view = { λ a. past_map a.images };
+}
+
+impl Replaced {
+    pub(crate) fn new(alloc: Global) -> Replaced
+        ensures { result ≡ map.empty }
+    {
+        Replaced {
+            images: BTreeMap::new(alloc),
+        }
+    }
+
+    pub(crate) fn insert(&mut self, place: u64, past: Past) -> Result<(), NoMemory>
+        ensures added { OnOk result (self.new ≡ map.insert self.old place past) }
+        ensures unchanged { OnErr result (self.new ≡ self.old) }
+    {
+        self.images.insert(place, past)?;
+        Ok(())
+    }
+
+    pub(crate) fn remove(&mut self, place: u64)
+        ensures { self.new ≡ map.remove self.old place }
+    {
+        self.images.remove(&place);
+    }
+
+    // The place, from this one on, of an image that no held stamp sees.
+    pub(crate) fn first_unseen(&self, start: u64, held: &Held) -> Option<u64>
+        ensures { IfSome result (λ place. IsSomeAnd (map.get self.now place) (λ past. IsUnseen held.now past.made past.until)) }
+    {
+        first_unseen(&self.images, start, held)
+    }
+
+    // The place of the image that the stamp sees as page `n`.
+    pub(crate) fn shown_place(&self, n: u64, at: u64) -> Option<u64>
+        ensures found { IfSome result (λ place. is_shown n at (map.get self.now place) ≡ true) }
+        ensures none { IfNone result ((place : ℕ) → is_shown n at (map.get self.now place) ≡ false) }
+    {
+        shown_place(&self.images, n, at)
+    }
+
+    // How many of them some held stamp sees.
+    pub(crate) fn count_seen(&self, held: &Held) -> usize
+        ensures { result ≡ set.len (past_seen held.now self.now) }
+    {
+        count_seen(&self.images, held)
+    }
+}
+
+// The place, from this one on, of an image that no held stamp sees.
+fn first_unseen(images: &BTreeMap<u64, Past>, start: u64, held: &Held) -> Option<u64>
+    ensures { IfSome result (λ place. IsSomeAnd (map.get (past_map images.now) place) (λ past. IsUnseen held.now past.made past.until)) }
+{
+    'images: for (place, past) in images.range(start..) {
+        if !held.sees(past.made, past.until) {
+            return Some(*place);
+        }
+    }
+    None
+}
+
+// The place of the image that the stamp sees as page `n`.
+fn shown_place(images: &BTreeMap<u64, Past>, n: u64, at: u64) -> Option<u64>
+    ensures found { IfSome result (λ place. is_shown n at (map.get (past_map images.now) place) ≡ true) }
+    ensures none { IfNone result ((place : ℕ) → is_shown n at (map.get (past_map images.now) place) ≡ false) }
+{
+    'images: for (place, past) in images.iter() {
+        if past.is_shown(n, at) {
+            return Some(*place);
+        }
+    }
+    None
+}
+
+// How many of them some held stamp sees.
+fn count_seen(images: &BTreeMap<u64, Past>, held: &Held) -> usize
+    ensures { result ≡ set.len (past_seen held.now (past_map images.now)) }
+{
+    let mut count = 0;
+    'images: for (_, past) in images.iter() {
+        if held.sees(past.made, past.until) {
+            count += 1;
+        }
+    }
+    count
+}
