@@ -1,0 +1,8 @@
+-- the rows as lists
+pub mod Nearest
+-- what is kept of them
+pub mod PartnerCounts
+pub mod Listed
+pub mod Standing
+-- the visits
+pub mod Visits
