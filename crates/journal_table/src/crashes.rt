@@ -1,22 +1,28 @@
 // The images that crashes of a run of appends leave.
 ghost use Rattle.std.specs.Prelude.{◌≡◌, true, IfOk};
-ghost use Rattle.sand_journal.specs.Journal.{IsReady};
+ghost use Rattle.sand_journal.specs.ChangeBody.{IsChange, change_value};
+ghost use Rattle.sand_journal.specs.Journal.{IsReading, IsReady};
 
 use crate::files::{Sample, make_sample};
 use crate::reading::{Trouble, read_all, started};
 use sand_base::NoMemory;
-use sand_journal::{Journal, MemTape, Record, Tape};
+use sand_journal::{Change, Journal, MemTape, Record, Tape};
 use std::alloc::Global;
 
-// Appends a record with this body, where there is room for it, and says whether it was appended.
-fn append<T: Tape>(alloc: Global, target: &mut Journal<T>, body: &[u8]) -> Result<bool, NoMemory>
-    requires { IsReady T.seen target.old }
+// Appends the record of a change, where there is room for it, and says whether it was appended.
+fn append<T: Tape>(
+    alloc: Global,
+    target: &mut Journal<T>,
+    change: &Change,
+) -> Result<bool, NoMemory>
+    requires ready { IsReady T.seen target.old }
+    requires change { IsChange (change_value change.now) }
     ensures { IfOk result (λ is_appended. is_appended ≡ true → IsReady T.seen target.new) }
 {
-    if body.len() > 1 << 20 || target.end() > 1 << 40 {
+    if target.end() > 1 << 40 {
         return Ok(false);
     }
-    let entry = Record::with_body(alloc, body)?;
+    let entry = Record::of(alloc, change)?;
     match target.append(&entry) {
         Ok(()) => Ok(true),
         Err(_) => Ok(false),
@@ -33,15 +39,33 @@ fn copied<S: Tape, T: Tape>(
 {
     let mut count = 0u32;
     'records: for _ in 0..100u32 {
-        let Ok(Some(body)) = source.next(alloc) else {
-            break;
+        let change = match source.next(alloc) {
+            Ok(Some(change)) => change,
+            Ok(None) => break,
+            Err(_) => break,
         };
-        if !append(alloc, target, &body)? {
+        let is_appended = append(alloc, target, &change);
+        drop(change);
+        if !is_appended? {
             break;
         }
         count = count.saturating_add(1);
     }
     Ok(count)
+}
+
+// Whether a journal has no record to read.
+fn is_empty<T: Tape>(alloc: Global, journal: &mut Journal<T>) -> bool
+    ensures { result ≡ true → IsReading T.seen journal.old → IsReady T.seen journal.new }
+{
+    match journal.next(alloc) {
+        Ok(None) => true,
+        Ok(Some(change)) => {
+            drop(change);
+            false
+        }
+        Err(_) => false,
+    }
 }
 
 // How many records were appended before call `k` of the tape failed, and the tape then.
@@ -62,9 +86,9 @@ fn run(alloc: Global, sample: &Sample, k: u64) -> Result<Option<(u32, MemTape)>,
     let Ok(mut target) = Journal::open(to) else {
         return Ok(None);
     };
-    let Ok(None) = target.next(alloc) else {
+    if !is_empty(alloc, &mut target) {
         return Ok(None);
-    };
+    }
     let count = copied(alloc, &mut source, &mut target)?;
     Ok(Some((count, target.into_tape())))
 }

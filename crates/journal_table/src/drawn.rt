@@ -24,7 +24,7 @@ fn byte(draws: &mut Draws) -> u8 {
 fn file(alloc: Global, draws: &mut Draws) -> Result<Vec<u8>, Trouble> {
     let mut bytes = Vec::new(alloc);
     if draws.below(2) == 0 {
-        bytes.extend_from_slice(&[1, 0, 0, 0, 3, b'a', b'b', b'c'])?;
+        bytes.extend_from_slice(b"\x01\x00\x00\x00\x0b\x01index p.at")?;
     }
     let size = draws.below(40);
     for _ in 0..size {

@@ -10,12 +10,31 @@ pub struct Sample {
     pub gates: Vec<usize>,
 }
 
-// A body of at most 30 bytes.
+// Adds rows of at most 19 bytes, behind how many they are.
+fn add_rows(body: &mut Vec<u8>, draws: &mut Draws) -> Result<(), NoMemory> {
+    let count = draws.below(4);
+    body.extend_from_slice(&count.to_be_bytes())?;
+    for _ in 0..count {
+        let size = draws.below(20);
+        body.extend_from_slice(&[0, size as u8])?;
+        for _ in 0..size {
+            body.push(draws.byte())?;
+        }
+    }
+    Ok(())
+}
+
+// The body of a change: a line, or rows of a relation.
 fn drawn_body(alloc: Global, draws: &mut Draws) -> Result<Vec<u8>, NoMemory> {
     let mut body = Vec::new(alloc);
-    let size = draws.below(31);
-    for _ in 0..size {
-        body.push(draws.byte())?;
+    match draws.below(4) {
+        0 => body.extend_from_slice(b"\x01index p.at")?,
+        1 => body.extend_from_slice(b"\x01create p (at point)")?,
+        2 => body.extend_from_slice(b"\x01delete p 7")?,
+        _ => {
+            body.extend_from_slice(b"\x02\x01p")?;
+            add_rows(&mut body, draws)?;
+        }
     }
     Ok(body)
 }

@@ -56,7 +56,10 @@ fn read_on(alloc: Global, journal: &mut Journal<MemTape>) -> Result<Found, NoMem
     let mut count = 0u32;
     'records: for _ in 0..1_000u32 {
         match journal.next(alloc) {
-            Ok(Some(_)) => count = count.saturating_add(1),
+            Ok(Some(change)) => {
+                drop(change);
+                count = count.saturating_add(1);
+            }
             Ok(None) => break,
             Err(JournalFault::Bad { number }) => {
                 return Ok(Found {

@@ -8,3 +8,9 @@ mod Bodies
 mod OneList
 mod PrintedLengths
 mod RowFrames
+mod Answered
+mod Writes
+mod Lines
+mod NameBytes
+mod RowBodies
+mod RowReads

@@ -9,7 +9,7 @@ use Rattle.sand_journal.specs.declared.ahead.Head.TheVariants as head
 use Rattle.sand_journal.specs.Tape.{TapeView}
 use Rattle.sand_journal.specs.Ahead.{IsHead}
 use Rattle.sand_journal.specs.Images.{IsShort, framed, records, HasBodies, HasNext}
-use Rattle.sand_journal.specs.Journal.{IsBadBehind, IsAtRest, IsOnlyRead, StandsBehind}
+use Rattle.sand_journal.specs.Journal.{IsCutBehind, IsAtRest, IsOnlyRead, StandsBehind}
 use Rattle.sand_journal.proofs.Frames.{length-framed, length-records-push, records-push, short_push}
 
 -- bytes that are not none are at least one
@@ -50,7 +50,7 @@ module _ (bodies : List (List ℕ)) (bytes tail : List ℕ) (is : bytes ≡ reco
       omega (arith, ap length is, ap length (next_tail body next), length-append (records bodies) tail, length-append (framed body) next.tail, length-framed body, some_length next.tail next.some)
 
   -- a head that is cut short has no record
-  pub cut_is_bad : IsHead (take 5 tail) head.Cut → IsBadBehind bytes bodies
+  pub cut_is_bad : IsHead (take 5 tail) head.Cut → IsCutBehind bytes bodies
   cut_is_bad cut = record {
     is_open = (cut.0 ++ drop 5 tail, is ∙ ap (λ (l : List ℕ). records bodies ++ l) (sym (take-append-drop 5 tail) ∙ ap (λ (l : List ℕ). l ++ drop 5 tail) cut.1));
     none = λ body next. omega (arith, ap length cut.1, length-take 5 tail, ap length (next_tail body next), length-append (framed body) next.tail, length-framed body, cut.2);
@@ -71,11 +71,11 @@ module _ (bodies : List (List ℕ)) (bytes tail : List ℕ) (is : bytes ≡ reco
     is_open = (to_be_bytes w32 size ++ drop 5 tail, is ∙ ap (λ (l : List ℕ). records bodies ++ l) opened)
 
     -- nor has one whose next gate would stand too far
-    pub far_is_bad : 2 ^ 62 < length (records bodies) + 5 + size → IsBadBehind bytes bodies
+    pub far_is_bad : 2 ^ 62 < length (records bodies) + 5 + size → IsCutBehind bytes bodies
     far_is_bad far = record { is_open = is_open; none = λ body next. omega (arith, far, next.near, next_size body next) }
 
     -- or behind the file's end
-    pub short_is_bad : length bytes ≤ length (records bodies) + 5 + size → IsBadBehind bytes bodies
+    pub short_is_bad : length bytes ≤ length (records bodies) + 5 + size → IsCutBehind bytes bodies
     short_is_bad ends = record { is_open = is_open; none = λ body next. omega (arith, ends, next_length body next, next_size body next) }
 
     -- where the file goes on behind as many bytes, they are the body of the next record
@@ -113,13 +113,13 @@ module _ (tape : TapeView) (end : ℕ) (bodies : List (List ℕ)) (stands : Stan
   pub ahead_shut : shown ≡ head.Shut → HasBodies bodies tape.bytes
   ahead_shut is = shut_ends bodies tape.bytes (stands.gate told).0 stands.short (stands.gate told).1 (stands.gate told).2 (head_at_tail head.Shut is)
 
-  pub ahead_cut : shown ≡ head.Cut → IsBadBehind tape.bytes bodies
+  pub ahead_cut : shown ≡ head.Cut → IsCutBehind tape.bytes bodies
   ahead_cut is = cut_is_bad bodies tape.bytes (stands.gate told).0 (stands.gate told).2 (head_at_tail head.Cut is)
 
-  pub ahead_far : (size : ℕ) → shown ≡ head.Open size → 2 ^ 62 < end + 5 + size → IsBadBehind tape.bytes bodies
+  pub ahead_far : (size : ℕ) → shown ≡ head.Open size → 2 ^ 62 < end + 5 + size → IsCutBehind tape.bytes bodies
   ahead_far size is far = far_is_bad bodies tape.bytes (stands.gate told).0 (stands.gate told).2 size (head_at_tail (head.Open size) is) (omega (arith, stands.place, far))
 
-  pub ahead_short : (size : ℕ) → shown ≡ head.Open size → length tape.bytes ≤ end + 5 + size → IsBadBehind tape.bytes bodies
+  pub ahead_short : (size : ℕ) → shown ≡ head.Open size → length tape.bytes ≤ end + 5 + size → IsCutBehind tape.bytes bodies
   ahead_short size is ends = short_is_bad bodies tape.bytes (stands.gate told).0 (stands.gate told).2 size (head_at_tail (head.Open size) is) (omega (arith, stands.place, ends))
 
   pub ahead_body : (size : ℕ) (body : List ℕ) → shown ≡ head.Open size → end + 5 + size ≤ 2 ^ 62 → end + 5 + size < length tape.bytes → body ≡ take size (drop (end + 5) tape.bytes) → length body ≡ size

@@ -1,5 +1,5 @@
 -- Rows in their frames: where each ends, and that a list of bytes has one list of rows.
-use Rattle.std.proofs.Common.{◌≡◌, ◌≢◌, ℕ, ◌+◌, ◌*◌, ◌^◌, ◌<◌, ◌≤◌, List, [], ◌∷◌, ◌++◌, length, take, drop, refl, sym, ap, ◌∙◌, arith, append_assoc, length-append}
+use Rattle.std.proofs.Common.{◌≡◌, ℕ, ◌+◌, ◌*◌, ◌^◌, ◌<◌, ◌≤◌, List, [], ◌∷◌, ◌++◌, length, take, drop, refl, sym, ap, ◌∙◌, arith, append_assoc, length-append}
 use Rattle.std.proofs.lemmas.List.{take_at, drop_at}
 use Rattle.std.proofs.lemmas.Nat.{from_be_bytes-to_be_bytes_2, from_be_bytes-to_be_bytes_4}
 use Rattle.std.specs.Int.{w16, w32, to_be_bytes, from_be_bytes}
@@ -58,12 +58,6 @@ one_rows (row ∷ rows) (other ∷ others) short short_others same =
 pub rows_length : (rows : List (List ℕ)) → 2 * length rows ≤ length (flat_map framed_row rows)
 rows_length [] = omega arith
 rows_length (row ∷ rows) = omega (arith, length-append (framed_row row) (flat_map framed_row rows), length-framed_row row, rows_length rows)
-
--- bytes that aren't nothing and are rows begin with one
-pub rows_begin : (rows : List (List ℕ)) (bytes : List ℕ) → AllByRecursion IsEncodingShort rows → bytes ≢ [] → bytes ≡ flat_map framed_row rows
-    → (row rest : List ℕ) × IsEncodingShort row × (bytes ≡ framed_row row ++ rest)
-rows_begin [] bytes short some is = absurd (some is)
-rows_begin (row ∷ rows) bytes short some is = (row, flat_map framed_row rows, short.0, is)
 
 -- two counts at the front of one list are one
 count_sizes : (n m : ℕ) (rest more : List ℕ) → n < 2 ^ 32 → m < 2 ^ 32 → to_be_bytes w32 n ++ rest ≡ to_be_bytes w32 m ++ more → n ≡ m

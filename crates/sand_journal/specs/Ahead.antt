@@ -9,7 +9,7 @@ use Rattle.sand_journal.specs.declared.fault.JournalFault.{JournalFault}
 use Rattle.sand_journal.specs.declared.fault.JournalFault.TheVariants.{Memory, Failed, Bad}
 use Rattle.sand_journal.specs.Tape.{TapeView}
 use Rattle.sand_journal.specs.Images.{IsShort, HasBodies, HasNext}
-use Rattle.sand_journal.specs.Journal.{IsBadBehind}
+use Rattle.sand_journal.specs.Journal.{IsCutBehind}
 
 -- The first five bytes from a gate on, or fewer at the file's end, show a gate that isn't open, a head that is cut short, or a length.
 abbrev pub IsHead : List ℕ → Head → Type 0
@@ -20,7 +20,7 @@ IsHead bytes (head.Open size) = (size < 2 ^ 32) × (bytes ≡ 1 ∷ to_be_bytes 
 -- What stands behind the records of these bodies: a gate that isn't open, an open record that is none, or one with this body.
 abbrev pub IsAhead : TapeView → List (List ℕ) → Ahead → Type 0
 IsAhead tape bodies ahead.End = HasBodies bodies tape.bytes
-IsAhead tape bodies ahead.Bad = IsBadBehind tape.bytes bodies
+IsAhead tape bodies ahead.Bad = IsCutBehind tape.bytes bodies
 IsAhead tape bodies (ahead.Body body) = HasNext tape.bytes bodies body.items
 
 -- a body that was found is short, and the gate behind it isn't above the last

@@ -1,12 +1,15 @@
 -- A change of the store, and the body that it has in a journal.
-use Rattle.std.specs.Prelude.{ℕ, ◌^◌, ◌<◌, ◌≤◌, List, ◌∷◌, ◌++◌, length, ⊤}
+use Rattle.std.specs.Prelude.{◌≡◌, ℕ, ◌^◌, ◌<◌, ◌≤◌, List, ◌∷◌, ◌++◌, length, Option, Some, None, ⊤}
 use Rattle.std.specs.Int.{w16, w32, to_be_bytes}
 use Rattle.std.specs.List.{AllByRecursion, flat_map}
 use Rattle.script_text.specs.InRange.{IsInRange}
 use Rattle.script_text.specs.Name.{IsName}
 use Rattle.script_text.specs.Printing.{printed}
-use Rattle.script_text.specs.Statement.{StatementValue, Create, Insert, Delete, Load, Index, OpenCursor, Next, CloseCursor, Show, Stats, Blocks}
+use Rattle.script_text.specs.Statement.{StatementValue, Create, Insert, Delete, Load, Index, OpenCursor, Next, CloseCursor, Show, Stats, Blocks, statement_value}
+use Rattle.script_text.specs.declared.statement.Statement.{Statement}
 use Rattle.sand_journal.specs.declared.TheConstants.{LONGEST_ENCODING}
+use Rattle.sand_journal.specs.declared.change.Change as declared
+use Rattle.sand_journal.specs.declared.change.Change.TheVariants as change
 
 -- a change of the store: a statement, or rows of a relation by their encodings
 pub data ChangeValue : Type 0 where
@@ -48,3 +51,17 @@ body_of (Rows relation rows) = 2 ∷ length relation ∷ (relation ++ counted_ro
 abbrev pub IsChange : ChangeValue → Type 0
 IsChange (Line statement) = IsKept statement × IsInRange statement
 IsChange (Rows relation rows) = IsName relation × AllByRecursion IsEncodingShort rows × (length (body_of (Rows relation rows)) < 2 ^ 32)
+
+-- a statement as a tree, kept closed in goals
+unfoldable pub line_value : Statement → StatementValue
+line_value statement = statement_value statement
+
+-- a change of the code, with its statement as a tree
+unfoldable pub change_value : declared.Change → ChangeValue
+change_value (change.Line statement) = Line (line_value statement)
+change_value (change.Rows relation rows) = Rows relation rows
+
+-- What a body is read as: the change that has it, or None where it is that of no change.
+unfoldable pub IsChangeOf : List ℕ → Option declared.Change → Type 0
+IsChangeOf body None = (change : ChangeValue) → IsChange change → body ≡ body_of change → ⊥
+IsChangeOf body (Some change) = IsChange (change_value change) × (body ≡ body_of (change_value change))

@@ -1,11 +1,12 @@
 -- Where a journal stands, and what its calls answer.
-use Rattle.std.specs.Prelude.{◌≡◌, ◌≢◌, ℕ, ◌+◌, ◌-◌, ◌^◌, ◌≤◌, min, List, [], ◌∷◌, ◌++◌, length, IsTrue, Option, Some, None, Result, Ok, Err, Vec, ⊤}
-use Rattle.std.specs.declared.alloc.Global.{Global}
+use Rattle.std.specs.Prelude.{◌≡◌, ◌≢◌, ℕ, ◌+◌, ◌-◌, ◌^◌, ◌≤◌, min, List, [], ◌∷◌, ◌++◌, length, IsTrue, Option, Some, None, Result, Ok, Err, ⊤}
 use Rattle.std.specs.List.{AllByRecursion}
 use Rattle.sand_base.specs.Faults.{next_count}
+use Rattle.sand_journal.specs.declared.change.Change.{Change}
 use Rattle.sand_journal.specs.declared.fault.JournalFault.{JournalFault}
 use Rattle.sand_journal.specs.declared.fault.JournalFault.TheVariants.{Memory, Failed, Bad}
 use Rattle.sand_journal.specs.declared.journal.Journal.{Journal}
+use Rattle.sand_journal.specs.ChangeBody.{ChangeValue, IsChange, body_of, change_value}
 use Rattle.sand_journal.specs.Tape.{TapeView, Only}
 use Rattle.sand_journal.specs.Images.{IsShort, framed, records, HasBodies, HasNext, IsOpenBehind}
 
@@ -78,17 +79,22 @@ HasFaultCause before now (Err Memory) = now ≡ before
 HasFaultCause before now (Err Failed) = now ≡ next_count before
 HasFaultCause before now (Err (Bad _)) = now ≡ before
 
--- The record that is open behind these is none.
-pub record IsBadBehind (bytes : List ℕ) (bodies : List (List ℕ)) : Type 0 where
+-- Behind the records of these bodies a gate is open, and no whole record stands there.
+pub record IsCutBehind (bytes : List ℕ) (bodies : List (List ℕ)) : Type 0 where
   pub is_open : IsOpenBehind bytes bodies
   pub none : (body : List ℕ) → HasNext bytes bodies body → ⊥
 
--- What a journal that had passed these bodies gives next: that they are all, or one more that it has passed now.
-abbrev pub GivesNext : {T : Type 0} → (T → TapeView) → Journal T → List (List ℕ) → Option (Vec ℕ Global) → Type 0
-GivesNext seen journal bodies None = IsAtEnd seen journal bodies
-GivesNext seen journal bodies (Some body) = HasPassed seen journal (bodies ++ body.items ∷ [])
+-- Behind the records of these bodies a gate is open, and no whole record of a change stands there.
+pub record IsBadBehind (bytes : List ℕ) (bodies : List (List ℕ)) : Type 0 where
+  pub is_open : IsOpenBehind bytes bodies
+  pub none : (change : ChangeValue) → IsChange change → HasNext bytes bodies (body_of change) → ⊥
 
--- Why a journal that had passed these bodies gives none: at `Bad` the record of that number is open and is none.
+-- What a journal that had passed these bodies gives next: that they are all, or the change whose body it has passed now too.
+abbrev pub GivesNext : {T : Type 0} → (T → TapeView) → Journal T → List (List ℕ) → Option Change → Type 0
+GivesNext seen journal bodies None = IsAtEnd seen journal bodies
+GivesNext seen journal bodies (Some change) = HasPassed seen journal (bodies ++ body_of (change_value change) ∷ [])
+
+-- Why a journal that had passed these bodies gives none: at `Bad` the record of that number is open and is that of no change.
 abbrev pub IsWhy : JournalFault → List ℕ → List (List ℕ) → Type 0
 IsWhy Memory bytes bodies = ⊤
 IsWhy Failed bytes bodies = ⊤

@@ -3,6 +3,7 @@ pub mod Tape
 pub mod Images
 pub mod Record
 pub mod ChangeBody
+pub mod RowsBody
 pub mod Changes
 pub mod Journal
 pub mod Ahead

@@ -1,12 +1,13 @@
-ghost use Rattle.std.specs.Prelude.{◌≡◌, ◌+◌, ◌^◌, ◌<◌, ◌≤◌, ℕ, List, [], ◌∷◌, ◌++◌, length, IsTrue, IsSome, IfNone, IfOk, IfErr, OnOk, OnErr};
+ghost use Rattle.std.specs.Prelude.{◌≡◌, ◌+◌, ◌^◌, ◌<◌, ◌≤◌, ℕ, List, [], ◌∷◌, ◌++◌, length, min, IsTrue, IsSome, IfSome, IfNone, IfOk, IfErr, OnOk, OnErr};
 ghost use Rattle.sand_base.specs.Faults.{HasCause, next_count};
 ghost use Rattle.sand_journal.specs.declared.fault.JournalFault.TheVariants as fault;
 ghost use Rattle.sand_journal.specs.Images.{HasBodies, LiesBetween, LeavesOnly};
 
 use crate::ahead::{Ahead, look_ahead};
 use crate::gate::HEAD_BYTES;
+use crate::read_change::read_change;
 use crate::steps::{begin, open_gate, stage};
-use crate::{JournalFault, Record, Tape};
+use crate::{Change, JournalFault, Record, Tape};
 use sand_base::Failed;
 use std::alloc::Global;
 
@@ -20,7 +21,8 @@ pub struct Journal<T: Tape> {
 }
 
 impl<T: Tape> Journal<T> {
-    ghost use Rattle.sand_journal.specs.Journal.{HasPassed, IsAtEnd, IsReading, IsReady, IsOnlyRead, WasOpened, HasOpened, HasFaultCause, GivesNext, IsWhy};
+    ghost use Rattle.sand_journal.specs.Journal.{HasPassed, IsAtEnd, IsReading, IsReady, IsOnlyRead, WasOpened, HasOpened, HasFaultCause, GivesNext, IsWhy, last_number};
+    ghost use Rattle.sand_journal.specs.ChangeBody.{IsChange, change_value};
 
     /// Opens the file of a tape. It is synced first, so that what is read is what a crash leaves; an empty file gets its
     /// first gate. A fault gives the tape back.
@@ -43,9 +45,19 @@ impl<T: Tape> Journal<T> {
         }
     }
 
-    /// The next record, None where all are read. A refusal changes nothing but the tape's count of faults.
-    pub fn next(&mut self, alloc: Global) -> Result<Option<Vec<u8>>, JournalFault>
+    // The fault of the next record.
+    fn bad(&self) -> JournalFault
+        ensures { result ≡ fault.Bad (min (self.now.count + 1) last_number) }
+    {
+        JournalFault::Bad {
+            number: self.count.saturating_add(1),
+        }
+    }
+
+    /// The change of the next record, None where all are read. A refusal changes nothing but the tape's count of faults.
+    pub fn next(&mut self, alloc: Global) -> Result<Option<Change>, JournalFault>
         ensures next { IfOk result (λ found. (bodies : List (List ℕ)) → HasPassed T.seen self.old bodies → GivesNext T.seen self.new bodies found) }
+        ensures form { IfOk result (λ found. IfSome found (λ change. IsChange (change_value change))) }
         ensures ready { IfOk result (λ found. IfNone found (IsReading T.seen self.old → IsReady T.seen self.new)) }
         ensures reading { OnOk result (IsReading T.seen self.old → IsReading T.seen self.new) }
         ensures near { IfOk result (λ found. IsSome found → self.new.end ≤ 2 ^ 62) }
@@ -55,17 +67,17 @@ impl<T: Tape> Journal<T> {
         ensures read { IsOnlyRead (T.seen self.old.tape) (T.seen self.new.tape) }
         ensures cause { HasFaultCause (T.seen self.old.tape).faults (T.seen self.new.tape).faults result }
     {
-        match look_ahead(alloc, &mut self.tape, self.end)? {
-            Ahead::End => Ok(None),
-            Ahead::Bad => Err(JournalFault::Bad {
-                number: self.count.saturating_add(1),
-            }),
-            Ahead::Body(body) => {
-                self.end += HEAD_BYTES + body.len() as u64;
-                self.count = self.count.saturating_add(1);
-                Ok(Some(body))
-            }
-        }
+        let body = match look_ahead(alloc, &mut self.tape, self.end)? {
+            Ahead::End => return Ok(None),
+            Ahead::Bad => return Err(self.bad()),
+            Ahead::Body(body) => body,
+        };
+        let Some(change) = read_change(alloc, &body)? else {
+            return Err(self.bad());
+        };
+        self.end += HEAD_BYTES + body.len() as u64;
+        self.count = self.count.saturating_add(1);
+        Ok(Some(change))
     }
 
     /// Appends a record. It is written behind the gate, which is opened only once the record is durable, so a crash at

@@ -2,7 +2,8 @@
 //!
 //! A record stands behind a gate byte that is opened, by a write of its own, only once the record and the shut gate behind it
 //! are durable (`steps`, `journal`). So whatever a crash leaves of a torn write counts for nothing, and no checksum is trusted.
-//! A journal is read from the front, up to the first gate that isn't open (`ahead`). `Tape` is the file, with its crash model as
+//! A journal is read from the front, up to the first gate that isn't open (`ahead`), and each body as a change (`read_change`);
+//! `write_change` makes the body of a change. `Tape` is the file, with its crash model as
 //! ghost members: what a crash now may leave, and what one since an earlier moment might have left; `MemTape` is one in
 //! memory. Above: `journal_table`, its tables. Below: `sand_base`, and `script_text` for the bodies of changes.
 //! Contracts see a tape as a `TapeView` and a record as the bytes of its body; read `specs/Tape.antt`, `specs/Images.antt` and
@@ -11,16 +12,23 @@
 #![tactic(auto)]
 
 mod ahead;
+mod change;
 mod fault;
 mod gate;
 mod journal;
 mod laws;
 mod mem_tape;
+mod read_change;
+mod read_line;
+mod read_name;
+mod read_rows;
 mod record;
 mod steps;
 mod tape;
 mod tape_call;
+mod write_change;
 
+pub use change::{Change, Encodings};
 pub use fault::JournalFault;
 pub use journal::Journal;
 pub use laws::{

@@ -1,0 +1,2 @@
+-- How a tape is seen that tells nothing.
+pub mod Untold
