@@ -1,7 +1,7 @@
 //! Cursors over plans: the sources and stages of a plan put together, and asked for one row at a time.
 //!
 //! A plan that passed its checks becomes an operator: a source, and a stage for each operator over it, with all names
-//! looked up in the catalog. No page is read for that. Above: `plan_lines`. Below: `plan_cursor` for the steps of a
+//! looked up in the catalog. No page is read for that. Above: `open_cursors`. Below: `plan_cursor` for the steps of a
 //! cursor, the crates of sources and of stages, `plan_check` for the checks.
 //! Contracts see the cursor of the model; read `specs/Openable.antt` first, then `specs/Running.antt`.
 #![tactic(auto)]

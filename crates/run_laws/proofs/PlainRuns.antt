@@ -23,7 +23,7 @@ use Rattle.sand_model.specs.Statement.{Statement, Create, Insert, Delete, Load, 
 use Rattle.sand_model.specs.StatementChecks.{Setting, IsSetting, FileRows, AreRows, HasBad, check_length, check_ids, check_listings, entered, file_rows, indexed_by}
 use Rattle.sand_model.specs.Tree.{root_block, leaves}
 use Rattle.script_lines.specs.Lines.{ended_lines, clipped, chopped}
-use Rattle.script_run.specs.Spoken.{AreLines, IsLine, Tells, statement_of}
+use Rattle.line_meaning.specs.Spoken.{AreLines, IsLine, Tells, statement_of}
 use Rattle.script_text.specs.Line.{Reads}
 use Rattle.script_text.specs.Statement as text
 use Rattle.script_text.specs.Statement.{StatementValue}

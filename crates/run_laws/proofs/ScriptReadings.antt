@@ -3,7 +3,7 @@ use Rattle.std.proofs.Common.{◌≢◌, ℕ, List, [], ◌∷◌, Option, Some,
 use Rattle.line_laws.proofs.Readings.{reading_of}
 use Rattle.sand_model.specs.Statement.{ScriptLine, Blank, TooLong, BadToken, OutOfRange, Says}
 use Rattle.script_lines.specs.Lines.{chopped, clipped}
-use Rattle.script_run.specs.Spoken.{Tells, IsLine, AreLines, statement_of}
+use Rattle.line_meaning.specs.Spoken.{Tells, IsLine, AreLines, statement_of}
 use Rattle.script_text.specs.Statement.{StatementValue}
 use Rattle.script_text.specs.declared.parse.LineFault.{LineFault}
 use Rattle.script_text.specs.declared.parse.LineFault.TheVariants.{Memory, Syntax, Range}

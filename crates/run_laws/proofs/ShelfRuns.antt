@@ -8,7 +8,7 @@ use Rattle.sand_model.specs.Outcome.{Rises, IsRefusedBy}
 use Rattle.sand_model.specs.Run.{Run, LineOutcome}
 use Rattle.sand_model.specs.Statement.{ScriptLine, Says, Load}
 use Rattle.sand_model.specs.StatementChecks.{Setting}
-use Rattle.script_run.specs.ShelfRun.{Finds, ShelfRun, is_load}
+use Rattle.line_meaning.specs.ShelfRun.{Finds, ShelfRun, is_load}
 use Rattle.run_laws.specs.ShelfRuns.{RunsInTwo}
 
 -- what a line does in a setting, or that it is refused as out of memory

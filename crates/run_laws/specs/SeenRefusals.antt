@@ -8,7 +8,7 @@ use Rattle.sand_model.specs.Run.{Run, no_state}
 use Rattle.sand_model.specs.Statement.{ScriptLine}
 use Rattle.sand_model.specs.StatementChecks.{Setting, IsSetting}
 use Rattle.script_lines.specs.Lines.{ended_lines}
-use Rattle.script_run.specs.Spoken.{AreLines}
+use Rattle.line_meaning.specs.Spoken.{AreLines}
 
 -- the line begins with the word of a refusal
 abbrev pub begins_refused : List ℕ → Bool

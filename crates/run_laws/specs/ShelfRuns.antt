@@ -7,7 +7,7 @@ use Rattle.sand_model.specs.Outcome.{Rises}
 use Rattle.sand_model.specs.Run.{FitIn, Run}
 use Rattle.sand_model.specs.Statement.{ScriptLine}
 use Rattle.sand_model.specs.StatementChecks.{Setting}
-use Rattle.script_run.specs.ShelfRun.{ShelfRun, is_load}
+use Rattle.line_meaning.specs.ShelfRun.{ShelfRun, is_load}
 
 -- where the shelf tells its files, and the setting has them
 abbrev pub ToldShelvesGiveRuns : Type 0

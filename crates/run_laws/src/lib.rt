@@ -6,7 +6,7 @@
 //! `end` behind the last. A refused line changes nothing but, by the rows it printed, the cursor of a `next`; and the
 //! lines of the text that begin with `refused` are as many as were refused.
 //! Nothing runs here: each function is a law, its clause. Above: `session`, whose program carries runs out. Below:
-//! `sand_model`, which defines them, and `script_run` with `line_laws` for what lines say.
+//! `sand_model`, which defines them, and `line_meaning` with `line_laws` for what lines say.
 //! Read `specs/Lib.antt` and the files that it lists.
 #![tactic(auto)]
 
@@ -21,7 +21,7 @@ ghost use Rattle.run_laws.specs.Settings.{MomentsHaveSettings};
 ghost use Rattle.run_laws.specs.ShelfRuns.{ToldShelvesGiveRuns, ScriptsWithoutLoadsGiveRuns, ShelfRunsSplit};
 ghost use Rattle.run_laws.specs.Undisturbed.{RunsAreComplete};
 ghost use Rattle.sand_model.specs.Statement.{ScriptLine};
-ghost use Rattle.script_run.specs.Spoken.{AreLines};
+ghost use Rattle.line_meaning.specs.Spoken.{AreLines};
 
 /// The lines of every script say something, so what is promised of whatever they say is promised of every script.
 pub fn every_script_has_readings()

@@ -11,7 +11,7 @@ use Rattle.statement_exec.proofs.Texts.{adds_none}
 use Rattle.script_lines.specs.Lines.{lines, ended_lines}
 use Rattle.script_lines.specs.declared.TheConstants.{LONGEST_SCRIPT}
 use Rattle.script_lines.specs.declared.script_lines.ScriptLines.{ScriptLines}
-use Rattle.script_run.specs.Carrying.{CarriesLine, CarriesLines, Follows}
+use Rattle.line_meaning.specs.Carrying.{CarriesLine, CarriesLines, Follows}
 use Rattle.statement_exec.specs.Moment.{Moment, moment_of}
 use Rattle.statement_exec.specs.Printing.{Prints, PrintsSome}
 use Rattle.page_pool.specs.Disk.{DiskView}
@@ -21,12 +21,12 @@ use Rattle.sand_model.specs.Cursor.{State}
 use Rattle.sand_store.specs.Catalog.{StoreState, new_catalog}
 use Rattle.script_lines.specs.Reading.{Reads}
 use Rattle.session.specs.Outside.{SourceView, SinkView, Outside, outside_of}
-use Rattle.session.specs.Ends.{HasBegun, WritesRun, EndsBetween, Ends, first_moment, last_moment, standard_limits}
-use Rattle.session.specs.SoFar.{Place, place_of, SoFar, Draws, Grows, From, FromDrawn, GoesOn, Pauses, OfWhole, OfRead, IsOver, IsOfFirst, EndsText, EndsAt, ended}
+use Rattle.session.specs.Ends.{HasBegun, WritesRun, EndsBetween, Ends, first_moment, last_moment, standard_limits, HasReadAll, HasRead}
+use Rattle.session.specs.RunStates.{RunState, run_state, IsBetweenLines, Draws, Grows, FromBetweenLines, FromLineInHand, Leads, HasLineInHand, IsOver, IsOfFirst, EndsText, EndsAt, ended}
 use Rattle.session.specs.declared.status.Status.{Status}
 use Rattle.session.specs.declared.status.Status.TheVariants as status
 use Rattle.session.proofs.LinesSaid.{prints_run, prints_some_run}
-use Rattle.session.proofs.LinesCarried.{SoFar-begin, carried}
+use Rattle.session.proofs.LinesCarried.{begun_between, carried}
 
 -- The lines of a script are over: what was read, how the run over the lines given went, and what the end says.
 record Over (why : Status) (first now : Moment) (script left : Option (List ℕ)) (text : List ℕ) (b : Bool) : Type 0 where
@@ -38,7 +38,7 @@ record Over (why : Status) (first now : Moment) (script left : Option (List ℕ)
 
 -- the reader found no more line
 over : (why : Status) (first now : Moment) (script between left : Option (List ℕ)) (text : List ℕ) (reader reader' : ScriptLines) (b : Bool)
-    → Draws (Err why) reader reader' between left → SoFar first script text (place_of reader between now b)
+    → Draws (Err why) reader reader' between left → IsBetweenLines first script text (run_state reader between now b)
     → Over why first now script left text b
 over why first now script between left text reader reader' b draws so_far =
     let one = draws so_far.bytes so_far.given so_far.reads in
@@ -56,10 +56,10 @@ still took text P holds = ([], adds_none took, subst P (sym (append-nil text)) h
 
 -- the end of the script
 ends_done : (first now : Moment) (script left : Option (List ℕ)) (took : List ℕ → Type 0) (text : List ℕ) (b : Bool) → Over status.Done first now script left text b
-    → Grows took took text (λ all. OfWhole script left (λ bytes. Prints (CarriesLines (lines bytes) first now) b all))
+    → Grows took took text (λ all. HasReadAll script left (λ bytes. Prints (CarriesLines (lines bytes) first now) b all))
 ends_done first now script left took text b o =
     let whole : Prints (CarriesLines (lines o.bytes) first now) b text = subst (λ l. Prints (CarriesLines l first now) b text) (sym o.over.2) o.printed in
-    still took text (λ all. OfWhole script left (λ bytes. Prints (CarriesLines (lines bytes) first now) b all))
+    still took text (λ all. HasReadAll script left (λ bytes. Prints (CarriesLines (lines bytes) first now) b all))
     (o.over.0, (o.bytes, o.consumed, (o.over.1, whole)))
 
 -- by the status
@@ -68,11 +68,11 @@ ends_by : (why : Status) (first now : Moment) (script left : Option (List ℕ)) 
 ends_by status.Done first now script left took text true o = ends_done first now script left took text true o
 ends_by status.Done first now script left took text false o = ends_done first now script left took text false o
 ends_by status.ReadFault first now script left took text b o =
-    still took text (λ all. OfRead script left (λ bytes. (length bytes ≤ LONGEST_SCRIPT)
+    still took text (λ all. HasRead script left (λ bytes. (length bytes ≤ LONGEST_SCRIPT)
     × (some_refused : Bool) × Prints (CarriesLines (ended_lines bytes) first now) some_refused all))
     (o.bytes, o.consumed, (o.over.0, b, subst (λ l. Prints (CarriesLines l first now) b text) (sym o.over.1) o.printed))
 ends_by status.ScriptTooLong first now script left took text b o =
-    still took text (λ all. OfRead script left (λ bytes. (length bytes ≡ LONGEST_SCRIPT + 1)
+    still took text (λ all. HasRead script left (λ bytes. (length bytes ≡ LONGEST_SCRIPT + 1)
     × (some_refused : Bool) × Prints (CarriesLines (ended_lines (take LONGEST_SCRIPT bytes)) first now) some_refused all))
     (o.bytes, o.consumed, (o.over.0, b, subst (λ l. Prints (CarriesLines l first now) b text) (sym o.over.1) o.printed))
 ends_by status.SomeRefused first now script left took text b o = absurd o.over
@@ -85,25 +85,25 @@ ends_by status.DiskNotStarted first now script left took text b o = absurd o.ove
 ends_grown : (why : Status) (first last : Moment) (script left : Option (List ℕ)) (a b c : List ℕ → Type 0) (text more : List ℕ) → Adds a b more
     → EndsText why first last script left b c (text ++ more) → EndsText why first last script left a c text
 ends_grown status.Done first last script left a b c text more adds ends =
-    (more ++ ends.0, Adds-trans a b c more ends.0 adds ends.1, subst (λ t. OfWhole script left (λ bytes. Prints (CarriesLines (lines bytes) first last) false t)) (append_assoc text more ends.0) ends.2)
+    (more ++ ends.0, Adds-trans a b c more ends.0 adds ends.1, subst (λ t. HasReadAll script left (λ bytes. Prints (CarriesLines (lines bytes) first last) false t)) (append_assoc text more ends.0) ends.2)
 ends_grown status.SomeRefused first last script left a b c text more adds ends =
-    (more ++ ends.0, Adds-trans a b c more ends.0 adds ends.1, subst (λ t. OfWhole script left (λ bytes. Prints (CarriesLines (lines bytes) first last) true t)) (append_assoc text more ends.0) ends.2)
+    (more ++ ends.0, Adds-trans a b c more ends.0 adds ends.1, subst (λ t. HasReadAll script left (λ bytes. Prints (CarriesLines (lines bytes) first last) true t)) (append_assoc text more ends.0) ends.2)
 ends_grown status.ReadFault first last script left a b c text more adds ends = (
   more ++ ends.0,
   Adds-trans a b c more ends.0 adds ends.1,
-  subst (λ t. OfRead script left (λ bytes. (length bytes ≤ LONGEST_SCRIPT) × (some_refused : Bool) × Prints (CarriesLines (ended_lines bytes) first last) some_refused t))
+  subst (λ t. HasRead script left (λ bytes. (length bytes ≤ LONGEST_SCRIPT) × (some_refused : Bool) × Prints (CarriesLines (ended_lines bytes) first last) some_refused t))
       (append_assoc text more ends.0) ends.2,
 )
 ends_grown status.ScriptTooLong first last script left a b c text more adds ends = (
   more ++ ends.0,
   Adds-trans a b c more ends.0 adds ends.1,
-  subst (λ t. OfRead script left (λ bytes. (length bytes ≡ LONGEST_SCRIPT + 1) × (some_refused : Bool) × Prints (CarriesLines (ended_lines (take LONGEST_SCRIPT bytes)) first last) some_refused t))
+  subst (λ t. HasRead script left (λ bytes. (length bytes ≡ LONGEST_SCRIPT + 1) × (some_refused : Bool) × Prints (CarriesLines (ended_lines (take LONGEST_SCRIPT bytes)) first last) some_refused t))
       (append_assoc text more ends.0) ends.2,
 )
 ends_grown status.WriteFault first last script left a b c text more adds ends = (
   more ++ ends.0,
   AddsPrefix-past a b c more ends.0 adds ends.1,
-  subst (λ t. OfRead script left (λ bytes. (length bytes ≤ LONGEST_SCRIPT + 1) × IsOfFirst (lines bytes) first last t)) (append_assoc text more ends.0) ends.2,
+  subst (λ t. HasRead script left (λ bytes. (length bytes ≤ LONGEST_SCRIPT + 1) × IsOfFirst (lines bytes) first last t)) (append_assoc text more ends.0) ends.2,
 )
 ends_grown status.Usage first last script left a b c text more adds ends = absurd ends
 ends_grown status.NoMemory first last script left a b c text more adds ends = absurd ends
@@ -111,7 +111,7 @@ ends_grown status.DiskNotStarted first last script left a b c text more adds end
 
 -- the lines are over, behind a text that grew
 pub ends_grow : (first : Moment) (script : Option (List ℕ)) (text : List ℕ) (before took : List ℕ → Type 0) (why : Status) (reader reader' : ScriptLines) (between left : Option (List ℕ)) (now : Moment) (b : Bool) (result : Status)
-    → result ≡ ended why b → Draws (Err why) reader reader' between left → Grows before took text (λ all. SoFar first script all (place_of reader between now b)) → EndsAt result now left before took first script text
+    → result ≡ ended why b → Draws (Err why) reader reader' between left → Grows before took text (λ all. IsBetweenLines first script all (run_state reader between now b)) → EndsAt result now left before took first script text
 ends_grow first script text before took why reader reader' between left now b result is draws grown =
     let o = over why first now script between left (text ++ grown.0) reader reader' b draws grown.2 in
     let ends : EndsText result first now script left took took (text ++ grown.0) =
@@ -119,23 +119,23 @@ ends_grow first script text before took why reader reader' between left now b re
     (now.state, ends_grown result first now script left before took took text grown.0 grown.1 ends, grown.2.follows)
 
 -- the lines are over
-pub Ends-over : (old : Place) (before took : List ℕ → Type 0) (why : Status) (reader reader' : ScriptLines) (between left : Option (List ℕ)) (now : Moment) (b : Bool) (result : Status)
-    → result ≡ ended why b → GoesOn old (place_of reader between now b) before took → Draws (Err why) reader reader' between left
-    → From old (EndsAt result now left before took)
+pub Ends-over : (old : RunState) (before took : List ℕ → Type 0) (why : Status) (reader reader' : ScriptLines) (between left : Option (List ℕ)) (now : Moment) (b : Bool) (result : Status)
+    → result ≡ ended why b → Leads IsBetweenLines IsBetweenLines old (run_state reader between now b) before took → Draws (Err why) reader reader' between left
+    → FromBetweenLines old (EndsAt result now left before took)
 Ends-over old before took why reader reader' between left now b result is goes draws first script text so_far =
     ends_grow first script text before took why reader reader' between left now b result is draws (goes first script text so_far)
 
 -- a prefix of the output of the line in hand was written
-pub Ends-broken : (place : Place) (new : Moment) (before now : List ℕ → Type 0) → WritesPrefix (PrintsSome (CarriesLine place.reader.line place.now new)) before now
-    → Follows place.now new → FromDrawn place (EndsAt status.WriteFault new place.left before now)
+pub Ends-broken : (at : RunState) (new : Moment) (before now : List ℕ → Type 0) → WritesPrefix (PrintsSome (CarriesLine at.reader.line at.now new)) before now
+    → Follows at.now new → FromLineInHand at (EndsAt status.WriteFault new at.left before now)
 unfolding carried
-Ends-broken place new before now own follows first script text hand =
-    let so_far = carried first script text own.text place new own.holds.0 hand own.holds.1 follows in
+Ends-broken at new before now own follows first script text hand =
+    let so_far = carried first script text own.text at new own.holds.0 hand own.holds.1 follows in
     let breaks : IsOfFirst (lines hand.bytes) first new (text ++ own.text) = record {
       carried_out = so_far.given;
       others = hand.gives.others;
       first_of = hand.gives.first;
-      printed = (place.refused || own.holds.0, so_far.printed);
+      printed = (at.refused || own.holds.0, so_far.printed);
     } in
     (new.state, (own.text, own.prefix, (hand.bytes, hand.consumed, (hand.gives.most, breaks))), so_far.follows)
 
@@ -146,21 +146,14 @@ ends_past first script text a b c why last left more adds end =
     (end.0, ends_grown why first (record last { state = end.0 }) script left a b c text more adds end.1, end.2)
 
 -- the run paused, and then ended
-pub Ends-paused : (old mid : Place) (a b c : List ℕ → Type 0) (why : Status) (last : Moment) (left : Option (List ℕ)) → Pauses old mid a b
-    → FromDrawn mid (EndsAt why last left b c) → From old (EndsAt why last left a c)
+pub Ends-paused : (old mid : RunState) (a b c : List ℕ → Type 0) (why : Status) (last : Moment) (left : Option (List ℕ)) → Leads IsBetweenLines HasLineInHand old mid a b
+    → FromLineInHand mid (EndsAt why last left b c) → FromBetweenLines old (EndsAt why last left a c)
 Ends-paused old mid a b c why last left pauses ends first script text so_far =
     let grown = pauses first script text so_far in
     ends_past first script text a b c why last left grown.0 grown.1 (ends first script (text ++ grown.0) grown.2)
 
--- the run went on, and then ended
-pub Ends-after : (old mid : Place) (a b c : List ℕ → Type 0) (why : Status) (last : Moment) (left : Option (List ℕ)) → GoesOn old mid a b
-    → From mid (EndsAt why last left b c) → From old (EndsAt why last left a c)
-Ends-after old mid a b c why last left goes ends first script text so_far =
-    let grown = goes first script text so_far in
-    ends_past first script text a b c why last left grown.0 grown.1 (ends first script (text ++ grown.0) grown.2)
-
 -- what holds of a whole script holds where it is weaker
-whole_of : (script left : Option (List ℕ)) (P Q : List ℕ → Type 0) → ((bytes : List ℕ) → P bytes → Q bytes) → OfWhole script left P → OfWhole script left Q
+whole_of : (script left : Option (List ℕ)) (P Q : List ℕ → Type 0) → ((bytes : List ℕ) → P bytes → Q bytes) → HasReadAll script left P → HasReadAll script left Q
 whole_of script left P Q weaker (ended, (bytes, consumed, h)) = (ended, (bytes, consumed, (h.0, weaker bytes h.1)))
 
 -- the end of a run whose text began empty, told by what the source and the sink were
@@ -209,9 +202,9 @@ begun_of status.NoMemory first last script left before now text ends = absurd en
 begun_of status.DiskNotStarted first last script left before now text ends = absurd ends
 
 pub Begun-script : (why : Status) (reader : ScriptLines) (first last : Moment) (script left : Option (List ℕ)) (before now : List ℕ → Type 0) → ((left : Option (List ℕ)) → Reads reader left [] [])
-    → From (place_of reader script first false) (EndsAt why last left before now) → HasBegun why
+    → FromBetweenLines (run_state reader script first false) (EndsAt why last left before now) → HasBegun why
 Begun-script why reader first last script left before now none from =
-    let end = from first script [] (SoFar-begin reader first script none) in
+    let end = from first script [] (begun_between reader first script none) in
     begun_of why first (record last { state = end.0 }) script left before now [] end.1
 
 -- what a run between two moments leaves, told by what is outside
@@ -268,13 +261,13 @@ ends_store why begun ended frames limits old new state empty counted disk follow
 pub Ends-script : (why : Status) (reader : ScriptLines) (begun ended : StoreState) (frames : ℕ) (limits : Limits) (old new : Outside)
     → ((left : Option (List ℕ)) → Reads reader left [] [])
     → begun ≡ record { catalog = new_catalog limits; pool = new_pool begun.pool.disk frames } → begun.pool.disk.faults ≡ old.disk.faults → new.disk ≡ ended.pool.disk
-    → From (place_of reader old.source.left (moment_of begun old.shelf.files old.shelf.faults) false)
+    → FromBetweenLines (run_state reader old.source.left (moment_of begun old.shelf.files old.shelf.faults) false)
     (EndsAt why (moment_of ended new.shelf.files new.shelf.faults) new.source.left old.sink.took new.sink.took)
     → Ends why limits old new
 Ends-script why reader begun ended frames limits old new none empty counted disk from =
     let first = moment_of begun old.shelf.files old.shelf.faults in
     let last = moment_of ended new.shelf.files new.shelf.faults in
-    let end = from first old.source.left [] (SoFar-begin reader first old.source.left none) in
+    let end = from first old.source.left [] (begun_between reader first old.source.left none) in
     ends_store why begun ended frames limits old new end.0 empty counted disk end.2
     (between_of why first (record last { state = end.0 }) old.source new.source old.sink new.sink end.1)
 

@@ -8,5 +8,7 @@ pub mod Endings
 pub mod Answered
 -- How lines lead a run on while cursors are open.
 pub mod OpenRuns
+-- A line that is too long.
+pub mod LongLines
 -- How a run of a workload ends.
 pub mod WorkloadEndings

@@ -2,7 +2,6 @@
 use Rattle.std.proofs.Common.{◌≡◌, ℕ, Bool, true, false, ◌||◌, List, [], ◌∷◌, ◌++◌, Option, Ok, Err, refl, sym, ap, ◌∙◌, subst, append_assoc, append-nil}
 use Rattle.std.specs.List.{list_any}
 use Rattle.std.proofs.KnownBytes.{Consumes-trans, Consumes-nil}
-use Rattle.sand_base.specs.Streams.{Stays}
 use Rattle.sand_model.specs.OutputText.{is_refused}
 use Rattle.output_text.specs.Writing.{Writes}
 use Rattle.output_text.proofs.WrittenPrefix.{Adds-trans}
@@ -12,16 +11,16 @@ use Rattle.script_lines.specs.declared.script_lines.Found.{Found}
 use Rattle.script_lines.specs.declared.script_lines.Found.TheVariants as found
 use Rattle.script_lines.specs.declared.script_lines.ScriptLines.{ScriptLines}
 use Rattle.sand_model.specs.Statement.{ScriptLine}
-use Rattle.script_run.specs.Carrying.{CarriesLine, CarriesLines, Follows, InEach}
-use Rattle.script_run.specs.ShelfRun.{ShelfRun}
-use Rattle.script_run.specs.Spoken.{AreLines}
-use Rattle.script_run.specs.Said.{AreAnswered}
-use Rattle.script_run.proofs.Runs.{lines_append, follows_on, follows_itself}
+use Rattle.line_meaning.specs.Carrying.{CarriesLine, CarriesLines, Follows, InEach}
+use Rattle.line_meaning.specs.ShelfRun.{ShelfRun}
+use Rattle.line_meaning.specs.Spoken.{AreLines}
+use Rattle.line_meaning.specs.Said.{AreAnswered}
+use Rattle.line_meaning.proofs.Runs.{lines_append, follows_on, follows_itself}
 use Rattle.statement_exec.specs.Moment.{Moment, rises_between}
 use Rattle.statement_exec.proofs.CausedLines.{caused_none}
 use Rattle.statement_exec.specs.Printing.{Prints}
 use Rattle.statement_exec.proofs.Texts.{text_append, adds_none}
-use Rattle.session.specs.SoFar.{Place, place_of, SoFar, Drawn, Draws, Grows, GoesOn, Pauses, Resumes}
+use Rattle.session.specs.RunStates.{RunState, run_state, IsBetweenLines, HasLineInHand, Draws, Grows, Leads}
 use Rattle.session.specs.declared.status.Status.TheVariants as status
 
 -- no line leads nowhere
@@ -40,9 +39,9 @@ list_any-append p (x ∷ xs) ys =
     ap (λ t. p x || t) (list_any-append p xs ys) ∙ go (p x) (list_any p xs) (list_any p ys)
 
 -- before the first line
-pub SoFar-begin : (reader : ScriptLines) (first : Moment) (script : Option (List ℕ)) → ((left : Option (List ℕ)) → Reads reader left [] [])
-    → SoFar first script [] (place_of reader script first false)
-SoFar-begin reader first script begun = record {
+pub begun_between : (reader : ScriptLines) (first : Moment) (script : Option (List ℕ)) → ((left : Option (List ℕ)) → Reads reader left [] [])
+    → IsBetweenLines first script [] (run_state reader script first false)
+begun_between reader first script begun = record {
   bytes = [];
   given = [];
   consumed = Consumes-nil script;
@@ -52,19 +51,19 @@ SoFar-begin reader first script begun = record {
 }
 
 -- nothing was carried out
-pub GoesOn-begin : (place : Place) (took : List ℕ → Type 0) → GoesOn place place took took
-GoesOn-begin place took first script text so_far = ([], adds_none took, subst (λ t. SoFar first script t place) (sym (append-nil text)) so_far)
+pub leads_nowhere : (at : RunState) (took : List ℕ → Type 0) → Leads IsBetweenLines IsBetweenLines at at took took
+leads_nowhere at took first script text so_far = ([], adds_none took, subst (λ t. IsBetweenLines first script t at) (sym (append-nil text)) so_far)
 
 -- a text grew, and then grew on
-pub Grows-more : (a b c : List ℕ → Type 0) (text : List ℕ) (P Q : List ℕ → Type 0) → Grows a b text P → ((all : List ℕ) → P all → Grows b c all Q) → Grows a c text Q
-Grows-more a b c text P Q grown next =
+pub grows_more : (a b c : List ℕ → Type 0) (text : List ℕ) (P Q : List ℕ → Type 0) → Grows a b text P → ((all : List ℕ) → P all → Grows b c all Q) → Grows a c text Q
+grows_more a b c text P Q grown next =
     let more = next (text ++ grown.0) grown.2 in
     (grown.0 ++ more.0, Adds-trans a b c grown.0 more.0 grown.1 more.1, subst Q (append_assoc text grown.0 more.0) more.2)
 
 -- the next line is in hand
 pub drawn : (first : Moment) (script between left : Option (List ℕ)) (text : List ℕ) (reader reader' : ScriptLines) (now : Moment) (b is_long : Bool)
-    → Draws (Ok is_long) reader reader' between left → SoFar first script text (place_of reader between now b)
-    → Drawn first script text (place_of reader' left now b)
+    → Draws (Ok is_long) reader reader' between left → IsBetweenLines first script text (run_state reader between now b)
+    → HasLineInHand first script text (run_state reader' left now b)
 drawn first script between left text reader reader' now b is_long draws so_far =
     let one = draws.2 so_far.bytes so_far.given so_far.reads in
     record {
@@ -77,23 +76,23 @@ drawn first script between left text reader reader' now b is_long draws so_far =
     }
 
 -- the line in hand was carried out
-unfoldable pub carried : (first : Moment) (script : Option (List ℕ)) (text own : List ℕ) (place : Place) (new : Moment) (r : Bool)
-    → Drawn first script text place → Prints (CarriesLine place.reader.line place.now new) r own → Follows place.now new
-    → SoFar first script (text ++ own) (place_of place.reader place.left new (place.refused || r))
-carried first script text own place new r hand prints follows =
+unfoldable pub carried : (first : Moment) (script : Option (List ℕ)) (text own : List ℕ) (at : RunState) (new : Moment) (r : Bool)
+    → HasLineInHand first script text at → Prints (CarriesLine at.reader.line at.now new) r own → Follows at.now new
+    → IsBetweenLines first script (text ++ own) (run_state at.reader at.left new (at.refused || r))
+carried first script text own at new r hand prints follows =
     let gives = hand.gives in
     let ran = hand.printed in
-    let own_ran : CarriesLine (clipped gives.line) place.now new prints.lines =
-    subst (λ line. CarriesLine line place.now new prints.lines) gives.hand prints.holds in
+    let own_ran : CarriesLine (clipped gives.line) at.now new prints.lines =
+    subst (λ line. CarriesLine line at.now new prints.lines) gives.hand prints.holds in
     record {
       bytes = hand.bytes;
       given = hand.given ++ gives.line ∷ [];
       consumed = hand.consumed;
       reads = gives.reads;
-      follows = follows_on first place.now new hand.follows follows;
+      follows = follows_on first at.now new hand.follows follows;
       printed = record {
         lines = ran.lines ++ prints.lines;
-        holds = lines_append first place.now new hand.given gives.line ran.lines prints.lines hand.follows follows ran.holds own_ran;
+        holds = lines_append first at.now new hand.given gives.line ran.lines prints.lines hand.follows follows ran.holds own_ran;
         told = text_append ran.lines prints.lines text own ran.told prints.told;
         refused = ap (λ t. t || r) ran.refused ∙ ap (λ t. list_any is_refused ran.lines || t) prints.refused
             ∙ sym (list_any-append is_refused ran.lines prints.lines);
@@ -101,38 +100,27 @@ carried first script text own place new r hand prints follows =
     }
 
 -- the line in hand was carried out, and its lines of output were written
-pub Resumes-line : (old : Place) (new : Moment) (before now : List ℕ → Type 0) (r t : Bool) → Writes (Prints (CarriesLine old.reader.line old.now new) r) before now
-    → Follows old.now new → t ≡ (old.refused || r) → Resumes old (place_of old.reader old.left new t) before now
-Resumes-line old new before now r t own follows joined first script text hand = (
+pub hand_carried : (old : RunState) (new : Moment) (before now : List ℕ → Type 0) (r t : Bool) → Writes (Prints (CarriesLine old.reader.line old.now new) r) before now
+    → Follows old.now new → t ≡ (old.refused || r) → Leads HasLineInHand IsBetweenLines old (run_state old.reader old.left new t) before now
+hand_carried old new before now r t own follows joined first script text hand = (
   own.text,
   own.written,
-  subst (λ b. SoFar first script (text ++ own.text) (place_of old.reader old.left new b)) (sym joined)
+  subst (λ b. IsBetweenLines first script (text ++ own.text) (run_state old.reader old.left new b)) (sym joined)
       (carried first script text own.text old new r hand own.holds follows),
 )
 
 -- one more line was drawn
-pub Pauses-drawn : (old : Place) (before took : List ℕ → Type 0) (reader reader' : ScriptLines) (between left : Option (List ℕ)) (now : Moment) (b is_long : Bool)
-    → GoesOn old (place_of reader between now b) before took → Draws (Ok is_long) reader reader' between left
-    → Pauses old (place_of reader' left now b) before took
-Pauses-drawn old before took reader reader' between left now b is_long goes draws first script text so_far =
+pub then_drawn : (old : RunState) (before took : List ℕ → Type 0) (reader reader' : ScriptLines) (between left : Option (List ℕ)) (now : Moment) (b is_long : Bool)
+    → Leads IsBetweenLines IsBetweenLines old (run_state reader between now b) before took → Draws (Ok is_long) reader reader' between left
+    → Leads IsBetweenLines HasLineInHand old (run_state reader' left now b) before took
+then_drawn old before took reader reader' between left now b is_long goes draws first script text so_far =
     let grown = goes first script text so_far in
     (grown.0, grown.1, drawn first script between left (text ++ grown.0) reader reader' now b is_long draws grown.2)
 
 -- the run paused, and then resumed
-pub GoesOn-resumed : (old mid new : Place) (a b c : List ℕ → Type 0) → Pauses old mid a b → Resumes mid new b c → GoesOn old new a c
-GoesOn-resumed old mid new a b c pauses resumes first script text so_far =
-    Grows-more a b c text (λ all. Drawn first script all mid) (λ all. SoFar first script all new) (pauses first script text so_far) (λ all hand. resumes first script all hand)
-
--- the run went on, and then paused
-pub Pauses-after : (old mid new : Place) (a b c : List ℕ → Type 0) → GoesOn old mid a b → Pauses mid new b c → Pauses old new a c
-Pauses-after old mid new a b c goes pauses first script text so_far =
-    Grows-more a b c text (λ all. SoFar first script all mid) (λ all. Drawn first script all new) (goes first script text so_far) (λ all mid_so_far. pauses first script all mid_so_far)
-
--- where nothing more was written and the moment is the same, the run still pauses
-pub Pauses-still : (old mid new : Place) (a b c : List ℕ → Type 0) → Pauses old mid a b → Stays b c → new ≡ mid → Pauses old new a c
-Pauses-still old mid new a b c pauses stays same first script text so_far =
-    let grown = pauses first script text so_far in
-    (grown.0, λ bytes taken. stays (bytes ++ grown.0) (grown.1 bytes taken), subst (λ p. Drawn first script (text ++ grown.0) p) (sym same) grown.2)
+pub then_carried : (old mid new : RunState) (a b c : List ℕ → Type 0) → Leads IsBetweenLines HasLineInHand old mid a b → Leads HasLineInHand IsBetweenLines mid new b c → Leads IsBetweenLines IsBetweenLines old new a c
+then_carried old mid new a b c pauses resumes first script text so_far =
+    grows_more a b c text (λ all. HasLineInHand first script all mid) (λ all. IsBetweenLines first script all new) (pauses first script text so_far) (λ all hand. resumes first script all hand)
 
 -- the byte too many
 pub Draws-over : (old new : ScriptLines) (before left : Option (List ℕ)) (f : Found) → f ≡ found.ScriptTooLong → Pulls (Ok f) old new before left

@@ -2,7 +2,7 @@
 use Rattle.std.proofs.Common.{ℕ, Bool, List}
 use Rattle.run_laws.proofs.ScriptReadings.{script_told}
 use Rattle.sand_model.specs.Cursor.{OutputLine}
-use Rattle.script_run.specs.Carrying.{CarriesLines}
+use Rattle.line_meaning.specs.Carrying.{CarriesLines}
 use Rattle.statement_exec.specs.Moment.{Moment}
 use Rattle.statement_exec.specs.Printing.{Prints, PrintsSome}
 use Rattle.session.specs.Ends.{RunsOver}

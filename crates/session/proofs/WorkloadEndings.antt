@@ -57,7 +57,7 @@ module _ (n : ℕ) (limits : Limits) (script left : List ℕ) (disk disk' : Disk
   work_after = outside_of (Some left) 0 (Some empty_files) 0 disk' (HasTallied new) 0
 
   -- what was read is the whole script
-  whole : (b : Bool) (first last : Moment) → HasReadAll work_before.source work_after.source (λ bytes. WritesRun (lines bytes) b first last work_before.sink work_after.sink)
+  whole : (b : Bool) (first last : Moment) → HasReadAll work_before.source.left work_after.source.left (λ bytes. WritesRun (lines bytes) b first last work_before.sink work_after.sink)
       → WritesRun (lines script) b first last work_before.sink work_after.sink
   whole b first last (ended, (bytes, consumed, h)) =
       Consumes-whole (Some script) (Some left) bytes (λ read. WritesRun (lines read) b first last work_before.sink work_after.sink) consumed ended h.1

@@ -1,5 +1,5 @@
 -- How a run may end: the whole promise, by the status.
-use Rattle.std.specs.Prelude.{◌≡◌, ◌≢◌, ⊤, ℕ, ◌+◌, ◌≤◌, Bool, true, false, List, [], ◌++◌, length, take}
+use Rattle.std.specs.Prelude.{◌≡◌, ◌≢◌, ⊤, ℕ, ◌+◌, ◌≤◌, Bool, true, false, List, [], ◌++◌, length, take, Option}
 use Rattle.std.specs.Io.KnownBytes.{Consumes, IsAtEnd}
 use Rattle.clap.specs.Words.{fault_of}
 use Rattle.page_pool.specs.declared.fault.PageFault.{PageFault}
@@ -14,10 +14,10 @@ use Rattle.sand_model.specs.Statement.{ScriptLine}
 use Rattle.output_text.specs.Writing.{Writes, WritesPrefix}
 use Rattle.script_lines.specs.Lines.{lines, ended_lines}
 use Rattle.script_lines.specs.declared.TheConstants.{LONGEST_SCRIPT}
-use Rattle.script_run.specs.Carrying.{InEach}
-use Rattle.script_run.specs.Said.{AreAnswered}
-use Rattle.script_run.specs.ShelfRun.{ShelfRun}
-use Rattle.script_run.specs.Spoken.{AreLines}
+use Rattle.line_meaning.specs.Carrying.{InEach}
+use Rattle.line_meaning.specs.Said.{AreAnswered}
+use Rattle.line_meaning.specs.ShelfRun.{ShelfRun}
+use Rattle.line_meaning.specs.Spoken.{AreLines}
 use Rattle.statement_exec.specs.Causes.{AreCaused}
 use Rattle.statement_exec.specs.Moment.{Moment, rises_between}
 use Rattle.statement_exec.specs.Printing.{Prints, PrintsSome}
@@ -43,12 +43,12 @@ pub record BreaksRun (script : List (List ℕ)) (first last : Moment) (before no
   pub prefix : WritesPrefix (PrintsSome (RunsOver carried_out first last)) before.took now.took
 
 -- these bytes were read of the script, and have what is said of them
-abbrev pub HasRead : SourceView → SourceView → (List ℕ → Type 0) → Type 0
-HasRead before left P = (bytes : List ℕ) × Consumes before.left left.left bytes × P bytes
+abbrev pub HasRead : Option (List ℕ) → Option (List ℕ) → (List ℕ → Type 0) → Type 0
+HasRead before left P = (bytes : List ℕ) × Consumes before left bytes × P bytes
 
 -- the source is at its end: the bytes read are its whole script, which isn't too long and has what is said of it
-abbrev pub HasReadAll : SourceView → SourceView → (List ℕ → Type 0) → Type 0
-HasReadAll before left P = IsAtEnd left.left × HasRead before left (λ bytes. (length bytes ≤ LONGEST_SCRIPT) × P bytes)
+abbrev pub HasReadAll : Option (List ℕ) → Option (List ℕ) → (List ℕ → Type 0) → Type 0
+HasReadAll before left P = IsAtEnd left × HasRead before left (λ bytes. (length bytes ≤ LONGEST_SCRIPT) × P bytes)
 
 -- What a run from one moment to another leaves, by its status, of the source and the sink. With `Done` and `SomeRefused`
 -- the text of a run over all lines was written, and no line or some line was refused. With `ReadFault` and `ScriptTooLong`
@@ -56,17 +56,17 @@ HasReadAll before left P = IsAtEnd left.left × HasRead before left (λ bytes. (
 -- a prefix of the text of the lines carried out, which are the first of those read.
 abbrev pub EndsBetween : Status → Moment → Moment → SourceView → SourceView → SinkView → SinkView → Type 0
 EndsBetween status.Done first last before left sink sink' =
-    HasReadAll before left (λ bytes. WritesRun (lines bytes) false first last sink sink')
+    HasReadAll before.left left.left (λ bytes. WritesRun (lines bytes) false first last sink sink')
 EndsBetween status.SomeRefused first last before left sink sink' =
-    HasReadAll before left (λ bytes. WritesRun (lines bytes) true first last sink sink')
+    HasReadAll before.left left.left (λ bytes. WritesRun (lines bytes) true first last sink sink')
 EndsBetween status.ReadFault first last before left sink sink' =
-    HasRead before left (λ bytes. (length bytes ≤ LONGEST_SCRIPT)
+    HasRead before.left left.left (λ bytes. (length bytes ≤ LONGEST_SCRIPT)
     × (some_refused : Bool) × WritesRun (ended_lines bytes) some_refused first last sink sink')
 EndsBetween status.ScriptTooLong first last before left sink sink' =
-    HasRead before left (λ bytes. (length bytes ≡ LONGEST_SCRIPT + 1)
+    HasRead before.left left.left (λ bytes. (length bytes ≡ LONGEST_SCRIPT + 1)
     × (some_refused : Bool) × WritesRun (ended_lines (take LONGEST_SCRIPT bytes)) some_refused first last sink sink')
 EndsBetween status.WriteFault first last before left sink sink' =
-    HasRead before left (λ bytes. (length bytes ≤ LONGEST_SCRIPT + 1) × BreaksRun (lines bytes) first last sink sink')
+    HasRead before.left left.left (λ bytes. (length bytes ≤ LONGEST_SCRIPT + 1) × BreaksRun (lines bytes) first last sink sink')
 EndsBetween _ first last before left sink sink' = ⊥
 
 -- the moment before the first line; whether the disk tells is read off the disk that is handed back

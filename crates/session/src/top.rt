@@ -10,29 +10,38 @@ use crate::Status;
 use crate::script::carry_script;
 use crate::start::start;
 use crate::workload::run_workload;
+use crate::workspace::Workspace;
 use page_pool::Disk;
 use run_words::{WordFault, Words, read_words};
 use sand_base::{Label, Limits, NoMemory, Shelf, Sink, Source};
 use sand_store::Store;
-use script_lines::ScriptLines;
 use std::alloc::Global;
 
 // Carries the script out on a store of no relations, and hands the disk back.
 fn run_store<S: Source, H: Shelf, D: Disk, K: Sink>(
     alloc: Global,
     store: Store<D>,
-    lines: &mut ScriptLines,
+    held: &mut Workspace,
     script: &mut S,
     shelf: &mut H,
     out: &mut K,
 ) -> (Status, D)
-    requires begun { (left : Option (List ℕ)) → Reads lines.old left [] [] }
+    requires begun { (left : Option (List ℕ)) → Reads held.old.lines left [] [] }
+    requires none { held.old.cursors.items ≡ [] }
     requires empty { store ≡ record { catalog = new_catalog store.catalog.limits; pool = new_pool store.pool.disk store.pool.frames } }
     ensures promise { Ends result.0 store.catalog.limits (outside_of (S.left script.old) (S.faults script.old) (H.files shelf.old) (H.faults shelf.old) store.pool.disk (K.took out.old) (K.faults out.old)) (outside_of (S.left script.new) (S.faults script.new) (H.files shelf.new) (H.faults shelf.new) (D.seen result.1) (K.took out.new) (K.faults out.new)) }
     ensures cause { IsCaused result.0 (S.faults script.old) (S.faults script.new) (K.faults out.old) (K.faults out.new) }
     ensures begun { HasBegun result.0 }
 {
-    let (store, status) = carry_script(alloc, store, lines, script, shelf, out);
+    let (store, status) = carry_script(
+        alloc,
+        store,
+        &mut held.cursors,
+        &mut held.lines,
+        script,
+        shelf,
+        out,
+    );
     (status, store.into_disk())
 }
 
@@ -41,7 +50,7 @@ pub(crate) fn run_started<S: Source, H: Shelf, D: Disk, K: Sink>(
     alloc: Global,
     limits: Limits,
     asked: &Words,
-    lines: &mut ScriptLines,
+    held: &mut Workspace,
     script: &mut S,
     shelf: &mut H,
     disk: D,
@@ -50,13 +59,14 @@ pub(crate) fn run_started<S: Source, H: Shelf, D: Disk, K: Sink>(
     requires least { 16 ≤ asked.now.frames }
     requires most { asked.now.frames ≤ 4096 }
     requires limits { IsLimits limits }
-    requires begun { (left : Option (List ℕ)) → Reads lines.old left [] [] }
+    requires begun { (left : Option (List ℕ)) → Reads held.old.lines left [] [] }
+    requires none { held.old.cursors.items ≡ [] }
     ensures promise { Ends result.0 limits (outside_of (S.left script.old) (S.faults script.old) (H.files shelf.old) (H.faults shelf.old) (D.seen disk) (K.took out.old) (K.faults out.old)) (outside_of (S.left script.new) (S.faults script.new) (H.files shelf.new) (H.faults shelf.new) (D.seen result.1) (K.took out.new) (K.faults out.new)) }
     ensures cause { IsCaused result.0 (S.faults script.old) (S.faults script.new) (K.faults out.old) (K.faults out.new) }
     ensures taken { IsTaken result.0 }
 {
     match start(alloc, disk, asked, limits) {
-        Ok(store) => run_store(alloc, store, lines, script, shelf, out),
+        Ok(store) => run_store(alloc, store, held, script, shelf, out),
         Err((status, disk)) => (status, disk),
     }
 }
@@ -82,10 +92,13 @@ fn run_asked<S: Source, H: Shelf, D: Disk, K: Sink>(
     if let Some(n) = asked.workload {
         return run_workload(alloc, limits, asked, n, disk, out);
     }
-    match ScriptLines::new(alloc) {
-        Ok(mut lines) => run_started(alloc, limits, asked, &mut lines, script, shelf, disk, out),
-        Err(NoMemory {}) => (Status::NoMemory, disk),
-    }
+    let mut held = match Workspace::new(alloc) {
+        Ok(held) => held,
+        Err(NoMemory {}) => return (Status::NoMemory, disk),
+    };
+    let ended = run_started(alloc, limits, asked, &mut held, script, shelf, disk, out);
+    held.close();
+    ended
 }
 
 /// Reads a script, carries its lines out in order and writes their lines of output. The limits stand in the place of the

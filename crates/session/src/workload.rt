@@ -17,12 +17,12 @@ ghost use Rattle.session.specs.Workload.{EndsWorkload};
 
 use crate::Status;
 use crate::top::run_started;
+use crate::workspace::Workspace;
 use output_text::write_all;
 use page_pool::Disk;
 use run_summary::TallySink;
 use run_words::Words;
 use sand_base::{Failed, Limits, NoMemory, Sink};
-use script_lines::ScriptLines;
 use std::alloc::Global;
 use work_source::{EmptyShelf, WorkSource, line_count};
 
@@ -45,7 +45,7 @@ fn run_tallied<D: Disk>(
     limits: Limits,
     asked: &Words,
     n: u32,
-    lines: &mut ScriptLines,
+    held: &mut Workspace,
     disk: D,
 ) -> (Status, D, TallySink)
     requires one { 1 ≤ n }
@@ -53,7 +53,8 @@ fn run_tallied<D: Disk>(
     requires least { 16 ≤ asked.now.frames }
     requires most { asked.now.frames ≤ 4096 }
     requires limits { IsLimits limits }
-    requires begun { (left : Option (List ℕ)) → Reads lines.old left [] [] }
+    requires begun { (left : Option (List ℕ)) → Reads held.old.lines left [] [] }
+    requires none { held.old.cursors.items ≡ [] }
     ensures tallied { Tallies n result.0 limits (without_streams (D.seen disk)) (without_streams (D.seen result.1)) result.2 }
 {
     let mut script = WorkSource::new(n);
@@ -63,7 +64,7 @@ fn run_tallied<D: Disk>(
         alloc,
         limits,
         asked,
-        lines,
+        held,
         &mut script,
         &mut shelf,
         disk,
@@ -90,11 +91,12 @@ pub(crate) fn run_workload<D: Disk, K: Sink>(
     ensures cause { (reads : ℕ) → IsCaused result.0 reads reads (K.faults out.old) (K.faults out.new) }
     ensures taken { IsTaken result.0 }
 {
-    let mut lines = match ScriptLines::new(alloc) {
-        Ok(lines) => lines,
+    let mut held = match Workspace::new(alloc) {
+        Ok(held) => held,
         Err(NoMemory {}) => return (Status::NoMemory, disk),
     };
-    let (status, disk, tally) = run_tallied(alloc, limits, asked, n, &mut lines, disk);
+    let (status, disk, tally) = run_tallied(alloc, limits, asked, n, &mut held, disk);
+    held.close();
     match status {
         Status::Done | Status::SomeRefused => match sum_up(tally, n, out) {
             Ok(()) => (status, disk),

@@ -25,3 +25,4 @@ pub mod LeafLoop
 pub mod ColumnTrees
 pub mod BlocksCalls
 pub mod Endings
+pub mod Written

@@ -1,8 +1,8 @@
 //! The statements that change relations or print leaves, carried out on a store.
 //!
 //! Each statement is one call: it makes one call of the store, or reads its pages, and its line is printed behind it. A
-//! load reads its file first, so that a record that is no row is refused before any page is touched. `blocks` parts the
-//! store, finds leaf after leaf by its code and prints each before it looks for the next. Above: `session`. Below:
+//! load reads its file first, so that a record that is no row is refused before any page is touched. `blocks`
+//! finds leaf after leaf by its code and prints each before it looks for the next. Above: `open_cursors`, `line_exec`. Below:
 //! `sand_store` for the relations, `csv_load` for data files, `output_text` for lines. Contracts see a moment: the
 //! relations and open cursors with what the disk and the shelf tell and have counted. A clause says that a statement
 //! led from one moment to another as the outcome of the model does, in every setting of the first. Read
@@ -23,8 +23,8 @@ mod loading;
 mod reply;
 mod stop;
 
-pub use answers::{print_answer, print_refusal};
-pub use column_blocks::{blocks, print_blocks};
+pub use answers::{end_with, finish, refuse};
+pub use column_blocks::print_blocks;
 pub use creating::create;
 pub use deleting::delete;
 pub use indexing::index;

@@ -1,2 +1,0 @@
--- What is carried out beside open cursors.
-pub mod Carried

@@ -1,0 +1,8 @@
+-- What a statement does beside open cursors is what its line does.
+pub mod SaidLines
+-- Moments that follow one another.
+pub mod Moments
+-- What a line does, from what its statement does.
+pub mod LineSteps
+-- A store that is lent.
+pub mod Lent

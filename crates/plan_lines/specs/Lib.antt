@@ -1,2 +1,0 @@
--- Where cursors over plans stand, and what opening one does.
-pub mod PlanCursors
