@@ -59,6 +59,7 @@ pub fn filled<D: Disk + Drop>(
 // That page 1 comes back damaged shows that the disk doesn't tell.
 fn is_untold(pool: &mut Pool<ShyDisk>) -> bool
     ensures closed { pool.new.beginning ≡ pool.old.beginning }
+    ensures shown { pool.new.live ≡ pool.old.live }
     ensures untold { IsTrue result → pool.new.disk.told ≡ false }
 {
     if !pool.is_live(1) {
@@ -88,6 +89,7 @@ pub fn untold_pool(alloc: Global, frames: u32, fails: u32) -> Result<Pool<ShyDis
 // Reads a page, where it is live.
 fn read(pool: &mut Pool<ShyDisk>, number: u64) -> Result<(), PageFault>
     ensures beginning { pool.new.beginning ≡ pool.old.beginning }
+    ensures shown { pool.new.live ≡ pool.old.live }
     ensures told { pool.new.disk.told ≡ pool.old.disk.told }
 {
     if !pool.is_live(number) {

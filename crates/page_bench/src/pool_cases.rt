@@ -97,7 +97,8 @@ fn started(alloc: Global, fails: Vec<u64>) -> Result<(Pool<MemDisk>, u64), PageF
 
 // Reads the page, which must be what it was made. False where the disk refuses it.
 fn reads(run: &mut Trial, n: u8) -> bool
-    ensures { run.new.pool.beginning ≡ run.old.pool.beginning }
+    ensures beginning { run.new.pool.beginning ≡ run.old.pool.beginning }
+    ensures shown { run.new.pool.live ≡ run.old.pool.live }
 {
     let byte = run.seen.bytes[usize::from(n)];
     match run.pool.live_page(u64::from(n)) {
@@ -119,7 +120,8 @@ fn reads(run: &mut Trial, n: u8) -> bool
 
 // Reads these pages, each a second time where it is refused.
 fn read_all(run: &mut Trial, first: u8, last: u8)
-    ensures { run.new.pool.beginning ≡ run.old.pool.beginning }
+    ensures beginning { run.new.pool.beginning ≡ run.old.pool.beginning }
+    ensures shown { run.new.pool.live ≡ run.old.pool.live }
 {
     'pages: for n in first..=last {
         if !reads(run, n) {

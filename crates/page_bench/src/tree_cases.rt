@@ -23,6 +23,7 @@ fn is_same(
 ) -> Result<bool, PageFault>
     requires untold { pool.old.disk.told ≡ false }
     ensures beginning { pool.new.beginning ≡ pool.old.beginning }
+    ensures shown { pool.new.live ≡ pool.old.live }
     ensures untold { pool.new.disk.told ≡ false }
 {
     'leaves: for leaf in &plain.leaves {
@@ -181,6 +182,7 @@ fn begun(alloc: Global, course: Course) -> Result<Trial, PageFault>
 fn agrees(alloc: Global, trial: &mut Trial) -> bool
     requires untold { trial.old.pool.disk.told ≡ false }
     ensures beginning { trial.new.pool.beginning ≡ trial.old.pool.beginning }
+    ensures shown { trial.new.pool.live ≡ trial.old.pool.live }
     ensures untold { trial.new.pool.disk.told ≡ false }
 {
     match is_same(alloc, &mut trial.pool, &trial.tree, &trial.plain) {
@@ -193,6 +195,7 @@ fn agrees(alloc: Global, trial: &mut Trial) -> bool
 fn compare(alloc: Global, trial: &mut Trial)
     requires untold { trial.old.pool.disk.told ≡ false }
     ensures beginning { trial.new.pool.beginning ≡ trial.old.pool.beginning }
+    ensures shown { trial.new.pool.live ≡ trial.old.pool.live }
     ensures untold { trial.new.pool.disk.told ≡ false }
 {
     match is_same(alloc, &mut trial.pool, &trial.tree, &trial.plain) {
