@@ -19,6 +19,7 @@
 mod archive;
 mod boxed_disk;
 mod cache;
+mod chains;
 mod desk;
 mod digests;
 mod disk;

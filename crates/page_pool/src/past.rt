@@ -4,6 +4,7 @@ ghost use Rattle.std.specs.FinSet as set;
 ghost use Rattle.std.specs.Option.{option_copied};
 ghost use Rattle.page_pool.specs.Images.{IsUnseen, is_shown, past_map, past_seen};
 
+use crate::chains::Chains;
 use crate::held::Held;
 use sand_base::NoMemory;
 use std::alloc::Global;
@@ -27,10 +28,14 @@ impl Past {
     }
 }
 
-/// The replaced images by the places where they lie.
+/// How many images of a page are looked at before all are gone through.
+const MOST_LOOKS: u8 = 64;
+
+/// The replaced images by the places where they lie, and where those of each page lie, to be looked at first.
 #[derive(Drop)]
 pub(crate) struct Replaced {
     images: BTreeMap<u64, Past>,
+    chains: Chains,
 }
 
 impl Model for Replaced {
@@ -51,6 +56,7 @@ impl Replaced {
     {
         Replaced {
             images: BTreeMap::new(alloc),
+            chains: Chains::new(alloc),
         }
     }
 
@@ -59,13 +65,16 @@ impl Replaced {
         ensures unchanged { OnErr result (self.new ≡ self.old) }
     {
         self.images.insert(place, past)?;
+        let _ = self.chains.add(past.number, place);
         Ok(())
     }
 
     pub(crate) fn remove(&mut self, place: u64)
         ensures { self.new ≡ map.remove self.old place }
     {
-        self.images.remove(&place);
+        if let Some(past) = self.images.remove(&place) {
+            let _ = self.chains.remove(past.number, place);
+        }
     }
 
     // The place, from this one on, of an image that no held stamp sees.
@@ -80,7 +89,34 @@ impl Replaced {
         ensures found { IfSome result (λ place. is_shown n at (map.get self.now place) ≡ true) }
         ensures none { IfNone result ((place : ℕ) → is_shown n at (map.get self.now place) ≡ false) }
     {
-        shown_place(&self.images, n, at)
+        match self.chained_place(n, at) {
+            Some(place) => Some(place),
+            None => shown_place(&self.images, n, at),
+        }
+    }
+
+    // The place of the image that the stamp sees as page `n`, where it is found in the page's chain.
+    fn chained_place(&self, n: u64, at: u64) -> Option<u64>
+        ensures { IfSome result (λ place. is_shown n at (map.get self.now place) ≡ true) }
+    {
+        let mut place = self.chains.last(n)?;
+        'images: for _ in 0..MOST_LOOKS {
+            if self.is_shown(place, n, at) {
+                return Some(place);
+            }
+            place = self.chains.earlier(place)?;
+        }
+        None
+    }
+
+    // Whether the stamp sees the image at this place as page `n`.
+    fn is_shown(&self, place: u64, n: u64, at: u64) -> bool
+        ensures { result ≡ is_shown n at (map.get self.now place) }
+    {
+        match self.images.get(&place) {
+            Some(past) => past.is_shown(n, at),
+            None => false,
+        }
     }
 
     // How many of them some held stamp sees.
