@@ -1,12 +1,12 @@
 -- Which stamps are held after one is taken, and after one is let go.
-use Rattle.std.proofs.Common.{◌≡◌, ◌≢◌, ℕ, true, false, refl, sym, ap, subst, ◌∙◌, Option, None, Some, is_some, Bool, cond}
+use Rattle.std.proofs.Common.{◌≡◌, ℕ, true, false, refl, sym, ap, ◌∙◌, is_some, Bool, cond}
 use Rattle.std.specs.FinMap as map
 use Rattle.std.specs.Ordering.{nat_cmp, eq_by_cmp}
-use Rattle.std.proofs.lemmas.Bool.{false≢true, cases_eq}
+use Rattle.std.proofs.lemmas.Bool.{false≢true}
 use Rattle.page_pool.specs.Pool.{PoolState, shown_of}
 use Rattle.page_pool.specs.Stamps.{KeepsMap, LetsMapGo}
 use Rattle.page_pool.proofs.Maps.{get-insert, get-insert_same, get-remove_other, some_or}
-use Rattle.pool_table.specs.Holding.{HoldsStamp, HoldsStill, HoldsOthers, TakesStamp}
+use Rattle.pool_table.specs.Holding.{HoldsOthers, TakesStamp}
 
 -- a choice of which one side is true is true
 either : (b c : Bool) → c ≡ true → cond b true c ≡ true
