@@ -10,4 +10,5 @@ pub mod Passes
 pub mod Weights
 pub mod Roots
 pub mod Wholes
+pub mod Tilings
 pub mod Cells

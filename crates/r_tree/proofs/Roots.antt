@@ -21,7 +21,7 @@ use Rattle.r_tree.proofs.Raises.{moves_next, moves_beside, owns_after}
 use Rattle.r_tree.proofs.Inserts.{read_as}
 
 -- how often an id is listed, as a weight
-ids_weigh : (id : ℕ) (is : List Member) → weigh (λ j. same id j.0) is ≡ times id (member_ids is)
+pub ids_weigh : (id : ℕ) (is : List Member) → weigh (λ j. same id j.0) is ≡ times id (member_ids is)
 ids_weigh id [] = refl
 ids_weigh id (i ∷ is) = omega (arith, ids_weigh id is)
 

@@ -11,12 +11,13 @@ use Rattle.r_tree.proofs.Bags.{Each-perm}
 use Rattle.r_tree.proofs.Weights.{same_weights}
 use Rattle.r_tree.proofs.Roots.{Rooted, keeps_of}
 
-pub plants_of : (m w : Store) (t : RTree) (number : ℕ) → 1 ≤ t.height → t.number ≡ number → Rooted m w (t.height - 1) t.root t.bound [] [] [] [] → PlantsTree m w t number []
-plants_of m w t number h e r = record {
+-- a root over new pages is a tree of what came into it
+pub plants_of : (m w : Store) (t : RTree) (number : ℕ) (is : List Member) → 1 ≤ t.height → t.number ≡ number → Rooted m w (t.height - 1) t.root t.bound [] [] [] is → PlantsTree m w t number is
+plants_of m w t number is h e r = record {
   tree = record { tall = h; at = r.root };
   numbered = e;
-  lists = same_weights [] (tree_members w t) (λ f. omega (arith, r.moves.weighed f));
-  keeps = keeps_of m w [] (tree_pages w t) [] (tree_members w t) [] [] r.moves (λ q. omega arith);
+  lists = same_weights is (tree_members w t) (λ f. omega (arith, r.moves.weighed f));
+  keeps = keeps_of m w [] (tree_pages w t) [] (tree_members w t) [] is r.moves (λ q. omega arith);
 }
 
 pub inserts_of : (m w : Store) (t u : RTree) (id : ℕ) (shape : Rough) → IsRTree m t → 1 ≤ u.height → u.number ≡ t.number → Rooted m w (u.height - 1) u.root u.bound (tree_pages m t) (tree_members m t) [] ((id, shape) ∷ []) → InsertsMember m w t u id shape

@@ -75,6 +75,15 @@ one_laid u w n inner es r l b a = record {
   shared = in_one w n inner es r a.is;
 }
 
+-- a new node was gained, and no page gave way
+pub new_laid : (m w : Store) (n : ℕ) (inner : Bool) (es : List NodeEntry) (r : Rect) → length es ≤ 126 → bound_of es ≡ Some r → GainsNode m w n inner es → Lays m w [] (branch r n ∷ []) es inner
+new_laid m w n inner es r l b a = record {
+  frame = λ q k z. a.others q (elim (same_cases q n) [ inl i ↦ absurd (omega (arith, k, a.before, ap (λ (x : ℕ). live m x) i.1)) | inr i ↦ i.0 ]);
+  moved = λ q. omega (arith, live_gained m w n inner es a q);
+  nodes = (leads w n inner es r a.is l b, tt);
+  shared = in_one w n inner es r a.is;
+}
+
 -- the two parts of entries, each of a node's size
 pub record Parts (es left right : List NodeEntry) (b s : Rect) : Type 0 where
   pub order : IsPermutation es (left ++ right)

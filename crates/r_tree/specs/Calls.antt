@@ -1,5 +1,5 @@
 -- What the calls of a tree do.
-use Rattle.std.specs.Prelude.{◌≡◌, ℕ, List, [], ◌∷◌, IsPermutation}
+use Rattle.std.specs.Prelude.{◌≡◌, ◌≤◌, ℕ, List, [], ◌∷◌, IsPermutation}
 use Rattle.sand_base.specs.declared.rough.Rough.{Rough}
 use Rattle.code_btree.specs.Tree.{Store, times}
 use Rattle.code_btree.specs.Calls.{Keeps}
@@ -10,6 +10,10 @@ use Rattle.r_tree.specs.Tree.{IsRTree, tree_members, tree_pages}
 -- no member that is listed has this id
 abbrev pub IsUnlisted : ℕ → List Member → Type 0
 IsUnlisted id is = times id (member_ids is) ≡ 0
+
+-- no id is listed twice
+abbrev pub HasEachIdOnce : List Member → Type 0
+HasEachIdOnce is = (id : ℕ) → times id (member_ids is) ≤ 1
 
 -- the id is listed with this rough shape, among others
 pub record IsListed (id : ℕ) (shape : Rough) (is : List Member) : Type 0 where

@@ -3,6 +3,7 @@ pub mod Entry
 pub mod Page
 -- The tree over pages, and what each call does.
 pub mod Tree
+pub mod Ways
 pub mod Calls
 pub mod Nodes
 -- What only the proof needs.

@@ -9,9 +9,10 @@ use Rattle.r_tree.specs.declared.entry.NodeEntry.{NodeEntry}
 use Rattle.r_tree.specs.declared.insert.Grown.{Grown}
 use Rattle.r_tree.specs.declared.insert.Grown.TheVariants.{Kept, Split}
 use Rattle.r_tree.specs.declared.remove.Shrunk.{Shrunk}
-use Rattle.r_tree.specs.Entry.{Member, branch, bound_of}
+use Rattle.r_tree.specs.Entry.{Member, box_of, branch, bound_of}
 use Rattle.r_tree.specs.Page.{node}
-use Rattle.r_tree.specs.Tree.{node_at, entries_at, members_in, members_under, pages_below, pages_under, Encloses, StandsAt}
+use Rattle.r_tree.specs.Tree.{node_at, entries_at, members_in, members_under, pages_below, pages_under, Encloses, StandsUnder, StandsAt}
+use Rattle.r_tree.specs.Ways.{ways_below}
 
 -- page n was written as this node, and no other page changed
 pub record WritesNode (m w : Store) (n : ℕ) (inner : Bool) (es : List NodeEntry) : Type 0 where
@@ -62,6 +63,19 @@ pub record Lays (m w : Store) (old : List ℕ) (row es : List NodeEntry) (inner 
 -- each child of a row has at least 50 entries
 abbrev pub AllFilled : Store → List NodeEntry → Type 0
 AllFilled m row = Each (λ e. 50 ≤ length (entries_at m e.child)) row
+
+-- Entries were laid into new nodes, filled where they are enough, and the entries that lead to these were put behind a row.
+pub record Tiles (m w : Store) (inner : Bool) (es before after : List NodeEntry) : Type 0 where
+  pub row : List NodeEntry
+  pub joined : after ≡ before ++ row
+  pub lays : Lays m w [] row es inner
+  pub full : 50 ≤ length es → AllFilled w row
+
+-- Entries of a root at this level, over trees on new pages that list these members.
+pub record IsTop (m w : Store) (level : ℕ) (es : List NodeEntry) (is : List Member) : Type 0 where
+  pub stands : StandsUnder w level es
+  pub top : 1 ≤ level → 2 ≤ length es
+  pub moves : Moves m w [] (pages_below w level es) [] (members_in w level es) [] is
 
 -- an entry leads to a tree, and is the least rectangle round it
 abbrev pub LeadsToTree : Store → ℕ → NodeEntry → Type 0
@@ -131,9 +145,10 @@ pub record LoneChild (m : Store) (n child : ℕ) : Type 0 where
   pub is : node_at m n ≡ node true (entry ∷ [])
   pub leads : entry.child ≡ child
 
--- The ways down through the entries so far found nothing: they lack the member, and no page changed.
+-- The ways down through the entries so far found nothing: they lack the member, no page changed, and each of their nodes was read once.
 pub record PassesBy (old now : PoolState) (level at : ℕ) (es : List NodeEntry) (i : Member) : Type 0 where
   pub same : now.pages ≡ old.pages
   pub within : InCommand old now
   pub faults : now.disk.faults ≡ old.disk.faults
   pub lacks : IsTold old → Each (λ j. j ≢ i) (members_in (pages_in old) (suc (level - 1)) (take at es))
+  pub gets : IsTold old → now.gets ≤ old.gets + ways_below (pages_in old) (suc (level - 1)) (take at es) (box_of i.1)

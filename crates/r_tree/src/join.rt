@@ -1,4 +1,4 @@
-ghost use Rattle.std.specs.Prelude.{◌≡◌, ◌≤◌, ◌++◌, ◌∷◌, [], length, IfOk, OnOk};
+ghost use Rattle.std.specs.Prelude.{◌≡◌, ◌+◌, ◌≤◌, ◌++◌, ◌∷◌, [], length, IfOk, OnOk};
 ghost use Rattle.page_pool.specs.Pool.{IsOpen, IsTold};
 ghost use Rattle.page_pool.specs.Causes.{HasPageCause};
 ghost use Rattle.page_pool.specs.Steps.{InCommand};
@@ -35,6 +35,7 @@ fn merge<D: Disk>(
     requires few { length entries.now ≤ 126 }
     ensures value { IfOk result (λ bound. same b a ≡ 0 → Lays (pages_in pool.old) (pages_in pool.new) (a ∷ (b ∷ [])) (branch bound a ∷ []) entries.now inner) }
     ensures within { InCommand pool.old pool.new }
+    ensures gets { pool.new.gets ≡ pool.old.gets }
     ensures cause { HasPageCause pool.old pool.new result }
 {
     let Some(bound) = bound_of(entries) else {
@@ -59,6 +60,7 @@ fn share<D: Disk>(
     ensures value { IfOk result (λ grown. same b a ≡ 0 → Lays (pages_in pool.old) (pages_in pool.new) (a ∷ (b ∷ [])) (raised a grown) entries.old inner) }
     ensures full { IfOk result (λ grown. same b a ≡ 0 → AllFilled (pages_in pool.new) (raised a grown)) }
     ensures within { InCommand pool.old pool.new }
+    ensures gets { pool.new.gets ≡ pool.old.gets }
     ensures cause { HasPageCause pool.old pool.new result }
 {
     let at = cut(entries);
@@ -85,6 +87,7 @@ pub fn balance<D: Disk>(
     requires { IsOpen pool.old }
     ensures value { IfOk result (λ grown. IsTold pool.old → same b a ≡ 0 → Balances (pages_in pool.old) (pages_in pool.new) inner a b grown) }
     ensures within { InCommand pool.old pool.new }
+    ensures gets { pool.new.gets ≤ pool.old.gets + 2 }
     ensures cause { HasPageCause pool.old pool.new result }
 {
     let mut entries = read_node(alloc, pool, a, inner)?;

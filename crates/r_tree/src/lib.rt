@@ -2,19 +2,22 @@
 //!
 //! A leaf has members, each an id with a rough shape; an inner node has branches, each the least rectangle round a child
 //! and that child's page. All leaves have one depth, and each node but the root has 50 to 126 entries in no order. A node
-//! that is full is cut in the middle, along the longer side of its rectangle; a node that is short joins another child of
-//! its parent, or shares with it. Every rectangle is measured anew where its node is written, so it is always the least.
-//! Above: rankings over rectangles. Below: `page_pool`.
+//! that is full is cut along the axis of the smaller perimeters, where its parts overlap least; a node that is short joins
+//! another child of its parent, or shares with it. A tree of a list is built at once, part by part. Every rectangle is measured
+//! anew where its node is written, so it is always the least.
+//! Above: rankings over rectangles, and `rtree_table`, which tries it. Below: `page_pool`.
 //! Contracts see a tree as the list of its members, in no order, and say which pages are its own. Read `specs/Tree.antt`
 //! first, then `specs/Calls.antt`; `specs/Page.antt` has the two nodes byte by byte.
-//! After A. Guttman, R-trees: a dynamic index structure for spatial searching (1984).
+//! After A. Guttman, R-trees: a dynamic index structure for spatial searching (1984), and N. Beckmann and others, The R*-tree (1990).
 #![tactic(auto)]
 
+mod build;
 mod cut;
 mod entry;
 mod hull;
 mod insert;
 mod join;
+mod measure;
 mod nearest;
 mod node;
 mod page;

@@ -1,12 +1,8 @@
 ghost use Rattle.std.specs.Prelude.{◌<◌, ◌≤◌, length};
 
 use crate::entry::{NodeEntry, box_of, rect_union};
+use crate::measure::half_perimeter;
 use sand_base::Rect;
-
-// Half the perimeter of a rectangle.
-fn half_perimeter(r: Rect) -> u64 {
-    u64::from(r.high.x.saturating_sub(r.low.x)) + u64::from(r.high.y.saturating_sub(r.low.y))
-}
 
 // The place of the entry whose rectangle grows least to take in another one, the smaller one of two that grow alike.
 pub fn nearest(entries: &[NodeEntry], more: Rect) -> usize

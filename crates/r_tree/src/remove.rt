@@ -1,13 +1,14 @@
-ghost use Rattle.std.specs.Prelude.{◌≡◌, ◌≢◌, ◌≤◌, ◌<◌, suc, length, slice_index_or, IfOk, IfSome, IfNone};
+ghost use Rattle.std.specs.Prelude.{◌≡◌, ◌≢◌, ◌+◌, ◌*◌, ◌≤◌, ◌<◌, suc, length, slice_index_or, IfOk, IfSome, IfNone};
 ghost use Rattle.page_pool.specs.Pool.{IsOpen, IsTold};
 ghost use Rattle.page_pool.specs.Causes.{HasPageCause};
 ghost use Rattle.page_pool.specs.Steps.{InCommand};
 ghost use Rattle.code_btree.specs.Items.{Each};
 ghost use Rattle.code_btree.specs.Tree.{Store, pages_in};
 ghost use Rattle.r_tree.specs.declared.entry.NodeEntry.{NodeEntry};
-ghost use Rattle.r_tree.specs.Entry.{Member, member_of, bound_of};
+ghost use Rattle.r_tree.specs.Entry.{Member, member_of, box_of, bound_of};
 ghost use Rattle.r_tree.specs.Page.{node};
 ghost use Rattle.r_tree.specs.Tree.{node_at};
+ghost use Rattle.r_tree.specs.Ways.{ways_under};
 ghost use Rattle.r_tree.specs.Steps.{WritesNode, Subtree, TakesUnder, IsSettled};
 
 use crate::entry::{NodeEntry, box_of, branch, covers};
@@ -40,6 +41,7 @@ fn lay<D: Disk>(
     ensures counted { IfOk result (λ shrunk. shrunk.size ≡ length entries.now) }
     ensures fits { IfOk result (λ shrunk. shrunk.size ≤ 126) }
     ensures within { InCommand pool.old pool.new }
+    ensures gets { pool.new.gets ≡ pool.old.gets }
     ensures cause { HasPageCause pool.old pool.new result }
 {
     if entries.len() > 126 {
@@ -79,6 +81,7 @@ fn remove_leaf<D: Disk>(
     ensures value { IfOk result (λ taken. IsTold pool.old → TakesUnder (pages_in pool.old) (pages_in pool.new) 0 n (id, rough) taken) }
     ensures same { IfOk result (λ taken. IfNone taken (pool.new.pages ≡ pool.old.pages)) }
     ensures within { InCommand pool.old pool.new }
+    ensures gets { pool.new.gets ≤ pool.old.gets + 1 }
     ensures cause { HasPageCause pool.old pool.new result }
 {
     let mut entries = read_node(alloc, pool, n, false)?;
@@ -104,6 +107,7 @@ fn settle<D: Disk>(
     requires { IsOpen pool.old }
     ensures value { IfOk result (λ shrunk. IsTold pool.old → IsSettled (pages_in pool.old) (pages_in pool.new) level n child entries.old.items below shrunk) }
     ensures within { InCommand pool.old pool.new }
+    ensures gets { pool.new.gets ≤ pool.old.gets + 2 }
     ensures cause { HasPageCause pool.old pool.new result }
 {
     let Some(bound) = below.bound else {
@@ -126,7 +130,7 @@ fn settle<D: Disk>(
 }
 
 /// Takes a member from the tree under page `n`, which stands `level` above the leaves, if it is there. The ways down are
-/// those whose rectangles hold it.
+/// those whose rectangles hold it; each node on them is read once, and two more for each level on the way up.
 pub fn remove_under<D: Disk>(
     alloc: Global,
     pool: &mut Pool<D>,
@@ -140,6 +144,8 @@ pub fn remove_under<D: Disk>(
     ensures value { IfOk result (λ taken. IsTold pool.old → TakesUnder (pages_in pool.old) (pages_in pool.new) level n (id, rough) taken) }
     ensures same { IfOk result (λ taken. IfNone taken (pool.new.pages ≡ pool.old.pages)) }
     ensures within { InCommand pool.old pool.new }
+    ensures gets { IsTold pool.old → pool.new.gets ≤ pool.old.gets + (ways_under (pages_in pool.old) level n (box_of rough) + 2 * level) }
+    ensures passed { IfOk result (λ taken. IfNone taken (IsTold pool.old → pool.new.gets ≤ pool.old.gets + ways_under (pages_in pool.old) level n (box_of rough))) }
     ensures cause { HasPageCause pool.old pool.new result }
 {
     if level == 0 {

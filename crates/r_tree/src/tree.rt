@@ -1,13 +1,15 @@
-ghost use Rattle.std.specs.Prelude.{◌≡◌, ◌+◌, ◌-◌, ◌≤◌, true, false, [], IfOk, OnOk, OnErr};
+ghost use Rattle.std.specs.Prelude.{◌≡◌, ◌+◌, ◌-◌, ◌*◌, ◌≤◌, true, false, [], IfOk, OnOk, OnErr};
 ghost use Rattle.page_pool.specs.Pool.{IsOpen, IsTold};
 ghost use Rattle.page_pool.specs.Causes.{HasPageCause};
 ghost use Rattle.page_pool.specs.Steps.{InCommand};
 ghost use Rattle.code_btree.specs.Tree.{Store, pages_in};
-ghost use Rattle.r_tree.specs.Entry.{bound_of_members};
+ghost use Rattle.r_tree.specs.Entry.{box_of, bound_of_members};
 ghost use Rattle.r_tree.specs.Tree.{IsRTree, tree_members};
-ghost use Rattle.r_tree.specs.Calls.{IsUnlisted, IsListed, PlantsTree, InsertsMember, RemovesMember};
+ghost use Rattle.r_tree.specs.Ways.{ways_under};
+ghost use Rattle.r_tree.specs.Calls.{IsUnlisted, IsListed, HasEachIdOnce, PlantsTree, InsertsMember, RemovesMember};
 ghost use Rattle.r_tree.specs.Steps.{LoneChild};
 
+use crate::build::tile_all;
 use crate::entry::NodeEntry;
 use crate::hull::bound_of;
 use crate::insert::{Grown, insert_under, raise};
@@ -32,6 +34,7 @@ fn lone_child<D: Disk>(alloc: Global, pool: &mut Pool<D>, root: u64) -> Result<u
     ensures value { IfOk result (λ child. IsTold pool.old → LoneChild (pages_in pool.old) root child) }
     ensures same { pool.new.pages ≡ pool.old.pages }
     ensures within { InCommand pool.old pool.new }
+    ensures gets { pool.new.gets ≤ pool.old.gets + 1 }
     ensures cause { HasPageCause pool.old pool.new result }
 {
     let entries = read_node(alloc, pool, root, true)?;
@@ -62,6 +65,35 @@ impl RTree {
             root,
             height: 1,
             bound: None,
+            number,
+        })
+    }
+
+    /// The tree of a list of ids with their rough shapes, on new pages, most of them nodes of 100 entries: no page get. After
+    /// a refusal the command is to be aborted.
+    pub fn build<D: Disk>(
+        alloc: Global,
+        pool: &mut Pool<D>,
+        number: u32,
+        list: &[(u32, Rough)],
+    ) -> Result<RTree, PageFault>
+        requires opened { IsOpen pool.old }
+        requires once { IsTold pool.old → HasEachIdOnce list.now }
+        ensures value { IfOk result (λ tree. IsTold pool.old → PlantsTree (pages_in pool.old) (pages_in pool.new) tree number list.now) }
+        ensures within { InCommand pool.old pool.new }
+        ensures gets { pool.new.gets ≡ pool.old.gets }
+        ensures cause { HasPageCause pool.old pool.new result }
+    {
+        let top = tile_all(alloc, pool, list)?;
+        let Some(height) = top.level.checked_add(1) else {
+            return Err(PageFault::Memory);
+        };
+        let bound = bound_of(&top.entries);
+        let root = gain_node(pool, top.level > 0, &top.entries)?;
+        Ok(RTree {
+            root,
+            height,
+            bound,
             number,
         })
     }
@@ -116,7 +148,8 @@ impl RTree {
         }
     }
 
-    /// Takes an id with its rough shape out. After a refusal the command is to be aborted; the tree is the one of before.
+    /// Takes an id with its rough shape out: a get for each node on the ways down under rectangles that hold it, and two more
+    /// for each level at most. After a refusal the command is to be aborted; the tree is the one of before.
     pub fn remove<D: Disk>(
         &mut self,
         alloc: Global,
@@ -130,6 +163,7 @@ impl RTree {
         ensures value { OnOk result (IsTold pool.old → RemovesMember (pages_in pool.old) (pages_in pool.new) self.old self.new id rough) }
         ensures unchanged { OnErr result (self.new ≡ self.old) }
         ensures within { InCommand pool.old pool.new }
+        ensures gets { IsTold pool.old → pool.new.gets ≤ pool.old.gets + (ways_under (pages_in pool.old) (self.old.height - 1) self.old.root (box_of rough) + 2 * self.old.height) }
         ensures cause { HasPageCause pool.old pool.new result }
     {
         if self.height == 0 {
