@@ -6,6 +6,7 @@ ghost use Rattle.page_pool.specs.Images.{IsUnseen, is_shown, past_map, past_seen
 
 use crate::chains::Chains;
 use crate::held::Held;
+use crate::table::Table;
 use sand_base::NoMemory;
 use std::alloc::Global;
 use std::collections::BTreeMap;
@@ -31,14 +32,17 @@ impl Past {
 /// How many images of a page are looked at before all are gone through.
 const MOST_LOOKS: u8 = 64;
 
-/// The replaced images by the places where they lie, and where those of each page lie, to be looked at first.
+/// The replaced images by the places where they lie: in order, and each in the place of its number; and where those of each
+/// page lie, to be looked at first.
 #[derive(Drop)]
 pub(crate) struct Replaced {
     images: BTreeMap<u64, Past>,
+    places: Table<Past>,
     chains: Chains,
 }
 
 impl Model for Replaced {
+    ghost use Rattle.std.specs.Prelude.{◌≡◌};
     ghost use Rattle.std.specs.FinMap as map;
     ghost use Rattle.page_pool.specs.Images.{PastMap, past_map};
     ghost use Rattle.page_pool.specs.Codes.{past_map_code};
@@ -48,6 +52,8 @@ impl Model for Replaced {
     ghost coded = { past_map_code };
 
     ghost view = { λ a. past_map a.images };
+
+    ghost invariant = { λ a. a.places ≡ past_map a.images };
 }
 
 impl Replaced {
@@ -56,22 +62,34 @@ impl Replaced {
     {
         Replaced {
             images: BTreeMap::new(alloc),
+            places: Table::new(alloc),
             chains: Chains::new(alloc),
         }
     }
 
+    // Adds an image where none of them lies.
     pub(crate) fn insert(&mut self, place: u64, past: Past) -> Result<(), NoMemory>
+        requires { map.contains_key self.old place ≡ false }
         ensures added { OnOk result (self.new ≡ map.insert self.old place past) }
         ensures unchanged { OnErr result (self.new ≡ self.old) }
     {
-        self.images.insert(place, past)?;
-        let _ = self.chains.add(past.number, place);
-        Ok(())
+        self.places.insert(place, past)?;
+        match self.images.insert(place, past) {
+            Ok(_none) => {
+                let _ = self.chains.add(past.number, place);
+                Ok(())
+            }
+            Err(_) => {
+                self.places.take(place);
+                Err(NoMemory {})
+            }
+        }
     }
 
     pub(crate) fn remove(&mut self, place: u64)
         ensures { self.new ≡ map.remove self.old place }
     {
+        self.places.take(place);
         if let Some(past) = self.images.remove(&place) {
             let _ = self.chains.remove(past.number, place);
         }
@@ -113,7 +131,7 @@ impl Replaced {
     fn is_shown(&self, place: u64, n: u64, at: u64) -> bool
         ensures { result ≡ is_shown n at (map.get self.now place) }
     {
-        match self.images.get(&place) {
+        match self.places.get(place) {
             Some(past) => past.is_shown(n, at),
             None => false,
         }

@@ -1,8 +1,12 @@
-use Rattle.std.proofs.Common.{ap, subst, ◌∙◌}
+use Rattle.std.proofs.Common.{is_some, ap, subst, ◌∙◌}
 use Rattle.std.specs.FinMap as map
 use Rattle.page_pool.specs.Images.{ImagesState, images_of, LeavesImage}
 use Rattle.page_pool.proofs.Moves.{leave_done}
 use Rattle.page_pool.proofs.images.Images.leave_home.Goals as goal
+
+-- no replaced image lies where a newest one does
+pub insert-requires : goal.insert-requires
+insert-requires c = ap is_some (c.self.invariant.apart c.args.n c.args.home (ap (λ x. map.get x.homes c.args.n) c.self.view_is ∙ c.requires))
 
 -- the image lies with the replaced ones
 pub invariant_of-self-2 : goal.invariant_of-self-2

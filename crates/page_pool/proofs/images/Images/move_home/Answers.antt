@@ -1,8 +1,12 @@
-use Rattle.std.proofs.Common.{sym, ap, subst, ◌∙◌}
+use Rattle.std.proofs.Common.{is_some, sym, ap, subst, ◌∙◌}
 use Rattle.std.specs.FinMap as map
 use Rattle.page_pool.specs.Images.{ImagesState, images_of, IsImages, IsFreePlace, SettlesImage}
 use Rattle.page_pool.proofs.Moves.{move_done, unmoved}
 use Rattle.page_pool.proofs.images.Images.move_home.Goals as goal
+
+-- no replaced image lies where a newest one does
+pub insert-requires : goal.insert-requires
+insert-requires c = ap is_some (c.self.invariant.apart c.args.n c.args.home (ap (λ x. map.get x.homes c.args.n) c.self.view_is ∙ c.requires.old))
 
 -- the page lies at the place, and its old image with the replaced ones
 pub invariant_of-self-in-Ok : goal.invariant_of-self-in-Ok
