@@ -38,4 +38,5 @@ pub mod Sums
 pub mod Keeping
 pub mod WritesAdd
 pub mod Viewed
+pub mod Older
 pub mod Numbered

@@ -1,11 +1,9 @@
 -- The items of a map and of a set, counted by going over the numbers.
-use Rattle.std.proofs.Common.{◌≡◌, ◌≢◌, ◌≤◌, ◌<◌, ◌+◌, ℕ, zero, suc, List, Bool, true, false, cond, not, ◌&&◌, ◌||◌, refl, sym, ap, ◌∙◌, Option, Some, None, is_some, min, arith}
+use Rattle.std.proofs.Common.{◌≡◌, ◌≢◌, ◌≤◌, ◌+◌, ℕ, zero, suc, Bool, true, false, cond, ◌&&◌, ◌||◌, refl, sym, ap, ◌∙◌, is_some, min, arith}
 use mathlib.Core.Bool.{true≢false}
 use Rattle.std.specs.Ordering.{nat_cmp}
-use Rattle.std.specs.Cmp.{nat_cmp_total}
 use Rattle.std.specs.FinMap as map
 use Rattle.std.specs.FinSet as set
-use Rattle.sand_base.specs.Faults.{last_count}
 use Rattle.page_pool.specs.Disk.{NumberSet}
 use Rattle.page_pool.specs.Archive.{ArchiveState}
 use Rattle.page_pool.specs.Inside.{ChangeMap, CacheState, NumbersState, IsWhole, is_used, count_upto, overlaid, staged_shared}

@@ -1,25 +1,21 @@
 -- A pool that shows the map of a stamp.
-use Rattle.std.proofs.Common.{◌≡◌, ◌≢◌, ◌<◌, ℕ, List, Bool, true, false, cond, not, refl, sym, ap, subst, ◌∙◌, Option, Some, None, is_some, IsTrue, IsSomeAnd, IfSome, IfErr, ◌⊎◌, inl, inr, Result, nat_lt}
+use Rattle.std.proofs.Common.{◌≡◌, ◌≢◌, ◌<◌, ℕ, List, Bool, true, false, cond, not, refl, sym, ap, subst, ◌∙◌, Option, Some, None, is_some, IsTrue, IsSomeAnd, IfSome, ◌⊎◌, inl, inr, nat_lt}
 use mathlib.Core.Bool.{true≢false}
 use Rattle.std.specs.Ordering.{nat_cmp}
 use Rattle.std.specs.Option.{option_map, option_map_or, option_and_then}
 use Rattle.std.specs.FinMap as map
 use Rattle.std.specs.FinSet as set
 use Rattle.sha2.specs.Sha256.{sha256}
-use Rattle.page_pool.specs.declared.fault.PageFault.{PageFault}
 use Rattle.page_pool.specs.declared.view.View.{View}
 use Rattle.page_pool.specs.declared.view.View.TheVariants.{Live, Alike, Older}
 use Rattle.page_pool.specs.Steps.{IsClosed-read}
-use Rattle.page_pool.specs.Archive.{ImageMap, ArchiveState, IsArchive, IsFrozen, IsReadArchive, IsImageDamage, newest_images}
+use Rattle.page_pool.specs.Archive.{ImageMap, ArchiveState, IsArchive, IsFrozen, IsReadArchive, newest_images}
 use Rattle.page_pool.specs.Readers.{IsViewed}
-use Rattle.page_pool.specs.Inside.{ChangeMap, StagedState, CacheState, NumbersState, IsWhole, IsImageOf, state_of, shown_images, Compares}
+use Rattle.page_pool.specs.Inside.{ChangeMap, StagedState, CacheState, NumbersState, IsWhole, IsImageOf, state_of, shown_images}
 use Rattle.page_pool.specs.Pool.{PoolState, Shown, IsPage, seen_at, showing, shown_of}
-use Rattle.page_pool.specs.Causes.{faults_after}
 use Rattle.page_pool.specs.Reads.{IsRead}
 use Rattle.page_pool.proofs.Whole.{imaged_kept, some_is}
 use Rattle.page_pool.proofs.Stamped.{get-shown, held-shown, shown-early, shown-late, shown_live, shown_frozen, lt_is, lt_to, at_end}
-use Rattle.page_pool.proofs.States.{read_state}
-use Rattle.page_pool.proofs.Loads.{damage_of}
 
 -- the value of which something holds
 pub some_and : {X : Type 0} (o : Option X) (P : X → Type 0) → IsSomeAnd o P → (x : X) × ((o ≡ Some x) × P x)
@@ -98,26 +94,6 @@ module _ (a : ArchiveState) (staged : StagedState) (frames : CacheState) (number
   -- and it has one where it lies at a place
   pub older_place_live : IsArchive a → map.contains_key (seen_at (state_of a staged frames numbers is_open gets refused) slot).pages n ≡ is_some (option_and_then (λ g. map.get g.places n) (map.get a.stamps slot))
   older_place_live archive = older_live archive ∙ (archive.maps slot f held).keys n ∙ ap (λ o. is_some (option_and_then (λ g. map.get g.places n) o)) (sym held)
-
--- an image of an older stamp is read and compared, whatever the answer
-pub compares_older : {T : Type 0} (a b : ArchiveState) (staged : StagedState) (frames frames' : CacheState) (numbers : NumbersState) (is_open : Bool) (gets refused slot n : ℕ) (f : ImageMap) (result : Result T PageFault)
-    → map.get a.stamps slot ≡ Some f → f.at < a.begun → IsReadArchive a b → frames'.most ≡ frames.most → b.disk.faults ≡ faults_after a.disk.faults result → IfErr result (IsImageDamage b.disk f.kept n)
-    → Compares (seen_at (state_of a staged frames numbers is_open gets refused) slot) (seen_at (state_of b staged frames' numbers is_open gets refused) slot) n result
-compares_older a b staged frames frames' numbers is_open gets refused slot n f result held early read most faults damaged =
-    let s = state_of a staged frames numbers is_open gets refused in
-    let t = state_of b staged frames' numbers is_open gets refused in
-    let held' : map.get b.stamps slot ≡ Some f = ap (λ x. map.get x.stamps slot) read.same ∙ held in
-    let early' : f.at < b.begun = subst (λ k. f.at < k) (sym (ap (λ x. x.begun) read.same)) early in
-    let cause = damage_of (showing t (shown_frozen f)) f.kept n result refl damaged in
-    subst (λ x. Compares x (seen_at t slot) n result) (sym (older_shown a staged frames numbers is_open gets refused slot n f held early))
-    (subst (λ y. Compares (showing s (shown_frozen f)) y n result) (sym (older_shown b staged frames' numbers is_open gets refused slot n f held' early'))
-    record {
-      read = read_showing s t (shown_frozen f) (read_state a b staged frames frames' numbers is_open gets gets refused refused read most);
-      gets = refl;
-      refused = refl;
-      cause = record { counted = faults; damaged = cause.0 };
-      named = cause.1;
-    })
 
 -- an image that lies at a place, newest or replaced, came into a frame at most
 module _ (a b : ArchiveState) (changes : ChangeMap) (frames frames' : CacheState) (numbers : NumbersState) (is_open : Bool) (slot n place : ℕ) (f : ImageMap) (is_newest : Bool)

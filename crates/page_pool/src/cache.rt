@@ -79,7 +79,18 @@ impl Cache {
         self.past.put(place, page)
     }
 
+    // Whether the image of page `n` that lies at this place, newest or replaced, is in a frame.
+    #[inline]
+    pub(crate) fn has_image(&self, n: u64, place: u64, is_newest: bool) -> bool {
+        if is_newest {
+            self.newest.get(n).is_some()
+        } else {
+            self.past.get(place).is_some()
+        }
+    }
+
     // The image of page `n` that lies at this place, newest or replaced, which is marked as used.
+    #[inline]
     pub(crate) fn used_image(&self, n: u64, place: u64, is_newest: bool) -> Option<&Page>
         ensures { option_copied result ≡ cond is_newest (map.get self.now.newest n) (map.get self.now.past place) }
     {

@@ -75,17 +75,8 @@ impl<D: Disk> Pool<D> {
         ensures read_in { ReadsIn self.old self.new n result }
     {
         let read = self.read_compared(n);
-        self.count_refused(&read);
+        self.refused = refused_by(self.refused, &read);
         read
-    }
-
-    // One more refused get, unless the page was had or memory was refused.
-    pub(super) fn count_refused(&mut self, read: &Result<(), PageFault>)
-        ensures { self.new ≡ record self.old { refused = refused_after self.old.refused read.now } }
-    {
-        if let Err(PageFault::Device | PageFault::Damaged { .. }) = read {
-            self.refused = self.refused.saturating_add(1);
-        }
     }
 
     // Page `n`, which isn't staged, read from the disk into a frame, if it has the kept digest.
@@ -159,5 +150,15 @@ impl<D: Disk> Pages for Pool<D> {
 
     fn gets(&self) -> u64 {
         self.gets
+    }
+}
+
+// The number of refused gets after this reading: one more, unless the page was had or memory was refused.
+pub(super) fn refused_by<T>(refused: u64, read: &Result<T, PageFault>) -> u64
+    ensures { result ≡ refused_after refused read.now }
+{
+    match read {
+        Err(PageFault::Device | PageFault::Damaged { .. }) => refused.saturating_add(1),
+        _ => refused,
     }
 }

@@ -2,11 +2,11 @@ ghost use Rattle.std.specs.Prelude.{◌≡◌, Some, true, false, IsTrue, IfSome
 ghost use Rattle.std.specs.Borrow.{sem};
 ghost use Rattle.std.specs.Io.BufRead.{Rests};
 ghost use Rattle.std.specs.FinMap as map;
-ghost use Rattle.page_pool.specs.Inside.{ReadsIn, Compares};
 ghost use Rattle.page_pool.specs.Pool.{IsLive, IsPage, seen_at, shown_of};
 ghost use Rattle.page_pool.specs.Causes.{IsMemory};
 ghost use Rattle.page_pool.specs.Reads.{IsRead, Gets};
 
+use super::reading::refused_by;
 use crate::{Disk, PageFault, Pages, Pool};
 
 // The pages of the map that a held stamp has.
@@ -34,7 +34,8 @@ impl<D: Disk> Pool<D> {
         self.live_page(n)
     }
 
-    // Page `n` of the older stamp's map, if it is there: one get.
+    // Page `n` of the older stamp's map, if it is there: one get. The place of its image is found once, and then one look
+    // at a frame is enough.
     pub(crate) fn find_older(&mut self, slot: u64, n: u64) -> Result<&[u8; 4096], PageFault>
         requires { IsTrue (map.contains_key self.old.stamps slot) }
         ensures live { OnOk result (IsLive (seen_at self.old slot) n) }
@@ -44,75 +45,18 @@ impl<D: Disk> Pool<D> {
             IsRead self.old new × Gets (seen_at self.old slot) (seen_at new slot) n result)) }
     {
         self.gets = self.gets.saturating_add(1);
-        if self.framed_image(slot, n).is_some() {
-            match self.framed_image(slot, n) {
-                Some(page) => return Ok(page),
-                None => return Err(PageFault::Memory),
-            }
-        }
-        return self.read_image(slot, n);
-    }
-
-    // Page `n` of the older stamp's map, which is in no frame, if it is there. Its get was counted.
-    #[cold]
-    #[inline(never)]
-    fn read_image(&mut self, slot: u64, n: u64) -> Result<&[u8; 4096], PageFault>
-        requires { IsTrue (map.contains_key self.old.stamps slot) }
-        ensures live { OnOk result (IsLive (seen_at self.old slot) n) }
-        ensures missing { map.contains_key (seen_at self.old slot).pages n ≡ false → IfErr result IsMemory }
-        ensures value { IfOk result (λ page. IsPage (seen_at self.old slot) n page.now) }
-        ensures* after { sem 𝓛 (Rests (the_row D.row D.Disk) self.entry (λ new.
-            IsRead self.old new × ReadsIn (seen_at self.old slot) (seen_at new slot) n result)) }
-    {
-        match self.load_image(slot, n) {
-            Ok(()) => match self.framed_image(slot, n) {
-                Some(page) => Ok(page),
-                None => Err(PageFault::Memory),
-            },
-            Err(why) => Err(why),
-        }
-    }
-
-    // Page `n` of the older stamp's map, read from the disk into a frame. Its get was counted, and its refusal is.
-    fn load_image(&mut self, slot: u64, n: u64) -> Result<(), PageFault>
-        requires { IsTrue (map.contains_key self.old.stamps slot) }
-        ensures missing { map.contains_key (seen_at self.old slot).pages n ≡ false → IfErr result IsMemory }
-        ensures read_in { ReadsIn (seen_at self.old slot) (seen_at self.new slot) n result }
-        ensures same { IsRead self.old self.new }
-    {
-        let read = self.compare_image(slot, n);
-        self.count_refused(&read);
-        read
-    }
-
-    // Page `n` of the older stamp's map, read from the disk into a frame, if it has the kept digest.
-    fn compare_image(&mut self, slot: u64, n: u64) -> Result<(), PageFault>
-        requires { IsTrue (map.contains_key self.old.stamps slot) }
-        ensures missing { map.contains_key (seen_at self.old slot).pages n ≡ false → IfErr result IsMemory }
-        ensures read { Compares (seen_at self.old slot) (seen_at self.new slot) n result }
-        ensures same { IsRead self.old self.new }
-    {
         let Some(place) = self.archive.older_place(slot, n) else {
             return Err(PageFault::Memory);
         };
         let is_newest = self.archive.lies_at(n, place);
-        let page = self.archive.read_seen(slot, n)?;
-        self.frames.put_image(n, place, is_newest, page)?;
-        Ok(())
-    }
-
-    // Page `n` of the older stamp's map, where it is in a frame, which is marked as used.
-    fn framed_image(&self, slot: u64, n: u64) -> Option<&[u8; 4096]>
-        ensures live { IfSome result (λ _. IsLive (seen_at self.now slot) n) }
-        ensures value { IfSome result (λ page. IsPage (seen_at self.now slot) n page.now) }
-    {
-        let Some(place) = self.archive.older_place(slot, n) else {
-            return None;
-        };
-        let is_newest = self.archive.lies_at(n, place);
+        if !self.frames.has_image(n, place, is_newest) {
+            let read = self.archive.read_seen(slot, n);
+            self.refused = refused_by(self.refused, &read);
+            self.frames.put_image(n, place, is_newest, read?)?;
+        }
         match self.frames.used_image(n, place, is_newest) {
-            Some(page) => Some(page.bytes()),
-            None => None,
+            Some(page) => Ok(page.bytes()),
+            None => Err(PageFault::Memory),
         }
     }
 

@@ -1,6 +1,6 @@
-use Rattle.std.proofs.Common.{◌≡◌, ◌≤◌, ap, ◌∙◌, arith}
+use Rattle.std.proofs.Common.{arith}
 use Rattle.std.specs.FinMap as map
-use Rattle.page_pool.proofs.Numbered.{count_low, count_next}
+use Rattle.page_pool.proofs.Numbered.{count_low}
 use Rattle.page_pool.proofs.pool.Pool.count_live.Goals as goal
 
 -- no more than the numbers so far

@@ -3,9 +3,9 @@ use Rattle.std.specs.FinMap as map
 use Rattle.std.specs.FinSet as set
 use Rattle.sand_base.specs.Faults.{last_count}
 use Rattle.page_pool.specs.Pool.{map_sizes}
-use Rattle.page_pool.specs.Inside.{count_upto, overlaid, staged_shared, place_count, shown_stamps}
+use Rattle.page_pool.specs.Inside.{count_upto, overlaid, staged_shared}
 use Rattle.page_pool.proofs.Sums.{few_kept_images}
-use Rattle.page_pool.proofs.Numbered.{live_counted, shared_counted, count_low, saturated, saturated_least, saturated_most, within_sizes}
+use Rattle.page_pool.proofs.Numbered.{live_counted, shared_counted, saturated, saturated_least, saturated_most, within_sizes}
 use Rattle.page_pool.proofs.pool.Pool.places.Goals as goal
 
 -- the live pages, the replaced images that are seen, and those that are about to be replaced
