@@ -43,6 +43,7 @@ lies d left right j to (visit.Block number z level) h = absurd h
 lies d left right j to (visit.Geometry id) h = absurd h
 lies d left right j to (visit.Pair b c) h = h
 lies d left right j to (visit.GeometryPair l r) h = h
+lies d left right j to (visit.Tree number page) h = absurd h
 
 -- what holds of the sides with the shapes and trees of the columns holds of those of the join
 moved : (j : Joining) (d : Database) (left right : Column) (P : Joining → Type 0) → IsSideOf j.left d left → IsSideOf j.right d right

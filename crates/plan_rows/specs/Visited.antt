@@ -19,12 +19,13 @@ infixl 6 ◌plus◌
 abbrev pub ◌plus◌ : Counts → Counts → Counts
 a plus b = record { blocks = a.blocks + b.blocks; pairs = a.pairs + b.pairs; geometries = a.geometries + b.geometries }
 
--- the count of one visit: a block, a pair of blocks, or the exact geometry of an object or of a pair of objects
+-- the count of one visit: a block, a pair of blocks, or the exact geometry of an object or of a pair of objects; a node of an R-tree counts as none of these
 abbrev pub count_of : Visit → Counts
 count_of (visit.Block number z level) = record { blocks = 1; pairs = 0; geometries = 0 }
 count_of (visit.Pair b c) = record { blocks = 0; pairs = 1; geometries = 0 }
 count_of (visit.Geometry id) = record { blocks = 0; pairs = 0; geometries = 1 }
 count_of (visit.GeometryPair left right) = record { blocks = 0; pairs = 0; geometries = 1 }
+count_of (visit.Tree number page) = no_counts
 
 -- how many visits of each kind a list has
 abbrev pub visit_counts : List Visit → Counts

@@ -190,6 +190,7 @@ impl RTree {
     /// The root's rectangle, which is missing exactly where the list is empty, and the root's page.
     pub fn root(&self) -> (Option<Rect>, u64)
         ensures page { result.1 ≡ self.now.root }
+        ensures value { result.0 ≡ self.now.bound }
         ensures bound { (m : Store) → IsRTree m self.now → result.0 ≡ bound_of_members (tree_members m self.now) }
     {
         (self.bound, self.root)

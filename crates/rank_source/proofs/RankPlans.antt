@@ -40,6 +40,7 @@ lies d column goal to (visit.Block number z level) h = h
 lies d column goal to (visit.Geometry id) h = h
 lies d column goal to (visit.Pair b c) h = absurd h
 lies d column goal to (visit.GeometryPair l r) h = absurd h
+lies d column goal to (visit.Tree number page) h = absurd h
 
 -- what is told of a ranking, and of a plan that ranks
 

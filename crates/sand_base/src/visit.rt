@@ -4,8 +4,9 @@ use crate::NoMemory;
 use std::alloc::Global;
 use std::marker::Model;
 
-/// What a search looked at: a block of a quadtree, a pair of blocks of two, or the exact geometry of an
-/// object or of a pair of objects. A block is its quadtree's number, its code and its level.
+/// What a search looked at: a block of a quadtree, a pair of blocks of two, the exact geometry of an
+/// object or of a pair of objects, or a node of an R-tree. A block is its quadtree's number, its code and
+/// its level; a node is its R-tree's number and its page.
 #[derive(Clone, Copy, Debug, PartialEq, Eq)]
 pub enum Visit {
     Block {
@@ -23,6 +24,10 @@ pub enum Visit {
     GeometryPair {
         left: u32,
         right: u32,
+    },
+    Tree {
+        tree: u32,
+        page: u64,
     },
 }
 
