@@ -1,3 +1,4 @@
 pub mod Chosen
+pub mod FileTapeView
 pub mod Kept
 pub mod Written
