@@ -12,7 +12,8 @@ repeats, the rows or lines that came, the visits that `stats` counts for the sam
   browse100    1,000 rankings browsed up to the first row that one row in 100 passes; browse1000 likewise
   window       1,000 windows, all rows of each
   join100      the first 100 pairs of points and segments; semi100 the first 100 points with their nearest segment
-  update       10,000 rows inserted and 10,000 deleted, each a statement of its own
+  update       10,000 rows inserted and 10,000 deleted, each a statement of its own; update1, update16: beside so many open cursors
+  kept1000     16 cursors browse for 60 rows that one in 1000 passes, opened before an update; fresh1000: opened behind it
 """
 import argparse
 import os
@@ -24,7 +25,7 @@ import time
 
 HERE = os.path.dirname(os.path.abspath(__file__))
 PROGRAM = os.path.join(HERE, "..", "crates", "sand_shell", "out", "sand_shell")
-WORKS = "build knn10 knn100 browse100 browse1000 window join100 semi100 update".split()
+WORKS = "build knn10 knn100 browse100 browse1000 window join100 semi100 update update1 update16 kept1000 fresh1000".split()
 LAST = (1 << 20) - 1
 
 
@@ -64,6 +65,22 @@ class Data:
         lines = ["create p (at point, name text, pop int)", 'load p "points.csv"', "index p.at"]
         return lines + ["create s (way segment)", 'load s "ways.csv"', "index s.way"] * ways
 
+    def opened(self, work: str, number: int) -> list[str]:
+        """Cursors that browse for rows that one in so many passes, or rank."""
+        if work.startswith("update"):
+            return [f"open c{at} = rank p.at from ({x} {y})" for at, (x, y) in enumerate(self.goals[:number])]
+        least = 10_000_000 - 10_000_000 // number
+        return [f"open c{at} = filter (rank p.at from ({x} {y})) where 1.pop >= {least}" for at, (x, y) in enumerate(self.goals[:16])]
+
+    def before(self, work: str) -> list[str]:
+        """What stands between the loading and the queries, and isn't counted."""
+        number = int("".join(it for it in work if it.isdigit()) or 0)
+        if work.startswith("update"):
+            return self.opened(work, number)
+        if work.startswith("kept"):
+            return self.opened(work, number) + self.queries("update")
+        return self.queries("update") + self.opened(work, number) if work.startswith("fresh") else []
+
     def queries(self, work: str) -> list[str]:
         number = int("".join(it for it in work if it.isdigit()) or 0)
         if work.startswith("knn"):
@@ -71,6 +88,8 @@ class Data:
         if work.startswith("browse"):
             least = 10_000_000 - 10_000_000 // number
             return [f"show 1 filter (rank p.at from ({x} {y})) where 1.pop >= {least}" for x, y in self.goals]
+        if work.startswith(("kept", "fresh")):
+            return [f"next c{at} 60" for at in range(16)]
         if work == "window":
             return [f"show 1000000 window p.at {x} {y} {u} {v}" for x, y, u, v in self.windows]
         if work in ("join100", "semi100"):
@@ -130,14 +149,14 @@ def main() -> None:
         print(f"{'work':<11}{'wall s':>9}{'processor s':>13}{'lines':>11}{'visits':>10}{'peak MiB':>10}")
         for work in asked.works:
             lines = [] if work == "build" else data.queries(work)
-            load = data.load(work in ("join100", "semi100"))
+            load = data.load(work in ("join100", "semi100")) + data.before(work)
             least = [float("inf"), float("inf")]
             for _ in range(asked.repeat):
                 base = run(words, folder, load[:1] if work == "build" else load)
                 full = run(words, folder, load + lines)
                 least = [min(old, new) for old, new in zip(least, (full[0] - base[0], full[1] - base[1]))]
             visits = ""
-            if work not in ("build", "update"):
+            if lines and lines[0].startswith("show"):
                 stats = [it.split() for it in run(words, folder, load + counted(lines))[3] if it.startswith("blocks ")]
                 visits = f"{sum(int(it[1]) + int(it[3]) for it in stats):,}"
             print(f"{work:<11}{least[0]:>9.3f}{least[1]:>13.3f}{len(full[3]) - len(base[3]):>11,}{visits:>10}{full[2]:>10.1f}", flush=True)

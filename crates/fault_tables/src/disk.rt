@@ -14,14 +14,24 @@ const FILE: &str = "points.csv";
 /// The line of a disk's fault.
 const REFUSED: &[u8] = b"refused 2 Device\n";
 
+/// What the output of a run lacks where a call of its struck lines fails.
+#[derive(Clone, Copy)]
+pub enum Lacking {
+    /// Its last row, since one row fewer was taken.
+    LastRow,
+    /// The line of the change that was refused.
+    Change,
+}
+
 /// Lines of a script in four parts: what makes the relations and their indexes, what opens the cursor and takes its first
-/// rows, what takes the rows in which a call fails, and what takes rows after them.
+/// rows, the lines in which a call fails, and what takes rows after them.
 #[derive(Clone, Copy)]
 pub struct Taking {
     pub made: &'static str,
     pub before: &'static str,
     pub struck: &'static str,
     pub after: &'static str,
+    pub lacking: Lacking,
 }
 
 /// The parts as one script.
@@ -58,12 +68,28 @@ fn without_last_line(text: &[u8]) -> &[u8] {
     }
 }
 
-// The text with the line of a fault at the place, and without its last line, since one row fewer was taken.
-fn refused_at(alloc: Global, text: &[u8], place: usize) -> Result<Vec<u8>, NoMemory> {
+// The text without its first line.
+fn without_first_line(text: &[u8]) -> &[u8] {
+    match text.iter().position(|byte| *byte == b'\n') {
+        Some(feed) => &text[feed + 1..],
+        None => &[],
+    }
+}
+
+// The text with the line of a fault at the place, and without the line that is lacking.
+fn refused_at(
+    alloc: Global,
+    text: &[u8],
+    place: usize,
+    lacking: Lacking,
+) -> Result<Vec<u8>, NoMemory> {
     let (front, rest) = text.split_at(place.min(text.len()));
     let mut wanted = front.to_vec(alloc)?;
     wanted.extend_from_slice(REFUSED)?;
-    wanted.extend_from_slice(without_last_line(rest))?;
+    wanted.extend_from_slice(match lacking {
+        Lacking::LastRow => without_last_line(rest),
+        Lacking::Change => without_first_line(rest),
+    })?;
     Ok(wanted)
 }
 
@@ -75,20 +101,21 @@ struct Struck {
     least: usize,
 }
 
-// Whether one line of the text is the fault's, and the rows are those of the plain run.
+// Whether one line of the text is the fault's, and the others are those of the plain run.
 fn is_struck_once(
     alloc: Global,
     plain: &[u8],
+    lacking: Lacking,
     least: usize,
     call: u64,
     given: &[u8],
 ) -> Result<(), Trouble> {
     let place = shared(plain, given).max(least);
-    let wanted = refused_at(alloc, plain, place)?;
+    let wanted = refused_at(alloc, plain, place, lacking)?;
     agree(alloc, call, wanted.as_slice(), given)
 }
 
-// One run in which a call of the struck rows fails.
+// One run in which a call of the struck lines fails.
 fn try_call(
     alloc: Global,
     taking: &Taking,
@@ -99,7 +126,7 @@ fn try_call(
 ) -> Result<(), Trouble> {
     let parts = [taking.made, taking.before, taking.struck, taking.after];
     let given = answer_to(alloc, &parts, file, Fault::Disk(call))?;
-    is_struck_once(alloc, plain, least, call, given.text())?;
+    is_struck_once(alloc, plain, taking.lacking, least, call, given.text())?;
     ended(call, &given, Status::SomeRefused)
 }
 
@@ -116,7 +143,7 @@ pub fn calls_in(alloc: Global, parts: &[&str], file: &[u8]) -> Result<u64, Troub
     Ok(plain.calls)
 }
 
-// Which calls of the disk are in the struck rows.
+// Which calls of the disk are in the struck lines.
 fn struck_calls(alloc: Global, taking: &Taking, file: &[u8]) -> Result<Struck, Trouble> {
     let parts = [taking.made, taking.before, taking.struck];
     let last = calls_in(alloc, &parts, file)?;
@@ -142,7 +169,7 @@ fn try_all(
     some(calls.last.saturating_sub(calls.first))
 }
 
-/// The number of calls of the disk in the struck rows, each of which was made to fail in a run of its own. There must be some.
+/// The number of calls of the disk in the struck lines, each of which was made to fail in a run of its own. There must be some.
 pub fn tried(alloc: Global, taking: &Taking, file: &[u8]) -> Result<u64, Trouble> {
     let calls = struck_calls(alloc, taking, file)?;
     let parts = [taking.made, taking.before, taking.struck, taking.after];

@@ -21,7 +21,9 @@ mod trouble;
 use disk::Taking;
 use draws::{numbered_points, points};
 use harness::Case;
-use scripts::{CITIES, LOADING, LOADING_TEXT, PLANS, RANKING, TURNS, TURNS_TEXT, UNLOADED_TEXT};
+use scripts::{
+    BESIDE_CHANGES, CITIES, LOADING, LOADING_TEXT, PLANS, RANKING, TURNS, TURNS_TEXT, UNLOADED_TEXT,
+};
 use std::alloc::Global;
 use std::{env, io, str};
 use streams::{Stream, Wanted};
@@ -138,8 +140,12 @@ fn plan(alloc: Global, taking: &Taking) -> Result<u64, Trouble> {
 }
 
 // Prints a line for each of these.
-fn plans(rt: &(impl Print + AllocGlobal), shows: bool) -> io::Result<()> {
-    for (name, taking) in &PLANS {
+fn plans(
+    rt: &(impl Print + AllocGlobal),
+    shows: bool,
+    table: &[(&str, Taking)],
+) -> io::Result<()> {
+    for (name, taking) in table {
         tell(rt, shows, name, &plan(rt.alloc(), taking))?;
     }
     Ok(())
@@ -149,7 +155,8 @@ fn plans(rt: &(impl Print + AllocGlobal), shows: bool) -> io::Result<()> {
 fn disk_tables(rt: &(impl Print + AllocGlobal), shows: bool) -> io::Result<()> {
     let ranked = "calls of the disk that fail in 41 rows of a ranking";
     tell(rt, shows, ranked, &ranking(rt.alloc()))?;
-    plans(rt, shows)?;
+    plans(rt, shows, &PLANS)?;
+    plans(rt, shows, &BESIDE_CHANGES)?;
     let all_rows = "calls of the disk for all rows of a ranking";
     tell(rt, shows, all_rows, &reads::for_all_rows(rt.alloc()))?;
     let one_row = "calls of the disk for the first row of a ranking";

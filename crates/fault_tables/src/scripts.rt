@@ -1,5 +1,5 @@
 // The scripts of the tables.
-use crate::disk::Taking;
+use crate::disk::{Lacking, Taking};
 
 /// A relation of points, indexed. The last insert has the pages of the index written.
 pub const POINTS: &str =
@@ -29,6 +29,7 @@ pub static RANKING: Taking = Taking {
         next c 1\nnext c 1\nnext c 1\nnext c 1\nnext c 1\nnext c 1\nnext c 1\nnext c 1\n\
         next c 1\n",
     after: "",
+    lacking: Lacking::LastRow,
 };
 
 /// Three rows.
@@ -45,6 +46,7 @@ pub static PLANS: [(&str, Taking); 4] = [
                 show 1 sort (scan p) by 1.pop\n",
             struck: THREE,
             after: "next c 5\n",
+            lacking: Lacking::LastRow,
         },
     ),
     (
@@ -55,6 +57,7 @@ pub static PLANS: [(&str, Taking); 4] = [
                 show 1 sort (scan p) by 1.pop\n",
             struck: THREE,
             after: "next c 5\n",
+            lacking: Lacking::LastRow,
         },
     ),
     (
@@ -64,6 +67,7 @@ pub static PLANS: [(&str, Taking); 4] = [
             before: "open c = semi p.at q.at\nshow 1 sort (scan p) by 1.pop\n",
             struck: THREE,
             after: "next c 5\n",
+            lacking: Lacking::LastRow,
         },
     ),
     (
@@ -73,6 +77,49 @@ pub static PLANS: [(&str, Taking); 4] = [
             before: "open c = sort (scan p) by 1.pop\n",
             struck: THREE,
             after: "next c 5\n",
+            lacking: Lacking::LastRow,
+        },
+    ),
+];
+
+/// Three cursors, each opened between changes.
+const BETWEEN_CHANGES: &str =
+    "open c = filter (rank p.at from (30000 30000)) where 1.pop >= 60000\n\
+    next c 5\n\
+    delete p 11\n\
+    insert p (30000 30001), 7\n\
+    open d = sort (scan p) by 1.pop\n\
+    delete p 12\n\
+    insert p (30001 30000), 8\n\
+    open e = pick p.pop from 0 to 9000\n\
+    delete p 13\n\
+    next d 2\n\
+    next e 2\n\
+    show 1 sort (scan p) by 1.pop\n";
+
+/// More rows of each.
+const ALL_THREE: &str = "next d 4\nnext e 4\nnext c 5\n";
+
+/// Rows of the one that was opened first, and changes beside all of them.
+pub static BESIDE_CHANGES: [(&str, Taking); 2] = [
+    (
+        "calls of the disk that fail in three rows of a cursor beside changes",
+        Taking {
+            made: NUMBERED,
+            before: BETWEEN_CHANGES,
+            struck: THREE,
+            after: "next c 5\n",
+            lacking: Lacking::LastRow,
+        },
+    ),
+    (
+        "calls of the disk that fail in three changes beside cursors",
+        Taking {
+            made: NUMBERED,
+            before: BETWEEN_CHANGES,
+            struck: "delete p 14\ndelete p 600\ndelete p 1200\n",
+            after: ALL_THREE,
+            lacking: Lacking::Change,
         },
     ),
 ];

@@ -20,6 +20,7 @@ use Rattle.sand_base.specs.declared.refusal.Refusal.TheVariants as why
 use Rattle.sand_base.specs.declared.source.Failed.{Failed}
 use Rattle.sand_model.specs.Cursor.{Cursor, Refused}
 use Rattle.sand_model.specs.OutputText.{IsText}
+use Rattle.sand_store.specs.Calls.{Carries}
 use Rattle.sand_store.specs.Catalog.{CatalogView, StoreState}
 use Rattle.script_text.specs.InRange.{IsInRange}
 use Rattle.script_text.specs.Statement as text
@@ -29,13 +30,13 @@ use Rattle.statement_exec.proofs.Texts.{writes_none}
 use Rattle.statement_exec.proofs.Written.{answer_written, one_written, writes_so}
 use Rattle.statement_exec.specs.Causes.{BlamesNone}
 use Rattle.statement_exec.specs.Ending.{refused_line}
-use Rattle.statement_exec.specs.Moment.{Moment, beside, moment_of}
+use Rattle.statement_exec.specs.Moment.{Moment, beside, while_open}
 use Rattle.statement_exec.specs.Performing.{Performs, line_of_answer}
 use Rattle.statement_exec.specs.Printing.{WritesOf}
 use Rattle.statement_exec.specs.declared.reply.Reply.{Reply}
-use Rattle.line_exec.proofs.Moments.{none_stand}
+use Rattle.line_exec.proofs.Moments.{stands_after}
 use Rattle.line_exec.proofs.SaidLines.{said_beside}
-use Rattle.line_exec.specs.LineCarried.{LineCarried, while_open}
+use Rattle.line_exec.specs.LineCarried.{LineCarried}
 
 -- cursors that gave no more than so many gave no more than a greater number
 gave_less : (most more : ℕ) (cs : List Cursor) → most ≤ more → GaveAtMost most cs → GaveAtMost more cs
@@ -77,23 +78,20 @@ line_of_reading line statement other mid new old files shelf cs a b r At says sa
           (subst (λ (k : CatalogView). CarriesLine (Some line) (while_open mid files shelf cs) (beside h.after k new.pool files shelf) lines) (sym kept) said)) r h.writes;
     }
 
--- the statement changed relations where no cursor is open: its line did so
+-- the statement changed relations: its line did so, and the open cursors stand where they stood
 pub line_of_change : (line : List ℕ) (statement : Statement) (old new : StoreState) (files files' : Option Files) (shelf shelf' : ℕ) (a b : List ℕ → Type 0) (answer : Result Reply Refusal) (r : Result Bool Failed)
-    (items : List (OpenCursor Source Stage)) (cs : List Cursor) → Says line (Some statement) → items ≡ [] → cs ≡ []
-    → Performs (statement_of (statement_value statement)) (moment_of old files shelf) (moment_of new files' shelf') (line_of_answer answer ∷ [])
+    (items : List (OpenCursor Source Stage)) (cs : List Cursor) → Says line (Some statement) → HaveOwnNames cs → Carries old new → StandOver old.pool items cs
+    → Performs (statement_of (statement_value statement)) (while_open old files shelf cs) (while_open new files' shelf' cs) (line_of_answer answer ∷ [])
     → IfOk r (λ refused. (refused ≡ is_err answer) × Writes (IsText (line_of_answer answer ∷ [])) a b) → OnErr r (WritesPrefix (IsText (line_of_answer answer ∷ [])) a b)
     → LineCarried (Some line) (while_open old files shelf) (while_open new files' shelf') cs a b r (StandOver new.pool items)
-line_of_change line statement old new files files' shelf shelf' a b answer r items cs says none closed performs written part =
-    let Carried : List Cursor → Type 0 = λ ks. LineCarried (Some line) (while_open old files shelf) (while_open new files' shelf') ks a b r (StandOver new.pool items) in
-    let here : Carried [] = record {
-      after = [];
-      own = refl;
-      at = none_stand new.pool items none;
-      given = λ bound gave. tt;
-      writes = answer_written (CarriesLine (Some line) (moment_of old files shelf) (moment_of new files' shelf')) a b answer
-          (of_statement line statement (moment_of old files shelf) (moment_of new files' shelf') (line_of_answer answer ∷ []) says performs) r written part;
-    } in
-    subst Carried (sym closed) here
+line_of_change line statement old new files files' shelf shelf' a b answer r items cs says own carries stand performs written part = record {
+  after = cs;
+  own = own;
+  at = stands_after old.pool new.pool carries.told carries.stamps items cs stand;
+  given = λ bound gave. most_more bound 4294967295 cs gave;
+  writes = answer_written (CarriesLine (Some line) (while_open old files shelf cs) (while_open new files' shelf' cs)) a b answer
+      (of_statement line statement (while_open old files shelf cs) (while_open new files' shelf' cs) (line_of_answer answer ∷ []) says performs) r written part;
+}
 
 module _ (m : List Cursor → Moment) (cs : List Cursor) (At : List Cursor → Type 0) (own : HaveOwnNames cs) (at : At cs) (a : List ℕ → Type 0) where
   -- a line that leaves all as it was

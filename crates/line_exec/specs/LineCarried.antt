@@ -3,16 +3,10 @@ use Rattle.std.specs.Prelude.{ℕ, ◌+◌, Bool, List, Option, Result}
 use Rattle.line_meaning.specs.Carrying.{CarriesLine}
 use Rattle.open_cursors.specs.Carried.{GaveAtMost}
 use Rattle.open_cursors.specs.OpenCursors.{HaveOwnNames}
-use Rattle.sand_base.specs.Shelf.{Files}
 use Rattle.sand_base.specs.declared.source.Failed.{Failed}
 use Rattle.sand_model.specs.Cursor.{Cursor}
-use Rattle.sand_store.specs.Catalog.{StoreState}
-use Rattle.statement_exec.specs.Moment.{Moment, beside}
+use Rattle.statement_exec.specs.Moment.{Moment}
 use Rattle.statement_exec.specs.Printing.{WritesOf}
-
--- the moment of a store and a shelf, while these cursors are open
-abbrev pub while_open : StoreState → Option Files → ℕ → List Cursor → Moment
-while_open store files shelf cs = beside cs store.catalog store.pool files shelf
 
 -- the most rows that a line asks for
 abbrev pub most_rows : ℕ

@@ -1,13 +1,13 @@
 ghost use Rattle.std.specs.Prelude.{◌≤◌, List, Some, length};
 ghost use Rattle.line_meaning.specs.Carrying.{Follows};
 ghost use Rattle.open_cursors.specs.Carried.{AreCounted};
-ghost use Rattle.open_cursors.specs.OpenCursors.{HaveOwnNames};
+ghost use Rattle.open_cursors.specs.OpenCursors.{AreHeld, HaveOwnNames};
 ghost use Rattle.open_cursors.specs.OverPages.{AreStanding, StandOver};
 ghost use Rattle.sand_base.specs.Faults.{HasCause};
 ghost use Rattle.sand_model.specs.Cursor.{Cursor};
 ghost use Rattle.script_text.specs.declared.TheConstants.{LONGEST_LINE};
-ghost use Rattle.statement_exec.specs.Moment.{moment_of};
-ghost use Rattle.line_exec.specs.LineCarried.{LineCarried, while_open};
+ghost use Rattle.statement_exec.specs.Moment.{moment_of, while_open};
+ghost use Rattle.line_exec.specs.LineCarried.{LineCarried};
 
 use crate::statements::carry_statement;
 use line_meaning::read_line;
@@ -36,6 +36,7 @@ pub fn carry_line<D: Disk, H: Shelf, K: Sink>(
     requires stands { AreStanding store.pool cursors.old.items }
     ensures carried { (cs : List Cursor) → HaveOwnNames cs → AreCounted cs → StandOver store.pool cursors.old.items cs
         → LineCarried (Some line.now) (while_open store (H.files shelf.old) (H.faults shelf.old)) (while_open result.0 (H.files shelf.new) (H.faults shelf.new)) cs (K.took out.old) (K.took out.new) result.1 (StandOver result.0.pool cursors.new.items) }
+    ensures held { AreHeld result.0.pool.stamps cursors.new.items }
     ensures follows { Follows (moment_of store (H.files shelf.old) (H.faults shelf.old)) (moment_of result.0 (H.files shelf.new) (H.faults shelf.new)) }
     ensures sink { HasCause (K.faults out.old) (K.faults out.new) result.1 }
 {

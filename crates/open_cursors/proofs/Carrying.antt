@@ -2,7 +2,7 @@
 use Rattle.std.proofs.Common.{◌≡◌, ℕ, ◌+◌, ◌≤◌, arith, Bool, true, false, cond, List, [], ◌∷◌, ◌++◌, Option, Some, None, refl, sym, ap, subst, inl, inr, true≢false}
 use Rattle.std.specs.Prelude.{Result, Ok, Err, IfOk, OnErr, is_some, is_err}
 use Rattle.output_text.specs.Writing.{Writes, WritesPrefix}
-use Rattle.page_pool.specs.Disk.{PageMap}
+use Rattle.page_pool.specs.Pool.{StampMap}
 use Rattle.page_pool.specs.Pool.{PoolState}
 use Rattle.page_pool.specs.Reads.{IsRead}
 use Rattle.plan_cursor.specs.declared.cursor.RowCursor.{RowCursor}
@@ -29,10 +29,9 @@ use Rattle.statement_exec.specs.LeafLines.{state_of}
 use Rattle.statement_exec.specs.Moment.{beside, rises_between}
 use Rattle.statement_exec.specs.Printing.{PrintsSome, WritesOf}
 use Rattle.statement_exec.specs.declared.reply.Reply.TheVariants as reply
-use Rattle.open_cursors.proofs.CursorOutcomes.{next_performs, close_performs, close_unknown, change_refused}
+use Rattle.open_cursors.proofs.CursorOutcomes.{next_performs, close_performs, close_unknown}
 use Rattle.open_cursors.proofs.DecidedCursors.{early_decides, passing_decides, steps_up_to}
 use Rattle.open_cursors.proofs.OwnNames.{own_replaced, own_closed, replaced_names}
-use Rattle.open_cursors.specs.RefusedChanges.{RefusesBeside}
 use Rattle.open_cursors.specs.OpenCursors.{Places, StandAll, HaveOwnNames, NextOf, ClosesOf, named}
 use Rattle.open_cursors.specs.Outcomes.{PerformsBeside}
 use Rattle.open_cursors.specs.Steps.{GivesSome}
@@ -50,14 +49,14 @@ grown_some : (c after : Cursor) (bound made n : ℕ) → made ≤ n → Kept mad
 grown_some c after bound made n most kept few = let more : after.given ≤ c.given + made = kept.given in omega (arith, more, few, most)
 
 -- where the one of the name is replaced, the new one stands somewhere
-found_stands : {S T : Type 0} (At : Places S T) (pages : PageMap) (xs : List (OpenCursor S T)) (cs : List Cursor) (name : List ℕ) (c after : Cursor) → named cs name ≡ Some c
-    → StandAll At pages xs (replaced name after cs) → (r : RowCursor S T) × At r pages after
-found_stands At pages xs [] name c after is h = absurd (true≢false (sym (ap (λ (o : Option Cursor). is_some o) is)))
-found_stands At pages [] (k ∷ cs) name c after is h = absurd h
-found_stands {S} {T} At pages (x ∷ xs) (k ∷ cs) name c after is h =
-    let go : (b : Bool) → same_name k.name name ≡ b → cond b (Some k) (named cs name) ≡ Some c → StandAll At pages (x ∷ xs) (cond b after k ∷ replaced name after cs) → (r : RowCursor S T) × At r pages after = elim [
-      | true ↦ λ e i s. (x.cursor, s.1)
-      | false ↦ λ e i s. found_stands At pages xs cs name c after i s.2
+found_stands : {S T : Type 0} (At : Places S T) (stamps : StampMap) (xs : List (OpenCursor S T)) (cs : List Cursor) (name : List ℕ) (c after : Cursor) → named cs name ≡ Some c
+    → StandAll At stamps xs (replaced name after cs) → (r : OpenCursor S T) × At r stamps after
+found_stands At stamps xs [] name c after is h = absurd (true≢false (sym (ap (λ (o : Option Cursor). is_some o) is)))
+found_stands At stamps [] (k ∷ cs) name c after is h = absurd h
+found_stands {S} {T} At stamps (x ∷ xs) (k ∷ cs) name c after is h =
+    let go : (b : Bool) → same_name k.name name ≡ b → cond b (Some k) (named cs name) ≡ Some c → StandAll At stamps (x ∷ xs) (cond b after k ∷ replaced name after cs) → (r : OpenCursor S T) × At r stamps after = elim [
+      | true ↦ λ e i s. (x, s.1)
+      | false ↦ λ e i s. found_stands At stamps xs cs name c after i s.2
     ] in
     go (same_name k.name name) refl is h
 
@@ -148,18 +147,18 @@ module _ (catalog : CatalogView) (cs : List Cursor) (old new : PoolState) (read 
           }
 
   -- steps where the sink failed
-  pub next_broken : {S T : Type 0} (At : Places S T) (pages : PageMap) (xs : List (OpenCursor S T)) (a b : List ℕ → Type 0) (failed : Failed) → HaveOwnNames cs
-      → ((r : RowCursor S T) (c : Cursor) → At r pages c → IsRefusedStep plan_measure c why.Memory c)
-      → NextOf (named cs name) cs name count a b (Err failed) (λ after. StandAll At pages xs after)
-      → CarriesBeside (Next name count) catalog old new cs a b (Err failed) (λ after. StandAll At pages xs after)
-  next_broken At pages xs a b failed own stays h = go (named cs name) refl h where
-    go : (o : Option Cursor) → named cs name ≡ o → NextOf o cs name count a b (Err failed) (λ after. StandAll At pages xs after) → CarriesBeside (Next name count) catalog old new cs a b (Err failed) (λ after. StandAll At pages xs after)
+  pub next_broken : {S T : Type 0} (At : Places S T) (stamps : StampMap) (xs : List (OpenCursor S T)) (a b : List ℕ → Type 0) (failed : Failed) → HaveOwnNames cs
+      → ((r : OpenCursor S T) (c : Cursor) → At r stamps c → IsRefusedStep plan_measure c why.Memory c)
+      → NextOf (named cs name) cs name count a b (Err failed) (λ after. StandAll At stamps xs after)
+      → CarriesBeside (Next name count) catalog old new cs a b (Err failed) (λ after. StandAll At stamps xs after)
+  next_broken At stamps xs a b failed own stays h = go (named cs name) refl h where
+    go : (o : Option Cursor) → named cs name ≡ o → NextOf o cs name count a b (Err failed) (λ after. StandAll At stamps xs after) → CarriesBeside (Next name count) catalog old new cs a b (Err failed) (λ after. StandAll At stamps xs after)
     go None is n = absurd (not_ok n.0) where
       not_ok : Err failed ≡ Ok (Some why.UnknownCursor) → ⊥
       not_ok e = true≢false (ap (λ (x : Result (Option Refusal) Failed). is_err x) e)
     go (Some c) is s =
         let some = s.steps in
-        let place = found_stands At pages xs cs name c s.after is s.at in
+        let place = found_stands At stamps xs cs name c s.after is s.at in
         let kept : Kept some.1.0 c s.after = steps_kept (λ w. ⊥) some.1.0 c some.0 s.after some.1.2 in
         record {
           after = replaced name s.after cs;
@@ -205,10 +204,3 @@ module _ (catalog : CatalogView) (cs : List Cursor) (pool : PoolState) (name : L
           (subst (λ (x : Refusal). PerformsBeside (CloseCursor name) catalog pool pool cs cs (Refused x ∷ [])) (sym (ap (inside_of w) n.0)) (close_unknown catalog cs pool name is)) r line part;
     }
     go (Some c) is n = absurd (true≢false (ap (λ (x : Result (Unit {0}) Refusal). is_err x) n.0))
-
--- a change was refused
-pub change_carried : (catalog : CatalogView) (pool : PoolState) (first : Cursor) (others : List Cursor) (statement : Statement) (a b : List ℕ → Type 0) (w : Refusal) → RefusesBeside catalog statement w → (r : Result Bool Failed)
-    → IfOk r (λ refused. (refused ≡ true) × Writes (IsText (Refused w ∷ [])) a b) → OnErr r (WritesPrefix (IsText (Refused w ∷ [])) a b)
-    → WritesOf (PerformsBeside statement catalog pool pool (first ∷ others) (first ∷ others)) a b r
-change_carried catalog pool first others statement a b w refuses =
-    answer_written (PerformsBeside statement catalog pool pool (first ∷ others) (first ∷ others)) a b (Err w) (change_refused catalog first others pool statement w refuses)

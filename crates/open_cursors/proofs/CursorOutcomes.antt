@@ -1,7 +1,6 @@
 -- What is done beside open cursors is the outcome of the model.
 use Rattle.std.proofs.Common.{◌≡◌, ℕ, ◌<◌, List, [], ◌∷◌, ◌++◌, Option, Some, None, refl, sym, ◌∙◌, ap, subst, true≢false}
 use Rattle.std.specs.Prelude.{Ok, Err, ⊤, is_some}
-use Rattle.page_pool.specs.Causes.{IsDamage}
 use Rattle.page_pool.specs.Pool.{PoolState, IsTold}
 use Rattle.page_pool.specs.Reads.{IsRead}
 use Rattle.plan_rows.specs.Rows.{plan_measure}
@@ -17,32 +16,30 @@ use Rattle.sand_model.specs.Outcome.{Rises, IsLicensed, replaced, closed}
 use Rattle.sand_model.specs.Plan.{Plan}
 use Rattle.sand_model.specs.Statement.{Statement, Next, CloseCursor, OpenCursor as Opens}
 use Rattle.sand_model.specs.StatementChecks.{Setting, early}
-use Rattle.sand_store.specs.Calls.{HasCause}
 use Rattle.sand_store.specs.Catalog.{CatalogView}
 use Rattle.sand_store.specs.Contents.{database_in}
 use Rattle.statement_exec.proofs.CausedLines.{caused_inside, caused_plain, check_blames_none, end_cause}
 use Rattle.statement_exec.proofs.Outcomes.{outcome_done, outcome_early}
 use Rattle.statement_exec.proofs.Refusals.{caused, rose}
 use Rattle.statement_exec.specs.Deciding.{ComesBehind}
-use Rattle.statement_exec.specs.Ending.{PagesHaveCause}
+use Rattle.statement_exec.specs.Ending.{IsCausedByPages, PagesHaveCause}
 use Rattle.statement_exec.specs.LeafLines.{state_of}
 use Rattle.statement_exec.specs.Moment.{beside, rises_between}
 use Rattle.open_cursors.proofs.DecidedCursors.{pages_come, steps_up_to, early_decides, passing_decides, close_decides, open_decides}
 use Rattle.open_cursors.proofs.OwnNames.{replaced_names}
 use Rattle.open_cursors.proofs.CausedSteps.{cause_of_end, pages_no_file, steps_caused}
-use Rattle.open_cursors.specs.RefusedChanges.{RefusesBeside}
 use Rattle.open_cursors.specs.OpenCursors.{named}
 use Rattle.open_cursors.specs.Outcomes.{PerformsBeside}
 use Rattle.open_cursors.specs.Steps.{GivesSteps, IsOfPages}
 
 module _ (catalog : CatalogView) (cs : List Cursor) (old new : PoolState) (read : IsRead old new) (name : List ℕ) (count : ℕ) where
   -- the refusal of a page is licensed
-  licensed : (setting : Setting) (files : Option Files) (shelf : ℕ) (cs' : List Cursor) (w : Refusal) → IsOfPages (Some w) → HasCause {T = ⊤} old new (Err w) → IsTold old → new.disk.faults < last_count
+  licensed : (setting : Setting) (files : Option Files) (shelf : ℕ) (cs' : List Cursor) (w : Refusal) → IsOfPages (Some w) → IsCausedByPages old new w → IsTold old → new.disk.faults < last_count
       → early setting (state_of catalog old.pages cs) (Next name count) ≡ None
       → IsLicensed setting (rises_between (beside cs catalog old files shelf) (beside cs' catalog new files shelf)) (state_of catalog old.pages cs) (Next name count) w
   licensed setting files shelf cs' why.Memory o c t l e = tt
   licensed setting files shelf cs' why.Device o c t l e = ((refl, e), rose old.disk.faults new.disk.faults c.counted l)
-  licensed setting files shelf cs' (why.Damaged n kept read') o c t l e = let d : IsDamage new n kept read' = c.damaged in absurd (true≢false (sym (read.told ∙ t) ∙ d.untold))
+  licensed setting files shelf cs' (why.Damaged n kept read') o c t l e = absurd (true≢false (sym (read.told ∙ t) ∙ c.damaged.untold))
   licensed setting files shelf cs' _ o c t l e = absurd o
 
   some_is : (a b : Refusal) → Some a ≡ Some b → a ≡ b
@@ -138,17 +135,3 @@ module _ (catalog : CatalogView) (cs : List Cursor) (pool : PoolState) (name : L
         outcome_done setting (rises_between (beside cs catalog pool files shelf) (beside all catalog pool files shelf)) (state_of catalog pool.pages cs) (Opens name p) (Accepted ∷ []) (state_of catalog pool.pages all)
         (passes setting) refl (refl, refl),
   )
-
--- a change is refused beside open cursors
-pub change_refused : (catalog : CatalogView) (first : Cursor) (others : List Cursor) (pool : PoolState) (statement : Statement) (w : Refusal) → RefusesBeside catalog statement w
-    → PerformsBeside statement catalog pool pool (first ∷ others) (first ∷ others) (Refused w ∷ [])
-change_refused catalog first others pool statement w h = λ files shelf. (
-  (
-    caused_inside (beside (first ∷ others) catalog pool files shelf) (beside (first ∷ others) catalog pool files shelf) w (check_blames_none w h.0),
-    early_decides catalog (first ∷ others) (first ∷ others) pool pool files files shelf shelf statement refl w (λ setting. h.1 setting pool.pages first others),
-  ),
-  λ told disk few setting gap s.
-      let rises : Rises = rises_between (beside (first ∷ others) catalog pool files shelf) (beside (first ∷ others) catalog pool files shelf) in
-      outcome_early setting rises (state_of catalog pool.pages (first ∷ others)) statement (Refused w ∷ []) (state_of catalog pool.pages (first ∷ others))
-      w (h.1 setting pool.pages first others) (caused rises w h.0) (refl, refl),
-)

@@ -1,9 +1,3 @@
--- names that stand twice
-pub mod Names
--- rows of a schema
-pub mod RowKinds
--- the checks of an index
-pub mod IndexChecks
 -- the steps of a cursor
 pub mod StepCalls
 -- the open cursor of a name, where it makes steps and where it is gone
@@ -11,6 +5,8 @@ pub mod NamedCursors
 pub mod ClosedCursors
 -- the names of the open cursors, whatever the pages
 pub mod OpenNames
+-- their stamps
+pub mod HeldStamps
 -- the checks of a new cursor
 pub mod OpenChecks
 -- the causes of the lines of steps
@@ -49,7 +45,13 @@ pub mod OneMore
 pub mod Openings
 -- What is written of the first rows of a plan.
 pub mod Showings
--- What a desk tells.
-pub mod ToldPages
--- Statements over the pages of a desk, told or not.
-pub mod OverDesk
+-- The maps that are told.
+pub mod ToldStamps
+-- Steps over the pages that a stamp holds.
+pub mod StampSteps
+-- Statements over a pool, whose disk tells its pages or not.
+pub mod OverPool
+-- A map taken or let go, and what a statement that reads leaves.
+pub mod Released
+-- A store whose pages are lent.
+pub mod Lent

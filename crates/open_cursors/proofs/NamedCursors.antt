@@ -12,7 +12,7 @@ use Rattle.open_cursors.specs.Steps.{StepsOn, WritesSteps}
 use Rattle.std.specs.List.{position, position_or_len}
 use Rattle.std.proofs.lemmas.Bool.{ltb-true, ltb-false}
 use Rattle.std.specs.Cmp.Lexicographic.{bytes_decides}
-use Rattle.page_pool.specs.Disk.{PageMap}
+use Rattle.page_pool.specs.Pool.{StampMap}
 use Rattle.sand_model.specs.Cursor.{Cursor, OutputLine, Steps, step_of}
 use Rattle.sand_model.specs.Database.{same_name, element}
 use Rattle.sand_model.specs.Kept.{has_same, has_twice}
@@ -31,6 +31,12 @@ FirstAt p (x ∷ xs) (suc at) = (p x ≡ false) × FirstAt p xs at
 abbrev pub NonePasses : {X : Type 0} → (X → Bool) → List X → Type 0
 NonePasses p [] = Unit {0}
 NonePasses p (x ∷ xs) = (p x ≡ false) × NonePasses p xs
+
+-- its place is one of the list
+pub first_below : {X : Type 0} (p : X → Bool) (xs : List X) (at : ℕ) → FirstAt p xs at → at < length xs
+first_below p [] at f = absurd f
+first_below p (x ∷ xs) zero f = omega arith
+first_below p (x ∷ xs) (suc at) f = let rest : at < length xs = first_below p xs at f.1 in omega (arith, rest)
 
 first_at : {X : Type 0} (p : X → Bool) (xs : List X) → position_or_len p xs < length xs → FirstAt p xs (position_or_len p xs)
 first_at p [] below = absurd (omega arith)
@@ -102,15 +108,15 @@ both_false true b h = absurd (true≢false h)
 both_false false b h = (refl, h)
 
 -- what stands at a place among the open cursors
-pub record StandsAt {S T : Type 0} (At : Places S T) (pages : PageMap) (xs : List (OpenCursor S T)) (cs : List Cursor) (name : List ℕ) (at : ℕ) : Type 0 where
+pub record StandsAt {S T : Type 0} (At : Places S T) (stamps : StampMap) (xs : List (OpenCursor S T)) (cs : List Cursor) (name : List ℕ) (at : ℕ) : Type 0 where
   pub cursor : Cursor
   pub is : named cs name ≡ Some cursor
-  pub stands : (d : OpenCursor S T) → At (get_or xs at d).cursor pages cursor
-  pub others : (d : OpenCursor S T) (r : RowCursor S T) (after : Cursor) → At r pages after → after.name ≡ cursor.name
-      → StandAll At pages (set xs at (record { name = (get_or xs at d).name; cursor = r })) (replaced name after cs)
+  pub stands : (d : OpenCursor S T) → At (get_or xs at d) stamps cursor
+  pub others : (d : OpenCursor S T) (r : OpenCursor S T) (after : Cursor) → At r stamps after → after.name ≡ cursor.name → r.name ≡ (get_or xs at d).name
+      → StandAll At stamps (set xs at r) (replaced name after cs)
 
-module _ {S T : Type 0} (At : Places S T) (pages : PageMap) where
-  pub none_named : (xs : List (OpenCursor S T)) (cs : List Cursor) (name : List ℕ) → StandAll At pages xs cs → NonePasses (λ x. same_name x.name name) xs → named cs name ≡ None
+module _ {S T : Type 0} (At : Places S T) (stamps : StampMap) where
+  pub none_named : (xs : List (OpenCursor S T)) (cs : List Cursor) (name : List ℕ) → StandAll At stamps xs cs → NonePasses (λ x. same_name x.name name) xs → named cs name ≡ None
   none_named [] [] name h n = refl
   none_named [] (c ∷ cs) name h n = absurd h
   none_named (x ∷ xs) [] name h n = absurd h
@@ -119,16 +125,16 @@ module _ {S T : Type 0} (At : Places S T) (pages : PageMap) where
       ap (λ (b : Bool). cond b (Some c) (named cs name)) no ∙ none_named xs cs name h.2 n.1
 
   -- some cursor of the model stands at the place
-  at_stands : (xs : List (OpenCursor S T)) (cs : List Cursor) (p : OpenCursor S T → Bool) (at : ℕ) (d : OpenCursor S T) → StandAll At pages xs cs → FirstAt p xs at
-      → (c : Cursor) × At (get_or xs at d).cursor pages c
+  at_stands : (xs : List (OpenCursor S T)) (cs : List Cursor) (p : OpenCursor S T → Bool) (at : ℕ) (d : OpenCursor S T) → StandAll At stamps xs cs → FirstAt p xs at
+      → (c : Cursor) × At (get_or xs at d) stamps c
   at_stands [] cs p at d h f = absurd f
   at_stands (x ∷ xs) [] p at d h f = absurd h
   at_stands (x ∷ xs) (c ∷ cs) p zero d h f = (c, h.1)
   at_stands (x ∷ xs) (c ∷ cs) p (suc at) d h f = at_stands xs cs p at d h.2 f.1
 
   -- the first of the name
-  pub at_place : (xs : List (OpenCursor S T)) (cs : List Cursor) (name : List ℕ) (at : ℕ) → HaveOwnNames cs → StandAll At pages xs cs → FirstAt (λ x. same_name x.name name) xs at
-      → StandsAt At pages xs cs name at
+  pub at_place : (xs : List (OpenCursor S T)) (cs : List Cursor) (name : List ℕ) (at : ℕ) → HaveOwnNames cs → StandAll At stamps xs cs → FirstAt (λ x. same_name x.name name) xs at
+      → StandsAt At stamps xs cs name at
   at_place [] cs name at own h f = absurd f
   at_place (x ∷ xs) [] name at own h f = absurd h
   at_place (x ∷ xs) (c ∷ cs) name zero own h f =
@@ -140,22 +146,22 @@ module _ {S T : Type 0} (At : Places S T) (pages : PageMap) where
         cursor = c;
         is = ap (λ (b : Bool). cond b (Some c) (named cs name)) yes;
         stands = λ d. h.1;
-        others = λ d r after at e.
+        others = λ d r after at e same.
             let to : replaced name after (c ∷ cs) ≡ after ∷ cs =
             ap (λ (b : Bool). cond b after c ∷ replaced name after cs) yes ∙ ap (λ (ks : List Cursor). after ∷ ks) (unreplaced name after cs rest) in
-            subst (λ (ks : List Cursor). StandAll At pages (record { name = x.name; cursor = r } ∷ xs) ks) (sym to) (e ∙ h.0, at, h.2);
+            subst (λ (ks : List Cursor). StandAll At stamps (r ∷ xs) ks) (sym to) (e ∙ (h.0 ∙ sym same), at, h.2);
       }
   at_place (x ∷ xs) (c ∷ cs) name (suc at) own h f =
       let no : same_name c.name name ≡ false = ap (λ (m : List ℕ). same_name m name) h.0 ∙ f.0 in
       let parts = both_false (has_same c.name (map (λ k. k.name) cs)) (has_twice (map (λ k. k.name) cs)) own in
-      let w : StandsAt At pages xs cs name at = at_place xs cs name at parts.1 h.2 f.1 in
+      let w : StandsAt At stamps xs cs name at = at_place xs cs name at parts.1 h.2 f.1 in
       record {
         cursor = w.cursor;
         is = ap (λ (b : Bool). cond b (Some c) (named cs name)) no ∙ w.is;
         stands = λ d. w.stands d;
-        others = λ d r after k e.
+        others = λ d r after k e same.
             let to : replaced name after (c ∷ cs) ≡ c ∷ replaced name after cs = ap (λ (b : Bool). cond b after c ∷ replaced name after cs) no in
-            subst (λ (ks : List Cursor). StandAll At pages (x ∷ set xs at (record { name = (get_or xs at d).name; cursor = r })) ks) (sym to) (h.0, h.1, w.others d r after k e);
+            subst (λ (ks : List Cursor). StandAll At stamps (x ∷ set xs at r) ks) (sym to) (h.0, h.1, w.others d r after k e same);
       }
 
 -- a step keeps the name
@@ -175,58 +181,58 @@ kept_name : (c : Cursor) (count : ℕ) (a b : List ℕ → Type 0) (result : Res
 kept_name c count a b (Ok end) after h = steps_name (λ r. end ≡ Some r) count c (h.lines ++ refused_line end) after h.holds
 kept_name c count a b (Err failed) after h = steps_name (λ r. ⊥) h.1.0 c h.0 after h.1.2
 
-module _ {S T : Type 0} (At : Places S T) (told : Option PageMap) (xs : List (OpenCursor S T)) (name : List ℕ) (count : ℕ) where
+module _ {S T : Type 0} (At : Places S T) (told : Option StampMap) (xs : List (OpenCursor S T)) (name : List ℕ) (count : ℕ) where
   -- no cursor has the name
   pub next_none : NonePasses (λ x. same_name x.name name) xs → (a : List ℕ → Type 0)
-      → IfSome told (λ pages. (cs : List Cursor) → HaveOwnNames cs → StandAll At pages xs cs → NextOf (named cs name) cs name count a a (Ok (Some why.UnknownCursor)) (λ after. StandAll At pages xs after))
+      → IfSome told (λ stamps. (cs : List Cursor) → HaveOwnNames cs → StandAll At stamps xs cs → NextOf (named cs name) cs name count a a (Ok (Some why.UnknownCursor)) (λ after. StandAll At stamps xs after))
   next_none n a = over told where
-    over : (told : Option PageMap)
-        → IfSome told (λ pages. (cs : List Cursor) → HaveOwnNames cs → StandAll At pages xs cs → NextOf (named cs name) cs name count a a (Ok (Some why.UnknownCursor)) (λ after. StandAll At pages xs after))
+    over : (told : Option StampMap)
+        → IfSome told (λ stamps. (cs : List Cursor) → HaveOwnNames cs → StandAll At stamps xs cs → NextOf (named cs name) cs name count a a (Ok (Some why.UnknownCursor)) (λ after. StandAll At stamps xs after))
     over None = tt
-    over (Some pages) = λ cs own h.
-        subst (λ (o : Option Cursor). NextOf o cs name count a a (Ok (Some why.UnknownCursor)) (λ after. StandAll At pages xs after)) (sym (none_named At pages xs cs name h n)) (refl, (λ bytes k. k), h)
+    over (Some stamps) = λ cs own h.
+        subst (λ (o : Option Cursor). NextOf o cs name count a a (Ok (Some why.UnknownCursor)) (λ after. StandAll At stamps xs after)) (sym (none_named At stamps xs cs name h n)) (refl, (λ bytes k. k), h)
 
   -- the cursor of the name makes steps
-  pub next_named : (at : ℕ) (d : OpenCursor S T) (r : RowCursor S T) (a b : List ℕ → Type 0) (result : Result (Option Refusal) Failed) → FirstAt (λ x. same_name x.name name) xs at
-      → IfSome told (λ pages. (c : Cursor) → At (get_or xs at d).cursor pages c → StepsOn c count a b result (At r pages))
-      → IfSome told (λ pages. (cs : List Cursor) → HaveOwnNames cs → StandAll At pages xs cs
-      → NextOf (named cs name) cs name count a b result (λ after. StandAll At pages (set xs at (record { name = (get_or xs at d).name; cursor = r })) after))
-  next_named at d r a b result f h = over told h where
-    over : (told : Option PageMap) → IfSome told (λ pages. (c : Cursor) → At (get_or xs at d).cursor pages c → StepsOn c count a b result (At r pages))
-        → IfSome told (λ pages. (cs : List Cursor) → HaveOwnNames cs → StandAll At pages xs cs
-        → NextOf (named cs name) cs name count a b result (λ after. StandAll At pages (set xs at (record { name = (get_or xs at d).name; cursor = r })) after))
+  pub next_named : (at : ℕ) (d r : OpenCursor S T) → r.name ≡ (get_or xs at d).name → (a b : List ℕ → Type 0) (result : Result (Option Refusal) Failed) → FirstAt (λ x. same_name x.name name) xs at
+      → IfSome told (λ stamps. (c : Cursor) → At (get_or xs at d) stamps c → StepsOn c count a b result (At r stamps))
+      → IfSome told (λ stamps. (cs : List Cursor) → HaveOwnNames cs → StandAll At stamps xs cs
+      → NextOf (named cs name) cs name count a b result (λ after. StandAll At stamps (set xs at r) after))
+  next_named at d r same a b result f h = over told h where
+    over : (told : Option StampMap) → IfSome told (λ stamps. (c : Cursor) → At (get_or xs at d) stamps c → StepsOn c count a b result (At r stamps))
+        → IfSome told (λ stamps. (cs : List Cursor) → HaveOwnNames cs → StandAll At stamps xs cs
+        → NextOf (named cs name) cs name count a b result (λ after. StandAll At stamps (set xs at r) after))
     over None h = tt
-    over (Some pages) h = λ cs own all.
-        let w : StandsAt At pages xs cs name at = at_place At pages xs cs name at own all f in
-        let s : StepsOn w.cursor count a b result (At r pages) = h w.cursor (w.stands d) in
-        let on : StepsOn w.cursor count a b result (λ after. StandAll At pages (set xs at (record { name = (get_or xs at d).name; cursor = r })) (replaced name after cs)) =
-        record { after = s.after; at = w.others d r s.after s.at (kept_name w.cursor count a b result s.after s.steps); steps = s.steps; pages = s.pages } in
-        subst (λ (o : Option Cursor). NextOf o cs name count a b result (λ after. StandAll At pages (set xs at (record { name = (get_or xs at d).name; cursor = r })) after)) (sym w.is) on
+    over (Some stamps) h = λ cs own all.
+        let w : StandsAt At stamps xs cs name at = at_place At stamps xs cs name at own all f in
+        let s : StepsOn w.cursor count a b result (At r stamps) = h w.cursor (w.stands d) in
+        let on : StepsOn w.cursor count a b result (λ after. StandAll At stamps (set xs at r) (replaced name after cs)) =
+        record { after = s.after; at = w.others d r s.after s.at (kept_name w.cursor count a b result s.after s.steps) same; steps = s.steps; pages = s.pages } in
+        subst (λ (o : Option Cursor). NextOf o cs name count a b result (λ after. StandAll At stamps (set xs at r) after)) (sym w.is) on
 
   -- the cursor at the place stands
-  pub place_stands : (at : ℕ) (d : OpenCursor S T) (p : OpenCursor S T → Bool) → FirstAt p xs at → IfSome told (λ pages. (cs : List Cursor) × StandAll At pages xs cs)
-      → IfSome told (λ pages. (c : Cursor) × At (get_or xs at d).cursor pages c)
+  pub place_stands : (at : ℕ) (d : OpenCursor S T) (p : OpenCursor S T → Bool) → FirstAt p xs at → IfSome told (λ stamps. (cs : List Cursor) × StandAll At stamps xs cs)
+      → IfSome told (λ stamps. (c : Cursor) × At (get_or xs at d) stamps c)
   place_stands at d p f h = over told h where
-    over : (told : Option PageMap) → IfSome told (λ pages. (cs : List Cursor) × StandAll At pages xs cs) → IfSome told (λ pages. (c : Cursor) × At (get_or xs at d).cursor pages c)
+    over : (told : Option StampMap) → IfSome told (λ stamps. (cs : List Cursor) × StandAll At stamps xs cs) → IfSome told (λ stamps. (c : Cursor) × At (get_or xs at d) stamps c)
     over None h = tt
-    over (Some pages) h = at_stands At pages xs h.0 p at d h.1 f
+    over (Some stamps) h = at_stands At stamps xs h.0 p at d h.1 f
 
   -- the same, where the cursor at the place is in hand
-  pub next_in_hand : (at : ℕ) (d : OpenCursor S T) (r : RowCursor S T) (a b : List ℕ → Type 0) (result : Result (Option Refusal) Failed) → d ≡ get_or xs at d
+  pub next_in_hand : (at : ℕ) (d r : OpenCursor S T) → r.name ≡ d.name → (a b : List ℕ → Type 0) (result : Result (Option Refusal) Failed) → d ≡ get_or xs at d
       → FirstAt (λ x. same_name x.name name) xs at
-      → IfSome told (λ pages. (c : Cursor) → At d.cursor pages c → StepsOn c count a b result (At r pages))
-      → IfSome told (λ pages. (cs : List Cursor) → HaveOwnNames cs → StandAll At pages xs cs
-      → NextOf (named cs name) cs name count a b result (λ after. StandAll At pages (set xs at (record { name = d.name; cursor = r })) after))
-  next_in_hand at d r a b result here f =
-      subst (λ (y : OpenCursor S T). IfSome told (λ pages. (c : Cursor) → At y.cursor pages c → StepsOn c count a b result (At r pages))
-      → IfSome told (λ pages. (cs : List Cursor) → HaveOwnNames cs → StandAll At pages xs cs
-      → NextOf (named cs name) cs name count a b result (λ after. StandAll At pages (set xs at (record { name = y.name; cursor = r })) after))) (sym here)
-      (next_named at d r a b result f)
+      → IfSome told (λ stamps. (c : Cursor) → At d stamps c → StepsOn c count a b result (At r stamps))
+      → IfSome told (λ stamps. (cs : List Cursor) → HaveOwnNames cs → StandAll At stamps xs cs
+      → NextOf (named cs name) cs name count a b result (λ after. StandAll At stamps (set xs at r) after))
+  next_in_hand at d r same a b result here f =
+      subst (λ (y : OpenCursor S T). IfSome told (λ stamps. (c : Cursor) → At y stamps c → StepsOn c count a b result (At r stamps))
+      → IfSome told (λ stamps. (cs : List Cursor) → HaveOwnNames cs → StandAll At stamps xs cs
+      → NextOf (named cs name) cs name count a b result (λ after. StandAll At stamps (set xs at r) after))) (sym here)
+      (next_named at d r (same ∙ ap (λ (x : OpenCursor S T). x.name) here) a b result f)
 
-  pub in_hand_stands : (at : ℕ) (d : OpenCursor S T) (p : OpenCursor S T → Bool) → d ≡ get_or xs at d → FirstAt p xs at → IfSome told (λ pages. (cs : List Cursor) × StandAll At pages xs cs)
-      → IfSome told (λ pages. (c : Cursor) × At d.cursor pages c)
+  pub in_hand_stands : (at : ℕ) (d : OpenCursor S T) (p : OpenCursor S T → Bool) → d ≡ get_or xs at d → FirstAt p xs at → IfSome told (λ stamps. (cs : List Cursor) × StandAll At stamps xs cs)
+      → IfSome told (λ stamps. (c : Cursor) × At d stamps c)
   in_hand_stands at d p here f h =
-      subst (λ (y : OpenCursor S T). IfSome told (λ pages. (c : Cursor) × At y.cursor pages c)) (sym here) (place_stands at d p f h)
+      subst (λ (y : OpenCursor S T). IfSome told (λ stamps. (c : Cursor) × At y stamps c)) (sym here) (place_stands at d p f h)
 
 -- the place that a search over what is shown gives
 pub first_shown : {S T : Type 0} (shown xs : List (OpenCursor S T)) (said name : List ℕ) (place : Option ℕ) (at : ℕ) → place ≡ position (λ x. same_name x.name said) shown

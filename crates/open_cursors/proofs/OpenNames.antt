@@ -3,7 +3,7 @@ use Rattle.std.proofs.Common.{◌≡◌, ℕ, zero, suc, Bool, true, false, cond
 use Rattle.std.proofs.lemmas.List.{length-map}
 use Rattle.std.specs.List.{list_any}
 use Rattle.std.specs.Prelude.{remove, Result, Ok, ⊤}
-use Rattle.page_pool.specs.Disk.{PageMap}
+use Rattle.page_pool.specs.Pool.{StampMap}
 use Rattle.plan_cursor.specs.declared.cursor.RowCursor.{RowCursor}
 use Rattle.sand_base.specs.Streams.{Stays}
 use Rattle.sand_base.specs.declared.refusal.Refusal.{Refusal}
@@ -58,13 +58,13 @@ module _ {S T : Type 0} (name : List ℕ) where
       ∙ (ap (λ (ys : List (OpenCursor S T)). x ∷ ys) (others_set xs at d y e f.1) ∙ sym (ap (λ (b : Bool). cond b xs (x ∷ without name xs)) f.0))
 
   -- the same, where the cursor at the place is in hand
-  pub names_in_hand : (xs : List (OpenCursor S T)) (at : ℕ) (d : OpenCursor S T) (r : RowCursor S T) → d ≡ get_or xs at d → FirstAt (λ x. same_name x.name name) xs at
-      → map (λ x. x.name) (set xs at (record { name = d.name; cursor = r })) ≡ map (λ x. x.name) xs
-  names_in_hand xs at d r here f = names_set xs at d (record { name = d.name; cursor = r }) (ap (λ (x : OpenCursor S T). x.name) here) f
+  pub names_in_hand : (xs : List (OpenCursor S T)) (at : ℕ) (d r : OpenCursor S T) → r.name ≡ d.name → d ≡ get_or xs at d → FirstAt (λ x. same_name x.name name) xs at
+      → map (λ x. x.name) (set xs at r) ≡ map (λ x. x.name) xs
+  names_in_hand xs at d r same here f = names_set xs at d r (same ∙ ap (λ (x : OpenCursor S T). x.name) here) f
 
-  pub others_in_hand : (xs : List (OpenCursor S T)) (at : ℕ) (d : OpenCursor S T) (r : RowCursor S T) → d ≡ get_or xs at d → FirstAt (λ x. same_name x.name name) xs at
-      → without name (set xs at (record { name = d.name; cursor = r })) ≡ without name xs
-  others_in_hand xs at d r here f = others_set xs at d (record { name = d.name; cursor = r }) (ap (λ (x : OpenCursor S T). x.name) here) f
+  pub others_in_hand : (xs : List (OpenCursor S T)) (at : ℕ) (d r : OpenCursor S T) → r.name ≡ d.name → d ≡ get_or xs at d → FirstAt (λ x. same_name x.name name) xs at
+      → without name (set xs at r) ≡ without name xs
+  others_in_hand xs at d r same here f = others_set xs at d r (same ∙ ap (λ (x : OpenCursor S T). x.name) here) f
 
   -- how `next` is refused
   pub next_unknown : (xs : List (OpenCursor S T)) → NonePasses (λ x. same_name x.name name) xs → AnswersNext (is_open xs name) (Ok (Some why.UnknownCursor))
@@ -100,11 +100,11 @@ module _ {S T : Type 0} where
   named_many xs cs h = sym (length-map cs (λ c. c.name)) ∙ (ap (λ (ns : List (List ℕ)). length ns) h ∙ length-map xs (λ x. x.name))
 
   -- cursors that stand have the names
-  pub stand_named : (At : Places S T) (pages : PageMap) (xs : List (OpenCursor S T)) (cs : List Cursor) → StandAll At pages xs cs → AreNamed xs cs
-  stand_named At pages [] [] h = refl
-  stand_named At pages [] (c ∷ cs) h = absurd h
-  stand_named At pages (x ∷ xs) [] h = absurd h
-  stand_named At pages (x ∷ xs) (c ∷ cs) h = ap₂ (λ (n : List ℕ) (ns : List (List ℕ)). n ∷ ns) h.0 (stand_named At pages xs cs h.2)
+  pub stand_named : (At : Places S T) (stamps : StampMap) (xs : List (OpenCursor S T)) (cs : List Cursor) → StandAll At stamps xs cs → AreNamed xs cs
+  stand_named At stamps [] [] h = refl
+  stand_named At stamps [] (c ∷ cs) h = absurd h
+  stand_named At stamps (x ∷ xs) [] h = absurd h
+  stand_named At stamps (x ∷ xs) (c ∷ cs) h = ap₂ (λ (n : List ℕ) (ns : List (List ℕ)). n ∷ ns) h.0 (stand_named At stamps xs cs h.2)
 
 -- no cursor has the name where none is there
 pub not_there : (o : Option Cursor) → is_there o ≡ false → o ≡ None
@@ -113,7 +113,7 @@ not_there (Some c) e = absurd (true≢false e)
 
 -- a cursor stands anywhere
 abbrev pub Anywhere : {S T : Type 0} → Places S T
-Anywhere r pages c = ⊤
+Anywhere r stamps c = ⊤
 
 abbrev first_name : List (List ℕ) → List ℕ
 first_name [] = []
@@ -127,18 +127,18 @@ abbrev some_names : List (List ℕ) → Bool
 some_names [] = false
 some_names (n ∷ ns) = true
 
-module _ {S T : Type 0} (pages : PageMap) where
+module _ {S T : Type 0} (stamps : StampMap) where
   -- cursors of the names stand, wherever it is
-  pub named_stand : (xs : List (OpenCursor S T)) (cs : List Cursor) → AreNamed xs cs → StandAll Anywhere pages xs cs
+  pub named_stand : (xs : List (OpenCursor S T)) (cs : List Cursor) → AreNamed xs cs → StandAll Anywhere stamps xs cs
   named_stand [] [] h = tt
   named_stand [] (c ∷ cs) h = absurd (true≢false (ap some_names h))
   named_stand (x ∷ xs) [] h = absurd (true≢false (sym (ap some_names h)))
   named_stand (x ∷ xs) (c ∷ cs) h = (ap first_name h, tt, named_stand xs cs (ap other_names h))
 
   -- what is said of an end by where the cursors stand is said by their names
-  pub closes_by_names : (ys : List (OpenCursor S T)) (cs : List Cursor) (name : List ℕ) (result : Result (Unit {0}) Refusal) → ClosesOf (named cs name) cs name result (StandAll Anywhere pages ys)
+  pub closes_by_names : (ys : List (OpenCursor S T)) (cs : List Cursor) (name : List ℕ) (result : Result (Unit {0}) Refusal) → ClosesOf (named cs name) cs name result (StandAll Anywhere stamps ys)
       → ClosesOf (named cs name) cs name result (AreNamed ys)
   closes_by_names ys cs name result h = go (named cs name) h where
-    go : (o : Option Cursor) → ClosesOf o cs name result (StandAll Anywhere pages ys) → ClosesOf o cs name result (AreNamed ys)
-    go None k = (k.0, stand_named Anywhere pages ys cs k.1)
-    go (Some c) k = (k.0, stand_named Anywhere pages ys (closed name cs) k.1)
+    go : (o : Option Cursor) → ClosesOf o cs name result (StandAll Anywhere stamps ys) → ClosesOf o cs name result (AreNamed ys)
+    go None k = (k.0, stand_named Anywhere stamps ys cs k.1)
+    go (Some c) k = (k.0, stand_named Anywhere stamps ys (closed name cs) k.1)

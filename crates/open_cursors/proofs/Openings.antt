@@ -1,10 +1,10 @@
 -- What is written of an opening, and what becomes of the open cursors.
 use Rattle.std.proofs.Common.{◌≡◌, ◌⊎◌, ℕ, Bool, true, false, List, [], ◌∷◌, ◌++◌, Option, Some, None, refl, sym, ◌∙◌, subst, inl, inr}
-use Rattle.std.specs.Prelude.{Result, Ok, Err, IfOk, OnErr}
+use Rattle.std.specs.Prelude.{Result, Ok, Err, IfOk, IsErr, IsErrAnd, OnErr}
 use Rattle.best_first.proofs.Passing.{read_itself}
 use Rattle.output_text.specs.Writing.{Writes, WritesPrefix}
 use Rattle.page_pool.specs.Disk.{PageMap}
-use Rattle.page_pool.specs.Pool.{PoolState}
+use Rattle.page_pool.specs.Pool.{PoolState, StampMap}
 use Rattle.sand_base.specs.declared.refusal.Refusal.{Refusal}
 use Rattle.sand_base.specs.declared.refusal.Refusal.TheVariants as why
 use Rattle.sand_base.specs.declared.source.Failed.{Failed}
@@ -32,18 +32,24 @@ use Rattle.plan_ops.specs.declared.source.Source.{Source}
 use Rattle.plan_ops.specs.declared.stage.Stage.{Stage}
 
 -- what the checks of an opening give, beside the cursors of a list that is shown as a slice
-pub checks_given : (catalog : CatalogView) (shown xs : List (OpenCursor Source Stage)) (name : List ℕ) (p : Plan) (result end : Option Refusal) → shown ≡ xs → result ≡ end
-    → ((pages : PageMap) (cs : List Cursor) → StandAll PlanAt pages shown cs → ChecksGive catalog pages cs name p result)
-    → (pages : PageMap) (cs : List Cursor) → StandAll PlanAt pages xs cs → ChecksGive catalog pages cs name p end
-checks_given catalog shown xs name p result end same is checks pages cs all = λ setting.
-    checks pages cs (subst (λ (ys : List (OpenCursor Source Stage)). StandAll PlanAt pages ys cs) (sym same) all) setting ∙ is
+pub checks_given : (catalog k : CatalogView) (shown xs : List (OpenCursor Source Stage)) (name : List ℕ) (p : Plan) (result end : Option Refusal) → k ≡ catalog → shown ≡ xs → result ≡ end
+    → ((stamps : StampMap) (pages : PageMap) (cs : List Cursor) → StandAll PlanAt stamps shown cs → ChecksGive k pages cs name p result)
+    → (stamps : StampMap) (pages : PageMap) (cs : List Cursor) → StandAll PlanAt stamps xs cs → ChecksGive catalog pages cs name p end
+checks_given catalog k shown xs name p result end here same is checks stamps pages cs all = subst (λ (m : CatalogView). ChecksGive m pages cs name p end) here
+    (λ setting. checks stamps pages cs (subst (λ (ys : List (OpenCursor Source Stage)). StandAll PlanAt stamps ys cs) (sym same) all) setting ∙ is)
 
 -- the same beside cursors of the names
-pub checks_named : (catalog : CatalogView) (shown xs : List (OpenCursor Source Stage)) (name : List ℕ) (p : Plan) (result end : Option Refusal) → shown ≡ xs → result ≡ end
-    → ((pages : PageMap) (cs : List Cursor) → AreNamed shown cs → ChecksGive catalog pages cs name p result)
+pub checks_named : (catalog k : CatalogView) (shown xs : List (OpenCursor Source Stage)) (name : List ℕ) (p : Plan) (result end : Option Refusal) → k ≡ catalog → shown ≡ xs → result ≡ end
+    → ((pages : PageMap) (cs : List Cursor) → AreNamed shown cs → ChecksGive k pages cs name p result)
     → (pages : PageMap) (cs : List Cursor) → AreNamed xs cs → ChecksGive catalog pages cs name p end
-checks_named catalog shown xs name p result end same is checks pages cs all = λ setting.
-    checks pages cs (subst (λ (ys : List (OpenCursor Source Stage)). AreNamed ys cs) (sym same) all) setting ∙ is
+checks_named catalog k shown xs name p result end here same is checks pages cs all = subst (λ (m : CatalogView). ChecksGive m pages cs name p end) here
+    (λ setting. checks pages cs (subst (λ (ys : List (OpenCursor Source Stage)). AreNamed ys cs) (sym same) all) setting ∙ is)
+
+-- a refusal of the checks is handed on, and the cursors are as they were
+pub handed_on : (catalog : CatalogView) (pages : PageMap) (cs : List Cursor) (name : List ℕ) (p : Plan) (e : Refusal) (r : Result (Unit {0}) Refusal) (At : List Cursor → Type 0) → IsErr r × IsErrAnd r (λ f. f ≡ e)
+    → (e ≡ why.Memory) ⊎ ChecksGive catalog pages cs name p (Some e) → At cs → OpensOf catalog pages cs name p r At
+handed_on catalog pages cs name p e (Ok x) At h checks at = absurd h.1
+handed_on catalog pages cs name p e (Err f) At h checks at = (subst (λ (w : Refusal). (w ≡ why.Memory) ⊎ ChecksGive catalog pages cs name p (Some w)) (sym h.1) checks, at)
 
 -- the plan is refused, though no check of the opening fails: it is memory
 pub only_memory : (catalog : CatalogView) (pages : PageMap) (cs : List Cursor) (name : List ℕ) (p : Plan) (w : Refusal) → ChecksGive catalog pages cs name p None

@@ -1,7 +1,6 @@
 -- What statements with a plan do beside open cursors is the outcome of the model.
 use Rattle.std.proofs.Common.{◌≡◌, ◌<◌, ℕ, List, [], ◌∷◌, Option, Some, None, refl, sym, ◌∙◌, ap, subst, true≢false}
 use Rattle.std.specs.Prelude.{Ok, Err, ⊤, is_some}
-use Rattle.page_pool.specs.Causes.{IsDamage}
 use Rattle.page_pool.specs.Pool.{PoolState, IsTold}
 use Rattle.page_pool.specs.Reads.{IsRead}
 use Rattle.plan_rows.specs.Rows.{plan_measure}
@@ -17,7 +16,6 @@ use Rattle.sand_model.specs.Outcome.{IsLicensed}
 use Rattle.sand_model.specs.Plan.{Plan}
 use Rattle.sand_model.specs.Statement.{Statement, Show, OpenCursor as Opens}
 use Rattle.sand_model.specs.StatementChecks.{Setting, early}
-use Rattle.sand_store.specs.Calls.{HasCause}
 use Rattle.sand_store.specs.Catalog.{CatalogView}
 use Rattle.sand_store.specs.Contents.{database_in}
 use Rattle.statement_exec.proofs.Outcomes.{outcome_done, outcome_early, outcome_outside}
@@ -26,7 +24,7 @@ use Rattle.statement_exec.proofs.PlanChecks.{open_refuses, show_refuses}
 use Rattle.statement_exec.proofs.Refusals.{caused, rose}
 use Rattle.statement_exec.proofs.SomeSetting.{some_setting}
 use Rattle.statement_exec.specs.Deciding.{ComesBehind}
-use Rattle.statement_exec.specs.Ending.{PagesHaveCause}
+use Rattle.statement_exec.specs.Ending.{IsCausedByPages, PagesHaveCause}
 use Rattle.statement_exec.specs.LeafLines.{state_of}
 use Rattle.statement_exec.specs.Moment.{beside, rises_between}
 use Rattle.open_cursors.proofs.CausedSteps.{cause_of_end, pages_no_file, steps_caused}
@@ -105,10 +103,10 @@ module _ (catalog : CatalogView) (cs : List Cursor) (old new : PoolState) (read 
             (passes setting) refl (after, measured, ap (λ m. state_of catalog m cs) read.pages),
       )
 
-      licensed : (files : Option Files) (shelf : ℕ) (setting : Setting) (w : Refusal) → IsOfPages (Some w) → HasCause {T = ⊤} old new (Err w) → IsTold old → new.disk.faults < last_count → May files shelf setting w
+      licensed : (files : Option Files) (shelf : ℕ) (setting : Setting) (w : Refusal) → IsOfPages (Some w) → IsCausedByPages old new w → IsTold old → new.disk.faults < last_count → May files shelf setting w
       licensed files shelf setting why.Memory o c t l = tt
       licensed files shelf setting why.Device o c t l = ((refl, passes setting), rose old.disk.faults new.disk.faults c.counted l)
-      licensed files shelf setting (why.Damaged n kept read') o c t l = let d : IsDamage new n kept read' = c.damaged in absurd (true≢false (sym (read.told ∙ t) ∙ d.untold))
+      licensed files shelf setting (why.Damaged n kept read') o c t l = absurd (true≢false (sym (read.told ∙ t) ∙ c.damaged.untold))
       licensed files shelf setting _ o c t l = absurd o
 
       of_end : (end : Option Refusal) → IsOfPages end → PagesHaveCause {E = Failed} old new (Ok end) → (files : Option Files) (shelf : ℕ) → IsTold old → new.disk.faults < last_count → (setting : Setting) (w : Refusal) → end ≡ Some w → May files shelf setting w

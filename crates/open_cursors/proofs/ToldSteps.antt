@@ -2,7 +2,7 @@
 use Rattle.std.proofs.Common.{◌≡◌, ℕ, Bool, List, Option}
 use Rattle.std.specs.Prelude.{Result, Ok, Err, IfOk, OnErr, IfSome}
 use Rattle.output_text.specs.Writing.{Writes, WritesPrefix}
-use Rattle.page_pool.specs.Disk.{PageMap}
+use Rattle.page_pool.specs.Pool.{StampMap}
 use Rattle.page_pool.specs.Pool.{PoolState}
 use Rattle.page_pool.specs.Reads.{IsRead}
 use Rattle.plan_cursor.specs.declared.cursor.RowCursor.{RowCursor}
@@ -21,25 +21,25 @@ use Rattle.open_cursors.specs.declared.open_cursor.OpenCursor.{OpenCursor}
 use Rattle.open_cursors.specs.Carried.{CarriesBeside}
 use Rattle.open_cursors.proofs.Carrying.{next_carried, next_broken}
 
-module _ {S T : Type 0} (At : Places S T) (told : Option PageMap) (xs ys : List (OpenCursor S T)) (old new : PoolState) (read : IsRead old new) (name : List ℕ) (count : ℕ) where
-  -- the next rows of the cursor, whatever the pages
-  abbrev pub Steps : (List ℕ → Type 0) → (List ℕ → Type 0) → Result (Option Refusal) Failed → PageMap → Type 0
-  Steps a b result pages = (cs : List Cursor) → HaveOwnNames cs → StandAll At pages xs cs → NextOf (named cs name) cs name count a b result (λ after. StandAll At pages ys after)
+module _ {S T : Type 0} (At : Places S T) (told : Option StampMap) (xs ys : List (OpenCursor S T)) (old new : PoolState) (read : IsRead old new) (name : List ℕ) (count : ℕ) where
+  -- the next rows of the cursor, whatever the maps
+  abbrev pub Steps : (List ℕ → Type 0) → (List ℕ → Type 0) → Result (Option Refusal) Failed → StampMap → Type 0
+  Steps a b result stamps = (cs : List Cursor) → HaveOwnNames cs → StandAll At stamps xs cs → NextOf (named cs name) cs name count a b result (λ after. StandAll At stamps ys after)
 
   -- and with the line of their refusal
-  abbrev pub Lines : (List ℕ → Type 0) → (List ℕ → Type 0) → Result Bool Failed → PageMap → Type 0
-  Lines a b result pages = (cs : List Cursor) → HaveOwnNames cs → StandAll At pages xs cs → (catalog : CatalogView)
-      → CarriesBeside (Next name count) catalog old new cs a b result (λ after. StandAll At pages ys after)
+  abbrev pub Lines : (List ℕ → Type 0) → (List ℕ → Type 0) → Result Bool Failed → StampMap → Type 0
+  Lines a b result stamps = (cs : List Cursor) → HaveOwnNames cs → StandAll At stamps xs cs → (catalog : CatalogView)
+      → CarriesBeside (Next name count) catalog old new cs a b result (λ after. StandAll At stamps ys after)
 
   pub told_carried : (a b d : List ℕ → Type 0) (end : Option Refusal) → PagesHaveCause {E = Failed} old new (Ok end) → (r : Result Bool Failed)
       → IfOk r (λ refused. (refused ≡ is_refusal end) × Writes (IsText (refused_line end)) b d) → OnErr r (WritesPrefix (IsText (refused_line end)) b d)
       → IfSome told (Steps a b (Ok end)) → IfSome told (Lines a d r)
   told_carried a b d end cause r line part =
       some_so told (Steps a b (Ok end)) (Lines a d r)
-      (λ pages steps cs own all catalog. next_carried catalog cs old new read name count own a b d (λ after. StandAll At pages ys after) end cause (steps cs own all) r line part)
+      (λ stamps steps cs own all catalog. next_carried catalog cs old new read name count own a b d (λ after. StandAll At stamps ys after) end cause (steps cs own all) r line part)
 
-  pub told_broken : (a b : List ℕ → Type 0) (failed : Failed) → ((r : RowCursor S T) (pages : PageMap) (c : Cursor) → At r pages c → IsRefusedStep plan_measure c why.Memory c)
+  pub told_broken : (a b : List ℕ → Type 0) (failed : Failed) → ((r : OpenCursor S T) (stamps : StampMap) (c : Cursor) → At r stamps c → IsRefusedStep plan_measure c why.Memory c)
       → IfSome told (Steps a b (Err failed)) → IfSome told (Lines a b (Err failed))
   told_broken a b failed stays =
       some_so told (Steps a b (Err failed)) (Lines a b (Err failed))
-      (λ pages steps cs own all catalog. next_broken catalog cs old new read name count At pages ys a b failed own (λ r c at. stays r pages c at) (steps cs own all))
+      (λ stamps steps cs own all catalog. next_broken catalog cs old new read name count At stamps ys a b failed own (λ r c at. stays r stamps c at) (steps cs own all))

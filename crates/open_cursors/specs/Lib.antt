@@ -1,5 +1,3 @@
--- Why a change is refused while a cursor is open.
-pub mod RefusedChanges
 -- The next rows of a cursor.
 pub mod Steps
 -- The open cursors, and what becomes of them.

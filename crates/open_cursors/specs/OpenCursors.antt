@@ -1,7 +1,9 @@
 -- The open cursors, each under its name, and what the next rows of one of them do.
-use Rattle.std.specs.Prelude.{◌≡◌, ⊤, ℕ, Bool, true, false, cond, List, [], ◌∷◌, map, find, Option, Some, None, Result, Ok, Err}
+use Rattle.std.specs.Prelude.{◌≡◌, ◌≢◌, ⊤, ℕ, Bool, true, false, cond, List, [], ◌∷◌, map, find, Option, Some, None, Result, Ok, Err}
+use Rattle.std.specs.FinMap as map
 use Rattle.std.specs.List.{list_any}
 use Rattle.page_pool.specs.Disk.{PageMap}
+use Rattle.page_pool.specs.Pool.{Shown, StampMap}
 use Rattle.plan_cursor.specs.Standing.{AreStats}
 use Rattle.plan_cursor.specs.declared.cursor.RowCursor.{RowCursor}
 use Rattle.plan_rows.specs.declared.stats.Stats.{Stats}
@@ -17,15 +19,41 @@ use Rattle.open_cursors.specs.Steps.{StepsOn, AnswersPages}
 use Rattle.open_cursors.specs.declared.open_cursor.OpenCursor.{OpenCursor}
 
 -- where a cursor stands over pages, as one of the model
+abbrev pub OverPages : Type 0 → Type 0 → Type 1
+OverPages S T = RowCursor S T → PageMap → Cursor → Type 0
+
+-- where an open cursor stands, by the maps of the held stamps
 abbrev pub Places : Type 0 → Type 0 → Type 1
-Places S T = RowCursor S T → PageMap → Cursor → Type 0
+Places S T = OpenCursor S T → StampMap → Cursor → Type 0
+
+-- over the pages that its stamp holds
+abbrev pub AtStamp : {S T : Type 0} → OverPages S T → Places S T
+AtStamp At x stamps c = (shown : Shown) × (map.get stamps x.stamp ≡ Some shown) × At x.cursor shown.pages c
 
 -- the open cursors stand where these of the model do, under the same names and in the same order
-abbrev pub StandAll : {S T : Type 0} → Places S T → PageMap → List (OpenCursor S T) → List Cursor → Type 0
-StandAll At pages [] [] = ⊤
-StandAll At pages [] (c ∷ cs) = ⊥
-StandAll At pages (x ∷ xs) [] = ⊥
-StandAll At pages (x ∷ xs) (c ∷ cs) = (c.name ≡ x.name) × At x.cursor pages c × StandAll At pages xs cs
+abbrev pub StandAll : {S T : Type 0} → Places S T → StampMap → List (OpenCursor S T) → List Cursor → Type 0
+StandAll At stamps [] [] = ⊤
+StandAll At stamps [] (c ∷ cs) = ⊥
+StandAll At stamps (x ∷ xs) [] = ⊥
+StandAll At stamps (x ∷ xs) (c ∷ cs) = (c.name ≡ x.name) × At x stamps c × StandAll At stamps xs cs
+
+-- the stamp is held
+abbrev pub IsHeld : StampMap → ℕ → Type 0
+IsHeld stamps stamp = (shown : Shown) × (map.get stamps stamp ≡ Some shown)
+
+-- no open cursor has the stamp
+abbrev pub HasNone : {S T : Type 0} → ℕ → List (OpenCursor S T) → Type 0
+HasNone stamp [] = ⊤
+HasNone stamp (x ∷ xs) = (x.stamp ≢ stamp) × HasNone stamp xs
+
+-- the stamps of the open cursors are held, and no two have one
+abbrev pub HaveStamps : {S T : Type 0} → StampMap → List (OpenCursor S T) → Type 0
+HaveStamps stamps [] = ⊤
+HaveStamps stamps (x ∷ xs) = IsHeld stamps x.stamp × HasNone x.stamp xs × HaveStamps stamps xs
+
+-- each open cursor has a stamp of its own, and no other stamp is held
+abbrev pub AreHeld : {S T : Type 0} → StampMap → List (OpenCursor S T) → Type 0
+AreHeld stamps xs = HaveStamps stamps xs × ((stamp : ℕ) → HasNone stamp xs → map.get stamps stamp ≡ None)
 
 -- the open cursors have the names of these of the model, in the same order, wherever they stand
 abbrev pub AreNamed : {S T : Type 0} → List (OpenCursor S T) → List Cursor → Type 0

@@ -1,5 +1,6 @@
 ghost use Rattle.std.specs.Prelude.{◌≡◌, List, IfSome, None};
 ghost use Rattle.page_pool.specs.Disk.{PageMap};
+ghost use Rattle.page_pool.specs.Pool.{StampMap};
 ghost use Rattle.plan_check.specs.PlanValue.{plan_value};
 ghost use Rattle.plan_cursor.specs.Standing.{IsAt};
 ghost use Rattle.plan_rows.specs.Rows.{counts_of};
@@ -10,7 +11,7 @@ ghost use Rattle.sand_model.specs.StatementChecks.{Setting, early};
 ghost use Rattle.sand_store.specs.Catalog.{IsCatalog};
 ghost use Rattle.sand_store.specs.Contents.{database_in};
 ghost use Rattle.statement_exec.specs.LeafLines.{IsOfCheck, state_of};
-ghost use Rattle.open_cursors.specs.OpenCursors.{AreNamed, StandAll};
+ghost use Rattle.open_cursors.specs.OpenCursors.{AreNamed, AtStamp, StandAll};
 
 use crate::OpenCursor;
 use crate::next_rows::place_of;
@@ -32,7 +33,7 @@ pub(crate) fn refused_open<S: RowSource, T: RowStage>(
     plan: &Plan,
 ) -> Option<Refusal>
     requires { IsCatalog catalog.now }
-    ensures checks { (pages : PageMap) (cs : List Cursor) → StandAll (λ r. IsAt S.At T.Stands T.closed (λ s. counts_of (S.seen s)) r) pages cursors.now cs
+    ensures checks { (stamps : StampMap) (pages : PageMap) (cs : List Cursor) → StandAll (AtStamp (λ r. IsAt S.At T.Stands T.closed (λ s. counts_of (S.seen s)) r)) stamps cursors.now cs
         → (setting : Setting) → early setting (state_of catalog.now pages cs) (Opens name.now (plan_value plan.now)) ≡ result }
     ensures names { (pages : PageMap) (cs : List Cursor) → AreNamed cursors.now cs → (setting : Setting) → early setting (state_of catalog.now pages cs) (Opens name.now (plan_value plan.now)) ≡ result }
     ensures of_check { IfSome result IsOfCheck }

@@ -1,68 +1,118 @@
-// A statement over pages that are lent for reading.
-ghost use Rattle.std.specs.Prelude.{◌≡◌, ◌≢◌, [], List};
+// A statement that reads, with the cursors that are open.
+ghost use Rattle.std.specs.Prelude.{◌≡◌, List};
 ghost use Rattle.page_pool.specs.Reads.{IsRead};
 ghost use Rattle.sand_base.specs.Faults.{HasCause};
 ghost use Rattle.sand_model.specs.Cursor.{Cursor};
-ghost use Rattle.sand_store.specs.Standing.{IsStore};
+ghost use Rattle.plan_check.specs.PlanValue.{plan_value};
+ghost use Rattle.sand_model.specs.Statement.{Blocks, Show};
+ghost use Rattle.script_text.specs.InRange.{IsPlanInRange};
+ghost use Rattle.script_text.specs.Plan as text;
+ghost use Rattle.open_cursors.specs.Outcomes.{PerformsBeside};
+ghost use Rattle.statement_exec.specs.Printing.{WritesOf};
 ghost use Rattle.line_meaning.specs.Spoken.{statement_of};
 ghost use Rattle.script_text.specs.InRange.{IsInRange};
 ghost use Rattle.script_text.specs.Statement.{statement_value};
 ghost use Rattle.statement_exec.specs.Ending.{RisesByOne};
-ghost use Rattle.open_cursors.specs.OpenCursors.{HaveOwnNames};
+ghost use Rattle.open_cursors.specs.OpenCursors.{AreHeld, HaveOwnNames};
 ghost use Rattle.open_cursors.specs.Carried.{AreCounted, CarriesBeside, IsChange};
-ghost use Rattle.open_cursors.specs.OverPages.{AreStanding, StandOver};
+ghost use Rattle.open_cursors.specs.OverPages.{AreStanding, LeavesPages, StandOver};
 
 use crate::OpenCursor;
-use crate::changes::change_line;
 use crate::closing::close_line;
 use crate::next_rows::next_line;
 use crate::numbers::stats_line;
 use crate::opening::open_line;
 use crate::showing::show_line;
-use page_pool::{Desk, Disk};
+use page_pool::Disk;
 use plan_ops::{Source, Stage};
-use sand_base::{Failed, Sink};
-use sand_store::Catalog;
-use script_text::Statement;
+use sand_base::{Failed, Label, Sink};
+use sand_store::Store;
+use script_text::{Plan, Statement};
 use statement_exec::print_blocks;
 use std::alloc::Global;
 
-/// Carries a statement out beside open cursors, and writes its lines. The answer says whether it was refused. One that
-/// changes relations is refused; it may come only while a cursor is open.
+// `show`: the pages are lent to it.
+fn show<D: Disk, K: Sink>(
+    alloc: Global,
+    store: Store<D>,
+    count: u32,
+    plan: &Plan,
+    out: &mut K,
+) -> (Store<D>, Result<bool, Failed>)
+    requires { IsPlanInRange (text.plan_value plan.now) }
+    ensures written { (cs : List Cursor) → WritesOf (PerformsBeside (Show count (plan_value plan.now)) store.catalog store.pool result.0.pool cs cs) (K.took out.old) (K.took out.new) result.1 }
+    ensures catalog { result.0.catalog ≡ store.catalog }
+    ensures read { IsRead store.pool result.0.pool }
+    ensures cause { RisesByOne store.pool.disk.faults result.0.pool.disk.faults }
+    ensures sink { HasCause (K.faults out.old) (K.faults out.new) result.1 }
+{
+    let (catalog, mut desk) = store.part();
+    let shown = show_line(alloc, &catalog, &mut desk, count, plan, out);
+    (Store::rejoin(alloc, catalog, desk), shown)
+}
+
+// `blocks`: the pages are lent to it.
+fn blocks<D: Disk, K: Sink>(
+    alloc: Global,
+    store: Store<D>,
+    relation: &Label,
+    column: &Label,
+    out: &mut K,
+) -> (Store<D>, Result<bool, Failed>)
+    ensures written { (cs : List Cursor) → WritesOf (PerformsBeside (Blocks (record { relation = relation.now; column = column.now })) store.catalog store.pool result.0.pool cs cs) (K.took out.old) (K.took out.new) result.1 }
+    ensures catalog { result.0.catalog ≡ store.catalog }
+    ensures read { IsRead store.pool result.0.pool }
+    ensures cause { RisesByOne store.pool.disk.faults result.0.pool.disk.faults }
+    ensures sink { HasCause (K.faults out.old) (K.faults out.new) result.1 }
+{
+    let (catalog, mut desk) = store.part();
+    let printed = print_blocks(alloc, &catalog, &mut desk, relation, column, out);
+    (Store::rejoin(alloc, catalog, desk), printed)
+}
+
+/// Carries a statement out that changes no relation, and writes its lines. The answer says whether it was refused. Each
+/// cursor reads the pages that its stamp holds; any other statement reads the live ones.
 pub fn read_statement<D: Disk, K: Sink>(
     alloc: Global,
-    catalog: &Catalog,
-    desk: &mut Desk<D>,
+    store: Store<D>,
     cursors: &mut Vec<OpenCursor<Source, Stage>>,
     statement: &Statement,
     out: &mut K,
-) -> Result<bool, Failed>
-    requires stored { IsStore catalog.now desk.old.pool }
+) -> (Store<D>, Result<bool, Failed>)
     requires in_range { IsInRange (statement_value statement.now) }
-    requires stands { AreStanding desk.old.pool cursors.old.items }
-    requires open { IsChange (statement_value statement.now) → cursors.old.items ≢ [] }
-    ensures carried { (cs : List Cursor) → HaveOwnNames cs → AreCounted cs → StandOver desk.old.pool cursors.old.items cs
-        → CarriesBeside (statement_of (statement_value statement.now)) catalog.now desk.old.pool desk.new.pool cs (K.took out.old) (K.took out.new) result (StandOver desk.new.pool cursors.new.items) }
-    ensures stored { IsStore catalog.now desk.new.pool }
-    ensures read { IsRead desk.old.pool desk.new.pool }
-    ensures cause { RisesByOne desk.old.pool.disk.faults desk.new.pool.disk.faults }
-    ensures sink { HasCause (K.faults out.old) (K.faults out.new) result }
+    requires reads { IsChange (statement_value statement.now) → ⊥ }
+    requires stands { AreStanding store.pool cursors.old.items }
+    ensures carried { (cs : List Cursor) → HaveOwnNames cs → AreCounted cs → StandOver store.pool cursors.old.items cs
+        → CarriesBeside (statement_of (statement_value statement.now)) store.catalog store.pool result.0.pool cs (K.took out.old) (K.took out.new) result.1 (StandOver result.0.pool cursors.new.items) }
+    ensures held { AreHeld result.0.pool.stamps cursors.new.items }
+    ensures catalog { result.0.catalog ≡ store.catalog }
+    ensures pages { LeavesPages store.pool result.0.pool }
+    ensures sink { HasCause (K.faults out.old) (K.faults out.new) result.1 }
 {
     match statement {
-        Statement::OpenCursor { cursor, plan } => open_line(
-            alloc, catalog, cursors, cursor, plan, out,
-        ),
-        Statement::Next { cursor, count } => next_line(alloc, desk, cursors, cursor, *count, out),
-        Statement::CloseCursor { cursor } => close_line(cursors, cursor, out),
-        Statement::Show { count, plan } => show_line(alloc, catalog, desk, *count, plan, out),
-        Statement::Stats { cursor } => stats_line(cursors, cursor, out),
+        Statement::OpenCursor { cursor, plan } => {
+            let mut kept = store;
+            let opened = open_line(alloc, &mut kept, cursors, cursor, plan, out);
+            (kept, opened)
+        }
+        Statement::Next { cursor, count } => next_line(alloc, store, cursors, cursor, *count, out),
+        Statement::CloseCursor { cursor } => {
+            let mut kept = store;
+            let closed = close_line(&mut kept, cursors, cursor, out);
+            (kept, closed)
+        }
+        Statement::Show { count, plan } => show(alloc, store, *count, plan, out),
+        Statement::Stats { cursor } => {
+            let printed = stats_line(cursors, cursor, out);
+            (store, printed)
+        }
         Statement::Blocks { column } => {
-            print_blocks(alloc, catalog, desk, &column.relation, &column.column, out)
+            blocks(alloc, store, &column.relation, &column.column, out)
         }
         Statement::Create { .. }
         | Statement::Insert { .. }
         | Statement::Delete { .. }
         | Statement::Load { .. }
-        | Statement::Index { .. } => change_line(catalog, statement, out),
+        | Statement::Index { .. } => unreachable!(),
     }
 }

@@ -22,7 +22,7 @@ use sand_store::Catalog;
 use script_text::Plan;
 use std::alloc::Global;
 
-/// A cursor over a plan. It borrows the catalog, so nothing is written while it lives.
+/// A cursor over a plan. It owns what it needs of the catalog, so relations may change while it lives.
 #[derive(Drop)]
 pub struct Running {
     pub cursor: RowCursor<Source, Stage>,

@@ -276,7 +276,6 @@ free_refusal why.IndexFull = refl
 free_refusal why.UnknownCursor = refl
 free_refusal why.CursorNameTaken = refl
 free_refusal why.TooManyCursors = refl
-free_refusal why.CursorsOpen = refl
 free_refusal why.PlanTooDeep = refl
 
 free_detail : (refusal : Refusal) → AreFree (detail refusal)

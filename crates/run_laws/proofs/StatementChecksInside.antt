@@ -15,7 +15,7 @@ use Rattle.sand_model.specs.Kept.{has_twice, most_relations, longest_row}
 use Rattle.sand_model.specs.Plan.{Plan, Column, depth}
 use Rattle.sand_model.specs.RowSize.{row_size}
 use Rattle.sand_model.specs.Statement.{Statement, Create, Insert, Delete, Load, Index as IndexOn, OpenCursor, Next, CloseCursor, Show, Stats, Blocks}
-use Rattle.sand_model.specs.StatementChecks.{Setting, FileRows, AreRows, HasBad, refused_where, in_relation, in_column, in_file, is_there, is_row_of, no_cursor, cursor_named, check_cursor, check_length, check_ids, check_listings, check_depth, check_load, check_records, is_overfull, entered, file_rows, indexed_by, most_cursors, longest_file, early, late}
+use Rattle.sand_model.specs.StatementChecks.{Setting, FileRows, AreRows, HasBad, refused_where, in_relation, in_column, in_file, is_there, is_row_of, cursor_named, check_cursor, check_length, check_ids, check_listings, check_depth, check_load, check_records, is_overfull, entered, file_rows, indexed_by, most_cursors, longest_file, early, late}
 use Rattle.run_laws.proofs.PlanChecks.{IsInside, inside_two, inside_three, inside_four, inside_relation, inside_operators}
 
 inside_where : (b : Bool) (refusal : Refusal) → IsInside (Some refusal) → IsInside (refused_where b refusal)
@@ -54,9 +54,6 @@ inside_records setting file header r = go (setting.files file) refl where
   go None e = rw e refl
   go (Some bytes) e = at_rows bytes e (setting.rows_of bytes r.schema header) refl
 
-inside_no_cursor : (state : State) → IsInside (no_cursor state)
-inside_no_cursor state = inside_where (nat_lt 0 (length state.cursors)) why.CursorsOpen refl
-
 inside_cursor : (state : State) (name : List ℕ) → IsInside (check_cursor state name)
 inside_cursor state name = inside_where (not (is_there (cursor_named state name))) why.UnknownCursor refl
 
@@ -89,22 +86,22 @@ inside_entered setting (row ∷ rows) r = go (inside_entered setting rows (with_
   go behind (Some refusal) e = let h : IsInside (first_refusal (row_checks setting row r)) = inside_row setting row r in rw e (rw e at h)
 
 pub inside_load : (state : State) (name : List ℕ) → IsInside (check_load state name)
-inside_load state name = inside_two _ _ (inside_relation state.database name) (inside_no_cursor state)
+inside_load state name = inside_relation state.database name
 
 pub inside_early : (setting : Setting) (state : State) (statement : Statement) → IsInside (early setting state statement)
 inside_early setting state (Create name columns) =
-    inside_three _ _ _ (inside_where (is_there (relation_named state.database name) || has_twice (map (λ column. column.0) columns)) why.NameTaken refl)
-    (inside_where (nat_le most_relations (length state.database)) why.TooManyRelations refl) (inside_no_cursor state)
+    inside_two _ _ (inside_where (is_there (relation_named state.database name) || has_twice (map (λ column. column.0) columns)) why.NameTaken refl)
+    (inside_where (nat_le most_relations (length state.database)) why.TooManyRelations refl)
 inside_early setting state (Insert name row) =
-    inside_four _ _ _ _ (inside_named state.database name _ (λ r. inside_where (not (is_row_of r.schema row)) why.WrongKind refl))
-    (inside_no_cursor state) (inside_length row) (inside_named state.database name (check_ids setting.limits) (inside_ids setting.limits))
-inside_early setting state (Delete name id) = inside_two _ _ (inside_relation state.database name) (inside_no_cursor state)
+    inside_three _ _ _ (inside_named state.database name _ (λ r. inside_where (not (is_row_of r.schema row)) why.WrongKind refl))
+    (inside_length row) (inside_named state.database name (check_ids setting.limits) (inside_ids setting.limits))
+inside_early setting state (Delete name id) = inside_relation state.database name
 inside_early setting state (Load name file header) =
     inside_three _ _ _ (inside_load state name) (inside_file setting file _ (λ bytes. inside_where (nat_lt longest_file (length bytes)) why.FileTooLong refl))
     (inside_named state.database name (check_records setting file header) (inside_records setting file header))
 inside_early setting state (IndexOn column threshold) =
-    inside_three _ _ _ (inside_column state.database column _ (λ r k. inside_where (is_there threshold && not (is_spatial k)) why.WrongKind refl))
-    (inside_column state.database column _ (λ r k. inside_where (is_indexed r column.column) why.IndexThere refl)) (inside_no_cursor state)
+    inside_two _ _ (inside_column state.database column _ (λ r k. inside_where (is_there threshold && not (is_spatial k)) why.WrongKind refl))
+    (inside_column state.database column _ (λ r k. inside_where (is_indexed r column.column) why.IndexThere refl))
 inside_early setting state (OpenCursor name p) =
     inside_four _ _ _ _ (inside_where (is_there (cursor_named state name)) why.CursorNameTaken refl) (inside_operators state.database p)
     (inside_where (nat_le most_cursors (length state.cursors)) why.TooManyCursors refl) (inside_depth p)

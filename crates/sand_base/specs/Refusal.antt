@@ -1,7 +1,7 @@
 -- The numbers and the words by which refusals are printed.
 use Rattle.std.specs.Prelude.{ℕ, List, codes}
 use Rattle.sand_base.specs.declared.refusal.Refusal.{Refusal}
-use Rattle.sand_base.specs.declared.refusal.Refusal.TheVariants.{Memory, Device, Damaged, File, LineTooLong, Syntax, Range, UnknownRelation, UnknownColumn, WrongKind, NameTaken, TooManyRelations, NoIndex, IndexThere, NoSuchId, BadRecord, FileTooLong, TupleTooLong, IdsSpent, IndexFull, UnknownCursor, CursorNameTaken, TooManyCursors, CursorsOpen, PlanTooDeep}
+use Rattle.sand_base.specs.declared.refusal.Refusal.TheVariants.{Memory, Device, Damaged, File, LineTooLong, Syntax, Range, UnknownRelation, UnknownColumn, WrongKind, NameTaken, TooManyRelations, NoIndex, IndexThere, NoSuchId, BadRecord, FileTooLong, TupleTooLong, IdsSpent, IndexFull, UnknownCursor, CursorNameTaken, TooManyCursors, PlanTooDeep}
 
 -- the number of a refusal
 abbrev pub refusal_number : Refusal → ℕ
@@ -28,7 +28,6 @@ refusal_number IndexFull = 20
 refusal_number UnknownCursor = 21
 refusal_number CursorNameTaken = 22
 refusal_number TooManyCursors = 23
-refusal_number CursorsOpen = 24
 refusal_number PlanTooDeep = 25
 
 -- the word of a refusal
@@ -56,5 +55,4 @@ refusal_word IndexFull = codes "IndexFull"
 refusal_word UnknownCursor = codes "UnknownCursor"
 refusal_word CursorNameTaken = codes "CursorNameTaken"
 refusal_word TooManyCursors = codes "TooManyCursors"
-refusal_word CursorsOpen = codes "CursorsOpen"
 refusal_word PlanTooDeep = codes "PlanTooDeep"

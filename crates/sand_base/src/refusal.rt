@@ -64,8 +64,6 @@ pub enum Refusal {
     CursorNameTaken,
     /// As many cursors are open as there may be.
     TooManyCursors,
-    /// A cursor is open.
-    CursorsOpen,
     /// The plan has too many operators.
     PlanTooDeep,
 }
@@ -99,7 +97,6 @@ impl Refusal {
             Refusal::UnknownCursor => 21,
             Refusal::CursorNameTaken => 22,
             Refusal::TooManyCursors => 23,
-            Refusal::CursorsOpen => 24,
             Refusal::PlanTooDeep => 25,
         }
     }
@@ -132,7 +129,6 @@ impl Refusal {
             Refusal::UnknownCursor => "UnknownCursor",
             Refusal::CursorNameTaken => "CursorNameTaken",
             Refusal::TooManyCursors => "TooManyCursors",
-            Refusal::CursorsOpen => "CursorsOpen",
             Refusal::PlanTooDeep => "PlanTooDeep",
         }
     }

@@ -75,10 +75,6 @@ abbrev pub is_there : {A : Type 0} → Option A → Bool
 is_there None = false
 is_there (Some a) = true
 
--- no cursor is open
-abbrev pub no_cursor : State → Option Refusal
-no_cursor state = refused_where (nat_lt 0 (length state.cursors)) why.CursorsOpen
-
 -- the open cursor of this name
 abbrev pub cursor_named : State → List ℕ → Option Cursor
 cursor_named state name = find (λ cursor. same_name cursor.name name) state.cursors
@@ -162,7 +158,7 @@ check_records setting file header relation = in_file setting file (λ bytes. of_
 
 -- the checks of a load before its file is chosen
 abbrev pub check_load : State → List ℕ → Option Refusal
-check_load state name = first_refusal (check_relation state.database name ∷ no_cursor state ∷ [])
+check_load state name = check_relation state.database name
 
 -- the plan has no more operators than a plan may have
 abbrev pub check_depth : Plan → Option Refusal
@@ -172,17 +168,17 @@ check_depth p = refused_where (nat_lt most_operators (depth p)) why.PlanTooDeep
 abbrev pub early : Setting → State → Statement → Option Refusal
 early setting state (Create name columns) =
     first_refusal (refused_where (is_there (relation_named state.database name) || has_twice (map (λ column. column.0) columns)) why.NameTaken
-    ∷ refused_where (nat_le most_relations (length state.database)) why.TooManyRelations ∷ no_cursor state ∷ [])
+    ∷ refused_where (nat_le most_relations (length state.database)) why.TooManyRelations ∷ [])
 early setting state (Insert name row) =
     first_refusal (in_relation state.database name (λ relation. refused_where (not (is_row_of relation.schema row)) why.WrongKind)
-    ∷ no_cursor state ∷ check_length row ∷ in_relation state.database name (check_ids setting.limits) ∷ [])
-early setting state (Delete name id) = first_refusal (check_relation state.database name ∷ no_cursor state ∷ [])
+    ∷ check_length row ∷ in_relation state.database name (check_ids setting.limits) ∷ [])
+early setting state (Delete name id) = check_relation state.database name
 early setting state (Load name file header) =
     first_refusal (check_load state name ∷ in_file setting file (λ bytes. refused_where (nat_lt longest_file (length bytes)) why.FileTooLong)
     ∷ in_relation state.database name (check_records setting file header) ∷ [])
 early setting state (IndexOn column threshold) =
     first_refusal (in_column state.database column (λ relation kind. refused_where (is_there threshold && not (is_spatial kind)) why.WrongKind)
-    ∷ in_column state.database column (λ relation kind. refused_where (is_indexed relation column.column) why.IndexThere) ∷ no_cursor state ∷ [])
+    ∷ in_column state.database column (λ relation kind. refused_where (is_indexed relation column.column) why.IndexThere) ∷ [])
 early setting state (OpenCursor name p) =
     first_refusal (refused_where (is_there (cursor_named state name)) why.CursorNameTaken ∷ check_operators state.database p
     ∷ refused_where (nat_le most_cursors (length state.cursors)) why.TooManyCursors ∷ check_depth p ∷ [])

@@ -1,20 +1,16 @@
 -- The relation of a name, in the catalog and in the database.
-use Rattle.std.proofs.Common.{◌≡◌, ℕ, Bool, true, false, cond, ◌||◌, not, List, [], ◌∷◌, ◌++◌, map, Option, Some, None, refl, sym, ◌∙◌, ap}
+use Rattle.std.proofs.Common.{◌≡◌, ℕ, Bool, true, false, cond, ◌||◌, List, [], ◌∷◌, ◌++◌, map, Option, Some, None, refl, sym, ◌∙◌, ap}
 use Rattle.std.specs.List.{find}
 use Rattle.std.specs.Option.{option_map}
 use Rattle.std.specs.Cmp.Lexicographic.{bytes_decides}
 use Rattle.std.proofs.lemmas.List.{length-map, map-append}
 use Rattle.page_pool.specs.Disk.{PageMap}
 use Rattle.sand_base.specs.declared.kind.Kind.{Kind}
-use Rattle.sand_base.specs.declared.refusal.Refusal.{Refusal}
 use Rattle.sand_base.specs.declared.value.Value.{Value}
-use Rattle.sand_base.specs.declared.refusal.Refusal.TheVariants as why
-use Rattle.std.specs.Prelude.{nat_le, ◌-◌}
-use Rattle.sand_model.specs.Checks.{first_refusal}
 use Rattle.sand_model.specs.Database.{Relation, relation_named, same_name}
 use Rattle.sand_model.specs.Kept.{has_same, has_twice}
 use Rattle.sand_model.specs.Statement.{Create, Insert}
-use Rattle.sand_model.specs.StatementChecks.{Setting, early, is_there, refused_where, is_row_of, check_length}
+use Rattle.sand_model.specs.StatementChecks.{Setting, early, is_there}
 use Rattle.sand_store.specs.Calls.{alone}
 use Rattle.sand_store.specs.Catalog.{RelationView, is_named}
 use Rattle.sand_store.specs.Contents.{relation_in, database_in}
@@ -35,16 +31,10 @@ there_mapped f (Some a) = refl
 pub there_in : (m : PageMap) (rs : List RelationView) (name : List ℕ) → is_there (relation_named (database_in m rs) name) ≡ is_there (find (is_named name) rs)
 there_in m rs name = ap (λ (o : Option Relation). is_there o) (named_in m rs name) ∙ there_mapped (relation_in m) (find (is_named name) rs)
 
--- a check that passes changes nothing behind others
-passed_last : (a b : Option Refusal) → first_refusal (a ∷ b ∷ None ∷ []) ≡ first_refusal (a ∷ b ∷ [])
-passed_last None None = refl
-passed_last None (Some b) = refl
-passed_last (Some a) b = refl
-
 -- the early checks of a new relation
 pub early_create : (setting : Setting) (m : PageMap) (rs : List RelationView) (name : List ℕ) (schema : List (List ℕ × Kind))
     → early setting (alone (database_in m rs)) (Create name schema) ≡ create_check rs name schema
-early_create setting m rs name schema = rw (there_in m rs name, length-map rs (relation_in m)) (passed_last _ _)
+early_create setting m rs name schema = rw (there_in m rs name, length-map rs (relation_in m)) refl
 
 -- two names are one in either order
 pub same_sym : (a b : List ℕ) → same_name a b ≡ false → same_name b a ≡ false
@@ -76,15 +66,10 @@ twice_none (x ∷ rs) r h k =
     let same : map (λ (y : RelationView). y.name) (rs ++ r ∷ []) ≡ ns ++ r.name ∷ [] = map-append (λ (y : RelationView). y.name) rs (r ∷ []) in
     rw (ap (λ (l : List (List ℕ)). has_same x.name l) same, has_same-append x.name r.name ns parts.0 (same_sym x.name r.name apart.0)) (twice_none rs r parts.1 apart.1)
 
--- a check that passes changes nothing before others
-passed_second : (a b c : Option Refusal) → first_refusal (a ∷ None ∷ b ∷ c ∷ []) ≡ first_refusal (a ∷ b ∷ c ∷ [])
-passed_second None b c = refl
-passed_second (Some a) b c = refl
-
 -- the early checks of a row
 pub early_insert : (setting : Setting) (m : PageMap) (rs : List RelationView) (name : List ℕ) (row : List Value)
     → early setting (alone (database_in m rs)) (Insert name row) ≡ found_check setting.limits row (find (is_named name) rs)
 early_insert setting m rs name row =
     let go : (o : Option RelationView) → find (is_named name) rs ≡ o → early setting (alone (database_in m rs)) (Insert name row) ≡ found_check setting.limits row (find (is_named name) rs) =
-    elim [ None ↦ λ e. rw (named_in m rs name, e) refl | Some r ↦ λ e. rw (named_in m rs name, e) (passed_second (refused_where (not (is_row_of r.schema row)) why.WrongKind) (check_length row) (refused_where (nat_le setting.limits.ids (r.next - 1)) why.IdsSpent)) ] in
+    elim [ None ↦ λ e. rw (named_in m rs name, e) refl | Some r ↦ λ e. rw (named_in m rs name, e) refl ] in
     go (find (is_named name) rs) refl

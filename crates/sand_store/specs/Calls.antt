@@ -7,6 +7,7 @@ use Rattle.sand_base.specs.declared.refusal.Refusal.{Refusal}
 use Rattle.sand_base.specs.declared.refusal.Refusal.TheVariants as why
 use Rattle.sand_base.specs.declared.value.Value.{Value}
 use Rattle.page_pool.specs.Causes.{IsDamage}
+use Rattle.page_pool.specs.Commands.{SettlesStamps}
 use Rattle.page_pool.specs.Pool.{PoolState, IsTold}
 use Rattle.page_pool.specs.declared.fault.PageFault.{PageFault}
 use Rattle.page_pool.specs.declared.fault.PageFault.TheVariants as page
@@ -47,10 +48,11 @@ pub record HasCause {T : Type 0} (old new : PoolState) (result : Result T Refusa
   pub counted : new.disk.faults ≡ faults_after old.disk.faults result
   pub damaged : IfErr result (IsDamageIfDamaged new)
 
--- what every call keeps: the limits, and whether the disk tells its pages
+-- What every call keeps: the limits, whether the disk tells its pages, and the maps of the held stamps, whose dirty pages may be written.
 pub record Carries (old new : StoreState) : Type 0 where
   pub limits : new.catalog.limits ≡ old.catalog.limits
   pub told : new.pool.disk.told ≡ old.pool.disk.told
+  pub stamps : SettlesStamps old.pool new.pool
 
 -- what a refusal leaves: the catalog, and the pages where the disk tells them, so the database is as it was
 pub record IsUnchanged (old new : StoreState) : Type 0 where

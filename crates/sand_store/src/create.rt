@@ -1,5 +1,6 @@
 // A new relation.
 ghost use Rattle.std.specs.Prelude.{◌≡◌, map, IfErr, OnOk, OnErr};
+ghost use Rattle.page_pool.specs.Commands.{SettlesStamps};
 ghost use Rattle.page_pool.specs.Pool.{IsClosed};
 ghost use Rattle.sand_base.specs.InRange.{IsSchemaInRange};
 ghost use Rattle.std.specs.List.{list_any};
@@ -66,6 +67,7 @@ fn add<D: Disk>(
     requires { IsClosed pool.old }
     ensures closed { IsClosed pool.new }
     ensures told { pool.new.disk.told ≡ pool.old.disk.told }
+    ensures stamps { SettlesStamps pool.old pool.new }
     ensures added { OnOk result (Adds pool.old pool.new relations.old.items relations.new.items name schema) }
     ensures reverted { OnErr result (Reverts pool.old pool.new relations.old.items relations.new.items) }
     ensures outside { IfErr result IsOutside }
@@ -106,6 +108,7 @@ pub fn create<D: Disk>(
     requires schema { IsSchemaInRange schema }
     ensures store { IsStore (record { relations = relations.new.items; limits = limits }) pool.new }
     ensures told { pool.new.disk.told ≡ pool.old.disk.told }
+    ensures stamps { SettlesStamps pool.old pool.new }
     ensures created { OnOk result (Created (store_from relations.old.items limits pool.old) (store_from relations.new.items limits pool.new) name.now schema) }
     ensures unchanged { OnErr result (IsUnchanged (store_from relations.old.items limits pool.old) (store_from relations.new.items limits pool.new)) }
     ensures refused { IfErr result (IsRefusedBy is_none (store_from relations.old.items limits pool.old) (Create name.now schema)) }

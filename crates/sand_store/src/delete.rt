@@ -1,5 +1,6 @@
 // A relation loses a row.
 ghost use Rattle.std.specs.Prelude.{◌≡◌, ℕ, ◌≤◌, Some, None, IfOk, IfErr, OnOk, OnErr};
+ghost use Rattle.page_pool.specs.Commands.{SettlesStamps};
 ghost use Rattle.page_pool.specs.Pool.{IsOpen, IsClosed, IsTold};
 ghost use Rattle.page_pool.specs.Reads.{IsRead};
 ghost use Rattle.page_pool.specs.Steps.{InCommand};
@@ -90,6 +91,7 @@ fn remove<D: Disk>(
     requires can { IsTold pool.old → (bounds : Bounds) × RelationCanLose pool.old.pages bounds relation.now id row.now }
     ensures closed { IsClosed pool.new }
     ensures told { pool.new.disk.told ≡ pool.old.disk.told }
+    ensures stamps { SettlesStamps pool.old pool.new }
     ensures shrank { IfOk result (λ roots. IsTold pool.old → (bounds : Bounds) → RelationCanLose pool.old.pages bounds relation.now id row.now → Shrank pool.old.pages pool.new.pages bounds relation.now id roots.file roots.paths.items) }
     ensures places { IfOk result (λ roots. All (IsPathOf relation.now.schema) relation.now.paths → SamePlaces relation.now.schema relation.now.paths roots.paths.items) }
     ensures reverted { OnErr result (IsTold pool.old → pool.new.pages ≡ pool.old.pages) }
@@ -124,6 +126,7 @@ pub fn delete<D: Disk>(
     requires store { IsStore (record { relations = relations.old.items; limits = limits }) pool.old }
     ensures store { IsStore (record { relations = relations.new.items; limits = limits }) pool.new }
     ensures told { pool.new.disk.told ≡ pool.old.disk.told }
+    ensures stamps { SettlesStamps pool.old pool.new }
     ensures deleted { OnOk result (Deleted (store_from relations.old.items limits pool.old) (store_from relations.new.items limits pool.new) name.now id) }
     ensures unchanged { OnErr result (IsUnchanged (store_from relations.old.items limits pool.old) (store_from relations.new.items limits pool.new)) }
     ensures refused { IfErr result (IsRefusedBy is_missing (store_from relations.old.items limits pool.old) (Delete name.now id)) }

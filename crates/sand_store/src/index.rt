@@ -1,6 +1,7 @@
 // A relation gets an index of a column.
 ghost use Rattle.std.specs.Prelude.{◌≡◌, ℕ, ◌≤◌, ◌<◌, ◌∷◌, true, Some, length, find, nat_le, IfOk, IfErr, OnOk, OnErr, IfSome};
 ghost use Rattle.code_btree.specs.Tree.{times, live};
+ghost use Rattle.page_pool.specs.Commands.{SettlesStamps};
 ghost use Rattle.page_pool.specs.Pool.{IsOpen, IsClosed, IsTold};
 ghost use Rattle.page_pool.specs.Reads.{IsRead};
 ghost use Rattle.page_pool.specs.Steps.{InCommand};
@@ -337,6 +338,7 @@ fn add<D: Disk>(
     requires owns { IsTold pool.old → (q : ℕ) → times q (relation_pages pool.old.pages relation.old) ≤ live (store_of pool.old.pages) q }
     ensures closed { IsClosed pool.new }
     ensures told { pool.new.disk.told ≡ pool.old.disk.told }
+    ensures stamps { SettlesStamps pool.old pool.new }
     ensures became { OnOk result (IsTold pool.old → Became pool.old.pages pool.new.pages limits relation.old relation.new (λ gap. with_index gap column threshold)) }
     ensures added { OnOk result (HasPath relation.old relation.new column) }
     ensures unchanged { OnErr result (relation.new ≡ relation.old) }
@@ -382,6 +384,7 @@ pub fn index<D: Disk>(
     requires threshold { IsThreshold threshold }
     ensures store { IsStore (record { relations = relations.new.items; limits = limits }) pool.new }
     ensures told { pool.new.disk.told ≡ pool.old.disk.told }
+    ensures stamps { SettlesStamps pool.old pool.new }
     ensures indexed { OnOk result (Indexed (store_from relations.old.items limits pool.old) (store_from relations.new.items limits pool.new) (record { relation = name.now; column = column.now }) threshold) }
     ensures unchanged { OnErr result (IsUnchanged (store_from relations.old.items limits pool.old) (store_from relations.new.items limits pool.new)) }
     ensures refused { IfErr result (IsRefusedBy is_full (store_from relations.old.items limits pool.old) (Index (record { relation = name.now; column = column.now }) threshold)) }

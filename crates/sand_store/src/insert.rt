@@ -1,5 +1,6 @@
 // A relation gets a row.
 ghost use Rattle.std.specs.Prelude.{◌≡◌, ℕ, ◌≤◌, length, Some, IfOk, IfErr, OnErr};
+ghost use Rattle.page_pool.specs.Commands.{SettlesStamps};
 ghost use Rattle.page_pool.specs.Pool.{IsOpen, IsClosed, IsTold};
 ghost use Rattle.page_pool.specs.Steps.{InCommand};
 ghost use Rattle.code_btree.specs.Tree.{times, live};
@@ -96,6 +97,7 @@ fn add<D: Disk>(
     requires owns { IsTold pool.old → (q : ℕ) → times q (relation_pages pool.old.pages relation.now) ≤ live (store_of pool.old.pages) q }
     ensures closed { IsClosed pool.new }
     ensures told { pool.new.disk.told ≡ pool.old.disk.told }
+    ensures stamps { SettlesStamps pool.old pool.new }
     ensures grew { IfOk result (λ growth. IsTold pool.old → Grew pool.old.pages pool.new.pages limits relation.now growth.file growth.paths.items growth.span row.now) }
     ensures places { IfOk result (λ growth. SamePlaces relation.now.schema relation.now.paths growth.paths.items) }
     ensures reverted { OnErr result (IsTold pool.old → pool.new.pages ≡ pool.old.pages) }
@@ -132,6 +134,7 @@ pub fn insert<D: Disk>(
     requires row { IsRowInRange row.now }
     ensures store { IsStore (record { relations = relations.new.items; limits = limits }) pool.new }
     ensures told { pool.new.disk.told ≡ pool.old.disk.told }
+    ensures stamps { SettlesStamps pool.old pool.new }
     ensures inserted { IfOk result (λ id. Inserted (store_from relations.old.items limits pool.old) (store_from relations.new.items limits pool.new) name.now row.now id) }
     ensures unchanged { OnErr result (IsUnchanged (store_from relations.old.items limits pool.old) (store_from relations.new.items limits pool.new)) }
     ensures refused { IfErr result (IsRefusedBy is_full (store_from relations.old.items limits pool.old) (Insert name.now row.now)) }

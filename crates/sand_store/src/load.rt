@@ -1,5 +1,6 @@
 // Rows of a list enter a relation, all or none.
 ghost use Rattle.std.specs.Prelude.{◌≡◌, ℕ, ◌≤◌, [], length, None, All, IfOk, IfErr, OnOk, OnErr};
+ghost use Rattle.page_pool.specs.Commands.{SettlesStamps};
 ghost use Rattle.page_pool.specs.Pool.{IsOpen, IsClosed, IsTold};
 ghost use Rattle.page_pool.specs.Steps.{InCommand};
 ghost use Rattle.code_btree.specs.Tree.{times, live};
@@ -105,6 +106,7 @@ fn add_all<D: Disk>(
     requires owns { IsTold pool.old → (q : ℕ) → times q (relation_pages pool.old.pages relation.now) ≤ live (store_of pool.old.pages) q }
     ensures closed { IsClosed pool.new }
     ensures told { pool.new.disk.told ≡ pool.old.disk.told }
+    ensures stamps { SettlesStamps pool.old pool.new }
     ensures counts { IfOk result (λ grown. Counts limits relation.now grown (length rows.now)) }
     ensures enters { IfOk result (λ grown. IsTold pool.old → Enters pool.old.pages pool.new.pages limits relation.now grown rows.now []) }
     ensures passes { IfOk result (λ grown. plain_of limits relation.now rows.now ≡ None) }
@@ -145,6 +147,7 @@ pub fn load_rows<D: Disk>(
     requires rows { All IsRowInRange rows.now }
     ensures store { IsStore (record { relations = relations.new.items; limits = limits }) pool.new }
     ensures told { pool.new.disk.told ≡ pool.old.disk.told }
+    ensures stamps { SettlesStamps pool.old pool.new }
     ensures loaded { IfOk result (λ count. Loaded (store_from relations.old.items limits pool.old) (store_from relations.new.items limits pool.new) name.now rows.now count) }
     ensures unchanged { OnErr result (IsUnchanged (store_from relations.old.items limits pool.old) (store_from relations.new.items limits pool.new)) }
     ensures refused { IfErr result (LoadIsRefusedBy (store_from relations.old.items limits pool.old) name.now rows.now) }

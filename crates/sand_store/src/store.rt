@@ -1,7 +1,9 @@
-ghost use Rattle.std.specs.Prelude.{◌≡◌, ◌≤◌, [], IfOk, IfErr, OnOk, OnErr, IfSome, option_map};
+ghost use Rattle.std.specs.Prelude.{◌≡◌, ◌≤◌, [], IsTrue, Some, IfOk, IfErr, OnOk, OnErr, IfSome, option_map};
+ghost use Rattle.std.specs.FinMap as map;
 ghost use Rattle.sand_base.specs.InRange.{IsRowInRange, IsSchemaInRange};
 ghost use Rattle.std.specs.List.{All};
-ghost use Rattle.page_pool.specs.Pool.{new_pool, IsTold};
+ghost use Rattle.page_pool.specs.Pool.{Shown, new_pool, showing, back};
+ghost use Rattle.page_pool.specs.Stamps.{KeepsMap, LetsMapGo};
 ghost use Rattle.page_pool.specs.Causes.{IsNoDamage, faults_at};
 ghost use Rattle.page_pool.specs.Desk.{DeskState};
 ghost use Rattle.sand_model.specs.Kept.{IsDatabase};
@@ -18,8 +20,8 @@ use crate::delete::delete;
 use crate::index::index;
 use crate::insert::insert;
 use crate::load::load_rows;
-use page_pool::{Desk, Disk, PageFault, Pool};
-use sand_base::{Limits, Refusal, Row, Schema};
+use page_pool::{Desk, Disk, PageFault, Pool, Stamp};
+use sand_base::{Limits, NoMemory, Refusal, Row, Schema};
 use std::alloc::Global;
 use std::marker::Model;
 
@@ -193,16 +195,52 @@ impl<D: Disk> Store<D> {
         (catalog, Desk::over(alloc, pool))
     }
 
-    /// The store of a catalog and a desk that one `part` gave. Visits that were noted are gone. It takes no memory.
+    /// The catalog as it is now, and the pages as they were when the stamp was taken, for reading. It takes no memory.
+    pub fn part_at(self, stamp: &Stamp) -> (Catalog, Desk<D>)
+        requires held { IsTrue (map.contains_key self.pool.stamps stamp.now) }
+        ensures catalog { result.0 ≡ self.catalog }
+        ensures desk { (shown : Shown) → map.get self.pool.stamps stamp.now ≡ Some shown → result.1 ≡ record { pool = showing self.pool shown; visits = [] } }
+        ensures whole { IsStore self.catalog self.pool }
+    {
+        let Store {
+            catalog,
+            pool,
+            alloc,
+        } = self;
+        (catalog, Desk::at(alloc, pool, stamp))
+    }
+
+    /// The store of a catalog and a desk that one `part` or one `part_at` gave. Visits that were noted are gone. It takes
+    /// no memory.
     pub fn rejoin(alloc: Global, catalog: Catalog, desk: Desk<D>) -> Store<D>
-        requires { IsStore catalog desk.pool }
-        ensures { result ≡ record { catalog = catalog; pool = desk.pool } }
+        requires { IsStore catalog (back desk.pool) }
+        ensures { result ≡ record { catalog = catalog; pool = back desk.pool } }
     {
         Store {
             catalog,
             pool: desk.close(),
             alloc,
         }
+    }
+
+    /// A stamp of the store as it is: its pages are kept, whatever is written later, until the stamp is released. After a
+    /// refusal all is as it was.
+    pub fn keep(&mut self) -> Result<Stamp, NoMemory>
+        ensures catalog { self.new.catalog ≡ self.old.catalog }
+        ensures kept { IfOk result (KeepsMap self.old.pool self.new.pool) }
+        ensures unchanged { OnErr result (self.new ≡ self.old) }
+    {
+        let stamp = self.pool.keep()?;
+        Ok(stamp)
+    }
+
+    /// The stamp is held no more, and its pages are kept no longer than others need them. It takes no memory.
+    pub fn release(&mut self, stamp: Stamp)
+        requires held { IsTrue (map.contains_key self.old.pool.stamps stamp) }
+        ensures catalog { self.new.catalog ≡ self.old.catalog }
+        ensures let_go { LetsMapGo self.old.pool self.new.pool stamp }
+    {
+        self.pool.release(stamp);
     }
 
     /// The disk. It takes no memory.

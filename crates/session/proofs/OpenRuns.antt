@@ -2,9 +2,10 @@
 use Rattle.std.proofs.Common.{◌≡◌, ℕ, suc, ◌+◌, ◌*◌, ◌≤◌, Bool, false, ◌||◌, eqb, List, [], ◌∷◌, ◌++◌, length, Option, Ok, Err, refl, ap, arith, length-append}
 use Rattle.std.proofs.lemmas.Bool.{cond_both}
 use Rattle.line_exec.proofs.Moments.{follows_open, none_stand}
-use Rattle.line_exec.specs.LineCarried.{LineCarried, while_open}
+use Rattle.line_exec.specs.LineCarried.{LineCarried}
 use Rattle.line_meaning.specs.Carrying.{Follows}
 use Rattle.open_cursors.specs.Carried.{AreCounted, GaveAtMost}
+use Rattle.open_cursors.specs.OpenCursors.{AreHeld}
 use Rattle.open_cursors.specs.OverPages.{StandOver}
 use Rattle.open_cursors.specs.declared.open_cursor.OpenCursor.{OpenCursor}
 use Rattle.plan_ops.specs.declared.source.Source.{Source}
@@ -18,7 +19,7 @@ use Rattle.script_lines.specs.Lines.{cut, onto, lines, last_line}
 use Rattle.script_lines.specs.Reading.{Reads}
 use Rattle.script_lines.specs.declared.TheConstants.{LONGEST_SCRIPT}
 use Rattle.script_lines.specs.declared.script_lines.ScriptLines.{ScriptLines}
-use Rattle.statement_exec.specs.Moment.{Moment, moment_of}
+use Rattle.statement_exec.specs.Moment.{Moment, moment_of, while_open}
 use Rattle.session.specs.OpenRun.{HasGiven, OpenRun, Spot, spot_of}
 use Rattle.session.specs.RunStates.{Draws, EndsAt, FromBetweenLines, RunState, ended, run_state}
 use Rattle.session.specs.declared.status.Status.{Status}
@@ -84,12 +85,13 @@ ends_state why last state left before now first script text end = (end.0, end.1,
 
 -- before the first line
 pub OpenRun-begin : (reader : ScriptLines) (left : Option (List ℕ)) (store : StoreState) (files : Option Files) (shelf : ℕ) (items : List (OpenCursor Source Stage)) (took : List ℕ → Type 0)
-    → ((left : Option (List ℕ)) → Reads reader left [] []) → items ≡ []
+    → ((left : Option (List ℕ)) → Reads reader left [] []) → items ≡ [] → AreHeld store.pool.stamps items
     → OpenRun (run_state reader left (moment_of store files shelf) false) took (spot_of reader left store files shelf items false took)
-OpenRun-begin reader left store files shelf items took begun none = record {
+OpenRun-begin reader left store files shelf items took begun none held = record {
   cs = [];
   own = refl;
   stand = none_stand store.pool items none;
+  held = held;
   count = 0;
   counted = record { bytes = []; given = []; reads = begun left; counted = refl };
   given = tt;
@@ -113,15 +115,16 @@ module _ (start : RunState) (before : List ℕ → Type 0) (at : Spot) (run : Op
 
     module _ (store' : StoreState) (files' : Option Files) (shelf' : ℕ) (items' : List (OpenCursor Source Stage)) (now : List ℕ → Type 0) (follows : Follows (moment_of at.store at.files at.shelf) (moment_of store' files' shelf')) where
       -- the next line was carried out
-      pub OpenRun-line : (r t : Bool) (l : LineCarried reader'.line (while_open at.store at.files at.shelf) (while_open store' files' shelf') run.cs at.took now (Ok r) (StandOver store'.pool items'))
+      pub OpenRun-line : (r t : Bool) (l : LineCarried reader'.line (while_open at.store at.files at.shelf) (while_open store' files' shelf') run.cs at.took now (Ok r) (StandOver store'.pool items')) → AreHeld store'.pool.stamps items'
           → t ≡ (at.refused || r) → OpenRun start before (spot_of reader' left' store' files' shelf' items' t now)
-      OpenRun-line r t l joined =
+      OpenRun-line r t l held joined =
           let old : Moment = while_open at.store at.files at.shelf run.cs in
           let new : Moment = while_open store' files' shelf' l.after in
           record {
             cs = l.after;
             own = l.own;
             stand = l.at;
+            held = held;
             count = run.count + 1;
             counted = counted_more at.reader reader' at.left left' run.count is_long draws run.counted;
             given = most_upto (run.count * 4294967295 + 4294967295) ((run.count + 1) * 4294967295) l.after (omega arith) (l.given (run.count * 4294967295) run.given);

@@ -1,8 +1,8 @@
 -- A run between two of its lines, with the cursors that are open, for the proofs alone.
 use Rattle.std.specs.Prelude.{◌≡◌, ℕ, ◌*◌, Bool, List, Option, length}
-use Rattle.line_exec.specs.LineCarried.{most_rows, while_open}
+use Rattle.line_exec.specs.LineCarried.{most_rows}
 use Rattle.open_cursors.specs.Carried.{GaveAtMost}
-use Rattle.open_cursors.specs.OpenCursors.{HaveOwnNames}
+use Rattle.open_cursors.specs.OpenCursors.{AreHeld, HaveOwnNames}
 use Rattle.open_cursors.specs.OverPages.{StandOver}
 use Rattle.open_cursors.specs.declared.open_cursor.OpenCursor.{OpenCursor}
 use Rattle.plan_ops.specs.declared.source.Source.{Source}
@@ -12,6 +12,7 @@ use Rattle.sand_model.specs.Cursor.{Cursor}
 use Rattle.sand_store.specs.Catalog.{StoreState}
 use Rattle.script_lines.specs.Reading.{Reads}
 use Rattle.script_lines.specs.declared.script_lines.ScriptLines.{ScriptLines}
+use Rattle.statement_exec.specs.Moment.{while_open}
 use Rattle.session.specs.RunStates.{Leads, IsBetweenLines, RunState, run_state}
 
 -- the reader has read some of its script, and has given so many lines of it
@@ -41,11 +42,12 @@ spot_of reader left store files shelf items refused took =
 abbrev pub state_at : Spot → List Cursor → RunState
 state_at at cs = run_state at.reader at.left (while_open at.store at.files at.shelf cs) at.refused
 
--- The run went on from its start to this spot: cursors of the model with names of their own stand where the open ones do, and none gave more rows than the lines asked for.
+-- The run went on from its start to this spot: cursors of the model with names of their own stand where the open ones do, each of which has a stamp of its own, and none gave more rows than the lines asked for.
 pub record OpenRun (start : RunState) (before : List ℕ → Type 0) (at : Spot) : Type 0 where
   pub cs : List Cursor
   pub own : HaveOwnNames cs
   pub stand : StandOver at.store.pool at.items cs
+  pub held : AreHeld at.store.pool.stamps at.items
   pub count : ℕ
   pub counted : HasGiven at.reader at.left count
   pub given : GaveAtMost (count * most_rows) cs

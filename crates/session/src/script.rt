@@ -1,15 +1,15 @@
 // The lines of the script, drawn and carried out one by one.
 ghost use Rattle.std.specs.Prelude.{◌≡◌, [], ℕ, List, Option, false, not};
-ghost use Rattle.line_exec.specs.LineCarried.{LineCarried, while_open};
+ghost use Rattle.line_exec.specs.LineCarried.{LineCarried};
 ghost use Rattle.line_meaning.specs.Carrying.{Follows};
 ghost use Rattle.open_cursors.specs.Carried.{AreCounted};
-ghost use Rattle.open_cursors.specs.OpenCursors.{HaveOwnNames};
+ghost use Rattle.open_cursors.specs.OpenCursors.{AreHeld, HaveOwnNames};
 ghost use Rattle.open_cursors.specs.OverPages.{AreStanding, StandOver};
 ghost use Rattle.sand_base.specs.Faults.{HasCause};
 ghost use Rattle.sand_model.specs.Cursor.{Cursor};
 ghost use Rattle.script_lines.specs.Lines.{is_short_line};
 ghost use Rattle.script_lines.specs.Reading.{Reads};
-ghost use Rattle.statement_exec.specs.Moment.{moment_of};
+ghost use Rattle.statement_exec.specs.Moment.{moment_of, while_open};
 ghost use Rattle.session.specs.Ends.{IsCaused};
 ghost use Rattle.session.specs.RunStates.{EndsAt, FromBetweenLines, run_state};
 
@@ -39,6 +39,7 @@ fn carry_hand<D: Disk, H: Shelf, K: Sink>(
     requires stands { AreStanding store.pool cursors.old.items }
     ensures carried { (cs : List Cursor) → HaveOwnNames cs → AreCounted cs → StandOver store.pool cursors.old.items cs
         → LineCarried lines.now.line (while_open store (H.files shelf.old) (H.faults shelf.old)) (while_open result.0 (H.files shelf.new) (H.faults shelf.new)) cs (K.took out.old) (K.took out.new) result.1 (StandOver result.0.pool cursors.new.items) }
+    ensures held { AreHeld result.0.pool.stamps cursors.new.items }
     ensures follows { Follows (moment_of store (H.files shelf.old) (H.faults shelf.old)) (moment_of result.0 (H.files shelf.new) (H.faults shelf.new)) }
     ensures sink { HasCause (K.faults out.old) (K.faults out.new) result.1 }
 {
@@ -59,6 +60,7 @@ pub(crate) fn carry_script<S: Source, H: Shelf, D: Disk, K: Sink>(
     out: &mut K,
 ) -> (Store<D>, Status)
     requires none { cursors.old.items ≡ [] }
+    requires held { AreHeld store.pool.stamps cursors.old.items }
     requires begun { (left : Option (List ℕ)) → Reads lines.old left [] [] }
     ensures ends { FromBetweenLines (run_state lines.old (S.left script.old) (moment_of store (H.files shelf.old) (H.faults shelf.old)) false) (EndsAt result.1 (moment_of result.0 (H.files shelf.new) (H.faults shelf.new)) (S.left script.new) (K.took out.old) (K.took out.new)) }
     ensures cause { IsCaused result.1 (S.faults script.old) (S.faults script.new) (K.faults out.old) (K.faults out.new) }

@@ -131,7 +131,7 @@ module _ (cs cs' : List Cursor) (catalog catalog' : CatalogView) (old new : Pool
       → EndHasCause (beside cs catalog old files shelf) (beside cs' catalog' new files' shelf') end
   end_cause E None c n = tt
   end_cause E (Some why.Device) c n = λ few. rose old.disk.faults new.disk.faults c.counted few
-  end_cause E (Some (why.Damaged page kept read)) c n = let d : IsDamage new page kept read = c.damaged in (sym told ∙ d.untold, d.differ)
+  end_cause E (Some (why.Damaged page kept read)) c n = (sym told ∙ c.damaged.untold, c.damaged.differ)
   end_cause E (Some why.File) c n = absurd n
   end_cause E (Some _) c n = tt
 

@@ -14,15 +14,15 @@ use Rattle.sand_model.specs.Database.{Index}
 use Rattle.sand_model.specs.Outcome.{uses_pages}
 use Rattle.sand_model.specs.Plan.{Column}
 use Rattle.sand_model.specs.Statement.{Statement, Create, Insert, Delete, Load, Index as IndexOn}
-use Rattle.sand_model.specs.StatementChecks.{Setting, file_rows}
-use Rattle.sand_store.specs.Calls.{Refuses, IsRefusedBy, IsUnchanged, Created, Inserted, Deleted, Indexed, Loaded, LoadIsRefusedBy, IsRefusedPlainly, early_at, late_at, load_early, load_late, load_plain, plain_checks, alone, is_none, is_full, is_missing, is_of_a_row}
+use Rattle.sand_model.specs.StatementChecks.{Setting, early, file_rows, late}
+use Rattle.sand_store.specs.Calls.{Refuses, IsRefusedBy, IsUnchanged, Created, Inserted, Deleted, Indexed, Loaded, LoadIsRefusedBy, IsRefusedPlainly, early_at, late_at, load_early, load_late, load_plain, plain_checks, is_none, is_full, is_missing, is_of_a_row}
 use Rattle.sand_store.specs.Catalog.{CatalogView, RelationView, StoreState}
 use Rattle.sand_store.specs.Contents.{database, database_in, indexes_in}
 use Rattle.sand_store.specs.Sketches.{Sketch, sketch_of, sketches, new_sketch, with_ids, with_indexed, sketched_at}
 use Rattle.sand_store.specs.declared.path.AccessPath.{AccessPath}
 use Rattle.statement_exec.specs.Deciding.{ComesBehind, DecidesEarly, PrintsPassed, line_of_rows}
 use Rattle.statement_exec.specs.Loading.{LoadOf, Yields, InSettings, IsRefusedEarly}
-use Rattle.statement_exec.specs.Moment.{moment_of}
+use Rattle.statement_exec.specs.Moment.{state_with, while_open}
 use Rattle.statement_exec.specs.Outline.{outline_of, sketch_in, bare}
 use Rattle.statement_exec.specs.Performing.{IsDecided}
 use Rattle.statement_exec.proofs.Decided.{found_own, after_refusal, by_early, by_memory, by_behind, by_passing, by_shelf}
@@ -48,64 +48,65 @@ outline_in catalog pages pages' cs =
     ap (λ (rs : List Sketch). record { relations = rs; cursors = map (λ (c : Cursor). c.name) cs }) (sketched_in pages catalog.relations ∙ sym (sketched_in pages' catalog.relations))
 
 module _ (old new : StoreState) where
-  outline_changed : (change : List Sketch → List Sketch) → sketches new ≡ change (sketches old)
-      → outline_of (alone (database new)) ≡ record { relations = change (map sketch_in (database old)); cursors = [] }
-  outline_changed change h =
-      ap (λ (rs : List Sketch). record { relations = rs; cursors = [] })
+  outline_changed : (cs : List Cursor) (change : List Sketch → List Sketch) → sketches new ≡ change (sketches old)
+      → outline_of (state_with cs (database new)) ≡ record { relations = change (map sketch_in (database old)); cursors = map (λ (c : Cursor). c.name) cs }
+  outline_changed cs change h =
+      ap (λ (rs : List Sketch). record { relations = rs; cursors = map (λ (c : Cursor). c.name) cs })
       (sketched_in new.pool.pages new.catalog.relations ∙ (h ∙ ap change (sym (sketched_in old.pool.pages old.catalog.relations))))
 
-  outline_kept : new.catalog ≡ old.catalog → outline_of (alone (database new)) ≡ outline_of (alone (database old))
-  outline_kept same = outline_changed (λ rs. rs) (ap (λ (catalog : CatalogView). map sketch_of catalog.relations) same)
+  outline_kept : (cs : List Cursor) → new.catalog ≡ old.catalog → outline_of (state_with cs (database new)) ≡ outline_of (state_with cs (database old))
+  outline_kept cs same = outline_changed cs (λ rs. rs) (ap (λ (catalog : CatalogView). map sketch_of catalog.relations) same)
 
   -- ---- calls that touch no file
 
-  module _ (files : Option Files) (shelf : ℕ) where
+  module _ (cs : List Cursor) (files : Option Files) (shelf : ℕ) where
     pub created_decides : (name : List ℕ) (schema : List (List ℕ × Kind)) → Created old new name schema
-        → IsDecided (Create name schema) (moment_of old files shelf) (moment_of new files shelf) (Accepted ∷ [])
+        → IsDecided (Create name schema) (while_open old files shelf cs) (while_open new files shelf cs) (Accepted ∷ [])
     created_decides name schema h = λ setting s. (
-      by_passing setting (alone (database old)) (Create name schema) (Accepted ∷ []) (h.passes setting s.is s.limits).0 refl,
-      outline_changed (λ rs. rs ++ new_sketch name schema ∷ []) h.sketched,
+      by_passing setting (state_with cs (database old)) (Create name schema) (Accepted ∷ []) (h.passes setting s.is s.limits).0 refl,
+      outline_changed cs (λ rs. rs ++ new_sketch name schema ∷ []) h.sketched,
     )
 
     pub inserted_decides : (name : List ℕ) (row : List Value) (id : ℕ) → Inserted old new name row id
-        → IsDecided (Insert name row) (moment_of old files shelf) (moment_of new files shelf) (Id id ∷ [])
+        → IsDecided (Insert name row) (while_open old files shelf cs) (while_open new files shelf cs) (Id id ∷ [])
     inserted_decides name row id h = λ setting s. (
-      by_passing setting (alone (database old)) (Insert name row) (Id id ∷ []) (h.passes setting s.is s.limits).0
+      by_passing setting (state_with cs (database old)) (Insert name row) (Id id ∷ []) (h.passes setting s.is s.limits).0
           (shown h.next.0, named_shown (database old) name (Some h.next.0) h.next.1.0, ap (λ (n : ℕ). Id n ∷ []) h.next.1.1),
-      outline_changed (sketched_at name (with_ids 1)) h.sketched,
+      outline_changed cs (sketched_at name (with_ids 1)) h.sketched,
     )
 
     pub deleted_decides : (name : List ℕ) (id : ℕ) → Deleted old new name id
-        → IsDecided (Delete name id) (moment_of old files shelf) (moment_of new files shelf) (Accepted ∷ [])
+        → IsDecided (Delete name id) (while_open old files shelf cs) (while_open new files shelf cs) (Accepted ∷ [])
     deleted_decides name id h = λ setting s. (
-      by_passing setting (alone (database old)) (Delete name id) (Accepted ∷ []) (h.passes setting s.is s.limits).0 refl,
-      outline_changed (λ rs. rs) h.sketched,
+      by_passing setting (state_with cs (database old)) (Delete name id) (Accepted ∷ []) (h.passes setting s.is s.limits).0 refl,
+      outline_changed cs (λ rs. rs) h.sketched,
     )
 
     pub indexed_decides : (column : Column) (threshold : Option ℕ) → Indexed old new column threshold
-        → IsDecided (IndexOn column threshold) (moment_of old files shelf) (moment_of new files shelf) (Accepted ∷ [])
+        → IsDecided (IndexOn column threshold) (while_open old files shelf cs) (while_open new files shelf cs) (Accepted ∷ [])
     indexed_decides column threshold h = λ setting s. (
-      by_passing setting (alone (database old)) (IndexOn column threshold) (Accepted ∷ []) (h.passes setting s.is s.limits).0 refl,
-      outline_changed (sketched_at column.relation (with_indexed column.column)) h.sketched,
+      by_passing setting (state_with cs (database old)) (IndexOn column threshold) (Accepted ∷ []) (h.passes setting s.is s.limits).0 refl,
+      outline_changed cs (sketched_at column.relation (with_indexed column.column)) h.sketched,
     )
 
     -- a refusal of the call
-    pub refused_decides : (statement : Statement) (is_late : Refusal → Bool) (w : Refusal) → uses_pages statement ≡ true → ((r : Refusal) → is_late r ≡ true → ComesBehind statement r)
-        → IsUnchanged old new → IsRefusedBy is_late old statement w → IsDecided statement (moment_of old files shelf) (moment_of new files shelf) (Refused w ∷ [])
-    refused_decides statement is_late w uses may same h = λ setting s. (
-      found_own files setting statement (λ own. DecidesEarly own (bare (outline_of (alone (database old)))) statement (Refused w ∷ [])) s.files
+    pub refused_decides : (statement : Statement) (is_late : Refusal → Bool) (w : Refusal) → uses_pages statement ≡ true
+        → ((setting : Setting) → (early setting (state_with cs (database old)) statement ≡ early_at setting old statement) × (late setting (state_with cs (database old)) statement ≡ late_at setting old statement)) → ((r : Refusal) → is_late r ≡ true → ComesBehind statement r)
+        → IsUnchanged old new → IsRefusedBy is_late old statement w → IsDecided statement (while_open old files shelf cs) (while_open new files shelf cs) (Refused w ∷ [])
+    refused_decides statement is_late w uses alike may same h = λ setting s. (
+      found_own files setting statement (λ own. DecidesEarly own (bare (outline_of (state_with cs (database old)))) statement (Refused w ∷ [])) s.files
           (by_refusal setting (late_at setting old statement) w (h setting s.is s.limits)),
-      outline_kept same.catalog ∙ sym (after_refusal (outline_of (alone (database old))) statement w),
+      outline_kept cs same.catalog ∙ sym (after_refusal (outline_of (state_with cs (database old))) statement w),
     ) where
       by_refusal : (setting : Setting) (behind : Option Refusal) (r : Refusal) → Refuses (IsTold old.pool) is_late (early_at setting old statement) behind r
-          → DecidesEarly setting (bare (outline_of (alone (database old)))) statement (Refused r ∷ [])
-      by_refusal setting behind why.Memory k = by_memory setting (alone (database old)) statement
-      by_refusal setting behind why.Device k = by_behind setting (alone (database old)) statement why.Device k uses
-      by_refusal setting behind (why.Damaged page kept read) k = by_behind setting (alone (database old)) statement (why.Damaged page kept read) k uses
-      by_refusal setting behind r k = elim (is_late r) as (λ b. is_late r ≡ b → DecidesEarly setting (bare (outline_of (alone (database old)))) statement (Refused r ∷ [])) [
+          → DecidesEarly setting (bare (outline_of (state_with cs (database old)))) statement (Refused r ∷ [])
+      by_refusal setting behind why.Memory k = by_memory setting (state_with cs (database old)) statement
+      by_refusal setting behind why.Device k = by_behind setting (state_with cs (database old)) statement why.Device ((alike setting).0 ∙ k) uses
+      by_refusal setting behind (why.Damaged page kept read) k = by_behind setting (state_with cs (database old)) statement (why.Damaged page kept read) ((alike setting).0 ∙ k) uses
+      by_refusal setting behind r k = elim (is_late r) as (λ b. is_late r ≡ b → DecidesEarly setting (bare (outline_of (state_with cs (database old)))) statement (Refused r ∷ [])) [
         | true ↦ λ e. let both : (early_at setting old statement ≡ None) × (IsTold old.pool → behind ≡ Some r) = rw e at k in
-            by_behind setting (alone (database old)) statement r both.0 (may r e)
-        | false ↦ λ e. let first : early_at setting old statement ≡ Some r = rw e at k in by_early setting (alone (database old)) statement r first
+            by_behind setting (state_with cs (database old)) statement r ((alike setting).0 ∙ both.0) (may r e)
+        | false ↦ λ e. let first : early_at setting old statement ≡ Some r = rw e at k in by_early setting (state_with cs (database old)) statement r ((alike setting).0 ∙ first)
       ] refl
 
 -- the refusals that only the change can find come behind the early checks
@@ -127,10 +128,10 @@ late_index column threshold _ e = absurd (true≢false (sym e))
 
 -- ---- loads
 
-module _ (old new : StoreState) (load : LoadOf) (files files' : Option Files) (shelf shelf' : ℕ) (rows : List (List Value)) (given : InSettings old.catalog files (λ setting state. Yields setting state load rows)) where
+module _ (old new : StoreState) (load : LoadOf) (cs : List Cursor) (files files' : Option Files) (shelf shelf' : ℕ) (rows : List (List Value)) (given : InSettings old.catalog files (λ setting state. Yields setting state load rows)) where
   -- the checks of the rows that need no page, as the outline has them
-  rows_decide : (own : Setting) (o : Option Refusal) → own.limits ≡ old.catalog.limits → Yields own (alone (database old)) load rows → load_plain old load.relation rows ≡ o
-      → PrintsPassed own (bare (outline_of (alone (database old)))) (Load load.relation load.file load.header) (line_of_rows o (length rows) ∷ [])
+  rows_decide : (own : Setting) (o : Option Refusal) → own.limits ≡ old.catalog.limits → Yields own (state_with cs (database old)) load rows → load_plain old load.relation rows ≡ o
+      → PrintsPassed own (bare (outline_of (state_with cs (database old)))) (Load load.relation load.file load.header) (line_of_rows o (length rows) ∷ [])
   rows_decide own o limits y plain =
       let of_relation : load_plain old load.relation rows ≡ plain_checks old.catalog.limits rows y.relation = rw y.named refl in
       let same_rows : file_rows own load.file load.header (shown y.relation) ≡ rows = rows_shown own load.file load.header y.relation ∙ y.rows_are in
@@ -143,55 +144,55 @@ module _ (old new : StoreState) (load : LoadOf) (files files' : Option Files) (s
 
   -- the rows were added
   pub loaded_decides : (count : ℕ) → Loaded old new load.relation rows count
-      → IsDecided (Load load.relation load.file load.header) (moment_of old files shelf) (moment_of new files' shelf') (LoadedLine count ∷ [])
+      → IsDecided (Load load.relation load.file load.header) (while_open old files shelf cs) (while_open new files' shelf' cs) (LoadedLine count ∷ [])
   loaded_decides count h = λ setting s.
       let own : Setting = record setting { files = given.0 } in
-      let y : Yields own (alone (database old)) load rows = given.2 old.pool shelf setting s in
-      let line : PrintsPassed own (bare (outline_of (alone (database old)))) (Load load.relation load.file load.header) (LoadedLine count ∷ []) =
-      subst (λ (n : ℕ). PrintsPassed own (bare (outline_of (alone (database old)))) (Load load.relation load.file load.header) (LoadedLine n ∷ [])) (sym h.counted) (rows_decide own None s.limits y h.plain) in (
-        (given.0, given.1, by_passing own (alone (database old)) (Load load.relation load.file load.header) (LoadedLine count ∷ []) y.passes line),
-        outline_changed old new (sketched_at load.relation (with_ids count)) h.sketched,
+      let y : Yields own (state_with cs (database old)) load rows = given.2 cs old.pool shelf setting s in
+      let line : PrintsPassed own (bare (outline_of (state_with cs (database old)))) (Load load.relation load.file load.header) (LoadedLine count ∷ []) =
+      subst (λ (n : ℕ). PrintsPassed own (bare (outline_of (state_with cs (database old)))) (Load load.relation load.file load.header) (LoadedLine n ∷ [])) (sym h.counted) (rows_decide own None s.limits y h.plain) in (
+        (given.0, given.1, by_passing own (state_with cs (database old)) (Load load.relation load.file load.header) (LoadedLine count ∷ []) y.passes line),
+        outline_changed old new cs (sketched_at load.relation (with_ids count)) h.sketched,
       )
 
   -- a row was refused, or the outside refused
   pub refused_rows_decide : (w : Refusal) → LoadIsRefusedBy old load.relation rows w → IsRefusedPlainly old load.relation rows w → IsUnchanged old new
-      → IsDecided (Load load.relation load.file load.header) (moment_of old files shelf) (moment_of new files' shelf') (Refused w ∷ [])
+      → IsDecided (Load load.relation load.file load.header) (while_open old files shelf cs) (while_open new files' shelf' cs) (Refused w ∷ [])
   refused_rows_decide w h plain same = λ setting s.
       let own : Setting = record setting { files = given.0 } in
-      let y : Yields own (alone (database old)) load rows = given.2 old.pool shelf setting s in (
+      let y : Yields own (state_with cs (database old)) load rows = given.2 cs old.pool shelf setting s in (
         (given.0, given.1, by_refusal own s.limits y (load_late own old load.relation rows) w (h own (setting_with setting given.0 s.is) s.limits) plain),
-        outline_kept old new same.catalog,
+        outline_kept old new cs same.catalog,
       ) where
-        by_row : (own : Setting) → own.limits ≡ old.catalog.limits → Yields own (alone (database old)) load rows → (r : Refusal) → load_plain old load.relation rows ≡ Some r
-            → DecidesEarly own (bare (outline_of (alone (database old)))) (Load load.relation load.file load.header) (Refused r ∷ [])
-        by_row own limits y r k = by_passing own (alone (database old)) (Load load.relation load.file load.header) (Refused r ∷ []) y.passes (rows_decide own (Some r) limits y k)
+        by_row : (own : Setting) → own.limits ≡ old.catalog.limits → Yields own (state_with cs (database old)) load rows → (r : Refusal) → load_plain old load.relation rows ≡ Some r
+            → DecidesEarly own (bare (outline_of (state_with cs (database old)))) (Load load.relation load.file load.header) (Refused r ∷ [])
+        by_row own limits y r k = by_passing own (state_with cs (database old)) (Load load.relation load.file load.header) (Refused r ∷ []) y.passes (rows_decide own (Some r) limits y k)
 
-        none_other : (own : Setting) → Yields own (alone (database old)) load rows → (r : Refusal) → load_early old load.relation ≡ Some r → ⊥
+        none_other : (own : Setting) → Yields own (state_with cs (database old)) load rows → (r : Refusal) → load_early old load.relation ≡ Some r → ⊥
         none_other own y r k =
             let none : load_early old load.relation ≡ None = rw y.named refl in
             true≢false (sym (ap (λ (o : Option Refusal). is_some o) k) ∙ ap (λ (o : Option Refusal). is_some o) none)
 
-        by_refusal : (own : Setting) → own.limits ≡ old.catalog.limits → Yields own (alone (database old)) load rows → (behind : Option Refusal) (r : Refusal)
+        by_refusal : (own : Setting) → own.limits ≡ old.catalog.limits → Yields own (state_with cs (database old)) load rows → (behind : Option Refusal) (r : Refusal)
             → Refuses (IsTold old.pool) is_of_a_row (load_early old load.relation) behind r → IsRefusedPlainly old load.relation rows r
-            → DecidesEarly own (bare (outline_of (alone (database old)))) (Load load.relation load.file load.header) (Refused r ∷ [])
-        by_refusal own limits y behind why.Memory k p = by_memory own (alone (database old)) (Load load.relation load.file load.header)
-        by_refusal own limits y behind why.Device k p = by_behind own (alone (database old)) (Load load.relation load.file load.header) why.Device y.passes refl
-        by_refusal own limits y behind (why.Damaged page kept read) k p = by_behind own (alone (database old)) (Load load.relation load.file load.header) (why.Damaged page kept read) y.passes refl
-        by_refusal own limits y behind why.IndexFull k p = by_behind own (alone (database old)) (Load load.relation load.file load.header) why.IndexFull y.passes tt
+            → DecidesEarly own (bare (outline_of (state_with cs (database old)))) (Load load.relation load.file load.header) (Refused r ∷ [])
+        by_refusal own limits y behind why.Memory k p = by_memory own (state_with cs (database old)) (Load load.relation load.file load.header)
+        by_refusal own limits y behind why.Device k p = by_behind own (state_with cs (database old)) (Load load.relation load.file load.header) why.Device y.passes refl
+        by_refusal own limits y behind (why.Damaged page kept read) k p = by_behind own (state_with cs (database old)) (Load load.relation load.file load.header) (why.Damaged page kept read) y.passes refl
+        by_refusal own limits y behind why.IndexFull k p = by_behind own (state_with cs (database old)) (Load load.relation load.file load.header) why.IndexFull y.passes tt
         by_refusal own limits y behind why.WrongKind k p = by_row own limits y why.WrongKind p
         by_refusal own limits y behind why.TupleTooLong k p = by_row own limits y why.TupleTooLong p
         by_refusal own limits y behind why.IdsSpent k p = by_row own limits y why.IdsSpent p
         by_refusal own limits y behind r k p = absurd (none_other own y r k)
 
 -- an early check refuses, or the shelf fails
-pub unloaded_decides : (old : StoreState) (load : LoadOf) (files files' : Option Files) (shelf shelf' : ℕ) (w : Refusal) → InSettings old.catalog files (λ setting state. IsRefusedEarly setting state load w)
-    → IsDecided (Load load.relation load.file load.header) (moment_of old files shelf) (moment_of old files' shelf') (Refused w ∷ [])
-unloaded_decides old load files files' shelf shelf' w given = λ setting s. (
-  (given.0, given.1, by_refusal (record setting { files = given.0 }) w (given.2 old.pool shelf setting s)),
+pub unloaded_decides : (old : StoreState) (load : LoadOf) (cs : List Cursor) (files files' : Option Files) (shelf shelf' : ℕ) (w : Refusal) → InSettings old.catalog files (λ setting state. IsRefusedEarly setting state load w)
+    → IsDecided (Load load.relation load.file load.header) (while_open old files shelf cs) (while_open old files' shelf' cs) (Refused w ∷ [])
+unloaded_decides old load cs files files' shelf shelf' w given = λ setting s. (
+  (given.0, given.1, by_refusal (record setting { files = given.0 }) w (given.2 cs old.pool shelf setting s)),
   refl,
 ) where
-  by_refusal : (own : Setting) (r : Refusal) → IsRefusedEarly own (alone (database old)) load r
-      → DecidesEarly own (bare (outline_of (alone (database old)))) (Load load.relation load.file load.header) (Refused r ∷ [])
-  by_refusal own why.Memory k = by_memory own (alone (database old)) (Load load.relation load.file load.header)
-  by_refusal own why.File k = by_shelf own (alone (database old)) load.relation load.file load.header k
-  by_refusal own r k = by_early own (alone (database old)) (Load load.relation load.file load.header) r k
+  by_refusal : (own : Setting) (r : Refusal) → IsRefusedEarly own (state_with cs (database old)) load r
+      → DecidesEarly own (bare (outline_of (state_with cs (database old)))) (Load load.relation load.file load.header) (Refused r ∷ [])
+  by_refusal own why.Memory k = by_memory own (state_with cs (database old)) (Load load.relation load.file load.header)
+  by_refusal own why.File k = by_shelf own (state_with cs (database old)) load.relation load.file load.header k
+  by_refusal own r k = by_early own (state_with cs (database old)) (Load load.relation load.file load.header) r k

@@ -7,9 +7,8 @@ use Rattle.sand_base.specs.declared.refusal.Refusal.{Refusal}
 use Rattle.sand_base.specs.declared.refusal.Refusal.TheVariants as why
 use Rattle.sand_model.specs.Cursor.{OutputLine}
 use Rattle.sand_model.specs.OutputText.{IsText, is_refused}
-use Rattle.sand_store.specs.Calls.{HasCause}
 use Rattle.output_text.specs.Writing.{Writes, WritesPrefix}
-use Rattle.statement_exec.specs.Ending.{WritesUpTo, RisesByOne, PagesHaveCause, refused_line, is_refusal}
+use Rattle.statement_exec.specs.Ending.{IsCausedByPages, WritesUpTo, RisesByOne, PagesHaveCause, refused_line, is_refusal}
 use Rattle.statement_exec.specs.Printing.{Prints, PrintsSome}
 use Rattle.statement_exec.proofs.Texts.{writes_more, breaks_more}
 
@@ -54,8 +53,8 @@ module _ (P : List OutputLine → Type 0) (end : Option Refusal) (a b c : List �
 
 -- one fault at most was counted before the sink failed
 pub at_most_one : (E : Type 0) (old new : PoolState) (end : Option Refusal) → PagesHaveCause {E = E} old new (Ok end) → RisesByOne old.disk.faults new.disk.faults
-at_most_one E old new None h = inl h.counted
+at_most_one E old new None h = inl h
 at_most_one E old new (Some w) h = by_refusal w h where
-  by_refusal : (w : Refusal) → HasCause {T = ⊤} old new (Err w) → RisesByOne old.disk.faults new.disk.faults
+  by_refusal : (w : Refusal) → IsCausedByPages old new w → RisesByOne old.disk.faults new.disk.faults
   by_refusal why.Device h = inr h.counted
   by_refusal _ h = inl h.counted

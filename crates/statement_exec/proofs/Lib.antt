@@ -23,6 +23,7 @@ pub mod Texts
 pub mod LeafLoop
 -- the leaves of a column
 pub mod ColumnTrees
+pub mod PageCauses
 pub mod BlocksCalls
 pub mod Endings
 pub mod Written

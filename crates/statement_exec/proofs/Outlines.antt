@@ -17,7 +17,7 @@ use Rattle.sand_model.specs.Operators.{relations_of, kth}
 use Rattle.sand_model.specs.Plan as plan
 use Rattle.sand_model.specs.Plan.{Plan, Column, Place, Test, Scan}
 use Rattle.sand_model.specs.Statement.{Statement, Create, Insert, Delete, Load, Index as IndexOn, OpenCursor, Next, CloseCursor, Show, Stats, Blocks}
-use Rattle.sand_model.specs.StatementChecks.{Setting, FileRows, AreRows, HasBad, early, refused_where, in_relation, in_column, is_there, is_row_of, no_cursor, check_cursor, check_length, check_ids, check_load, check_records, check_depth, in_file, file_rows, most_cursors, longest_file}
+use Rattle.sand_model.specs.StatementChecks.{Setting, FileRows, AreRows, HasBad, early, refused_where, in_relation, in_column, is_there, is_row_of, check_cursor, check_length, check_ids, check_load, check_records, check_depth, in_file, file_rows, most_cursors, longest_file}
 use Rattle.sand_store.specs.Calls.{plain_checks, check_kinds}
 use Rattle.statement_exec.specs.Outline.{sketch_in, outline_of, bare, bare_relation}
 
@@ -246,35 +246,32 @@ cursor_shown (c ∷ cs) name =
 -- ---- statements
 
 module _ (state : State) where
-  none_open_shown : no_cursor (bare (outline_of state)) ≡ no_cursor state
-  none_open_shown = ap (λ (n : ℕ). refused_where (nat_lt 0 n) why.CursorsOpen) (cursors_counted state.cursors)
-
   open_shown : (name : List ℕ) → check_cursor (bare (outline_of state)) name ≡ check_cursor state name
   open_shown name = ap (λ (b : Bool). refused_where (not b) why.UnknownCursor) (cursor_shown state.cursors name)
 
   -- the checks of a load before its file is chosen
   pub load_shown : (name : List ℕ) → check_load (bare (outline_of state)) name ≡ check_load state name
-  load_shown name = ap₂ (λ (a b : Option Refusal). first_refusal (a ∷ b ∷ [])) (known_shown state.database name) none_open_shown
+  load_shown name = known_shown state.database name
 
   -- the early checks of a statement
   pub early_shown : (setting : Setting) (statement : Statement) → early setting (bare (outline_of state)) statement ≡ early setting state statement
   early_shown setting (Create name columns) =
       ap₂ (λ (a : Bool) (os : List (Option Refusal)). first_refusal (refused_where (a || has_twice (map (λ (column : List ℕ × Kind). column.0) columns)) why.NameTaken ∷ os)) (there_shown state.database name)
-      (ap₂ (λ (n : ℕ) (o : Option Refusal). refused_where (nat_le most_relations n) why.TooManyRelations ∷ o ∷ [])
-      (length-map (map sketch_in state.database) bare_relation ∙ length-map state.database sketch_in) none_open_shown)
+      (ap (λ (n : ℕ). refused_where (nat_le most_relations n) why.TooManyRelations ∷ [])
+      (length-map (map sketch_in state.database) bare_relation ∙ length-map state.database sketch_in))
   early_shown setting (Insert name row) =
       ap₂ (λ (a : Option Refusal) (os : List (Option Refusal)). first_refusal (a ∷ os))
       (relation_shown state.database name (λ relation. refused_where (not (is_row_of relation.schema row)) why.WrongKind) (λ r. refl))
-      (ap₂ (λ (a b : Option Refusal). a ∷ check_length row ∷ b ∷ []) none_open_shown (relation_shown state.database name (check_ids setting.limits) (λ r. refl)))
-  early_shown setting (Delete name id) = ap₂ (λ (a b : Option Refusal). first_refusal (a ∷ b ∷ [])) (known_shown state.database name) none_open_shown
+      (ap (λ (b : Option Refusal). check_length row ∷ b ∷ []) (relation_shown state.database name (check_ids setting.limits) (λ r. refl)))
+  early_shown setting (Delete name id) = known_shown state.database name
   early_shown setting (Load name file header) =
       ap₂ (λ (a b : Option Refusal). first_refusal (a ∷ in_file setting file (λ bytes. refused_where (nat_lt longest_file (length bytes)) why.FileTooLong) ∷ b ∷ [])) (load_shown name)
       (relation_shown state.database name (check_records setting file header) (λ r. records_shown setting file header r))
   early_shown setting (IndexOn column threshold) =
       ap₂ (λ (a : Option Refusal) (os : List (Option Refusal)). first_refusal (a ∷ os))
       (column_shown state.database column (λ relation kind. refused_where (is_there threshold && not (is_spatial kind)) why.WrongKind) (λ r k. refl))
-      (ap₂ (λ (a b : Option Refusal). a ∷ b ∷ [])
-      (column_shown state.database column (λ relation kind. refused_where (is_indexed relation column.column) why.IndexThere) (λ r k. ap (λ (b : Bool). refused_where b why.IndexThere) (indexed_shown r column.column))) none_open_shown)
+      (ap (λ (a : Option Refusal). a ∷ [])
+      (column_shown state.database column (λ relation kind. refused_where (is_indexed relation column.column) why.IndexThere) (λ r k. ap (λ (b : Bool). refused_where b why.IndexThere) (indexed_shown r column.column))))
   early_shown setting (OpenCursor name p) =
       ap₂ (λ (b : Bool) (os : List (Option Refusal)). first_refusal (refused_where b why.CursorNameTaken ∷ os)) (cursor_shown state.cursors name)
       (ap₂ (λ (a : Option Refusal) (n : ℕ). a ∷ refused_where (nat_le most_cursors n) why.TooManyCursors ∷ check_depth p ∷ []) (operators_shown state.database p) (cursors_counted state.cursors))

@@ -6,7 +6,7 @@ use Rattle.sand_base.specs.declared.refusal.Refusal.{Refusal}
 use Rattle.sand_base.specs.declared.refusal.Refusal.TheVariants as why
 use Rattle.sand_base.specs.declared.value.Value.{Value}
 use Rattle.page_pool.specs.Pool.{PoolState}
-use Rattle.sand_model.specs.Cursor.{State}
+use Rattle.sand_model.specs.Cursor.{Cursor, State}
 use Rattle.sand_model.specs.Database.{Relation, relation_named}
 use Rattle.sand_model.specs.Statement.{Load}
 use Rattle.sand_model.specs.StatementChecks.{Setting, early, check_load, file_rows}
@@ -36,10 +36,10 @@ IsRefusedEarly setting state load why.Memory = ⊤
 IsRefusedEarly setting state load why.File = check_load state load.relation ≡ None
 IsRefusedEarly setting state load refusal = early setting state (Load load.relation load.file load.header) ≡ Some refusal
 
--- in every setting of a moment without open cursors, over any pages, with the data files that were found
+-- in every setting of a moment, beside any open cursors and over any pages, with the data files that were found
 abbrev pub InSettings : CatalogView → Option Files → (Setting → State → Type 0) → Type 0
-InSettings catalog files P = OfFound files (λ found. (pool : PoolState) (shelf : ℕ) (setting : Setting) → IsSettingOf (beside [] catalog pool files shelf) setting
-    → P (record setting { files = found }) (beside [] catalog pool files shelf).state)
+InSettings catalog files P = OfFound files (λ found. (cs : List Cursor) (pool : PoolState) (shelf : ℕ) (setting : Setting) → IsSettingOf (beside cs catalog pool files shelf) setting
+    → P (record setting { files = found }) (beside cs catalog pool files shelf).state)
 
 -- the shelf's count after this refusal: one more where the shelf failed
 abbrev pub shelf_at : ℕ → Refusal → ℕ

@@ -5,6 +5,7 @@ use Rattle.page_pool.specs.Pool.{PoolState}
 use Rattle.sand_base.specs.declared.limits.Limits.{Limits}
 use Rattle.sand_base.specs.Shelf.{Files}
 use Rattle.sand_model.specs.Cursor.{State, Cursor}
+use Rattle.sand_model.specs.Database.{Database}
 use Rattle.sand_model.specs.Outcome.{Rises}
 use Rattle.sand_model.specs.StatementChecks.{Setting, IsSetting}
 use Rattle.sand_store.specs.Catalog.{CatalogView, StoreState}
@@ -19,10 +20,14 @@ pub record Moment : Type 0 where
   pub files : Option Files
   pub shelf : ℕ
 
+-- a database, while these cursors are open
+abbrev pub state_with : List Cursor → Database → State
+state_with cursors d = record { database = d; cursors = cursors }
+
 -- these cursors are open over a catalog and the pages of a pool
 abbrev pub beside : List Cursor → CatalogView → PoolState → Option Files → ℕ → Moment
 beside cursors catalog pool files shelf = record {
-  state = record { database = database_in pool.pages catalog.relations; cursors = cursors };
+  state = state_with cursors (database_in pool.pages catalog.relations);
   limits = catalog.limits;
   told = pool.disk.told;
   disk = pool.disk.faults;
@@ -30,9 +35,13 @@ beside cursors catalog pool files shelf = record {
   shelf = shelf;
 }
 
+-- the moment of a store and a shelf, while these cursors are open
+abbrev pub while_open : StoreState → Option Files → ℕ → List Cursor → Moment
+while_open store files shelf cs = beside cs store.catalog store.pool files shelf
+
 -- no cursor is open over a store
 abbrev pub moment_of : StoreState → Option Files → ℕ → Moment
-moment_of store files shelf = beside [] store.catalog store.pool files shelf
+moment_of store files shelf = while_open store files shelf []
 
 -- by how much the counts rose
 abbrev pub rises_between : Moment → Moment → Rises

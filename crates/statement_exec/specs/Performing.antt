@@ -3,14 +3,14 @@ use Rattle.std.specs.Prelude.{ℕ, ◌<◌, IsTrue, List, [], ◌∷◌, Option,
 use Rattle.sand_base.specs.Faults.{last_count}
 use Rattle.sand_base.specs.Shelf.{Files}
 use Rattle.sand_base.specs.declared.refusal.Refusal.{Refusal}
-use Rattle.sand_model.specs.Cursor.{State, OutputLine, Accepted, Id, Loaded, Refused}
+use Rattle.sand_model.specs.Cursor.{Cursor, State, OutputLine, Accepted, Id, Loaded, Refused}
 use Rattle.sand_model.specs.Outcome.{Rises, Outcome}
 use Rattle.sand_model.specs.Statement.{Statement, Load}
 use Rattle.sand_model.specs.StatementChecks.{Setting}
 use Rattle.sand_store.specs.Catalog.{StoreState}
 use Rattle.statement_exec.specs.Causes.{AreCaused}
 use Rattle.statement_exec.specs.Deciding.{Decides}
-use Rattle.statement_exec.specs.Moment.{AreTold, Moment, moment_of, rises_between, IsSettingOf}
+use Rattle.statement_exec.specs.Moment.{AreTold, Moment, while_open, rises_between, IsSettingOf}
 use Rattle.statement_exec.specs.Outline.{outline_of}
 use Rattle.statement_exec.specs.declared.reply.Reply.{Reply}
 use Rattle.statement_exec.specs.declared.reply.Reply.TheVariants as reply
@@ -46,7 +46,7 @@ abbrev pub line_of_answer : Result Reply Refusal → OutputLine
 line_of_answer (Ok reply) = line_of reply
 line_of_answer (Err refusal) = Refused refusal
 
--- a statement that touches no data file was carried out on a store and was answered so, whatever the shelf
+-- a statement that touches no data file was carried out on a store and was answered so, whatever cursors are open and whatever the shelf
 abbrev pub Changes : Statement → StoreState → StoreState → Result Reply Refusal → Type 0
 Changes statement old new answer =
-    (files : Option Files) (shelf : ℕ) → Performs statement (moment_of old files shelf) (moment_of new files shelf) (line_of_answer answer ∷ [])
+    (cs : List Cursor) (files : Option Files) (shelf : ℕ) → Performs statement (while_open old files shelf cs) (while_open new files shelf cs) (line_of_answer answer ∷ [])

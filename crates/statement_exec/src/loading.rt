@@ -1,10 +1,11 @@
-ghost use Rattle.std.specs.Prelude.{◌≡◌, All, IfOk, IfErr, [], ◌∷◌};
+ghost use Rattle.std.specs.Prelude.{◌≡◌, All, IfOk, IfErr, List, [], ◌∷◌};
 ghost use Rattle.sand_base.specs.InRange.{IsRowInRange};
+ghost use Rattle.sand_model.specs.Cursor.{Cursor};
 ghost use Rattle.sand_model.specs.Statement.{Load};
 ghost use Rattle.sand_store.specs.Calls.{Carries, HasCause};
 ghost use Rattle.sand_store.specs.Catalog.{IsCatalog};
 ghost use Rattle.statement_exec.specs.Loading.{InSettings, IsOfNoPage, IsRefusedEarly, Yields, shelf_after};
-ghost use Rattle.statement_exec.specs.Moment.{moment_of};
+ghost use Rattle.statement_exec.specs.Moment.{while_open};
 ghost use Rattle.statement_exec.specs.Performing.{Performs, line_of_answer};
 
 use crate::Reply;
@@ -49,7 +50,7 @@ pub fn load<D: Disk, H: Shelf>(
     file: &Label,
     header: bool,
 ) -> Result<Reply, Refusal>
-    ensures performs { Performs (Load name.now file.now header) (moment_of store.old (H.files shelf.old) (H.faults shelf.old)) (moment_of store.new (H.files shelf.new) (H.faults shelf.new)) (line_of_answer result ∷ []) }
+    ensures performs { (cs : List Cursor) → Performs (Load name.now file.now header) (while_open store.old (H.files shelf.old) (H.faults shelf.old) cs) (while_open store.new (H.files shelf.new) (H.faults shelf.new) cs) (line_of_answer result ∷ []) }
     ensures carries { Carries store.old store.new }
     ensures cause { HasCause store.old.pool store.new.pool result }
     ensures files { H.files shelf.new ≡ H.files shelf.old }

@@ -1,7 +1,7 @@
 -- what a line says, carried out
 use Rattle.open_cursors.specs.OverPages.{StandOver}
 use Rattle.line_exec.proofs.LineSteps.{line_of_nothing, line_of_refusal}
-use Rattle.line_exec.specs.LineCarried.{while_open}
+use Rattle.statement_exec.specs.Moment.{while_open}
 use Rattle.line_exec.proofs.line.carry_line.Goals as goal
 
 -- what its statement does

@@ -5,19 +5,20 @@ use Rattle.plan_rows.specs.Rows.{counts_of}
 use Rattle.open_cursors.proofs.CursorNumbers.{numbers_none, numbers_named}
 use Rattle.open_cursors.proofs.NamedCursors.{first_shown, none_shown}
 use Rattle.open_cursors.proofs.OpenNames.{open_at, open_none}
+use Rattle.open_cursors.specs.OpenCursors.{AtStamp}
 use Rattle.open_cursors.proofs.numbers.stats_of.Goals as goal
 
 pub returns-in_default-clause-numbers : goal.returns-in_default-clause-numbers
-returns-in_default-clause-numbers g c = λ pages cs own h.
-    numbers_none (λ r. IsAt g.S.RowSource.At g.T.RowStage.Stands g.T.RowStage.closed (λ s. counts_of (g.S.RowSource.seen s)) r) pages c.args.cursors.now cs c.args.name.now h
+returns-in_default-clause-numbers g c = λ stamps cs own h.
+    numbers_none (AtStamp (λ r. IsAt g.S.RowSource.At g.T.RowStage.Stands g.T.RowStage.closed (λ s. counts_of (g.S.RowSource.seen s)) r)) stamps c.args.cursors.now cs c.args.name.now h
     (none_shown c.args.cursors.now c.args.cursors.now c.as_str.result.now c.args.name.now c.place_of.result c.place_of.ensures c.as_str.ensures refl c.in_default.is)
 
 pub returns-clause-numbers : goal.returns-clause-numbers
-returns-clause-numbers g c = λ pages cs own h.
-    numbers_named (λ r. IsAt g.S.RowSource.At g.T.RowStage.Stands g.T.RowStage.closed (λ s. counts_of (g.S.RowSource.seen s)) r) pages c.args.cursors.now cs c.args.name.now h
+returns-clause-numbers g c = λ stamps cs own h.
+    numbers_named (AtStamp (λ r. IsAt g.S.RowSource.At g.T.RowStage.Stands g.T.RowStage.closed (λ s. counts_of (g.S.RowSource.seen s)) r)) stamps c.args.cursors.now cs c.args.name.now h
     c.in-Some.at c.index-cursors-at.result c.stats.result c.index-cursors-at.is
     (first_shown c.args.cursors.now c.args.cursors.now c.as_str.result.now c.args.name.now c.place_of.result c.in-Some.at c.place_of.ensures c.as_str.ensures refl c.in-Some.is) own
-    (c.stats.ensures.stands pages)
+    (λ m at. c.stats.ensures.stands at.0.pages m at.2)
 
 -- the names alone decide, whatever the pages
 pub returns-in_default-clause-known : goal.returns-in_default-clause-known

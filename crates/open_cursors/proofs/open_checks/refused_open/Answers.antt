@@ -10,6 +10,7 @@ use Rattle.plan_rows.specs.Rows.{counts_of}
 use Rattle.sand_store.specs.Contents.{database_in}
 use Rattle.open_cursors.proofs.NamedCursors.{first_shown, none_shown}
 use Rattle.open_cursors.proofs.OpenNames.{stand_named}
+use Rattle.open_cursors.specs.OpenCursors.{AtStamp}
 use Rattle.statement_exec.proofs.PlanChecks.{operators_refuse, depth_refuses}
 use Rattle.open_cursors.proofs.OpenChecks.{open_taken, open_unchecked, open_many, open_deep}
 use Rattle.open_cursors.proofs.open_checks.refused_open.Goals as goal
@@ -41,24 +42,24 @@ returns-in-Err-check_depth-clause-names g c = λ pages cs all setting.
 
 -- cursors that stand have the names
 pub returns-in-Some-clause-checks : goal.returns-in-Some-clause-checks
-returns-in-Some-clause-checks g c = λ pages cs all. returns-in-Some-clause-names g c pages cs
-    (stand_named (λ r. IsAt g.S.RowSource.At g.T.RowStage.Stands g.T.RowStage.closed (λ s. counts_of (g.S.RowSource.seen s)) r) pages c.args.cursors.now cs all)
+returns-in-Some-clause-checks g c = λ stamps pages cs all. returns-in-Some-clause-names g c pages cs
+    (stand_named (AtStamp (λ r. IsAt g.S.RowSource.At g.T.RowStage.Stands g.T.RowStage.closed (λ s. counts_of (g.S.RowSource.seen s)) r)) stamps c.args.cursors.now cs all)
 
 pub returns-in-Err-clause-checks : goal.returns-in-Err-clause-checks
-returns-in-Err-clause-checks g c = λ pages cs all. returns-in-Err-clause-names g c pages cs
-    (stand_named (λ r. IsAt g.S.RowSource.At g.T.RowStage.Stands g.T.RowStage.closed (λ s. counts_of (g.S.RowSource.seen s)) r) pages c.args.cursors.now cs all)
+returns-in-Err-clause-checks g c = λ stamps pages cs all. returns-in-Err-clause-names g c pages cs
+    (stand_named (AtStamp (λ r. IsAt g.S.RowSource.At g.T.RowStage.Stands g.T.RowStage.closed (λ s. counts_of (g.S.RowSource.seen s)) r)) stamps c.args.cursors.now cs all)
 
 pub returns-then-cursors-ge-MOST_CURSORS-clause-checks : goal.returns-then-cursors-ge-MOST_CURSORS-clause-checks
-returns-then-cursors-ge-MOST_CURSORS-clause-checks g c = λ pages cs all. returns-then-cursors-ge-MOST_CURSORS-clause-names g c pages cs
-    (stand_named (λ r. IsAt g.S.RowSource.At g.T.RowStage.Stands g.T.RowStage.closed (λ s. counts_of (g.S.RowSource.seen s)) r) pages c.args.cursors.now cs all)
+returns-then-cursors-ge-MOST_CURSORS-clause-checks g c = λ stamps pages cs all. returns-then-cursors-ge-MOST_CURSORS-clause-names g c pages cs
+    (stand_named (AtStamp (λ r. IsAt g.S.RowSource.At g.T.RowStage.Stands g.T.RowStage.closed (λ s. counts_of (g.S.RowSource.seen s)) r)) stamps c.args.cursors.now cs all)
 
 pub returns-in-Ok-clause-checks : goal.returns-in-Ok-clause-checks
-returns-in-Ok-clause-checks g c = λ pages cs all. returns-in-Ok-clause-names g c pages cs
-    (stand_named (λ r. IsAt g.S.RowSource.At g.T.RowStage.Stands g.T.RowStage.closed (λ s. counts_of (g.S.RowSource.seen s)) r) pages c.args.cursors.now cs all)
+returns-in-Ok-clause-checks g c = λ stamps pages cs all. returns-in-Ok-clause-names g c pages cs
+    (stand_named (AtStamp (λ r. IsAt g.S.RowSource.At g.T.RowStage.Stands g.T.RowStage.closed (λ s. counts_of (g.S.RowSource.seen s)) r)) stamps c.args.cursors.now cs all)
 
 pub returns-in-Err-check_depth-clause-checks : goal.returns-in-Err-check_depth-clause-checks
-returns-in-Err-check_depth-clause-checks g c = λ pages cs all. returns-in-Err-check_depth-clause-names g c pages cs
-    (stand_named (λ r. IsAt g.S.RowSource.At g.T.RowStage.Stands g.T.RowStage.closed (λ s. counts_of (g.S.RowSource.seen s)) r) pages c.args.cursors.now cs all)
+returns-in-Err-check_depth-clause-checks g c = λ stamps pages cs all. returns-in-Err-check_depth-clause-names g c pages cs
+    (stand_named (AtStamp (λ r. IsAt g.S.RowSource.At g.T.RowStage.Stands g.T.RowStage.closed (λ s. counts_of (g.S.RowSource.seen s)) r)) stamps c.args.cursors.now cs all)
 
 pub returns-in-Err-clause-of_check : goal.returns-in-Err-clause-of_check
 returns-in-Err-clause-of_check g c =

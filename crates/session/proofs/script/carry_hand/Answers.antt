@@ -1,7 +1,8 @@
 -- a line that is too long
-use Rattle.line_exec.specs.LineCarried.{while_open}
+use Rattle.line_exec.specs.LineCarried.{LineCarried}
 use Rattle.open_cursors.specs.OverPages.{StandOver}
 use Rattle.session.proofs.LongLines.{long_line}
+use Rattle.statement_exec.specs.Moment.{while_open}
 use Rattle.session.proofs.script.carry_hand.Goals as goal
 
 pub returns-then-is_long-clause-carried : goal.returns-then-is_long-clause-carried

@@ -1,10 +1,10 @@
 -- before the first line, after one more line, and the ways in which the lines end
 use Rattle.std.proofs.Common.{◌≡◌, ◌||◌, Bool, false, Result, refl, sym, ap, ◌∙◌, subst}
 use Rattle.line_exec.proofs.Moments.{are_standing}
-use Rattle.line_exec.specs.LineCarried.{LineCarried, while_open}
+use Rattle.line_exec.specs.LineCarried.{LineCarried}
 use Rattle.open_cursors.specs.OverPages.{StandOver}
 use Rattle.sand_base.specs.declared.source.Failed.{Failed}
-use Rattle.statement_exec.specs.Moment.{moment_of}
+use Rattle.statement_exec.specs.Moment.{moment_of, while_open}
 use Rattle.session.specs.Ends.{source_after}
 use Rattle.session.specs.OpenRun.{spot_of}
 use Rattle.session.specs.RunStates.{run_state}
@@ -14,7 +14,7 @@ use Rattle.session.proofs.script.carry_script.Goals as goal
 
 pub lines-init : goal.lines-init
 lines-init g c = (
-  OpenRun-begin c.args.lines.now (g.S.Source.left c.args.script.now) c.args.store (g.H.Shelf.files c.args.shelf.now) (g.H.Shelf.faults c.args.shelf.now) c.args.cursors.now.items (g.K.Sink.took c.args.out.now) c.requires.begun c.requires.none,
+  OpenRun-begin c.args.lines.now (g.S.Source.left c.args.script.now) c.args.store (g.H.Shelf.files c.args.shelf.now) (g.H.Shelf.faults c.args.shelf.now) c.args.cursors.now.items (g.K.Sink.took c.args.out.now) c.requires.begun c.requires.none c.requires.held,
   record { of_source = refl; of_sink = refl },
 )
 
@@ -22,7 +22,7 @@ lines-init g c = (
 pub carry_hand-next-requires : goal.carry_hand-next-requires
 carry_hand-next-requires g c = record {
   short = c.in-Ok.ensures.draws.0;
-  stands = are_standing c.lines.now.pool c.lines.cursors.items c.lines.invariant.0.cs c.lines.invariant.0.stand;
+  stands = are_standing c.lines.now.pool c.lines.cursors.items c.lines.invariant.0.cs c.lines.invariant.0.held c.lines.invariant.0.stand;
 }
 
 -- no more lines
@@ -42,7 +42,7 @@ lines-preserved-then-refused g c = (
       c.in-Ok-done.refusal c.lines.refused
       (subst (λ (r : Result Bool Failed). LineCarried c.draw.new.lines.line (while_open c.lines.now (g.H.Shelf.files c.lines.shelf) (g.H.Shelf.faults c.lines.shelf)) (while_open c.carry_hand-next.result.0 (g.H.Shelf.files c.carry_hand-next.new.shelf) (g.H.Shelf.faults c.carry_hand-next.new.shelf))
       c.lines.invariant.0.cs (g.K.Sink.took c.lines.out) (g.K.Sink.took c.carry_hand-next.new.out) r (StandOver c.carry_hand-next.result.0.pool c.carry_hand-next.new.cursors.items)) c.in-Ok-done.is (c.carry_hand-next.ensures.carried c.lines.invariant.0.cs c.lines.invariant.0.own (rows_counted (run_state c.args.lines.now (g.S.Source.left c.args.script.now) (moment_of c.args.store (g.H.Shelf.files c.args.shelf.now) (g.H.Shelf.faults c.args.shelf.now)) false) (g.K.Sink.took c.args.out.now) (spot_of c.lines.lines (g.S.Source.left c.lines.script) c.lines.now (g.H.Shelf.files c.lines.shelf) (g.H.Shelf.faults c.lines.shelf) c.lines.cursors.items c.lines.refused (g.K.Sink.took c.lines.out)) c.lines.invariant.0 c.draw.new.lines (g.S.Source.left c.draw.new.script) c.in-Ok.is_long c.in-Ok.ensures.draws) c.lines.invariant.0.stand))
-      (c.if-refused.true ∙ sym (ap (λ b. b || c.in-Ok-done.refusal) c.if-refused.true)),
+      c.carry_hand-next.ensures.held (c.if-refused.true ∙ sym (ap (λ b. b || c.in-Ok-done.refusal) c.if-refused.true)),
   record {
     of_source = c.in-Ok.ensures.cause ∙ c.lines.invariant.1.of_source;
     of_sink = on_ok (g.K.Sink.faults c.carry_hand-next.new.out ≡ g.K.Sink.faults c.lines.out) c.carry_hand-next.result.1 c.in-Ok-done.refusal c.in-Ok-done.is c.carry_hand-next.ensures.sink.done ∙ c.lines.invariant.1.of_sink;
@@ -56,7 +56,7 @@ lines-preserved g c = (
       c.in-Ok-done.refusal c.in-Ok-done.refusal
       (subst (λ (r : Result Bool Failed). LineCarried c.draw.new.lines.line (while_open c.lines.now (g.H.Shelf.files c.lines.shelf) (g.H.Shelf.faults c.lines.shelf)) (while_open c.carry_hand-next.result.0 (g.H.Shelf.files c.carry_hand-next.new.shelf) (g.H.Shelf.faults c.carry_hand-next.new.shelf))
       c.lines.invariant.0.cs (g.K.Sink.took c.lines.out) (g.K.Sink.took c.carry_hand-next.new.out) r (StandOver c.carry_hand-next.result.0.pool c.carry_hand-next.new.cursors.items)) c.in-Ok-done.is (c.carry_hand-next.ensures.carried c.lines.invariant.0.cs c.lines.invariant.0.own (rows_counted (run_state c.args.lines.now (g.S.Source.left c.args.script.now) (moment_of c.args.store (g.H.Shelf.files c.args.shelf.now) (g.H.Shelf.faults c.args.shelf.now)) false) (g.K.Sink.took c.args.out.now) (spot_of c.lines.lines (g.S.Source.left c.lines.script) c.lines.now (g.H.Shelf.files c.lines.shelf) (g.H.Shelf.faults c.lines.shelf) c.lines.cursors.items c.lines.refused (g.K.Sink.took c.lines.out)) c.lines.invariant.0 c.draw.new.lines (g.S.Source.left c.draw.new.script) c.in-Ok.is_long c.in-Ok.ensures.draws) c.lines.invariant.0.stand))
-      (sym (ap (λ b. b || c.in-Ok-done.refusal) c.if-refused.false)),
+      c.carry_hand-next.ensures.held (sym (ap (λ b. b || c.in-Ok-done.refusal) c.if-refused.false)),
   record {
     of_source = c.in-Ok.ensures.cause ∙ c.lines.invariant.1.of_source;
     of_sink = on_ok (g.K.Sink.faults c.carry_hand-next.new.out ≡ g.K.Sink.faults c.lines.out) c.carry_hand-next.result.1 c.in-Ok-done.refusal c.in-Ok-done.is c.carry_hand-next.ensures.sink.done ∙ c.lines.invariant.1.of_sink;

@@ -1,7 +1,0 @@
--- a row of another length is not of the schema
-use Rattle.std.proofs.Common.{sym}
-use Rattle.open_cursors.proofs.RowKinds.{kinds_apart}
-use Rattle.open_cursors.proofs.insert_checks.is_of_columns.Goals as goal
-
-pub returns-then-columns-values : goal.returns-then-columns-values
-returns-then-columns-values c = sym (kinds_apart c.args.columns.now c.args.values.now c.if-columns-values.true)
