@@ -140,11 +140,7 @@ fn plan(alloc: Global, taking: &Taking) -> Result<u64, Trouble> {
 }
 
 // Prints a line for each of these.
-fn plans(
-    rt: &(impl Print + AllocGlobal),
-    shows: bool,
-    table: &[(&str, Taking)],
-) -> io::Result<()> {
+fn plans(rt: &(impl Print + AllocGlobal), shows: bool, table: &[(&str, Taking)]) -> io::Result<()> {
     for (name, taking) in table {
         tell(rt, shows, name, &plan(rt.alloc(), taking))?;
     }

@@ -62,8 +62,8 @@ next_beside catalog old new read name count a b r xs ys cs own named carried =
     let Carried : StampMap → Type 0 = λ stamps. (ks : List Cursor) → HaveOwnNames ks → StandAll PlanAt stamps xs ks → (k : CatalogView) → CarriesBeside (Next name count) k old new ks a b r (StandAll PlanAt stamps ys) in
     over_pool catalog old new (Next name count) a b r xs ys cs read.told (λ untold names. named untold cs own names catalog)
     (λ told all.
-        let here : Carried old.stamps = told_here old Carried told carried in
-        subst (λ (m : StampMap). CarriesBeside (Next name count) catalog old new cs a b r (StandAll PlanAt m ys)) (sym read.stamps) (here cs own all catalog))
+    let here : Carried old.stamps = told_here old Carried told carried in
+    subst (λ (m : StampMap). CarriesBeside (Next name count) catalog old new cs a b r (StandAll PlanAt m ys)) (sym read.stamps) (here cs own all catalog))
 
 -- which maps are held, and how many images are kept, is nothing of what a statement does
 pub kept_pool : (catalog : CatalogView) (old new : PoolState) (statement : Statement) (a b : List ℕ → Type 0) (r : Result Bool Failed) (cs : List Cursor) (At : List Cursor → Type 0)

@@ -16,10 +16,10 @@ ghost use Rattle.open_cursors.specs.PlanCursors.{ChecksOf, OpensOf, PlanAt, Plan
 
 use crate::OpenCursor;
 use crate::open_checks::refused_open;
-use plan_ops::{Running, Source, Stage};
-use sand_base::{Failed, Label, NoMemory, Refusal, Sink};
 use page_pool::Disk;
 use plan_cursor::RowCursor;
+use plan_ops::{Running, Source, Stage};
+use sand_base::{Failed, Label, NoMemory, Refusal, Sink};
 use sand_store::Store;
 use script_text::Plan;
 use statement_exec::{Reply, finish};

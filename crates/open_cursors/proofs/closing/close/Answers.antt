@@ -23,9 +23,9 @@ returns-in_default-clause-closes g c = λ cs own h.
 pub release-requires : goal.release-requires
 release-requires g c = record {
   held =
-    held_key c.args.store.now.pool.stamps c.remove-ended.result.stamp
-    (held_in_hand c.args.store.now.pool.stamps c.args.cursors.now.items (λ x. same_name x.name c.args.name.now) c.in-Some.at c.remove-ended.result c.remove-ended.ensures.value c.requires.held
-    (first_shown c.deref.result.now c.args.cursors.now.items c.as_str.result.now c.args.name.now c.place_of.result c.in-Some.at c.place_of.ensures c.as_str.ensures c.deref.ensures.value c.in-Some.is));
+      held_key c.args.store.now.pool.stamps c.remove-ended.result.stamp
+      (held_in_hand c.args.store.now.pool.stamps c.args.cursors.now.items (λ x. same_name x.name c.args.name.now) c.in-Some.at c.remove-ended.result c.remove-ended.ensures.value c.requires.held
+      (first_shown c.deref.result.now c.args.cursors.now.items c.as_str.result.now c.args.name.now c.place_of.result c.in-Some.at c.place_of.ensures c.as_str.ensures c.deref.ensures.value c.in-Some.is));
 }
 
 -- the others stand by the stamps that are left

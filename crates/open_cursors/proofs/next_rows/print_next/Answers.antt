@@ -38,7 +38,7 @@ index_mut-open-requires g c =
 pub part_at-catalog-requires : goal.part_at-catalog-requires
 part_at-catalog-requires g c = record {
   held = held_key c.args.store.pool.stamps c.index_mut-open.result.now.stamp
-    (held_in_hand c.args.store.pool.stamps c.args.cursors.now.items (λ x. same_name x.name c.args.name.now) c.in-Some.at c.index_mut-open.result.now c.index_mut-open.ensures.value c.requires.held (first_shown c.deref.result.now c.args.cursors.now.items c.as_str.result.now c.args.name.now c.place_of.result c.in-Some.at c.place_of.ensures c.as_str.ensures c.deref.ensures.value c.in-Some.is));
+      (held_in_hand c.args.store.pool.stamps c.args.cursors.now.items (λ x. same_name x.name c.args.name.now) c.in-Some.at c.index_mut-open.result.now c.index_mut-open.ensures.value c.requires.held (first_shown c.deref.result.now c.args.cursors.now.items c.as_str.result.now c.args.name.now c.place_of.result c.in-Some.at c.place_of.ensures c.as_str.ensures c.deref.ensures.value c.in-Some.is));
 }
 
 -- the desk shows the map that the cursor's stamp holds

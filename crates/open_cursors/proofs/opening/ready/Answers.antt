@@ -7,12 +7,12 @@ use Rattle.open_cursors.proofs.opening.ready.Goals as goal
 pub returns-in-Some-clause-checks : goal.returns-in-Some-clause-checks
 returns-in-Some-clause-checks g c = λ stamps pages cs all.
     inr (checks_given c.args.store.now.catalog c.catalog.result.now c.args.cursors.now c.args.cursors.now c.args.name.now (plan_value c.args.plan.now) c.refused_open.result (Some c.in-Some.why)
-      c.catalog.ensures.catalog refl c.in-Some.is c.refused_open.ensures.checks stamps pages cs all)
+    c.catalog.ensures.catalog refl c.in-Some.is c.refused_open.ensures.checks stamps pages cs all)
 
 pub returns-in-Some-clause-names : goal.returns-in-Some-clause-names
 returns-in-Some-clause-names g c = λ pages cs all.
     inr (checks_named c.args.store.now.catalog c.catalog.result.now c.args.cursors.now c.args.cursors.now c.args.name.now (plan_value c.args.plan.now) c.refused_open.result (Some c.in-Some.why)
-      c.catalog.ensures.catalog refl c.in-Some.is c.refused_open.ensures.names pages cs all)
+    c.catalog.ensures.catalog refl c.in-Some.is c.refused_open.ensures.names pages cs all)
 
 pub returns-in-Err-clause-checks : goal.returns-in-Err-clause-checks
 returns-in-Err-clause-checks g c = λ stamps pages cs all. inl refl
@@ -29,12 +29,12 @@ returns-in-Err-copy-clause-names g c = λ pages cs all. inl refl
 pub returns-in-Ok-copy-clause-checks : goal.returns-in-Ok-copy-clause-checks
 returns-in-Ok-copy-clause-checks g c = λ stamps pages cs all.
     checks_given c.args.store.now.catalog c.catalog.result.now c.args.cursors.now c.args.cursors.now c.args.name.now (plan_value c.args.plan.now) c.refused_open.result None
-      c.catalog.ensures.catalog refl c.in_default.is c.refused_open.ensures.checks stamps pages cs all
+    c.catalog.ensures.catalog refl c.in_default.is c.refused_open.ensures.checks stamps pages cs all
 
 pub returns-in-Ok-copy-clause-names : goal.returns-in-Ok-copy-clause-names
 returns-in-Ok-copy-clause-names g c = λ pages cs all.
     checks_named c.args.store.now.catalog c.catalog.result.now c.args.cursors.now c.args.cursors.now c.args.name.now (plan_value c.args.plan.now) c.refused_open.result None
-      c.catalog.ensures.catalog refl c.in_default.is c.refused_open.ensures.names pages cs all
+    c.catalog.ensures.catalog refl c.in_default.is c.refused_open.ensures.names pages cs all
 
 pub returns-in-Ok-copy-clause-begun : goal.returns-in-Ok-copy-clause-begun
 returns-in-Ok-copy-clause-begun g c = (
