@@ -1,4 +1,5 @@
 pub mod Maps
+pub mod Noted
 pub mod Places
 pub mod Cached
 pub mod Queued

@@ -22,13 +22,14 @@ refused_same T U count (Damaged page kept read) = refl
 
 module _ (a b : ArchiveState) (staged : StagedState) (frames frames' : CacheState) (numbers : NumbersState) (is_open : Bool) (gets gets' refused refused' slot n : ℕ) (f : ImageMap)
     (held : map.get a.stamps slot ≡ Some f) (early : f.at < a.begun) (read : IsReadArchive a b) where
+  -- the pool as it is before the get, and after it
   abbrev before : PoolState
   before = state_of a staged frames numbers is_open gets refused
 
   abbrev after : PoolState
   after = state_of b staged frames' numbers is_open gets' refused'
 
-  -- the stamp is held afterwards
+  -- the stamp is held afterwards, and is of an earlier command still
   still_held : map.get b.stamps slot ≡ Some f
   still_held = ap (λ x. map.get x.stamps slot) read.same ∙ held
 

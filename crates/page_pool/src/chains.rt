@@ -1,5 +1,5 @@
-// Where the replaced images of a page lie, the last one first, to be looked at before all images are gone through. No clause
-// speaks of it: a place that is wrong or isn't there costs time alone.
+// Where the replaced images of a page lie that a stamp saw as they were replaced, the last one first, to be looked at before all
+// images are gone through. No clause speaks of it: a place that is wrong or isn't there costs time alone.
 use crate::table::Table;
 use sand_base::NoMemory;
 use std::alloc::Global;
@@ -16,6 +16,14 @@ pub(crate) struct Chains {
 fn found(table: &Table<u32>, at: u64) -> Option<u64> {
     match table.get(at) {
         Some(number) => Some(u64::from(*number)),
+        None => None,
+    }
+}
+
+// The number that the table had here, which is taken out.
+fn taken(table: &mut Table<u32>, at: u64) -> Option<u64> {
+    match table.take(at) {
+        Some(number) => Some(u64::from(number)),
         None => None,
     }
 }
@@ -62,13 +70,14 @@ impl Chains {
         set(&mut self.last, n, Some(place))
     }
 
-    /// No image of the page lies at the place.
+    /// No image of the page lies at the place, whether one was added there or not.
     pub(crate) fn remove(&mut self, n: u64, place: u64) -> Result<(), NoMemory> {
-        let earlier = self.earlier(place);
-        let later = found(&self.later, place);
+        let earlier = taken(&mut self.earlier, place);
+        let later = taken(&mut self.later, place);
         match later {
             Some(later) => set(&mut self.earlier, later, earlier)?,
-            None => set(&mut self.last, n, earlier)?,
+            None if self.last(n) == Some(place) => set(&mut self.last, n, earlier)?,
+            None => return Ok(()),
         }
         match earlier {
             Some(earlier) => set(&mut self.later, earlier, later),

@@ -2,19 +2,18 @@ ghost use Rattle.std.specs.Prelude.{◌≡◌, OnOk, OnErr};
 ghost use Rattle.std.specs.FinMap as map;
 ghost use Rattle.std.specs.Option.{option_copied};
 
+use crate::table::Table;
 use sand_base::NoMemory;
 use std::alloc::Global;
-use std::collections::BTreeMap;
 use std::marker::Model;
 
-/// The digest of what was last written at each place.
+/// The digest of what was last written at each place, in a table by place.
 #[derive(Drop)]
 pub(crate) struct Digests {
-    kept: BTreeMap<u64, [u8; 32]>,
+    kept: Table<[u8; 32]>,
 }
 
 impl Model for Digests {
-    ghost use Rattle.std.specs.FinMap as map;
     ghost use Rattle.page_pool.specs.Disk.{DigestMap};
     ghost use Rattle.page_pool.specs.Inside.{page_map_code};
 
@@ -22,7 +21,7 @@ impl Model for Digests {
 
     ghost coded = { page_map_code };
 
-    ghost view = { λ a. map.from_entries a.kept.entries };
+    ghost view = { λ a. a.kept };
 }
 
 impl Digests {
@@ -30,27 +29,20 @@ impl Digests {
         ensures { result ≡ map.empty }
     {
         Digests {
-            kept: BTreeMap::new(alloc),
+            kept: Table::new(alloc),
         }
     }
 
     pub(crate) fn get(&self, place: u64) -> Option<&[u8; 32]>
         ensures { option_copied result ≡ map.get self.now place }
     {
-        self.kept.get(&place)
+        self.kept.get(place)
     }
 
     pub(crate) fn insert(&mut self, place: u64, digest: [u8; 32]) -> Result<(), NoMemory>
         ensures kept { OnOk result (self.new ≡ map.insert self.old place digest) }
         ensures unchanged { OnErr result (self.new ≡ self.old) }
     {
-        self.kept.insert(place, digest)?;
-        Ok(())
-    }
-
-    pub(crate) fn remove(&mut self, place: u64)
-        ensures { self.new ≡ map.remove self.old place }
-    {
-        self.kept.remove(&place);
+        self.kept.insert(place, digest)
     }
 }

@@ -206,7 +206,8 @@ impl Images {
         ensures whole { IsImages self.new }
     {
         let made = self.begun;
-        self.past.insert(home.place, home.replaced(n, made))?;
+        self.past
+            .insert(home.place, home.replaced(n, made), &self.held)?;
         match self.homes.insert(n, Home { place, made }) {
             Ok(()) => {
                 self.past.remove(place);
@@ -244,7 +245,8 @@ impl Images {
         ensures whole { IsImages self.new }
     {
         let begun = self.begun;
-        self.past.insert(home.place, home.replaced(n, begun))?;
+        self.past
+            .insert(home.place, home.replaced(n, begun), &self.held)?;
         self.homes.take(n);
         self.changed = begun;
         self.start.set(self.start.get().min(home.place));

@@ -1,8 +1,9 @@
-ghost use Rattle.std.specs.Prelude.{◌≡◌, ℕ, Some, None, IfSome, IfNone, IsSomeAnd, OnOk, OnErr, true, false};
+ghost use Rattle.std.specs.Prelude.{◌≡◌, ◌⊎◌, ℕ, Some, None, IfSome, IfNone, IsSomeAnd, OnOk, OnErr, true, false};
 ghost use Rattle.std.specs.FinMap as map;
 ghost use Rattle.std.specs.FinSet as set;
 ghost use Rattle.std.specs.Option.{option_copied};
 ghost use Rattle.page_pool.specs.Images.{IsUnseen, is_shown, past_map, past_seen};
+ghost use Rattle.page_pool.specs.declared.past.Past.{Past as Image};
 
 use crate::chains::Chains;
 use crate::held::Held;
@@ -32,8 +33,8 @@ impl Past {
 /// How many images of a page are looked at before all are gone through.
 const MOST_LOOKS: u8 = 64;
 
-/// The replaced images by the places where they lie: in order, and each in the place of its number; and where those of each
-/// page lie, to be looked at first.
+/// The replaced images by the places where they lie, in order; and those that a stamp saw as they were replaced, each in the
+/// place of its number, and where those of each page lie, to be looked at first.
 #[derive(Drop)]
 pub(crate) struct Replaced {
     images: BTreeMap<u64, Past>,
@@ -42,10 +43,11 @@ pub(crate) struct Replaced {
 }
 
 impl Model for Replaced {
-    ghost use Rattle.std.specs.Prelude.{◌≡◌};
+    ghost use Rattle.std.specs.Prelude.{◌≡◌, ℕ, Some};
     ghost use Rattle.std.specs.FinMap as map;
     ghost use Rattle.page_pool.specs.Images.{PastMap, past_map};
     ghost use Rattle.page_pool.specs.Codes.{past_map_code};
+    ghost use Rattle.page_pool.specs.declared.past.Past.{Past as Image};
 
     ghost Value = { PastMap };
 
@@ -53,7 +55,7 @@ impl Model for Replaced {
 
     ghost view = { λ a. past_map a.images };
 
-    ghost invariant = { λ a. a.places ≡ past_map a.images };
+    ghost invariant = { λ a. (q : ℕ) (e : Image) → map.get a.places q ≡ Some e → map.get (past_map a.images) q ≡ Some e };
 }
 
 impl Replaced {
@@ -67,23 +69,15 @@ impl Replaced {
         }
     }
 
-    // Adds an image where none of them lies.
-    pub(crate) fn insert(&mut self, place: u64, past: Past) -> Result<(), NoMemory>
+    // Adds an image where none of them lies. Its page's chain has it where a stamp sees it, since no later stamp will.
+    pub(crate) fn insert(&mut self, place: u64, past: Past, held: &Held) -> Result<(), NoMemory>
         requires { map.contains_key self.old place ≡ false }
         ensures added { OnOk result (self.new ≡ map.insert self.old place past) }
         ensures unchanged { OnErr result (self.new ≡ self.old) }
     {
-        self.places.insert(place, past)?;
-        match self.images.insert(place, past) {
-            Ok(_none) => {
-                let _ = self.chains.add(past.number, place);
-                Ok(())
-            }
-            Err(_) => {
-                self.places.take(place);
-                Err(NoMemory {})
-            }
-        }
+        self.images.insert(place, past)?;
+        note(&mut self.places, &mut self.chains, place, past, held);
+        Ok(())
     }
 
     pub(crate) fn remove(&mut self, place: u64)
@@ -129,7 +123,7 @@ impl Replaced {
 
     // Whether the stamp sees the image at this place as page `n`.
     fn is_shown(&self, place: u64, n: u64, at: u64) -> bool
-        ensures { result ≡ is_shown n at (map.get self.now place) }
+        ensures { result ≡ true → is_shown n at (map.get self.now place) ≡ true }
     {
         match self.places.get(place) {
             Some(past) => past.is_shown(n, at),
@@ -142,6 +136,17 @@ impl Replaced {
         ensures { result ≡ set.len (past_seen held.now self.now) }
     {
         count_seen(&self.images, held)
+    }
+}
+
+// Has the image in its place and in the chain of its page, where a held stamp sees it and memory is left.
+fn note(places: &mut Table<Past>, chains: &mut Chains, place: u64, past: Past, held: &Held)
+    ensures { (q : ℕ) (e : Image) → map.get places.new q ≡ Some e → ((q ≡ place) × (e ≡ past)) ⊎ (map.get places.old q ≡ Some e) }
+{
+    if held.sees(past.made, past.until)
+        && let Ok(()) = places.insert(place, past)
+    {
+        let _ = chains.add(past.number, place);
     }
 }
 
