@@ -30,21 +30,27 @@ use Rattle.near_cursor.proofs.NodeLemmas.{each_of}
 
 -- ---- rectangles in the closed square
 
+-- the lesser of two numbers is within what bounds the first
 some_least : (g a b : ℕ) → a ≤ g → min a b ≤ g
 some_least g a b h = omega arith
 
+-- the greater of two is within what bounds both
 both_greatest : (g a b : ℕ) → a ≤ g → b ≤ g → max a b ≤ g
 both_greatest g a b h k = omega arith
 
+-- a lesser low end is at most a greater high end
 ordered : (a b c d : ℕ) → a ≤ b → min a c ≤ max b d
 ordered a b c d h = omega arith
 
+-- the lesser of two is at most the greater
 ends_ordered : (a b : ℕ) → min a b ≤ max a b
 ends_ordered a b = omega arith
 
+-- a number is at most itself
 at_most : (n : ℕ) → n ≤ n
 at_most n = omega arith
 
+-- the rectangle round a rough shape in the closed square lies in it
 pub box_in_plane : (q : Rough) → IsGoalInClosedPlane (figure_of q) → IsRectInClosedPlane (box_of q)
 box_in_plane (rough.Point p) h = record { low = h; high = h; x = at_most p.x; y = at_most p.y }
 box_in_plane (rough.Segment s) h = record {
@@ -55,6 +61,7 @@ box_in_plane (rough.Segment s) h = record {
 }
 box_in_plane (rough.Bound r) h = h
 
+-- so does the least one that holds two
 union_in_plane : (a b : Rect) → IsRectInClosedPlane a → IsRectInClosedPlane b → IsRectInClosedPlane (rect_union a b)
 union_in_plane a b h k = record {
   low = record { x = some_least (2 ^ COORDINATE_BITS) a.low.x b.low.x h.low.x; y = some_least (2 ^ COORDINATE_BITS) a.low.y b.low.y h.low.y };
@@ -87,12 +94,14 @@ entries_in_plane m (suc l) n s each e at =
 
 -- ---- the test of the closed square
 
+-- a rectangle in the closed square passes
 pub in_plane_true : (r : Rect) → IsRectInClosedPlane r → is_rect_in_plane r ≡ true
 in_plane_true r h =
     true_both (nat_le r.low.x r.high.x && nat_le r.low.y r.high.y) (nat_le r.high.x (2 ^ COORDINATE_BITS) && nat_le r.high.y (2 ^ COORDINATE_BITS))
     (true_both (nat_le r.low.x r.high.x) (nat_le r.low.y r.high.y) (le-leb r.low.x r.high.x h.x) (le-leb r.low.y r.high.y h.y))
     (true_both (nat_le r.high.x (2 ^ COORDINATE_BITS)) (nat_le r.high.y (2 ^ COORDINATE_BITS)) (le-leb r.high.x (2 ^ COORDINATE_BITS) h.high.x) (le-leb r.high.y (2 ^ COORDINATE_BITS) h.high.y))
 
+-- and one that passes lies there
 pub true_in_plane : (r : Rect) → is_rect_in_plane r ≡ true → IsRectInClosedPlane r
 true_in_plane r h =
     let k = both_true (nat_le r.low.x r.high.x && nat_le r.low.y r.high.y) (nat_le r.high.x (2 ^ COORDINATE_BITS) && nat_le r.high.y (2 ^ COORDINATE_BITS)) h in
@@ -118,18 +127,23 @@ bound_gap_is goal r h = ap (λ (b : Bool). cond b (goal_gap goal (figure.Rect r)
 
 -- ---- how far rectangles are
 
+-- at most goes through a number between
 through : (a b c : ℕ) → a ≤ b → b ≤ c → a ≤ c
 through a b c h k = omega arith
 
+-- what is at most the lesser of two is at most the first
 first_above : (g a b : ℕ) → g ≤ min a b → g ≤ a
 first_above g a b h = omega arith
 
+-- and at most the second
 second_above : (g a b : ℕ) → g ≤ min a b → g ≤ b
 second_above g a b h = omega arith
 
+-- what bounds the greater of two bounds the first
 first_below : (g a b : ℕ) → max a b ≤ g → a ≤ g
 first_below g a b h = omega arith
 
+-- and the second
 second_below : (g a b : ℕ) → max a b ≤ g → b ≤ g
 second_below g a b h = omega arith
 
@@ -168,6 +182,7 @@ whole_no_farther goal r q g h k i =
     let near : Frac = the_measure goal (figure.Rect r) in
     no_farther goal (figure_of q) r far.num far.den near.num near.den g (holds r q k i) (measured.1 goal (figure_of q) g k) (measured.1 goal (figure.Rect r) g h)
 
+-- 0 is at most any fraction
 none_least : (d n : ℕ) → 0 * d ≤ n * 1
 none_least d n = omega arith
 

@@ -1,5 +1,5 @@
 -- A ranking by an R-tree that lists its rows meets the laws of a hierarchy.
-use Rattle.std.proofs.Common.{◌≡◌, ℕ, zero, suc, ◌-◌, ◌≤◌, Bool, true, false, cond, List, [], ◌∷◌, ◌++◌, map, flat_map, All, Contains, refl, sym, ap, ap₂, ◌∙◌, subst, arith}
+use Rattle.std.proofs.Common.{◌≡◌, ℕ, zero, suc, ◌-◌, ◌≤◌, Bool, true, false, true≢false, cond, List, [], ◌∷◌, ◌++◌, map, flat_map, All, Contains, refl, sym, ap, ap₂, ◌∙◌, subst, arith}
 use Rattle.std.specs.Prelude.{Option}
 use Rattle.std.proofs.lemmas.List.Elements.{All-nil}
 use Rattle.exact_frac.specs.declared.frac.Frac.{Frac}
@@ -12,7 +12,7 @@ use Rattle.sand_base.specs.declared.rough.Rough.TheVariants as rough
 use Rattle.sand_base.specs.declared.shape.Shape.{Shape}
 use Rattle.sand_base.specs.declared.shape.Shape.TheVariants as shape
 use Rattle.page_pool.specs.Disk.{PageMap}
-use Rattle.code_btree.specs.Tree.{Store}
+use Rattle.code_btree.specs.Tree.{Store, times}
 use Rattle.r_tree.specs.declared.entry.NodeEntry.{NodeEntry}
 use Rattle.r_tree.specs.declared.tree.RTree.{RTree}
 use Rattle.r_tree.specs.Entry.{Member, box_of, member_of, members_of}
@@ -26,30 +26,35 @@ use Rattle.best_first.specs.Item.{gap_of, nodes_of}
 use Rattle.best_first.specs.Reach.{IsSameGap, IsAtMost}
 use Rattle.best_first.specs.declared.hit.Hit.{Hit}
 use Rattle.best_first.specs.declared.item.Item.{Item}
+use Rattle.best_first.specs.declared.item.Item.TheVariants as item
 use Rattle.best_first.proofs.Bags.{here, there, All-by}
 use Rattle.best_first.proofs.Gaps.{same_itself}
 use Rattle.rank_cursor.specs.Cursor.{goal_gap}
 use Rattle.rank_cursor.proofs.Elements.{in_map, from_map}
 use Rattle.rank_cursor.proofs.RankingLaws.{rank_laws}
 use Rattle.near_cursor.specs.TreeNodes.{PageNode, nodes_below, nodes_under, root_node, tree_nodes, is_tree_node, node_bound}
+use Rattle.near_cursor.specs.NearLaws.{HasPagesOnce}
 use Rattle.near_cursor.specs.NearRanking.{row_figure, ListsRows, near_row, bound_gap, member_found, branch_found, entries_found, near_finds, near_under, near_meaning}
 use Rattle.near_cursor.proofs.InPlane.{box_in_plane, entries_in_plane, bound_gap_is, node_no_farther}
-use Rattle.near_cursor.proofs.NodeLemmas.{NodeStands, node_stands, child_node, leaf_of, is_node, node_is, node_bound_is, child_leads}
-use Rattle.near_cursor.proofs.RowLemmas.{member_row, row_member, rows_apart, member_closed, show_row, exact_gap, row_closed, flat_ranking, flat_sound}
+use Rattle.near_cursor.proofs.NodeLemmas.{nodes_once, NodeStands, node_stands, child_node, leaf_of, is_node, node_is, node_bound_is, child_leads}
+use Rattle.near_cursor.proofs.RowLemmas.{is_rough_item, member_row, row_member, rows_apart, member_closed, show_row, exact_gap, row_closed, flat_ranking, flat_sound}
 
 -- ---- items by their kind
 
+-- the item of a member has the gap of its rough shape
 member_gap : (goal : Goal) (id : ℕ) (q : Rough) → gap_of (member_found goal id q) ≡ goal_gap goal (figure_of q)
 member_gap goal id (rough.Point p) = refl
 member_gap goal id (rough.Segment s) = refl
 member_gap goal id (rough.Bound r) = refl
 
+-- members give no nodes
 pub member_nodes : (goal : Goal) (is : List Member) → nodes_of (map (λ (i : Member). member_found goal i.0 i.1) is) ≡ []
 member_nodes goal [] = refl
 member_nodes goal ((id, rough.Point p) ∷ is) = member_nodes goal is
 member_nodes goal ((id, rough.Segment s) ∷ is) = member_nodes goal is
 member_nodes goal ((id, rough.Bound r) ∷ is) = member_nodes goal is
 
+-- one less than the next number is the number
 pub less_one : (j : ℕ) → suc j - 1 ≡ j
 less_one j = omega arith
 
@@ -57,15 +62,19 @@ less_one j = omega arith
 
 module _ (rows : PageMap → List (ℕ × Shape)) (Stands : PageMap → Type 0) (price : ℕ) (t : RTree) (goal : Goal) (ceiling : Option ℕ)
     (reach : IsGoalInClosedPlane goal) (pages : PageMap) (fits : ListsRows pages t (rows pages)) (stands : Stands pages) (plane : AreInPlane (rows pages)) where
+  -- the pages as trees see them
   abbrev m : Store
   m = store_of pages
 
+  -- the ranking
   abbrev meaning : Meaning PageNode
   meaning = near_meaning rows Stands price t goal ceiling pages
 
+  -- what the tree lists
   abbrev members : List Member
   members = tree_members m t
 
+  -- the tree at its root
   root : IsRootAt m (t.height - 1) t.root t.bound
   root = fits.tree.at
 
@@ -73,6 +82,7 @@ module _ (rows : PageMap → List (ℕ × Shape)) (Stands : PageMap → Type 0) 
   pub at_node : (node : PageNode) → is_tree_node m t node ≡ true → NodeStands m (t.height - 1) t.root node
   at_node node h = node_stands m (t.height - 1) t.root node root.stands (node_is m t node h)
 
+  -- the root is a node of the tree
   pub root_is : Contains (tree_nodes m t) (root_node t)
   root_is =
       let high : suc (t.height - 1) ≡ t.height = whole t.height fits.tree.tall in
@@ -89,7 +99,8 @@ module _ (rows : PageMap → List (ℕ × Shape)) (Stands : PageMap → Type 0) 
   under_level : (n k : ℕ) → Contains (tree_nodes m t) (n, suc k) → near_under m t (n, suc k) ≡ nodes_under m k n
   under_level n k at = under_at (n, suc k) (is_node m t (n, suc k) at) ∙ ap (λ (l : ℕ). nodes_under m l n) (less_one k)
 
-  finds_level : (n k : ℕ) → Contains (tree_nodes m t) (n, suc k) → near_finds m t goal (n, suc k) ≡ entries_found goal k (entries_at m n)
+  -- the same of what it finds
+  pub finds_level : (n k : ℕ) → Contains (tree_nodes m t) (n, suc k) → near_finds m t goal (n, suc k) ≡ entries_found goal k (entries_at m n)
   finds_level n k at =
       ap (λ (b : Bool). cond b (entries_found goal (suc k - 1) (entries_at m n)) []) (is_node m t (n, suc k) at) ∙ ap (λ (l : ℕ). entries_found goal l (entries_at m n)) (less_one k)
 
@@ -101,6 +112,7 @@ module _ (rows : PageMap → List (ℕ × Shape)) (Stands : PageMap → Type 0) 
 
   -- ---- unfolding
 
+  -- the nodes under the entries of a node are those under what it finds
   below_level : (k : ℕ) (es : List NodeEntry) → ((e : NodeEntry) → Contains es e → (j : ℕ) → k ≡ suc j → near_under m t (e.child, k) ≡ nodes_under m j e.child)
       → nodes_below m k es ≡ flat_map (near_under m t) (nodes_of (entries_found goal k es))
   below_level zero es each = sym (ap (flat_map (near_under m t)) (member_nodes goal (members_of es)))
@@ -108,6 +120,7 @@ module _ (rows : PageMap → List (ℕ × Shape)) (Stands : PageMap → Type 0) 
   below_level (suc j) (e ∷ es) each =
       ap₂ (λ (xs : List PageNode) (ys : List PageNode). xs ++ ys) (sym (each e (here e es) j refl)) (below_level (suc j) es (λ x at i h. each x (there e es x at) i h))
 
+  -- a node of the tree with those below it is the node and what stands below what it finds
   unfolds_true : (node : PageNode) → NodeStands m (t.height - 1) t.root node → nodes_under m (node.1 - 1) node.0 ≡ node ∷ flat_map (near_under m t) (nodes_of (entries_found goal (node.1 - 1) (entries_at m node.0)))
   unfolds_true node f =
       let level : node.1 - 1 ≡ f.above = ap (λ (h : ℕ). h - 1) f.height ∙ less_one f.above in
@@ -117,6 +130,7 @@ module _ (rows : PageMap → List (ℕ × Shape)) (Stands : PageMap → Type 0) 
       subst (λ (k : ℕ). nodes_under m k node.0 ≡ node ∷ flat_map (near_under m t) (nodes_of (entries_found goal k (entries_at m node.0)))) (sym level)
       (ap₂ (λ (x : PageNode) (xs : List PageNode). x ∷ xs) (ap (λ (h : ℕ). (node.0, h)) (sym f.height)) (below_level f.above (entries_at m node.0) child))
 
+  -- and so is any value
   unfolds_at : (node : PageNode) (b : Bool) → is_tree_node m t node ≡ b
       → cond b (nodes_under m (node.1 - 1) node.0) (node ∷ []) ≡ node ∷ flat_map (near_under m t) (nodes_of (cond b (entries_found goal (node.1 - 1) (entries_at m node.0)) []))
   unfolds_at node true h = unfolds_true node (at_node node h)
@@ -124,6 +138,7 @@ module _ (rows : PageMap → List (ℕ × Shape)) (Stands : PageMap → Type 0) 
 
   -- ---- the items of a node
 
+  -- the members lie in the closed square
   closed : (i : Member) → Contains members i → IsGoalInClosedPlane (figure_of i.1)
   closed i at = member_closed pages t (rows pages) fits plane i at
 
@@ -154,9 +169,11 @@ module _ (rows : PageMap → List (ℕ × Shape)) (Stands : PageMap → Type 0) 
 
   -- ---- gaps
 
-  entry_closed : (node : PageNode) (f : NodeStands m (t.height - 1) t.root node) (e : NodeEntry) → Contains (entries_at m node.0) e → IsGoalInClosedPlane (figure_of e.rough)
+  -- so do the entries of each node
+  pub entry_closed : (node : PageNode) (f : NodeStands m (t.height - 1) t.root node) (e : NodeEntry) → Contains (entries_at m node.0) e → IsGoalInClosedPlane (figure_of e.rough)
   entry_closed node f e at = entries_in_plane m f.above node.0 f.stands (λ i among. closed i (f.members i among)) e at
 
+  -- a member is no node, so its gap is free
   member_has_gap : (id : ℕ) (q : Rough) → HasGap meaning (member_found goal id q)
   member_has_gap id (rough.Point p) = tt
   member_has_gap id (rough.Segment s) = tt
@@ -172,6 +189,7 @@ module _ (rows : PageMap → List (ℕ × Shape)) (Stands : PageMap → Type 0) 
       ap (bound_gap goal) (node_bound_is m t root (e.child, suc j) ∙ leads.least) ∙ bound_gap_is goal (box_of e.rough) box in
       subst (λ (g : Frac). IsSameGap (goal_gap goal (figure.Rect (box_of e.rough))) g) (sym is) (same_itself (goal_gap goal (figure.Rect (box_of e.rough))))
 
+  -- each child is found under its own gap
   gaps_at : (node : PageNode) → All (HasGap meaning) (near_finds m t goal node)
   gaps_at node = by_found (HasGap meaning) node (λ f. by_items (HasGap meaning) node.0 f.above (λ e at h. member_has_gap e.id e.rough) (λ e at j h. branch_has_gap node f e at j h))
 
@@ -182,6 +200,7 @@ module _ (rows : PageMap → List (ℕ × Shape)) (Stands : PageMap → Type 0) 
       subst (λ (o : Option Rect). IsAtMost (bound_gap goal o) (goal_gap goal (figure_of q))) (sym (node_bound_is m t root node))
       (node_no_farther goal (entries_at m node.0) reach (λ x among. entry_closed node f x among) e at q k same)
 
+  -- so nothing that a node finds is nearer than it
   bound_at : (node : PageNode) → All (λ i. IsAtMost (meaning.gap node) (gap_of i)) (near_finds m t goal node)
   bound_at node = by_found (λ i. IsAtMost (meaning.gap node) (gap_of i)) node (λ f. by_items (λ i. IsAtMost (meaning.gap node) (gap_of i)) node.0 f.above
       (λ e at h. subst (IsAtMost (meaning.gap node)) (sym (member_gap goal e.id e.rough)) (far_entry node f e at e.rough (entry_closed node f e at) refl))
@@ -189,6 +208,7 @@ module _ (rows : PageMap → List (ℕ × Shape)) (Stands : PageMap → Type 0) 
 
   -- ---- rows
 
+  -- the item of a member that is a row itself is a row, with its gap
   member_honest : (id : ℕ) (q : Rough) (row : ℕ × Shape) → Contains (rows pages) row → row_figure row ≡ (id, figure_of q) → IsHonest meaning (member_found goal id q)
   member_honest id (rough.Point p) row at is = record {
     row = near_row goal row;
@@ -202,15 +222,35 @@ module _ (rows : PageMap → List (ℕ × Shape)) (Stands : PageMap → Type 0) 
   }
   member_honest id (rough.Bound r) row at is = tt
 
+  -- so is that of each entry of a leaf
   leaf_honest : (node : PageNode) (f : NodeStands m (t.height - 1) t.root node) (e : NodeEntry) → Contains (entries_at m node.0) e → f.above ≡ zero → IsHonest meaning (member_found goal e.id e.rough)
   leaf_honest node f e at h =
       let among : Contains (members_under m f.above node.0) (member_of e) = subst (λ (k : ℕ). Contains (members_under m k node.0) (member_of e)) (sym h) (in_map member_of (entries_at m node.0) e at) in
       let (row, there_is, is) = member_row pages t (rows pages) fits (member_of e) (f.members (member_of e) among) in
       member_honest e.id e.rough row there_is is
 
+  -- so is each row that a node finds
   honest_at : (node : PageNode) → All (IsHonest meaning) (near_finds m t goal node)
   honest_at node = by_found (IsHonest meaning) node (λ f. by_items (IsHonest meaning) node.0 f.above (λ e at h. leaf_honest node f e at h) (λ e at j h. tt))
 
+  -- a rough item of a node is that of a member
+  rough_at : (n k : ℕ) → ((i : Member) → Contains (members_under m k n) i → Contains members i) → (g : Frac) (l s : ℕ) → Contains (entries_found goal k (entries_at m n)) (item.Rough g l s)
+      → (i : Member) × Contains members i × (member_found goal i.0 i.1 ≡ item.Rough g l s)
+  rough_at n zero each g l s at =
+      let (i, among, same) = from_map (λ (i : Member). member_found goal i.0 i.1) (members_of (entries_at m n)) (item.Rough g l s) at in
+      (i, each i among, same)
+  rough_at n (suc j) each g l s at =
+      let (b, among, same) = from_map (branch_found goal (suc j)) (branches_of (entries_at m n)) (item.Rough g l s) at in
+      absurd (true≢false (sym (ap is_rough_item same)))
+
+  -- a rough item that a node finds is that of a member
+  pub rough_listed : (node : PageNode) → is_tree_node m t node ≡ true → (g : Frac) (l s : ℕ) → Contains (near_finds m t goal node) (item.Rough g l s)
+      → (i : Member) × Contains members i × (member_found goal i.0 i.1 ≡ item.Rough g l s)
+  rough_listed node h g l s at =
+      let f = at_node node h in
+      rough_at node.0 f.above f.members g l s (subst (λ (xs : List (Item PageNode)). Contains xs (item.Rough g l s)) (finds_at node h f) at)
+
+  -- each row is shown by its member in a leaf
   covers_row : (row : ℕ × Shape) → Contains (rows pages) row → IsListedUnder meaning (root_node t) (near_row goal row)
   covers_row row at =
       let (i, among, is) = row_member pages t (rows pages) fits row at in
@@ -225,11 +265,13 @@ module _ (rows : PageMap → List (ℕ × Shape)) (Stands : PageMap → Type 0) 
             (show_row goal row.0 i.1 row.1 reach (row_closed (rows pages) row plane at) (ap (λ (x : ℕ × Goal). x.1) is));
       }
 
+  -- the same of a row with its gap
   covers_hit : (hit : Hit) → Contains meaning.rows hit → IsListedUnder meaning (root_node t) hit
   covers_hit hit at =
       let (row, among, is) = from_map (near_row goal) (rows pages) hit at in
       subst (IsListedUnder meaning (root_node t)) is (covers_row row among)
 
+  -- so the ranking meets the laws
   pub near_laws : MeetsLaws meaning
   near_laws = record {
     readable = (fits, stands);
@@ -240,3 +282,9 @@ module _ (rows : PageMap → List (ℕ × Shape)) (Stands : PageMap → Type 0) 
     covers = covers_hit;
     once = (rank_laws (flat_ranking goal ceiling (rows pages)) (flat_sound goal ceiling (rows pages) reach plane (rows_apart pages t (rows pages) fits))).once;
   }
+
+  -- no page is that of two nodes
+  pub pages_once : HasPagesOnce meaning
+  pages_once = λ page.
+      subst (λ (ns : List PageNode). times page (map (λ (x : PageNode). x.0) ns) ≤ 1) (sym (under_at (root_node t) (is_node m t (root_node t) root_is)))
+      (nodes_once m (t.height - 1) t.root root.owns page)

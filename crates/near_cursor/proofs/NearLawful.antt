@@ -14,7 +14,9 @@ use Rattle.rank_cursor.specs.Ranking.{rank_meaning}
 use Rattle.rank_cursor.proofs.RankedRows.{gives_ranked}
 use Rattle.near_cursor.specs.NearLaws.{IsLawfulNearOver}
 use Rattle.near_cursor.specs.NearRanking.{ListsRows, near_meaning}
-use Rattle.near_cursor.proofs.NearHierarchy.{near_laws}
+use Rattle.near_cursor.proofs.NearBounds.{bound_gaps}
+use Rattle.near_cursor.proofs.NearCounted.{polygons_counted, nothing_within}
+use Rattle.near_cursor.proofs.NearHierarchy.{near_laws, pages_once}
 use Rattle.near_cursor.proofs.RowLemmas.{rows_apart, flat_ranking, flat_sound}
 
 module _ (rows : PageMap → List (ℕ × Shape)) (Stands : PageMap → Type 0) (price : ℕ) (t : RTree) (goal : Goal) (ceiling : Option ℕ)
@@ -29,8 +31,13 @@ module _ (rows : PageMap → List (ℕ × Shape)) (Stands : PageMap → Type 0) 
         over = λ n last given h. list.over n last given h;
       }
 
+  -- the ranking is lawful
   pub near_lawful : IsLawfulNearOver rows Stands price t goal ceiling
   near_lawful = λ pages fits stands. record {
     hierarchy = near_laws rows Stands price t goal ceiling reach pages fits stands (in_plane pages stands);
+    bounds = bound_gaps rows Stands price t goal ceiling reach pages fits stands (in_plane pages stands);
+    once = pages_once rows Stands price t goal ceiling reach pages fits stands (in_plane pages stands);
     rows = gives pages fits stands;
+    geometries = λ gap is cmp o to test tells done reached. polygons_counted rows Stands price t goal ceiling reach pages fits stands (in_plane pages stands) gap is to test tells o done reached;
+    nothing = λ gap. nothing_within gap goal (rows pages);
   }

@@ -20,11 +20,11 @@ use Rattle.code_btree.specs.Tree.{pages_in}
 use Rattle.r_tree.specs.declared.node.TreeNode.{TreeNode}
 use Rattle.r_tree.specs.declared.node.TreeNode.TheVariants as of_tree
 use Rattle.r_tree.specs.declared.tree.RTree.{RTree}
-use Rattle.r_tree.specs.Entry.{Member, members_of}
-use Rattle.r_tree.specs.Nodes.{branches_of, Shows, IsNodeOf}
+use Rattle.r_tree.specs.Entry.{Member}
+use Rattle.r_tree.specs.Nodes.{Shows, IsNodeOf}
 use Rattle.r_tree.specs.Page.{NodeView, entries_of}
 use Rattle.r_tree.specs.Page as view
-use Rattle.r_tree.specs.Tree.{node_at, entries_at, members_under, is_inner}
+use Rattle.r_tree.specs.Tree.{node_at, entries_at, is_inner}
 use Rattle.pmr_tree.specs.Laws.{AreInPlane}
 use Rattle.pmr_tree.specs.Quadtree.{store_of}
 use Rattle.best_first.specs.Hierarchy.{Meaning, MeetsLaws, IsNode, FindsAlike, HasRow, IsRoughListed}
@@ -37,14 +37,14 @@ use Rattle.best_first.specs.declared.item.Item.TheVariants as item
 use Rattle.best_first.proofs.Alikes.{alike_nodes}
 use Rattle.best_first.proofs.Gaps.{same_back}
 use Rattle.rank_cursor.specs.Cursor.{the_measure}
-use Rattle.rank_cursor.proofs.Elements.{in_map, from_map}
+use Rattle.rank_cursor.proofs.Elements.{in_map}
 use Rattle.rank_cursor.proofs.RankingLaws.{is_shape}
 use Rattle.rank_cursor.proofs.Searching.{by_told, at_told}
 use Rattle.near_cursor.specs.TreeNodes.{PageNode, root_node, is_tree_node}
-use Rattle.near_cursor.specs.NearRanking.{row_figure, member_figure, near_row, member_found, branch_found, entries_found, node_found, near_finds, near_meaning, near_visit, near_weight}
-use Rattle.near_cursor.proofs.NearHierarchy.{member_nodes, less_one, at_node, root_is, under_at, finds_at}
+use Rattle.near_cursor.specs.NearRanking.{near_row, member_found, branch_found, entries_found, node_found, near_finds, near_meaning, near_visit, near_weight}
+use Rattle.near_cursor.proofs.NearHierarchy.{member_nodes, less_one, at_node, root_is, under_at, finds_at, rough_listed}
 use Rattle.near_cursor.proofs.NodeLemmas.{NodeStands, is_node}
-use Rattle.near_cursor.proofs.RowLemmas.{member_row, rows_apart}
+use Rattle.near_cursor.proofs.RowLemmas.{member_row, rows_apart, is_rough_item, left_of, right_of}
 
 -- what follows from a fact of an accepted call
 pub on_ok : {T E P Q : Type 0} (r : Result T E) → (P → Q) → OnOk r P → OnOk r Q
@@ -53,10 +53,12 @@ on_ok (Err e) f h = tt
 
 -- ---- weights
 
+-- each node weighs something
 weight_some : (n : ℕ) → 0 < 127 ^ n
 weight_some zero = lit< tt
 weight_some (suc n) = let some = weight_some n in let e : 127 ^ suc n ≡ 127 ^ n * 127 = pow-suc 127 n in omega arith
 
+-- children of one height weigh as much each
 branch_weights : (goal : Goal) (height : ℕ) (bs : List (Rect × ℕ)) → sum_by near_weight (nodes_of (map (branch_found goal height) bs)) ≡ length bs * 127 ^ height
 branch_weights goal height [] = nothing (127 ^ height)
   where
@@ -69,6 +71,7 @@ branch_weights goal height (b ∷ bs) =
     one_more : (n w : ℕ) → w + n * w ≡ suc n * w
     one_more n w = omega arith
 
+-- 126 of them weigh less than their node
 few_weigh_less : (n w x : ℕ) → n ≤ 126 → 0 < w → x ≡ w * 127 → n * w < x
 few_weigh_less n w x few some e = let most : n * w ≤ 126 * w = most_of n w few in omega arith
   where
@@ -97,10 +100,12 @@ members_fall goal parent is old new h = record {
 
 -- ---- a node as it is read
 
+-- the node is an inner one
 abbrev inner_view : NodeView → Bool
 inner_view (view.node inner es) = inner
 inner_view view.no_node = false
 
+-- what is read of a node that stands at a level gives what its entries give there
 found_level : (goal : Goal) (v : NodeView) (k : ℕ) → v ≡ view.node (is_inner k) (entries_of v) → (found : TreeNode) → Shows v found → node_found goal (suc k) found ≡ entries_found goal k (entries_of v)
 found_level goal v zero is (of_tree.Leaf members) h = ap (map (λ (i : Member). member_found goal i.0 i.1)) h.1
 found_level goal v zero is (of_tree.Inner branches) h = absurd (true≢false (ap inner_view (sym h.0 ∙ is)))
@@ -110,21 +115,7 @@ found_level goal v (suc k) is (of_tree.Inner branches) h =
 
 -- ---- rough items
 
-abbrev is_rough_item : Item PageNode → Bool
-is_rough_item (item.Node g n) = false
-is_rough_item (item.Rough g l r) = true
-is_rough_item (item.Row g l r) = false
-
-abbrev left_of : Item PageNode → ℕ
-left_of (item.Node g n) = 0
-left_of (item.Rough g l r) = l
-left_of (item.Row g l r) = l
-
-abbrev right_of : Item PageNode → ℕ
-right_of (item.Node g n) = 0
-right_of (item.Rough g l r) = r
-right_of (item.Row g l r) = r
-
+-- a rough item has the id of its member, and no right id
 rough_ids : (goal : Goal) (id : ℕ) (q : Rough) (gap : Frac) (left right : ℕ) → member_found goal id q ≡ item.Rough gap left right → (id ≡ left) × (right ≡ 0)
 rough_ids goal id (rough.Point p) gap left right e = absurd (true≢false (sym (ap is_rough_item e)))
 rough_ids goal id (rough.Segment s) gap left right e = absurd (true≢false (sym (ap is_rough_item e)))
@@ -132,6 +123,7 @@ rough_ids goal id (rough.Bound r) gap left right e = (ap left_of e, sym (ap righ
 
 -- ---- nothing was done
 
+-- no visit was tried
 pub not_tried : (note : Item PageNode → Visit) (price : Item PageNode → ℕ) (i : Item PageNode) (old new : DeskState) → new.visits ≡ old.visits → new.pool ≡ old.pool → Attempts note price i old new
 not_tried note price i old new log same =
     let gets : new.pool.gets ≡ old.pool.gets = ap (λ (s : PoolState). s.gets) same in
@@ -141,6 +133,7 @@ not_tried note price i old new log same =
 
 module _ (rows : PageMap → List (ℕ × Shape)) (Stands : PageMap → Type 0) (price : ℕ) (t : RTree) (goal : Goal) (ceiling : Option ℕ)
     (in_plane : (p : PageMap) → Stands p → AreInPlane (rows p)) (reach : IsGoalInClosedPlane goal) where
+  -- the ranking over pages
   abbrev m : PageMap → Meaning PageNode
   m p = near_meaning rows Stands price t goal ceiling p
 
@@ -152,6 +145,7 @@ module _ (rows : PageMap → List (ℕ × Shape)) (Stands : PageMap → Type 0) 
       is_node (store_of p) t node
       (subst (λ (xs : List PageNode). Contains xs node) (under_at rows Stands price t goal ceiling reach p laws.readable.0 laws.readable.1 plane (root_node t) root) at)
 
+  -- a tree stands there
   stands_at : (p : PageMap) (laws : MeetsLaws (m p)) (node : PageNode) → IsNode (m p) node → NodeStands (store_of p) (t.height - 1) t.root node
   stands_at p laws node at =
       at_node rows Stands price t goal ceiling reach p laws.readable.0 laws.readable.1 (in_plane p laws.readable.1) node (node_of_tree p laws node at)
@@ -166,6 +160,7 @@ module _ (rows : PageMap → List (ℕ × Shape)) (Stands : PageMap → Type 0) 
   abbrev pub Asks : DeskState → PageNode → Frac → Type 0
   Asks d node gap = IfSome (told_pages d) (λ p. MeetsLaws (m p) × IsNode (m p) node × IsSameGap gap ((m p).gap node))
 
+  -- this is so where the pages are told
   asked : (d : DeskState) (node : PageNode) (gap : Frac) → Asks d node gap → IsTold d.pool
       → MeetsLaws (m d.pool.pages) × IsNode (m d.pool.pages) node × IsSameGap gap ((m d.pool.pages).gap node)
   asked d node gap asks told = at_told d (λ p. MeetsLaws (m p) × IsNode (m p) node × IsSameGap gap ((m p).gap node)) asks told
@@ -176,6 +171,7 @@ module _ (rows : PageMap → List (ℕ × Shape)) (Stands : PageMap → Type 0) 
       let (laws, at, near) = asked d node gap asks told in
       record { tree = laws.readable.0.tree; own = (stands_at d.pool.pages laws node at).page }
 
+  -- what the node gives as it is read is what the ranking finds
   found_is : (p : PageMap) (laws : MeetsLaws (m p)) (node : PageNode) → IsNode (m p) node → (found : TreeNode) → Shows (node_at (store_of p) node.0) found
       → node_found goal node.1 found ≡ near_finds (store_of p) t goal node
   found_is p laws node at found shows =
@@ -183,6 +179,7 @@ module _ (rows : PageMap → List (ℕ × Shape)) (Stands : PageMap → Type 0) 
       ap (λ (h : ℕ). node_found goal h found) f.height
       ∙ (found_level goal (node_at (store_of p) node.0) f.above f.stands.0.is found shows ∙ sym (finds_there p laws node at))
 
+  -- so an accepted expansion finds it
   pub found_ok : (d : DeskState) (node : PageNode) (gap : Frac) → Asks d node gap → (found : TreeNode) → (IsTold d.pool → Shows (node_at (pages_in d.pool) node.0) found)
       → (old new : List (Item PageNode)) → FindsAlike (node_found goal node.1 found) old new → IfSome (told_pages d) (λ p. FindsAlike ((m p).finds node) old new)
   found_ok d node gap asks found shows old new h =
@@ -192,15 +189,18 @@ module _ (rows : PageMap → List (ℕ × Shape)) (Stands : PageMap → Type 0) 
 
   -- ---- visits
 
+  -- a visit was noted, for one page get
   noted_one : (p : PageMap) (node : PageNode) (gap : Frac) (old new : DeskState) → new.visits ≡ old.visits ++ visit.Tree t.number node.0 ∷ [] → old.pool.gets ≤ new.pool.gets
       → new.pool.gets ≤ old.pool.gets + 1 → Noted (near_visit t.number) (m p).price (item.Node gap node ∷ []) old new
   noted_one p node gap old new log up most = record { log = log; up = up; most = omega arith }
 
+  -- so an accepted expansion has noted its visit
   pub visits_ok : (d new : DeskState) (node : PageNode) (gap : Frac) → new.visits ≡ d.visits ++ visit.Tree t.number node.0 ∷ [] → d.pool.gets ≤ new.pool.gets
       → new.pool.gets ≤ d.pool.gets + 1 → IfSome (told_pages d) (λ p. Noted (near_visit t.number) (m p).price (item.Node gap node ∷ []) d new)
   visits_ok d new node gap log up most =
       by_told d (λ p. Noted (near_visit t.number) (m p).price (item.Node gap node ∷ []) d new) (λ told. noted_one d.pool.pages node gap d new log up most)
 
+  -- and a refused one has tried it
   pub visits_tried : (d new : DeskState) (node : PageNode) (gap : Frac) → new.visits ≡ d.visits ++ visit.Tree t.number node.0 ∷ [] → d.pool.gets ≤ new.pool.gets
       → new.pool.gets ≤ d.pool.gets + 1 → IfSome (told_pages d) (λ p. Attempts (near_visit t.number) (m p).price (item.Node gap node) d new)
   visits_tried d new node gap log up most =
@@ -210,6 +210,7 @@ module _ (rows : PageMap → List (ℕ × Shape)) (Stands : PageMap → Type 0) 
         noted = noted_one d.pool.pages node gap d new log up most;
       })
 
+  -- a visit that was refused was tried, or not even that
   pub visits_refused : (d new : DeskState) (node : PageNode) (gap : Frac)
       → (new.visits ≡ d.visits ++ visit.Tree t.number node.0 ∷ []) ⊎ ((new.visits ≡ d.visits) × (new.pool ≡ d.pool)) → d.pool.gets ≤ new.pool.gets
       → new.pool.gets ≤ d.pool.gets + 1 → IfSome (told_pages d) (λ p. Attempts (near_visit t.number) (m p).price (item.Node gap node) d new)
@@ -219,32 +220,19 @@ module _ (rows : PageMap → List (ℕ × Shape)) (Stands : PageMap → Type 0) 
 
   -- ---- a fetch
 
-  -- a rough item of a node is a row's
-  rough_member : (p : PageMap) (laws : MeetsLaws (m p)) (f_node : PageNode) → NodeStands (store_of p) (t.height - 1) t.root f_node → (k : ℕ) (gap : Frac) (left right : ℕ)
-      → ((i : Member) → Contains (members_under (store_of p) k f_node.0) i → (row : ℕ × Shape) × Contains (rows p) row × (row_figure row ≡ member_figure i))
-      → Contains (entries_found goal k (entries_at (store_of p) f_node.0)) (item.Rough gap left right) → (row : ℕ × Shape) × Contains (rows p) row × (row.0 ≡ left) × (right ≡ 0)
-  rough_member p laws f_node f zero gap left right each at =
-      let es = entries_at (store_of p) f_node.0 in
-      let (i, among, same) = from_map (λ (i : Member). member_found goal i.0 i.1) (members_of es) (item.Rough gap left right) at in
-      let (ids, none_right) = rough_ids goal i.0 i.1 gap left right same in
-      let (row, there_is, is) = each i among in
-      (row, there_is, ap (λ (x : ℕ × Goal). x.0) is ∙ ids, none_right)
-  rough_member p laws f_node f (suc k) gap left right each at =
-      let es = entries_at (store_of p) f_node.0 in
-      let (b, among, same) = from_map (branch_found goal (suc k)) (branches_of es) (item.Rough gap left right) at in
-      absurd (true≢false (sym (ap is_rough_item same)))
-
   -- a rough object that is listed is a row
   rough_row : (p : PageMap) (laws : MeetsLaws (m p)) (left right : ℕ) → IsRoughListed (m p) left right → (row : ℕ × Shape) × Contains (rows p) row × (row.0 ≡ left) × (right ≡ 0)
   rough_row p laws left right h =
-      let f = stands_at p laws h.leaf h.node in
-      rough_member p laws h.leaf f f.above h.gap left right
-      (λ i among. member_row p t (rows p) laws.readable.0 i (f.members i among))
-      (subst (λ (xs : List (Item PageNode)). Contains xs (item.Rough h.gap left right)) (finds_there p laws h.leaf h.node) h.listed)
+      let (i, among, gives) = rough_listed rows Stands price t goal ceiling reach p laws.readable.0 laws.readable.1 (in_plane p laws.readable.1) h.leaf (node_of_tree p laws h.leaf h.node) h.gap left right h.listed in
+      let (ids, none_right) = rough_ids goal i.0 i.1 h.gap left right gives in
+      let (row, there_is, is) = member_row p t (rows p) laws.readable.0 i among in
+      (row, there_is, ap (λ (x : ℕ × Goal). x.0) is ∙ ids, none_right)
 
+  -- what a fetch asks
   abbrev pub AsksRough : DeskState → ℕ → ℕ → Type 0
   AsksRough d left right = IfSome (told_pages d) (λ p. MeetsLaws (m p) × IsRoughListed (m p) left right)
 
+  -- the gap of the shape that was read is that of the row
   pub exact_row : (d : DeskState) (left right : ℕ) → AsksRough d left right → (pool : PoolState) → pool ≡ d.pool → (found : Shape)
       → (IsTold pool → (s : Shape) → shape_at (rows pool.pages) left ≡ Some s → found ≡ s) → (gap : Frac) → IsSameGap gap (the_measure goal (figure.Shape found))
       → IfSome (told_pages d) (λ p. HasRow (m p) (record { gap = gap; left = left; right = right }))
@@ -267,10 +255,12 @@ module _ (rows : PageMap → List (ℕ × Shape)) (Stands : PageMap → Type 0) 
         );
       })
 
+  -- a visit of a geometry was noted, at its price
   fetched_one : (p : PageMap) (d new : DeskState) (left right : ℕ) (gap : Frac) → new.visits ≡ d.visits ++ visit.Geometry left ∷ [] → d.pool.gets ≤ new.pool.gets → new.pool.gets ≤ d.pool.gets + price
       → Noted (near_visit t.number) (m p).price (item.Rough gap left right ∷ []) d new
   fetched_one p d new left right gap log up most = record { log = log; up = up; most = omega arith }
 
+  -- so a refused fetch has tried its visit
   pub fetch_tried : (d noted new : DeskState) (left right : ℕ) → noted ≡ record d { visits = d.visits ++ visit.Geometry left ∷ [] } → new.visits ≡ noted.visits
       → (pool : PoolState) → pool ≡ noted.pool → pool.gets ≤ new.pool.gets → new.pool.gets ≤ pool.gets + price
       → IfSome (told_pages d) (λ p. (gap : Frac) → Attempts (near_visit t.number) (m p).price (item.Rough gap left right) d new)

@@ -1,28 +1,30 @@
 -- What stands at a node of an R-tree: a tree of its own, whose nodes, members and page are the tree's.
-use Rattle.std.proofs.Common.{◌≡◌, ⊎_elim, ℕ, zero, suc, ◌-◌, ◌≤◌, Bool, true, false, cond, true≢false, List, [], ◌∷◌, Contains, find, length, Option, None, Some, refl, sym, ap, ap₂, ◌∙◌, subst, arith}
+use Rattle.std.proofs.Common.{◌≡◌, ⊎_elim, ℕ, zero, suc, ◌-◌, ◌≤◌, ◌++◌, Bool, true, false, cond, true≢false, List, [], ◌∷◌, Contains, find, length, map, Option, None, Some, refl, sym, ap, ap₂, ◌∙◌, subst, arith}
 use Rattle.std.specs.Prelude.{nat_eq, is_some}
 use Rattle.std.proofs.lemmas.Bool.{eqb-true, eq-eqb}
 use Rattle.std.proofs.lemmas.List.Elements.{Contains-append_left, Contains-append_right, Contains-append_cases}
 use Rattle.code_btree.specs.Items.{Each}
-use Rattle.code_btree.specs.Tree.{Store, times}
-use Rattle.code_btree.proofs.Lists.{times-append, same_self}
+use Rattle.code_btree.specs.Tree.{Store, times, live}
+use Rattle.code_btree.proofs.Lists.{times-append, same_self, live_small}
 use Rattle.r_tree.specs.declared.entry.NodeEntry.{NodeEntry}
 use Rattle.r_tree.specs.declared.tree.RTree.{RTree}
 use Rattle.r_tree.specs.Entry.{Member, members_of, bound_of}
 use Rattle.r_tree.specs.Tree.{entries_at, members_in, members_under, pages_below, pages_under, Encloses, IsNodeAt, StandsUnder, StandsAt, IsRootAt}
 use Rattle.best_first.proofs.Bags.{here, there, cons_cases, none, only, in_flat_map, from_flat_map}
+use Rattle.rank_cursor.proofs.Elements.{map_append}
 use Rattle.rank_cursor.proofs.Places.{both_true, true_both, found_is, some_found}
 use Rattle.near_cursor.specs.TreeNodes.{PageNode, nodes_below, nodes_under, root_node, tree_nodes, same_node, is_tree_node, node_bound}
 
 -- ---- facts of each element
 
+-- what holds of each element holds of one that is in the list
 pub each_of : {A : Type 0} (P : A → Type 0) (xs : List A) (x : A) → Each P xs → Contains xs x → P x
 each_of P [] x h at = absurd (none x at)
 each_of P (y ∷ ys) x h at = ⊎_elim (λ e. subst P e h.0) (λ t. each_of P ys x h.1 t) (cons_cases y ys x at)
 
 -- ---- what stands at a node
 
--- Of a tree under page n: at this node, of this height, stands a tree, whose nodes, members and page are among those of the whole.
+-- At this node of the tree under page n stands a tree, as high as the node says; its nodes, its members and its page are among those of the whole.
 pub record NodeStands (m : Store) (level n : ℕ) (node : PageNode) : Type 0 where
   pub above : ℕ
   pub height : node.1 ≡ suc above
@@ -40,6 +42,7 @@ record StandsBelow (m : Store) (level : ℕ) (es : List NodeEntry) (node : PageN
   pub members : (i : Member) → Contains (members_under m above node.0) i → Contains (members_in m (suc level) es) i
   pub page : 1 ≤ times node.0 (pages_below m (suc level) es)
 
+-- the whole tree stands at its top
 top_stands : (m : Store) (l n : ℕ) → StandsAt m l n → NodeStands m l n (n, suc l)
 top_stands m l n s = record {
   above = l;
@@ -50,6 +53,7 @@ top_stands m l n s = record {
   page = omega (arith, same_self n);
 }
 
+-- at each node under the entries of a node stands a tree
 row_stands : (m : Store) (l : ℕ) (below : (c : ℕ) (x : PageNode) → StandsAt m l c → Contains (nodes_under m l c) x → NodeStands m l c x) (es : List NodeEntry) → StandsUnder m (suc l) es
     → (node : PageNode) → Contains (nodes_below m (suc l) es) node → StandsBelow m l es node
 row_stands m l below [] s node h = absurd (none node h)
@@ -112,13 +116,31 @@ leaf_of m (suc l) n i h =
       listed,
     )
 
+-- the pages of the nodes are those of the tree, so no page is that of two nodes
+pages_of : (m : Store) (l : ℕ) (es : List NodeEntry) → map (λ (x : PageNode). x.0) (nodes_below m l es) ≡ pages_below m l es
+pages_of m zero es = refl
+pages_of m (suc l) [] = refl
+pages_of m (suc l) (e ∷ es) =
+    map_append (λ (x : PageNode). x.0) ((e.child, suc l) ∷ nodes_below m l (entries_at m e.child)) (nodes_below m (suc l) es)
+    ∙ ap₂ (λ (xs : List ℕ) (ys : List ℕ). (e.child ∷ xs) ++ ys) (pages_of m l (entries_at m e.child)) (pages_of m (suc l) es)
+
+-- where a tree owns its pages, no page is that of two of its nodes
+pub nodes_once : (m : Store) (l n : ℕ) → ((q : ℕ) → times q (pages_under m l n) ≤ live m q) → (q : ℕ) → times q (map (λ (x : PageNode). x.0) (nodes_under m l n)) ≤ 1
+nodes_once m l n owns q =
+    let same_pages : times q (map (λ (x : PageNode). x.0) (nodes_under m l n)) ≡ times q (pages_under m l n) = ap (λ (xs : List ℕ). times q (n ∷ xs)) (pages_of m l (entries_at m n)) in
+    let few = owns q in
+    let one = live_small m q in
+    omega arith
+
 -- ---- the test of a node
 
+-- nodes that pass the test are one
 pub same_node_is : (a b : PageNode) → same_node a b ≡ true → a ≡ b
 same_node_is a b e =
     let h = both_true (nat_eq a.0 b.0) (nat_eq a.1 b.1) e in
     ap₂ (λ (page : ℕ) (height : ℕ). (page, height)) (eqb-true a.0 b.0 h.0) (eqb-true a.1 b.1 h.1)
 
+-- a node passes it with itself
 same_node_itself : (a : PageNode) → same_node a a ≡ true
 same_node_itself a = true_both (nat_eq a.0 a.0) (nat_eq a.1 a.1) (eq-eqb a.0 a.0 refl) (eq-eqb a.1 a.1 refl)
 

@@ -27,6 +27,8 @@ use Rattle.pmr_tree.specs.Laws.{AreInPlane}
 use Rattle.pmr_tree.specs.Quadtree.{store_of}
 use Rattle.best_first.specs.Hierarchy.{Shows}
 use Rattle.best_first.specs.Reach.{IsSameGap, IsAtMost}
+use Rattle.best_first.specs.declared.item.Item.{Item}
+use Rattle.best_first.specs.declared.item.Item.TheVariants as item
 use Rattle.best_first.proofs.Bags.{cons_cases, none, All-by}
 use Rattle.best_first.proofs.Gaps.{same_itself, same_back}
 use Rattle.rank_cursor.specs.Cursor.{the_measure, goal_gap}
@@ -38,26 +40,32 @@ use Rattle.near_cursor.specs.NearRanking.{member_figure, row_figure, ListsRows, 
 
 -- ---- rows in the plane
 
+-- each of rows in the plane lies there
 row_in_plane : (rows : List (ℕ × Shape)) (row : ℕ × Shape) → AreInPlane rows → Contains rows row → IsShapeInPlane row.1
 row_in_plane [] row h at = absurd (none row at)
 row_in_plane (x ∷ xs) row h at = ⊎_elim (λ e. subst (λ (r : ℕ × Shape). IsShapeInPlane r.1) e h.0) (λ t. row_in_plane xs row h.1 t) (cons_cases x xs row at)
 
+-- so it lies in the closed square
 pub row_closed : (rows : List (ℕ × Shape)) (row : ℕ × Shape) → AreInPlane rows → Contains rows row → IsShapeInClosedPlane row.1
 row_closed rows row h at = closed_shape row.1 (row_in_plane rows row h at)
 
 -- ---- ids of their own
 
+-- how often a number stands in a list is a sum over it
 times-sum : (q : ℕ) (xs : List ℕ) → times q xs ≡ sum_by (same q) xs
 times-sum q [] = refl
 times-sum q (x ∷ xs) = omega (arith, times-sum q xs, sum_by-cons (same q) x xs)
 
+-- so it is the same in another order
 times-perm : (q : ℕ) (xs ys : List ℕ) → IsPermutation xs ys → times q ys ≡ times q xs
 times-perm q xs ys p = times-sum q ys ∙ (sum_by-IsPermutation (same q) xs ys p ∙ sym (times-sum q xs))
 
+-- a number that stands in a list stands there once at least
 counted : (x : ℕ) (xs : List ℕ) → Contains xs x → 1 ≤ times x xs
 counted x [] h = absurd (none x h)
 counted x (y ∷ ys) h = ⊎_elim (λ e. subst (λ (z : ℕ). 1 ≤ same x z + times x ys) (sym e) (omega (arith, same_self x))) (λ t. let k = counted x ys t in omega arith) (cons_cases y ys x h)
 
+-- rows no id of which stands twice have ids of their own
 pub own_ids : (rows : List (ℕ × Shape)) → ((id : ℕ) → times id (map (λ (row : ℕ × Shape). row.0) rows) ≤ 1) → HaveOwnIds rows
 own_ids [] once = tt
 own_ids (row ∷ rows) once = (
@@ -71,13 +79,16 @@ own_ids (row ∷ rows) once = (
     twice : (n s : ℕ) → s ≡ 1 → 1 ≤ n → s + n ≤ 1 → ⊥
     twice n s e h k = omega arith
 
+-- the id of an id with a figure
 abbrev first_of : ℕ × Goal → ℕ
 first_of x = x.0
 
+-- the ids of members with their figures are those of the members
 member_firsts : (is : List Member) → map first_of (map member_figure is) ≡ member_ids is
 member_firsts [] = refl
 member_firsts (i ∷ is) = ap (λ (ids : List ℕ). i.0 ∷ ids) (member_firsts is)
 
+-- and those of rows with their figures are those of the rows
 row_firsts : (rows : List (ℕ × Shape)) → map first_of (map row_figure rows) ≡ map (λ (row : ℕ × Shape). row.0) rows
 row_firsts [] = refl
 row_firsts (row ∷ rows) = ap (λ (ids : List ℕ). row.0 ∷ ids) (row_firsts rows)
@@ -85,6 +96,7 @@ row_firsts (row ∷ rows) = ap (λ (ids : List ℕ). row.0 ∷ ids) (row_firsts 
 -- ---- members and rows
 
 module _ (pages : PageMap) (t : RTree) (rows : List (ℕ × Shape)) (fits : ListsRows pages t rows) where
+  -- what the tree lists
   abbrev members : List Member
   members = tree_members (store_of pages) t
 
@@ -116,9 +128,30 @@ module _ (pages : PageMap) (t : RTree) (rows : List (ℕ × Shape)) (fits : List
       let (row, among, is) = member_row i at in
       subst IsGoalInClosedPlane (ap (λ (x : ℕ × Goal). x.1) is) (rough_in_closed_plane row.1 (row_closed rows row plane among))
 
+-- ---- items by their kind
+
+-- the item is a rough object
+abbrev pub is_rough_item : Item PageNode → Bool
+is_rough_item (item.Node g n) = false
+is_rough_item (item.Rough g l r) = true
+is_rough_item (item.Row g l r) = false
+
+-- the left id of an item
+abbrev pub left_of : Item PageNode → ℕ
+left_of (item.Node g n) = 0
+left_of (item.Rough g l r) = l
+left_of (item.Row g l r) = l
+
+-- its right id
+abbrev pub right_of : Item PageNode → ℕ
+right_of (item.Node g n) = 0
+right_of (item.Rough g l r) = r
+right_of (item.Row g l r) = r
+
 -- ---- the item of a member and its row
 
-abbrev is_rect : Goal → Bool
+-- the figure is a rectangle
+abbrev pub is_rect : Goal → Bool
 is_rect (figure.Shape s) = false
 is_rect (figure.Rect r) = true
 
@@ -158,6 +191,7 @@ flat_ranking goal ceiling rows = record {
   fetch_price = 0;
 }
 
+-- it is sound where the rows lie in the plane, each with an id of its own
 pub flat_sound : (goal : Goal) (ceiling : Option ℕ) (rows : List (ℕ × Shape)) → IsGoalInClosedPlane goal → AreInPlane rows → HaveOwnIds rows → IsSound (flat_ranking goal ceiling rows)
 flat_sound goal ceiling rows g plane own = record {
   readable = tt;

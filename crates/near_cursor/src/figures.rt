@@ -1,4 +1,4 @@
-ghost use Rattle.std.specs.Prelude.{◌≡◌, ◌↔◌, true, All, IsTrue};
+ghost use Rattle.std.specs.Prelude.{◌≡◌, ◌↔◌, IsTrue};
 ghost use Rattle.sand_base.specs.Plane.{IsGoalInClosedPlane, IsInClosedPlane, IsRectInClosedPlane, IsShapeInClosedPlane};
 ghost use Rattle.sand_base.specs.declared.goal.Goal.TheVariants as figure;
 ghost use Rattle.pmr_tree.specs.Entries.{figure_of};
@@ -33,7 +33,7 @@ pub fn shape_gap(goal: &Goal, shape: &Shape) -> Frac
 
 // Whether a point lies in the closed square round the plane.
 fn is_point_in_plane(p: Point) -> bool
-    ensures { result ≡ true → IsInClosedPlane p }
+    ensures { IsTrue result ↔ IsInClosedPlane p }
 {
     p.x <= SIDE && p.y <= SIDE
 }
@@ -49,7 +49,7 @@ pub fn is_rect_in_plane(r: Rect) -> bool
 
 // Whether a rough shape lies in the closed square.
 pub fn is_rough_in_plane(rough: Rough) -> bool
-    ensures { result ≡ true → IsGoalInClosedPlane (figure_of rough) }
+    ensures { IsTrue result ↔ IsGoalInClosedPlane (figure_of rough) }
 {
     match rough {
         Rough::Point(p) => is_point_in_plane(p),

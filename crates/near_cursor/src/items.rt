@@ -1,4 +1,4 @@
-ghost use Rattle.std.specs.Prelude.{◌≡◌, ℕ, ◌*◌, ◌-◌, ◌≤◌, true, All, map, length, OnOk, OnErr};
+ghost use Rattle.std.specs.Prelude.{◌≡◌, ◌↔◌, All, map, IsTrue, OnOk, OnErr};
 ghost use Rattle.sand_base.specs.Plane.{IsGoalInClosedPlane, IsRectInClosedPlane};
 ghost use Rattle.pmr_tree.specs.Entries.{figure_of};
 ghost use Rattle.best_first.specs.Hierarchy.{FindsAlike};
@@ -13,7 +13,7 @@ use sand_base::{Goal, NoMemory, Rect, Rough, Shape};
 
 // Whether all members have rough shapes in the closed square.
 fn are_members_in_plane(members: &[(u32, Rough)]) -> bool
-    ensures { result ≡ true → All (λ i. IsGoalInClosedPlane (figure_of i.1)) members.now }
+    ensures { IsTrue result ↔ All (λ i. IsGoalInClosedPlane (figure_of i.1)) members.now }
 {
     'members: for member in members {
         if !is_rough_in_plane(member.1) {
@@ -25,7 +25,7 @@ fn are_members_in_plane(members: &[(u32, Rough)]) -> bool
 
 // Whether all branches have rectangles in the closed square.
 fn are_branches_in_plane(branches: &[(Rect, u64)]) -> bool
-    ensures { result ≡ true → All (λ b. IsRectInClosedPlane b.0) branches.now }
+    ensures { IsTrue result ↔ All (λ b. IsRectInClosedPlane b.0) branches.now }
 {
     'branches: for branch in branches {
         if !is_rect_in_plane(branch.0) {

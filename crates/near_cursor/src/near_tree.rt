@@ -1,4 +1,4 @@
-ghost use Rattle.std.specs.Prelude.{◌≡◌, ℕ};
+ghost use Rattle.std.specs.Prelude.{◌≡◌};
 ghost use Rattle.sand_base.specs.InRange.{IsCeilingInRange};
 ghost use Rattle.std.proofs.Props.{props};
 ghost use Rattle.sand_base.specs.Plane.{IsGoalInClosedPlane};
