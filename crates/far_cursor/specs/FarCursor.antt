@@ -9,7 +9,7 @@ use Rattle.z_code.specs.declared.block.Block.{Block}
 use Rattle.sand_model.specs.Checks.{check_column}
 use Rattle.sand_model.specs.Database.{shapes_of}
 use Rattle.sand_model.specs.Measure.{Measure, IsMeasure}
-use Rattle.sand_model.specs.Plan.{Column}
+use Rattle.statements.specs.declared.column.Column.{Column}
 use Rattle.sand_model.specs.Sources.{column_shapes}
 use Rattle.page_pool.specs.Disk.{PageMap}
 use Rattle.page_pool.specs.declared.fault.PageFault.{PageFault}

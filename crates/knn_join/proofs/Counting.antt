@@ -10,7 +10,7 @@ use Rattle.best_first.specs.Hierarchy.{Meaning, MeetsLaws}
 use Rattle.best_first.proofs.Bags.{from_filter}
 use Rattle.best_first.proofs.Gaps.{same_back, same_trans}
 use Rattle.semi_join.specs.Listed.{ListsAnswer}
-use Rattle.knn_join.specs.Nearest.{with_one_more, nearest_after, nearest_of}
+use Rattle.sand_model.specs.Sources.{with_one_more, nearest_after, nearest_of}
 use Rattle.knn_join.specs.PartnerCounts.{PartnerCounts, given_to, gives_to}
 use Rattle.knn_join.specs.Listed.{comes_after, later_than, partners_left}
 use Rattle.knn_join.specs.Standing.{how_often, with_left, HasSides, AreCountedUpTo}

@@ -5,7 +5,7 @@ use Rattle.std.proofs.lemmas.Bool.{eqb-true, lt-ltb, le-ltb, eq-eqb, cases_lt}
 use Rattle.std.proofs.lemmas.Bool.Decides.{nat_tests}
 use Rattle.sand_model.specs.Sources.{Found, first_of_each}
 use Rattle.best_first.proofs.Bags.{here, there}
-use Rattle.knn_join.specs.Nearest.{with_one_more, nearest_after, nearest_of}
+use Rattle.sand_model.specs.Sources.{with_one_more, nearest_after, nearest_of}
 
 -- ---- counts up to k
 

@@ -13,7 +13,7 @@ use Rattle.best_first.proofs.Journeys.{stays, goes_both}
 use Rattle.best_first.proofs.ForLayers.{goes_from_ok}
 use Rattle.semi_join.specs.Listed.{ListsAnswer, TakesFirst}
 use Rattle.semi_join.proofs.Turns.{Calls}
-use Rattle.knn_join.specs.Nearest.{nearest_after}
+use Rattle.sand_model.specs.Sources.{nearest_after}
 use Rattle.knn_join.specs.PartnerCounts.{PartnerCounts, given_to, gives_to}
 use Rattle.knn_join.specs.Listed.{partners_left, LeavesRest}
 use Rattle.knn_join.specs.Standing.{HasSides, AreCountedUpTo, KnnStands}

@@ -1,5 +1,3 @@
--- the rows as lists
-pub mod Nearest
 -- what is kept of them
 pub mod PartnerCounts
 pub mod Listed

@@ -8,7 +8,7 @@ use Rattle.best_first.specs.declared.hit.Hit.{Hit}
 use Rattle.best_first.specs.Answer.{hit_cmp}
 use Rattle.best_first.specs.Hierarchy.{Meaning}
 use Rattle.semi_join.specs.Listed.{hit_of, ListsAnswer, TakesFirst}
-use Rattle.knn_join.specs.Nearest.{nearest_after}
+use Rattle.sand_model.specs.Sources.{nearest_after}
 use Rattle.knn_join.specs.PartnerCounts.{PartnerCounts, given_to}
 
 -- whether an element comes after the last row that was given, if any was

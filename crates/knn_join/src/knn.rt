@@ -7,7 +7,7 @@ ghost use Rattle.best_first.specs.Frontier.{StandsOver};
 ghost use Rattle.best_first.specs.Visits.{told_pages, state};
 ghost use Rattle.best_first.specs.Steps.{steps, Falls};
 ghost use Rattle.semi_join.specs.Listed.{ListsAnswer, TakesFirst};
-ghost use Rattle.knn_join.specs.Nearest.{nearest_of};
+ghost use Rattle.sand_model.specs.Sources.{nearest_of};
 ghost use Rattle.knn_join.specs.PartnerCounts.{GivesPartner};
 ghost use Rattle.knn_join.specs.Listed.{partners_left, LeavesRest};
 ghost use Rattle.knn_join.specs.Standing.{HasSides, KnnStands, KnnStandsOn};

@@ -2,10 +2,10 @@
 //!
 //! A best-first search gives the pairs in their order. A pair whose left row has had its k partners is passed over,
 //! and a byte for each left id counts them. It ends once each left row has had as many as it can have, without a
-//! further visit, or where the search ends. Above: nothing in the program yet. Below: `best_first`, over any hierarchy and any
+//! further visit, or where the search ends. Above: `pair_source`. Below: `best_first`, over any hierarchy and any
 //! queue, and `semi_join` for answers as lists.
-//! Contracts see the search as `best_first` has it, and the counts as `PartnerCounts`; read `specs/Nearest.antt`
-//! first, then `specs/PartnerCounts.antt`, `specs/Listed.antt` and `specs/Visits.antt`.
+//! Contracts see the search as `best_first` has it, and the counts as `PartnerCounts`; read
+//! `specs/PartnerCounts.antt` first, then `specs/Listed.antt` and `specs/Visits.antt`.
 //! After G. Hjaltason and H. Samet, Incremental distance join algorithms for spatial databases (1998).
 #![tactic(auto)]
 

@@ -4,7 +4,6 @@ use Rattle.std.specs.Prelude.{Result, Ok, IfOk, OnErr, is_err}
 use Rattle.line_meaning.proofs.LineCalls.{of_statement, passed_over, too_long, unread}
 use Rattle.line_meaning.specs.Carrying.{CarriesLine}
 use Rattle.line_meaning.specs.Reading.{Says, Refuses}
-use Rattle.line_meaning.specs.Spoken.{statement_of}
 use Rattle.open_cursors.proofs.Given.{most_more}
 use Rattle.open_cursors.specs.Carried.{CarriesBeside, GaveAtMost, rows_by}
 use Rattle.open_cursors.specs.OpenCursors.{HaveOwnNames}
@@ -23,9 +22,9 @@ use Rattle.sand_model.specs.OutputText.{IsText}
 use Rattle.sand_store.specs.Calls.{Carries}
 use Rattle.sand_store.specs.Catalog.{CatalogView, StoreState}
 use Rattle.script_text.specs.InRange.{IsInRange}
-use Rattle.script_text.specs.Statement as text
-use Rattle.script_text.specs.Statement.{StatementValue, statement_value}
-use Rattle.script_text.specs.declared.statement.Statement.{Statement}
+use Rattle.statements.specs.Statement as statement
+use Rattle.statements.specs.Statement.{Statement, statement_value}
+use Rattle.statements.specs.declared.statement.Statement as declared
 use Rattle.statement_exec.proofs.Texts.{writes_none}
 use Rattle.statement_exec.proofs.Written.{answer_written, one_written, writes_so}
 use Rattle.statement_exec.specs.Causes.{BlamesNone}
@@ -44,44 +43,44 @@ gave_less most more [] less few = tt
 gave_less most more (c ∷ cs) less few = let one : c.given ≤ most = few.0 in (omega (arith, one, less), gave_less most more cs less few.1)
 
 -- a statement that is in range asks for no more rows than can be written in 32 bits
-asks_few : (statement : StatementValue) → IsInRange statement → rows_by (statement_of statement) ≤ 4294967295
-asks_few (text.Create relation columns) range = omega arith
-asks_few (text.Insert relation values) range = omega arith
-asks_few (text.Delete relation id) range = omega arith
-asks_few (text.Load relation file header) range = omega arith
-asks_few (text.Index column threshold) range = omega arith
-asks_few (text.OpenCursor cursor p) range = omega arith
-asks_few (text.Next cursor count) range = let most = range.1.most in omega (arith, most)
-asks_few (text.CloseCursor cursor) range = omega arith
-asks_few (text.Show count p) range = omega arith
-asks_few (text.Stats cursor) range = omega arith
-asks_few (text.Blocks column) range = omega arith
+asks_few : (statement : Statement) → IsInRange statement → rows_by statement ≤ 4294967295
+asks_few (statement.Create relation columns) range = omega arith
+asks_few (statement.Insert relation values) range = omega arith
+asks_few (statement.Delete relation id) range = omega arith
+asks_few (statement.Load relation file header) range = omega arith
+asks_few (statement.Index column threshold) range = omega arith
+asks_few (statement.OpenCursor cursor p) range = omega arith
+asks_few (statement.Next cursor count) range = let most = range.1.most in omega (arith, most)
+asks_few (statement.CloseCursor cursor) range = omega arith
+asks_few (statement.Show count p) range = omega arith
+asks_few (statement.Stats cursor) range = omega arith
+asks_few (statement.Blocks column) range = omega arith
 
 -- the statement, which may have come back, read over a store whose moment is the first one: its line did so
-pub line_of_reading : (line : List ℕ) (statement other : Statement) (mid new : StoreState) (old : List Cursor → Moment) (files : Option Files) (shelf : ℕ) (cs : List Cursor) (a b : List ℕ → Type 0)
+pub line_of_reading : (line : List ℕ) (statement other : declared.Statement) (mid new : StoreState) (old : List Cursor → Moment) (files : Option Files) (shelf : ℕ) (cs : List Cursor) (a b : List ℕ → Type 0)
     (r : Result Bool Failed) (At : List Cursor → Type 0) → Says line (Some statement) → statement_value other ≡ statement_value statement → new.catalog ≡ mid.catalog → while_open mid files shelf cs ≡ old cs
-    → CarriesBeside (statement_of (statement_value other)) mid.catalog mid.pool new.pool cs a b r At → LineCarried (Some line) old (while_open new files shelf) cs a b r At
+    → CarriesBeside (statement_value other) mid.catalog mid.pool new.pool cs a b r At → LineCarried (Some line) old (while_open new files shelf) cs a b r At
 line_of_reading line statement other mid new old files shelf cs a b r At says same kept begins h =
-    let range : IsInRange (statement_value other) = subst (λ (v : StatementValue). IsInRange v) (sym same) says.0 in
-    let few : rows_by (statement_of (statement_value other)) ≤ 4294967295 = asks_few (statement_value other) range in
+    let range : IsInRange (statement_value other) = subst (λ (v : Statement). IsInRange v) (sym same) says.0 in
+    let few : rows_by (statement_value other) ≤ 4294967295 = asks_few (statement_value other) range in
     record {
       after = h.after;
       own = h.own;
       at = h.at;
-      given = λ bound gave. gave_less (bound + rows_by (statement_of (statement_value other))) (bound + 4294967295) h.after (omega (arith, few)) (h.given bound gave);
-      writes = writes_so (PerformsBeside (statement_of (statement_value other)) mid.catalog mid.pool new.pool cs h.after) (CarriesLine (Some line) (old cs) (while_open new files shelf h.after)) a b
+      given = λ bound gave. gave_less (bound + rows_by (statement_value other)) (bound + 4294967295) h.after (omega (arith, few)) (h.given bound gave);
+      writes = writes_so (PerformsBeside (statement_value other) mid.catalog mid.pool new.pool cs h.after) (CarriesLine (Some line) (old cs) (while_open new files shelf h.after)) a b
           (λ lines performs.
           let said : CarriesLine (Some line) (while_open mid files shelf cs) (beside h.after mid.catalog new.pool files shelf) lines =
           said_beside line statement (while_open mid files shelf cs) (beside h.after mid.catalog new.pool files shelf) lines says
-          (subst (λ (v : StatementValue). PerformsLowest (statement_of v) (while_open mid files shelf cs) (beside h.after mid.catalog new.pool files shelf) lines) same (performs files shelf)) in
+          (subst (λ (v : Statement). PerformsLowest v (while_open mid files shelf cs) (beside h.after mid.catalog new.pool files shelf) lines) same (performs files shelf)) in
           subst (λ (m : Moment). CarriesLine (Some line) m (while_open new files shelf h.after) lines) begins
           (subst (λ (k : CatalogView). CarriesLine (Some line) (while_open mid files shelf cs) (beside h.after k new.pool files shelf) lines) (sym kept) said)) r h.writes;
     }
 
 -- the statement changed relations: its line did so, and the open cursors stand where they stood
-pub line_of_change : (line : List ℕ) (statement : Statement) (old new : StoreState) (files files' : Option Files) (shelf shelf' : ℕ) (a b : List ℕ → Type 0) (answer : Result Reply Refusal) (r : Result Bool Failed)
+pub line_of_change : (line : List ℕ) (statement : declared.Statement) (old new : StoreState) (files files' : Option Files) (shelf shelf' : ℕ) (a b : List ℕ → Type 0) (answer : Result Reply Refusal) (r : Result Bool Failed)
     (items : List (OpenCursor Source Stage)) (cs : List Cursor) → Says line (Some statement) → HaveOwnNames cs → Carries old new → StandOver old.pool items cs
-    → Performs (statement_of (statement_value statement)) (while_open old files shelf cs) (while_open new files' shelf' cs) (line_of_answer answer ∷ [])
+    → Performs (statement_value statement) (while_open old files shelf cs) (while_open new files' shelf' cs) (line_of_answer answer ∷ [])
     → IfOk r (λ refused. (refused ≡ is_err answer) × Writes (IsText (line_of_answer answer ∷ [])) a b) → OnErr r (WritesPrefix (IsText (line_of_answer answer ∷ [])) a b)
     → LineCarried (Some line) (while_open old files shelf) (while_open new files' shelf') cs a b r (StandOver new.pool items)
 line_of_change line statement old new files files' shelf shelf' a b answer r items cs says own carries stand performs written part = record {

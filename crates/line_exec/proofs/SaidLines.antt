@@ -2,17 +2,16 @@
 use Rattle.std.proofs.Common.{ℕ, List, Some, sym, subst, inl}
 use Rattle.sand_model.specs.Cursor.{OutputLine}
 use Rattle.sand_model.specs.Run.{LineOutcome}
-use Rattle.sand_model.specs.Statement.{ScriptLine}
+use Rattle.sand_model.specs.ScriptLine.{ScriptLine}
 use Rattle.line_meaning.proofs.LineCalls.{finds_own, said_decided}
 use Rattle.line_meaning.specs.Carrying.{CarriesLine}
 use Rattle.line_meaning.specs.Reading.{Says}
-use Rattle.line_meaning.specs.Spoken.{statement_of}
-use Rattle.script_text.specs.Statement.{statement_value}
-use Rattle.script_text.specs.declared.statement.Statement.{Statement}
+use Rattle.statements.specs.Statement.{statement_value}
+use Rattle.statements.specs.declared.statement.Statement.{Statement}
 use Rattle.statement_exec.specs.Moment.{Moment, rises_between}
 use Rattle.open_cursors.specs.Outcomes.{PerformsLowest}
 
-pub said_beside : (line : List ℕ) (statement : Statement) (old new : Moment) (lines : List OutputLine) → Says line (Some statement) → PerformsLowest (statement_of (statement_value statement)) old new lines
+pub said_beside : (line : List ℕ) (statement : Statement) (old new : Moment) (lines : List OutputLine) → Says line (Some statement) → PerformsLowest (statement_value statement) old new lines
     → CarriesLine (Some line) old new lines
 said_beside line statement old new lines says h = (
   h.0.0,

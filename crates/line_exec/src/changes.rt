@@ -1,12 +1,11 @@
 // Statements that change relations.
 ghost use Rattle.std.specs.Prelude.{◌≡◌, ◌∷◌, [], IfErr, IfOk, List, OnErr};
 ghost use Rattle.line_meaning.specs.Carrying.{Follows};
-ghost use Rattle.line_meaning.specs.Spoken.{statement_of};
 ghost use Rattle.open_cursors.specs.Carried.{IsChange};
 ghost use Rattle.sand_model.specs.Cursor.{Cursor};
 ghost use Rattle.sand_store.specs.Calls.{Carries};
 ghost use Rattle.script_text.specs.InRange.{IsInRange};
-ghost use Rattle.script_text.specs.Statement.{statement_value};
+ghost use Rattle.statements.specs.Statement.{statement_value};
 ghost use Rattle.statement_exec.specs.Moment.{moment_of, while_open};
 ghost use Rattle.statement_exec.specs.Performing.{Performs, line_of_answer};
 
@@ -25,7 +24,7 @@ pub(crate) fn change<D: Disk, H: Shelf>(
     statement: Statement,
 ) -> Result<Result<Reply, Refusal>, Statement>
     requires { IsInRange (statement_value statement) }
-    ensures answers { IfOk result (λ answer. (cs : List Cursor) → Performs (statement_of (statement_value statement)) (while_open store.old (H.files shelf.old) (H.faults shelf.old) cs) (while_open store.new (H.files shelf.new) (H.faults shelf.new) cs) (line_of_answer answer ∷ [])) }
+    ensures answers { IfOk result (λ answer. (cs : List Cursor) → Performs (statement_value statement) (while_open store.old (H.files shelf.old) (H.faults shelf.old) cs) (while_open store.new (H.files shelf.new) (H.faults shelf.new) cs) (line_of_answer answer ∷ [])) }
     ensures returned { IfErr result (λ other. (statement_value other ≡ statement_value statement) × (IsChange (statement_value statement) → ⊥)) }
     ensures unchanged { OnErr result (store.new ≡ store.old) }
     ensures carries { Carries store.old store.new }

@@ -11,6 +11,6 @@
 
 mod changes;
 mod line;
-mod statements;
+mod statement;
 
 pub use line::carry_line;

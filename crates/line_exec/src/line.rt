@@ -9,7 +9,7 @@ ghost use Rattle.script_text.specs.declared.TheConstants.{LONGEST_LINE};
 ghost use Rattle.statement_exec.specs.Moment.{moment_of, while_open};
 ghost use Rattle.line_exec.specs.LineCarried.{LineCarried};
 
-use crate::statements::carry_statement;
+use crate::statement::carry_statement;
 use line_meaning::read_line;
 use open_cursors::OpenCursor;
 use page_pool::Disk;

@@ -10,14 +10,14 @@ use Rattle.script_text.specs.Lexing.{pieces, unread, fault_room}
 use Rattle.script_text.specs.Line.{is_passed_over, Reads}
 use Rattle.script_text.specs.Reading.{State, at}
 use Rattle.script_text.specs.Rules.{statement_form}
-use Rattle.script_text.specs.Statement.{StatementValue}
+use Rattle.statements.specs.Statement.{Statement}
 use Rattle.script_text.proofs.CutLaws.{IsEnd, cut-are, pieces-cut, unread-end, skip-within}
 use Rattle.script_text.proofs.Ranged.{statement-in_range}
 use Rattle.script_text.proofs.Whole.{whole-of, whole-first_bad}
 
 -- an answer of the line other than want of memory
 abbrev pub HasReading : List ℕ → Type 0
-HasReading line = (answer : Result (Option StatementValue) LineFault) × (answer ≢ Err Memory) × Reads line answer
+HasReading line = (answer : Result (Option Statement) LineFault) × (answer ≢ Err Memory) × Reads line answer
 
 -- what follows a token is no longer than the bytes that it stands in
 after-within : (bytes text after : List ℕ) → skip_blanks bytes ≡ text ++ after → length after ≤ length bytes
@@ -54,7 +54,7 @@ fault-reading line rest counts cut fault =
 -- a line that counts, and falls into tokens to its end
 module _ (line : List ℕ) (counts : is_passed_over line ≡ false) (lexed : IsLexed line (pieces line)) where
   -- its tokens write a statement, in range or not
-  statement-reading : (x : StatementValue) (flag : Bool) → IsOf statement_form x flag (pieces line) → HasReading line
+  statement-reading : (x : Statement) (flag : Bool) → IsOf statement_form x flag (pieces line) → HasReading line
   statement-reading x true is =
       let in_range = statement-in_range x (pieces line) (cut-are line (pieces line) [] lexed) is in
       (Ok (Some x), (λ e. absurd cc), record { tokens = pieces line; lexed = lexed; written = is; in_range = in_range })
@@ -70,7 +70,7 @@ module _ (line : List ℕ) (counts : is_passed_over line ≡ false) (lexed : IsL
   -- one of the two
   lexed-reading : HasReading line
   lexed-reading =
-      let go : (r : Result (StatementValue × State) (List Placed)) → whole statement_form (at (pieces line) true) ≡ r → HasReading line =
+      let go : (r : Result (Statement × State) (List Placed)) → whole statement_form (at (pieces line) true) ≡ r → HasReading line =
       elim [
         | Ok y ↦ λ e. statement-reading y.0 y.1.in_range (whole-of statement_form refl (pieces line) y e).1
         | Err bad ↦ bad-reading bad

@@ -9,11 +9,11 @@
 
 ghost use Rattle.std.specs.Prelude.{◌≢◌, ℕ, List, Option, Result, Err};
 ghost use Rattle.script_text.specs.Line.{Reads};
-ghost use Rattle.script_text.specs.Statement.{StatementValue};
+ghost use Rattle.statements.specs.Statement.{Statement};
 ghost use Rattle.script_text.specs.declared.parse.LineFault.{LineFault};
 ghost use Rattle.script_text.specs.declared.parse.LineFault.TheVariants.{Memory};
 
 /// Does nothing: its clause says that every line has an answer other than want of memory.
 pub fn every_line_has_a_reading()
-    ensures { (line : List ℕ) → (answer : Result (Option StatementValue) LineFault) × (answer ≢ Err Memory) × Reads line answer }
+    ensures { (line : List ℕ) → (answer : Result (Option Statement) LineFault) × (answer ≢ Err Memory) × Reads line answer }
 {}

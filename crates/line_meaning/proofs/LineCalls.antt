@@ -7,12 +7,12 @@ use Rattle.sand_base.specs.declared.refusal.Refusal.TheVariants as why
 use Rattle.sand_model.specs.Cursor.{State, OutputLine, Refused}
 use Rattle.sand_model.specs.Outcome.{Rises, Outcome, IsRefusedBy}
 use Rattle.sand_model.specs.Run.{LineOutcome}
-use Rattle.sand_model.specs.Statement.{Statement as Spoken, Load, ScriptLine, Blank, TooLong, BadToken, OutOfRange, Says as SaysOf}
+use Rattle.statements.specs.Statement.{Statement as Spoken, Load, Statement, statement_value}
+use Rattle.sand_model.specs.ScriptLine.{ScriptLine, Blank, TooLong, BadToken, OutOfRange, Says as SaysOf}
 use Rattle.sand_model.specs.StatementChecks.{Setting}
-use Rattle.script_text.specs.Statement.{StatementValue, statement_value}
 use Rattle.script_text.specs.declared.parse.LineFault.{LineFault}
 use Rattle.script_text.specs.declared.parse.LineFault.TheVariants as fault
-use Rattle.script_text.specs.declared.statement.Statement.{Statement}
+use Rattle.statements.specs.declared.statement.Statement as declared
 use Rattle.statement_exec.specs.Causes.{BlamesNone}
 use Rattle.statement_exec.specs.Moment.{AreTold, Moment, rises_between}
 use Rattle.statement_exec.specs.Deciding.{DecidesEarly}
@@ -24,7 +24,7 @@ use Rattle.line_meaning.specs.Said.{IsAnswered}
 use Rattle.line_meaning.specs.Carrying.{CarriesLine}
 use Rattle.line_meaning.specs.Reading.{Says, Refuses, IsRefusedSo}
 use Rattle.line_meaning.specs.ShelfRun.{Finds}
-use Rattle.line_meaning.specs.Spoken.{IsLine, Tells, statement_of}
+use Rattle.line_meaning.specs.Spoken.{IsLine, Tells}
 
 -- where the shelf tells its files they are the setting's, so any line may be carried out in it
 pub finds_own : (files : Option Files) (setting : Setting) (line : ScriptLine) → AreTold files setting.files → Finds files setting line setting
@@ -48,19 +48,19 @@ Goes old new lines setting told =
     (own : Setting) × Finds old.files setting told own × (LineOutcome own (rises_between old new) old.state told lines new.state ⊎ IsRefusedBy why.Memory old.state lines new.state)
 
 -- what is decided of a statement is what its line says
-pub said_decided : (line : List ℕ) (statement : Statement) (told : ScriptLine) (old new : Moment) (lines : List OutputLine) → Says line (Some statement) → IsLine (Some line) told
-    → IsDecided (statement_of (statement_value statement)) old new lines → IsAnswered told old new lines
+pub said_decided : (line : List ℕ) (statement : declared.Statement) (told : ScriptLine) (old new : Moment) (lines : List OutputLine) → Says line (Some statement) → IsLine (Some line) told
+    → IsDecided (statement_value statement) old new lines → IsAnswered told old new lines
 said_decided line statement told old new lines says is h = subst (λ (t : ScriptLine). IsAnswered t old new lines) (sym (says.1 told is)) h
 
 -- a statement's outcome is that of its line
-pub of_statement : (line : List ℕ) (statement : Statement) (old new : Moment) (lines : List OutputLine) → Says line (Some statement) → Performs (statement_of (statement_value statement)) old new lines
+pub of_statement : (line : List ℕ) (statement : declared.Statement) (old new : Moment) (lines : List OutputLine) → Says line (Some statement) → Performs (statement_value statement) old new lines
     → CarriesLine (Some line) old new lines
 of_statement line statement old new lines says h = (
   h.0.0,
   λ told is. (
     said_decided line statement told old new lines says is h.0.1,
     λ t disk shelf setting gap s.
-        let found = outcome_found old.files setting (rises_between old new) old.state (statement_of (statement_value statement)) lines new.state (h.1 t disk shelf setting s) in
+        let found = outcome_found old.files setting (rises_between old new) old.state (statement_value statement) lines new.state (h.1 t disk shelf setting s) in
         subst (Goes old new lines setting) (sym (says.1 told is)) (found.0, found.1, inl found.2),
   ),
 )
@@ -79,7 +79,7 @@ passed_over line m says = (
 memory_said : (line : List ℕ) (m : Moment) (told : ScriptLine) → IsLine (Some line) told → IsAnswered told m m (Refused why.Memory ∷ [])
 memory_said line m Blank is = λ setting s. (inr refl, refl)
 memory_said line m TooLong is = absurd (not_long is.0 is.2) where
-  not_long : (answer : Result (Option StatementValue) LineFault) → Tells answer TooLong → ⊥
+  not_long : (answer : Result (Option Statement) LineFault) → Tells answer TooLong → ⊥
   not_long (Ok None) e = true≢false (ap is_too_long e)
   not_long (Ok (Some s)) e = true≢false (ap is_too_long e)
   not_long (Err (fault.Syntax column)) e = true≢false (ap is_too_long e)

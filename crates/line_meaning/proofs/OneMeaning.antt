@@ -1,11 +1,11 @@
 -- Each line says one thing.
 use Rattle.std.proofs.Common.{◌≡◌, ◌≢◌, ℕ, List, Option, Some, None, refl, sym, ap, subst, inr, true≢false, Bool, true, false}
 use Rattle.std.specs.Prelude.{Result, Ok, Err}
-use Rattle.sand_model.specs.Statement.{ScriptLine}
+use Rattle.sand_model.specs.ScriptLine.{ScriptLine}
 use Rattle.script_lines.specs.Lines.{chopped}
 use Rattle.script_text.specs.Line.{Reads, answer_value}
-use Rattle.script_text.specs.Statement.{statement_value, StatementValue}
-use Rattle.script_text.specs.declared.statement.Statement.{Statement}
+use Rattle.statements.specs.Statement.{statement_value, Statement}
+use Rattle.statements.specs.declared.statement.Statement as declared
 use Rattle.sand_base.specs.declared.refusal.Refusal.TheVariants as why
 use Rattle.script_text.specs.declared.parse.LineFault.{LineFault}
 use Rattle.script_text.specs.declared.parse.LineFault.TheVariants as fault
@@ -13,7 +13,7 @@ use Rattle.line_meaning.specs.Reading.{Says, Refuses, IsRefusedSo}
 use Rattle.line_meaning.specs.Spoken.{Tells, IsLine}
 
 abbrev Answer : Type 0
-Answer = Result (Option StatementValue) LineFault
+Answer = Result (Option Statement) LineFault
 
 abbrev is_memory : Answer → Bool
 is_memory (Err fault.Memory) = true
@@ -38,7 +38,7 @@ told_by one line answer told read some (other, same, tells) =
     subst (λ (a : Answer). Tells a told) is tells
 
 -- the statement of a line, or that it is passed over
-pub says : OneReading → (line : List ℕ) (statement : Option Statement) → Reads (chopped line) (answer_value (Ok statement)) → Says line statement
+pub says : OneReading → (line : List ℕ) (statement : Option declared.Statement) → Reads (chopped line) (answer_value (Ok statement)) → Says line statement
 says one line None read = λ told is. told_by one line (Ok None) told read (λ e. true≢false (sym (ap is_memory e))) is
 says one line (Some statement) read =
     (read.in_range, λ told is. told_by one line (Ok (Some (statement_value statement))) told read (λ e. true≢false (sym (ap is_memory e))) is)

@@ -11,7 +11,7 @@ use Rattle.sand_base.specs.declared.refusal.Refusal.TheVariants as why
 use Rattle.sand_model.specs.Cursor.{State, OutputLine}
 use Rattle.sand_model.specs.Outcome.{Rises, IsRefusedBy}
 use Rattle.sand_model.specs.Run.{FitIn, LineOutcome}
-use Rattle.sand_model.specs.Statement.{ScriptLine}
+use Rattle.sand_model.specs.ScriptLine.{ScriptLine}
 use Rattle.sand_model.specs.StatementChecks.{Setting}
 use Rattle.script_lines.specs.Lines.{clipped}
 use Rattle.statement_exec.specs.Causes.{AreCaused, IsCausedDamage, is_of_device, is_of_file}

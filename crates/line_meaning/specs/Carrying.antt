@@ -6,7 +6,7 @@ use Rattle.plan_rows.specs.Rows.{plan_measure}
 use Rattle.sand_model.specs.Cursor.{OutputLine}
 use Rattle.sand_model.specs.Outcome.{IsRefusedBy}
 use Rattle.sand_model.specs.Run.{LineOutcome}
-use Rattle.sand_model.specs.Statement.{ScriptLine}
+use Rattle.sand_model.specs.ScriptLine.{ScriptLine}
 use Rattle.sand_model.specs.StatementChecks.{Setting}
 use Rattle.statement_exec.specs.Causes.{AreCaused}
 use Rattle.statement_exec.specs.Moment.{Moment, rises_between, IsSettingOf}

@@ -4,7 +4,8 @@ use Rattle.sand_base.specs.Shelf.{Files}
 use Rattle.sand_model.specs.Cursor.{State, OutputLine}
 use Rattle.sand_model.specs.Outcome.{Rises}
 use Rattle.sand_model.specs.Run.{Begins}
-use Rattle.sand_model.specs.Statement.{ScriptLine, Says, Load}
+use Rattle.sand_model.specs.ScriptLine.{ScriptLine, Says}
+use Rattle.statements.specs.Statement.{Load}
 use Rattle.sand_model.specs.StatementChecks.{Setting}
 use Rattle.statement_exec.specs.Moment.{AreTold}
 

@@ -16,7 +16,7 @@ use Rattle.sand_model.specs.Database.{same_name}
 use Rattle.sand_model.specs.Measure.{Measure}
 use Rattle.sand_model.specs.Outcome.{IsLicensed, replaced, closed}
 use Rattle.sand_model.specs.OutputText.{IsText}
-use Rattle.sand_model.specs.Statement.{Statement, Next, CloseCursor}
+use Rattle.statements.specs.Statement.{Statement, Next, CloseCursor}
 use Rattle.sand_model.specs.StatementChecks.{early}
 use Rattle.sand_store.specs.Catalog.{CatalogView}
 use Rattle.statement_exec.proofs.CausedLines.{caused_inside}

@@ -13,8 +13,8 @@ use Rattle.sand_base.specs.declared.source.Failed.{Failed}
 use Rattle.sand_model.specs.Cursor.{Cursor, OutputLine, Accepted, Refused, Steps, new_cursor}
 use Rattle.sand_model.specs.Measure.{Measure}
 use Rattle.sand_model.specs.Outcome.{Rises, IsLicensed, replaced, closed}
-use Rattle.sand_model.specs.Plan.{Plan}
-use Rattle.sand_model.specs.Statement.{Statement, Next, CloseCursor, OpenCursor as Opens}
+use Rattle.statements.specs.Plan.{Plan}
+use Rattle.statements.specs.Statement.{Statement, Next, CloseCursor, OpenCursor as Opens}
 use Rattle.sand_model.specs.StatementChecks.{Setting, early}
 use Rattle.sand_store.specs.Catalog.{CatalogView}
 use Rattle.sand_store.specs.Contents.{database_in}

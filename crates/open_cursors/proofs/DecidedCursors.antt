@@ -12,8 +12,8 @@ use Rattle.sand_model.specs.Database.{same_name}
 use Rattle.sand_model.specs.Measure.{Measure}
 use Rattle.sand_model.specs.Outcome.{closed, uses_pages}
 use Rattle.sand_model.specs.OutputText.{is_refused}
-use Rattle.sand_model.specs.Plan.{Plan}
-use Rattle.sand_model.specs.Statement.{Statement, CloseCursor, OpenCursor as Opens}
+use Rattle.statements.specs.Plan.{Plan}
+use Rattle.statements.specs.Statement.{Statement, CloseCursor, OpenCursor as Opens}
 use Rattle.sand_model.specs.StatementChecks.{Setting, early}
 use Rattle.sand_store.specs.Catalog.{CatalogView}
 use Rattle.sand_store.specs.Contents.{database_in}

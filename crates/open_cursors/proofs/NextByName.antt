@@ -11,7 +11,7 @@ use Rattle.sand_base.specs.declared.refusal.Refusal.TheVariants as why
 use Rattle.sand_base.specs.declared.source.Failed.{Failed}
 use Rattle.sand_model.specs.Cursor.{Cursor, OutputLine}
 use Rattle.sand_model.specs.OutputText.{IsText}
-use Rattle.sand_model.specs.Statement.{Next}
+use Rattle.statements.specs.Statement.{Next}
 use Rattle.sand_model.specs.StatementChecks.{is_there}
 use Rattle.sand_store.specs.Catalog.{CatalogView}
 use Rattle.statement_exec.proofs.Texts.{writes_none, writes_then_stays}

@@ -11,7 +11,7 @@ use Rattle.sand_base.specs.declared.source.Failed.{Failed}
 use Rattle.sand_model.specs.Cursor.{Cursor, OutputLine, Refused, Stats as StatsLine}
 use Rattle.sand_model.specs.OutputText.{IsText}
 use Rattle.sand_model.specs.Reach.{Counts}
-use Rattle.sand_model.specs.Statement.{Stats as StatsOf}
+use Rattle.statements.specs.Statement.{Stats as StatsOf}
 use Rattle.sand_model.specs.StatementChecks.{Setting, early, is_there}
 use Rattle.sand_store.specs.Catalog.{CatalogView}
 use Rattle.statement_exec.proofs.CausedLines.{caused_inside, caused_plain}

@@ -6,8 +6,8 @@ use Rattle.sand_base.specs.declared.refusal.Refusal.TheVariants as why
 use Rattle.sand_model.specs.Checks.{first_refusal, check_operators}
 use Rattle.sand_model.specs.Cursor.{Cursor}
 use Rattle.sand_model.specs.Database.{Database, same_name}
-use Rattle.sand_model.specs.Plan.{Plan}
-use Rattle.sand_model.specs.Statement.{OpenCursor as Opens}
+use Rattle.statements.specs.Plan.{Plan}
+use Rattle.statements.specs.Statement.{OpenCursor as Opens}
 use Rattle.sand_model.specs.StatementChecks.{Setting, early, is_there, check_depth, most_cursors}
 use Rattle.open_cursors.specs.OpenCursors.{AreNamed, named}
 use Rattle.open_cursors.specs.declared.open_cursor.OpenCursor.{OpenCursor}

@@ -11,8 +11,8 @@ use Rattle.sand_base.specs.declared.source.Failed.{Failed}
 use Rattle.sand_model.specs.Checks.{check}
 use Rattle.sand_model.specs.Cursor.{Cursor, Accepted, Refused, new_cursor}
 use Rattle.sand_model.specs.OutputText.{IsText}
-use Rattle.sand_model.specs.Plan.{Plan}
-use Rattle.sand_model.specs.Statement.{OpenCursor as Opens}
+use Rattle.statements.specs.Plan.{Plan}
+use Rattle.statements.specs.Statement.{OpenCursor as Opens}
 use Rattle.sand_store.specs.Catalog.{CatalogView}
 use Rattle.sand_store.specs.Contents.{database_in}
 use Rattle.statement_exec.specs.declared.reply.Reply.TheVariants as reply

@@ -7,7 +7,7 @@ use Rattle.plan_ops.specs.declared.source.Source.{Source}
 use Rattle.plan_ops.specs.declared.stage.Stage.{Stage}
 use Rattle.sand_base.specs.declared.source.Failed.{Failed}
 use Rattle.sand_model.specs.Cursor.{Cursor, OutputLine}
-use Rattle.sand_model.specs.Statement.{Statement, Next, Stats}
+use Rattle.statements.specs.Statement.{Statement, Next, Stats}
 use Rattle.sand_store.specs.Catalog.{CatalogView}
 use Rattle.statement_exec.proofs.Written.{writes_so}
 use Rattle.statement_exec.specs.Moment.{beside}

@@ -13,8 +13,8 @@ use Rattle.sand_base.specs.declared.source.Failed.{Failed}
 use Rattle.sand_model.specs.Cursor.{Cursor, OutputLine, Refused, Steps, new_cursor}
 use Rattle.sand_model.specs.Measure.{Measure}
 use Rattle.sand_model.specs.Outcome.{IsLicensed}
-use Rattle.sand_model.specs.Plan.{Plan}
-use Rattle.sand_model.specs.Statement.{Statement, Show, OpenCursor as Opens}
+use Rattle.statements.specs.Plan.{Plan}
+use Rattle.statements.specs.Statement.{Statement, Show, OpenCursor as Opens}
 use Rattle.sand_model.specs.StatementChecks.{Setting, early}
 use Rattle.sand_store.specs.Catalog.{CatalogView}
 use Rattle.sand_store.specs.Contents.{database_in}

@@ -14,8 +14,8 @@ use Rattle.sand_base.specs.declared.source.Failed.{Failed}
 use Rattle.sand_model.specs.Checks.{check}
 use Rattle.sand_model.specs.Cursor.{Cursor, OutputLine, Refused, new_cursor}
 use Rattle.sand_model.specs.OutputText.{IsText}
-use Rattle.sand_model.specs.Plan.{Plan}
-use Rattle.sand_model.specs.Statement.{Show}
+use Rattle.statements.specs.Plan.{Plan}
+use Rattle.statements.specs.Statement.{Show}
 use Rattle.sand_store.specs.Catalog.{CatalogView}
 use Rattle.sand_store.specs.Contents.{database_in}
 use Rattle.sand_store.specs.Standing.{CatalogStands, IsStore}

@@ -12,7 +12,7 @@ use Rattle.sand_base.specs.declared.refusal.Refusal.TheVariants as why
 use Rattle.sand_base.specs.declared.source.Failed.{Failed}
 use Rattle.sand_model.specs.Cursor.{Cursor, IsRefusedStep}
 use Rattle.sand_model.specs.OutputText.{IsText}
-use Rattle.sand_model.specs.Statement.{Next}
+use Rattle.statements.specs.Statement.{Next}
 use Rattle.sand_store.specs.Catalog.{CatalogView}
 use Rattle.statement_exec.specs.Ending.{PagesHaveCause, is_refusal, refused_line}
 use Rattle.open_cursors.proofs.StepCalls.{some_so}

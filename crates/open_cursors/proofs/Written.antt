@@ -7,8 +7,8 @@ use Rattle.sand_base.specs.declared.refusal.Refusal.{Refusal}
 use Rattle.sand_base.specs.declared.source.Failed.{Failed}
 use Rattle.page_pool.specs.Pool.{PoolState}
 use Rattle.sand_model.specs.Cursor.{Cursor}
-use Rattle.sand_model.specs.Plan.{Column}
-use Rattle.sand_model.specs.Statement.{Blocks}
+use Rattle.statements.specs.declared.column.Column.{Column}
+use Rattle.statements.specs.Statement.{Blocks}
 use Rattle.sand_store.specs.Catalog.{CatalogView}
 use Rattle.open_cursors.specs.Outcomes.{PerformsBeside}
 use Rattle.sand_model.specs.OutputText.{IsText}

@@ -9,10 +9,9 @@ use Rattle.sand_base.specs.declared.refusal.Refusal.{Refusal}
 use Rattle.sand_base.specs.declared.refusal.Refusal.TheVariants as why
 use Rattle.sand_base.specs.declared.source.Failed.{Failed}
 use Rattle.sand_model.specs.Cursor.{Cursor, OutputLine, Stats, Steps}
-use Rattle.sand_model.specs.Statement.{Statement, Next}
+use Rattle.statements.specs.Statement.{Statement, Next}
 use Rattle.sand_store.specs.Catalog.{CatalogView}
-use Rattle.script_text.specs.Statement as text
-use Rattle.script_text.specs.Statement.{StatementValue}
+use Rattle.statements.specs.Statement as statement
 use Rattle.statement_exec.specs.Causes.{AreCausedIn}
 use Rattle.statement_exec.specs.Deciding.{PrintsUpTo}
 use Rattle.statement_exec.specs.Ending.{PagesHaveCause}
@@ -22,12 +21,12 @@ use Rattle.open_cursors.specs.Outcomes.{PerformsBeside}
 use Rattle.open_cursors.specs.Steps.{GivesSteps, IsOfPages}
 
 -- the statement changes relations
-abbrev pub IsChange : StatementValue → Type 0
-IsChange (text.Create relation columns) = ⊤
-IsChange (text.Insert relation values) = ⊤
-IsChange (text.Delete relation id) = ⊤
-IsChange (text.Load relation file header) = ⊤
-IsChange (text.Index column threshold) = ⊤
+abbrev pub IsChange : Statement → Type 0
+IsChange (statement.Create relation columns) = ⊤
+IsChange (statement.Insert relation values) = ⊤
+IsChange (statement.Delete relation id) = ⊤
+IsChange (statement.Load relation file header) = ⊤
+IsChange (statement.Index column threshold) = ⊤
 IsChange _ = ⊥
 
 -- no cursor has given more rows than so many

@@ -6,7 +6,7 @@ use Rattle.sand_base.specs.Faults.{last_count}
 use Rattle.sand_base.specs.Shelf.{Files}
 use Rattle.sand_model.specs.Cursor.{Cursor, OutputLine}
 use Rattle.sand_model.specs.Outcome.{Outcome}
-use Rattle.sand_model.specs.Statement.{Statement}
+use Rattle.statements.specs.Statement.{Statement}
 use Rattle.sand_model.specs.StatementChecks.{Setting}
 use Rattle.sand_store.specs.Catalog.{CatalogView}
 use Rattle.statement_exec.specs.Moment.{Moment, beside, rises_between, IsSettingOf}

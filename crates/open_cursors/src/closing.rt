@@ -5,7 +5,7 @@ ghost use Rattle.sand_model.specs.Cursor.{Cursor};
 ghost use Rattle.open_cursors.specs.OpenCursors.{AreHeld, AreNamed, AtStamp, ClosesOf, HaveOwnNames, StandAll, is_open, named, without};
 ghost use Rattle.page_pool.specs.Pool.{PoolState};
 ghost use Rattle.sand_base.specs.Faults.{HasCause};
-ghost use Rattle.sand_model.specs.Statement.{CloseCursor};
+ghost use Rattle.statements.specs.Statement.{CloseCursor};
 ghost use Rattle.sand_store.specs.Catalog.{CatalogView};
 ghost use Rattle.open_cursors.specs.Carried.{CarriesBeside};
 ghost use Rattle.open_cursors.specs.OverPages.{HoldsOthers};

@@ -16,12 +16,12 @@ mod numbers;
 mod open_checks;
 mod open_cursor;
 mod opening;
+mod queries;
 mod row_steps;
 mod showing;
 mod starting;
-mod statements;
 
 pub use ending::{end_cursors, end_statement};
 pub use open_checks::MOST_CURSORS;
 pub use open_cursor::OpenCursor;
-pub use statements::read_statement;
+pub use queries::read_statement;

@@ -11,7 +11,7 @@ ghost use Rattle.sand_model.specs.Database.{same_name};
 ghost use Rattle.statement_exec.specs.Causes.{BlamesNoFile};
 ghost use Rattle.statement_exec.specs.Ending.{PagesHaveCause, RisesByOne};
 ghost use Rattle.open_cursors.specs.OpenCursors.{AnswersNext, AreHeld, AtStamp, HaveOwnNames, NextOf, StandAll, is_open, named, without, AreNamed};
-ghost use Rattle.sand_model.specs.Statement.{Next};
+ghost use Rattle.statements.specs.Statement.{Next};
 ghost use Rattle.sand_store.specs.Catalog.{CatalogView};
 ghost use Rattle.open_cursors.specs.Carried.{CarriesBeside};
 ghost use Rattle.open_cursors.specs.OverPages.{told_stamps};

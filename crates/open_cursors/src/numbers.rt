@@ -8,7 +8,7 @@ ghost use Rattle.output_text.specs.Writing.{Writes, WritesPrefix};
 ghost use Rattle.page_pool.specs.Pool.{PoolState, StampMap};
 ghost use Rattle.sand_base.specs.Faults.{HasCause};
 ghost use Rattle.sand_model.specs.OutputText.{IsText};
-ghost use Rattle.sand_model.specs.Statement.{Stats as StatsOf};
+ghost use Rattle.statements.specs.Statement.{Stats as StatsOf};
 ghost use Rattle.sand_store.specs.Catalog.{CatalogView};
 ghost use Rattle.open_cursors.specs.Outcomes.{PerformsBeside};
 ghost use Rattle.open_cursors.specs.Carried.{AreCounted, line_of_numbers};

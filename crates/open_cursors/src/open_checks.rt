@@ -1,12 +1,12 @@
 ghost use Rattle.std.specs.Prelude.{◌≡◌, List, IfSome, None};
 ghost use Rattle.page_pool.specs.Disk.{PageMap};
 ghost use Rattle.page_pool.specs.Pool.{StampMap};
-ghost use Rattle.plan_check.specs.PlanValue.{plan_value};
+ghost use Rattle.statements.specs.Plan.{plan_value};
 ghost use Rattle.plan_cursor.specs.Standing.{IsAt};
 ghost use Rattle.plan_rows.specs.Rows.{counts_of};
 ghost use Rattle.sand_model.specs.Checks.{check_operators};
 ghost use Rattle.sand_model.specs.Cursor.{Cursor};
-ghost use Rattle.sand_model.specs.Statement.{OpenCursor as Opens};
+ghost use Rattle.statements.specs.Statement.{OpenCursor as Opens};
 ghost use Rattle.sand_model.specs.StatementChecks.{Setting, early};
 ghost use Rattle.sand_store.specs.Catalog.{IsCatalog};
 ghost use Rattle.sand_store.specs.Contents.{database_in};

@@ -2,13 +2,12 @@ ghost use Rattle.std.specs.Prelude.{◌≡◌, ◌<◌, ◌++◌, ◌∷◌, [],
 ghost use Rattle.std_alloc.specs.Vec.{vec_capacity, vec_len};
 ghost use Rattle.page_pool.specs.Disk.{PageMap};
 ghost use Rattle.page_pool.specs.Pool.{IsTold, PoolState, StampMap};
-ghost use Rattle.plan_check.specs.PlanValue.{plan_value};
+ghost use Rattle.statements.specs.Plan.{plan_value};
 ghost use Rattle.sand_base.specs.Faults.{HasCause};
 ghost use Rattle.sand_model.specs.Cursor.{Cursor, new_cursor};
-ghost use Rattle.sand_model.specs.Statement.{OpenCursor as Opens};
+ghost use Rattle.statements.specs.Statement.{OpenCursor as Opens};
 ghost use Rattle.sand_store.specs.Contents.{database_in};
 ghost use Rattle.script_text.specs.InRange.{IsPlanInRange};
-ghost use Rattle.script_text.specs.Plan as text;
 ghost use Rattle.open_cursors.specs.OpenCursors.{AreHeld, AreNamed, HaveOwnNames, StandAll};
 ghost use Rattle.open_cursors.specs.Carried.{CarriesBeside};
 ghost use Rattle.open_cursors.specs.OverPages.{HoldsOthers, told_stamps};
@@ -44,7 +43,7 @@ fn ready<D: Disk>(
     name: &Label,
     plan: &Plan,
 ) -> Result<(Label, RowCursor<Source, Stage>), Refusal>
-    requires { IsPlanInRange (text.plan_value plan.now) }
+    requires { IsPlanInRange (plan_value plan.now) }
     ensures checks { (stamps : StampMap) (pages : PageMap) (cs : List Cursor) → StandAll PlanAt stamps cursors.now cs → ChecksOf store.now.catalog pages cs name.now (plan_value plan.now) result }
     ensures names { (pages : PageMap) (cs : List Cursor) → AreNamed cursors.now cs → ChecksOf store.now.catalog pages cs name.now (plan_value plan.now) result }
     ensures begun { IfOk result (λ both. (both.0 ≡ name.now)
@@ -71,7 +70,7 @@ fn open<D: Disk>(
     name: &Label,
     plan: &Plan,
 ) -> Result<(), Refusal>
-    requires in_range { IsPlanInRange (text.plan_value plan.now) }
+    requires in_range { IsPlanInRange (plan_value plan.now) }
     requires held { AreHeld store.old.pool.stamps cursors.old.items }
     ensures opens { IsTrue store.old.pool.disk.told → (cs : List Cursor) → StandAll PlanAt store.old.pool.stamps cursors.old.items cs
         → OpensOf store.old.catalog store.old.pool.pages cs name.now (plan_value plan.now) result (StandAll PlanAt store.new.pool.stamps cursors.new.items) }
@@ -109,7 +108,7 @@ pub(crate) fn open_line<D: Disk, K: Sink>(
     plan: &Plan,
     out: &mut K,
 ) -> Result<bool, Failed>
-    requires in_range { IsPlanInRange (text.plan_value plan.now) }
+    requires in_range { IsPlanInRange (plan_value plan.now) }
     requires held { AreHeld store.old.pool.stamps cursors.old.items }
     ensures named { (cs : List Cursor) → HaveOwnNames cs → AreNamed cursors.old.items cs → (pool : PoolState) → CarriesBeside (Opens name.now (plan_value plan.now)) store.old.catalog pool pool cs (K.took out.old) (K.took out.new) result (AreNamed cursors.new.items) }
     ensures carried { IsTrue store.old.pool.disk.told → (cs : List Cursor) → HaveOwnNames cs → StandAll PlanAt store.old.pool.stamps cursors.old.items cs

@@ -8,12 +8,11 @@ ghost use Rattle.sand_model.specs.Cursor.{Cursor};
 ghost use Rattle.statement_exec.specs.Ending.{RisesByOne};
 ghost use Rattle.open_cursors.specs.Carried.{AreRowLines, RowsOf};
 ghost use Rattle.statement_exec.specs.Printing.{WritesOf};
-ghost use Rattle.plan_check.specs.PlanValue.{plan_value};
-ghost use Rattle.sand_model.specs.Statement.{Show};
+ghost use Rattle.statements.specs.Plan.{plan_value};
+ghost use Rattle.statements.specs.Statement.{Show};
 ghost use Rattle.sand_store.specs.Standing.{IsStore};
 ghost use Rattle.script_text.specs.InRange.{IsPlanInRange};
 ghost use Rattle.open_cursors.specs.Outcomes.{PerformsBeside};
-ghost use Rattle.script_text.specs.Plan as text;
 
 use crate::row_steps::print_steps;
 use crate::starting::started;
@@ -60,7 +59,7 @@ pub(crate) fn show_line<D: Disk, K: Sink>(
     out: &mut K,
 ) -> Result<bool, Failed>
     requires stored { IsStore catalog.now desk.old.pool }
-    requires in_range { IsPlanInRange (text.plan_value plan.now) }
+    requires in_range { IsPlanInRange (plan_value plan.now) }
     ensures written { (cs : List Cursor) → WritesOf (PerformsBeside (Show count (plan_value plan.now)) catalog.now desk.old.pool desk.new.pool cs cs) (K.took out.old) (K.took out.new) result }
     ensures stands { IsStore catalog.now desk.new.pool }
     ensures read { IsRead desk.old.pool desk.new.pool }

@@ -1,7 +1,7 @@
 // A cursor over a plan whose checks pass.
 ghost use Rattle.std.specs.Prelude.{◌≡◌, ◌⊎◌, ℕ, List, IfOk, IfErr, Some, None};
 ghost use Rattle.page_pool.specs.Disk.{PageMap};
-ghost use Rattle.plan_check.specs.PlanValue.{plan_value};
+ghost use Rattle.statements.specs.Plan.{plan_value};
 ghost use Rattle.plan_ops.specs.Running.{StandsAt};
 ghost use Rattle.sand_base.specs.declared.refusal.Refusal.TheVariants as why;
 ghost use Rattle.sand_model.specs.Checks.{check};
@@ -10,7 +10,6 @@ ghost use Rattle.sand_store.specs.Catalog.{IsCatalog};
 ghost use Rattle.sand_store.specs.Contents.{database_in};
 ghost use Rattle.sand_store.specs.Standing.{CatalogStands};
 ghost use Rattle.script_text.specs.InRange.{IsPlanInRange};
-ghost use Rattle.script_text.specs.Plan as text;
 
 use plan_check::check;
 use plan_ops::Running;
@@ -23,7 +22,7 @@ use std::alloc::Global;
 // for each operator, of which an unchecked plan may have hundreds.
 pub(crate) fn started(alloc: Global, catalog: &Catalog, plan: &Plan) -> Result<Running, Refusal>
     requires described { IsCatalog catalog.now }
-    requires in_range { IsPlanInRange (text.plan_value plan.now) }
+    requires in_range { IsPlanInRange (plan_value plan.now) }
     ensures passes { IfOk result (λ r. (pages : PageMap) → check (database_in pages catalog.now.relations) (plan_value plan.now) ≡ None) }
     ensures stands { IfOk result (λ r. (pages : PageMap) → CatalogStands pages catalog.now → (name : List ℕ) → StandsAt r pages (new_cursor name (plan_value plan.now) (database_in pages catalog.now.relations))) }
     ensures refused { IfErr result (λ w. (w ≡ why.Memory) ⊎ ((pages : PageMap) → check (database_in pages catalog.now.relations) (plan_value plan.now) ≡ Some w)) }

@@ -5,7 +5,7 @@ use Rattle.z_code.specs.declared.block.Block.{Block}
 use Rattle.page_pool.specs.Disk.{PageMap}
 use Rattle.pmr_tree.specs.Quadtree.{tree_at}
 use Rattle.sand_model.specs.Database.{Database, shapes_of}
-use Rattle.sand_model.specs.Plan.{Column}
+use Rattle.statements.specs.declared.column.Column.{Column}
 use Rattle.sand_model.specs.Reach.{quadtree_of}
 use Rattle.sand_model.specs.Sources.{column_shapes}
 use Rattle.sand_store.specs.Catalog.{IsLimits}

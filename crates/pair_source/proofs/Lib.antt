@@ -17,5 +17,10 @@ pub mod SemiCalls
 pub mod SemiOverPages
 pub mod LeftShapes
 pub mod BegunFirsts
+-- joins of k partners
+pub mod PartnersLeft
+pub mod KnnCalls
+pub mod KnnOverPages
+pub mod BegunPartners
 -- what a call costs
 pub mod PairPrices

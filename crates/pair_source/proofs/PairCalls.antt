@@ -11,7 +11,7 @@ use Rattle.page_pool.specs.declared.fault.PageFault.{PageFault}
 use Rattle.sand_model.specs.Answer.{pair_row}
 use Rattle.sand_model.specs.Cursor.{AreBetween}
 use Rattle.sand_model.specs.Database.{Database}
-use Rattle.sand_model.specs.Plan.{Plan}
+use Rattle.statements.specs.Plan.{Plan}
 use Rattle.sand_model.specs.Reach.{Reach, Counts, reach}
 use Rattle.sand_model.specs.Sources.{Found, found_cmp, sorted, is_within}
 use Rattle.sand_model.specs.Taken.{Taken}

@@ -5,10 +5,11 @@ use Rattle.sand_base.specs.declared.visit.Visit.{Visit}
 use Rattle.sand_base.specs.declared.visit.Visit.TheVariants as visit
 use Rattle.sand_model.specs.Answer.{source, pair_row}
 use Rattle.sand_model.specs.Database.{Database}
-use Rattle.sand_model.specs.Plan as plan
-use Rattle.sand_model.specs.Plan.{Plan, Column}
+use Rattle.statements.specs.Plan as plan
+use Rattle.statements.specs.Plan.{Plan}
+use Rattle.statements.specs.declared.column.Column.{Column}
 use Rattle.sand_model.specs.Reach.{Reach, Counts, counts_at, innermost, ceiling_of, quadtree_of}
-use Rattle.sand_model.specs.Sources.{Found, column_shapes, first_of_each}
+use Rattle.sand_model.specs.Sources.{Found, column_shapes, first_of_each, nearest_of}
 use Rattle.sand_model.specs.Tree.{Tree}
 use Rattle.dist_join.specs.Joining.{Joining}
 use Rattle.plan_rows.specs.Rows.{plan_measure}
@@ -64,4 +65,10 @@ pub semi_told : (j : Joining) (d : Database) (left right : Column) → IsSideOf 
     → IsTold d (plan.Semi left right j.ceiling) (first_of_each (pairs_in j)) j
 semi_told j d left right h k =
     moved j d left right (λ x. IsTold d (plan.Semi left right x.ceiling) (first_of_each (pairs_in x)) x) h k
+    (record { rows_are = refl; ceiling_is = refl; counts = λ to. refl; visits = lies d left right j })
+
+pub knn_told : (k : ℕ) (j : Joining) (d : Database) (left right : Column) → IsSideOf j.left d left → IsSideOf j.right d right
+    → IsTold d (plan.Knn k left right j.ceiling) (nearest_of k (pairs_in j)) j
+knn_told n j d left right h k =
+    moved j d left right (λ x. IsTold d (plan.Knn n left right x.ceiling) (nearest_of n (pairs_in x)) x) h k
     (record { rows_are = refl; ceiling_is = refl; counts = λ to. refl; visits = lies d left right j })

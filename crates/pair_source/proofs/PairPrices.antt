@@ -8,8 +8,9 @@ use Rattle.page_pool.specs.Desk.{DeskState}
 use Rattle.page_pool.specs.Disk.{PageMap}
 use Rattle.page_pool.specs.declared.fault.PageFault.{PageFault}
 use Rattle.sand_model.specs.Database.{Database}
-use Rattle.sand_model.specs.Plan as plan
-use Rattle.sand_model.specs.Plan.{Plan, Column}
+use Rattle.statements.specs.Plan as plan
+use Rattle.statements.specs.Plan.{Plan}
+use Rattle.statements.specs.declared.column.Column.{Column}
 use Rattle.sand_model.specs.Price.{block_price}
 use Rattle.sand_model.specs.Reach.{quadtree_of}
 use Rattle.sand_model.specs.Taken.{Taken}
@@ -21,12 +22,14 @@ use Rattle.best_first.specs.declared.item.Item.TheVariants.{Node, Rough, Row}
 use Rattle.rank_cursor.specs.Ranking.{place_at}
 use Rattle.semi_join.specs.LeftRows.{LeftRows}
 use Rattle.semi_join.specs.Visits.{MakesPairVisits}
+use Rattle.knn_join.specs.PartnerCounts.{PartnerCounts}
+use Rattle.knn_join.specs.Visits.{MakesPartnerVisits}
 use Rattle.dist_join.specs.Joining.{Joining, visit_price, join_meaning}
 use Rattle.dist_join.specs.OverPages.{visit_of}
 use Rattle.plan_rows.specs.Prices.{Heights, join_visit_price, visit_price as plan_price, unless_refused, Costs}
 use Rattle.plan_rows.specs.declared.answer.Answer.{Answer}
 use Rattle.rank_source.proofs.RankPrices.{same_count}
-use Rattle.pair_source.specs.Joins.{JoinView, joining_in, heights_of, IsSideOf, HasTaken, HasTakenFirsts}
+use Rattle.pair_source.specs.Joins.{JoinView, joining_in, heights_of, IsSideOf, HasTaken, HasTakenFirsts, HasTakenPartners}
 use Rattle.pair_source.proofs.PairOrder.{pair_cmp}
 use Rattle.pair_source.proofs.SemiOverPages.{some_or_none}
 
@@ -99,6 +102,9 @@ module _ (v : JoinView) (m : PageMap) (one other : ℕ) where
   semi_pays : (d : Database) (p : Plan) (left right : Column) → p ≡ plan.Semi left right v.ceiling → IsSideOf j.left d left → IsSideOf j.right d right → Pays d p
   semi_pays d p left right is side side_too = subst (Pays d) (sym is) (by_columns d left right side side_too)
 
+  knn_pays : (d : Database) (p : Plan) (k : ℕ) (left right : Column) → p ≡ plan.Knn k left right v.ceiling → IsSideOf j.left d left → IsSideOf j.right d right → Pays d p
+  knn_pays d p k left right is side side_too = subst (Pays d) (sym is) (by_columns d left right side side_too)
+
 -- ---- over whatever pages the disk tells
 
 -- what a call of a join costs
@@ -137,3 +143,24 @@ semi_costs one other (Some m) v lefts old new result answer makes over = λ d p 
     let call = makes w k.searched.done k.searched.stands in
     search_costs v m one other d p pays k.searched.done old new call.attempt answer call.makes)
     (some_or_none lefts.waiting)
+
+-- what a call of a join of k partners costs
+abbrev pub KnnCosts : JoinView → PartnerCounts → SearchState (Block × Block) → SearchState (Block × Block) → Result (Option Answer) PageFault → PageMap → Type 0
+KnnCosts v counts old new answer m =
+    (d : Database) (p : Plan) (t : Taken) → HasTakenPartners pair_cmp (joining_in v m) old.held old.last old.counts counts d p t → Costs (heights_of v) 0 0 0 d p old.desk new.desk answer
+
+pub knn_still : (pages : Option PageMap) (v : JoinView) (counts : PartnerCounts) (s : SearchState (Block × Block)) (answer : Result (Option Answer) PageFault) → IfSome pages (KnnCosts v counts s s answer)
+knn_still None v counts s answer = tt
+knn_still (Some m) v counts s answer = λ d p t k. still v m 0 0 d p (knn_pays v m 0 0 d p counts.most k.left k.right k.is k.left_side k.right_side) s.desk answer
+
+pub knn_costs : (one other : ℕ) (pages : Option PageMap) (v : JoinView) (counts : PartnerCounts) (old new : SearchState (Block × Block)) (result : Result (Option Hit) PageFault) (answer : Result (Option Answer) PageFault)
+    → (0 < counts.waiting → IfSome pages (λ m. MakesPartnerVisits pair_cmp (join_meaning (joining_in v m)) (visit_of one other) counts old new result)) → (counts.waiting ≡ 0 → new ≡ old)
+    → IfSome pages (KnnCosts v counts old new answer)
+knn_costs one other None v counts old new result answer makes over = tt
+knn_costs one other (Some m) v counts old new result answer makes over = λ d p t k.
+    let pays = knn_pays v m one other d p counts.most k.left k.right k.is k.left_side k.right_side in
+    ⊎_elim (λ e. subst (λ (s : SearchState (Block × Block)). Costs (heights_of v) 0 0 0 d p old.desk s.desk answer) (sym (over e)) (still v m one other d p pays old.desk answer))
+    (λ w.
+    let call = makes w k.searched.done k.searched.stands in
+    search_costs v m one other d p pays k.searched.done old new call.attempt answer call.makes)
+    (some_or_none counts.waiting)

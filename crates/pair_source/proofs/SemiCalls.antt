@@ -11,8 +11,9 @@ use Rattle.page_pool.specs.Disk.{PageMap}
 use Rattle.page_pool.specs.declared.fault.PageFault.{PageFault}
 use Rattle.sand_model.specs.Answer.{source, pair_row}
 use Rattle.sand_model.specs.Database.{Database, element}
-use Rattle.sand_model.specs.Plan as plan
-use Rattle.sand_model.specs.Plan.{Plan, Column}
+use Rattle.statements.specs.Plan as plan
+use Rattle.statements.specs.Plan.{Plan}
+use Rattle.statements.specs.declared.column.Column.{Column}
 use Rattle.sand_model.specs.Reach.{Reach, Counts, Ceiling, reach, reach_of_last, counts_at, is_saturated}
 use Rattle.sand_model.specs.Sources.{Found, first_of_each, column_shapes}
 use Rattle.sand_model.specs.Taken.{Taken}

@@ -4,8 +4,8 @@ use Rattle.z_code.specs.declared.block.Block.{Block}
 use Rattle.page_pool.specs.Disk.{PageMap}
 use Rattle.page_pool.specs.declared.fault.PageFault.{PageFault}
 use Rattle.sand_model.specs.Database.{Database}
-use Rattle.sand_model.specs.Plan as plan
-use Rattle.sand_model.specs.Plan.{Plan}
+use Rattle.statements.specs.Plan as plan
+use Rattle.statements.specs.Plan.{Plan}
 use Rattle.sand_model.specs.Sources.{Found}
 use Rattle.sand_model.specs.Taken.{Taken}
 use Rattle.best_first.specs.Visits.{SearchState}

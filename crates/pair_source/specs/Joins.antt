@@ -1,13 +1,14 @@
 -- The sources of plans that join two columns: where they stand when so much of them was taken.
-use Rattle.std.specs.Prelude.{◌≡◌, ℕ, ◌+◌, ◌≤◌, List, length, take, drop, true, Option}
+use Rattle.std.specs.Prelude.{◌≡◌, ℕ, ◌+◌, ◌*◌, ◌≤◌, min, List, length, take, drop, true, Option}
 use Rattle.std.specs.declared.cmp.Ordering.{Ordering}
 use Rattle.z_code.specs.declared.block.Block.{Block}
 use Rattle.sand_model.specs.Answer.{source}
 use Rattle.sand_model.specs.Database.{Database, shapes_of}
-use Rattle.sand_model.specs.Plan as plan
-use Rattle.sand_model.specs.Plan.{Plan, Column}
+use Rattle.statements.specs.Plan as plan
+use Rattle.statements.specs.Plan.{Plan}
+use Rattle.statements.specs.declared.column.Column.{Column}
 use Rattle.sand_model.specs.Reach.{Counts, quadtree_of, counts_at, innermost, reach_of_last}
-use Rattle.sand_model.specs.Sources.{Found, column_shapes, joined, first_of_each}
+use Rattle.sand_model.specs.Sources.{Found, column_shapes, joined, first_of_each, nearest_of}
 use Rattle.sand_model.specs.Taken.{Taken}
 use Rattle.sand_model.specs.Tree.{listings}
 use Rattle.page_pool.specs.Disk.{PageMap}
@@ -28,7 +29,10 @@ use Rattle.best_first.specs.declared.item.Item.{Item}
 use Rattle.rank_cursor.specs.Answers.{AreGiven}
 use Rattle.semi_join.specs.FirstPairs.{AreGivenUpTo}
 use Rattle.semi_join.specs.LeftRows.{LeftRows}
-use Rattle.semi_join.specs.Listed.{pairs_left}
+use Rattle.semi_join.specs.Listed.{ListsAnswer, pairs_left}
+use Rattle.knn_join.specs.Listed.{partners_left}
+use Rattle.knn_join.specs.PartnerCounts.{PartnerCounts}
+use Rattle.knn_join.specs.Standing.{AreCountedUpTo}
 use Rattle.dist_join.specs.Joining.{Side, Joining, IsSound, join_meaning}
 use Rattle.dist_join.specs.OverPages.{PageSide, paged, joining_over}
 use Rattle.plan_rows.specs.Prices.{Heights}
@@ -153,6 +157,20 @@ pub record HasTakenFirsts (cmp : Block × Block → Block × Block → Ordering)
   pub waiting : t.rows + lefts.waiting ≡ length j.left.shapes
   pub spent : lefts.waiting ≡ 0 → counts_by counts ≡ counts_at plan_measure d (innermost p) (reach_of_last (take t.rows (source plan_measure d p)))
 
+-- So much was taken of a join of k partners: it is that of two columns, the search stands and is counted, the rows were the first of the partners, as many as can still be given wait, and where none waits the counts are those of the last row.
+pub record HasTakenPartners (cmp : Block × Block → Block × Block → Ordering) (j : Joining) (held : List (Item (Block × Block))) (last : Option Hit) (counts : Numbers) (partners : PartnerCounts) (d : Database) (p : Plan) (t : Taken) : Type 0 where
+  pub left : Column
+  pub right : Column
+  pub is : p ≡ plan.Knn partners.most left right j.ceiling
+  pub left_side : IsSideOf j.left d left
+  pub right_side : IsSideOf j.right d right
+  pub searched : IsSearched cmp j held last counts
+  pub given : (answer : List Found) → ListsAnswer (join_meaning j) answer → AreCountedUpTo answer last partners
+  pub rows : partners_left last partners (pairs_in j) ≡ drop t.rows (nearest_of partners.most (pairs_in j))
+  pub few : t.rows ≤ length (nearest_of partners.most (pairs_in j))
+  pub waiting : t.rows + partners.waiting ≡ length j.left.shapes * min partners.most (length j.right.shapes)
+  pub spent : partners.waiting ≡ 0 → counts_by counts ≡ counts_at plan_measure d (innermost p) (reach_of_last (take t.rows (source plan_measure d p)))
+
 -- ---- how a source begins
 
 -- both relations stand over the pages, within limits, and the database has their columns under these names
@@ -178,3 +196,10 @@ abbrev pub BeginsFirsts : (PageMap → Database → Plan → Taken → Type 0) �
 BeginsFirsts At v =
     HaveTrees v → IsColumnAt v.left.relation.schema v.left.at true → (pages : PageMap) (d : Database) (left right : Column) → AreColumnsOf v pages d left right
     → At pages d (plan.Semi left right v.ceiling) nothing_taken
+
+-- Nothing was taken of a join of k partners, over all pages where its relations stand; both columns are of shapes.
+abbrev pub BeginsPartners : ℕ → (PageMap → Database → Plan → Taken → Type 0) → JoinedColumns → Type 0
+BeginsPartners k At v =
+    HaveTrees v → IsColumnAt v.left.relation.schema v.left.at true → IsColumnAt v.right.relation.schema v.right.at true
+    → (pages : PageMap) (d : Database) (left right : Column) → AreColumnsOf v pages d left right
+    → At pages d (plan.Knn k left right v.ceiling) nothing_taken

@@ -15,8 +15,9 @@ use Rattle.pmr_tree.specs.Quadtree.{store_of}
 use Rattle.sand_base.specs.declared.value.Value.{Value}
 use Rattle.sand_model.specs.Answer.{number_cmp, is_between, plain_row}
 use Rattle.sand_model.specs.Database.{Database}
-use Rattle.sand_model.specs.Plan as plan
-use Rattle.sand_model.specs.Plan.{Plan, Column}
+use Rattle.statements.specs.Plan as plan
+use Rattle.statements.specs.Plan.{Plan}
+use Rattle.statements.specs.declared.column.Column.{Column}
 use Rattle.sand_model.specs.Reach.{no_counts}
 use Rattle.sand_model.specs.Sources.{sorted}
 use Rattle.sand_model.specs.Taken.{Taken}

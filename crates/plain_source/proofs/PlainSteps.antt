@@ -12,8 +12,8 @@ use Rattle.sand_base.specs.declared.visit.Visit.{Visit}
 use Rattle.sand_model.specs.Answer.{source}
 use Rattle.sand_model.specs.Database.{Database, element}
 use Rattle.sand_model.specs.Operators.{PlanRow}
-use Rattle.sand_model.specs.Plan as plan
-use Rattle.sand_model.specs.Plan.{Plan}
+use Rattle.statements.specs.Plan as plan
+use Rattle.statements.specs.Plan.{Plan}
 use Rattle.sand_model.specs.Reach.{reach, no_counts}
 use Rattle.sand_model.specs.Taken.{Taken}
 use Rattle.best_first.specs.Visits.{told_pages}
@@ -45,6 +45,7 @@ no_nodes d (plan.Rank _ _ _) t h = absurd h
 no_nodes d (plan.Window _ _) t h = absurd h
 no_nodes d (plan.Join _ _ _) t h = absurd h
 no_nodes d (plan.Semi _ _ _) t h = absurd h
+no_nodes d (plan.Knn _ _ _ _) t h = absurd h
 no_nodes d (plan.Filter _ _) t h = absurd h
 no_nodes d (plan.Match _ _ _) t h = absurd h
 no_nodes d (plan.Fetch _ _) t h = absurd h

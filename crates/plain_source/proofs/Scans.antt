@@ -15,8 +15,8 @@ use Rattle.sand_base.specs.declared.value.Value.{Value}
 use Rattle.sand_model.specs.Answer.{plain_row}
 use Rattle.sand_model.specs.Database.{Database, relation_named}
 use Rattle.sand_model.specs.Operators.{PlanRow}
-use Rattle.sand_model.specs.Plan as plan
-use Rattle.sand_model.specs.Plan.{Plan}
+use Rattle.statements.specs.Plan as plan
+use Rattle.statements.specs.Plan.{Plan}
 use Rattle.sand_model.specs.Reach.{no_counts}
 use Rattle.sand_model.specs.Taken.{Taken}
 use Rattle.tuple_file.specs.declared.file.TupleFile.{TupleFile}

@@ -9,8 +9,9 @@ use Rattle.sand_base.specs.declared.value.Value.TheVariants as value
 use Rattle.sand_model.specs.Answer.{source, plain_row}
 use Rattle.sand_model.specs.Database.{Database, Relation, relation_named, column_named, index_at}
 use Rattle.sand_model.specs.Operators.{PlanRow}
-use Rattle.sand_model.specs.Plan as plan
-use Rattle.sand_model.specs.Plan.{Plan, Column}
+use Rattle.statements.specs.Plan as plan
+use Rattle.statements.specs.Plan.{Plan}
+use Rattle.statements.specs.declared.column.Column.{Column}
 use Rattle.sand_model.specs.Taken.{Taken}
 use Rattle.pmr_tree.specs.Quadtree.{store_of}
 use Rattle.attr_index.specs.Entries.{Entry, IntEntry, entry_number, is_within}

@@ -1,6 +1,6 @@
 ghost use Rattle.std.specs.Prelude.{◌≡◌, None, Ok};
 ghost use Rattle.page_pool.specs.Disk.{PageMap};
-ghost use Rattle.sand_model.specs.Plan.{PickBetween as of_column};
+ghost use Rattle.statements.specs.Plan.{PickBetween as of_column};
 ghost use Rattle.sand_model.specs.Reach.{no_counts};
 ghost use Rattle.sand_store.specs.Catalog.{IsCatalog};
 ghost use Rattle.sand_store.specs.Contents.{database_in};

@@ -1,6 +1,6 @@
 ghost use Rattle.std.specs.Prelude.{◌≡◌, ◌-◌, false, None, Ok};
 ghost use Rattle.page_pool.specs.Disk.{PageMap};
-ghost use Rattle.sand_model.specs.Plan.{PickEqual as of_column};
+ghost use Rattle.statements.specs.Plan.{PickEqual as of_column};
 ghost use Rattle.sand_model.specs.Reach.{no_counts};
 ghost use Rattle.sand_store.specs.Catalog.{IsCatalog};
 ghost use Rattle.sand_store.specs.Contents.{database_in};

@@ -12,7 +12,7 @@ ghost use Rattle.sand_store.specs.Standing.{CatalogStands};
 ghost use Rattle.plan_places.specs.Spots.{Stands, IfFound};
 ghost use Rattle.plan_rows.specs.Rows.{counts_of};
 ghost use Rattle.plan_rows.specs.SourceSteps.{nothing_taken};
-ghost use Rattle.sand_model.specs.Plan.{Scan as of_relation};
+ghost use Rattle.statements.specs.Plan.{Scan as of_relation};
 ghost use Rattle.plain_source.specs.Plain.{GivesNext, ids_of, IsScan};
 ghost use Rattle.plain_source.specs.Prices.{heights_of};
 

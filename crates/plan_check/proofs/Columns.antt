@@ -10,7 +10,8 @@ use Rattle.sand_base.specs.Shape.{is_spatial}
 use Rattle.sand_model.specs.Checks.{kind_named, is_indexed, check_column, check_relation, place_kind, check_place}
 use Rattle.sand_model.specs.Database.{Database, Relation, Index, relation_named, column_named, index_at, element}
 use Rattle.sand_model.specs.Operators.{kth}
-use Rattle.sand_model.specs.Plan.{Column, Place}
+use Rattle.statements.specs.declared.column.Column.{Column}
+use Rattle.statements.specs.declared.column.Place.{Place}
 use Rattle.sand_store.specs.Catalog.{IsColumnAt}
 use Rattle.sand_store.specs.declared.relation.Relation.{Relation as StoredRelation}
 use Rattle.sand_store.specs.Contents.{relation_in}

@@ -4,16 +4,16 @@ use Rattle.sand_base.specs.declared.rect.Rect.{Rect}
 use Rattle.sand_base.specs.declared.refusal.Refusal.{Refusal}
 use Rattle.sand_base.specs.declared.shape.Shape.{Shape}
 use Rattle.sand_base.specs.declared.value.Value.{Value}
-use Rattle.script_text.specs.declared.column.Column.{Column}
-use Rattle.script_text.specs.declared.column.Place.{Place}
-use Rattle.script_text.specs.declared.plan.Plan as declared
-use Rattle.script_text.specs.declared.plan.Plan.{Plan}
-use Rattle.script_text.specs.declared.test.Test.{Test}
+use Rattle.statements.specs.declared.column.Column.{Column}
+use Rattle.statements.specs.declared.column.Place.{Place}
+use Rattle.statements.specs.declared.plan.Plan as declared
+use Rattle.statements.specs.declared.plan.Plan.{Plan}
+use Rattle.statements.specs.declared.test.Test.{Test}
 use Rattle.sand_model.specs.Checks.{first_refusal, check_operators, check_place, check_column, is_plain_pair, place_kind}
 use Rattle.sand_model.specs.Database.{Database}
 use Rattle.sand_model.specs.Operators.{relations_of}
 use Rattle.plan_check.specs.OperatorCheck.{check_operator}
-use Rattle.plan_check.specs.PlanValue.{plan_value, place_value, column_value}
+use Rattle.statements.specs.Plan.{plan_value}
 use Rattle.plan_check.proofs.Refusals.{last_two}
 
 -- the checks of an operator and of what is beneath it, one after the other
@@ -39,9 +39,9 @@ pub over_inner : (d : Database) (inner : Box Plan Global) (p : Plan) → IsOver 
 over_inner d inner p (inl h) = subst (Follows d inner.value) (sym h.1) refl
 over_inner d inner p (inr (inl h)) =
     let names = relations_of (plan_value inner.value) in
-    let place = place_value h.0 in
+    let place = h.0 in
     subst (Follows d inner.value) (sym h.2)
-    (last_two (check_operators d (plan_value inner.value)) (check_place d names place (λ k. true)) (check_column d (column_value h.1) (is_plain_pair (place_kind d names place))))
+    (last_two (check_operators d (plan_value inner.value)) (check_place d names place (λ k. true)) (check_column d h.1 (is_plain_pair (place_kind d names place))))
 over_inner d inner p (inr (inr (inl h))) = subst (Follows d inner.value) (sym h.1) refl
 over_inner d inner p (inr (inr (inr (inl h)))) = subst (Follows d inner.value) (sym h.1) (passes_last (check_operators d (plan_value inner.value)))
 over_inner d inner p (inr (inr (inr (inr (inl h))))) = subst (Follows d inner.value) (sym h.1) refl
@@ -56,7 +56,8 @@ IsSource p =
     ⊎ (((column : Column) × (v : Value) × (p ≡ declared.PickEqual column v))
     ⊎ (((column : Column) × (low : ℤ) × (high : ℤ) × (p ≡ declared.PickBetween column low high))
     ⊎ (((left : Column) × (right : Column) × (within : Option ℕ) × (p ≡ declared.Join left right within))
-    ⊎ ((left : Column) × (right : Column) × (within : Option ℕ) × (p ≡ declared.Semi left right within)))))))
+    ⊎ (((left : Column) × (right : Column) × (within : Option ℕ) × (p ≡ declared.Semi left right within))
+    ⊎ ((k : ℕ) × (left : Column) × (right : Column) × (within : Option ℕ) × (p ≡ declared.Knn k left right within))))))))
 
 abbrev IsAlone : Database → Plan → Type 0
 IsAlone d p = check_operator d (plan_value p) ≡ check_operators d (plan_value p)
@@ -68,4 +69,5 @@ source_alone d p (inr (inr (inl h))) = subst (IsAlone d) (sym h.2) refl
 source_alone d p (inr (inr (inr (inl h)))) = subst (IsAlone d) (sym h.2) refl
 source_alone d p (inr (inr (inr (inr (inl h))))) = subst (IsAlone d) (sym h.3) refl
 source_alone d p (inr (inr (inr (inr (inr (inl h)))))) = subst (IsAlone d) (sym h.3) refl
-source_alone d p (inr (inr (inr (inr (inr (inr h)))))) = subst (IsAlone d) (sym h.3) refl
+source_alone d p (inr (inr (inr (inr (inr (inr (inl h))))))) = subst (IsAlone d) (sym h.3) refl
+source_alone d p (inr (inr (inr (inr (inr (inr (inr h))))))) = subst (IsAlone d) (sym h.4) refl

@@ -9,7 +9,9 @@ use Rattle.sand_base.specs.Shape.{value_kind}
 use Rattle.sand_model.specs.Checks.{first_refusal, kind_named, is_indexed, check_column, check_relation, check_place, check_tests, check_places, can_compare}
 use Rattle.sand_model.specs.Database.{Database, Relation, relation_named}
 use Rattle.sand_model.specs.Operators.{kth}
-use Rattle.sand_model.specs.Plan.{Column, Place, Test}
+use Rattle.statements.specs.declared.column.Column.{Column}
+use Rattle.statements.specs.declared.column.Place.{Place}
+use Rattle.statements.specs.declared.test.Test.{Test}
 use Rattle.plan_check.specs.ColumnCheck.{check_kind}
 use Rattle.plan_check.proofs.Columns.{of_relation, is_missing, kind_in, kind_of_place, of_kind}
 

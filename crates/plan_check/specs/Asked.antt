@@ -4,7 +4,6 @@ use Rattle.sand_base.specs.declared.kind.Kind.{Kind}
 use Rattle.sand_base.specs.declared.kind.Kind.TheVariants as kind
 use Rattle.sand_base.specs.Shape.{same_kind, is_spatial}
 use Rattle.sand_model.specs.Checks.{is_plain, is_plain_pair, can_compare}
-use Rattle.plan_check.specs.PlanValue.{op_value}
 use Rattle.plan_check.specs.declared.asked.Asked.{Asked}
 use Rattle.plan_check.specs.declared.asked.Asked.TheVariants as asked
 
@@ -15,4 +14,4 @@ is_asked asked.Spatial k = is_spatial k
 is_asked asked.Int k = same_kind kind.Int k
 is_asked (asked.EqualTo other) k = is_plain k && same_kind k other
 is_asked (asked.MatchOf place) k = is_plain_pair place k
-is_asked (asked.ComparedWith op other) k = can_compare (op_value op) k other
+is_asked (asked.ComparedWith op other) k = can_compare op k other

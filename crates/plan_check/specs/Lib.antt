@@ -1,5 +1,3 @@
--- plans as the model's
-pub mod PlanValue
 -- kinds that are asked
 pub mod Asked
 -- one column, one operator

@@ -6,8 +6,8 @@ use Rattle.sand_base.specs.Shape.{value_kind, same_kind, is_spatial}
 use Rattle.sand_model.specs.Checks.{first_refusal, check_relation, check_column, check_place, check_tests, check_places, is_plain, is_plain_pair, place_kind}
 use Rattle.sand_model.specs.Database.{Database}
 use Rattle.sand_model.specs.Operators.{relations_of}
-use Rattle.sand_model.specs.Plan as plan
-use Rattle.sand_model.specs.Plan.{Plan}
+use Rattle.statements.specs.Plan as plan
+use Rattle.statements.specs.Plan.{Plan}
 
 -- the checks of one operator, where those beneath it pass
 abbrev pub check_operator : Database → Plan → Option Refusal
@@ -20,6 +20,8 @@ check_operator database (plan.PickBetween column low high) = check_column databa
 check_operator database (plan.Join left right within) =
     first_refusal (check_column database left is_spatial ∷ check_column database right is_spatial ∷ [])
 check_operator database (plan.Semi left right within) =
+    first_refusal (check_column database left is_spatial ∷ check_column database right is_spatial ∷ [])
+check_operator database (plan.Knn k left right within) =
     first_refusal (check_column database left is_spatial ∷ check_column database right is_spatial ∷ [])
 check_operator database (plan.Filter p tests) = check_tests database (relations_of p) tests
 check_operator database (plan.Match p place column) =

@@ -2,7 +2,6 @@ ghost use Rattle.std.specs.Prelude.{◌≡◌};
 ghost use Rattle.sand_base.specs.Shape.{is_spatial};
 ghost use Rattle.sand_model.specs.Checks.{can_compare};
 ghost use Rattle.plan_check.specs.Asked.{is_asked};
-ghost use Rattle.plan_check.specs.PlanValue.{op_value};
 
 use sand_base::Kind;
 use script_text::Op;
@@ -36,7 +35,7 @@ pub fn is_spatial(kind: Kind) -> bool
 
 // Whether a column can be compared so with a value.
 fn can_compare(op: Op, column: Kind, value: Kind) -> bool
-    ensures { result ≡ can_compare (op_value op) column value }
+    ensures { result ≡ can_compare op column value }
 {
     match (column, value) {
         (Kind::Int, Kind::Int) => true,

@@ -3,12 +3,11 @@ ghost use Rattle.std.specs.Result.{result_err};
 ghost use Rattle.page_pool.specs.Disk.{PageMap};
 ghost use Rattle.sand_model.specs.Checks.{first_refusal, check, check_operators, check_tests, check_places};
 ghost use Rattle.sand_model.specs.Operators.{relations_of};
-ghost use Rattle.sand_model.specs.Plan.{Join, Match};
+ghost use Rattle.statements.specs.Plan.{Join, Match, plan_value};
 ghost use Rattle.sand_model.specs.StatementChecks.{check_depth};
 ghost use Rattle.sand_store.specs.Catalog.{IsCatalog};
 ghost use Rattle.sand_store.specs.Contents.{database_in};
 ghost use Rattle.plan_check.specs.OperatorCheck.{check_operator};
-ghost use Rattle.plan_check.specs.PlanValue.{plan_value, test_value, place_value, column_value};
 
 use crate::MOST_OPERATORS;
 use crate::asked::Asked;
@@ -20,7 +19,7 @@ use script_text::{Column, Place, Plan, Test};
 
 // The checks of the tests of a filter, from left to right.
 fn check_tests(catalog: &Catalog, plan: &Plan, tests: &[Test]) -> Result<(), Refusal>
-    ensures { (pages : PageMap) → result_err result ≡ check_tests (database_in pages catalog.now.relations) (relations_of (plan_value plan.now)) (map test_value tests.now) }
+    ensures { (pages : PageMap) → result_err result ≡ check_tests (database_in pages catalog.now.relations) (relations_of (plan_value plan.now)) tests.now }
 {
     'tests: for test in tests {
         let asked = Asked::ComparedWith(test.op, test.value.kind());
@@ -31,7 +30,7 @@ fn check_tests(catalog: &Catalog, plan: &Plan, tests: &[Test]) -> Result<(), Ref
 
 // The checks of the places of a fetch, from left to right.
 fn check_places(catalog: &Catalog, plan: &Plan, places: &[Place]) -> Result<(), Refusal>
-    ensures { (pages : PageMap) → result_err result ≡ check_places (database_in pages catalog.now.relations) (relations_of (plan_value plan.now)) (map place_value places.now) }
+    ensures { (pages : PageMap) → result_err result ≡ check_places (database_in pages catalog.now.relations) (relations_of (plan_value plan.now)) places.now }
 {
     'places: for place in places {
         check_place(catalog, plan, place, Asked::Any)?;
@@ -41,7 +40,7 @@ fn check_places(catalog: &Catalog, plan: &Plan, places: &[Place]) -> Result<(), 
 
 // The checks of two columns of shapes, from left to right.
 fn check_both(catalog: &Catalog, left: &Column, right: &Column) -> Result<(), Refusal>
-    ensures { IsCatalog catalog.now → (pages : PageMap) → result_err result ≡ check_operator (database_in pages catalog.now.relations) (Join (column_value left.now) (column_value right.now) None) }
+    ensures { IsCatalog catalog.now → (pages : PageMap) → result_err result ≡ check_operator (database_in pages catalog.now.relations) (Join left.now right.now None) }
 {
     check_column(catalog, left, Asked::Spatial)?;
     check_column(catalog, right, Asked::Spatial)
@@ -54,7 +53,7 @@ fn check_match(
     place: &Place,
     column: &Column,
 ) -> Result<(), Refusal>
-    ensures { IsCatalog catalog.now → (pages : PageMap) → result_err result ≡ check_operator (database_in pages catalog.now.relations) (Match (plan_value plan.now) (place_value place.now) (column_value column.now)) }
+    ensures { IsCatalog catalog.now → (pages : PageMap) → result_err result ≡ check_operator (database_in pages catalog.now.relations) (Match (plan_value plan.now) place.now column.now) }
 {
     check_place(catalog, plan, place, Asked::Any)?;
     let asked = Asked::MatchOf(place_kind(catalog, plan, place));
@@ -74,9 +73,9 @@ fn check_operator(catalog: &Catalog, plan: &Plan) -> Result<(), Refusal>
             check_column(catalog, column, Asked::EqualTo(value.kind()))
         }
         Plan::PickBetween { column, .. } => check_column(catalog, column, Asked::Int),
-        Plan::Join { left, right, .. } | Plan::Semi { left, right, .. } => {
-            check_both(catalog, left, right)
-        }
+        Plan::Join { left, right, .. }
+        | Plan::Semi { left, right, .. }
+        | Plan::Knn { left, right, .. } => check_both(catalog, left, right),
         Plan::Filter { plan, tests } => check_tests(catalog, plan, tests.as_slice()),
         Plan::Match {
             plan,
@@ -111,7 +110,8 @@ pub fn check_operators(catalog: &Catalog, plan: &Plan) -> Result<(), Refusal>
         | Plan::PickEqual { .. }
         | Plan::PickBetween { .. }
         | Plan::Join { .. }
-        | Plan::Semi { .. } => check_operator(catalog, plan),
+        | Plan::Semi { .. }
+        | Plan::Knn { .. } => check_operator(catalog, plan),
     }
 }
 

@@ -7,7 +7,6 @@ ghost use Rattle.sand_store.specs.Catalog.{IsCatalog, IsDescribed};
 ghost use Rattle.sand_store.specs.Contents.{relation_in, database_in};
 ghost use Rattle.plan_check.specs.Asked.{is_asked};
 ghost use Rattle.plan_check.specs.ColumnCheck.{check_in};
-ghost use Rattle.plan_check.specs.PlanValue.{column_value};
 
 use crate::asked::{Asked, is_spatial};
 use sand_base::{Kind, Refusal};
@@ -55,7 +54,7 @@ fn check_in(relation: &Relation, name: &str, asked: Asked) -> Result<(), Refusal
 
 /// The checks of a column: its relation is there, it is there, its kind is one that is asked, it has an index.
 pub fn check_column(catalog: &Catalog, column: &Column, asked: Asked) -> Result<(), Refusal>
-    ensures { IsCatalog catalog.now → (pages : PageMap) → result_err result ≡ check_column (database_in pages catalog.now.relations) (column_value column.now) (is_asked asked) }
+    ensures { IsCatalog catalog.now → (pages : PageMap) → result_err result ≡ check_column (database_in pages catalog.now.relations) column.now (is_asked asked) }
 {
     let Some(relation) = catalog.relation(column.relation.as_str()) else {
         return Err(Refusal::UnknownRelation);

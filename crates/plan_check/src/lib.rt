@@ -2,9 +2,9 @@
 //!
 //! They go from the innermost operator outwards and in one operator from left to right; the first that fails is the
 //! refusal, and the number of operators comes last. They ask the catalog alone: no page is read and no memory taken.
-//! Above: `plan_ops` and `open_cursors`. Below: `script_text` for plans as they are written, `sand_store` for
+//! Above: `plan_ops` and `open_cursors`. Below: `statements` for plans, `sand_store` for
 //! the catalog, `sand_model` for the checks themselves.
-//! Contracts see a plan as the model's; read `specs/PlanValue.antt` first.
+//! Contracts see a plan as its tree; read `specs/OperatorCheck.antt` first.
 #![tactic(auto)]
 
 mod asked;

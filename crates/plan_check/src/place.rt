@@ -5,7 +5,7 @@ ghost use Rattle.sand_model.specs.Checks.{place_kind, check_place};
 ghost use Rattle.sand_model.specs.Operators.{relations_of, kth};
 ghost use Rattle.sand_store.specs.Contents.{database_in};
 ghost use Rattle.plan_check.specs.Asked.{is_asked};
-ghost use Rattle.plan_check.specs.PlanValue.{plan_value, place_value};
+ghost use Rattle.statements.specs.Plan.{plan_value};
 ghost use Rattle.plan_check.specs.Search.{IsSearched};
 
 use crate::asked::Asked;
@@ -36,7 +36,9 @@ fn name_at(plan: &Plan, at: u32) -> Result<&Label, u32>
         | Plan::Window { column, .. }
         | Plan::PickEqual { column, .. }
         | Plan::PickBetween { column, .. } => or_next(Err(at), &column.relation),
-        Plan::Join { left, right, .. } | Plan::Semi { left, right, .. } => {
+        Plan::Join { left, right, .. }
+        | Plan::Semi { left, right, .. }
+        | Plan::Knn { left, right, .. } => {
             or_next(or_next(Err(at), &left.relation), &right.relation)
         }
         Plan::Match { plan, column, .. } => or_next(name_at(plan, at), &column.relation),
@@ -63,7 +65,7 @@ pub fn relation_name(plan: &Plan, k: u32) -> Option<&Label>
 
 /// The kind of the values at a place of a plan's rows.
 pub fn place_kind(catalog: &Catalog, plan: &Plan, place: &Place) -> Option<Kind>
-    ensures { (pages : PageMap) → result ≡ place_kind (database_in pages catalog.now.relations) (relations_of (plan_value plan.now)) (place_value place.now) }
+    ensures { (pages : PageMap) → result ≡ place_kind (database_in pages catalog.now.relations) (relations_of (plan_value plan.now)) place.now }
 {
     let name = relation_name(plan, place.k)?;
     let relation = catalog.relation(name.as_str())?;
@@ -77,7 +79,7 @@ pub fn check_place(
     place: &Place,
     asked: Asked,
 ) -> Result<(), Refusal>
-    ensures { (pages : PageMap) → result_err result ≡ check_place (database_in pages catalog.now.relations) (relations_of (plan_value plan.now)) (place_value place.now) (is_asked asked) }
+    ensures { (pages : PageMap) → result_err result ≡ check_place (database_in pages catalog.now.relations) (relations_of (plan_value plan.now)) place.now (is_asked asked) }
 {
     let Some(kind) = place_kind(catalog, plan, place) else {
         return Err(Refusal::UnknownColumn);

@@ -10,7 +10,7 @@ use Rattle.sand_model.specs.Answer.{source, answer}
 use Rattle.sand_model.specs.Cursor.{Cursor, AreBetween, OutputLine, step_of, IsRefusedStep}
 use Rattle.sand_model.specs.Database.{Database, element}
 use Rattle.sand_model.specs.Operators.{PlanRow, over}
-use Rattle.sand_model.specs.Plan.{Plan}
+use Rattle.statements.specs.Plan.{Plan}
 use Rattle.sand_model.specs.Reach.{Counts, reach}
 use Rattle.sand_model.specs.Taken.{Taken, has_taken, is_full, is_lazy, beneath_sort}
 use Rattle.plan_rows.specs.Rows.{plan_measure, row_of}

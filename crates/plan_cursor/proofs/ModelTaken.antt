@@ -4,7 +4,7 @@ use Rattle.std.proofs.lemmas.Bool.{le-leb, leb-true}
 use Rattle.sand_model.specs.Answer.{source, answer}
 use Rattle.sand_model.specs.Database.{Database, element}
 use Rattle.sand_model.specs.Operators.{PlanRow, over}
-use Rattle.sand_model.specs.Plan.{Plan}
+use Rattle.statements.specs.Plan.{Plan}
 use Rattle.sand_model.specs.Reach.{reach, reach_of_last}
 use Rattle.sand_model.specs.Taken.{least_from, taken, is_full, is_lazy, beneath_sort, has_taken}
 use Rattle.plan_rows.specs.Lowest.{least_bounds}

@@ -8,8 +8,10 @@ use Rattle.sand_base.specs.declared.value.Value.{Value}
 use Rattle.sand_model.specs.Answer.{source, answer}
 use Rattle.sand_model.specs.Database.{Database, element}
 use Rattle.sand_model.specs.Operators.{PlanRow, over, relations_of, passes_all, matches_of, value_at, with_fetched}
-use Rattle.sand_model.specs.Plan as plan
-use Rattle.sand_model.specs.Plan.{Plan, Place, Column}
+use Rattle.statements.specs.Plan as plan
+use Rattle.statements.specs.Plan.{Plan}
+use Rattle.statements.specs.declared.column.Place.{Place}
+use Rattle.statements.specs.declared.column.Column.{Column}
 use Rattle.sand_model.specs.Reach.{reach_of_last}
 use Rattle.sand_model.specs.Sources.{same_value, column_values}
 use Rattle.sand_model.specs.Taken.{Taken, is_lazy}
@@ -106,6 +108,7 @@ over_one d (plan.PickEqual column v) lazy xs x = one_more xs x
 over_one d (plan.PickBetween column low high) lazy xs x = one_more xs x
 over_one d (plan.Join left right within) lazy xs x = one_more xs x
 over_one d (plan.Semi left right within) lazy xs x = one_more xs x
+over_one d (plan.Knn k left right within) lazy xs x = one_more xs x
 
 -- ---- the last row that was taken
 
@@ -188,6 +191,7 @@ module _ (d : Database) (p : Plan) (given : ℕ) (t : Taken) (needed : IsNeeded 
       nothing (plan.PickBetween column low high) lazy = refl
       nothing (plan.Join left right within) lazy = refl
       nothing (plan.Semi left right within) lazy = refl
+      nothing (plan.Knn k left right within) lazy = refl
 
       go : (n : ℕ) → t.rows ≡ n → reach_of_last (take t.rows (source plan_measure d p)) ≡ reach_of_last (row ∷ [])
       go zero is =

@@ -4,7 +4,7 @@ ghost use Rattle.page_pool.specs.Disk.{PageMap};
 ghost use Rattle.page_pool.specs.Reads.{IsRead};
 ghost use Rattle.sand_model.specs.Cursor.{Cursor, new_cursor};
 ghost use Rattle.sand_model.specs.Database.{Database};
-ghost use Rattle.sand_model.specs.Plan.{Plan};
+ghost use Rattle.statements.specs.Plan.{Plan};
 ghost use Rattle.sand_model.specs.Reach.{no_counts};
 ghost use Rattle.best_first.specs.Visits.{told_pages};
 ghost use Rattle.plan_rows.specs.Rows.{counts_of};

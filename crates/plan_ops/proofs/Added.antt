@@ -2,10 +2,9 @@
 use Rattle.std.proofs.Common.{◌≡◌, ℕ, ◌-◌, ◌≤◌, ◌<◌, refl, List, [], ◌∷◌, ◌++◌, map, length, take, drop, get_or, sym, ◌∙◌, ap, subst, arith, append_assoc}
 use Rattle.std.proofs.lemmas.List.{take_all}
 use Rattle.page_pool.specs.Disk.{PageMap}
-use Rattle.script_text.specs.declared.column.Place.{Place}
-use Rattle.script_text.specs.declared.test.Test.{Test}
+use Rattle.statements.specs.declared.column.Place.{Place}
+use Rattle.statements.specs.declared.test.Test.{Test}
 use Rattle.sand_model.specs.Database.{Database}
-use Rattle.plan_check.specs.PlanValue.{place_value, test_value}
 use Rattle.plan_places.specs.Spots.{IsSpot}
 use Rattle.plan_places.specs.declared.spot.Spot.{Spot}
 use Rattle.plan_stages.specs.Fetches.{AreSpots}
@@ -34,23 +33,23 @@ module _ (d : Database) (names : List (List ℕ)) (pages : PageMap) where
   -- the places that were added
 
   abbrev pub SpotsAdded : List Spot → List Spot → List Place → Type 0
-  SpotsAdded old new places = (added : List Spot) × ((new ≡ old ++ added) × AreSpots d names pages added (map place_value places))
+  SpotsAdded old new places = (added : List Spot) × ((new ≡ old ++ added) × AreSpots d names pages added places)
 
   pub spots_added : (places : List Place) (place : Place) (rest : List Place) (spot : Spot) (old mid new : List Spot) → places ≡ place ∷ rest → mid ≡ old ++ spot ∷ []
-      → IsSpot d names (place_value place) spot pages → SpotsAdded mid new rest → SpotsAdded old new places
+      → IsSpot d names place spot pages → SpotsAdded mid new rest → SpotsAdded old new places
   spots_added places place rest spot old mid new is first here more = (
     spot ∷ more.0,
-    (behind old mid new more.0 spot first more.1.0, subst (λ (ps : List Place). AreSpots d names pages (spot ∷ more.0) (map place_value ps)) (sym is) (here, more.1.1)),
+    (behind old mid new more.0 spot first more.1.0, subst (λ (ps : List Place). AreSpots d names pages (spot ∷ more.0) ps) (sym is) (here, more.1.1)),
   )
 
   -- the tests that were added
 
   abbrev pub TestsAdded : List SpotTest → List SpotTest → List Test → Type 0
-  TestsAdded old new tests = (added : List SpotTest) × ((new ≡ old ++ added) × AreTests d names pages added (map test_value tests))
+  TestsAdded old new tests = (added : List SpotTest) × ((new ≡ old ++ added) × AreTests d names pages added tests)
 
   pub tests_added : (tests : List Test) (test : Test) (rest : List Test) (found : SpotTest) (old mid new : List SpotTest) → tests ≡ test ∷ rest → mid ≡ old ++ found ∷ []
-      → IsTest d names pages found (test_value test) → TestsAdded mid new rest → TestsAdded old new tests
+      → IsTest d names pages found test → TestsAdded mid new rest → TestsAdded old new tests
   tests_added tests test rest found old mid new is first here more = (
     found ∷ more.0,
-    (behind old mid new more.0 found first more.1.0, subst (λ (ts : List Test). AreTests d names pages (found ∷ more.0) (map test_value ts)) (sym is) (here, more.1.1)),
+    (behind old mid new more.0 found first more.1.0, subst (λ (ts : List Test). AreTests d names pages (found ∷ more.0) ts) (sym is) (here, more.1.1)),
   )

@@ -2,17 +2,16 @@
 use Rattle.std.proofs.Common.{◌≡◌, ◌⊎◌, ◌<◌, arith, ℕ, List, sym, ◌∙◌, subst, inl, inr, Box, Global}
 use Rattle.sand_base.specs.declared.shape.Shape.{Shape}
 use Rattle.script_text.specs.InRange.{IsPlanInRange}
-use Rattle.script_text.specs.Plan as text
-use Rattle.script_text.specs.declared.column.Column.{Column}
-use Rattle.script_text.specs.declared.column.Place.{Place}
-use Rattle.script_text.specs.declared.plan.Plan as declared
-use Rattle.script_text.specs.declared.plan.Plan.{Plan}
-use Rattle.script_text.specs.declared.test.Test.{Test}
+use Rattle.statements.specs.declared.column.Column.{Column}
+use Rattle.statements.specs.declared.column.Place.{Place}
+use Rattle.statements.specs.declared.plan.Plan as declared
+use Rattle.statements.specs.declared.plan.Plan.{Plan}
+use Rattle.statements.specs.declared.test.Test.{Test}
 use Rattle.sand_model.specs.Checks.{check_operators}
 use Rattle.sand_store.specs.Catalog.{CatalogView}
 use Rattle.sand_store.specs.Contents.{database_in}
 use Rattle.plan_check.specs.OperatorCheck.{check_operator}
-use Rattle.plan_check.specs.PlanValue.{plan_value}
+use Rattle.statements.specs.Plan.{plan_value, depth}
 use Rattle.plan_check.proofs.Operators.{over_inner}
 use Rattle.plan_check.proofs.Passed.{first_passed}
 use Rattle.plan_ops.specs.Openable.{IsOpenable}
@@ -28,7 +27,7 @@ IsOver below p =
     ⊎ ((place : Place) × (goal : Shape) × (p ≡ declared.SortNear below place goal))))))
 
 abbrev InRange : Plan → Type 0
-InRange p = IsPlanInRange (text.plan_value p)
+InRange p = IsPlanInRange (plan_value p)
 
 range_within : (below : Box Plan Global) (p : Plan) → IsOver below p → InRange p → InRange below.value
 range_within below p (inl h) r = (subst InRange h.1 r).0
@@ -51,7 +50,7 @@ open_beneath catalog below p over o = record {
 -- it has an operator less
 
 abbrev pub operators_in : Plan → ℕ
-operators_in p = text.depth (text.plan_value p)
+operators_in p = depth (plan_value p)
 
 pub over_shallower : (below : Box Plan Global) (p : Plan) → IsOver below p → operators_in below.value < operators_in p
 over_shallower below p (inl h) = subst (λ (q : Plan). operators_in below.value < operators_in q) (sym h.1) (omega arith)

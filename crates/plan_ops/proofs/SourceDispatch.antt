@@ -3,7 +3,7 @@ use Rattle.std.proofs.Common.{◌≡◌, Option, Result, IfSome, sym, subst}
 use Rattle.page_pool.specs.Desk.{DeskState}
 use Rattle.page_pool.specs.declared.fault.PageFault.{PageFault}
 use Rattle.sand_model.specs.Database.{Database}
-use Rattle.sand_model.specs.Plan.{Plan}
+use Rattle.statements.specs.Plan.{Plan}
 use Rattle.sand_model.specs.Taken.{Taken}
 use Rattle.best_first.specs.Visits.{told_pages}
 use Rattle.plan_rows.specs.Rows.{counts_of}

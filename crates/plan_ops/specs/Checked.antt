@@ -4,7 +4,8 @@ use Rattle.sand_base.specs.Shape.{is_spatial}
 use Rattle.sand_base.specs.declared.kind.Kind.{Kind}
 use Rattle.sand_model.specs.Checks.{check_column, check_place}
 use Rattle.sand_model.specs.Database.{Database}
-use Rattle.sand_model.specs.Plan.{Column, Place}
+use Rattle.statements.specs.declared.column.Column.{Column}
+use Rattle.statements.specs.declared.column.Place.{Place}
 
 -- A column passed: the kinds that were asked are all of shapes, or none is.
 pub record IsChecked (d : Database) (column : Column) (spatial : Bool) : Type 0 where

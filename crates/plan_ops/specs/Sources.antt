@@ -15,8 +15,9 @@ use Rattle.plain_source.specs.Plain.{IsScan, IsPickEqual, IsPickBetween, steps_l
 use Rattle.plain_source.specs.Prices.{heights_of as plain_heights, entries_price}
 use Rattle.rank_source.specs.Rankings.{IsAt, by_code, hierarchy_of, seen_of, steps_of, heights_of as rank_heights}
 use Rattle.pair_source.specs.declared.join_source.JoinSource.{JoinSource}
+use Rattle.pair_source.specs.declared.knn_source.KnnSource.{KnnSource}
 use Rattle.pair_source.specs.declared.semi_source.SemiSource.{SemiSource}
-use Rattle.pair_source.specs.Joins.{join_of, joining_in, heights_of as join_heights, HasTaken, HasTakenFirsts}
+use Rattle.pair_source.specs.Joins.{join_of, joining_in, heights_of as join_heights, HasTaken, HasTakenFirsts, HasTakenPartners}
 use Rattle.plan_ops.specs.declared.source.Source.{Source}
 use Rattle.plan_ops.specs.declared.source.Source.TheVariants as source
 
@@ -42,6 +43,14 @@ semi_at s pages d p t =
     (joining_in (join_of h) pages)
     s.semi.engine.frontier.queue.items s.semi.engine.frontier.last s.semi.engine.frontier.counts s.semi.lefts d p t
 
+-- so much was taken of a join of k partners
+abbrev pub knn_at : KnnSource → Taking
+knn_at s pages d p t =
+    let h = s.knn.engine.hierarchy in
+    HasTakenPartners by_codes
+    (joining_in (join_of h) pages)
+    s.knn.engine.frontier.queue.items s.knn.engine.frontier.last s.knn.engine.frontier.counts s.knn.partners d p t
+
 -- so much was taken of it
 abbrev pub source_at : Source → Taking
 source_at (source.Scan s) = IsScan s.relation.value s.last
@@ -50,6 +59,7 @@ source_at (source.PickBetween s) = IsPickBetween s.look_up s.low s.high s.last
 source_at (source.Rank s) = IsAt s.search
 source_at (source.Join s) = join_at s
 source_at (source.Semi s) = semi_at s
+source_at (source.Knn s) = knn_at s
 
 -- what it has visited
 abbrev pub source_seen : Source → SourceCounts
@@ -61,6 +71,8 @@ source_seen (source.Join s) =
     record { blocks = 0; pairs = s.search.frontier.counts.visited; geometries = s.search.frontier.counts.fetched }
 source_seen (source.Semi s) =
     record { blocks = 0; pairs = s.semi.engine.frontier.counts.visited; geometries = s.semi.engine.frontier.counts.fetched }
+source_seen (source.Knn s) =
+    record { blocks = 0; pairs = s.knn.engine.frontier.counts.visited; geometries = s.knn.engine.frontier.counts.fetched }
 
 -- how many steps may still be made
 abbrev pub source_steps : Source → ℕ
@@ -70,6 +82,7 @@ source_steps (source.PickBetween s) = steps_left s.low s.high s.last
 source_steps (source.Rank s) = steps_of s.search
 source_steps (source.Join s) = steps pair_weight s.search.frontier.queue.items
 source_steps (source.Semi s) = steps pair_weight s.semi.engine.frontier.queue.items
+source_steps (source.Knn s) = steps pair_weight s.knn.engine.frontier.queue.items
 
 -- the heights of the B-trees that it reads
 abbrev pub source_heights : Source → Heights
@@ -83,6 +96,10 @@ source_heights (source.Join s) =
     (join_of h)
 source_heights (source.Semi s) =
     let h = s.semi.engine.hierarchy in
+    join_heights
+    (join_of h)
+source_heights (source.Knn s) =
+    let h = s.knn.engine.hierarchy in
     join_heights
     (join_of h)
 

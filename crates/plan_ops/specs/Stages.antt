@@ -3,7 +3,7 @@ use Rattle.std.specs.Prelude.{ℕ, Bool, false, List}
 use Rattle.page_pool.specs.Disk.{PageMap}
 use Rattle.sand_model.specs.Database.{Database}
 use Rattle.sand_model.specs.Operators.{PlanRow}
-use Rattle.sand_model.specs.Plan.{Plan}
+use Rattle.statements.specs.Plan.{Plan}
 use Rattle.plan_stages.specs.Fetches.{FetchStands, fetch_waits, fetch_steps}
 use Rattle.plan_stages.specs.Filters.{FilterStands, filter_waits, filter_steps}
 use Rattle.plan_stages.specs.Firsts.{FirstStands, first_waits, first_steps}

@@ -5,7 +5,6 @@ ghost use Rattle.sand_store.specs.Catalog.{IsCatalog, IsColumnAt};
 ghost use Rattle.sand_store.specs.Contents.{database_in};
 ghost use Rattle.sand_store.specs.Paths.{IsTreeOf};
 ghost use Rattle.sand_store.specs.Standing.{CatalogStands, RelationStands};
-ghost use Rattle.plan_check.specs.PlanValue.{column_value};
 ghost use Rattle.plan_places.specs.Indexed.{IsLookUp};
 ghost use Rattle.rank_source.specs.Rankings.{IsColumnOf};
 ghost use Rattle.plan_ops.specs.Checked.{IsChecked};
@@ -20,8 +19,8 @@ use std::alloc::Global;
 /// The column of shapes of these names with its quadtree.
 pub(crate) fn tree_column<'s>(catalog: &'s Catalog, column: &Column) -> TreeColumn<'s>
     requires described { IsCatalog catalog.now }
-    requires checked { (pages : PageMap) → IsChecked (database_in pages catalog.now.relations) (column_value column.now) true }
-    ensures named { (pages : PageMap) → IsColumnOf pages result.relation.now result.column (database_in pages catalog.now.relations) (column_value column.now) }
+    requires checked { (pages : PageMap) → IsChecked (database_in pages catalog.now.relations) column.now true }
+    ensures named { (pages : PageMap) → IsColumnOf pages result.relation.now result.column (database_in pages catalog.now.relations) column.now }
     ensures spatial { IsColumnAt result.relation.now.schema result.column true }
     ensures tree { IsTreeOf result.relation.now result.column result.tree.now }
     ensures stands { (pages : PageMap) → CatalogStands pages catalog.now → RelationStands pages catalog.now.limits result.relation.now }
@@ -45,8 +44,8 @@ pub(crate) fn tree_column<'s>(catalog: &'s Catalog, column: &Column) -> TreeColu
 /// The column of ints or texts of these names with its index.
 pub(crate) fn look_up(alloc: Global, catalog: &Catalog, column: &Column) -> Result<LookUp, NoMemory>
     requires described { IsCatalog catalog.now }
-    requires checked { (pages : PageMap) → IsChecked (database_in pages catalog.now.relations) (column_value column.now) false }
-    ensures { IfOk result (λ found. (pages : PageMap) → CatalogStands pages catalog.now → IsLookUp (database_in pages catalog.now.relations) (column_value column.now) found pages) }
+    requires checked { (pages : PageMap) → IsChecked (database_in pages catalog.now.relations) column.now false }
+    ensures { IfOk result (λ found. (pages : PageMap) → CatalogStands pages catalog.now → IsLookUp (database_in pages catalog.now.relations) column.now found pages) }
 {
     let relation = column.relation.as_str();
     match LookUp::named(alloc, catalog, relation, column.column.as_str())? {

@@ -4,7 +4,7 @@ ghost use Rattle.page_pool.specs.Disk.{PageMap};
 ghost use Rattle.sand_model.specs.Reach.{no_counts};
 ghost use Rattle.sand_store.specs.Contents.{database_in};
 ghost use Rattle.sand_store.specs.Standing.{CatalogStands};
-ghost use Rattle.plan_check.specs.PlanValue.{plan_value};
+ghost use Rattle.statements.specs.Plan.{plan_value};
 ghost use Rattle.plan_rows.specs.Rows.{counts_of};
 ghost use Rattle.plan_rows.specs.SourceSteps.{nothing_taken};
 ghost use Rattle.plan_steps.specs.Following.{Follows, source_of};
@@ -49,7 +49,8 @@ pub(crate) fn operator_of(
         | Plan::PickEqual { .. }
         | Plan::PickBetween { .. }
         | Plan::Join { .. }
-        | Plan::Semi { .. } => {
+        | Plan::Semi { .. }
+        | Plan::Knn { .. } => {
             let source = Source::start(alloc, catalog, plan)?;
             Ok(Operator::Source(source))
         }

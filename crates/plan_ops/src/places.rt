@@ -5,7 +5,7 @@ ghost use Rattle.sand_model.specs.Checks.{check_tests, check_places};
 ghost use Rattle.sand_model.specs.Operators.{relations_of};
 ghost use Rattle.sand_store.specs.Contents.{database_in};
 ghost use Rattle.sand_store.specs.Standing.{CatalogStands};
-ghost use Rattle.plan_check.specs.PlanValue.{plan_value, place_value, test_value};
+ghost use Rattle.statements.specs.Plan.{plan_value};
 ghost use Rattle.plan_places.specs.Spots.{IsSpot};
 ghost use Rattle.plan_places.specs.declared.spot.Spot.{Spot as Place'};
 ghost use Rattle.plan_stages.specs.Fetches.{AreSpots};
@@ -28,8 +28,8 @@ pub(crate) fn spot(
     plan: &Plan,
     place: &Place,
 ) -> Result<Spot, NoMemory>
-    requires { (pages : PageMap) → IsPlaceChecked (database_in pages catalog.now.relations) (relations_of (plan_value plan.now)) (place_value place.now) }
-    ensures { IfOk result (λ found. (pages : PageMap) → CatalogStands pages catalog.now → IsSpot (database_in pages catalog.now.relations) (relations_of (plan_value plan.now)) (place_value place.now) found pages) }
+    requires { (pages : PageMap) → IsPlaceChecked (database_in pages catalog.now.relations) (relations_of (plan_value plan.now)) place.now }
+    ensures { IfOk result (λ found. (pages : PageMap) → CatalogStands pages catalog.now → IsSpot (database_in pages catalog.now.relations) (relations_of (plan_value plan.now)) place.now found pages) }
 {
     let Some(name) = relation_name(plan, place.k) else {
         unreachable!()
@@ -48,8 +48,8 @@ fn spot_test(
     plan: &Plan,
     test: &Test,
 ) -> Result<SpotTest, NoMemory>
-    requires { (pages : PageMap) → IsPlaceChecked (database_in pages catalog.now.relations) (relations_of (plan_value plan.now)) (place_value test.now.place) }
-    ensures { IfOk result (λ found. (pages : PageMap) → CatalogStands pages catalog.now → IsTest (database_in pages catalog.now.relations) (relations_of (plan_value plan.now)) pages found (test_value test.now)) }
+    requires { (pages : PageMap) → IsPlaceChecked (database_in pages catalog.now.relations) (relations_of (plan_value plan.now)) test.now.place }
+    ensures { IfOk result (λ found. (pages : PageMap) → CatalogStands pages catalog.now → IsTest (database_in pages catalog.now.relations) (relations_of (plan_value plan.now)) pages found test.now) }
 {
     let value = test.value.copy(alloc)?;
     let spot = spot(alloc, catalog, plan, &test.place)?;
@@ -68,8 +68,8 @@ pub(crate) fn add_tests(
     tests: &[Test],
     found: &mut Vec<SpotTest>,
 ) -> Result<(), NoMemory>
-    requires { (pages : PageMap) → check_tests (database_in pages catalog.now.relations) (relations_of (plan_value plan.now)) (map test_value tests.now) ≡ None }
-    ensures { OnOk result ((pages : PageMap) → CatalogStands pages catalog.now → (added : List Test') × ((found.new.items ≡ found.old.items ++ added) × AreTests (database_in pages catalog.now.relations) (relations_of (plan_value plan.now)) pages added (map test_value tests.now))) }
+    requires { (pages : PageMap) → check_tests (database_in pages catalog.now.relations) (relations_of (plan_value plan.now)) tests.now ≡ None }
+    ensures { OnOk result ((pages : PageMap) → CatalogStands pages catalog.now → (added : List Test') × ((found.new.items ≡ found.old.items ++ added) × AreTests (database_in pages catalog.now.relations) (relations_of (plan_value plan.now)) pages added tests.now)) }
 {
     match tests {
         [] => Ok(()),
@@ -89,8 +89,8 @@ pub(crate) fn add_spots(
     places: &[Place],
     found: &mut Vec<Spot>,
 ) -> Result<(), NoMemory>
-    requires { (pages : PageMap) → check_places (database_in pages catalog.now.relations) (relations_of (plan_value plan.now)) (map place_value places.now) ≡ None }
-    ensures { OnOk result ((pages : PageMap) → CatalogStands pages catalog.now → (added : List Place') × ((found.new.items ≡ found.old.items ++ added) × AreSpots (database_in pages catalog.now.relations) (relations_of (plan_value plan.now)) pages added (map place_value places.now))) }
+    requires { (pages : PageMap) → check_places (database_in pages catalog.now.relations) (relations_of (plan_value plan.now)) places.now ≡ None }
+    ensures { OnOk result ((pages : PageMap) → CatalogStands pages catalog.now → (added : List Place') × ((found.new.items ≡ found.old.items ++ added) × AreSpots (database_in pages catalog.now.relations) (relations_of (plan_value plan.now)) pages added places.now)) }
 {
     match places {
         [] => Ok(()),

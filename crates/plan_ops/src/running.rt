@@ -6,7 +6,7 @@ ghost use Rattle.sand_model.specs.Cursor.{Cursor, new_cursor};
 ghost use Rattle.sand_store.specs.Contents.{database_in};
 ghost use Rattle.sand_store.specs.Standing.{CatalogStands};
 ghost use Rattle.best_first.specs.Visits.{told_pages};
-ghost use Rattle.plan_check.specs.PlanValue.{plan_value};
+ghost use Rattle.statements.specs.Plan.{plan_value};
 ghost use Rattle.plan_cursor.specs.Standing.{AreStats};
 ghost use Rattle.plan_rows.specs.SourceSteps.{Falls};
 ghost use Rattle.plan_ops.specs.Openable.{IsOpenable};

@@ -1,7 +1,7 @@
 ghost use Rattle.plan_ops.specs.Sources.{source_at, source_seen, source_steps, source_heights, source_step_price, source_owed};
 
 use page_pool::{Desk, Disk, PageFault};
-use pair_source::{JoinSource, SemiSource};
+use pair_source::{JoinSource, KnnSource, SemiSource};
 use plain_source::{PickBetween, PickEqual, Scan};
 use plan_rows::{Answer, RowSource, SourceCounts};
 use rank_source::RankSource;
@@ -16,6 +16,7 @@ pub enum Source {
     Rank(RankSource),
     Join(JoinSource),
     Semi(SemiSource),
+    Knn(KnnSource),
 }
 
 impl RowSource for Source {
@@ -43,6 +44,7 @@ impl RowSource for Source {
             Source::Rank(source) => return source.next(alloc, desk),
             Source::Join(source) => return source.next(alloc, desk),
             Source::Semi(source) => return source.next(alloc, desk),
+            Source::Knn(source) => return source.next(alloc, desk),
         }
     }
 
@@ -54,6 +56,7 @@ impl RowSource for Source {
             Source::Rank(source) => source.counts(),
             Source::Join(source) => source.counts(),
             Source::Semi(source) => source.counts(),
+            Source::Knn(source) => source.counts(),
         }
     }
 }

@@ -3,12 +3,11 @@ ghost use Rattle.page_pool.specs.Disk.{PageMap};
 ghost use Rattle.sand_base.specs.Shape.{same_kind};
 ghost use Rattle.sand_base.specs.declared.kind.Kind.TheVariants.{Int};
 ghost use Rattle.sand_model.specs.Checks.{check_column, check_relation};
-ghost use Rattle.sand_model.specs.Plan.{Scan as of_relation, PickEqual as of_column, PickBetween as of_ints};
+ghost use Rattle.statements.specs.Plan.{Scan as of_relation, PickEqual as of_column, PickBetween as of_ints, plan_value};
 ghost use Rattle.sand_model.specs.Reach.{no_counts};
 ghost use Rattle.sand_store.specs.Catalog.{IsCatalog};
 ghost use Rattle.sand_store.specs.Contents.{database_in};
 ghost use Rattle.sand_store.specs.Standing.{CatalogStands};
-ghost use Rattle.plan_check.specs.PlanValue.{plan_value, column_value};
 ghost use Rattle.plan_rows.specs.Rows.{counts_of};
 ghost use Rattle.plan_rows.specs.SourceSteps.{nothing_taken};
 ghost use Rattle.plan_steps.specs.Outermost.{is_source};
@@ -18,7 +17,7 @@ ghost use Rattle.plan_ops.specs.Sources.{source_at, source_seen};
 
 use crate::Source;
 use crate::columns::tree_column;
-use pair_source::{JoinSource, SemiSource};
+use pair_source::{JoinSource, KnnSource, SemiSource};
 use plain_source::{PickBetween, PickEqual, Scan};
 use plan_rows::RowSource;
 use rank_source::RankSource;
@@ -81,6 +80,16 @@ impl Source {
                 let right = tree_column(catalog, right);
                 Ok(Source::Semi(SemiSource::start(alloc, left, right, *within)?))
             }
+            Plan::Knn {
+                k,
+                left,
+                right,
+                within,
+            } => {
+                let left = tree_column(catalog, left);
+                let right = tree_column(catalog, right);
+                Ok(Source::Knn(KnnSource::start(alloc, *k, left, right, *within)?))
+            }
             Plan::Filter { .. }
             | Plan::Match { .. }
             | Plan::Fetch { .. }
@@ -111,9 +120,9 @@ fn pick_equal(
     value: Value,
 ) -> Result<PickEqual, NoMemory>
     requires described { IsCatalog catalog.now }
-    requires checked { (pages : PageMap) → IsChecked (database_in pages catalog.now.relations) (column_value column.now) false }
+    requires checked { (pages : PageMap) → IsChecked (database_in pages catalog.now.relations) column.now false }
     ensures counts { IfOk result (λ s. counts_of (⟦<PickEqual as RowSource>⟧.seen s) ≡ no_counts) }
-    ensures begun { IfOk result (λ s. (pages : PageMap) → CatalogStands pages catalog.now → ⟦<PickEqual as RowSource>⟧.At s pages (database_in pages catalog.now.relations) (of_column (column_value column.now) value) nothing_taken) }
+    ensures begun { IfOk result (λ s. (pages : PageMap) → CatalogStands pages catalog.now → ⟦<PickEqual as RowSource>⟧.At s pages (database_in pages catalog.now.relations) (of_column column.now value) nothing_taken) }
 {
     match PickEqual::start(
         alloc,
@@ -136,9 +145,9 @@ fn pick_between(
     high: i64,
 ) -> Result<PickBetween, NoMemory>
     requires described { IsCatalog catalog.now }
-    requires checked { (pages : PageMap) → check_column (database_in pages catalog.now.relations) (column_value column.now) (same_kind Int) ≡ None }
+    requires checked { (pages : PageMap) → check_column (database_in pages catalog.now.relations) column.now (same_kind Int) ≡ None }
     ensures counts { IfOk result (λ s. counts_of (⟦<PickBetween as RowSource>⟧.seen s) ≡ no_counts) }
-    ensures begun { IfOk result (λ s. (pages : PageMap) → CatalogStands pages catalog.now → ⟦<PickBetween as RowSource>⟧.At s pages (database_in pages catalog.now.relations) (of_ints (column_value column.now) low high) nothing_taken) }
+    ensures begun { IfOk result (λ s. (pages : PageMap) → CatalogStands pages catalog.now → ⟦<PickBetween as RowSource>⟧.At s pages (database_in pages catalog.now.relations) (of_ints column.now low high) nothing_taken) }
 {
     match PickBetween::start(
         alloc,

@@ -2,7 +2,7 @@ ghost use Rattle.std.specs.Prelude.{◌≡◌, false, [], IfOk};
 ghost use Rattle.page_pool.specs.Disk.{PageMap};
 ghost use Rattle.sand_store.specs.Contents.{database_in};
 ghost use Rattle.sand_store.specs.Standing.{CatalogStands};
-ghost use Rattle.plan_check.specs.PlanValue.{plan_value};
+ghost use Rattle.statements.specs.Plan.{plan_value};
 ghost use Rattle.plan_steps.specs.Outermost.{is_source};
 ghost use Rattle.plan_ops.specs.Openable.{IsOpenable};
 ghost use Rattle.plan_ops.specs.Stages.{StageStands, is_closed};
@@ -63,7 +63,8 @@ impl Stage {
             | Plan::PickEqual { .. }
             | Plan::PickBetween { .. }
             | Plan::Join { .. }
-            | Plan::Semi { .. } => unreachable!(),
+            | Plan::Semi { .. }
+            | Plan::Knn { .. } => unreachable!(),
         }
     }
 }

@@ -4,7 +4,7 @@ use Rattle.std.specs.Prelude.{Option, None, Some, filter_map}
 use Rattle.code_btree.specs.Items.{Each}
 use Rattle.sand_base.specs.declared.value.Value.{Value}
 use Rattle.sand_model.specs.Database.{Database, Relation, relation_named, column_named, element}
-use Rattle.sand_model.specs.Plan.{Column}
+use Rattle.statements.specs.declared.column.Column.{Column}
 use Rattle.sand_model.specs.Sources.{column_values}
 use Rattle.plan_places.specs.Steps.{values_at}
 use Rattle.plan_places.proofs.Above.{Pairs}

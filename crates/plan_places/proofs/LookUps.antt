@@ -17,7 +17,7 @@ use Rattle.sand_base.specs.declared.shape.Shape.{Shape}
 use Rattle.sand_base.specs.declared.value.Value.{Value}
 use Rattle.sand_base.specs.declared.value.Value.TheVariants as value
 use Rattle.sand_model.specs.Database.{Database, element}
-use Rattle.sand_model.specs.Plan.{Column}
+use Rattle.statements.specs.declared.column.Column.{Column}
 use Rattle.sand_model.specs.Sources.{same_value, column_values}
 use Rattle.sand_store.specs.Contents.{rows_in, relation_in}
 use Rattle.sand_store.proofs.Databases.{rises_at}

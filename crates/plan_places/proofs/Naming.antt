@@ -5,7 +5,7 @@ use Rattle.page_pool.specs.Disk.{PageMap}
 use Rattle.sand_base.specs.declared.kind.Kind.{Kind}
 use Rattle.sand_base.specs.declared.limits.Limits.{Limits}
 use Rattle.sand_model.specs.Database.{Database, Relation, column_named, index_at}
-use Rattle.sand_model.specs.Plan.{Column}
+use Rattle.statements.specs.declared.column.Column.{Column}
 use Rattle.sand_store.specs.Catalog.{IsDescribed, IsColumnAt}
 use Rattle.sand_store.specs.Contents.{relation_in}
 use Rattle.sand_store.specs.Paths.{HasNoIndex}

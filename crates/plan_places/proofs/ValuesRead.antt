@@ -7,7 +7,7 @@ use Rattle.sand_base.specs.declared.kind.Kind.{Kind}
 use Rattle.sand_base.specs.declared.value.Value.{Value}
 use Rattle.sand_model.specs.Database.{Database, element}
 use Rattle.sand_model.specs.Operators.{PlanRow, kth, value_at}
-use Rattle.sand_model.specs.Plan.{Place}
+use Rattle.statements.specs.declared.column.Place.{Place}
 use Rattle.tuple_codec.specs.Decoding.{HasValue}
 use Rattle.tuple_file.specs.declared.file.TupleFile.{TupleFile}
 use Rattle.tuple_file.specs.Calls.{IsValueAt}

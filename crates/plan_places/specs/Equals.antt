@@ -2,7 +2,7 @@
 use Rattle.std.specs.Prelude.{◌≡◌, ℕ, nat_lt, List, [], ◌∷◌, filter, Option, Some, None}
 use Rattle.sand_base.specs.declared.value.Value.{Value}
 use Rattle.sand_model.specs.Database.{Database}
-use Rattle.sand_model.specs.Plan.{Column}
+use Rattle.statements.specs.declared.column.Column.{Column}
 use Rattle.sand_model.specs.Sources.{same_value, column_values}
 
 -- the values of a column that equal the given one, with the ids of their rows, by id

@@ -3,7 +3,7 @@ use Rattle.std.specs.Prelude.{◌≡◌, ℕ, Bool, Some, None}
 use Rattle.page_pool.specs.Disk.{PageMap}
 use Rattle.sand_base.specs.declared.kind.Kind.TheVariants as kind
 use Rattle.sand_model.specs.Database.{Database, Relation, relation_named, column_named, index_at}
-use Rattle.sand_model.specs.Plan.{Column}
+use Rattle.statements.specs.declared.column.Column.{Column}
 use Rattle.sand_store.specs.Catalog.{IsColumnAt}
 use Rattle.sand_store.specs.Contents.{rows_in}
 use Rattle.sand_store.specs.Standing.{HoldsColumn, kind_at}

@@ -4,7 +4,8 @@ use Rattle.page_pool.specs.Disk.{PageMap}
 use Rattle.sand_base.specs.declared.limits.Limits.{Limits}
 use Rattle.sand_model.specs.Database.{Database, Relation, relation_named, column_named}
 use Rattle.sand_model.specs.Operators.{kth}
-use Rattle.sand_model.specs.Plan.{Column, Place}
+use Rattle.statements.specs.declared.column.Column.{Column}
+use Rattle.statements.specs.declared.column.Place.{Place}
 use Rattle.sand_store.specs.Catalog.{RelationView}
 use Rattle.sand_store.specs.Contents.{relation_in}
 use Rattle.sand_store.specs.Standing.{RelationStands}

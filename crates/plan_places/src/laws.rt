@@ -2,7 +2,7 @@ ghost use Rattle.std.specs.Prelude.{◌≡◌};
 ghost use Rattle.page_pool.specs.Disk.{PageMap};
 ghost use Rattle.sand_base.specs.declared.value.Value.{Value};
 ghost use Rattle.sand_model.specs.Database.{Database};
-ghost use Rattle.sand_model.specs.Plan.{Column};
+ghost use Rattle.statements.specs.declared.column.Column.{Column};
 ghost use Rattle.plan_places.specs.Equals.{equals, above};
 ghost use Rattle.plan_places.specs.Indexed.{IsLookUp};
 ghost use Rattle.plan_places.specs.declared.look_up.LookUp.{LookUp};

@@ -5,7 +5,7 @@ ghost use Rattle.page_pool.specs.Pool.{IsTold};
 ghost use Rattle.page_pool.specs.Reads.{IsRead};
 ghost use Rattle.page_pool.specs.Causes.{HasPageCause};
 ghost use Rattle.sand_model.specs.Database.{Database};
-ghost use Rattle.sand_model.specs.Plan.{Column};
+ghost use Rattle.statements.specs.declared.column.Column.{Column};
 ghost use Rattle.plan_places.specs.Equals.{equals, GivesFirst};
 ghost use Rattle.sand_store.specs.Catalog.{IsCatalog};
 ghost use Rattle.sand_store.specs.Contents.{database_in};

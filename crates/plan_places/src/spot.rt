@@ -4,7 +4,7 @@ ghost use Rattle.page_pool.specs.Pool.{IsTold};
 ghost use Rattle.code_btree.specs.Calls.{Peeks};
 ghost use Rattle.sand_model.specs.Database.{Database};
 ghost use Rattle.sand_model.specs.Operators.{PlanRow, kth, value_at};
-ghost use Rattle.sand_model.specs.Plan.{Place};
+ghost use Rattle.statements.specs.declared.column.Place.{Place};
 ghost use Rattle.sand_store.specs.Contents.{database_in};
 ghost use Rattle.sand_store.specs.Standing.{CatalogStands};
 ghost use Rattle.plan_places.specs.Spots.{Stands, IsSpot, HasNoColumn, IfFound, names_of};

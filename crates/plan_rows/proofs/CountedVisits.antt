@@ -6,8 +6,9 @@ use Rattle.sand_model.specs.Cursor.{AreBetween}
 use Rattle.sand_model.specs.Database.{Database}
 use Rattle.sand_model.specs.Measure.{Measure}
 use Rattle.sand_model.specs.Nodes.{LeafItem, rank_items, rank_gaps, pair_nodes, pair_gap, join_items}
-use Rattle.sand_model.specs.Plan as plan
-use Rattle.sand_model.specs.Plan.{Plan, Column}
+use Rattle.statements.specs.Plan as plan
+use Rattle.statements.specs.Plan.{Plan}
+use Rattle.statements.specs.declared.column.Column.{Column}
 use Rattle.sand_model.specs.Reach.{Nothing, reaches, Counts, no_counts, distinct, roughs_within, rank_counts, join_counts, counts_at, innermost, quadtree_of}
 use Rattle.sand_model.specs.Sources.{column_shapes}
 use Rattle.sand_model.specs.Tree.{root_block}
@@ -52,6 +53,7 @@ nothing_counts gap d (plan.Rank column goal within) = no_rank_counts gap d colum
 nothing_counts gap d (plan.Window column window) = no_rank_counts gap d column (figure.Rect window)
 nothing_counts gap d (plan.Join left right within) = no_join_counts gap d left right
 nothing_counts gap d (plan.Semi left right within) = no_join_counts gap d left right
+nothing_counts gap d (plan.Knn k left right within) = no_join_counts gap d left right
 nothing_counts gap d (plan.Scan relation) = refl
 nothing_counts gap d (plan.PickEqual column v) = refl
 nothing_counts gap d (plan.PickBetween column low high) = refl

@@ -5,7 +5,7 @@ use Rattle.sand_model.specs.Answer.{source, answer}
 use Rattle.sand_model.specs.Cursor.{Cursor, Row, End, step_of, IsRefusedStep}
 use Rattle.sand_model.specs.Database.{Database, element}
 use Rattle.sand_model.specs.Operators.{PlanRow, over}
-use Rattle.sand_model.specs.Plan.{Plan}
+use Rattle.statements.specs.Plan.{Plan}
 use Rattle.sand_model.specs.Reach.{Counts, counts}
 use Rattle.sand_model.specs.Taken.{Taken, is_lazy}
 use Rattle.plan_rows.specs.Rows.{plan_measure}

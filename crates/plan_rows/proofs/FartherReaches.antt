@@ -10,8 +10,9 @@ use Rattle.sand_base.specs.declared.visit.Visit.TheVariants as visit
 use Rattle.sand_model.specs.Database.{Database}
 use Rattle.sand_model.specs.Measure.{Measure}
 use Rattle.sand_model.specs.Nodes.{LeafItem, PairNode, rank_items, rank_gaps, pair_nodes, pair_gap, join_items}
-use Rattle.sand_model.specs.Plan as plan
-use Rattle.sand_model.specs.Plan.{Plan, Column}
+use Rattle.statements.specs.Plan as plan
+use Rattle.statements.specs.Plan.{Plan}
+use Rattle.statements.specs.declared.column.Column.{Column}
 use Rattle.sand_model.specs.Reach.{Reach, Nothing, UpTo, Ceiling, reaches, Counts, roughs_within, rank_counts, join_counts, counts_at, no_counts, quadtree_of}
 use Rattle.sand_model.specs.Sources.{is_within, column_shapes}
 use Rattle.sand_model.specs.Tree.{Tree, root_block}
@@ -112,6 +113,7 @@ module _ (to more : Reach) (part : IsPartOf to more) where
   counts_more gap d (plan.Window column window) = rank_more gap d column (figure.Rect window)
   counts_more gap d (plan.Join left right within) = join_more gap d left right
   counts_more gap d (plan.Semi left right within) = join_more gap d left right
+  counts_more gap d (plan.Knn k left right within) = join_more gap d left right
   counts_more gap d (plan.Scan relation) = no_more_counts
   counts_more gap d (plan.PickEqual column v) = no_more_counts
   counts_more gap d (plan.PickBetween column low high) = no_more_counts
@@ -155,4 +157,5 @@ module _ (to more : Reach) (part : IsPartOf to more) where
   visit_more gap d (plan.Window column window) v h = rank_visit_more gap d column (figure.Rect window) v h
   visit_more gap d (plan.Join left right within) v h = join_visit_more gap d left right v h
   visit_more gap d (plan.Semi left right within) v h = join_visit_more gap d left right v h
+  visit_more gap d (plan.Knn k left right within) v h = join_visit_more gap d left right v h
   visit_more gap d _ v h = absurd h

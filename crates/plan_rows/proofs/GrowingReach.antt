@@ -5,7 +5,7 @@ use Rattle.sand_base.specs.declared.visit.Visit.{Visit}
 use Rattle.sand_model.specs.Answer.{source}
 use Rattle.sand_model.specs.Database.{Database}
 use Rattle.sand_model.specs.Measure.{Measure}
-use Rattle.sand_model.specs.Plan.{Plan}
+use Rattle.statements.specs.Plan.{Plan}
 use Rattle.sand_model.specs.Reach.{Reach, Ceiling, reach, reach_of_last, counts_at, innermost, ceiling_of, is_saturated}
 use Rattle.sand_model.specs.Taken.{Taken}
 use Rattle.plan_rows.specs.Rows.{plan_measure}

@@ -5,7 +5,7 @@ use Rattle.sand_model.specs.Cursor.{Cursor, Row, End, step_of}
 use Rattle.sand_model.specs.Database.{Database, element}
 use Rattle.sand_model.specs.Measure.{Measure}
 use Rattle.sand_model.specs.Operators.{PlanRow}
-use Rattle.sand_model.specs.Plan.{Plan}
+use Rattle.statements.specs.Plan.{Plan}
 use Rattle.sand_model.specs.Reach.{counts, counts_at, innermost, reach}
 use Rattle.sand_model.specs.Taken.{Taken, has_taken}
 

@@ -9,8 +9,8 @@ use Rattle.sand_model.specs.Answer.{source, answer}
 use Rattle.sand_model.specs.Database.{Database}
 use Rattle.sand_model.specs.Measure.{Measure}
 use Rattle.sand_model.specs.Operators.{PlanRow, over, relations_of, passes_all, matches_of, with_fetched}
-use Rattle.sand_model.specs.Plan as plan
-use Rattle.sand_model.specs.Plan.{Plan}
+use Rattle.statements.specs.Plan as plan
+use Rattle.statements.specs.Plan.{Plan}
 use Rattle.sand_model.specs.Taken.{is_full, is_lazy}
 
 -- the longer list begins with the shorter one
@@ -79,6 +79,7 @@ module _ (gap : Measure) (d : Database) where
   over_more (plan.PickBetween column low high) lazy xs more = (more, refl)
   over_more (plan.Join left right within) lazy xs more = (more, refl)
   over_more (plan.Semi left right within) lazy xs more = (more, refl)
+  over_more (plan.Knn k left right within) lazy xs more = (more, refl)
 
   -- it is full over more rows where it is full
   pub full_more : (p : Plan) → is_lazy p ≡ true → (xs more : List PlanRow) → is_full gap d p xs ≡ true → is_full gap d p (xs ++ more) ≡ true
@@ -105,6 +106,7 @@ module _ (gap : Measure) (d : Database) where
   full_more (plan.PickBetween column low high) lazy xs more full = absurd (true≢false (sym full))
   full_more (plan.Join left right within) lazy xs more full = absurd (true≢false (sym full))
   full_more (plan.Semi left right within) lazy xs more full = absurd (true≢false (sym full))
+  full_more (plan.Knn k left right within) lazy xs more full = absurd (true≢false (sym full))
 
   -- where it is full, more rows beneath change nothing
   pub full_over : (p : Plan) → is_lazy p ≡ true → (xs more : List PlanRow) → is_full gap d p xs ≡ true → over gap d p (xs ++ more) ≡ over gap d p xs
@@ -127,6 +129,7 @@ module _ (gap : Measure) (d : Database) where
   full_over (plan.PickBetween column low high) lazy xs more full = absurd (true≢false (sym full))
   full_over (plan.Join left right within) lazy xs more full = absurd (true≢false (sym full))
   full_over (plan.Semi left right within) lazy xs more full = absurd (true≢false (sym full))
+  full_over (plan.Knn k left right within) lazy xs more full = absurd (true≢false (sym full))
 
   -- the first rows of the source, and all of them
   module _ (p : Plan) (lazy : is_lazy p ≡ true) where

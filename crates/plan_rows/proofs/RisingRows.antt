@@ -1,7 +1,7 @@
 -- The rows of a source come nearest first and lie within its ceiling, so more of them reach farther.
 use Rattle.std.proofs.Common.{◌≡◌, ◌⊎◌, ⊎_elim, inl, inr, ℕ, zero, suc, ◌≤◌, Bool, true, false, cond, not, true≢false, List, [], ◌∷◌, map, filter, flat_map, take, Contains, All, Option, None, Some, refl, sym, ap, ◌∙◌, subst, subst₂, arith, Greater}
 use Rattle.std.specs.Ordering.{is_lt, ordering_then, ordering_reverse, nat_cmp}
-use Rattle.std.specs.Prelude.{⊤, nat_eq}
+use Rattle.std.specs.Prelude.{⊤, nat_eq, nat_lt}
 use Rattle.std.proofs.lemmas.List.Elements.{All-nil, All-cons, All-head, All-tail, All-contains, All-filter, All-map}
 use Rattle.exact_frac.specs.Frac.{value_cmp, value_cmp_total}
 use Rattle.sand_base.specs.declared.goal.Goal.{Goal}
@@ -11,10 +11,11 @@ use Rattle.sand_model.specs.Answer.{source, scanned, plain_row, single_row, pair
 use Rattle.sand_model.specs.Database.{Database, Relation, relation_named}
 use Rattle.sand_model.specs.Measure.{Measure}
 use Rattle.sand_model.specs.Operators.{PlanRow}
-use Rattle.sand_model.specs.Plan as plan
-use Rattle.sand_model.specs.Plan.{Plan, Column}
+use Rattle.statements.specs.Plan as plan
+use Rattle.statements.specs.Plan.{Plan}
+use Rattle.statements.specs.declared.column.Column.{Column}
 use Rattle.sand_model.specs.Reach.{Reach, Nothing, UpTo, Ceiling, reach_of_last, innermost, ceiling_of}
-use Rattle.sand_model.specs.Sources.{Found, found_cmp, placed, sorted, is_within, first_of_each, same_value, column_shapes, column_values}
+use Rattle.sand_model.specs.Sources.{Found, found_cmp, placed, sorted, is_within, first_of_each, nearest_after, nearest_of, with_one_more, same_value, column_shapes, column_values}
 use Rattle.best_first.specs.Reach.{IsAtMost}
 use Rattle.best_first.proofs.Bags.{All-by, here, there, cons_cases, only, from_filter}
 use Rattle.best_first.proofs.Gaps.{at_most_trans, compared, is_less}
@@ -100,6 +101,32 @@ first_rises (x ∷ xs) rise = (
   All-filter (λ other. not (nat_eq other.left x.left)) (λ y. IsAtMost x.gap y.gap) (first_of_each xs) (first_all (λ y. IsAtMost x.gap y.gap) xs rise.0),
   filter_rises (λ other. not (nat_eq other.left x.left)) (first_of_each xs) (first_rises xs rise.1),
 )
+
+-- what holds of all holds of the first few of each
+partners_all : (P : Found → Type 0) (k : ℕ) (came : ℕ → ℕ) (xs : List Found) → All P xs → All P (nearest_after k came xs)
+partners_all P k came [] h = h
+partners_all P k came (x ∷ xs) h =
+    step (partners_all P k (with_one_more came x.left) xs (All-tail P x xs h)) (nat_lt (came x.left) k)
+  where
+    rest : List Found
+    rest = nearest_after k (with_one_more came x.left) xs
+
+    step : All P rest → (b : Bool) → All P (cond b (x ∷ rest) rest)
+    step all true = All-cons P x rest (All-head P x xs h) all
+    step all false = all
+
+partners_rise : (k : ℕ) (came : ℕ → ℕ) (xs : List Found) → IsRising xs → IsRising (nearest_after k came xs)
+partners_rise k came [] rise = tt
+partners_rise k came (x ∷ xs) rise =
+    step (partners_all (λ y. IsAtMost x.gap y.gap) k (with_one_more came x.left) xs rise.0) (partners_rise k (with_one_more came x.left) xs rise.1)
+    (nat_lt (came x.left) k)
+  where
+    rest : List Found
+    rest = nearest_after k (with_one_more came x.left) xs
+
+    step : All (λ y. IsAtMost x.gap y.gap) rest → IsRising rest → (b : Bool) → IsRising (cond b (x ∷ rest) rest)
+    step far rises true = (far, rises)
+    step far rises false = rises
 
 -- what passes a test does
 filter_passes : {X : Type 0} (p : X → Bool) (xs : List X) → All (λ x. p x ≡ true) (filter p xs)
@@ -230,6 +257,14 @@ first_nearest row_of is ceiling xs =
     (first_rises kept (filter_rises (λ found. is_within ceiling found.gap) (sorted found_cmp xs) (sorted_rises xs)))
     (first_all (λ found. is_within ceiling found.gap ≡ true) kept (filter_passes (λ found. is_within ceiling found.gap) (sorted found_cmp xs)))
 
+partners_nearest : (k : ℕ) (row_of : Found → PlanRow) → ((found : Found) → row_reach (row_of found) ≡ UpTo found.gap) → (ceiling : Option ℕ) (xs : List Found)
+    → IsNearestFirst ceiling (map row_of (nearest_of k (filter (λ found. is_within ceiling found.gap) (sorted found_cmp xs))))
+partners_nearest k row_of is ceiling xs =
+    let kept = filter (λ found. is_within ceiling found.gap) (sorted found_cmp xs) in
+    found_nearest row_of is ceiling (nearest_of k kept)
+    (partners_rise k (λ id. 0) kept (filter_rises (λ found. is_within ceiling found.gap) (sorted found_cmp xs) (sorted_rises xs)))
+    (partners_all (λ found. is_within ceiling found.gap ≡ true) k (λ id. 0) kept (filter_passes (λ found. is_within ceiling found.gap) (sorted found_cmp xs)))
+
 scan_nearest : (d : Database) (name : List ℕ) → (relation : Option Relation) → relation_named d name ≡ relation → IsNearestFirst None (scanned d name)
 scan_nearest d name None e = rw e no_rows_nearest
 scan_nearest d name (Some relation) e = rw e (gapless_nearest (λ row. plain_row row.0) (λ row. refl) relation.rows)
@@ -259,6 +294,7 @@ source_nearest gap d (plan.PickBetween column low high) = gapless_nearest (λ pa
     (sorted number_cmp (filter (λ pair. is_between low high pair.1) (column_values d column)))
 source_nearest gap d (plan.Join left right within) = sorted_nearest pair_row (λ found. refl) within (pairs_found gap (column_shapes d left) (column_shapes d right))
 source_nearest gap d (plan.Semi left right within) = first_nearest pair_row (λ found. refl) within (pairs_found gap (column_shapes d left) (column_shapes d right))
+source_nearest gap d (plan.Knn k left right within) = partners_nearest k pair_row (λ found. refl) within (pairs_found gap (column_shapes d left) (column_shapes d right))
 source_nearest gap d (plan.Filter p tests) = source_nearest gap d p
 source_nearest gap d (plan.Match p place column) = source_nearest gap d p
 source_nearest gap d (plan.Fetch p places) = source_nearest gap d p

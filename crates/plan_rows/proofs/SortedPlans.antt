@@ -4,8 +4,8 @@ use Rattle.std.proofs.Math.Dec.{eqb-suc-zero}
 use Rattle.sand_model.specs.Answer.{source}
 use Rattle.sand_model.specs.Database.{Database}
 use Rattle.sand_model.specs.Measure.{Measure}
-use Rattle.sand_model.specs.Plan as plan
-use Rattle.sand_model.specs.Plan.{Plan}
+use Rattle.statements.specs.Plan as plan
+use Rattle.statements.specs.Plan.{Plan}
 use Rattle.sand_model.specs.Reach.{innermost}
 use Rattle.sand_model.specs.Taken.{Taken, is_lazy, beneath_sort, taken, spent, has_taken}
 
@@ -24,6 +24,7 @@ beneath_itself (plan.PickEqual column v) lazy = refl
 beneath_itself (plan.PickBetween column low high) lazy = refl
 beneath_itself (plan.Join left right within) lazy = refl
 beneath_itself (plan.Semi left right within) lazy = refl
+beneath_itself (plan.Knn k left right within) lazy = refl
 
 -- what holds of both holds of the one that is picked
 picks : (P : Plan → Type 0) (b : Bool) (whole beneath : Plan) → (b ≡ true → P whole) → P beneath → P (cond b whole beneath)
@@ -45,6 +46,7 @@ lazy_beneath (plan.PickEqual column v) = refl
 lazy_beneath (plan.PickBetween column low high) = refl
 lazy_beneath (plan.Join left right within) = refl
 lazy_beneath (plan.Semi left right within) = refl
+lazy_beneath (plan.Knn k left right within) = refl
 
 -- it has the same source
 pub innermost_beneath : (p : Plan) → innermost (beneath_sort p) ≡ innermost p
@@ -61,6 +63,7 @@ innermost_beneath (plan.PickEqual column v) = refl
 innermost_beneath (plan.PickBetween column low high) = refl
 innermost_beneath (plan.Join left right within) = refl
 innermost_beneath (plan.Semi left right within) = refl
+innermost_beneath (plan.Knn k left right within) = refl
 
 module _ (gap : Measure) (d : Database) where
   -- the rows of a plan's source are those of the source by itself
@@ -78,6 +81,7 @@ module _ (gap : Measure) (d : Database) where
   source_innermost (plan.PickBetween column low high) = refl
   source_innermost (plan.Join left right within) = refl
   source_innermost (plan.Semi left right within) = refl
+  source_innermost (plan.Knn k left right within) = refl
 
   pub source_beneath : (p : Plan) → source gap d (beneath_sort p) ≡ source gap d p
   source_beneath p = sym (source_innermost (beneath_sort p)) ∙ ap (source gap d) (innermost_beneath p) ∙ source_innermost p

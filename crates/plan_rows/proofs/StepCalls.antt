@@ -10,7 +10,7 @@ use Rattle.page_pool.specs.declared.fault.PageFault.{PageFault}
 use Rattle.sand_model.specs.Answer.{source}
 use Rattle.sand_model.specs.Database.{Database}
 use Rattle.sand_model.specs.Operators.{over}
-use Rattle.sand_model.specs.Plan.{Plan}
+use Rattle.statements.specs.Plan.{Plan}
 use Rattle.sand_model.specs.Reach.{Counts, no_counts, reach}
 use Rattle.sand_model.specs.Taken.{Taken, is_full, is_lazy, beneath_sort}
 use Rattle.best_first.proofs.Bags.{All-by}

@@ -6,7 +6,7 @@ use Rattle.sand_model.specs.Answer.{source}
 use Rattle.sand_model.specs.Database.{Database}
 use Rattle.sand_model.specs.Measure.{Measure}
 use Rattle.sand_model.specs.Operators.{PlanRow, over}
-use Rattle.sand_model.specs.Plan.{Plan}
+use Rattle.statements.specs.Plan.{Plan}
 use Rattle.sand_model.specs.Taken.{least_from, taken, is_full, spent}
 use Rattle.plan_rows.proofs.LeastNumbers.{least_is, least_none}
 

@@ -5,7 +5,7 @@ use Rattle.sand_model.specs.Answer.{source, answer}
 use Rattle.sand_model.specs.Database.{Database, element}
 use Rattle.sand_model.specs.Measure.{Measure}
 use Rattle.sand_model.specs.Operators.{PlanRow, over}
-use Rattle.sand_model.specs.Plan.{Plan}
+use Rattle.statements.specs.Plan.{Plan}
 use Rattle.sand_model.specs.Taken.{Taken, least_from, taken, is_full, is_lazy, spent, beneath_sort, has_taken}
 use Rattle.plan_rows.specs.Lowest.{least_bounds}
 use Rattle.plan_rows.specs.Rows.{plan_measure}

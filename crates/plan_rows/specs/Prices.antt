@@ -5,8 +5,8 @@ use Rattle.sand_base.specs.declared.visit.Visit.TheVariants as visit
 use Rattle.page_pool.specs.Desk.{DeskState}
 use Rattle.page_pool.specs.declared.fault.PageFault.{PageFault}
 use Rattle.sand_model.specs.Database.{Database}
-use Rattle.sand_model.specs.Plan as plan
-use Rattle.sand_model.specs.Plan.{Plan}
+use Rattle.statements.specs.Plan as plan
+use Rattle.statements.specs.Plan.{Plan}
 use Rattle.sand_model.specs.Price.{block_price, pair_price, tuple_price, two_tuples_price}
 use Rattle.sand_model.specs.Reach.{quadtree_of, innermost}
 use Rattle.sand_model.specs.Tree.{Tree, Leaf, places, root_block}
@@ -46,6 +46,7 @@ source_visit_price h d (plan.Rank column goal within) v = rank_visit_price h (qu
 source_visit_price h d (plan.Window column window) v = rank_visit_price h (quadtree_of d column) v
 source_visit_price h d (plan.Join left right within) v = join_visit_price h (quadtree_of d left) (quadtree_of d right) v
 source_visit_price h d (plan.Semi left right within) v = join_visit_price h (quadtree_of d left) (quadtree_of d right) v
+source_visit_price h d (plan.Knn k left right within) v = join_visit_price h (quadtree_of d left) (quadtree_of d right) v
 source_visit_price h d _ v = 0
 
 -- a visit of a plan's source

@@ -7,7 +7,7 @@ use Rattle.page_pool.specs.declared.fault.PageFault.{PageFault}
 use Rattle.sand_model.specs.Answer.{source}
 use Rattle.sand_model.specs.Cursor.{AreBetween}
 use Rattle.sand_model.specs.Database.{Database, element}
-use Rattle.sand_model.specs.Plan.{Plan}
+use Rattle.statements.specs.Plan.{Plan}
 use Rattle.sand_model.specs.Reach.{Counts, reach, counts_at, innermost}
 use Rattle.sand_model.specs.Taken.{Taken}
 use Rattle.plan_rows.specs.Rows.{plan_measure, row_of}

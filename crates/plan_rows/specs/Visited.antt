@@ -8,8 +8,9 @@ use Rattle.z_code.specs.declared.block.Block.{Block}
 use Rattle.sand_model.specs.Database.{Database}
 use Rattle.sand_model.specs.Measure.{Measure}
 use Rattle.sand_model.specs.Nodes.{LeafItem, PairNode, rank_items, pair_nodes, pair_gap, join_items, square_figure}
-use Rattle.sand_model.specs.Plan as plan
-use Rattle.sand_model.specs.Plan.{Plan, Column}
+use Rattle.statements.specs.Plan as plan
+use Rattle.statements.specs.Plan.{Plan}
+use Rattle.statements.specs.declared.column.Column.{Column}
 use Rattle.sand_model.specs.Reach.{Reach, Counts, no_counts, reaches, quadtree_of, innermost}
 use Rattle.sand_model.specs.Sources.{column_shapes}
 use Rattle.sand_model.specs.Tree.{Tree, places, root_block}
@@ -82,6 +83,7 @@ IsSourceVisit gap d (plan.Rank column goal within) to v = IsRankVisit gap d colu
 IsSourceVisit gap d (plan.Window column window) to v = IsRankVisit gap d column (figure.Rect window) to v
 IsSourceVisit gap d (plan.Join left right within) to v = IsJoinVisit gap d left right to v
 IsSourceVisit gap d (plan.Semi left right within) to v = IsJoinVisit gap d left right to v
+IsSourceVisit gap d (plan.Knn k left right within) to v = IsJoinVisit gap d left right to v
 IsSourceVisit gap d _ to v = ⊥
 
 -- the visit of a plan's source lies within the reach

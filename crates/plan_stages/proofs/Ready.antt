@@ -5,7 +5,9 @@ use Rattle.page_pool.specs.Disk.{PageMap}
 use Rattle.page_pool.specs.Pool.{PoolState, IsTold}
 use Rattle.sand_model.specs.Database.{Database}
 use Rattle.sand_model.specs.Operators.{PlanRow, relations_of}
-use Rattle.sand_model.specs.Plan.{Plan, Place, Test}
+use Rattle.statements.specs.Plan.{Plan}
+use Rattle.statements.specs.declared.column.Place.{Place}
+use Rattle.statements.specs.declared.test.Test.{Test}
 use Rattle.best_first.specs.Visits.{told_pages}
 use Rattle.plan_places.specs.Spots.{Stands}
 use Rattle.plan_places.specs.declared.spot.Spot.{Spot}

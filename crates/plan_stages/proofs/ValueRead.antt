@@ -6,7 +6,9 @@ use Rattle.page_pool.specs.Disk.{PageMap}
 use Rattle.page_pool.specs.Pool.{PoolState, IsTold}
 use Rattle.sand_model.specs.Database.{Database}
 use Rattle.sand_model.specs.Operators.{PlanRow, relations_of, value_at}
-use Rattle.sand_model.specs.Plan.{Plan, Place, Column}
+use Rattle.statements.specs.Plan.{Plan}
+use Rattle.statements.specs.declared.column.Place.{Place}
+use Rattle.statements.specs.declared.column.Column.{Column}
 use Rattle.sand_model.specs.Price.{lookup_price, text_lookup_price, tuple_price}
 use Rattle.best_first.specs.Visits.{told_pages}
 use Rattle.plan_places.specs.Equals.{equals, above}

@@ -5,8 +5,9 @@ use Rattle.page_pool.specs.Disk.{PageMap}
 use Rattle.page_pool.specs.Pool.{PoolState, IsTold}
 use Rattle.sand_model.specs.Database.{Database}
 use Rattle.sand_model.specs.Operators.{PlanRow, relations_of, with_fetched}
-use Rattle.sand_model.specs.Plan as plan
-use Rattle.sand_model.specs.Plan.{Plan, Place}
+use Rattle.statements.specs.Plan as plan
+use Rattle.statements.specs.Plan.{Plan}
+use Rattle.statements.specs.declared.column.Place.{Place}
 use Rattle.plan_places.specs.Spots.{Stands, IsSpot}
 use Rattle.plan_places.specs.declared.spot.Spot.{Spot}
 use Rattle.plan_stages.specs.Splits.{Splits, waiting, is_waiting, wait_count}

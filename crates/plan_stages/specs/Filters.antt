@@ -3,8 +3,9 @@ use Rattle.std.specs.Prelude.{◌≡◌, ℕ, ◌+◌, ◌*◌, Bool, List}
 use Rattle.page_pool.specs.Disk.{PageMap}
 use Rattle.sand_model.specs.Database.{Database}
 use Rattle.sand_model.specs.Operators.{PlanRow, relations_of, passes_all}
-use Rattle.sand_model.specs.Plan as plan
-use Rattle.sand_model.specs.Plan.{Plan, Test}
+use Rattle.statements.specs.Plan as plan
+use Rattle.statements.specs.Plan.{Plan}
+use Rattle.statements.specs.declared.test.Test.{Test}
 use Rattle.std.specs.Prelude.{filter}
 use Rattle.plan_stages.specs.Splits.{Splits, waiting, is_waiting, wait_count}
 use Rattle.plan_stages.specs.Tests.{AreTests}

@@ -6,8 +6,8 @@ use Rattle.page_pool.specs.declared.fault.PageFault.{PageFault}
 use Rattle.sand_base.specs.declared.value.Value.{Value}
 use Rattle.sand_model.specs.Database.{Database}
 use Rattle.sand_model.specs.Operators.{PlanRow, relations_of, value_at}
-use Rattle.sand_model.specs.Plan as plan
-use Rattle.sand_model.specs.Plan.{Plan}
+use Rattle.statements.specs.Plan as plan
+use Rattle.statements.specs.Plan.{Plan}
 use Rattle.sand_model.specs.Price.{lookup_price, text_lookup_price, match_price, text_match_price, tuple_price}
 use Rattle.plan_rows.specs.Rows.{row_of}
 use Rattle.plan_rows.specs.declared.answer.Answer.{Answer}

@@ -5,8 +5,10 @@ use Rattle.page_pool.specs.Disk.{PageMap}
 use Rattle.page_pool.specs.declared.fault.PageFault.{PageFault}
 use Rattle.sand_model.specs.Database.{Database}
 use Rattle.sand_model.specs.Operators.{PlanRow, relations_of, value_at}
-use Rattle.sand_model.specs.Plan as plan
-use Rattle.sand_model.specs.Plan.{Plan, Place, Column}
+use Rattle.statements.specs.Plan as plan
+use Rattle.statements.specs.Plan.{Plan}
+use Rattle.statements.specs.declared.column.Place.{Place}
+use Rattle.statements.specs.declared.column.Column.{Column}
 use Rattle.plan_places.specs.Equals.{equals, above}
 use Rattle.plan_places.specs.Indexed.{IsLookUp}
 use Rattle.plan_places.specs.Spots.{IsSpot}

@@ -2,7 +2,7 @@
 use Rattle.std.proofs.Common.{◌≡◌, ℕ, ◌+◌, ◌*◌, ◌<◌, true, false, true≢false, List, sym, ◌∙◌, arith}
 use Rattle.sand_model.specs.Database.{Database}
 use Rattle.sand_model.specs.Operators.{PlanRow}
-use Rattle.sand_model.specs.Plan.{Plan}
+use Rattle.statements.specs.Plan.{Plan}
 use Rattle.plan_steps.specs.Outermost.{is_sort, made, Begins}
 use Rattle.plan_steps.proofs.Levels.{made_front, begins_through}
 use Rattle.plan_stages.specs.Splits.{Splits}

@@ -4,15 +4,14 @@ use Rattle.std.specs.List.{AllZip}
 use Rattle.page_pool.specs.Disk.{PageMap}
 use Rattle.page_pool.specs.Pool.{PoolState, IsTold}
 use Rattle.sand_model.specs.Database.{Database}
-use Rattle.sand_model.specs.Plan.{Test}
-use Rattle.plan_check.specs.PlanValue.{op_value}
+use Rattle.statements.specs.declared.test.Test.{Test}
 use Rattle.plan_places.specs.Spots.{Stands, IsSpot}
 use Rattle.plan_stages.specs.declared.tests.SpotTest.{SpotTest}
 
 -- the test asks the same of the place that was looked up
 pub record IsTest (d : Database) (names : List (List ℕ)) (pages : PageMap) (test : SpotTest) (asked : Test) : Type 0 where
   pub spot : IsSpot d names asked.place test.spot pages
-  pub op : op_value test.op ≡ asked.op
+  pub op : test.op ≡ asked.op
   pub value : test.value ≡ asked.value
 
 -- all tests, in their order

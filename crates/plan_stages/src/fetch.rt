@@ -21,8 +21,9 @@ impl Fetch {
     ghost use Rattle.page_pool.specs.Disk.{PageMap};
     ghost use Rattle.sand_model.specs.Database.{Database};
     ghost use Rattle.sand_model.specs.Operators.{relations_of};
-    ghost use Rattle.sand_model.specs.Plan as plan;
-    ghost use Rattle.sand_model.specs.Plan.{Plan, Place};
+    ghost use Rattle.statements.specs.Plan as plan;
+    ghost use Rattle.statements.specs.Plan.{Plan};
+    ghost use Rattle.statements.specs.declared.column.Place.{Place};
     ghost use Rattle.plan_stages.specs.Fetches.{AreSpots};
 
     /// The stage of a fetch of these places.

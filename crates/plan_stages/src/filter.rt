@@ -21,8 +21,9 @@ impl Filter {
     ghost use Rattle.page_pool.specs.Disk.{PageMap};
     ghost use Rattle.sand_model.specs.Database.{Database};
     ghost use Rattle.sand_model.specs.Operators.{relations_of};
-    ghost use Rattle.sand_model.specs.Plan as plan;
-    ghost use Rattle.sand_model.specs.Plan.{Plan, Test};
+    ghost use Rattle.statements.specs.Plan as plan;
+    ghost use Rattle.statements.specs.Plan.{Plan};
+    ghost use Rattle.statements.specs.declared.test.Test.{Test};
     ghost use Rattle.plan_stages.specs.Tests.{AreTests};
 
     /// The stage of a filter by these tests.

@@ -18,8 +18,8 @@ impl First {
     ghost use Rattle.std.specs.Prelude.{◌≡◌, true, not, ◌&&◌, nat_eq, []};
     ghost use Rattle.page_pool.specs.Disk.{PageMap};
     ghost use Rattle.sand_model.specs.Database.{Database};
-    ghost use Rattle.sand_model.specs.Plan as plan;
-    ghost use Rattle.sand_model.specs.Plan.{Plan};
+    ghost use Rattle.statements.specs.Plan as plan;
+    ghost use Rattle.statements.specs.Plan.{Plan};
     ghost use Rattle.sand_model.specs.Taken.{is_lazy};
 
     /// The stage of `first count` over a plan, which `opens` its sort where it has one and no row is asked.

@@ -1,6 +1,7 @@
 ghost use Rattle.std.specs.Prelude.{◌≡◌, List, [], false};
 ghost use Rattle.sand_model.specs.Database.{Database};
-ghost use Rattle.sand_model.specs.Plan.{Place, Column};
+ghost use Rattle.statements.specs.declared.column.Place.{Place};
+ghost use Rattle.statements.specs.declared.column.Column.{Column};
 ghost use Rattle.plan_places.specs.Indexed.{IsLookUp};
 ghost use Rattle.plan_places.specs.Spots.{IsSpot};
 ghost use Rattle.plan_stages.specs.Matches.{MatchStands, match_waits, match_steps};
@@ -32,8 +33,8 @@ pub struct Match {
 impl Match {
     ghost use Rattle.page_pool.specs.Disk.{PageMap};
     ghost use Rattle.sand_model.specs.Operators.{relations_of};
-    ghost use Rattle.sand_model.specs.Plan as plan;
-    ghost use Rattle.sand_model.specs.Plan.{Plan};
+    ghost use Rattle.statements.specs.Plan as plan;
+    ghost use Rattle.statements.specs.Plan.{Plan};
 
     /// The stage of a match of this place with this column.
     pub fn new(spot: Spot, look_up: LookUp) -> Match

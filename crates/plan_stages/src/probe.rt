@@ -4,7 +4,7 @@ ghost use Rattle.page_pool.specs.Causes.{HasPageCause};
 ghost use Rattle.page_pool.specs.Pool.{IsTold};
 ghost use Rattle.page_pool.specs.Reads.{IsRead};
 ghost use Rattle.sand_model.specs.Database.{Database};
-ghost use Rattle.sand_model.specs.Plan.{Column};
+ghost use Rattle.statements.specs.declared.column.Column.{Column};
 ghost use Rattle.plan_places.specs.Indexed.{Holds, IsLookUp};
 ghost use Rattle.plan_stages.specs.MatchPrices.{ProbeCosts};
 ghost use Rattle.plan_stages.specs.Matches.{GivesNext};

@@ -6,8 +6,7 @@ ghost use Rattle.page_pool.specs.Pool.{IsTold};
 ghost use Rattle.page_pool.specs.Reads.{IsRead};
 ghost use Rattle.sand_model.specs.Database.{Database};
 ghost use Rattle.sand_model.specs.Operators.{PlanRow, is_order, passes, passes_test, passes_all};
-ghost use Rattle.sand_model.specs.Plan.{Test};
-ghost use Rattle.plan_check.specs.PlanValue.{op_value};
+ghost use Rattle.statements.specs.declared.test.Test.{Test};
 ghost use Rattle.plan_places.specs.Spots.{Stands};
 ghost use Rattle.plan_stages.specs.Prices.{spot_price, tests_price};
 ghost use Rattle.plan_stages.specs.Tests.{IsTest, AreTests, TestsStand};
@@ -29,7 +28,7 @@ pub struct SpotTest {
 
 // Whether the order of two ints is the one that is asked.
 fn is_order(op: Op, order: Ordering) -> bool
-    ensures { result ≡ is_order (op_value op) order }
+    ensures { result ≡ is_order op order }
 {
     match op {
         Op::Equal => order.is_eq(),
@@ -43,7 +42,7 @@ fn is_order(op: Op, order: Ordering) -> bool
 
 // Whether a value passes a comparison.
 fn passes(op: Op, held: &Value, asked: &Value) -> bool
-    ensures { result ≡ passes (op_value op) held.now asked.now }
+    ensures { result ≡ passes op held.now asked.now }
 {
     match (held, asked) {
         (Value::Int(held), Value::Int(asked)) => is_order(op, held.cmp(asked)),

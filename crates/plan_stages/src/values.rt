@@ -6,7 +6,7 @@ ghost use Rattle.page_pool.specs.Pool.{IsTold};
 ghost use Rattle.page_pool.specs.Reads.{IsRead};
 ghost use Rattle.sand_model.specs.Database.{Database};
 ghost use Rattle.sand_model.specs.Operators.{PlanRow, value_at, fetched_values};
-ghost use Rattle.sand_model.specs.Plan.{Place};
+ghost use Rattle.statements.specs.declared.column.Place.{Place};
 ghost use Rattle.plan_rows.specs.Rows.{row_of};
 ghost use Rattle.plan_places.specs.Spots.{Stands, IsSpot};
 ghost use Rattle.plan_stages.specs.Prices.{spot_price, spots_price};

@@ -3,7 +3,7 @@ use Rattle.std.proofs.Common.{◌≡◌, ◌⊎◌, inl, inr, Bool, true, false,
 use Rattle.page_pool.specs.Disk.{PageMap}
 use Rattle.sand_model.specs.Database.{Database}
 use Rattle.sand_model.specs.Operators.{PlanRow}
-use Rattle.sand_model.specs.Plan.{Plan}
+use Rattle.statements.specs.Plan.{Plan}
 use Rattle.sand_model.specs.Taken.{Taken, is_lazy, beneath_sort}
 use Rattle.plan_steps.specs.Following.{Taking, Follows}
 use Rattle.plan_steps.specs.Outermost.{inner, is_sort, source_rows, over_rows, whole, beneath, Begins}

@@ -6,8 +6,8 @@ use Rattle.std.proofs.lemmas.Bool.{leb-true, le-leb}
 use Rattle.std.proofs.lemmas.Grind.{flat_map-append}
 use Rattle.sand_model.specs.Database.{Database}
 use Rattle.sand_model.specs.Operators.{PlanRow, relations_of, passes_all, matches_of, with_fetched}
-use Rattle.sand_model.specs.Plan as plan
-use Rattle.sand_model.specs.Plan.{Plan}
+use Rattle.statements.specs.Plan as plan
+use Rattle.statements.specs.Plan.{Plan}
 use Rattle.sand_model.specs.Taken.{Taken, is_full, is_lazy, beneath_sort}
 use Rattle.plan_rows.specs.Rows.{plan_measure}
 use Rattle.plan_steps.specs.Outermost.{inner, is_source, is_sort, made, is_filled, source_rows, over_rows, whole, beneath, Begins}
@@ -23,6 +23,7 @@ over_made d (plan.PickEqual column v) rows = refl
 over_made d (plan.PickBetween column low high) rows = refl
 over_made d (plan.Join left right within) rows = refl
 over_made d (plan.Semi left right within) rows = refl
+over_made d (plan.Knn k left right within) rows = refl
 over_made d (plan.Filter p tests) rows = refl
 over_made d (plan.Match p place column) rows = refl
 over_made d (plan.Fetch p places) rows = refl
@@ -38,6 +39,7 @@ source_inner d (plan.PickEqual column v) = refl
 source_inner d (plan.PickBetween column low high) = refl
 source_inner d (plan.Join left right within) = refl
 source_inner d (plan.Semi left right within) = refl
+source_inner d (plan.Knn k left right within) = refl
 source_inner d (plan.Filter p tests) = refl
 source_inner d (plan.Match p place column) = refl
 source_inner d (plan.Fetch p places) = refl
@@ -59,6 +61,7 @@ over_source d (plan.PickEqual column v) rows e = refl
 over_source d (plan.PickBetween column low high) rows e = refl
 over_source d (plan.Join left right within) rows e = refl
 over_source d (plan.Semi left right within) rows e = refl
+over_source d (plan.Knn k left right within) rows e = refl
 over_source d (plan.Filter p tests) rows e = absurd (true≢false (sym e))
 over_source d (plan.Match p place column) rows e = absurd (true≢false (sym e))
 over_source d (plan.Fetch p places) rows e = absurd (true≢false (sym e))
@@ -74,6 +77,7 @@ lazy_source (plan.PickEqual column v) e = refl
 lazy_source (plan.PickBetween column low high) e = refl
 lazy_source (plan.Join left right within) e = refl
 lazy_source (plan.Semi left right within) e = refl
+lazy_source (plan.Knn k left right within) e = refl
 lazy_source (plan.Filter p tests) e = absurd (true≢false (sym e))
 lazy_source (plan.Match p place column) e = absurd (true≢false (sym e))
 lazy_source (plan.Fetch p places) e = absurd (true≢false (sym e))
@@ -90,6 +94,7 @@ lazy_inner (plan.PickEqual column v) e = refl
 lazy_inner (plan.PickBetween column low high) e = refl
 lazy_inner (plan.Join left right within) e = refl
 lazy_inner (plan.Semi left right within) e = refl
+lazy_inner (plan.Knn k left right within) e = refl
 lazy_inner (plan.Filter p tests) e = e
 lazy_inner (plan.Match p place column) e = e
 lazy_inner (plan.Fetch p places) e = e
@@ -106,6 +111,7 @@ sort_inner (plan.PickEqual column v) e k = e
 sort_inner (plan.PickBetween column low high) e k = e
 sort_inner (plan.Join left right within) e k = e
 sort_inner (plan.Semi left right within) e k = e
+sort_inner (plan.Knn n left right within) e k = e
 sort_inner (plan.Filter p tests) e k = e
 sort_inner (plan.Match p place column) e k = e
 sort_inner (plan.Fetch p places) e k = e
@@ -121,6 +127,7 @@ lazy_plain (plan.PickEqual column v) e = refl
 lazy_plain (plan.PickBetween column low high) e = refl
 lazy_plain (plan.Join left right within) e = refl
 lazy_plain (plan.Semi left right within) e = refl
+lazy_plain (plan.Knn k left right within) e = refl
 lazy_plain (plan.Filter p tests) e = refl
 lazy_plain (plan.Match p place column) e = refl
 lazy_plain (plan.Fetch p places) e = refl
@@ -138,6 +145,7 @@ beneath_lazy (plan.PickEqual column v) e = refl
 beneath_lazy (plan.PickBetween column low high) e = refl
 beneath_lazy (plan.Join left right within) e = refl
 beneath_lazy (plan.Semi left right within) e = refl
+beneath_lazy (plan.Knn k left right within) e = refl
 beneath_lazy (plan.Filter p tests) e = ap (λ b. cond b (plan.Filter p tests) (beneath_sort p)) e
 beneath_lazy (plan.Match p place column) e = ap (λ b. cond b (plan.Match p place column) (beneath_sort p)) e
 beneath_lazy (plan.Fetch p places) e = ap (λ b. cond b (plan.Fetch p places) (beneath_sort p)) e
@@ -161,6 +169,7 @@ beneath_inner (plan.PickEqual column v) e = refl
 beneath_inner (plan.PickBetween column low high) e = refl
 beneath_inner (plan.Join left right within) e = refl
 beneath_inner (plan.Semi left right within) e = refl
+beneath_inner (plan.Knn k left right within) e = refl
 beneath_inner (plan.Filter p tests) e = ap (λ b. cond b (plan.Filter p tests) (beneath_sort p)) e
 beneath_inner (plan.Match p place column) e = ap (λ b. cond b (plan.Match p place column) (beneath_sort p)) e
 beneath_inner (plan.Fetch p places) e = ap (λ b. cond b (plan.Fetch p places) (beneath_sort p)) e
@@ -179,6 +188,7 @@ full_inner d (plan.PickEqual column v) rows = refl
 full_inner d (plan.PickBetween column low high) rows = refl
 full_inner d (plan.Join left right within) rows = refl
 full_inner d (plan.Semi left right within) rows = refl
+full_inner d (plan.Knn k left right within) rows = refl
 full_inner d (plan.Filter p tests) rows = refl
 full_inner d (plan.Match p place column) rows = refl
 full_inner d (plan.Fetch p places) rows = refl
@@ -195,6 +205,7 @@ filled_plain (plan.PickEqual column v) rows e = refl
 filled_plain (plan.PickBetween column low high) rows e = refl
 filled_plain (plan.Join left right within) rows e = refl
 filled_plain (plan.Semi left right within) rows e = refl
+filled_plain (plan.Knn k left right within) rows e = refl
 filled_plain (plan.Filter p tests) rows e = refl
 filled_plain (plan.Match p place column) rows e = refl
 filled_plain (plan.Fetch p places) rows e = refl
@@ -253,6 +264,7 @@ made_front d p xs ys e b = subst (λ zs. Begins (made d p xs) (made d p zs)) (sy
     go (plan.PickBetween column low high) e = record { rest = b.rest; split = refl }
     go (plan.Join left right within) e = record { rest = b.rest; split = refl }
     go (plan.Semi left right within) e = record { rest = b.rest; split = refl }
+    go (plan.Knn k left right within) e = record { rest = b.rest; split = refl }
     go (plan.Filter p tests) e = record {
       rest = filter (passes_all d (relations_of p) tests) b.rest;
       split = filter-append (passes_all d (relations_of p) tests) xs b.rest;
@@ -278,6 +290,7 @@ made_nil d (plan.PickEqual column v) e = refl
 made_nil d (plan.PickBetween column low high) e = refl
 made_nil d (plan.Join left right within) e = refl
 made_nil d (plan.Semi left right within) e = refl
+made_nil d (plan.Knn k left right within) e = refl
 made_nil d (plan.Filter p tests) e = refl
 made_nil d (plan.Match p place column) e = refl
 made_nil d (plan.Fetch p places) e = refl
@@ -295,6 +308,7 @@ over_front d (plan.PickEqual column v) xs ys e b = b
 over_front d (plan.PickBetween column low high) xs ys e b = b
 over_front d (plan.Join left right within) xs ys e b = b
 over_front d (plan.Semi left right within) xs ys e b = b
+over_front d (plan.Knn k left right within) xs ys e b = b
 over_front d (plan.Filter p tests) xs ys e b =
     made_front d (plan.Filter p tests) (over_rows d p xs) (over_rows d p ys) refl (over_front d p xs ys e b)
 over_front d (plan.Match p place column) xs ys e b =
@@ -315,6 +329,7 @@ filled_front (plan.PickEqual column v) xs ys b e = e
 filled_front (plan.PickBetween column low high) xs ys b e = e
 filled_front (plan.Join left right within) xs ys b e = e
 filled_front (plan.Semi left right within) xs ys b e = e
+filled_front (plan.Knn k left right within) xs ys b e = e
 filled_front (plan.Filter p tests) xs ys b e = e
 filled_front (plan.Match p place column) xs ys b e = e
 filled_front (plan.Fetch p places) xs ys b e = e

@@ -6,8 +6,8 @@ use Rattle.page_pool.specs.Disk.{PageMap}
 use Rattle.page_pool.specs.declared.fault.PageFault.{PageFault}
 use Rattle.sand_model.specs.Database.{Database}
 use Rattle.sand_model.specs.Operators.{PlanRow}
-use Rattle.sand_model.specs.Plan as plan
-use Rattle.sand_model.specs.Plan.{Plan}
+use Rattle.statements.specs.Plan as plan
+use Rattle.statements.specs.Plan.{Plan}
 use Rattle.sand_model.specs.Reach.{innermost}
 use Rattle.sand_model.specs.Taken.{Taken}
 use Rattle.plan_rows.specs.Prices.{Heights, source_visit_price, visit_price, unless_refused}
@@ -35,6 +35,7 @@ innermost_inner (plan.PickEqual column v) = refl
 innermost_inner (plan.PickBetween column low high) = refl
 innermost_inner (plan.Join left right within) = refl
 innermost_inner (plan.Semi left right within) = refl
+innermost_inner (plan.Knn k left right within) = refl
 innermost_inner (plan.Filter p tests) = refl
 innermost_inner (plan.Match p place column) = refl
 innermost_inner (plan.Fetch p places) = refl

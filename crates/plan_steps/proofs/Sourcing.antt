@@ -9,8 +9,8 @@ use Rattle.page_pool.specs.Disk.{PageMap}
 use Rattle.page_pool.specs.declared.fault.PageFault.{PageFault}
 use Rattle.sand_model.specs.Database.{Database, element}
 use Rattle.sand_model.specs.Operators.{PlanRow}
-use Rattle.sand_model.specs.Plan as plan
-use Rattle.sand_model.specs.Plan.{Plan}
+use Rattle.statements.specs.Plan as plan
+use Rattle.statements.specs.Plan.{Plan}
 use Rattle.sand_model.specs.Reach.{Counts}
 use Rattle.sand_model.specs.Taken.{Taken, is_full, beneath_sort}
 use Rattle.plan_rows.specs.Prices.{Heights, visit_price, Costs}
@@ -43,6 +43,7 @@ full_source d (plan.PickEqual column v) rows e = refl
 full_source d (plan.PickBetween column low high) rows e = refl
 full_source d (plan.Join left right within) rows e = refl
 full_source d (plan.Semi left right within) rows e = refl
+full_source d (plan.Knn k left right within) rows e = refl
 full_source d (plan.Filter p tests) rows e = absurd (true≢false (sym e))
 full_source d (plan.Match p place column) rows e = absurd (true≢false (sym e))
 full_source d (plan.Fetch p places) rows e = absurd (true≢false (sym e))

@@ -10,8 +10,8 @@ use Rattle.page_pool.specs.Disk.{PageMap}
 use Rattle.page_pool.specs.declared.fault.PageFault.{PageFault}
 use Rattle.sand_model.specs.Database.{Database}
 use Rattle.sand_model.specs.Operators.{PlanRow}
-use Rattle.sand_model.specs.Plan as plan
-use Rattle.sand_model.specs.Plan.{Plan}
+use Rattle.statements.specs.Plan as plan
+use Rattle.statements.specs.Plan.{Plan}
 use Rattle.sand_model.specs.Reach.{Counts}
 use Rattle.sand_model.specs.Taken.{Taken, is_full, is_lazy, beneath_sort}
 use Rattle.plan_rows.specs.Prices.{unless_refused}
@@ -42,6 +42,7 @@ visits_up d (plan.PickEqual column v) t before now old new answer m = m
 visits_up d (plan.PickBetween column low high) t before now old new answer m = m
 visits_up d (plan.Join left right within) t before now old new answer m = m
 visits_up d (plan.Semi left right within) t before now old new answer m = m
+visits_up d (plan.Knn k left right within) t before now old new answer m = m
 visits_up d (plan.Filter p tests) t before now old new answer m =
     record { completed = m.completed; attempted = m.attempted; log = m.log; few = m.few; settled = m.settled; counted = m.counted; near = m.near; between = m.between; exact = m.exact; rose = m.rose }
 visits_up d (plan.Match p place column) t before now old new answer m =

@@ -3,7 +3,7 @@ use Rattle.std.specs.Prelude.{◌≡◌, ℕ, ◌≤◌, Bool, true, List, lengt
 use Rattle.page_pool.specs.Disk.{PageMap}
 use Rattle.sand_model.specs.Database.{Database}
 use Rattle.sand_model.specs.Operators.{PlanRow}
-use Rattle.sand_model.specs.Plan.{Plan}
+use Rattle.statements.specs.Plan.{Plan}
 use Rattle.sand_model.specs.Taken.{Taken, beneath_sort}
 use Rattle.plan_steps.specs.Outermost.{inner, is_source, source_rows}
 use Rattle.plan_steps.specs.Stages.{Standing}

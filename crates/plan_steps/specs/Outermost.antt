@@ -4,8 +4,8 @@ use Rattle.std.specs.Ordering.{int_cmp}
 use Rattle.sand_model.specs.Answer.{source, answer}
 use Rattle.sand_model.specs.Database.{Database}
 use Rattle.sand_model.specs.Operators.{PlanRow, over, relations_of, passes_all, matches_of, with_fetched, number_at, with_gap, gap_cmp}
-use Rattle.sand_model.specs.Plan as plan
-use Rattle.sand_model.specs.Plan.{Plan}
+use Rattle.statements.specs.Plan as plan
+use Rattle.statements.specs.Plan.{Plan}
 use Rattle.sand_model.specs.Sources.{sorted}
 use Rattle.plan_rows.specs.Rows.{plan_measure}
 

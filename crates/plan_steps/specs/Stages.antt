@@ -4,7 +4,7 @@ use Rattle.page_pool.specs.Disk.{PageMap}
 use Rattle.page_pool.specs.declared.fault.PageFault.{PageFault}
 use Rattle.sand_model.specs.Database.{Database}
 use Rattle.sand_model.specs.Operators.{PlanRow}
-use Rattle.sand_model.specs.Plan.{Plan}
+use Rattle.statements.specs.Plan.{Plan}
 use Rattle.sand_model.specs.Taken.{is_lazy}
 use Rattle.plan_steps.specs.Outermost.{is_source, is_sort, made, is_filled, beneath, Begins}
 use Rattle.plan_steps.specs.Steps.{given_after, AtEnd}

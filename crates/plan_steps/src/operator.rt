@@ -3,7 +3,7 @@ ghost use Rattle.page_pool.specs.Causes.{HasPageCause};
 ghost use Rattle.page_pool.specs.Reads.{IsRead};
 ghost use Rattle.sand_model.specs.Database.{Database};
 ghost use Rattle.sand_model.specs.Operators.{PlanRow};
-ghost use Rattle.sand_model.specs.Plan.{Plan};
+ghost use Rattle.statements.specs.Plan.{Plan};
 ghost use Rattle.sand_model.specs.Taken.{Taken};
 ghost use Rattle.best_first.specs.Visits.{told_pages};
 ghost use Rattle.plan_rows.specs.Rows.{counts_of};

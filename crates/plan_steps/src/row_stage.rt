@@ -5,7 +5,7 @@ ghost use Rattle.page_pool.specs.Disk.{PageMap};
 ghost use Rattle.page_pool.specs.Reads.{IsRead};
 ghost use Rattle.sand_model.specs.Database.{Database};
 ghost use Rattle.sand_model.specs.Operators.{PlanRow};
-ghost use Rattle.sand_model.specs.Plan.{Plan};
+ghost use Rattle.statements.specs.Plan.{Plan};
 ghost use Rattle.sand_model.specs.Taken.{is_lazy};
 ghost use Rattle.best_first.specs.Visits.{told_pages};
 ghost use Rattle.plan_rows.specs.Prices.{unless_refused};

@@ -4,7 +4,7 @@ ghost use Rattle.page_pool.specs.Causes.{HasPageCause};
 ghost use Rattle.page_pool.specs.Reads.{IsRead};
 ghost use Rattle.sand_model.specs.Database.{Database};
 ghost use Rattle.sand_model.specs.Operators.{PlanRow};
-ghost use Rattle.sand_model.specs.Plan.{Plan};
+ghost use Rattle.statements.specs.Plan.{Plan};
 ghost use Rattle.best_first.specs.Visits.{told_pages};
 ghost use Rattle.plan_rows.specs.Prices.{unless_refused};
 ghost use Rattle.plan_rows.specs.Rows.{row_of};

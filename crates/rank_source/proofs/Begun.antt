@@ -8,7 +8,8 @@ use Rattle.page_pool.specs.Disk.{PageMap}
 use Rattle.pmr_tree.specs.Quadtree.{tree_at}
 use Rattle.pmr_tree.specs.declared.quadtree.Pmr.{Pmr}
 use Rattle.sand_model.specs.Database.{Database, shapes_of}
-use Rattle.sand_model.specs.Plan.{Plan, Column}
+use Rattle.statements.specs.Plan.{Plan}
+use Rattle.statements.specs.declared.column.Column.{Column}
 use Rattle.sand_model.specs.Reach.{quadtree_of}
 use Rattle.sand_model.specs.Sources.{column_shapes}
 use Rattle.sand_store.specs.declared.column.FileShapes.{FileShapes}

@@ -6,7 +6,7 @@ use Rattle.std.proofs.lemmas.List.{length-map}
 use Rattle.sand_model.specs.Answer.{source}
 use Rattle.sand_model.specs.Database.{Database, element}
 use Rattle.sand_model.specs.Operators.{PlanRow}
-use Rattle.sand_model.specs.Plan.{Plan}
+use Rattle.statements.specs.Plan.{Plan}
 use Rattle.sand_model.specs.Reach.{UpTo, Ceiling, reach, reach_of_last, is_saturated, innermost, ceiling_of}
 use Rattle.sand_model.specs.Sources.{Found}
 use Rattle.sand_model.specs.Taken.{Taken}

@@ -6,7 +6,7 @@ use Rattle.z_code.specs.declared.block.Block.{Block}
 use Rattle.page_pool.specs.Disk.{PageMap}
 use Rattle.page_pool.specs.declared.fault.PageFault.{PageFault}
 use Rattle.sand_model.specs.Database.{Database}
-use Rattle.sand_model.specs.Plan.{Plan}
+use Rattle.statements.specs.Plan.{Plan}
 use Rattle.sand_model.specs.Taken.{Taken}
 use Rattle.sand_store.specs.declared.column.FileShapes.{FileShapes}
 use Rattle.best_first.specs.Frontier.{StandsOver}

@@ -12,7 +12,7 @@ use Rattle.page_pool.specs.declared.fault.PageFault.{PageFault}
 use Rattle.sand_model.specs.Answer.{source, single_row}
 use Rattle.sand_model.specs.Cursor.{AreBetween}
 use Rattle.sand_model.specs.Database.{Database, element}
-use Rattle.sand_model.specs.Plan.{Plan}
+use Rattle.statements.specs.Plan.{Plan}
 use Rattle.sand_model.specs.Reach.{Reach, Counts, reach}
 use Rattle.sand_model.specs.Sources.{Found, found_cmp, ranked, sorted, is_within}
 use Rattle.sand_model.specs.Taken.{Taken}

@@ -8,8 +8,9 @@ use Rattle.sand_base.specs.declared.visit.Visit.TheVariants as visit
 use Rattle.sand_model.specs.Answer.{source, single_row}
 use Rattle.sand_model.specs.Database.{Database}
 use Rattle.sand_model.specs.Nodes.{rank_gaps, rank_items}
-use Rattle.sand_model.specs.Plan as plan
-use Rattle.sand_model.specs.Plan.{Plan, Column}
+use Rattle.statements.specs.Plan as plan
+use Rattle.statements.specs.Plan.{Plan}
+use Rattle.statements.specs.declared.column.Column.{Column}
 use Rattle.sand_model.specs.Reach.{Reach, reaches, roughs_within, counts_at, innermost, ceiling_of, is_saturated, quadtree_of}
 use Rattle.sand_model.specs.Sources.{column_shapes, ranked}
 use Rattle.sand_model.specs.Tree.{Tree}
@@ -62,6 +63,7 @@ told d (plan.PickEqual c v) column goal ceiling h = absurd h
 told d (plan.PickBetween c low high) column goal ceiling h = absurd h
 told d (plan.Join c e within) column goal ceiling h = absurd h
 told d (plan.Semi c e within) column goal ceiling h = absurd h
+told d (plan.Knn n c e within) column goal ceiling h = absurd h
 told d (plan.Filter q tests) column goal ceiling h = absurd h
 told d (plan.Match q place c) column goal ceiling h = absurd h
 told d (plan.Fetch q places) column goal ceiling h = absurd h

@@ -8,8 +8,9 @@ use Rattle.z_code.specs.declared.block.Block.{Block}
 use Rattle.page_pool.specs.Disk.{PageMap}
 use Rattle.page_pool.specs.declared.fault.PageFault.{PageFault}
 use Rattle.sand_model.specs.Database.{Database}
-use Rattle.sand_model.specs.Plan as plan
-use Rattle.sand_model.specs.Plan.{Plan, Column}
+use Rattle.statements.specs.Plan as plan
+use Rattle.statements.specs.Plan.{Plan}
+use Rattle.statements.specs.declared.column.Column.{Column}
 use Rattle.sand_model.specs.Price.{block_price}
 use Rattle.sand_model.specs.Reach.{quadtree_of}
 use Rattle.sand_model.specs.Taken.{Taken}
@@ -42,6 +43,7 @@ by_plan h d (plan.PickEqual c w) column goal ceiling k v = absurd k
 by_plan h d (plan.PickBetween c low high) column goal ceiling k v = absurd k
 by_plan h d (plan.Join c e within) column goal ceiling k v = absurd k
 by_plan h d (plan.Semi c e within) column goal ceiling k v = absurd k
+by_plan h d (plan.Knn n c e within) column goal ceiling k v = absurd k
 by_plan h d (plan.Filter q tests) column goal ceiling k v = absurd k
 by_plan h d (plan.Match q place c) column goal ceiling k v = absurd k
 by_plan h d (plan.Fetch q places) column goal ceiling k v = absurd k

@@ -9,8 +9,9 @@ use Rattle.sand_base.specs.declared.limits.Limits.{Limits}
 use Rattle.tuple_file.specs.declared.file.TupleFile.{TupleFile}
 use Rattle.z_code.specs.declared.block.Block.{Block}
 use Rattle.sand_model.specs.Database.{Database, shapes_of, relation_named, column_named}
-use Rattle.sand_model.specs.Plan as plan
-use Rattle.sand_model.specs.Plan.{Plan, Column}
+use Rattle.statements.specs.Plan as plan
+use Rattle.statements.specs.Plan.{Plan}
+use Rattle.statements.specs.declared.column.Column.{Column}
 use Rattle.sand_model.specs.Reach.{quadtree_of}
 use Rattle.sand_model.specs.Sources.{column_shapes, ranked}
 use Rattle.sand_model.specs.Taken.{Taken}

@@ -16,7 +16,7 @@ use Rattle.sand_model.specs.Cursor.{Cursor, OutputLine, step_of}
 use Rattle.sand_model.specs.Database.{Database, element}
 use Rattle.sand_model.specs.Operators.{PlanRow}
 use Rattle.sand_model.specs.OutputText.{IsText}
-use Rattle.sand_model.specs.Plan.{Plan}
+use Rattle.statements.specs.Plan.{Plan}
 use Rattle.sand_model.specs.Reach.{Counts, reach, reach_of_last}
 use Rattle.sand_model.specs.Taken.{Taken, has_taken, is_lazy}
 use Rattle.best_first.proofs.Bags.{All-by}

@@ -10,7 +10,8 @@ use Rattle.sand_model.specs.Database.{Relation, relation_named, changed_at}
 use Rattle.sand_model.specs.Measure.{Measure}
 use Rattle.sand_model.specs.Outcome.{Rises, IsRefusedBy, Changes, PrintsLeaves, leaf_lines, replaced}
 use Rattle.sand_model.specs.Run.{Run}
-use Rattle.sand_model.specs.Statement.{Statement, Create, Insert, Delete, Load, Index as IndexOn, OpenCursor, Next, CloseCursor, Show, Stats, Blocks, ScriptLine, Blank, TooLong, BadToken, OutOfRange, Says}
+use Rattle.statements.specs.Statement.{Statement, Create, Insert, Delete, Load, Index as IndexOn, OpenCursor, Next, CloseCursor, Show, Stats, Blocks}
+use Rattle.sand_model.specs.ScriptLine.{ScriptLine, Blank, TooLong, BadToken, OutOfRange, Says}
 use Rattle.sand_model.specs.StatementChecks.{Setting, early, late, cursor_named, entered, file_rows}
 use Rattle.run_laws.specs.Determined.{is_of_memory, IsCalm}
 use Rattle.run_laws.specs.Undisturbed.{IsMemory, HasEffect, HasDefinedOutcome, LineIsDefined, RunsUndisturbed}

@@ -7,7 +7,8 @@ use Rattle.sand_model.specs.Checks.{first_refusal}
 use Rattle.sand_model.specs.Cursor.{State, Cursor, OutputLine, Steps, new_cursor}
 use Rattle.sand_model.specs.Outcome.{Rises, Outcome, IsLicensed, IsRefusedBy, IsCaused, IsCarriedOut}
 use Rattle.sand_model.specs.Run.{LineOutcome, Run}
-use Rattle.sand_model.specs.Statement.{Statement, Create, Insert, Delete, Load, Index as IndexOn, OpenCursor, Next, CloseCursor, Show, Stats, Blocks, ScriptLine, Blank, TooLong, BadToken, OutOfRange, Says}
+use Rattle.statements.specs.Statement.{Statement, Create, Insert, Delete, Load, Index as IndexOn, OpenCursor, Next, CloseCursor, Show, Stats, Blocks}
+use Rattle.sand_model.specs.ScriptLine.{ScriptLine, Blank, TooLong, BadToken, OutOfRange, Says}
 use Rattle.sand_model.specs.StatementChecks.{Setting, early, late, cursor_named}
 use Rattle.run_laws.specs.Following.{rows_left, GoesOn, asks, closes}
 use Rattle.run_laws.proofs.CursorsByName.{named, found_name, kept_replaced, kept_closed, kept_opened}

@@ -7,7 +7,8 @@ use Rattle.sand_model.specs.Cursor.{State, Cursor, OutputLine, Steps}
 use Rattle.sand_model.specs.Measure.{Measure}
 use Rattle.sand_model.specs.Outcome.{Rises, Outcome, IsLicensed, IsCaused, IsRefusedBy, IsCarriedOut, PrintsLeaves, leaf_lines}
 use Rattle.sand_model.specs.Run.{LineOutcome, Run}
-use Rattle.sand_model.specs.Statement.{Statement, Create, Insert, Delete, Load, Index as IndexOn, OpenCursor, Next, CloseCursor, Show, Stats, Blocks, ScriptLine, Blank, TooLong, BadToken, OutOfRange, Says}
+use Rattle.statements.specs.Statement.{Statement, Create, Insert, Delete, Load, Index as IndexOn, OpenCursor, Next, CloseCursor, Show, Stats, Blocks}
+use Rattle.sand_model.specs.ScriptLine.{ScriptLine, Blank, TooLong, BadToken, OutOfRange, Says}
 use Rattle.sand_model.specs.StatementChecks.{Setting, early, late}
 use Rattle.run_laws.specs.Undisturbed.{IsMemory, HasEffect, HasDefinedOutcome, LineIsDefined, RunsUndisturbed}
 

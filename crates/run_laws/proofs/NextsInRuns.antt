@@ -14,7 +14,8 @@ use Rattle.sand_model.specs.Operators.{PlanRow}
 use Rattle.sand_model.specs.Outcome.{Rises, IsLicensed, IsRefusedBy, IsCarriedOut}
 use Rattle.sand_model.specs.OutputText.{is_refused}
 use Rattle.sand_model.specs.Run.{LineOutcome, Run}
-use Rattle.sand_model.specs.Statement.{Create, Insert, Delete, Load, Index as IndexOn, OpenCursor, Next, CloseCursor, Show, Stats, Blocks, ScriptLine, Blank, TooLong, BadToken, OutOfRange, Says}
+use Rattle.statements.specs.Statement.{Create, Insert, Delete, Load, Index as IndexOn, OpenCursor, Next, CloseCursor, Show, Stats, Blocks}
+use Rattle.sand_model.specs.ScriptLine.{ScriptLine, Blank, TooLong, BadToken, OutOfRange, Says}
 use Rattle.sand_model.specs.StatementChecks.{Setting, cursor_named}
 use Rattle.run_laws.specs.Following.{rows_left, Gave, GoesOn, asks, closes, rows_among, rows_given, is_end, is_end_given, HasGiven}
 use Rattle.run_laws.proofs.CursorsByName.{one_name, found_name, now_replaced}

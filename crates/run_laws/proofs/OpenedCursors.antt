@@ -6,8 +6,8 @@ use Rattle.sand_model.specs.Checks.{first_refusal}
 use Rattle.sand_model.specs.Cursor.{State, Cursor, Accepted, Refused, new_cursor}
 use Rattle.sand_model.specs.Database.{same_name}
 use Rattle.sand_model.specs.Outcome.{Rises, Outcome, IsCaused, IsRefusedBy, IsCarriedOut}
-use Rattle.sand_model.specs.Plan.{Plan}
-use Rattle.sand_model.specs.Statement.{OpenCursor}
+use Rattle.statements.specs.Plan.{Plan}
+use Rattle.statements.specs.Statement.{OpenCursor}
 use Rattle.sand_model.specs.StatementChecks.{Setting, early, late, cursor_named, is_there, refused_where}
 use Rattle.run_laws.proofs.CursorsByName.{named, same_itself}
 

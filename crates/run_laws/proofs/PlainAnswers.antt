@@ -11,8 +11,11 @@ use Rattle.sand_model.specs.Answer.{answer, source, scanned, plain_row, single_r
 use Rattle.sand_model.specs.Database.{Database, Relation, relation_named, has_name, column_named, row_at, element}
 use Rattle.sand_model.specs.Measure.{Measure}
 use Rattle.sand_model.specs.Operators.{PlanRow, over, relations_of, kth, value_at, fetched_values, with_fetched, with_gap, matches_of, gap_cmp, number_at, passes_all}
-use Rattle.sand_model.specs.Plan as plan
-use Rattle.sand_model.specs.Plan.{Plan, Column, Place, Test}
+use Rattle.statements.specs.Plan as plan
+use Rattle.statements.specs.Plan.{Plan}
+use Rattle.statements.specs.declared.column.Column.{Column}
+use Rattle.statements.specs.declared.column.Place.{Place}
+use Rattle.statements.specs.declared.test.Test.{Test}
 use Rattle.sand_model.specs.Sources.{sorted, placed, column_values, same_value}
 use Rattle.run_laws.proofs.LineTexts.{IsFreeValue, IsPlainRow}
 
@@ -128,6 +131,7 @@ module _ (database : Database) (free : IsFreeDatabase database) where
   over_plain gap (plan.PickBetween column low high) rows h = h
   over_plain gap (plan.Join left right within) rows h = h
   over_plain gap (plan.Semi left right within) rows h = h
+  over_plain gap (plan.Knn k left right within) rows h = h
   over_plain gap (plan.Filter p tests) rows h = All-filter (passes_all database (relations_of p) tests) IsPlainRow (over gap database p rows) (over_plain gap p rows h)
   over_plain gap (plan.Match p place column) rows h =
       all_flat IsPlainRow IsPlainRow (matches_of database (relations_of p) place column) (matched_plain (relations_of p) place column) (over gap database p rows) (over_plain gap p rows h)
@@ -153,6 +157,7 @@ module _ (database : Database) (free : IsFreeDatabase database) where
   plain_source gap (plan.PickBetween column low high) = all_mapped IsPlainRow (λ (pair : ℕ × Value). plain_row pair.0) (λ pair. (omega arith, All-nil IsFreeValue)) _
   plain_source gap (plan.Join left right within) = all_mapped IsPlainRow pair_row (λ found. (omega arith, All-nil IsFreeValue)) _
   plain_source gap (plan.Semi left right within) = all_mapped IsPlainRow pair_row (λ found. (omega arith, All-nil IsFreeValue)) _
+  plain_source gap (plan.Knn k left right within) = all_mapped IsPlainRow pair_row (λ found. (omega arith, All-nil IsFreeValue)) _
   plain_source gap (plan.Filter p tests) = plain_source gap p
   plain_source gap (plan.Match p place column) = plain_source gap p
   plain_source gap (plan.Fetch p places) = plain_source gap p

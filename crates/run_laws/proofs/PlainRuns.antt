@@ -17,16 +17,16 @@ use Rattle.sand_model.specs.Measure.{Measure}
 use Rattle.sand_model.specs.Operators.{PlanRow}
 use Rattle.sand_model.specs.Outcome.{Rises, IsRefusedBy, IsCarriedOut, IsLicensed, PrintsLeaves, leaf_lines, replaced}
 use Rattle.sand_model.specs.OutputText.{IsText, is_refused}
-use Rattle.sand_model.specs.Plan.{Column}
+use Rattle.statements.specs.declared.column.Column.{Column}
 use Rattle.sand_model.specs.Run.{Run, no_state}
-use Rattle.sand_model.specs.Statement.{Statement, Create, Insert, Delete, Load, Index as IndexOn, OpenCursor, Next, CloseCursor, Show, Stats, Blocks, ScriptLine, Blank, TooLong, BadToken, OutOfRange, Says}
+use Rattle.statements.specs.Statement.{Statement, Create, Insert, Delete, Load, Index as IndexOn, OpenCursor, Next, CloseCursor, Show, Stats, Blocks}
+use Rattle.sand_model.specs.ScriptLine.{ScriptLine, Blank, TooLong, BadToken, OutOfRange, Says}
 use Rattle.sand_model.specs.StatementChecks.{Setting, IsSetting, FileRows, AreRows, HasBad, check_length, check_ids, check_listings, entered, file_rows, indexed_by}
 use Rattle.sand_model.specs.Tree.{root_block, leaves}
 use Rattle.script_lines.specs.Lines.{ended_lines, clipped, chopped}
-use Rattle.line_meaning.specs.Spoken.{AreLines, IsLine, Tells, statement_of}
+use Rattle.line_meaning.specs.Spoken.{AreLines, IsLine, Tells}
 use Rattle.script_text.specs.Line.{Reads}
-use Rattle.script_text.specs.Statement as text
-use Rattle.script_text.specs.Statement.{StatementValue}
+use Rattle.statements.specs.Statement as statement
 use Rattle.script_text.specs.declared.parse.LineFault.{LineFault}
 use Rattle.script_text.specs.declared.parse.LineFault.TheVariants as fault
 use Rattle.run_laws.specs.Following.{rows_left, GoesOn}
@@ -52,20 +52,20 @@ InsertInRange [] = ⊤
 InsertInRange (line ∷ script) = InsertsInRange line × InsertInRange script
 
 -- so does each line of a script
-statement_inserts : (line : List ℕ) (statement : StatementValue) → Reads line (Ok (Some statement)) → InsertsInRange (Says (statement_of statement))
-statement_inserts line (text.Create relation columns) h = tt
-statement_inserts line (text.Insert relation values) h = h.in_range.1.all
-statement_inserts line (text.Delete relation id) h = tt
-statement_inserts line (text.Load relation file header) h = tt
-statement_inserts line (text.Index column threshold) h = tt
-statement_inserts line (text.OpenCursor cursor p) h = tt
-statement_inserts line (text.Next cursor count) h = tt
-statement_inserts line (text.CloseCursor cursor) h = tt
-statement_inserts line (text.Show count p) h = tt
-statement_inserts line (text.Stats cursor) h = tt
-statement_inserts line (text.Blocks column) h = tt
+statement_inserts : (line : List ℕ) (statement : Statement) → Reads line (Ok (Some statement)) → InsertsInRange (Says statement)
+statement_inserts line (statement.Create relation columns) h = tt
+statement_inserts line (statement.Insert relation values) h = h.in_range.1.all
+statement_inserts line (statement.Delete relation id) h = tt
+statement_inserts line (statement.Load relation file header) h = tt
+statement_inserts line (statement.Index column threshold) h = tt
+statement_inserts line (statement.OpenCursor cursor p) h = tt
+statement_inserts line (statement.Next cursor count) h = tt
+statement_inserts line (statement.CloseCursor cursor) h = tt
+statement_inserts line (statement.Show count p) h = tt
+statement_inserts line (statement.Stats cursor) h = tt
+statement_inserts line (statement.Blocks column) h = tt
 
-answer_inserts : (line : List ℕ) (answered : Result (Option StatementValue) LineFault) (told : ScriptLine) → Reads line answered → Tells answered told → InsertsInRange told
+answer_inserts : (line : List ℕ) (answered : Result (Option Statement) LineFault) (told : ScriptLine) → Reads line answered → Tells answered told → InsertsInRange told
 answer_inserts line (Ok None) told h e = subst InsertsInRange (sym e) tt
 answer_inserts line (Ok (Some statement)) told h e = subst InsertsInRange (sym e) (statement_inserts line statement h)
 answer_inserts line (Err (fault.Syntax column)) told h e = subst InsertsInRange (sym e) tt

@@ -4,7 +4,7 @@ use Rattle.sand_base.specs.declared.refusal.Refusal.{Refusal}
 use Rattle.sand_base.specs.declared.refusal.Refusal.TheVariants as why
 use Rattle.sand_model.specs.Checks.{first_refusal, check_relation, check_operators}
 use Rattle.sand_model.specs.Database.{Database}
-use Rattle.sand_model.specs.Plan.{Plan}
+use Rattle.statements.specs.Plan.{Plan}
 use Rattle.statement_exec.proofs.PlanChecks as plan
 
 -- the refusal is one of memory, of the disk or of a damaged page

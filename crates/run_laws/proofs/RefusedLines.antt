@@ -6,7 +6,8 @@ use Rattle.sand_model.specs.Cursor.{State, OutputLine, Accepted, Id, Loaded, Sta
 use Rattle.sand_model.specs.Outcome.{Rises, IsRefusedBy, IsCarriedOut}
 use Rattle.sand_model.specs.OutputText.{is_refused}
 use Rattle.sand_model.specs.Run.{LineOutcome}
-use Rattle.sand_model.specs.Statement.{Statement, Create, Insert, Delete, Load, Index as IndexOn, OpenCursor, Next, CloseCursor, Show, Stats, Blocks, ScriptLine, Blank, TooLong, BadToken, OutOfRange, Says}
+use Rattle.statements.specs.Statement.{Statement, Create, Insert, Delete, Load, Index as IndexOn, OpenCursor, Next, CloseCursor, Show, Stats, Blocks}
+use Rattle.sand_model.specs.ScriptLine.{ScriptLine, Blank, TooLong, BadToken, OutOfRange, Says}
 use Rattle.sand_model.specs.StatementChecks.{Setting}
 use Rattle.run_laws.specs.Refused.{is_next}
 use Rattle.run_laws.proofs.CursorsInRuns.{RefusedWith, refused_or_done}

@@ -7,7 +7,8 @@ use Rattle.sand_model.specs.Database.{same_name}
 use Rattle.sand_model.specs.Outcome.{Rises, IsLicensed, IsRefusedBy, IsCarriedOut}
 use Rattle.sand_model.specs.OutputText.{is_refused}
 use Rattle.sand_model.specs.Run.{LineOutcome}
-use Rattle.sand_model.specs.Statement.{Next, Says}
+use Rattle.statements.specs.Statement.{Next}
+use Rattle.sand_model.specs.ScriptLine.{Says}
 use Rattle.sand_model.specs.StatementChecks.{Setting, cursor_named}
 use Rattle.run_laws.specs.Following.{rows_left, GoesOn, rows_among, is_end, HasGiven}
 use Rattle.run_laws.specs.Refused.{MovesByItsRows}

@@ -1,17 +1,17 @@
 -- The lines of every script say something: each is too long, or has a reading.
 use Rattle.std.proofs.Common.{◌≢◌, ℕ, List, [], ◌∷◌, Option, Some, None, Result, Ok, Err, refl}
 use Rattle.line_laws.proofs.Readings.{reading_of}
-use Rattle.sand_model.specs.Statement.{ScriptLine, Blank, TooLong, BadToken, OutOfRange, Says}
+use Rattle.sand_model.specs.ScriptLine.{ScriptLine, Blank, TooLong, BadToken, OutOfRange, Says}
 use Rattle.script_lines.specs.Lines.{chopped, clipped}
-use Rattle.line_meaning.specs.Spoken.{Tells, IsLine, AreLines, statement_of}
-use Rattle.script_text.specs.Statement.{StatementValue}
+use Rattle.line_meaning.specs.Spoken.{Tells, IsLine, AreLines}
+use Rattle.statements.specs.Statement.{Statement}
 use Rattle.script_text.specs.declared.parse.LineFault.{LineFault}
 use Rattle.script_text.specs.declared.parse.LineFault.TheVariants.{Memory, Syntax, Range}
 
 -- every answer but want of memory tells what the line says
-told_by : (answer : Result (Option StatementValue) LineFault) → answer ≢ Err Memory → (told : ScriptLine) × Tells answer told
+told_by : (answer : Result (Option Statement) LineFault) → answer ≢ Err Memory → (told : ScriptLine) × Tells answer told
 told_by (Ok None) some = (Blank, refl)
-told_by (Ok (Some statement)) some = (Says (statement_of statement), refl)
+told_by (Ok (Some statement)) some = (Says statement, refl)
 told_by (Err (Syntax column)) some = (BadToken column, refl)
 told_by (Err Range) some = (OutOfRange, refl)
 told_by (Err Memory) some = absurd (some refl)

@@ -6,7 +6,8 @@ use Rattle.sand_base.specs.declared.refusal.Refusal.TheVariants as why
 use Rattle.sand_model.specs.Cursor.{State, OutputLine}
 use Rattle.sand_model.specs.Outcome.{Rises, IsRefusedBy}
 use Rattle.sand_model.specs.Run.{Run, LineOutcome}
-use Rattle.sand_model.specs.Statement.{ScriptLine, Says, Load}
+use Rattle.sand_model.specs.ScriptLine.{ScriptLine, Says}
+use Rattle.statements.specs.Statement.{Load}
 use Rattle.sand_model.specs.StatementChecks.{Setting}
 use Rattle.line_meaning.specs.ShelfRun.{Finds, ShelfRun, is_load}
 use Rattle.run_laws.specs.ShelfRuns.{RunsInTwo}

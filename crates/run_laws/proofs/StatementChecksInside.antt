@@ -12,9 +12,10 @@ use Rattle.sand_model.specs.Checks.{first_refusal, kind_named, is_indexed, most_
 use Rattle.sand_model.specs.Cursor.{State}
 use Rattle.sand_model.specs.Database.{Database, Relation, relation_named, row_at, with_row}
 use Rattle.sand_model.specs.Kept.{has_twice, most_relations, longest_row}
-use Rattle.sand_model.specs.Plan.{Plan, Column, depth}
+use Rattle.statements.specs.Plan.{Plan, depth}
+use Rattle.statements.specs.declared.column.Column.{Column}
 use Rattle.sand_model.specs.RowSize.{row_size}
-use Rattle.sand_model.specs.Statement.{Statement, Create, Insert, Delete, Load, Index as IndexOn, OpenCursor, Next, CloseCursor, Show, Stats, Blocks}
+use Rattle.statements.specs.Statement.{Statement, Create, Insert, Delete, Load, Index as IndexOn, OpenCursor, Next, CloseCursor, Show, Stats, Blocks}
 use Rattle.sand_model.specs.StatementChecks.{Setting, FileRows, AreRows, HasBad, refused_where, in_relation, in_column, in_file, is_there, is_row_of, cursor_named, check_cursor, check_length, check_ids, check_listings, check_depth, check_load, check_records, is_overfull, entered, file_rows, indexed_by, most_cursors, longest_file, early, late}
 use Rattle.run_laws.proofs.PlanChecks.{IsInside, inside_two, inside_three, inside_four, inside_relation, inside_operators}
 

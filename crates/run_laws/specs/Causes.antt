@@ -5,7 +5,7 @@ use Rattle.sand_base.specs.declared.refusal.Refusal.TheVariants as why
 use Rattle.sand_model.specs.Cursor.{State, OutputLine, Refused}
 use Rattle.sand_model.specs.Outcome.{Rises}
 use Rattle.sand_model.specs.Run.{Run}
-use Rattle.sand_model.specs.Statement.{ScriptLine}
+use Rattle.sand_model.specs.ScriptLine.{ScriptLine}
 use Rattle.sand_model.specs.StatementChecks.{Setting}
 use Rattle.statement_exec.specs.Causes.{device_lines, file_lines}
 

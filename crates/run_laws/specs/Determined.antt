@@ -5,7 +5,7 @@ use Rattle.sand_base.specs.declared.refusal.Refusal.TheVariants as why
 use Rattle.sand_model.specs.Cursor.{State, OutputLine, Refused}
 use Rattle.sand_model.specs.Outcome.{Rises}
 use Rattle.sand_model.specs.Run.{Run}
-use Rattle.sand_model.specs.Statement.{ScriptLine}
+use Rattle.sand_model.specs.ScriptLine.{ScriptLine}
 use Rattle.sand_model.specs.StatementChecks.{Setting}
 
 -- the line says that memory was refused

@@ -10,9 +10,10 @@ use Rattle.sand_model.specs.Measure.{Measure}
 use Rattle.sand_model.specs.Operators.{PlanRow}
 use Rattle.sand_model.specs.Outcome.{Rises, IsLicensed, IsRefusedBy, Outcome}
 use Rattle.sand_model.specs.OutputText.{is_refused}
-use Rattle.sand_model.specs.Plan.{Plan}
+use Rattle.statements.specs.Plan.{Plan}
 use Rattle.sand_model.specs.Run.{LineOutcome, Run}
-use Rattle.sand_model.specs.Statement.{Statement, OpenCursor, Next, CloseCursor, ScriptLine, Says}
+use Rattle.statements.specs.Statement.{Statement, OpenCursor, Next, CloseCursor}
+use Rattle.sand_model.specs.ScriptLine.{ScriptLine, Says}
 use Rattle.sand_model.specs.StatementChecks.{Setting, cursor_named}
 
 -- the rows of a cursor's answer, from scratch over the database at its opening, that follow those given

@@ -1,7 +1,7 @@
 -- What the checks read that come before any page is touched.
 use Rattle.std.specs.Prelude.{◌≡◌}
 use Rattle.sand_model.specs.Cursor.{State}
-use Rattle.sand_model.specs.Statement.{Statement}
+use Rattle.statements.specs.Statement.{Statement}
 use Rattle.sand_model.specs.StatementChecks.{Setting, early}
 use Rattle.statement_exec.specs.Outline.{outline_of, bare}
 

@@ -8,7 +8,8 @@ use Rattle.sand_model.specs.Measure.{Measure}
 use Rattle.sand_model.specs.Outcome.{Rises, IsRefusedBy}
 use Rattle.sand_model.specs.OutputText.{is_refused}
 use Rattle.sand_model.specs.Run.{LineOutcome}
-use Rattle.sand_model.specs.Statement.{ScriptLine, Says, Next}
+use Rattle.sand_model.specs.ScriptLine.{ScriptLine, Says}
+use Rattle.statements.specs.Statement.{Next}
 use Rattle.sand_model.specs.StatementChecks.{Setting, cursor_named}
 use Rattle.run_laws.specs.Following.{rows_among, HasGiven}
 

@@ -5,7 +5,7 @@ use Rattle.sand_model.specs.Cursor.{State, OutputLine}
 use Rattle.sand_model.specs.Outcome.{Rises}
 use Rattle.sand_model.specs.OutputText.{IsText, is_refused}
 use Rattle.sand_model.specs.Run.{Run, no_state}
-use Rattle.sand_model.specs.Statement.{ScriptLine}
+use Rattle.sand_model.specs.ScriptLine.{ScriptLine}
 use Rattle.sand_model.specs.StatementChecks.{Setting, IsSetting}
 use Rattle.script_lines.specs.Lines.{ended_lines}
 use Rattle.line_meaning.specs.Spoken.{AreLines}

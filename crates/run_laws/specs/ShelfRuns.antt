@@ -5,7 +5,7 @@ use Rattle.sand_base.specs.Shelf.{Files}
 use Rattle.sand_model.specs.Cursor.{State, OutputLine}
 use Rattle.sand_model.specs.Outcome.{Rises}
 use Rattle.sand_model.specs.Run.{FitIn, Run}
-use Rattle.sand_model.specs.Statement.{ScriptLine}
+use Rattle.sand_model.specs.ScriptLine.{ScriptLine}
 use Rattle.sand_model.specs.StatementChecks.{Setting}
 use Rattle.line_meaning.specs.ShelfRun.{ShelfRun, is_load}
 

@@ -6,7 +6,8 @@ use Rattle.sand_model.specs.Checks.{first_refusal}
 use Rattle.sand_model.specs.Cursor.{State, Cursor, OutputLine, new_cursor, Steps}
 use Rattle.sand_model.specs.Outcome.{Rises, OfRelation, OfCursor, IsCarriedOut, IsRefusedBy, PrintsLeaves, leaf_lines, replaced}
 use Rattle.sand_model.specs.Run.{LineOutcome, Run}
-use Rattle.sand_model.specs.Statement.{Statement, Next, Show, Blocks, ScriptLine, Says}
+use Rattle.statements.specs.Statement.{Statement, Next, Show, Blocks}
+use Rattle.sand_model.specs.ScriptLine.{ScriptLine, Says}
 use Rattle.sand_model.specs.StatementChecks.{Setting, early, late}
 
 -- the counts of faults of the disk and of the shelf stay

@@ -20,7 +20,7 @@ ghost use Rattle.run_laws.specs.SeenRefusals.{RefusedLinesAreSeen};
 ghost use Rattle.run_laws.specs.Settings.{MomentsHaveSettings};
 ghost use Rattle.run_laws.specs.ShelfRuns.{ToldShelvesGiveRuns, ScriptsWithoutLoadsGiveRuns, ShelfRunsSplit};
 ghost use Rattle.run_laws.specs.Undisturbed.{RunsAreComplete};
-ghost use Rattle.sand_model.specs.Statement.{ScriptLine};
+ghost use Rattle.sand_model.specs.ScriptLine.{ScriptLine};
 ghost use Rattle.line_meaning.specs.Spoken.{AreLines};
 
 /// The lines of every script say something, so what is promised of whatever they say is promised of every script.

@@ -8,7 +8,7 @@ use Rattle.script_text.specs.declared.parse.LineFault.TheVariants.{Memory}
 use Rattle.script_text.specs.InRange.{IsInRange}
 use Rattle.script_text.specs.Line.{Reads}
 use Rattle.script_text.specs.Printing.{printed}
-use Rattle.script_text.specs.Statement.{StatementValue}
+use Rattle.statements.specs.Statement.{Statement}
 use Rattle.sand_journal.specs.ChangeBody.{ChangeValue, Line, Rows, IsChange, IsEncodingShort, framed_row, counted_rows, body_of}
 use Rattle.sand_journal.proofs.PrintedLengths.{printed_short}
 use Rattle.sand_journal.proofs.RowFrames.{one_count, one_rows, rows_length}
@@ -21,7 +21,7 @@ pub same_tail : (x y : ℕ) (xs ys : List ℕ) → x ∷ xs ≡ y ∷ ys → xs 
 same_tail x y xs ys same = ap (λ (l : List ℕ). drop 1 l) same
 
 -- the bodies, by cases
-pub line_body_is : (statement : StatementValue) → body_of (Line statement) ≡ 1 ∷ printed statement
+pub line_body_is : (statement : Statement) → body_of (Line statement) ≡ 1 ∷ printed statement
 unfolding body_of
 line_body_is statement = refl
 
@@ -59,20 +59,20 @@ one_counted rows others short short_others fits fits_others same =
     one_rows rows others short short_others counts.1
 
 -- the statement of an answer, or another where it has none
-statement_in : StatementValue → Result (Option StatementValue) LineFault → StatementValue
+statement_in : Statement → Result (Option Statement) LineFault → Statement
 statement_in other (Ok None) = other
 statement_in other (Ok (Some statement)) = statement
 statement_in other (Err _) = other
 
 -- what the language's laws say of the printed form: it is read as its statement, and as nothing else
 abbrev pub ReadsBack : Type 0
-ReadsBack = (statement : StatementValue) → IsInRange statement → Reads (printed statement) (Ok (Some statement))
+ReadsBack = (statement : Statement) → IsInRange statement → Reads (printed statement) (Ok (Some statement))
 
 abbrev pub ReadsOnly : Type 0
-ReadsOnly = (statement : StatementValue) (answer : Result (Option StatementValue) LineFault) → IsInRange statement → Reads (printed statement) answer → answer ≢ Err Memory → answer ≡ Ok (Some statement)
+ReadsOnly = (statement : Statement) (answer : Result (Option Statement) LineFault) → IsInRange statement → Reads (printed statement) answer → answer ≢ Err Memory → answer ≡ Ok (Some statement)
 
 -- two statements in range with one printed form are one
-one_statement : ReadsBack → ReadsOnly → (a b : StatementValue) → IsInRange a → IsInRange b → printed a ≡ printed b → a ≡ b
+one_statement : ReadsBack → ReadsOnly → (a b : Statement) → IsInRange a → IsInRange b → printed a ≡ printed b → a ≡ b
 unfolding statement_in
 one_statement reads only a b range_a range_b same =
     ap (statement_in a) (only b (Ok (Some a)) range_b (subst (λ (l : List ℕ). Reads l (Ok (Some a))) same (reads a range_a)) (λ wrong. cc wrong))

@@ -10,7 +10,7 @@ use Rattle.sand_base.specs.declared.kind.Kind.TheVariants as kind
 use Rattle.script_text.specs.declared.token.Symbol.TheVariants as symbol
 use Rattle.script_text.specs.InRange.{IsInRange, IsFieldInRange}
 use Rattle.script_text.specs.Printing.{gap, hugs_after, hugs_before, kind_word, field_words, more_words, list_words, comma, printed_after, printed_words, words, printed}
-use Rattle.script_text.specs.Statement.{StatementValue, Create, Insert, Delete, Load, Index, OpenCursor, Next, CloseCursor, Show, Stats, Blocks}
+use Rattle.statements.specs.Statement.{Statement, Create, Insert, Delete, Load, Index, OpenCursor, Next, CloseCursor, Show, Stats, Blocks}
 use Rattle.script_text.specs.Token.{Piece, mark, spelling}
 use Rattle.sand_journal.specs.ChangeBody.{IsKept}
 
@@ -64,7 +64,7 @@ columns_words (column ∷ columns) all =
     ((named.short, (kind_short column.1, rest.0)), omega (arith, rest.1))
 
 -- the printed form of a statement that is kept has fewer than 2,000 bytes
-kept_short : (statement : StatementValue) → IsKept statement → IsInRange statement → length (printed_words (words statement)) ≤ 2000
+kept_short : (statement : Statement) → IsKept statement → IsInRange statement → length (printed_words (words statement)) ≤ 2000
 kept_short (Create relation columns) kept range =
     let columns_are = columns_words columns range.2 in
     let close : List Piece = mark symbol.Close ∷ [] in
@@ -91,6 +91,6 @@ kept_short (Show count plan) kept range = absurd kept
 kept_short (Stats cursor) kept range = absurd kept
 kept_short (Blocks column) kept range = absurd kept
 
-pub printed_short : (statement : StatementValue) → IsKept statement → IsInRange statement → length (printed statement) ≤ 2000
+pub printed_short : (statement : Statement) → IsKept statement → IsInRange statement → length (printed statement) ≤ 2000
 unfolding printed
 printed_short statement kept range = kept_short statement kept range

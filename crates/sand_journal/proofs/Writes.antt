@@ -5,9 +5,9 @@ use Rattle.std.proofs.lemmas.List.{length-map}
 use Rattle.std.specs.declared.alloc.Global.{Global}
 use Rattle.std.specs.Int.{w16, w32, to_be_bytes}
 use Rattle.std.specs.List.{AllByRecursion, flat_map}
-use Rattle.script_text.specs.declared.statement.Statement.{Statement}
+use Rattle.statements.specs.declared.statement.Statement.{Statement}
 use Rattle.script_text.specs.Printing.{printed}
-use Rattle.script_text.specs.Statement.{statement_value}
+use Rattle.statements.specs.Statement.{statement_value}
 use Rattle.sand_journal.specs.ChangeBody.{Line, Rows, IsEncodingShort, body_of, framed_row, line_value}
 use Rattle.sand_journal.specs.RowsBody.{bytes_of_each}
 use Rattle.sand_journal.proofs.Bodies.{line_body_is, rows_body_is, counted_is}

@@ -5,19 +5,19 @@ use Rattle.std.specs.List.{AllByRecursion, flat_map}
 use Rattle.script_text.specs.InRange.{IsInRange}
 use Rattle.script_text.specs.Name.{IsName}
 use Rattle.script_text.specs.Printing.{printed}
-use Rattle.script_text.specs.Statement.{StatementValue, Create, Insert, Delete, Load, Index, OpenCursor, Next, CloseCursor, Show, Stats, Blocks, statement_value}
-use Rattle.script_text.specs.declared.statement.Statement.{Statement}
+use Rattle.statements.specs.Statement.{Statement, Create, Insert, Delete, Load, Index, OpenCursor, Next, CloseCursor, Show, Stats, Blocks, statement_value}
+use Rattle.statements.specs.declared.statement.Statement as spoken
 use Rattle.sand_journal.specs.declared.TheConstants.{LONGEST_ENCODING}
 use Rattle.sand_journal.specs.declared.change.Change as declared
 use Rattle.sand_journal.specs.declared.change.Change.TheVariants as change
 
 -- a change of the store: a statement, or rows of a relation by their encodings
 pub data ChangeValue : Type 0 where
-  Line : StatementValue → ChangeValue
+  Line : Statement → ChangeValue
   Rows : List ℕ → List (List ℕ) → ChangeValue
 
 -- the statement is one that a journal keeps as a line
-abbrev pub IsKept : StatementValue → Type 0
+abbrev pub IsKept : Statement → Type 0
 IsKept (Create relation columns) = ⊤
 IsKept (Delete relation id) = ⊤
 IsKept (Index column threshold) = ⊤
@@ -53,7 +53,7 @@ IsChange (Line statement) = IsKept statement × IsInRange statement
 IsChange (Rows relation rows) = IsName relation × AllByRecursion IsEncodingShort rows × (length (body_of (Rows relation rows)) < 2 ^ 32)
 
 -- a statement as a tree, kept closed in goals
-unfoldable pub line_value : Statement → StatementValue
+unfoldable pub line_value : spoken.Statement → Statement
 line_value statement = statement_value statement
 
 -- a change of the code, with its statement as a tree

@@ -14,8 +14,9 @@ use Rattle.sand_model.specs.Answer.{answer}
 use Rattle.sand_model.specs.Database.{Relation, Quadtree, new_relation, with_row, with_index, without_row}
 use Rattle.sand_model.specs.Measure.{Measure}
 use Rattle.sand_model.specs.Operators.{PlanRow}
-use Rattle.sand_model.specs.Plan as plan
-use Rattle.sand_model.specs.Plan.{Plan}
+use Rattle.statements.specs.declared.test.Op.TheVariants as op
+use Rattle.statements.specs.Plan as plan
+use Rattle.statements.specs.Plan.{Plan}
 use Rattle.sand_model.specs.Reach.{counts}
 use Rattle.sand_model.specs.Tree.{Leaf, Inner}
 
@@ -60,7 +61,7 @@ places =
 abbrev browse : Plan
 browse =
     plan.Filter (plan.Rank (record { relation = codes "p"; column = codes "at" }) (shape.Point (record { x = 0; y = 0 })) None)
-    (record { place = record { k = 1; column = codes "pop" }; op = plan.Equal; value = value.Int (pos 9) } ∷ [])
+    (record { place = record { k = 1; column = codes "pop" }; op = op.Equal; value = value.Int (pos 9) } ∷ [])
 
 -- after its one row the browse has visited three blocks
 three_blocks : counts measure (places ∷ []) browse 1 false ≡ record { blocks = 3; pairs = 0; geometries = 0 }

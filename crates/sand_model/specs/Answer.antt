@@ -8,9 +8,10 @@ use Rattle.sand_base.specs.declared.value.Value.TheVariants as value
 use Rattle.sand_model.specs.Database.{Database, Relation, relation_named}
 use Rattle.sand_model.specs.Measure.{Measure}
 use Rattle.sand_model.specs.Operators.{PlanRow, over}
-use Rattle.sand_model.specs.Plan as plan
-use Rattle.sand_model.specs.Plan.{Plan, Column}
-use Rattle.sand_model.specs.Sources.{Found, sorted, ranked, joined, first_of_each, same_value, column_shapes, column_values}
+use Rattle.statements.specs.Plan as plan
+use Rattle.statements.specs.Plan.{Plan}
+use Rattle.statements.specs.declared.column.Column.{Column}
+use Rattle.sand_model.specs.Sources.{Found, sorted, ranked, joined, first_of_each, nearest_of, same_value, column_shapes, column_values}
 
 -- a row of one id without gap
 abbrev pub plain_row : ℕ → PlanRow
@@ -58,6 +59,8 @@ source gap database (plan.Join left right within) =
     map pair_row (joined gap within (column_shapes database left) (column_shapes database right))
 source gap database (plan.Semi left right within) =
     map pair_row (first_of_each (joined gap within (column_shapes database left) (column_shapes database right)))
+source gap database (plan.Knn k left right within) =
+    map pair_row (nearest_of k (joined gap within (column_shapes database left) (column_shapes database right)))
 source gap database (plan.Filter p tests) = source gap database p
 source gap database (plan.Match p place column) = source gap database p
 source gap database (plan.Fetch p places) = source gap database p

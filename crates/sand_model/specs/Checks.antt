@@ -7,8 +7,13 @@ use Rattle.sand_base.specs.declared.refusal.Refusal.TheVariants as why
 use Rattle.sand_base.specs.Shape.{value_kind, same_kind, is_spatial}
 use Rattle.sand_model.specs.Database.{Database, Relation, relation_named, column_named, index_at, element}
 use Rattle.sand_model.specs.Operators.{relations_of, kth}
-use Rattle.sand_model.specs.Plan as plan
-use Rattle.sand_model.specs.Plan.{Plan, Column, Place, Op, Test, depth}
+use Rattle.statements.specs.declared.test.Op.TheVariants as op
+use Rattle.statements.specs.Plan as plan
+use Rattle.statements.specs.Plan.{Plan, depth}
+use Rattle.statements.specs.declared.column.Column.{Column}
+use Rattle.statements.specs.declared.column.Place.{Place}
+use Rattle.statements.specs.declared.test.Op.{Op}
+use Rattle.statements.specs.declared.test.Test.{Test}
 
 -- the most operators that a plan may have
 abbrev pub most_operators : ℕ
@@ -86,8 +91,8 @@ is_plain_pair _ _ = false
 -- whether a column of a kind can be compared so with a value of a kind
 abbrev pub can_compare : Op → Kind → Kind → Bool
 can_compare op kind.Int kind.Int = true
-can_compare plan.Equal kind.Text kind.Text = true
-can_compare plan.NotEqual kind.Text kind.Text = true
+can_compare op.Equal kind.Text kind.Text = true
+can_compare op.NotEqual kind.Text kind.Text = true
 can_compare op _ _ = false
 
 -- the relation of a scan is there
@@ -120,6 +125,8 @@ check_operators database (plan.PickBetween column low high) = check_column datab
 check_operators database (plan.Join left right within) =
     first_refusal (check_column database left is_spatial ∷ check_column database right is_spatial ∷ [])
 check_operators database (plan.Semi left right within) =
+    first_refusal (check_column database left is_spatial ∷ check_column database right is_spatial ∷ [])
+check_operators database (plan.Knn k left right within) =
     first_refusal (check_column database left is_spatial ∷ check_column database right is_spatial ∷ [])
 check_operators database (plan.Filter p tests) =
     first_refusal (check_operators database p ∷ check_tests database (relations_of p) tests ∷ [])

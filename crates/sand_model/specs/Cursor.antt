@@ -6,7 +6,7 @@ use Rattle.sand_model.specs.Answer.{answer}
 use Rattle.sand_model.specs.Database.{Database, element}
 use Rattle.sand_model.specs.Measure.{Measure}
 use Rattle.sand_model.specs.Operators.{PlanRow}
-use Rattle.sand_model.specs.Plan.{Plan}
+use Rattle.statements.specs.Plan.{Plan}
 use Rattle.sand_model.specs.Reach.{Counts, counts, no_counts}
 
 -- a line that a statement prints

@@ -11,8 +11,13 @@ use Rattle.sand_base.specs.declared.value.Value.{Value}
 use Rattle.sand_base.specs.declared.value.Value.TheVariants as value
 use Rattle.sand_model.specs.Database.{Database, Relation, relation_named, column_named, row_at, element}
 use Rattle.sand_model.specs.Measure.{Measure}
-use Rattle.sand_model.specs.Plan as plan
-use Rattle.sand_model.specs.Plan.{Plan, Column, Place, Op, Test}
+use Rattle.statements.specs.declared.test.Op.TheVariants as op
+use Rattle.statements.specs.Plan as plan
+use Rattle.statements.specs.Plan.{Plan}
+use Rattle.statements.specs.declared.column.Column.{Column}
+use Rattle.statements.specs.declared.column.Place.{Place}
+use Rattle.statements.specs.declared.test.Op.{Op}
+use Rattle.statements.specs.declared.test.Test.{Test}
 use Rattle.sand_model.specs.Sources.{sorted, same_value, column_values}
 
 -- a row of a plan: its gap where it has one, an id for each relation in it, and the values that were fetched
@@ -30,6 +35,7 @@ relations_of (plan.PickEqual column v) = column.relation ∷ []
 relations_of (plan.PickBetween column low high) = column.relation ∷ []
 relations_of (plan.Join left right within) = left.relation ∷ right.relation ∷ []
 relations_of (plan.Semi left right within) = left.relation ∷ right.relation ∷ []
+relations_of (plan.Knn k left right within) = left.relation ∷ right.relation ∷ []
 relations_of (plan.Filter p tests) = relations_of p
 relations_of (plan.Match p place column) = relations_of p ++ column.relation ∷ []
 relations_of (plan.Fetch p places) = relations_of p
@@ -59,22 +65,22 @@ value_at database names row place = of_name (kth names place.k) (kth row.ids pla
 
 -- whether an order of two whole numbers is the one that is asked
 abbrev pub is_order : Op → Ordering → Bool
-is_order plan.Equal ordering.Equal = true
-is_order plan.NotEqual ordering.Less = true
-is_order plan.NotEqual ordering.Greater = true
-is_order plan.Less ordering.Less = true
-is_order plan.AtMost ordering.Less = true
-is_order plan.AtMost ordering.Equal = true
-is_order plan.Greater ordering.Greater = true
-is_order plan.AtLeast ordering.Greater = true
-is_order plan.AtLeast ordering.Equal = true
+is_order op.Equal ordering.Equal = true
+is_order op.NotEqual ordering.Less = true
+is_order op.NotEqual ordering.Greater = true
+is_order op.Less ordering.Less = true
+is_order op.AtMost ordering.Less = true
+is_order op.AtMost ordering.Equal = true
+is_order op.Greater ordering.Greater = true
+is_order op.AtLeast ordering.Greater = true
+is_order op.AtLeast ordering.Equal = true
 is_order _ _ = false
 
 -- whether a value passes a comparison: whole numbers by their order, texts alone by being equal or not
 abbrev pub passes : Op → Value → Value → Bool
 passes op (value.Int a) (value.Int b) = is_order op (int_cmp a b)
-passes plan.Equal (value.Text a) (value.Text b) = same_value (value.Text a) (value.Text b)
-passes plan.NotEqual (value.Text a) (value.Text b) = not (same_value (value.Text a) (value.Text b))
+passes op.Equal (value.Text a) (value.Text b) = same_value (value.Text a) (value.Text b)
+passes op.NotEqual (value.Text a) (value.Text b) = not (same_value (value.Text a) (value.Text b))
 passes op _ _ = false
 
 -- whether a row passes a test

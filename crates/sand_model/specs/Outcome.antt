@@ -5,7 +5,7 @@ use Rattle.sand_base.specs.declared.refusal.Refusal.TheVariants as why
 use Rattle.sand_model.specs.Checks.{first_refusal}
 use Rattle.sand_model.specs.Cursor.{State, Cursor, OutputLine, Accepted, Id, Loaded, Stats as StatsOf, LeafOf, Refused, new_cursor, Steps}
 use Rattle.sand_model.specs.Database.{Database, Relation, Index, Quadtree, relation_named, same_name, changed_at, with_relation, new_relation, with_row, without_row, column_named, index_at}
-use Rattle.sand_model.specs.Statement.{Statement, Create, Insert, Delete, Load, Index as IndexOn, OpenCursor, Next, CloseCursor, Show, Stats, Blocks}
+use Rattle.statements.specs.Statement.{Statement, Create, Insert, Delete, Load, Index as IndexOn, OpenCursor, Next, CloseCursor, Show, Stats, Blocks}
 use Rattle.sand_model.specs.StatementChecks.{Setting, early, late, check_load, cursor_named, entered, file_rows, indexed_by}
 use Rattle.sand_model.specs.Tree.{Tree, root_block, leaves}
 

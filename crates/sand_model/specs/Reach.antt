@@ -1,5 +1,5 @@
 -- How far a search has reached, and how many nodes and rough objects lie within its reach.
-use Rattle.std.specs.Prelude.{ℕ, Bool, false, cond, ◌&&◌, not, nat_eq, List, [], ◌∷◌, filter, length, take, Option, Some, None}
+use Rattle.std.specs.Prelude.{ℕ, ◌*◌, min, Bool, false, cond, ◌&&◌, not, nat_eq, List, [], ◌∷◌, filter, length, take, Option, Some, None}
 use Rattle.std.specs.Ordering.{is_gt, is_eq}
 use Rattle.exact_frac.specs.Frac.{value_cmp}
 use Rattle.exact_frac.specs.declared.frac.Frac.{Frac}
@@ -10,8 +10,9 @@ use Rattle.sand_model.specs.Database.{Database, Relation, Index, Quadtree, relat
 use Rattle.sand_model.specs.Measure.{Measure}
 use Rattle.sand_model.specs.Nodes.{LeafItem, rank_items, rank_gaps, pair_nodes, pair_gap, join_items}
 use Rattle.sand_model.specs.Operators.{PlanRow}
-use Rattle.sand_model.specs.Plan as plan
-use Rattle.sand_model.specs.Plan.{Plan, Column}
+use Rattle.statements.specs.Plan as plan
+use Rattle.statements.specs.Plan.{Plan}
+use Rattle.statements.specs.declared.column.Column.{Column}
 use Rattle.sand_model.specs.Sources.{is_within, column_shapes}
 use Rattle.sand_model.specs.Taken.{Taken, has_taken}
 use Rattle.sand_model.specs.Tree.{Tree, root_block, empty_tree}
@@ -54,6 +55,7 @@ ceiling_of (plan.Rank column goal within) = within
 ceiling_of (plan.Window column window) = Some 0
 ceiling_of (plan.Join left right within) = within
 ceiling_of (plan.Semi left right within) = within
+ceiling_of (plan.Knn k left right within) = within
 ceiling_of _ = None
 
 -- the reach of the last of some rows, and nothing where there is none or it has no gap
@@ -65,10 +67,12 @@ reach_of_last (row ∷ []) = of_gap row.gap where
   of_gap None = Nothing
 reach_of_last (row ∷ next ∷ rows) = reach_of_last (next ∷ rows)
 
--- the source is a semi-join with a row for each row of its left relation
+-- the source is a semi-join with a row for each row of its left relation, or a join of k partners with all that each of these can have
 abbrev pub is_saturated : Database → Plan → List PlanRow → Bool
 is_saturated database (plan.Semi left right within) rows =
     nat_eq (length rows) (length (column_shapes database left))
+is_saturated database (plan.Knn k left right within) rows =
+    nat_eq (length rows) (length (column_shapes database left) * min k (length (column_shapes database right)))
 is_saturated database _ rows = false
 
 -- the reach of a source of which so much was taken
@@ -131,6 +135,7 @@ counts_at gap database (plan.Rank column goal within) to = rank_counts gap datab
 counts_at gap database (plan.Window column window) to = rank_counts gap database column (figure.Rect window) to
 counts_at gap database (plan.Join left right within) to = join_counts gap database left right to
 counts_at gap database (plan.Semi left right within) to = join_counts gap database left right to
+counts_at gap database (plan.Knn k left right within) to = join_counts gap database left right to
 counts_at gap database _ to = no_counts
 
 -- the counts of a cursor over a plan that has given so many rows, and whether it has come to its end

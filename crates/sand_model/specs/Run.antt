@@ -5,7 +5,7 @@ use Rattle.sand_base.specs.declared.refusal.Refusal.TheVariants as why
 use Rattle.sand_model.specs.Cursor.{State, OutputLine}
 use Rattle.sand_model.specs.Outcome.{Rises, Outcome, IsRefusedBy}
 use Rattle.sand_model.specs.OutputText.{IsText, is_refused}
-use Rattle.sand_model.specs.Statement.{ScriptLine, Blank, TooLong, BadToken, OutOfRange, Says}
+use Rattle.sand_model.specs.ScriptLine.{ScriptLine, Blank, TooLong, BadToken, OutOfRange, Says}
 use Rattle.sand_model.specs.StatementChecks.{Setting}
 
 -- what a line does: one that is passed over prints nothing, one that can't be read is refused

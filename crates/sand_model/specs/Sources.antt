@@ -1,5 +1,5 @@
 -- The rows of the sources of plans, told from scratch over lists. No tree, page or queue occurs here.
-use Rattle.std.specs.Prelude.{ℕ, ◌*◌, Bool, true, false, cond, not, ◌&&◌, nat_eq, nat_le, List, [], ◌∷◌, map, filter, filter_map, flat_map, Option, Some, None}
+use Rattle.std.specs.Prelude.{ℕ, suc, ◌*◌, Bool, true, false, cond, not, ◌&&◌, nat_eq, nat_le, nat_lt, List, [], ◌∷◌, map, filter, filter_map, flat_map, Option, Some, None}
 use Rattle.std.specs.Cmp.Lexicographic.{pointwise}
 use Rattle.std.specs.Ordering.{nat_cmp, int_cmp, ordering_then, is_lt}
 use Rattle.std.specs.declared.cmp.Ordering.{Ordering}
@@ -12,7 +12,7 @@ use Rattle.sand_base.specs.declared.value.Value.{Value}
 use Rattle.sand_base.specs.declared.value.Value.TheVariants as value
 use Rattle.sand_model.specs.Database.{Database, Relation, relation_named, column_named, shapes_of, element}
 use Rattle.sand_model.specs.Measure.{Measure}
-use Rattle.sand_model.specs.Plan.{Column}
+use Rattle.statements.specs.declared.column.Column.{Column}
 
 -- a row or a pair of rows with its gap; the right id of a single row is 0
 pub record Found : Type 0 where
@@ -61,6 +61,20 @@ joined gap ceiling lefts rights =
 abbrev pub first_of_each : List Found → List Found
 first_of_each [] = []
 first_of_each (found ∷ more) = found ∷ filter (λ other. not (nat_eq other.left found.left)) (first_of_each more)
+
+-- how many of each id came, one of this id more
+abbrev pub with_one_more : (ℕ → ℕ) → ℕ → ℕ → ℕ
+with_one_more came id other = cond (nat_eq other id) (suc (came other)) (came other)
+
+-- of a list, each element before which fewer than k have its left id, where this many of each left id came before the list
+abbrev pub nearest_after : ℕ → (ℕ → ℕ) → List Found → List Found
+nearest_after k came [] = []
+nearest_after k came (found ∷ more) =
+    cond (nat_lt (came found.left) k) (found ∷ nearest_after k (with_one_more came found.left) more) (nearest_after k (with_one_more came found.left) more)
+
+-- the first k of each left id
+abbrev pub nearest_of : ℕ → List Found → List Found
+nearest_of k list = nearest_after k (λ id. 0) list
 
 -- the shapes of a column with the ids of their rows; none where there is no such column
 abbrev pub column_shapes : Database → Column → List (ℕ × Shape)

@@ -13,9 +13,10 @@ use Rattle.sand_model.specs.Cursor.{State, Cursor}
 use Rattle.sand_model.specs.Database.{Database, Relation, Index, Quadtree, Attribute, relation_named, same_name, column_named, row_at, with_row, with_index}
 use Rattle.sand_model.specs.Kept.{has_twice, most_relations, longest_row}
 use Rattle.sand_model.specs.Measure.{Measure, IsMeasure}
-use Rattle.sand_model.specs.Plan.{Plan, Column, depth}
+use Rattle.statements.specs.Plan.{Plan, depth}
+use Rattle.statements.specs.declared.column.Column.{Column}
 use Rattle.sand_model.specs.RowSize.{row_size}
-use Rattle.sand_model.specs.Statement.{Statement, Create, Insert, Delete, Load, Index as IndexOn, OpenCursor, Next, CloseCursor, Show, Stats, Blocks}
+use Rattle.statements.specs.Statement.{Statement, Create, Insert, Delete, Load, Index as IndexOn, OpenCursor, Next, CloseCursor, Show, Stats, Blocks}
 use Rattle.sand_model.specs.Tree.{listings}
 
 -- the records of a data file: its rows, or the first that is no row, with its leftmost bad column, both counted from 1

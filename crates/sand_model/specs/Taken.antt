@@ -4,8 +4,8 @@ use Rattle.sand_model.specs.Answer.{source}
 use Rattle.sand_model.specs.Database.{Database}
 use Rattle.sand_model.specs.Measure.{Measure}
 use Rattle.sand_model.specs.Operators.{PlanRow, over}
-use Rattle.sand_model.specs.Plan as plan
-use Rattle.sand_model.specs.Plan.{Plan}
+use Rattle.statements.specs.Plan as plan
+use Rattle.statements.specs.Plan.{Plan}
 
 -- how many rows of the source were taken, and whether its end was
 pub record Taken : Type 0 where

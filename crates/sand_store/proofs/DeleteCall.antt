@@ -14,7 +14,7 @@ use Rattle.sand_base.specs.declared.refusal.Refusal.TheVariants as why
 use Rattle.sand_base.specs.declared.value.Value.{Value}
 use Rattle.sand_model.specs.Database.{without_row}
 use Rattle.sand_model.specs.Kept.{has_number_twice}
-use Rattle.sand_model.specs.Statement.{Delete}
+use Rattle.statements.specs.Statement.{Delete}
 use Rattle.sand_model.specs.StatementChecks.{Setting, early, late, refused_where, is_there}
 use Rattle.tuple_file.specs.declared.file.TupleFile.{TupleFile}
 use Rattle.tuple_file.specs.Calls.{IsRowAt}

@@ -20,8 +20,8 @@ use Rattle.sand_model.specs.Checks.{is_indexed}
 use Rattle.sand_model.specs.Database.{Relation, Index, element, column_named, index_at, new_index, with_index}
 use Rattle.sand_model.specs.Kept.{has_number_twice}
 use Rattle.sand_model.specs.Measure.{Measure, IsMeasure}
-use Rattle.sand_model.specs.Plan.{Column}
-use Rattle.sand_model.specs.Statement.{Index as IndexOn}
+use Rattle.statements.specs.declared.column.Column.{Column}
+use Rattle.statements.specs.Statement.{Index as IndexOn}
 use Rattle.sand_model.specs.StatementChecks.{Setting, early, late, refused_where, is_there, is_overfull, check_listings, indexed_by, threshold_of}
 use Rattle.tuple_file.specs.File.{file_pages}
 use Rattle.sand_store.specs.declared.path.AccessPath.{AccessPath}

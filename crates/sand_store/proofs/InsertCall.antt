@@ -19,7 +19,7 @@ use Rattle.sand_model.specs.Database.{Relation, with_row}
 use Rattle.sand_model.specs.Kept.{has_number_twice, longest_row}
 use Rattle.sand_model.specs.Measure.{Measure, IsMeasure}
 use Rattle.sand_model.specs.RowSize.{row_size}
-use Rattle.sand_model.specs.Statement.{Insert}
+use Rattle.statements.specs.Statement.{Insert}
 use Rattle.sand_model.specs.StatementChecks.{Setting, early, late, refused_where, is_row_of, is_overfull, check_listings}
 use Rattle.sand_model.specs.Tree.{listings}
 use Rattle.pmr_tree.specs.Quadtree.{tree_at}

@@ -9,7 +9,7 @@ use Rattle.sand_base.specs.declared.kind.Kind.{Kind}
 use Rattle.sand_base.specs.declared.value.Value.{Value}
 use Rattle.sand_model.specs.Database.{Relation, relation_named, same_name}
 use Rattle.sand_model.specs.Kept.{has_same, has_twice}
-use Rattle.sand_model.specs.Statement.{Create, Insert}
+use Rattle.statements.specs.Statement.{Create, Insert}
 use Rattle.sand_model.specs.StatementChecks.{Setting, early, is_there}
 use Rattle.sand_store.specs.Calls.{alone}
 use Rattle.sand_store.specs.Catalog.{RelationView, is_named}

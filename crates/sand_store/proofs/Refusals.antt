@@ -12,7 +12,7 @@ use Rattle.sand_base.specs.declared.refusal.Refusal.{Refusal}
 use Rattle.sand_base.specs.declared.refusal.Refusal.TheVariants as why
 use Rattle.sand_model.specs.Checks.{first_refusal}
 use Rattle.sand_model.specs.Kept.{has_twice, most_relations}
-use Rattle.sand_model.specs.Statement.{Create}
+use Rattle.statements.specs.Statement.{Create}
 use Rattle.sand_model.specs.StatementChecks.{refused_where, is_there}
 use Rattle.sand_store.specs.Calls.{Refuses, IsRefusedBy, is_none, early_at, late_at}
 use Rattle.sand_store.specs.Catalog.{RelationView, StoreState, is_named}

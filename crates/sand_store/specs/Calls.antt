@@ -15,8 +15,8 @@ use Rattle.sand_model.specs.Checks.{first_refusal}
 use Rattle.sand_model.specs.Cursor.{State}
 use Rattle.sand_model.specs.Database.{Database, Relation, relation_named, changed_at, with_relation, new_relation, with_row, without_row}
 use Rattle.sand_model.specs.Measure.{Measure, IsMeasure}
-use Rattle.sand_model.specs.Plan.{Column}
-use Rattle.sand_model.specs.Statement.{Statement, Create, Insert, Delete, Index}
+use Rattle.statements.specs.declared.column.Column.{Column}
+use Rattle.statements.specs.Statement.{Statement, Create, Insert, Delete, Index}
 use Rattle.sand_model.specs.StatementChecks.{Setting, IsSetting, early, late, refused_where, in_relation, is_row_of, check_length, check_ids, check_listings, indexed_by}
 use Rattle.sand_store.specs.Catalog.{StoreState}
 use Rattle.sand_store.specs.Contents.{database}

@@ -6,7 +6,7 @@ ghost use Rattle.sand_base.specs.InRange.{IsSchemaInRange};
 ghost use Rattle.std.specs.List.{list_any};
 ghost use Rattle.sand_model.specs.Database.{same_name};
 ghost use Rattle.sand_model.specs.Kept.{has_twice};
-ghost use Rattle.sand_model.specs.Statement.{Create};
+ghost use Rattle.statements.specs.Statement.{Create};
 ghost use Rattle.sand_store.specs.Calls.{Created, IsUnchanged, IsRefusedBy, HasCause, is_none};
 ghost use Rattle.sand_store.specs.Standing.{IsStore};
 ghost use Rattle.sand_store.specs.Steps.{store_from, create_check, Adds, Reverts, IsOutside};

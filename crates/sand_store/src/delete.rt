@@ -7,7 +7,7 @@ ghost use Rattle.page_pool.specs.Steps.{InCommand};
 ghost use Rattle.tuple_file.specs.Rows.{of_id};
 ghost use Rattle.sand_base.specs.declared.limits.Limits.{Limits as Bounds};
 ghost use Rattle.sand_base.specs.declared.refusal.Refusal.TheVariants as why;
-ghost use Rattle.sand_model.specs.Statement.{Delete};
+ghost use Rattle.statements.specs.Statement.{Delete};
 ghost use Rattle.sand_store.specs.Calls.{HasCause, Deleted, IsUnchanged, IsRefusedBy, is_missing};
 ghost use Rattle.sand_store.specs.Catalog.{IsPathOf};
 ghost use Rattle.sand_store.specs.Contents.{rows_in};

@@ -11,7 +11,7 @@ ghost use Rattle.sand_base.specs.declared.refusal.Refusal.TheVariants as why;
 ghost use Rattle.sand_base.specs.Shape.{is_spatial};
 ghost use Rattle.sand_model.specs.Database.{with_index, new_index};
 ghost use Rattle.sand_model.specs.Measure.{Measure, IsMeasure};
-ghost use Rattle.sand_model.specs.Statement.{Index};
+ghost use Rattle.statements.specs.Statement.{Index};
 ghost use Rattle.sand_model.specs.StatementChecks.{is_overfull, is_there, check_listings};
 ghost use Rattle.tuple_file.specs.File.{file_pages};
 ghost use Rattle.sand_store.specs.declared.path.AccessPath.TheVariants as path;

@@ -15,7 +15,7 @@ ghost use Rattle.sand_model.specs.Measure.{Measure, IsMeasure};
 ghost use Rattle.sand_model.specs.StatementChecks.{check_listings};
 ghost use Rattle.sand_store.specs.Contents.{relation_in};
 ghost use Rattle.sand_base.specs.InRange.{IsRowInRange};
-ghost use Rattle.sand_model.specs.Statement.{Insert};
+ghost use Rattle.statements.specs.Statement.{Insert};
 ghost use Rattle.sand_store.specs.Calls.{HasCause, Inserted, IsUnchanged, IsRefusedBy, is_full};
 ghost use Rattle.sand_store.specs.Catalog.{IsDescribed};
 ghost use Rattle.sand_store.specs.Ownership.{relation_pages};

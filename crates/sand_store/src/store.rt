@@ -8,7 +8,7 @@ ghost use Rattle.page_pool.specs.Causes.{IsNoDamage, faults_at};
 ghost use Rattle.page_pool.specs.Desk.{DeskState};
 ghost use Rattle.sand_model.specs.Kept.{IsDatabase};
 ghost use Rattle.sand_model.specs.Measure.{Measure, IsMeasure};
-ghost use Rattle.sand_model.specs.Statement.{Create, Insert, Delete, Index};
+ghost use Rattle.statements.specs.Statement.{Create, Insert, Delete, Index};
 ghost use Rattle.sand_store.specs.Catalog.{IsLimits, new_catalog};
 ghost use Rattle.sand_store.specs.Contents.{database};
 ghost use Rattle.sand_store.specs.Standing.{IsStore};

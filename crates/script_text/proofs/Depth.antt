@@ -5,7 +5,7 @@ use Rattle.std.proofs.lemmas.Bool.{and_parts, false≢true}
 use Rattle.script_text.specs.Form.{Class, head_fits, Rule, a_plan, more_columns, more_values, more_spots, more_tests, more_places, RuleValue, Form, nothing, take, alt, seq, checked, rule, Spells}
 use Rattle.script_text.specs.Grammar.{spelled_at, spelled, read_at, read_rule, reading}
 use Rattle.script_text.specs.Lexical.{Placed}
-use Rattle.script_text.specs.Plan as plan
+use Rattle.statements.specs.Plan as plan
 use Rattle.script_text.specs.Reading.{State, Read, pure, bind, go_on, take_in, note, read}
 use Rattle.script_text.specs.Rules.{body}
 use Rattle.script_text.specs.Token.{name}
@@ -41,7 +41,7 @@ begins-told more_places ts h = h
 
 -- and go on as told
 goes-told : (r : Rule) (more : List Placed) → Stops (goes_of r) more → Stops (goes (body r)) more
-goes-told a_plan more h = (h.0, (h.1.0, (h.0, (h.0, (h.1.1.0, (h.1.1.1.0, (h.1.0, tt)))))))
+goes-told a_plan more h = (h.0, (h.1.0, (h.0, (h.0, (h.0, (h.1.1.0, (h.1.1.1.0, (h.1.0, tt))))))))
 goes-told more_columns more h = (h.0, (h.0, tt))
 goes-told more_values more h = (h.0, (h.1.0, (h.1.0, (h.0, tt))))
 goes-told more_spots more h = (h.0, (h.0, tt))

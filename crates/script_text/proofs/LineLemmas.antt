@@ -12,7 +12,7 @@ use Rattle.script_text.specs.Lexing.{first_cut, pieces, unread, fault_room}
 use Rattle.script_text.specs.Line.{is_passed_over, IsReadAs, HasBadByte, HasBadToken, IsOutOfRange, Reads}
 use Rattle.script_text.specs.Reading.{State, start}
 use Rattle.script_text.specs.Rules.{statement_form}
-use Rattle.script_text.specs.Statement.{StatementValue}
+use Rattle.statements.specs.Statement.{Statement}
 use Rattle.script_text.specs.Token.{Piece, IsToken}
 use Rattle.script_text.proofs.CutLaws.{IsEnd, cut-are, pieces-cut, unread-end, skip-within}
 use Rattle.script_text.proofs.Predictive.{is_decided}
@@ -114,17 +114,17 @@ module _ (line : List ℕ) (first : State) (begins : first ≡ start line) (lexe
   is-lexed = subst (IsCut line (pieces line)) lexed (pieces-cut line)
 
   -- what was read is written
-  is-of : (x : StatementValue) (s : State) (flag : Bool) → whole statement_form first ≡ Ok (x, s) → s.in_range ≡ flag → IsOf statement_form x flag (pieces line)
+  is-of : (x : Statement) (s : State) (flag : Bool) → whole statement_form first ≡ Ok (x, s) → s.in_range ≡ flag → IsOf statement_form x flag (pieces line)
   is-of x s flag e h =
       subst (λ b. IsOf statement_form x b (pieces line)) h
       (whole-of statement_form statement-decided (pieces line) (x, s) (ap (whole statement_form) (sym begins) ∙ e)).1
 
   -- where all is in range the line is read as the statement
-  pub is-read : (x : StatementValue) (s : State) → whole statement_form first ≡ Ok (x, s) → s.in_range ≡ true → IsReadAs line x
+  pub is-read : (x : Statement) (s : State) → whole statement_form first ≡ Ok (x, s) → s.in_range ≡ true → IsReadAs line x
   is-read x s e h = record { tokens = pieces line; lexed = is-lexed; written = is-of x s true e h; in_range = statement-in_range x (pieces line) (cut-are line (pieces line) [] is-lexed) (is-of x s true e h) }
 
   -- where something isn't the line is out of range
-  pub is-out : (x : StatementValue) (s : State) → whole statement_form first ≡ Ok (x, s) → s.in_range ≡ false → IsOutOfRange line
+  pub is-out : (x : Statement) (s : State) → whole statement_form first ≡ Ok (x, s) → s.in_range ≡ false → IsOutOfRange line
   is-out x s e h = record { tokens = pieces line; lexed = is-lexed; statement = x; out = is-of x s false e h }
 
   -- where the reader is stuck it is within the line

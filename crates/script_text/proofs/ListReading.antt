@@ -6,8 +6,8 @@ use Rattle.std.proofs.lemmas.List.{append-nil}
 use Rattle.sand_base.specs.declared.kind.Kind.{Kind}
 use Rattle.sand_base.specs.declared.point.Point.{Point}
 use Rattle.sand_base.specs.declared.value.Value.{Value}
-use Rattle.script_text.specs.declared.column.Place.{Place}
-use Rattle.script_text.specs.declared.test.Test.{Test}
+use Rattle.statements.specs.declared.column.Place.{Place}
+use Rattle.statements.specs.declared.test.Test.{Test}
 use Rattle.script_text.specs.declared.token.Symbol.TheVariants.{Open, Comma}
 use Rattle.script_text.specs.Accepting.{IsTaken}
 use Rattle.script_text.specs.Form.{Class, a_word, a_mark, head_fits, rule, more_columns, more_values, more_spots, more_tests, more_places}

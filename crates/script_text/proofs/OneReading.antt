@@ -10,14 +10,14 @@ use Rattle.script_text.specs.Lexing.{unread, fault_room}
 use Rattle.script_text.specs.Line.{is_passed_over, IsReadAs, IsOutOfRange, Reads}
 use Rattle.script_text.specs.Reading.{State, start, at}
 use Rattle.script_text.specs.Rules.{statement_form}
-use Rattle.script_text.specs.Statement.{StatementValue}
+use Rattle.statements.specs.Statement.{Statement}
 use Rattle.script_text.proofs.CutLaws.{IsEnd, cut-are, cut-pieces, cut-unread}
 use Rattle.script_text.proofs.FormLaws.{are-append}
 use Rattle.script_text.proofs.LineLemmas.{token-counts, statement-decided}
 use Rattle.script_text.proofs.Whole.{of-whole, whole-of, whole-first_bad}
 
 -- nothing is read of no tokens
-none-read : (y : StatementValue × State) → whole statement_form (at [] true) ≡ Ok y → ⊥
+none-read : (y : Statement × State) → whole statement_form (at [] true) ≡ Ok y → ⊥
 unfolding whole
 none-read y e = absurd cc
 
@@ -74,7 +74,7 @@ grammar-no_bad tokens [] good are g split wrong = wrong (subst (IsOfForm stateme
 grammar-no_bad tokens (t ∷ bad) good are g split wrong = wrong (front-front good t bad (subst ArePieces split are) (subst (IsFront statement_form) split (grammar-front tokens g)))
 
 -- a statement has a token at least
-statement-some : (x : StatementValue) (flag : Bool) → ¬ IsOf statement_form x flag []
+statement-some : (x : Statement) (flag : Bool) → ¬ IsOf statement_form x flag []
 statement-some x flag h = none-read (x, at [] flag) (of-whole statement_form statement-decided x flag [] h)
 
 -- what a line of the grammar is, is no comment
@@ -83,17 +83,17 @@ lexed-counts line [] rest cut g = absurd (statement-some g.value g.flag g.is)
 lexed-counts line (t ∷ tokens) rest cut g = token-counts line t.piece cut.0 cut.1
 
 -- what a reading of the tokens answers
-abbrev outcome : List ℕ → Result (StatementValue × State) (List Placed) → Result (Option StatementValue) LineFault
+abbrev outcome : List ℕ → Result (Statement × State) (List Placed) → Result (Option Statement) LineFault
 outcome line (Ok y) = cond y.1.in_range (Ok (Some y.0)) (Err Range)
 outcome line (Err bad) = Err (Syntax (length line + 1 - room_at bad))
 
 -- what is answered where this is left of the line
-abbrev found : List ℕ → List ℕ → Result (Option StatementValue) LineFault
+abbrev found : List ℕ → List ℕ → Result (Option Statement) LineFault
 found line [] = outcome line (whole statement_form (start line))
 found line (b ∷ bytes) = Err (Syntax (length line + 1 - fault_room (b ∷ bytes)))
 
 -- what a line answers
-abbrev answer : List ℕ → Result (Option StatementValue) LineFault
+abbrev answer : List ℕ → Result (Option Statement) LineFault
 answer line = cond (is_passed_over line) (Ok None) (found line (unread line))
 
 -- a line that counts answers what was found
@@ -111,7 +111,7 @@ column-is : (line : List ℕ) (room column : ℕ) → IsColumn line room column 
 column-is line room column h = omega (arith, h)
 
 -- a line that is read as a statement answers it
-answer-read : (line : List ℕ) (x : StatementValue) → IsReadAs line x → Ok (Some x) ≡ answer line
+answer-read : (line : List ℕ) (x : Statement) → IsReadAs line x → Ok (Some x) ≡ answer line
 answer-read line x h =
     let read = of-whole statement_form statement-decided x true h.tokens h.written in
     let grammar : IsOfForm statement_form h.tokens = record { value = x; flag = true; is = h.written } in
@@ -129,14 +129,14 @@ fault-end [] h = tt
 fault-end (b ∷ rest) h = h
 
 -- what is read whole is of the grammar
-whole-form : (ts : List Placed) (y : StatementValue × State) → whole statement_form (at ts true) ≡ Ok y → IsOfForm statement_form ts
+whole-form : (ts : List Placed) (y : Statement × State) → whole statement_form (at ts true) ≡ Ok y → IsOfForm statement_form ts
 whole-form ts y e = record { value = y.0; flag = y.1.in_range; is = (whole-of statement_form statement-decided ts y e).1 }
 
 -- the tokens of a line with a bad one answer its column
 outcome-bad : (line : List ℕ) (tokens bad : List Placed) (column : ℕ) → ArePieces tokens → IsFirstBad statement_form tokens bad → IsColumn line (room_at bad) column
     → Err (Syntax column) ≡ outcome line (whole statement_form (at tokens true))
 outcome-bad line tokens bad column are first place =
-    let go : (r : Result (StatementValue × State) (List Placed)) → whole statement_form (at tokens true) ≡ r → Err (Syntax column) ≡ outcome line r =
+    let go : (r : Result (Statement × State) (List Placed)) → whole statement_form (at tokens true) ≡ r → Err (Syntax column) ≡ outcome line r =
     elim [
       | Ok y ↦ λ e. absurd (grammar-no_bad tokens bad first.good are (whole-form tokens y e) first.split first.wrong)
       | Err left ↦ λ e.
@@ -150,7 +150,7 @@ outcome-out : (line : List ℕ) (out : IsOutOfRange line) → Err Range ≡ outc
 outcome-out line out = sym (ap (outcome line) (of-whole statement_form statement-decided out.statement false out.tokens out.out))
 
 -- whatever a line answers, but want of memory, is its answer
-answer-is : (line : List ℕ) (a : Result (Option StatementValue) LineFault) → Reads line a → a ≢ Err Memory → a ≡ answer line
+answer-is : (line : List ℕ) (a : Result (Option Statement) LineFault) → Reads line a → a ≢ Err Memory → a ≡ answer line
 answer-is line (Ok None) h k = sym (cond-true (is_passed_over line) (Ok None) (found line (unread line)) h)
 answer-is line (Ok (Some x)) h k = answer-read line x h
 answer-is line (Err Memory) h k = absurd (k refl)
@@ -163,5 +163,5 @@ answer-is line (Err (Syntax column)) h k =
     ]
 
 -- a line has one reading
-pub one-reading : (line : List ℕ) (a b : Result (Option StatementValue) LineFault) → Reads line a → Reads line b → a ≢ Err Memory → b ≢ Err Memory → a ≡ b
+pub one-reading : (line : List ℕ) (a b : Result (Option Statement) LineFault) → Reads line a → Reads line b → a ≢ Err Memory → b ≢ Err Memory → a ≡ b
 one-reading line a b ra rb ka kb = answer-is line a ra ka ∙ sym (answer-is line b rb kb)

@@ -5,7 +5,7 @@ use Rattle.std.proofs.lemmas.List.{take_rest, append-nil}
 use Rattle.std.specs.Prelude.{codes}
 use Rattle.script_text.specs.Page.{Page, empty, put, put_all}
 use Rattle.script_text.specs.Printing.{each, more_words, list_words, hugs_after, hugs_before, gap, printed_after, printed_words, words, printed}
-use Rattle.script_text.specs.Statement.{StatementValue}
+use Rattle.statements.specs.Statement.{Statement}
 use Rattle.script_text.specs.Token.{Piece, spelling}
 
 -- some tokens and then others
@@ -82,6 +82,6 @@ unfolding put_all
 words-printed [] = refl
 words-printed (w ∷ ws) = put-printed (put empty w) w ws refl
 
-pub print_all : (page : Page) (statement : StatementValue) → page ≡ put_all empty (words statement) → page.bytes ≡ printed statement
+pub print_all : (page : Page) (statement : Statement) → page ≡ put_all empty (words statement) → page.bytes ≡ printed statement
 unfolding printed
 print_all page statement h = ap (λ p. p.bytes) h ∙ words-printed (words statement)

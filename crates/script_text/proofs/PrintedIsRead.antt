@@ -8,14 +8,14 @@ use Rattle.script_text.specs.Lexical.{IsCut}
 use Rattle.script_text.specs.Lexing.{pieces}
 use Rattle.script_text.specs.Line.{IsReadAs, Reads}
 use Rattle.script_text.specs.Printing.{printed, words}
-use Rattle.script_text.specs.Statement.{StatementValue}
+use Rattle.statements.specs.Statement.{Statement}
 use Rattle.script_text.proofs.CutLaws.{pieces-cut}
 use Rattle.script_text.proofs.OneReading.{one-reading}
 use Rattle.script_text.proofs.PrintedLexes.{printed-lexes}
 use Rattle.script_text.proofs.Writes.{statement-w}
 
 -- it is
-pub printed-read : (s : StatementValue) → IsInRange s → IsReadAs (printed s) s
+pub printed-read : (s : Statement) → IsInRange s → IsReadAs (printed s) s
 unfolding printed IsOf
 printed-read s h =
     let line = printed s in
@@ -29,5 +29,5 @@ printed-read s h =
     }
 
 -- and as nothing else
-pub printed-only : (s : StatementValue) (answer : Result (Option StatementValue) LineFault) → IsInRange s → Reads (printed s) answer → answer ≢ Err Memory → answer ≡ Ok (Some s)
+pub printed-only : (s : Statement) (answer : Result (Option Statement) LineFault) → IsInRange s → Reads (printed s) answer → answer ≢ Err Memory → answer ≡ Ok (Some s)
 printed-only s answer h reads lasts = one-reading (printed s) answer (Ok (Some s)) reads (printed-read s h) lasts (λ e. absurd cc)

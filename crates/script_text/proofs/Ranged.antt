@@ -12,7 +12,7 @@ use Rattle.sand_base.specs.InRange.{IsIntInRange, IsTextInRange, IsValueInRange,
 use Rattle.sand_base.specs.Grid.{IsInPlane, IsRing}
 use Rattle.sand_base.specs.Plane.{IsRectInPlane, IsShapeInPlane}
 use Rattle.script_text.specs.declared.TheConstants.{MOST_ROWS, MOST_WITHIN}
-use Rattle.script_text.specs.declared.column.Column.{Column}
+use Rattle.statements.specs.declared.column.Column.{Column}
 use Rattle.script_text.specs.declared.token.Symbol.{Symbol}
 use Rattle.script_text.specs.declared.token.Symbol.TheVariants.{Open, Close, Comma, Dot, Minus, Equal, NotEqual, Less, AtMost, Greater}
 use Rattle.script_text.specs.Form.{Class, a_word, a_name, a_natural, an_int, a_text, a_mark, Got, got, name_of, natural_of, int_of, text_of, Rule, RuleValue, a_plan, more_columns, more_values, more_spots, more_tests, more_places, Form, nothing, take, alt, seq, checked, rule, IsOne, Spells}
@@ -21,9 +21,9 @@ use Rattle.script_text.specs.InRange.{IsColumnInRange, IsPlaceInRange, IsPlainIn
 use Rattle.script_text.specs.Lexical.{Placed, ArePieces}
 use Rattle.script_text.specs.Name.{IsName}
 use Rattle.script_text.specs.Number.{is_between, is_natural, magnitude, natural, or_zero, is_int, int, value_of}
-use Rattle.script_text.specs.Plan.{PlanValue}
-use Rattle.script_text.specs.Rules.{word, sign, after_word, after_sign, before_sign, case_word, case_sign, name_form, natural_form, int_form, coordinate_form, column_form, place_form, plain_form, spot_rest, spot_form, spots_form, spot_or_way, way_form, spot_end, polygon_form, shape_form, value_form, values_form, kind_form, field_form, columns_form, op_form, test_form, tests_form, places_form, within_form, inner_form, rank_rest, corner_form, rect_form, window_rest, pick_rest, join_rest, semi_rest, filter_rest, match_rest, fetch_rest, first_rest, sort_rest, plan_form, body, create_rest, load_rest, index_rest, statement_form}
-use Rattle.script_text.specs.Statement.{StatementValue}
+use Rattle.statements.specs.Plan.{Plan}
+use Rattle.script_text.specs.Rules.{word, sign, after_word, after_sign, before_sign, case_word, case_sign, name_form, natural_form, int_form, coordinate_form, column_form, place_form, plain_form, spot_rest, spot_form, spots_form, spot_or_way, way_form, spot_end, polygon_form, shape_form, value_form, values_form, kind_form, field_form, columns_form, op_form, test_form, tests_form, places_form, within_form, inner_form, rank_rest, corner_form, rect_form, window_rest, pick_rest, join_rest, semi_rest, knn_rest, filter_rest, match_rest, fetch_rest, first_rest, sort_rest, plan_form, body, create_rest, load_rest, index_rest, statement_form}
+use Rattle.statements.specs.Statement.{Statement}
 use Rattle.script_text.specs.Text.{content}
 use Rattle.script_text.specs.Token.{Piece, name, number, text, mark, IsPiece}
 use Rattle.script_text.proofs.RingLemmas.{passes-ring, polygon-ring}
@@ -328,6 +328,14 @@ module _ (P : (r : Rule) → RuleValue r → Bool → List Placed → Type 0) (r
   semi-so : Keeps P semi_rest IsPlanInRange
   semi-so = seq-so column-so (seq-so {Q = λ r. IsColumnInRange r.0 × IsWithinInRange r.1} column-so within-so (λ r w a b. (a, b))) (λ l r a b. (a, b.0, b.1))
 
+  few-so : Keeps P (natural_form 1 255) (λ k. (1 ≤ k) × (k ≤ 255))
+  few-so = take-so (λ t raw is e. natural-gets 1 255 t raw is e)
+
+  knn-so : Keeps P knn_rest IsPlanInRange
+  knn-so = seq-so few-so (seq-so {Q = λ lr. IsColumnInRange lr.0 × (IsColumnInRange lr.1.0 × IsWithinInRange lr.1.1)} column-so
+      (seq-so {Q = λ r. IsColumnInRange r.0 × IsWithinInRange r.1} column-so within-so (λ r w a b. (a, b))) (λ l r a b. (a, b)))
+      (λ k lr a b. (a, b.0, b.1.0, b.1.1))
+
   filter-so : Keeps P filter_rest IsPlanInRange
   filter-so = seq-so inner-so (after_word-so (codes "where") tests-so) (λ p ts a b. (a, b))
 
@@ -341,15 +349,15 @@ module _ (P : (r : Rule) → RuleValue r → Bool → List Placed → Type 0) (r
   first-so = seq-so count-so inner-so (λ n p a b. (a, b))
 
   sort-so : Keeps P sort_rest IsPlanInRange
-  sort-so = seq-so {N = λ q. (p : PlanValue) → IsPlanInRange p → IsPlanInRange (q p)} inner-so
+  sort-so = seq-so {N = λ q. (p : Plan) → IsPlanInRange p → IsPlanInRange (q p)} inner-so
       (case_word-so (codes "by") (seq-so nil-so place-so (λ u l a b p h. (h, b)))
       (after_word-so (codes "near") (seq-so place-so (after_word-so (codes "from") shape-so) (λ l g a b p h. (h, a, b)))))
       (λ p q a b. b p a)
 
   plan-so : Keeps P plan_form IsPlanInRange
   plan-so = case_word-so (codes "scan") (take-so name-gets) (case_word-so (codes "rank") rank-so (case_word-so (codes "window") window-so (case_word-so (codes "pick") pick-so
-      (case_word-so (codes "join") join-so (case_word-so (codes "semi") semi-so (case_word-so (codes "filter") filter-so (case_word-so (codes "match") match-so
-      (case_word-so (codes "fetch") fetch-so (case_word-so (codes "first") first-so (after_word-so (codes "sort") sort-so))))))))))
+      (case_word-so (codes "join") join-so (case_word-so (codes "semi") semi-so (case_word-so (codes "knn") knn-so (case_word-so (codes "filter") filter-so (case_word-so (codes "match") match-so
+      (case_word-so (codes "fetch") fetch-so (case_word-so (codes "first") first-so (after_word-so (codes "sort") sort-so)))))))))))
 
   body-so : (r : Rule) → Keeps P (body r) (RangeOf r)
   body-so a_plan = plan-so
@@ -389,7 +397,7 @@ rules-so : (r : Rule) → Keeps spelled (rule r) (RangeOf r)
 rules-so r = record { so = λ x flag ts h are f. (rules-at h.0 r).so x flag ts h.1 are f }
 
 -- a statement that tokens of the language write in range is in range
-pub statement-in_range : (x : StatementValue) (ts : List Placed) → ArePieces ts → IsOf statement_form x true ts → IsInRange x
+pub statement-in_range : (x : Statement) (ts : List Placed) → ArePieces ts → IsOf statement_form x true ts → IsInRange x
 unfolding IsOf
 statement-in_range x ts are h = (statement-so spelled rules-so).so x true ts h are refl
 

@@ -1,16 +1,16 @@
 -- A plan is read as its body.
-use Rattle.std.proofs.Common.{◌≡◌, false, Result, Ok, Err, ap, ◌∙◌}
+use Rattle.std.proofs.Common.{◌≡◌, ℕ, List, false, Result, Ok, Err, ap, ◌∙◌, subst}
 use Rattle.std.specs.Prelude.{codes}
 use Rattle.std.proofs.lemmas.Bool.{cond-true, cond-false}
-use Rattle.script_text.specs.Accepting.{IsTaken}
-use Rattle.script_text.specs.declared.plan.Plan.{Plan}
+use Rattle.script_text.specs.Accepting.{IsTaken, IsPassed}
+use Rattle.statements.specs.declared.plan.Plan.{Plan}
 use Rattle.script_text.specs.declared.stuck.Stuck.{Stuck}
 use Rattle.script_text.specs.declared.stuck.Stuck.TheVariants as stuck
 use Rattle.script_text.specs.Form.{a_plan, a_word, head_fits, rule}
 use Rattle.script_text.specs.Grammar.{reading}
-use Rattle.script_text.specs.Plan.{plan_value}
+use Rattle.statements.specs.Plan.{plan_value}
 use Rattle.script_text.specs.Reading.{State, GivesAs, bind, go_on, pure}
-use Rattle.script_text.specs.Rules.{plan_form, rank_rest}
+use Rattle.script_text.specs.Rules.{plan_form, rank_rest, knn_rest}
 use Rattle.script_text.proofs.Depth.{rule-body}
 use Rattle.script_text.proofs.ListReading.{gives-same}
 
@@ -30,3 +30,48 @@ pub rank-given : (s u new : State) (r : Result Plan Stuck) → head_fits (a_word
 rank-given s u new (Ok plan) other is e = rank-unfolds s u other is ∙ e
 rank-given s u new (Err stuck.Here) other is e = rank-unfolds s u other is ∙ e
 rank-given s u new (Err stuck.Memory) other is e = tt
+
+-- behind its word a `knn` is read
+knn-unfolds : (s u : State) → head_fits (a_word (codes "scan")) s.left ≡ false → head_fits (a_word (codes "rank")) s.left ≡ false → head_fits (a_word (codes "window")) s.left ≡ false
+    → head_fits (a_word (codes "pick")) s.left ≡ false → head_fits (a_word (codes "join")) s.left ≡ false → head_fits (a_word (codes "semi")) s.left ≡ false
+    → IsTaken (a_word (codes "knn")) s u → reading (rule a_plan) s ≡ reading knn_rest u
+knn-unfolds s u scan rank window pick join semi is =
+    plan_unfolds s ∙ cond-false (head_fits (a_word (codes "scan")) s.left) _ _ scan ∙ cond-false (head_fits (a_word (codes "rank")) s.left) _ _ rank
+    ∙ cond-false (head_fits (a_word (codes "window")) s.left) _ _ window ∙ cond-false (head_fits (a_word (codes "pick")) s.left) _ _ pick
+    ∙ cond-false (head_fits (a_word (codes "join")) s.left) _ _ join ∙ cond-false (head_fits (a_word (codes "semi")) s.left) _ _ semi
+    ∙ cond-true (head_fits (a_word (codes "knn")) s.left) _ _ is.fits
+    ∙ ap (λ r. go_on r (λ v. bind (reading knn_rest) (λ x. pure x))) is.taken ∙ gives-same (reading knn_rest u)
+
+-- where none of the words before it came
+pub knn-given : (s a b c d e f u new : State) (r : Result Plan Stuck) → IsPassed (a_word (codes "scan")) s a → IsPassed (a_word (codes "rank")) a b → IsPassed (a_word (codes "window")) b c
+    → IsPassed (a_word (codes "pick")) c d → IsPassed (a_word (codes "join")) d e → IsPassed (a_word (codes "semi")) e f → IsTaken (a_word (codes "knn")) f u
+    → GivesAs plan_value (reading knn_rest) u new r → GivesAs plan_value (reading (rule a_plan)) s new r
+knn-given s a b c d e f u new r scan rank window pick join semi is = gives r
+  where
+    second : b ≡ s
+    second = rank.same ∙ scan.same
+
+    third : c ≡ s
+    third = window.same ∙ second
+
+    fourth : d ≡ s
+    fourth = pick.same ∙ third
+
+    fifth : e ≡ s
+    fifth = join.same ∙ fourth
+
+    sixth : f ≡ s
+    sixth = semi.same ∙ fifth
+
+    no : (x : State) (w : List ℕ) → x ≡ s → head_fits (a_word w) x.left ≡ false → head_fits (a_word w) s.left ≡ false
+    no x w same other = subst (λ (y : State). head_fits (a_word w) y.left ≡ false) same other
+
+    unfolds : reading (rule a_plan) s ≡ reading knn_rest u
+    unfolds =
+        knn-unfolds s u scan.other (no a (codes "rank") scan.same rank.other) (no b (codes "window") second window.other) (no c (codes "pick") third pick.other)
+        (no d (codes "join") fourth join.other) (no e (codes "semi") fifth semi.other) (subst (λ (y : State). IsTaken (a_word (codes "knn")) y u) sixth is)
+
+    gives : (r : Result Plan Stuck) → GivesAs plan_value (reading knn_rest) u new r → GivesAs plan_value (reading (rule a_plan)) s new r
+    gives (Ok plan) e = unfolds ∙ e
+    gives (Err stuck.Here) e = unfolds ∙ e
+    gives (Err stuck.Memory) e = tt

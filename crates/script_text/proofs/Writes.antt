@@ -18,11 +18,11 @@ use Rattle.sand_base.specs.InRange.{IsIntInRange, IsTextInRange, IsValueInRange}
 use Rattle.sand_base.specs.Grid.{IsInPlane}
 use Rattle.sand_base.specs.Plane.{IsRectInPlane, IsShapeInPlane}
 use Rattle.script_text.specs.declared.TheConstants.{LONGEST_NAME, MOST_ROWS}
-use Rattle.script_text.specs.declared.column.Column.{Column}
-use Rattle.script_text.specs.declared.column.Place.{Place}
-use Rattle.script_text.specs.declared.test.Op.{Op}
-use Rattle.script_text.specs.declared.test.Op.TheVariants as op
-use Rattle.script_text.specs.declared.test.Test.{Test}
+use Rattle.statements.specs.declared.column.Column.{Column}
+use Rattle.statements.specs.declared.column.Place.{Place}
+use Rattle.statements.specs.declared.test.Op.{Op}
+use Rattle.statements.specs.declared.test.Op.TheVariants as op
+use Rattle.statements.specs.declared.test.Test.{Test}
 use Rattle.script_text.specs.declared.token.Symbol.{Symbol}
 use Rattle.script_text.specs.declared.token.Symbol.TheVariants.{Open, Close, Comma, Dot, Minus, Equal, NotEqual, Less, AtMost, Greater, AtLeast}
 use Rattle.script_text.specs.Form.{Class, where_true, a_word, a_name, a_natural, an_int, a_text, a_mark, Got, got, Rule, RuleValue, a_plan, more_columns, more_values, more_spots, more_tests, more_places, Form, nothing, take, alt, seq, checked, rule, IsOne, Spells}
@@ -31,12 +31,12 @@ use Rattle.script_text.specs.InRange.{IsColumnInRange, IsPlaceInRange, IsPlainIn
 use Rattle.script_text.specs.Lexical.{Placed}
 use Rattle.script_text.specs.Name.{is_name, IsName}
 use Rattle.script_text.specs.Number.{or_zero}
-use Rattle.script_text.specs.Plan.{PlanValue}
-use Rattle.script_text.specs.Plan as plan
+use Rattle.statements.specs.Plan.{Plan}
+use Rattle.statements.specs.Plan as plan
 use Rattle.script_text.specs.Printing.{each, more_words, list_words, comma, fixed, column_words, place_words, spot_words, shape_words, value_words, kind_word, field_words, op_symbol, test_words, within_words, inner_words, plan_words, header_words, threshold_words, words}
 use Rattle.script_text.specs.Rules.{word, sign, after_word, after_sign, before_sign, case_word, case_sign, told, name_form, natural_form, int_form, coordinate_form, column_form, place_form, plain_form, spot_rest, spot_form, spots_form, way_form, spot_end, shape_form, value_form, values_form, kind_form, field_form, columns_form, op_form, test_form, tests_form, places_form, within_form, inner_form, corner_form, rect_form, body, statement_form}
-use Rattle.script_text.specs.Statement.{StatementValue}
-use Rattle.script_text.specs.Statement as statement
+use Rattle.statements.specs.Statement.{Statement}
+use Rattle.statements.specs.Statement as statement
 use Rattle.script_text.specs.Text.{doubled}
 use Rattle.script_text.specs.Token.{Piece, name, number, text, mark, IsPiece}
 use Rattle.script_text.proofs.Depth.{fold}
@@ -416,11 +416,11 @@ rect-w r h =
     checked-w (and_from _ _ (le-leb r.low.x r.high.x h.x) (le-leb r.low.y r.high.y h.y)) (seq-w (corner-w r.low h.low) (corner-w r.high h.high) refl refl)
 
 -- a plan between brackets
-inner-w : (p : PlanValue) (ws : List Piece) → Writes (rule a_plan) p ws → Writes inner_form p (inner_words ws)
+inner-w : (p : Plan) (ws : List Piece) → Writes (rule a_plan) p ws → Writes inner_form p (inner_words ws)
 inner-w p ws h = open-w (closed-w h refl)
 
 -- plans
-plan-w : (p : PlanValue) → IsPlanInRange p → Writes (rule a_plan) p (plan_words p)
+plan-w : (p : Plan) → IsPlanInRange p → Writes (rule a_plan) p (plan_words p)
 plan-w (plan.Scan r) h = rule-w a_plan (case_word-w (codes "scan") refl refl (take-w (name-word h) refl refl))
 plan-w (plan.Rank c g w) h =
     rule-w a_plan (else-w (case_word-w (codes "rank") refl refl
@@ -438,25 +438,28 @@ plan-w (plan.Join l r w) h =
 plan-w (plan.Semi l r w) h =
     rule-w a_plan (else-w (else-w (else-w (else-w (else-w (case_word-w (codes "semi") refl refl
     (seq-w (column-w l h.0) (seq-w (column-w r h.1) (within-w w h.2) refl refl) refl refl)))))))
+plan-w (plan.Knn k l r w) h =
+    rule-w a_plan (else-w (else-w (else-w (else-w (else-w (else-w (case_word-w (codes "knn") refl refl
+    (seq-w (natural-w (omega (arith, h.0.1)) h.0.0 h.0.1) (seq-w (column-w l h.1) (seq-w (column-w r h.2) (within-w w h.3) refl refl) refl refl) refl refl))))))))
 plan-w (plan.Filter p ts) h =
-    rule-w a_plan (else-w (else-w (else-w (else-w (else-w (else-w (case_word-w (codes "filter") refl refl
-    (seq-w (inner-w p (plan_words p) (plan-w p h.0)) (after_word-w (codes "where") refl refl (tests-w ts h.1)) refl refl))))))))
+    rule-w a_plan (else-w (else-w (else-w (else-w (else-w (else-w (else-w (case_word-w (codes "filter") refl refl
+    (seq-w (inner-w p (plan_words p) (plan-w p h.0)) (after_word-w (codes "where") refl refl (tests-w ts h.1)) refl refl)))))))))
 plan-w (plan.Match p l c) h =
-    rule-w a_plan (else-w (else-w (else-w (else-w (else-w (else-w (else-w (case_word-w (codes "match") refl refl
-    (seq-w (inner-w p (plan_words p) (plan-w p h.0)) (seq-w (place-w l h.1) (equal-w (column-w c h.2)) refl refl) refl refl)))))))))
+    rule-w a_plan (else-w (else-w (else-w (else-w (else-w (else-w (else-w (else-w (case_word-w (codes "match") refl refl
+    (seq-w (inner-w p (plan_words p) (plan-w p h.0)) (seq-w (place-w l h.1) (equal-w (column-w c h.2)) refl refl) refl refl))))))))))
 plan-w (plan.Fetch p ls) h =
-    rule-w a_plan (else-w (else-w (else-w (else-w (else-w (else-w (else-w (else-w (case_word-w (codes "fetch") refl refl
-    (seq-w (inner-w p (plan_words p) (plan-w p h.0)) (places-w ls h.1) refl refl))))))))))
+    rule-w a_plan (else-w (else-w (else-w (else-w (else-w (else-w (else-w (else-w (else-w (case_word-w (codes "fetch") refl refl
+    (seq-w (inner-w p (plan_words p) (plan-w p h.0)) (places-w ls h.1) refl refl)))))))))))
 plan-w (plan.First n p) h =
-    rule-w a_plan (else-w (else-w (else-w (else-w (else-w (else-w (else-w (else-w (else-w (case_word-w (codes "first") refl refl
-    (seq-w (count-w h.0) (inner-w p (plan_words p) (plan-w p h.1)) refl refl)))))))))))
+    rule-w a_plan (else-w (else-w (else-w (else-w (else-w (else-w (else-w (else-w (else-w (else-w (case_word-w (codes "first") refl refl
+    (seq-w (count-w h.0) (inner-w p (plan_words p) (plan-w p h.1)) refl refl))))))))))))
 plan-w (plan.SortBy p l) h =
-    rule-w a_plan (else-w (else-w (else-w (else-w (else-w (else-w (else-w (else-w (else-w (else-w (after_word-w (codes "sort") refl refl
-    (seq-w (inner-w p (plan_words p) (plan-w p h.0)) (case_word-w (codes "by") refl refl (told-w (place-w l h.1) refl)) refl refl))))))))))))
+    rule-w a_plan (else-w (else-w (else-w (else-w (else-w (else-w (else-w (else-w (else-w (else-w (else-w (after_word-w (codes "sort") refl refl
+    (seq-w (inner-w p (plan_words p) (plan-w p h.0)) (case_word-w (codes "by") refl refl (told-w (place-w l h.1) refl)) refl refl)))))))))))))
 plan-w (plan.SortNear p l g) h =
-    rule-w a_plan (else-w (else-w (else-w (else-w (else-w (else-w (else-w (else-w (else-w (else-w (after_word-w (codes "sort") refl refl
+    rule-w a_plan (else-w (else-w (else-w (else-w (else-w (else-w (else-w (else-w (else-w (else-w (else-w (after_word-w (codes "sort") refl refl
     (seq-w (inner-w p (plan_words p) (plan-w p h.0))
-    (else-w (after_word-w (codes "near") refl refl (seq-w (place-w l h.1) (after_word-w (codes "from") refl refl (shape-w g h.2)) refl refl))) refl refl))))))))))))
+    (else-w (after_word-w (codes "near") refl refl (seq-w (place-w l h.1) (after_word-w (codes "from") refl refl (shape-w g h.2)) refl refl))) refl refl)))))))))))))
 
 -- what may end a `load` and an `index`
 header-w : (h : Bool) → Writes (case_word (codes "header") (nothing true) (nothing false)) h (header_words h)
@@ -468,7 +471,7 @@ threshold-w None h = else-w nothing-w
 threshold-w (Some n) h = alt-w (natural-word (omega (arith, h.1)) h.0 h.1) nothing-w (λ c. c) refl
 
 -- statements
-pub statement-w : (s : StatementValue) → IsInRange s → Writes statement_form s (words s)
+pub statement-w : (s : Statement) → IsInRange s → Writes statement_form s (words s)
 statement-w (statement.Create r cs) h =
     case_word-w (codes "create") refl refl
     (seq-w (name-w h.0) (open-w (closed-w (checked-w (le-leb (length cs) 12 h.1.most) (columns-w cs h.1.some h.2)) refl)) refl refl)

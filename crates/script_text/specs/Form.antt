@@ -9,9 +9,9 @@ use Rattle.script_text.specs.Text.{content}
 use Rattle.sand_base.specs.declared.kind.Kind.{Kind}
 use Rattle.sand_base.specs.declared.point.Point.{Point}
 use Rattle.sand_base.specs.declared.value.Value.{Value}
-use Rattle.script_text.specs.declared.column.Place.{Place}
-use Rattle.script_text.specs.declared.test.Test.{Test}
-use Rattle.script_text.specs.Plan.{PlanValue}
+use Rattle.statements.specs.declared.column.Place.{Place}
+use Rattle.statements.specs.declared.test.Test.{Test}
+use Rattle.statements.specs.Plan.{Plan}
 use Rattle.script_text.specs.Token.{Piece, name, number, text, mark, symbol_text}
 
 -- a class of tokens: a fixed word, any name, a number from the least to the most, a number of 64 bits, a text, a symbol
@@ -96,7 +96,7 @@ pub data Rule : Type 0 where
 
 -- what a rule gives
 abbrev pub RuleValue : Rule → Type 0
-RuleValue a_plan = PlanValue
+RuleValue a_plan = Plan
 RuleValue more_columns = List (List ℕ × Kind)
 RuleValue more_values = List Value
 RuleValue more_spots = List Point

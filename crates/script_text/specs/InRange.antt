@@ -6,12 +6,12 @@ use Rattle.sand_base.specs.declared.value.Value.TheVariants as value
 use Rattle.sand_base.specs.InRange.{IsIntInRange, IsTextInRange, IsValueInRange, IsSchemaInRange}
 use Rattle.sand_base.specs.Plane.{IsRectInPlane, IsShapeInPlane}
 use Rattle.script_text.specs.declared.TheConstants.{MOST_ROWS, MOST_WITHIN}
-use Rattle.script_text.specs.declared.column.Column.{Column}
-use Rattle.script_text.specs.declared.column.Place.{Place}
-use Rattle.script_text.specs.declared.test.Test.{Test}
+use Rattle.statements.specs.declared.column.Column.{Column}
+use Rattle.statements.specs.declared.column.Place.{Place}
+use Rattle.statements.specs.declared.test.Test.{Test}
 use Rattle.script_text.specs.Name.{IsName}
-use Rattle.script_text.specs.Plan.{PlanValue, Scan, Rank, Window, PickEqual, PickBetween, Join, Semi, Filter, Match, Fetch, First, SortBy, SortNear}
-use Rattle.script_text.specs.Statement.{StatementValue, Create, Insert, Delete, Load, Index, OpenCursor, Next, CloseCursor, Show, Stats, Blocks}
+use Rattle.statements.specs.Plan.{Plan, Scan, Rank, Window, PickEqual, PickBetween, Join, Semi, Knn, Filter, Match, Fetch, First, SortBy, SortNear}
+use Rattle.statements.specs.Statement.{Statement, Create, Insert, Delete, Load, Index, OpenCursor, Next, CloseCursor, Show, Stats, Blocks}
 
 -- both names of the column are names
 pub record IsColumnInRange (c : Column) : Type 0 where
@@ -60,7 +60,7 @@ pub record SomeAre {A : Type 0} (P : A → Type 0) (xs : List A) : Type 0 where
   pub all : All P xs
 
 -- a plan in range
-abbrev pub IsPlanInRange : PlanValue → Type 0
+abbrev pub IsPlanInRange : Plan → Type 0
 IsPlanInRange (Scan relation) = IsName relation
 IsPlanInRange (Rank column goal within) = IsColumnInRange column × IsShapeInPlane goal × IsWithinInRange within
 IsPlanInRange (Window column window) = IsColumnInRange column × IsRectInPlane window
@@ -68,6 +68,7 @@ IsPlanInRange (PickEqual column value) = IsColumnInRange column × IsPlainInRang
 IsPlanInRange (PickBetween column low high) = IsColumnInRange column × IsIntInRange low × IsIntInRange high
 IsPlanInRange (Join left right within) = IsColumnInRange left × IsColumnInRange right × IsWithinInRange within
 IsPlanInRange (Semi left right within) = IsColumnInRange left × IsColumnInRange right × IsWithinInRange within
+IsPlanInRange (Knn k left right within) = ((1 ≤ k) × (k ≤ 255)) × IsColumnInRange left × IsColumnInRange right × IsWithinInRange within
 IsPlanInRange (Filter plan tests) = IsPlanInRange plan × SomeAre IsTestInRange tests
 IsPlanInRange (Match plan place column) = IsPlanInRange plan × IsPlaceInRange place × IsColumnInRange column
 IsPlanInRange (Fetch plan places) = IsPlanInRange plan × SomeAre IsPlaceInRange places
@@ -76,7 +77,7 @@ IsPlanInRange (SortBy plan place) = IsPlanInRange plan × IsPlaceInRange place
 IsPlanInRange (SortNear plan place goal) = IsPlanInRange plan × IsPlaceInRange place × IsShapeInPlane goal
 
 -- a statement in range
-abbrev pub IsInRange : StatementValue → Type 0
+abbrev pub IsInRange : Statement → Type 0
 IsInRange (Create relation columns) = IsName relation × IsSchemaInRange columns × All IsFieldInRange columns
 IsInRange (Insert relation values) = IsName relation × SomeAre IsValueInRange values
 IsInRange (Delete relation id) = IsName relation × (id ≤ 4294967295)

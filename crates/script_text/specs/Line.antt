@@ -1,6 +1,6 @@
 -- What a line of a script says.
 use Rattle.std.specs.Prelude.{◌≡◌, ◌⊎◌, ℕ, Bool, true, false, ◌==◌, List, [], ◌∷◌, cond, Option, Some, None, Result, Ok, Err, ⊤}
-use Rattle.script_text.specs.declared.statement.Statement.{Statement}
+use Rattle.statements.specs.declared.statement.Statement as declared
 use Rattle.script_text.specs.declared.parse.LineFault.{LineFault}
 use Rattle.script_text.specs.declared.parse.LineFault.TheVariants.{Memory, Syntax, Range}
 use Rattle.script_text.specs.Grammar.{IsOf, IsFirstBad, room_at}
@@ -8,7 +8,7 @@ use Rattle.script_text.specs.InRange.{IsInRange}
 use Rattle.script_text.specs.Lexical.{Placed, IsCut, IsLexed, IsFault, IsColumn, is_blank}
 use Rattle.script_text.specs.Lexing.{fault_room}
 use Rattle.script_text.specs.Rules.{statement_form}
-use Rattle.script_text.specs.Statement.{StatementValue, statement_value}
+use Rattle.statements.specs.Statement.{Statement, statement_value}
 
 -- a line of spaces and tabs alone, or one whose first other byte is `#`
 abbrev pub is_passed_over : List ℕ → Bool
@@ -16,7 +16,7 @@ is_passed_over [] = true
 is_passed_over (b ∷ bytes) = cond (is_blank b) (is_passed_over bytes) (b == 35)
 
 -- the line's tokens write the statement, and all is in range
-pub record IsReadAs (line : List ℕ) (statement : StatementValue) : Type 0 where
+pub record IsReadAs (line : List ℕ) (statement : Statement) : Type 0 where
   pub tokens : List Placed
   pub lexed : IsLexed line tokens
   pub written : IsOf statement_form statement true tokens
@@ -43,12 +43,12 @@ pub record HasBadToken (line : List ℕ) (column : ℕ) : Type 0 where
 pub record IsOutOfRange (line : List ℕ) : Type 0 where
   pub tokens : List Placed
   pub lexed : IsLexed line tokens
-  pub statement : StatementValue
+  pub statement : Statement
   pub out : IsOf statement_form statement false tokens
 
 -- What reading a line may answer: nothing for a line that is passed over, the statement that it writes, the column of
 -- its first bad byte or else of its first bad token, that something is out of its range, and no memory for each.
-abbrev pub Reads : List ℕ → Result (Option StatementValue) LineFault → Type 0
+abbrev pub Reads : List ℕ → Result (Option Statement) LineFault → Type 0
 Reads line (Ok None) = is_passed_over line ≡ true
 Reads line (Ok (Some statement)) = IsReadAs line statement
 Reads line (Err (Syntax column)) = (is_passed_over line ≡ false) × (HasBadByte line column ⊎ HasBadToken line column)
@@ -56,7 +56,7 @@ Reads line (Err Range) = IsOutOfRange line
 Reads line (Err Memory) = ⊤
 
 -- an answer with the tree of its statement
-abbrev pub answer_value : Result (Option Statement) LineFault → Result (Option StatementValue) LineFault
+abbrev pub answer_value : Result (Option declared.Statement) LineFault → Result (Option Statement) LineFault
 answer_value (Ok None) = Ok None
 answer_value (Ok (Some statement)) = Ok (Some (statement_value statement))
 answer_value (Err fault) = Err fault

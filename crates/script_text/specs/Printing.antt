@@ -8,15 +8,15 @@ use Rattle.sand_base.specs.declared.shape.Shape.{Shape}
 use Rattle.sand_base.specs.declared.shape.Shape.TheVariants as shape
 use Rattle.sand_base.specs.declared.value.Value.{Value}
 use Rattle.sand_base.specs.declared.value.Value.TheVariants as value
-use Rattle.script_text.specs.declared.column.Column.{Column}
-use Rattle.script_text.specs.declared.column.Place.{Place}
-use Rattle.script_text.specs.declared.test.Op.{Op}
-use Rattle.script_text.specs.declared.test.Op.TheVariants as op
-use Rattle.script_text.specs.declared.test.Test.{Test}
+use Rattle.statements.specs.declared.column.Column.{Column}
+use Rattle.statements.specs.declared.column.Place.{Place}
+use Rattle.statements.specs.declared.test.Op.{Op}
+use Rattle.statements.specs.declared.test.Op.TheVariants as op
+use Rattle.statements.specs.declared.test.Test.{Test}
 use Rattle.script_text.specs.declared.token.Symbol.{Symbol}
 use Rattle.script_text.specs.declared.token.Symbol.TheVariants as symbol
-use Rattle.script_text.specs.Plan.{PlanValue, Scan, Rank, Window, PickEqual, PickBetween, Join, Semi, Filter, Match, Fetch, First, SortBy, SortNear}
-use Rattle.script_text.specs.Statement.{StatementValue, Create, Insert, Delete, Load, Index, OpenCursor, Next, CloseCursor, Show, Stats, Blocks}
+use Rattle.statements.specs.Plan.{Plan, Scan, Rank, Window, PickEqual, PickBetween, Join, Semi, Knn, Filter, Match, Fetch, First, SortBy, SortNear}
+use Rattle.statements.specs.Statement.{Statement, Create, Insert, Delete, Load, Index, OpenCursor, Next, CloseCursor, Show, Stats, Blocks}
 use Rattle.script_text.specs.Text.{doubled}
 use Rattle.script_text.specs.Token.{Piece, name, number, text, mark, spelling}
 
@@ -110,7 +110,7 @@ abbrev pub inner_words : List Piece → List Piece
 inner_words ws = mark symbol.Open ∷ ws ++ (mark symbol.Close ∷ [])
 
 -- a plan
-abbrev pub plan_words : PlanValue → List Piece
+abbrev pub plan_words : Plan → List Piece
 plan_words (Scan relation) = name (codes "scan") ∷ name relation ∷ []
 plan_words (Rank column goal within) = name (codes "rank") ∷ column_words column ++ (name (codes "from") ∷ shape_words goal ++ within_words within)
 plan_words (Window column window) = name (codes "window") ∷ column_words column
@@ -119,6 +119,7 @@ plan_words (PickEqual column value) = name (codes "pick") ∷ column_words colum
 plan_words (PickBetween column low high) = name (codes "pick") ∷ column_words column ++ (name (codes "from") ∷ int_words low ++ (name (codes "to") ∷ int_words high))
 plan_words (Join left right within) = name (codes "join") ∷ column_words left ++ (column_words right ++ within_words within)
 plan_words (Semi left right within) = name (codes "semi") ∷ column_words left ++ (column_words right ++ within_words within)
+plan_words (Knn k left right within) = name (codes "knn") ∷ number (decimal k) ∷ column_words left ++ (column_words right ++ within_words within)
 plan_words (Filter plan tests) = name (codes "filter") ∷ inner_words (plan_words plan) ++ (name (codes "where") ∷ list_words (fixed (codes "and")) test_words tests)
 plan_words (Match plan place column) = name (codes "match") ∷ inner_words (plan_words plan) ++ (place_words place ++ (mark symbol.Equal ∷ column_words column))
 plan_words (Fetch plan places) = name (codes "fetch") ∷ inner_words (plan_words plan) ++ list_words comma place_words places
@@ -137,7 +138,7 @@ threshold_words None = []
 threshold_words (Some n) = natural_words n
 
 -- a statement
-abbrev pub words : StatementValue → List Piece
+abbrev pub words : Statement → List Piece
 words (Create relation columns) = name (codes "create") ∷ name relation ∷ mark symbol.Open ∷ list_words comma field_words columns ++ (mark symbol.Close ∷ [])
 words (Insert relation values) = name (codes "insert") ∷ name relation ∷ list_words comma value_words values
 words (Delete relation id) = name (codes "delete") ∷ name relation ∷ natural_words id
@@ -180,5 +181,5 @@ printed_words [] = []
 printed_words (w ∷ ws) = spelling w ++ printed_after w ws
 
 -- the printed form of a statement
-unfoldable pub printed : StatementValue → List ℕ
+unfoldable pub printed : Statement → List ℕ
 printed statement = printed_words (words statement)

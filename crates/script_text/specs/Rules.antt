@@ -11,18 +11,18 @@ use Rattle.sand_base.specs.declared.shape.Shape.TheVariants as shape
 use Rattle.sand_base.specs.declared.value.Value.{Value}
 use Rattle.sand_base.specs.declared.value.Value.TheVariants as value
 use Rattle.script_text.specs.declared.TheConstants.{MOST_ROWS, MOST_WITHIN}
-use Rattle.script_text.specs.declared.column.Column.{Column}
-use Rattle.script_text.specs.declared.column.Place.{Place}
-use Rattle.script_text.specs.declared.test.Op.{Op}
-use Rattle.script_text.specs.declared.test.Op.TheVariants as op
-use Rattle.script_text.specs.declared.test.Test.{Test}
+use Rattle.statements.specs.declared.column.Column.{Column}
+use Rattle.statements.specs.declared.column.Place.{Place}
+use Rattle.statements.specs.declared.test.Op.{Op}
+use Rattle.statements.specs.declared.test.Op.TheVariants as op
+use Rattle.statements.specs.declared.test.Test.{Test}
 use Rattle.script_text.specs.declared.token.Symbol.{Symbol}
 use Rattle.script_text.specs.declared.token.Symbol.TheVariants as symbol
 use Rattle.script_text.specs.Form.{Form, a_word, a_name, a_natural, an_int, a_text, a_mark, Rule, a_plan, more_columns, more_values, more_spots, more_tests, more_places, RuleValue, nothing, take, alt, seq, checked, rule}
-use Rattle.script_text.specs.Plan.{PlanValue}
-use Rattle.script_text.specs.Plan as plan
-use Rattle.script_text.specs.Statement.{StatementValue}
-use Rattle.script_text.specs.Statement as statement
+use Rattle.statements.specs.Plan.{Plan}
+use Rattle.statements.specs.Plan as plan
+use Rattle.statements.specs.Statement.{Statement}
+use Rattle.statements.specs.Statement as statement
 
 -- a fixed word, and a symbol
 abbrev pub word : List ℕ → Form (Unit {0})
@@ -182,15 +182,15 @@ abbrev pub within_form : Form (Option ℕ)
 within_form = case_word (codes "within") (take (a_natural 0 MOST_WITHIN) (λ n. Some n)) (nothing None)
 
 -- `"(" plan ")"`
-abbrev pub inner_form : Form PlanValue
+abbrev pub inner_form : Form Plan
 inner_form = after_sign symbol.Open (before_sign (rule a_plan) symbol.Close)
 
 -- the plans, each after its word: `NAME`
-abbrev pub scan_rest : Form PlanValue
+abbrev pub scan_rest : Form Plan
 scan_rest = take a_name (λ r. plan.Scan r)
 
 -- `column from shape [ within NUM ]`
-abbrev pub rank_rest : Form PlanValue
+abbrev pub rank_rest : Form Plan
 rank_rest = seq (λ c (g : Shape × Option ℕ). plan.Rank c g.0 g.1) column_form (after_word (codes "from") (seq (λ g w. (g, w)) shape_form within_form))
 
 -- `NUM NUM`
@@ -206,51 +206,56 @@ abbrev pub rect_form : Form Rect
 rect_form = checked is_ordered (seq (λ a b. record { low = a; high = b }) corner_form corner_form)
 
 -- `column NUM NUM NUM NUM`
-abbrev pub window_rest : Form PlanValue
+abbrev pub window_rest : Form Plan
 window_rest = seq (λ c w. plan.Window c w) column_form rect_form
 
 -- `column "=" plain | column from NUM to NUM`
-abbrev pub pick_rest : Form PlanValue
-pick_rest = seq (λ c (p : Column → PlanValue). p c) column_form
+abbrev pub pick_rest : Form Plan
+pick_rest = seq (λ c (p : Column → Plan). p c) column_form
     (case_sign symbol.Equal (told (λ v c. plan.PickEqual c v) plain_form)
     (after_word (codes "from") (seq (λ a b c. plan.PickBetween c a b) int_form (after_word (codes "to") int_form))))
 
 -- `column column [ within NUM ]`
-abbrev pub join_rest : Form PlanValue
+abbrev pub join_rest : Form Plan
 join_rest = seq (λ l (r : Column × Option ℕ). plan.Join l r.0 r.1) column_form (seq (λ r w. (r, w)) column_form within_form)
 
 -- what follows the word of a semi-join
-abbrev pub semi_rest : Form PlanValue
+abbrev pub semi_rest : Form Plan
 semi_rest = seq (λ l (r : Column × Option ℕ). plan.Semi l r.0 r.1) column_form (seq (λ r w. (r, w)) column_form within_form)
 
+-- `NUM column column [ within NUM ]`
+abbrev pub knn_rest : Form Plan
+knn_rest = seq (λ k (lr : Column × (Column × Option ℕ)). plan.Knn k lr.0 lr.1.0 lr.1.1) (natural_form 1 255)
+    (seq (λ l (r : Column × Option ℕ). (l, r)) column_form (seq (λ r w. (r, w)) column_form within_form))
+
 -- `"(" plan ")" where test { and test }`
-abbrev pub filter_rest : Form PlanValue
+abbrev pub filter_rest : Form Plan
 filter_rest = seq (λ p ts. plan.Filter p ts) inner_form (after_word (codes "where") tests_form)
 
 -- `"(" plan ")" place "=" column`
-abbrev pub match_rest : Form PlanValue
+abbrev pub match_rest : Form Plan
 match_rest = seq (λ p (l : Place × Column). plan.Match p l.0 l.1) inner_form (seq (λ l c. (l, c)) place_form (after_sign symbol.Equal column_form))
 
 -- `"(" plan ")" place { "," place }`
-abbrev pub fetch_rest : Form PlanValue
+abbrev pub fetch_rest : Form Plan
 fetch_rest = seq (λ p ls. plan.Fetch p ls) inner_form places_form
 
 -- `NUM "(" plan ")"`
-abbrev pub first_rest : Form PlanValue
+abbrev pub first_rest : Form Plan
 first_rest = seq (λ n p. plan.First n p) (natural_form 1 MOST_ROWS) inner_form
 
 -- `"(" plan ")" by place | "(" plan ")" near place from shape`
-abbrev pub sort_rest : Form PlanValue
-sort_rest = seq (λ p (s : PlanValue → PlanValue). s p) inner_form
+abbrev pub sort_rest : Form Plan
+sort_rest = seq (λ p (s : Plan → Plan). s p) inner_form
     (case_word (codes "by") (told (λ l p. plan.SortBy p l) place_form)
     (after_word (codes "near") (seq (λ l g p. plan.SortNear p l g) place_form (after_word (codes "from") shape_form))))
 
 -- a plan
-abbrev pub plan_form : Form PlanValue
+abbrev pub plan_form : Form Plan
 plan_form =
     case_word (codes "scan") scan_rest (case_word (codes "rank") rank_rest (case_word (codes "window") window_rest (case_word (codes "pick") pick_rest
-    (case_word (codes "join") join_rest (case_word (codes "semi") semi_rest (case_word (codes "filter") filter_rest (case_word (codes "match") match_rest
-    (case_word (codes "fetch") fetch_rest (case_word (codes "first") first_rest (after_word (codes "sort") sort_rest))))))))))
+    (case_word (codes "join") join_rest (case_word (codes "semi") semi_rest (case_word (codes "knn") knn_rest (case_word (codes "filter") filter_rest (case_word (codes "match") match_rest
+    (case_word (codes "fetch") fetch_rest (case_word (codes "first") first_rest (after_word (codes "sort") sort_rest)))))))))))
 
 -- the rules: a plan, and the rest of each list
 abbrev pub body : (r : Rule) → Form (RuleValue r)
@@ -262,59 +267,59 @@ body more_tests = case_word (codes "and") tests_form (nothing [])
 body more_places = case_sign symbol.Comma places_form (nothing [])
 
 -- the statements, each after its word: `NAME "(" NAME kind { "," NAME kind } ")"`, of at most 12 columns
-abbrev pub create_rest : Form StatementValue
+abbrev pub create_rest : Form Statement
 create_rest = seq (λ r cs. statement.Create r cs) name_form
     (after_sign symbol.Open (before_sign (checked (λ cs. nat_le (length cs) 12) columns_form) symbol.Close))
 
 -- `NAME value { "," value }`
-abbrev pub insert_rest : Form StatementValue
+abbrev pub insert_rest : Form Statement
 insert_rest = seq (λ r vs. statement.Insert r vs) name_form values_form
 
 -- `NAME NUM`
-abbrev pub delete_rest : Form StatementValue
+abbrev pub delete_rest : Form Statement
 delete_rest = seq (λ r n. statement.Delete r n) name_form (natural_form 0 4294967295)
 
 -- `NAME TEXT [ header ]`
-abbrev pub load_rest : Form StatementValue
+abbrev pub load_rest : Form Statement
 load_rest = seq (λ r (f : List ℕ × Bool). statement.Load r f.0 f.1) name_form
     (seq (λ f h. (f, h)) (take a_text (λ t. t)) (case_word (codes "header") (nothing true) (nothing false)))
 
 -- `column [ NUM ]`
-abbrev pub index_rest : Form StatementValue
+abbrev pub index_rest : Form Statement
 index_rest = seq (λ c t. statement.Index c t) column_form (alt (a_natural 1 64) (λ n (u : Unit {0}). Some n) (nothing tt) (nothing None))
 
 -- `NAME "=" plan`
-abbrev pub open_rest : Form StatementValue
+abbrev pub open_rest : Form Statement
 open_rest = seq (λ c p. statement.OpenCursor c p) name_form (after_sign symbol.Equal (rule a_plan))
 
 -- `NAME NUM`
-abbrev pub next_rest : Form StatementValue
+abbrev pub next_rest : Form Statement
 next_rest = seq (λ c n. statement.Next c n) name_form (natural_form 1 MOST_ROWS)
 
 -- `NUM plan`
-abbrev pub show_rest : Form StatementValue
+abbrev pub show_rest : Form Statement
 show_rest = seq (λ n p. statement.Show n p) (natural_form 1 MOST_ROWS) (rule a_plan)
 
 -- `NAME`
-abbrev pub close_rest : Form StatementValue
+abbrev pub close_rest : Form Statement
 close_rest = take a_name (λ c. statement.CloseCursor c)
 
 -- what follows the word of the counts
-abbrev pub stats_rest : Form StatementValue
+abbrev pub stats_rest : Form Statement
 stats_rest = take a_name (λ c. statement.Stats c)
 
 -- `column`
-abbrev pub blocks_rest : Form StatementValue
+abbrev pub blocks_rest : Form Statement
 blocks_rest = told (λ c. statement.Blocks c) column_form
 
 -- a statement on cursors, plans or leaves, which changes no relation
-abbrev pub query_form : Form StatementValue
+abbrev pub query_form : Form Statement
 query_form =
     case_word (codes "open") open_rest (case_word (codes "next") next_rest (case_word (codes "close") close_rest (case_word (codes "show") show_rest
     (case_word (codes "stats") stats_rest (after_word (codes "blocks") blocks_rest)))))
 
 -- a statement
-abbrev pub statement_form : Form StatementValue
+abbrev pub statement_form : Form Statement
 statement_form =
     case_word (codes "create") create_rest (case_word (codes "insert") insert_rest (case_word (codes "delete") delete_rest (case_word (codes "load") load_rest
     (case_word (codes "index") index_rest query_form))))

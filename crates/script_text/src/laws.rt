@@ -5,18 +5,18 @@ ghost use Rattle.script_text.specs.declared.parse.LineFault.TheVariants.{Memory}
 ghost use Rattle.script_text.specs.InRange.{IsInRange};
 ghost use Rattle.script_text.specs.Line.{Reads};
 ghost use Rattle.script_text.specs.Printing.{printed};
-ghost use Rattle.script_text.specs.Statement.{StatementValue};
+ghost use Rattle.statements.specs.Statement.{Statement};
 
 /// Whatever a line may answer, but no memory, is one answer: one statement, one column, or one of the others.
 pub fn a_line_has_one_reading()
-    ensures { (line : List ℕ) (a b : Result (Option StatementValue) LineFault)
+    ensures { (line : List ℕ) (a b : Result (Option Statement) LineFault)
         → Reads line a → Reads line b → a ≢ Err Memory → b ≢ Err Memory → a ≡ b }
 {}
 
 /// The printed form of a statement in range is read as that statement, where no memory is refused, and as nothing else.
 pub fn printed_statements_are_read_back()
-    ensures reads { (statement : StatementValue) → IsInRange statement → Reads (printed statement) (Ok (Some statement)) }
-    ensures only { (statement : StatementValue) (answer : Result (Option StatementValue) LineFault)
+    ensures reads { (statement : Statement) → IsInRange statement → Reads (printed statement) (Ok (Some statement)) }
+    ensures only { (statement : Statement) (answer : Result (Option Statement) LineFault)
         → IsInRange statement → Reads (printed statement) answer → answer ≢ Err Memory → answer ≡ Ok (Some statement) }
 {}
 

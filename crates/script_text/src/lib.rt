@@ -1,4 +1,4 @@
-//! The script language: statements and plans as values, reading a line, and printing a statement.
+//! The script language: reading a line as a statement, and printing a statement.
 //!
 //! A line is cut into tokens that borrow it, each the longest that stands there (`lexer`, `text`): once for the first
 //! byte at which none begins, and once for a cursor that takes them one by one (`cursor`) under the grammar, which has a
@@ -7,45 +7,35 @@
 //! `specs/Rules.antt`), with one theorem over all forms that what is read is written and what is written is read, and
 //! that the reader is stuck at the first bad token. `print_statement` writes the tokens of a statement under one rule for
 //! the spaces between them (`printer`, `value_printer`, `plan_printer`, `print`), and `read_field` reads what a data file
-//! holds in one column (`field`). Above: `session`, which carries statements out. Below: `sand_base`.
-//! Contracts see a statement as a tree without pointers, its names as lists of bytes; read `specs/Plan.antt` and
-//! `specs/Statement.antt` first, then `specs/Lexical.antt`, `specs/Form.antt`, `specs/Rules.antt`, `specs/Line.antt`
-//! and `specs/Printing.antt`.
+//! holds in one column (`field`). Above: `session`, which carries statements out. Below: `statements` for
+//! statements as values, and `sand_base`.
+//! Contracts see a statement as its tree; read `specs/Lexical.antt` first, then `specs/Form.antt`, `specs/Rules.antt`,
+//! `specs/Line.antt` and `specs/Printing.antt`.
 //! After P. M. Lewis and R. E. Stearns (1968), reading from the left with one token in hand.
 #![tactic(auto)]
 
-mod column;
-mod copy;
 mod cursor;
 mod field;
 mod laws;
 mod lexer;
-mod lists;
 mod parse;
-mod plan;
 mod plan_printer;
 mod plan_reader;
 mod print;
 mod printer;
 mod reader;
-mod statement;
 mod statement_reader;
 mod stuck;
-mod test;
 mod text;
 mod token;
 mod value_printer;
 
-pub use column::{Column, Place};
 pub use field::read_field;
 pub use laws::{a_line_has_one_reading, printed_statements_are_read_back, the_limits};
-pub use lists::{Places, Tests};
 pub use parse::{LineFault, parse_line};
-pub use plan::Plan;
 pub use print::print_statement;
 use sand_base::COORDINATE_BITS;
-pub use statement::Statement;
-pub use test::{Op, Test};
+pub use statements::{Column, Op, Place, Places, Plan, Statement, Test, Tests};
 
 /// The longest name, in bytes.
 pub const LONGEST_NAME: usize = 32;

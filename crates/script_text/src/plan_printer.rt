@@ -1,6 +1,6 @@
 ghost use Rattle.std.specs.Prelude.{◌≡◌, IfOk};
 ghost use Rattle.script_text.specs.Page.{put_all};
-ghost use Rattle.script_text.specs.Plan.{plan_value, Scan, Rank, Window, PickEqual, PickBetween, Join, Semi, Filter, Match, Fetch, First, SortBy, SortNear};
+ghost use Rattle.statements.specs.Plan.{plan_value, Scan, Rank, Window, PickEqual, PickBetween, Join, Semi, Knn, Filter, Match, Fetch, First, SortBy, SortNear};
 ghost use Rattle.script_text.specs.Printing.{inner_words, plan_words};
 
 use crate::printer::Printer;
@@ -84,6 +84,24 @@ impl Printer {
         ensures { IfOk result (λ _. self.new ≡ put_all self.old (plan_words (Semi left.now right.now within))) }
     {
         self.name("semi")?;
+        self.column(left)?;
+        self.column(right)?;
+        self.within(within)?;
+        Ok(())
+    }
+
+    // Writes a `knn`.
+    fn knn(
+        &mut self,
+        k: u8,
+        left: &Column,
+        right: &Column,
+        within: Option<u32>,
+    ) -> Result<(), NoMemory>
+        ensures { IfOk result (λ _. self.new ≡ put_all self.old (plan_words (Knn k left.now right.now within))) }
+    {
+        self.name("knn")?;
+        self.natural(u32::from(k))?;
         self.column(left)?;
         self.column(right)?;
         self.within(within)?;
@@ -200,6 +218,12 @@ impl Printer {
                 right,
                 within,
             } => self.semi(left, right, *within),
+            Plan::Knn {
+                k,
+                left,
+                right,
+                within,
+            } => self.knn(*k, left, right, *within),
             Plan::Filter { plan, tests } => self.filter(plan, tests),
             Plan::Match {
                 plan,

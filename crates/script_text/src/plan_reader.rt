@@ -1,12 +1,12 @@
-ghost use Rattle.std.specs.Prelude.{◌≡◌, codes, box_value};
+ghost use Rattle.std.specs.Prelude.{◌≡◌, ℕ, Option, codes, box_value};
 ghost use Rattle.script_text.specs.declared.token.Symbol.TheVariants.{Equal};
 ghost use Rattle.script_text.specs.Form.{a_plan, rule, seq};
 ghost use Rattle.script_text.specs.Grammar.{reading};
-ghost use Rattle.script_text.specs.Plan.{PickBetween, PlanValue, SortNear, plan_value};
-ghost use Rattle.script_text.specs.declared.column.Column.{Column};
+ghost use Rattle.statements.specs.Plan.{PickBetween, Plan as PlanTree, SortNear, plan_value};
+ghost use Rattle.statements.specs.declared.column.Column.{Column};
 ghost use Rattle.script_text.specs.Reading.{Gives, GivesAs};
 ghost use Rattle.script_text.specs.Rules.{after_sign, after_word, column_form, int_form, place_form, shape_form, tests_form, within_form};
-ghost use Rattle.script_text.specs.Rules.{inner_form, scan_rest, rank_rest, window_rest, pick_rest, join_rest, semi_rest};
+ghost use Rattle.script_text.specs.Rules.{inner_form, scan_rest, rank_rest, window_rest, pick_rest, join_rest, semi_rest, knn_rest};
 ghost use Rattle.script_text.specs.Rules.{filter_rest, match_rest, fetch_rest, first_rest, sort_rest};
 
 use crate::cursor::Cursor;
@@ -60,7 +60,7 @@ impl<'t> Cursor<'t> {
 
     // Reads the lowest and the highest number that are picked.
     fn picked_range(&mut self) -> Result<(i64, i64), Stuck>
-        ensures { GivesAs {A = Column → PlanValue} (λ r c. PickBetween c r.0 r.1) (reading (after_word (codes "from") (seq (λ a b c. PickBetween c a b) int_form (after_word (codes "to") int_form)))) self.old self.new result }
+        ensures { GivesAs {A = Column → PlanTree} (λ r c. PickBetween c r.0 r.1) (reading (after_word (codes "from") (seq (λ a b c. PickBetween c a b) int_form (after_word (codes "to") int_form)))) self.old self.new result }
     {
         self.word("from")?;
         let low = self.int()?;
@@ -117,6 +117,29 @@ impl<'t> Cursor<'t> {
         })
     }
 
+    // Reads the left column, and what may stand behind it.
+    fn partners(&mut self, alloc: Global) -> Result<(Column, (Column, Option<u32>)), Stuck>
+        ensures { Gives (reading (seq (λ l (r : Column × Option ℕ). (l, r)) column_form (seq (λ r w. (r, w)) column_form within_form))) self.old self.new result }
+    {
+        let left = self.column(alloc)?;
+        let right = self.partner(alloc)?;
+        Ok((left, right))
+    }
+
+    // Reads a `knn`, after its word.
+    fn knn(&mut self, alloc: Global) -> Result<Plan, Stuck>
+        ensures { GivesAs plan_value (reading knn_rest) self.old self.new result }
+    {
+        let k = self.natural(1, 255)?;
+        let (left, (right, within)) = self.partners(alloc)?;
+        Ok(Plan::Knn {
+            k: k as u8,
+            left,
+            right,
+            within,
+        })
+    }
+
     // Reads the tests that answers must pass.
     fn condition(&mut self, alloc: Global) -> Result<Tests, Stuck>
         ensures { Gives (reading (after_word (codes "where") tests_form)) self.old self.new result }
@@ -138,7 +161,7 @@ impl<'t> Cursor<'t> {
 
     // Reads the place whose shapes answers are sorted by, and the shape that they are compared with.
     fn sort_goal(&mut self, alloc: Global) -> Result<(Place, Shape), Stuck>
-        ensures { GivesAs {A = PlanValue → PlanValue} (λ q p. SortNear p q.0 q.1) (reading (after_word (codes "near") (seq (λ l g p. SortNear p l g) place_form (after_word (codes "from") shape_form)))) self.old self.new result }
+        ensures { GivesAs {A = PlanTree → PlanTree} (λ q p. SortNear p q.0 q.1) (reading (after_word (codes "near") (seq (λ l g p. SortNear p l g) place_form (after_word (codes "from") shape_form)))) self.old self.new result }
     {
         self.word("near")?;
         let place = self.place(alloc)?;
@@ -250,6 +273,9 @@ impl<'t> Cursor<'t> {
         }
         if self.accept_word("semi") {
             return self.semi(alloc);
+        }
+        if self.accept_word("knn") {
+            return self.knn(alloc);
         }
         if self.accept_word("filter") {
             return self.filter(alloc);

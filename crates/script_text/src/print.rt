@@ -1,8 +1,8 @@
 ghost use Rattle.std.specs.Prelude.{◌≡◌, IfOk};
 ghost use Rattle.script_text.specs.Page.{put_all};
-ghost use Rattle.script_text.specs.Plan.{plan_value};
+ghost use Rattle.statements.specs.Plan.{plan_value};
 ghost use Rattle.script_text.specs.Printing.{printed, words};
-ghost use Rattle.script_text.specs.Statement.{statement_value, Create, Insert, Delete, Load, Index, OpenCursor, Next, CloseCursor, Show, Stats, Blocks};
+ghost use Rattle.statements.specs.Statement.{statement_value, Create, Insert, Delete, Load, Index, OpenCursor, Next, CloseCursor, Show, Stats, Blocks};
 
 use crate::printer::Printer;
 use crate::token::Symbol;

@@ -1,7 +1,7 @@
 ghost use Rattle.std.specs.Prelude.{◌≡◌, codes, true, false, Some, None};
 ghost use Rattle.script_text.specs.Form.{a_natural, alt, nothing};
 ghost use Rattle.script_text.specs.Grammar.{reading, whole};
-ghost use Rattle.script_text.specs.Statement.{statement_value};
+ghost use Rattle.statements.specs.Statement.{statement_value};
 ghost use Rattle.script_text.specs.Reading.{Gives, GivesAs};
 ghost use Rattle.script_text.specs.Rules.{after_word, case_word, create_rest, insert_rest, delete_rest, load_rest, index_rest, open_rest};
 ghost use Rattle.script_text.specs.Rules.{next_rest, close_rest, show_rest, stats_rest, blocks_rest, query_form, statement_form};

@@ -10,7 +10,7 @@ use Rattle.script_lines.specs.Reading.{Reads, Pulls}
 use Rattle.script_lines.specs.declared.script_lines.Found.{Found}
 use Rattle.script_lines.specs.declared.script_lines.Found.TheVariants as found
 use Rattle.script_lines.specs.declared.script_lines.ScriptLines.{ScriptLines}
-use Rattle.sand_model.specs.Statement.{ScriptLine}
+use Rattle.sand_model.specs.ScriptLine.{ScriptLine}
 use Rattle.line_meaning.specs.Carrying.{CarriesLine, CarriesLines, Follows, InEach}
 use Rattle.line_meaning.specs.ShelfRun.{ShelfRun}
 use Rattle.line_meaning.specs.Spoken.{AreLines}

@@ -12,8 +12,9 @@ use Rattle.page_pool.specs.Disk.{PageMap}
 use Rattle.page_pool.specs.Pool.{PoolState, IsTold}
 use Rattle.sand_model.specs.Database.{Database}
 use Rattle.sand_model.specs.Operators.{PlanRow, relations_of, with_gap, gap_cmp}
-use Rattle.sand_model.specs.Plan as plan
-use Rattle.sand_model.specs.Plan.{Plan, Place}
+use Rattle.statements.specs.Plan as plan
+use Rattle.statements.specs.Plan.{Plan}
+use Rattle.statements.specs.declared.column.Place.{Place}
 use Rattle.sand_model.specs.Sources.{sorted}
 use Rattle.best_first.specs.Visits.{told_pages}
 use Rattle.plan_places.specs.Spots.{IsSpot}

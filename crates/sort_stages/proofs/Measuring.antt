@@ -9,7 +9,7 @@ use Rattle.sand_base.specs.declared.value.Value.TheVariants as value
 use Rattle.sand_model.specs.Database.{Database}
 use Rattle.sand_model.specs.FigureGap.{IsFigureGap}
 use Rattle.sand_model.specs.Operators.{PlanRow, value_at, with_gap}
-use Rattle.sand_model.specs.Plan.{Place}
+use Rattle.statements.specs.declared.column.Place.{Place}
 use Rattle.ring_geom.proofs.EdgeLemmas.{corner_of_plane}
 use Rattle.ring_geom.proofs.Farther.{gap_unique}
 use Rattle.ring_geom.proofs.Measured.{measured}

@@ -11,7 +11,7 @@ use Rattle.sand_base.specs.declared.value.Value.TheVariants as value
 use Rattle.page_pool.specs.Disk.{PageMap}
 use Rattle.sand_model.specs.Database.{Database, Relation, relation_named, column_named, row_at, element}
 use Rattle.sand_model.specs.Operators.{PlanRow, kth, value_at}
-use Rattle.sand_model.specs.Plan.{Place}
+use Rattle.statements.specs.declared.column.Place.{Place}
 use Rattle.tuple_codec.specs.Decoding.{IsRowFor}
 use Rattle.tuple_file.specs.Rows.{of_id}
 use Rattle.tuple_file.specs.Table.{AreRowsFor}

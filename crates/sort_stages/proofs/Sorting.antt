@@ -8,7 +8,7 @@ use Rattle.page_pool.specs.Disk.{PageMap}
 use Rattle.page_pool.specs.Pool.{IsTold}
 use Rattle.sand_model.specs.Database.{Database}
 use Rattle.sand_model.specs.Operators.{PlanRow}
-use Rattle.sand_model.specs.Plan.{Plan}
+use Rattle.statements.specs.Plan.{Plan}
 use Rattle.sand_model.specs.Sources.{sorted}
 use Rattle.best_first.specs.Visits.{told_pages}
 use Rattle.plan_rows.specs.declared.answer.Answer.{Answer}

@@ -6,8 +6,9 @@ use Rattle.sand_base.specs.declared.shape.Shape.{Shape}
 use Rattle.page_pool.specs.Disk.{PageMap}
 use Rattle.sand_model.specs.Database.{Database}
 use Rattle.sand_model.specs.Operators.{PlanRow, relations_of, with_gap}
-use Rattle.sand_model.specs.Plan as plan
-use Rattle.sand_model.specs.Plan.{Plan, Place}
+use Rattle.statements.specs.Plan as plan
+use Rattle.statements.specs.Plan.{Plan}
+use Rattle.statements.specs.declared.column.Place.{Place}
 use Rattle.plan_places.specs.Spots.{IsSpot}
 use Rattle.plan_rows.specs.Rows.{plan_measure}
 use Rattle.row_sort.specs.Keyed.{keyed_row, gapped_row}

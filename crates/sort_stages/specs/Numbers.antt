@@ -3,8 +3,9 @@ use Rattle.std.specs.Prelude.{◌≡◌, ℕ, ℤ, List}
 use Rattle.page_pool.specs.Disk.{PageMap}
 use Rattle.sand_model.specs.Database.{Database}
 use Rattle.sand_model.specs.Operators.{PlanRow, relations_of, number_at}
-use Rattle.sand_model.specs.Plan as plan
-use Rattle.sand_model.specs.Plan.{Plan, Place}
+use Rattle.statements.specs.Plan as plan
+use Rattle.statements.specs.Plan.{Plan}
+use Rattle.statements.specs.declared.column.Place.{Place}
 use Rattle.plan_places.specs.Spots.{IsSpot}
 use Rattle.row_sort.specs.Keyed.{keyed_row}
 use Rattle.row_sort.specs.declared.keyed.Keyed.{Keyed}

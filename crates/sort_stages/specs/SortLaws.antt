@@ -4,8 +4,9 @@ use Rattle.std.proofs.lemmas.List.{append-nil, length-append}
 use Rattle.sand_base.specs.declared.shape.Shape.{Shape}
 use Rattle.sand_model.specs.Database.{Database}
 use Rattle.sand_model.specs.Operators.{PlanRow}
-use Rattle.sand_model.specs.Plan as plan
-use Rattle.sand_model.specs.Plan.{Plan, Place}
+use Rattle.statements.specs.Plan as plan
+use Rattle.statements.specs.Plan.{Plan}
+use Rattle.statements.specs.declared.column.Place.{Place}
 use Rattle.plan_rows.specs.declared.answer.Answer.{Answer}
 use Rattle.row_sort.specs.declared.keyed.Keyed.{Keyed}
 use Rattle.plan_steps.specs.Outermost.{is_source, made, beneath, Begins}

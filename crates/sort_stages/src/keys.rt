@@ -9,7 +9,7 @@ ghost use Rattle.page_pool.specs.Pool.{IsTold};
 ghost use Rattle.page_pool.specs.Reads.{IsRead};
 ghost use Rattle.sand_model.specs.Database.{Database};
 ghost use Rattle.sand_model.specs.Operators.{PlanRow, number_at, with_gap};
-ghost use Rattle.sand_model.specs.Plan.{Place};
+ghost use Rattle.statements.specs.declared.column.Place.{Place};
 ghost use Rattle.plan_places.specs.Spots.{Stands, IsSpot};
 ghost use Rattle.plan_rows.specs.Lowest.{lowest_of};
 ghost use Rattle.plan_rows.specs.Rows.{plan_measure};

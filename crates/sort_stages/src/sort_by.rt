@@ -25,8 +25,9 @@ impl SortBy {
     ghost use Rattle.page_pool.specs.Disk.{PageMap};
     ghost use Rattle.sand_model.specs.Database.{Database};
     ghost use Rattle.sand_model.specs.Operators.{relations_of};
-    ghost use Rattle.sand_model.specs.Plan as plan;
-    ghost use Rattle.sand_model.specs.Plan.{Plan, Place};
+    ghost use Rattle.statements.specs.Plan as plan;
+    ghost use Rattle.statements.specs.Plan.{Plan};
+    ghost use Rattle.statements.specs.declared.column.Place.{Place};
     ghost use Rattle.plan_places.specs.Spots.{IsSpot};
 
     /// The stage of a sort by this place. It takes no memory.

@@ -18,8 +18,8 @@ use Rattle.z_code.specs.declared.block.Block.{Block}
 use Rattle.sand_model.specs.Cursor.{Cursor, OutputLine, LeafOf, Refused}
 use Rattle.sand_model.specs.Outcome.{Rises, IsLicensed, leaf_lines}
 use Rattle.sand_model.specs.OutputText.{is_refused}
-use Rattle.sand_model.specs.Plan.{Column}
-use Rattle.sand_model.specs.Statement.{Blocks}
+use Rattle.statements.specs.declared.column.Column.{Column}
+use Rattle.statements.specs.Statement.{Blocks}
 use Rattle.sand_model.specs.StatementChecks.{Setting, early}
 use Rattle.sand_model.specs.Tree.{leaves, root_block}
 use Rattle.sand_store.specs.Calls.{refusal_of}

@@ -8,7 +8,7 @@ use Rattle.sand_base.specs.declared.kind.Kind.{Kind}
 use Rattle.sand_base.specs.declared.refusal.Refusal.TheVariants as why
 use Rattle.sand_model.specs.Checks.{kind_named, is_indexed}
 use Rattle.sand_model.specs.Database.{relation_named, column_named, element, index_at, Quadtree}
-use Rattle.sand_model.specs.Plan.{Column}
+use Rattle.statements.specs.declared.column.Column.{Column}
 use Rattle.sand_store.specs.Catalog.{CatalogView, RelationView, IsDescribed}
 use Rattle.sand_store.specs.Contents.{database_in, relation_in}
 use Rattle.sand_store.specs.Paths.{IsTreeOf, HasNoIndex}

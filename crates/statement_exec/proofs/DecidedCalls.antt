@@ -12,8 +12,8 @@ use Rattle.sand_base.specs.declared.value.Value.{Value}
 use Rattle.sand_model.specs.Cursor.{Cursor, Accepted, Id, Loaded as LoadedLine, Refused}
 use Rattle.sand_model.specs.Database.{Index}
 use Rattle.sand_model.specs.Outcome.{uses_pages}
-use Rattle.sand_model.specs.Plan.{Column}
-use Rattle.sand_model.specs.Statement.{Statement, Create, Insert, Delete, Load, Index as IndexOn}
+use Rattle.statements.specs.declared.column.Column.{Column}
+use Rattle.statements.specs.Statement.{Statement, Create, Insert, Delete, Load, Index as IndexOn}
 use Rattle.sand_model.specs.StatementChecks.{Setting, early, file_rows, late}
 use Rattle.sand_store.specs.Calls.{Refuses, IsRefusedBy, IsUnchanged, Created, Inserted, Deleted, Indexed, Loaded, LoadIsRefusedBy, IsRefusedPlainly, early_at, late_at, load_early, load_late, load_plain, plain_checks, is_none, is_full, is_missing, is_of_a_row}
 use Rattle.sand_store.specs.Catalog.{CatalogView, RelationView, StoreState}

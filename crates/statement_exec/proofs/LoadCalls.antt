@@ -10,7 +10,7 @@ use Rattle.page_pool.specs.Pool.{IsTold}
 use Rattle.sand_model.specs.Cursor.{Cursor, Loaded as LoadedLine, Refused}
 use Rattle.sand_model.specs.Database.{Database, Relation, relation_named, changed_at, has_name}
 use Rattle.sand_model.specs.Outcome.{Rises, Outcome}
-use Rattle.sand_model.specs.Statement.{Statement, Load}
+use Rattle.statements.specs.Statement.{Statement, Load}
 use Rattle.sand_model.specs.StatementChecks.{Setting, IsSetting, early, late, entered, file_rows, in_relation}
 use Rattle.sand_store.proofs.SchemaRows.{loaded_entered}
 use Rattle.sand_store.specs.Calls.{Refuses, HasCause, IsUnchanged, Loaded, LoadIsRefusedBy, IsRefusedPlainly, loaded, load_early, load_late, is_of_a_row}

@@ -10,7 +10,7 @@ use Rattle.page_pool.specs.Disk.{PageMap}
 use Rattle.page_pool.specs.Pool.{PoolState}
 use Rattle.sand_model.specs.Cursor.{Cursor}
 use Rattle.sand_model.specs.Database.{Database, Relation, relation_named}
-use Rattle.sand_model.specs.Statement.{Load}
+use Rattle.statements.specs.Statement.{Load}
 use Rattle.sand_model.specs.StatementChecks.{Setting, IsSetting, FileRows, AreRows, HasBad, early, check_load, file_rows, longest_file}
 use Rattle.sand_store.specs.Catalog.{CatalogView, RelationView}
 use Rattle.sand_store.specs.Contents.{database_in, relation_in}

@@ -4,7 +4,7 @@ use Rattle.sand_base.specs.Shelf.{Files}
 use Rattle.sand_base.specs.declared.refusal.Refusal.{Refusal}
 use Rattle.sand_model.specs.Cursor.{State, OutputLine}
 use Rattle.sand_model.specs.Outcome.{Rises, Outcome, IsLicensed, IsCaused, IsRefusedBy, IsCarriedOut}
-use Rattle.sand_model.specs.Statement.{Statement, Load}
+use Rattle.statements.specs.Statement.{Statement, Load}
 use Rattle.sand_model.specs.StatementChecks.{Setting, early, late}
 use Rattle.statement_exec.specs.Moment.{AreTold}
 use Rattle.statement_exec.specs.Performing.{ShelfOutcome}

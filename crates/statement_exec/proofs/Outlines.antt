@@ -14,9 +14,12 @@ use Rattle.sand_model.specs.Cursor.{State, Cursor, new_cursor}
 use Rattle.sand_model.specs.Database.{Database, Relation, Index, Attribute, same_name, has_name, relation_named, column_named, element}
 use Rattle.sand_model.specs.Kept.{has_twice, most_relations}
 use Rattle.sand_model.specs.Operators.{relations_of, kth}
-use Rattle.sand_model.specs.Plan as plan
-use Rattle.sand_model.specs.Plan.{Plan, Column, Place, Test, Scan}
-use Rattle.sand_model.specs.Statement.{Statement, Create, Insert, Delete, Load, Index as IndexOn, OpenCursor, Next, CloseCursor, Show, Stats, Blocks}
+use Rattle.statements.specs.Plan as plan
+use Rattle.statements.specs.Plan.{Plan, Scan}
+use Rattle.statements.specs.declared.column.Column.{Column}
+use Rattle.statements.specs.declared.column.Place.{Place}
+use Rattle.statements.specs.declared.test.Test.{Test}
+use Rattle.statements.specs.Statement.{Statement, Create, Insert, Delete, Load, Index as IndexOn, OpenCursor, Next, CloseCursor, Show, Stats, Blocks}
 use Rattle.sand_model.specs.StatementChecks.{Setting, FileRows, AreRows, HasBad, early, refused_where, in_relation, in_column, is_there, is_row_of, check_cursor, check_length, check_ids, check_load, check_records, check_depth, in_file, file_rows, most_cursors, longest_file}
 use Rattle.sand_store.specs.Calls.{plain_checks, check_kinds}
 use Rattle.statement_exec.specs.Outline.{sketch_in, outline_of, bare, bare_relation}
@@ -177,6 +180,7 @@ module _ (d : Database) where
   operators_shown (plan.PickBetween column low high) = asked_shown column (same_kind kind.Int)
   operators_shown (plan.Join left right within) = ap₂ (λ (a b : Option Refusal). first_refusal (a ∷ b ∷ [])) (asked_shown left is_spatial) (asked_shown right is_spatial)
   operators_shown (plan.Semi left right within) = ap₂ (λ (a b : Option Refusal). first_refusal (a ∷ b ∷ [])) (asked_shown left is_spatial) (asked_shown right is_spatial)
+  operators_shown (plan.Knn k left right within) = ap₂ (λ (a b : Option Refusal). first_refusal (a ∷ b ∷ [])) (asked_shown left is_spatial) (asked_shown right is_spatial)
   operators_shown (plan.Filter p tests) = ap₂ (λ (a b : Option Refusal). first_refusal (a ∷ b ∷ [])) (operators_shown p) (tests_shown (relations_of p) tests)
   operators_shown (plan.Match p place column) =
       let kinds : place_kind (shown_all d) (relations_of p) place ≡ place_kind d (relations_of p) place = place_shown (relations_of p) place in

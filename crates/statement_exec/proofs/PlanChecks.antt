@@ -9,10 +9,13 @@ use Rattle.sand_base.specs.declared.refusal.Refusal.TheVariants as why
 use Rattle.sand_model.specs.Checks.{check, most_operators, first_refusal, check_column, check_place, check_relation, check_tests, check_places, check_operators, kind_named, is_indexed, place_kind, is_plain, is_plain_pair, can_compare}
 use Rattle.sand_model.specs.Database.{Database, Relation, relation_named}
 use Rattle.sand_model.specs.Operators.{relations_of}
-use Rattle.sand_model.specs.Plan as plan
-use Rattle.sand_model.specs.Plan.{Plan, Column, Place, Test, depth}
+use Rattle.statements.specs.Plan as plan
+use Rattle.statements.specs.Plan.{Plan, depth}
+use Rattle.statements.specs.declared.column.Column.{Column}
+use Rattle.statements.specs.declared.column.Place.{Place}
+use Rattle.statements.specs.declared.test.Test.{Test}
 use Rattle.sand_model.specs.Cursor.{State}
-use Rattle.sand_model.specs.Statement.{OpenCursor as Opens, Show}
+use Rattle.statements.specs.Statement.{OpenCursor as Opens, Show}
 use Rattle.sand_model.specs.StatementChecks.{Setting, early, refused_where, is_there, cursor_named, check_depth, most_cursors}
 use Rattle.statement_exec.specs.LeafLines.{IsOfCheck}
 
@@ -94,6 +97,7 @@ inside_operators d (plan.PickEqual column v) = inside_column d column (λ k. is_
 inside_operators d (plan.PickBetween column low high) = inside_column d column (same_kind kind.Int)
 inside_operators d (plan.Join left right within) = inside_two _ _ (inside_column d left is_spatial) (inside_column d right is_spatial)
 inside_operators d (plan.Semi left right within) = inside_two _ _ (inside_column d left is_spatial) (inside_column d right is_spatial)
+inside_operators d (plan.Knn k left right within) = inside_two _ _ (inside_column d left is_spatial) (inside_column d right is_spatial)
 inside_operators d (plan.Filter p tests) = inside_two _ _ (inside_operators d p) (inside_tests d (relations_of p) tests)
 inside_operators d (plan.Match p place column) =
     inside_three _ _ _ (inside_operators d p) (inside_place d (relations_of p) place (λ k. true))

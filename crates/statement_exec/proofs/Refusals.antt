@@ -11,8 +11,8 @@ use Rattle.sand_model.specs.Checks.{first_refusal, kind_named}
 use Rattle.sand_model.specs.Cursor.{State, OutputLine}
 use Rattle.sand_model.specs.Database.{Database, Relation, relation_named}
 use Rattle.sand_model.specs.Outcome.{Rises, Outcome, IsCaused, IsRefusedBy, uses_pages}
-use Rattle.sand_model.specs.Plan.{Column}
-use Rattle.sand_model.specs.Statement.{Statement}
+use Rattle.statements.specs.declared.column.Column.{Column}
+use Rattle.statements.specs.Statement.{Statement}
 use Rattle.sand_model.specs.StatementChecks.{Setting, early, late, refused_where, in_relation, in_column}
 use Rattle.sand_store.specs.Calls.{Refuses, HasCause}
 use Rattle.statement_exec.specs.LeafLines.{IsOfCheck}

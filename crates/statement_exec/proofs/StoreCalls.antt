@@ -11,9 +11,9 @@ use Rattle.sand_model.specs.Cursor.{Cursor, Accepted, Id, Refused}
 use Rattle.sand_model.specs.Database.{Database, Relation, relation_named}
 use Rattle.sand_model.specs.Kept.{has_twice, most_relations, longest_row}
 use Rattle.sand_model.specs.Outcome.{Rises, uses_pages}
-use Rattle.sand_model.specs.Plan.{Column}
+use Rattle.statements.specs.declared.column.Column.{Column}
 use Rattle.sand_model.specs.RowSize.{row_size}
-use Rattle.sand_model.specs.Statement.{Statement, Create, Insert, Delete, Index}
+use Rattle.statements.specs.Statement.{Statement, Create, Insert, Delete, Index}
 use Rattle.sand_model.specs.StatementChecks.{Setting, IsSetting, refused_where, is_there, in_relation, in_column, is_row_of, check_length, check_ids, early, late}
 use Rattle.sand_store.specs.Calls.{HasCause, IsUnchanged, IsRefusedBy, Created, Inserted, Deleted, Indexed, Refuses, early_at, late_at}
 use Rattle.sand_store.specs.Catalog.{StoreState}

@@ -8,7 +8,7 @@ use Rattle.sand_model.specs.Cursor.{State, OutputLine, Accepted, Id, Loaded, Sta
 use Rattle.sand_model.specs.Outcome.{OfRelation, ReachesFile, uses_pages}
 use Rattle.sand_model.specs.OutputText.{is_refused}
 use Rattle.sand_model.specs.Reach.{Counts}
-use Rattle.sand_model.specs.Statement.{Statement, Create, Insert, Delete, Load, Index as IndexOn, OpenCursor, CloseCursor, Stats}
+use Rattle.statements.specs.Statement.{Statement, Create, Insert, Delete, Load, Index as IndexOn, OpenCursor, CloseCursor, Stats}
 use Rattle.sand_model.specs.StatementChecks.{Setting, early, file_rows}
 use Rattle.sand_store.specs.Calls.{plain_checks}
 use Rattle.statement_exec.specs.Moment.{AreTold}

@@ -8,7 +8,7 @@ use Rattle.sand_base.specs.declared.refusal.Refusal.TheVariants as why
 use Rattle.page_pool.specs.Pool.{PoolState}
 use Rattle.sand_model.specs.Cursor.{Cursor, OutputLine, Refused}
 use Rattle.sand_model.specs.OutputText.{IsText, is_refused}
-use Rattle.sand_model.specs.Statement.{Statement}
+use Rattle.statements.specs.Statement.{Statement}
 use Rattle.output_text.specs.Writing.{Writes}
 use Rattle.sand_store.specs.Calls.{faults_at}
 use Rattle.sand_store.specs.Catalog.{CatalogView}

@@ -8,8 +8,8 @@ use Rattle.sand_base.specs.declared.refusal.Refusal.TheVariants as why
 use Rattle.sand_model.specs.Cursor.{State, Cursor}
 use Rattle.sand_model.specs.Database.{Relation, relation_named}
 use Rattle.sand_model.specs.Outcome.{leaf_lines}
-use Rattle.sand_model.specs.Plan.{Column}
-use Rattle.sand_model.specs.Statement.{Blocks}
+use Rattle.statements.specs.declared.column.Column.{Column}
+use Rattle.statements.specs.Statement.{Blocks}
 use Rattle.sand_model.specs.StatementChecks.{Setting, early}
 use Rattle.sand_model.specs.Tree.{leaves, root_block}
 use Rattle.sand_store.specs.Catalog.{CatalogView}

@@ -8,7 +8,7 @@ use Rattle.sand_base.specs.declared.value.Value.{Value}
 use Rattle.page_pool.specs.Pool.{PoolState}
 use Rattle.sand_model.specs.Cursor.{Cursor, State}
 use Rattle.sand_model.specs.Database.{Relation, relation_named}
-use Rattle.sand_model.specs.Statement.{Load}
+use Rattle.statements.specs.Statement.{Load}
 use Rattle.sand_model.specs.StatementChecks.{Setting, early, check_load, file_rows}
 use Rattle.sand_base.specs.InRange.{IsRowOf}
 use Rattle.std.specs.List.{All}

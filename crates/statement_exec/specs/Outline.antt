@@ -2,8 +2,8 @@
 use Rattle.std.specs.Prelude.{ℕ, not, List, [], ◌∷◌, ◌++◌, map, filter}
 use Rattle.sand_model.specs.Cursor.{State, OutputLine, Accepted, Id, Loaded, new_cursor}
 use Rattle.sand_model.specs.Database.{Relation, Attribute, same_name}
-use Rattle.sand_model.specs.Plan.{Scan}
-use Rattle.sand_model.specs.Statement.{Statement, Create, Insert, Load, Index, OpenCursor, CloseCursor}
+use Rattle.statements.specs.Plan.{Scan}
+use Rattle.statements.specs.Statement.{Statement, Create, Insert, Load, Index, OpenCursor, CloseCursor}
 use Rattle.sand_store.specs.Sketches.{Sketch, new_sketch, with_ids, with_indexed, sketched_at}
 
 -- an outline of a state: sketches of its relations, the oldest first, and the names of its open cursors

@@ -5,7 +5,7 @@ use Rattle.sand_base.specs.Shelf.{Files}
 use Rattle.sand_base.specs.declared.refusal.Refusal.{Refusal}
 use Rattle.sand_model.specs.Cursor.{Cursor, State, OutputLine, Accepted, Id, Loaded, Refused}
 use Rattle.sand_model.specs.Outcome.{Rises, Outcome}
-use Rattle.sand_model.specs.Statement.{Statement, Load}
+use Rattle.statements.specs.Statement.{Statement, Load}
 use Rattle.sand_model.specs.StatementChecks.{Setting}
 use Rattle.sand_store.specs.Catalog.{StoreState}
 use Rattle.statement_exec.specs.Causes.{AreCaused}

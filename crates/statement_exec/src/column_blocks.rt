@@ -1,7 +1,7 @@
 ghost use Rattle.std.specs.Prelude.{◌≡◌, IfOk, OnErr};
 ghost use Rattle.page_pool.specs.Reads.{IsRead};
 ghost use Rattle.sand_base.specs.Faults.{HasCause};
-ghost use Rattle.sand_model.specs.Statement.{Blocks};
+ghost use Rattle.statements.specs.Statement.{Blocks};
 ghost use Rattle.sand_store.specs.Calls.{refusal_of};
 ghost use Rattle.sand_store.specs.Standing.{IsStore};
 ghost use Rattle.output_text.specs.Writing.{Writes, WritesPrefix};

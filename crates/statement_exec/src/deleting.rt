@@ -1,4 +1,4 @@
-ghost use Rattle.sand_model.specs.Statement.{Delete};
+ghost use Rattle.statements.specs.Statement.{Delete};
 ghost use Rattle.sand_store.specs.Calls.{Carries, HasCause};
 ghost use Rattle.statement_exec.specs.Performing.{Changes};
 

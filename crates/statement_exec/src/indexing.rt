@@ -1,5 +1,5 @@
 ghost use Rattle.std.specs.Prelude.{◌≤◌, IfSome};
-ghost use Rattle.sand_model.specs.Statement.{Index};
+ghost use Rattle.statements.specs.Statement.{Index};
 ghost use Rattle.sand_store.specs.Calls.{Carries, HasCause};
 ghost use Rattle.statement_exec.specs.Performing.{Changes};
 

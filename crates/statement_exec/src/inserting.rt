@@ -1,5 +1,5 @@
 ghost use Rattle.sand_base.specs.InRange.{IsRowInRange};
-ghost use Rattle.sand_model.specs.Statement.{Insert};
+ghost use Rattle.statements.specs.Statement.{Insert};
 ghost use Rattle.sand_store.specs.Calls.{Carries, HasCause};
 ghost use Rattle.statement_exec.specs.Performing.{Changes};
 

@@ -1,7 +1,7 @@
 ghost use Rattle.std.specs.Prelude.{◌≡◌, All, IfOk, IfErr, List, [], ◌∷◌};
 ghost use Rattle.sand_base.specs.InRange.{IsRowInRange};
 ghost use Rattle.sand_model.specs.Cursor.{Cursor};
-ghost use Rattle.sand_model.specs.Statement.{Load};
+ghost use Rattle.statements.specs.Statement.{Load};
 ghost use Rattle.sand_store.specs.Calls.{Carries, HasCause};
 ghost use Rattle.sand_store.specs.Catalog.{IsCatalog};
 ghost use Rattle.statement_exec.specs.Loading.{InSettings, IsOfNoPage, IsRefusedEarly, Yields, shelf_after};

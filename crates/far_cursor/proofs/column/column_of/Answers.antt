@@ -2,7 +2,7 @@
 use Rattle.std.proofs.Common.{◌≡◌, ℕ, List, true, refl, ◌∙◌, sym, ap, slice_index_or}
 use Rattle.sand_base.specs.Shape.{is_spatial}
 use Rattle.sand_base.specs.declared.kind.Kind.{Kind}
-use Rattle.sand_model.specs.Plan.{Column}
+use Rattle.statements.specs.declared.column.Column.{Column}
 use Rattle.far_cursor.proofs.FarColumns.{element_at, has_column, lacks_index}
 use Rattle.far_cursor.proofs.column.column_of.Goals as goal
 

@@ -1,7 +1,7 @@
 -- the cursor is behind the others under a stamp of its own, or they are as they were
 use Rattle.std.proofs.Common.{List, [], ◌∷◌, ◌++◌, sym, ◌∙◌, ap, subst}
 use Rattle.page_pool.specs.Pool.{shown_of}
-use Rattle.plan_check.specs.PlanValue.{plan_value}
+use Rattle.statements.specs.Plan.{plan_value}
 use Rattle.plan_ops.specs.declared.source.Source.{Source}
 use Rattle.plan_ops.specs.declared.stage.Stage.{Stage}
 use Rattle.sand_model.specs.Cursor.{new_cursor}

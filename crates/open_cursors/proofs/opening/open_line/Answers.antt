@@ -1,7 +1,7 @@
 -- the cursor is behind the others, or they are as they were, and the line of it is written
 use Rattle.std.proofs.Common.{refl}
 use Rattle.open_cursors.specs.OpenCursors.{AreNamed, StandAll}
-use Rattle.plan_check.specs.PlanValue.{plan_value}
+use Rattle.statements.specs.Plan.{plan_value}
 use Rattle.open_cursors.specs.PlanCursors.{PlanAt}
 use Rattle.open_cursors.proofs.Openings.{opened_carried, unopened_carried}
 use Rattle.open_cursors.proofs.opening.open_line.Goals as goal

@@ -1,6 +1,6 @@
 -- the first check that fails, or memory, or a cursor that stands where the model's does
 use Rattle.std.proofs.Common.{Some, None, refl, inl, inr}
-use Rattle.plan_check.specs.PlanValue.{plan_value}
+use Rattle.statements.specs.Plan.{plan_value}
 use Rattle.open_cursors.proofs.Openings.{checks_given, checks_named}
 use Rattle.open_cursors.proofs.opening.ready.Goals as goal
 

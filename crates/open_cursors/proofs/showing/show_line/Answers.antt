@@ -1,6 +1,6 @@
 -- the rows of a new cursor, or why there is none
 use Rattle.std.proofs.Common.{[]}
-use Rattle.plan_check.specs.PlanValue.{plan_value}
+use Rattle.statements.specs.Plan.{plan_value}
 use Rattle.sand_model.specs.Cursor.{Cursor, new_cursor}
 use Rattle.sand_store.specs.Contents.{database_in}
 use Rattle.open_cursors.specs.PlanCursors.{PlanOver}

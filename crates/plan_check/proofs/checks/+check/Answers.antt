@@ -1,11 +1,11 @@
 -- those beneath it fail, or its own decide
 use Rattle.std.proofs.Common.{◌∙◌, ap}
 use Rattle.std.proofs.lemmas.Result.{err_from_is_err_and}
-use Rattle.script_text.specs.declared.plan.Plan.{Plan}
+use Rattle.statements.specs.declared.plan.Plan.{Plan}
 use Rattle.sand_model.specs.Checks.{check_operators}
 use Rattle.sand_store.specs.Contents.{database_in}
 use Rattle.plan_check.specs.OperatorCheck.{check_operator}
-use Rattle.plan_check.specs.PlanValue.{plan_value}
+use Rattle.statements.specs.Plan.{plan_value}
 use Rattle.plan_check.proofs.Refusals.{first_stops, second_decides}
 use Rattle.plan_check.proofs.Operators.{over_inner, source_alone}
 use Rattle.plan_check.proofs.checks.+check.Goals as goal

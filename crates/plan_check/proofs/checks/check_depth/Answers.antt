@@ -1,5 +1,5 @@
 -- the number of operators, or the greatest number, is compared
-use Rattle.script_text.specs.Plan.{plan_value}
+use Rattle.statements.specs.Plan.{plan_value}
 use Rattle.plan_check.proofs.Depths.{too_deep, not_deep}
 use Rattle.plan_check.proofs.checks.check_depth.Goals as goal
 

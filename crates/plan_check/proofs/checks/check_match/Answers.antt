@@ -4,7 +4,6 @@ use Rattle.std.proofs.lemmas.Result.{err_from_is_err_and}
 use Rattle.sand_base.specs.declared.kind.Kind.{Kind}
 use Rattle.sand_model.specs.Checks.{check_column, is_plain_pair}
 use Rattle.sand_store.specs.Contents.{database_in}
-use Rattle.plan_check.specs.PlanValue.{column_value}
 use Rattle.plan_check.proofs.Refusals.{first_stops, second_decides}
 use Rattle.plan_check.proofs.checks.check_match.Goals as goal
 
@@ -17,4 +16,4 @@ pub returns : goal.returns
 returns c = λ is_catalog pages.
     second_decides c.check_place.result c.check_column.result c.in_ok-check_place.field-0 _ _ c.in_ok-check_place.was (c.check_place.ensures pages)
     (c.check_column.ensures is_catalog pages
-    ∙ ap (λ (k : Option Kind). check_column (database_in pages c.args.catalog.now.relations) (column_value c.args.column.now) (is_plain_pair k)) (c.place_kind.ensures pages))
+    ∙ ap (λ (k : Option Kind). check_column (database_in pages c.args.catalog.now.relations) c.args.column.now (is_plain_pair k)) (c.place_kind.ensures pages))

@@ -7,10 +7,10 @@ use Rattle.sand_base.specs.Shape.{value_kind}
 use Rattle.sand_model.specs.Checks.{check_place, check_tests}
 use Rattle.sand_model.specs.Operators.{relations_of}
 use Rattle.sand_store.specs.Contents.{database_in}
-use Rattle.script_text.specs.declared.test.Test.{Test}
+use Rattle.statements.specs.declared.test.Test.{Test}
 use Rattle.plan_check.specs.Asked.{is_asked}
 use Rattle.plan_check.specs.declared.asked.Asked.TheVariants as asked
-use Rattle.plan_check.specs.PlanValue.{plan_value, test_value, place_value}
+use Rattle.statements.specs.Plan.{plan_value}
 use Rattle.plan_check.proofs.Refusals.{first_stops, first_passes}
 use Rattle.plan_check.proofs.Rests.{next_left, none_left}
 use Rattle.plan_check.proofs.checks.check_tests.Goals as goal
@@ -25,20 +25,20 @@ returns-in_err-check_place c = λ pages.
     let left = next_left c.args.tests.now c.tests.test-index c.test-item.result c.tests-test.true c.test-item.is in
     let p = err_from_is_err_and c.from_residual.result c.from_residual.ensures.1 in
     first_stops c.check_place.result c.from_residual.result p.0 c.in_err-check_place.field-0.0 _
-    (check_tests d names (map test_value (drop (c.tests.test-index + 1) c.args.tests.now))) c.in_err-check_place.was p.1 p.2 (c.check_place.ensures pages ∙ ap (λ (k : Kind). check_place d names (place_value c.test-item.result.place) (is_asked (asked.ComparedWith c.test-item.result.op k))) c.kind.ensures)
-    ∙ (sym (ap (λ (xs : List Test). check_tests d names (map test_value xs)) left) ∙ c.tests.invariant pages)
+    (check_tests d names (drop (c.tests.test-index + 1) c.args.tests.now)) c.in_err-check_place.was p.1 p.2 (c.check_place.ensures pages ∙ ap (λ (k : Kind). check_place d names c.test-item.result.place (is_asked (asked.ComparedWith c.test-item.result.op k))) c.kind.ensures)
+    ∙ (sym (ap (λ (xs : List Test). check_tests d names xs) left) ∙ c.tests.invariant pages)
 
 pub tests-preserved : goal.tests-preserved
 tests-preserved c = λ pages.
     let d = database_in pages c.args.catalog.now.relations in
     let names = relations_of (plan_value c.args.plan.now) in
     let left = next_left c.args.tests.now c.tests.test-index c.test-item.result c.tests-test.true c.test-item.is in
-    let behind = check_tests d names (map test_value (drop (c.tests.test-index + 1) c.args.tests.now)) in
-    let passed : None ≡ check_place d names (place_value c.test-item.result.place) (is_asked (asked.ComparedWith c.test-item.result.op (value_kind c.test-item.result.value))) = sym (ap result_err c.in_ok-check_place.was) ∙ (c.check_place.ensures pages ∙ ap (λ (k : Kind). check_place d names (place_value c.test-item.result.place) (is_asked (asked.ComparedWith c.test-item.result.op k))) c.kind.ensures) in
-    first_passes _ behind behind passed refl ∙ (sym (ap (λ (xs : List Test). check_tests d names (map test_value xs)) left) ∙ c.tests.invariant pages)
+    let behind = check_tests d names (drop (c.tests.test-index + 1) c.args.tests.now) in
+    let passed : None ≡ check_place d names c.test-item.result.place (is_asked (asked.ComparedWith c.test-item.result.op (value_kind c.test-item.result.value))) = sym (ap result_err c.in_ok-check_place.was) ∙ (c.check_place.ensures pages ∙ ap (λ (k : Kind). check_place d names c.test-item.result.place (is_asked (asked.ComparedWith c.test-item.result.op k))) c.kind.ensures) in
+    first_passes _ behind behind passed refl ∙ (sym (ap (λ (xs : List Test). check_tests d names xs) left) ∙ c.tests.invariant pages)
 
 pub returns : goal.returns
 returns c = λ pages.
     let d = database_in pages c.args.catalog.now.relations in
     let names = relations_of (plan_value c.args.plan.now) in
-    sym (ap (λ (xs : List Test). check_tests d names (map test_value xs)) (none_left c.args.tests.now c.tests.test-index c.tests-test.false)) ∙ c.tests.invariant pages
+    sym (ap (λ (xs : List Test). check_tests d names xs) (none_left c.args.tests.now c.tests.test-index c.tests-test.false)) ∙ c.tests.invariant pages

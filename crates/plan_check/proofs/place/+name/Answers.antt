@@ -1,8 +1,8 @@
 -- each source has its names, and a match one more
 use Rattle.std.proofs.Common.{◌≡◌, ℕ, ◌+◌, List, [], ◌∷◌, ◌++◌, sym, ◌∙◌, ap, subst, arith, inl, inr}
-use Rattle.script_text.specs.declared.plan.Plan.{Plan}
+use Rattle.statements.specs.declared.plan.Plan.{Plan}
 use Rattle.sand_model.specs.Operators.{relations_of}
-use Rattle.plan_check.specs.PlanValue.{plan_value}
+use Rattle.statements.specs.Plan.{plan_value}
 use Rattle.plan_check.specs.Search.{IsSearched}
 use Rattle.plan_check.proofs.place.+name.Goals as goal
 
@@ -19,7 +19,7 @@ pub returns-in-Join : goal.returns-in-Join
 returns-in-Join t c =
     let start : c.args.at ≡ 0 + c.args.at = omega arith in
     let names : c.in-Join.left.relation ∷ c.in-Join.right.relation ∷ [] ≡ names_of c.args.plan.now =
-    elim c.in-Join.is [ inl h ↦ ap names_of (sym h.1) | inr h ↦ ap names_of (sym h.1) ] in
+    elim c.in-Join.is [ inl h ↦ ap names_of (sym h.1) | inr (inl h) ↦ ap names_of (sym h.1) | inr (inr h) ↦ ap names_of (sym h.2) ] in
     subst (λ (names : List (List ℕ)). IsSearched names c.args.at c.or_next-in-Join-2.result) names
     (c.or_next-in-Join-2.ensures (c.in-Join.left.relation ∷ []) c.args.at (c.or_next-in-Join.ensures [] c.args.at start))
 

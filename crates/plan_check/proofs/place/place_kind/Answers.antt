@@ -6,7 +6,7 @@ use Rattle.sand_model.specs.Checks.{kind_named}
 use Rattle.sand_model.specs.Database.{relation_named}
 use Rattle.sand_model.specs.Operators.{relations_of}
 use Rattle.sand_store.specs.Contents.{database_in, relation_in}
-use Rattle.plan_check.specs.PlanValue.{plan_value, place_value}
+use Rattle.statements.specs.Plan.{plan_value}
 use Rattle.plan_check.proofs.Columns.{place_found, seen_in}
 use Rattle.plan_check.proofs.place.place_kind.Goals as goal
 
@@ -17,7 +17,7 @@ pub returns-in_err-relation : goal.returns-in_err-relation
 returns-in_err-relation c = λ pages.
     let d = database_in pages c.args.catalog.now.relations in
     c.from_residual-in_err-relation.ensures
-    ∙ place_found d (relations_of (plan_value c.args.plan.now)) (place_value c.args.place.now) c.in_ok-name.name.now None
+    ∙ place_found d (relations_of (plan_value c.args.plan.now)) c.args.place.now c.in_ok-name.name.now None
     (sym c.relation_name.ensures ∙ ap name_in c.in_ok-name.was)
     (ap (λ (name : List ℕ). relation_named d name) (sym c.as_str.ensures) ∙ (c.relation.ensures.named pages ∙ ap (seen_in pages) c.in_err-relation.was))
 
@@ -26,6 +26,6 @@ returns c = λ pages.
     let d = database_in pages c.args.catalog.now.relations in
     c.kind_named.ensures pages
     ∙ (ap (λ (name : List ℕ). kind_named (relation_in pages c.in_ok-relation.relation.now) name) c.as_str-2.ensures
-    ∙ place_found d (relations_of (plan_value c.args.plan.now)) (place_value c.args.place.now) c.in_ok-name.name.now (Some (relation_in pages c.in_ok-relation.relation.now))
+    ∙ place_found d (relations_of (plan_value c.args.plan.now)) c.args.place.now c.in_ok-name.name.now (Some (relation_in pages c.in_ok-relation.relation.now))
     (sym c.relation_name.ensures ∙ ap name_in c.in_ok-name.was)
     (ap (λ (name : List ℕ). relation_named d name) (sym c.as_str.ensures) ∙ (c.relation.ensures.named pages ∙ ap (seen_in pages) c.in_ok-relation.was)))

@@ -4,7 +4,6 @@ use Rattle.std.proofs.Common.{sym, ◌∙◌, ap, true, List, ℕ}
 use Rattle.page_pool.specs.Disk.{PageMap}
 use Rattle.sand_model.specs.Database.{relation_named, column_named}
 use Rattle.sand_store.specs.Contents.{database_in, relation_in}
-use Rattle.plan_check.specs.PlanValue.{column_value}
 use Rattle.plan_check.proofs.Columns.{seen_in}
 use Rattle.plan_ops.proofs.Resolved.{related, placed, kind_there, index_there, described_at}
 use Rattle.plan_ops.proofs.columns.tree_column.Goals as goal
@@ -13,7 +12,7 @@ pub unreachable-requires : goal.unreachable-requires
 unreachable-requires c =
     let pages : PageMap = map.empty in
     let d = database_in pages c.args.catalog.now.relations in
-    related d (column_value c.args.column.now) true (c.requires.checked pages)
+    related d c.args.column.now true (c.requires.checked pages)
     (ap (λ (name : List ℕ). relation_named d name) (sym c.as_str.ensures) ∙ (c.relation.ensures.named pages ∙ ap (seen_in pages) c.in_default.is))
 
 pub unreachable-requires-in_default-column : goal.unreachable-requires-in_default-column
@@ -21,7 +20,7 @@ unreachable-requires-in_default-column c =
     let pages : PageMap = map.empty in
     let d = database_in pages c.args.catalog.now.relations in
     let r = relation_in pages c.in-Some.relation.now in
-    placed d (column_value c.args.column.now) true (c.requires.checked pages) r
+    placed d c.args.column.now true (c.requires.checked pages) r
     (ap (λ (name : List ℕ). relation_named d name) (sym c.as_str.ensures) ∙ (c.relation.ensures.named pages ∙ ap (seen_in pages) c.in-Some.is))
     (ap (λ (name : List ℕ). column_named r.schema name) (sym c.as_str-2.ensures) ∙ (sym c.column.ensures.place ∙ c.in_default-column.is))
 
@@ -32,16 +31,16 @@ unreachable-requires-in_default-quadtree c =
     let r = relation_in pages c.in-Some.relation.now in
     let found = ap (λ (name : List ℕ). relation_named d name) (sym c.as_str.ensures) ∙ (c.relation.ensures.named pages ∙ ap (seen_in pages) c.in-Some.is) in
     let place = ap (λ (name : List ℕ). column_named r.schema name) (sym c.as_str-2.ensures) ∙ (sym c.column.ensures.place ∙ c.in-Some-column.is) in
-    index_there d (column_value c.args.column.now) true (c.requires.checked pages) r c.in-Some-column.at found place
+    index_there d c.args.column.now true (c.requires.checked pages) r c.in-Some-column.at found place
     (c.quadtree.ensures.none c.in_default-quadtree.is c.args.catalog.now.limits
     (described_at c.args.catalog.now c.relation.result c.in-Some.relation c.in-Some.is c.relation.ensures.described c.requires.described)
-    (kind_there d (column_value c.args.column.now) true (c.requires.checked pages) r c.in-Some-column.at found place) pages)
+    (kind_there d c.args.column.now true (c.requires.checked pages) r c.in-Some-column.at found place) pages)
 
 pub returns-clause-spatial : goal.returns-clause-spatial
 returns-clause-spatial c =
     let pages : PageMap = map.empty in
     let d = database_in pages c.args.catalog.now.relations in
     let r = relation_in pages c.in-Some.relation.now in
-    kind_there d (column_value c.args.column.now) true (c.requires.checked pages) r c.in-Some-column.at
+    kind_there d c.args.column.now true (c.requires.checked pages) r c.in-Some-column.at
     (ap (λ (name : List ℕ). relation_named d name) (sym c.as_str.ensures) ∙ (c.relation.ensures.named pages ∙ ap (seen_in pages) c.in-Some.is))
     (ap (λ (name : List ℕ). column_named r.schema name) (sym c.as_str-2.ensures) ∙ (sym c.column.ensures.place ∙ c.in-Some-column.is))

@@ -1,6 +1,6 @@
 -- what is beneath an operator can be opened too
 use Rattle.std.proofs.Common.{sym, subst, ◌<◌}
-use Rattle.script_text.specs.declared.plan.Plan.{Plan}
+use Rattle.statements.specs.declared.plan.Plan.{Plan}
 use Rattle.plan_ops.specs.Openable.{IsOpenable}
 use Rattle.plan_ops.proofs.Opened.{operators_in, over_shallower, open_beneath}
 use Rattle.plan_ops.proofs.operators.+operator_of.Goals as goal

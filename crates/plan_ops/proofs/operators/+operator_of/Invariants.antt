@@ -1,5 +1,5 @@
 -- one operator less each time
-use Rattle.script_text.specs.Plan.{plan_value, depth}
+use Rattle.statements.specs.Plan.{plan_value, depth}
 use Rattle.plan_ops.proofs.operators.+operator_of.Given as goal
 
 abbrev pub decreases-operator_of : goal.decreases-operator_of

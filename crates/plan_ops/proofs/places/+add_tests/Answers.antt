@@ -2,7 +2,7 @@
 use Rattle.std.proofs.Common.{length, take, drop, ◌-◌, ◌<◌, subst}
 use Rattle.sand_model.specs.Operators.{relations_of}
 use Rattle.sand_store.specs.Contents.{database_in}
-use Rattle.plan_check.specs.PlanValue.{plan_value}
+use Rattle.statements.specs.Plan.{plan_value}
 use Rattle.plan_ops.proofs.Added.{rest_falls, first_and_rest, tests_added}
 use Rattle.plan_ops.proofs.StagesStarted.{first_test, other_tests}
 use Rattle.plan_ops.proofs.places.+add_tests.Goals as goal

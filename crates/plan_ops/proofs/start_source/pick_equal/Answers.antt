@@ -2,9 +2,8 @@
 use Rattle.std.specs.FinMap as map
 use Rattle.std.proofs.Common.{false, ap₂, subst, Ok, ◌∙◌}
 use Rattle.page_pool.specs.Disk.{PageMap}
-use Rattle.sand_model.specs.Plan.{Column}
+use Rattle.statements.specs.declared.column.Column.{Column}
 use Rattle.sand_store.specs.Contents.{database_in}
-use Rattle.plan_check.specs.PlanValue.{column_value}
 use Rattle.plan_places.specs.Indexed.{LacksIndex}
 use Rattle.plan_places.specs.Spots.{names_of}
 use Rattle.plan_ops.proofs.Resolved.{not_lacking}
@@ -14,5 +13,5 @@ pub unreachable-requires : goal.unreachable-requires
 unreachable-requires c =
     let pages : PageMap = map.empty in
     let d = database_in pages c.args.catalog.now.relations in
-    not_lacking d (column_value c.args.column.now) false (c.requires.checked pages)
+    not_lacking d c.args.column.now false (c.requires.checked pages)
     (subst (λ (column : Column). LacksIndex d column false) (ap₂ names_of c.as_str.ensures c.as_str-2.ensures) (c.start.ensures.none (c.in_ok-pick.was ∙ (λ i. Ok (c.in-None.is i))) c.requires.described pages))

@@ -1,5 +1,5 @@
 use Rattle.std.proofs.Common.{Option, Ok, sym, subst, ◌∙◌, arith}
-use Rattle.script_text.specs.declared.statement.Statement.{Statement}
+use Rattle.statements.specs.declared.statement.Statement.{Statement}
 use Rattle.script_text.specs.Line.{Reads, answer_value}
 use Rattle.sand_journal.proofs.Lines.{long_none, blank_none, fault_none, line_answer}
 use Rattle.sand_journal.proofs.read_line.read_line.Goals as goal

@@ -1,6 +1,6 @@
 -- a check refuses, the command is carried out and the relation put in its place, or it is refused
 use Rattle.std.proofs.Common.{◌≡◌, List, set, refl}
-use Rattle.sand_model.specs.Plan.{Column}
+use Rattle.statements.specs.declared.column.Column.{Column}
 use Rattle.sand_store.specs.Catalog.{RelationView}
 use Rattle.sand_store.proofs.Changes.{first_at}
 use Rattle.sand_store.proofs.Found.{place_seen, read_twice}

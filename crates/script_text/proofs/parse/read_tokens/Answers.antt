@@ -3,7 +3,7 @@ use Rattle.std.specs.Prelude.{ok_or}
 use Rattle.std.specs.Bool.{then_some}
 use Rattle.script_text.specs.declared.parse.LineFault.TheVariants.{Range}
 use Rattle.script_text.specs.Line.{Reads, answer_value}
-use Rattle.script_text.specs.Statement.{statement_value}
+use Rattle.statements.specs.Statement.{statement_value}
 use Rattle.script_text.proofs.LineLemmas.{fault-at, is-read, is-out, stuck-within, bad-token}
 use Rattle.script_text.proofs.parse.read_tokens.Goals as goal
 

@@ -1,5 +1,5 @@
 -- the lines, and the line of a refusal behind them
-use Rattle.sand_model.specs.Statement.{Blocks}
+use Rattle.statements.specs.Statement.{Blocks}
 use Rattle.statement_exec.specs.Ending.{Reads}
 use Rattle.statement_exec.proofs.Endings.{at_most_one}
 use Rattle.statement_exec.proofs.Written.{ending_written}

@@ -1,5 +1,5 @@
 -- the leaves up to their end, a fault or a check
-use Rattle.sand_model.specs.Plan.{Column}
+use Rattle.statements.specs.declared.column.Column.{Column}
 use Rattle.statement_exec.proofs.BlocksCalls.{up_to_end, up_to_fault, up_to_check, broken_off}
 use Rattle.statement_exec.proofs.column_blocks.print_column.Goals as goal
 

@@ -1,6 +1,6 @@
 -- the store's call is the outcome
 use Rattle.sand_store.specs.Calls.{IsRefusedBy, is_none}
-use Rattle.sand_model.specs.Statement.{Create}
+use Rattle.statements.specs.Statement.{Create}
 use Rattle.std.proofs.Common.{ℕ, List, refl, subst}
 use Rattle.statement_exec.proofs.DecidedCalls.{late_create}
 use Rattle.statement_exec.proofs.StoreCalls.{created, refused_call, never_create}

@@ -1,6 +1,6 @@
 -- the store's call is the outcome
 use Rattle.std.proofs.Common.{ℕ, List, refl, subst}
-use Rattle.sand_model.specs.Statement.{Delete}
+use Rattle.statements.specs.Statement.{Delete}
 use Rattle.sand_store.specs.Calls.{IsRefusedBy, is_missing}
 use Rattle.statement_exec.proofs.DecidedCalls.{late_delete}
 use Rattle.statement_exec.proofs.StoreCalls.{deleted, refused_call, never_delete}

@@ -1,7 +1,7 @@
 -- the store's call is the outcome
 use Rattle.std.proofs.Common.{ℕ, List, refl, subst}
-use Rattle.sand_model.specs.Plan.{Column}
-use Rattle.sand_model.specs.Statement.{Index}
+use Rattle.statements.specs.declared.column.Column.{Column}
+use Rattle.statements.specs.Statement.{Index}
 use Rattle.sand_store.specs.Calls.{IsRefusedBy, is_full}
 use Rattle.statement_exec.proofs.DecidedCalls.{late_index}
 use Rattle.statement_exec.proofs.StoreCalls.{indexed, refused_call, never_index}

@@ -1,6 +1,6 @@
 -- the store's call is the outcome
 use Rattle.std.proofs.Common.{ℕ, List, refl, subst}
-use Rattle.sand_model.specs.Statement.{Insert}
+use Rattle.statements.specs.Statement.{Insert}
 use Rattle.sand_store.specs.Calls.{IsRefusedBy, is_full}
 use Rattle.statement_exec.proofs.DecidedCalls.{late_insert}
 use Rattle.statement_exec.proofs.StoreCalls.{inserted, refused_call, never_insert}

@@ -3,7 +3,7 @@ use Rattle.std.proofs.Common.{◌≡◌, ℕ, List, Some, true, refl, ◌∙◌,
 use Rattle.sand_base.specs.Shape.{is_spatial}
 use Rattle.sand_base.specs.declared.kind.Kind.{Kind}
 use Rattle.sand_model.specs.Database.{element, column_named, relation_named}
-use Rattle.sand_model.specs.Plan.{Column}
+use Rattle.statements.specs.declared.column.Column.{Column}
 use Rattle.sand_store.specs.Contents.{database_in, relation_in}
 use Rattle.statement_exec.proofs.ColumnTrees.{element_at, has_tree, lacks_tree}
 use Rattle.statement_exec.proofs.leaf_tree.quadtree_of.Goals as goal

@@ -1,6 +1,6 @@
 -- Nothing was given, so the whole answer is left, and all rows are to come.
 use Rattle.std.proofs.Common.{◌∙◌, ap}
-use Rattle.knn_join.specs.Nearest.{nearest_of}
+use Rattle.sand_model.specs.Sources.{nearest_of}
 use Rattle.knn_join.proofs.Counting.{all_left}
 use Rattle.knn_join.proofs.Turns.{stands_begun}
 use Rattle.knn_join.proofs.knn.Knn.start.Goals as goal

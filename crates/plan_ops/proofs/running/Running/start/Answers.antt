@@ -1,6 +1,6 @@
 -- the operator has taken and given nothing
 use Rattle.sand_store.specs.Contents.{database_in}
-use Rattle.plan_check.specs.PlanValue.{plan_value}
+use Rattle.statements.specs.Plan.{plan_value}
 use Rattle.plan_ops.proofs.running.Running.start.Goals as goal
 
 pub returns : goal.returns

@@ -5,8 +5,8 @@ use Rattle.sand_model.specs.Checks.{check_relation}
 use Rattle.sand_store.specs.Contents.{database_in}
 use Rattle.plan_ops.specs.Sources.{source_at}
 use Rattle.plan_ops.specs.declared.source.Source.TheVariants as source
-use Rattle.plan_ops.proofs.Started.{scan_checked, rank_checked, window_checked, pick_checked, ints_checked, join_checked, semi_checked}
-use Rattle.plan_ops.proofs.Started.{rank_untaken, rank_ranks, window_ranks, join_untaken, semi_untaken}
+use Rattle.plan_ops.proofs.Started.{scan_checked, rank_checked, window_checked, pick_checked, ints_checked, join_checked, semi_checked, knn_checked}
+use Rattle.plan_ops.proofs.Started.{rank_untaken, rank_ranks, window_ranks, join_untaken, semi_untaken, knn_untaken}
 use Rattle.plan_ops.proofs.source.Source.start.Goals as goal
 
 pub scan-requires : goal.scan-requires
@@ -42,9 +42,17 @@ pub tree_column-left-requires-in-Semi-clause-checked : goal.tree_column-left-req
 tree_column-left-requires-in-Semi-clause-checked c = λ pages.
     (semi_checked c.args.catalog.now c.args.plan.now c.in-Semi.left c.in-Semi.right c.in-Semi.within c.in-Semi.is c.requires.openable pages).0
 
+pub tree_column-left-requires-in-Knn-clause-checked : goal.tree_column-left-requires-in-Knn-clause-checked
+tree_column-left-requires-in-Knn-clause-checked c = λ pages.
+    (knn_checked c.args.catalog.now c.args.plan.now c.in-Knn.k c.in-Knn.left c.in-Knn.right c.in-Knn.within c.in-Knn.is c.requires.openable pages).0
+
 pub tree_column-right-requires-in-Semi-clause-checked : goal.tree_column-right-requires-in-Semi-clause-checked
 tree_column-right-requires-in-Semi-clause-checked c = λ pages.
     (semi_checked c.args.catalog.now c.args.plan.now c.in-Semi.left c.in-Semi.right c.in-Semi.within c.in-Semi.is c.requires.openable pages).1
+
+pub tree_column-right-requires-in-Knn-clause-checked : goal.tree_column-right-requires-in-Knn-clause-checked
+tree_column-right-requires-in-Knn-clause-checked c = λ pages.
+    (knn_checked c.args.catalog.now c.args.plan.now c.in-Knn.k c.in-Knn.left c.in-Knn.right c.in-Knn.within c.in-Knn.is c.requires.openable pages).1
 
 pub returns-in_ok-ranked-in-Rank-clause-begun : goal.returns-in_ok-ranked-in-Rank-clause-begun
 returns-in_ok-ranked-in-Rank-clause-begun c =
@@ -83,3 +91,13 @@ returns-in_ok-start-in-Semi-clause-begun c =
     semi_untaken c.args.catalog.now c.args.plan.now c.in-Semi.left c.in-Semi.right c.in-Semi.within f.relation.now f.column f.tree.now g.relation.now g.column g.tree.now c.requires.openable
     (record { named = h.named; spatial = h.spatial; tree_of = h.tree; stands = h.stands }) (record { named = k.named; spatial = k.spatial; tree_of = k.tree; stands = k.stands })
     (source_at (source.Semi c.in_ok-start-in-Semi.field-0)) c.in-Semi.is c.in_ok-start-in-Semi.ensures.begun
+
+pub returns-in_ok-start-in-Knn-clause-begun : goal.returns-in_ok-start-in-Knn-clause-begun
+returns-in_ok-start-in-Knn-clause-begun c =
+    let f = c.tree_column-left-in-Knn.result in
+    let h = c.tree_column-left-in-Knn.ensures in
+    let g = c.tree_column-right-in-Knn.result in
+    let k = c.tree_column-right-in-Knn.ensures in
+    knn_untaken c.args.catalog.now c.args.plan.now c.in-Knn.left c.in-Knn.right c.in-Knn.within f.relation.now f.column f.tree.now g.relation.now g.column g.tree.now c.requires.openable
+    (record { named = h.named; spatial = h.spatial; tree_of = h.tree; stands = h.stands }) (record { named = k.named; spatial = k.spatial; tree_of = k.tree; stands = k.stands })
+    (source_at (source.Knn c.in_ok-start-in-Knn.field-0)) c.in-Knn.k c.in-Knn.is c.in_ok-start-in-Knn.ensures.begun

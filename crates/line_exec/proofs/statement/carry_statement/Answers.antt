@@ -1,0 +1,49 @@
+-- a change, or a statement that comes back and is read over the store, which is as it was
+use Rattle.std.proofs.Common.{◌≡◌, List, refl, sym, subst, ◌∙◌, ap}
+use Rattle.line_meaning.proofs.Runs.{follows_on}
+use Rattle.open_cursors.proofs.HeldStamps.{held_settled}
+use Rattle.open_cursors.specs.Carried.{IsChange}
+use Rattle.open_cursors.specs.OverPages.{AreStanding, StandOver}
+use Rattle.sand_store.specs.Catalog.{StoreState}
+use Rattle.script_text.specs.InRange.{IsInRange}
+use Rattle.statements.specs.Statement.{Statement}
+use Rattle.statement_exec.specs.Moment.{moment_of, while_open}
+use Rattle.line_exec.proofs.LineSteps.{line_of_change, line_of_reading}
+use Rattle.line_exec.proofs.Moments.{follows_read, same_moment}
+use Rattle.line_exec.proofs.statement.carry_statement.Goals as goal
+
+-- a change: the open cursors stand where they stood, over the maps that their stamps hold
+pub returns-in-Ok-clause-carried : goal.returns-in-Ok-clause-carried
+returns-in-Ok-clause-carried g c = λ line says cs own counted stand.
+    line_of_change line c.args.statement c.args.store c.change.new.store (g.H.Shelf.files c.args.shelf.now) (g.H.Shelf.files c.change.new.shelf) (g.H.Shelf.faults c.args.shelf.now) (g.H.Shelf.faults c.change.new.shelf)
+    (g.K.Sink.took c.args.out.now) (g.K.Sink.took c.finish.new.out) c.in-Ok.answer c.finish.result c.args.cursors.now.items cs says own c.change.ensures.carries stand
+    (c.in-Ok.ensures.answers cs) c.finish.ensures.written c.finish.ensures.prefix
+
+pub returns-in-Ok-clause-held : goal.returns-in-Ok-clause-held
+returns-in-Ok-clause-held g c = held_settled c.args.store.pool c.change.new.store.pool c.change.ensures.carries.stamps c.args.cursors.now.items c.requires.stands.0
+
+-- any other statement came back, and the store is as it was
+
+pub read_statement-read-requires-clause-in_range : goal.read_statement-read-requires-clause-in_range
+read_statement-read-requires-clause-in_range g c = subst (λ (v : Statement). IsInRange v) (sym c.in-Err.ensures.returned.0) c.requires.in_range
+
+pub read_statement-read-requires-clause-reads : goal.read_statement-read-requires-clause-reads
+read_statement-read-requires-clause-reads g c = subst (λ (v : Statement). IsChange v → ⊥) (sym c.in-Err.ensures.returned.0) c.in-Err.ensures.returned.1
+
+pub read_statement-read-requires-clause-stands : goal.read_statement-read-requires-clause-stands
+read_statement-read-requires-clause-stands g c = subst (λ (s : StoreState). AreStanding s.pool c.args.cursors.now.items) (sym c.in-Err.ensures.unchanged) c.requires.stands
+
+pub returns-in-Err-clause-carried : goal.returns-in-Err-clause-carried
+returns-in-Err-clause-carried g c = λ line says cs own counted stand.
+    line_of_reading line c.args.statement c.in-Err.other c.change.new.store c.read_statement-read.result.0 (while_open c.args.store (g.H.Shelf.files c.args.shelf.now) (g.H.Shelf.faults c.args.shelf.now))
+    (g.H.Shelf.files c.change.new.shelf) (g.H.Shelf.faults c.change.new.shelf) cs (g.K.Sink.took c.args.out.now) (g.K.Sink.took c.read_statement-read.new.out) c.read_statement-read.result.1
+    (StandOver c.read_statement-read.result.0.pool c.read_statement-read.new.cursors.items) says c.in-Err.ensures.returned.0 c.read_statement-read.ensures.catalog
+    (same_moment c.args.store c.change.new.store (g.H.Shelf.files c.args.shelf.now) (g.H.Shelf.files c.change.new.shelf) (g.H.Shelf.faults c.args.shelf.now) (g.H.Shelf.faults c.change.new.shelf) cs c.in-Err.ensures.unchanged c.change.ensures.files c.in-Err.ensures.shelf)
+    (c.read_statement-read.ensures.carried cs own counted (subst (λ (s : StoreState). StandOver s.pool c.args.cursors.now.items cs) (sym c.in-Err.ensures.unchanged) stand))
+
+-- what is read leaves a moment that follows
+pub returns-in-Err-clause-follows : goal.returns-in-Err-clause-follows
+returns-in-Err-clause-follows g c =
+    follows_on (moment_of c.args.store (g.H.Shelf.files c.args.shelf.now) (g.H.Shelf.faults c.args.shelf.now)) (moment_of c.change.new.store (g.H.Shelf.files c.change.new.shelf) (g.H.Shelf.faults c.change.new.shelf))
+    (moment_of c.read_statement-read.result.0 (g.H.Shelf.files c.change.new.shelf) (g.H.Shelf.faults c.change.new.shelf)) c.change.ensures.follows
+    (follows_read c.change.new.store c.read_statement-read.result.0 (g.H.Shelf.files c.change.new.shelf) (g.H.Shelf.faults c.change.new.shelf) c.read_statement-read.ensures.catalog c.read_statement-read.ensures.pages)
