@@ -8,10 +8,11 @@ it. What is printed is the difference of the two in seconds of the wall clock an
 repeats, the rows or lines that came, the visits that `stats` counts for the same queries, and the peak memory.
 
   build        N rows with a point, a text and an int are loaded and the points indexed
-  knn10        1,000 rankings, 10 rows of each; knn100 likewise
+  knn10        1,000 rankings, 10 rows of each; knn100 likewise; far10 the 10 rows farthest from each of the same goals
   browse100    1,000 rankings browsed up to the first row that one row in 100 passes; browse1000 likewise
   window       1,000 windows, all rows of each
-  join100      the first 100 pairs of points and segments; semi100 the first 100 points with their nearest segment
+  join100      the first 100 pairs of points and segments; semi100 the first 100 points with their nearest segment; partners5 the first
+               500 pairs of points with their five nearest segments
   update       10,000 rows inserted and 10,000 deleted, each a statement of its own; update1, update16: beside so many open cursors
   kept1000     16 cursors browse for 60 rows that one in 1000 passes, opened before an update; fresh1000: opened behind it
 """
@@ -25,7 +26,8 @@ import time
 
 HERE = os.path.dirname(os.path.abspath(__file__))
 PROGRAM = os.path.join(HERE, "..", "crates", "sand_shell", "out", "sand_shell")
-WORKS = "build knn10 knn100 browse100 browse1000 window join100 semi100 update update1 update16 kept1000 fresh1000".split()
+WORKS = """build knn10 knn100 far10 browse100 browse1000 window join100 semi100 partners5
+update update1 update16 kept1000 fresh1000""".split()
 LAST = (1 << 20) - 1
 
 
@@ -85,6 +87,8 @@ class Data:
         number = int("".join(it for it in work if it.isdigit()) or 0)
         if work.startswith("knn"):
             return [f"show {number} rank p.at from ({x} {y})" for x, y in self.goals]
+        if work == "far10":
+            return [f"far {number} p.at from ({x} {y})" for x, y in self.goals]
         if work.startswith("browse"):
             least = 10_000_000 - 10_000_000 // number
             return [f"show 1 filter (rank p.at from ({x} {y})) where 1.pop >= {least}" for x, y in self.goals]
@@ -94,6 +98,8 @@ class Data:
             return [f"show 1000000 window p.at {x} {y} {u} {v}" for x, y, u, v in self.windows]
         if work in ("join100", "semi100"):
             return [f"show {number} {work[:-3]} p.at s.way"]
+        if work == "partners5":
+            return ["show 500 knn 5 p.at s.way"]
         both = zip(self.inserts, self.deletes)
         return [it for (x, y, pop), id in both for it in (f'insert p ({x} {y}), "n", {pop}', f"delete p {id}")]
 
@@ -149,7 +155,7 @@ def main() -> None:
         print(f"{'work':<11}{'wall s':>9}{'processor s':>13}{'lines':>11}{'visits':>10}{'peak MiB':>10}")
         for work in asked.works:
             lines = [] if work == "build" else data.queries(work)
-            load = data.load(work in ("join100", "semi100")) + data.before(work)
+            load = data.load(work in ("join100", "semi100", "partners5")) + data.before(work)
             least = [float("inf"), float("inf")]
             for _ in range(asked.repeat):
                 base = run(words, folder, load[:1] if work == "build" else load)

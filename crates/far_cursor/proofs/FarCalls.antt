@@ -9,7 +9,7 @@ use Rattle.z_code.specs.Block.{square_of}
 use Rattle.z_code.specs.declared.block.Block.{Block}
 use Rattle.sand_model.specs.Database.{element}
 use Rattle.sand_model.specs.Measure.{Measure, IsMeasure}
-use Rattle.sand_model.specs.Sources.{Found}
+use Rattle.sand_model.specs.Sources.{Found, far_rows, spot_figure}
 use Rattle.page_pool.specs.Disk.{PageMap}
 use Rattle.page_pool.specs.declared.fault.PageFault.{PageFault}
 use Rattle.pmr_tree.specs.declared.quadtree.Pmr.{Pmr}
@@ -28,7 +28,7 @@ use Rattle.rank_cursor.specs.Ranking.{row_at, rank_meaning}
 use Rattle.rank_cursor.proofs.Elements.{from_map, some_is}
 use Rattle.rank_cursor.proofs.SortedRows.{at_is}
 use Rattle.far_cursor.specs.Farthest.{key_of_gap}
-use Rattle.far_cursor.specs.FarAnswer.{far_rows, keyed, IsTurned, AreGivenFar, GivesFar, HasFarCorner, FarVisits}
+use Rattle.far_cursor.specs.FarAnswer.{keyed, IsTurned, AreGivenFar, GivesFar, HasFarCorner, FarVisits}
 use Rattle.far_cursor.specs.FarLaws.{IsLawfulFar}
 use Rattle.far_cursor.specs.FarRanking.{far_ranking}
 use Rattle.far_cursor.proofs.FarSound.{far_corner}
@@ -71,7 +71,7 @@ module _ (rows : PageMap → List (ℕ × Shape)) (Stands_on : PageMap → Type 
   next_short : (last : Option Hit) (key : Hit) → IsNext m last key → IsShort key.gap
   next_short last key next =
       let (row, among, is) = from_map (row_at (far_ranking rows Stands_on price t goal pages)) (rows pages) next.row next.answer.0 in
-      short_same next.row.gap key.gap next.same.0 (subst (λ (h : Hit). IsShort h.gap) is (key_short (Rattle.rank_cursor.specs.Cursor.the_measure (Rattle.far_cursor.specs.FarRanking.spot_figure goal) (Rattle.sand_base.specs.declared.goal.Goal.TheVariants.Shape row.1))))
+      short_same next.row.gap key.gap next.same.0 (subst (λ (h : Hit). IsShort h.gap) is (key_short (Rattle.rank_cursor.specs.Cursor.the_measure (spot_figure goal) (Rattle.sand_base.specs.declared.goal.Goal.TheVariants.Shape row.1))))
 
   -- a turned row's key is that of the search
   turned_key : (last : Option Hit) (key hit : Hit) → IsNext m last key → IsTurned key hit → IsSameGap (key_of_gap hit.gap) key.gap

@@ -1,4 +1,5 @@
 -- What the code finds at a place of a quadtree stands for what the search farthest first finds there.
+use Rattle.sand_model.specs.Sources.{spot_figure}
 use Rattle.std.proofs.Common.{◌≡◌, ℕ, ◌*◌, ◌-◌, ◌≤◌, arith, Bool, true, false, cond, not, true≢false, List, [], ◌∷◌, ◌++◌, length, take, map, filter, append-nil, filter_map, flat_map, All, Option, None, Some, option_map, refl, sym, ap, ap₂, ◌∙◌, subst}
 use Rattle.std.specs.Prelude.{nat_eq}
 use Rattle.std.specs.List.{AllZip}
@@ -43,7 +44,7 @@ use Rattle.rank_cursor.proofs.Counted.{same_greater}
 use Rattle.rank_cursor.proofs.LeafEntries.{IsEntryOf}
 use Rattle.rank_cursor.proofs.RankingLaws.{one_item}
 use Rattle.far_cursor.specs.Farthest.{diagonal, farthest, key_of_gap, key_of_rect}
-use Rattle.far_cursor.specs.FarRanking.{spot_figure, key_from, far_ranking, far_block, far_exact, far_entry}
+use Rattle.far_cursor.specs.FarRanking.{key_from, far_ranking, far_block, far_exact, far_entry}
 use Rattle.far_cursor.proofs.KeyOrder.{parts_same, key_same}
 
 -- ---- keys

@@ -1,4 +1,5 @@
 -- A quadtree that fits its rows, searched farthest first, meets the laws of a hierarchy.
+use Rattle.sand_model.specs.Sources.{spot_figure}
 use Rattle.std.proofs.Common.{ℕ, List, None}
 use Rattle.sand_base.specs.Plane.{IsInClosedPlane}
 use Rattle.sand_base.specs.declared.point.Point.{Point}
@@ -8,7 +9,7 @@ use Rattle.pmr_tree.specs.Laws.{AreInPlane}
 use Rattle.pmr_tree.specs.Quadtree.{FitsRows}
 use Rattle.pmr_tree.specs.declared.quadtree.Pmr.{Pmr}
 use Rattle.rank_cursor.proofs.Searching.{sound}
-use Rattle.far_cursor.specs.FarRanking.{spot_figure, far_ranking}
+use Rattle.far_cursor.specs.FarRanking.{far_ranking}
 use Rattle.far_cursor.proofs.FarSound.{child_key, rough_key, leaf_key}
 use Rattle.far_cursor.proofs.KeyedLaws.{IsKeyed}
 

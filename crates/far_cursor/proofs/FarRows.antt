@@ -10,7 +10,7 @@ use Rattle.sand_base.specs.declared.goal.Goal.TheVariants as figure
 use Rattle.sand_base.specs.declared.point.Point.{Point}
 use Rattle.sand_base.specs.declared.shape.Shape.{Shape}
 use Rattle.sand_model.specs.Measure.{Measure, IsMeasure}
-use Rattle.sand_model.specs.Sources.{Found, found_cmp}
+use Rattle.sand_model.specs.Sources.{Found, found_cmp, far_cmp, far_rows, spot_figure}
 use Rattle.ring_geom.proofs.Measured.{measured}
 use Rattle.page_pool.specs.Disk.{PageMap}
 use Rattle.pmr_tree.specs.declared.quadtree.Pmr.{Pmr}
@@ -23,8 +23,8 @@ use Rattle.rank_cursor.specs.Ranking.{Ranking, row_at, rank_meaning, HaveOwnIds}
 use Rattle.rank_cursor.proofs.Elements.{in_map, from_map}
 use Rattle.rank_cursor.proofs.RankedRows.{gives_list, same_measures}
 use Rattle.rank_cursor.proofs.SortedRows.{Rises, AreApart, from_sorted, in_sorted, sorted_rises}
-use Rattle.far_cursor.specs.FarAnswer.{far_cmp, far_rows, keyed}
-use Rattle.far_cursor.specs.FarRanking.{spot_figure, far_ranking}
+use Rattle.far_cursor.specs.FarAnswer.{keyed}
+use Rattle.far_cursor.specs.FarRanking.{far_ranking}
 use Rattle.far_cursor.proofs.FarSound.{gap_short}
 use Rattle.far_cursor.proofs.KeyOrder.{IsShort, key_same, key_cmp}
 use Rattle.far_cursor.proofs.KeyedLaws.{IsKeyed}

@@ -1,4 +1,5 @@
 -- The keys of a quadtree searched farthest first meet what a hierarchy asks.
+use Rattle.sand_model.specs.Sources.{spot_figure}
 use Rattle.std.proofs.Common.{◌≡◌, inl, inr, ⊎_elim, ℕ, ◌*◌, ◌^◌, ◌<◌, ◌≤◌, min, max, true, List, [], ◌∷◌, map, sym, subst, arith}
 use Rattle.exact_frac.specs.declared.frac.Frac.{Frac}
 use Rattle.std.proofs.lemmas.Bool.{cases_lt}
@@ -30,7 +31,7 @@ use Rattle.best_first.proofs.Gaps.{at_most_itself}
 use Rattle.rank_cursor.specs.Cursor.{the_measure}
 use Rattle.far_cursor.specs.Farthest.{spot_gap, greatest_of, diagonal, farthest, key_of_gap, key_of_rect}
 use Rattle.far_cursor.specs.FarAnswer.{HasFarCorner}
-use Rattle.far_cursor.specs.FarRanking.{spot_figure, key_from}
+use Rattle.far_cursor.specs.FarRanking.{key_from}
 use Rattle.far_cursor.proofs.Axes.{by_axes, farthest_is, axis_short, part_nearer}
 use Rattle.far_cursor.proofs.Reaching.{met_near}
 use Rattle.far_cursor.proofs.KeyOrder.{IsShort, lacks_less, lacks_back}

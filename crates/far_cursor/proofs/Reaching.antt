@@ -1,4 +1,5 @@
 -- A shape that meets a rectangle is no farther from a point than the rectangle's farthest corner.
+use Rattle.sand_model.specs.Sources.{spot_figure}
 use Rattle.std.proofs.Common.{◌≡◌, ◌⊎◌, inl, inr, ℕ, ◌*◌, ◌≤◌, min, max, ℤ, pos, ◌*ℤ◌, ◌≤ℤ◌, [], ◌∷◌, refl, subst, arith}
 use Rattle.sand_base.specs.declared.goal.Goal.TheVariants as figure
 use Rattle.sand_base.specs.declared.point.Point.{Point}
@@ -20,7 +21,6 @@ use Rattle.ring_geom.proofs.Decide.{decide_covering}
 use Rattle.ring_geom.proofs.Region.{all_inside}
 use Rattle.ring_geom.proofs.Touch.{touch_of_meets, ring_shared}
 use Rattle.ring_geom.proofs.Zero.{scale_positive}
-use Rattle.far_cursor.specs.FarRanking.{spot_figure}
 use Rattle.far_cursor.proofs.Axes.{by_axes, between, between_nearer, point_near}
 
 -- a shape with a point in a rectangle is no farther than the farthest corner

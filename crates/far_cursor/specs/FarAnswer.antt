@@ -23,17 +23,8 @@ use Rattle.best_first.specs.declared.hit.Hit.{Hit}
 use Rattle.best_first.specs.declared.item.Item.{Item}
 use Rattle.rank_cursor.specs.Answers.{StandsAt, AreGiven}
 use Rattle.far_cursor.specs.Farthest.{spot_gap, diagonal, key_of_gap}
-use Rattle.far_cursor.specs.FarRanking.{spot_figure}
 
 -- ---- rows
-
--- by the value of the gap, the greatest first, then by left id, then by right id
-abbrev pub far_cmp : Found → Found → Ordering
-far_cmp a b = ordering_then (value_cmp b.gap a.gap) (ordering_then (nat_cmp a.left b.left) (nat_cmp a.right b.right))
-
--- shapes with their ids by their gap from a point, farthest first
-abbrev pub far_rows : Measure → Point → List (ℕ × Shape) → List Found
-far_rows gap p shapes = sorted far_cmp (map (λ s. record { gap = gap (spot_figure p) (figure.Shape s.1); left = s.0; right = 0 }) shapes)
 
 -- the row under its key
 abbrev pub keyed : Found → Found

@@ -10,7 +10,7 @@ use Rattle.sand_model.specs.Checks.{check_column}
 use Rattle.sand_model.specs.Database.{shapes_of}
 use Rattle.sand_model.specs.Measure.{Measure, IsMeasure}
 use Rattle.statements.specs.declared.column.Column.{Column}
-use Rattle.sand_model.specs.Sources.{column_shapes}
+use Rattle.sand_model.specs.Sources.{column_shapes, far_rows}
 use Rattle.page_pool.specs.Disk.{PageMap}
 use Rattle.page_pool.specs.declared.fault.PageFault.{PageFault}
 use Rattle.pmr_tree.specs.Quadtree.{FitsRows}
@@ -24,7 +24,7 @@ use Rattle.best_first.specs.declared.hit.Hit.{Hit}
 use Rattle.best_first.specs.declared.item.Item.{Item}
 use Rattle.rank_cursor.specs.Ranking.{Ranking, rank_meaning}
 use Rattle.std.specs.Prelude.{Result}
-use Rattle.far_cursor.specs.FarAnswer.{far_rows, AreGivenFar, GivesFar}
+use Rattle.far_cursor.specs.FarAnswer.{AreGivenFar, GivesFar}
 use Rattle.far_cursor.specs.FarRanking.{far_ranking}
 use Rattle.far_cursor.specs.declared.far_tree.FarTree.{FarTree}
 

@@ -3,14 +3,14 @@ use Rattle.std.specs.Prelude.{ℕ, ◌*◌, ◌≤◌, List, map, Contains}
 use Rattle.sand_base.specs.declared.point.Point.{Point}
 use Rattle.sand_base.specs.declared.shape.Shape.{Shape}
 use Rattle.sand_model.specs.Measure.{Measure, IsMeasure}
-use Rattle.sand_model.specs.Sources.{Found}
+use Rattle.sand_model.specs.Sources.{Found, far_rows}
 use Rattle.page_pool.specs.Disk.{PageMap}
 use Rattle.pmr_tree.specs.Quadtree.{FitsRows}
 use Rattle.pmr_tree.specs.declared.quadtree.Pmr.{Pmr}
 use Rattle.best_first.specs.Hierarchy.{MeetsLaws}
 use Rattle.rank_cursor.specs.Answers.{GivesList}
 use Rattle.rank_cursor.specs.Ranking.{rank_meaning}
-use Rattle.far_cursor.specs.FarAnswer.{far_rows, keyed}
+use Rattle.far_cursor.specs.FarAnswer.{keyed}
 use Rattle.far_cursor.specs.FarRanking.{far_ranking}
 use Rattle.far_cursor.specs.Farthest.{diagonal}
 

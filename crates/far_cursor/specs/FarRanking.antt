@@ -1,5 +1,6 @@
 -- A quadtree searched farthest first, as a hierarchy under keys: that of a place is the key of the greatest distance from
 -- its square, which no row in it passes, and that of a row the key of its distance.
+use Rattle.sand_model.specs.Sources.{spot_figure}
 use Rattle.std.specs.Prelude.{ℕ, cond, List, [], ◌∷◌, map, flat_map, None}
 use Rattle.std.specs.Ordering.{is_lt}
 use Rattle.exact_frac.specs.Frac.{value_cmp}
@@ -23,10 +24,6 @@ use Rattle.best_first.specs.declared.item.Item.TheVariants as item
 use Rattle.rank_cursor.specs.Cursor.{the_measure}
 use Rattle.rank_cursor.specs.Ranking.{Ranking}
 use Rattle.far_cursor.specs.Farthest.{key_of_gap, key_of_rect}
-
--- a point as a goal
-abbrev pub spot_figure : Point → Goal
-spot_figure p = figure.Shape (shape.Point p)
 
 -- the key of a figure from a point: of a rectangle by its greatest distance, of a shape by its gap
 abbrev pub key_from : Point → Goal → Frac

@@ -7,7 +7,7 @@ use Rattle.sand_base.specs.declared.value.Value.{Value}
 use Rattle.sand_base.specs.declared.kind.Kind.{Kind}
 use Rattle.sand_journal.specs.declared.change.Change.TheVariants as change
 use Rattle.sand_store.specs.Catalog.{CatalogView, RelationView, is_named}
-use Rattle.statements.specs.Statement.{Statement, Create, Insert, Delete, Load, Index, OpenCursor, Next, CloseCursor, Show, Stats, Blocks, statement_value}
+use Rattle.statements.specs.Statement.{Statement, Create, Insert, Delete, Load, Index, OpenCursor, Next, CloseCursor, Show, Stats, Far, Blocks, statement_value}
 use Rattle.script_text.specs.Name.{IsName}
 use Rattle.statements.specs.declared.column.Column.{Column}
 use Rattle.statements.specs.declared.statement.Statement as spoken
@@ -39,6 +39,7 @@ line_kept catalog (Next cursor count) kept is body = absurd is
 line_kept catalog (CloseCursor cursor) kept is body = absurd is
 line_kept catalog (Show count plan) kept is body = absurd is
 line_kept catalog (Stats cursor) kept is body = absurd is
+line_kept catalog (Far count column goal) kept is body = absurd is
 line_kept catalog (Blocks column) kept is body = absurd is
 
 -- nothing is kept of a statement that is no line and no insertion
@@ -55,6 +56,7 @@ none_kept catalog (statement.Next cursor count) line insert = refl
 none_kept catalog (statement.CloseCursor cursor) line insert = refl
 none_kept catalog (statement.Show count plan) line insert = refl
 none_kept catalog (statement.Stats cursor) line insert = refl
+none_kept catalog (statement.Far count column goal) line insert = refl
 none_kept catalog (statement.Blocks column) line insert = refl
 
 -- a copy of a line is the line

@@ -52,4 +52,5 @@ kept_ones (statement.Next cursor count) kept create delete index = kept
 kept_ones (statement.CloseCursor cursor) kept create delete index = kept
 kept_ones (statement.Show count plan) kept create delete index = kept
 kept_ones (statement.Stats cursor) kept create delete index = kept
+kept_ones (statement.Far count column goal) kept create delete index = kept
 kept_ones (statement.Blocks column) kept create delete index = kept

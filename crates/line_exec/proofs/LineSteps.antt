@@ -54,6 +54,7 @@ asks_few (statement.Next cursor count) range = let most = range.1.most in omega 
 asks_few (statement.CloseCursor cursor) range = omega arith
 asks_few (statement.Show count p) range = omega arith
 asks_few (statement.Stats cursor) range = omega arith
+asks_few (statement.Far count column goal) range = omega arith
 asks_few (statement.Blocks column) range = omega arith
 
 -- the statement, which may have come back, read over a store whose moment is the first one: its line did so

@@ -55,3 +55,6 @@ pub mod OverPool
 pub mod Released
 -- A store whose pages are lent.
 pub mod Lent
+-- The rows farthest from a point, step by step, and what they are of the outcome.
+pub mod FarthestSteps
+pub mod FarthestOutcomes

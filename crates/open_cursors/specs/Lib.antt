@@ -10,3 +10,5 @@ pub mod Carried
 pub mod PlanCursors
 -- Where the open cursors stand over the pages of a pool.
 pub mod OverPages
+-- What a search farthest first prints.
+pub mod FarthestLines

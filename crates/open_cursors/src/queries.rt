@@ -2,9 +2,10 @@
 ghost use Rattle.std.specs.Prelude.{◌≡◌, List};
 ghost use Rattle.page_pool.specs.Reads.{IsRead};
 ghost use Rattle.sand_base.specs.Faults.{HasCause};
+ghost use Rattle.sand_base.specs.Plane.{IsInPlane};
 ghost use Rattle.sand_model.specs.Cursor.{Cursor};
 ghost use Rattle.statements.specs.Plan.{plan_value};
-ghost use Rattle.statements.specs.Statement.{Blocks, Show, statement_value};
+ghost use Rattle.statements.specs.Statement.{Blocks, Far, Show, statement_value};
 ghost use Rattle.script_text.specs.InRange.{IsPlanInRange};
 ghost use Rattle.open_cursors.specs.Outcomes.{PerformsBeside};
 ghost use Rattle.statement_exec.specs.Printing.{WritesOf};
@@ -16,15 +17,16 @@ ghost use Rattle.open_cursors.specs.OverPages.{AreStanding, LeavesPages, StandOv
 
 use crate::OpenCursor;
 use crate::closing::close_line;
+use crate::farthest::far_line;
 use crate::next_rows::next_line;
 use crate::numbers::stats_line;
 use crate::opening::open_line;
 use crate::showing::show_line;
 use page_pool::Disk;
 use plan_ops::{Source, Stage};
-use sand_base::{Failed, Label, Sink};
+use sand_base::{Failed, Label, Point, Sink};
 use sand_store::Store;
-use script_text::{Plan, Statement};
+use script_text::{Column, Plan, Statement};
 use statement_exec::print_blocks;
 use std::alloc::Global;
 
@@ -67,6 +69,27 @@ fn blocks<D: Disk, K: Sink>(
     (Store::rejoin(alloc, catalog, desk), printed)
 }
 
+// `far`: the pages are lent to it.
+fn far<D: Disk, K: Sink>(
+    alloc: Global,
+    store: Store<D>,
+    count: u32,
+    column: &Column,
+    goal: Point,
+    out: &mut K,
+) -> (Store<D>, Result<bool, Failed>)
+    requires { IsInPlane goal }
+    ensures written { (cs : List Cursor) → WritesOf (PerformsBeside (Far count column.now goal) store.catalog store.pool result.0.pool cs cs) (K.took out.old) (K.took out.new) result.1 }
+    ensures catalog { result.0.catalog ≡ store.catalog }
+    ensures read { IsRead store.pool result.0.pool }
+    ensures cause { RisesByOne store.pool.disk.faults result.0.pool.disk.faults }
+    ensures sink { HasCause (K.faults out.old) (K.faults out.new) result.1 }
+{
+    let (catalog, mut desk) = store.part();
+    let printed = far_line(alloc, &catalog, &mut desk, count, column, goal, out);
+    (Store::rejoin(alloc, catalog, desk), printed)
+}
+
 /// Carries a statement out that changes no relation, and writes its lines. The answer says whether it was refused. Each
 /// cursor reads the pages that its stamp holds; any other statement reads the live ones.
 pub fn read_statement<D: Disk, K: Sink>(
@@ -103,6 +126,11 @@ pub fn read_statement<D: Disk, K: Sink>(
             let printed = stats_line(cursors, cursor, out);
             (store, printed)
         }
+        Statement::Far {
+            count,
+            column,
+            goal,
+        } => far(alloc, store, *count, column, *goal, out),
         Statement::Blocks { column } => {
             blocks(alloc, store, &column.relation, &column.column, out)
         }

@@ -21,8 +21,8 @@ use row_output::{Printed, print_rows};
 use sand_base::{Failed, Refusal, Sink};
 use std::alloc::Global;
 
-// A fault of a page, as a statement is refused by it.
-fn refusal_of(why: PageFault) -> Refusal
+/// A fault of a page, as a statement is refused by it.
+pub(crate) fn refusal_of(why: PageFault) -> Refusal
     ensures { result ≡ refusal_of why }
 {
     match why {

@@ -8,7 +8,7 @@ use Rattle.output_text.proofs.WrittenPrefix.{Adds-trans}
 use Rattle.row_output.specs.Printing.{IsPlainText}
 use Rattle.row_output.proofs.Texts.{text_both, writes_none}
 
-plain_both : (xs ys : List OutputLine) → list_any is_refused xs ≡ false → list_any is_refused ys ≡ false → list_any is_refused (xs ++ ys) ≡ false
+pub plain_both : (xs ys : List OutputLine) → list_any is_refused xs ≡ false → list_any is_refused ys ≡ false → list_any is_refused (xs ++ ys) ≡ false
 plain_both [] ys h k = k
 plain_both (x ∷ xs) ys h k =
     let go : (b : Bool) → is_refused x ≡ b → list_any is_refused ((x ∷ xs) ++ ys) ≡ false = elim [

@@ -10,4 +10,6 @@ mod next;
 mod row;
 mod rows;
 
+pub use next::Next;
+pub use row::print_row;
 pub use rows::{Printed, print_rows};

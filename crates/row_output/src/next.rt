@@ -20,7 +20,7 @@ use plan_steps::RowStage;
 use sand_base::{Failed, Sink};
 use std::alloc::Global;
 
-// What was printed of one step of a cursor: a row, the end, or nothing of a refused step.
+/// What was printed of one step of a cursor: a row, the end, or nothing of a refused step.
 pub enum Next {
     Row,
     End,

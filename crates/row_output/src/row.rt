@@ -9,7 +9,7 @@ use output_text::{LineRef, write_line};
 use plan_rows::Answer;
 use sand_base::{Failed, Sink};
 
-// Writes the line of a row.
+/// Writes the line of a row.
 pub fn print_row<K: Sink>(out: &mut K, row: &Answer) -> Result<(), Failed>
     ensures written { OnOk result (Writes (IsText (Row (row_of row.now) ∷ [])) (K.took out.old) (K.took out.new)) }
     ensures prefix { OnErr result (WritesPrefix (IsText (Row (row_of row.now) ∷ [])) (K.took out.old) (K.took out.new)) }

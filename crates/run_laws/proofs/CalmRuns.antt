@@ -10,7 +10,7 @@ use Rattle.sand_model.specs.Database.{Relation, relation_named, changed_at}
 use Rattle.sand_model.specs.Measure.{Measure}
 use Rattle.sand_model.specs.Outcome.{Rises, IsRefusedBy, Changes, PrintsLeaves, leaf_lines, replaced}
 use Rattle.sand_model.specs.Run.{Run}
-use Rattle.statements.specs.Statement.{Statement, Create, Insert, Delete, Load, Index as IndexOn, OpenCursor, Next, CloseCursor, Show, Stats, Blocks}
+use Rattle.statements.specs.Statement.{Statement, Create, Insert, Delete, Load, Index as IndexOn, OpenCursor, Next, CloseCursor, Show, Stats, Far, Blocks}
 use Rattle.sand_model.specs.ScriptLine.{ScriptLine, Blank, TooLong, BadToken, OutOfRange, Says}
 use Rattle.sand_model.specs.StatementChecks.{Setting, early, late, cursor_named, entered, file_rows}
 use Rattle.run_laws.specs.Determined.{is_of_memory, IsCalm}
@@ -104,6 +104,8 @@ module _ (setting : Setting) (old one other : State) (lines again : List OutputL
   one_effect (Stats name) (c, found, h) (c', found', k) =
       let same : c ≡ c' = one_there (cursor_named old name) c c' found found' in
       same_line _ _ _ _ (ap (λ cursor. StatsOf cursor.counts cursor.given) same) refl h k
+  one_effect (Far count column goal) h k =
+      (all_leaves _ lines h.0 m ∙ sym (all_leaves _ again k.0 n), h.1 ∙ sym k.1)
   one_effect (Blocks column) (relation, found, h) (relation', found', k) =
       let same : relation ≡ relation' = one_there (relation_named old.database column.relation) relation relation' found found' in
       (all_leaves _ lines h.0 m ∙ ap (λ r. leaf_lines r column.column) same ∙ sym (all_leaves _ again k.0 n), h.1 ∙ sym k.1)

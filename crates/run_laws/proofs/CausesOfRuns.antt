@@ -4,14 +4,19 @@ use Rattle.std.specs.Prelude.{map}
 use Rattle.std.proofs.lemmas.List.{append-nil}
 use Rattle.sand_base.specs.declared.refusal.Refusal.{Refusal}
 use Rattle.sand_base.specs.declared.refusal.Refusal.TheVariants as why
+use Rattle.sand_base.specs.declared.point.Point.{Point}
+use Rattle.statements.specs.declared.column.Column.{Column}
+use Rattle.sand_model.specs.Answer.{single_row}
+use Rattle.sand_model.specs.Operators.{PlanRow}
+use Rattle.sand_model.specs.Sources.{column_shapes, far_rows}
 use Rattle.z_code.specs.declared.block.Block.{Block}
 use Rattle.sand_model.specs.Checks.{first_refusal}
 use Rattle.sand_model.specs.Cursor.{State, Cursor, OutputLine, Accepted, Id, Loaded, Row, End, Stats, LeafOf, Steps}
-use Rattle.sand_model.specs.Database.{Relation, Index, Quadtree, Attribute, column_named, index_at}
+use Rattle.sand_model.specs.Database.{Database, Relation, Index, Quadtree, Attribute, column_named, index_at}
 use Rattle.sand_model.specs.Measure.{Measure}
-use Rattle.sand_model.specs.Outcome.{Rises, Outcome, IsLicensed, IsCaused, IsRefusedBy, IsCarriedOut, PrintsLeaves, leaf_lines}
+use Rattle.sand_model.specs.Outcome.{Rises, Outcome, IsLicensed, IsCaused, IsRefusedBy, IsCarriedOut, PrintsLeaves, leaf_lines, first_lines, far_lines}
 use Rattle.sand_model.specs.Run.{LineOutcome, Run}
-use Rattle.statements.specs.Statement.{Statement, Create, Insert, Delete, Load, Index as IndexOn, OpenCursor, Next, CloseCursor, Show, Stats as StatsOf, Blocks}
+use Rattle.statements.specs.Statement.{Statement, Create, Insert, Delete, Load, Index as IndexOn, OpenCursor, Next, CloseCursor, Show, Stats as StatsOf, Far, Blocks}
 use Rattle.sand_model.specs.ScriptLine.{ScriptLine, Blank, TooLong, BadToken, OutOfRange, Says}
 use Rattle.sand_model.specs.StatementChecks.{Setting, early, late}
 use Rattle.sand_model.specs.Tree.{leaves, root_block}
@@ -59,6 +64,16 @@ quiet_lines relation column = at_place (column_named relation.schema column) ref
   at_place None e = rw e tt
   at_place (Some at) e = of_index at e (index_at relation at) refl
 
+-- rows, and their end
+quiet_first : (count : ℕ) (rows : List PlanRow) → AreNoRefusals (first_lines count rows)
+quiet_first zero rows = tt
+quiet_first (suc count) [] = (tt, tt)
+quiet_first (suc count) (row ∷ rows) = (tt, quiet_first count rows)
+
+-- the rows farthest from a point
+quiet_far : (gap : Measure) (database : Database) (count : ℕ) (column : Column) (goal : Point) → AreNoRefusals (far_lines gap database count column goal)
+quiet_far gap database count column goal = quiet_first count (map single_row (far_rows gap goal (column_shapes database column)))
+
 module _ (tells : Bool) (rises : Rises) where
   refused_cause : (refusal : Refusal) (old new : State) (lines : List OutputLine) → HasItsCause tells rises refusal → IsRefusedBy refusal old lines new → HaveCauses tells rises lines
   refused_cause refusal old new lines h k = causes_of tells rises lines _ k.0 (causes_refusal tells rises refusal h)
@@ -93,6 +108,9 @@ module _ (setting : Setting) (rises : Rises) (old new : State) (lines : List Out
   carried_cause (Show count p) (after, h, is) =
       steps_cause setting.tells rises (IsLicensed setting rises old (Show count p)) (licensed_cause setting rises old (Show count p)) setting.gap count _ after lines h
   carried_cause (StatsOf name) (cursor, found, h) = causes_of setting.tells rises lines _ h.0 (causes_line setting.tells rises (Stats _ _) tt)
+  carried_cause (Far count column goal) h =
+      leaves_cause setting.tells rises (IsLicensed setting rises old (Far count column goal)) (licensed_cause setting rises old (Far count column goal))
+      (far_lines setting.gap old.database count column goal) lines (quiet_far setting.gap old.database count column goal) h.0
   carried_cause (Blocks column) (relation, found, h) =
       leaves_cause setting.tells rises (IsLicensed setting rises old (Blocks column)) (licensed_cause setting rises old (Blocks column))
       (leaf_lines relation column.column) lines (quiet_lines relation column.column) h.0

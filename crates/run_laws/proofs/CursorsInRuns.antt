@@ -7,7 +7,7 @@ use Rattle.sand_model.specs.Checks.{first_refusal}
 use Rattle.sand_model.specs.Cursor.{State, Cursor, OutputLine, Steps, new_cursor}
 use Rattle.sand_model.specs.Outcome.{Rises, Outcome, IsLicensed, IsRefusedBy, IsCaused, IsCarriedOut}
 use Rattle.sand_model.specs.Run.{LineOutcome, Run}
-use Rattle.statements.specs.Statement.{Statement, Create, Insert, Delete, Load, Index as IndexOn, OpenCursor, Next, CloseCursor, Show, Stats, Blocks}
+use Rattle.statements.specs.Statement.{Statement, Create, Insert, Delete, Load, Index as IndexOn, OpenCursor, Next, CloseCursor, Show, Stats, Far, Blocks}
 use Rattle.sand_model.specs.ScriptLine.{ScriptLine, Blank, TooLong, BadToken, OutOfRange, Says}
 use Rattle.sand_model.specs.StatementChecks.{Setting, early, late, cursor_named}
 use Rattle.run_laws.specs.Following.{rows_left, GoesOn, asks, closes}
@@ -68,6 +68,7 @@ module _ (setting : Setting) (rises : Rises) (old new : State) (lines : List Out
     with_done (CloseCursor other) a s h = with_these _ (ap (λ state. state.cursors) h.1) (kept_closed old.cursors name other c s is)
     with_done (Show count p) a s (after, steps, h) = with_same (ap (λ state. state.cursors) h)
     with_done (Stats other) a s (cursor, found, h) = with_same (ap (λ state. state.cursors) h.1)
+    with_done (Far count column goal) a s h = with_same (ap (λ state. state.cursors) h.1)
     with_done (Blocks column) a s (relation, found, h) = with_same (ap (λ state. state.cursors) h.1)
 
     with_outcome : (statement : Statement) → asks name (Says statement) ≡ false → closes name (Says statement) ≡ false

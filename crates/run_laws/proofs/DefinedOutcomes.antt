@@ -5,9 +5,9 @@ use Rattle.sand_base.specs.declared.refusal.Refusal.TheVariants as why
 use Rattle.sand_model.specs.Checks.{first_refusal}
 use Rattle.sand_model.specs.Cursor.{State, Cursor, OutputLine, Steps}
 use Rattle.sand_model.specs.Measure.{Measure}
-use Rattle.sand_model.specs.Outcome.{Rises, Outcome, IsLicensed, IsCaused, IsRefusedBy, IsCarriedOut, PrintsLeaves, leaf_lines}
+use Rattle.sand_model.specs.Outcome.{Rises, Outcome, IsLicensed, IsCaused, IsRefusedBy, IsCarriedOut, PrintsLeaves, leaf_lines, far_lines}
 use Rattle.sand_model.specs.Run.{LineOutcome, Run}
-use Rattle.statements.specs.Statement.{Statement, Create, Insert, Delete, Load, Index as IndexOn, OpenCursor, Next, CloseCursor, Show, Stats, Blocks}
+use Rattle.statements.specs.Statement.{Statement, Create, Insert, Delete, Load, Index as IndexOn, OpenCursor, Next, CloseCursor, Show, Stats, Far, Blocks}
 use Rattle.sand_model.specs.ScriptLine.{ScriptLine, Blank, TooLong, BadToken, OutOfRange, Says}
 use Rattle.sand_model.specs.StatementChecks.{Setting, early, late}
 use Rattle.run_laws.specs.Undisturbed.{IsMemory, HasEffect, HasDefinedOutcome, LineIsDefined, RunsUndisturbed}
@@ -50,6 +50,8 @@ module _ (setting : Setting) (rises : Rises) (tells : setting.tells ≡ true) (d
         (cursor, found, (rest.0, steps_under (IsLicensed setting rises old (Next name count)) IsMemory (memory_alone old (Next name count)) setting.gap count cursor rest.0 lines rest.1, rest.2))
     effect (Show count p) (after, h, is) =
         (after, steps_under (IsLicensed setting rises old (Show count p)) IsMemory (memory_alone old (Show count p)) setting.gap count _ after lines h, is)
+    effect (Far count column goal) h =
+        (leaves_under (IsLicensed setting rises old (Far count column goal)) IsMemory (memory_alone old (Far count column goal)) (far_lines setting.gap old.database count column goal) lines h.0, h.1)
     effect (Blocks column) (relation, found, h) =
         (relation, found, (leaves_under (IsLicensed setting rises old (Blocks column)) IsMemory (memory_alone old (Blocks column)) (leaf_lines relation column.column) lines h.0, h.1))
     effect (Create name columns) h = h

@@ -14,7 +14,7 @@ use Rattle.sand_model.specs.Operators.{PlanRow}
 use Rattle.sand_model.specs.Outcome.{Rises, IsLicensed, IsRefusedBy, IsCarriedOut}
 use Rattle.sand_model.specs.OutputText.{is_refused}
 use Rattle.sand_model.specs.Run.{LineOutcome, Run}
-use Rattle.statements.specs.Statement.{Create, Insert, Delete, Load, Index as IndexOn, OpenCursor, Next, CloseCursor, Show, Stats, Blocks}
+use Rattle.statements.specs.Statement.{Create, Insert, Delete, Load, Index as IndexOn, OpenCursor, Next, CloseCursor, Show, Stats, Far, Blocks}
 use Rattle.sand_model.specs.ScriptLine.{ScriptLine, Blank, TooLong, BadToken, OutOfRange, Says}
 use Rattle.sand_model.specs.StatementChecks.{Setting, cursor_named}
 use Rattle.run_laws.specs.Following.{rows_left, Gave, GoesOn, asks, closes, rows_among, rows_given, is_end, is_end_given, HasGiven}
@@ -279,6 +279,7 @@ module _ (setting : Setting) (rises : Rises) (old new : State) (lines : List Out
   line_given (Says (CloseCursor other)) s h = given_beside (Says (CloseCursor other)) refl s h
   line_given (Says (Show count p)) s h = given_beside (Says (Show count p)) refl s h
   line_given (Says (Stats other)) s h = given_beside (Says (Stats other)) refl s h
+  line_given (Says (Far count column goal)) s h = given_beside (Says (Far count column goal)) refl s h
   line_given (Says (Blocks column)) s h = given_beside (Says (Blocks column)) refl s h
   line_given Blank s h = given_beside Blank refl s h
   line_given TooLong s h = given_beside TooLong refl s h

@@ -40,7 +40,7 @@ element_holds P (y ∷ ys) zero x h e = let is : y ≡ x = cc in subst P is (All
 element_holds P (y ∷ ys) (suc at) x h e = element_holds P ys at x (All-tail P y ys h) e
 
 -- what holds of each thing made holds of all
-all_mapped : {A B : Type 0} (P : B → Type 0) (f : A → B) → ((a : A) → P (f a)) → (xs : List A) → All P (map f xs)
+pub all_mapped : {A B : Type 0} (P : B → Type 0) (f : A → B) → ((a : A) → P (f a)) → (xs : List A) → All P (map f xs)
 all_mapped P f h [] = All-nil P
 all_mapped P f h (x ∷ xs) = All-cons P (f x) (map f xs) (h x) (all_mapped P f h xs)
 

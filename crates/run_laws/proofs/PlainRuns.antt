@@ -1,5 +1,5 @@
 -- Through every run the databases print no line feed, nor do the lines of their rows.
-use Rattle.std.proofs.Common.{◌≡◌, ◌⊎◌, ℕ, Bool, true, false, not, List, [], ◌∷◌, ◌++◌, map, take, Option, Some, None, refl, sym, subst, inl, inr}
+use Rattle.std.proofs.Common.{◌≡◌, ◌⊎◌, ℕ, zero, suc, arith, Bool, true, false, not, List, [], ◌∷◌, ◌++◌, map, take, Option, Some, None, refl, sym, subst, inl, inr}
 use Rattle.std.specs.Prelude.{All, ⊤, nat_eq, Result, Ok, Err}
 use Rattle.std.specs.List.{count_by}
 use Rattle.std.proofs.lemmas.List.Elements.{All-nil, All-cons, All-head, All-tail, All-append, All-take, All-drop, All-filter, All-same, All-weaker}
@@ -9,17 +9,19 @@ use Rattle.sand_base.specs.declared.refusal.Refusal.{Refusal}
 use Rattle.sand_base.specs.declared.refusal.Refusal.TheVariants as why
 use Rattle.sand_base.specs.declared.value.Value.{Value}
 use Rattle.z_code.specs.declared.block.Block.{Block}
-use Rattle.sand_model.specs.Answer.{answer}
+use Rattle.sand_base.specs.declared.point.Point.{Point}
+use Rattle.sand_model.specs.Answer.{answer, single_row}
+use Rattle.sand_model.specs.Sources.{column_shapes, far_rows}
 use Rattle.sand_model.specs.Checks.{first_refusal}
 use Rattle.sand_model.specs.Cursor.{State, Cursor, OutputLine, Accepted, Id, Loaded, Row, End, Stats as StatsOf, LeafOf, Refused, new_cursor, Steps}
 use Rattle.sand_model.specs.Database.{Database, Relation, Index, Quadtree, Attribute, has_name, same_name, changed_at, new_relation, with_row, without_row, column_named, index_at, element}
 use Rattle.sand_model.specs.Measure.{Measure}
 use Rattle.sand_model.specs.Operators.{PlanRow}
-use Rattle.sand_model.specs.Outcome.{Rises, IsRefusedBy, IsCarriedOut, IsLicensed, PrintsLeaves, leaf_lines, replaced}
+use Rattle.sand_model.specs.Outcome.{Rises, IsRefusedBy, IsCarriedOut, IsLicensed, PrintsLeaves, leaf_lines, first_lines, far_lines, replaced}
 use Rattle.sand_model.specs.OutputText.{IsText, is_refused}
 use Rattle.statements.specs.declared.column.Column.{Column}
 use Rattle.sand_model.specs.Run.{Run, no_state}
-use Rattle.statements.specs.Statement.{Statement, Create, Insert, Delete, Load, Index as IndexOn, OpenCursor, Next, CloseCursor, Show, Stats, Blocks}
+use Rattle.statements.specs.Statement.{Statement, Create, Insert, Delete, Load, Index as IndexOn, OpenCursor, Next, CloseCursor, Show, Stats, Far, Blocks}
 use Rattle.sand_model.specs.ScriptLine.{ScriptLine, Blank, TooLong, BadToken, OutOfRange, Says}
 use Rattle.sand_model.specs.StatementChecks.{Setting, IsSetting, FileRows, AreRows, HasBad, check_length, check_ids, check_listings, entered, file_rows, indexed_by}
 use Rattle.sand_model.specs.Tree.{root_block, leaves}
@@ -33,7 +35,7 @@ use Rattle.run_laws.specs.Following.{rows_left, GoesOn}
 use Rattle.run_laws.specs.SeenRefusals.{begins_refused}
 use Rattle.run_laws.proofs.CursorsInRuns.{RefusedWith, refused_or_done, Goes}
 use Rattle.run_laws.proofs.LineTexts.{IsFreeValue, IsPlainRow, IsPlainLine, free_value}
-use Rattle.run_laws.proofs.PlainAnswers.{IsFreeRelation, IsFreeDatabase, found_holds, answer_plain}
+use Rattle.run_laws.proofs.PlainAnswers.{all_mapped, IsFreeRelation, IsFreeDatabase, found_holds, answer_plain}
 use Rattle.run_laws.proofs.SeenLines.{ArePlain, lines_seen}
 use Rattle.run_laws.proofs.StepsFollow.{steps_follow}
 
@@ -63,6 +65,7 @@ statement_inserts line (statement.Next cursor count) h = tt
 statement_inserts line (statement.CloseCursor cursor) h = tt
 statement_inserts line (statement.Show count p) h = tt
 statement_inserts line (statement.Stats cursor) h = tt
+statement_inserts line (statement.Far count column goal) h = tt
 statement_inserts line (statement.Blocks column) h = tt
 
 answer_inserts : (line : List ℕ) (answered : Result (Option Statement) LineFault) (told : ScriptLine) → Reads line answered → Tells answered told → InsertsInRange told
@@ -212,6 +215,18 @@ plain_leaf_lines relation column = at_place (column_named relation.schema column
   at_place None e = rw e tt
   at_place (Some at) e = of_index at e (index_at relation at) refl
 
+-- the first rows, and their end
+plain_first_lines : (count : ℕ) (rows : List PlanRow) → All IsPlainRow rows → ArePlain (first_lines count rows)
+plain_first_lines zero rows h = tt
+plain_first_lines (suc count) [] h = (tt, tt)
+plain_first_lines (suc count) (row ∷ rows) h = (All-head IsPlainRow row rows h, plain_first_lines count rows (All-tail IsPlainRow row rows h))
+
+-- the rows farthest from a point
+plain_far_lines : (gap : Measure) (database : Database) (count : ℕ) (column : Column) (goal : Point) → ArePlain (far_lines gap database count column goal)
+plain_far_lines gap database count column goal =
+    plain_first_lines count (map single_row (far_rows gap goal (column_shapes database column)))
+    (all_mapped IsPlainRow single_row (λ found. (omega arith, All-nil IsFreeValue)) _)
+
 plain_first : (printed rest : List OutputLine) → ArePlain (printed ++ rest) → ArePlain printed
 plain_first [] rest h = tt
 plain_first (line ∷ printed) rest h = (h.0, plain_first printed rest h.1)
@@ -270,6 +285,8 @@ module _ (setting : Setting) (is : IsSetting setting) (rises : Rises) (old new :
       let steps = steps_plain setting.gap (IsLicensed setting rises old (Show count p)) count (new_cursor [] p old.database) lines after free.database h in
       leaves_all steps.plain n
   done (Stats name) i (cursor, found, h) = leaves_these old.cursors free.cursors (one_line (StatsOf cursor.counts cursor.given) tt lines h.0) h.1
+  done (Far count column goal) i h =
+      leaves_all (plain_printed (IsLicensed setting rises old (Far count column goal)) (far_lines setting.gap old.database count column goal) lines (plain_far_lines setting.gap old.database count column goal) h.0) h.1
   done (Blocks column) i (relation, found, h) =
       leaves_all (plain_printed (IsLicensed setting rises old (Blocks column)) (leaf_lines relation column.column) lines (plain_leaf_lines relation column.column) h.0) h.1
 

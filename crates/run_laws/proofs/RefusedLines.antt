@@ -6,7 +6,7 @@ use Rattle.sand_model.specs.Cursor.{State, OutputLine, Accepted, Id, Loaded, Sta
 use Rattle.sand_model.specs.Outcome.{Rises, IsRefusedBy, IsCarriedOut}
 use Rattle.sand_model.specs.OutputText.{is_refused}
 use Rattle.sand_model.specs.Run.{LineOutcome}
-use Rattle.statements.specs.Statement.{Statement, Create, Insert, Delete, Load, Index as IndexOn, OpenCursor, Next, CloseCursor, Show, Stats, Blocks}
+use Rattle.statements.specs.Statement.{Statement, Create, Insert, Delete, Load, Index as IndexOn, OpenCursor, Next, CloseCursor, Show, Stats, Far, Blocks}
 use Rattle.sand_model.specs.ScriptLine.{ScriptLine, Blank, TooLong, BadToken, OutOfRange, Says}
 use Rattle.sand_model.specs.StatementChecks.{Setting}
 use Rattle.run_laws.specs.Refused.{is_next}
@@ -32,6 +32,7 @@ module _ (setting : Setting) (rises : Rises) (old new : State) (lines : List Out
   done (CloseCursor name) n h = not_alone Accepted refl h.0
   done (Show count p) n (after, steps, h) = h
   done (Stats name) n (cursor, found, h) = not_alone (StatsOf _ _) refl h.0
+  done (Far count column goal) n h = h.1
   done (Blocks column) n (relation, found, h) = h.1
 
   stays : (statement : Statement) → is_next (Says statement) ≡ false → RefusedWith old lines new ⊎ IsCarriedOut setting rises old statement lines new → new ≡ old

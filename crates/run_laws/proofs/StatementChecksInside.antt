@@ -12,10 +12,12 @@ use Rattle.sand_model.specs.Checks.{first_refusal, kind_named, is_indexed, most_
 use Rattle.sand_model.specs.Cursor.{State}
 use Rattle.sand_model.specs.Database.{Database, Relation, relation_named, row_at, with_row}
 use Rattle.sand_model.specs.Kept.{has_twice, most_relations, longest_row}
+use Rattle.sand_base.specs.declared.shape.Shape.TheVariants as shape
+use Rattle.statements.specs.Plan as plan
 use Rattle.statements.specs.Plan.{Plan, depth}
 use Rattle.statements.specs.declared.column.Column.{Column}
 use Rattle.sand_model.specs.RowSize.{row_size}
-use Rattle.statements.specs.Statement.{Statement, Create, Insert, Delete, Load, Index as IndexOn, OpenCursor, Next, CloseCursor, Show, Stats, Blocks}
+use Rattle.statements.specs.Statement.{Statement, Create, Insert, Delete, Load, Index as IndexOn, OpenCursor, Next, CloseCursor, Show, Stats, Far, Blocks}
 use Rattle.sand_model.specs.StatementChecks.{Setting, FileRows, AreRows, HasBad, refused_where, in_relation, in_column, in_file, is_there, is_row_of, cursor_named, check_cursor, check_length, check_ids, check_listings, check_depth, check_load, check_records, is_overfull, entered, file_rows, indexed_by, most_cursors, longest_file, early, late}
 use Rattle.run_laws.proofs.PlanChecks.{IsInside, inside_two, inside_three, inside_four, inside_relation, inside_operators}
 
@@ -110,6 +112,7 @@ inside_early setting state (Next name count) = inside_cursor state name
 inside_early setting state (CloseCursor name) = inside_cursor state name
 inside_early setting state (Show count p) = inside_two _ _ (inside_operators state.database p) (inside_depth p)
 inside_early setting state (Stats name) = inside_cursor state name
+inside_early setting state (Far count column goal) = inside_operators state.database (plan.Rank column (shape.Point goal) None)
 inside_early setting state (Blocks column) =
     inside_column state.database column _ (λ r k. inside_two _ _ (inside_where (not (is_spatial k)) why.WrongKind refl)
     (inside_where (not (is_indexed r column.column)) why.NoIndex refl))

@@ -10,7 +10,7 @@ use Rattle.sand_base.specs.declared.kind.Kind.TheVariants as kind
 use Rattle.script_text.specs.declared.token.Symbol.TheVariants as symbol
 use Rattle.script_text.specs.InRange.{IsInRange, IsFieldInRange}
 use Rattle.script_text.specs.Printing.{gap, hugs_after, hugs_before, kind_word, field_words, more_words, list_words, comma, printed_after, printed_words, words, printed}
-use Rattle.statements.specs.Statement.{Statement, Create, Insert, Delete, Load, Index, OpenCursor, Next, CloseCursor, Show, Stats, Blocks}
+use Rattle.statements.specs.Statement.{Statement, Create, Insert, Delete, Load, Index, OpenCursor, Next, CloseCursor, Show, Stats, Far, Blocks}
 use Rattle.script_text.specs.Token.{Piece, mark, spelling}
 use Rattle.sand_journal.specs.ChangeBody.{IsKept}
 
@@ -89,6 +89,7 @@ kept_short (Next cursor count) kept range = absurd kept
 kept_short (CloseCursor cursor) kept range = absurd kept
 kept_short (Show count plan) kept range = absurd kept
 kept_short (Stats cursor) kept range = absurd kept
+kept_short (Far count column goal) kept range = absurd kept
 kept_short (Blocks column) kept range = absurd kept
 
 pub printed_short : (statement : Statement) → IsKept statement → IsInRange statement → length (printed statement) ≤ 2000

@@ -5,7 +5,7 @@ use Rattle.std.specs.List.{AllByRecursion, flat_map}
 use Rattle.script_text.specs.InRange.{IsInRange}
 use Rattle.script_text.specs.Name.{IsName}
 use Rattle.script_text.specs.Printing.{printed}
-use Rattle.statements.specs.Statement.{Statement, Create, Insert, Delete, Load, Index, OpenCursor, Next, CloseCursor, Show, Stats, Blocks, statement_value}
+use Rattle.statements.specs.Statement.{Statement, Create, Insert, Delete, Load, Index, OpenCursor, Next, CloseCursor, Show, Stats, Far, Blocks, statement_value}
 use Rattle.statements.specs.declared.statement.Statement as spoken
 use Rattle.sand_journal.specs.declared.TheConstants.{LONGEST_ENCODING}
 use Rattle.sand_journal.specs.declared.change.Change as declared
@@ -28,6 +28,7 @@ IsKept (Next cursor count) = ⊥
 IsKept (CloseCursor cursor) = ⊥
 IsKept (Show count plan) = ⊥
 IsKept (Stats cursor) = ⊥
+IsKept (Far count column goal) = ⊥
 IsKept (Blocks column) = ⊥
 
 -- a row's encoding has at most so many bytes

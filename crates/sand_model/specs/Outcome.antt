@@ -1,11 +1,17 @@
 -- What a statement does: it is refused by the first check that fails, or by the outside in its place, or carried out.
-use Rattle.std.specs.Prelude.{◌≡◌, ◌⊎◌, ℕ, ◌<◌, Bool, true, false, cond, not, List, [], ◌∷◌, ◌++◌, length, map, filter, Option, Some, None, ⊤}
+use Rattle.std.specs.Prelude.{◌≡◌, ◌⊎◌, ℕ, zero, suc, ◌<◌, Bool, true, false, cond, not, List, [], ◌∷◌, ◌++◌, length, map, filter, Option, Some, None, ⊤}
 use Rattle.sand_base.specs.declared.refusal.Refusal.{Refusal}
 use Rattle.sand_base.specs.declared.refusal.Refusal.TheVariants as why
+use Rattle.sand_base.specs.declared.point.Point.{Point}
+use Rattle.statements.specs.declared.column.Column.{Column}
+use Rattle.sand_model.specs.Answer.{single_row}
+use Rattle.sand_model.specs.Measure.{Measure}
+use Rattle.sand_model.specs.Operators.{PlanRow}
+use Rattle.sand_model.specs.Sources.{column_shapes, far_rows}
 use Rattle.sand_model.specs.Checks.{first_refusal}
-use Rattle.sand_model.specs.Cursor.{State, Cursor, OutputLine, Accepted, Id, Loaded, Stats as StatsOf, LeafOf, Refused, new_cursor, Steps}
+use Rattle.sand_model.specs.Cursor.{State, Cursor, OutputLine, Accepted, Id, Loaded, Row, End, Stats as StatsOf, LeafOf, Refused, new_cursor, Steps}
 use Rattle.sand_model.specs.Database.{Database, Relation, Index, Quadtree, relation_named, same_name, changed_at, with_relation, new_relation, with_row, without_row, column_named, index_at}
-use Rattle.statements.specs.Statement.{Statement, Create, Insert, Delete, Load, Index as IndexOn, OpenCursor, Next, CloseCursor, Show, Stats, Blocks}
+use Rattle.statements.specs.Statement.{Statement, Create, Insert, Delete, Load, Index as IndexOn, OpenCursor, Next, CloseCursor, Show, Stats, Far, Blocks}
 use Rattle.sand_model.specs.StatementChecks.{Setting, early, late, check_load, cursor_named, entered, file_rows, indexed_by}
 use Rattle.sand_model.specs.Tree.{Tree, root_block, leaves}
 
@@ -88,6 +94,16 @@ abbrev pub PrintsLeaves : (Refusal → Type 0) → List OutputLine → List Outp
 PrintsLeaves may all lines =
     (lines ≡ all) ⊎ ((printed rest : List OutputLine) × (refusal : Refusal) × may refusal × (all ≡ printed ++ rest) × (lines ≡ printed ++ Refused refusal ∷ []))
 
+-- the lines of the first rows of a list, and `end` where it has fewer
+abbrev pub first_lines : ℕ → List PlanRow → List OutputLine
+first_lines zero rows = []
+first_lines (suc count) [] = End ∷ []
+first_lines (suc count) (row ∷ rows) = Row row ∷ first_lines count rows
+
+-- the lines of the first rows of a column farthest from a point
+abbrev pub far_lines : Measure → Database → ℕ → Column → Point → List OutputLine
+far_lines gap database count column goal = first_lines count (map single_row (far_rows gap goal (column_shapes database column)))
+
 -- what a statement does that no check refuses
 abbrev pub IsCarriedOut : Setting → Rises → State → Statement → List OutputLine → State → Type 0
 IsCarriedOut setting rises old (Create name columns) lines new =
@@ -111,6 +127,8 @@ IsCarriedOut setting rises old (Show count p) lines new =
     (after : Cursor) × Steps setting.gap (IsLicensed setting rises old (Show count p)) count (new_cursor [] p old.database) lines after × (new ≡ old)
 IsCarriedOut setting rises old (Stats name) lines new =
     OfCursor old name (λ cursor. Leaves (StatsOf cursor.counts cursor.given) old.cursors old lines new)
+IsCarriedOut setting rises old (Far count column goal) lines new =
+    PrintsLeaves (IsLicensed setting rises old (Far count column goal)) (far_lines setting.gap old.database count column goal) lines × (new ≡ old)
 IsCarriedOut setting rises old (Blocks column) lines new =
     OfRelation old column.relation (λ relation. PrintsLeaves (IsLicensed setting rises old (Blocks column)) (leaf_lines relation column.column) lines × (new ≡ old))
 

@@ -7,7 +7,9 @@ use Rattle.exact_frac.specs.Frac.{value_cmp}
 use Rattle.exact_frac.specs.declared.frac.Frac.{Frac}
 use Rattle.sand_base.specs.declared.goal.Goal.{Goal}
 use Rattle.sand_base.specs.declared.goal.Goal.TheVariants as figure
+use Rattle.sand_base.specs.declared.point.Point.{Point}
 use Rattle.sand_base.specs.declared.shape.Shape.{Shape}
+use Rattle.sand_base.specs.declared.shape.Shape.TheVariants as shape
 use Rattle.sand_base.specs.declared.value.Value.{Value}
 use Rattle.sand_base.specs.declared.value.Value.TheVariants as value
 use Rattle.sand_model.specs.Database.{Database, Relation, relation_named, column_named, shapes_of, element}
@@ -47,6 +49,18 @@ ranked gap goal ceiling shapes =
       left = s.0;
       right = 0;
     }) shapes))
+
+-- a point as a figure
+abbrev pub spot_figure : Point → Goal
+spot_figure p = figure.Shape (shape.Point p)
+
+-- by the value of the gap, the greatest first, then by left id, then by right id
+abbrev pub far_cmp : Found → Found → Ordering
+far_cmp a b = ordering_then (value_cmp b.gap a.gap) (ordering_then (nat_cmp a.left b.left) (nat_cmp a.right b.right))
+
+-- shapes with their ids by their gap from a point, farthest first
+abbrev pub far_rows : Measure → Point → List (ℕ × Shape) → List Found
+far_rows gap p shapes = sorted far_cmp (map (λ s. record { gap = gap (spot_figure p) (figure.Shape s.1); left = s.0; right = 0 }) shapes)
 
 -- all pairs of shapes, one of each list, by their gap, nearest first, those above the ceiling left out
 abbrev pub joined : Measure → Option ℕ → List (ℕ × Shape) → List (ℕ × Shape) → List Found

@@ -8,7 +8,7 @@ use Rattle.sand_base.specs.declared.refusal.Refusal.TheVariants as why
 use Rattle.sand_base.specs.declared.value.Value.{Value}
 use Rattle.sand_base.specs.InRange.{IsRowOf, IsRowInRange}
 use Rattle.sand_base.specs.Shape.{value_kind, same_kind, is_spatial}
-use Rattle.sand_model.specs.Checks.{first_refusal, check_relation, check_operators, kind_named, is_indexed, most_operators}
+use Rattle.sand_model.specs.Checks.{check_column, first_refusal, check_relation, check_operators, kind_named, is_indexed, most_operators}
 use Rattle.sand_model.specs.Cursor.{State, Cursor}
 use Rattle.sand_model.specs.Database.{Database, Relation, Index, Quadtree, Attribute, relation_named, same_name, column_named, row_at, with_row, with_index}
 use Rattle.sand_model.specs.Kept.{has_twice, most_relations, longest_row}
@@ -16,7 +16,7 @@ use Rattle.sand_model.specs.Measure.{Measure, IsMeasure}
 use Rattle.statements.specs.Plan.{Plan, depth}
 use Rattle.statements.specs.declared.column.Column.{Column}
 use Rattle.sand_model.specs.RowSize.{row_size}
-use Rattle.statements.specs.Statement.{Statement, Create, Insert, Delete, Load, Index as IndexOn, OpenCursor, Next, CloseCursor, Show, Stats, Blocks}
+use Rattle.statements.specs.Statement.{Statement, Create, Insert, Delete, Load, Index as IndexOn, OpenCursor, Next, CloseCursor, Show, Stats, Far, Blocks}
 use Rattle.sand_model.specs.Tree.{listings}
 
 -- the records of a data file: its rows, or the first that is no row, with its leftmost bad column, both counted from 1
@@ -187,6 +187,7 @@ early setting state (Next name count) = check_cursor state name
 early setting state (CloseCursor name) = check_cursor state name
 early setting state (Show count p) = first_refusal (check_operators state.database p ∷ check_depth p ∷ [])
 early setting state (Stats name) = check_cursor state name
+early setting state (Far count column goal) = check_column state.database column is_spatial
 early setting state (Blocks column) =
     in_column state.database column (λ relation kind. first_refusal (refused_where (not (is_spatial kind)) why.WrongKind
     ∷ refused_where (not (is_indexed relation column.column)) why.NoIndex ∷ []))

@@ -22,7 +22,7 @@ use Rattle.script_text.specs.Lexical.{Placed, ArePieces}
 use Rattle.script_text.specs.Name.{IsName}
 use Rattle.script_text.specs.Number.{is_between, is_natural, magnitude, natural, or_zero, is_int, int, value_of}
 use Rattle.statements.specs.Plan.{Plan}
-use Rattle.script_text.specs.Rules.{word, sign, after_word, after_sign, before_sign, case_word, case_sign, name_form, natural_form, int_form, coordinate_form, column_form, place_form, plain_form, spot_rest, spot_form, spots_form, spot_or_way, way_form, spot_end, polygon_form, shape_form, value_form, values_form, kind_form, field_form, columns_form, op_form, test_form, tests_form, places_form, within_form, inner_form, rank_rest, corner_form, rect_form, window_rest, pick_rest, join_rest, semi_rest, knn_rest, filter_rest, match_rest, fetch_rest, first_rest, sort_rest, plan_form, body, create_rest, load_rest, index_rest, statement_form}
+use Rattle.script_text.specs.Rules.{word, sign, after_word, after_sign, before_sign, case_word, case_sign, name_form, natural_form, int_form, coordinate_form, column_form, place_form, plain_form, spot_rest, spot_form, spots_form, spot_or_way, way_form, spot_end, polygon_form, shape_form, value_form, values_form, kind_form, field_form, columns_form, op_form, test_form, tests_form, places_form, within_form, inner_form, rank_rest, corner_form, rect_form, window_rest, pick_rest, join_rest, semi_rest, knn_rest, filter_rest, match_rest, fetch_rest, first_rest, sort_rest, plan_form, body, create_rest, load_rest, index_rest, far_rest, statement_form}
 use Rattle.statements.specs.Statement.{Statement}
 use Rattle.script_text.specs.Text.{content}
 use Rattle.script_text.specs.Token.{Piece, name, number, text, mark, IsPiece}
@@ -379,6 +379,9 @@ module _ (P : (r : Rule) → RuleValue r → Bool → List Placed → Type 0) (r
   index-so : Keeps P index_rest IsInRange
   index-so = seq-so {N = IsThresholdInRange} column-so (alt-so (natural-gets 1 64) nil-so (λ n u a b. a) (nothing-so tt)) (λ c t a b. (a, b))
 
+  far-so : Keeps P far_rest IsInRange
+  far-so = seq-so count-so (seq-so {Q = λ cg. IsColumnInRange cg.0 × IsInPlane cg.1} column-so (after_word-so (codes "from") spot-so) (λ c g a b. (a, b))) (λ n cg a b. (a, b.0, b.1))
+
   statement-so : Keeps P statement_form IsInRange
   statement-so =
       case_word-so (codes "create") create-so (case_word-so (codes "insert") (seq-so name-so values-so (λ r vs a b. (a, b)))
@@ -386,7 +389,7 @@ module _ (P : (r : Rule) → RuleValue r → Bool → List Placed → Type 0) (r
       (case_word-so (codes "index") index-so (case_word-so (codes "open") (seq-so name-so (after_sign-so Equal (rules a_plan)) (λ c p a b. (a, b)))
       (case_word-so (codes "next") (seq-so name-so count-so (λ c n a b. (a, b))) (case_word-so (codes "close") (take-so name-gets)
       (case_word-so (codes "show") (seq-so count-so (rules a_plan) (λ n p a b. (a, b))) (case_word-so (codes "stats") (take-so name-gets)
-      (after_word-so (codes "blocks") (seq-so nil-so column-so (λ u c a b. b))))))))))))
+      (case_word-so (codes "far") far-so (after_word-so (codes "blocks") (seq-so nil-so column-so (λ u c a b. b)))))))))))))
 
 -- the rules keep to their ranges to each depth, and to any
 rules-at : (n : ℕ) (r : Rule) → Keeps (spelled_at n) (rule r) (RangeOf r)

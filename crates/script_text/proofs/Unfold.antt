@@ -1,4 +1,4 @@
--- A plan is read as its body.
+-- A plan is read as its body, and a query by its word.
 use Rattle.std.proofs.Common.{◌≡◌, ℕ, List, false, Result, Ok, Err, ap, ◌∙◌, subst}
 use Rattle.std.specs.Prelude.{codes}
 use Rattle.std.proofs.lemmas.Bool.{cond-true, cond-false}
@@ -10,7 +10,9 @@ use Rattle.script_text.specs.Form.{a_plan, a_word, head_fits, rule}
 use Rattle.script_text.specs.Grammar.{reading}
 use Rattle.statements.specs.Plan.{plan_value}
 use Rattle.script_text.specs.Reading.{State, GivesAs, bind, go_on, pure}
-use Rattle.script_text.specs.Rules.{plan_form, rank_rest, knn_rest}
+use Rattle.statements.specs.Statement.{statement_value}
+use Rattle.statements.specs.declared.statement.Statement.{Statement}
+use Rattle.script_text.specs.Rules.{plan_form, rank_rest, knn_rest, far_rest, query_form}
 use Rattle.script_text.proofs.Depth.{rule-body}
 use Rattle.script_text.proofs.ListReading.{gives-same}
 
@@ -73,5 +75,45 @@ knn-given s a b c d e f u new r scan rank window pick join semi is = gives r
 
     gives : (r : Result Plan Stuck) → GivesAs plan_value (reading knn_rest) u new r → GivesAs plan_value (reading (rule a_plan)) s new r
     gives (Ok plan) e = unfolds ∙ e
+    gives (Err stuck.Here) e = unfolds ∙ e
+    gives (Err stuck.Memory) e = tt
+
+-- behind its word a `far` is read
+far-unfolds : (s u : State) → head_fits (a_word (codes "open")) s.left ≡ false → head_fits (a_word (codes "next")) s.left ≡ false → head_fits (a_word (codes "close")) s.left ≡ false
+    → head_fits (a_word (codes "show")) s.left ≡ false → head_fits (a_word (codes "stats")) s.left ≡ false → IsTaken (a_word (codes "far")) s u → reading query_form s ≡ reading far_rest u
+far-unfolds s u opens next close show stats is =
+    cond-false (head_fits (a_word (codes "open")) s.left) _ _ opens ∙ cond-false (head_fits (a_word (codes "next")) s.left) _ _ next
+    ∙ cond-false (head_fits (a_word (codes "close")) s.left) _ _ close ∙ cond-false (head_fits (a_word (codes "show")) s.left) _ _ show
+    ∙ cond-false (head_fits (a_word (codes "stats")) s.left) _ _ stats ∙ cond-true (head_fits (a_word (codes "far")) s.left) _ _ is.fits
+    ∙ ap (λ r. go_on r (λ v. bind (reading far_rest) (λ x. pure x))) is.taken ∙ gives-same (reading far_rest u)
+
+-- where none of the words before it came
+pub far-given : (s a b c d e u new : State) (r : Result Statement Stuck) → IsPassed (a_word (codes "open")) s a → IsPassed (a_word (codes "next")) a b → IsPassed (a_word (codes "close")) b c
+    → IsPassed (a_word (codes "show")) c d → IsPassed (a_word (codes "stats")) d e → IsTaken (a_word (codes "far")) e u
+    → GivesAs statement_value (reading far_rest) u new r → GivesAs statement_value (reading query_form) s new r
+far-given s a b c d e u new r opens next close show stats is = gives r
+  where
+    second : b ≡ s
+    second = next.same ∙ opens.same
+
+    third : c ≡ s
+    third = close.same ∙ second
+
+    fourth : d ≡ s
+    fourth = show.same ∙ third
+
+    fifth : e ≡ s
+    fifth = stats.same ∙ fourth
+
+    no : (x : State) (w : List ℕ) → x ≡ s → head_fits (a_word w) x.left ≡ false → head_fits (a_word w) s.left ≡ false
+    no x w same other = subst (λ (y : State). head_fits (a_word w) y.left ≡ false) same other
+
+    unfolds : reading query_form s ≡ reading far_rest u
+    unfolds =
+        far-unfolds s u opens.other (no a (codes "next") opens.same next.other) (no b (codes "close") second close.other) (no c (codes "show") third show.other)
+        (no d (codes "stats") fourth stats.other) (subst (λ (y : State). IsTaken (a_word (codes "far")) y u) fifth is)
+
+    gives : (r : Result Statement Stuck) → GivesAs statement_value (reading far_rest) u new r → GivesAs statement_value (reading query_form) s new r
+    gives (Ok statement) e = unfolds ∙ e
     gives (Err stuck.Here) e = unfolds ∙ e
     gives (Err stuck.Memory) e = tt

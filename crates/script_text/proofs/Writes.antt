@@ -493,5 +493,8 @@ statement-w (statement.Show n p) h =
     else-w (else-w (else-w (else-w (else-w (else-w (else-w (else-w (case_word-w (codes "show") refl refl (seq-w (count-w h.0) (plan-w p h.1) refl refl)))))))))
 statement-w (statement.Stats c) h =
     else-w (else-w (else-w (else-w (else-w (else-w (else-w (else-w (else-w (case_word-w (codes "stats") refl refl (take-w (name-word h) refl refl))))))))))
+statement-w (statement.Far n c g) h =
+    else-w (else-w (else-w (else-w (else-w (else-w (else-w (else-w (else-w (else-w (case_word-w (codes "far") refl refl
+    (seq-w (count-w h.0) (seq-w (column-w c h.1) (after_word-w (codes "from") refl refl (spot-w g h.2)) refl refl) refl refl)))))))))))
 statement-w (statement.Blocks c) h =
-    else-w (else-w (else-w (else-w (else-w (else-w (else-w (else-w (else-w (else-w (after_word-w (codes "blocks") refl refl (told-w (column-w c h) refl)))))))))))
+    else-w (else-w (else-w (else-w (else-w (else-w (else-w (else-w (else-w (else-w (else-w (after_word-w (codes "blocks") refl refl (told-w (column-w c h) refl))))))))))))

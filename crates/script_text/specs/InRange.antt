@@ -4,14 +4,14 @@ use Rattle.sand_base.specs.declared.kind.Kind.{Kind}
 use Rattle.sand_base.specs.declared.value.Value.{Value}
 use Rattle.sand_base.specs.declared.value.Value.TheVariants as value
 use Rattle.sand_base.specs.InRange.{IsIntInRange, IsTextInRange, IsValueInRange, IsSchemaInRange}
-use Rattle.sand_base.specs.Plane.{IsRectInPlane, IsShapeInPlane}
+use Rattle.sand_base.specs.Plane.{IsInPlane, IsRectInPlane, IsShapeInPlane}
 use Rattle.script_text.specs.declared.TheConstants.{MOST_ROWS, MOST_WITHIN}
 use Rattle.statements.specs.declared.column.Column.{Column}
 use Rattle.statements.specs.declared.column.Place.{Place}
 use Rattle.statements.specs.declared.test.Test.{Test}
 use Rattle.script_text.specs.Name.{IsName}
 use Rattle.statements.specs.Plan.{Plan, Scan, Rank, Window, PickEqual, PickBetween, Join, Semi, Knn, Filter, Match, Fetch, First, SortBy, SortNear}
-use Rattle.statements.specs.Statement.{Statement, Create, Insert, Delete, Load, Index, OpenCursor, Next, CloseCursor, Show, Stats, Blocks}
+use Rattle.statements.specs.Statement.{Statement, Create, Insert, Delete, Load, Index, OpenCursor, Next, CloseCursor, Show, Stats, Far, Blocks}
 
 -- both names of the column are names
 pub record IsColumnInRange (c : Column) : Type 0 where
@@ -88,4 +88,5 @@ IsInRange (Next cursor count) = IsName cursor × IsCountInRange count
 IsInRange (CloseCursor cursor) = IsName cursor
 IsInRange (Show count plan) = IsCountInRange count × IsPlanInRange plan
 IsInRange (Stats cursor) = IsName cursor
+IsInRange (Far count column goal) = IsCountInRange count × IsColumnInRange column × IsInPlane goal
 IsInRange (Blocks column) = IsColumnInRange column

@@ -16,7 +16,7 @@ use Rattle.statements.specs.declared.test.Test.{Test}
 use Rattle.script_text.specs.declared.token.Symbol.{Symbol}
 use Rattle.script_text.specs.declared.token.Symbol.TheVariants as symbol
 use Rattle.statements.specs.Plan.{Plan, Scan, Rank, Window, PickEqual, PickBetween, Join, Semi, Knn, Filter, Match, Fetch, First, SortBy, SortNear}
-use Rattle.statements.specs.Statement.{Statement, Create, Insert, Delete, Load, Index, OpenCursor, Next, CloseCursor, Show, Stats, Blocks}
+use Rattle.statements.specs.Statement.{Statement, Create, Insert, Delete, Load, Index, OpenCursor, Next, CloseCursor, Show, Stats, Far, Blocks}
 use Rattle.script_text.specs.Text.{doubled}
 use Rattle.script_text.specs.Token.{Piece, name, number, text, mark, spelling}
 
@@ -149,6 +149,7 @@ words (Next cursor count) = name (codes "next") ∷ name cursor ∷ natural_word
 words (CloseCursor cursor) = name (codes "close") ∷ name cursor ∷ []
 words (Show count plan) = name (codes "show") ∷ number (decimal count) ∷ plan_words plan
 words (Stats cursor) = name (codes "stats") ∷ name cursor ∷ []
+words (Far count column goal) = name (codes "far") ∷ number (decimal count) ∷ column_words column ++ (name (codes "from") ∷ spot_words goal)
 words (Blocks column) = name (codes "blocks") ∷ column_words column
 
 -- no space stands after `(`, and on either side of `.` and of the `-` of a segment,

@@ -308,6 +308,11 @@ close_rest = take a_name (λ c. statement.CloseCursor c)
 abbrev pub stats_rest : Form Statement
 stats_rest = take a_name (λ c. statement.Stats c)
 
+-- `NUM column from spot`
+abbrev pub far_rest : Form Statement
+far_rest = seq (λ n (cg : Column × Point). statement.Far n cg.0 cg.1) (natural_form 1 MOST_ROWS)
+    (seq (λ c g. (c, g)) column_form (after_word (codes "from") spot_form))
+
 -- `column`
 abbrev pub blocks_rest : Form Statement
 blocks_rest = told (λ c. statement.Blocks c) column_form
@@ -316,7 +321,7 @@ blocks_rest = told (λ c. statement.Blocks c) column_form
 abbrev pub query_form : Form Statement
 query_form =
     case_word (codes "open") open_rest (case_word (codes "next") next_rest (case_word (codes "close") close_rest (case_word (codes "show") show_rest
-    (case_word (codes "stats") stats_rest (after_word (codes "blocks") blocks_rest)))))
+    (case_word (codes "stats") stats_rest (case_word (codes "far") far_rest (after_word (codes "blocks") blocks_rest))))))
 
 -- a statement
 abbrev pub statement_form : Form Statement

@@ -2,12 +2,12 @@ ghost use Rattle.std.specs.Prelude.{◌≡◌, IfOk};
 ghost use Rattle.script_text.specs.Page.{put_all};
 ghost use Rattle.statements.specs.Plan.{plan_value};
 ghost use Rattle.script_text.specs.Printing.{printed, words};
-ghost use Rattle.statements.specs.Statement.{statement_value, Create, Insert, Delete, Load, Index, OpenCursor, Next, CloseCursor, Show, Stats, Blocks};
+ghost use Rattle.statements.specs.Statement.{statement_value, Create, Insert, Delete, Load, Index, OpenCursor, Next, CloseCursor, Show, Stats, Far, Blocks};
 
 use crate::printer::Printer;
 use crate::token::Symbol;
 use crate::{Column, Plan, Statement};
-use sand_base::{Label, NoMemory, Row, Schema};
+use sand_base::{Label, NoMemory, Point, Row, Schema};
 use std::alloc::Global;
 
 #[tactic(auto, using(crate::proofs::Pages::put_append), unfolding(crate::specs::Page::put_all))]
@@ -118,6 +118,18 @@ impl Printer {
         Ok(())
     }
 
+    // Writes a `far`.
+    fn far(&mut self, count: u32, column: &Column, goal: Point) -> Result<(), NoMemory>
+        ensures { IfOk result (λ _. self.new ≡ put_all self.old (words (Far count column.now goal))) }
+    {
+        self.name("far")?;
+        self.natural(count)?;
+        self.column(column)?;
+        self.name("from")?;
+        self.spot(goal)?;
+        Ok(())
+    }
+
     // Writes a `blocks`.
     fn blocks(&mut self, column: &Column) -> Result<(), NoMemory>
         ensures { IfOk result (λ _. self.new ≡ put_all self.old (words (Blocks column.now))) }
@@ -146,6 +158,11 @@ impl Printer {
             Statement::CloseCursor { cursor } => self.close(cursor),
             Statement::Show { count, plan } => self.show(*count, plan),
             Statement::Stats { cursor } => self.stats(cursor),
+            Statement::Far {
+                count,
+                column,
+                goal,
+            } => self.far(*count, column, *goal),
             Statement::Blocks { column } => self.blocks(column),
         }
     }

@@ -59,8 +59,8 @@ impl<'t> Cursor<'t> {
         self.natural(0, (1 << COORDINATE_BITS) - 1)
     }
 
-    // Reads `(x y)`.
-    fn spot(&mut self) -> Result<Point, Stuck>
+    /// Reads `(x y)`.
+    pub fn spot(&mut self) -> Result<Point, Stuck>
         ensures gives { Gives (reading spot_form) self.old self.new result }
         ensures falls { IfOk result (λ _. length self.new.left < length self.old.left) }
     {

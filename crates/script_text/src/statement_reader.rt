@@ -4,7 +4,7 @@ ghost use Rattle.script_text.specs.Grammar.{reading, whole};
 ghost use Rattle.statements.specs.Statement.{statement_value};
 ghost use Rattle.script_text.specs.Reading.{Gives, GivesAs};
 ghost use Rattle.script_text.specs.Rules.{after_word, case_word, create_rest, insert_rest, delete_rest, load_rest, index_rest, open_rest};
-ghost use Rattle.script_text.specs.Rules.{next_rest, close_rest, show_rest, stats_rest, blocks_rest, query_form, statement_form};
+ghost use Rattle.script_text.specs.Rules.{next_rest, close_rest, show_rest, stats_rest, far_rest, blocks_rest, query_form, statement_form};
 
 use crate::cursor::Cursor;
 use crate::stuck::Stuck;
@@ -132,6 +132,21 @@ impl<'t> Cursor<'t> {
         Ok(Statement::Stats { cursor })
     }
 
+    // Reads a `far`, after its word.
+    fn far(&mut self, alloc: Global) -> Result<Statement, Stuck>
+        ensures { GivesAs statement_value (reading far_rest) self.old self.new result }
+    {
+        let count = self.natural(1, MOST_ROWS)?;
+        let column = self.column(alloc)?;
+        self.word("from")?;
+        let goal = self.spot()?;
+        Ok(Statement::Far {
+            count,
+            column,
+            goal,
+        })
+    }
+
     // Reads a `blocks`.
     fn blocks(&mut self, alloc: Global) -> Result<Statement, Stuck>
         ensures { GivesAs statement_value (reading (after_word (codes "blocks") blocks_rest)) self.old self.new result }
@@ -159,6 +174,9 @@ impl<'t> Cursor<'t> {
         }
         if self.accept_word("stats") {
             return self.stats(alloc);
+        }
+        if self.accept_word("far") {
+            return self.far(alloc);
         }
         self.blocks(alloc)
     }

@@ -57,8 +57,8 @@ impl Printer {
         Ok(())
     }
 
-    // Writes `(x y)`.
-    fn spot(&mut self, spot: Point) -> Result<(), NoMemory>
+    /// Writes `(x y)`.
+    pub fn spot(&mut self, spot: Point) -> Result<(), NoMemory>
         ensures { IfOk result (λ _. self.new ≡ put_all self.old (spot_words spot)) }
     {
         self.mark(Symbol::Open)?;

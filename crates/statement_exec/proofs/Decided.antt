@@ -4,7 +4,7 @@ use Rattle.sand_base.specs.Shelf.{Files}
 use Rattle.sand_base.specs.declared.refusal.Refusal.{Refusal}
 use Rattle.sand_base.specs.declared.refusal.Refusal.TheVariants as why
 use Rattle.sand_model.specs.Cursor.{State, OutputLine, Refused}
-use Rattle.statements.specs.Statement.{Statement, Create, Insert, Delete, Load, Index as IndexOn, OpenCursor, Next, CloseCursor, Show, Stats, Blocks}
+use Rattle.statements.specs.Statement.{Statement, Create, Insert, Delete, Load, Index as IndexOn, OpenCursor, Next, CloseCursor, Show, Stats, Far, Blocks}
 use Rattle.sand_model.specs.StatementChecks.{Setting, early, check_load}
 use Rattle.statement_exec.specs.Deciding.{ComesBehind, PrintsPassed, DecidesEarly, InFound}
 use Rattle.statement_exec.specs.Moment.{AreTold}
@@ -28,6 +28,7 @@ after_refusal old (Next name count) w = refl
 after_refusal old (CloseCursor name) w = refl
 after_refusal old (Show count p) w = refl
 after_refusal old (Stats name) w = refl
+after_refusal old (Far count column goal) w = refl
 after_refusal old (Blocks column) w = refl
 
 module _ (setting : Setting) (state : State) (statement : Statement) where

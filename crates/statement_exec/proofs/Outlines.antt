@@ -7,6 +7,7 @@ use Rattle.sand_base.specs.declared.limits.Limits.{Limits}
 use Rattle.sand_base.specs.declared.refusal.Refusal.{Refusal}
 use Rattle.sand_base.specs.declared.refusal.Refusal.TheVariants as why
 use Rattle.sand_base.specs.declared.value.Value.{Value}
+use Rattle.sand_base.specs.declared.shape.Shape.TheVariants as shape
 use Rattle.sand_base.specs.Shape.{value_kind, same_kind, is_spatial}
 use Rattle.sand_base.specs.declared.kind.Kind.TheVariants as kind
 use Rattle.sand_model.specs.Checks.{first_refusal, kind_named, is_indexed, check_column, place_kind, check_place, check_relation, check_tests, check_places, check_operators, can_compare, is_plain, is_plain_pair}
@@ -19,7 +20,7 @@ use Rattle.statements.specs.Plan.{Plan, Scan}
 use Rattle.statements.specs.declared.column.Column.{Column}
 use Rattle.statements.specs.declared.column.Place.{Place}
 use Rattle.statements.specs.declared.test.Test.{Test}
-use Rattle.statements.specs.Statement.{Statement, Create, Insert, Delete, Load, Index as IndexOn, OpenCursor, Next, CloseCursor, Show, Stats, Blocks}
+use Rattle.statements.specs.Statement.{Statement, Create, Insert, Delete, Load, Index as IndexOn, OpenCursor, Next, CloseCursor, Show, Stats, Far, Blocks}
 use Rattle.sand_model.specs.StatementChecks.{Setting, FileRows, AreRows, HasBad, early, refused_where, in_relation, in_column, is_there, is_row_of, check_cursor, check_length, check_ids, check_load, check_records, check_depth, in_file, file_rows, most_cursors, longest_file}
 use Rattle.sand_store.specs.Calls.{plain_checks, check_kinds}
 use Rattle.statement_exec.specs.Outline.{sketch_in, outline_of, bare, bare_relation}
@@ -283,6 +284,7 @@ module _ (state : State) where
   early_shown setting (CloseCursor name) = open_shown name
   early_shown setting (Show count p) = ap (λ (a : Option Refusal). first_refusal (a ∷ check_depth p ∷ [])) (operators_shown state.database p)
   early_shown setting (Stats name) = open_shown name
+  early_shown setting (Far count column goal) = operators_shown state.database (plan.Rank column (shape.Point goal) None)
   early_shown setting (Blocks column) =
       column_shown state.database column (λ relation kind. first_refusal (refused_where (not (is_spatial kind)) why.WrongKind ∷ refused_where (not (is_indexed relation column.column)) why.NoIndex ∷ []))
       (λ r k. ap (λ (b : Bool). first_refusal (refused_where (not (is_spatial k)) why.WrongKind ∷ refused_where (not b) why.NoIndex ∷ [])) (indexed_shown r column.column))

@@ -1,6 +1,7 @@
 -- Statements with their plans as trees: what contracts see of a statement.
 use Rattle.std.specs.Prelude.{ℕ, Bool, List, Option}
 use Rattle.sand_base.specs.declared.kind.Kind.{Kind}
+use Rattle.sand_base.specs.declared.point.Point.{Point}
 use Rattle.sand_base.specs.declared.value.Value.{Value}
 use Rattle.statements.specs.declared.column.Column.{Column}
 use Rattle.statements.specs.declared.statement.Statement as declared
@@ -19,6 +20,7 @@ pub data Statement : Type 0 where
   CloseCursor : List ℕ → Statement
   Show : ℕ → Plan → Statement
   Stats : List ℕ → Statement
+  Far : ℕ → Column → Point → Statement
   Blocks : Column → Statement
 
 -- a statement with the tree of its plan
@@ -33,4 +35,5 @@ statement_value (statement.Next cursor count) = Next cursor count
 statement_value (statement.CloseCursor cursor) = CloseCursor cursor
 statement_value (statement.Show count plan) = Show count (plan_value plan)
 statement_value (statement.Stats cursor) = Stats cursor
+statement_value (statement.Far count column goal) = Far count column goal
 statement_value (statement.Blocks column) = Blocks column

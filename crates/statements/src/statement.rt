@@ -1,5 +1,5 @@
 use crate::{Column, Plan};
-use sand_base::{Label, Row, Schema};
+use sand_base::{Label, Point, Row, Schema};
 
 /// What a line of a script says.
 #[derive(Drop)]
@@ -52,6 +52,13 @@ pub enum Statement {
     /// `stats CURSOR`: what the cursor has spent so far.
     Stats {
         cursor: Label,
+    },
+    /// `far COUNT RELATION.COLUMN from POINT`: the rows of a column farthest from a point, the farthest first, at most as
+    /// many as the count.
+    Far {
+        count: u32,
+        column: Column,
+        goal: Point,
     },
     /// `blocks RELATION.COLUMN`: the leaves of a column's quadtree.
     Blocks {

@@ -56,6 +56,18 @@ returns-in-Show-clause-held g c = subst (λ (m : StampMap). AreHeld m c.args.cur
 pub returns-in-Show-clause-pages : goal.returns-in-Show-clause-pages
 returns-in-Show-clause-pages g c = leaves_read c.args.store.pool c.show.result.0.pool c.show.ensures.read c.show.ensures.cause
 
+-- and whatever rows were printed
+pub returns-in-Far-clause-carried : goal.returns-in-Far-clause-carried
+returns-in-Far-clause-carried g c = λ cs own counted stand.
+    subst (λ (s : Statement). CarriesBeside (statement_value s) c.args.store.catalog c.args.store.pool c.far.result.0.pool cs (g.K.Sink.took c.args.out.now) (g.K.Sink.took c.far.new.out) c.far.result.1 (StandOver c.far.result.0.pool c.args.cursors.now.items)) (sym c.in-Far.is)
+    (beside_all c.args.store.catalog c.args.store.pool c.far.result.0.pool (said.Far c.in-Far.count c.in-Far.column c.in-Far.goal) (g.K.Sink.took c.args.out.now) (g.K.Sink.took c.far.new.out) c.far.result.1 c.far.ensures.read c.args.cursors.now.items cs own stand (c.far.ensures.written cs))
+
+pub returns-in-Far-clause-held : goal.returns-in-Far-clause-held
+returns-in-Far-clause-held g c = subst (λ (m : StampMap). AreHeld m c.args.cursors.now.items) (sym c.far.ensures.read.stamps) c.requires.stands.0
+
+pub returns-in-Far-clause-pages : goal.returns-in-Far-clause-pages
+returns-in-Far-clause-pages g c = leaves_read c.args.store.pool c.far.result.0.pool c.far.ensures.read c.far.ensures.cause
+
 -- and whatever leaves were printed
 pub returns-in-Blocks-clause-carried : goal.returns-in-Blocks-clause-carried
 returns-in-Blocks-clause-carried g c = λ cs own counted stand.
