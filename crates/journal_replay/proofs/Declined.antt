@@ -1,15 +1,16 @@
 -- A change that a store refuses is one that it doesn't take.
-use Rattle.std.proofs.Common.{◌≡◌, inl, inr, ℕ, Bool, true, false, List, Option, Some, None, refl, sym, ap, subst, ◌∙◌}
+use Rattle.std.proofs.Common.{◌≡◌, inl, inr, ℕ, Bool, true, false, List, [], ◌∷◌, Option, Some, None, refl, sym, ap, subst, ◌∙◌}
 use Rattle.std.specs.Prelude.{Result, Ok, Err, IfErr, IsErrAnd}
 use Rattle.page_pool.specs.Pool.{IsTold}
 use Rattle.sand_base.specs.declared.refusal.Refusal.{Refusal}
 use Rattle.sand_base.specs.declared.refusal.Refusal.TheVariants as why
 use Rattle.sand_base.specs.declared.value.Value.{Value}
 use Rattle.sand_journal.specs.ChangeBody.{ChangeValue, Line, Rows, line_value}
-use Rattle.sand_model.specs.Database.{Relation}
-use Rattle.statements.specs.Statement.{Statement}
-use Rattle.sand_model.specs.StatementChecks.{Setting}
-use Rattle.sand_store.specs.Calls.{Refuses, IsRefusedBy, LoadIsRefusedBy, IsRefusedPlainly, is_of_a_row, load_early, load_late, early_at, late_at}
+use Rattle.sand_model.specs.Checks.{first_refusal}
+use Rattle.sand_model.specs.Database.{Relation, relation_named, with_row}
+use Rattle.statements.specs.Statement.{Statement, Insert}
+use Rattle.sand_model.specs.StatementChecks.{Setting, check_length, check_ids, check_listings}
+use Rattle.sand_store.specs.Calls.{Refuses, IsRefusedBy, LoadIsRefusedBy, IsRefusedPlainly, is_full, is_of_a_row, check_kinds, loaded, load_early, load_late, early_at, late_at}
 use Rattle.sand_store.specs.Catalog.{CatalogView, StoreState}
 use Rattle.sand_store.specs.Contents.{database}
 use Rattle.statements.specs.declared.statement.Statement as script
@@ -61,7 +62,7 @@ line_declined store s v statement is_late w same passes refuses h = at_bad store
 pub rows_declined : (store : StoreState) (name : List ℕ) (encodings : List (List ℕ)) (rows : List (List Value)) (has : HasRowsFor store.catalog name encodings rows) (w : Refusal)
     → LoadIsRefusedBy store name rows w → IsRefusedPlainly store name rows w → IsDeclined store (Rows name encodings) (fault_of w)
 rows_declined store name encodings rows has w h plain = at_bad store (Rows name encodings) (fault_of w) (λ bad. record {
-  refused = inr (rows, has, (w, bad, (h, plain)));
+  refused = inr (rows, has, (w, bad, inl (h, plain)));
   not_taken = λ told setting is limits takes.
       let same : relation store name encodings rows has ≡ takes.relation =
       some_same (relation store name encodings rows has) takes.relation (sym (named store name encodings rows has) ∙ takes.named) in
@@ -70,6 +71,42 @@ rows_declined store name encodings rows has w h plain = at_bad store (Rows name 
       let late : load_late setting store name rows ≡ None =
       late_is store name encodings rows has setting ∙ ap (λ (p : Option Refusal × Relation). p.0) (sym (entered_is store name encodings rows has setting)) ∙ passes in
       no_check (IsTold store.pool) told is_of_a_row (load_early store name) (load_late setting store name rows) (early_is store name encodings rows has) late w (h setting is limits) bad;
+})
+
+-- four checks pass
+four_pass : (a b c d : Option Refusal) → first_refusal (a ∷ b ∷ c ∷ d ∷ []) ≡ None → (a ≡ None) × (b ≡ None) × (c ≡ None) × (d ≡ None)
+four_pass None None None None e = (refl, refl, refl, refl)
+four_pass None None None (Some w) e = let clash : ⊥ = cc in absurd clash
+four_pass None None (Some w) d e = let clash : ⊥ = cc in absurd clash
+four_pass None (Some w) c d e = let clash : ⊥ = cc in absurd clash
+four_pass (Some w) b c d e = let clash : ⊥ = cc in absurd clash
+
+-- a row that is loaded alone passes its four checks
+alone_passes : (setting : Setting) (row : List Value) (r : Relation) → (loaded setting (row ∷ []) r).0 ≡ None
+    → first_refusal (check_kinds r row ∷ check_length row ∷ check_ids setting.limits r ∷ check_listings setting.limits (with_row setting.gap row r) ∷ []) ≡ None
+alone_passes setting row r e =
+    go (first_refusal (check_kinds r row ∷ check_length row ∷ check_ids setting.limits r ∷ check_listings setting.limits (with_row setting.gap row r) ∷ [])) refl where
+      go : (o : Option Refusal) → first_refusal (check_kinds r row ∷ check_length row ∷ check_ids setting.limits r ∷ check_listings setting.limits (with_row setting.gap row r) ∷ []) ≡ o
+          → first_refusal (check_kinds r row ∷ check_length row ∷ check_ids setting.limits r ∷ check_listings setting.limits (with_row setting.gap row r) ∷ []) ≡ None
+      go None is = is
+      go (Some w) is = let none : Some w ≡ None = rw is at e in let clash : ⊥ = cc in absurd clash
+
+-- a row that the store refuses to insert
+pub row_declined : (store : StoreState) (name : List ℕ) (encodings : List (List ℕ)) (row : List Value) (has : HasRowsFor store.catalog name encodings (row ∷ [])) (w : Refusal)
+    → IsRefusedBy is_full store (Insert name row) w → IsDeclined store (Rows name encodings) (fault_of w)
+row_declined store name encodings row has w h = at_bad store (Rows name encodings) (fault_of w) (λ bad. record {
+  refused = inr (row ∷ [], has, (w, bad, inr (row, refl, h)));
+  not_taken = λ told setting is limits takes.
+      let r : Relation = relation store name encodings (row ∷ []) has in
+      let same : r ≡ takes.relation = some_same r takes.relation (sym (named store name encodings (row ∷ []) has) ∙ takes.named) in
+      let passes : (with_encoded setting encodings r).0 ≡ None = subst (λ (q : Relation). (with_encoded setting encodings q).0 ≡ None) (sym same) takes.passes in
+      let late : (loaded setting (row ∷ []) r).0 ≡ None =
+      ap (λ (p : Option Refusal × Relation). p.0) (sym (entered_is store name encodings (row ∷ []) has setting)) ∙ passes in
+      let four = four_pass (check_kinds r row) (check_length row) (check_ids setting.limits r) (check_listings setting.limits (with_row setting.gap row r)) (alone_passes setting row r late) in
+      let named_so : relation_named (database store) name ≡ Some r = named store name encodings (row ∷ []) has in
+      let before : early_at setting store (Insert name row) ≡ None = rw (named_so, four.0, four.1, four.2) refl in
+      let behind : late_at setting store (Insert name row) ≡ None = rw named_so four.3 in
+      no_check (IsTold store.pool) told is_full (early_at setting store (Insert name row)) (late_at setting store (Insert name row)) before behind w (h setting is limits) bad;
 })
 
 -- encodings of which the relation has no rows

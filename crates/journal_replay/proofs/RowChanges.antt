@@ -6,11 +6,17 @@ use Rattle.sand_journal.specs.ChangeBody.{Rows}
 use Rattle.sand_model.specs.Checks.{first_refusal}
 use Rattle.sand_model.specs.Database.{Database, Relation, relation_named, changed_at, with_row}
 use Rattle.statements.specs.Statement.{Insert}
-use Rattle.sand_model.specs.StatementChecks.{Setting, entered, in_relation, check_length, check_ids, check_listings}
+use Rattle.sand_model.specs.StatementChecks.{Setting, IsSetting, entered, in_relation, check_length, check_ids, check_listings}
 use Rattle.journal_replay.specs.ChangedDatabase.{PassesChecks, Takes, changed_by, with_encoded}
-use Rattle.journal_replay.specs.EncodedRows.{AreEncodingsOf}
-use Rattle.journal_replay.proofs.Decoded.{rows_back}
-use Rattle.journal_replay.proofs.Entered.{changed_alike}
+use Rattle.sand_store.specs.Calls.{Carries, Inserted}
+use Rattle.sand_store.specs.Catalog.{StoreState}
+use Rattle.sand_store.specs.Contents.{database}
+use Rattle.sand_store.specs.Sketches.{sketches, sketched_at, with_ids}
+use Rattle.page_pool.specs.Pool.{IsTold}
+use Rattle.journal_replay.specs.EncodedRows.{AreEncodingsOf, HasRowsFor}
+use Rattle.journal_replay.specs.LedBy.{LedByOne}
+use Rattle.journal_replay.proofs.Decoded.{rows_back, as_many}
+use Rattle.journal_replay.proofs.Entered.{changed_alike, relation, named}
 
 -- all of three checks pass
 three_pass : (a b c : Option Refusal) → first_refusal (a ∷ b ∷ c ∷ []) ≡ None → (b ≡ None) × (c ≡ None)
@@ -57,3 +63,18 @@ module _ (setting : Setting) (d : Database) (name : List ℕ) (relation : Relati
         change.0,
         change.1 ∙ changed_alike (λ r. (entered setting (row ∷ []) r).1) (with_row setting.gap row) name d relation named (ap (λ (p : Option Refusal × Relation). p.1) enters),
       )
+
+-- a row that the store inserted is a change
+pub led_by_row : (old : StoreState) (name : List ℕ) (encodings : List (List ℕ)) (row : List Value) (has : HasRowsFor old.catalog name encodings (row ∷ []))
+    → (new : StoreState) (id : ℕ) → Inserted old new name row id → Carries old new → LedByOne (Rows name encodings) old new
+led_by_row old name encodings row has new id h carries = record {
+  carries = carries;
+  sketched = h.sketched ∙ ap (λ (n : ℕ). sketched_at name (with_ids n) (sketches old)) (as_many has.relation.schema (row ∷ []) encodings has.encoded);
+  takes = λ told setting is limits. (change told setting is limits).0;
+  becomes = λ told setting is limits. h.becomes told setting.gap is.gap ∙ sym (change told setting is limits).1;
+} where
+  change : IsTold old.pool → (setting : Setting) → IsSetting setting → setting.limits ≡ old.catalog.limits
+      → Takes setting (Rows name encodings) (database old) × (changed_by setting (Rows name encodings) (database old) ≡ changed_at name (with_row setting.gap row) (database old))
+  change told setting is limits =
+      inserted_change setting (database old) name (relation old name encodings (row ∷ []) has) (named old name encodings (row ∷ []) has) row encodings has.encoded
+      (record { before = (h.passes setting is limits).0; behind = (h.passes setting is limits).1 told })

@@ -1,5 +1,5 @@
 -- Why a store doesn't take a change: a check refuses it, or it has no rows.
-use Rattle.std.specs.Prelude.{◌≡◌, ◌⊎◌, ℕ, List}
+use Rattle.std.specs.Prelude.{◌≡◌, ◌⊎◌, ℕ, List, [], ◌∷◌}
 use Rattle.page_pool.specs.Pool.{IsTold}
 use Rattle.sand_base.specs.declared.refusal.Refusal.{Refusal}
 use Rattle.sand_base.specs.declared.refusal.Refusal.TheVariants as why
@@ -26,10 +26,16 @@ fault_of _ = fault.Bad
 abbrev pub OfCheck : (Refusal → Type 0) → Type 0
 OfCheck P = (refusal : Refusal) × (fault_of refusal ≡ fault.Bad) × P refusal
 
--- a check of the store's load refuses the rows that have these encodings
+-- a check of the store's load refuses rows, or one of its insert the only row
+abbrev pub AreRefused : StoreState → List ℕ → List (List Value) → Refusal → Type 0
+AreRefused store name rows refusal =
+    (LoadIsRefusedBy store name rows refusal × IsRefusedPlainly store name rows refusal)
+    ⊎ ((row : List Value) × (rows ≡ row ∷ []) × IsRefusedBy is_full store (model.Insert name row) refusal)
+
+-- a check of the store refuses the rows that have these encodings
 abbrev pub RefusesEncoded : StoreState → List ℕ → List (List ℕ) → Type 0
 RefusesEncoded store name encodings =
-    (rows : List (List Value)) × HasRowsFor store.catalog name encodings rows × OfCheck (λ w. LoadIsRefusedBy store name rows w × IsRefusedPlainly store name rows w)
+    (rows : List (List Value)) × HasRowsFor store.catalog name encodings rows × OfCheck (AreRefused store name rows)
 
 -- a check of the store refuses the change, or it has no rows of its relation, as far as a store tells over any disk
 abbrev pub RefusesChange : StoreState → ChangeValue → Type 0

@@ -1,5 +1,5 @@
 // One change, carried out on a store.
-ghost use Rattle.std.specs.Prelude.{◌≡◌, IfErr, OnOk};
+ghost use Rattle.std.specs.Prelude.{◌≡◌, ◌∷◌, [], IfErr, IfOk, OnOk};
 ghost use Rattle.sand_journal.specs.ChangeBody.{Line, Rows, IsChange, IsKept, change_value, line_value};
 ghost use Rattle.sand_store.specs.Calls.{Carries};
 ghost use Rattle.script_text.specs.InRange.{IsInRange};
@@ -9,6 +9,7 @@ ghost use Rattle.journal_replay.specs.Replayed.{HasChangeCause, IsDeclined};
 use crate::ReplayFault;
 use crate::rows::rows_for;
 use page_pool::Disk;
+use sand_base::Row;
 use sand_journal::{Change, Encodings};
 use sand_store::Store;
 use script_text::Statement;
@@ -38,7 +39,22 @@ fn carry_line<D: Disk>(store: &mut Store<D>, statement: Statement) -> Result<(),
     Ok(())
 }
 
-// The rows that have these encodings enter their relation, all or none.
+// The only one of some rows, or all of them where they aren't one.
+fn only_row(rows: Vec<Row>) -> Result<Row, Vec<Row>>
+    ensures one { IfOk result (λ row. rows.items ≡ row ∷ []) }
+    ensures others { IfErr result (λ rest. rest ≡ rows) }
+{
+    let mut rest = rows;
+    if rest.len() == 1 {
+        if let Some(row) = rest.pop() {
+            return Ok(row);
+        }
+    }
+    Err(rest)
+}
+
+// The rows that have these encodings enter their relation, all or none. A single row is an insert: a load would copy the
+// relation for it.
 fn carry_rows<D: Disk>(
     alloc: Global,
     store: &mut Store<D>,
@@ -51,7 +67,14 @@ fn carry_rows<D: Disk>(
     ensures cause { HasChangeCause store.old.pool store.new.pool result }
 {
     let rows = rows_for(alloc, store.catalog(), relation, encodings)?;
-    store.load_rows(relation, rows)?;
+    match only_row(rows) {
+        Ok(row) => {
+            store.insert(relation, row)?;
+        }
+        Err(rows) => {
+            store.load_rows(relation, rows)?;
+        }
+    }
     Ok(())
 }
 

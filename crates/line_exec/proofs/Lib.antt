@@ -1,3 +1,5 @@
+-- changes over a shelf
+pub mod ShelfChanges
 -- What a statement does beside open cursors is what its line does.
 pub mod SaidLines
 -- Moments that follow one another.
@@ -6,3 +8,5 @@ pub mod Moments
 pub mod LineSteps
 -- A store that is lent.
 pub mod Lent
+-- what a line does to a journal
+pub mod Kept

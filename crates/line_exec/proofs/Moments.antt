@@ -1,9 +1,8 @@
 -- Moments that follow one another, and cursors none of which is open.
-use Rattle.std.proofs.Common.{◌≡◌, ℕ, ◌<◌, ◌≤◌, Bool, true, false, true≢false, eqb, ◌∙◌, List, [], ◌∷◌, length, map, Option, None, Some, refl, sym, ap, subst, inl, inr, arith}
+use Rattle.std.proofs.Common.{◌≡◌, ℕ, ◌<◌, ◌≤◌, ◌∙◌, List, [], Option, None, Some, refl, sym, ap, subst, inl, inr, arith}
 use Rattle.std.specs.Prelude.{IfSome}
-use Rattle.std.proofs.lemmas.Bool.{eqb-true}
 use Rattle.line_meaning.specs.Carrying.{Follows}
-use Rattle.open_cursors.specs.OpenCursors.{AreNamed, StandAll}
+use Rattle.open_cursors.specs.OpenCursors.{StandAll}
 use Rattle.open_cursors.proofs.HeldStamps.{stand_settled}
 use Rattle.open_cursors.proofs.ToldStamps.{are_told, never_told, not_told, when_told}
 use Rattle.open_cursors.specs.OpenCursors.{AreHeld}

@@ -9,8 +9,14 @@
 //! One executor for each kind of statement after M. M. Astrahan and others, System R (1976).
 #![tactic(auto)]
 
+mod changed;
 mod changes;
+mod fault;
+mod keeping;
 mod line;
+mod loads;
 mod statement;
 
+pub use fault::LineFault;
+pub use keeping::of_sink;
 pub use line::carry_line;

@@ -2,3 +2,5 @@
 pub mod OptionalValues
 -- the matches of the command
 pub mod SandMatches
+-- the words of a run with a journal
+pub mod KeptAsked

@@ -33,3 +33,11 @@ bare_app = on_top bare_shape (new_app (codes "sand"))
 -- the command
 abbrev pub sand_app : App
 sand_app = with_rule (with_rule (with_rule bare_app frames_rule) store_rule) workload_rule
+
+-- the rule of the word that names the journal
+abbrev pub journal_rule : Rule
+journal_rule = option_rule (codes "journal") None
+
+-- the command of a run that may keep its changes
+abbrev pub kept_app : App
+kept_app = with_rule sand_app journal_rule

@@ -1,3 +1,6 @@
+ghost use Rattle.std.specs.Prelude.{◌≡◌, option_map};
+ghost use Rattle.run_words.specs.Journal.{journal_beside};
+
 use sand_base::{Label, NoMemory};
 use std::alloc::AllocError;
 
@@ -10,6 +13,31 @@ pub struct Words {
     pub store: Option<Label>,
     /// The number of the workload that runs in place of the script, 1 to 100,000.
     pub workload: Option<u32>,
+}
+
+/// What the words of a command line ask for that may name a journal.
+#[derive(Drop)]
+pub struct KeptWords {
+    /// What they ask for beside it.
+    pub words: Words,
+    /// The name of the file in which accepted changes are kept.
+    pub journal: Option<Label>,
+}
+
+impl KeptWords {
+    /// The name of the journal of a script; None where no journal is named, and where a workload runs in place of the
+    /// script.
+    pub fn journal_of_script(&self) -> Option<&str>
+        ensures { option_map (λ t. t.now) result ≡ journal_beside self.now.words.workload self.now.journal }
+    {
+        if self.words.workload.is_some() {
+            return None;
+        }
+        match &self.journal {
+            Some(name) => Some(name.as_str()),
+            None => None,
+        }
+    }
 }
 
 /// Why the words ask for nothing.

@@ -2,7 +2,7 @@
 ghost use Rattle.std.specs.Prelude.{◌≡◌, Some, None, IfOk, codes, false};
 ghost use Rattle.clap.specs.Words.{rule_of, app_of};
 ghost use Rattle.clap.specs.declared.builder.value_parser.ValueParser.TheVariants as vp;
-ghost use Rattle.run_words.specs.Command.{option_rule, bare_app, sand_app};
+ghost use Rattle.run_words.specs.Command.{option_rule, bare_app, kept_app, sand_app};
 
 use clap::builder::ValueParser;
 use clap::{Arg, ArgAction, Command};
@@ -41,4 +41,11 @@ pub(crate) fn sand_command<'a>(alloc: Global) -> Result<Command<'a>, AllocError>
     let command = bare_command(alloc).arg(number_option(alloc, "frames", 16, 4096))?;
     let command = command.arg(text_option(alloc, "store"))?;
     command.arg(number_option(alloc, "workload", 1, 100_000))
+}
+
+// The command that also takes the name of a journal.
+pub(crate) fn kept_command<'a>(alloc: Global) -> Result<Command<'a>, AllocError>
+    ensures { IfOk result (λ command. app_of command ≡ kept_app) }
+{
+    sand_command(alloc)?.arg(text_option(alloc, "journal"))
 }

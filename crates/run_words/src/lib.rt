@@ -13,8 +13,8 @@ mod matching;
 mod numbers;
 mod reading;
 
-pub use asked::{WordFault, Words};
-pub use reading::read_words;
+pub use asked::{KeptWords, WordFault, Words};
+pub use reading::{read_kept_words, read_words};
 
 /// How many frames there are where the words don't say.
 pub const PLAIN_FRAMES: u32 = 256;

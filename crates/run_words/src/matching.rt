@@ -1,25 +1,23 @@
 // What the command makes of the words.
-ghost use Rattle.std.specs.Prelude.{◌≡◌, ◌≢◌, [], IfOk, IfErr, map};
-ghost use Rattle.clap.specs.Words.{fault_of};
-ghost use Rattle.run_words.specs.Command.{sand_app};
-ghost use Rattle.run_words.specs.Asked.{IsMatched};
+ghost use Rattle.std.specs.Prelude.{◌≡◌, ◌≢◌, ◌⊎◌, [], IfOk, IfErr, map};
+ghost use Rattle.clap.specs.Words.{app_of, fault_of};
+ghost use Rattle.run_words.specs.Command.{kept_app, sand_app};
+ghost use Rattle.run_words.specs.Asked.{IsMatchedBy};
 ghost use Rattle.run_words.specs.declared.asked.WordFault.TheVariants as fault;
 
 use crate::WordFault;
-use crate::command::sand_command;
-use clap::ArgMatches;
 use clap::error::ErrorKind;
-use std::alloc::Global;
+use clap::{ArgMatches, Command};
 
-// The matches of the words, if the command takes them.
+// The matches of the words, if the command takes them; it is one of the two commands of the program.
 pub(crate) fn match_words<'a>(
-    alloc: Global,
+    command: Command<'a>,
     texts: &'a [&'a str],
 ) -> Result<ArgMatches<'a>, WordFault>
-    ensures matched { IfOk result (IsMatched (map (λ t. t.now) texts.entry.now)) }
-    ensures refused { IfErr result (λ why. why ≡ fault.Usage → fault_of sand_app (map (λ t. t.now) texts.entry.now) ≢ []) }
+    requires one { (app_of command ≡ sand_app) ⊎ (app_of command ≡ kept_app) }
+    ensures matched { IfOk result (IsMatchedBy (app_of command.entry) (map (λ t. t.now) texts.entry.now)) }
+    ensures refused { IfErr result (λ why. why ≡ fault.Usage → fault_of (app_of command.entry) (map (λ t. t.now) texts.entry.now) ≢ []) }
 {
-    let command = sand_command(alloc)?;
     match command.try_get_matches_from(texts) {
         Ok(matches) => Ok(matches),
         Err(error) => match error.kind() {

@@ -4,6 +4,8 @@ pub mod LinesCarried
 pub mod LinesSaid
 -- How a run ends.
 pub mod Endings
+-- How a run on a store ends.
+pub mod ScriptEndings
 -- What the answer of a call says.
 pub mod Answered
 -- How lines lead a run on while cursors are open.
@@ -12,3 +14,9 @@ pub mod OpenRuns
 pub mod LongLines
 -- How a run of a workload ends.
 pub mod WorkloadEndings
+-- What a status says of a run that keeps its changes.
+pub mod KeptStatuses
+-- With which world a run begins behind a journal.
+pub mod KeptTapes
+-- How a run that keeps its changes ends.
+pub mod KeptEndings

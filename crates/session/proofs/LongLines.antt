@@ -1,5 +1,5 @@
 -- A line that is too long is refused, and all is as it was.
-use Rattle.std.proofs.Common.{◌≡◌, ℕ, Bool, true, true≢false, not, List, Option, None, Some, Result, IfOk, OnErr, ap, ◌∙◌}
+use Rattle.std.proofs.Common.{◌≡◌, ℕ, Bool, true, false, true≢false, not, List, Option, None, Some, Result, IfSome, IfOk, OnErr, ap, sym, subst, ◌∙◌}
 use Rattle.line_exec.proofs.LineSteps.{line_of_long}
 use Rattle.line_exec.specs.LineCarried.{LineCarried}
 use Rattle.open_cursors.specs.OpenCursors.{HaveOwnNames}
@@ -17,3 +17,8 @@ pub long_line : (m : List Cursor → Moment) (cs : List Cursor) (At : List Curso
     → OnErr r (WritesPrefix (IsText (refused_line (Some why.LineTooLong))) a b) → LineCarried line m m cs a b r At
 long_line m cs At own at a b None is_long short long r written part = line_of_long m cs At own at a b r written part
 long_line m cs At own at a b (Some line) is_long short long r written part = absurd (true≢false (short ∙ ap not long))
+
+-- a line that isn't too long is in hand
+pub short_line : (P : Option (List ℕ) → Type 0) (line : Option (List ℕ)) (found : List ℕ) (is_long : Bool) → is_short_line line ≡ not is_long → is_long ≡ false → IfSome line (λ l. found ≡ l) → P (Some found) → P line
+short_line P None found is_long short long given h = absurd (true≢false (sym (short ∙ ap not long)))
+short_line P (Some line) found is_long short long given h = subst (λ (l : List ℕ). P (Some l)) given h

@@ -1,9 +1,13 @@
 -- A run with the cursors that are open: how a line leads it on, and how it ends.
-use Rattle.std.proofs.Common.{◌≡◌, ℕ, suc, ◌+◌, ◌*◌, ◌≤◌, Bool, false, ◌||◌, eqb, List, [], ◌∷◌, ◌++◌, length, Option, Ok, Err, refl, ap, arith, length-append}
+use Rattle.std.proofs.Common.{◌≡◌, ℕ, suc, ◌+◌, ◌*◌, ◌^◌, ◌≤◌, Bool, false, ◌||◌, eqb, List, [], ◌∷◌, ◌++◌, length, Option, Ok, Err, refl, sym, ap, ◌∙◌, subst, append_assoc, arith, length-append}
 use Rattle.std.proofs.lemmas.Bool.{cond_both}
 use Rattle.line_exec.proofs.Moments.{follows_open, none_stand}
 use Rattle.line_exec.specs.LineCarried.{LineCarried}
-use Rattle.line_meaning.specs.Carrying.{Follows}
+use Rattle.line_exec.specs.Keeping.{IsUntold, last_end, most_kept}
+use Rattle.line_exec.specs.declared.fault.LineFault.{LineFault}
+use Rattle.line_exec.specs.declared.fault.LineFault.TheVariants as fault
+use Rattle.line_meaning.proofs.Runs.{follows_on}
+use Rattle.line_meaning.specs.Carrying.{CarriesLines, Follows}
 use Rattle.open_cursors.specs.Carried.{AreCounted, GaveAtMost}
 use Rattle.open_cursors.specs.OpenCursors.{AreHeld}
 use Rattle.open_cursors.specs.OverPages.{StandOver}
@@ -12,6 +16,7 @@ use Rattle.plan_ops.specs.declared.source.Source.{Source}
 use Rattle.plan_ops.specs.declared.stage.Stage.{Stage}
 use Rattle.sand_base.specs.Faults.{last_count}
 use Rattle.sand_base.specs.Shelf.{Files}
+use Rattle.sand_base.specs.declared.limits.Limits.{Limits}
 use Rattle.sand_base.specs.declared.source.Failed.{Failed}
 use Rattle.sand_model.specs.Cursor.{Cursor, State}
 use Rattle.sand_store.specs.Catalog.{StoreState}
@@ -21,7 +26,8 @@ use Rattle.script_lines.specs.declared.TheConstants.{LONGEST_SCRIPT}
 use Rattle.script_lines.specs.declared.script_lines.ScriptLines.{ScriptLines}
 use Rattle.statement_exec.specs.Moment.{Moment, moment_of, while_open}
 use Rattle.session.specs.OpenRun.{HasGiven, OpenRun, Spot, spot_of}
-use Rattle.session.specs.RunStates.{Draws, EndsAt, FromBetweenLines, RunState, ended, run_state}
+use Rattle.statement_exec.specs.Printing.{Prints}
+use Rattle.session.specs.RunStates.{Draws, EndsAt, FromBetweenLines, IsBeforeHand, RunState, ended, run_state, status_of_line}
 use Rattle.session.specs.declared.status.Status.{Status}
 use Rattle.session.specs.declared.status.Status.TheVariants as status
 use Rattle.session.proofs.LinesCarried.{leads_nowhere, then_carried, then_drawn, hand_carried}
@@ -30,7 +36,7 @@ use Rattle.session.proofs.Endings.{Ends-broken, Ends-over, Ends-paused}
 -- ---- the rows that cursors gave
 
 -- no more than so many, and so no more than this
-most_upto : (few many : ℕ) (cs : List Cursor) → few ≤ many → GaveAtMost few cs → GaveAtMost many cs
+pub most_upto : (few many : ℕ) (cs : List Cursor) → few ≤ many → GaveAtMost few cs → GaveAtMost many cs
 most_upto few many [] up h = tt
 most_upto few many (c ∷ cs) up h = (omega (arith, up, h.0), most_upto few many cs up h.1)
 
@@ -56,7 +62,7 @@ lines_few bytes = omega (arith, length-append (cut bytes).0 (last_line (cut byte
 
 module _ (reader reader' : ScriptLines) (between left : Option (List ℕ)) (count : ℕ) (is_long : Bool) (draws : Draws (Ok is_long) reader reader' between left) (h : HasGiven reader between count) where
   -- one more line was given
-  counted_more : HasGiven reader' left (count + 1)
+  pub counted_more : HasGiven reader' left (count + 1)
   counted_more =
       let one = draws.2 h.bytes h.given h.reads in
       record {
@@ -84,7 +90,7 @@ ends_state : (why : Status) (last : Moment) (state : State) (left : Option (List
 ends_state why last state left before now first script text end = (end.0, end.1, follows_state first last state end.2)
 
 -- before the first line
-pub OpenRun-begin : (reader : ScriptLines) (left : Option (List ℕ)) (store : StoreState) (files : Option Files) (shelf : ℕ) (items : List (OpenCursor Source Stage)) (took : List ℕ → Type 0)
+abbrev pub OpenRun-begin : (reader : ScriptLines) (left : Option (List ℕ)) (store : StoreState) (files : Option Files) (shelf : ℕ) (items : List (OpenCursor Source Stage)) (took : List ℕ → Type 0)
     → ((left : Option (List ℕ)) → Reads reader left [] []) → items ≡ [] → AreHeld store.pool.stamps items
     → OpenRun (run_state reader left (moment_of store files shelf) false) took (spot_of reader left store files shelf items false took)
 OpenRun-begin reader left store files shelf items took begun none held = record {
@@ -113,9 +119,15 @@ module _ (start : RunState) (before : List ℕ → Type 0) (at : Spot) (run : Op
         let few : run.count ≤ LONGEST_SCRIPT = few_given at.reader reader' at.left left' run.count is_long draws run.counted in
         most_upto (run.count * 4294967295) last_count run.cs (omega (arith, few)) run.given
 
+    -- the journal has room for what the next line keeps
+    pub room_left : 2 ^ 62 + run.count * most_kept ≤ last_end
+    room_left =
+        let few : run.count ≤ LONGEST_SCRIPT = few_given at.reader reader' at.left left' run.count is_long draws run.counted in
+        omega (arith, few)
+
     module _ (store' : StoreState) (files' : Option Files) (shelf' : ℕ) (items' : List (OpenCursor Source Stage)) (now : List ℕ → Type 0) (follows : Follows (moment_of at.store at.files at.shelf) (moment_of store' files' shelf')) where
       -- the next line was carried out
-      pub OpenRun-line : (r t : Bool) (l : LineCarried reader'.line (while_open at.store at.files at.shelf) (while_open store' files' shelf') run.cs at.took now (Ok r) (StandOver store'.pool items')) → AreHeld store'.pool.stamps items'
+      abbrev pub OpenRun-line : (r t : Bool) (l : LineCarried reader'.line (while_open at.store at.files at.shelf) (while_open store' files' shelf') run.cs at.took now (Ok r) (StandOver store'.pool items')) → AreHeld store'.pool.stamps items'
           → t ≡ (at.refused || r) → OpenRun start before (spot_of reader' left' store' files' shelf' items' t now)
       OpenRun-line r t l held joined =
           let old : Moment = while_open at.store at.files at.shelf run.cs in
@@ -143,3 +155,39 @@ module _ (start : RunState) (before : List ℕ → Type 0) (at : Spot) (run : Op
           (Ends-paused start (run_state reader' left' old at.refused) before at.took now status.WriteFault new left'
           (then_drawn start before at.took at.reader reader' at.left left' old at.refused is_long run.goes draws)
           (Ends-broken (run_state reader' left' old at.refused) new at.took now l.writes (follows_open at.store store' at.files files' at.shelf shelf' run.cs l.after follows)) first script text so_far)
+
+      -- where nothing of the line was written and no count rose, the moment before it is the last one but for its state
+      last_untold : (n m : Moment) → n.disk ≡ m.disk → n.shelf ≡ m.shelf → Follows m n → record n { state = m.state } ≡ m
+      last_untold n m disk shelf f =
+          ap (λ (l : Limits). record n { state = m.state; limits = l }) f.limits
+          ∙ ap (λ (b : Bool). record n { state = m.state; limits = m.limits; told = b }) f.told
+          ∙ ap (λ (o : Option Files). record n { state = m.state; limits = m.limits; told = m.told; files = o }) f.files
+          ∙ ap (λ (k : ℕ). record m { disk = k; shelf = n.shelf }) disk
+          ∙ ap (λ (k : ℕ). record m { shelf = k }) shelf
+
+      -- the journal failed: what was written is the text of the lines before this one, which is in hand
+      pub Ends-untold : IsUntold at.took now (moment_of at.store at.files at.shelf) (moment_of store' files' shelf') fault.Journal → FromBetweenLines start (EndsAt status.JournalFault (moment_of store' files' shelf') left' before now)
+      Ends-untold untold first script text so_far =
+          let old : Moment = while_open at.store at.files at.shelf run.cs in
+          let last : Moment = moment_of store' files' shelf' in
+          let follows_old : Follows old last = follows_open at.store store' at.files files' at.shelf shelf' run.cs [] follows in
+          let grown = then_drawn start before at.took at.reader reader' at.left left' old at.refused is_long run.goes draws first script text so_far in
+          let hand = grown.2 in
+          let same : record last { state = old.state } ≡ old = last_untold last old untold.1 untold.2 follows_old in
+          let stops : IsBeforeHand (lines hand.bytes) first (record last { state = old.state }) (text ++ grown.0) = record {
+            carried_out = hand.given;
+            in_hand = hand.gives.line;
+            others = hand.gives.others;
+            first_of = hand.gives.first ∙ append_assoc hand.given (hand.gives.line ∷ []) hand.gives.others;
+            printed = (at.refused, subst (λ (m : Moment). Prints (CarriesLines hand.given first m) at.refused (text ++ grown.0)) (sym same) hand.printed);
+          } in
+          (old.state, (grown.0, λ bytes taken. untold.0 (bytes ++ grown.0) (grown.1 bytes taken), (hand.bytes, hand.consumed, (hand.gives.most, stops))), follows_on first old last hand.follows follows_old)
+
+      -- the line ended the run
+      pub Ends-hand : (why : LineFault) (result : Status) → result ≡ status_of_line why
+          → LineCarried reader'.line (while_open at.store at.files at.shelf) (while_open store' files' shelf') run.cs at.took now (Err (record {})) (StandOver store'.pool items')
+          → IsUntold at.took now (moment_of at.store at.files at.shelf) (moment_of store' files' shelf') why → FromBetweenLines start (EndsAt result (moment_of store' files' shelf') left' before now)
+      Ends-hand why result is l untold = subst (λ (s : Status). FromBetweenLines start (EndsAt s (moment_of store' files' shelf') left' before now)) (sym is) (by why untold) where
+        by : (w : LineFault) → IsUntold at.took now (moment_of at.store at.files at.shelf) (moment_of store' files' shelf') w → FromBetweenLines start (EndsAt (status_of_line w) (moment_of store' files' shelf') left' before now)
+        by fault.Sink u = Ends-line (record {}) l
+        by fault.Journal u = Ends-untold u

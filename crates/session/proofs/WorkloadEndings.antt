@@ -74,6 +74,10 @@ module _ (n : ℕ) (limits : Limits) (script left : List ℕ) (disk disk' : Disk
       absurd (consumed-short script left ends.1.0 LONGEST_SCRIPT own.short ends.1.1 ends.1.2.0)
   Tallies-run status.NoMemory ends caused taken = (record { source = refl; files = refl; shelf = refl; sink = λ text h. h }, ends.1)
   Tallies-run status.DiskNotStarted ends caused taken = (record { source = refl; files = refl; shelf = refl; sink = λ text h. h }, ends.1)
+  Tallies-run status.JournalFault ends caused taken = absurd taken
+  Tallies-run status.JournalBad ends caused taken = absurd taken
+  Tallies-run status.ReplayFault ends caused taken = absurd taken
+  Tallies-run status.ReplayDamaged ends caused taken = absurd taken
 
 -- where the disk tells its pages, as many lines of the text begin with the word of a refusal as were refused
 counted_of : (n : ℕ) (b : Bool) (limits : Limits) (old new : Outside) (last : State) (text : List ℕ) → old.shelf.files ≡ Some empty_files
@@ -128,6 +132,10 @@ module _ (n : ℕ) (limits : Limits) (left : Option (List ℕ)) (reads : ℕ) (f
   Ends-summed status.ReadFault is tallied adds = absurd tallied
   Ends-summed status.WriteFault is tallied adds = absurd tallied
   Ends-summed status.ScriptTooLong is tallied adds = absurd tallied
+  Ends-summed status.JournalFault is tallied adds = absurd tallied
+  Ends-summed status.JournalBad is tallied adds = absurd tallied
+  Ends-summed status.ReplayFault is tallied adds = absurd tallied
+  Ends-summed status.ReplayDamaged is tallied adds = absurd tallied
   Ends-summed status.NoMemory is tallied adds = absurd (other is) where
     other : (status.NoMemory ≡ status.Done) ⊎ (status.NoMemory ≡ status.SomeRefused) → ⊥
     other (inl e) = cc
@@ -147,6 +155,10 @@ module _ (n : ℕ) (limits : Limits) (left : Option (List ℕ)) (reads : ℕ) (f
   Ends-unsummed status.ReadFault is tallied adds = absurd tallied
   Ends-unsummed status.WriteFault is tallied adds = absurd tallied
   Ends-unsummed status.ScriptTooLong is tallied adds = absurd tallied
+  Ends-unsummed status.JournalFault is tallied adds = absurd tallied
+  Ends-unsummed status.JournalBad is tallied adds = absurd tallied
+  Ends-unsummed status.ReplayFault is tallied adds = absurd tallied
+  Ends-unsummed status.ReplayDamaged is tallied adds = absurd tallied
   Ends-unsummed status.NoMemory is tallied adds = absurd (other is) where
     other : (status.NoMemory ≡ status.Done) ⊎ (status.NoMemory ≡ status.SomeRefused) → ⊥
     other (inl e) = cc

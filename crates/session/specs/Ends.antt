@@ -1,5 +1,5 @@
 -- How a run may end: the whole promise, by the status.
-use Rattle.std.specs.Prelude.{◌≡◌, ◌≢◌, ⊤, ℕ, ◌+◌, ◌≤◌, Bool, true, false, List, [], ◌++◌, length, take, Option}
+use Rattle.std.specs.Prelude.{◌≡◌, ◌≢◌, ⊤, ℕ, ◌+◌, ◌≤◌, Bool, true, false, List, [], ◌∷◌, ◌++◌, length, take, Option}
 use Rattle.std.specs.Io.KnownBytes.{Consumes, IsAtEnd}
 use Rattle.clap.specs.Words.{fault_of}
 use Rattle.page_pool.specs.declared.fault.PageFault.{PageFault}
@@ -50,10 +50,19 @@ HasRead before left P = (bytes : List ℕ) × Consumes before left bytes × P by
 abbrev pub HasReadAll : Option (List ℕ) → Option (List ℕ) → (List ℕ → Type 0) → Type 0
 HasReadAll before left P = IsAtEnd left × HasRead before left (λ bytes. (length bytes ≤ LONGEST_SCRIPT) × P bytes)
 
+-- A run over the lines before one of these led from one moment to another, and its text was written.
+pub record StopsBefore (script : List (List ℕ)) (first last : Moment) (before now : SinkView) : Type 0 where
+  pub carried_out : List (List ℕ)
+  pub in_hand : List ℕ
+  pub others : List (List ℕ)
+  pub first_of : script ≡ carried_out ++ in_hand ∷ others
+  pub written : Writes (PrintsSome (RunsOver carried_out first last)) before.took now.took
+
 -- What a run from one moment to another leaves, by its status, of the source and the sink. With `Done` and `SomeRefused`
 -- the text of a run over all lines was written, and no line or some line was refused. With `ReadFault` and `ScriptTooLong`
 -- that of the lines which a line feed ended among the bytes read (the one byte too many isn't among them). With `WriteFault`
--- a prefix of the text of the lines carried out, which are the first of those read.
+-- a prefix of the text of the lines carried out, which are the first of those read; with `JournalFault` the text of the
+-- lines before the one in hand, whose change was made and isn't told.
 abbrev pub EndsBetween : Status → Moment → Moment → SourceView → SourceView → SinkView → SinkView → Type 0
 EndsBetween status.Done first last before left sink sink' =
     HasReadAll before.left left.left (λ bytes. WritesRun (lines bytes) false first last sink sink')
@@ -67,6 +76,8 @@ EndsBetween status.ScriptTooLong first last before left sink sink' =
     × (some_refused : Bool) × WritesRun (ended_lines (take LONGEST_SCRIPT bytes)) some_refused first last sink sink')
 EndsBetween status.WriteFault first last before left sink sink' =
     HasRead before.left left.left (λ bytes. (length bytes ≤ LONGEST_SCRIPT + 1) × BreaksRun (lines bytes) first last sink sink')
+EndsBetween status.JournalFault first last before left sink sink' =
+    HasRead before.left left.left (λ bytes. (length bytes ≤ LONGEST_SCRIPT + 1) × StopsBefore (lines bytes) first last sink sink')
 EndsBetween _ first last before left sink sink' = ⊥
 
 -- the moment before the first line; whether the disk tells is read off the disk that is handed back
@@ -98,13 +109,18 @@ pub record IsUntouched (old new : Outside) : Type 0 where
   pub shelf : new.shelf.faults ≡ old.shelf.faults
   pub sink : Stays old.sink.took new.sink.took
 
+-- the promise of a run that began to read in this state
+abbrev pub EndsFrom : State → Status → Limits → Outside → Outside → Type 0
+EndsFrom start ended limits old new =
+    (last : State) × EndsBetween ended (record (first_moment limits old new) { state = start }) (last_moment limits old new last) old.source new.source old.sink new.sink
+
 -- the whole promise, by the status, over what is outside before and after the run
 abbrev pub Ends : Status → Limits → Outside → Outside → Type 0
 Ends status.Usage limits old new = IsUntouched old new × (new.disk.faults ≡ old.disk.faults)
 Ends status.NoMemory limits old new = IsUntouched old new × (new.disk.faults ≡ old.disk.faults)
 Ends status.DiskNotStarted limits old new = IsUntouched old new × (new.disk.faults ≡ next_count old.disk.faults)
-Ends ended limits old new =
-    (last : State) × EndsBetween ended (first_moment limits old new) (last_moment limits old new last) old.source new.source old.sink new.sink
+Ends status.JournalFault limits old new = ⊥
+Ends ended limits old new = EndsFrom no_state ended limits old new
 
 -- the source's count after a run of this status
 abbrev pub source_after : Status → ℕ → ℕ
@@ -115,6 +131,11 @@ source_after _ n = n
 abbrev pub sink_after : Status → ℕ → ℕ
 sink_after status.WriteFault n = next_count n
 sink_after _ n = n
+
+-- the tape's count after the script of a run that ended with this status
+abbrev pub tape_after : Status → ℕ → ℕ
+tape_after status.JournalFault n = next_count n
+tape_after _ n = n
 
 -- Why a run ended so: a fault of a stream only where its count rose, and no other status where one rose.
 pub record IsCaused (ended : Status) (source source' sink sink' : ℕ) : Type 0 where
@@ -132,6 +153,9 @@ abbrev pub HasBegun : Status → Type 0
 HasBegun status.Usage = ⊥
 HasBegun status.NoMemory = ⊥
 HasBegun status.DiskNotStarted = ⊥
+HasBegun status.JournalBad = ⊥
+HasBegun status.ReplayFault = ⊥
+HasBegun status.ReplayDamaged = ⊥
 HasBegun _ = ⊤
 
 -- the status of a run whose store was refused by the disk or by memory
@@ -148,6 +172,10 @@ IsNotStarted _ before now = ⊥
 -- the words were taken
 abbrev pub IsTaken : Status → Type 0
 IsTaken status.Usage = ⊥
+IsTaken status.JournalFault = ⊥
+IsTaken status.JournalBad = ⊥
+IsTaken status.ReplayFault = ⊥
+IsTaken status.ReplayDamaged = ⊥
 IsTaken _ = ⊤
 
 -- the limits of a plain run

@@ -1,5 +1,6 @@
 -- A run between two of its lines, with the cursors that are open, for the proofs alone.
-use Rattle.std.specs.Prelude.{◌≡◌, ℕ, ◌*◌, Bool, List, Option, length}
+use Rattle.std.specs.Prelude.{◌≡◌, ℕ, ◌+◌, ◌*◌, ◌^◌, Bool, List, Option, is_some, length}
+use Rattle.line_exec.specs.Keeping.{TakesUpTo, most_kept, tape_count}
 use Rattle.line_exec.specs.LineCarried.{most_rows}
 use Rattle.open_cursors.specs.Carried.{GaveAtMost}
 use Rattle.open_cursors.specs.OpenCursors.{AreHeld, HaveOwnNames}
@@ -8,6 +9,8 @@ use Rattle.open_cursors.specs.declared.open_cursor.OpenCursor.{OpenCursor}
 use Rattle.plan_ops.specs.declared.source.Source.{Source}
 use Rattle.plan_ops.specs.declared.stage.Stage.{Stage}
 use Rattle.sand_base.specs.Shelf.{Files}
+use Rattle.sand_journal.specs.Tape.{TapeView}
+use Rattle.sand_journal.specs.declared.journal.Journal.{Journal}
 use Rattle.sand_model.specs.Cursor.{Cursor}
 use Rattle.sand_store.specs.Catalog.{StoreState}
 use Rattle.script_lines.specs.Reading.{Reads}
@@ -52,3 +55,9 @@ pub record OpenRun (start : RunState) (before : List ℕ → Type 0) (at : Spot)
   pub counted : HasGiven at.reader at.left count
   pub given : GaveAtMost (count * most_rows) cs
   pub goes : Leads IsBetweenLines IsBetweenLines start (state_at at cs) before at.took
+
+-- Behind so many lines there is a journal where there was one, it has room for more, and its tape counted no fault.
+pub record KeepsJournal {T : Type 0} (seen : T → TapeView) (old new : Option (Journal T)) (count : ℕ) : Type 0 where
+  pub there : is_some new ≡ is_some old
+  pub takes : TakesUpTo seen (2 ^ 62 + count * most_kept) new
+  pub counted : tape_count seen new ≡ tape_count seen old

@@ -1,5 +1,5 @@
 -- The states of a run: between two lines of its script, or with a line in hand; and what leads from one to another.
-use Rattle.std.specs.Prelude.{◌≡◌, ℕ, ◌+◌, ◌<◌, ◌≤◌, Bool, true, false, not, cond, List, ◌++◌, length, take, Option, Result, Ok, Err, ⊤}
+use Rattle.std.specs.Prelude.{◌≡◌, ℕ, ◌+◌, ◌<◌, ◌≤◌, Bool, true, false, not, cond, List, ◌∷◌, ◌++◌, length, take, Option, Result, Ok, Err, ⊤}
 use Rattle.std.specs.Io.KnownBytes.{Consumes, IsAtEnd}
 use Rattle.output_text.specs.Writing.{AddsPrefix}
 use Rattle.sand_base.specs.Streams.{Adds}
@@ -12,6 +12,8 @@ use Rattle.line_meaning.specs.Carrying.{CarriesLines, Follows}
 use Rattle.statement_exec.specs.Moment.{Moment}
 use Rattle.statement_exec.specs.Printing.{Prints, PrintsSome}
 use Rattle.session.specs.Ends.{HasRead, HasReadAll, source_after}
+use Rattle.line_exec.specs.declared.fault.LineFault.{LineFault}
+use Rattle.line_exec.specs.declared.fault.LineFault.TheVariants as fault
 use Rattle.session.specs.declared.status.Status.{Status}
 use Rattle.session.specs.declared.status.Status.TheVariants as status
 
@@ -71,6 +73,14 @@ pub record IsOfFirst (script : List (List ℕ)) (first last : Moment) (text : Li
   pub first_of : script ≡ carried_out ++ others
   pub printed : PrintsSome (CarriesLines carried_out first last) text
 
+-- the text is that of a run over the lines before one of these
+pub record IsBeforeHand (script : List (List ℕ)) (first last : Moment) (text : List ℕ) : Type 0 where
+  pub carried_out : List (List ℕ)
+  pub in_hand : List ℕ
+  pub others : List (List ℕ)
+  pub first_of : script ≡ carried_out ++ in_hand ∷ others
+  pub printed : PrintsSome (CarriesLines carried_out first last) text
+
 -- how a run ended whose text was this before, by the status
 abbrev pub EndsText : Status → Moment → Moment → Option (List ℕ) → Option (List ℕ) → (List ℕ → Type 0) → (List ℕ → Type 0) → List ℕ → Type 0
 EndsText status.Done first last script left before now text =
@@ -86,6 +96,8 @@ EndsText status.ScriptTooLong first last script left before now text =
 EndsText status.WriteFault first last script left before now text =
     (more : List ℕ) × AddsPrefix before now more
     × HasRead script left (λ bytes. (length bytes ≤ LONGEST_SCRIPT + 1) × IsOfFirst (lines bytes) first last (text ++ more))
+EndsText status.JournalFault first last script left before now text =
+    Grows before now text (λ all. HasRead script left (λ bytes. (length bytes ≤ LONGEST_SCRIPT + 1) × IsBeforeHand (lines bytes) first last all))
 EndsText _ first last script left before now text = ⊥
 
 -- the same up to a moment that is this one but for its state (cursors may be open at the end), and the last moment follows the first
@@ -128,3 +140,8 @@ IsEnd status.Done = ⊤
 IsEnd status.ReadFault = ⊤
 IsEnd status.ScriptTooLong = ⊤
 IsEnd _ = ⊥
+
+-- the status of a run that a line ended
+abbrev pub status_of_line : LineFault → Status
+status_of_line fault.Sink = status.WriteFault
+status_of_line fault.Journal = status.JournalFault

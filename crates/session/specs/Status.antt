@@ -13,3 +13,7 @@ status_code status.WriteFault = 4
 status_code status.ScriptTooLong = 5
 status_code status.NoMemory = 6
 status_code status.DiskNotStarted = 7
+status_code status.JournalFault = 8
+status_code status.JournalBad = 9
+status_code status.ReplayFault = 10
+status_code status.ReplayDamaged = 11

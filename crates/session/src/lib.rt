@@ -17,6 +17,7 @@
 #![tactic(auto)]
 
 mod drawing;
+mod kept;
 mod script;
 mod start;
 mod status;
@@ -24,5 +25,6 @@ mod top;
 mod workload;
 mod workspace;
 
+pub use kept::run_kept;
 pub use status::Status;
 pub use top::{run, run_within};

@@ -20,6 +20,14 @@ pub enum Status {
     NoMemory,
     /// The disk failed before the first statement.
     DiskNotStarted,
+    /// The file of the journal failed.
+    JournalFault,
+    /// A record of the journal is bad, or its change is one that the store doesn't take.
+    JournalBad,
+    /// The disk failed in the replay.
+    ReplayFault,
+    /// A page that the disk gave in the replay is not the one that was written.
+    ReplayDamaged,
 }
 
 impl Status {
@@ -36,6 +44,10 @@ impl Status {
             Status::ScriptTooLong => 5,
             Status::NoMemory => 6,
             Status::DiskNotStarted => 7,
+            Status::JournalFault => 8,
+            Status::JournalBad => 9,
+            Status::ReplayFault => 10,
+            Status::ReplayDamaged => 11,
         }
     }
 }

@@ -1,9 +1,13 @@
-ghost use Rattle.std.specs.Prelude.{◌≡◌, ◌≤◌, [], Option, ℕ, List, IfSome};
+ghost use Rattle.std.specs.Prelude.{◌≡◌, ◌≤◌, ◌^◌, [], Option, ℕ, List, IfSome, is_some};
+ghost use Rattle.line_exec.specs.Keeping.{TakesUpTo, tape_count};
+ghost use Rattle.open_cursors.specs.OpenCursors.{AreHeld};
 ghost use Rattle.page_pool.specs.Pool.{new_pool};
 ghost use Rattle.sand_store.specs.Catalog.{IsLimits, new_catalog};
+ghost use Rattle.sand_store.specs.Contents.{database};
 ghost use Rattle.script_lines.specs.Reading.{Reads};
-ghost use Rattle.session.specs.Ends.{AreJudged, Ends, HasBegun, IsCaused, IsTaken, standard_limits};
+ghost use Rattle.session.specs.Ends.{AreJudged, Ends, EndsFrom, HasBegun, IsCaused, IsTaken, standard_limits, tape_after};
 ghost use Rattle.session.specs.Outside.{outside_of};
+ghost use Rattle.statement_exec.specs.Moment.{state_with};
 ghost use Rattle.session.specs.Workload.{EndsAsked, workload_of};
 
 use crate::Status;
@@ -14,10 +18,45 @@ use crate::workspace::Workspace;
 use page_pool::Disk;
 use run_words::{WordFault, Words, read_words};
 use sand_base::{Label, Limits, NoMemory, Shelf, Sink, Source};
+use sand_journal::{Journal, MemTape, Tape};
 use sand_store::Store;
 use std::alloc::Global;
 
-// Carries the script out on a store of no relations, and hands the disk back.
+/// Carries the script out on a store, which a journal keeps where there is one, and hands the disk back.
+pub(crate) fn run_from<S: Source, H: Shelf, D: Disk, K: Sink, T: Tape>(
+    alloc: Global,
+    store: Store<D>,
+    held: &mut Workspace,
+    script: &mut S,
+    shelf: &mut H,
+    out: &mut K,
+    journal: &mut Option<Journal<T>>,
+) -> (Status, D)
+    requires begun { (left : Option (List ℕ)) → Reads held.old.lines left [] [] }
+    requires none { held.old.cursors.items ≡ [] }
+    requires held { AreHeld store.pool.stamps held.old.cursors.items }
+    requires journal { TakesUpTo T.seen (2 ^ 62) journal.old }
+    ensures promise { EndsFrom (state_with [] (database store)) result.0 store.catalog.limits (outside_of (S.left script.old) (S.faults script.old) (H.files shelf.old) (H.faults shelf.old) store.pool.disk (K.took out.old) (K.faults out.old)) (outside_of (S.left script.new) (S.faults script.new) (H.files shelf.new) (H.faults shelf.new) (D.seen result.1) (K.took out.new) (K.faults out.new)) }
+    ensures cause { IsCaused result.0 (S.faults script.old) (S.faults script.new) (K.faults out.old) (K.faults out.new) }
+    ensures told { (D.seen result.1).told ≡ store.pool.disk.told }
+    ensures there { is_some journal.new ≡ is_some journal.old }
+    ensures tape { tape_count T.seen journal.new ≡ tape_after result.0 (tape_count T.seen journal.old) }
+    ensures begun { HasBegun result.0 }
+{
+    let (store, status) = carry_script(
+        alloc,
+        store,
+        &mut held.cursors,
+        &mut held.lines,
+        script,
+        shelf,
+        out,
+        journal,
+    );
+    (status, store.into_disk())
+}
+
+// Carries the script out on a store of no relations, whose changes no journal keeps, and hands the disk back.
 fn run_store<S: Source, H: Shelf, D: Disk, K: Sink>(
     alloc: Global,
     store: Store<D>,
@@ -33,16 +72,8 @@ fn run_store<S: Source, H: Shelf, D: Disk, K: Sink>(
     ensures cause { IsCaused result.0 (S.faults script.old) (S.faults script.new) (K.faults out.old) (K.faults out.new) }
     ensures begun { HasBegun result.0 }
 {
-    let (store, status) = carry_script(
-        alloc,
-        store,
-        &mut held.cursors,
-        &mut held.lines,
-        script,
-        shelf,
-        out,
-    );
-    (status, store.into_disk())
+    let mut none: Option<Journal<MemTape>> = None;
+    run_from(alloc, store, held, script, shelf, out, &mut none)
 }
 
 /// Starts the store over the disk, and carries the script out on it.
@@ -71,8 +102,8 @@ pub(crate) fn run_started<S: Source, H: Shelf, D: Disk, K: Sink>(
     }
 }
 
-// What the words ask for.
-fn run_asked<S: Source, H: Shelf, D: Disk, K: Sink>(
+/// What the words ask for.
+pub(crate) fn run_asked<S: Source, H: Shelf, D: Disk, K: Sink>(
     alloc: Global,
     limits: Limits,
     asked: &Words,

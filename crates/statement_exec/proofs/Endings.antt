@@ -1,6 +1,6 @@
 -- The lines of a statement with the line of its refusal behind them.
 use Rattle.std.proofs.Common.{◌≡◌, ℕ, Bool, true, false, List, [], ◌∷◌, ◌++◌, Option, Some, None, refl, sym, ◌∙◌, inl, inr, true≢false}
-use Rattle.std.specs.Prelude.{⊤, Ok, Err}
+use Rattle.std.specs.Prelude.{Ok}
 use Rattle.std.specs.List.{list_any}
 use Rattle.page_pool.specs.Pool.{PoolState}
 use Rattle.sand_base.specs.declared.refusal.Refusal.{Refusal}

@@ -1,5 +1,6 @@
 -- an outcome from its checks
 pub mod Outcomes
+pub mod OutOfMemory
 pub mod Refusals
 -- lines that have their causes
 pub mod CausedLines

@@ -1,5 +1,5 @@
 -- The early checks of a load, from what its file was read as.
-use Rattle.std.proofs.Common.{◌≡◌, ℕ, ◌<◌, ◌≤◌, true, false, nat_lt, List, [], length, Option, Some, None, refl, ◌∙◌, ap, inl, inr, arith, suc}
+use Rattle.std.proofs.Common.{◌≡◌, ℕ, ◌<◌, ◌≤◌, true, false, nat_lt, List, length, Option, Some, None, refl, ◌∙◌, ap, inl, inr, arith, suc}
 use Rattle.std.proofs.lemmas.Bool.Decides.{leb_tells}
 use Rattle.sand_base.specs.Shelf.{Files}
 use Rattle.sand_base.specs.declared.refusal.Refusal.TheVariants as why

@@ -1,6 +1,5 @@
 -- The cause of a fault of a page, as one of the refusal by it.
-use Rattle.std.proofs.Common.{ℕ, List}
-use Rattle.std.specs.Prelude.{Result, Err}
+use Rattle.std.specs.Prelude.{Err}
 use Rattle.page_pool.specs.Causes.{HasPageCause}
 use Rattle.page_pool.specs.Pool.{PoolState}
 use Rattle.page_pool.specs.declared.fault.PageFault.{PageFault}

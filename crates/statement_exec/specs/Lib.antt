@@ -12,6 +12,7 @@ pub mod Ending
 -- What a load reads before it touches a page.
 pub mod FileReading
 pub mod Loading
+pub mod Entering
 -- The leaves of a quadtree.
 pub mod LeafLines
 pub mod LeafWalk

@@ -1,5 +1,5 @@
 -- What the checks of a load before any page is touched give: its rows, or its refusal.
-use Rattle.std.specs.Prelude.{◌≡◌, ⊤, ℕ, List, [], Option, Some, None, Bool, Result, Ok, Err}
+use Rattle.std.specs.Prelude.{◌≡◌, ⊤, ℕ, List, Option, Some, None, Bool, Result, Ok, Err}
 use Rattle.sand_base.specs.Faults.{next_count}
 use Rattle.sand_base.specs.Shelf.{Files}
 use Rattle.sand_base.specs.declared.refusal.Refusal.{Refusal}

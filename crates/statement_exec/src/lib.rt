@@ -1,7 +1,7 @@
 //! The statements that change relations or print leaves, carried out on a store.
 //!
 //! Each statement is one call: it makes one call of the store, or reads its pages, and its line is printed behind it. A
-//! load reads its file first, so that a record that is no row is refused before any page is touched. `blocks`
+//! load is two calls, of which the first reads the file, so that a record that is no row is refused before any page is touched. `blocks`
 //! finds leaf after leaf by its code and prints each before it looks for the next. Above: `open_cursors`, `line_exec`. Below:
 //! `sand_store` for the relations, `csv_load` for data files, `output_text` for lines. Contracts see a moment: the
 //! relations and open cursors with what the disk and the shelf tell and have counted. A clause says that a statement
@@ -29,6 +29,6 @@ pub use creating::create;
 pub use deleting::delete;
 pub use indexing::index;
 pub use inserting::insert;
-pub use loading::load;
+pub use loading::{enter_rows, rows_to_load};
 pub use reply::Reply;
 use stop::Stop;

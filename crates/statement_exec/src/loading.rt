@@ -1,12 +1,9 @@
-ghost use Rattle.std.specs.Prelude.{◌≡◌, All, IfOk, IfErr, List, [], ◌∷◌};
+ghost use Rattle.std.specs.Prelude.{◌≡◌, ℕ, All, IfOk, IfErr};
 ghost use Rattle.sand_base.specs.InRange.{IsRowInRange};
-ghost use Rattle.sand_model.specs.Cursor.{Cursor};
-ghost use Rattle.statements.specs.Statement.{Load};
 ghost use Rattle.sand_store.specs.Calls.{Carries, HasCause};
 ghost use Rattle.sand_store.specs.Catalog.{IsCatalog};
-ghost use Rattle.statement_exec.specs.Loading.{InSettings, IsOfNoPage, IsRefusedEarly, Yields, shelf_after};
-ghost use Rattle.statement_exec.specs.Moment.{while_open};
-ghost use Rattle.statement_exec.specs.Performing.{Performs, line_of_answer};
+ghost use Rattle.statement_exec.specs.Entering.{EntersRows};
+ghost use Rattle.statement_exec.specs.Loading.{InSettings, IsOfNoPage, IsRefusedEarly, LoadOf, Yields, shelf_after};
 
 use crate::Reply;
 use crate::file_rows::{read_rows, refusal_of};
@@ -15,8 +12,8 @@ use sand_base::{Label, Refusal, Row, Shelf};
 use sand_store::{Catalog, Store};
 use std::alloc::Global;
 
-// The rows of a load, before any page is touched.
-fn rows_to_load<H: Shelf>(
+/// The rows of a `load`, before any page is touched.
+pub fn rows_to_load<H: Shelf>(
     alloc: Global,
     catalog: &Catalog,
     shelf: &mut H,
@@ -41,25 +38,18 @@ fn rows_to_load<H: Shelf>(
     }
 }
 
-/// `load`: the rows of a data file, all or none. After a refusal all is as it was, but what was read of the shelf.
-pub fn load<D: Disk, H: Shelf>(
-    alloc: Global,
+/// The rows of a `load` enter their relation, all or none. After a refusal all is as it was.
+pub fn enter_rows<D: Disk>(
     store: &mut Store<D>,
-    shelf: &mut H,
     name: &Label,
-    file: &Label,
-    header: bool,
+    rows: Vec<Row>,
 ) -> Result<Reply, Refusal>
-    ensures performs { (cs : List Cursor) → Performs (Load name.now file.now header) (while_open store.old (H.files shelf.old) (H.faults shelf.old) cs) (while_open store.new (H.files shelf.new) (H.faults shelf.new) cs) (line_of_answer result ∷ []) }
+    requires { All IsRowInRange rows.items }
+    ensures performs { (load : LoadOf) → load.relation ≡ name.now → EntersRows load store.old store.new rows.items result }
     ensures carries { Carries store.old store.new }
     ensures cause { HasCause store.old.pool store.new.pool result }
-    ensures files { H.files shelf.new ≡ H.files shelf.old }
-    ensures shelf { H.faults shelf.new ≡ shelf_after (H.faults shelf.old) result }
+    ensures of_no_file { (n : ℕ) → shelf_after n result ≡ n }
 {
-    let rows = match rows_to_load(alloc, store.catalog(), shelf, name, file, header) {
-        Ok(rows) => rows,
-        Err(why) => return Err(why),
-    };
     match store.load_rows(name.as_str(), rows) {
         Ok(count) => Ok(Reply::Loaded(count)),
         Err(why) => Err(why),

@@ -1,7 +1,12 @@
 -- what a line says, carried out
+use Rattle.std.proofs.Common.{Bool, Some, Result, refl, subst}
+use Rattle.sand_base.specs.Faults.{HasCause}
+use Rattle.sand_base.specs.declared.source.Failed.{Failed}
 use Rattle.open_cursors.specs.OverPages.{StandOver}
+use Rattle.line_exec.proofs.Kept.{cause_of_sink, keeps_same, untold_sink}
+use Rattle.line_exec.specs.LineCarried.{LineCarried}
 use Rattle.line_exec.proofs.LineSteps.{line_of_nothing, line_of_refusal}
-use Rattle.statement_exec.specs.Moment.{while_open}
+use Rattle.statement_exec.specs.Moment.{moment_of, while_open}
 use Rattle.line_exec.proofs.line.carry_line.Goals as goal
 
 -- what its statement does
@@ -17,5 +22,21 @@ returns-in-Ok-None-clause-carried g c = λ cs own counted stand.
 -- the line is refused by what it says, or memory was
 pub returns-in-Err-clause-carried : goal.returns-in-Err-clause-carried
 returns-in-Err-clause-carried g c = λ cs own counted stand.
-    line_of_refusal (while_open c.args.store (g.H.Shelf.files c.args.shelf.now) (g.H.Shelf.faults c.args.shelf.now)) cs (StandOver c.args.store.pool c.args.cursors.now.items) own stand (g.K.Sink.took c.args.out.now)
-    c.args.line.now (g.K.Sink.took c.refuse.new.out) c.in-Err.why c.refuse.result c.in-Err.ensures.refuses c.in-Err.ensures.inside c.refuse.ensures.written c.refuse.ensures.prefix
+    subst (λ (r : Result Bool Failed). LineCarried (Some c.args.line.now) (while_open c.args.store (g.H.Shelf.files c.args.shelf.now) (g.H.Shelf.faults c.args.shelf.now)) (while_open c.args.store (g.H.Shelf.files c.args.shelf.now) (g.H.Shelf.faults c.args.shelf.now)) cs (g.K.Sink.took c.args.out.now) (g.K.Sink.took c.refuse.new.out) r (StandOver c.args.store.pool c.args.cursors.now.items)) c.of_sink.ensures.written
+    (line_of_refusal (while_open c.args.store (g.H.Shelf.files c.args.shelf.now) (g.H.Shelf.faults c.args.shelf.now)) cs (StandOver c.args.store.pool c.args.cursors.now.items) own stand (g.K.Sink.took c.args.out.now) c.args.line.now (g.K.Sink.took c.refuse.new.out) c.in-Err.why c.refuse.result c.in-Err.ensures.refuses c.in-Err.ensures.inside c.refuse.ensures.written c.refuse.ensures.prefix)
+
+-- the journal is as it was
+
+pub returns-in-Ok-None-clause-keeps : goal.returns-in-Ok-None-clause-keeps
+returns-in-Ok-None-clause-keeps g c = keeps_same g.T.Tape.seen c.args.journal.now _
+
+pub returns-in-Err-clause-keeps : goal.returns-in-Err-clause-keeps
+returns-in-Err-clause-keeps g c = keeps_same g.T.Tape.seen c.args.journal.now c.of_sink.result
+
+pub returns-in-Err-clause-untold : goal.returns-in-Err-clause-untold
+returns-in-Err-clause-untold g c = untold_sink (g.K.Sink.took c.args.out.now) (g.K.Sink.took c.refuse.new.out) (moment_of c.args.store (g.H.Shelf.files c.args.shelf.now) (g.H.Shelf.faults c.args.shelf.now)) (moment_of c.args.store (g.H.Shelf.files c.args.shelf.now) (g.H.Shelf.faults c.args.shelf.now)) c.of_sink.result c.of_sink.ensures.sink
+
+pub returns-in-Err-clause-cause : goal.returns-in-Err-clause-cause
+returns-in-Err-clause-cause g c =
+    cause_of_sink (g.K.Sink.faults c.args.out.now) (g.K.Sink.faults c.refuse.new.out) _ _ c.of_sink.result c.of_sink.ensures.sink
+    (subst (λ (r : Result Bool Failed). HasCause (g.K.Sink.faults c.args.out.now) (g.K.Sink.faults c.refuse.new.out) r) c.of_sink.ensures.written c.refuse.ensures.cause) refl

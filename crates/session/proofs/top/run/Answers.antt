@@ -2,7 +2,7 @@
 use Rattle.std.proofs.Common.{subst}
 use Rattle.session.specs.Workload.{EndsAsked, workload_of}
 use Rattle.session.specs.Outside.{outside_of}
-use Rattle.session.proofs.Endings.{limits_are}
+use Rattle.session.proofs.ScriptEndings.{limits_are}
 use Rattle.session.proofs.top.run.Goals as goal
 
 pub returns-clause-promise : goal.returns-clause-promise

@@ -1,0 +1,14 @@
+-- rows that enter, or are refused for want of memory
+use Rattle.std.proofs.Common.{refl}
+use Rattle.statements.specs.Statement.{Load}
+use Rattle.statement_exec.proofs.OutOfMemory.{refused_memory}
+use Rattle.statement_exec.specs.Moment.{while_open}
+use Rattle.line_exec.proofs.ShelfChanges.{counted_alike}
+use Rattle.line_exec.proofs.loads.enter.Goals as goal
+
+pub returns-in-Err-clause-performs : goal.returns-in-Err-clause-performs
+returns-in-Err-clause-performs g c = λ load named files shelf cs given.
+    rw c.refused.ensures (refused_memory (Load load.relation load.file load.header) (while_open c.args.store.now files shelf cs))
+
+pub returns-in-Ok-clause-counts : goal.returns-in-Ok-clause-counts
+returns-in-Ok-clause-counts g c = λ shelf. counted_alike c.args.store.now.pool c.enter_rows.new.store.pool shelf shelf c.enter_rows.result c.enter_rows.ensures.cause refl

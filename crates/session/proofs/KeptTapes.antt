@@ -1,0 +1,117 @@
+-- With which world a run begins behind a journal, and which record is bad.
+use Rattle.std.proofs.Common.{◌≡◌, ◌⊎◌, ℕ, Bool, List, [], ◌∷◌, ◌++◌, map, Result, refl, sym, ap, ◌∙◌, subst, inl, inr}
+use Rattle.std.specs.Prelude.{IsTrue, ⊤}
+use Rattle.journal_replay.specs.ChangedDatabase.{world_after}
+use Rattle.journal_replay.specs.LedBy.{LedBy, sketches_after}
+use Rattle.journal_replay.specs.Replayed.{EndsBadly, EndsDeclined, IsBadForCause, IsReplayed}
+use Rattle.journal_replay.specs.declared.fault.ReplayFault.{ReplayFault}
+use Rattle.journal_replay.specs.declared.fault.ReplayFault.TheVariants as replayed
+use Rattle.page_pool.specs.Pool.{new_pool}
+use Rattle.sand_base.specs.declared.limits.Limits.{Limits}
+use Rattle.sand_journal.specs.ChangeBody.{ChangeValue, body_of}
+use Rattle.sand_journal.specs.Changes.{HasChanges}
+use Rattle.sand_journal.specs.Images.{HasBodies, records}
+use Rattle.sand_journal.specs.Journal.{HasOpened, HasPassed, IsBadBehind, IsOnlyRead}
+use Rattle.sand_journal.specs.Tape.{BeginsWith, StartsTape, TapeView}
+use Rattle.sand_journal.specs.declared.journal.Journal.{Journal}
+use Rattle.sand_model.specs.Database.{Database}
+use Rattle.sand_store.specs.Catalog.{StoreState, new_catalog}
+use Rattle.sand_store.specs.Contents.{database}
+use Rattle.sand_store.specs.Sketches.{Sketch, sketches}
+use Rattle.statement_exec.proofs.DecidedCalls.{sketched_in}
+use Rattle.statement_exec.specs.Moment.{state_with}
+use Rattle.session.specs.KeptRun.{HasAll, HasBadRecord, IsDeclinedNext, IsOpened, image_of, IsWorldOf, StartsWith}
+
+-- this holds where a replay met a bad record
+abbrev pub IfBad : ReplayFault → Type 0 → Type 0
+IfBad replayed.Bad P = P
+IfBad _ P = ⊤
+
+-- ---- the world of the journal's changes
+
+-- the state of a store that these changes led on from no relations
+pub World-of : (store world : StoreState) (frames : ℕ) (changes : List ChangeValue) (told : Bool) → store ≡ record { catalog = new_catalog store.catalog.limits; pool = new_pool store.pool.disk frames }
+    → LedBy changes store world → told ≡ store.pool.disk.told → IsWorldOf store.catalog.limits told changes (state_with [] (database world))
+World-of store world frames changes told empty led same = record {
+  none_open = refl;
+  world = λ is setting s own. led.becomes (sym same ∙ is) setting s own ∙ ap (λ (d : Database). world_after setting changes d) (ap (λ (s : StoreState). database s) empty);
+  outlined = sketched_in world.pool.pages world.catalog.relations ∙ led.sketched ∙ ap (λ (d : List Sketch). sketches_after changes d) (ap (λ (s : StoreState). sketches s) empty);
+}
+
+-- the changes of all records of an opened tape
+pub Replayed-all : {T : Type 0} (seen : T → TapeView) (journal journal' : Journal T) (store store' : StoreState) (r : IsReplayed seen journal journal' store store') → HasPassed seen journal [] → IsOnlyRead (seen journal.tape) (seen journal'.tape)
+    → HasAll (seen journal.tape).told (seen journal.tape).bytes r.changes
+Replayed-all {T} seen journal journal' store store' r passed read = record {
+  all = r.all;
+  read = λ told. record { all = r.all; bodies = subst (λ (bytes : List ℕ). HasBodies (map body_of r.changes) bytes) read.bytes ((r.ended [] passed).rest.ended (read.told ∙ told)) };
+}
+
+-- a tape that was started, and then opened as a journal
+pub Opened-tape : {U E : Type 0} (tape started opened : TapeView) (result : Result U E) → StartsTape tape started result → HasOpened started opened → IsOpened tape opened
+Opened-tape {U} {E} tape started opened result starts has = record { told = told; image = λ is. by is tape.bytes refl } where
+  told : opened.told ≡ tape.told
+  told = has.opened.told ∙ starts.passes.told
+
+  by : IsTrue tape.told → (bytes : List ℕ) → tape.bytes ≡ bytes → opened.bytes ≡ image_of bytes
+  by is [] none = has.empty (starts.passes.told ∙ is) (starts.kept.bytes ∙ none)
+  by is (byte ∷ bytes) some =
+      (has.opened.read (starts.passes.told ∙ is) (λ empty. let no : byte ∷ bytes ≡ [] = sym (starts.kept.bytes ∙ some) ∙ empty in cc)).bytes ∙ starts.kept.bytes ∙ some
+
+-- the changes that an opened tape has are those that it began with
+pub Starts-opened : (tape opened : TapeView) (changes : List ChangeValue) → IsOpened tape opened → HasAll opened.told opened.bytes changes → StartsWith tape changes
+Starts-opened tape opened changes opens has = record {
+  all = has.all;
+  read = λ told. subst (λ (bytes : List ℕ). HasChanges changes bytes) (opens.image told) (has.read (opens.told ∙ told));
+}
+
+-- what stands behind the records of an opened tape stands there in the image that it began with
+pub Bad-opened : (limits : Limits) (disk : Bool) (tape opened : TapeView) → IsOpened tape opened → HasBadRecord limits disk opened.told opened.bytes → HasBadRecord limits disk tape.told (image_of tape.bytes)
+Bad-opened limits disk tape opened opens bad = record {
+  changes = bad.changes;
+  all = bad.all;
+  begun = bad.begun;
+  empty = bad.empty;
+  known = bad.known;
+  reached = bad.reached;
+  led = bad.led;
+  next = go bad.next;
+} where
+  go : (IsTrue opened.told → IsBadBehind opened.bytes (map body_of bad.changes)) ⊎ IsDeclinedNext opened.told opened.bytes bad.changes bad.reached
+      → (IsTrue tape.told → IsBadBehind (image_of tape.bytes) (map body_of bad.changes)) ⊎ IsDeclinedNext tape.told (image_of tape.bytes) bad.changes bad.reached
+  go (inl h) = inl (λ told. subst (λ (bytes : List ℕ). IsBadBehind bytes (map body_of bad.changes)) (opens.image told) (h (opens.told ∙ told)))
+  go (inr h) = inr (record {
+    change = h.change;
+    is = h.is;
+    read = λ told. subst (λ (bytes : List ℕ). BeginsWith (records (map body_of (bad.changes ++ h.change ∷ []))) bytes) (opens.image told) (h.read (opens.told ∙ told));
+    declines = h.declines;
+  })
+
+-- why a replay of a store of no relations met a bad record
+pub Bad-stopped : {T : Type 0} (seen : T → TapeView) (journal journal' : Journal T) (store : StoreState) (why : ReplayFault) (disk : Bool)
+    → store ≡ record { catalog = new_catalog store.catalog.limits; pool = new_pool store.pool.disk store.pool.frames } → store.pool.disk.told ≡ disk → HasPassed seen journal [] → IsOnlyRead (seen journal.tape) (seen journal'.tape)
+    → IsBadForCause seen journal journal' store why → IfBad why (HasBadRecord store.catalog.limits disk (seen journal.tape).told (seen journal.tape).bytes)
+Bad-stopped {T} seen journal journal' store replayed.Memory disk empty known passed read bad = tt
+Bad-stopped {T} seen journal journal' store replayed.Tape disk empty known passed read bad = tt
+Bad-stopped {T} seen journal journal' store replayed.Device disk empty known passed read bad = tt
+Bad-stopped {T} seen journal journal' store replayed.Damaged disk empty known passed read bad = tt
+Bad-stopped {T} seen journal journal' store replayed.Bad disk empty known passed read bad = record {
+  changes = bad.changes;
+  all = bad.all;
+  begun = store;
+  empty = empty;
+  known = known;
+  reached = bad.reached;
+  led = bad.led;
+  next = go bad.next;
+} where
+  go : EndsBadly seen journal bad.changes ⊎ EndsDeclined seen journal journal' bad.changes bad.reached
+      → (IsTrue (seen journal.tape).told → IsBadBehind (seen journal.tape).bytes (map body_of bad.changes)) ⊎ IsDeclinedNext (seen journal.tape).told (seen journal.tape).bytes bad.changes bad.reached
+  go (inl h) = inl (λ told. h [] passed told)
+  go (inr h) = inr (record {
+    change = h.change;
+    is = h.is;
+    read = λ told.
+        let gate = (h.passed [] passed).stands.gate (read.told ∙ told) in
+        (gate.0, sym read.bytes ∙ gate.2);
+    declines = h.declines;
+  })

@@ -1,0 +1,130 @@
+-- How a run that keeps its changes in a journal may end: it begins with the world of the journal's changes.
+use Rattle.std.specs.Prelude.{◌≡◌, ◌≢◌, ◌⊎◌, ⊤, ℕ, Bool, IsTrue, List, [], ◌∷◌, ◌++◌, Option, codes, map, option_map}
+use Rattle.std.specs.List.{AllByRecursion}
+use Rattle.clap.specs.Words.{Text, fault_of}
+use Rattle.run_words.specs.Asked.{number, value_in}
+use Rattle.run_words.specs.Command.{kept_app}
+use Rattle.run_words.specs.Journal.{journal_beside}
+use Rattle.sand_base.specs.Faults.{next_count}
+use Rattle.sand_base.specs.declared.limits.Limits.{Limits}
+use Rattle.page_pool.specs.Pool.{new_pool}
+use Rattle.sand_journal.specs.ChangeBody.{ChangeValue, IsChange, body_of}
+use Rattle.sand_journal.specs.Changes.{HasChanges}
+use Rattle.sand_journal.specs.Images.{records}
+use Rattle.sand_journal.specs.Journal.{IsBadBehind}
+use Rattle.sand_journal.specs.Tape.{BeginsWith, TapeView}
+use Rattle.sand_model.specs.Cursor.{State}
+use Rattle.sand_model.specs.StatementChecks.{Setting, IsSetting}
+use Rattle.journal_replay.specs.ChangedDatabase.{world_after}
+use Rattle.journal_replay.specs.Declined.{Declines}
+use Rattle.journal_replay.specs.LedBy.{LedBy, sketches_after}
+use Rattle.sand_store.specs.Catalog.{StoreState, new_catalog}
+use Rattle.journal_replay.specs.declared.fault.ReplayFault.{ReplayFault}
+use Rattle.journal_replay.specs.declared.fault.ReplayFault.TheVariants as replayed
+use Rattle.statement_exec.specs.Outline.{outline_of}
+use Rattle.session.specs.Outside.{Outside}
+use Rattle.session.specs.Ends.{EndsFrom, IsUntouched}
+use Rattle.session.specs.declared.status.Status.{Status}
+use Rattle.session.specs.declared.status.Status.TheVariants as status
+
+-- the status of a run whose replay stopped
+abbrev pub status_of_replay : ReplayFault → Status
+status_of_replay replayed.Memory = status.NoMemory
+status_of_replay replayed.Tape = status.JournalFault
+status_of_replay replayed.Bad = status.JournalBad
+status_of_replay replayed.Device = status.ReplayFault
+status_of_replay replayed.Damaged = status.ReplayDamaged
+
+-- the workload that the words ask for in place of the script, where they may name a journal
+abbrev pub kept_workload : List Text → Option ℕ
+kept_workload words = option_map number (value_in kept_app (codes "workload") words)
+
+-- the journal of the script that the words name
+abbrev pub journal_of : List Text → Option Text
+journal_of words = journal_beside (kept_workload words) (value_in kept_app (codes "journal") words)
+
+-- what a read gives of a file whose journal was opened: an empty one has one shut gate
+abbrev pub image_of : List ℕ → List ℕ
+image_of [] = 0 ∷ []
+image_of (byte ∷ bytes) = byte ∷ bytes
+
+-- The tape was opened as a journal.
+pub record IsOpened (old new : TapeView) : Type 0 where
+  pub told : new.told ≡ old.told
+  pub image : IsTrue old.told → new.bytes ≡ image_of old.bytes
+
+-- Where the tape tells, these are all changes of this image of it.
+pub record HasAll (told : Bool) (image : List ℕ) (changes : List ChangeValue) : Type 0 where
+  pub all : AllByRecursion IsChange changes
+  pub read : IsTrue told → HasChanges changes image
+
+-- where the tape tells, these are all changes of the image that it reads once it is opened
+abbrev pub StartsWith : TapeView → List ChangeValue → Type 0
+StartsWith tape = HasAll tape.told (image_of tape.bytes)
+
+-- Where the tape tells, its image begins with the records of these changes.
+abbrev pub BeginsWithAll : Bool → List ℕ → List ChangeValue → Type 0
+BeginsWithAll told image changes = IsTrue told → BeginsWith (records (map body_of changes)) image
+
+-- Behind the records of these changes, which led a store to this one, stands that of a change which it doesn't take.
+pub record IsDeclinedNext (told : Bool) (image : List ℕ) (changes : List ChangeValue) (store : StoreState) : Type 0 where
+  pub change : ChangeValue
+  pub is : IsChange change
+  pub read : BeginsWithAll told image (changes ++ change ∷ [])
+  pub declines : Declines store change
+
+-- Behind the records of some changes, which led a store of no relations on, stands an open one that is bad, or that of a change which the store doesn't take. The first mark says whether the disk tells, the second whether the tape does.
+pub record HasBadRecord (limits : Limits) (disk told : Bool) (image : List ℕ) : Type 0 where
+  pub changes : List ChangeValue
+  pub all : AllByRecursion IsChange changes
+  pub begun : StoreState
+  pub empty : begun ≡ record { catalog = new_catalog limits; pool = new_pool begun.pool.disk begun.pool.frames }
+  pub known : begun.pool.disk.told ≡ disk
+  pub reached : StoreState
+  pub led : LedBy changes begun reached
+  pub next : (IsTrue told → IsBadBehind image (map body_of changes)) ⊎ IsDeclinedNext told image changes reached
+
+-- No cursor is open in the state. Where the disk tells its pages it has the world of these changes, and over any disk the relations that they sketch.
+pub record IsWorldOf (limits : Limits) (told : Bool) (changes : List ChangeValue) (state : State) : Type 0 where
+  pub none_open : state.cursors ≡ []
+  pub world : IsTrue told → (setting : Setting) → IsSetting setting → setting.limits ≡ limits → state.database ≡ world_after setting changes []
+  pub outlined : (outline_of state).relations ≡ sketches_after changes []
+
+-- The run began to read with the world of some changes, of which this holds.
+pub record EndsBehind (ended : Status) (limits : Limits) (old new : Outside) (Starts : List ChangeValue → Type 0) : Type 0 where
+  pub changes : List ChangeValue
+  pub starts : Starts changes
+  pub state : State
+  pub world : IsWorldOf limits new.disk.told changes state
+  pub ends : EndsFrom state ended limits old new
+
+-- nothing was read or written, and the disk's count stays
+abbrev pub IsUnbegun : Outside → Outside → Type 0
+IsUnbegun old new = IsUntouched old new × (new.disk.faults ≡ old.disk.faults)
+
+-- The whole promise of a run with a journal, by the status, where the first holds of the changes that it begins with, and the second where a record is bad. `JournalFault` comes before the first line is read, or behind an accepted change.
+abbrev pub EndsKept : Status → Limits → Outside → Outside → (List ChangeValue → Type 0) → Type 0 → Type 0
+EndsKept status.Usage limits old new Starts Bad = IsUnbegun old new
+EndsKept status.NoMemory limits old new Starts Bad = IsUnbegun old new
+EndsKept status.DiskNotStarted limits old new Starts Bad = IsUntouched old new × (new.disk.faults ≡ next_count old.disk.faults)
+EndsKept status.JournalFault limits old new Starts Bad = IsUnbegun old new ⊎ EndsBehind status.JournalFault limits old new Starts
+EndsKept status.JournalBad limits old new Starts Bad = IsUnbegun old new × Bad
+EndsKept status.ReplayFault limits old new Starts Bad = IsUntouched old new × (new.disk.faults ≡ next_count old.disk.faults)
+EndsKept status.ReplayDamaged limits old new Starts Bad = IsUnbegun old new × (IsTrue new.disk.told → ⊥)
+EndsKept ended limits old new Starts Bad = EndsBehind ended limits old new Starts
+
+-- the whole promise of a run with a journal on this tape, by the status
+abbrev pub EndsWithTape : Status → Limits → Outside → Outside → TapeView → Type 0
+EndsWithTape ended limits old new tape =
+    EndsKept ended limits old new (StartsWith tape) (HasBadRecord limits new.disk.told tape.told (image_of tape.bytes))
+
+-- the command that may name a journal took the words
+abbrev pub IsTakenKept : Status → Type 0
+IsTakenKept status.Usage = ⊥
+IsTakenKept _ = ⊤
+
+-- the command that may name a journal takes the words, or `Usage` says that it doesn't; with `NoMemory` nothing is said
+abbrev pub AreJudgedKept : Status → List Text → Type 0
+AreJudgedKept status.Usage words = fault_of kept_app words ≢ []
+AreJudgedKept status.NoMemory words = ⊤
+AreJudgedKept _ words = fault_of kept_app words ≡ []
