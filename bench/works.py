@@ -9,11 +9,14 @@ repeats, the rows or lines that came, the visits that `stats` counts for the sam
 
   build        N rows with a point, a text and an int are loaded and the points indexed
   knn10        1,000 rankings, 10 rows of each; knn100 likewise; far10 the 10 rows farthest from each of the same goals
+  near10       the rankings of knn10 by an R-tree; near100 and nearby1000 are knn100 and browse1000 so
+  index, rtree the quadtree or the R-tree of the points that are there is made
   browse100    1,000 rankings browsed up to the first row that one row in 100 passes; browse1000 likewise
   window       1,000 windows, all rows of each
   join100      the first 100 pairs of points and segments; semi100 the first 100 points with their nearest segment; partners5 the first
                500 pairs of points with their five nearest segments
-  update       10,000 rows inserted and 10,000 deleted, each a statement of its own; update1, update16: beside so many open cursors
+  update       10,000 rows inserted and 10,000 deleted, each a statement of its own; update1, update16: beside so many open cursors;
+               update_rtree and update_both: under an R-tree in place of the quadtree, and beside it
   kept1000     16 cursors browse for 60 rows that one in 1000 passes, opened before an update; fresh1000: opened behind it
 """
 import argparse
@@ -26,8 +29,8 @@ import time
 
 HERE = os.path.dirname(os.path.abspath(__file__))
 PROGRAM = os.path.join(HERE, "..", "crates", "sand_shell", "out", "sand_shell")
-WORKS = """build knn10 knn100 far10 browse100 browse1000 window join100 semi100 partners5
-update update1 update16 kept1000 fresh1000""".split()
+WORKS = """build index rtree knn10 near10 knn100 near100 far10 browse100 browse1000 nearby1000 window join100 semi100 partners5
+update update_rtree update_both update1 update16 kept1000 fresh1000""".split()
 LAST = (1 << 20) - 1
 
 
@@ -63,8 +66,12 @@ class Data:
         self.inserts = [(*place(), draw.randint(0, 9_999_999)) for _ in range(10_000)]
         self.deletes = draw.sample(range(1, size + 1), min(size, 10_000))
 
-    def load(self, ways: bool) -> list[str]:
-        lines = ["create p (at point, name text, pop int)", 'load p "points.csv"', "index p.at"]
+    def load(self, work: str) -> list[str]:
+        """The relations of a work item, with their indexes."""
+        trees = {"index": [], "rtree": [], "update_rtree": ["rtree p.at"], "update_both": ["index p.at", "rtree p.at"]}
+        made = trees.get(work, ["rtree p.at"] if work.startswith("near") else ["index p.at"])
+        lines = ["create p (at point, name text, pop int)", 'load p "points.csv"', *made]
+        ways = work in ("join100", "semi100", "partners5")
         return lines + ["create s (way segment)", 'load s "ways.csv"', "index s.way"] * ways
 
     def opened(self, work: str, number: int) -> list[str]:
@@ -78,20 +85,23 @@ class Data:
         """What stands between the loading and the queries, and isn't counted."""
         number = int("".join(it for it in work if it.isdigit()) or 0)
         if work.startswith("update"):
-            return self.opened(work, number)
+            return self.opened(work, number) if number else []
         if work.startswith("kept"):
             return self.opened(work, number) + self.queries("update")
         return self.queries("update") + self.opened(work, number) if work.startswith("fresh") else []
 
     def queries(self, work: str) -> list[str]:
         number = int("".join(it for it in work if it.isdigit()) or 0)
-        if work.startswith("knn"):
-            return [f"show {number} rank p.at from ({x} {y})" for x, y in self.goals]
+        if work in ("index", "rtree"):
+            return [f"{work} p.at"]
+        plan = "near" if work.startswith("near") else "rank"
+        if work in ("knn10", "knn100", "near10", "near100"):
+            return [f"show {number} {plan} p.at from ({x} {y})" for x, y in self.goals]
         if work == "far10":
             return [f"far {number} p.at from ({x} {y})" for x, y in self.goals]
-        if work.startswith("browse"):
+        if work.startswith(("browse", "nearby")):
             least = 10_000_000 - 10_000_000 // number
-            return [f"show 1 filter (rank p.at from ({x} {y})) where 1.pop >= {least}" for x, y in self.goals]
+            return [f"show 1 filter ({plan} p.at from ({x} {y})) where 1.pop >= {least}" for x, y in self.goals]
         if work.startswith(("kept", "fresh")):
             return [f"next c{at} 60" for at in range(16)]
         if work == "window":
@@ -155,7 +165,7 @@ def main() -> None:
         print(f"{'work':<11}{'wall s':>9}{'processor s':>13}{'lines':>11}{'visits':>10}{'peak MiB':>10}")
         for work in asked.works:
             lines = [] if work == "build" else data.queries(work)
-            load = data.load(work in ("join100", "semi100", "partners5")) + data.before(work)
+            load = data.load(work) + data.before(work)
             least = [float("inf"), float("inf")]
             for _ in range(asked.repeat):
                 base = run(words, folder, load[:1] if work == "build" else load)

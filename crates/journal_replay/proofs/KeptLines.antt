@@ -7,7 +7,7 @@ use Rattle.sand_base.specs.declared.value.Value.{Value}
 use Rattle.sand_base.specs.declared.kind.Kind.{Kind}
 use Rattle.sand_journal.specs.declared.change.Change.TheVariants as change
 use Rattle.sand_store.specs.Catalog.{CatalogView, RelationView, is_named}
-use Rattle.statements.specs.Statement.{Statement, Create, Insert, Delete, Load, Index, OpenCursor, Next, CloseCursor, Show, Stats, Far, Blocks, statement_value}
+use Rattle.statements.specs.Statement.{Statement, Create, Insert, Delete, Load, Index, Rtree, OpenCursor, Next, CloseCursor, Show, Stats, Far, Blocks, statement_value}
 use Rattle.script_text.specs.Name.{IsName}
 use Rattle.statements.specs.declared.column.Column.{Column}
 use Rattle.statements.specs.declared.statement.Statement as spoken
@@ -34,6 +34,7 @@ line_kept catalog (Insert relation values) kept is body = absurd is
 line_kept catalog (Delete relation id) kept is body = body
 line_kept catalog (Load relation file header) kept is body = absurd is
 line_kept catalog (Index column threshold) kept is body = body
+line_kept catalog (Rtree column) kept is body = body
 line_kept catalog (OpenCursor cursor plan) kept is body = absurd is
 line_kept catalog (Next cursor count) kept is body = absurd is
 line_kept catalog (CloseCursor cursor) kept is body = absurd is
@@ -51,6 +52,7 @@ none_kept catalog (statement.Insert relation values) line insert = absurd (inser
 none_kept catalog (statement.Delete relation id) line insert = absurd (line tt)
 none_kept catalog (statement.Load relation file header) line insert = refl
 none_kept catalog (statement.Index column threshold) line insert = absurd (line tt)
+none_kept catalog (statement.Rtree column) line insert = absurd (line tt)
 none_kept catalog (statement.OpenCursor cursor plan) line insert = refl
 none_kept catalog (statement.Next cursor count) line insert = refl
 none_kept catalog (statement.CloseCursor cursor) line insert = refl
@@ -74,6 +76,11 @@ pub index_copied : (s : spoken.Statement) (column : Column) (relation' column' :
     → (line_value (statement.Index (record { relation = relation'; column = column' }) threshold) ≡ line_value s) × IsKept (line_value s)
 unfolding line_value
 index_copied s column relation' column' threshold is same same_column = rw (is, same, same_column) (refl, tt)
+
+pub rtree_copied : (s : spoken.Statement) (column : Column) (relation' column' : List ℕ) → s ≡ statement.Rtree column → relation' ≡ column.relation → column' ≡ column.column
+    → (line_value (statement.Rtree (record { relation = relation'; column = column' })) ≡ line_value s) × IsKept (line_value s)
+unfolding line_value
+rtree_copied s column relation' column' is same same_column = rw (is, same, same_column) (refl, tt)
 
 -- the change of short encodings is one that a record holds
 pub rows_change : (name label : List ℕ) (encodings rows : List (List ℕ)) → label ≡ name → rows ≡ encodings → IsName name → AllByRecursion IsEncodingShort encodings

@@ -5,11 +5,11 @@ use Rattle.sand_journal.specs.ChangeBody.{ChangeValue, Line}
 use Rattle.sand_base.specs.declared.kind.Kind.{Kind}
 use Rattle.sand_model.specs.Database.{Database}
 use Rattle.sand_model.specs.StatementChecks.{Setting}
-use Rattle.sand_store.specs.Calls.{Carries, Created, Deleted, Indexed}
+use Rattle.sand_store.specs.Calls.{Carries, Created, Deleted, Indexed, Treed}
 use Rattle.sand_store.specs.Catalog.{StoreState}
 use Rattle.sand_store.specs.Contents.{database}
 use Rattle.sand_store.specs.Sketches.{Sketch, sketches}
-use Rattle.statements.specs.Statement.{Create, Delete, Index}
+use Rattle.statements.specs.Statement.{Create, Delete, Index, Rtree}
 use Rattle.statements.specs.declared.column.Column.{Column}
 use Rattle.journal_replay.specs.ChangedDatabase.{changed_by, world_after, Takes, TakesAll}
 use Rattle.journal_replay.specs.LedBy.{LedBy, LedByOne, sketched_by, sketches_after}
@@ -74,6 +74,16 @@ led_by_delete old new name id h carries = record {
 pub led_by_index : (old new : StoreState) (column : Column) (threshold : Option ℕ) → Indexed old new (record { relation = column.relation; column = column.column }) threshold → Carries old new
     → LedByOne (Line (Index column threshold)) old new
 led_by_index old new column threshold h carries = record {
+  carries = carries;
+  sketched = h.sketched;
+  takes = λ told setting is limits. let p = h.passes setting is limits in record { before = p.0; behind = p.1 told };
+  becomes = λ told setting is limits. h.becomes told setting.gap is.gap;
+}
+
+-- an R-tree that was made
+pub led_by_rtree : (old new : StoreState) (column : Column) → Treed old new (record { relation = column.relation; column = column.column }) → Carries old new
+    → LedByOne (Line (Rtree column)) old new
+led_by_rtree old new column h carries = record {
   carries = carries;
   sketched = h.sketched;
   takes = λ told setting is limits. let p = h.passes setting is limits in record { before = p.0; behind = p.1 told };

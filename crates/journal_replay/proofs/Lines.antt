@@ -6,12 +6,12 @@ use Rattle.sand_journal.specs.ChangeBody.{Line, Rows, IsKept, change_value, line
 use Rattle.sand_journal.specs.declared.change.Change as declared
 use Rattle.sand_journal.specs.declared.change.Change.TheVariants as change
 use Rattle.script_text.specs.InRange.{IsThresholdInRange}
-use Rattle.statements.specs.Statement.{Create, Delete, Index, statement_value}
+use Rattle.statements.specs.Statement.{Create, Delete, Index, Rtree, statement_value}
 use Rattle.statements.specs.declared.column.Column.{Column}
 use Rattle.statements.specs.declared.statement.Statement.{Statement}
 use Rattle.statements.specs.declared.statement.Statement.TheVariants as statement
 
--- the tree of a statement that makes a relation, removes a row, or makes an index
+-- the tree of a statement that makes a relation, removes a row, or makes an index or an R-tree
 pub create_is : (s : Statement) (relation : List ℕ) (columns : List (List ℕ × Kind)) → s ≡ statement.Create relation columns → line_value s ≡ Create relation columns
 unfolding line_value
 create_is s relation columns is = ap statement_value is
@@ -23,6 +23,10 @@ delete_is s relation id is = ap statement_value is
 pub index_is : (s : Statement) (column : Column) (threshold : Option ℕ) → s ≡ statement.Index column threshold → line_value s ≡ Index column threshold
 unfolding line_value
 index_is s column threshold is = ap statement_value is
+
+pub rtree_is : (s : Statement) (column : Column) → s ≡ statement.Rtree column → line_value s ≡ Rtree column
+unfolding line_value
+rtree_is s column is = ap statement_value is
 
 -- a change that is a statement, or rows
 pub line_is : (c : declared.Change) (s : Statement) → c ≡ change.Line s → change_value c ≡ Line (line_value s)
@@ -40,17 +44,18 @@ threshold_fits (Some n) h = h
 
 -- a journal keeps no other statement
 pub kept_ones : (s : Statement) → IsKept (line_value s) → ((relation : List ℕ) (columns : List (List ℕ × Kind)) → s ≡ statement.Create relation columns → ⊥)
-    → ((relation : List ℕ) (id : ℕ) → s ≡ statement.Delete relation id → ⊥) → ((column : Column) (threshold : Option ℕ) → s ≡ statement.Index column threshold → ⊥) → ⊥
+    → ((relation : List ℕ) (id : ℕ) → s ≡ statement.Delete relation id → ⊥) → ((column : Column) (threshold : Option ℕ) → s ≡ statement.Index column threshold → ⊥) → ((column : Column) → s ≡ statement.Rtree column → ⊥) → ⊥
 unfolding line_value
-kept_ones (statement.Create relation columns) kept create delete index = create relation columns refl
-kept_ones (statement.Insert relation values) kept create delete index = kept
-kept_ones (statement.Delete relation id) kept create delete index = delete relation id refl
-kept_ones (statement.Load relation file header) kept create delete index = kept
-kept_ones (statement.Index column threshold) kept create delete index = index column threshold refl
-kept_ones (statement.OpenCursor cursor plan) kept create delete index = kept
-kept_ones (statement.Next cursor count) kept create delete index = kept
-kept_ones (statement.CloseCursor cursor) kept create delete index = kept
-kept_ones (statement.Show count plan) kept create delete index = kept
-kept_ones (statement.Stats cursor) kept create delete index = kept
-kept_ones (statement.Far count column goal) kept create delete index = kept
-kept_ones (statement.Blocks column) kept create delete index = kept
+kept_ones (statement.Create relation columns) kept create delete index rtree = create relation columns refl
+kept_ones (statement.Insert relation values) kept create delete index rtree = kept
+kept_ones (statement.Delete relation id) kept create delete index rtree = delete relation id refl
+kept_ones (statement.Load relation file header) kept create delete index rtree = kept
+kept_ones (statement.Index column threshold) kept create delete index rtree = index column threshold refl
+kept_ones (statement.Rtree column) kept create delete index rtree = rtree column refl
+kept_ones (statement.OpenCursor cursor plan) kept create delete index rtree = kept
+kept_ones (statement.Next cursor count) kept create delete index rtree = kept
+kept_ones (statement.CloseCursor cursor) kept create delete index rtree = kept
+kept_ones (statement.Show count plan) kept create delete index rtree = kept
+kept_ones (statement.Stats cursor) kept create delete index rtree = kept
+kept_ones (statement.Far count column goal) kept create delete index rtree = kept
+kept_ones (statement.Blocks column) kept create delete index rtree = kept

@@ -6,8 +6,8 @@ use Rattle.sand_base.specs.declared.value.Value.{Value}
 use Rattle.sand_journal.specs.ChangeBody.{ChangeValue, Line, Rows}
 use Rattle.sand_model.specs.Database.{Database, Relation, relation_named, changed_at, with_relation, new_relation, without_row}
 use Rattle.statements.specs.Statement as model
-use Rattle.statements.specs.Statement.{Statement, Create, Delete, Index}
-use Rattle.sand_model.specs.StatementChecks.{Setting, early, late, entered, indexed_by}
+use Rattle.statements.specs.Statement.{Statement, Create, Delete, Index, Rtree}
+use Rattle.sand_model.specs.StatementChecks.{Setting, early, late, entered, indexed_by, treed_by}
 use Rattle.sand_store.specs.Calls.{alone}
 use Rattle.sand_store.specs.Tuples.{row_in}
 use Rattle.journal_replay.specs.EncodedRows.{AreEncodingsOf}
@@ -26,6 +26,8 @@ changed_by setting (Line (Create relation columns)) database = with_relation (ne
 changed_by setting (Line (Delete relation id)) database = changed_at relation (without_row id) database
 changed_by setting (Line (Index column threshold)) database =
     changed_at column.relation (indexed_by setting.gap (record { relation = column.relation; column = column.column }) threshold) database
+changed_by setting (Line (Rtree column)) database =
+    changed_at column.relation (treed_by (record { relation = column.relation; column = column.column })) database
 changed_by setting (Line _) database = database
 changed_by setting (Rows relation encodings) database = changed_at relation (λ r. (with_encoded setting encodings r).1) database
 
@@ -52,6 +54,8 @@ Takes setting (Line (Create relation columns)) database = PassesChecks setting d
 Takes setting (Line (Delete relation id)) database = PassesChecks setting database (model.Delete relation id)
 Takes setting (Line (Index column threshold)) database =
     PassesChecks setting database (model.Index (record { relation = column.relation; column = column.column }) threshold)
+Takes setting (Line (Rtree column)) database =
+    PassesChecks setting database (model.Rtree (record { relation = column.relation; column = column.column }))
 Takes setting (Line _) database = ⊥
 Takes setting (Rows relation encodings) database = TakesEncoded setting database relation encodings
 

@@ -9,7 +9,7 @@ use Rattle.statements.specs.Statement as model
 use Rattle.sand_store.specs.Calls.{Within, IsRefusedBy, LoadIsRefusedBy, IsRefusedPlainly, is_none, is_missing, is_full}
 use Rattle.sand_store.specs.Catalog.{StoreState}
 use Rattle.sand_store.specs.Contents.{database}
-use Rattle.statements.specs.Statement.{Create, Delete, Index}
+use Rattle.statements.specs.Statement.{Create, Delete, Index, Rtree}
 use Rattle.journal_replay.specs.ChangedDatabase.{Takes}
 use Rattle.journal_replay.specs.EncodedRows.{HasRowsFor, LacksRowsFor}
 use Rattle.journal_replay.specs.declared.fault.ReplayFault.{ReplayFault}
@@ -43,6 +43,8 @@ RefusesChange store (Line (Create relation columns)) = OfCheck (IsRefusedBy is_n
 RefusesChange store (Line (Delete relation id)) = OfCheck (IsRefusedBy is_missing store (model.Delete relation id))
 RefusesChange store (Line (Index column threshold)) =
     OfCheck (IsRefusedBy is_full store (model.Index (record { relation = column.relation; column = column.column }) threshold))
+RefusesChange store (Line (Rtree column)) =
+    OfCheck (IsRefusedBy is_none store (model.Rtree (record { relation = column.relation; column = column.column })))
 RefusesChange store (Line _) = ⊥
 RefusesChange store (Rows relation encodings) = LacksRowsFor store.catalog relation encodings ⊎ RefusesEncoded store relation encodings
 

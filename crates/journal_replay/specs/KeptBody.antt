@@ -8,7 +8,7 @@ use Rattle.sand_journal.specs.ChangeBody.{Line, Rows, IsChange, IsEncodingShort,
 use Rattle.sand_model.specs.Kept.{longest_row}
 use Rattle.sand_model.specs.RowSize.{row_size}
 use Rattle.sand_store.specs.Catalog.{CatalogView, RelationView, is_named}
-use Rattle.statements.specs.Statement.{Statement, Create, Insert, Delete, Index}
+use Rattle.statements.specs.Statement.{Statement, Create, Insert, Delete, Index, Rtree}
 use Rattle.tuple_codec.specs.Decoding.{IsEncodingOf}
 use Rattle.journal_replay.specs.EncodedRows.{AreEncodingsOf, HasRowsFor}
 
@@ -54,6 +54,7 @@ IsKeptOf catalog (Create relation columns) kept = kept ≡ Some (body_of (Line (
 IsKeptOf catalog (Insert relation values) kept = IsKeptOfRows catalog relation (values ∷ []) kept
 IsKeptOf catalog (Delete relation id) kept = kept ≡ Some (body_of (Line (Delete relation id)))
 IsKeptOf catalog (Index column threshold) kept = kept ≡ Some (body_of (Line (Index column threshold)))
+IsKeptOf catalog (Rtree column) kept = kept ≡ Some (body_of (Line (Rtree column)))
 IsKeptOf catalog _ kept = kept ≡ None
 
 -- The line that a statement is kept as: the statement itself, or None where it is kept as no line.

@@ -5,14 +5,15 @@ use Rattle.sand_journal.specs.ChangeBody.{ChangeValue, Line, Rows}
 use Rattle.sand_store.specs.Calls.{Carries, Within}
 use Rattle.sand_store.specs.Catalog.{StoreState}
 use Rattle.sand_store.specs.Contents.{database}
-use Rattle.sand_store.specs.Sketches.{Sketch, sketches, new_sketch, with_ids, with_indexed, sketched_at}
-use Rattle.statements.specs.Statement.{Create, Index}
+use Rattle.sand_store.specs.Sketches.{Sketch, sketches, new_sketch, with_ids, with_indexed, with_treed, sketched_at}
+use Rattle.statements.specs.Statement.{Create, Index, Rtree}
 use Rattle.journal_replay.specs.ChangedDatabase.{changed_by, world_after, Takes, TakesAll}
 
 -- the sketches of relations after a change
 abbrev pub sketched_by : ChangeValue → List Sketch → List Sketch
 sketched_by (Line (Create relation columns)) old = old ++ new_sketch relation columns ∷ []
 sketched_by (Line (Index column threshold)) old = sketched_at column.relation (with_indexed column.column) old
+sketched_by (Line (Rtree column)) old = sketched_at column.relation (with_treed column.column) old
 sketched_by (Line _) old = old
 sketched_by (Rows relation encodings) old = sketched_at relation (with_ids (length encodings)) old
 

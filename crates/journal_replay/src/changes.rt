@@ -33,6 +33,9 @@ fn carry_line<D: Disk>(store: &mut Store<D>, statement: Statement) -> Result<(),
         Statement::Index { column, threshold } => {
             store.index(column.relation.as_str(), column.column.as_str(), threshold)?
         }
+        Statement::Rtree { column } => {
+            store.rtree(column.relation.as_str(), column.column.as_str())?
+        }
         // A journal keeps no other statement.
         other => end_statement(other),
     }

@@ -86,6 +86,12 @@ fn line_of(alloc: Global, statement: &Statement) -> Result<Option<Statement>, No
             },
             threshold: *threshold,
         })),
+        Statement::Rtree { column } => Ok(Some(Statement::Rtree {
+            column: Column {
+                relation: column.relation.copy(alloc)?,
+                column: column.column.copy(alloc)?,
+            },
+        })),
         _ => Ok(None),
     }
 }

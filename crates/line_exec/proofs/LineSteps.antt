@@ -49,6 +49,7 @@ asks_few (statement.Insert relation values) range = omega arith
 asks_few (statement.Delete relation id) range = omega arith
 asks_few (statement.Load relation file header) range = omega arith
 asks_few (statement.Index column threshold) range = omega arith
+asks_few (statement.Rtree column) range = omega arith
 asks_few (statement.OpenCursor cursor p) range = omega arith
 asks_few (statement.Next cursor count) range = let most = range.1.most in omega (arith, most)
 asks_few (statement.CloseCursor cursor) range = omega arith

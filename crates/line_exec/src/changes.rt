@@ -19,7 +19,7 @@ use sand_base::{NoMemory, Refusal, Shelf};
 use sand_journal::Record;
 use sand_store::{Catalog, Store};
 use script_text::Statement;
-use statement_exec::{create, delete, index, insert};
+use statement_exec::{create, delete, index, insert, rtree};
 use std::alloc::Global;
 
 // The record of a statement, where one is to be made. That of a load is made of its rows.
@@ -76,6 +76,10 @@ fn change_behind<D: Disk, H: Shelf>(
         } => Ok(load(alloc, store, shelf, &relation, &file, header, keeps)),
         Statement::Index { column, threshold } => Ok(Changed {
             answer: index(store, &column.relation, &column.column, threshold),
+            kept,
+        }),
+        Statement::Rtree { column } => Ok(Changed {
+            answer: rtree(store, &column.relation, &column.column),
             kept,
         }),
         other => Err(other),

@@ -14,7 +14,8 @@ use Rattle.sand_base.specs.declared.shape.Shape.{Shape}
 use Rattle.sand_base.specs.declared.shape.Shape.TheVariants as shape
 use Rattle.sand_model.specs.Measure.{Measure, IsMeasure}
 use Rattle.sand_model.specs.Nodes.{is_rough, rough_figure}
-use Rattle.sand_model.specs.Reach.{Reach, Nothing, reaches}
+use Rattle.sand_model.specs.Reach.{Reach, Nothing, reaches, polygons_within}
+use Rattle.sand_model.specs.Roughs.{row_figure}
 use Rattle.ring_geom.proofs.Measured.{measured}
 use Rattle.ring_geom.proofs.RoughLemmas.{rough_in_closed_plane}
 use Rattle.page_pool.specs.Disk.{PageMap}
@@ -48,8 +49,9 @@ use Rattle.rank_cursor.proofs.Pigeons.{HaveOwn, no_more}
 use Rattle.rank_cursor.proofs.Places.{both_true, true_both}
 use Rattle.rank_cursor.proofs.RankedRows.{same_measures}
 use Rattle.near_cursor.specs.TreeNodes.{PageNode, root_node, nodes_under}
-use Rattle.near_cursor.specs.NearLaws.{polygons_within}
-use Rattle.near_cursor.specs.NearRanking.{row_figure, ListsRows, member_found, near_meaning}
+use Rattle.near_cursor.specs.NearLaws.{FindsPolygons}
+use Rattle.rtree_rows.specs.Listing.{ListsRows}
+use Rattle.near_cursor.specs.NearRanking.{member_found, near_meaning}
 use Rattle.near_cursor.proofs.NearHierarchy.{root_is, under_at, finds_level, rough_listed}
 use Rattle.near_cursor.proofs.NodeLemmas.{leaf_of, is_node}
 use Rattle.near_cursor.proofs.RowLemmas.{is_rect, member_row, row_member, rows_apart, row_closed, is_rough_item, left_of, right_of}
@@ -169,6 +171,15 @@ module _ (rows : PageMap → List (ℕ × Shape)) (Stands : PageMap → Type 0) 
         in_filter counted (rows pages) row at (true_both (is_rough row.1) (reaches to (gap goal (rough_figure row.1))) polygon inside),
         subst (λ (y : Item PageNode). IsOf y row) (sym same) of_row,
       )
+
+  -- a rough item that a node finds is of a polygon
+  pub polygon_found : FindsPolygons meaning gap goal (rows pages)
+  polygon_found n node g l s found =
+      let in_tree = is_node m t n (subst (λ (ns : List PageNode). Contains ns n) under_root node) in
+      let (i, in_members, gives) = rough_listed rows Stands price t goal ceiling reach pages fits stands plane n in_tree g l s found in
+      let (row, at, e) = member_row pages t (rows pages) fits i in_members in
+      let (polygon, of_row) = member_of_row i.0 i.1 row at e g l s gives in
+      (row.1, subst (λ (id : ℕ). Contains (rows pages) (id, row.1)) (sym of_row.1) at, polygon, of_row.0)
 
   -- and a polygon within the reach has a rough item
   item_of : (row : ℕ × Shape) → Contains polygons row → (x : Item PageNode) × Contains (tree_of.roughs_within meaning test) x × IsOf x row

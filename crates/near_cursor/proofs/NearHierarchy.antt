@@ -11,6 +11,7 @@ use Rattle.sand_base.specs.declared.rough.Rough.{Rough}
 use Rattle.sand_base.specs.declared.rough.Rough.TheVariants as rough
 use Rattle.sand_base.specs.declared.shape.Shape.{Shape}
 use Rattle.sand_base.specs.declared.shape.Shape.TheVariants as shape
+use Rattle.sand_model.specs.Roughs.{row_figure}
 use Rattle.page_pool.specs.Disk.{PageMap}
 use Rattle.code_btree.specs.Tree.{Store, times}
 use Rattle.r_tree.specs.declared.entry.NodeEntry.{NodeEntry}
@@ -34,7 +35,8 @@ use Rattle.rank_cursor.proofs.Elements.{in_map, from_map}
 use Rattle.rank_cursor.proofs.RankingLaws.{rank_laws}
 use Rattle.near_cursor.specs.TreeNodes.{PageNode, nodes_below, nodes_under, root_node, tree_nodes, is_tree_node, node_bound}
 use Rattle.near_cursor.specs.NearLaws.{HasPagesOnce}
-use Rattle.near_cursor.specs.NearRanking.{row_figure, ListsRows, near_row, bound_gap, member_found, branch_found, entries_found, near_finds, near_under, near_meaning}
+use Rattle.rtree_rows.specs.Listing.{ListsRows}
+use Rattle.near_cursor.specs.NearRanking.{near_row, bound_gap, member_found, branch_found, entries_found, near_finds, near_under, near_meaning}
 use Rattle.near_cursor.proofs.InPlane.{box_in_plane, entries_in_plane, bound_gap_is, node_no_farther}
 use Rattle.near_cursor.proofs.NodeLemmas.{nodes_once, NodeStands, node_stands, child_node, leaf_of, is_node, node_is, node_bound_is, child_leads}
 use Rattle.near_cursor.proofs.RowLemmas.{is_rough_item, member_row, row_member, rows_apart, member_closed, show_row, exact_gap, row_closed, flat_ranking, flat_sound}

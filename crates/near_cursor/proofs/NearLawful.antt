@@ -1,10 +1,11 @@
 -- Over pages where the R-tree lists the rows a ranking is lawful, and gives the ranked rows.
-use Rattle.std.proofs.Common.{ℕ, List}
+use Rattle.std.proofs.Common.{ℕ, false, List, refl}
 use Rattle.std.specs.Prelude.{Option}
 use Rattle.sand_base.specs.Plane.{IsGoalInClosedPlane}
 use Rattle.sand_base.specs.declared.goal.Goal.{Goal}
 use Rattle.sand_base.specs.declared.shape.Shape.{Shape}
 use Rattle.sand_model.specs.Measure.{Measure, IsMeasure}
+use Rattle.sand_model.specs.Reach.{Nothing}
 use Rattle.sand_model.specs.Sources.{ranked}
 use Rattle.page_pool.specs.Disk.{PageMap}
 use Rattle.r_tree.specs.declared.tree.RTree.{RTree}
@@ -13,9 +14,10 @@ use Rattle.rank_cursor.specs.Answers.{GivesList}
 use Rattle.rank_cursor.specs.Ranking.{rank_meaning}
 use Rattle.rank_cursor.proofs.RankedRows.{gives_ranked}
 use Rattle.near_cursor.specs.NearLaws.{IsLawfulNearOver}
-use Rattle.near_cursor.specs.NearRanking.{ListsRows, near_meaning}
+use Rattle.rtree_rows.specs.Listing.{ListsRows}
+use Rattle.near_cursor.specs.NearRanking.{near_meaning}
 use Rattle.near_cursor.proofs.NearBounds.{bound_gaps}
-use Rattle.near_cursor.proofs.NearCounted.{polygons_counted, nothing_within}
+use Rattle.near_cursor.proofs.NearCounted.{polygon_found, polygons_counted, nothing_within}
 use Rattle.near_cursor.proofs.NearHierarchy.{near_laws, pages_once}
 use Rattle.near_cursor.proofs.RowLemmas.{rows_apart, flat_ranking, flat_sound}
 
@@ -38,6 +40,7 @@ module _ (rows : PageMap → List (ℕ × Shape)) (Stands : PageMap → Type 0) 
     bounds = bound_gaps rows Stands price t goal ceiling reach pages fits stands (in_plane pages stands);
     once = pages_once rows Stands price t goal ceiling reach pages fits stands (in_plane pages stands);
     rows = gives pages fits stands;
+    polygons = λ gap is. polygon_found rows Stands price t goal ceiling reach pages fits stands (in_plane pages stands) gap is Nothing (λ g. false) (λ g h e. refl);
     geometries = λ gap is cmp o to test tells done reached. polygons_counted rows Stands price t goal ceiling reach pages fits stands (in_plane pages stands) gap is to test tells o done reached;
     nothing = λ gap. nothing_within gap goal (rows pages);
   }

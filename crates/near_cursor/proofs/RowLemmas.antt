@@ -13,6 +13,7 @@ use Rattle.sand_base.specs.declared.shape.Shape.{Shape}
 use Rattle.sand_base.specs.declared.shape.Shape.TheVariants as shape
 use Rattle.sand_model.specs.Database.{meets_block}
 use Rattle.sand_model.specs.Nodes.{rough_figure}
+use Rattle.sand_model.specs.Roughs.{row_figure}
 use Rattle.sand_model.specs.Tree.{Leaf, root_block}
 use Rattle.ring_geom.proofs.Measured.{measured}
 use Rattle.ring_geom.proofs.RoughLemmas.{rough_in_closed_plane, rough_no_farther}
@@ -36,7 +37,8 @@ use Rattle.rank_cursor.specs.Ranking.{Ranking, HaveOwnIds, IsSound}
 use Rattle.rank_cursor.proofs.Elements.{in_map, from_map}
 use Rattle.rank_cursor.proofs.Fitted.{closed_shape}
 use Rattle.near_cursor.specs.TreeNodes.{PageNode}
-use Rattle.near_cursor.specs.NearRanking.{member_figure, row_figure, ListsRows, near_row, member_found}
+use Rattle.rtree_rows.specs.Listing.{member_figure, ListsRows}
+use Rattle.near_cursor.specs.NearRanking.{near_row, member_found}
 
 -- ---- rows in the plane
 

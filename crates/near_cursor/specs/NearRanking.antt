@@ -12,7 +12,6 @@ use Rattle.sand_base.specs.declared.shape.Shape.{Shape}
 use Rattle.sand_base.specs.declared.shape.Shape.TheVariants as shape
 use Rattle.sand_base.specs.declared.visit.Visit.{Visit}
 use Rattle.sand_base.specs.declared.visit.Visit.TheVariants as visit
-use Rattle.sand_model.specs.Nodes.{rough_figure}
 use Rattle.page_pool.specs.Disk.{PageMap}
 use Rattle.code_btree.specs.Tree.{Store}
 use Rattle.r_tree.specs.declared.entry.NodeEntry.{NodeEntry}
@@ -24,6 +23,7 @@ use Rattle.r_tree.specs.Nodes.{branches_of}
 use Rattle.r_tree.specs.Tree.{IsRTree, entries_at, tree_members}
 use Rattle.pmr_tree.specs.Entries.{figure_of}
 use Rattle.pmr_tree.specs.Quadtree.{store_of}
+use Rattle.rtree_rows.specs.Listing.{ListsRows}
 use Rattle.best_first.specs.Hierarchy.{Meaning}
 use Rattle.best_first.specs.declared.hit.Hit.{Hit}
 use Rattle.best_first.specs.declared.item.Item.{Item}
@@ -33,19 +33,6 @@ use Rattle.rank_cursor.specs.Cursor.{goal_gap}
 use Rattle.near_cursor.specs.TreeNodes.{PageNode, nodes_under, root_node, is_tree_node, node_bound}
 
 -- ---- the rows
-
--- an id with its rough shape as a figure, as an R-tree lists it
-abbrev pub member_figure : Member → ℕ × Goal
-member_figure i = (i.0, figure_of i.1)
-
--- the same of a row
-abbrev pub row_figure : ℕ × Shape → ℕ × Goal
-row_figure row = (row.0, rough_figure row.1)
-
--- Over these pages the value is an R-tree, and it lists exactly the ids of the rows with their rough shapes.
-pub record ListsRows (pages : PageMap) (t : RTree) (rows : List (ℕ × Shape)) : Type 0 where
-  pub tree : IsRTree (store_of pages) t
-  pub lists : IsPermutation (map member_figure (tree_members (store_of pages) t)) (map row_figure rows)
 
 -- a row with its gap from the goal; a single row has the right id 0
 abbrev pub near_row : Goal → ℕ × Shape → Hit

@@ -64,8 +64,8 @@ before_refused may w (suc n) c (x ∷ xs) after (inl row) =
 before_refused may w (suc n) c (x ∷ xs) after (inr (inl end)) = absurd (not_none xs w (ap rest_of end.1))
 before_refused may w (suc n) c (x ∷ xs) after (inr (inr refused)) = absurd (not_none xs w (ap rest_of refused.3))
 
-module _ (c : Cursor) (count rows : ℕ) (old new : DeskState) (a b : List ℕ → Type 0) (At : Cursor → Type 0) where
-  pub steps_to_end : (end : Bool) → PrintsRows c count old new a b (Ok (printed.Rows rows end)) At → StepsOn c count a b (Ok None) At
+module _ (pages : PageMap) (c : Cursor) (count rows : ℕ) (old new : DeskState) (a b : List ℕ → Type 0) (At : Cursor → Type 0) where
+  pub steps_to_end : (end : Bool) → PrintsRows pages c count old new a b (Ok (printed.Rows rows end)) At → StepsOn c count a b (Ok None) At
   steps_to_end end p = record {
     after = p.after;
     at = p.at;
@@ -79,7 +79,7 @@ module _ (c : Cursor) (count rows : ℕ) (old new : DeskState) (a b : List ℕ �
     pages = tt;
   }
 
-  pub steps_to_fault : (fault : PageFault) → PrintsRows c count old new a b (Ok (printed.Refused rows fault)) At → StepsOn c count a b (Ok (Some (refusal_of fault))) At
+  pub steps_to_fault : (fault : PageFault) → PrintsRows pages c count old new a b (Ok (printed.Refused rows fault)) At → StepsOn c count a b (Ok (Some (refusal_of fault))) At
   steps_to_fault fault p =
       let w : Refusal = refusal_of fault in
       let all : Steps plan_measure (λ why. why ≡ w) count c (p.lines ++ Refused w ∷ []) p.after = p.gives.steps w in
@@ -95,9 +95,9 @@ module _ (c : Cursor) (count rows : ℕ) (old new : DeskState) (a b : List ℕ �
         pages = of_pages fault;
       }
 
-pub steps_broken : (c : Cursor) (count : ℕ) (old new : DeskState) (a b : List ℕ → Type 0) (failed : Failed) (At : Cursor → Type 0) → PrintsRows c count old new a b (Err failed) At
+pub steps_broken : (pages : PageMap) (c : Cursor) (count : ℕ) (old new : DeskState) (a b : List ℕ → Type 0) (failed : Failed) (At : Cursor → Type 0) → PrintsRows pages c count old new a b (Err failed) At
     → StepsOn c count a b (Err failed) At
-steps_broken c count old new a b failed At p = record {
+steps_broken pages c count old new a b failed At p = record {
   after = p.after;
   at = p.at;
   steps = (p.lines, (p.gives.0, p.gives.3, p.gives.4.steps), p.writes);
@@ -115,33 +115,33 @@ Place = PageMap → Cursor → Type 0
 
 module _ (told : Option PageMap) (Before After : Place) (count : ℕ) (old new : DeskState) (a b : List ℕ → Type 0) where
   pub told_end : (r : Printed) (rows : ℕ) (end : Bool) → r ≡ printed.Rows rows end
-      → IfSome told (λ pages. (c : Cursor) → Before pages c → PrintsRows c count old new a b (Ok r) (After pages))
+      → IfSome told (λ pages. (c : Cursor) → Before pages c → PrintsRows pages c count old new a b (Ok r) (After pages))
       → IfSome told (λ pages. (c : Cursor) → Before pages c → StepsOn c count a b (Ok None) (After pages))
   told_end r rows end is h =
-      some_so told (λ pages. (c : Cursor) → Before pages c → PrintsRows c count old new a b (Ok r) (After pages)) (λ pages. (c : Cursor) → Before pages c → StepsOn c count a b (Ok None) (After pages))
-      (λ pages k c at. steps_to_end c count rows old new a b (After pages) end (subst (λ (x : Printed). PrintsRows c count old new a b (Ok x) (After pages)) is (k c at))) h
+      some_so told (λ pages. (c : Cursor) → Before pages c → PrintsRows pages c count old new a b (Ok r) (After pages)) (λ pages. (c : Cursor) → Before pages c → StepsOn c count a b (Ok None) (After pages))
+      (λ pages k c at. steps_to_end pages c count rows old new a b (After pages) end (subst (λ (x : Printed). PrintsRows pages c count old new a b (Ok x) (After pages)) is (k c at))) h
 
   pub told_fault : (r : Printed) (rows : ℕ) (fault : PageFault) → r ≡ printed.Refused rows fault
-      → IfSome told (λ pages. (c : Cursor) → Before pages c → PrintsRows c count old new a b (Ok r) (After pages))
+      → IfSome told (λ pages. (c : Cursor) → Before pages c → PrintsRows pages c count old new a b (Ok r) (After pages))
       → IfSome told (λ pages. (c : Cursor) → Before pages c → StepsOn c count a b (Ok (Some (refusal_of fault))) (After pages))
   told_fault r rows fault is h =
-      some_so told (λ pages. (c : Cursor) → Before pages c → PrintsRows c count old new a b (Ok r) (After pages)) (λ pages. (c : Cursor) → Before pages c → StepsOn c count a b (Ok (Some (refusal_of fault))) (After pages))
-      (λ pages k c at. steps_to_fault c count rows old new a b (After pages) fault (subst (λ (x : Printed). PrintsRows c count old new a b (Ok x) (After pages)) is (k c at))) h
+      some_so told (λ pages. (c : Cursor) → Before pages c → PrintsRows pages c count old new a b (Ok r) (After pages)) (λ pages. (c : Cursor) → Before pages c → StepsOn c count a b (Ok (Some (refusal_of fault))) (After pages))
+      (λ pages k c at. steps_to_fault pages c count rows old new a b (After pages) fault (subst (λ (x : Printed). PrintsRows pages c count old new a b (Ok x) (After pages)) is (k c at))) h
 
   pub told_broken : (failed : Failed)
-      → IfSome told (λ pages. (c : Cursor) → Before pages c → PrintsRows c count old new a b (Err failed) (After pages))
+      → IfSome told (λ pages. (c : Cursor) → Before pages c → PrintsRows pages c count old new a b (Err failed) (After pages))
       → IfSome told (λ pages. (c : Cursor) → Before pages c → StepsOn c count a b (Err failed) (After pages))
   told_broken failed h =
-      some_so told (λ pages. (c : Cursor) → Before pages c → PrintsRows c count old new a b (Err failed) (After pages)) (λ pages. (c : Cursor) → Before pages c → StepsOn c count a b (Err failed) (After pages))
-      (λ pages k c at. steps_broken c count old new a b failed (After pages) (k c at)) h
+      some_so told (λ pages. (c : Cursor) → Before pages c → PrintsRows pages c count old new a b (Err failed) (After pages)) (λ pages. (c : Cursor) → Before pages c → StepsOn c count a b (Err failed) (After pages))
+      (λ pages k c at. steps_broken pages c count old new a b failed (After pages) (k c at)) h
 
 -- where the cursor stands after what was printed, without what was paid for it
 pub told_stands : {S T : Type 0} (At : S → Taking) (Stands : T → Standing) (closed : T → Bool) (q : Prices S T) (seen : S → Counts) (told : Option PageMap) (cursor cursor' : RowCursor S T)
     → (count : ℕ) (old new : DeskState) (a b : List ℕ → Type 0) (r : Result Printed Failed) → IfSome told (PrintsRowsPaid At Stands closed q seen cursor cursor' count old new a b r)
-    → IfSome told (λ pages. (c : Cursor) → IsAt At Stands closed seen cursor pages c → PrintsRows c count old new a b r (IsAt At Stands closed seen cursor' pages))
+    → IfSome told (λ pages. (c : Cursor) → IsAt At Stands closed seen cursor pages c → PrintsRows pages c count old new a b r (IsAt At Stands closed seen cursor' pages))
 told_stands At Stands closed q seen told cursor cursor' count old new a b r h =
     some_so told (PrintsRowsPaid At Stands closed q seen cursor cursor' count old new a b r)
-    (λ pages. (c : Cursor) → IsAt At Stands closed seen cursor pages c → PrintsRows c count old new a b r (IsAt At Stands closed seen cursor' pages))
+    (λ pages. (c : Cursor) → IsAt At Stands closed seen cursor pages c → PrintsRows pages c count old new a b r (IsAt At Stands closed seen cursor' pages))
     (λ pages k c at. let p = k c at in record {
       lines = p.lines;
       after = p.after;

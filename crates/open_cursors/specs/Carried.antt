@@ -27,6 +27,7 @@ IsChange (statement.Insert relation values) = ⊤
 IsChange (statement.Delete relation id) = ⊤
 IsChange (statement.Load relation file header) = ⊤
 IsChange (statement.Index column threshold) = ⊤
+IsChange (statement.Rtree column) = ⊤
 IsChange _ = ⊥
 
 -- no cursor has given more rows than so many

@@ -138,6 +138,7 @@ pub fn read_statement<D: Disk, K: Sink>(
         | Statement::Insert { .. }
         | Statement::Delete { .. }
         | Statement::Load { .. }
-        | Statement::Index { .. } => unreachable!(),
+        | Statement::Index { .. }
+        | Statement::Rtree { .. } => unreachable!(),
     }
 }

@@ -4,6 +4,7 @@ use Rattle.std.proofs.Math.Numerals.{add-one}
 use Rattle.std.specs.Cmp.{IsTotalOrder}
 use Rattle.z_code.specs.declared.block.Block.{Block}
 use Rattle.page_pool.specs.declared.fault.PageFault.{PageFault}
+use Rattle.page_pool.specs.Disk.{PageMap}
 use Rattle.sand_model.specs.Answer.{pair_row}
 use Rattle.sand_model.specs.Database.{Database, element}
 use Rattle.statements.specs.Plan as plan
@@ -38,7 +39,7 @@ use Rattle.pair_source.proofs.Unasked.{no_visits}
 abbrev pub ids_of : Found → List ℕ
 ids_of found = found.left ∷ found.right ∷ []
 
-module _ {cmp : Block × Block → Block × Block → Ordering} (o : IsTotalOrder cmp) (j : Joining) (left right : ℕ) (d : Database) (t : Taken) (one other : Column) (side : IsSideOf j.left d one) (side_too : IsSideOf j.right d other) where
+module _ {cmp : Block × Block → Block × Block → Ordering} (o : IsTotalOrder cmp) (j : Joining) (left right : ℕ) (pages : PageMap) (d : Database) (t : Taken) (one other : Column) (side : IsSideOf j.left d one) (side_too : IsSideOf j.right d other) where
   abbrev m : Meaning (Block × Block)
   m = join_meaning j
 
@@ -63,7 +64,7 @@ module _ {cmp : Block × Block → Block × Block → Ordering} (o : IsTotalOrde
   Standing s u = HasTaken cmp j s.held s.last s.counts d p u
 
   abbrev Step : SearchState (Block × Block) → SearchState (Block × Block) → Result (Option Answer) PageFault → Type 0
-  Step old new answer = SourceStep d p t (counts_by old.counts) (counts_by new.counts) old.desk new.desk answer (Standing new)
+  Step old new answer = SourceStep pages d p t (counts_by old.counts) (counts_by new.counts) old.desk new.desk answer (Standing new)
 
   module _ (old : SearchState (Block × Block)) (h : IsSearched cmp j old.held old.last old.counts) (given : AreGiven rows t.rows old.last) where
     gives : GivesList m rows
@@ -100,7 +101,7 @@ module _ {cmp : Block × Block → Block × Block → Ordering} (o : IsTotalOrde
         record {
           row = ap (λ l. element l t.rows) told.rows_are ∙ element_map pair_row rows t.rows ∙ ap (option_map pair_row) here ∙ ap (λ x. Some x) (pair_is a found hit tells gap same.1 same.2);
           at = subst (Standing new) (sym (more_taken d p t ids_of rows told.rows_are found here)) (stands_at new (Ok (Some hit)) next call (record { rows = t.rows + 1; is_ended = false }) rows_given);
-          visits = visits o j h.sound side.few side_too.few left right d p t rows told old new h.done h.stands h.counted call.attempt call.makes (Ok (Some hit)) far (Ok (Some a)) far.exact;
+          visits = visits o j h.sound side.few side_too.few left right pages d p t rows told old new h.done h.stands h.counted call.attempt call.makes (Ok (Some hit)) far (Ok (Some a)) far.exact;
         }
 
     pub end_step : (new : SearchState (Block × Block)) → GivesNext m old.last (Ok None) → new.last ≡ old.last → MakesVisits cmp m (visit_of left right) old new (Ok None) → Step old new (Ok None)
@@ -111,7 +112,7 @@ module _ {cmp : Block × Block → Block × Block → Ordering} (o : IsTotalOrde
         record {
           row = ap (λ l. element l t.rows) told.rows_are ∙ element_map pair_row rows t.rows ∙ ap (option_map pair_row) none;
           at = subst (Standing new) (sym (none_taken d p t ids_of rows told.rows_are none)) (stands_at new (Ok None) over call (record { rows = t.rows; is_ended = true }) (subst (AreGiven rows t.rows) (sym last) given));
-          visits = visits o j h.sound side.few side_too.few left right d p t rows told old new h.done h.stands h.counted call.attempt call.makes (Ok None) far (Ok None) far.exact;
+          visits = visits o j h.sound side.few side_too.few left right pages d p t rows told old new h.done h.stands h.counted call.attempt call.makes (Ok None) far (Ok None) far.exact;
         }
 
     pub fault_step : (new : SearchState (Block × Block)) (fault : PageFault) → new.last ≡ old.last → MakesVisits cmp m (visit_of left right) old new (Err fault) → Step old new (Err fault)
@@ -120,7 +121,7 @@ module _ {cmp : Block × Block → Block × Block → Ordering} (o : IsTotalOrde
         let far = reached new (Err fault) tt call in record {
           row = tt;
           at = stands_at new (Err fault) tt call t (subst (AreGiven rows t.rows) (sym last) given);
-          visits = visits o j h.sound side.few side_too.few left right d p t rows told old new h.done h.stands h.counted call.attempt call.makes (Err fault) far (Err fault) tt;
+          visits = visits o j h.sound side.few side_too.few left right pages d p t rows told old new h.done h.stands h.counted call.attempt call.makes (Err fault) far (Err fault) tt;
         }
 
     -- the search wasn't asked

@@ -31,16 +31,16 @@ asked (Some m) v s (d, (p, (t, h))) = (join_laws (joining_in v m) h.searched.sou
 abbrev pub StepOver : JoinView → JoinView → SearchState (Block × Block) → SearchState (Block × Block) → Result (Option Answer) PageFault → PageMap → Type 0
 StepOver v after old new answer m =
     (d : Database) (p : Plan) (t : Taken) → HasTaken pair_cmp (joining_in v m) old.held old.last old.counts d p t
-    → SourceStep d p t (counts_by old.counts) (counts_by new.counts) old.desk new.desk answer (HasTaken pair_cmp (joining_in after m) new.held new.last new.counts d p)
+    → SourceStep m d p t (counts_by old.counts) (counts_by new.counts) old.desk new.desk answer (HasTaken pair_cmp (joining_in after m) new.held new.last new.counts d p)
 
 -- the plan is the join of the columns
 by_plan : (v : JoinView) (m : PageMap) (old new : SearchState (Block × Block)) (answer : Result (Option Answer) PageFault) (d : Database) (p : Plan) (t : Taken)
     (h : HasTaken pair_cmp (joining_in v m) old.held old.last old.counts d p t)
-    → SourceStep d (plan.Join h.left h.right v.ceiling) t (counts_by old.counts) (counts_by new.counts) old.desk new.desk answer
+    → SourceStep m d (plan.Join h.left h.right v.ceiling) t (counts_by old.counts) (counts_by new.counts) old.desk new.desk answer
     (HasTaken pair_cmp (joining_in v m) new.held new.last new.counts d (plan.Join h.left h.right v.ceiling))
-    → SourceStep d p t (counts_by old.counts) (counts_by new.counts) old.desk new.desk answer (HasTaken pair_cmp (joining_in v m) new.held new.last new.counts d p)
+    → SourceStep m d p t (counts_by old.counts) (counts_by new.counts) old.desk new.desk answer (HasTaken pair_cmp (joining_in v m) new.held new.last new.counts d p)
 by_plan v m old new answer d p t h step =
-    subst (λ (x : Plan). SourceStep d x t (counts_by old.counts) (counts_by new.counts) old.desk new.desk answer (HasTaken pair_cmp (joining_in v m) new.held new.last new.counts d x)) (sym h.is) step
+    subst (λ (x : Plan). SourceStep m d x t (counts_by old.counts) (counts_by new.counts) old.desk new.desk answer (HasTaken pair_cmp (joining_in v m) new.held new.last new.counts d x)) (sym h.is) step
 
 unchanged : (pages : Option PageMap) (v after : JoinView) (old new : SearchState (Block × Block)) (answer : Result (Option Answer) PageFault) → after ≡ v
     → IfSome pages (StepOver v v old new answer) → IfSome pages (StepOver v after old new answer)
@@ -55,7 +55,7 @@ module _ (left right : ℕ) where
   row_over (Some m) v after old new hit a same tells last next makes =
       unchanged (Some m) v after old new (Ok (Some a)) same (λ d p t h.
       by_plan v m old new (Ok (Some a)) d p t h
-      (row_step pairs_total (joining_in v m) left right d t h.left h.right h.left_side h.right_side old h.searched h.rows new hit a tells next last makes))
+      (row_step pairs_total (joining_in v m) left right m d t h.left h.right h.left_side h.right_side old h.searched h.rows new hit a tells next last makes))
 
   pub end_over : (pages : Option PageMap) (v after : JoinView) (old new : SearchState (Block × Block)) → after ≡ v → new.last ≡ old.last
       → IfSome pages (λ m. GivesNext (join_meaning (joining_in v m)) old.last (Ok None))
@@ -65,7 +65,7 @@ module _ (left right : ℕ) where
   end_over (Some m) v after old new same last next makes =
       unchanged (Some m) v after old new (Ok None) same (λ d p t h.
       by_plan v m old new (Ok None) d p t h
-      (end_step pairs_total (joining_in v m) left right d t h.left h.right h.left_side h.right_side old h.searched h.rows new next last makes))
+      (end_step pairs_total (joining_in v m) left right m d t h.left h.right h.left_side h.right_side old h.searched h.rows new next last makes))
 
   pub fault_over : (pages : Option PageMap) (v after : JoinView) (old new : SearchState (Block × Block)) (fault : PageFault) → after ≡ v → new.last ≡ old.last
       → IfSome pages (λ m. MakesVisits pair_cmp (join_meaning (joining_in v m)) (visit_of left right) old new (Err fault))
@@ -74,11 +74,11 @@ module _ (left right : ℕ) where
   fault_over (Some m) v after old new fault same last makes =
       unchanged (Some m) v after old new (Err fault) same (λ d p t h.
       by_plan v m old new (Err fault) d p t h
-      (fault_step pairs_total (joining_in v m) left right d t h.left h.right h.left_side h.right_side old h.searched h.rows new fault last makes))
+      (fault_step pairs_total (joining_in v m) left right m d t h.left h.right h.left_side h.right_side old h.searched h.rows new fault last makes))
 
   -- where the search was not asked
   pub still_over : (pages : Option PageMap) (v : JoinView) (s : SearchState (Block × Block)) (fault : PageFault) → IfSome pages (StepOver v v s s (Err fault))
   still_over None v s fault = tt
   still_over (Some m) v s fault = λ d p t h.
       by_plan v m s s (Err fault) d p t h
-      (still_step pairs_total (joining_in v m) left right d t h.left h.right h.left_side h.right_side s h.searched h.rows fault)
+      (still_step pairs_total (joining_in v m) left right m d t h.left h.right h.left_side h.right_side s h.searched h.rows fault)

@@ -53,7 +53,7 @@ use Rattle.pair_source.proofs.PairPlans.{IsTold, knn_told}
 use Rattle.rank_source.proofs.Shorter.{past_all, element_map}
 use Rattle.pair_source.proofs.Unasked.{no_visits}
 
-module _ {cmp : Block × Block → Block × Block → Ordering} (o : IsTotalOrder cmp) (j : Joining) (left right : ℕ) (d : Database) (t : Taken) (counts : PartnerCounts)
+module _ {cmp : Block × Block → Block × Block → Ordering} (o : IsTotalOrder cmp) (j : Joining) (left right : ℕ) (pages : PageMap) (d : Database) (t : Taken) (counts : PartnerCounts)
     (one other : Column) (side : IsSideOf j.left d one) (side_too : IsSideOf j.right d other) where
   abbrev m : Meaning (Block × Block)
   m = join_meaning j
@@ -117,7 +117,7 @@ module _ {cmp : Block × Block → Block × Block → Ordering} (o : IsTotalOrde
   Standing s partners u = HasTakenPartners cmp j s.held s.last s.counts partners d p u
 
   abbrev Step : SearchState (Block × Block) → SearchState (Block × Block) → PartnerCounts → Result (Option Answer) PageFault → Type 0
-  Step old new partners answer = SourceStep d p t (counts_by old.counts) (counts_by new.counts) old.desk new.desk answer (Standing new partners)
+  Step old new partners answer = SourceStep pages d p t (counts_by old.counts) (counts_by new.counts) old.desk new.desk answer (Standing new partners)
 
   abbrev UpTo : Option Hit → PartnerCounts → Type 0
   UpTo last partners = (answer : List Found) → ListsAnswer m answer → AreCountedUpTo answer last partners
@@ -146,9 +146,9 @@ module _ {cmp : Block × Block → Block × Block → Ordering} (o : IsTotalOrde
             (far_after m (pairs_in j) lists old.last counts t.rows h.rows new.last after result new.held call.attempt all takes call.makes.stands call.bounds)
 
         source_visits : (answer : Result (Option Answer) PageFault) → OnOk answer ((call.attempt ≡ []) × Rattle.best_first.specs.Visits.Reached cmp m reached.far.test all)
-            → SourceVisits d p t (counts_by old.counts) (counts_by new.counts) old.desk new.desk answer
+            → SourceVisits pages d p t (counts_by old.counts) (counts_by new.counts) old.desk new.desk answer
         source_visits answer just =
-            visits o j h.searched.sound side.few side_too.few left right d p t rows told old new done h.searched.stands h.searched.counted call.attempt call.makes result reached answer just
+            visits o j h.searched.sound side.few side_too.few left right pages d p t rows told old new done h.searched.stands h.searched.counted call.attempt call.makes result reached answer just
 
         searched : IsSearched cmp j new.held new.last new.counts
         searched = record { sound = h.searched.sound; done = all; stands = call.makes.stands; counted = call.makes.counted h.searched.counted }
@@ -253,7 +253,7 @@ module _ {cmp : Block × Block → Block × Block → Ordering} (o : IsTotalOrde
           let full : length rows ≡ most_rows = omega (arith, past, few, total, none_wait) in
           h.spent none_wait ∙ ap (counts_at plan_measure d p) (sym (kept_reach full nothing))
 
-      spent_visits : (answer : Result (Option Answer) PageFault) → SourceVisits d p t (counts_by old.counts) (counts_by old.counts) old.desk old.desk answer
+      spent_visits : (answer : Result (Option Answer) PageFault) → SourceVisits pages d p t (counts_by old.counts) (counts_by old.counts) old.desk old.desk answer
       spent_visits answer = record {
         completed = [];
         attempted = [];
@@ -261,7 +261,7 @@ module _ {cmp : Block × Block → Block × Block → Ordering} (o : IsTotalOrde
         few = omega arith;
         settled = none_tried answer;
         counted = sym (plus_none (counts_by old.counts));
-        near = All-by (LiesWithin plan_measure d p to) [] (λ v at. absurd (none v at));
+        near = All-by (LiesWithin plan_measure pages d p to) [] (λ v at. absurd (none v at));
         between = subst (λ (high : Counts). Rattle.sand_model.specs.Cursor.AreBetween (counts_by old.counts) high (counts_by old.counts)) counted
             (record { blocks = (omega arith, omega arith); pairs = (omega arith, omega arith); geometries = (omega arith, omega arith) });
         exact = exactly answer;

@@ -37,17 +37,17 @@ asked (Some m) v s counts (d, (p, (t, h))) = ((join_laws (joining_in v m) h.sear
 abbrev pub StepOver : JoinView → JoinView → SearchState (Block × Block) → SearchState (Block × Block) → PartnerCounts → PartnerCounts → Result (Option Answer) PageFault → PageMap → Type 0
 StepOver v after old new counts left answer m =
     (d : Database) (p : Plan) (t : Taken) → HasTakenPartners pair_cmp (joining_in v m) old.held old.last old.counts counts d p t
-    → SourceStep d p t (counts_by old.counts) (counts_by new.counts) old.desk new.desk answer (HasTakenPartners pair_cmp (joining_in after m) new.held new.last new.counts left d p)
+    → SourceStep m d p t (counts_by old.counts) (counts_by new.counts) old.desk new.desk answer (HasTakenPartners pair_cmp (joining_in after m) new.held new.last new.counts left d p)
 
 -- the plan is the join of the columns
 knn_plan : (v : JoinView) (m : PageMap) (old new : SearchState (Block × Block)) (counts left : PartnerCounts) (answer : Result (Option Answer) PageFault) (d : Database) (p : Plan) (t : Taken)
     (h : HasTakenPartners pair_cmp (joining_in v m) old.held old.last old.counts counts d p t)
     → (HasTakenPartners pair_cmp (joining_in v m) old.held old.last old.counts counts d (plan.Knn counts.most h.left h.right v.ceiling) t
-    → SourceStep d (plan.Knn counts.most h.left h.right v.ceiling) t (counts_by old.counts) (counts_by new.counts) old.desk new.desk answer
+    → SourceStep m d (plan.Knn counts.most h.left h.right v.ceiling) t (counts_by old.counts) (counts_by new.counts) old.desk new.desk answer
     (HasTakenPartners pair_cmp (joining_in v m) new.held new.last new.counts left d (plan.Knn counts.most h.left h.right v.ceiling)))
-    → SourceStep d p t (counts_by old.counts) (counts_by new.counts) old.desk new.desk answer (HasTakenPartners pair_cmp (joining_in v m) new.held new.last new.counts left d p)
+    → SourceStep m d p t (counts_by old.counts) (counts_by new.counts) old.desk new.desk answer (HasTakenPartners pair_cmp (joining_in v m) new.held new.last new.counts left d p)
 knn_plan v m old new counts left answer d p t h step =
-    subst (λ (x : Plan). SourceStep d x t (counts_by old.counts) (counts_by new.counts) old.desk new.desk answer (HasTakenPartners pair_cmp (joining_in v m) new.held new.last new.counts left d x)) (sym h.is)
+    subst (λ (x : Plan). SourceStep m d x t (counts_by old.counts) (counts_by new.counts) old.desk new.desk answer (HasTakenPartners pair_cmp (joining_in v m) new.held new.last new.counts left d x)) (sym h.is)
     (step (subst (λ (x : Plan). HasTakenPartners pair_cmp (joining_in v m) old.held old.last old.counts counts d x t) h.is h))
 
 unchanged : (pages : Option PageMap) (v after : JoinView) (old new : SearchState (Block × Block)) (counts left : PartnerCounts) (answer : Result (Option Answer) PageFault) → after ≡ v
@@ -78,7 +78,7 @@ module _ (one other : ℕ) where
       unchanged (Some m) v after old new counts left (Ok (Some a)) same (λ d p t h.
       knn_plan v m old new counts left (Ok (Some a)) d p t h (λ k.
       ⊎_elim (λ e. absurd (let said = (over e).0 in let clash : ⊥ = cc in clash))
-      (λ w. row_step pairs_total (joining_in v m) one other d t counts h.left h.right h.left_side h.right_side old k w new left hit a tells given.1 stands.1
+      (λ w. row_step pairs_total (joining_in v m) one other m d t counts h.left h.right h.left_side h.right_side old k w new left hit a tells given.1 stands.1
       (rest (pairs_in (joining_in v m)) (lists_joined (joining_in v m) h.searched.sound Rattle.plan_rows.specs.Rows.plan_measure plan_measure_is)) (makes w))
       (some_or_none counts.waiting)))
 
@@ -92,12 +92,12 @@ module _ (one other : ℕ) where
       knn_plan v m old new counts left (Ok None) d p t h (λ k.
       ⊎_elim
       (λ e.
-      subst (λ (x : SearchState (Block × Block)). SourceStep d (plan.Knn counts.most h.left h.right v.ceiling) t (counts_by old.counts) (counts_by x.counts) old.desk x.desk (Ok None)
+      subst (λ (x : SearchState (Block × Block)). SourceStep m d (plan.Knn counts.most h.left h.right v.ceiling) t (counts_by old.counts) (counts_by x.counts) old.desk x.desk (Ok None)
       (HasTakenPartners pair_cmp (joining_in v m) x.held x.last x.counts left d (plan.Knn counts.most h.left h.right v.ceiling))) (sym (over e).1)
-      (subst (λ (l : PartnerCounts). SourceStep d (plan.Knn counts.most h.left h.right v.ceiling) t (counts_by old.counts) (counts_by old.counts) old.desk old.desk (Ok None)
+      (subst (λ (l : PartnerCounts). SourceStep m d (plan.Knn counts.most h.left h.right v.ceiling) t (counts_by old.counts) (counts_by old.counts) old.desk old.desk (Ok None)
       (HasTakenPartners pair_cmp (joining_in v m) old.held old.last old.counts l d (plan.Knn counts.most h.left h.right v.ceiling))) (sym given)
-      (spent_step pairs_total (joining_in v m) one other d t counts h.left h.right h.left_side h.right_side old k e)))
-      (λ w. end_step pairs_total (joining_in v m) one other d t counts h.left h.right h.left_side h.right_side old k w new left given stands.1
+      (spent_step pairs_total (joining_in v m) one other m d t counts h.left h.right h.left_side h.right_side old k e)))
+      (λ w. end_step pairs_total (joining_in v m) one other m d t counts h.left h.right h.left_side h.right_side old k w new left given stands.1
       (rest (pairs_in (joining_in v m)) (lists_joined (joining_in v m) h.searched.sound Rattle.plan_rows.specs.Rows.plan_measure plan_measure_is)) (makes w))
       (some_or_none counts.waiting)))
 
@@ -110,7 +110,7 @@ module _ (one other : ℕ) where
       unchanged (Some m) v after old new counts left (Err fault) same (λ d p t h.
       knn_plan v m old new counts left (Err fault) d p t h (λ k.
       ⊎_elim (λ e. absurd (let said = (over e).0 in let clash : ⊥ = cc in clash))
-      (λ w. fault_step pairs_total (joining_in v m) one other d t counts h.left h.right h.left_side h.right_side old k w new left fault given stands.1
+      (λ w. fault_step pairs_total (joining_in v m) one other m d t counts h.left h.right h.left_side h.right_side old k w new left fault given stands.1
       (rest (pairs_in (joining_in v m)) (lists_joined (joining_in v m) h.searched.sound Rattle.plan_rows.specs.Rows.plan_measure plan_measure_is)) (makes w))
       (some_or_none counts.waiting)))
 
@@ -119,4 +119,4 @@ module _ (one other : ℕ) where
   still_over None v s counts fault = tt
   still_over (Some m) v s counts fault = λ d p t h.
       knn_plan v m s s counts counts (Err fault) d p t h (λ k.
-      still_step pairs_total (joining_in v m) one other d t counts h.left h.right h.left_side h.right_side s k fault)
+      still_step pairs_total (joining_in v m) one other m d t counts h.left h.right h.left_side h.right_side s k fault)

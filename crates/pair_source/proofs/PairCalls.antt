@@ -8,6 +8,7 @@ use Rattle.sand_base.specs.declared.goal.Goal.TheVariants as figure
 use Rattle.sand_base.specs.declared.shape.Shape.{Shape}
 use Rattle.z_code.specs.declared.block.Block.{Block}
 use Rattle.page_pool.specs.declared.fault.PageFault.{PageFault}
+use Rattle.page_pool.specs.Disk.{PageMap}
 use Rattle.sand_model.specs.Answer.{pair_row}
 use Rattle.sand_model.specs.Cursor.{AreBetween}
 use Rattle.sand_model.specs.Database.{Database}
@@ -81,7 +82,7 @@ pair_is a found hit tells gap left right =
 -- ---- calls
 
 module _ {cmp : Block × Block → Block × Block → Ordering} (o : IsTotalOrder cmp) (j : Joining) (sound : IsSound j) (few : listings j.left.tree ≤ most_listings) (few_too : listings j.right.tree ≤ most_listings)
-    (left right : ℕ) (d : Database) (p : Plan) (t : Taken) (rows : List Found) (told : IsTold d p rows j) where
+    (left right : ℕ) (pages : PageMap) (d : Database) (p : Plan) (t : Taken) (rows : List Found) (told : IsTold d p rows j) where
   abbrev m : Meaning (Block × Block)
   m = join_meaning j
 
@@ -109,7 +110,7 @@ module _ {cmp : Block × Block → Block × Block → Ordering} (o : IsTotalOrde
     now_counted : IsCounted all new.counts
     now_counted = makes.counted counted
 
-    near_item : (item : Item (Block × Block)) → Contains (makes.taken ++ attempt) item → LiesWithin plan_measure d p to (visit_of left right item)
+    near_item : (item : Item (Block × Block)) → Contains (makes.taken ++ attempt) item → LiesWithin plan_measure pages d p to (visit_of left right item)
     near_item item at =
         let visited = All-contains IsVisit (makes.taken ++ attempt) item makes.visits at in
         let both = Contains-append_cases makes.taken attempt item at in
@@ -119,14 +120,14 @@ module _ {cmp : Block × Block → Block × Block → Ordering} (o : IsTotalOrde
         let there : Contains (all ++ attempt) item =
         ⊎_elim (λ i. Contains-append_left all attempt item (Contains-append_right done makes.taken item i))
         (λ i. Contains-append_right all attempt item i) both in
-        told.visits to (visit_of left right item)
+        told.visits pages to (visit_of left right item)
         (lies_within j sound plan_measure plan_measure_is to reached.far.test reached.far.goes.tells new.held all makes.stands.tracks left right item visited queued
         (All-contains (λ item. reached.far.test (gap_of item) ≡ true) (all ++ attempt) item reached.far.near there))
 
-    near_all : All (LiesWithin plan_measure d p to) (map (visit_of left right) (makes.taken ++ attempt))
-    near_all = All-by (LiesWithin plan_measure d p to) (map (visit_of left right) (makes.taken ++ attempt)) (λ v at.
+    near_all : All (LiesWithin plan_measure pages d p to) (map (visit_of left right) (makes.taken ++ attempt))
+    near_all = All-by (LiesWithin plan_measure pages d p to) (map (visit_of left right) (makes.taken ++ attempt)) (λ v at.
         let (item, among, is) = from_map (visit_of left right) (makes.taken ++ attempt) v at in
-        subst (LiesWithin plan_measure d p to) is (near_item item among))
+        subst (LiesWithin plan_measure pages d p to) is (near_item item among))
 
     more_nodes : length (nodes_of all) ≡ length (nodes_of done) + length (nodes_of makes.taken)
     more_nodes = ap length (nodes-append done makes.taken) ∙ length-append (nodes_of done) (nodes_of makes.taken)
@@ -171,7 +172,7 @@ module _ {cmp : Block × Block → Block × Block → Ordering} (o : IsTotalOrde
         (λ i. record { blocks = 0; pairs = (visits ∙ counted.pairs) i; geometries = (fetches ∙ counted.geometries) i }) ∙ sym next_counts
 
     pub visits : (answer : Result (Option Answer) PageFault) → OnOk answer ((attempt ≡ []) × Reached cmp m reached.far.test all)
-        → SourceVisits d p t (counts_by old.counts) (counts_by new.counts) old.desk new.desk answer
+        → SourceVisits pages d p t (counts_by old.counts) (counts_by new.counts) old.desk new.desk answer
     visits answer just = record {
       completed = map (visit_of left right) makes.taken;
       attempted = map (visit_of left right) attempt;
@@ -179,7 +180,7 @@ module _ {cmp : Block × Block → Block × Block → Ordering} (o : IsTotalOrde
       few = subst (λ n. n ≤ 1) (sym (length-map attempt (visit_of left right))) reached.few;
       settled = settled answer just;
       counted = counted_taken;
-      near = subst (All (LiesWithin plan_measure d p to)) both near_all;
+      near = subst (All (LiesWithin plan_measure pages d p to)) both near_all;
       between = between;
       exact = exactly answer just;
       rose = rose;

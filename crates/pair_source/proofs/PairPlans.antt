@@ -3,6 +3,7 @@ use Rattle.std.proofs.Common.{◌≡◌, ℕ, List, map, refl, subst}
 use Rattle.sand_base.specs.declared.shape.Shape.{Shape}
 use Rattle.sand_base.specs.declared.visit.Visit.{Visit}
 use Rattle.sand_base.specs.declared.visit.Visit.TheVariants as visit
+use Rattle.page_pool.specs.Disk.{PageMap}
 use Rattle.sand_model.specs.Answer.{source, pair_row}
 use Rattle.sand_model.specs.Database.{Database}
 use Rattle.statements.specs.Plan as plan
@@ -27,7 +28,7 @@ pub record IsTold (d : Database) (p : Plan) (rows : List Found) (j : Joining) : 
   pub rows_are : source plan_measure d p ≡ map pair_row rows
   pub ceiling_is : ceiling_of (innermost p) ≡ j.ceiling
   pub counts : (to : Reach) → counts_at plan_measure d (innermost p) to ≡ counts_of_join j to
-  pub visits : (to : Reach) (v : Visit) → IsWithin plan_measure j to v → LiesWithin plan_measure d p to v
+  pub visits : (pages : PageMap) (to : Reach) (v : Visit) → IsWithin plan_measure j to v → LiesWithin plan_measure pages d p to v
 
 -- the join with other sides
 abbrev with_sides : Joining → List (ℕ × Shape) → Tree → List (ℕ × Shape) → Tree → Joining
@@ -59,16 +60,16 @@ pub join_told : (j : Joining) (d : Database) (left right : Column) → IsSideOf 
     → IsTold d (plan.Join left right j.ceiling) (pairs_in j) j
 join_told j d left right h k =
     moved j d left right (λ x. IsTold d (plan.Join left right x.ceiling) (pairs_in x) x) h k
-    (record { rows_are = refl; ceiling_is = refl; counts = λ to. refl; visits = lies d left right j })
+    (record { rows_are = refl; ceiling_is = refl; counts = λ to. refl; visits = λ pages. lies d left right j })
 
 pub semi_told : (j : Joining) (d : Database) (left right : Column) → IsSideOf j.left d left → IsSideOf j.right d right
     → IsTold d (plan.Semi left right j.ceiling) (first_of_each (pairs_in j)) j
 semi_told j d left right h k =
     moved j d left right (λ x. IsTold d (plan.Semi left right x.ceiling) (first_of_each (pairs_in x)) x) h k
-    (record { rows_are = refl; ceiling_is = refl; counts = λ to. refl; visits = lies d left right j })
+    (record { rows_are = refl; ceiling_is = refl; counts = λ to. refl; visits = λ pages. lies d left right j })
 
 pub knn_told : (k : ℕ) (j : Joining) (d : Database) (left right : Column) → IsSideOf j.left d left → IsSideOf j.right d right
     → IsTold d (plan.Knn k left right j.ceiling) (nearest_of k (pairs_in j)) j
 knn_told n j d left right h k =
     moved j d left right (λ x. IsTold d (plan.Knn n left right x.ceiling) (nearest_of n (pairs_in x)) x) h k
-    (record { rows_are = refl; ceiling_is = refl; counts = λ to. refl; visits = lies d left right j })
+    (record { rows_are = refl; ceiling_is = refl; counts = λ to. refl; visits = λ pages. lies d left right j })

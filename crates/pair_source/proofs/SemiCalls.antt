@@ -112,7 +112,7 @@ module _ {cmp : Block × Block → Block × Block → Ordering} (o : IsTotalOrde
   Standing s lefts u = HasTakenFirsts cmp j s.held s.last s.counts lefts d p u
 
   abbrev Step : SearchState (Block × Block) → SearchState (Block × Block) → LeftRows → Result (Option Answer) PageFault → Type 0
-  Step old new lefts answer = SourceStep d p t (counts_by old.counts) (counts_by new.counts) old.desk new.desk answer (Standing new lefts)
+  Step old new lefts answer = SourceStep pages d p t (counts_by old.counts) (counts_by new.counts) old.desk new.desk answer (Standing new lefts)
 
   module _ (old : SearchState (Block × Block)) (lefts : LeftRows) (h : Standing old lefts t) where
     abbrev done : List (Item (Block × Block))
@@ -136,9 +136,9 @@ module _ {cmp : Block × Block → Block × Block → Ordering} (o : IsTotalOrde
             (far_after m (pairs_in j) lists lefts t.rows h.rows pages result new.held new.last call.attempt all pair call.makes.stands call.bounds)
 
         source_visits : (answer : Result (Option Answer) PageFault) → OnOk answer ((call.attempt ≡ []) × Rattle.best_first.specs.Visits.Reached cmp m reached.far.test all)
-            → SourceVisits d p t (counts_by old.counts) (counts_by new.counts) old.desk new.desk answer
+            → SourceVisits pages d p t (counts_by old.counts) (counts_by new.counts) old.desk new.desk answer
         source_visits answer just =
-            visits o j h.searched.sound side.few side_too.few left right d p t rows told old new done h.searched.stands h.searched.counted call.attempt call.makes result reached answer just
+            visits o j h.searched.sound side.few side_too.few left right pages d p t rows told old new done h.searched.stands h.searched.counted call.attempt call.makes result reached answer just
 
         searched : IsSearched cmp j new.held new.last new.counts
         searched = record { sound = h.searched.sound; done = all; stands = call.makes.stands; counted = call.makes.counted h.searched.counted }
@@ -240,7 +240,7 @@ module _ {cmp : Block × Block → Block × Block → Ordering} (o : IsTotalOrde
           let full : length rows ≡ length j.left.shapes = omega (arith, past, few, total, none_waits) in
           h.spent none_waits ∙ ap (counts_at plan_measure d p) (sym (kept_reach full nothing))
 
-      spent_visits : (answer : Result (Option Answer) PageFault) → SourceVisits d p t (counts_by old.counts) (counts_by old.counts) old.desk old.desk answer
+      spent_visits : (answer : Result (Option Answer) PageFault) → SourceVisits pages d p t (counts_by old.counts) (counts_by old.counts) old.desk old.desk answer
       spent_visits answer = record {
         completed = [];
         attempted = [];
@@ -248,7 +248,7 @@ module _ {cmp : Block × Block → Block × Block → Ordering} (o : IsTotalOrde
         few = omega arith;
         settled = none_tried answer;
         counted = sym (plus_none (counts_by old.counts));
-        near = All-by (LiesWithin plan_measure d p to) [] (λ v at. absurd (none v at));
+        near = All-by (LiesWithin plan_measure pages d p to) [] (λ v at. absurd (none v at));
         between = subst (λ (high : Counts). Rattle.sand_model.specs.Cursor.AreBetween (counts_by old.counts) high (counts_by old.counts)) counted
             (record { blocks = (omega arith, omega arith); pairs = (omega arith, omega arith); geometries = (omega arith, omega arith) });
         exact = exactly answer;

@@ -42,17 +42,17 @@ asked (Some m) v s lefts (d, (p, (t, h))) = stands_there v m s lefts d p t h
 abbrev pub StepOver : JoinView → JoinView → SearchState (Block × Block) → SearchState (Block × Block) → LeftRows → LeftRows → Result (Option Answer) PageFault → PageMap → Type 0
 StepOver v after old new lefts left answer m =
     (d : Database) (p : Plan) (t : Taken) → HasTakenFirsts pair_cmp (joining_in v m) old.held old.last old.counts lefts d p t
-    → SourceStep d p t (counts_by old.counts) (counts_by new.counts) old.desk new.desk answer (HasTakenFirsts pair_cmp (joining_in after m) new.held new.last new.counts left d p)
+    → SourceStep m d p t (counts_by old.counts) (counts_by new.counts) old.desk new.desk answer (HasTakenFirsts pair_cmp (joining_in after m) new.held new.last new.counts left d p)
 
 -- the plan is the semi-join of the columns
 semi_plan : (v : JoinView) (m : PageMap) (old new : SearchState (Block × Block)) (lefts left : LeftRows) (answer : Result (Option Answer) PageFault) (d : Database) (p : Plan) (t : Taken)
     (h : HasTakenFirsts pair_cmp (joining_in v m) old.held old.last old.counts lefts d p t)
     → (HasTakenFirsts pair_cmp (joining_in v m) old.held old.last old.counts lefts d (plan.Semi h.left h.right v.ceiling) t
-    → SourceStep d (plan.Semi h.left h.right v.ceiling) t (counts_by old.counts) (counts_by new.counts) old.desk new.desk answer
+    → SourceStep m d (plan.Semi h.left h.right v.ceiling) t (counts_by old.counts) (counts_by new.counts) old.desk new.desk answer
     (HasTakenFirsts pair_cmp (joining_in v m) new.held new.last new.counts left d (plan.Semi h.left h.right v.ceiling)))
-    → SourceStep d p t (counts_by old.counts) (counts_by new.counts) old.desk new.desk answer (HasTakenFirsts pair_cmp (joining_in v m) new.held new.last new.counts left d p)
+    → SourceStep m d p t (counts_by old.counts) (counts_by new.counts) old.desk new.desk answer (HasTakenFirsts pair_cmp (joining_in v m) new.held new.last new.counts left d p)
 semi_plan v m old new lefts left answer d p t h step =
-    subst (λ (x : Plan). SourceStep d x t (counts_by old.counts) (counts_by new.counts) old.desk new.desk answer (HasTakenFirsts pair_cmp (joining_in v m) new.held new.last new.counts left d x)) (sym h.is)
+    subst (λ (x : Plan). SourceStep m d x t (counts_by old.counts) (counts_by new.counts) old.desk new.desk answer (HasTakenFirsts pair_cmp (joining_in v m) new.held new.last new.counts left d x)) (sym h.is)
     (step (subst (λ (x : Plan). HasTakenFirsts pair_cmp (joining_in v m) old.held old.last old.counts lefts d x t) h.is h))
 
 unchanged : (pages : Option PageMap) (v after : JoinView) (old new : SearchState (Block × Block)) (lefts left : LeftRows) (answer : Result (Option Answer) PageFault) → after ≡ v
@@ -107,9 +107,9 @@ module _ (one other : ℕ) where
       semi_plan v m old new lefts left (Ok None) d p t h (λ k.
       ⊎_elim
       (λ e.
-      subst (λ (x : SearchState (Block × Block)). SourceStep d (plan.Semi h.left h.right v.ceiling) t (counts_by old.counts) (counts_by x.counts) old.desk x.desk (Ok None)
+      subst (λ (x : SearchState (Block × Block)). SourceStep m d (plan.Semi h.left h.right v.ceiling) t (counts_by old.counts) (counts_by x.counts) old.desk x.desk (Ok None)
       (HasTakenFirsts pair_cmp (joining_in v m) x.held x.last x.counts left d (plan.Semi h.left h.right v.ceiling))) (sym (over e).1)
-      (subst (λ (l : LeftRows). SourceStep d (plan.Semi h.left h.right v.ceiling) t (counts_by old.counts) (counts_by old.counts) old.desk old.desk (Ok None)
+      (subst (λ (l : LeftRows). SourceStep m d (plan.Semi h.left h.right v.ceiling) t (counts_by old.counts) (counts_by old.counts) old.desk old.desk (Ok None)
       (HasTakenFirsts pair_cmp (joining_in v m) old.held old.last old.counts l d (plan.Semi h.left h.right v.ceiling))) (sym given)
       (spent_step pairs_total (joining_in v m) m one other d t h.left h.right h.left_side h.right_side old lefts k e pair)))
       (λ w. end_step pairs_total (joining_in v m) m one other d t h.left h.right h.left_side h.right_side old lefts k w new left pair given stands.1

@@ -42,6 +42,7 @@ no_nodes d (plan.Scan name) t h = refl
 no_nodes d (plan.PickEqual column v) t h = refl
 no_nodes d (plan.PickBetween column low high) t h = refl
 no_nodes d (plan.Rank _ _ _) t h = absurd h
+no_nodes d (plan.Near _ _ _) t h = absurd h
 no_nodes d (plan.Window _ _) t h = absurd h
 no_nodes d (plan.Join _ _ _) t h = absurd h
 no_nodes d (plan.Semi _ _ _) t h = absurd h
@@ -53,8 +54,8 @@ no_nodes d (plan.First _ _) t h = absurd h
 no_nodes d (plan.SortBy _ _) t h = absurd h
 no_nodes d (plan.SortNear _ _ _) t h = absurd h
 
-visits_none : (d : Database) (p : Plan) (t : Taken) (old new : DeskState) (result : Result (Option Answer) PageFault) → IsPlain p → Reads old new → MakesVisits d p t no_counts no_counts old new result
-visits_none d p t old new result h r =
+visits_none : (pages : PageMap) (d : Database) (p : Plan) (t : Taken) (old new : DeskState) (result : Result (Option Answer) PageFault) → IsPlain p → Reads old new → MakesVisits pages d p t no_counts no_counts old new result
+visits_none pages d p t old new result h r =
     let none = no_nodes d p (next_taken d p t) h in record {
       completed = [];
       attempted = [];
@@ -62,7 +63,7 @@ visits_none d p t old new result h r =
       few = omega arith;
       settled = nothing_tried result;
       counted = sym (plus_none no_counts);
-      near = All-nil (LiesWithin plan_measure d p (reach plan_measure d p (next_taken d p t)));
+      near = All-nil (LiesWithin plan_measure pages d p (reach plan_measure d p (next_taken d p t)));
       between = rw none (record { blocks = (omega arith, omega arith); pairs = (omega arith, omega arith); geometries = (omega arith, omega arith) });
       exact = exact result none;
       rose = (let u = r.up in omega (arith, u));
@@ -110,30 +111,30 @@ none_left (x ∷ rows) zero h = (let k : length (x ∷ rows) ≡ 0 = ap (λ (ys 
 none_left (x ∷ rows) (suc n) h = (let f = none_left rows n h in record { none = f.none; past = (let b = f.past in omega (arith, b)) })
 
 -- the row that is given is the first that is left
-pub row_step : (d : Database) (p : Plan) (t : Taken) (a : Answer) (row : PlanRow) (rest : List PlanRow) (old new : DeskState) (At : Taken → Type 0) → IsPlain p → left_of d p t ≡ row ∷ rest → row_of a ≡ row
-    → Reads old new → ((u : Taken) → left_of d p u ≡ rest → At u) → SourceStep d p t no_counts no_counts old new (Ok (Some a)) At
-row_step d p t a row rest old new At h left is r at =
+pub row_step : (pages : PageMap) (d : Database) (p : Plan) (t : Taken) (a : Answer) (row : PlanRow) (rest : List PlanRow) (old new : DeskState) (At : Taken → Type 0) → IsPlain p → left_of d p t ≡ row ∷ rest → row_of a ≡ row
+    → Reads old new → ((u : Taken) → left_of d p u ≡ rest → At u) → SourceStep pages d p t no_counts no_counts old new (Ok (Some a)) At
+row_step pages d p t a row rest old new At h left is r at =
     let f = first_left (source plan_measure d p) t.rows row rest left in
     let more : next_taken d p t ≡ record { rows = t.rows + 1; is_ended = false } = rw (lt_is t.rows (length (source plan_measure d p)) f.below) refl in record {
       row = f.here ∙ ap (λ (x : PlanRow). Some x) (sym is);
       at = subst At (sym more) (at (record { rows = t.rows + 1; is_ended = false }) f.rest_is);
-      visits = visits_none d p t old new (Ok (Some a)) h r;
+      visits = visits_none pages d p t old new (Ok (Some a)) h r;
     }
 
 -- at the end none is left
-pub end_step : (d : Database) (p : Plan) (t : Taken) (old new : DeskState) (At : Taken → Type 0) → IsPlain p → left_of d p t ≡ [] → Reads old new → ((u : Taken) → left_of d p u ≡ [] → At u)
-    → SourceStep d p t no_counts no_counts old new (Ok None) At
-end_step d p t old new At h left r at =
+pub end_step : (pages : PageMap) (d : Database) (p : Plan) (t : Taken) (old new : DeskState) (At : Taken → Type 0) → IsPlain p → left_of d p t ≡ [] → Reads old new → ((u : Taken) → left_of d p u ≡ [] → At u)
+    → SourceStep pages d p t no_counts no_counts old new (Ok None) At
+end_step pages d p t old new At h left r at =
     let f = none_left (source plan_measure d p) t.rows left in
     let more : next_taken d p t ≡ record { rows = t.rows; is_ended = true } = rw (lt_not t.rows (length (source plan_measure d p)) f.past) refl in record {
       row = f.none;
       at = subst At (sym more) (at (record { rows = t.rows; is_ended = true }) left);
-      visits = visits_none d p t old new (Ok None) h r;
+      visits = visits_none pages d p t old new (Ok None) h r;
     }
 
 -- a refusal takes nothing
-pub fault_step : (d : Database) (p : Plan) (t : Taken) (fault : PageFault) (old new : DeskState) (At : Taken → Type 0) → IsPlain p → Reads old new → At t → SourceStep d p t no_counts no_counts old new (Err fault) At
-fault_step d p t fault old new At h r at = record { row = tt; at = at; visits = visits_none d p t old new (Err fault) h r }
+pub fault_step : (pages : PageMap) (d : Database) (p : Plan) (t : Taken) (fault : PageFault) (old new : DeskState) (At : Taken → Type 0) → IsPlain p → Reads old new → At t → SourceStep pages d p t no_counts no_counts old new (Err fault) At
+fault_step pages d p t fault old new At h r at = record { row = tt; at = at; visits = visits_none pages d p t old new (Err fault) h r }
 
 -- where the desk tells its pages
 pub where_told : (desk : DeskState) (F : PageMap → Type 0) → (IsTold desk.pool → F desk.pool.pages) → IfSome (told_pages desk) F

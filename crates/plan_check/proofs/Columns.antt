@@ -1,13 +1,14 @@
 -- What the catalog tells of a column and of a place, and which check that is.
 use Rattle.std.proofs.Common.{◌≡◌, ℕ, Bool, true, false, cond, List, Option, Some, None, refl, sym, ◌∙◌, ap, true≢false, Bor, subst}
-use Rattle.std.specs.Prelude.{is_some, IfSome}
+use Rattle.std.specs.Prelude.{is_some, nat_eq, IfSome}
+use Rattle.std.specs.List.{list_any}
 use Rattle.std.specs.Option.{option_map}
 use Rattle.page_pool.specs.Disk.{PageMap}
 use Rattle.sand_base.specs.declared.kind.Kind.{Kind}
 use Rattle.sand_base.specs.declared.refusal.Refusal.{Refusal}
 use Rattle.sand_base.specs.declared.refusal.Refusal.TheVariants as why
 use Rattle.sand_base.specs.Shape.{is_spatial}
-use Rattle.sand_model.specs.Checks.{kind_named, is_indexed, check_column, check_relation, place_kind, check_place}
+use Rattle.sand_model.specs.Checks.{kind_named, is_indexed, has_rectangles, check_search, check_relation, place_kind, check_place}
 use Rattle.sand_model.specs.Database.{Database, Relation, Index, relation_named, column_named, index_at, element}
 use Rattle.sand_model.specs.Operators.{kth}
 use Rattle.statements.specs.declared.column.Column.{Column}
@@ -57,32 +58,40 @@ indexed_at r (Some at) = is_some (index_at r at)
 pub index_by_place : (r : Relation) (name : List ℕ) (at : ℕ) → column_named r.schema name ≡ Some at → is_indexed r name ≡ is_some (index_at r at)
 index_by_place r name at place = ap (indexed_at r) place
 
+-- the column has an R-tree where one stands at its place
+abbrev treed_at : Relation → Option ℕ → Bool
+treed_at r None = false
+treed_at r (Some at) = list_any (λ tree. nat_eq tree.0 at) r.rectangles
+
+pub rectangles_by_place : (r : Relation) (name : List ℕ) (o : Option ℕ) → column_named r.schema name ≡ o → has_rectangles r name ≡ treed_at r o
+rectangles_by_place r name o place = ap (treed_at r) place
+
 -- an index is there exactly where a search finds one
 pub found_index : {A : Type 0} (o : Option A) (Found : A → Type 0) (index : Option Index) → IfSome o Found → ((a : A) → Found a → is_some index ≡ true)
     → (o ≡ None → index ≡ None) → is_some index ≡ is_some o
 found_index (Some a) Found index h there none = there a h
 found_index None Found index h there none = ap (λ (i : Option Index). is_some i) (none refl)
 
--- the check of a column, where it is there and its kind and its index are known
-pub column_checked : (r : Relation) (name : List ℕ) (asked : Kind → Bool) (k : Kind) (a b : Bool) → kind_named r name ≡ Some k → asked k ≡ a → is_indexed r name ≡ b
-    → cond a (cond b None (Some why.NoIndex)) (Some why.WrongKind) ≡ check_in r name asked
-column_checked r name asked k a b kind is index =
-    sym (ap (check_kind r name asked) kind
-    ∙ (ap (λ (x : Bool). cond x (cond (is_indexed r name) None (Some why.NoIndex)) (Some why.WrongKind)) is
+-- the check of a column, where it is there, and its kind is known and what it is searched by
+pub column_checked : (has : Relation → List ℕ → Bool) (r : Relation) (name : List ℕ) (asked : Kind → Bool) (k : Kind) (a b : Bool) → kind_named r name ≡ Some k → asked k ≡ a → has r name ≡ b
+    → cond a (cond b None (Some why.NoIndex)) (Some why.WrongKind) ≡ check_in has r name asked
+column_checked has r name asked k a b kind is index =
+    sym (ap (check_kind has r name asked) kind
+    ∙ (ap (λ (x : Bool). cond x (cond (has r name) None (Some why.NoIndex)) (Some why.WrongKind)) is
     ∙ ap (λ (x : Bool). cond a (cond x None (Some why.NoIndex)) (Some why.WrongKind)) index))
 
 -- the column is not there
-pub column_missing : (r : Relation) (name : List ℕ) (asked : Kind → Bool) → kind_named r name ≡ None → Some why.UnknownColumn ≡ check_in r name asked
-column_missing r name asked kind = sym (ap (check_kind r name asked) kind)
+pub column_missing : (has : Relation → List ℕ → Bool) (r : Relation) (name : List ℕ) (asked : Kind → Bool) → kind_named r name ≡ None → Some why.UnknownColumn ≡ check_in has r name asked
+column_missing has r name asked kind = sym (ap (check_kind has r name asked) kind)
 
 -- the check of a column by its relation
-abbrev pub of_relation : List ℕ → (Kind → Bool) → Option Relation → Option Refusal
-of_relation name asked None = Some why.UnknownRelation
-of_relation name asked (Some r) = check_in r name asked
+abbrev pub of_relation : (Relation → List ℕ → Bool) → List ℕ → (Kind → Bool) → Option Relation → Option Refusal
+of_relation has name asked None = Some why.UnknownRelation
+of_relation has name asked (Some r) = check_in has r name asked
 
-pub column_check : (d : Database) (column : Column) (asked : Kind → Bool) (o : Option Relation) → relation_named d column.relation ≡ o
-    → of_relation column.column asked o ≡ check_column d column asked
-column_check d column asked o e = sym (ap (of_relation column.column asked) e)
+pub column_check : (has : Relation → List ℕ → Bool) (d : Database) (column : Column) (asked : Kind → Bool) (o : Option Relation) → relation_named d column.relation ≡ o
+    → of_relation has column.column asked o ≡ check_search has d column asked
+column_check has d column asked o e = sym (ap (of_relation has column.column asked) e)
 
 -- the check of a relation
 abbrev pub is_missing : Option Relation → Option Refusal

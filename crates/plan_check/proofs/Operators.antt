@@ -52,12 +52,13 @@ abbrev IsSource : Plan → Type 0
 IsSource p =
     ((relation : List ℕ) × (p ≡ declared.Scan relation))
     ⊎ (((column : Column) × (goal : Shape) × (within : Option ℕ) × (p ≡ declared.Rank column goal within))
+    ⊎ (((column : Column) × (goal : Shape) × (within : Option ℕ) × (p ≡ declared.Near column goal within))
     ⊎ (((column : Column) × (window : Rect) × (p ≡ declared.Window column window))
     ⊎ (((column : Column) × (v : Value) × (p ≡ declared.PickEqual column v))
     ⊎ (((column : Column) × (low : ℤ) × (high : ℤ) × (p ≡ declared.PickBetween column low high))
     ⊎ (((left : Column) × (right : Column) × (within : Option ℕ) × (p ≡ declared.Join left right within))
     ⊎ (((left : Column) × (right : Column) × (within : Option ℕ) × (p ≡ declared.Semi left right within))
-    ⊎ ((k : ℕ) × (left : Column) × (right : Column) × (within : Option ℕ) × (p ≡ declared.Knn k left right within))))))))
+    ⊎ ((k : ℕ) × (left : Column) × (right : Column) × (within : Option ℕ) × (p ≡ declared.Knn k left right within)))))))))
 
 abbrev IsAlone : Database → Plan → Type 0
 IsAlone d p = check_operator d (plan_value p) ≡ check_operators d (plan_value p)
@@ -65,9 +66,10 @@ IsAlone d p = check_operator d (plan_value p) ≡ check_operators d (plan_value 
 pub source_alone : (d : Database) (p : Plan) → IsSource p → IsAlone d p
 source_alone d p (inl h) = subst (IsAlone d) (sym h.1) refl
 source_alone d p (inr (inl h)) = subst (IsAlone d) (sym h.3) refl
-source_alone d p (inr (inr (inl h))) = subst (IsAlone d) (sym h.2) refl
+source_alone d p (inr (inr (inl h))) = subst (IsAlone d) (sym h.3) refl
 source_alone d p (inr (inr (inr (inl h)))) = subst (IsAlone d) (sym h.2) refl
-source_alone d p (inr (inr (inr (inr (inl h))))) = subst (IsAlone d) (sym h.3) refl
+source_alone d p (inr (inr (inr (inr (inl h))))) = subst (IsAlone d) (sym h.2) refl
 source_alone d p (inr (inr (inr (inr (inr (inl h)))))) = subst (IsAlone d) (sym h.3) refl
 source_alone d p (inr (inr (inr (inr (inr (inr (inl h))))))) = subst (IsAlone d) (sym h.3) refl
-source_alone d p (inr (inr (inr (inr (inr (inr (inr h))))))) = subst (IsAlone d) (sym h.4) refl
+source_alone d p (inr (inr (inr (inr (inr (inr (inr (inl h)))))))) = subst (IsAlone d) (sym h.3) refl
+source_alone d p (inr (inr (inr (inr (inr (inr (inr (inr h)))))))) = subst (IsAlone d) (sym h.4) refl

@@ -6,7 +6,7 @@ use Rattle.sand_base.specs.declared.kind.Kind.{Kind}
 use Rattle.sand_base.specs.declared.refusal.Refusal.{Refusal}
 use Rattle.sand_base.specs.declared.refusal.Refusal.TheVariants as why
 use Rattle.sand_base.specs.Shape.{value_kind}
-use Rattle.sand_model.specs.Checks.{first_refusal, kind_named, is_indexed, check_column, check_relation, check_place, check_tests, check_places, can_compare}
+use Rattle.sand_model.specs.Checks.{first_refusal, kind_named, is_indexed, check_search, check_column, check_relation, check_place, check_tests, check_places, can_compare}
 use Rattle.sand_model.specs.Database.{Database, Relation, relation_named}
 use Rattle.sand_model.specs.Operators.{kth}
 use Rattle.statements.specs.declared.column.Column.{Column}
@@ -42,32 +42,39 @@ relation_there d name passed = by_relation (relation_named d name) refl passed w
   by_relation (Some r) e p = (r, e)
   by_relation None e p = absurd (refused why.UnknownRelation p)
 
--- The column is there, of a kind that is asked, and has an index.
-pub record IsUsable (d : Database) (column : Column) (asked : Kind → Bool) : Type 0 where
+-- The column is there, of a kind that is asked, and has what it is searched by.
+pub record IsSearchable (has : Relation → List ℕ → Bool) (d : Database) (column : Column) (asked : Kind → Bool) : Type 0 where
   pub relation : Relation
   pub kind : Kind
   pub found : relation_named d column.relation ≡ Some relation
   pub of_kind : kind_named relation column.column ≡ Some kind
   pub is_asked : asked kind ≡ true
-  pub indexed : is_indexed relation column.column ≡ true
+  pub indexed : has relation column.column ≡ true
+
+-- with an index
+abbrev pub IsUsable : Database → Column → (Kind → Bool) → Type 0
+IsUsable d column asked = IsSearchable is_indexed d column asked
 
 passed_both : (a b : Bool) → cond a (cond b None (Some why.NoIndex)) (Some why.WrongKind) ≡ None → (a ≡ true) × (b ≡ true)
 passed_both true true e = (refl, refl)
 passed_both true false e = absurd (refused why.NoIndex e)
 passed_both false b e = absurd (refused why.WrongKind e)
 
-pub column_usable : (d : Database) (column : Column) (asked : Kind → Bool) → check_column d column asked ≡ None → IsUsable d column asked
-column_usable d column asked passed = by_relation (relation_named d column.relation) refl passed where
-  by_kind : (r : Relation) (o : Option Kind) → relation_named d column.relation ≡ Some r → kind_named r column.column ≡ o → check_kind r column.column asked o ≡ None
-      → IsUsable d column asked
+pub column_searchable : (has : Relation → List ℕ → Bool) (d : Database) (column : Column) (asked : Kind → Bool) → check_search has d column asked ≡ None → IsSearchable has d column asked
+column_searchable has d column asked passed = by_relation (relation_named d column.relation) refl passed where
+  by_kind : (r : Relation) (o : Option Kind) → relation_named d column.relation ≡ Some r → kind_named r column.column ≡ o → check_kind has r column.column asked o ≡ None
+      → IsSearchable has d column asked
   by_kind r (Some k) e f p =
-      let both = passed_both (asked k) (is_indexed r column.column) p in
+      let both = passed_both (asked k) (has r column.column) p in
       record { relation = r; kind = k; found = e; of_kind = f; is_asked = both.0; indexed = both.1 }
   by_kind r None e f p = absurd (refused why.UnknownColumn p)
 
-  by_relation : (o : Option Relation) → relation_named d column.relation ≡ o → of_relation column.column asked o ≡ None → IsUsable d column asked
+  by_relation : (o : Option Relation) → relation_named d column.relation ≡ o → of_relation has column.column asked o ≡ None → IsSearchable has d column asked
   by_relation (Some r) e p = by_kind r (kind_named r column.column) e refl p
   by_relation None e p = absurd (refused why.UnknownRelation p)
+
+pub column_usable : (d : Database) (column : Column) (asked : Kind → Bool) → check_column d column asked ≡ None → IsUsable d column asked
+column_usable d column asked passed = column_searchable is_indexed d column asked passed
 
 -- The place is there, in the relation of its id, and of a kind that is asked.
 pub record IsPlaced (d : Database) (names : List (List ℕ)) (place : Place) (asked : Kind → Bool) : Type 0 where

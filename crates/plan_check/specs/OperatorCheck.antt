@@ -3,7 +3,7 @@ use Rattle.std.specs.Prelude.{true, ◌&&◌, [], ◌∷◌, Option, None}
 use Rattle.sand_base.specs.declared.kind.Kind.TheVariants as kind
 use Rattle.sand_base.specs.declared.refusal.Refusal.{Refusal}
 use Rattle.sand_base.specs.Shape.{value_kind, same_kind, is_spatial}
-use Rattle.sand_model.specs.Checks.{first_refusal, check_relation, check_column, check_place, check_tests, check_places, is_plain, is_plain_pair, place_kind}
+use Rattle.sand_model.specs.Checks.{first_refusal, check_relation, check_column, check_rectangles, check_place, check_tests, check_places, is_plain, is_plain_pair, place_kind}
 use Rattle.sand_model.specs.Database.{Database}
 use Rattle.sand_model.specs.Operators.{relations_of}
 use Rattle.statements.specs.Plan as plan
@@ -13,6 +13,7 @@ use Rattle.statements.specs.Plan.{Plan}
 abbrev pub check_operator : Database → Plan → Option Refusal
 check_operator database (plan.Scan relation) = check_relation database relation
 check_operator database (plan.Rank column goal within) = check_column database column is_spatial
+check_operator database (plan.Near column goal within) = check_rectangles database column
 check_operator database (plan.Window column window) = check_column database column is_spatial
 check_operator database (plan.PickEqual column v) =
     check_column database column (λ k. is_plain k && same_kind k (value_kind v))

@@ -23,6 +23,15 @@ pub enum Asked {
     ComparedWith(Op, Kind),
 }
 
+/// What a column is searched by.
+#[derive(Clone, Copy)]
+pub enum SearchedBy {
+    /// Its quadtree or its attribute index.
+    Index,
+    /// Its R-tree.
+    Rtree,
+}
+
 /// Whether columns of the kind hold shapes.
 pub fn is_spatial(kind: Kind) -> bool
     ensures { result ≡ is_spatial kind }

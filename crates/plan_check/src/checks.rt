@@ -10,7 +10,7 @@ ghost use Rattle.sand_store.specs.Contents.{database_in};
 ghost use Rattle.plan_check.specs.OperatorCheck.{check_operator};
 
 use crate::MOST_OPERATORS;
-use crate::asked::Asked;
+use crate::asked::{Asked, SearchedBy};
 use crate::column::{check_column, check_relation};
 use crate::place::{check_place, place_kind};
 use sand_base::Refusal;
@@ -42,8 +42,8 @@ fn check_places(catalog: &Catalog, plan: &Plan, places: &[Place]) -> Result<(), 
 fn check_both(catalog: &Catalog, left: &Column, right: &Column) -> Result<(), Refusal>
     ensures { IsCatalog catalog.now → (pages : PageMap) → result_err result ≡ check_operator (database_in pages catalog.now.relations) (Join left.now right.now None) }
 {
-    check_column(catalog, left, Asked::Spatial)?;
-    check_column(catalog, right, Asked::Spatial)
+    check_column(catalog, left, Asked::Spatial, SearchedBy::Index)?;
+    check_column(catalog, right, Asked::Spatial, SearchedBy::Index)
 }
 
 // The checks of a match: its place, and the column in which the value there is looked up.
@@ -57,7 +57,7 @@ fn check_match(
 {
     check_place(catalog, plan, place, Asked::Any)?;
     let asked = Asked::MatchOf(place_kind(catalog, plan, place));
-    check_column(catalog, column, asked)
+    check_column(catalog, column, asked, SearchedBy::Index)
 }
 
 // The checks of the outermost operator of a plan, where those beneath it pass.
@@ -67,12 +67,22 @@ fn check_operator(catalog: &Catalog, plan: &Plan) -> Result<(), Refusal>
     match plan {
         Plan::Scan { relation } => check_relation(catalog, relation.as_str()),
         Plan::Rank { column, .. } | Plan::Window { column, .. } => {
-            check_column(catalog, column, Asked::Spatial)
+            check_column(catalog, column, Asked::Spatial, SearchedBy::Index)
+        }
+        Plan::Near { column, .. } => {
+            check_column(catalog, column, Asked::Spatial, SearchedBy::Rtree)
         }
         Plan::PickEqual { column, value } => {
-            check_column(catalog, column, Asked::EqualTo(value.kind()))
+            check_column(
+                catalog,
+                column,
+                Asked::EqualTo(value.kind()),
+                SearchedBy::Index,
+            )
         }
-        Plan::PickBetween { column, .. } => check_column(catalog, column, Asked::Int),
+        Plan::PickBetween { column, .. } => {
+            check_column(catalog, column, Asked::Int, SearchedBy::Index)
+        }
         Plan::Join { left, right, .. }
         | Plan::Semi { left, right, .. }
         | Plan::Knn { left, right, .. } => check_both(catalog, left, right),
@@ -106,6 +116,7 @@ pub fn check_operators(catalog: &Catalog, plan: &Plan) -> Result<(), Refusal>
         }
         Plan::Scan { .. }
         | Plan::Rank { .. }
+        | Plan::Near { .. }
         | Plan::Window { .. }
         | Plan::PickEqual { .. }
         | Plan::PickBetween { .. }

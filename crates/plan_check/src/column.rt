@@ -2,13 +2,13 @@ ghost use Rattle.std.specs.Prelude.{◌≡◌, Some};
 ghost use Rattle.std.specs.Result.{result_err};
 ghost use Rattle.page_pool.specs.Disk.{PageMap};
 ghost use Rattle.sand_base.specs.declared.limits.Limits.{Limits};
-ghost use Rattle.sand_model.specs.Checks.{kind_named, is_indexed, check_column, check_relation};
+ghost use Rattle.sand_model.specs.Checks.{kind_named, is_indexed, has_rectangles, check_search, check_relation};
 ghost use Rattle.sand_store.specs.Catalog.{IsCatalog, IsDescribed};
 ghost use Rattle.sand_store.specs.Contents.{relation_in, database_in};
 ghost use Rattle.plan_check.specs.Asked.{is_asked};
-ghost use Rattle.plan_check.specs.ColumnCheck.{check_in};
+ghost use Rattle.plan_check.specs.ColumnCheck.{check_in, has_search};
 
-use crate::asked::{Asked, is_spatial};
+use crate::asked::{Asked, SearchedBy, is_spatial};
 use sand_base::{Kind, Refusal};
 use sand_store::{Catalog, Relation};
 use script_text::Column;
@@ -36,9 +36,29 @@ fn is_indexed(relation: &Relation, name: &str, kind: Kind) -> bool
     }
 }
 
+// Whether the column of the name has an R-tree.
+fn has_rectangles(relation: &Relation, name: &str) -> bool
+    ensures { (pages : PageMap) → has_rectangles (relation_in pages relation.now) name.now ≡ result }
+{
+    let Some(at) = relation.column(name) else {
+        return false;
+    };
+    relation.rtree(at).is_some()
+}
+
+// Whether the column of the name, which is of the kind, has what it is searched by.
+fn has_search(relation: &Relation, name: &str, kind: Kind, way: SearchedBy) -> bool
+    ensures { (limits : Limits) → IsDescribed limits relation.now → (pages : PageMap) → kind_named (relation_in pages relation.now) name.now ≡ Some kind → has_search way (relation_in pages relation.now) name.now ≡ result }
+{
+    match way {
+        SearchedBy::Index => is_indexed(relation, name, kind),
+        SearchedBy::Rtree => has_rectangles(relation, name),
+    }
+}
+
 // The checks of a column in a relation that is there.
-fn check_in(relation: &Relation, name: &str, asked: Asked) -> Result<(), Refusal>
-    ensures { (limits : Limits) → IsDescribed limits relation.now → (pages : PageMap) → result_err result ≡ check_in (relation_in pages relation.now) name.now (is_asked asked) }
+fn check_in(relation: &Relation, name: &str, asked: Asked, way: SearchedBy) -> Result<(), Refusal>
+    ensures { (limits : Limits) → IsDescribed limits relation.now → (pages : PageMap) → result_err result ≡ check_in (has_search way) (relation_in pages relation.now) name.now (is_asked asked) }
 {
     let Some(kind) = kind_named(relation, name) else {
         return Err(Refusal::UnknownColumn);
@@ -46,20 +66,26 @@ fn check_in(relation: &Relation, name: &str, asked: Asked) -> Result<(), Refusal
     if !asked.includes(kind) {
         return Err(Refusal::WrongKind);
     }
-    if !is_indexed(relation, name, kind) {
+    if !has_search(relation, name, kind, way) {
         return Err(Refusal::NoIndex);
     }
     Ok(())
 }
 
-/// The checks of a column: its relation is there, it is there, its kind is one that is asked, it has an index.
-pub fn check_column(catalog: &Catalog, column: &Column, asked: Asked) -> Result<(), Refusal>
-    ensures { IsCatalog catalog.now → (pages : PageMap) → result_err result ≡ check_column (database_in pages catalog.now.relations) column.now (is_asked asked) }
+/// The checks of a column: its relation is there, it is there, its kind is one that is asked, it has what it is searched
+/// by.
+pub fn check_column(
+    catalog: &Catalog,
+    column: &Column,
+    asked: Asked,
+    way: SearchedBy,
+) -> Result<(), Refusal>
+    ensures { IsCatalog catalog.now → (pages : PageMap) → result_err result ≡ check_search (has_search way) (database_in pages catalog.now.relations) column.now (is_asked asked) }
 {
     let Some(relation) = catalog.relation(column.relation.as_str()) else {
         return Err(Refusal::UnknownRelation);
     };
-    check_in(relation, column.column.as_str(), asked)
+    check_in(relation, column.column.as_str(), asked, way)
 }
 
 /// The check of a relation that is scanned: it is there.

@@ -33,6 +33,7 @@ fn name_at(plan: &Plan, at: u32) -> Result<&Label, u32>
     match plan {
         Plan::Scan { relation } => or_next(Err(at), relation),
         Plan::Rank { column, .. }
+        | Plan::Near { column, .. }
         | Plan::Window { column, .. }
         | Plan::PickEqual { column, .. }
         | Plan::PickBetween { column, .. } => or_next(Err(at), &column.relation),

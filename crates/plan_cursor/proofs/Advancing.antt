@@ -75,21 +75,21 @@ module _ {S T : Type 0} (At : S → Taking) (Stands : T → Standing) (closed : 
   pub record Passed (c : Cursor) (first : Operator S T) (k : Keeps At Stands closed seen first pages c) (o : Operator S T) (old new : DeskState) : Type 0 where
     pub keeps : KeepsCounts o c
     pub pays : Pays At Stands closed q seen first o pages c (record c { counts = seen (source_of o) }) k keeps old new (left_at closed q o pages c)
-    pub visits : VisitsWithin {T = Unit} c.database c.plan (model.step_taken plan_measure c.database c.plan c.given) c.counts (seen (source_of o)) old new (Ok tt)
+    pub visits : VisitsWithin {T = Unit} pages c.database c.plan (model.step_taken plan_measure c.database c.plan c.given) c.counts (seen (source_of o)) old new (Ok tt)
 
   module _ (c : Cursor) (first : Operator S T) (k : Keeps At Stands closed seen first pages c) (o o' : Operator S T) (old mid new : DeskState) (result : Result Step PageFault) (passed : Passed c first k o old mid)
-      (goes : Goes c.database c.plan passed.keeps.taken passed.keeps.rows (seen (source_of o)) (seen (source_of o')) mid new result
+      (goes : Goes pages c.database c.plan passed.keeps.taken passed.keeps.rows (seen (source_of o)) (seen (source_of o')) mid new result
       (IsPaid At Stands closed q o o' pages c.database c.plan passed.keeps.taken passed.keeps.rows passed.keeps.follows mid new result)) where
     -- what the step did to the source
-    after : IsKept c.database c.plan c.given goes.taken (seen (source_of o)) (seen (source_of o')) mid new result
+    after : IsKept pages c.database c.plan c.given goes.taken (seen (source_of o)) (seen (source_of o')) mid new result
     after =
-        kept c.database c.plan passed.keeps.rows c.given passed.keeps.given passed.keeps.taken (seen (source_of o)) (seen (source_of o')) mid new passed.keeps.needed passed.keeps.counted
+        kept pages c.database c.plan passed.keeps.rows c.given passed.keeps.given passed.keeps.taken (seen (source_of o)) (seen (source_of o')) mid new passed.keeps.needed passed.keeps.counted
         goes.taken result goes.asks
 
     -- and all steps so far
-    abbrev so_far : VisitsWithin c.database c.plan (model.step_taken plan_measure c.database c.plan c.given) c.counts (seen (source_of o')) old new result
+    abbrev so_far : VisitsWithin pages c.database c.plan (model.step_taken plan_measure c.database c.plan c.given) c.counts (seen (source_of o')) old new result
     so_far =
-        within_chain c.database c.plan (model.step_taken plan_measure c.database c.plan c.given) c.counts (seen (source_of o)) (seen (source_of o')) old mid new result passed.visits after.visits
+        within_chain pages c.database c.plan (model.step_taken plan_measure c.database c.plan c.given) c.counts (seen (source_of o)) (seen (source_of o')) old mid new result passed.visits after.visits
 
     -- the operator keeps to the cursor where it gave no row
     abbrev stays : Follows At Stands closed o' pages c.database c.plan goes.taken passed.keeps.rows → KeepsCounts o' c
@@ -118,12 +118,12 @@ module _ {S T : Type 0} (At : S → Taking) (Stands : T → Standing) (closed : 
         passed.pays.most goes.follows.most
 
     -- the visits lie within the reach of the whole step
-    near : All (LiesWithin plan_measure c.database c.plan (step_reach c)) (so_far.completed ++ so_far.attempted)
-    near = subst (λ t. All (LiesWithin plan_measure c.database c.plan (reach plan_measure c.database c.plan t)) (so_far.completed ++ so_far.attempted)) (taken_same c) so_far.near
+    near : All (LiesWithin plan_measure pages c.database c.plan (step_reach c)) (so_far.completed ++ so_far.attempted)
+    near = subst (λ t. All (LiesWithin plan_measure pages c.database c.plan (reach plan_measure c.database c.plan t)) (so_far.completed ++ so_far.attempted)) (taken_same c) so_far.near
 
   -- one step more
   pub passed_more : (c : Cursor) (first : Operator S T) (k : Keeps At Stands closed seen first pages c) (o o' : Operator S T) (old mid new : DeskState) (passed : Passed c first k o old mid)
-      → Goes c.database c.plan passed.keeps.taken passed.keeps.rows (seen (source_of o)) (seen (source_of o')) mid new (Ok Pass)
+      → Goes pages c.database c.plan passed.keeps.taken passed.keeps.rows (seen (source_of o)) (seen (source_of o')) mid new (Ok Pass)
       (IsPaid At Stands closed q o o' pages c.database c.plan passed.keeps.taken passed.keeps.rows passed.keeps.follows mid new (Ok Pass))
       → Passed c first k o' old new
   passed_more c first k o o' old mid new passed goes = record {
@@ -133,13 +133,13 @@ module _ {S T : Type 0} (At : S → Taking) (Stands : T → Standing) (closed : 
       most = most_now c first k o o' old mid new (Ok Pass) passed goes;
     };
     visits =
-        within_ok c.database c.plan (model.step_taken plan_measure c.database c.plan c.given) c.counts (seen (source_of o')) old new (Ok Pass) Pass refl
+        within_ok pages c.database c.plan (model.step_taken plan_measure c.database c.plan c.given) c.counts (seen (source_of o')) old new (Ok Pass) Pass refl
         (so_far c first k o o' old mid new (Ok Pass) passed goes);
   }
 
   module _ (front : GivesFront Stands) (late : OpensLate Stands closed) (c : Cursor) (first : Operator S T) (k : Keeps At Stands closed seen first pages c) (o o' : Operator S T) (old mid new : DeskState) (passed : Passed c first k o old mid) where
     module _ (a : Answer)
-        (goes : Goes c.database c.plan passed.keeps.taken passed.keeps.rows (seen (source_of o)) (seen (source_of o')) mid new (Ok (Row a))
+        (goes : Goes pages c.database c.plan passed.keeps.taken passed.keeps.rows (seen (source_of o)) (seen (source_of o')) mid new (Ok (Row a))
         (IsPaid At Stands closed q o o' pages c.database c.plan passed.keeps.taken passed.keeps.rows passed.keeps.follows mid new (Ok (Row a)))) where
       -- the rows, with the one that was given
       abbrev rows_now : List PlanRow
@@ -148,10 +148,10 @@ module _ {S T : Type 0} (At : S → Taking) (Stands : T → Standing) (closed : 
       long : length rows_now ≡ c.given + 1
       long = length-append passed.keeps.rows (row_of a ∷ []) ∙ ap (λ n. n + 1) passed.keeps.given
 
-      kept_now : IsKept c.database c.plan c.given goes.taken (seen (source_of o)) (seen (source_of o')) mid new (Ok (Row a))
+      kept_now : IsKept pages c.database c.plan c.given goes.taken (seen (source_of o)) (seen (source_of o')) mid new (Ok (Row a))
       kept_now = after c first k o o' old mid new (Ok (Row a)) passed goes
 
-      abbrev visits_now : VisitsWithin c.database c.plan (model.step_taken plan_measure c.database c.plan c.given) c.counts (seen (source_of o')) old new (Ok (Row a))
+      abbrev visits_now : VisitsWithin pages c.database c.plan (model.step_taken plan_measure c.database c.plan c.given) c.counts (seen (source_of o')) old new (Ok (Row a))
       visits_now = so_far c first k o o' old mid new (Ok (Row a)) passed goes
 
       -- it is the next row of the answer
@@ -191,7 +191,7 @@ module _ {S T : Type 0} (At : S → Taking) (Stands : T → Standing) (closed : 
           ∙ ap (λ b. reach plan_measure c.database c.plan (record { rows = t.rows; is_ended = b })) open_end
           ∙ row_reached c.database c.plan c.given t kept_now.needed lazy (enough lazy) (row_of a) next_row
 
-      pub gives_next : CursorStep c old new (Ok (Some a)) (KeepsPaid At Stands closed q seen first o' pages c k old new (λ after. left_behind closed q o' pages after (Ok (Some a))))
+      pub gives_next : CursorStep pages c old new (Ok (Some a)) (KeepsPaid At Stands closed q seen first o' pages c k old new (λ after. left_behind closed q o' pages after (Ok (Some a))))
       gives_next = record {
         after = record c { given = c.given + 1; counts = seen (source_of o') };
         gives = gives_row c goes.taken (seen (source_of o')) kept_now.needed kept_now.counted (row_of a) next_row has_row;
@@ -218,7 +218,7 @@ module _ {S T : Type 0} (At : S → Taking) (Stands : T → Standing) (closed : 
           settled = visits_now.settled;
           counted = visits_now.counted;
           near = near c first k o o' old mid new (Ok (Row a)) passed goes;
-          row = λ lazy. subst (λ to. All (LiesWithin plan_measure c.database c.plan to) (visits_now.completed ++ visits_now.attempted)) (reach_row lazy) visits_now.near;
+          row = λ lazy. subst (λ to. All (LiesWithin plan_measure pages c.database c.plan to) (visits_now.completed ++ visits_now.attempted)) (reach_row lazy) visits_now.near;
           between =
               up_to_itself c.counts (seen (source_of o')) (step_of plan_measure c).1.counts visits_now.up
               (ap (λ (q : OutputLine × Cursor). q.1.counts) (gives_row c goes.taken (seen (source_of o')) kept_now.needed kept_now.counted (row_of a) next_row has_row));
@@ -226,12 +226,12 @@ module _ {S T : Type 0} (At : S → Taking) (Stands : T → Standing) (closed : 
         };
       }
 
-    module _ (goes : Goes c.database c.plan passed.keeps.taken passed.keeps.rows (seen (source_of o)) (seen (source_of o')) mid new (Ok End)
+    module _ (goes : Goes pages c.database c.plan passed.keeps.taken passed.keeps.rows (seen (source_of o)) (seen (source_of o')) mid new (Ok End)
         (IsPaid At Stands closed q o o' pages c.database c.plan passed.keeps.taken passed.keeps.rows passed.keeps.follows mid new (Ok End))) where
-      kept_end : IsKept c.database c.plan c.given goes.taken (seen (source_of o)) (seen (source_of o')) mid new (Ok End)
+      kept_end : IsKept pages c.database c.plan c.given goes.taken (seen (source_of o)) (seen (source_of o')) mid new (Ok End)
       kept_end = after c first k o o' old mid new (Ok End) passed goes
 
-      abbrev visits_end : VisitsWithin c.database c.plan (model.step_taken plan_measure c.database c.plan c.given) c.counts (seen (source_of o')) old new (Ok End)
+      abbrev visits_end : VisitsWithin pages c.database c.plan (model.step_taken plan_measure c.database c.plan c.given) c.counts (seen (source_of o')) old new (Ok End)
       visits_end = so_far c first k o o' old mid new (Ok End) passed goes
 
       no_row : element (answer plan_measure c.database c.plan) c.given ≡ None
@@ -239,7 +239,7 @@ module _ {S T : Type 0} (At : S → Taking) (Stands : T → Standing) (closed : 
           element_past (answer plan_measure c.database c.plan) c.given
           (le_of_eq (sym (ap length goes.ends.all) ∙ passed.keeps.given))
 
-      pub gives_last : CursorStep c old new (Ok None) (KeepsPaid At Stands closed q seen first o' pages c k old new (λ after. left_behind closed q o' pages after (Ok None)))
+      pub gives_last : CursorStep pages c old new (Ok None) (KeepsPaid At Stands closed q seen first o' pages c k old new (λ after. left_behind closed q o' pages after (Ok None)))
       gives_last = record {
         after = record c { is_ended = true; counts = seen (source_of o') };
         gives = gives_end c goes.taken (seen (source_of o')) kept_end.needed kept_end.counted no_row (spent_same c.database c.plan goes.taken goes.ends.spent);
@@ -276,18 +276,18 @@ module _ {S T : Type 0} (At : S → Taking) (Stands : T → Standing) (closed : 
       }
 
     module _ (fault : PageFault)
-        (goes : Goes c.database c.plan passed.keeps.taken passed.keeps.rows (seen (source_of o)) (seen (source_of o')) mid new (Err fault)
+        (goes : Goes pages c.database c.plan passed.keeps.taken passed.keeps.rows (seen (source_of o)) (seen (source_of o')) mid new (Err fault)
         (IsPaid At Stands closed q o o' pages c.database c.plan passed.keeps.taken passed.keeps.rows passed.keeps.follows mid new (Err fault))) where
-      kept_refused : IsKept c.database c.plan c.given goes.taken (seen (source_of o)) (seen (source_of o')) mid new (Err fault)
+      kept_refused : IsKept pages c.database c.plan c.given goes.taken (seen (source_of o)) (seen (source_of o')) mid new (Err fault)
       kept_refused = after c first k o o' old mid new (Err fault) passed goes
 
-      abbrev visits_refused : VisitsWithin {T = Step} c.database c.plan (model.step_taken plan_measure c.database c.plan c.given) c.counts (seen (source_of o')) old new (Err fault)
+      abbrev visits_refused : VisitsWithin {T = Step} pages c.database c.plan (model.step_taken plan_measure c.database c.plan c.given) c.counts (seen (source_of o')) old new (Err fault)
       visits_refused = so_far c first k o o' old mid new (Err fault) passed goes
 
       refused : IsRefusedStep plan_measure c why.Memory (record c { counts = seen (source_of o') })
       refused = gives_none c goes.taken (seen (source_of o')) kept_refused.needed kept_refused.counted visits_refused.up why.Memory
 
-      pub gives_refusal : CursorStep c old new (Err fault) (KeepsPaid At Stands closed q seen first o' pages c k old new (λ after. left_behind closed q o' pages after (Err fault)))
+      pub gives_refusal : CursorStep pages c old new (Err fault) (KeepsPaid At Stands closed q seen first o' pages c k old new (λ after. left_behind closed q o' pages after (Err fault)))
       gives_refusal = record {
         after = record c { counts = seen (source_of o') };
         gives = gives_none c goes.taken (seen (source_of o')) kept_refused.needed kept_refused.counted visits_refused.up;

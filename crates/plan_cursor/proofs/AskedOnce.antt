@@ -1,6 +1,7 @@
 -- A step of an operator asks its source at most once: what was taken is still all needed, and what was visited is counted.
 use Rattle.std.proofs.Common.{◌≡◌, inl, inr, ℕ, false, List, length, take, Option, Result, Ok, Err, sym, ap, ◌∙◌, subst, le_of_eq}
 use Rattle.page_pool.specs.Desk.{DeskState}
+use Rattle.page_pool.specs.Disk.{PageMap}
 use Rattle.page_pool.specs.declared.fault.PageFault.{PageFault}
 use Rattle.sand_model.specs.Database.{Database}
 use Rattle.sand_model.specs.Operators.{PlanRow}
@@ -18,12 +19,12 @@ use Rattle.plan_steps.specs.Steps.{IsAsked, AsksOnce}
 use Rattle.plan_steps.specs.declared.step.Step.{Step}
 
 -- After the step what was taken is needed and counted, and each visit lies within the reach of the whole step of the cursor.
-pub record IsKept (d : Database) (p : Plan) (given : ℕ) (after : Taken) (before now : Counts) (old new : DeskState) (result : Result Step PageFault) : Type 0 where
+pub record IsKept (pages : PageMap) (d : Database) (p : Plan) (given : ℕ) (after : Taken) (before now : Counts) (old new : DeskState) (result : Result Step PageFault) : Type 0 where
   pub needed : IsNeeded plan_measure d p given after
   pub counted : IsCounted d p given after now
-  pub visits : VisitsWithin d p (step_taken plan_measure d p given) before now old new result
+  pub visits : VisitsWithin pages d p (step_taken plan_measure d p given) before now old new result
 
-module _ (d : Database) (p : Plan) (rows : List PlanRow) (given : ℕ) (long : length rows ≡ given) (t : Taken) (before now : Counts) (old new : DeskState)
+module _ (pages : PageMap) (d : Database) (p : Plan) (rows : List PlanRow) (given : ℕ) (long : length rows ≡ given) (t : Taken) (before now : Counts) (old new : DeskState)
     (needed : IsNeeded plan_measure d p given t) (counted : IsCounted d p given t before) where
   -- where all rows that were taken make were given, there are no more of them
   asked_open : IsAsked d p t rows → IsOpen d p given t
@@ -33,13 +34,13 @@ module _ (d : Database) (p : Plan) (rows : List PlanRow) (given : ℕ) (long : l
   )
 
   -- the source was asked
-  kept_call : (answer : Result (Option Answer) PageFault) → IsOpen d p given t → MakesVisits d p t before now old new answer
-      → (result : Result Step PageFault) → ((fault : PageFault) → answer ≡ Err fault → result ≡ Err fault) → IsKept d p given (taken_after d p t answer) before now old new result
+  kept_call : (answer : Result (Option Answer) PageFault) → IsOpen d p given t → MakesVisits pages d p t before now old new answer
+      → (result : Result Step PageFault) → ((fault : PageFault) → answer ≡ Err fault → result ≡ Err fault) → IsKept pages d p given (taken_after d p t answer) before now old new result
   kept_call answer asks call result refused = record {
     needed = needed_after answer;
-    counted = counted_call d p given t before now old new answer asks counted call;
+    counted = counted_call pages d p given t before now old new answer asks counted call;
     visits =
-        within_call d p (step_taken plan_measure d p given) t before now old new answer result refused (asked_before d p given t needed asks.0 asks.1) call;
+        within_call pages d p (step_taken plan_measure d p given) t before now old new answer result refused (asked_before d p given t needed asks.0 asks.1) call;
   }
     where
       needed_after : (answer : Result (Option Answer) PageFault) → IsNeeded plan_measure d p given (taken_after d p t answer)
@@ -47,13 +48,13 @@ module _ (d : Database) (p : Plan) (rows : List PlanRow) (given : ℕ) (long : l
       needed_after (Err fault) = needed
 
   -- after the step
-  pub kept : (after : Taken) (result : Result Step PageFault) → AsksOnce d p t after rows before now old new result → IsKept d p given after before now old new result
+  pub kept : (after : Taken) (result : Result Step PageFault) → AsksOnce pages d p t after rows before now old new result → IsKept pages d p given after before now old new result
   kept after result (inl a) =
-      subst (λ u. IsKept d p given u before now old new result) (sym a.taken) (kept_call a.answer (asked_open a.asked) a.visits result a.refused)
+      subst (λ u. IsKept pages d p given u before now old new result) (sym a.taken) (kept_call a.answer (asked_open a.asked) a.visits result a.refused)
   kept after result (inr r) =
-      subst (λ u. IsKept d p given u before now old new result) (sym r.taken)
-      (subst (λ counts. IsKept d p given t before counts old new result) (sym r.counts) record {
+      subst (λ u. IsKept pages d p given u before now old new result) (sym r.taken)
+      (subst (λ counts. IsKept pages d p given t before counts old new result) (sym r.counts) record {
         needed = needed;
         counted = counted;
-        visits = within_none d p (step_taken plan_measure d p given) before old new result r.log r.up;
+        visits = within_none pages d p (step_taken plan_measure d p given) before old new result r.log r.up;
       })

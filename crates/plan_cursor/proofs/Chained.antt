@@ -77,6 +77,6 @@ at_less At Stands closed q seen pages cursor cursor' c after at old new left low
     most_less old new before left lower first now less most = omega (arith, less, most)
 
 -- what a step says of where the cursor stands
-pub step_then : (c : Cursor) (old new : DeskState) (result : Result (Option Answer) PageFault) (At Then : Cursor → Type 0) → ((after : Cursor) → At after → Then after)
-    → CursorStep c old new result At → CursorStep c old new result Then
-step_then c old new result At Then so s = record { after = s.after; gives = s.gives; at = so s.after s.at; visits = s.visits }
+pub step_then : (pages : PageMap) (c : Cursor) (old new : DeskState) (result : Result (Option Answer) PageFault) (At Then : Cursor → Type 0) → ((after : Cursor) → At after → Then after)
+    → CursorStep pages c old new result At → CursorStep pages c old new result Then
+step_then pages c old new result At Then so s = record { after = s.after; gives = s.gives; at = so s.after s.at; visits = s.visits }

@@ -103,6 +103,7 @@ over_one d (plan.SortBy p place) lazy xs x = absurd (true≢false (sym lazy))
 over_one d (plan.SortNear p place goal) lazy xs x = absurd (true≢false (sym lazy))
 over_one d (plan.Scan relation) lazy xs x = one_more xs x
 over_one d (plan.Rank column goal within) lazy xs x = one_more xs x
+over_one d (plan.Near column goal within) lazy xs x = one_more xs x
 over_one d (plan.Window column window) lazy xs x = one_more xs x
 over_one d (plan.PickEqual column v) lazy xs x = one_more xs x
 over_one d (plan.PickBetween column low high) lazy xs x = one_more xs x
@@ -186,6 +187,7 @@ module _ (d : Database) (p : Plan) (given : ℕ) (t : Taken) (needed : IsNeeded 
       nothing (plan.SortNear p place goal) lazy = absurd (true≢false (sym lazy))
       nothing (plan.Scan relation) lazy = refl
       nothing (plan.Rank column goal within) lazy = refl
+      nothing (plan.Near column goal within) lazy = refl
       nothing (plan.Window column window) lazy = refl
       nothing (plan.PickEqual column v) lazy = refl
       nothing (plan.PickBetween column low high) lazy = refl

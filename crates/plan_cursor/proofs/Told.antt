@@ -49,8 +49,8 @@ module _ {S T : Type 0} (At : S → Taking) (Stands : T → Standing) (closed : 
         };
         pays = record { same = record { heights = refl; step = refl; rows = refl }; most = omega arith };
         visits =
-            subst (λ (n : Counts). VisitsWithin {T = Unit} c.database c.plan (step_taken plan_measure c.database c.plan c.given) c.counts n desk desk (Ok tt)) (sym k.counts)
-            (within_none c.database c.plan (step_taken plan_measure c.database c.plan c.given) c.counts desk desk (Ok tt) refl (omega arith));
+            subst (λ (n : Counts). VisitsWithin {T = Unit} pages c.database c.plan (step_taken plan_measure c.database c.plan c.given) c.counts n desk desk (Ok tt)) (sym k.counts)
+            (within_none pages c.database c.plan (step_taken plan_measure c.database c.plan c.given) c.counts desk desk (Ok tt) refl (omega arith));
       })
 
   -- the operator follows some plan for the next step

@@ -4,6 +4,7 @@ use Rattle.sand_base.specs.Faults.{last_count}
 use Rattle.sand_base.specs.declared.refusal.Refusal.{Refusal}
 use Rattle.sand_base.specs.declared.visit.Visit.{Visit}
 use Rattle.page_pool.specs.Desk.{DeskState}
+use Rattle.page_pool.specs.Disk.{PageMap}
 use Rattle.page_pool.specs.declared.fault.PageFault.{PageFault}
 use Rattle.sand_model.specs.Answer.{answer}
 use Rattle.sand_model.specs.Cursor.{Cursor, AreBetween, Row, End, step_of, IsRefusedStep}
@@ -35,27 +36,27 @@ abbrev pub row_reach : Answer → Reach
 row_reach a = reach_of_last (row_of a ∷ [])
 
 -- where a plan without a sort gives a row, the visits lie within the gap of this row
-abbrev pub LieWithinRow : Cursor → Result (Option Answer) PageFault → List Visit → Type 0
-LieWithinRow c (Ok (Some a)) noted = is_lazy c.plan ≡ true → All (LiesWithin plan_measure c.database c.plan (row_reach a)) noted
-LieWithinRow c (Ok None) noted = ⊤
-LieWithinRow c (Err fault) noted = ⊤
+abbrev pub LieWithinRow : PageMap → Cursor → Result (Option Answer) PageFault → List Visit → Type 0
+LieWithinRow pages c (Ok (Some a)) noted = is_lazy c.plan ≡ true → All (LiesWithin plan_measure pages c.database c.plan (row_reach a)) noted
+LieWithinRow pages c (Ok None) noted = ⊤
+LieWithinRow pages c (Err fault) noted = ⊤
 
 -- The visits of a call: they were noted behind those before, those completed and after them, only in a refused call, at most one that was attempted in vain; each lies within the reach of the step, also of one that is refused. The counts rise by just the completed ones, to at most those of the step that is made or would have been made, and at least one page get was made for each node that was counted.
-pub record StepVisits (c after : Cursor) (old new : DeskState) (result : Result (Option Answer) PageFault) : Type 0 where
+pub record StepVisits (pages : PageMap) (c after : Cursor) (old new : DeskState) (result : Result (Option Answer) PageFault) : Type 0 where
   pub completed : List Visit
   pub attempted : List Visit
   pub log : new.visits ≡ old.visits ++ (completed ++ attempted)
   pub few : length attempted ≤ 1
   pub settled : OnOk result (attempted ≡ [])
   pub counted : after.counts ≡ c.counts plus visit_counts completed
-  pub near : All (LiesWithin plan_measure c.database c.plan (step_reach c)) (completed ++ attempted)
-  pub row : LieWithinRow c result (completed ++ attempted)
+  pub near : All (LiesWithin plan_measure pages c.database c.plan (step_reach c)) (completed ++ attempted)
+  pub row : LieWithinRow pages c result (completed ++ attempted)
   pub between : AreBetween c.counts (step_of plan_measure c).1.counts after.counts
   pub rose : min (old.pool.gets + (node_count after.counts - node_count c.counts)) last_count ≤ new.pool.gets
 
 -- A call where the cursor of the model stands at c. At says where the cursor stands.
-pub record CursorStep (c : Cursor) (old new : DeskState) (result : Result (Option Answer) PageFault) (At : Cursor → Type 0) : Type 0 where
+pub record CursorStep (pages : PageMap) (c : Cursor) (old new : DeskState) (result : Result (Option Answer) PageFault) (At : Cursor → Type 0) : Type 0 where
   pub after : Cursor
   pub gives : Gives c result after
   pub at : At after
-  pub visits : StepVisits c after old new result
+  pub visits : StepVisits pages c after old new result

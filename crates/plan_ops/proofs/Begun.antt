@@ -1,5 +1,5 @@
 -- A filter and a fetch of the tests and places that were looked up.
-use Rattle.std.proofs.Common.{◌≡◌, List, [], ◌++◌, map, sym, ◌∙◌, ap, subst, Box, Global}
+use Rattle.std.proofs.Common.{◌≡◌, List, [], ◌++◌, sym, ◌∙◌, ap, subst, Box, Global}
 use Rattle.page_pool.specs.Disk.{PageMap}
 use Rattle.statements.specs.declared.column.Place.{Place}
 use Rattle.statements.specs.declared.plan.Plan as declared

@@ -1,11 +1,12 @@
 -- What names lead to where the checks of a plan passed.
 use Rattle.std.proofs.Common.{◌≡◌, ℕ, Bool, true, false, List, Option, Some, None, refl, sym, ◌∙◌, ap, subst, true≢false, Bor}
-use Rattle.std.specs.Prelude.{is_some, IfSome, option_map}
+use Rattle.std.specs.Prelude.{is_some, nat_eq, IfSome, option_map}
+use Rattle.std.specs.List.{list_any}
 use Rattle.plain_source.specs.Plain.{LacksInts}
 use Rattle.sand_base.specs.declared.kind.Kind.{Kind}
 use Rattle.sand_base.specs.declared.kind.Kind.TheVariants as kind
 use Rattle.sand_base.specs.Shape.{is_spatial, same_kind}
-use Rattle.sand_model.specs.Checks.{kind_named, is_indexed, check_column, check_relation}
+use Rattle.sand_model.specs.Checks.{kind_named, is_indexed, has_rectangles, check_column, check_relation}
 use Rattle.sand_model.specs.Database.{Database, Relation, Index, relation_named, column_named, index_at, element}
 use Rattle.sand_model.specs.Operators.{kth}
 use Rattle.statements.specs.declared.column.Column.{Column}
@@ -14,10 +15,10 @@ use Rattle.sand_store.specs.Catalog.{CatalogView, IsCatalog, IsDescribed, IsColu
 use Rattle.sand_store.specs.declared.relation.Relation.{Relation as StoredRelation}
 use Rattle.sand_store.specs.Standing.{kind_at as stored_kind}
 use Rattle.plan_check.proofs.Columns.{column_of_kind, index_by_place}
-use Rattle.plan_check.proofs.Passed.{IsUsable, column_usable, relation_there, IsPlaced, place_there}
+use Rattle.plan_check.proofs.Passed.{IsSearchable, IsUsable, column_searchable, column_usable, relation_there, IsPlaced, place_there}
 use Rattle.plan_places.specs.Indexed.{LacksIndex}
 use Rattle.plan_places.specs.Spots.{HasNoColumn, names_of}
-use Rattle.plan_ops.specs.Checked.{IsChecked, IsPlaceChecked}
+use Rattle.plan_ops.specs.Checked.{IsChecked, IsNearChecked, IsPlaceChecked}
 
 -- what is there is not missing
 there : {A : Type 0} (o : Option A) (a : A) → o ≡ Some a → o ≡ None → ⊥
@@ -79,6 +80,33 @@ module _ (d : Database) (column : Column) (spatial : Bool) (checked : IsChecked 
     by_place : (o : Option ℕ) → column_named usable.relation.schema column.column ≡ o → ⊥
     by_place (Some at) e = index_there usable.relation at usable.found e (lacks usable.relation at usable.found e (kind_there usable.relation at usable.found e))
     by_place None e = placed usable.relation usable.found e
+
+-- the column has an R-tree where one stands at its place
+abbrev treed_at : Relation → Option ℕ → Bool
+treed_at r None = false
+treed_at r (Some at) = list_any (λ tree. nat_eq tree.0 at) r.rectangles
+
+module _ (d : Database) (column : Column) (checked : IsNearChecked d column) where
+  near_usable : IsSearchable has_rectangles d column is_spatial
+  near_usable = column_searchable has_rectangles d column is_spatial checked
+
+  -- the relation of a column with an R-tree is there
+  pub near_related : relation_named d column.relation ≡ None → ⊥
+  near_related none = there (relation_named d column.relation) near_usable.relation near_usable.found none
+
+  treed : (r : Relation) → relation_named d column.relation ≡ Some r → has_rectangles r column.column ≡ true
+  treed r found =
+      subst (λ (x : Relation). has_rectangles x column.column ≡ true) (same (relation_named d column.relation) near_usable.relation r near_usable.found found) near_usable.indexed
+
+  -- the column is there
+  pub near_placed : (r : Relation) → relation_named d column.relation ≡ Some r → column_named r.schema column.column ≡ None → ⊥
+  near_placed r found none = true≢false (sym (treed r found) ∙ ap (treed_at r) none)
+
+  -- it has an R-tree
+  pub tree_there : {A : Type 0} (r : Relation) (at : ℕ) → relation_named d column.relation ≡ Some r → column_named r.schema column.column ≡ Some at → (o : Option A)
+      → list_any (λ tree. nat_eq tree.0 at) r.rectangles ≡ is_some o → o ≡ None → ⊥
+  tree_there {A} r at found place o is none =
+      true≢false (sym (treed r found) ∙ (ap (treed_at r) place ∙ (is ∙ ap (λ (x : Option A). is_some x) none)))
 
 -- the kind of a column by its place
 

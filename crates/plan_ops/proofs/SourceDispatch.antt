@@ -21,7 +21,7 @@ Ready desk s = IfSome (told_pages desk) (λ pages. (d : Database) × ((p : Plan)
 abbrev pub Stepped : DeskState → DeskState → Source → Result (Option Answer) PageFault → Source → Type 0
 Stepped desk later after result s =
     IfSome (told_pages desk) (λ pages. (d : Database) (p : Plan) (t : Taken) → source_at s pages d p t
-    → SourceStep d p t (counts_of (source_seen s)) (counts_of (source_seen after)) desk later result (source_at after pages d p))
+    → SourceStep pages d p t (counts_of (source_seen s)) (counts_of (source_seen after)) desk later result (source_at after pages d p))
 
 abbrev pub HasHeights : Source → Source → Type 0
 HasHeights after s = source_heights after ≡ source_heights s

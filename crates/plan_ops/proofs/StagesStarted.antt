@@ -1,5 +1,5 @@
 -- The stages of plans that can be opened.
-use Rattle.std.proofs.Common.{◌≡◌, ℕ, Bool, true, false, List, ◌∷◌, map, Option, None, Some, refl, sym, subst, true≢false, Box, Global}
+use Rattle.std.proofs.Common.{◌≡◌, ℕ, Bool, true, false, List, ◌∷◌, Option, None, Some, refl, sym, subst, true≢false, Box, Global}
 use Rattle.page_pool.specs.Disk.{PageMap}
 use Rattle.sand_base.specs.declared.kind.Kind.{Kind}
 use Rattle.sand_base.specs.declared.kind.Kind.TheVariants as kind

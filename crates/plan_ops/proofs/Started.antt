@@ -2,6 +2,8 @@
 use Rattle.std.proofs.Common.{◌≡◌, ℕ, ℤ, Bool, true, false, ◌&&◌, Option, None, Some, refl, sym, ap, subst, true≢false, List}
 use Rattle.page_pool.specs.Disk.{PageMap}
 use Rattle.pmr_tree.specs.declared.quadtree.Pmr.{Pmr}
+use Rattle.r_tree.specs.declared.tree.RTree.{RTree}
+use Rattle.near_source.specs.NearPlans.{IsRtreeOf, BeginsNear}
 use Rattle.sand_base.specs.declared.goal.Goal.{Goal}
 use Rattle.sand_base.specs.declared.goal.Goal.TheVariants as figure
 use Rattle.sand_base.specs.declared.kind.Kind.{Kind}
@@ -16,7 +18,7 @@ use Rattle.statements.specs.declared.plan.Plan.{Plan}
 use Rattle.sand_model.specs.Checks.{check_operators, check_column, check_relation, is_plain}
 use Rattle.sand_model.specs.Database.{Database}
 use Rattle.statements.specs.Plan as model
-use Rattle.sand_store.specs.Catalog.{CatalogView, RelationView, IsColumnAt}
+use Rattle.sand_store.specs.Catalog.{CatalogView, RelationView, IsDescribed, IsColumnAt}
 use Rattle.sand_store.specs.Contents.{database_in}
 use Rattle.sand_store.specs.Paths.{IsTreeOf}
 use Rattle.sand_store.specs.Standing.{CatalogStands, RelationStands}
@@ -26,7 +28,7 @@ use Rattle.plan_rows.specs.SourceSteps.{nothing_taken}
 use Rattle.plan_steps.specs.Following.{Taking}
 use Rattle.rank_source.specs.Rankings.{IsColumnOf, Ranks, Begins}
 use Rattle.pair_source.specs.Joins.{JoinedColumns, Begins as BeginsPairs, BeginsFirsts, BeginsPartners}
-use Rattle.plan_ops.specs.Checked.{IsChecked}
+use Rattle.plan_ops.specs.Checked.{IsChecked, IsNearChecked}
 use Rattle.plan_ops.specs.Openable.{IsOpenable}
 
 -- the database of a catalog
@@ -53,6 +55,10 @@ pub rank_checked : (catalog : CatalogView) (p : Plan) (column : Column) (goal : 
     → IsChecked (base_of catalog pages) column true
 rank_checked catalog p column goal within is o pages =
     record { asked = is_spatial; kinds = λ k e. e; passed = passed catalog p (declared.Rank column goal within) is o pages }
+
+pub near_checked : (catalog : CatalogView) (p : Plan) (column : Column) (goal : Shape) (within : Option ℕ) → p ≡ declared.Near column goal within → IsOpenable catalog p → (pages : PageMap)
+    → IsNearChecked (base_of catalog pages) column
+near_checked catalog p column goal within is o pages = passed catalog p (declared.Near column goal within) is o pages
 
 pub window_checked : (catalog : CatalogView) (p : Plan) (column : Column) (window : Rect) → p ≡ declared.Window column window → IsOpenable catalog p → (pages : PageMap)
     → IsChecked (base_of catalog pages) column true
@@ -110,6 +116,20 @@ pub rank_untaken : (At : Taking) (catalog : CatalogView) (column : Column) (rela
     → IsFound catalog column relation at tree → Begins At relation at tree goal ceiling → Ranks (plan_value p) column goal ceiling → Untaken At catalog (plan_value p)
 rank_untaken At catalog column relation at tree goal ceiling p o found begins ranks pages h =
     begins found.tree_of pages catalog.limits o.described.limits (found.stands pages h) (base_of catalog pages) column (found.named pages) (plan_value p) ranks
+
+-- where a column of shapes with an R-tree was found
+pub record IsFoundNear (catalog : CatalogView) (column : Column) (relation : RelationView) (at : ℕ) (tree : RTree) : Type 0 where
+  pub named : (pages : PageMap) → IsColumnOf pages relation at (base_of catalog pages) column
+  pub tree_of : IsRtreeOf relation at tree
+  pub described : IsDescribed catalog.limits relation
+  pub stands : (pages : PageMap) → CatalogStands pages catalog → RelationStands pages catalog.limits relation
+
+pub near_untaken : (At : Taking) (catalog : CatalogView) (column : Column) (relation : RelationView) (at : ℕ) (tree : RTree) (goal copied : Shape) (within : Option ℕ) (p : Plan) → IsOpenable catalog p
+    → IsFoundNear catalog column relation at tree → BeginsNear At relation at tree copied within → p ≡ declared.Near column goal within → copied ≡ goal → Untaken At catalog (plan_value p)
+near_untaken At catalog column relation at tree goal copied within p o found begins is same =
+    subst (λ (q : Plan). Untaken At catalog (plan_value q)) (sym is) (λ pages h.
+    subst (λ (s : Shape). At pages (base_of catalog pages) (model.Near column s within) nothing_taken) same
+    (begins found.tree_of pages catalog.limits o.described.limits found.described (found.stands pages h) (base_of catalog pages) column (found.named pages)))
 
 pub rank_ranks : (p : Plan) (column : Column) (goal copied : Shape) (within : Option ℕ) → p ≡ declared.Rank column goal within → copied ≡ goal
     → Ranks (plan_value p) column (figure.Shape copied) within

@@ -14,6 +14,9 @@ use Rattle.plan_steps.specs.Following.{Taking}
 use Rattle.plain_source.specs.Plain.{IsScan, IsPickEqual, IsPickBetween, steps_left}
 use Rattle.plain_source.specs.Prices.{heights_of as plain_heights, entries_price}
 use Rattle.rank_source.specs.Rankings.{IsAt, by_code, hierarchy_of, seen_of, steps_of, heights_of as rank_heights}
+use Rattle.near_cursor.specs.NearRanking.{near_weight}
+use Rattle.near_source.specs.declared.near_source.NearSource.{NearSource}
+use Rattle.near_source.specs.NearPlans.{HasTakenNear, near_heights, geometries_seen}
 use Rattle.pair_source.specs.declared.join_source.JoinSource.{JoinSource}
 use Rattle.pair_source.specs.declared.knn_source.KnnSource.{KnnSource}
 use Rattle.pair_source.specs.declared.semi_source.SemiSource.{SemiSource}
@@ -51,12 +54,18 @@ knn_at s pages d p t =
     (joining_in (join_of h) pages)
     s.knn.engine.frontier.queue.items s.knn.engine.frontier.last s.knn.engine.frontier.counts s.knn.partners d p t
 
+-- so much was taken of a ranking by an R-tree
+abbrev pub near_at : NearSource → Taking
+near_at s pages d p t =
+    HasTakenNear s.search.hierarchy pages s.search.frontier.queue.items s.search.frontier.last s.search.frontier.counts d p t
+
 -- so much was taken of it
 abbrev pub source_at : Source → Taking
 source_at (source.Scan s) = IsScan s.relation.value s.last
 source_at (source.PickEqual s) = IsPickEqual s.look_up s.value s.last
 source_at (source.PickBetween s) = IsPickBetween s.look_up s.low s.high s.last
 source_at (source.Rank s) = IsAt s.search
+source_at (source.Near s) = near_at s
 source_at (source.Join s) = join_at s
 source_at (source.Semi s) = semi_at s
 source_at (source.Knn s) = knn_at s
@@ -67,6 +76,7 @@ source_seen (source.Scan s) = record { blocks = 0; pairs = 0; geometries = 0 }
 source_seen (source.PickEqual s) = record { blocks = 0; pairs = 0; geometries = 0 }
 source_seen (source.PickBetween s) = record { blocks = 0; pairs = 0; geometries = 0 }
 source_seen (source.Rank s) = seen_of s.search
+source_seen (source.Near s) = geometries_seen s.search.frontier.counts
 source_seen (source.Join s) =
     record { blocks = 0; pairs = s.search.frontier.counts.visited; geometries = s.search.frontier.counts.fetched }
 source_seen (source.Semi s) =
@@ -80,6 +90,7 @@ source_steps (source.Scan s) = 4294967296 - s.last
 source_steps (source.PickEqual s) = 4294967296 - s.last
 source_steps (source.PickBetween s) = steps_left s.low s.high s.last
 source_steps (source.Rank s) = steps_of s.search
+source_steps (source.Near s) = steps near_weight s.search.frontier.queue.items
 source_steps (source.Join s) = steps pair_weight s.search.frontier.queue.items
 source_steps (source.Semi s) = steps pair_weight s.semi.engine.frontier.queue.items
 source_steps (source.Knn s) = steps pair_weight s.knn.engine.frontier.queue.items
@@ -90,6 +101,7 @@ source_heights (source.Scan s) = plain_heights 0 s.relation.value.file.tree.heig
 source_heights (source.PickEqual s) = plain_heights s.look_up.index.tree.height s.look_up.spot.relation.value.file.tree.height
 source_heights (source.PickBetween s) = plain_heights s.look_up.index.tree.height s.look_up.spot.relation.value.file.tree.height
 source_heights (source.Rank s) = rank_heights (hierarchy_of s.search)
+source_heights (source.Near s) = near_heights s.search.hierarchy
 source_heights (source.Join s) =
     let h = s.search.hierarchy in
     join_heights

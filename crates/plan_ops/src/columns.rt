@@ -1,14 +1,16 @@
 // Columns that passed their checks.
 ghost use Rattle.std.specs.Prelude.{◌≡◌, true, false, IfOk};
 ghost use Rattle.page_pool.specs.Disk.{PageMap};
-ghost use Rattle.sand_store.specs.Catalog.{IsCatalog, IsColumnAt};
+ghost use Rattle.sand_store.specs.Catalog.{IsCatalog, IsDescribed, IsColumnAt};
 ghost use Rattle.sand_store.specs.Contents.{database_in};
 ghost use Rattle.sand_store.specs.Paths.{IsTreeOf};
+ghost use Rattle.near_source.specs.NearPlans.{IsRtreeOf};
 ghost use Rattle.sand_store.specs.Standing.{CatalogStands, RelationStands};
 ghost use Rattle.plan_places.specs.Indexed.{IsLookUp};
 ghost use Rattle.rank_source.specs.Rankings.{IsColumnOf};
-ghost use Rattle.plan_ops.specs.Checked.{IsChecked};
+ghost use Rattle.plan_ops.specs.Checked.{IsChecked, IsNearChecked};
 
+use near_source::RtreeColumn;
 use plan_places::LookUp;
 use rank_source::TreeColumn;
 use sand_base::NoMemory;
@@ -35,6 +37,31 @@ pub(crate) fn tree_column<'s>(catalog: &'s Catalog, column: &Column) -> TreeColu
         unreachable!()
     };
     TreeColumn {
+        relation,
+        column: at,
+        tree,
+    }
+}
+
+/// The column of shapes of these names with its R-tree.
+pub(crate) fn rtree_column<'s>(catalog: &'s Catalog, column: &Column) -> RtreeColumn<'s>
+    requires described { IsCatalog catalog.now }
+    requires checked { (pages : PageMap) → IsNearChecked (database_in pages catalog.now.relations) column.now }
+    ensures named { (pages : PageMap) → IsColumnOf pages result.relation.now result.column (database_in pages catalog.now.relations) column.now }
+    ensures tree { IsRtreeOf result.relation.now result.column result.tree }
+    ensures described { IsDescribed catalog.now.limits result.relation.now }
+    ensures stands { (pages : PageMap) → CatalogStands pages catalog.now → RelationStands pages catalog.now.limits result.relation.now }
+{
+    let Some(relation) = catalog.relation(column.relation.as_str()) else {
+        unreachable!()
+    };
+    let Some(at) = relation.column(column.column.as_str()) else {
+        unreachable!()
+    };
+    let Some(tree) = relation.rtree(at) else {
+        unreachable!()
+    };
+    RtreeColumn {
         relation,
         column: at,
         tree,

@@ -45,6 +45,7 @@ pub(crate) fn operator_of(
         }
         Plan::Scan { .. }
         | Plan::Rank { .. }
+        | Plan::Near { .. }
         | Plan::Window { .. }
         | Plan::PickEqual { .. }
         | Plan::PickBetween { .. }

@@ -1,5 +1,6 @@
 ghost use Rattle.plan_ops.specs.Sources.{source_at, source_seen, source_steps, source_heights, source_step_price, source_owed};
 
+use near_source::NearSource;
 use page_pool::{Desk, Disk, PageFault};
 use pair_source::{JoinSource, KnnSource, SemiSource};
 use plain_source::{PickBetween, PickEqual, Scan};
@@ -14,6 +15,7 @@ pub enum Source {
     PickEqual(PickEqual),
     PickBetween(PickBetween),
     Rank(RankSource),
+    Near(NearSource),
     Join(JoinSource),
     Semi(SemiSource),
     Knn(KnnSource),
@@ -42,6 +44,7 @@ impl RowSource for Source {
             Source::PickEqual(source) => return source.next(alloc, desk),
             Source::PickBetween(source) => return source.next(alloc, desk),
             Source::Rank(source) => return source.next(alloc, desk),
+            Source::Near(source) => return source.next(alloc, desk),
             Source::Join(source) => return source.next(alloc, desk),
             Source::Semi(source) => return source.next(alloc, desk),
             Source::Knn(source) => return source.next(alloc, desk),
@@ -54,6 +57,7 @@ impl RowSource for Source {
             Source::PickEqual(source) => source.counts(),
             Source::PickBetween(source) => source.counts(),
             Source::Rank(source) => source.counts(),
+            Source::Near(source) => source.counts(),
             Source::Join(source) => source.counts(),
             Source::Semi(source) => source.counts(),
             Source::Knn(source) => source.counts(),

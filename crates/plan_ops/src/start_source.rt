@@ -16,7 +16,8 @@ ghost use Rattle.plan_ops.specs.Openable.{IsOpenable};
 ghost use Rattle.plan_ops.specs.Sources.{source_at, source_seen};
 
 use crate::Source;
-use crate::columns::tree_column;
+use crate::columns::{rtree_column, tree_column};
+use near_source::NearSource;
 use pair_source::{JoinSource, KnnSource, SemiSource};
 use plain_source::{PickBetween, PickEqual, Scan};
 use plan_rows::RowSource;
@@ -47,6 +48,15 @@ impl Source {
                 let goal = Goal::Shape(goal.copy(alloc)?);
                 let ranked = RankSource::start(alloc, tree_column(catalog, column), goal, *within)?;
                 Ok(Source::Rank(ranked))
+            }
+            Plan::Near {
+                column,
+                goal,
+                within,
+            } => {
+                let goal = goal.copy(alloc)?;
+                let near = NearSource::start(alloc, rtree_column(catalog, column), goal, *within)?;
+                Ok(Source::Near(near))
             }
             Plan::Window { column, window } => {
                 let goal = Goal::Rect(*window);

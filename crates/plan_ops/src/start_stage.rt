@@ -59,6 +59,7 @@ impl Stage {
             }
             Plan::Scan { .. }
             | Plan::Rank { .. }
+            | Plan::Near { .. }
             | Plan::Window { .. }
             | Plan::PickEqual { .. }
             | Plan::PickBetween { .. }

@@ -1,7 +1,8 @@
 -- Counts of visits: none at first, and between two others, call after call.
-use Rattle.std.proofs.Common.{◌≡◌, Bool, true, false, ◌&&◌, List, [], ◌∷◌, length, filter, refl, ap, le_refl, le_trans}
+use Rattle.std.proofs.Common.{◌≡◌, ℕ, Bool, true, false, ◌&&◌, List, [], ◌∷◌, length, filter, refl, ap, le_refl, le_trans}
 use Rattle.sand_base.specs.declared.goal.Goal.{Goal}
 use Rattle.sand_base.specs.declared.goal.Goal.TheVariants as figure
+use Rattle.sand_base.specs.declared.shape.Shape.{Shape}
 use Rattle.sand_model.specs.Cursor.{AreBetween}
 use Rattle.sand_model.specs.Database.{Database}
 use Rattle.sand_model.specs.Measure.{Measure}
@@ -9,7 +10,8 @@ use Rattle.sand_model.specs.Nodes.{LeafItem, rank_items, rank_gaps, pair_nodes, 
 use Rattle.statements.specs.Plan as plan
 use Rattle.statements.specs.Plan.{Plan}
 use Rattle.statements.specs.declared.column.Column.{Column}
-use Rattle.sand_model.specs.Reach.{Nothing, reaches, Counts, no_counts, distinct, roughs_within, rank_counts, join_counts, counts_at, innermost, quadtree_of}
+use Rattle.sand_model.specs.Reach.{Nothing, reaches, Counts, no_counts, distinct, roughs_within, rank_counts, near_counts, join_counts, counts_at, innermost, quadtree_of}
+use Rattle.sand_model.specs.Roughs.{is_rough, rough_figure}
 use Rattle.sand_model.specs.Sources.{column_shapes}
 use Rattle.sand_model.specs.Tree.{root_block}
 use Rattle.plan_rows.specs.Rows.{plan_measure}
@@ -47,9 +49,15 @@ no_join_counts gap d left right =
     (ap length (filter_no (λ node. reaches Nothing (pair_gap gap node)) (λ node. refl) nodes))
     (no_roughs (join_items gap (column_shapes d left) (column_shapes d right) nodes))
 
+no_near_counts : (gap : Measure) (d : Database) (column : Column) (goal : Goal) → near_counts gap d column goal Nothing ≡ no_counts
+no_near_counts gap d column goal =
+    counts_one (near_counts gap d column goal Nothing) no_counts refl refl
+    (ap length (filter_no (λ (row : ℕ × Shape). is_rough row.1 && reaches Nothing (gap goal (rough_figure row.1))) (λ row. neither (is_rough row.1)) (column_shapes d column)))
+
 -- nothing lies within no reach
 pub nothing_counts : (gap : Measure) (d : Database) (p : Plan) → counts_at gap d p Nothing ≡ no_counts
 nothing_counts gap d (plan.Rank column goal within) = no_rank_counts gap d column (figure.Shape goal)
+nothing_counts gap d (plan.Near column goal within) = no_near_counts gap d column (figure.Shape goal)
 nothing_counts gap d (plan.Window column window) = no_rank_counts gap d column (figure.Rect window)
 nothing_counts gap d (plan.Join left right within) = no_join_counts gap d left right
 nothing_counts gap d (plan.Semi left right within) = no_join_counts gap d left right

@@ -5,21 +5,25 @@ use Rattle.exact_frac.specs.Frac.{value_cmp}
 use Rattle.exact_frac.specs.declared.frac.Frac.{Frac}
 use Rattle.sand_base.specs.declared.goal.Goal.{Goal}
 use Rattle.sand_base.specs.declared.goal.Goal.TheVariants as figure
+use Rattle.sand_base.specs.declared.rect.Rect.{Rect}
+use Rattle.sand_base.specs.declared.shape.Shape.{Shape}
 use Rattle.sand_base.specs.declared.visit.Visit.{Visit}
 use Rattle.sand_base.specs.declared.visit.Visit.TheVariants as visit
+use Rattle.page_pool.specs.Disk.{PageMap}
 use Rattle.sand_model.specs.Database.{Database}
 use Rattle.sand_model.specs.Measure.{Measure}
 use Rattle.sand_model.specs.Nodes.{LeafItem, PairNode, rank_items, rank_gaps, pair_nodes, pair_gap, join_items}
 use Rattle.statements.specs.Plan as plan
 use Rattle.statements.specs.Plan.{Plan}
 use Rattle.statements.specs.declared.column.Column.{Column}
-use Rattle.sand_model.specs.Reach.{Reach, Nothing, UpTo, Ceiling, reaches, Counts, roughs_within, rank_counts, join_counts, counts_at, no_counts, quadtree_of}
+use Rattle.sand_model.specs.Reach.{Reach, Nothing, UpTo, Ceiling, reaches, Counts, roughs_within, rank_counts, near_counts, join_counts, counts_at, no_counts, quadtree_of}
+use Rattle.sand_model.specs.Roughs.{is_rough, rough_figure}
 use Rattle.sand_model.specs.Sources.{is_within, column_shapes}
 use Rattle.sand_model.specs.Tree.{Tree, root_block}
 use Rattle.best_first.specs.Reach.{IsAtMost}
 use Rattle.best_first.proofs.Gaps.{at_most_trans, not_greater, at_most_not_greater, within_reach}
 use Rattle.plan_rows.proofs.DistinctItems.{passing_more}
-use Rattle.plan_rows.specs.Visited.{IsBlockWithin, IsRoughWithin, IsPairWithin, IsRankVisit, IsJoinVisit, IsSourceVisit, nodes_of_columns}
+use Rattle.plan_rows.specs.Visited.{IsBlockWithin, IsRoughWithin, IsPairWithin, IsBoundWithin, IsRankVisit, IsNearVisit, IsJoinVisit, IsSourceVisit, nodes_of_columns, page_bound}
 
 -- what the first reach takes in, the second does too
 abbrev pub IsPartOf : Reach → Reach → Type 0
@@ -107,9 +111,20 @@ module _ (to more : Reach) (part : IsPartOf to more) where
         geometries = roughs_more (join_items gap (column_shapes d left) (column_shapes d right) nodes);
       }
 
+  near_more : (gap : Measure) (d : Database) (column : Column) (goal : Goal) → AreAtMost (near_counts gap d column goal to) (near_counts gap d column goal more)
+  near_more gap d column goal = record {
+    blocks = omega arith;
+    pairs = omega arith;
+    geometries =
+        filter_more (λ (row : ℕ × Shape). is_rough row.1 && reaches to (gap goal (rough_figure row.1))) (λ (row : ℕ × Shape). is_rough row.1 && reaches more (gap goal (rough_figure row.1)))
+        (λ row h. let both = both_true (is_rough row.1) (reaches to (gap goal (rough_figure row.1))) h in
+        true_both (is_rough row.1) (reaches more (gap goal (rough_figure row.1))) both.0 (part (gap goal (rough_figure row.1)) both.1)) (column_shapes d column);
+  }
+
   -- a farther reach counts at least as much
   pub counts_more : (gap : Measure) (d : Database) (p : Plan) → AreAtMost (counts_at gap d p to) (counts_at gap d p more)
   counts_more gap d (plan.Rank column goal within) = rank_more gap d column (figure.Shape goal)
+  counts_more gap d (plan.Near column goal within) = near_more gap d column (figure.Shape goal)
   counts_more gap d (plan.Window column window) = rank_more gap d column (figure.Rect window)
   counts_more gap d (plan.Join left right within) = join_more gap d left right
   counts_more gap d (plan.Semi left right within) = join_more gap d left right
@@ -151,11 +166,22 @@ module _ (to more : Reach) (part : IsPartOf to more) where
       rough_more (join_items gap (column_shapes d left) (column_shapes d right) (nodes_of_columns d left right)) l r h
   join_visit_more gap d left right _ h = absurd h
 
+  bound_more : (gap : Measure) (goal : Goal) (bound : Option Rect) → IsBoundWithin gap goal to bound → IsBoundWithin gap goal more bound
+  bound_more gap goal (Some r) h = part (gap goal (figure.Rect r)) h
+  bound_more gap goal None h = λ least is. part least (h least is)
+
+  near_visit_more : (gap : Measure) (pages : PageMap) (d : Database) (column : Column) (goal : Goal) (v : Visit) → IsNearVisit gap pages d column goal to v
+      → IsNearVisit gap pages d column goal more v
+  near_visit_more gap pages d column goal (visit.Tree number page) h = bound_more gap goal (page_bound pages page) h
+  near_visit_more gap pages d column goal (visit.Geometry id) h = record { polygon = h.polygon; among = h.among; rough = h.rough; near = part _ h.near }
+  near_visit_more gap pages d column goal _ h = absurd h
+
   -- a visit that lies within a reach lies within a farther one
-  pub visit_more : (gap : Measure) (d : Database) (p : Plan) (v : Visit) → IsSourceVisit gap d p to v → IsSourceVisit gap d p more v
-  visit_more gap d (plan.Rank column goal within) v h = rank_visit_more gap d column (figure.Shape goal) v h
-  visit_more gap d (plan.Window column window) v h = rank_visit_more gap d column (figure.Rect window) v h
-  visit_more gap d (plan.Join left right within) v h = join_visit_more gap d left right v h
-  visit_more gap d (plan.Semi left right within) v h = join_visit_more gap d left right v h
-  visit_more gap d (plan.Knn k left right within) v h = join_visit_more gap d left right v h
-  visit_more gap d _ v h = absurd h
+  pub visit_more : (gap : Measure) (pages : PageMap) (d : Database) (p : Plan) (v : Visit) → IsSourceVisit gap pages d p to v → IsSourceVisit gap pages d p more v
+  visit_more gap pages d (plan.Rank column goal within) v h = rank_visit_more gap d column (figure.Shape goal) v h
+  visit_more gap pages d (plan.Near column goal within) v h = near_visit_more gap pages d column (figure.Shape goal) v h
+  visit_more gap pages d (plan.Window column window) v h = rank_visit_more gap d column (figure.Rect window) v h
+  visit_more gap pages d (plan.Join left right within) v h = join_visit_more gap d left right v h
+  visit_more gap pages d (plan.Semi left right within) v h = join_visit_more gap d left right v h
+  visit_more gap pages d (plan.Knn k left right within) v h = join_visit_more gap d left right v h
+  visit_more gap pages d _ v h = absurd h

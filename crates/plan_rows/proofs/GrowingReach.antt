@@ -2,6 +2,7 @@
 use Rattle.std.proofs.Common.{◌≡◌, ◌+◌, ◌≤◌, Bool, true, false, cond, not, ◌&&◌, nat_lt, true≢false, take, length, refl, sym, arith, le_refl, le_trans}
 use Rattle.std.proofs.lemmas.Bool.{ltb-true}
 use Rattle.sand_base.specs.declared.visit.Visit.{Visit}
+use Rattle.page_pool.specs.Disk.{PageMap}
 use Rattle.sand_model.specs.Answer.{source}
 use Rattle.sand_model.specs.Database.{Database}
 use Rattle.sand_model.specs.Measure.{Measure}
@@ -27,7 +28,7 @@ before_trans a b c h k = (le_trans h.0 k.0, λ e. k.1 (h.1 e))
 -- What was taken later reaches farther: it takes in each gap and each visit that was within reach before, and counts no less.
 pub record Grows (gap : Measure) (d : Database) (p : Plan) (t later : Taken) : Type 0 where
   pub part : IsPartOf (reach gap d p t) (reach gap d p later)
-  pub visits : (v : Visit) → LiesWithin gap d p (reach gap d p t) v → LiesWithin gap d p (reach gap d p later) v
+  pub visits : (pages : PageMap) (v : Visit) → LiesWithin gap pages d p (reach gap d p t) v → LiesWithin gap pages d p (reach gap d p later) v
   pub counts : AreAtMost (counts_at gap d (innermost p) (reach gap d p t)) (counts_at gap d (innermost p) (reach gap d p later))
 
 -- the last rows, or the ceiling once the end was taken and not all had a row
@@ -51,7 +52,7 @@ pub grows : (gap : Measure) (d : Database) (p : Plan) (t later : Taken) → IsBe
 grows gap d p t later h =
     let part = reach_grows gap d p t later h in record {
       part = part;
-      visits = λ v is. visit_more (reach gap d p t) (reach gap d p later) part gap d (innermost p) v is;
+      visits = λ pages v is. visit_more (reach gap d p t) (reach gap d p later) part gap pages d (innermost p) v is;
       counts = counts_more (reach gap d p t) (reach gap d p later) part gap d (innermost p);
     }
 

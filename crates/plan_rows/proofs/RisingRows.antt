@@ -288,6 +288,7 @@ pairs_found gap lefts rights = flat_map (λ s. map (λ t. record {
 pub source_nearest : (gap : Measure) (d : Database) (p : Plan) → IsNearestFirst (ceiling_of (innermost p)) (source gap d p)
 source_nearest gap d (plan.Scan relation) = scan_nearest d relation (relation_named d relation) refl
 source_nearest gap d (plan.Rank column goal within) = sorted_nearest single_row (λ found. refl) within (shapes_found gap (figure.Shape goal) (column_shapes d column))
+source_nearest gap d (plan.Near column goal within) = sorted_nearest single_row (λ found. refl) within (shapes_found gap (figure.Shape goal) (column_shapes d column))
 source_nearest gap d (plan.Window column window) = sorted_nearest single_row (λ found. refl) (Some 0) (shapes_found gap (figure.Rect window) (column_shapes d column))
 source_nearest gap d (plan.PickEqual column v) = gapless_nearest (λ pair. plain_row pair.0) (λ pair. refl) (filter (λ pair. same_value pair.1 v) (column_values d column))
 source_nearest gap d (plan.PickBetween column low high) = gapless_nearest (λ pair. plain_row pair.0) (λ pair. refl)

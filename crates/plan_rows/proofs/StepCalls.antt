@@ -6,6 +6,7 @@ use Rattle.std.proofs.lemmas.List.Elements.{All-nil, All-append, All-contains}
 use Rattle.sand_base.specs.Faults.{last_count}
 use Rattle.sand_base.specs.declared.visit.Visit.{Visit}
 use Rattle.page_pool.specs.Desk.{DeskState}
+use Rattle.page_pool.specs.Disk.{PageMap}
 use Rattle.page_pool.specs.declared.fault.PageFault.{PageFault}
 use Rattle.sand_model.specs.Answer.{source}
 use Rattle.sand_model.specs.Database.{Database}
@@ -26,14 +27,14 @@ use Rattle.plan_rows.proofs.VisitCounts.{plus_none, counts_behind}
 use Rattle.plan_rows.proofs.TakenSoFar.{IsNeeded, IsSpent, needed_before, asked_before}
 
 -- What the calls of a source in a step did to what was visited: each visit lies within the reach of what is taken later, the counts rose by those that were completed, at most one was attempted in vain after them where the last call was refused, and a page get was made for each node that was counted.
-pub record VisitsWithin {T : Type 0} (d : Database) (p : Plan) (later : Taken) (before now : Counts) (old new : DeskState) (result : Result T PageFault) : Type 0 where
+pub record VisitsWithin {T : Type 0} (pages : PageMap) (d : Database) (p : Plan) (later : Taken) (before now : Counts) (old new : DeskState) (result : Result T PageFault) : Type 0 where
   pub completed : List Visit
   pub attempted : List Visit
   pub log : new.visits ≡ old.visits ++ (completed ++ attempted)
   pub few : length attempted ≤ 1
   pub settled : OnOk result (attempted ≡ [])
   pub counted : now ≡ before plus visit_counts completed
-  pub near : All (LiesWithin plan_measure d p (reach plan_measure d p later)) (completed ++ attempted)
+  pub near : All (LiesWithin plan_measure pages d p (reach plan_measure d p later)) (completed ++ attempted)
   pub up : AreAtMost before now
   pub rose : min (old.pool.gets + (node_count now - node_count before)) last_count ≤ new.pool.gets
 
@@ -53,10 +54,10 @@ gets_chain o b m n most g h first second i j = omega arith
 nodes_rose : (before now : Counts) → AreAtMost before now → node_count before ≤ node_count now
 nodes_rose before now h = let blocks = h.blocks in let pairs = h.pairs in omega (arith, blocks, pairs)
 
-module _ (d : Database) (p : Plan) (later : Taken) where
+module _ (pages : PageMap) (d : Database) (p : Plan) (later : Taken) where
   -- no call
   pub within_none : {T : Type 0} (c : Counts) (old new : DeskState) (result : Result T PageFault) → new.visits ≡ old.visits → min old.pool.gets last_count ≤ new.pool.gets
-      → VisitsWithin d p later c c old new result
+      → VisitsWithin pages d p later c c old new result
   within_none {T} c old new result log up = record {
     completed = [];
     attempted = [];
@@ -64,15 +65,15 @@ module _ (d : Database) (p : Plan) (later : Taken) where
     few = omega arith;
     settled = on_any result refl;
     counted = sym (plus_none c);
-    near = All-nil (LiesWithin plan_measure d p (reach plan_measure d p later));
+    near = All-nil (LiesWithin plan_measure pages d p (reach plan_measure d p later));
     up = at_most_itself c;
     rose = gets_none old.pool.gets (node_count c) last_count new.pool.gets up;
   }
 
   -- one call, of a source of which no more is taken than later, in a step that is refused where the call is
   pub within_call : {T : Type 0} (t : Taken) (before now : Counts) (old new : DeskState) (answer : Result (Option Answer) PageFault) (result : Result T PageFault)
-      → ((fault : PageFault) → answer ≡ Err fault → result ≡ Err fault) → IsBefore (next_taken d p t) later → MakesVisits d p t before now old new answer
-      → VisitsWithin d p later before now old new result
+      → ((fault : PageFault) → answer ≡ Err fault → result ≡ Err fault) → IsBefore (next_taken d p t) later → MakesVisits pages d p t before now old new answer
+      → VisitsWithin pages d p later before now old new result
   within_call {T} t before now old new answer result refused h call =
       let more = grows plan_measure d p (next_taken d p t) later h in record {
         completed = call.completed;
@@ -81,8 +82,8 @@ module _ (d : Database) (p : Plan) (later : Taken) where
         few = call.few;
         settled = settled_after answer call.settled refused;
         counted = call.counted;
-        near = All-by (LiesWithin plan_measure d p (reach plan_measure d p later)) (call.completed ++ call.attempted) (λ v at.
-            more.visits v (All-contains (LiesWithin plan_measure d p (reach plan_measure d p (next_taken d p t))) (call.completed ++ call.attempted) v call.near at));
+        near = All-by (LiesWithin plan_measure pages d p (reach plan_measure d p later)) (call.completed ++ call.attempted) (λ v at.
+            more.visits pages v (All-contains (LiesWithin plan_measure pages d p (reach plan_measure d p (next_taken d p t))) (call.completed ++ call.attempted) v call.near at));
         up = between_low before (counts_taken d p (next_taken d p t)) now call.between;
         rose = call.rose;
       }
@@ -93,8 +94,8 @@ module _ (d : Database) (p : Plan) (later : Taken) where
       settled_after (Err fault) none refused = subst (λ r. OnOk r (call.attempted ≡ [])) (sym (refused fault refl)) tt
 
   -- a step that was not refused attempted nothing in vain
-  pub within_ok : {T : Type 0} (before now : Counts) (old new : DeskState) (result : Result T PageFault) (x : T) → result ≡ Ok x → VisitsWithin d p later before now old new result
-      → VisitsWithin {T = Unit} d p later before now old new (Ok tt)
+  pub within_ok : {T : Type 0} (before now : Counts) (old new : DeskState) (result : Result T PageFault) (x : T) → result ≡ Ok x → VisitsWithin pages d p later before now old new result
+      → VisitsWithin {T = Unit} pages d p later before now old new (Ok tt)
   within_ok {T} before now old new result x ok within = record {
     completed = within.completed;
     attempted = within.attempted;
@@ -108,8 +109,8 @@ module _ (d : Database) (p : Plan) (later : Taken) where
   }
 
   -- some calls after others, which were not refused
-  pub within_chain : {T : Type 0} (before mid now : Counts) (old middle new : DeskState) (result : Result T PageFault) → VisitsWithin {T = Unit} d p later before mid old middle (Ok tt)
-      → VisitsWithin d p later mid now middle new result → VisitsWithin d p later before now old new result
+  pub within_chain : {T : Type 0} (before mid now : Counts) (old middle new : DeskState) (result : Result T PageFault) → VisitsWithin {T = Unit} pages d p later before mid old middle (Ok tt)
+      → VisitsWithin pages d p later mid now middle new result → VisitsWithin pages d p later before now old new result
   within_chain {T} before mid now old middle new result first second = record {
     completed = first.completed ++ second.completed;
     attempted = second.attempted;
@@ -121,9 +122,9 @@ module _ (d : Database) (p : Plan) (later : Taken) where
     settled = second.settled;
     counted = counts_behind before mid now first.completed second.completed first.counted second.counted;
     near =
-        subst (All (LiesWithin plan_measure d p (reach plan_measure d p later))) (sym (append_assoc first.completed second.completed second.attempted))
-        (All-append (LiesWithin plan_measure d p (reach plan_measure d p later)) first.completed (second.completed ++ second.attempted)
-        (subst (All (LiesWithin plan_measure d p (reach plan_measure d p later))) all_completed first.near) second.near);
+        subst (All (LiesWithin plan_measure pages d p (reach plan_measure d p later))) (sym (append_assoc first.completed second.completed second.attempted))
+        (All-append (LiesWithin plan_measure pages d p (reach plan_measure d p later)) first.completed (second.completed ++ second.attempted)
+        (subst (All (LiesWithin plan_measure pages d p (reach plan_measure d p later))) all_completed first.near) second.near);
     up = at_most_trans before mid now first.up second.up;
     rose =
         gets_chain old.pool.gets (node_count before) (node_count mid) (node_count now) last_count middle.pool.gets new.pool.gets
@@ -153,10 +154,10 @@ pub counted_none : (d : Database) (p : Plan) (given : ℕ) → IsCounted d p giv
 counted_none d p given = counted_is d p given nothing_taken no_counts (sym (nothing_taken_counts d p))
 
 -- after a call
-pub counted_call : (d : Database) (p : Plan) (given : ℕ) (t : Taken) (before now : Counts) (old new : DeskState) (result : Result (Option Answer) PageFault)
-    → IsOpen d p given t → IsCounted d p given t before → MakesVisits d p t before now old new result → IsCounted d p given (taken_after d p t result) now
-counted_call d p given t before now old new (Ok a) asks counted call = counted_is d p given (next_taken d p t) now call.exact
-counted_call d p given t before now old new (Err fault) asks counted call =
+pub counted_call : (pages : PageMap) (d : Database) (p : Plan) (given : ℕ) (t : Taken) (before now : Counts) (old new : DeskState) (result : Result (Option Answer) PageFault)
+    → IsOpen d p given t → IsCounted d p given t before → MakesVisits pages d p t before now old new result → IsCounted d p given (taken_after d p t result) now
+counted_call pages d p given t before now old new (Ok a) asks counted call = counted_is d p given (next_taken d p t) now call.exact
+counted_call pages d p given t before now old new (Err fault) asks counted call =
     let high = counts_taken d p (next_taken d p t) in record {
       low = at_most_trans (counts_taken d p t) before now counted.low (between_low before high now call.between);
       exact = inr (asks, between_high before high now call.between);

@@ -40,9 +40,16 @@ join_visit_price h left right (visit.Pair b c) = pair_price h.index (ids_at left
 join_visit_price h left right (visit.GeometryPair l r) = two_tuples_price h.rows h.right_rows
 join_visit_price h left right _ = 0
 
+-- a visit of a ranking by an R-tree: a node costs one page get
+abbrev pub near_visit_price : Heights → Visit → ℕ
+near_visit_price h (visit.Tree number page) = 1
+near_visit_price h (visit.Geometry id) = tuple_price h.rows
+near_visit_price h _ = 0
+
 -- a visit of a source; a scan and a pick make none
 abbrev pub source_visit_price : Heights → Database → Plan → Visit → ℕ
 source_visit_price h d (plan.Rank column goal within) v = rank_visit_price h (quadtree_of d column) v
+source_visit_price h d (plan.Near column goal within) v = near_visit_price h v
 source_visit_price h d (plan.Window column window) v = rank_visit_price h (quadtree_of d column) v
 source_visit_price h d (plan.Join left right within) v = join_visit_price h (quadtree_of d left) (quadtree_of d right) v
 source_visit_price h d (plan.Semi left right within) v = join_visit_price h (quadtree_of d left) (quadtree_of d right) v

@@ -3,6 +3,7 @@ use Rattle.std.specs.Prelude.{◌≡◌, ℕ, ◌+◌, ◌-◌, ◌≤◌, ◌<�
 use Rattle.sand_base.specs.Faults.{last_count}
 use Rattle.sand_base.specs.declared.visit.Visit.{Visit}
 use Rattle.page_pool.specs.Desk.{DeskState}
+use Rattle.page_pool.specs.Disk.{PageMap}
 use Rattle.page_pool.specs.declared.fault.PageFault.{PageFault}
 use Rattle.sand_model.specs.Answer.{source}
 use Rattle.sand_model.specs.Cursor.{AreBetween}
@@ -43,24 +44,24 @@ counts_taken d p t = counts_at plan_measure d (innermost p) (reach plan_measure 
 abbrev pub node_count : Counts → ℕ
 node_count c = c.blocks + c.pairs
 
--- The visits of a call: they were noted behind those before, those completed and after them, only in a refused call, at most one that was attempted in vain; each lies within the reach of what would be taken next. The counts rise by just the completed ones, to at most those of that reach, and are these after a row and at the end. At least one page get was made for each node that was counted.
-pub record MakesVisits (d : Database) (p : Plan) (t : Taken) (before now : Counts) (old new : DeskState) (result : Result (Option Answer) PageFault) : Type 0 where
+-- The visits of a call: they were noted behind those before, those completed and after them, only in a refused call, at most one that was attempted in vain; each lies within the reach of what would be taken next, over these pages. The counts rise by just the completed ones, to at most those of that reach, and are these after a row and at the end. At least one page get was made for each node that was counted.
+pub record MakesVisits (pages : PageMap) (d : Database) (p : Plan) (t : Taken) (before now : Counts) (old new : DeskState) (result : Result (Option Answer) PageFault) : Type 0 where
   pub completed : List Visit
   pub attempted : List Visit
   pub log : new.visits ≡ old.visits ++ (completed ++ attempted)
   pub few : length attempted ≤ 1
   pub settled : OnOk result (attempted ≡ [])
   pub counted : now ≡ before plus visit_counts completed
-  pub near : All (LiesWithin plan_measure d p (reach plan_measure d p (next_taken d p t))) (completed ++ attempted)
+  pub near : All (LiesWithin plan_measure pages d p (reach plan_measure d p (next_taken d p t))) (completed ++ attempted)
   pub between : AreBetween before (counts_taken d p (next_taken d p t)) now
   pub exact : OnOk result (now ≡ counts_taken d p (next_taken d p t))
   pub rose : min (old.pool.gets + (node_count now - node_count before)) last_count ≤ new.pool.gets
 
 -- A call of a source of which so much was taken.
-pub record SourceStep (d : Database) (p : Plan) (t : Taken) (before now : Counts) (old new : DeskState) (result : Result (Option Answer) PageFault) (At : Taken → Type 0) : Type 0 where
+pub record SourceStep (pages : PageMap) (d : Database) (p : Plan) (t : Taken) (before now : Counts) (old new : DeskState) (result : Result (Option Answer) PageFault) (At : Taken → Type 0) : Type 0 where
   pub row : GivesRow d p t result
   pub at : At (taken_after d p t result)
-  pub visits : MakesVisits d p t before now old new result
+  pub visits : MakesVisits pages d p t before now old new result
 
 -- a row lowers the number, and no answer raises it
 abbrev pub Falls : ℕ → ℕ → Result (Option Answer) PageFault → Type 0

@@ -1,10 +1,17 @@
--- What visits count, and whether a visit of a plan's source lies within a reach: its node's gap does, or the gap of a rough item that a leaf lists.
-use Rattle.std.specs.Prelude.{◌≡◌, ℕ, ◌+◌, true, List, [], ◌∷◌, Contains}
+-- What visits count, and whether a visit of a plan's source lies within a reach: its node's gap does, or the gap of a rough item that a leaf lists. A node of an R-tree has the gap of the rectangle that its page tells.
+use Rattle.std.specs.Prelude.{◌≡◌, ℕ, ◌+◌, true, List, [], ◌∷◌, Contains, Option, None, Some}
+use Rattle.std.specs.FinMap as fin
+use Rattle.exact_frac.specs.declared.frac.Frac.{Frac}
 use Rattle.sand_base.specs.declared.goal.Goal.{Goal}
 use Rattle.sand_base.specs.declared.goal.Goal.TheVariants as figure
+use Rattle.sand_base.specs.declared.rect.Rect.{Rect}
+use Rattle.sand_base.specs.declared.shape.Shape.{Shape}
 use Rattle.sand_base.specs.declared.visit.Visit.{Visit}
 use Rattle.sand_base.specs.declared.visit.Visit.TheVariants as visit
 use Rattle.z_code.specs.declared.block.Block.{Block}
+use Rattle.page_pool.specs.Disk.{PageMap}
+use Rattle.r_tree.specs.Entry.{bound_of}
+use Rattle.r_tree.specs.Tree.{entries_at}
 use Rattle.sand_model.specs.Database.{Database}
 use Rattle.sand_model.specs.Measure.{Measure}
 use Rattle.sand_model.specs.Nodes.{LeafItem, PairNode, rank_items, pair_nodes, pair_gap, join_items, square_figure}
@@ -12,6 +19,7 @@ use Rattle.statements.specs.Plan as plan
 use Rattle.statements.specs.Plan.{Plan}
 use Rattle.statements.specs.declared.column.Column.{Column}
 use Rattle.sand_model.specs.Reach.{Reach, Counts, no_counts, reaches, quadtree_of, innermost}
+use Rattle.sand_model.specs.Roughs.{is_rough, rough_figure}
 use Rattle.sand_model.specs.Sources.{column_shapes}
 use Rattle.sand_model.specs.Tree.{Tree, places, root_block}
 
@@ -77,15 +85,38 @@ IsJoinVisit gap d left right to (visit.GeometryPair l r) =
     IsRoughWithin (join_items gap (column_shapes d left) (column_shapes d right) (nodes_of_columns d left right)) to l r
 IsJoinVisit gap d left right to _ = ⊥
 
--- a visit of a source; a scan and a pick make none
-abbrev pub IsSourceVisit : Measure → Database → Plan → Reach → Visit → Type 0
-IsSourceVisit gap d (plan.Rank column goal within) to v = IsRankVisit gap d column (figure.Shape goal) to v
-IsSourceVisit gap d (plan.Window column window) to v = IsRankVisit gap d column (figure.Rect window) to v
-IsSourceVisit gap d (plan.Join left right within) to v = IsJoinVisit gap d left right to v
-IsSourceVisit gap d (plan.Semi left right within) to v = IsJoinVisit gap d left right to v
-IsSourceVisit gap d (plan.Knn k left right within) to v = IsJoinVisit gap d left right to v
-IsSourceVisit gap d _ to v = ⊥
+-- the least rectangle round what a page of an R-tree lists
+abbrev pub page_bound : PageMap → ℕ → Option Rect
+page_bound pages page = bound_of (entries_at (λ n. fin.get pages n) page)
 
--- the visit of a plan's source lies within the reach
-abbrev pub LiesWithin : Measure → Database → Plan → Reach → Visit → Type 0
-LiesWithin gap d p to v = IsSourceVisit gap d (innermost p) to v
+-- the rectangle lies within the reach where its gap does, and where there is none the gap 0 does
+abbrev pub IsBoundWithin : Measure → Goal → Reach → Option Rect → Type 0
+IsBoundWithin gap goal to (Some r) = reaches to (gap goal (figure.Rect r)) ≡ true
+IsBoundWithin gap goal to None = (least : Frac) → least.num ≡ 0 → reaches to least ≡ true
+
+-- a polygon has this id, and its bounding rectangle lies within the reach
+pub record IsPolygonWithin (gap : Measure) (goal : Goal) (rows : List (ℕ × Shape)) (to : Reach) (id : ℕ) : Type 0 where
+  pub polygon : Shape
+  pub among : Contains rows (id, polygon)
+  pub rough : is_rough polygon ≡ true
+  pub near : reaches to (gap goal (rough_figure polygon)) ≡ true
+
+-- a visit of a ranking by an R-tree
+abbrev pub IsNearVisit : Measure → PageMap → Database → Column → Goal → Reach → Visit → Type 0
+IsNearVisit gap pages d column goal to (visit.Tree number page) = IsBoundWithin gap goal to (page_bound pages page)
+IsNearVisit gap pages d column goal to (visit.Geometry id) = IsPolygonWithin gap goal (column_shapes d column) to id
+IsNearVisit gap pages d column goal to _ = ⊥
+
+-- a visit of a source; a scan and a pick make none
+abbrev pub IsSourceVisit : Measure → PageMap → Database → Plan → Reach → Visit → Type 0
+IsSourceVisit gap pages d (plan.Rank column goal within) to v = IsRankVisit gap d column (figure.Shape goal) to v
+IsSourceVisit gap pages d (plan.Near column goal within) to v = IsNearVisit gap pages d column (figure.Shape goal) to v
+IsSourceVisit gap pages d (plan.Window column window) to v = IsRankVisit gap d column (figure.Rect window) to v
+IsSourceVisit gap pages d (plan.Join left right within) to v = IsJoinVisit gap d left right to v
+IsSourceVisit gap pages d (plan.Semi left right within) to v = IsJoinVisit gap d left right to v
+IsSourceVisit gap pages d (plan.Knn k left right within) to v = IsJoinVisit gap d left right to v
+IsSourceVisit gap pages d _ to v = ⊥
+
+-- the visit of a plan's source, over these pages, lies within the reach
+abbrev pub LiesWithin : Measure → PageMap → Database → Plan → Reach → Visit → Type 0
+LiesWithin gap pages d p to v = IsSourceVisit gap pages d (innermost p) to v

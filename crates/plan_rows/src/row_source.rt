@@ -47,7 +47,7 @@ pub trait RowSource: Drop {
         ensures read { IsRead desk.old.pool desk.new.pool }
         ensures cause { HasPageCause desk.old.pool desk.new.pool result }
         ensures falls { Falls (steps self.old) (steps self.new) result }
-        ensures step { IfSome (told_pages desk.old) (λ pages. (d : Database) (p : Plan) (t : Taken) → At self.old pages d p t → SourceStep d p t (counts_of (seen self.old)) (counts_of (seen self.new)) desk.old desk.new result (At self.new pages d p)) }
+        ensures step { IfSome (told_pages desk.old) (λ pages. (d : Database) (p : Plan) (t : Taken) → At self.old pages d p t → SourceStep pages d p t (counts_of (seen self.old)) (counts_of (seen self.new)) desk.old desk.new result (At self.new pages d p)) }
         ensures heights { heights self.new ≡ heights self.old }
         ensures step_price { step_price self.new ≡ step_price self.old }
         ensures costs { IfSome (told_pages desk.old) (λ pages. (d : Database) (p : Plan) (t : Taken) → At self.old pages d p t → Costs (heights self.old) (step_price self.old) (owed self.old pages) (owed self.new pages) d p desk.old desk.new result) };

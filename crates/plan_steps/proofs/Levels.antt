@@ -18,6 +18,7 @@ use Rattle.plan_steps.specs.Steps.{IsSpent}
 pub over_made : (d : Database) (p : Plan) (rows : List PlanRow) → over_rows d p rows ≡ made d p (over_rows d (inner p) rows)
 over_made d (plan.Scan relation) rows = refl
 over_made d (plan.Rank column goal within) rows = refl
+over_made d (plan.Near column goal within) rows = refl
 over_made d (plan.Window column window) rows = refl
 over_made d (plan.PickEqual column v) rows = refl
 over_made d (plan.PickBetween column low high) rows = refl
@@ -34,6 +35,7 @@ over_made d (plan.SortNear p place goal) rows = refl
 pub source_inner : (d : Database) (p : Plan) → source_rows d (inner p) ≡ source_rows d p
 source_inner d (plan.Scan relation) = refl
 source_inner d (plan.Rank column goal within) = refl
+source_inner d (plan.Near column goal within) = refl
 source_inner d (plan.Window column window) = refl
 source_inner d (plan.PickEqual column v) = refl
 source_inner d (plan.PickBetween column low high) = refl
@@ -56,6 +58,7 @@ whole_made d p =
 pub over_source : (d : Database) (p : Plan) (rows : List PlanRow) → is_source p ≡ true → over_rows d p rows ≡ rows
 over_source d (plan.Scan relation) rows e = refl
 over_source d (plan.Rank column goal within) rows e = refl
+over_source d (plan.Near column goal within) rows e = refl
 over_source d (plan.Window column window) rows e = refl
 over_source d (plan.PickEqual column v) rows e = refl
 over_source d (plan.PickBetween column low high) rows e = refl
@@ -72,6 +75,7 @@ over_source d (plan.SortNear p place goal) rows e = absurd (true≢false (sym e)
 pub lazy_source : (p : Plan) → is_source p ≡ true → is_lazy p ≡ true
 lazy_source (plan.Scan relation) e = refl
 lazy_source (plan.Rank column goal within) e = refl
+lazy_source (plan.Near column goal within) e = refl
 lazy_source (plan.Window column window) e = refl
 lazy_source (plan.PickEqual column v) e = refl
 lazy_source (plan.PickBetween column low high) e = refl
@@ -89,6 +93,7 @@ lazy_source (plan.SortNear p place goal) e = absurd (true≢false (sym e))
 pub lazy_inner : (p : Plan) → is_lazy p ≡ true → is_lazy (inner p) ≡ true
 lazy_inner (plan.Scan relation) e = refl
 lazy_inner (plan.Rank column goal within) e = refl
+lazy_inner (plan.Near column goal within) e = refl
 lazy_inner (plan.Window column window) e = refl
 lazy_inner (plan.PickEqual column v) e = refl
 lazy_inner (plan.PickBetween column low high) e = refl
@@ -106,6 +111,7 @@ lazy_inner (plan.SortNear p place goal) e = absurd (true≢false (sym e))
 pub sort_inner : (p : Plan) → is_lazy p ≡ false → is_sort p ≡ false → is_lazy (inner p) ≡ false
 sort_inner (plan.Scan relation) e k = e
 sort_inner (plan.Rank column goal within) e k = e
+sort_inner (plan.Near column goal within) e k = e
 sort_inner (plan.Window column window) e k = e
 sort_inner (plan.PickEqual column v) e k = e
 sort_inner (plan.PickBetween column low high) e k = e
@@ -122,6 +128,7 @@ sort_inner (plan.SortNear p place goal) e k = absurd (true≢false k)
 pub lazy_plain : (p : Plan) → is_lazy p ≡ true → is_sort p ≡ false
 lazy_plain (plan.Scan relation) e = refl
 lazy_plain (plan.Rank column goal within) e = refl
+lazy_plain (plan.Near column goal within) e = refl
 lazy_plain (plan.Window column window) e = refl
 lazy_plain (plan.PickEqual column v) e = refl
 lazy_plain (plan.PickBetween column low high) e = refl
@@ -140,6 +147,7 @@ lazy_plain (plan.SortNear p place goal) e = absurd (true≢false (sym e))
 pub beneath_lazy : (p : Plan) → is_lazy p ≡ true → beneath_sort p ≡ p
 beneath_lazy (plan.Scan relation) e = refl
 beneath_lazy (plan.Rank column goal within) e = refl
+beneath_lazy (plan.Near column goal within) e = refl
 beneath_lazy (plan.Window column window) e = refl
 beneath_lazy (plan.PickEqual column v) e = refl
 beneath_lazy (plan.PickBetween column low high) e = refl
@@ -164,6 +172,7 @@ sorted_over p = go (is_lazy p) refl
 pub beneath_inner : (p : Plan) → is_lazy p ≡ false → beneath_sort p ≡ beneath_sort (inner p)
 beneath_inner (plan.Scan relation) e = refl
 beneath_inner (plan.Rank column goal within) e = refl
+beneath_inner (plan.Near column goal within) e = refl
 beneath_inner (plan.Window column window) e = refl
 beneath_inner (plan.PickEqual column v) e = refl
 beneath_inner (plan.PickBetween column low high) e = refl
@@ -183,6 +192,7 @@ pub full_inner : (d : Database) (p : Plan) (rows : List PlanRow) → is_full pla
     ≡ is_filled p (over_rows d (inner p) rows) || is_full plan_measure d (inner p) rows
 full_inner d (plan.Scan relation) rows = refl
 full_inner d (plan.Rank column goal within) rows = refl
+full_inner d (plan.Near column goal within) rows = refl
 full_inner d (plan.Window column window) rows = refl
 full_inner d (plan.PickEqual column v) rows = refl
 full_inner d (plan.PickBetween column low high) rows = refl
@@ -200,6 +210,7 @@ full_inner d (plan.SortNear p place goal) rows = refl
 pub filled_plain : (p : Plan) (rows : List PlanRow) → is_filled p rows ≡ true → is_sort p ≡ false
 filled_plain (plan.Scan relation) rows e = refl
 filled_plain (plan.Rank column goal within) rows e = refl
+filled_plain (plan.Near column goal within) rows e = refl
 filled_plain (plan.Window column window) rows e = refl
 filled_plain (plan.PickEqual column v) rows e = refl
 filled_plain (plan.PickBetween column low high) rows e = refl
@@ -259,6 +270,7 @@ made_front d p xs ys e b = subst (λ zs. Begins (made d p xs) (made d p zs)) (sy
     go : (p : Plan) → is_sort p ≡ false → Begins (made d p xs) (made d p (xs ++ b.rest))
     go (plan.Scan relation) e = record { rest = b.rest; split = refl }
     go (plan.Rank column goal within) e = record { rest = b.rest; split = refl }
+    go (plan.Near column goal within) e = record { rest = b.rest; split = refl }
     go (plan.Window column window) e = record { rest = b.rest; split = refl }
     go (plan.PickEqual column v) e = record { rest = b.rest; split = refl }
     go (plan.PickBetween column low high) e = record { rest = b.rest; split = refl }
@@ -285,6 +297,7 @@ made_front d p xs ys e b = subst (λ zs. Begins (made d p xs) (made d p zs)) (sy
 pub made_nil : (d : Database) (p : Plan) → is_sort p ≡ false → made d p [] ≡ []
 made_nil d (plan.Scan relation) e = refl
 made_nil d (plan.Rank column goal within) e = refl
+made_nil d (plan.Near column goal within) e = refl
 made_nil d (plan.Window column window) e = refl
 made_nil d (plan.PickEqual column v) e = refl
 made_nil d (plan.PickBetween column low high) e = refl
@@ -303,6 +316,7 @@ made_nil d (plan.SortNear p place goal) e = absurd (true≢false e)
 pub over_front : (d : Database) (p : Plan) (xs ys : List PlanRow) → is_lazy p ≡ true → Begins xs ys → Begins (over_rows d p xs) (over_rows d p ys)
 over_front d (plan.Scan relation) xs ys e b = b
 over_front d (plan.Rank column goal within) xs ys e b = b
+over_front d (plan.Near column goal within) xs ys e b = b
 over_front d (plan.Window column window) xs ys e b = b
 over_front d (plan.PickEqual column v) xs ys e b = b
 over_front d (plan.PickBetween column low high) xs ys e b = b
@@ -324,6 +338,7 @@ over_front d (plan.SortNear p place goal) xs ys e b = absurd (true≢false (sym 
 pub filled_front : (p : Plan) (xs ys : List PlanRow) → Begins xs ys → is_filled p xs ≡ true → is_filled p ys ≡ true
 filled_front (plan.Scan relation) xs ys b e = e
 filled_front (plan.Rank column goal within) xs ys b e = e
+filled_front (plan.Near column goal within) xs ys b e = e
 filled_front (plan.Window column window) xs ys b e = e
 filled_front (plan.PickEqual column v) xs ys b e = e
 filled_front (plan.PickBetween column low high) xs ys b e = e

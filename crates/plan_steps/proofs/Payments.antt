@@ -30,6 +30,7 @@ pointer_of b = record { value = tt; ptr = b.ptr; alloc = b.alloc }
 innermost_inner : (p : Plan) → innermost (inner p) ≡ innermost p
 innermost_inner (plan.Scan relation) = refl
 innermost_inner (plan.Rank column goal within) = refl
+innermost_inner (plan.Near column goal within) = refl
 innermost_inner (plan.Window column window) = refl
 innermost_inner (plan.PickEqual column v) = refl
 innermost_inner (plan.PickBetween column low high) = refl

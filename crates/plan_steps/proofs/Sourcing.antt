@@ -38,6 +38,7 @@ as_step (Err fault) = Err fault
 full_source : (d : Database) (p : Plan) (rows : List PlanRow) → is_source p ≡ true → is_full plan_measure d p rows ≡ false
 full_source d (plan.Scan relation) rows e = refl
 full_source d (plan.Rank column goal within) rows e = refl
+full_source d (plan.Near column goal within) rows e = refl
 full_source d (plan.Window column window) rows e = refl
 full_source d (plan.PickEqual column v) rows e = refl
 full_source d (plan.PickBetween column low high) rows e = refl
@@ -106,9 +107,9 @@ next_end d p t h = ap (λ b. cond b (record { rows = t.rows + 1; is_ended = fals
 
 pub source_goes : {S T : Type 0} (At : S → Taking) (Stands : T → Standing) (closed : T → Bool) (q : Prices S T) (s s' : S) (pages : PageMap) (d : Database) (p : Plan) (t : Taken) (given : List PlanRow)
     → (before now : Counts) (old new : DeskState) (answer : Result (Option Answer) PageFault) → q.heights s' ≡ q.heights s → q.step s' ≡ q.step s
-    → SourceStep d p t before now old new answer (At s' pages d p) → Costs (q.heights s) (q.step s) (q.entries s pages) (q.entries s' pages) d p old new answer
+    → SourceStep pages d p t before now old new answer (At s' pages d p) → Costs (q.heights s) (q.step s) (q.entries s pages) (q.entries s' pages) d p old new answer
     → (f : Follows At Stands closed (Source s) pages d p t given)
-    → Goes d p t given before now old new (as_step answer) (IsPaid At Stands closed q (Source s) (Source s') pages d p t given f old new (as_step answer))
+    → Goes pages d p t given before now old new (as_step answer) (IsPaid At Stands closed q (Source s) (Source s') pages d p t given f old new (as_step answer))
 source_goes {S} {T} At Stands closed q s s' pages d p t given before now old new answer heights step st costs f = record {
   taken = taken_after d p t answer;
   follows = followed answer st.row st.at costs;

@@ -33,27 +33,28 @@ use Rattle.plan_steps.proofs.Payments.{paid_over, left_open, same_over, left_wor
 -- ---- one level up
 
 -- the visits of a call of the source
-visits_up : (d : Database) (p : Plan) (t : Taken) (before now : Counts) (old new : DeskState) (answer : Result (Option Answer) PageFault)
-    → MakesVisits d (inner p) t before now old new answer → MakesVisits d p t before now old new answer
-visits_up d (plan.Scan relation) t before now old new answer m = m
-visits_up d (plan.Rank column goal within) t before now old new answer m = m
-visits_up d (plan.Window column window) t before now old new answer m = m
-visits_up d (plan.PickEqual column v) t before now old new answer m = m
-visits_up d (plan.PickBetween column low high) t before now old new answer m = m
-visits_up d (plan.Join left right within) t before now old new answer m = m
-visits_up d (plan.Semi left right within) t before now old new answer m = m
-visits_up d (plan.Knn k left right within) t before now old new answer m = m
-visits_up d (plan.Filter p tests) t before now old new answer m =
+visits_up : (pages : PageMap) (d : Database) (p : Plan) (t : Taken) (before now : Counts) (old new : DeskState) (answer : Result (Option Answer) PageFault)
+    → MakesVisits pages d (inner p) t before now old new answer → MakesVisits pages d p t before now old new answer
+visits_up pages d (plan.Scan relation) t before now old new answer m = m
+visits_up pages d (plan.Rank column goal within) t before now old new answer m = m
+visits_up pages d (plan.Near column goal within) t before now old new answer m = m
+visits_up pages d (plan.Window column window) t before now old new answer m = m
+visits_up pages d (plan.PickEqual column v) t before now old new answer m = m
+visits_up pages d (plan.PickBetween column low high) t before now old new answer m = m
+visits_up pages d (plan.Join left right within) t before now old new answer m = m
+visits_up pages d (plan.Semi left right within) t before now old new answer m = m
+visits_up pages d (plan.Knn k left right within) t before now old new answer m = m
+visits_up pages d (plan.Filter p tests) t before now old new answer m =
     record { completed = m.completed; attempted = m.attempted; log = m.log; few = m.few; settled = m.settled; counted = m.counted; near = m.near; between = m.between; exact = m.exact; rose = m.rose }
-visits_up d (plan.Match p place column) t before now old new answer m =
+visits_up pages d (plan.Match p place column) t before now old new answer m =
     record { completed = m.completed; attempted = m.attempted; log = m.log; few = m.few; settled = m.settled; counted = m.counted; near = m.near; between = m.between; exact = m.exact; rose = m.rose }
-visits_up d (plan.Fetch p places) t before now old new answer m =
+visits_up pages d (plan.Fetch p places) t before now old new answer m =
     record { completed = m.completed; attempted = m.attempted; log = m.log; few = m.few; settled = m.settled; counted = m.counted; near = m.near; between = m.between; exact = m.exact; rose = m.rose }
-visits_up d (plan.First count p) t before now old new answer m =
+visits_up pages d (plan.First count p) t before now old new answer m =
     record { completed = m.completed; attempted = m.attempted; log = m.log; few = m.few; settled = m.settled; counted = m.counted; near = m.near; between = m.between; exact = m.exact; rose = m.rose }
-visits_up d (plan.SortBy p place) t before now old new answer m =
+visits_up pages d (plan.SortBy p place) t before now old new answer m =
     record { completed = m.completed; attempted = m.attempted; log = m.log; few = m.few; settled = m.settled; counted = m.counted; near = m.near; between = m.between; exact = m.exact; rose = m.rose }
-visits_up d (plan.SortNear p place goal) t before now old new answer m =
+visits_up pages d (plan.SortNear p place goal) t before now old new answer m =
     record { completed = m.completed; attempted = m.attempted; log = m.log; few = m.few; settled = m.settled; counted = m.counted; near = m.near; between = m.between; exact = m.exact; rose = m.rose }
 
 -- what is taken after a call of the source
@@ -96,17 +97,17 @@ abbrev Passes : Result Step PageFault → Result Step PageFault → Type 0
 Passes below above = (fault : PageFault) → below ≡ Err fault → above ≡ Err fault
 
 -- the source is asked once
-asks_up : (d : Database) (p : Plan) (t after : Taken) (taken given : List PlanRow) (before now : Counts) (old new : DeskState) (below above : Result Step PageFault)
+asks_up : (pages : PageMap) (d : Database) (p : Plan) (t after : Taken) (taken given : List PlanRow) (before now : Counts) (old new : DeskState) (below above : Result Step PageFault)
     → (is_lazy p ≡ true → IsDry d p taken given) → Passes below above
-    → AsksOnce d (inner p) t after taken before now old new below → AsksOnce d p t after given before now old new above
-asks_up d p t after taken given before now old new below above dry pass (inl a) = inl record {
+    → AsksOnce pages d (inner p) t after taken before now old new below → AsksOnce pages d p t after given before now old new above
+asks_up pages d p t after taken given before now old new below above dry pass (inl a) = inl record {
   answer = a.answer;
   asked = asked_up d p t taken given dry a.asked;
   taken = a.taken ∙ taken_up d p t a.answer;
-  visits = visits_up d p t before now old new a.answer a.visits;
+  visits = visits_up pages d p t before now old new a.answer a.visits;
   refused = λ fault e. pass fault (a.refused fault e);
 }
-asks_up d p t after taken given before now old new below above dry pass (inr r) = inr r
+asks_up pages d p t after taken given before now old new below above dry pass (inr r) = inr r
 
 -- ---- steps of an operator over another
 
@@ -163,7 +164,7 @@ pub works_over : {S T : Type 0} (At : S → Taking) (Stands : T → Standing) (c
     → ((taken given : List PlanRow) → Stands stage pages d p taken given → Works d p taken given (closed stage') result (Stands stage' pages d p taken))
     → ((taken given : List PlanRow) → Stands stage pages d p taken given → new.pool.gets + unless_refused result (q.held stage' pages d p) ≤ old.pool.gets + q.held stage pages d p)
     → (f : Follows At Stands closed (Over' stage pointer below) pages d p t given)
-    → Goes d p t given count count old new result (IsPaid At Stands closed q (Over' stage pointer below) (Over' stage' pointer' below) pages d p t given f old new result)
+    → Goes pages d p t given count count old new result (IsPaid At Stands closed q (Over' stage pointer below) (Over' stage' pointer' below) pages d p t given f old new result)
 works_over {S} {T} At Stands closed q front late pages d p t given count old new result stage stage' pointer pointer' below same price log up work costs f = record {
   taken = t;
   follows = record {
@@ -202,9 +203,9 @@ pub waits_over : {S T : Type 0} (At : S → Taking) (Stands : T → Standing) (c
     → ((taken given : List PlanRow) → Stands stage pages d p taken given → is_lazy p ≡ true → IsDry d p taken given)
     → IsQuiet result
     → ((taken : List PlanRow) (f : Follows At Stands closed below pages d (inner p) t taken)
-    → Goes d (inner p) t taken before now old new result (IsPaid At Stands closed q below below' pages d (inner p) t taken f old new result))
+    → Goes pages d (inner p) t taken before now old new result (IsPaid At Stands closed q below below' pages d (inner p) t taken f old new result))
     → (f : Follows At Stands closed (Over' stage pointer below) pages d p t given)
-    → Goes d p t given before now old new result (IsPaid At Stands closed q (Over' stage pointer below) (Over' stage pointer' below') pages d p t given f old new result)
+    → Goes pages d p t given before now old new result (IsPaid At Stands closed q (Over' stage pointer below) (Over' stage pointer' below') pages d p t given f old new result)
 waits_over {S} {T} At Stands closed q pages d p t given before now old new result stage pointer pointer' below below' open_ dry quiet step f = go result quiet (step f.taken f.beneath)
   where
     most : (t' : Taken) (b : Follows At Stands closed below' pages d (inner p) t' f.taken) (left left' : ℕ) → left ≤ q.held stage pages d p + left'
@@ -226,8 +227,8 @@ waits_over {S} {T} At Stands closed q pages d p t given before now old new resul
     same = same_over At Stands closed q stage stage pointer pointer' below below' refl
 
     go : (r : Result Step PageFault) → IsQuiet r
-        → Goes d (inner p) t f.taken before now old new r (IsPaid At Stands closed q below below' pages d (inner p) t f.taken f.beneath old new r)
-        → Goes d p t given before now old new r (IsPaid At Stands closed q (Over' stage pointer below) (Over' stage pointer' below') pages d p t given f old new r)
+        → Goes pages d (inner p) t f.taken before now old new r (IsPaid At Stands closed q below below' pages d (inner p) t f.taken f.beneath old new r)
+        → Goes pages d p t given before now old new r (IsPaid At Stands closed q (Over' stage pointer below) (Over' stage pointer' below') pages d p t given f old new r)
     go (Ok (Row a)) still g = absurd still
     go (Ok End) still g = absurd still
     go (Ok Pass) still g = record {
@@ -239,7 +240,7 @@ waits_over {S} {T} At Stands closed q pages d p t given before now old new resul
             most g.taken g.follows.follows (left_of closed q (Over' stage pointer' below') pages d p) (left_of closed q below' pages d (inner p))
             (le_of_eq (left_open At Stands closed q stage pointer' below' pages d p open_)) g.follows.most;
       };
-      asks = asks_up d p t g.taken f.taken given before now old new (Ok Pass) (Ok Pass) (dry f.taken given f.stands) (λ fault e. e) g.asks;
+      asks = asks_up pages d p t g.taken f.taken given before now old new (Ok Pass) (Ok Pass) (dry f.taken given f.stands) (λ fault e. e) g.asks;
       ends = tt;
     }
     go (Err fault) still g = record {
@@ -249,7 +250,7 @@ waits_over {S} {T} At Stands closed q pages d p t given before now old new resul
         same = same g.follows.same;
         most = most g.taken g.follows.follows 0 0 (omega arith) g.follows.most;
       };
-      asks = asks_up d p t g.taken f.taken given before now old new (Err fault) (Err fault) (dry f.taken given f.stands) (λ fault e. e) g.asks;
+      asks = asks_up pages d p t g.taken f.taken given before now old new (Err fault) (Err fault) (dry f.taken given f.stands) (λ fault e. e) g.asks;
       ends = tt;
     }
 
@@ -261,9 +262,9 @@ pub finishes_over : {S T : Type 0} (At : S → Taking) (Stands : T → Standing)
     → ((taken given : List PlanRow) → Stands stage pages d p taken given → is_lazy p ≡ true → IsDry d p taken given)
     → ((given : List PlanRow) → Stands stage pages d p (beneath d p) given → Finishes d p given result (Stands stage' pages d p (beneath d p)))
     → ((taken : List PlanRow) (f : Follows At Stands closed below pages d (inner p) t taken)
-    → Goes d (inner p) t taken before now old new (Ok End) (IsPaid At Stands closed q below below' pages d (inner p) t taken f old new (Ok End)))
+    → Goes pages d (inner p) t taken before now old new (Ok End) (IsPaid At Stands closed q below below' pages d (inner p) t taken f old new (Ok End)))
     → (f : Follows At Stands closed (Over' stage pointer below) pages d p t given)
-    → Goes d p t given before now old new result (IsPaid At Stands closed q (Over' stage pointer below) (Over' stage' pointer' below') pages d p t given f old new result)
+    → Goes pages d p t given before now old new result (IsPaid At Stands closed q (Over' stage pointer below) (Over' stage' pointer' below') pages d p t given f old new result)
 finishes_over {S} {T} At Stands closed q pages d p t given before now old new result stage stage' pointer pointer' below below' open_ price owes shuts dry finish step f = record {
   taken = g.taken;
   follows = record {
@@ -282,11 +283,11 @@ finishes_over {S} {T} At Stands closed q pages d p t given before now old new re
         ∙ ap (λ (row : PageMap → Database → Plan → PlanRow → ℕ). paid At Stands closed q below' pages d (inner p) g.taken f.taken g.follows.follows new.visits + sum_by (row pages d p) f.taken) price)
         g.follows.most;
   };
-  asks = asks_up d p t g.taken f.taken given before now old new (Ok End) result (dry f.taken given f.stands) (λ fault e. absurd (ok-err e)) g.asks;
+  asks = asks_up pages d p t g.taken f.taken given before now old new (Ok End) result (dry f.taken given f.stands) (λ fault e. absurd (ok-err e)) g.asks;
   ends = ended result w.whole;
 }
   where
-    g : Goes d (inner p) t f.taken before now old new (Ok End) (IsPaid At Stands closed q below below' pages d (inner p) t f.taken f.beneath old new (Ok End))
+    g : Goes pages d (inner p) t f.taken before now old new (Ok End) (IsPaid At Stands closed q below below' pages d (inner p) t f.taken f.beneath old new (Ok End))
     g = step f.taken f.beneath
 
     w : Finishes d p given result (Stands stage' pages d p (beneath d p))
@@ -323,9 +324,9 @@ lowers_both a b c (Ok End) first second = omega (arith, first, second)
 lowers_both a b c (Err fault) first second = omega (arith, first, second)
 
 -- the visits of a call of the source, where no more were noted after it
-visits_later : (d : Database) (p : Plan) (t : Taken) (before now : Counts) (old mid new : DeskState) (answer : Result (Option Answer) PageFault)
-    → new.visits ≡ mid.visits → min mid.pool.gets last_count ≤ new.pool.gets → MakesVisits d p t before now old mid answer → MakesVisits d p t before now old new answer
-visits_later d p t before now old mid new answer log up m = record {
+visits_later : (pages : PageMap) (d : Database) (p : Plan) (t : Taken) (before now : Counts) (old mid new : DeskState) (answer : Result (Option Answer) PageFault)
+    → new.visits ≡ mid.visits → min mid.pool.gets last_count ≤ new.pool.gets → MakesVisits pages d p t before now old mid answer → MakesVisits pages d p t before now old new answer
+visits_later pages d p t before now old mid new answer log up m = record {
   completed = m.completed;
   attempted = m.attempted;
   log = log ∙ m.log;
@@ -339,14 +340,14 @@ visits_later d p t before now old mid new answer log up m = record {
 }
 
 -- the source was asked by the pass, or is as it was
-asks_later : (d : Database) (p : Plan) (t after : Taken) (given : List PlanRow) (before now : Counts) (old mid new : DeskState) (result : Result Step PageFault)
+asks_later : (pages : PageMap) (d : Database) (p : Plan) (t after : Taken) (given : List PlanRow) (before now : Counts) (old mid new : DeskState) (result : Result Step PageFault)
     → new.visits ≡ mid.visits → min mid.pool.gets last_count ≤ new.pool.gets
-    → AsksOnce d p t after given before now old mid (Ok Pass) → AsksOnce d p t after given before now old new result
-asks_later d p t after given before now old mid new result log up (inl a) = inl record {
+    → AsksOnce pages d p t after given before now old mid (Ok Pass) → AsksOnce pages d p t after given before now old new result
+asks_later pages d p t after given before now old mid new result log up (inl a) = inl record {
   answer = a.answer;
   asked = a.asked;
   taken = a.taken;
-  visits = visits_later d p t before now old mid new a.answer log up a.visits;
+  visits = visits_later pages d p t before now old mid new a.answer log up a.visits;
   refused = λ fault e. absurd (pass-err (a.refused fault e));
 }
   where
@@ -356,7 +357,7 @@ asks_later d p t after given before now old mid new result log up (inl a) = inl 
         is_ok : Result Step PageFault → Bool
         is_ok (Ok x) = true
         is_ok (Err x) = false
-asks_later d p t after given before now old mid new result log up (inr r) =
+asks_later pages d p t after given before now old mid new result log up (inr r) =
     inr record { taken = r.taken; counts = r.counts; log = log ∙ r.log; up = up_both old.pool.gets mid.pool.gets new.pool.gets last_count r.up up }
 
 -- a row came from beneath, and the stage took it and worked on it
@@ -369,9 +370,9 @@ pub takes_over : {S T : Type 0} (At : S → Taking) (Stands : T → Standing) (c
     → Works d p (taken ++ row_of a ∷ []) given (closed stage') result (Stands stage' pages d p (taken ++ row_of a ∷ [])))
     → ((taken given : List PlanRow) → Stands stage pages d p taken given → new.pool.gets + unless_refused result (q.held stage' pages d p) ≤ mid.pool.gets + q.row stage pages d p (row_of a))
     → ((taken : List PlanRow) (f : Follows At Stands closed below pages d (inner p) t taken)
-    → Goes d (inner p) t taken before now old mid (Ok (Row a)) (IsPaid At Stands closed q below below' pages d (inner p) t taken f old mid (Ok (Row a))))
+    → Goes pages d (inner p) t taken before now old mid (Ok (Row a)) (IsPaid At Stands closed q below below' pages d (inner p) t taken f old mid (Ok (Row a))))
     → (f : Follows At Stands closed (Over' stage pointer below) pages d p t given)
-    → Goes d p t given before now old new result (IsPaid At Stands closed q (Over' stage pointer below) (Over' stage' pointer' below') pages d p t given f old new result)
+    → Goes pages d p t given before now old new result (IsPaid At Stands closed q (Over' stage pointer below) (Over' stage' pointer' below') pages d p t given f old new result)
 takes_over {S} {T} At Stands closed q front late pages d p t given before now old mid new result a stage stage' pointer pointer' below below' was_open same price log up dry work costs step f = record {
   taken = g.taken;
   follows = record {
@@ -389,8 +390,8 @@ takes_over {S} {T} At Stands closed q front late pages d p t given before now ol
         (costs f.taken given f.stands) g.follows.most;
   };
   asks =
-      asks_later d p t g.taken given before now old mid new result log up
-      (asks_up d p t g.taken f.taken given before now old mid (Ok (Row a)) (Ok Pass) (dry f.taken given f.stands) (λ fault e. absurd (ok-err e)) g.asks);
+      asks_later pages d p t g.taken given before now old mid new result log up
+      (asks_up pages d p t g.taken f.taken given before now old mid (Ok (Row a)) (Ok Pass) (dry f.taken given f.stands) (λ fault e. absurd (ok-err e)) g.asks);
   ends =
       worked_ends At Stands closed front late pages d p g.taken below' (f.taken ++ row_of a ∷ []) given (closed stage') g.follows.follows (λ e. absurd (true≢false (sym e ∙ open_)))
       result w.whole w.full;
@@ -399,7 +400,7 @@ takes_over {S} {T} At Stands closed q front late pages d p t given before now ol
     open_ : closed stage' ≡ false
     open_ = same ∙ was_open
 
-    g : Goes d (inner p) t f.taken before now old mid (Ok (Row a)) (IsPaid At Stands closed q below below' pages d (inner p) t f.taken f.beneath old mid (Ok (Row a)))
+    g : Goes pages d (inner p) t f.taken before now old mid (Ok (Row a)) (IsPaid At Stands closed q below below' pages d (inner p) t f.taken f.beneath old mid (Ok (Row a)))
     g = step f.taken f.beneath
 
     w : Works d p (f.taken ++ row_of a ∷ []) given (closed stage') result (Stands stage' pages d p (f.taken ++ row_of a ∷ []))

@@ -62,13 +62,13 @@ module _ {S T : Type 0} (At : S → Taking) (Stands : T → Standing) (closed : 
   -- a source
   pub source_told : (o : Operator S T) (s s' : S) (answer : Result (Option Answer) PageFault) (result : Result Step PageFault) → o ≡ Source s → as_step answer ≡ result
       → q.heights s' ≡ q.heights s → q.step s' ≡ q.step s
-      → IfSome told (λ pages. (d : Database) (p : Plan) (t : Taken) → At s pages d p t → SourceStep d p t (seen s) (seen s') old new answer (At s' pages d p))
+      → IfSome told (λ pages. (d : Database) (p : Plan) (t : Taken) → At s pages d p t → SourceStep pages d p t (seen s) (seen s') old new answer (At s' pages d p))
       → IfSome told (λ pages. (d : Database) (p : Plan) (t : Taken) → At s pages d p t → Costs (q.heights s) (q.step s) (q.entries s pages) (q.entries s' pages) d p old new answer)
       → IfSome told (GoesPaid At Stands closed q seen o (Source s') old new result)
   source_told o s s' answer result is step heights price goes costs =
       subst (λ (o : Operator S T). IfSome told (GoesPaid At Stands closed q seen o (Source s') old new result)) (sym is)
       (subst (λ r. IfSome told (GoesPaid At Stands closed q seen (Source s) (Source s') old new r)) step
-      (both_told told (λ pages. (d : Database) (p : Plan) (t : Taken) → At s pages d p t → SourceStep d p t (seen s) (seen s') old new answer (At s' pages d p))
+      (both_told told (λ pages. (d : Database) (p : Plan) (t : Taken) → At s pages d p t → SourceStep pages d p t (seen s) (seen s') old new answer (At s' pages d p))
       (λ pages. (d : Database) (p : Plan) (t : Taken) → At s pages d p t → Costs (q.heights s) (q.step s) (q.entries s pages) (q.entries s' pages) d p old new answer)
       (GoesPaid At Stands closed q seen (Source s) (Source s') old new (as_step answer))
       (λ pages k c d p t given f. source_goes At Stands closed q s s' pages d p t given (seen s) (seen s') old new answer heights price (k d p t f.stands) (c d p t f.stands) f)

@@ -93,4 +93,4 @@ pub record IsPaid {S T : Type 0} (At : S → Taking) (Stands : T → Standing) (
 abbrev pub GoesPaid : {S T : Type 0} → (S → Taking) → (T → Standing) → (T → Bool) → Prices S T → (S → Counts) → Operator S T → Operator S T → DeskState → DeskState → Result Step PageFault → PageMap → Type 0
 GoesPaid At Stands closed q seen o o' old new result pages =
     (d : Database) (p : Plan) (t : Taken) (given : List PlanRow) (f : Follows At Stands closed o pages d p t given)
-    → Goes d p t given (seen (source_of o)) (seen (source_of o')) old new result (IsPaid At Stands closed q o o' pages d p t given f old new result)
+    → Goes pages d p t given (seen (source_of o)) (seen (source_of o')) old new result (IsPaid At Stands closed q o o' pages d p t given f old new result)

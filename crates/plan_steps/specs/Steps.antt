@@ -2,6 +2,7 @@
 use Rattle.std.specs.Prelude.{◌≡◌, ◌⊎◌, ℕ, ◌<◌, ◌≤◌, min, Bool, true, false, List, [], ◌∷◌, ◌++◌, length, take, Option, Result, Ok, Err, ⊤}
 use Rattle.sand_base.specs.Faults.{last_count}
 use Rattle.page_pool.specs.Desk.{DeskState}
+use Rattle.page_pool.specs.Disk.{PageMap}
 use Rattle.page_pool.specs.declared.fault.PageFault.{PageFault}
 use Rattle.sand_model.specs.Database.{Database}
 use Rattle.sand_model.specs.Operators.{PlanRow}
@@ -57,11 +58,11 @@ pub record IsAsked (d : Database) (p : Plan) (t : Taken) (given : List PlanRow) 
   pub dry : is_lazy p ≡ true → over_rows d p (take t.rows (source_rows d p)) ≡ given
 
 -- The source was asked once with this answer.
-pub record Asks (d : Database) (p : Plan) (t after : Taken) (given : List PlanRow) (before now : Counts) (old new : DeskState) (result : Result Step PageFault) : Type 0 where
+pub record Asks (pages : PageMap) (d : Database) (p : Plan) (t after : Taken) (given : List PlanRow) (before now : Counts) (old new : DeskState) (result : Result Step PageFault) : Type 0 where
   pub answer : Result (Option Answer) PageFault
   pub asked : IsAsked d p t given
   pub taken : after ≡ taken_after d p t answer
-  pub visits : MakesVisits d p t before now old new answer
+  pub visits : MakesVisits pages d p t before now old new answer
   pub refused : (fault : PageFault) → answer ≡ Err fault → result ≡ Err fault
 
 -- The source is as it was, and the number of page gets doesn't fall.
@@ -72,9 +73,9 @@ pub record Rests (t after : Taken) (before now : Counts) (old new : DeskState) :
   pub up : min old.pool.gets last_count ≤ new.pool.gets
 
 -- the source was asked once, or is as it was
-abbrev pub AsksOnce : Database → Plan → Taken → Taken → List PlanRow → Counts → Counts → DeskState → DeskState → Result Step PageFault → Type 0
-AsksOnce d p t after given before now old new result =
-    Asks d p t after given before now old new result ⊎ Rests t after before now old new
+abbrev pub AsksOnce : PageMap → Database → Plan → Taken → Taken → List PlanRow → Counts → Counts → DeskState → DeskState → Result Step PageFault → Type 0
+AsksOnce pages d p t after given before now old new result =
+    Asks pages d p t after given before now old new result ⊎ Rests t after before now old new
 
 -- all rows were given, and nothing more will be taken
 pub record IsDone (d : Database) (p : Plan) (t : Taken) (given : List PlanRow) : Type 0 where
@@ -82,8 +83,8 @@ pub record IsDone (d : Database) (p : Plan) (t : Taken) (given : List PlanRow) :
   pub spent : IsSpent d (beneath_sort p) t
 
 -- A step of an operator that gave these rows before, where so much of the source was taken.
-pub record Goes (d : Database) (p : Plan) (t : Taken) (given : List PlanRow) (before now : Counts) (old new : DeskState) (result : Result Step PageFault) (After : Taken → List PlanRow → Type 0) : Type 0 where
+pub record Goes (pages : PageMap) (d : Database) (p : Plan) (t : Taken) (given : List PlanRow) (before now : Counts) (old new : DeskState) (result : Result Step PageFault) (After : Taken → List PlanRow → Type 0) : Type 0 where
   pub taken : Taken
   pub follows : After taken (given_after given result)
-  pub asks : AsksOnce d p t taken given before now old new result
+  pub asks : AsksOnce pages d p t taken given before now old new result
   pub ends : AtEnd result (IsDone d p taken given)

@@ -53,12 +53,12 @@ module _ (number : ℕ) where
   abbrev pub StepOver : Type 0 → Type 0 → RankTree FileShapes → RankTree FileShapes → SearchState Block → SearchState Block → Result (Option Answer) PageFault → PageMap → Type 0
   StepOver ceiled later tree after old new answer m =
       (d : Database) (p : Plan) (t : Taken) → ceiled × HasTaken by_code (ranking_of tree m) old.held old.last old.counts d p t
-      → SourceStep d p t (counts_by old.counts) (counts_by new.counts) old.desk new.desk answer (λ u. later × HasTaken by_code (ranking_of after m) new.held new.last new.counts d p u)
+      → SourceStep m d p t (counts_by old.counts) (counts_by new.counts) old.desk new.desk answer (λ u. later × HasTaken by_code (ranking_of after m) new.held new.last new.counts d p u)
 
   -- a call of the search, with what holds of its ceiling
   with_ceiling : (ceiled later : Type 0) → (ceiled → later) → (tree : RankTree FileShapes) (old new : SearchState Block) (answer : Result (Option Answer) PageFault) (m : PageMap)
       → ((d : Database) (p : Plan) (t : Taken) → HasTaken by_code (ranking_of tree m) old.held old.last old.counts d p t
-      → SourceStep d p t (counts_by old.counts) (counts_by new.counts) old.desk new.desk answer (HasTaken by_code (ranking_of tree m) new.held new.last new.counts d p))
+      → SourceStep m d p t (counts_by old.counts) (counts_by new.counts) old.desk new.desk answer (HasTaken by_code (ranking_of tree m) new.held new.last new.counts d p))
       → StepOver ceiled later tree tree old new answer m
   with_ceiling ceiled later keeps tree old new answer m step d p t (k, h) =
       let s = step d p t h in record { row = s.row; at = (keeps k, s.at); visits = s.visits }
@@ -75,7 +75,7 @@ module _ (number : ℕ) where
     row_over None tree after old new hit a same tells last next makes = tt
     row_over (Some m) tree after old new hit a same tells last next makes =
         unchanged (Some m) tree after old new (Ok (Some a)) same
-        (with_ceiling ceiled later keeps tree old new (Ok (Some a)) m (λ d p t h. row_step blocks_total (ranking_of tree m) number d p t old h new hit a tells next last makes))
+        (with_ceiling ceiled later keeps tree old new (Ok (Some a)) m (λ d p t h. row_step blocks_total (ranking_of tree m) number m d p t old h new hit a tells next last makes))
 
     pub end_over : (pages : Option PageMap) (tree after : RankTree FileShapes) (old new : SearchState Block) → after ≡ tree → new.last ≡ old.last
         → IfSome pages (λ m. GivesNext (rank_meaning (ranking_of tree m)) old.last (Ok None))
@@ -84,7 +84,7 @@ module _ (number : ℕ) where
     end_over None tree after old new same last next makes = tt
     end_over (Some m) tree after old new same last next makes =
         unchanged (Some m) tree after old new (Ok None) same
-        (with_ceiling ceiled later keeps tree old new (Ok None) m (λ d p t h. end_step blocks_total (ranking_of tree m) number d p t old h new next last makes))
+        (with_ceiling ceiled later keeps tree old new (Ok None) m (λ d p t h. end_step blocks_total (ranking_of tree m) number m d p t old h new next last makes))
 
     pub fault_over : (pages : Option PageMap) (tree after : RankTree FileShapes) (old new : SearchState Block) (fault : PageFault) → after ≡ tree → new.last ≡ old.last
         → IfSome pages (λ m. MakesVisits by_code (rank_meaning (ranking_of tree m)) (visit_of number) old new (Err fault))
@@ -92,4 +92,4 @@ module _ (number : ℕ) where
     fault_over None tree after old new fault same last makes = tt
     fault_over (Some m) tree after old new fault same last makes =
         unchanged (Some m) tree after old new (Err fault) same
-        (with_ceiling ceiled later keeps tree old new (Err fault) m (λ d p t h. fault_step blocks_total (ranking_of tree m) number d p t old h new fault last makes))
+        (with_ceiling ceiled later keeps tree old new (Err fault) m (λ d p t h. fault_step blocks_total (ranking_of tree m) number m d p t old h new fault last makes))

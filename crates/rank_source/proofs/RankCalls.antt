@@ -9,6 +9,7 @@ use Rattle.sand_base.specs.declared.goal.Goal.TheVariants as figure
 use Rattle.sand_base.specs.declared.shape.Shape.{Shape}
 use Rattle.z_code.specs.declared.block.Block.{Block}
 use Rattle.page_pool.specs.declared.fault.PageFault.{PageFault}
+use Rattle.page_pool.specs.Disk.{PageMap}
 use Rattle.sand_model.specs.Answer.{source, single_row}
 use Rattle.sand_model.specs.Cursor.{AreBetween}
 use Rattle.sand_model.specs.Database.{Database, element}
@@ -68,7 +69,7 @@ abbrev pub TellsRow : Answer → Hit → Type 0
 TellsRow a hit = (a.gap ≡ Some hit.gap) × (a.ids ≡ hit.left ∷ []) × (a.values ≡ [])
 
 -- so the answer is that row
-row_is : (a : Answer) (found : Found) (hit : Hit) → TellsRow a hit → found.gap ≡ lowest_of hit.gap → found.left ≡ hit.left → single_row found ≡ row_of a
+pub row_is : (a : Answer) (found : Found) (hit : Hit) → TellsRow a hit → found.gap ≡ lowest_of hit.gap → found.left ≡ hit.left → single_row found ≡ row_of a
 row_is a found hit tells gap left =
     λ i. record {
       gap = (ap (λ g. Some g) gap ∙ sym (ap (option_map lowest_of) tells.0)) i;
@@ -80,7 +81,7 @@ row_is a found hit tells gap left =
 abbrev pub counts_by : Numbers → Counts
 counts_by n = record { blocks = n.visited; pairs = 0; geometries = n.fetched }
 
-module _ {cmp : Block → Block → Ordering} (o : IsTotalOrder cmp) (r : Ranking) (number : ℕ) (d : Database) (p : Plan) (t : Taken) where
+module _ {cmp : Block → Block → Ordering} (o : IsTotalOrder cmp) (r : Ranking) (number : ℕ) (pages : PageMap) (d : Database) (p : Plan) (t : Taken) where
   abbrev m : Meaning Block
   m = rank_meaning r
 
@@ -141,7 +142,7 @@ module _ {cmp : Block → Block → Ordering} (o : IsTotalOrder cmp) (r : Rankin
       now_counted = call.makes.counted h.counted
 
       -- each visit lies within the reach
-      near_item : (item : Item Block) → Contains (call.makes.taken ++ call.attempt) item → LiesWithin plan_measure d p to (visit_of number item)
+      near_item : (item : Item Block) → Contains (call.makes.taken ++ call.attempt) item → LiesWithin plan_measure pages d p to (visit_of number item)
       near_item item at =
           let visited = All-contains IsVisit (call.makes.taken ++ call.attempt) item call.makes.visits at in
           let both = Contains-append_cases call.makes.taken call.attempt item at in
@@ -151,14 +152,14 @@ module _ {cmp : Block → Block → Ordering} (o : IsTotalOrder cmp) (r : Rankin
           let there : Contains (all ++ call.attempt) item =
           ⊎_elim (λ i. Contains-append_left all call.attempt item (Contains-append_right h.done call.makes.taken item i))
           (λ i. Contains-append_right all call.attempt item i) both in
-          model.visits to (visit_of number item)
+          model.visits pages to (visit_of number item)
           (lies_within r h.sound plan_measure plan_measure_is to reached.far.test reached.far.goes.tells new.held all call.makes.stands.tracks number item visited queued
           (All-contains (λ item. reached.far.test (gap_of item) ≡ true) (all ++ call.attempt) item reached.far.near there))
 
-      near_all : All (LiesWithin plan_measure d p to) (map (visit_of number) (call.makes.taken ++ call.attempt))
-      near_all = All-by (LiesWithin plan_measure d p to) (map (visit_of number) (call.makes.taken ++ call.attempt)) (λ v at.
+      near_all : All (LiesWithin plan_measure pages d p to) (map (visit_of number) (call.makes.taken ++ call.attempt))
+      near_all = All-by (LiesWithin plan_measure pages d p to) (map (visit_of number) (call.makes.taken ++ call.attempt)) (λ v at.
           let (item, among, is) = from_map (visit_of number) (call.makes.taken ++ call.attempt) v at in
-          subst (LiesWithin plan_measure d p to) is (near_item item among))
+          subst (LiesWithin plan_measure pages d p to) is (near_item item among))
 
       more_nodes : length (nodes_of all) ≡ length (nodes_of h.done) + length (nodes_of call.makes.taken)
       more_nodes = ap length (nodes-append h.done call.makes.taken) ∙ length-append (nodes_of h.done) (nodes_of call.makes.taken)
@@ -206,7 +207,7 @@ module _ {cmp : Block → Block → Ordering} (o : IsTotalOrder cmp) (r : Rankin
 
       -- the visits of the call
       visits : (answer : Result (Option Answer) PageFault) → OnOk answer ((call.attempt ≡ []) × Reached cmp m reached.far.test all)
-          → SourceVisits d p t (counts_by old.counts) (counts_by new.counts) old.desk new.desk answer
+          → SourceVisits pages d p t (counts_by old.counts) (counts_by new.counts) old.desk new.desk answer
       visits answer just = record {
         completed = map (visit_of number) call.makes.taken;
         attempted = map (visit_of number) call.attempt;
@@ -214,7 +215,7 @@ module _ {cmp : Block → Block → Ordering} (o : IsTotalOrder cmp) (r : Rankin
         few = subst (λ n. n ≤ 1) (sym (length-map call.attempt (visit_of number))) reached.few;
         settled = settled answer just;
         counted = counted_taken;
-        near = subst (All (LiesWithin plan_measure d p to)) both near_all;
+        near = subst (All (LiesWithin plan_measure pages d p to)) both near_all;
         between = between;
         exact = exactly answer just;
         rose = rose;
@@ -238,7 +239,7 @@ module _ {cmp : Block → Block → Ordering} (o : IsTotalOrder cmp) (r : Rankin
     -- ---- the three answers
 
     abbrev Step : SearchState Block → Result (Option Answer) PageFault → Type 0
-    Step new answer = SourceStep d p t (counts_by old.counts) (counts_by new.counts) old.desk new.desk answer (HasTaken cmp r new.held new.last new.counts d p)
+    Step new answer = SourceStep pages d p t (counts_by old.counts) (counts_by new.counts) old.desk new.desk answer (HasTaken cmp r new.held new.last new.counts d p)
 
     -- a row
     pub row_step : (new : SearchState Block) (hit : Hit) (a : Answer) → TellsRow a hit → GivesNext m old.last (Ok (Some hit)) → new.last ≡ Some hit

@@ -5,6 +5,7 @@ use Rattle.sand_base.specs.declared.goal.Goal.TheVariants as figure
 use Rattle.sand_base.specs.declared.shape.Shape.{Shape}
 use Rattle.sand_base.specs.declared.visit.Visit.{Visit}
 use Rattle.sand_base.specs.declared.visit.Visit.TheVariants as visit
+use Rattle.page_pool.specs.Disk.{PageMap}
 use Rattle.sand_model.specs.Answer.{source, single_row}
 use Rattle.sand_model.specs.Database.{Database}
 use Rattle.sand_model.specs.Nodes.{rank_gaps, rank_items}
@@ -32,7 +33,7 @@ pub record IsTold (d : Database) (p : Plan) (goal : Goal) (ceiling : Option ℕ)
         pairs = 0;
         geometries = length (roughs_within to (rank_items plan_measure goal shapes tree));
       }
-  pub visits : (to : Reach) (v : Visit) → IsWithin plan_measure goal shapes tree to v → LiesWithin plan_measure d p to v
+  pub visits : (pages : PageMap) (to : Reach) (v : Visit) → IsWithin plan_measure goal shapes tree to v → LiesWithin plan_measure pages d p to v
 
 -- a visit within a reach, as the model tells it of a column
 lies : (d : Database) (column : Column) (goal : Goal) (to : Reach) (v : Visit) → IsWithin plan_measure goal (column_shapes d column) (quadtree_of d column) to v
@@ -46,7 +47,7 @@ lies d column goal to (visit.Tree number page) h = absurd h
 -- what is told of a ranking, and of a plan that ranks
 
 rank_told : (d : Database) (column : Column) (s : Shape) (within : Option ℕ) → IsTold d (plan.Rank column s within) (figure.Shape s) within (column_shapes d column) (quadtree_of d column)
-rank_told d column s within = record { rows = refl; open_ = refl; ceiling_is = refl; counts = λ to. refl; visits = lies d column (figure.Shape s) }
+rank_told d column s within = record { rows = refl; open_ = refl; ceiling_is = refl; counts = λ to. refl; visits = λ pages. lies d column (figure.Shape s) }
 
 told : (d : Database) (p : Plan) (column : Column) (goal : Goal) (ceiling : Option ℕ) → Ranks p column goal ceiling → IsTold d p goal ceiling (column_shapes d column) (quadtree_of d column)
 told d (plan.Rank c s within) column goal ceiling h =
@@ -57,7 +58,8 @@ told d (plan.Window c window) column goal ceiling h =
     subst (λ (k : Column). IsTold d (plan.Window c window) goal ceiling (column_shapes d k) (quadtree_of d k)) h.0
     (subst (λ g. IsTold d (plan.Window c window) g ceiling (column_shapes d c) (quadtree_of d c)) h.1
     (subst (λ w. IsTold d (plan.Window c window) (figure.Rect window) w (column_shapes d c) (quadtree_of d c)) h.2
-    (record { rows = refl; open_ = refl; ceiling_is = refl; counts = λ to. refl; visits = lies d c (figure.Rect window) })))
+    (record { rows = refl; open_ = refl; ceiling_is = refl; counts = λ to. refl; visits = λ pages. lies d c (figure.Rect window) })))
+told d (plan.Near c s within) column goal ceiling h = absurd h
 told d (plan.Scan name) column goal ceiling h = absurd h
 told d (plan.PickEqual c v) column goal ceiling h = absurd h
 told d (plan.PickBetween c low high) column goal ceiling h = absurd h

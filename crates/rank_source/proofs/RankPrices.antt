@@ -38,6 +38,7 @@ by_plan : (h : Heights) (d : Database) (p : Plan) (column : Column) (goal : Goal
     → plan_price h d p v ≡ rank_visit_price h (quadtree_of d column) v
 by_plan h d (plan.Rank c s within) column goal ceiling k v = ap (λ (x : Column). rank_visit_price h (quadtree_of d x) v) k.0
 by_plan h d (plan.Window c window) column goal ceiling k v = ap (λ (x : Column). rank_visit_price h (quadtree_of d x) v) k.0
+by_plan h d (plan.Near c s within) column goal ceiling k v = absurd k
 by_plan h d (plan.Scan name) column goal ceiling k v = absurd k
 by_plan h d (plan.PickEqual c w) column goal ceiling k v = absurd k
 by_plan h d (plan.PickBetween c low high) column goal ceiling k v = absurd k

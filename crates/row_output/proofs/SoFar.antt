@@ -9,6 +9,7 @@ use Rattle.sand_base.specs.declared.refusal.Refusal.TheVariants as why
 use Rattle.sand_base.specs.declared.source.Failed.{Failed}
 use Rattle.sand_base.specs.declared.visit.Visit.{Visit}
 use Rattle.page_pool.specs.Desk.{DeskState}
+use Rattle.page_pool.specs.Disk.{PageMap}
 use Rattle.page_pool.specs.declared.fault.PageFault.{PageFault}
 use Rattle.sand_model.specs.Answer.{answer}
 use Rattle.sand_model.specs.Cursor as line
@@ -45,17 +46,17 @@ use Rattle.row_output.proofs.Texts.{writes_none, writes_both, writes_prefix, wri
 -- ---- visits
 
 -- the visits lie within the reach of what was taken
-abbrev pub Within : Database → Plan → Taken → List Visit → Type 0
-Within d p t noted = All (LiesWithin plan_measure d p (reach plan_measure d p t)) noted
+abbrev pub Within : PageMap → Database → Plan → Taken → List Visit → Type 0
+Within pages d p t noted = All (LiesWithin plan_measure pages d p (reach plan_measure d p t)) noted
 
-within_later : (d : Database) (p : Plan) (t later : Taken) (noted : List Visit) → IsBefore t later → Within d p t noted → Within d p later noted
-within_later d p t later noted h near =
-    All-by (LiesWithin plan_measure d p (reach plan_measure d p later)) noted (λ v at.
-    (grows plan_measure d p t later h).visits v (All-contains (LiesWithin plan_measure d p (reach plan_measure d p t)) noted v near at))
+within_later : (pages : PageMap) (d : Database) (p : Plan) (t later : Taken) (noted : List Visit) → IsBefore t later → Within pages d p t noted → Within pages d p later noted
+within_later pages d p t later noted h near =
+    All-by (LiesWithin plan_measure pages d p (reach plan_measure d p later)) noted (λ v at.
+    (grows plan_measure d p t later h).visits pages v (All-contains (LiesWithin plan_measure pages d p (reach plan_measure d p t)) noted v near at))
 
-within_same : (d e : Database) (p q : Plan) → d ≡ e → p ≡ q → (t : Database → Plan → Taken) (noted : List Visit) → Within d p (t d p) noted → Within e q (t e q) noted
-within_same d e p q same alike t noted near =
-    subst (λ x. Within x q (t x q) noted) same (subst (λ y. Within d y (t d y) noted) alike near)
+within_same : (pages : PageMap) (d e : Database) (p q : Plan) → d ≡ e → p ≡ q → (t : Database → Plan → Taken) (noted : List Visit) → Within pages d p (t d p) noted → Within pages e q (t e q) noted
+within_same pages d e p q same alike t noted near =
+    subst (λ x. Within pages x q (t x q) noted) same (subst (λ y. Within pages d y (t d y) noted) alike near)
 
 -- the element of the answer over the same database
 same_element : (d e : Database) (p q : Plan) (n : ℕ) (o : Option PlanRow) → d ≡ e → p ≡ q → element (answer plan_measure d p) n ≡ o → element (answer plan_measure e q) n ≡ o
@@ -73,7 +74,7 @@ none_left c after h = go (element (answer plan_measure c.database c.plan) c.give
 -- ---- so far
 
 -- So many rows were printed, and no step was refused.
-pub record SoFar (c : Cursor) (rows : ℕ) (old now : DeskState) (before at : List ℕ → Type 0) (Stands : Cursor → Type 0) : Type 0 where
+pub record SoFar (pages : PageMap) (c : Cursor) (rows : ℕ) (old now : DeskState) (before at : List ℕ → Type 0) (Stands : Cursor → Type 0) : Type 0 where
   pub lines : List OutputLine
   pub after : Cursor
   pub stands : Stands after
@@ -82,14 +83,14 @@ pub record SoFar (c : Cursor) (rows : ℕ) (old now : DeskState) (before at : Li
   pub completed : List Visit
   pub log : now.visits ≡ old.visits ++ completed
   pub counted : after.counts ≡ c.counts plus visit_counts completed
-  pub near : Within c.database c.plan (has_taken plan_measure c.database c.plan after.given false) completed
+  pub near : Within pages c.database c.plan (has_taken plan_measure c.database c.plan after.given false) completed
   pub first : rows ≡ 0 → completed ≡ []
   pub up : AreAtMost c.counts after.counts
   pub rose : min (old.pool.gets + (node_count after.counts - node_count c.counts)) last_count ≤ now.pool.gets
 
 -- at first
-pub so_far_none : (c : Cursor) (desk : DeskState) (before : List ℕ → Type 0) (Stands : Cursor → Type 0) → Stands c → SoFar c 0 desk desk before before Stands
-so_far_none c desk before Stands stands = record {
+pub so_far_none : (pages : PageMap) (c : Cursor) (desk : DeskState) (before : List ℕ → Type 0) (Stands : Cursor → Type 0) → Stands c → SoFar pages c 0 desk desk before before Stands
+so_far_none pages c desk before Stands stands = record {
   lines = [];
   after = c;
   stands = stands;
@@ -98,23 +99,23 @@ so_far_none c desk before Stands stands = record {
   completed = [];
   log = sym (append-nil desk.visits);
   counted = sym (plus_none c.counts);
-  near = All-nil (LiesWithin plan_measure c.database c.plan (reach plan_measure c.database c.plan (has_taken plan_measure c.database c.plan c.given false)));
+  near = All-nil (LiesWithin plan_measure pages c.database c.plan (reach plan_measure c.database c.plan (has_taken plan_measure c.database c.plan c.given false)));
   first = λ _. refl;
   up = at_most_itself c.counts;
   rose = omega arith;
 }
 
 -- where the last line is that of a row, without a sort, the visits lie within its gap
-last_within : (n : ℕ) (c : Cursor) (lines : List OutputLine) (after : Cursor) (noted : List Visit) → RowSteps n c lines after
-    → Within c.database c.plan (has_taken plan_measure c.database c.plan after.given false) noted → is_lazy c.plan ≡ true → (front : List OutputLine) (row : PlanRow)
-    → lines ≡ front ++ line.Row row ∷ [] → All (LiesWithin plan_measure c.database c.plan (reach_of_last (row ∷ []))) noted
-last_within zero c lines after noted steps near lazy front row e = absurd (none_last front (line.Row row) (sym steps.0 ∙ e))
-last_within (suc n) c lines after noted steps near lazy front row e =
+last_within : (pages : PageMap) (n : ℕ) (c : Cursor) (lines : List OutputLine) (after : Cursor) (noted : List Visit) → RowSteps n c lines after
+    → Within pages c.database c.plan (has_taken plan_measure c.database c.plan after.given false) noted → is_lazy c.plan ≡ true → (front : List OutputLine) (row : PlanRow)
+    → lines ≡ front ++ line.Row row ∷ [] → All (LiesWithin plan_measure pages c.database c.plan (reach_of_last (row ∷ []))) noted
+last_within pages zero c lines after noted steps near lazy front row e = absurd (none_last front (line.Row row) (sym steps.0 ∙ e))
+last_within pages (suc n) c lines after noted steps near lazy front row e =
     let last = rows_last n c lines after steps in
     let one = gives_one last.prev after last.row last.step in
     let same : last.row ≡ row = same_row last.row row (same_last last.front front (line.Row last.row) (line.Row row) (sym last.split ∙ e)) in
     let there = same_element last.prev.database c.database last.prev.plan c.plan last.prev.given (Some row) last.database last.plan (one.there ∙ ap Some same) in
-    subst (λ to. All (LiesWithin plan_measure c.database c.plan to) noted)
+    subst (λ to. All (LiesWithin plan_measure pages c.database c.plan to) noted)
     (ap (λ k. reach plan_measure c.database c.plan (has_taken plan_measure c.database c.plan k false)) one.given
     ∙ model_reach c.database c.plan last.prev.given row lazy there) near
 
@@ -125,8 +126,8 @@ gets_chain o b m n most g h first second i j = omega arith
 nodes_rose : (before now : Counts) → AreAtMost before now → node_count before ≤ node_count now
 nodes_rose before now h = let blocks = h.blocks in let pairs = h.pairs in omega (arith, blocks, pairs)
 
-module _ (c : Cursor) (rows : ℕ) (old mid new : DeskState) (before at now : List ℕ → Type 0) (Stands After : Cursor → Type 0) (s : SoFar c rows old mid before at Stands) where
-  module _ (answer : Result (Option Answer) PageFault) (st : CursorStep s.after mid new answer After) where
+module _ (pages : PageMap) (c : Cursor) (rows : ℕ) (old mid new : DeskState) (before at now : List ℕ → Type 0) (Stands After : Cursor → Type 0) (s : SoFar pages c rows old mid before at Stands) where
+  module _ (answer : Result (Option Answer) PageFault) (st : CursorStep pages s.after mid new answer After) where
     -- the visits of all steps
     abbrev all_completed : List Visit
     all_completed = s.completed ++ st.visits.completed
@@ -158,28 +159,28 @@ module _ (c : Cursor) (rows : ℕ) (old mid new : DeskState) (before at now : Li
         ∙ ap (λ q. model.step_taken plan_measure other.database q s.after.given) p
         ∙ ap (λ e. model.step_taken plan_measure e c.plan s.after.given) d
 
-    old_near : (n : ℕ) → rows ≡ n → Within c.database c.plan next_taken s.completed
+    old_near : (n : ℕ) → rows ≡ n → Within pages c.database c.plan next_taken s.completed
     old_near zero is =
-        subst (Within c.database c.plan next_taken) (sym (s.first is)) (All-nil (LiesWithin plan_measure c.database c.plan (reach plan_measure c.database c.plan next_taken)))
+        subst (Within pages c.database c.plan next_taken) (sym (s.first is)) (All-nil (LiesWithin plan_measure pages c.database c.plan (reach plan_measure c.database c.plan next_taken)))
     old_near (suc n) is =
         let last = rows_last n c s.lines s.after (subst (λ k. RowSteps k c s.lines s.after) is s.steps) in
         let one = gives_one last.prev s.after last.row last.step in
         let there = same_element last.prev.database c.database last.prev.plan c.plan last.prev.given (Some last.row) last.database last.plan one.there in
         let some = element_below (Rattle.sand_model.specs.Answer.answer plan_measure c.database c.plan) last.prev.given last.row there in
-        within_later c.database c.plan (has_taken plan_measure c.database c.plan s.after.given false) next_taken s.completed
+        within_later pages c.database c.plan (has_taken plan_measure c.database c.plan s.after.given false) next_taken s.completed
         (subst (λ k. IsBefore (has_taken plan_measure c.database c.plan k false) (model.step_taken plan_measure c.database c.plan k)) (sym one.given)
         (model_later c.database c.plan last.prev.given some)) s.near
 
-    new_near : Within c.database c.plan next_taken (st.visits.completed ++ st.visits.attempted)
+    new_near : Within pages c.database c.plan next_taken (st.visits.completed ++ st.visits.attempted)
     new_near =
-        subst (λ t. Within c.database c.plan t (st.visits.completed ++ st.visits.attempted)) (same_taken (record s.after { database = c.database; plan = c.plan }) refl refl refl)
-        (within_same s.after.database c.database s.after.plan c.plan (rows_database rows c s.lines s.after s.steps) (rows_plan rows c s.lines s.after s.steps)
+        subst (λ t. Within pages c.database c.plan t (st.visits.completed ++ st.visits.attempted)) (same_taken (record s.after { database = c.database; plan = c.plan }) refl refl refl)
+        (within_same pages s.after.database c.database s.after.plan c.plan (rows_database rows c s.lines s.after s.steps) (rows_plan rows c s.lines s.after s.steps)
         (λ d p. step_taken (record s.after { database = d; plan = p })) (st.visits.completed ++ st.visits.attempted) st.visits.near)
 
-    all_near : Within c.database c.plan next_taken all_noted
+    all_near : Within pages c.database c.plan next_taken all_noted
     all_near =
-        subst (Within c.database c.plan next_taken) grouped
-        (All-append (LiesWithin plan_measure c.database c.plan (reach plan_measure c.database c.plan next_taken)) s.completed (st.visits.completed ++ st.visits.attempted)
+        subst (Within pages c.database c.plan next_taken) grouped
+        (All-append (LiesWithin plan_measure pages c.database c.plan (reach plan_measure c.database c.plan next_taken)) s.completed (st.visits.completed ++ st.visits.attempted)
         (old_near rows refl) new_near)
 
     step_up : AreAtMost s.after.counts st.after.counts
@@ -195,7 +196,7 @@ module _ (c : Cursor) (rows : ℕ) (old mid new : DeskState) (before at now : Li
 
   -- ---- the next step gave a row
 
-  module _ (row : PlanRow) (answer : Result (Option Answer) PageFault) (st : CursorStep s.after mid new answer After) (is : step_of plan_measure s.after ≡ (line.Row row, st.after)) (none : st.visits.attempted ≡ []) where
+  module _ (row : PlanRow) (answer : Result (Option Answer) PageFault) (st : CursorStep pages s.after mid new answer After) (is : step_of plan_measure s.after ≡ (line.Row row, st.after)) (none : st.visits.attempted ≡ []) where
     abbrev lines_row : List OutputLine
     lines_row = s.lines ++ line.Row row ∷ []
 
@@ -204,12 +205,12 @@ module _ (c : Cursor) (rows : ℕ) (old mid new : DeskState) (before at now : Li
         let add : rows + 1 ≡ suc rows = omega arith in
         subst (λ n. RowSteps n c lines_row st.after) (sym add) (rows_more rows c s.lines s.after st.after row s.steps is)
 
-    near_row : Within c.database c.plan (has_taken plan_measure c.database c.plan st.after.given false) (all_noted answer st)
+    near_row : Within pages c.database c.plan (has_taken plan_measure c.database c.plan st.after.given false) (all_noted answer st)
     near_row =
         let one = gives_one s.after st.after row is in
         let there = same_element s.after.database c.database s.after.plan c.plan s.after.given (Some row)
         (rows_database rows c s.lines s.after s.steps) (rows_plan rows c s.lines s.after s.steps) one.there in
-        subst (λ t. Within c.database c.plan t (all_noted answer st))
+        subst (λ t. Within pages c.database c.plan t (all_noted answer st))
         (model.step_taken_row plan_measure c.database c.plan s.after.given row there ∙ ap (λ k. has_taken plan_measure c.database c.plan k false) (sym one.given))
         (all_near answer st)
 
@@ -217,7 +218,7 @@ module _ (c : Cursor) (rows : ℕ) (old mid new : DeskState) (before at now : Li
     bare : all_noted answer st ≡ all_completed answer st
     bare = ap (λ l. all_completed answer st ++ l) none ∙ append-nil (all_completed answer st)
 
-    more_row : Writes (IsText (line.Row row ∷ [])) at now → SoFar c (rows + 1) old new before now After
+    more_row : Writes (IsText (line.Row row ∷ [])) at now → SoFar pages c (rows + 1) old new before now After
     more_row w = record {
       lines = lines_row;
       after = st.after;
@@ -227,7 +228,7 @@ module _ (c : Cursor) (rows : ℕ) (old mid new : DeskState) (before at now : Li
       completed = all_completed answer st;
       log = all_log answer st ∙ ap (λ l. old.visits ++ l) bare;
       counted = all_counted answer st;
-      near = subst (Within c.database c.plan (has_taken plan_measure c.database c.plan st.after.given false)) bare near_row;
+      near = subst (Within pages c.database c.plan (has_taken plan_measure c.database c.plan st.after.given false)) bare near_row;
       first = λ none. absurd (omega (arith, none));
       up = all_up answer st;
       rose = all_rose answer st;
@@ -242,7 +243,7 @@ module _ (c : Cursor) (rows : ℕ) (old mid new : DeskState) (before at now : Li
       taken = refl;
     }
 
-    broke_row : (count : ℕ) (failed : Failed) → rows < count → WritesPrefix (IsText (line.Row row ∷ [])) at now → PrintsRows c count old new before now (Err failed) After
+    broke_row : (count : ℕ) (failed : Failed) → rows < count → WritesPrefix (IsText (line.Row row ∷ [])) at now → PrintsRows pages c count old new before now (Err failed) After
     broke_row count failed few w = record {
       lines = lines_row;
       after = st.after;
@@ -258,24 +259,24 @@ module _ (c : Cursor) (rows : ℕ) (old mid new : DeskState) (before at now : Li
       settled = none;
       counted = all_counted answer st;
       near = near_row;
-      row = last_within (rows + 1) c lines_row st.after (all_noted answer st) steps_row near_row;
+      row = last_within pages (rows + 1) c lines_row st.after (all_noted answer st) steps_row near_row;
       rose = all_rose answer st;
     }
 
   -- ---- it gave the end
 
-  module _ (answer : Result (Option Answer) PageFault) (st : CursorStep s.after mid new answer After) (is : step_of plan_measure s.after ≡ (line.End, st.after)) (none : st.visits.attempted ≡ []) where
+  module _ (answer : Result (Option Answer) PageFault) (st : CursorStep pages s.after mid new answer After) (is : step_of plan_measure s.after ≡ (line.End, st.after)) (none : st.visits.attempted ≡ []) where
     abbrev lines_end : List OutputLine
     lines_end = s.lines ++ line.End ∷ []
 
     given_end : st.after.given ≡ s.after.given
     given_end = end_given s.after st.after is
 
-    near_end : Within c.database c.plan (has_taken plan_measure c.database c.plan st.after.given true) (all_noted answer st)
+    near_end : Within pages c.database c.plan (has_taken plan_measure c.database c.plan st.after.given true) (all_noted answer st)
     near_end =
         let none = same_element s.after.database c.database s.after.plan c.plan s.after.given None
         (rows_database rows c s.lines s.after s.steps) (rows_plan rows c s.lines s.after s.steps) (none_left s.after st.after is) in
-        subst (λ t. Within c.database c.plan t (all_noted answer st))
+        subst (λ t. Within pages c.database c.plan t (all_noted answer st))
         (model.step_taken_end plan_measure c.database c.plan s.after.given none ∙ ap (λ k. has_taken plan_measure c.database c.plan k true) (sym given_end))
         (all_near answer st)
 
@@ -290,10 +291,10 @@ module _ (c : Cursor) (rows : ℕ) (old mid new : DeskState) (before at now : Li
     }
 
     row_end : is_lazy c.plan ≡ true → (front : List OutputLine) (row : PlanRow) → lines_end ≡ front ++ line.Row row ∷ []
-        → All (LiesWithin plan_measure c.database c.plan (reach_of_last (row ∷ []))) (all_noted answer st)
+        → All (LiesWithin plan_measure pages c.database c.plan (reach_of_last (row ∷ []))) (all_noted answer st)
     row_end lazy front row e = absurd (end_no_row row (same_last s.lines front line.End (line.Row row) e))
 
-    done_end : (count : ℕ) → rows < count → Writes (IsText (line.End ∷ [])) at now → PrintsRows c count old new before now (Ok (Rows rows true)) After
+    done_end : (count : ℕ) → rows < count → Writes (IsText (line.End ∷ [])) at now → PrintsRows pages c count old new before now (Ok (Rows rows true)) After
     done_end count few w = record {
       lines = lines_end;
       after = st.after;
@@ -313,7 +314,7 @@ module _ (c : Cursor) (rows : ℕ) (old mid new : DeskState) (before at now : Li
       rose = all_rose answer st;
     }
 
-    broke_end : (count : ℕ) (failed : Failed) → rows < count → WritesPrefix (IsText (line.End ∷ [])) at now → PrintsRows c count old new before now (Err failed) After
+    broke_end : (count : ℕ) (failed : Failed) → rows < count → WritesPrefix (IsText (line.End ∷ [])) at now → PrintsRows pages c count old new before now (Err failed) After
     broke_end count failed few w = record {
       lines = lines_end;
       after = st.after;
@@ -335,8 +336,8 @@ module _ (c : Cursor) (rows : ℕ) (old mid new : DeskState) (before at now : Li
 
   -- ---- it was refused
 
-  done_refused : (fault : PageFault) (st : CursorStep s.after mid new (Err fault) After) (count : ℕ) → rows < count → ((bytes : List ℕ) → at bytes → now bytes)
-      → PrintsRows c count old new before now (Ok (Refused rows fault)) After
+  done_refused : (fault : PageFault) (st : CursorStep pages s.after mid new (Err fault) After) (count : ℕ) → rows < count → ((bytes : List ℕ) → at bytes → now bytes)
+      → PrintsRows pages c count old new before now (Ok (Refused rows fault)) After
   done_refused fault st count few stays = record {
     lines = s.lines;
     after = st.after;
@@ -358,7 +359,7 @@ module _ (c : Cursor) (rows : ℕ) (old mid new : DeskState) (before at now : Li
     settled = tt;
     counted = all_counted (Err fault) st;
     near =
-        subst (λ t. Within c.database c.plan t (all_noted (Err fault) st))
+        subst (λ t. Within pages c.database c.plan t (all_noted (Err fault) st))
         (sym (same_taken (Err fault) st st.after (ap (λ (d : Cursor). d.database) only_counts ∙ rows_database rows c s.lines s.after s.steps)
         (ap (λ (d : Cursor). d.plan) only_counts ∙ rows_plan rows c s.lines s.after s.steps) (ap (λ (d : Cursor). d.given) only_counts)))
         (all_near (Err fault) st);
@@ -378,45 +379,45 @@ module _ (c : Cursor) (rows : ℕ) (old mid new : DeskState) (before at now : Li
 
   -- ---- what was printed of the next step
 
-  pub prints_more : PrintsNext s.after mid new at now (Ok next.Row) After → SoFar c (rows + 1) old new before now After
+  pub prints_more : PrintsNext pages s.after mid new at now (Ok next.Row) After → SoFar pages c (rows + 1) old new before now After
   prints_more n = go n.answer n.step n.prints
     where
-      go : (answer : Result (Option Answer) PageFault) → CursorStep s.after mid new answer After → PrintsStep answer (Ok next.Row) at now → SoFar c (rows + 1) old new before now After
+      go : (answer : Result (Option Answer) PageFault) → CursorStep pages s.after mid new answer After → PrintsStep answer (Ok next.Row) at now → SoFar pages c (rows + 1) old new before now After
       go (Ok (Some a)) st w = more_row (row_of a) (Ok (Some a)) st st.gives st.visits.settled w
       go (Ok None) st w = absurd w
       go (Err fault) st w = absurd w
 
-  pub prints_end : (count : ℕ) → rows < count → PrintsNext s.after mid new at now (Ok next.End) After → PrintsRows c count old new before now (Ok (Rows rows true)) After
+  pub prints_end : (count : ℕ) → rows < count → PrintsNext pages s.after mid new at now (Ok next.End) After → PrintsRows pages c count old new before now (Ok (Rows rows true)) After
   prints_end count few n = go n.answer n.step n.prints
     where
-      go : (answer : Result (Option Answer) PageFault) → CursorStep s.after mid new answer After → PrintsStep answer (Ok next.End) at now
-          → PrintsRows c count old new before now (Ok (Rows rows true)) After
+      go : (answer : Result (Option Answer) PageFault) → CursorStep pages s.after mid new answer After → PrintsStep answer (Ok next.End) at now
+          → PrintsRows pages c count old new before now (Ok (Rows rows true)) After
       go (Ok (Some a)) st w = absurd w
       go (Ok None) st w = done_end (Ok None) st st.gives st.visits.settled count few w
       go (Err fault) st w = absurd w
 
-  pub prints_refused : (count : ℕ) (fault : PageFault) → rows < count → PrintsNext s.after mid new at now (Ok (next.Refused fault)) After
-      → PrintsRows c count old new before now (Ok (Refused rows fault)) After
+  pub prints_refused : (count : ℕ) (fault : PageFault) → rows < count → PrintsNext pages s.after mid new at now (Ok (next.Refused fault)) After
+      → PrintsRows pages c count old new before now (Ok (Refused rows fault)) After
   prints_refused count fault few n = go n.answer n.step n.prints
     where
-      go : (answer : Result (Option Answer) PageFault) → CursorStep s.after mid new answer After → PrintsStep answer (Ok (next.Refused fault)) at now
-          → PrintsRows c count old new before now (Ok (Refused rows fault)) After
+      go : (answer : Result (Option Answer) PageFault) → CursorStep pages s.after mid new answer After → PrintsStep answer (Ok (next.Refused fault)) at now
+          → PrintsRows pages c count old new before now (Ok (Refused rows fault)) After
       go (Ok (Some a)) st w = absurd w
       go (Ok None) st w = absurd w
-      go (Err other) st w = done_refused fault (subst (λ f. CursorStep s.after mid new (Err f) After) (sym w.0) st) count few w.1
+      go (Err other) st w = done_refused fault (subst (λ f. CursorStep pages s.after mid new (Err f) After) (sym w.0) st) count few w.1
 
-  pub prints_failed : (count : ℕ) (failed : Failed) → rows < count → PrintsNext s.after mid new at now (Err failed) After → PrintsRows c count old new before now (Err failed) After
+  pub prints_failed : (count : ℕ) (failed : Failed) → rows < count → PrintsNext pages s.after mid new at now (Err failed) After → PrintsRows pages c count old new before now (Err failed) After
   prints_failed count failed few n = go n.answer n.step n.prints
     where
-      go : (answer : Result (Option Answer) PageFault) → CursorStep s.after mid new answer After → PrintsStep answer (Err failed) at now → PrintsRows c count old new before now (Err failed) After
+      go : (answer : Result (Option Answer) PageFault) → CursorStep pages s.after mid new answer After → PrintsStep answer (Err failed) at now → PrintsRows pages c count old new before now (Err failed) After
       go (Ok (Some a)) st w = broke_row (row_of a) (Ok (Some a)) st st.gives st.visits.settled count failed few w
       go (Ok None) st w = broke_end (Ok None) st st.gives st.visits.settled count failed few w
       go (Err other) st w = absurd w
 
 -- all rows that were asked were given
-pub prints_all : (c : Cursor) (rows count : ℕ) (old now : DeskState) (before at : List ℕ → Type 0) (Stands : Cursor → Type 0) → rows ≡ count
-    → SoFar c rows old now before at Stands → PrintsRows c count old now before at (Ok (Rows rows false)) Stands
-prints_all c rows count old now before at Stands same s = record {
+pub prints_all : (pages : PageMap) (c : Cursor) (rows count : ℕ) (old now : DeskState) (before at : List ℕ → Type 0) (Stands : Cursor → Type 0) → rows ≡ count
+    → SoFar pages c rows old now before at Stands → PrintsRows pages c count old now before at (Ok (Rows rows false)) Stands
+prints_all pages c rows count old now before at Stands same s = record {
   lines = s.lines;
   after = s.after;
   last = has_taken plan_measure c.database c.plan s.after.given false;
@@ -440,9 +441,9 @@ prints_all c rows count old now before at Stands same s = record {
   settled = refl;
   counted = s.counted;
   near = near_all;
-  row = last_within rows c s.lines s.after (s.completed ++ []) s.steps near_all;
+  row = last_within pages rows c s.lines s.after (s.completed ++ []) s.steps near_all;
   rose = s.rose;
 }
   where
-    near_all : Within c.database c.plan (has_taken plan_measure c.database c.plan s.after.given false) (s.completed ++ [])
-    near_all = subst (Within c.database c.plan (has_taken plan_measure c.database c.plan s.after.given false)) (sym (append-nil s.completed)) s.near
+    near_all : Within pages c.database c.plan (has_taken plan_measure c.database c.plan s.after.given false) (s.completed ++ [])
+    near_all = subst (Within pages c.database c.plan (has_taken plan_measure c.database c.plan s.after.given false)) (sym (append-nil s.completed)) s.near

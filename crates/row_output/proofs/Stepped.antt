@@ -51,7 +51,7 @@ module _ {S T : Type 0} (At : S → Taking) (Stands : T → Standing) (closed : 
   prints_told (Some pages) cursor cursor' old new answer r result before now is prints h =
       λ c at. record {
         answer = r;
-        step = step_then c old new r (IsAtPaid At Stands closed q seen cursor cursor' pages c at old new (λ after. left_behind closed q cursor'.operator pages after r))
+        step = step_then pages c old new r (IsAtPaid At Stands closed q seen cursor cursor' pages c at old new (λ after. left_behind closed q cursor'.operator pages after r))
             (IsAtPaid At Stands closed q seen cursor cursor' pages c at old new (λ after. left_by_line closed q cursor'.operator pages after result))
             (λ after paid_it. at_less At Stands closed q seen pages cursor cursor' c after at old new (λ after. left_behind closed q cursor'.operator pages after r)
             (λ after. left_by_line closed q cursor'.operator pages after result) (left_less cursor'.operator pages after r result before now prints) paid_it)

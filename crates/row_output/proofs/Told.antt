@@ -26,13 +26,13 @@ module _ {S T : Type 0} (At : S → Taking) (Stands : T → Standing) (closed : 
   abbrev pub SoFarPaid : RowCursor S T → RowCursor S T → ℕ → DeskState → DeskState → (List ℕ → Type 0) → (List ℕ → Type 0) → PageMap → Type 0
   SoFarPaid first cursor rows old mid before at pages =
       (c : Cursor) (k : IsAt At Stands closed seen first pages c)
-      → SoFar c rows old mid before at (IsAtPaid At Stands closed q seen first cursor pages c k old mid (left_at closed q cursor.operator pages))
+      → SoFar pages c rows old mid before at (IsAtPaid At Stands closed q seen first cursor pages c k old mid (left_at closed q cursor.operator pages))
 
   -- at first
   pub told_none : (told : Option PageMap) (first : RowCursor S T) (desk : DeskState) (before : List ℕ → Type 0) → IfSome told (SoFarPaid first first 0 desk desk before before)
   told_none None first desk before = tt
   told_none (Some pages) first desk before =
-      λ c k. so_far_none c desk before (IsAtPaid At Stands closed q seen first first pages c k desk desk (left_at closed q first.operator pages)) (at_none At Stands closed q seen pages first c k desk)
+      λ c k. so_far_none pages c desk before (IsAtPaid At Stands closed q seen first first pages c k desk desk (left_at closed q first.operator pages)) (at_none At Stands closed q seen pages first c k desk)
 
   -- the cursor stands for the next step
   pub told_stands : (told now : Option PageMap) (first cursor : RowCursor S T) (rows : ℕ) (old mid : DeskState) (before at : List ℕ → Type 0) → now ≡ told
@@ -48,7 +48,7 @@ module _ {S T : Type 0} (At : S → Taking) (Stands : T → Standing) (closed : 
       → IfSome told (SoFarPaid first cursor rows old now before at) → IfSome told (PrintsRowsPaid At Stands closed q seen first cursor count old now before at (Ok (Rows rows false)))
   told_all None first cursor rows count old now before at same h = tt
   told_all (Some pages) first cursor rows count old now before at same h =
-      λ c k. prints_all c rows count old now before at (IsAtPaid At Stands closed q seen first cursor pages c k old now (left_at closed q cursor.operator pages)) same (h c k)
+      λ c k. prints_all pages c rows count old now before at (IsAtPaid At Stands closed q seen first cursor pages c k old now (left_at closed q cursor.operator pages)) same (h c k)
 
   module _ (told now : Option PageMap) (first cursor cursor' : RowCursor S T) (rows : ℕ) (old mid new : DeskState) (before at then : List ℕ → Type 0) (result : Result Next Failed) (same : now ≡ told)
       (so_far : IfSome told (SoFarPaid first cursor rows old mid before at)) (step : IfSome now (PrintsNextPaid At Stands closed q seen cursor cursor' mid new at then result)) where
@@ -64,8 +64,8 @@ module _ {S T : Type 0} (At : S → Taking) (Stands : T → Standing) (closed : 
 
     after_told : (r : Result Next Failed) (R : PageMap → Type 0) → result ≡ r
         → ((pages : PageMap) → ((c : Cursor) (k : IsAt At Stands closed seen first pages c)
-        → (s : SoFar c rows old mid before at (IsAtPaid At Stands closed q seen first cursor pages c k old mid (left_at closed q cursor.operator pages)))
-        × PrintsNext s.after mid new at then r (After r pages c k)) → R pages)
+        → (s : SoFar pages c rows old mid before at (IsAtPaid At Stands closed q seen first cursor pages c k old mid (left_at closed q cursor.operator pages)))
+        × PrintsNext pages s.after mid new at then r (After r pages c k)) → R pages)
         → IfSome told R
     after_told r R is use_it =
         both_told told (SoFarPaid first cursor rows old mid before at) (PrintsNextPaid At Stands closed q seen cursor cursor' mid new at then r) R
@@ -75,7 +75,7 @@ module _ {S T : Type 0} (At : S → Taking) (Stands : T → Standing) (closed : 
           s,
           record {
             answer = n.answer;
-            step = step_then s.after mid new n.answer
+            step = step_then pages s.after mid new n.answer
                 (IsAtPaid At Stands closed q seen cursor cursor' pages s.after s.stands.stands mid new (λ after. left_by_line closed q cursor'.operator pages after r)) (After r pages c k)
                 (λ after more. at_both At Stands closed q seen pages first cursor cursor' c s.after after k old mid new (λ after. left_by_line closed q cursor'.operator pages after r) s.stands more)
                 n.step;
@@ -87,20 +87,20 @@ module _ {S T : Type 0} (At : S → Taking) (Stands : T → Standing) (closed : 
     told_more is =
         after_told (Ok next.Row) (SoFarPaid first cursor' (rows + 1) old new before then) is
         (λ pages both c k. let b = both c k in
-        prints_more c rows old mid new before at then (IsAtPaid At Stands closed q seen first cursor pages c k old mid (left_at closed q cursor.operator pages)) (After (Ok next.Row) pages c k) b.0 b.1)
+        prints_more pages c rows old mid new before at then (IsAtPaid At Stands closed q seen first cursor pages c k old mid (left_at closed q cursor.operator pages)) (After (Ok next.Row) pages c k) b.0 b.1)
 
     pub told_end : (count : ℕ) → rows < count → result ≡ Ok next.End → IfSome told (PrintsRowsPaid At Stands closed q seen first cursor' count old new before then (Ok (Rows rows true)))
     told_end count few is =
         after_told (Ok next.End) (PrintsRowsPaid At Stands closed q seen first cursor' count old new before then (Ok (Rows rows true))) is
         (λ pages both c k. let b = both c k in
-        prints_end c rows old mid new before at then (IsAtPaid At Stands closed q seen first cursor pages c k old mid (left_at closed q cursor.operator pages)) (After (Ok next.End) pages c k) b.0 count few b.1)
+        prints_end pages c rows old mid new before at then (IsAtPaid At Stands closed q seen first cursor pages c k old mid (left_at closed q cursor.operator pages)) (After (Ok next.End) pages c k) b.0 count few b.1)
 
     pub told_refused : (count : ℕ) (fault : PageFault) → rows < count → result ≡ Ok (next.Refused fault)
         → IfSome told (PrintsRowsPaid At Stands closed q seen first cursor' count old new before then (Ok (Refused rows fault)))
     told_refused count fault few is =
         after_told (Ok (next.Refused fault)) (PrintsRowsPaid At Stands closed q seen first cursor' count old new before then (Ok (Refused rows fault))) is
         (λ pages both c k. let b = both c k in
-        prints_refused c rows old mid new before at then (IsAtPaid At Stands closed q seen first cursor pages c k old mid (left_at closed q cursor.operator pages)) (After (Ok (next.Refused fault)) pages c k)
+        prints_refused pages c rows old mid new before at then (IsAtPaid At Stands closed q seen first cursor pages c k old mid (left_at closed q cursor.operator pages)) (After (Ok (next.Refused fault)) pages c k)
         b.0 count fault few b.1)
 
     pub told_failed : (count : ℕ) (failed : Failed) → rows < count → result ≡ Err failed
@@ -108,5 +108,5 @@ module _ {S T : Type 0} (At : S → Taking) (Stands : T → Standing) (closed : 
     told_failed count failed few is =
         after_told (Err failed) (PrintsRowsPaid At Stands closed q seen first cursor' count old new before then (Err failed)) is
         (λ pages both c k. let b = both c k in
-        prints_failed c rows old mid new before at then (IsAtPaid At Stands closed q seen first cursor pages c k old mid (left_at closed q cursor.operator pages)) (After (Err failed) pages c k)
+        prints_failed pages c rows old mid new before at then (IsAtPaid At Stands closed q seen first cursor pages c k old mid (left_at closed q cursor.operator pages)) (After (Err failed) pages c k)
         b.0 count failed few b.1)

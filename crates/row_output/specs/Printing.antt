@@ -88,17 +88,17 @@ CutsLast (Ok printed) lines before now = ⊤
 CutsLast (Err failed) lines before now = IsCutInLast lines before now
 
 -- where the last step gave a row of a plan without a sort, the visits lie within the gap of this row
-abbrev pub LieWithinLast : Cursor → Result Printed Failed → List OutputLine → List Visit → Type 0
-LieWithinLast c (Ok (Refused rows fault)) lines noted = ⊤
-LieWithinLast c (Ok (Rows rows end)) lines noted =
+abbrev pub LieWithinLast : PageMap → Cursor → Result Printed Failed → List OutputLine → List Visit → Type 0
+LieWithinLast pages c (Ok (Refused rows fault)) lines noted = ⊤
+LieWithinLast pages c (Ok (Rows rows end)) lines noted =
     is_lazy c.plan ≡ true → (front : List OutputLine) (row : PlanRow) → lines ≡ front ++ line.Row row ∷ []
-    → All (LiesWithin plan_measure c.database c.plan (reach_of_last (row ∷ []))) noted
-LieWithinLast c (Err failed) lines noted =
+    → All (LiesWithin plan_measure pages c.database c.plan (reach_of_last (row ∷ []))) noted
+LieWithinLast pages c (Err failed) lines noted =
     is_lazy c.plan ≡ true → (front : List OutputLine) (row : PlanRow) → lines ≡ front ++ line.Row row ∷ []
-    → All (LiesWithin plan_measure c.database c.plan (reach_of_last (row ∷ []))) noted
+    → All (LiesWithin plan_measure pages c.database c.plan (reach_of_last (row ∷ []))) noted
 
 -- Some steps of the cursor of the model were made, and their lines were written. The visits were noted behind those before, those completed and after them, only where a step was refused, at most one that was attempted in vain; all lie within the reach of the last step, also of one that was refused, and the counts rise by just the completed ones.
-pub record PrintsRows (c : Cursor) (count : ℕ) (old new : DeskState) (before now : List ℕ → Type 0) (result : Result Printed Failed) (At : Cursor → Type 0) : Type 0 where
+pub record PrintsRows (pages : PageMap) (c : Cursor) (count : ℕ) (old new : DeskState) (before now : List ℕ → Type 0) (result : Result Printed Failed) (At : Cursor → Type 0) : Type 0 where
   pub lines : List OutputLine
   pub after : Cursor
   pub last : Taken
@@ -112,8 +112,8 @@ pub record PrintsRows (c : Cursor) (count : ℕ) (old new : DeskState) (before n
   pub few : length attempted ≤ 1
   pub settled : OnOk (refusal_in result) (attempted ≡ [])
   pub counted : after.counts ≡ c.counts plus visit_counts completed
-  pub near : All (LiesWithin plan_measure c.database c.plan (reach plan_measure c.database c.plan last)) (completed ++ attempted)
-  pub row : LieWithinLast c result lines (completed ++ attempted)
+  pub near : All (LiesWithin plan_measure pages c.database c.plan (reach plan_measure c.database c.plan last)) (completed ++ attempted)
+  pub row : LieWithinLast pages c result lines (completed ++ attempted)
   pub rose : min (old.pool.gets + (node_count after.counts - node_count c.counts)) last_count ≤ new.pool.gets
 
 -- what is left to pay after what was printed: at the end, and where the sink failed, no step of the source, and after a refused step nothing
@@ -127,4 +127,4 @@ abbrev pub PrintsRowsPaid : {S T : Type 0} → (S → Taking) → (T → Standin
     → DeskState → DeskState → (List ℕ → Type 0) → (List ℕ → Type 0) → Result Printed Failed → PageMap → Type 0
 PrintsRowsPaid At Stands closed q seen cursor cursor' count old new before now result pages =
     (c : Cursor) (at : IsAt At Stands closed seen cursor pages c)
-    → PrintsRows c count old new before now result (IsAtPaid At Stands closed q seen cursor cursor' pages c at old new (λ after. left_by_lines closed q cursor'.operator pages after result))
+    → PrintsRows pages c count old new before now result (IsAtPaid At Stands closed q seen cursor cursor' pages c at old new (λ after. left_by_lines closed q cursor'.operator pages after result))

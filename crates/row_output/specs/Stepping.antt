@@ -46,9 +46,9 @@ PrintsStep (Err why) (Ok (Refused fault)) before now = (fault ≡ why) × Stays 
 PrintsStep (Err why) (Err failed) before now = ⊥
 
 -- A step of the cursor of the model was made, and its line was written.
-pub record PrintsNext (c : Cursor) (old new : DeskState) (before now : List ℕ → Type 0) (result : Result Next Failed) (At : Cursor → Type 0) : Type 0 where
+pub record PrintsNext (pages : PageMap) (c : Cursor) (old new : DeskState) (before now : List ℕ → Type 0) (result : Result Next Failed) (At : Cursor → Type 0) : Type 0 where
   pub answer : Result (Option Answer) PageFault
-  pub step : CursorStep c old new answer At
+  pub step : CursorStep pages c old new answer At
   pub prints : PrintsStep answer result before now
 
 -- what is left to pay after a step and its line: at the end, and where the sink failed, no step of the source, and after a refused step nothing
@@ -63,4 +63,4 @@ abbrev pub PrintsNextPaid : {S T : Type 0} → (S → Taking) → (T → Standin
     → DeskState → DeskState → (List ℕ → Type 0) → (List ℕ → Type 0) → Result Next Failed → PageMap → Type 0
 PrintsNextPaid At Stands closed q seen cursor cursor' old new before now result pages =
     (c : Cursor) (at : IsAt At Stands closed seen cursor pages c)
-    → PrintsNext c old new before now result (IsAtPaid At Stands closed q seen cursor cursor' pages c at old new (λ after. left_by_line closed q cursor'.operator pages after result))
+    → PrintsNext pages c old new before now result (IsAtPaid At Stands closed q seen cursor cursor' pages c at old new (λ after. left_by_line closed q cursor'.operator pages after result))

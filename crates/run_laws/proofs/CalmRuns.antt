@@ -10,7 +10,7 @@ use Rattle.sand_model.specs.Database.{Relation, relation_named, changed_at}
 use Rattle.sand_model.specs.Measure.{Measure}
 use Rattle.sand_model.specs.Outcome.{Rises, IsRefusedBy, Changes, PrintsLeaves, leaf_lines, replaced}
 use Rattle.sand_model.specs.Run.{Run}
-use Rattle.statements.specs.Statement.{Statement, Create, Insert, Delete, Load, Index as IndexOn, OpenCursor, Next, CloseCursor, Show, Stats, Far, Blocks}
+use Rattle.statements.specs.Statement.{Statement, Create, Insert, Delete, Load, Index as IndexOn, Rtree, OpenCursor, Next, CloseCursor, Show, Stats, Far, Blocks}
 use Rattle.sand_model.specs.ScriptLine.{ScriptLine, Blank, TooLong, BadToken, OutOfRange, Says}
 use Rattle.sand_model.specs.StatementChecks.{Setting, early, late, cursor_named, entered, file_rows}
 use Rattle.run_laws.specs.Determined.{is_of_memory, IsCalm}
@@ -92,6 +92,7 @@ module _ (setting : Setting) (old one other : State) (lines again : List OutputL
       let k' : IsLoaded name file header relation = subst (IsLoaded name file header) same k in
       same_line _ _ _ _ refl refl h k'
   one_effect (IndexOn column threshold) h k = same_line _ _ _ _ refl refl h k
+  one_effect (Rtree column) h k = same_line _ _ _ _ refl refl h k
   one_effect (OpenCursor name p) h k = same_line _ _ _ _ refl refl h k
   one_effect (Next name count) (c, found, h) (c', found', k) =
       let same : c' ≡ c = one_there (cursor_named old name) c' c found' found in

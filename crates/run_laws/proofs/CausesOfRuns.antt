@@ -16,7 +16,7 @@ use Rattle.sand_model.specs.Database.{Database, Relation, Index, Quadtree, Attri
 use Rattle.sand_model.specs.Measure.{Measure}
 use Rattle.sand_model.specs.Outcome.{Rises, Outcome, IsLicensed, IsCaused, IsRefusedBy, IsCarriedOut, PrintsLeaves, leaf_lines, first_lines, far_lines}
 use Rattle.sand_model.specs.Run.{LineOutcome, Run}
-use Rattle.statements.specs.Statement.{Statement, Create, Insert, Delete, Load, Index as IndexOn, OpenCursor, Next, CloseCursor, Show, Stats as StatsOf, Far, Blocks}
+use Rattle.statements.specs.Statement.{Statement, Create, Insert, Delete, Load, Index as IndexOn, Rtree, OpenCursor, Next, CloseCursor, Show, Stats as StatsOf, Far, Blocks}
 use Rattle.sand_model.specs.ScriptLine.{ScriptLine, Blank, TooLong, BadToken, OutOfRange, Says}
 use Rattle.sand_model.specs.StatementChecks.{Setting, early, late}
 use Rattle.sand_model.specs.Tree.{leaves, root_block}
@@ -101,6 +101,7 @@ module _ (setting : Setting) (rises : Rises) (old new : State) (lines : List Out
   carried_cause (Delete name id) h = causes_of setting.tells rises lines _ h.0 (causes_line setting.tells rises Accepted tt)
   carried_cause (Load name file header) (relation, found, h) = causes_of setting.tells rises lines _ h.0 (causes_line setting.tells rises (Loaded _) tt)
   carried_cause (IndexOn column threshold) h = causes_of setting.tells rises lines _ h.0 (causes_line setting.tells rises Accepted tt)
+  carried_cause (Rtree column) h = causes_of setting.tells rises lines _ h.0 (causes_line setting.tells rises Accepted tt)
   carried_cause (OpenCursor name p) h = causes_of setting.tells rises lines _ h.0 (causes_line setting.tells rises Accepted tt)
   carried_cause (Next name count) (cursor, found, rest) =
       steps_cause setting.tells rises (IsLicensed setting rises old (Next name count)) (licensed_cause setting rises old (Next name count)) setting.gap count cursor rest.0 lines rest.1

@@ -7,7 +7,7 @@ use Rattle.sand_model.specs.Checks.{first_refusal}
 use Rattle.sand_model.specs.Cursor.{State, Cursor, OutputLine, Steps, new_cursor}
 use Rattle.sand_model.specs.Outcome.{Rises, Outcome, IsLicensed, IsRefusedBy, IsCaused, IsCarriedOut}
 use Rattle.sand_model.specs.Run.{LineOutcome, Run}
-use Rattle.statements.specs.Statement.{Statement, Create, Insert, Delete, Load, Index as IndexOn, OpenCursor, Next, CloseCursor, Show, Stats, Far, Blocks}
+use Rattle.statements.specs.Statement.{Statement, Create, Insert, Delete, Load, Index as IndexOn, Rtree, OpenCursor, Next, CloseCursor, Show, Stats, Far, Blocks}
 use Rattle.sand_model.specs.ScriptLine.{ScriptLine, Blank, TooLong, BadToken, OutOfRange, Says}
 use Rattle.sand_model.specs.StatementChecks.{Setting, early, late, cursor_named}
 use Rattle.run_laws.specs.Following.{rows_left, GoesOn, asks, closes}
@@ -52,6 +52,7 @@ module _ (setting : Setting) (rises : Rises) (old new : State) (lines : List Out
     with_done (Delete other id) a s h = with_same (ap (λ state. state.cursors) h.1)
     with_done (Load other file header) a s (relation, found, h) = with_same (ap (λ state. state.cursors) h.1)
     with_done (IndexOn column threshold) a s h = with_same (ap (λ state. state.cursors) h.1)
+    with_done (Rtree column) a s h = with_same (ap (λ state. state.cursors) h.1)
     with_done (OpenCursor other p) a s h =
         with_these (old.cursors ++ new_cursor other p old.database ∷ []) (ap (λ state. state.cursors) h.1) (kept_opened old.cursors name c (new_cursor other p old.database) is)
     with_done (Next other count) a s (cursor, found, rest) =

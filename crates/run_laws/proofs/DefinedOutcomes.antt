@@ -7,7 +7,7 @@ use Rattle.sand_model.specs.Cursor.{State, Cursor, OutputLine, Steps}
 use Rattle.sand_model.specs.Measure.{Measure}
 use Rattle.sand_model.specs.Outcome.{Rises, Outcome, IsLicensed, IsCaused, IsRefusedBy, IsCarriedOut, PrintsLeaves, leaf_lines, far_lines}
 use Rattle.sand_model.specs.Run.{LineOutcome, Run}
-use Rattle.statements.specs.Statement.{Statement, Create, Insert, Delete, Load, Index as IndexOn, OpenCursor, Next, CloseCursor, Show, Stats, Far, Blocks}
+use Rattle.statements.specs.Statement.{Statement, Create, Insert, Delete, Load, Index as IndexOn, Rtree, OpenCursor, Next, CloseCursor, Show, Stats, Far, Blocks}
 use Rattle.sand_model.specs.ScriptLine.{ScriptLine, Blank, TooLong, BadToken, OutOfRange, Says}
 use Rattle.sand_model.specs.StatementChecks.{Setting, early, late}
 use Rattle.run_laws.specs.Undisturbed.{IsMemory, HasEffect, HasDefinedOutcome, LineIsDefined, RunsUndisturbed}
@@ -59,6 +59,7 @@ module _ (setting : Setting) (rises : Rises) (tells : setting.tells ≡ true) (d
     effect (Delete name id) h = h
     effect (Load name file header) h = h
     effect (IndexOn column threshold) h = h
+    effect (Rtree column) h = h
     effect (OpenCursor name p) h = h
     effect (CloseCursor name) h = h
     effect (Stats name) h = h

@@ -14,7 +14,7 @@ use Rattle.sand_model.specs.Operators.{PlanRow}
 use Rattle.sand_model.specs.Outcome.{Rises, IsLicensed, IsRefusedBy, IsCarriedOut}
 use Rattle.sand_model.specs.OutputText.{is_refused}
 use Rattle.sand_model.specs.Run.{LineOutcome, Run}
-use Rattle.statements.specs.Statement.{Create, Insert, Delete, Load, Index as IndexOn, OpenCursor, Next, CloseCursor, Show, Stats, Far, Blocks}
+use Rattle.statements.specs.Statement.{Create, Insert, Delete, Load, Index as IndexOn, Rtree, OpenCursor, Next, CloseCursor, Show, Stats, Far, Blocks}
 use Rattle.sand_model.specs.ScriptLine.{ScriptLine, Blank, TooLong, BadToken, OutOfRange, Says}
 use Rattle.sand_model.specs.StatementChecks.{Setting, cursor_named}
 use Rattle.run_laws.specs.Following.{rows_left, Gave, GoesOn, asks, closes, rows_among, rows_given, is_end, is_end_given, HasGiven}
@@ -275,6 +275,7 @@ module _ (setting : Setting) (rises : Rises) (old new : State) (lines : List Out
   line_given (Says (Delete other id)) s h = given_beside (Says (Delete other id)) refl s h
   line_given (Says (Load other file header)) s h = given_beside (Says (Load other file header)) refl s h
   line_given (Says (IndexOn column threshold)) s h = given_beside (Says (IndexOn column threshold)) refl s h
+  line_given (Says (Rtree column)) s h = given_beside (Says (Rtree column)) refl s h
   line_given (Says (OpenCursor other p)) s h = given_beside (Says (OpenCursor other p)) refl s h
   line_given (Says (CloseCursor other)) s h = given_beside (Says (CloseCursor other)) refl s h
   line_given (Says (Show count p)) s h = given_beside (Says (Show count p)) refl s h

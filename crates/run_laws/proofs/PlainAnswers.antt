@@ -126,6 +126,7 @@ module _ (database : Database) (free : IsFreeDatabase database) where
   over_plain : (gap : Measure) (p : Plan) (rows : List PlanRow) → All IsPlainRow rows → All IsPlainRow (over gap database p rows)
   over_plain gap (plan.Scan relation) rows h = h
   over_plain gap (plan.Rank column goal within) rows h = h
+  over_plain gap (plan.Near column goal within) rows h = h
   over_plain gap (plan.Window column window) rows h = h
   over_plain gap (plan.PickEqual column v) rows h = h
   over_plain gap (plan.PickBetween column low high) rows h = h
@@ -152,6 +153,7 @@ module _ (database : Database) (free : IsFreeDatabase database) where
     go None e = rw e (All-nil IsPlainRow)
     go (Some r) e = rw e (all_mapped IsPlainRow (λ (row : ℕ × List Value). plain_row row.0) (λ row. (omega arith, All-nil IsFreeValue)) r.rows)
   plain_source gap (plan.Rank column goal within) = all_mapped IsPlainRow single_row (λ found. (omega arith, All-nil IsFreeValue)) _
+  plain_source gap (plan.Near column goal within) = all_mapped IsPlainRow single_row (λ found. (omega arith, All-nil IsFreeValue)) _
   plain_source gap (plan.Window column window) = all_mapped IsPlainRow single_row (λ found. (omega arith, All-nil IsFreeValue)) _
   plain_source gap (plan.PickEqual column v) = all_mapped IsPlainRow (λ (pair : ℕ × Value). plain_row pair.0) (λ pair. (omega arith, All-nil IsFreeValue)) _
   plain_source gap (plan.PickBetween column low high) = all_mapped IsPlainRow (λ (pair : ℕ × Value). plain_row pair.0) (λ pair. (omega arith, All-nil IsFreeValue)) _

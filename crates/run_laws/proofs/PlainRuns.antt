@@ -21,9 +21,9 @@ use Rattle.sand_model.specs.Outcome.{Rises, IsRefusedBy, IsCarriedOut, IsLicense
 use Rattle.sand_model.specs.OutputText.{IsText, is_refused}
 use Rattle.statements.specs.declared.column.Column.{Column}
 use Rattle.sand_model.specs.Run.{Run, no_state}
-use Rattle.statements.specs.Statement.{Statement, Create, Insert, Delete, Load, Index as IndexOn, OpenCursor, Next, CloseCursor, Show, Stats, Far, Blocks}
+use Rattle.statements.specs.Statement.{Statement, Create, Insert, Delete, Load, Index as IndexOn, Rtree, OpenCursor, Next, CloseCursor, Show, Stats, Far, Blocks}
 use Rattle.sand_model.specs.ScriptLine.{ScriptLine, Blank, TooLong, BadToken, OutOfRange, Says}
-use Rattle.sand_model.specs.StatementChecks.{Setting, IsSetting, FileRows, AreRows, HasBad, check_length, check_ids, check_listings, entered, file_rows, indexed_by}
+use Rattle.sand_model.specs.StatementChecks.{Setting, IsSetting, FileRows, AreRows, HasBad, check_length, check_ids, check_listings, entered, file_rows, indexed_by, treed_by}
 use Rattle.sand_model.specs.Tree.{root_block, leaves}
 use Rattle.script_lines.specs.Lines.{ended_lines, clipped, chopped}
 use Rattle.line_meaning.specs.Spoken.{AreLines, IsLine, Tells}
@@ -60,6 +60,7 @@ statement_inserts line (statement.Insert relation values) h = h.in_range.1.all
 statement_inserts line (statement.Delete relation id) h = tt
 statement_inserts line (statement.Load relation file header) h = tt
 statement_inserts line (statement.Index column threshold) h = tt
+statement_inserts line (statement.Rtree column) h = tt
 statement_inserts line (statement.OpenCursor cursor p) h = tt
 statement_inserts line (statement.Next cursor count) h = tt
 statement_inserts line (statement.CloseCursor cursor) h = tt
@@ -107,6 +108,12 @@ free_indexed gap column given relation h = go (column_named relation.schema colu
 
   go : (at : Option ℕ) → column_named relation.schema column.column ≡ at → IsFreeRelation (indexed_by gap column given relation)
   go (Some at) a = of_kind at a (element relation.schema at) refl
+  go None a = rw a h
+
+free_treed : (column : Column) (relation : Relation) → IsFreeRelation relation → IsFreeRelation (treed_by column relation)
+free_treed column relation h = go (column_named relation.schema column.column) refl where
+  go : (at : Option ℕ) → column_named relation.schema column.column ≡ at → IsFreeRelation (treed_by column relation)
+  go (Some at) a = rw a h
   go None a = rw a h
 
 free_entered : (setting : Setting) (rows : List (List Value)) → All (All IsFreeValue) rows → (relation : Relation) → IsFreeRelation relation
@@ -272,6 +279,7 @@ module _ (setting : Setting) (is : IsSetting setting) (rises : Rises) (old new :
       (free_entered setting (file_rows setting file header relation) (free_file setting is file header relation)) old.database free.database) h.1
   done (IndexOn column threshold) i h =
       changed Accepted tt h.0 _ (free_changed column.relation (indexed_by setting.gap column threshold) (free_indexed setting.gap column threshold) old.database free.database) h.1
+  done (Rtree column) i h = changed Accepted tt h.0 _ (free_changed column.relation (treed_by column) (free_treed column) old.database free.database) h.1
   done (OpenCursor name p) i h =
       leaves_these _ (All-append IsFreeCursor old.cursors (new_cursor name p old.database ∷ []) free.cursors
       (All-cons IsFreeCursor (new_cursor name p old.database) [] free.database (All-nil IsFreeCursor))) (one_line Accepted tt lines h.0) h.1

@@ -6,7 +6,7 @@ use Rattle.sand_model.specs.Cursor.{State, OutputLine, Accepted, Id, Loaded, Sta
 use Rattle.sand_model.specs.Outcome.{Rises, IsRefusedBy, IsCarriedOut}
 use Rattle.sand_model.specs.OutputText.{is_refused}
 use Rattle.sand_model.specs.Run.{LineOutcome}
-use Rattle.statements.specs.Statement.{Statement, Create, Insert, Delete, Load, Index as IndexOn, OpenCursor, Next, CloseCursor, Show, Stats, Far, Blocks}
+use Rattle.statements.specs.Statement.{Statement, Create, Insert, Delete, Load, Index as IndexOn, Rtree, OpenCursor, Next, CloseCursor, Show, Stats, Far, Blocks}
 use Rattle.sand_model.specs.ScriptLine.{ScriptLine, Blank, TooLong, BadToken, OutOfRange, Says}
 use Rattle.sand_model.specs.StatementChecks.{Setting}
 use Rattle.run_laws.specs.Refused.{is_next}
@@ -27,6 +27,7 @@ module _ (setting : Setting) (rises : Rises) (old new : State) (lines : List Out
   done (Delete name id) n h = not_alone Accepted refl h.0
   done (Load name file header) n (relation, found, h) = not_alone (Loaded _) refl h.0
   done (IndexOn column threshold) n h = not_alone Accepted refl h.0
+  done (Rtree column) n h = not_alone Accepted refl h.0
   done (OpenCursor name p) n h = not_alone Accepted refl h.0
   done (Next name count) n h = absurd (true≢false n)
   done (CloseCursor name) n h = not_alone Accepted refl h.0

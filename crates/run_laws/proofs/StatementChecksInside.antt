@@ -8,7 +8,7 @@ use Rattle.sand_base.specs.declared.refusal.Refusal.{Refusal}
 use Rattle.sand_base.specs.declared.refusal.Refusal.TheVariants as why
 use Rattle.sand_base.specs.declared.value.Value.{Value}
 use Rattle.sand_base.specs.Shape.{is_spatial}
-use Rattle.sand_model.specs.Checks.{first_refusal, kind_named, is_indexed, most_operators}
+use Rattle.sand_model.specs.Checks.{first_refusal, kind_named, is_indexed, has_rectangles, most_operators}
 use Rattle.sand_model.specs.Cursor.{State}
 use Rattle.sand_model.specs.Database.{Database, Relation, relation_named, row_at, with_row}
 use Rattle.sand_model.specs.Kept.{has_twice, most_relations, longest_row}
@@ -17,7 +17,7 @@ use Rattle.statements.specs.Plan as plan
 use Rattle.statements.specs.Plan.{Plan, depth}
 use Rattle.statements.specs.declared.column.Column.{Column}
 use Rattle.sand_model.specs.RowSize.{row_size}
-use Rattle.statements.specs.Statement.{Statement, Create, Insert, Delete, Load, Index as IndexOn, OpenCursor, Next, CloseCursor, Show, Stats, Far, Blocks}
+use Rattle.statements.specs.Statement.{Statement, Create, Insert, Delete, Load, Index as IndexOn, Rtree, OpenCursor, Next, CloseCursor, Show, Stats, Far, Blocks}
 use Rattle.sand_model.specs.StatementChecks.{Setting, FileRows, AreRows, HasBad, refused_where, in_relation, in_column, in_file, is_there, is_row_of, cursor_named, check_cursor, check_length, check_ids, check_listings, check_depth, check_load, check_records, is_overfull, entered, file_rows, indexed_by, most_cursors, longest_file, early, late}
 use Rattle.run_laws.proofs.PlanChecks.{IsInside, inside_two, inside_three, inside_four, inside_relation, inside_operators}
 
@@ -105,6 +105,9 @@ inside_early setting state (Load name file header) =
 inside_early setting state (IndexOn column threshold) =
     inside_two _ _ (inside_column state.database column _ (λ r k. inside_where (is_there threshold && not (is_spatial k)) why.WrongKind refl))
     (inside_column state.database column _ (λ r k. inside_where (is_indexed r column.column) why.IndexThere refl))
+inside_early setting state (Rtree column) =
+    inside_column state.database column _ (λ r k. inside_two _ _ (inside_where (not (is_spatial k)) why.WrongKind refl)
+    (inside_where (has_rectangles r column.column) why.IndexThere refl))
 inside_early setting state (OpenCursor name p) =
     inside_four _ _ _ _ (inside_where (is_there (cursor_named state name)) why.CursorNameTaken refl) (inside_operators state.database p)
     (inside_where (nat_le most_cursors (length state.cursors)) why.TooManyCursors refl) (inside_depth p)

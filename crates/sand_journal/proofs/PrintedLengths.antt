@@ -10,7 +10,7 @@ use Rattle.sand_base.specs.declared.kind.Kind.TheVariants as kind
 use Rattle.script_text.specs.declared.token.Symbol.TheVariants as symbol
 use Rattle.script_text.specs.InRange.{IsInRange, IsFieldInRange}
 use Rattle.script_text.specs.Printing.{gap, hugs_after, hugs_before, kind_word, field_words, more_words, list_words, comma, printed_after, printed_words, words, printed}
-use Rattle.statements.specs.Statement.{Statement, Create, Insert, Delete, Load, Index, OpenCursor, Next, CloseCursor, Show, Stats, Far, Blocks}
+use Rattle.statements.specs.Statement.{Statement, Create, Insert, Delete, Load, Index, Rtree, OpenCursor, Next, CloseCursor, Show, Stats, Far, Blocks}
 use Rattle.script_text.specs.Token.{Piece, mark, spelling}
 use Rattle.sand_journal.specs.ChangeBody.{IsKept}
 
@@ -82,6 +82,9 @@ kept_short (Index column (Some n)) kept range =
     let digits : length (decimal n) ≤ 10 = length-decimal-le 10 n (omega arith) (omega (arith, range.1.1)) (omega (arith, range.1.1)) in
     let all : AllByRecursion IsShortWord (words (Index column (Some n))) = (omega arith, (range.0.relation.short, (omega arith, (range.0.column.short, (omega (arith, digits), tt))))) in
     omega (arith, words_short (words (Index column (Some n))) all)
+kept_short (Rtree column) kept range =
+    let all : AllByRecursion IsShortWord (words (Rtree column)) = (omega arith, (range.relation.short, (omega arith, (range.column.short, tt)))) in
+    omega (arith, words_short (words (Rtree column)) all)
 kept_short (Insert relation values) kept range = absurd kept
 kept_short (Load relation file header) kept range = absurd kept
 kept_short (OpenCursor cursor plan) kept range = absurd kept

@@ -5,7 +5,7 @@ use Rattle.std.specs.List.{AllByRecursion, flat_map}
 use Rattle.script_text.specs.InRange.{IsInRange}
 use Rattle.script_text.specs.Name.{IsName}
 use Rattle.script_text.specs.Printing.{printed}
-use Rattle.statements.specs.Statement.{Statement, Create, Insert, Delete, Load, Index, OpenCursor, Next, CloseCursor, Show, Stats, Far, Blocks, statement_value}
+use Rattle.statements.specs.Statement.{Statement, Create, Insert, Delete, Load, Index, Rtree, OpenCursor, Next, CloseCursor, Show, Stats, Far, Blocks, statement_value}
 use Rattle.statements.specs.declared.statement.Statement as spoken
 use Rattle.sand_journal.specs.declared.TheConstants.{LONGEST_ENCODING}
 use Rattle.sand_journal.specs.declared.change.Change as declared
@@ -21,6 +21,7 @@ abbrev pub IsKept : Statement → Type 0
 IsKept (Create relation columns) = ⊤
 IsKept (Delete relation id) = ⊤
 IsKept (Index column threshold) = ⊤
+IsKept (Rtree column) = ⊤
 IsKept (Insert relation values) = ⊥
 IsKept (Load relation file header) = ⊥
 IsKept (OpenCursor cursor plan) = ⊥

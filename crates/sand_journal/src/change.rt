@@ -37,7 +37,7 @@ impl Encodings {
 /// A change of the store that was accepted: a statement, or rows of a relation. A record holds one.
 #[derive(Drop)]
 pub enum Change {
-    /// A `create`, a `delete` or an `index`.
+    /// A `create`, a `delete`, an `index` or an `rtree`.
     Line(Statement),
     /// The rows of an `insert` or a `load`, in their order.
     Rows { relation: Label, rows: Encodings },

@@ -17,7 +17,10 @@ fn is_kept(statement: &Statement) -> bool
 {
     matches!(
         statement,
-        Statement::Create { .. } | Statement::Delete { .. } | Statement::Index { .. }
+        Statement::Create { .. }
+            | Statement::Delete { .. }
+            | Statement::Index { .. }
+            | Statement::Rtree { .. }
     )
 }
 

@@ -10,7 +10,6 @@ use Rattle.sand_model.specs.Measure.{Measure}
 use Rattle.sand_model.specs.Operators.{PlanRow, over}
 use Rattle.statements.specs.Plan as plan
 use Rattle.statements.specs.Plan.{Plan}
-use Rattle.statements.specs.declared.column.Column.{Column}
 use Rattle.sand_model.specs.Sources.{Found, sorted, ranked, joined, first_of_each, nearest_of, same_value, column_shapes, column_values}
 
 -- a row of one id without gap
@@ -48,6 +47,8 @@ is_between low high _ = false
 abbrev pub source : Measure → Database → Plan → List PlanRow
 source gap database (plan.Scan relation) = scanned database relation
 source gap database (plan.Rank column goal within) =
+    map single_row (ranked gap (figure.Shape goal) within (column_shapes database column))
+source gap database (plan.Near column goal within) =
     map single_row (ranked gap (figure.Shape goal) within (column_shapes database column))
 source gap database (plan.Window column window) =
     map single_row (ranked gap (figure.Rect window) (Some 0) (column_shapes database column))

@@ -1,5 +1,6 @@
 -- The checks of a plan, from its innermost operator outwards, and in one operator from left to right.
-use Rattle.std.specs.Prelude.{ℕ, Bool, true, false, cond, nat_lt, ◌&&◌, List, [], ◌∷◌, Option, Some, None}
+use Rattle.std.specs.Prelude.{ℕ, Bool, true, false, cond, nat_eq, nat_lt, ◌&&◌, List, [], ◌∷◌, Option, Some, None}
+use Rattle.std.specs.List.{list_any}
 use Rattle.sand_base.specs.declared.kind.Kind.{Kind}
 use Rattle.sand_base.specs.declared.kind.Kind.TheVariants as kind
 use Rattle.sand_base.specs.declared.refusal.Refusal.{Refusal}
@@ -46,17 +47,32 @@ is_indexed relation name = of_place (column_named relation.schema name) where
     is_there (Some index) = true
     is_there None = false
 
--- a column: its relation is there, it is there, its kind is one that is asked, it has an index
-abbrev pub check_column : Database → Column → (Kind → Bool) → Option Refusal
-check_column database column asked = in_relation (relation_named database column.relation) where
+-- the column of this name has an R-tree
+abbrev pub has_rectangles : Relation → List ℕ → Bool
+has_rectangles relation name = of_place (column_named relation.schema name) where
+  of_place : Option ℕ → Bool
+  of_place None = false
+  of_place (Some at) = list_any (λ tree. nat_eq tree.0 at) relation.rectangles
+
+-- a column: its relation is there, it is there, its kind is one that is asked, and the relation has for it what it is searched by
+abbrev pub check_search : (Relation → List ℕ → Bool) → Database → Column → (Kind → Bool) → Option Refusal
+check_search has database column asked = in_relation (relation_named database column.relation) where
   of_kind : Relation → Option Kind → Option Refusal
   of_kind relation None = Some why.UnknownColumn
   of_kind relation (Some k) =
-      cond (asked k) (cond (is_indexed relation column.column) None (Some why.NoIndex)) (Some why.WrongKind)
+      cond (asked k) (cond (has relation column.column) None (Some why.NoIndex)) (Some why.WrongKind)
 
   in_relation : Option Relation → Option Refusal
   in_relation None = Some why.UnknownRelation
   in_relation (Some relation) = of_kind relation (kind_named relation column.column)
+
+-- a column of a kind that is asked, with an index
+abbrev pub check_column : Database → Column → (Kind → Bool) → Option Refusal
+check_column database column asked = check_search is_indexed database column asked
+
+-- a spatial column with an R-tree
+abbrev pub check_rectangles : Database → Column → Option Refusal
+check_rectangles database column = check_search has_rectangles database column is_spatial
 
 -- the kind of a place of a plan's rows, where the row has so many ids and the relation such a column
 abbrev pub place_kind : Database → List (List ℕ) → Place → Option Kind
@@ -118,6 +134,7 @@ check_places database names (place ∷ places) =
 abbrev pub check_operators : Database → Plan → Option Refusal
 check_operators database (plan.Scan relation) = check_relation database relation
 check_operators database (plan.Rank column goal within) = check_column database column is_spatial
+check_operators database (plan.Near column goal within) = check_rectangles database column
 check_operators database (plan.Window column window) = check_column database column is_spatial
 check_operators database (plan.PickEqual column v) =
     check_column database column (λ k. is_plain k && same_kind k (value_kind v))

@@ -1,6 +1,7 @@
--- Relations with their rows and indexes, and the four changes of a database.
+-- Relations with their rows, indexes and R-trees, and the five changes of a database.
 use Rattle.std.specs.Prelude.{ℕ, zero, suc, ◌+◌, Bool, false, cond, nat_eq, not, List, [], ◌∷◌, ◌++◌, map, filter, filter_map, find, Option, Some, None, option_map}
 use Rattle.std.specs.Cmp.Lexicographic.{pointwise}
+use Rattle.sand_base.specs.declared.goal.Goal.{Goal}
 use Rattle.sand_base.specs.declared.kind.Kind.{Kind}
 use Rattle.sand_base.specs.declared.shape.Shape.{Shape}
 use Rattle.sand_base.specs.declared.value.Value.{Value}
@@ -8,6 +9,7 @@ use Rattle.sand_base.specs.declared.value.Value.TheVariants as value
 use Rattle.z_code.specs.Block.{square_of}
 use Rattle.z_code.specs.declared.block.Block.{Block}
 use Rattle.sand_model.specs.Measure.{Measure, meets}
+use Rattle.sand_model.specs.Roughs.{row_figure}
 use Rattle.sand_model.specs.Tree.{Tree, root_block, empty_tree, grown, shrunk}
 
 -- an index of a column: a quadtree with its splitting threshold, or an attribute index
@@ -15,13 +17,18 @@ pub data Index : Type 0 where
   Quadtree : ℕ → Tree → Index
   Attribute : Index
 
--- A relation: its name, its columns with their kinds, its rows by ascending id, the id that the next row gets, and its indexes, each with the place of its column.
+-- an R-tree of a column: the place of the column, and what the R-tree lists, ids with rough shapes
+abbrev pub Rectangles : Type 0
+Rectangles = ℕ × List (ℕ × Goal)
+
+-- A relation: its name, its columns with their kinds, its rows by ascending id, the id that the next row gets, its indexes, each with the place of its column, and its R-trees.
 pub record Relation : Type 0 where
   pub name : List ℕ
   pub schema : List (List ℕ × Kind)
   pub rows : List (ℕ × List Value)
   pub next : ℕ
   pub indexes : List (ℕ × Index)
+  pub rectangles : List Rectangles
 
 -- a database is a list of relations, the oldest first
 abbrev pub Database : Type 0
@@ -78,9 +85,9 @@ tree_of gap shapes threshold = entered (map (λ pair. pair.0) shapes) empty_tree
   entered [] tree = tree
   entered (id ∷ ids) tree = entered ids (tree_with gap shapes threshold id tree)
 
--- a relation without rows and indexes, whose ids begin at 1
+-- a relation without rows, indexes and R-trees, whose ids begin at 1
 abbrev pub new_relation : List ℕ → List (List ℕ × Kind) → Relation
-new_relation name schema = record { name = name; schema = schema; rows = []; next = 1; indexes = [] }
+new_relation name schema = record { name = name; schema = schema; rows = []; next = 1; indexes = []; rectangles = [] }
 
 -- an index of a column with the new row of this id, among these rows
 abbrev pub index_with : Measure → List (ℕ × List Value) → ℕ → ℕ × Index → ℕ × Index
@@ -93,20 +100,34 @@ abbrev pub index_without : ℕ → ℕ × Index → ℕ × Index
 index_without id (column, Quadtree threshold tree) = (column, Quadtree threshold (shrunk threshold id tree))
 index_without id (column, Attribute) = (column, Attribute)
 
--- the relation with one row more, under the next id, each quadtree grown by it
+-- the rough shapes of a column, with the ids of their rows
+abbrev pub rough_shapes : ℕ → List (ℕ × List Value) → List (ℕ × Goal)
+rough_shapes column rows = map row_figure (shapes_of column rows)
+
+-- an R-tree of a column with the row of this id, its rough shape at the end of the list
+abbrev pub rectangles_with : ℕ → List Value → Rectangles → Rectangles
+rectangles_with id row tree = (tree.0, tree.1 ++ rough_shapes tree.0 ((id, row) ∷ []))
+
+-- an R-tree of a column without the row of this id
+abbrev pub rectangles_without : ℕ → Rectangles → Rectangles
+rectangles_without id tree = (tree.0, filter (λ listed. not (nat_eq listed.0 id)) tree.1)
+
+-- the relation with one row more, under the next id, each quadtree grown by it, and listed in each R-tree
 abbrev pub with_row : Measure → List Value → Relation → Relation
 with_row gap row relation =
     let rows = relation.rows ++ (relation.next, row) ∷ [] in record relation {
       rows = rows;
       next = relation.next + 1;
       indexes = map (index_with gap rows relation.next) relation.indexes;
+      rectangles = map (rectangles_with relation.next row) relation.rectangles;
     }
 
--- the relation without the row of the id, each quadtree shrunk by it
+-- the relation without the row of the id, each quadtree shrunk by it, and listed in no R-tree
 abbrev pub without_row : ℕ → Relation → Relation
 without_row id relation = record relation {
   rows = filter (λ row. not (nat_eq row.0 id)) relation.rows;
   indexes = map (index_without id) relation.indexes;
+  rectangles = map (rectangles_without id) relation.rectangles;
 }
 
 -- the index that a column gets: a quadtree of this threshold, or an attribute index where none is given
@@ -118,6 +139,12 @@ new_index gap rows column None = Attribute
 abbrev pub with_index : Measure → ℕ → Option ℕ → Relation → Relation
 with_index gap column threshold relation = record relation {
   indexes = relation.indexes ++ (column, new_index gap relation.rows column threshold) ∷ [];
+}
+
+-- the relation with an R-tree of a column
+abbrev pub with_rectangles : ℕ → Relation → Relation
+with_rectangles column relation = record relation {
+  rectangles = relation.rectangles ++ (column, rough_shapes column relation.rows) ∷ [];
 }
 
 -- the database with the relation of this name changed

@@ -1,12 +1,11 @@
--- What holds of every database that the four changes make from the empty one.
+-- What holds of every database that the five changes make from the empty one.
 use Rattle.std.specs.Prelude.{◌≡◌, ℕ, ◌+◌, nat_eq, ◌<◌, ◌≤◌, Bool, true, false, ◌||◌, List, [], ◌∷◌, length, map, All, Some, ⊤}
 use Rattle.std.specs.List.{list_any}
 use Rattle.sand_base.specs.declared.kind.Kind.{Kind}
 use Rattle.sand_base.specs.declared.limits.Limits.{Limits}
-use Rattle.sand_base.specs.declared.value.Value.{Value}
 use Rattle.sand_base.specs.InRange.{IsRowOf, IsRowInRange, IsSchemaInRange}
 use Rattle.sand_base.specs.Shape.{is_spatial}
-use Rattle.sand_model.specs.Database.{Database, Relation, Index, Quadtree, Attribute, same_name, element, shapes_of, meets_block}
+use Rattle.sand_model.specs.Database.{Database, Relation, Index, Quadtree, Attribute, Rectangles, same_name, element, shapes_of, rough_shapes, meets_block}
 use Rattle.sand_model.specs.Measure.{Measure}
 use Rattle.sand_model.specs.RowSize.{row_size}
 use Rattle.sand_model.specs.Tree.{Tree, root_block, Fits, IsShallow, IsFull, listings}
@@ -57,7 +56,11 @@ IsIndex gap limits relation (column, Quadtree threshold tree) =
     HasColumn relation column true × IsQuadtree gap limits relation column threshold tree
 IsIndex gap limits relation (column, Attribute) = HasColumn relation column false
 
--- A relation: columns with names of their own, rows of the schema by ascending id, all given out before, and one index a column.
+-- an R-tree of a spatial column lists the rough shapes of the relation's rows, by id
+abbrev pub IsRectangles : Relation → Rectangles → Type 0
+IsRectangles relation tree = HasColumn relation tree.0 true × (tree.1 ≡ rough_shapes tree.0 relation.rows)
+
+-- A relation: columns with names of their own, rows of the schema by ascending id, all given out before, one index a column and one R-tree a column.
 pub record IsRelation (gap : Measure) (limits : Limits) (relation : Relation) : Type 0 where
   pub schema : IsSchemaInRange relation.schema
   pub columns : has_twice (map (λ column. column.0) relation.schema) ≡ false
@@ -68,6 +71,8 @@ pub record IsRelation (gap : Measure) (limits : Limits) (relation : Relation) : 
   pub given_out : All (λ row. (1 ≤ row.0) × (row.0 < relation.next)) relation.rows
   pub indexed : has_number_twice (map (λ index. index.0) relation.indexes) ≡ false
   pub indexes : All (IsIndex gap limits relation) relation.indexes
+  pub bounded : has_number_twice (map (λ tree. tree.0) relation.rectangles) ≡ false
+  pub rectangles : All (IsRectangles relation) relation.rectangles
 
 -- a database: relations with names of their own, at most 64
 pub record IsDatabase (gap : Measure) (limits : Limits) (database : Database) : Type 0 where

@@ -1,44 +1,22 @@
 -- The nodes of a search, the blocks of a quadtree or the pairs of blocks of two, and what their leaves list. After
 -- G. R. Hjaltason and H. Samet (1998, 1999).
-use Rattle.std.specs.Prelude.{ℕ, Bool, true, false, cond, not, ◌||◌, min, max, List, [], ◌∷◌, ◌++◌, map, filter_map, flat_map, Option, Some, None, option_map}
+use Rattle.std.specs.Prelude.{ℕ, Bool, cond, not, ◌||◌, List, [], ◌∷◌, ◌++◌, map, filter_map, flat_map, Option, Some, None, option_map}
 use Rattle.std.specs.Ordering.{is_lt}
 use Rattle.exact_frac.specs.Frac.{value_cmp}
 use Rattle.exact_frac.specs.declared.frac.Frac.{Frac}
 use Rattle.sand_base.specs.declared.goal.Goal.{Goal}
 use Rattle.sand_base.specs.declared.goal.Goal.TheVariants as figure
-use Rattle.sand_base.specs.declared.point.Point.{Point}
-use Rattle.sand_base.specs.declared.rect.Rect.{Rect}
 use Rattle.sand_base.specs.declared.shape.Shape.{Shape}
-use Rattle.sand_base.specs.declared.shape.Shape.TheVariants as shape
 use Rattle.z_code.specs.Block.{child, square_of}
 use Rattle.z_code.specs.declared.block.Block.{Block}
 use Rattle.sand_model.specs.Database.{shape_at}
 use Rattle.sand_model.specs.Measure.{Measure}
+pub use Rattle.sand_model.specs.Roughs.{bound_from, rough_figure, is_rough}
 use Rattle.sand_model.specs.Tree.{Tree, Leaf, Inner, places, leaves, root_block}
 
 -- the closed square of a block as a figure
 abbrev pub square_figure : Block → Goal
 square_figure b = figure.Rect (square_of b)
-
--- the least closed rectangle that holds points, the first of which is given
-abbrev pub bound_from : Point → List Point → Rect
-bound_from first [] = record { low = first; high = first }
-bound_from first (next ∷ more) =
-    let rest = bound_from next more in record {
-      low = record { x = min first.x rest.low.x; y = min first.y rest.low.y };
-      high = record { x = max first.x rest.high.x; y = max first.y rest.high.y };
-    }
-
--- the rough shape: a polygon's bounding rectangle, and any other shape itself
-abbrev pub rough_figure : Shape → Goal
-rough_figure (shape.Polygon []) = figure.Shape (shape.Polygon [])
-rough_figure (shape.Polygon (first ∷ more)) = figure.Rect (bound_from first more)
-rough_figure s = figure.Shape s
-
--- whether an index has no more of the shape than its bounding rectangle
-abbrev pub is_rough : Shape → Bool
-is_rough (shape.Polygon corners) = true
-is_rough s = false
 
 -- the greater of two fractions
 abbrev pub greater : Frac → Frac → Frac

@@ -30,6 +30,7 @@ pub record PlanRow : Type 0 where
 abbrev pub relations_of : Plan → List (List ℕ)
 relations_of (plan.Scan relation) = relation ∷ []
 relations_of (plan.Rank column goal within) = column.relation ∷ []
+relations_of (plan.Near column goal within) = column.relation ∷ []
 relations_of (plan.Window column window) = column.relation ∷ []
 relations_of (plan.PickEqual column v) = column.relation ∷ []
 relations_of (plan.PickBetween column low high) = column.relation ∷ []

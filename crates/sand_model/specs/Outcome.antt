@@ -11,9 +11,9 @@ use Rattle.sand_model.specs.Sources.{column_shapes, far_rows}
 use Rattle.sand_model.specs.Checks.{first_refusal}
 use Rattle.sand_model.specs.Cursor.{State, Cursor, OutputLine, Accepted, Id, Loaded, Row, End, Stats as StatsOf, LeafOf, Refused, new_cursor, Steps}
 use Rattle.sand_model.specs.Database.{Database, Relation, Index, Quadtree, relation_named, same_name, changed_at, with_relation, new_relation, with_row, without_row, column_named, index_at}
-use Rattle.statements.specs.Statement.{Statement, Create, Insert, Delete, Load, Index as IndexOn, OpenCursor, Next, CloseCursor, Show, Stats, Far, Blocks}
-use Rattle.sand_model.specs.StatementChecks.{Setting, early, late, check_load, cursor_named, entered, file_rows, indexed_by}
-use Rattle.sand_model.specs.Tree.{Tree, root_block, leaves}
+use Rattle.statements.specs.Statement.{Statement, Create, Insert, Delete, Load, Index as IndexOn, Rtree, OpenCursor, Next, CloseCursor, Show, Stats, Far, Blocks}
+use Rattle.sand_model.specs.StatementChecks.{Setting, early, late, check_load, cursor_named, entered, file_rows, indexed_by, treed_by}
+use Rattle.sand_model.specs.Tree.{root_block, leaves}
 
 -- by how much the counts of faults of the disk and of the shelf rise
 pub record Rises : Type 0 where
@@ -117,6 +117,8 @@ IsCarriedOut setting rises old (Load name file header) lines new =
     Changes (Loaded (length rows)) (changed_at name (λ r. (entered setting rows r).1) old.database) old lines new)
 IsCarriedOut setting rises old (IndexOn column threshold) lines new =
     Changes Accepted (changed_at column.relation (indexed_by setting.gap column threshold) old.database) old lines new
+IsCarriedOut setting rises old (Rtree column) lines new =
+    Changes Accepted (changed_at column.relation (treed_by column) old.database) old lines new
 IsCarriedOut setting rises old (OpenCursor name p) lines new =
     Leaves Accepted (old.cursors ++ new_cursor name p old.database ∷ []) old lines new
 IsCarriedOut setting rises old (Next name count) lines new =

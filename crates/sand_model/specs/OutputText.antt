@@ -1,7 +1,6 @@
 -- The lines that statements print, as bytes. Each ends with a line feed.
 use Rattle.std.specs.Prelude.{◌≡◌, ℕ, Bool, true, false, List, [], ◌∷◌, ◌++◌, map, codes, Option, Some, None}
 use Rattle.std.specs.Fmt.{decimal, signed_decimal}
-use Rattle.std.specs.List.{list_any}
 use Rattle.exact_frac.specs.Printed.{IsPrinted}
 use Rattle.exact_frac.specs.declared.frac.Frac.{Frac}
 use Rattle.sand_base.specs.Refusal.{refusal_number, refusal_word}

@@ -5,11 +5,13 @@ use Rattle.exact_frac.specs.Frac.{value_cmp}
 use Rattle.exact_frac.specs.declared.frac.Frac.{Frac}
 use Rattle.sand_base.specs.declared.goal.Goal.{Goal}
 use Rattle.sand_base.specs.declared.goal.Goal.TheVariants as figure
+use Rattle.sand_base.specs.declared.shape.Shape.{Shape}
 use Rattle.sand_model.specs.Answer.{source}
 use Rattle.sand_model.specs.Database.{Database, Relation, Index, Quadtree, relation_named, column_named, index_at}
 use Rattle.sand_model.specs.Measure.{Measure}
 use Rattle.sand_model.specs.Nodes.{LeafItem, rank_items, rank_gaps, pair_nodes, pair_gap, join_items}
 use Rattle.sand_model.specs.Operators.{PlanRow}
+use Rattle.sand_model.specs.Roughs.{is_rough, rough_figure}
 use Rattle.statements.specs.Plan as plan
 use Rattle.statements.specs.Plan.{Plan}
 use Rattle.statements.specs.declared.column.Column.{Column}
@@ -52,6 +54,7 @@ innermost p = p
 -- the ceiling of a source
 abbrev pub ceiling_of : Plan → Option ℕ
 ceiling_of (plan.Rank column goal within) = within
+ceiling_of (plan.Near column goal within) = within
 ceiling_of (plan.Window column window) = Some 0
 ceiling_of (plan.Join left right within) = within
 ceiling_of (plan.Semi left right within) = within
@@ -119,6 +122,18 @@ rank_counts gap database column goal to = record {
       length (roughs_within to (rank_items gap goal (column_shapes database column) (quadtree_of database column)));
 }
 
+-- the rows of polygons whose bounding rectangles lie within the reach
+abbrev pub polygons_within : Measure → Goal → List (ℕ × Shape) → Reach → List (ℕ × Shape)
+polygons_within gap goal rows to = filter (λ row. is_rough row.1 && reaches to (gap goal (rough_figure row.1))) rows
+
+-- the counts of a ranking by an R-tree at a reach: the polygons whose bounding rectangles lie within it
+abbrev pub near_counts : Measure → Database → Column → Goal → Reach → Counts
+near_counts gap database column goal to = record {
+  blocks = 0;
+  pairs = 0;
+  geometries = length (polygons_within gap goal (column_shapes database column) to);
+}
+
 -- the counts of a join at a reach
 abbrev pub join_counts : Measure → Database → Column → Column → Reach → Counts
 join_counts gap database left right to =
@@ -132,6 +147,7 @@ join_counts gap database left right to =
 -- the counts of a source at a reach; a scan and a pick visit nothing
 abbrev pub counts_at : Measure → Database → Plan → Reach → Counts
 counts_at gap database (plan.Rank column goal within) to = rank_counts gap database column (figure.Shape goal) to
+counts_at gap database (plan.Near column goal within) to = near_counts gap database column (figure.Shape goal) to
 counts_at gap database (plan.Window column window) to = rank_counts gap database column (figure.Rect window) to
 counts_at gap database (plan.Join left right within) to = join_counts gap database left right to
 counts_at gap database (plan.Semi left right within) to = join_counts gap database left right to

@@ -8,15 +8,15 @@ use Rattle.sand_base.specs.declared.refusal.Refusal.TheVariants as why
 use Rattle.sand_base.specs.declared.value.Value.{Value}
 use Rattle.sand_base.specs.InRange.{IsRowOf, IsRowInRange}
 use Rattle.sand_base.specs.Shape.{value_kind, same_kind, is_spatial}
-use Rattle.sand_model.specs.Checks.{check_column, first_refusal, check_relation, check_operators, kind_named, is_indexed, most_operators}
+use Rattle.sand_model.specs.Checks.{check_column, first_refusal, check_relation, check_operators, kind_named, is_indexed, has_rectangles, most_operators}
 use Rattle.sand_model.specs.Cursor.{State, Cursor}
-use Rattle.sand_model.specs.Database.{Database, Relation, Index, Quadtree, Attribute, relation_named, same_name, column_named, row_at, with_row, with_index}
+use Rattle.sand_model.specs.Database.{Database, Relation, Index, Quadtree, Attribute, relation_named, same_name, column_named, row_at, with_row, with_index, with_rectangles}
 use Rattle.sand_model.specs.Kept.{has_twice, most_relations, longest_row}
 use Rattle.sand_model.specs.Measure.{Measure, IsMeasure}
 use Rattle.statements.specs.Plan.{Plan, depth}
 use Rattle.statements.specs.declared.column.Column.{Column}
 use Rattle.sand_model.specs.RowSize.{row_size}
-use Rattle.statements.specs.Statement.{Statement, Create, Insert, Delete, Load, Index as IndexOn, OpenCursor, Next, CloseCursor, Show, Stats, Far, Blocks}
+use Rattle.statements.specs.Statement.{Statement, Create, Insert, Delete, Load, Index as IndexOn, Rtree, OpenCursor, Next, CloseCursor, Show, Stats, Far, Blocks}
 use Rattle.sand_model.specs.Tree.{listings}
 
 -- the records of a data file: its rows, or the first that is no row, with its leftmost bad column, both counted from 1
@@ -121,6 +121,13 @@ indexed_by gap column given relation = at_place (column_named relation.schema co
   at_place (Some at) (Some kind) = with_index gap at (threshold_of kind given) relation
   at_place _ _ = relation
 
+-- the relation with an R-tree of this column
+abbrev pub treed_by : Column → Relation → Relation
+treed_by column relation = at_place (column_named relation.schema column.column) where
+  at_place : Option ℕ → Relation
+  at_place (Some at) = with_rectangles at relation
+  at_place None = relation
+
 -- the relation with rows more, in order, and the first refusal of one of them
 abbrev pub entered : Setting → List (List Value) → Relation → Option Refusal × Relation
 entered setting [] relation = (None, relation)
@@ -180,6 +187,9 @@ early setting state (Load name file header) =
 early setting state (IndexOn column threshold) =
     first_refusal (in_column state.database column (λ relation kind. refused_where (is_there threshold && not (is_spatial kind)) why.WrongKind)
     ∷ in_column state.database column (λ relation kind. refused_where (is_indexed relation column.column) why.IndexThere) ∷ [])
+early setting state (Rtree column) =
+    in_column state.database column (λ relation kind. first_refusal (refused_where (not (is_spatial kind)) why.WrongKind
+    ∷ refused_where (has_rectangles relation column.column) why.IndexThere ∷ []))
 early setting state (OpenCursor name p) =
     first_refusal (refused_where (is_there (cursor_named state name)) why.CursorNameTaken ∷ check_operators state.database p
     ∷ refused_where (nat_le most_cursors (length state.cursors)) why.TooManyCursors ∷ check_depth p ∷ [])

@@ -1,5 +1,5 @@
 -- A new relation over a file that was just planted.
-use Rattle.std.proofs.Common.{◌≡◌, ℕ, ◌+◌, ◌<◌, ◌≤◌, false, List, [], ◌∷◌, ◌++◌, length, map, None, refl, sym, ◌∙◌, ap, ap₂, subst, arith, All}
+use Rattle.std.proofs.Common.{◌≡◌, ℕ, ◌+◌, ◌<◌, ◌≤◌, true, false, List, [], ◌∷◌, ◌++◌, length, map, None, refl, sym, ◌∙◌, ap, ap₂, subst, arith, All}
 use Rattle.std.proofs.lemmas.List.{map-append, length-append}
 use Rattle.std.proofs.lemmas.List.Concat.{flat_map-append}
 use Rattle.std.proofs.lemmas.List.Elements.{All-nil, All-push}
@@ -22,10 +22,10 @@ use Rattle.sand_model.specs.Database.{Database, Relation, new_relation, with_rel
 use Rattle.sand_model.specs.Kept.{longest_row, has_twice}
 use Rattle.sand_model.specs.RowSize.{row_size}
 use Rattle.tuple_file.proofs.Leads.{none_known}
-use Rattle.sand_store.specs.Catalog.{RelationView, new_view, IsPathOf, IsDescribed, IsCatalog}
+use Rattle.sand_store.specs.Catalog.{RelationView, new_view, IsColumnAt, IsPathOf, IsDescribed, IsCatalog}
 use Rattle.sand_store.specs.Contents.{rows_in, relation_in, database_in}
 use Rattle.sand_store.specs.Ownership.{relation_pages, catalog_pages, Owns}
-use Rattle.sand_store.specs.Standing.{PathStands, RelationStands, CatalogStands, IsStore}
+use Rattle.sand_store.specs.Standing.{PathStands, TreeStands, RelationStands, CatalogStands, IsStore}
 use Rattle.sand_store.specs.Calls.{Created, IsUnchanged}
 use Rattle.sand_store.specs.Steps.{store_from, create_check, Adds, Reverts}
 use Rattle.sand_store.specs.Tuples.{row_in}
@@ -66,13 +66,14 @@ new_stands w limits name schema file is e =
       given_out = subst Given (sym none) (All-nil (λ (row : ℕ × List Value). (1 ≤ row.0) × (row.0 < 1)));
       known = none_known (store_of w) file;
       paths = All-nil (PathStands w limits schema (rows_in w r));
+      trees = All-nil (TreeStands w (rows_in w r));
     }
 
 -- it is the new relation
 new_means : (w : PageMap) (name : List ℕ) (schema : List (List ℕ × Kind)) (file : TupleFile) → file_rows (store_of w) file ≡ []
     → relation_in w (new_view name schema file) ≡ new_relation name schema
 new_means w name schema file e =
-    ap (λ (rows : List (ℕ × List Value)). record { name = name; schema = schema; rows = rows; next = 1; indexes = [] }) (rows_none w (new_view name schema file) e)
+    ap (λ (rows : List (ℕ × List Value)). record { name = name; schema = schema; rows = rows; next = 1; indexes = []; rectangles = [] }) (rows_none w (new_view name schema file) e)
 
 -- the pages of the catalog with one relation more, counted
 pages_more : (w : PageMap) (rs : List RelationView) (r : RelationView) (q : ℕ) → times q (catalog_pages w (rs ++ r ∷ [])) ≡ times q (catalog_pages w rs) + times q (relation_pages w r)
@@ -121,6 +122,8 @@ new_described limits name schema file range once = record {
   few = omega arith;
   indexed = refl;
   paths = All-nil (IsPathOf schema);
+  bounded = refl;
+  trees = All-nil (λ n. IsColumnAt schema n true);
 }
 
 -- a catalog with a new relation is one

@@ -1,5 +1,5 @@
 -- Where a store's pages are told, its database is one, for every measure.
-use Rattle.std.proofs.Common.{◌≡◌, ℕ, ◌+◌, ◌<◌, ◌≤◌, Bool, false, List, [], ◌∷◌, length, map, refl, sym, ◌∙◌, ap, ap₂, subst, arith, All}
+use Rattle.std.proofs.Common.{◌≡◌, ℕ, ◌+◌, ◌<◌, ◌≤◌, Bool, true, false, List, [], ◌∷◌, length, map, refl, sym, ◌∙◌, ap, ap₂, subst, arith, All}
 use Rattle.std.proofs.lemmas.List.{length-map}
 use Rattle.std.proofs.lemmas.List.Elements.{All-nil, All-cons, All-head, All-tail}
 use Rattle.page_pool.specs.Disk.{PageMap}
@@ -13,8 +13,9 @@ use Rattle.pmr_tree.proofs.TreeAt.{shaped_shallow}
 use Rattle.sand_base.specs.declared.kind.Kind.{Kind}
 use Rattle.sand_base.specs.declared.limits.Limits.{Limits}
 use Rattle.sand_base.specs.declared.value.Value.{Value}
-use Rattle.sand_model.specs.Database.{Relation, Index}
-use Rattle.sand_model.specs.Kept.{has_twice, has_number_twice, IsAscending, IsIndex, IsRelation, IsDatabase}
+use Rattle.r_tree.specs.declared.tree.RTree.{RTree}
+use Rattle.sand_model.specs.Database.{Relation, Index, Rectangles, rough_shapes}
+use Rattle.sand_model.specs.Kept.{has_twice, has_number_twice, IsAscending, IsIndex, IsRectangles, IsRelation, IsDatabase}
 use Rattle.sand_model.specs.Measure.{Measure, IsMeasure}
 use Rattle.sand_model.specs.Tree.{root_block}
 use Rattle.tuple_codec.specs.Decoding.{IsRowFor}
@@ -22,8 +23,8 @@ use Rattle.tuple_file.specs.declared.file.TupleFile.{TupleFile}
 use Rattle.tuple_file.specs.File.{tuples, IsFile}
 use Rattle.sand_store.specs.declared.path.AccessPath.{AccessPath}
 use Rattle.sand_store.specs.declared.path.AccessPath.TheVariants.{Quadtree, Attribute}
-use Rattle.sand_store.specs.Catalog.{RelationView, CatalogView, IsPathOf, IsDescribed}
-use Rattle.sand_store.specs.Contents.{index_in, indexes_in, rows_at, rows_in, relation_in, database_in}
+use Rattle.sand_store.specs.Catalog.{RelationView, CatalogView, IsColumnAt, IsPathOf, IsDescribed}
+use Rattle.sand_store.specs.Contents.{index_in, indexes_in, rows_at, rows_in, rectangles_of, relation_in, database_in}
 use Rattle.sand_store.specs.Standing.{PathStands, RelationStands, IsStore}
 use Rattle.sand_store.specs.Tuples.{row_in}
 
@@ -85,6 +86,18 @@ indexes_are gap is limits m r (p ∷ ps) k h = All-cons (IsIndex gap limits (rel
     (index_is gap is limits m r p.0 p.1 (All-head (IsPathOf r.schema) p ps k) (All-head (PathStands m limits r.schema (rows_in m r)) p ps h))
     (indexes_are gap is limits m r ps (All-tail (IsPathOf r.schema) p ps k) (All-tail (PathStands m limits r.schema (rows_in m r)) p ps h))
 
+-- the places of R-trees are those of their columns
+columns_same : (rows : List (ℕ × List Value)) (ts : List (ℕ × RTree)) → map (λ (t : Rectangles). t.0) (rectangles_of rows ts) ≡ map (λ (t : ℕ × RTree). t.0) ts
+columns_same rows [] = refl
+columns_same rows (t ∷ ts) = ap (λ (ns : List ℕ). t.0 ∷ ns) (columns_same rows ts)
+
+-- each R-tree is one
+rectangles_are : (m : PageMap) (r : RelationView) (ts : List (ℕ × RTree)) → All (λ n. IsColumnAt r.schema n true) (map (λ t. t.0) ts) → All (IsRectangles (relation_in m r)) (rectangles_of (rows_in m r) ts)
+rectangles_are m r [] k = All-nil (IsRectangles (relation_in m r))
+rectangles_are m r (t ∷ ts) k = All-cons (IsRectangles (relation_in m r)) (t.0, rough_shapes t.0 (rows_in m r)) (rectangles_of (rows_in m r) ts)
+    (All-head (λ (n : ℕ). IsColumnAt r.schema n true) t.0 (map (λ (x : ℕ × RTree). x.0) ts) k, refl)
+    (rectangles_are m r ts (All-tail (λ (n : ℕ). IsColumnAt r.schema n true) t.0 (map (λ (x : ℕ × RTree). x.0) ts) k))
+
 -- each relation is one
 relation_is : (gap : Measure) → IsMeasure gap → (limits : Limits) (m : PageMap) (r : RelationView) → IsDescribed limits r → RelationStands m limits r → IsRelation gap limits (relation_in m r)
 relation_is gap is limits m r d h = record {
@@ -97,6 +110,8 @@ relation_is gap is limits m r d h = record {
   given_out = h.given_out;
   indexed = ap (λ (ns : List ℕ). has_number_twice ns) (places_same m r.paths) ∙ d.indexed;
   indexes = indexes_are gap is limits m r r.paths d.paths h.paths;
+  bounded = ap (λ (ns : List ℕ). has_number_twice ns) (columns_same (rows_in m r) r.trees) ∙ d.bounded;
+  rectangles = rectangles_are m r r.trees d.trees;
 }
 
 relations_are : (gap : Measure) → IsMeasure gap → (limits : Limits) (m : PageMap) (rs : List RelationView) → All (IsDescribed limits) rs → All (RelationStands m limits) rs

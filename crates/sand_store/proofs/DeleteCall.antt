@@ -1,5 +1,5 @@
 -- What the call answers that deletes a row: why it is refused, and what the store is after it.
-use Rattle.std.proofs.Common.{◌≡◌, ℕ, ◌<◌, ◌≤◌, List, [], ◌∷◌, length, get_or, set, Option, Some, None, refl, sym, ◌∙◌, ap, subst, arith, All, inl, inr}
+use Rattle.std.proofs.Common.{◌≡◌, ℕ, ◌<◌, ◌≤◌, true, List, [], ◌∷◌, length, get_or, set, Option, Some, None, refl, sym, ◌∙◌, ap, subst, arith, All, inl, inr}
 use Rattle.std.specs.Prelude.{not}
 use Rattle.std.specs.List.{find, position}
 use Rattle.std.proofs.lemmas.Bool.Decides.{eqb_tells}
@@ -16,6 +16,7 @@ use Rattle.sand_model.specs.Database.{without_row}
 use Rattle.sand_model.specs.Kept.{has_number_twice}
 use Rattle.statements.specs.Statement.{Delete}
 use Rattle.sand_model.specs.StatementChecks.{Setting, early, late, refused_where, is_there}
+use Rattle.r_tree.specs.declared.tree.RTree.{RTree}
 use Rattle.tuple_file.specs.declared.file.TupleFile.{TupleFile}
 use Rattle.tuple_file.specs.Calls.{IsRowAt}
 use Rattle.tuple_file.specs.File.{file_rows}
@@ -24,12 +25,12 @@ use Rattle.tuple_file.proofs.Tables.{fetched}
 use Rattle.pmr_tree.specs.Quadtree.{store_of}
 use Rattle.sand_store.specs.declared.path.AccessPath.{AccessPath}
 use Rattle.sand_store.specs.Calls.{alone, Refuses, IsRefusedBy, Deleted, is_missing, early_at, late_at}
-use Rattle.sand_store.specs.Catalog.{RelationView, CatalogView, StoreState, is_named, IsDescribed}
+use Rattle.sand_store.specs.Catalog.{RelationView, CatalogView, StoreState, is_named, IsColumnAt, IsDescribed}
 use Rattle.sand_store.specs.Contents.{rows_in, database_in}
 use Rattle.sand_store.specs.Leaving.{RelationCanLose, shrunk_view, IsOutsideOrMissing, there_check}
 use Rattle.sand_store.specs.Sketches.{sketch_of}
 use Rattle.sand_store.specs.Standing.{CatalogStands, RelationStands, IsStore}
-use Rattle.sand_store.specs.Steps.{store_from, Became, FirstAt, SamePlaces, IsOutside}
+use Rattle.sand_store.specs.Steps.{store_from, Became, FirstAt, SamePlaces, SameColumns, IsOutside}
 use Rattle.sand_store.proofs.Changes.{becomes_in_place}
 use Rattle.sand_store.proofs.Found.{none_found, found_at, relation_at}
 use Rattle.sand_store.proofs.Inserts.{described_at, stands_at, owns_at}
@@ -149,15 +150,17 @@ became_read old mid new rs limits at r u id row h read l here there b told =
     subst P read.pages (b after limits (can_lose_read old mid rs limits at r id row h read l here there after))
 
 -- the relation without the row is described
-pub shrunk_described : (limits : Limits) (r : RelationView) (spans : List ℕ) (file : TupleFile) (after : List (ℕ × AccessPath)) → IsDescribed limits r → SamePlaces r.schema r.paths after
-    → IsDescribed limits (shrunk_view r spans file after)
-shrunk_described limits r spans file after h p = record {
+pub shrunk_described : (limits : Limits) (r : RelationView) (spans : List ℕ) (file : TupleFile) (after : List (ℕ × AccessPath)) (trees : List (ℕ × RTree)) → IsDescribed limits r → SamePlaces r.schema r.paths after
+    → SameColumns r.trees trees → IsDescribed limits (shrunk_view r spans file after trees)
+shrunk_described limits r spans file after trees h p t = record {
   schema = h.schema;
   columns = h.columns;
   begun = h.begun;
   few = h.few;
   indexed = ap (λ (ns : List ℕ). has_number_twice ns) p.places ∙ h.indexed;
   paths = p.paths;
+  bounded = ap (λ (ns : List ℕ). has_number_twice ns) t ∙ h.bounded;
+  trees = subst (λ (ns : List ℕ). All (λ n. IsColumnAt r.schema n true) ns) (sym t) h.trees;
 }
 
 -- what the loss of a row is to the database

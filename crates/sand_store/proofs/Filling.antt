@@ -115,7 +115,7 @@ none_is_first rows from least = go (find (λ r. nat_le from r.0) rows) refl wher
 
 -- Rows in two parts, those below an id and those from it on: the second begins with what is found.
 
-abbrev first_of : Rows → Option (ℕ × List Value)
+abbrev pub first_of : Rows → Option (ℕ × List Value)
 first_of [] = None
 first_of (r ∷ rows) = Some r
 
@@ -142,11 +142,11 @@ rises_part : (a b : Rows) → Rises (ids (a ++ b)) → Rises (ids a)
 rises_part [] b h = tt
 rises_part (r ∷ a) b h = (above_part r.0 a b h.0, rises_part a b h.1)
 
-rises_rest : (a b : Rows) → Rises (ids (a ++ b)) → Rises (ids b)
+pub rises_rest : (a b : Rows) → Rises (ids (a ++ b)) → Rises (ids b)
 rises_rest [] b h = h
 rises_rest (r ∷ a) b h = rises_rest a b h.1
 
-all_above : (n : ℕ) (rows : Rows) → Above n (ids rows) → All (λ r. n + 1 ≤ r.0) rows
+pub all_above : (n : ℕ) (rows : Rows) → Above n (ids rows) → All (λ r. n + 1 ≤ r.0) rows
 all_above n [] h = All-nil (λ (r : ℕ × List Value). n + 1 ≤ r.0)
 all_above n (r ∷ rows) h = All-cons (λ (x : ℕ × List Value). n + 1 ≤ x.0) r rows (omega (arith, h.0)) (all_above n rows h.1)
 
@@ -182,11 +182,11 @@ half_start m limits schema file column a h = record {
 }
 
 -- the rows that are left begin with the one that is found
-record Begins (rest : Rows) (r : ℕ × List Value) : Type 0 where
-  more : Rows
-  is : rest ≡ r ∷ more
+pub record Begins (rest : Rows) (r : ℕ × List Value) : Type 0 where
+  pub more : Rows
+  pub is : rest ≡ r ∷ more
 
-begins : (rest : Rows) (r : ℕ × List Value) → first_of rest ≡ Some r → Begins rest r
+pub begins : (rest : Rows) (r : ℕ × List Value) → first_of rest ≡ Some r → Begins rest r
 begins [] r e = absurd (true≢false (sym (ap (λ (o : Option (ℕ × List Value)). is_some o) e)))
 begins (x ∷ rest) r e = record { more = rest; is = ap (λ (y : ℕ × List Value). y ∷ rest) (some_same x r e) }
 
@@ -257,7 +257,7 @@ half_next m w v limits schema file column a b c from id row begun k g t =
     }
 
 -- all rows are entered where none is found
-nothing_left : (rest : Rows) → None ≡ first_of rest → rest ≡ []
+pub nothing_left : (rest : Rows) → None ≡ first_of rest → rest ≡ []
 nothing_left [] e = refl
 nothing_left (r ∷ rest) e = absurd (true≢false (sym (ap (λ (o : Option (ℕ × List Value)). is_some o) e)))
 

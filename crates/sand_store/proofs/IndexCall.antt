@@ -28,8 +28,8 @@ use Rattle.sand_store.specs.declared.path.AccessPath.{AccessPath}
 use Rattle.sand_store.specs.Building.{index_check, found_index_check, IsWanted, IsThreshold, HasPath, indexed_view, Builds}
 use Rattle.sand_store.specs.Calls.{alone, Refuses, IsRefusedBy, IsUnchanged, Indexed, is_full, early_at, late_at}
 use Rattle.sand_store.specs.Catalog.{RelationView, StoreState, is_named, IsColumnAt, IsDescribed, IsPathOf}
-use Rattle.sand_store.specs.Contents.{index_in, indexes_in, relation_in, rows_in, database_in}
-use Rattle.sand_store.specs.Ownership.{path_pages, paths_pages, relation_pages}
+use Rattle.sand_store.specs.Contents.{index_in, indexes_in, rectangles_of, relation_in, rows_in, database_in}
+use Rattle.sand_store.specs.Ownership.{path_pages, paths_pages, trees_pages, relation_pages}
 use Rattle.sand_store.specs.Paths.{path_at}
 use Rattle.sand_store.specs.Sketches.{with_indexed}
 use Rattle.sand_store.specs.Standing.{PathStands, RelationStands, CatalogStands, IsStore}
@@ -45,7 +45,7 @@ use Rattle.sand_store.proofs.Midway.{full_mid}
 use Rattle.sand_store.proofs.Places.{named_in}
 use Rattle.sand_store.proofs.RowLists.{Rows}
 use Rattle.sand_store.proofs.Sketched.{indexed_sketch, sketched_in_place}
-use Rattle.sand_store.proofs.Stays.{relation_stands, relation_pages_stay, rows_stay, indexes_stay, same_left, same_right}
+use Rattle.sand_store.proofs.Stays.{table_pages, file_left, paths_left, relation_stands, relation_pages_stay, rows_stay, indexes_stay}
 
 abbrev Paths : Type 0
 Paths = List (ℕ × AccessPath)
@@ -172,11 +172,11 @@ index_refused pool rs limits column given at r place threshold w first here want
 
 -- a column without an access path is none of those that have one
 
-or_false : (a b : Bool) → a || b ≡ false → (a ≡ false) × (b ≡ false)
+pub or_false : (a b : Bool) → a || b ≡ false → (a ≡ false) × (b ≡ false)
 or_false true b h = absurd (true≢false h)
 or_false false b h = (refl, h)
 
-any_last : (f : ℕ → Bool) (ns : List ℕ) (n : ℕ) → list_any f ns ≡ false → f n ≡ false → list_any f (ns ++ n ∷ []) ≡ false
+pub any_last : (f : ℕ → Bool) (ns : List ℕ) (n : ℕ) → list_any f ns ≡ false → f n ≡ false → list_any f (ns ++ n ∷ []) ≡ false
 any_last f [] n h k = rw k refl
 any_last f (x ∷ ns) n h k = (let p = or_false (f x) (list_any f ns) h in rw p.0 (any_last f ns n p.1 k))
 
@@ -212,6 +212,8 @@ indexed_described limits r name given at threshold a d w of = record {
   few = d.few;
   indexed = once_more r.paths at a d.indexed w.free;
   paths = All-push (IsPathOf r.schema) r.paths (at, a) d.paths of;
+  bounded = d.bounded;
+  trees = d.trees;
 }
 
 -- the pages of the relation with the index
@@ -230,8 +232,8 @@ pub index_became : (m w : PageMap) (limits : Limits) (r : RelationView) (at : �
     → Became m w limits r (indexed_view r at a) (λ gap. with_index gap at threshold)
 index_became m w limits r at threshold a h owns b =
     let same : SameOn m w (relation_pages m r) = untouched (store_of m) (store_of w) [] (path_pages w a) (relation_pages m r) b.keeps (λ q. omega (arith, owns q)) in
-    let same_file : SameOn m w (file_pages (store_of m) r.file) = same_left m w (file_pages (store_of m) r.file) (paths_pages m r.paths) same in
-    let same_paths : SameOn m w (paths_pages m r.paths) = same_right m w (file_pages (store_of m) r.file) (paths_pages m r.paths) same in
+    let same_file : SameOn m w (file_pages (store_of m) r.file) = file_left m w r same in
+    let same_paths : SameOn m w (paths_pages m r.paths) = paths_left m w r same in
     let was = relation_stands m w limits r same h in
     let rows : rows_in w r ≡ rows_in m r = rows_stay m w r same_file in
     let pages : relation_pages w r ≡ relation_pages m r = relation_pages_stay m w r same in
@@ -244,14 +246,17 @@ index_became m w limits r at threshold a h owns b =
         given_out = was.given_out;
         known = was.known;
         paths = All-push (PathStands w limits r.schema (rows_in w r)) r.paths (at, a) was.paths (subst P (sym rows) b.stands);
+        trees = was.trees;
       };
       means = λ gap is.
           let split : indexes_in w (r.paths ++ (at, a) ∷ []) ≡ indexes_in w r.paths ++ (at, index_in w a) ∷ [] = map-append (λ (x : ℕ × AccessPath). (x.0, index_in w x.1)) r.paths ((at, a) ∷ []) in
-          ap₂ (λ (xs : Rows) (is : List (ℕ × Index)). record { name = r.name; schema = r.schema; rows = xs; next = r.next; indexes = is }) rows
+          ap₂ (λ (xs : Rows) (is : List (ℕ × Index)). record { name = r.name; schema = r.schema; rows = xs; next = r.next; indexes = is; rectangles = rectangles_of xs r.trees }) rows
           (split ∙ ap₂ (λ (is : List (ℕ × Index)) (i : Index). is ++ (at, i) ∷ []) (indexes_stay m w r.paths same_paths) (b.means gap is));
       keeps = keeps_with (store_of m) (store_of w) [] (path_pages w a) (relation_pages m r) (relation_pages m r) (relation_pages w u) b.keeps (λ q. omega arith)
           (λ q. omega (
             arith,
+            times-append q (trees_pages w r.trees) (table_pages w u),
+            times-append q (trees_pages w r.trees) (table_pages w r),
             times-append q (file_pages (store_of w) r.file) (paths_pages w (r.paths ++ (at, a) ∷ [])),
             pages_more w r.paths (at, a) q,
             times-append q (file_pages (store_of w) r.file) (paths_pages w r.paths),

@@ -27,11 +27,12 @@ use Rattle.tuple_file.specs.declared.file.TupleFile.{TupleFile}
 use Rattle.sand_store.specs.declared.path.AccessPath.{AccessPath}
 use Rattle.sand_store.specs.declared.path.AccessPath.TheVariants.{Quadtree, Attribute}
 use Rattle.sand_store.specs.Calls.{alone, Refuses, IsRefusedBy, Inserted, is_full, early_at, late_at}
-use Rattle.sand_store.specs.Catalog.{RelationView, StoreState, is_named, IsDescribed}
+use Rattle.r_tree.specs.declared.tree.RTree.{RTree}
+use Rattle.sand_store.specs.Catalog.{RelationView, StoreState, is_named, IsColumnAt, IsDescribed}
 use Rattle.sand_store.specs.Contents.{index_in, indexes_in, relation_in, database_in}
 use Rattle.sand_store.specs.Sketches.{sketch_of, with_ids}
 use Rattle.sand_store.specs.Standing.{PathStands, RelationStands, IsStore}
-use Rattle.sand_store.specs.Steps.{store_from, row_check, found_check, grown_view, Became, FirstAt, SamePlaces, IsOutsideOrFull, IsRefusedOrSpent}
+use Rattle.sand_store.specs.Steps.{store_from, row_check, found_check, grown_view, Became, FirstAt, SamePlaces, IsOutsideOrFull, IsRefusedOrSpent, SameColumns}
 use Rattle.sand_store.proofs.Changes.{becomes_in_place}
 use Rattle.sand_store.proofs.ColumnsOfShapes.{some_same}
 use Rattle.sand_store.proofs.Found.{none_found, found_at, relation_at}
@@ -119,15 +120,17 @@ bytes_there limits r row bytes seen h of e same =
     subst P (sym (same ∙ e)) (row_some r.schema row h.schema.some of.of_schema)
 
 -- the relation with the row is described
-pub grown_described : (limits : Limits) (r : RelationView) (file : TupleFile) (after : List (ℕ × AccessPath)) (spans : List ℕ) (row : List Value) → IsDescribed limits r → row_check limits r row ≡ None
-    → SamePlaces r.schema r.paths after → IsDescribed limits (grown_view r file after spans)
-grown_described limits r file after spans row h passes p = record {
+pub grown_described : (limits : Limits) (r : RelationView) (file : TupleFile) (after : List (ℕ × AccessPath)) (trees : List (ℕ × RTree)) (spans : List ℕ) (row : List Value) → IsDescribed limits r
+    → row_check limits r row ≡ None → SamePlaces r.schema r.paths after → SameColumns r.trees trees → IsDescribed limits (grown_view r file after trees spans)
+grown_described limits r file after trees spans row h passes p t = record {
   schema = h.schema;
   columns = h.columns;
   begun = omega arith;
   few = omega (arith, h.begun, id_left limits r row passes);
   indexed = ap (λ (ns : List ℕ). has_number_twice ns) p.places ∙ h.indexed;
   paths = p.paths;
+  bounded = ap (λ (ns : List ℕ). has_number_twice ns) t ∙ h.bounded;
+  trees = subst (λ (ns : List ℕ). All (λ n. IsColumnAt r.schema n true) ns) (sym t) h.trees;
 }
 
 -- a quadtree that stands isn't overfull

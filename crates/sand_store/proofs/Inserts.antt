@@ -9,7 +9,7 @@ use Rattle.sand_store.specs.Catalog.{RelationView, IsDescribed}
 use Rattle.sand_store.specs.Ownership.{catalog_pages}
 use Rattle.sand_store.specs.Standing.{RelationStands, IsStore}
 use Rattle.sand_store.proofs.Changes.{pages_split}
-use Rattle.sand_store.proofs.RowGrowth.{OwnsOf}
+use Rattle.sand_store.proofs.RelationTrees.{OwnsOf}
 
 -- what holds of a relation of a store
 pub described_at : (pool : PoolState) (rs : List RelationView) (limits : Limits) (at : ℕ) (r : RelationView) → IsStore (record { relations = rs; limits = limits }) pool

@@ -17,6 +17,9 @@ pub mod Found
 -- a relation changed in its place
 pub mod Databases
 pub mod PathSteps
+pub mod TreeSteps
+pub mod TreeTurns
+pub mod RelationTrees
 pub mod Midway
 pub mod RowGrowth
 pub mod RowLoss
@@ -44,3 +47,7 @@ pub mod IndexFill
 pub mod Filling
 pub mod Planting
 pub mod IndexCall
+-- an R-tree of rows that are there
+pub mod ColumnTrees
+pub mod Gathering
+pub mod RtreeCall

@@ -13,6 +13,7 @@ use Rattle.sand_base.specs.declared.refusal.Refusal.TheVariants as why
 use Rattle.sand_base.specs.declared.value.Value.{Value}
 use Rattle.sand_model.specs.Database.{Relation, with_row}
 use Rattle.sand_model.specs.StatementChecks.{Setting, IsSetting}
+use Rattle.r_tree.specs.declared.tree.RTree.{RTree}
 use Rattle.tuple_file.specs.declared.file.TupleFile.{TupleFile}
 use Rattle.sand_store.specs.declared.path.AccessPath.{AccessPath}
 use Rattle.sand_store.specs.Calls.{Refuses, is_of_a_row, loaded, load_early, load_late, load_plain, LoadIsRefusedBy, RefusesRows, OnePasses, IsRefusedPlainly, Loaded}
@@ -22,7 +23,7 @@ use Rattle.sand_store.specs.Loads.{row_refusal, plain_of, StopsAt, Counts, Enter
 use Rattle.sand_store.specs.Ownership.{relation_pages}
 use Rattle.sand_store.specs.Sketches.{sketch_of, with_ids}
 use Rattle.sand_store.specs.Standing.{IsStore}
-use Rattle.sand_store.specs.Steps.{store_from, Became, SamePlaces, FirstAt, grown_view, row_check}
+use Rattle.sand_store.specs.Steps.{store_from, Became, SamePlaces, SameColumns, FirstAt, grown_view, row_check}
 use Rattle.sand_store.proofs.Changes.{put_in_place, becomes_in_place}
 use Rattle.sand_store.proofs.Found.{found_at}
 use Rattle.sand_store.proofs.InsertCall.{grown_described}
@@ -37,14 +38,15 @@ abbrev Rows : Type 0
 Rows = List (List Value)
 
 -- a relation that took in a row
-pub counts_one : (limits : Limits) (r : RelationView) (file : TupleFile) (paths : List (ℕ × AccessPath)) (known : List ℕ) (row : List Value) → IsDescribed limits r
-    → row_check limits r row ≡ None → SamePlaces r.schema r.paths paths → Counts limits r (grown_view r file paths known) 1
-counts_one limits r file paths known row h passes same = record {
+pub counts_one : (limits : Limits) (r : RelationView) (file : TupleFile) (paths : List (ℕ × AccessPath)) (trees : List (ℕ × RTree)) (known : List ℕ) (row : List Value) → IsDescribed limits r
+    → row_check limits r row ≡ None → SamePlaces r.schema r.paths paths → SameColumns r.trees trees → Counts limits r (grown_view r file paths trees known) 1
+counts_one limits r file paths trees known row h passes same columns = record {
   name = refl;
   schema = refl;
   next = refl;
   places = same.places;
-  described = grown_described limits r file paths known row h passes same;
+  columns = columns;
+  described = grown_described limits r file paths trees known row h passes same columns;
 }
 
 -- the first row of a load passes, and the others enter the relation with it
@@ -104,6 +106,7 @@ loading_next first now next limits r u x rows at row k l here within counted cou
     schema = counts.schema ∙ k.counts.schema;
     next = omega (arith, counts.next, k.counts.next);
     places = counts.places ∙ k.counts.places;
+    columns = counts.columns ∙ k.counts.columns;
     described = counts.described;
   };
   passed = plain_next limits r u rows at row k.counts.schema k.counts.next k.passed l here passes;

@@ -186,7 +186,7 @@ losing_end first now held id row all done at k l told h =
     partway_end first.pages now.pages (losing held id) all done (subst P (drop_all all at l) (k.partway told held h))
 
 -- and they are of the same columns
-take_past : {A : Type 0} (xs : List A) (n : ℕ) → length xs ≤ n → take n xs ≡ xs
+pub take_past : {A : Type 0} (xs : List A) (n : ℕ) → length xs ≤ n → take n xs ≡ xs
 take_past [] zero l = refl
 take_past [] (suc n) l = refl
 take_past (x ∷ xs) zero l = absurd (omega arith)

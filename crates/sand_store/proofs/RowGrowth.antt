@@ -1,11 +1,11 @@
--- A relation gets a row: its file first, then each access path.
+-- A relation gets a row: its file first, then each access path, then each R-tree.
 use Rattle.std.proofs.Common.{◌≡◌, ℕ, ◌+◌, ◌<◌, ◌≤◌, List, [], ◌∷◌, ◌++◌, length, map, refl, sym, ◌∙◌, ap, ap₂, subst, arith, All, inl, inr}
 use Rattle.std.proofs.lemmas.List.{map-append, length-append}
 use Rattle.sand_base.specs.InRange.{IsRowOf}
 use Rattle.sand_base.specs.declared.shape.Shape.TheVariants as shape
 use Rattle.sand_base.specs.declared.value.Value.TheVariants as value
 use Rattle.tuple_codec.proofs.Numbers.{length-coordinate_bytes, length-int_bytes}
-use Rattle.std.proofs.lemmas.List.Elements.{All-push, All-weaker, All-map, All-head, All-tail}
+use Rattle.std.proofs.lemmas.List.Elements.{All-nil, All-push, All-weaker, All-map, All-head, All-tail}
 use Rattle.std.proofs.lemmas.Bool.Decides.{eqb_tells}
 use Rattle.std.specs.Prelude.{None, Some, Bool, true}
 use Rattle.std.specs.List.{list_any}
@@ -19,7 +19,8 @@ use Rattle.pmr_tree.proofs.OwnPages.{keeps_then}
 use Rattle.sand_base.specs.declared.kind.Kind.{Kind}
 use Rattle.sand_base.specs.declared.limits.Limits.{Limits}
 use Rattle.sand_base.specs.declared.value.Value.{Value}
-use Rattle.sand_model.specs.Database.{Index, index_with, with_row}
+use Rattle.r_tree.specs.declared.tree.RTree.{RTree}
+use Rattle.sand_model.specs.Database.{Index, Rectangles, index_with, with_row}
 use Rattle.sand_model.specs.Kept.{longest_row}
 use Rattle.sand_model.specs.Measure.{Measure}
 use Rattle.sand_model.specs.RowSize.{row_size}
@@ -37,32 +38,35 @@ use Rattle.tuple_file.specs.declared.span.Span.{Span}
 use Rattle.tuple_file.specs.Spans.{Lies, Learnt}
 use Rattle.sand_store.specs.declared.path.AccessPath.{AccessPath}
 use Rattle.sand_store.specs.Catalog.{RelationView}
-use Rattle.sand_store.specs.Contents.{rows_at, rows_in, indexes_in, relation_in}
+use Rattle.sand_store.specs.declared.trees.RowChange.TheVariants.{Enters}
+use Rattle.sand_store.specs.Contents.{rows_at, rows_in, indexes_in, rectangles_of, relation_in}
 use Rattle.sand_store.specs.Ownership.{paths_pages, relation_pages}
-use Rattle.sand_store.specs.Standing.{PathStands, TableStands, RelationStands}
-use Rattle.sand_store.specs.Steps.{AllCanGrow, AllGrew, Became, Grew, grown_view}
+use Rattle.sand_store.specs.Standing.{PathStands, TreeStands, TableStands, RelationStands}
+use Rattle.sand_store.specs.Steps.{AllCanGrow, AllGrew, Became, Grew, SameColumns, grown_view}
+use Rattle.sand_store.specs.Trees.{CanChange, rows_after, TreesCanChange, TreesChanged}
 use Rattle.sand_store.specs.TableLaws.{SameOn, rows_same, table_same}
 use Rattle.sand_store.specs.Tuples.{row_in}
 use Rattle.sand_store.proofs.Databases.{rises_at}
 use Rattle.sand_store.proofs.Decodes.{row_back}
 use Rattle.sand_store.proofs.Frames.{untouched, keeps_with}
 use Rattle.sand_store.proofs.RowLists.{Rows}
-use Rattle.sand_store.proofs.Stays.{paths_pages_stay, indexes_stay, paths_stand}
+use Rattle.sand_store.proofs.RelationTrees.{OwnsOf, bare, bare_stands, bare_owns, treed_relation, trees_can, with_trees, rectangles_grown}
+use Rattle.sand_store.proofs.Stays.{table_pages, paths_pages_stay, indexes_stay, paths_stand}
 
 -- the ids of a file are below the next one
-below_next : (m : PageMap) (limits : Limits) (r : RelationView) → RelationStands m limits r → All (λ t. t.0 < r.next) (file_rows (store_of m) r.file)
+below_next : (m : PageMap) (limits : Limits) (r : RelationView) → RelationStands m limits (bare r) → All (λ t. t.0 < r.next) (file_rows (store_of m) r.file)
 below_next m limits r h =
     let P : List (ℕ × List ℕ) → Type 0 = λ ts. All (λ t. t.0 < r.next) ts in
     subst P (sym h.table.tuples) (All-map (λ (t : ℕ × List ℕ). t.0 < r.next) (λ (x : ℕ × List Value). (x.0, encoding x.1)) (rows_in m r)
     (All-weaker (λ (x : ℕ × List Value). (1 ≤ x.0) × (x.0 < r.next)) (λ (x : ℕ × List Value). x.0 < r.next) (λ x b. b.1) (rows_in m r) h.given_out))
 
 -- the tuples with the new one
-tuples_put : (m w : PageMap) (limits : Limits) (r : RelationView) (g : TupleFile) (bytes : List ℕ) → RelationStands m limits r
+tuples_put : (m w : PageMap) (limits : Limits) (r : RelationView) (g : TupleFile) (bytes : List ℕ) → RelationStands m limits (bare r)
     → Put (store_of m) (store_of w) r.file g r.next bytes → file_rows (store_of w) g ≡ file_rows (store_of m) r.file ++ (r.next, bytes) ∷ []
 tuples_put m w limits r g bytes h p = p.rows ∙ greatest_last r.next bytes (file_rows (store_of m) r.file) (below_next m limits r h)
 
 -- the rows with the new one
-rows_put : (m w : PageMap) (limits : Limits) (r : RelationView) (g : TupleFile) (row : List Value) → RelationStands m limits r → IsRowFor r.schema row
+rows_put : (m w : PageMap) (limits : Limits) (r : RelationView) (g : TupleFile) (row : List Value) → RelationStands m limits (bare r) → IsRowFor r.schema row
     → Put (store_of m) (store_of w) r.file g r.next (encoding row) → rows_at w r.schema g ≡ rows_in m r ++ (r.next, row) ∷ []
 rows_put m w limits r g row h of p =
     let f : ℕ × List ℕ → ℕ × List Value = λ t. (t.0, row_in r.schema t.1) in
@@ -70,7 +74,7 @@ rows_put m w limits r g row h of p =
     ∙ (map-append f (file_rows (store_of m) r.file) ((r.next, encoding row) ∷ []) ∙ ap (λ (x : List Value). rows_in m r ++ (r.next, x) ∷ []) (row_back r.schema row of))
 
 -- the file holds them
-table_put : (m w : PageMap) (limits : Limits) (r : RelationView) (g : TupleFile) (row : List Value) → RelationStands m limits r → IsRowFor r.schema row
+table_put : (m w : PageMap) (limits : Limits) (r : RelationView) (g : TupleFile) (row : List Value) → RelationStands m limits (bare r) → IsRowFor r.schema row
     → Put (store_of m) (store_of w) r.file g r.next (encoding row) → TableStands w r.schema g
 table_put m w limits r g row h of p =
     let e : rows_at w r.schema g ≡ rows_in m r ++ (r.next, row) ∷ [] = rows_put m w limits r g row h of p in
@@ -84,15 +88,15 @@ table_put m w limits r g row h of p =
     }
 
 -- the access paths stay while the tuple is put
-paths_same : (m w : PageMap) (r : RelationView) (g : TupleFile) (bytes : List ℕ) → ((q : ℕ) → times q (relation_pages m r) ≤ live (store_of m) q)
+paths_same : (m w : PageMap) (r : RelationView) (g : TupleFile) (bytes : List ℕ) → ((q : ℕ) → times q (relation_pages m (bare r)) ≤ live (store_of m) q)
     → Put (store_of m) (store_of w) r.file g r.next bytes → SameOn m w (paths_pages m r.paths)
 paths_same m w r g bytes owns p =
     untouched (store_of m) (store_of w) (file_pages (store_of m) r.file) (file_pages (store_of w) g) (paths_pages m r.paths) p.keeps
-    (λ q. (let o : times q (relation_pages m r) ≤ live (store_of m) q = owns q in omega (arith, o, times-append q (file_pages (store_of m) r.file) (paths_pages m r.paths))))
+    (λ q. (let o : times q (table_pages m r) ≤ live (store_of m) q = owns q in omega (arith, o, times-append q (file_pages (store_of m) r.file) (paths_pages m r.paths))))
 
 -- after it they can grow
-pub can_grow : (m w : PageMap) (limits : Limits) (r : RelationView) (g : TupleFile) (row : List Value) → RelationStands m limits r → IsRowFor r.schema row
-    → ((q : ℕ) → times q (relation_pages m r) ≤ live (store_of m) q) → Put (store_of m) (store_of w) r.file g r.next (encoding row)
+pub can_grow : (m w : PageMap) (limits : Limits) (r : RelationView) (g : TupleFile) (row : List Value) → RelationStands m limits (bare r) → IsRowFor r.schema row
+    → ((q : ℕ) → times q (relation_pages m (bare r)) ≤ live (store_of m) q) → Put (store_of m) (store_of w) r.file g r.next (encoding row)
     → AllCanGrow w limits r.schema g r.next row r.paths
 can_grow m w limits r g row h of owns p =
     let same : SameOn m w (paths_pages m r.paths) = paths_same m w r g (encoding row) owns p in
@@ -104,7 +108,7 @@ can_grow m w limits r g row h of owns p =
       below = h.given_out;
       stands = paths_stand m w limits r.schema (rows_in m r) r.paths same h.paths;
       apart = λ q.
-          let o : times q (relation_pages m r) ≤ live (store_of m) q = owns q in
+          let o : times q (table_pages m r) ≤ live (store_of m) q = owns q in
           omega (arith, o, times-append q (file_pages (store_of m) r.file) (paths_pages m r.paths), ap (λ (ps : List ℕ). times q ps) (paths_pages_stay m w r.paths same), p.keeps.moved q);
     }
 
@@ -115,10 +119,10 @@ file_same w v limits schema g id row paths after c a =
     untouched (store_of w) (store_of v) (paths_pages w paths) (paths_pages v after) (file_pages (store_of w) g) a.keeps c.apart
 
 -- A relation got a row, and it may be known where it lies.
-row_became : (m w v : PageMap) (limits : Limits) (r : RelationView) (g : TupleFile) (row : List Value) (after : List (ℕ × AccessPath)) (span : Span) (spans : List ℕ) → RelationStands m limits r
-    → IsRowFor r.schema row → row_size row ≤ longest_row → 1 ≤ r.next → ((q : ℕ) → times q (relation_pages m r) ≤ live (store_of m) q)
+row_became : (m w v : PageMap) (limits : Limits) (r : RelationView) (g : TupleFile) (row : List Value) (after : List (ℕ × AccessPath)) (span : Span) (spans : List ℕ) → RelationStands m limits (bare r)
+    → IsRowFor r.schema row → row_size row ≤ longest_row → 1 ≤ r.next → ((q : ℕ) → times q (relation_pages m (bare r)) ≤ live (store_of m) q)
     → Put (store_of m) (store_of w) r.file g r.next (encoding row) → AllGrew w v limits r.schema (rows_at w r.schema g) r.next r.paths after
-    → Lies (store_of w) g r.next span → Learnt r.spans r.next span spans → Became m v limits r (grown_view r g after spans) (λ gap. with_row gap row)
+    → Lies (store_of w) g r.next span → Learnt r.spans r.next span spans → Became m v limits (bare r) (grown_view (bare r) g after [] spans) (λ gap. with_row gap row)
 row_became m w v limits r g row after span spans h of short begun owns p a leads learnt =
     let can = can_grow m w limits r g row h of owns p in
     let file : SameOn w v (file_pages (store_of w) g) = file_same w v limits r.schema g r.next row r.paths after can a in
@@ -142,13 +146,14 @@ row_became m w v limits r g row after span spans h of short begun owns p a leads
         known = still_known (store_of w) (store_of v) g spans (houses.unmoved (store_of w) (store_of v) g file)
             (put_known (store_of m) (store_of w) r.file g r.next span (encoding row) r.spans spans p leads h.known learnt);
         paths = subst Stand (sym (rows_same w v r.schema g file)) a.stands;
+        trees = All-nil (TreeStands v (rows_at v r.schema g));
       };
-      means = λ gap is. ap₂ (λ (rows : Rows) (indexes : List (ℕ × Index)). record { name = r.name; schema = r.schema; rows = rows; next = r.next + 1; indexes = indexes }) f
+      means = λ gap is. ap₂ (λ (rows : Rows) (indexes : List (ℕ × Index)). record { name = r.name; schema = r.schema; rows = rows; next = r.next + 1; indexes = indexes; rectangles = [] }) f
           (a.means gap is ∙ ap₂ (λ (rows : Rows) (is : List (ℕ × Index)). map (index_with gap rows r.next) is) e (indexes_stay m w r.paths paths));
-      keeps = keeps_then (store_of m) (store_of w) (store_of v) (relation_pages m r) mid (relation_pages v (grown_view r g after spans))
-          (keeps_with (store_of m) (store_of w) (file_pages (store_of m) r.file) (file_pages (store_of w) g) (paths_pages m r.paths) (relation_pages m r) mid p.keeps
+      keeps = keeps_then (store_of m) (store_of w) (store_of v) (relation_pages m (bare r)) mid (relation_pages v (grown_view (bare r) g after [] spans))
+          (keeps_with (store_of m) (store_of w) (file_pages (store_of m) r.file) (file_pages (store_of w) g) (paths_pages m r.paths) (relation_pages m (bare r)) mid p.keeps
           (λ q. times-append q (file_pages (store_of m) r.file) (paths_pages m r.paths)) (λ q. times-append q (file_pages (store_of w) g) (paths_pages m r.paths)))
-          (keeps_with (store_of w) (store_of v) (paths_pages w r.paths) (paths_pages v after) (file_pages (store_of w) g) mid (relation_pages v (grown_view r g after spans)) a.keeps
+          (keeps_with (store_of w) (store_of v) (paths_pages w r.paths) (paths_pages v after) (file_pages (store_of w) g) mid (relation_pages v (grown_view (bare r) g after [] spans)) a.keeps
           (λ q. omega (arith, times-append q (file_pages (store_of w) g) (paths_pages m r.paths), ap (λ (ps : List ℕ). times q ps) pages_paths))
           (λ q. omega (arith, times-append q (file_pages (store_of v) g) (paths_pages v after), ap (λ (ps : List ℕ). times q ps) pages_file)));
     }
@@ -176,13 +181,9 @@ none_at {A} n (x ∷ xs) h = elim (eqb_tells x.0 n) [
 ]
 
 pub next_is_fresh : (m : PageMap) (limits : Limits) (r : RelationView) → RelationStands m limits r → of_id r.next (file_rows (store_of m) r.file) ≡ None
-next_is_fresh m limits r h = none_at r.next (file_rows (store_of m) r.file) (below_next m limits r h)
+next_is_fresh m limits r h = none_at r.next (file_rows (store_of m) r.file) (below_next m limits r (bare_stands m limits r h))
 
--- the pages of a relation are live, each once
-abbrev pub OwnsOf : PageMap → RelationView → Type 0
-OwnsOf m r = (q : ℕ) → times q (relation_pages m r) ≤ live (store_of m) q
-
--- The same of a relation x that is r, as code sees its parts. What the loop asks.
+-- What the loop over the access paths asks, of a relation x that is r, as code sees its parts.
 pub asks : (m w : PageMap) (limits : Limits) (x r : RelationView) (g : TupleFile) (row : List Value) (bytes : List ℕ) (paths : List (ℕ × AccessPath)) → x ≡ r → bytes ≡ encoding row → paths ≡ x.paths
     → RelationStands m limits r → IsRowFor r.schema row → OwnsOf m r → Put (store_of m) (store_of w) x.file g x.next bytes → AllCanGrow w limits x.schema g x.next row paths
 asks m w limits x r g row bytes paths e b ps h of owns p =
@@ -190,23 +191,88 @@ asks m w limits x r g row bytes paths e b ps h of owns p =
     let H : RelationView → Type 0 = λ y. RelationStands m limits y in
     let F : RelationView → Type 0 = λ y. IsRowFor y.schema row in
     let P : List ℕ → Type 0 = λ bs. Put (store_of m) (store_of w) x.file g x.next bs in
-    subst A (sym ps) (can_grow m w limits x g row (subst H (sym e) h) (subst F (sym e) of) (subst (OwnsOf m) (sym e) owns) (subst P b p))
+    subst A (sym ps) (can_grow m w limits x g row (bare_stands m limits x (subst H (sym e) h)) (subst F (sym e) of) (bare_owns m x (subst (OwnsOf m) (sym e) owns)) (subst P b p))
 
--- What it gives.
-pub got : (m w v : PageMap) (limits : Limits) (x r : RelationView) (g : TupleFile) (row : List Value) (bytes : List ℕ) (paths after : List (ℕ × AccessPath)) (span : Span) → x ≡ r → bytes ≡ encoding row → paths ≡ x.paths
+-- the rows with the new one, once the access paths have grown
+rows_grew : (m w v : PageMap) (limits : Limits) (r : RelationView) (g : TupleFile) (row : List Value) (after : List (ℕ × AccessPath)) → RelationStands m limits (bare r) → IsRowFor r.schema row
+    → OwnsOf m (bare r) → Put (store_of m) (store_of w) r.file g r.next (encoding row) → AllGrew w v limits r.schema (rows_at w r.schema g) r.next r.paths after
+    → rows_at v r.schema g ≡ rows_in m r ++ (r.next, row) ∷ []
+rows_grew m w v limits r g row after h of owns p a =
+    rows_same w v r.schema g (file_same w v limits r.schema g r.next row r.paths after (can_grow m w limits r g row h of owns p) a) ∙ rows_put m w limits r g row h of p
+
+-- the ids of the rows are below the next one
+ids_below : (m : PageMap) (limits : Limits) (r : RelationView) → RelationStands m limits r → All (λ (x : ℕ × List Value). x.0 < r.next) (rows_in m r)
+ids_below m limits r h = All-weaker (λ (x : ℕ × List Value). (1 ≤ x.0) × (x.0 < r.next)) (λ (x : ℕ × List Value). x.0 < r.next) (λ x b. b.1) (rows_in m r) h.given_out
+
+-- nothing is known of where rows lie, which is learnt from any row
+none_learnt : (old : List ℕ) (id : ℕ) (span : Span) → Learnt old id span []
+none_learnt old id span n l = absurd (omega (arith, l))
+
+-- What the loop over the R-trees asks then.
+grown_asks : (m w v : PageMap) (limits : Limits) (r : RelationView) (g : TupleFile) (row : List Value) (after : List (ℕ × AccessPath)) (span : Span) → RelationStands m limits r
+    → IsRowFor r.schema row → row_size row ≤ longest_row → 1 ≤ r.next → OwnsOf m r → Put (store_of m) (store_of w) r.file g r.next (encoding row)
+    → AllGrew w v limits r.schema (rows_at w r.schema g) r.next r.paths after → Lies (store_of w) g r.next span
+    → TreesCanChange v (rows_in m r) r.trees × CanChange Enters r.next row (rows_in m r)
+grown_asks m w v limits r g row after span h of short begun owns p a leads = (
+  trees_can m v limits r (grown_view r g after [] []) (λ gap. with_row gap row) h owns
+      (row_became m w v limits r g row after span [] (bare_stands m limits r h) of short begun (bare_owns m r owns) p a leads (none_learnt r.spans r.next span)),
+  ids_below m limits r h,
+)
+
+-- A relation got a row, its R-trees too.
+row_grew : (m w v z : PageMap) (limits : Limits) (r : RelationView) (g : TupleFile) (row : List Value) (after : List (ℕ × AccessPath)) (trees : List (ℕ × RTree)) (span : Span)
+    → RelationStands m limits r → IsRowFor r.schema row → row_size row ≤ longest_row → 1 ≤ r.next → OwnsOf m r → Put (store_of m) (store_of w) r.file g r.next (encoding row)
+    → AllGrew w v limits r.schema (rows_at w r.schema g) r.next r.paths after → Lies (store_of w) g r.next span
+    → TreesChanged v z (rows_after Enters r.next row (rows_in m r)) r.trees trees → SameColumns r.trees trees → Grew m z limits r g after trees span row
+row_grew m w v z limits r g row after trees span h of short begun owns p a leads t columns = record {
+  became = λ spans learnt.
+      let u : RelationView = grown_view r g after trees spans in
+      let e : rows_at v r.schema g ≡ rows_in m r ++ (r.next, row) ∷ [] = rows_grew m w v limits r g row after (bare_stands m limits r h) of (bare_owns m r owns) p a in
+      let T : Rows → Type 0 = λ rows. TreesChanged v z rows r.trees trees in
+      with_trees m v z limits r u (λ gap. with_row gap row) h owns
+      (row_became m w v limits r g row after span spans (bare_stands m limits r h) of short begun (bare_owns m r owns) p a leads learnt)
+      (subst T (sym e) t)
+      (λ gap is. ap (λ (ts : List Rectangles). treed_relation (with_row gap row (relation_in m (bare r))) ts)
+      (rectangles_grown r.next row (rows_in m r) r.trees trees columns ∙ ap (λ (rows : Rows). rectangles_of rows trees) (sym e)));
+}
+
+-- Both, of a relation x that is r, as code sees its parts.
+pub tree_asks : (m w v : PageMap) (limits : Limits) (x r : RelationView) (g : TupleFile) (row : List Value) (bytes : List ℕ) (paths after : List (ℕ × AccessPath)) (trees : List (ℕ × RTree)) (span : Span)
+    → x ≡ r → bytes ≡ encoding row → paths ≡ x.paths → trees ≡ x.trees
     → RelationStands m limits r → IsRowFor r.schema row → row_size row ≤ longest_row → 1 ≤ r.next → OwnsOf m r → Put (store_of m) (store_of w) x.file g x.next bytes
-    → AllGrew w v limits x.schema (rows_at w x.schema g) x.next paths after → Lies (store_of w) g x.next span → Grew m v limits r g after span row
-got m w v limits x r g row bytes paths after span e b ps h of short begun owns p a leads =
+    → AllGrew w v limits x.schema (rows_at w x.schema g) x.next paths after → Lies (store_of w) g x.next span
+    → (rows : Rows) × (TreesCanChange v rows trees × CanChange Enters x.next row rows)
+tree_asks m w v limits x r g row bytes paths after trees span e b ps ts h of short begun owns p a leads =
     let A : List (ℕ × AccessPath) → Type 0 = λ xs. AllGrew w v limits x.schema (rows_at w x.schema g) x.next xs after in
     let H : RelationView → Type 0 = λ y. RelationStands m limits y in
     let F : RelationView → Type 0 = λ y. IsRowFor y.schema row in
     let N : RelationView → Type 0 = λ y. 1 ≤ y.next in
     let P : List ℕ → Type 0 = λ bs. Put (store_of m) (store_of w) x.file g x.next bs in
-    let B : RelationView → Type 0 = λ y. Grew m v limits y g after span row in
-    subst B e (record {
-      became = λ spans learnt.
-          row_became m w v limits x g row after span spans (subst H (sym e) h) (subst F (sym e) of) short (subst N (sym e) begun) (subst (OwnsOf m) (sym e) owns) (subst P b p) (subst A ps a) leads learnt;
-    })
+    let T : List (ℕ × RTree) → Type 0 = λ xs. TreesCanChange v (rows_in m x) xs × CanChange Enters x.next row (rows_in m x) in (
+      rows_in m x,
+      subst T (sym ts) (grown_asks m w v limits x g row after span (subst H (sym e) h) (subst F (sym e) of) short (subst N (sym e) begun) (subst (OwnsOf m) (sym e) owns) (subst P b p) (subst A ps a) leads),
+    )
+
+pub got : (m w v z : PageMap) (limits : Limits) (x r : RelationView) (g : TupleFile) (row : List Value) (bytes : List ℕ) (paths after : List (ℕ × AccessPath)) (trees now : List (ℕ × RTree)) (span : Span)
+    → x ≡ r → bytes ≡ encoding row → paths ≡ x.paths → trees ≡ x.trees
+    → RelationStands m limits r → IsRowFor r.schema row → row_size row ≤ longest_row → 1 ≤ r.next → OwnsOf m r → Put (store_of m) (store_of w) x.file g x.next bytes
+    → AllGrew w v limits x.schema (rows_at w x.schema g) x.next paths after → Lies (store_of w) g x.next span
+    → ((rows : Rows) → TreesCanChange v rows trees → CanChange Enters x.next row rows → TreesChanged v z (rows_after Enters x.next row rows) trees now) → SameColumns trees now
+    → Grew m z limits r g after now span row
+got m w v z limits x r g row bytes paths after trees now span e b ps ts h of short begun owns p a leads changed columns =
+    let A : List (ℕ × AccessPath) → Type 0 = λ xs. AllGrew w v limits x.schema (rows_at w x.schema g) x.next xs after in
+    let H : RelationView → Type 0 = λ y. RelationStands m limits y in
+    let F : RelationView → Type 0 = λ y. IsRowFor y.schema row in
+    let N : RelationView → Type 0 = λ y. 1 ≤ y.next in
+    let P : List ℕ → Type 0 = λ bs. Put (store_of m) (store_of w) x.file g x.next bs in
+    let B : RelationView → Type 0 = λ y. Grew m z limits y g after now span row in
+    let C : List (ℕ × RTree) → Type 0 = λ xs. SameColumns xs now in
+    let T : List (ℕ × RTree) → Type 0 = λ xs. TreesChanged v z (rows_after Enters x.next row (rows_in m x)) xs now in
+    let hx : RelationStands m limits x = subst H (sym e) h in
+    let can_x = grown_asks m w v limits x g row after span hx (subst F (sym e) of) short (subst N (sym e) begun) (subst (OwnsOf m) (sym e) owns) (subst P b p) (subst A ps a) leads in
+    let K : List (ℕ × RTree) → Type 0 = λ xs. TreesCanChange v (rows_in m x) xs in
+    subst B e (row_grew m w v z limits x g row after now span hx (subst F (sym e) of) short (subst N (sym e) begun) (subst (OwnsOf m) (sym e) owns) (subst P b p) (subst A ps a) leads
+    (subst T ts (changed (rows_in m x) (subst K (sym ts) can_x.0) can_x.1)) (subst C ts columns))
 
 -- And why it may be refused.
 pub too_full : (m w : PageMap) (limits : Limits) (x r : RelationView) (g : TupleFile) (row : List Value) (bytes : List ℕ) (paths : List (ℕ × AccessPath)) (gap : Measure) → x ≡ r → bytes ≡ encoding row → paths ≡ x.paths
@@ -219,8 +285,8 @@ too_full m w limits x r g row bytes paths gap e b ps h of owns p full =
     let P : List ℕ → Type 0 = λ bs. Put (store_of m) (store_of w) x.file g x.next bs in
     let C : RelationView → Type 0 = λ y. check_listings limits (with_row gap row (relation_in m y)) ≡ Some why.IndexFull in
     let put = subst P b p in
-    let same : indexes_in w x.paths ≡ indexes_in m x.paths = indexes_stay m w x.paths (paths_same m w x g (encoding row) (subst (OwnsOf m) (sym e) owns) put) in
-    let rows : rows_at w x.schema g ≡ rows_in m x ++ (x.next, row) ∷ [] = rows_put m w limits x g row (subst H (sym e) h) (subst F (sym e) of) put in
+    let same : indexes_in w x.paths ≡ indexes_in m x.paths = indexes_stay m w x.paths (paths_same m w x g (encoding row) (bare_owns m x (subst (OwnsOf m) (sym e) owns)) put) in
+    let rows : rows_at w x.schema g ≡ rows_in m x ++ (x.next, row) ∷ [] = rows_put m w limits x g row (bare_stands m limits x (subst H (sym e) h)) (subst F (sym e) of) put in
     let over : list_any (is_overfull limits) (map (index_with gap (rows_in m x ++ (x.next, row) ∷ []) x.next) (indexes_in m x.paths)) ≡ true =
     ap (λ (ts : Rows). list_any (is_overfull limits) (map (index_with gap ts x.next) (indexes_in m x.paths))) (sym rows)
     ∙ (ap (λ (is : List (ℕ × Index)). list_any (is_overfull limits) (map (index_with gap (rows_at w x.schema g) x.next) is)) (sym same)

@@ -25,9 +25,12 @@ use Rattle.attr_index.proofs.Changes as attributes
 use Rattle.sand_store.specs.declared.path.AccessPath.{AccessPath}
 use Rattle.sand_store.specs.declared.path.AccessPath.TheVariants.{Quadtree, Attribute}
 use Rattle.sand_store.specs.Catalog.{RelationView}
-use Rattle.sand_store.specs.Contents.{index_in, indexes_in, rows_in, relation_in, database_in}
-use Rattle.sand_store.specs.Ownership.{path_pages, paths_pages, relation_pages, catalog_pages}
-use Rattle.sand_store.specs.Standing.{PathStands, RelationStands}
+use Rattle.r_tree.specs.declared.tree.RTree.{RTree}
+use Rattle.r_tree.specs.Tree.{tree_pages}
+use Rattle.rtree_rows.proofs.Unmoved.{tree_pages_stay, lists_stay}
+use Rattle.sand_store.specs.Contents.{index_in, indexes_in, rows_in, rectangles_of, relation_in, database_in}
+use Rattle.sand_store.specs.Ownership.{path_pages, paths_pages, trees_pages, relation_pages, catalog_pages}
+use Rattle.sand_store.specs.Standing.{PathStands, TreeStands, RelationStands}
 use Rattle.sand_store.specs.TableLaws.{SameOn, rows_same, table_same}
 
 pub same_left : (m w : PageMap) (a b : List ℕ) → SameOn m w (a ++ b) → SameOn m w a
@@ -89,34 +92,63 @@ paths_stand m w limits schema rows (p ∷ ps) same h = All-cons (PathStands w li
     (path_stands m w limits schema rows p.0 p.1 (same_left m w (path_pages m p.1) (paths_pages m ps) same) (All-head (PathStands m limits schema rows) p ps h))
     (paths_stand m w limits schema rows ps (same_right m w (path_pages m p.1) (paths_pages m ps) same) (All-tail (PathStands m limits schema rows) p ps h))
 
+-- all R-trees of a relation
+pub trees_pages_stay : (m w : PageMap) (ts : List (ℕ × RTree)) → SameOn m w (trees_pages m ts) → trees_pages w ts ≡ trees_pages m ts
+trees_pages_stay m w [] same = refl
+trees_pages_stay m w (t ∷ ts) same =
+    ap₂ (λ (a b : List ℕ). a ++ b) (tree_pages_stay m w t.1 (same_left m w (tree_pages (store_of m) t.1) (trees_pages m ts) same))
+    (trees_pages_stay m w ts (same_right m w (tree_pages (store_of m) t.1) (trees_pages m ts) same))
+
+pub trees_stand : (m w : PageMap) (rows : List (ℕ × List Value)) (ts : List (ℕ × RTree)) → SameOn m w (trees_pages m ts) → All (TreeStands m rows) ts → All (TreeStands w rows) ts
+trees_stand m w rows [] same h = All-nil (TreeStands w rows)
+trees_stand m w rows (t ∷ ts) same h = All-cons (TreeStands w rows) t ts
+    (lists_stay m w t.1 (shapes_of t.0 rows) (same_left m w (tree_pages (store_of m) t.1) (trees_pages m ts) same) (All-head (TreeStands m rows) t ts h))
+    (trees_stand m w rows ts (same_right m w (tree_pages (store_of m) t.1) (trees_pages m ts) same) (All-tail (TreeStands m rows) t ts h))
+
+-- the pages of a relation's file and access paths
+abbrev pub table_pages : PageMap → RelationView → List ℕ
+table_pages m r = file_pages (store_of m) r.file ++ paths_pages m r.paths
+
+-- where all pages of a relation stay, those of its file, its access paths and its R-trees do
+pub file_left : (m w : PageMap) (r : RelationView) → SameOn m w (relation_pages m r) → SameOn m w (file_pages (store_of m) r.file)
+file_left m w r same = same_left m w (file_pages (store_of m) r.file) (paths_pages m r.paths) (same_right m w (trees_pages m r.trees) (table_pages m r) same)
+
+pub paths_left : (m w : PageMap) (r : RelationView) → SameOn m w (relation_pages m r) → SameOn m w (paths_pages m r.paths)
+paths_left m w r same = same_right m w (file_pages (store_of m) r.file) (paths_pages m r.paths) (same_right m w (trees_pages m r.trees) (table_pages m r) same)
+
+pub trees_left : (m w : PageMap) (r : RelationView) → SameOn m w (relation_pages m r) → SameOn m w (trees_pages m r.trees)
+trees_left m w r same = same_left m w (trees_pages m r.trees) (table_pages m r) same
+
 -- a relation
 pub rows_stay : (m w : PageMap) (r : RelationView) → SameOn m w (file_pages (store_of m) r.file) → rows_in w r ≡ rows_in m r
 rows_stay m w r same = rows_same m w r.schema r.file same
 
 pub relation_pages_stay : (m w : PageMap) (r : RelationView) → SameOn m w (relation_pages m r) → relation_pages w r ≡ relation_pages m r
 relation_pages_stay m w r same =
-    ap₂ (λ (a b : List ℕ). a ++ b) (houses.unmoved (store_of m) (store_of w) r.file (same_left m w (file_pages (store_of m) r.file) (paths_pages m r.paths) same)).pages
-    (paths_pages_stay m w r.paths (same_right m w (file_pages (store_of m) r.file) (paths_pages m r.paths) same))
+    ap₂ (λ (c d : List ℕ). c ++ d) (trees_pages_stay m w r.trees (trees_left m w r same))
+    (ap₂ (λ (a b : List ℕ). a ++ b) (houses.unmoved (store_of m) (store_of w) r.file (file_left m w r same)).pages (paths_pages_stay m w r.paths (paths_left m w r same)))
 
 pub relation_stays : (m w : PageMap) (r : RelationView) → SameOn m w (relation_pages m r) → relation_in w r ≡ relation_in m r
 relation_stays m w r same =
-    ap₂ (λ (rows : List (ℕ × List Value)) (is : List (ℕ × Index)). record { name = r.name; schema = r.schema; rows = rows; next = r.next; indexes = is })
-    (rows_stay m w r (same_left m w (file_pages (store_of m) r.file) (paths_pages m r.paths) same))
-    (indexes_stay m w r.paths (same_right m w (file_pages (store_of m) r.file) (paths_pages m r.paths) same))
+    ap₂ (λ (rows : List (ℕ × List Value)) (is : List (ℕ × Index)). record { name = r.name; schema = r.schema; rows = rows; next = r.next; indexes = is; rectangles = rectangles_of rows r.trees })
+    (rows_stay m w r (file_left m w r same))
+    (indexes_stay m w r.paths (paths_left m w r same))
 
 pub relation_stands : (m w : PageMap) (limits : Limits) (r : RelationView) → SameOn m w (relation_pages m r) → RelationStands m limits r → RelationStands w limits r
 relation_stands m w limits r same h =
-    let here : SameOn m w (file_pages (store_of m) r.file) = same_left m w (file_pages (store_of m) r.file) (paths_pages m r.paths) same in
+    let here : SameOn m w (file_pages (store_of m) r.file) = file_left m w r same in
     let e : rows_in w r ≡ rows_in m r = rows_stay m w r here in
     let Short : List (ℕ × List Value) → Type 0 = λ rows. All (λ row. row_size row.1 ≤ longest_row) rows in
     let Given : List (ℕ × List Value) → Type 0 = λ rows. All (λ row. (1 ≤ row.0) × (row.0 < r.next)) rows in
     let Paths : List (ℕ × List Value) → Type 0 = λ rows. All (PathStands w limits r.schema rows) r.paths in
+    let Trees : List (ℕ × List Value) → Type 0 = λ rows. All (TreeStands w rows) r.trees in
     record {
       table = table_same m w r.schema r.file here h.table;
       short = subst Short (sym e) h.short;
       given_out = subst Given (sym e) h.given_out;
       known = still_known (store_of m) (store_of w) r.file r.spans (houses.unmoved (store_of m) (store_of w) r.file here) h.known;
-      paths = subst Paths (sym e) (paths_stand m w limits r.schema (rows_in m r) r.paths (same_right m w (file_pages (store_of m) r.file) (paths_pages m r.paths) same) h.paths);
+      paths = subst Paths (sym e) (paths_stand m w limits r.schema (rows_in m r) r.paths (paths_left m w r same) h.paths);
+      trees = subst Trees (sym e) (trees_stand m w (rows_in m r) r.trees (trees_left m w r same) h.trees);
     }
 
 -- all relations

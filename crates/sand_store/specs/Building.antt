@@ -61,7 +61,7 @@ IsThreshold threshold = IfSome threshold (λ t. (1 ≤ t) × (t ≤ 64))
 
 -- a relation with one access path more
 abbrev pub indexed_view : RelationView → ℕ → AccessPath → RelationView
-indexed_view r at path = record { name = r.name; schema = r.schema; next = r.next; file = r.file; spans = r.spans; paths = r.paths ++ (at, path) ∷ [] }
+indexed_view r at path = record { name = r.name; schema = r.schema; next = r.next; file = r.file; spans = r.spans; paths = r.paths ++ (at, path) ∷ []; trees = r.trees }
 
 -- the relation has got an access path of a column of its kind
 pub record HasPath (r u : RelationView) (at : ℕ) : Type 0 where

@@ -16,11 +16,11 @@ use Rattle.sand_model.specs.Cursor.{State}
 use Rattle.sand_model.specs.Database.{Database, Relation, relation_named, changed_at, with_relation, new_relation, with_row, without_row}
 use Rattle.sand_model.specs.Measure.{Measure, IsMeasure}
 use Rattle.statements.specs.declared.column.Column.{Column}
-use Rattle.statements.specs.Statement.{Statement, Create, Insert, Delete, Index}
-use Rattle.sand_model.specs.StatementChecks.{Setting, IsSetting, early, late, refused_where, in_relation, is_row_of, check_length, check_ids, check_listings, indexed_by}
+use Rattle.statements.specs.Statement.{Statement, Create, Insert, Delete, Index, Rtree}
+use Rattle.sand_model.specs.StatementChecks.{Setting, IsSetting, early, late, refused_where, in_relation, is_row_of, check_length, check_ids, check_listings, indexed_by, treed_by}
 use Rattle.sand_store.specs.Catalog.{StoreState}
 use Rattle.sand_store.specs.Contents.{database}
-use Rattle.sand_store.specs.Sketches.{sketches, new_sketch, with_ids, with_indexed, sketched_at}
+use Rattle.sand_store.specs.Sketches.{sketches, new_sketch, with_ids, with_indexed, with_treed, sketched_at}
 
 -- a fault of a page, as a statement is refused by it
 abbrev pub refusal_of : PageFault → Refusal
@@ -152,6 +152,12 @@ pub record Indexed (old new : StoreState) (column : Column) (threshold : Option 
   pub passes : Passes old (Index column threshold)
   pub sketched : sketches new ≡ sketched_at column.relation (with_indexed column.column) (sketches old)
   pub becomes : Becomes old new (λ gap d. changed_at column.relation (indexed_by gap column threshold) d)
+
+-- the relation has an R-tree of the column, with the rows that were there
+pub record Treed (old new : StoreState) (column : Column) : Type 0 where
+  pub passes : Passes old (Rtree column)
+  pub sketched : sketches new ≡ sketched_at column.relation (with_treed column.column) (sketches old)
+  pub becomes : Becomes old new (λ gap d. changed_at column.relation (treed_by column) d)
 
 -- the values of a row are of the kinds of the columns
 abbrev pub check_kinds : Relation → List Value → Option Refusal

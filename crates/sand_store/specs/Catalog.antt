@@ -7,11 +7,12 @@ use Rattle.sand_base.specs.InRange.{IsSchemaInRange}
 use Rattle.sand_base.specs.Shape.{is_spatial}
 use Rattle.sand_model.specs.Database.{element, same_name}
 use Rattle.sand_model.specs.Kept.{has_twice, has_number_twice, most_relations}
+use Rattle.r_tree.specs.declared.tree.RTree.{RTree}
 use Rattle.tuple_file.specs.declared.file.TupleFile.{TupleFile}
 use Rattle.sand_store.specs.declared.path.AccessPath.{AccessPath}
 use Rattle.sand_store.specs.declared.path.AccessPath.TheVariants.{Quadtree, Attribute}
 
--- a relation: each access path has the place of its column, and they stand in the order in which they were made
+-- a relation: each access path and each R-tree has the place of its column, and they stand in the order in which they were made
 pub record RelationView : Type 0 where
   pub name : List ℕ
   pub schema : List (List ℕ × Kind)
@@ -19,6 +20,7 @@ pub record RelationView : Type 0 where
   pub file : TupleFile
   pub spans : List ℕ
   pub paths : List (ℕ × AccessPath)
+  pub trees : List (ℕ × RTree)
 
 -- the relations, the oldest first, and the limits within which they grow
 pub record CatalogView : Type 0 where
@@ -56,7 +58,7 @@ abbrev pub IsPathOf : List (List ℕ × Kind) → ℕ × AccessPath → Type 0
 IsPathOf schema (column, Quadtree tree) = IsColumnAt schema column true
 IsPathOf schema (column, Attribute index) = IsColumnAt schema column false
 
--- What holds of a relation over any pages: columns with names of their own, ids within the limit, at most one access path a column.
+-- What holds of a relation over any pages: columns with names of their own, ids within the limit, at most one access path and one R-tree a column.
 pub record IsDescribed (limits : Limits) (r : RelationView) : Type 0 where
   pub schema : IsSchemaInRange r.schema
   pub columns : has_twice (map (λ column. column.0) r.schema) ≡ false
@@ -64,6 +66,8 @@ pub record IsDescribed (limits : Limits) (r : RelationView) : Type 0 where
   pub few : r.next ≤ limits.ids + 1
   pub indexed : has_number_twice (map (λ path. path.0) r.paths) ≡ false
   pub paths : All (IsPathOf r.schema) r.paths
+  pub bounded : has_number_twice (map (λ tree. tree.0) r.trees) ≡ false
+  pub trees : All (λ column. IsColumnAt r.schema column true) (map (λ tree. tree.0) r.trees)
 
 -- What holds of a catalog over any pages: relations with names of their own, at most 64.
 pub record IsCatalog (catalog : CatalogView) : Type 0 where
@@ -74,7 +78,7 @@ pub record IsCatalog (catalog : CatalogView) : Type 0 where
 
 -- a relation whose file was just planted
 abbrev pub new_view : List ℕ → List (List ℕ × Kind) → TupleFile → RelationView
-new_view name schema file = record { name = name; schema = schema; next = 1; file = file; spans = []; paths = [] }
+new_view name schema file = record { name = name; schema = schema; next = 1; file = file; spans = []; paths = []; trees = [] }
 
 -- a catalog without relations
 abbrev pub new_catalog : Limits → CatalogView

@@ -2,9 +2,10 @@
 use Rattle.std.specs.Prelude.{ℕ, List, map}
 use Rattle.page_pool.specs.Disk.{PageMap}
 use Rattle.sand_base.specs.declared.value.Value.{Value}
-use Rattle.sand_model.specs.Database.{Database, Relation, Index, Quadtree as tree_index, Attribute as attribute_index}
+use Rattle.sand_model.specs.Database.{Database, Relation, Index, Rectangles, Quadtree as tree_index, Attribute as attribute_index, rough_shapes}
 use Rattle.pmr_tree.specs.Quadtree.{store_of, tree_at}
 use Rattle.sand_base.specs.declared.kind.Kind.{Kind}
+use Rattle.r_tree.specs.declared.tree.RTree.{RTree}
 use Rattle.tuple_file.specs.declared.file.TupleFile.{TupleFile}
 use Rattle.tuple_file.specs.File.{file_rows}
 use Rattle.sand_store.specs.declared.path.AccessPath.{AccessPath}
@@ -29,6 +30,10 @@ rows_at pages schema file = map (λ tuple. (tuple.0, row_in schema tuple.1)) (fi
 abbrev pub rows_in : PageMap → RelationView → List (ℕ × List Value)
 rows_in pages r = rows_at pages r.schema r.file
 
+-- what R-trees list, each with the place of its column: the rough shapes of the rows
+abbrev pub rectangles_of : List (ℕ × List Value) → List (ℕ × RTree) → List Rectangles
+rectangles_of rows trees = map (λ t. (t.0, rough_shapes t.0 rows)) trees
+
 -- the relation for which a relation of the catalog stands
 abbrev pub relation_in : PageMap → RelationView → Relation
 relation_in pages r = record {
@@ -37,6 +42,7 @@ relation_in pages r = record {
   rows = rows_in pages r;
   next = r.next;
   indexes = indexes_in pages r.paths;
+  rectangles = rectangles_of (rows_in pages r) r.trees;
 }
 
 -- the database

@@ -12,6 +12,7 @@ use Rattle.sand_base.specs.declared.refusal.Refusal.TheVariants as why
 use Rattle.sand_base.specs.declared.value.Value.{Value}
 use Rattle.sand_model.specs.Database.{Index, index_without, without_row}
 use Rattle.sand_model.specs.Measure.{Measure, IsMeasure}
+use Rattle.r_tree.specs.declared.tree.RTree.{RTree}
 use Rattle.tuple_file.specs.declared.file.TupleFile.{TupleFile}
 use Rattle.tuple_file.specs.Spans.{Forgot}
 use Rattle.tuple_file.specs.Rows.{of_id, without_id}
@@ -84,13 +85,13 @@ pub record RelationCanLose (m : PageMap) (limits : Limits) (r : RelationView) (i
   pub small : r.next ≤ 2 ^ 32
   pub there : of_id id (rows_in m r) ≡ Some row
 
--- a relation that lost a row, with the numbers that lead to its file and its access paths then, and the spans that are still known
-abbrev pub shrunk_view : RelationView → List ℕ → TupleFile → List (ℕ × AccessPath) → RelationView
-shrunk_view r spans file paths = record { name = r.name; schema = r.schema; next = r.next; file = file; spans = spans; paths = paths }
+-- a relation that lost a row, with the numbers that lead to its file, its access paths and its R-trees then, and the spans that are still known
+abbrev pub shrunk_view : RelationView → List ℕ → TupleFile → List (ℕ × AccessPath) → List (ℕ × RTree) → RelationView
+shrunk_view r spans file paths trees = record { name = r.name; schema = r.schema; next = r.next; file = file; spans = spans; paths = paths; trees = trees }
 
 -- The relation became the one without the row of the id, whatever spans were forgotten with the row's.
-pub record Shrank (m w : PageMap) (limits : Limits) (r : RelationView) (id : ℕ) (file : TupleFile) (paths : List (ℕ × AccessPath)) : Type 0 where
-  pub became : (spans : List ℕ) → Forgot r.spans id spans → Became m w limits r (shrunk_view r spans file paths) (λ gap. without_row id)
+pub record Shrank (m w : PageMap) (limits : Limits) (r : RelationView) (id : ℕ) (file : TupleFile) (paths : List (ℕ × AccessPath)) (trees : List (ℕ × RTree)) : Type 0 where
+  pub became : (spans : List ℕ) → Forgot r.spans id spans → Became m w limits r (shrunk_view r spans file paths trees) (λ gap. without_row id)
 
 -- the refusal comes from outside, or the id has no row
 abbrev pub IsOutsideOrMissing : Refusal → Type 0

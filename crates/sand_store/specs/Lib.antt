@@ -17,4 +17,6 @@ pub mod Steps
 pub mod Loads
 pub mod Building
 pub mod Leaving
+pub mod Trees
+pub mod Treeing
 pub mod TableLaws

@@ -53,6 +53,7 @@ pub record Counts (limits : Limits) (r u : RelationView) (count : ℕ) : Type 0 
   pub schema : u.schema ≡ r.schema
   pub next : u.next ≡ r.next + count
   pub places : map (λ path. path.0) u.paths ≡ map (λ path. path.0) r.paths
+  pub columns : map (λ tree. tree.0) u.trees ≡ map (λ tree. tree.0) r.trees
   pub described : IsDescribed limits u
 
 -- Of some rows those before the rest entered a relation: it stands, no page of another structure was touched, and with the rest it makes the whole.

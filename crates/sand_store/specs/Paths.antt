@@ -1,4 +1,4 @@
--- The access path of a column, and what it is of the relation.
+-- The access path and the R-tree of a column, and what they are of the relation.
 use Rattle.std.specs.Prelude.{◌≡◌, ℕ, Bool, nat_eq, List, find, Option, Some, None, option_map}
 use Rattle.page_pool.specs.Disk.{PageMap}
 use Rattle.sand_base.specs.declared.limits.Limits.{Limits}
@@ -6,6 +6,7 @@ use Rattle.sand_model.specs.Database.{index_at, Quadtree as tree_index, Attribut
 use Rattle.pmr_tree.specs.Quadtree.{tree_at}
 use Rattle.pmr_tree.specs.declared.quadtree.Pmr.{Pmr}
 use Rattle.attr_index.specs.declared.index.AttrIndex.{AttrIndex}
+use Rattle.r_tree.specs.declared.tree.RTree.{RTree}
 use Rattle.sand_store.specs.declared.path.AccessPath.{AccessPath}
 use Rattle.sand_store.specs.declared.path.AccessPath.TheVariants.{Quadtree, Attribute}
 use Rattle.sand_store.specs.Catalog.{RelationView, IsDescribed, IsColumnAt}
@@ -15,6 +16,10 @@ use Rattle.sand_store.specs.Standing.{RelationStands, FitsColumn, HoldsColumn}
 -- the access path of a column
 abbrev pub path_at : List (ℕ × AccessPath) → ℕ → Option AccessPath
 path_at paths column = option_map (λ p. p.1) (find (λ p. nat_eq p.0 column) paths)
+
+-- the R-tree of a column
+abbrev pub rtree_at : List (ℕ × RTree) → ℕ → Option RTree
+rtree_at trees column = option_map (λ t. t.1) (find (λ t. nat_eq t.0 column) trees)
 
 -- the quadtree that an access path is, and the attribute index
 

@@ -13,6 +13,8 @@ use Rattle.sand_model.specs.RowSize.{row_size}
 use Rattle.sand_model.specs.Tree.{listings}
 use Rattle.pmr_tree.specs.Quadtree.{store_of, tree_at, FitsRows}
 use Rattle.pmr_tree.specs.declared.quadtree.Pmr.{Pmr}
+use Rattle.r_tree.specs.declared.tree.RTree.{RTree}
+use Rattle.rtree_rows.specs.Listing.{ListsRows}
 use Rattle.tuple_file.specs.declared.file.TupleFile.{TupleFile}
 use Rattle.tuple_file.specs.File.{IsFile, file_rows}
 use Rattle.tuple_file.specs.Spans.{AreKnown}
@@ -52,19 +54,24 @@ abbrev pub PathStands : PageMap → Limits → List (List ℕ × Kind) → List 
 PathStands pages limits schema rows (column, Quadtree tree) = FitsColumn pages limits rows column tree
 PathStands pages limits schema rows (column, Attribute index) = HoldsColumn pages schema rows column index
 
+-- an R-tree of a column lists the ids of the rows with the rough shapes that they have there
+abbrev pub TreeStands : PageMap → List (ℕ × List Value) → ℕ × RTree → Type 0
+TreeStands pages rows tree = ListsRows pages tree.1 (shapes_of tree.0 rows)
+
 -- a file of rows of a schema: its tuples are their encodings
 pub record TableStands (pages : PageMap) (schema : List (List ℕ × Kind)) (at : TupleFile) : Type 0 where
   pub file : IsFile (store_of pages) at
   pub tuples : file_rows (store_of pages) at ≡ encodings (rows_at pages schema at)
   pub rows : AreRowsFor schema (rows_at pages schema at)
 
--- A relation: its file holds rows of the schema under ids that were given out, what is known of where they lie is true, and each access path holds what the rows have.
+-- A relation: its file holds rows of the schema under ids that were given out, what is known of where they lie is true, and each access path and each R-tree holds what the rows have.
 pub record RelationStands (pages : PageMap) (limits : Limits) (r : RelationView) : Type 0 where
   pub table : TableStands pages r.schema r.file
   pub short : All (λ row. row_size row.1 ≤ longest_row) (rows_in pages r)
   pub given_out : All (λ row. (1 ≤ row.0) × (row.0 < r.next)) (rows_in pages r)
   pub known : AreKnown (store_of pages) r.file r.spans
   pub paths : All (PathStands pages limits r.schema (rows_in pages r)) r.paths
+  pub trees : All (TreeStands pages (rows_in pages r)) r.trees
 
 -- all relations stand, and no page is one of two structures
 pub record CatalogStands (pages : PageMap) (catalog : CatalogView) : Type 0 where

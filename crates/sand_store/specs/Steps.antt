@@ -8,6 +8,7 @@ use Rattle.pmr_tree.specs.Lists.{Rises}
 use Rattle.pmr_tree.specs.Quadtree.{store_of}
 use Rattle.pmr_tree.specs.declared.fault.PmrFault.{PmrFault}
 use Rattle.pmr_tree.specs.declared.fault.PmrFault.TheVariants as tree
+use Rattle.r_tree.specs.declared.tree.RTree.{RTree}
 use Rattle.tuple_file.specs.declared.file.TupleFile.{TupleFile}
 use Rattle.tuple_file.specs.File.{file_pages}
 use Rattle.tuple_file.specs.Calls.{Planted}
@@ -120,13 +121,18 @@ pub record SamePlaces (schema : List (List ℕ × Kind)) (before after : List (�
   pub places : map (λ p. p.0) after ≡ map (λ p. p.0) before
   pub paths : All (IsPathOf schema) after
 
--- a relation that got a row, with the numbers that lead to its file and its access paths then, and what is known of where its rows lie
-abbrev pub grown_view : RelationView → TupleFile → List (ℕ × AccessPath) → List ℕ → RelationView
-grown_view r file paths spans = record { name = r.name; schema = r.schema; next = r.next + 1; file = file; spans = spans; paths = paths }
+-- R-trees of the same columns
+abbrev pub SameColumns : List (ℕ × RTree) → List (ℕ × RTree) → Type 0
+SameColumns before after = map (λ t. t.0) after ≡ map (λ t. t.0) before
+
+-- a relation that got a row, with the numbers that lead to its file, its access paths and its R-trees then, and what is known of where its rows lie
+abbrev pub grown_view : RelationView → TupleFile → List (ℕ × AccessPath) → List (ℕ × RTree) → List ℕ → RelationView
+grown_view r file paths trees spans = record { name = r.name; schema = r.schema; next = r.next + 1; file = file; spans = spans; paths = paths; trees = trees }
 
 -- A relation got a row that lies in the span, whatever is known then of where rows lie: what was, and that of the row, or less.
-pub record Grew (m w : PageMap) (limits : Limits) (r : RelationView) (file : TupleFile) (paths : List (ℕ × AccessPath)) (span : Span) (row : List Value) : Type 0 where
-  pub became : (spans : List ℕ) → Learnt r.spans r.next span spans → Became m w limits r (grown_view r file paths spans) (λ gap. with_row gap row)
+pub record Grew (m w : PageMap) (limits : Limits) (r : RelationView) (file : TupleFile) (paths : List (ℕ × AccessPath)) (trees : List (ℕ × RTree)) (span : Span) (row : List Value)
+    : Type 0 where
+  pub became : (spans : List ℕ) → Learnt r.spans r.next span spans → Became m w limits r (grown_view r file paths trees spans) (λ gap. with_row gap row)
 
 -- the checks of a row of a relation, and of one of a relation that is to be found
 

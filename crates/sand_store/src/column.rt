@@ -1,13 +1,14 @@
 // The columns of a relation: their places, their indexes, and the shapes of their rows.
 ghost use Rattle.std.specs.Prelude.{◌≡◌, position, option_map};
 ghost use Rattle.sand_model.specs.Database.{same_name};
-ghost use Rattle.sand_store.specs.Paths.{path_at};
+ghost use Rattle.sand_store.specs.Paths.{path_at, rtree_at};
 
 use crate::shapes::RowShapes;
 use crate::{AccessPath, Relation};
 use attr_index::AttrIndex;
 use page_pool::{PageFault, Pages};
 use pmr_tree::{Pmr, ShapeOf};
+use r_tree::RTree;
 use sand_base::{Kind, Label, NoMemory, Refusal, Schema, Shape};
 use std::alloc::Global;
 use std::rc::Rc;
@@ -28,16 +29,27 @@ fn path_in(paths: &[(usize, AccessPath)], column: usize) -> Option<&AccessPath>
     Some(&found.1)
 }
 
+// The R-tree of a column.
+fn tree_in(trees: &[(usize, RTree)], column: usize) -> Option<RTree>
+    ensures { result ≡ rtree_at trees.now column }
+{
+    let found = trees.iter().find(|tree| tree.0 == column)?;
+    Some(found.1)
+}
+
 impl Relation {
-    ghost use Rattle.std.specs.Prelude.{◌≡◌, ℕ, ◌-◌, ◌≤◌, ◌<◌, true, false, length, All, None, IfOk, IfSome, IfErr, OnOk, OnErr, option_map};
+    ghost use Rattle.std.specs.Prelude.{◌≡◌, ℕ, ◌-◌, ◌≤◌, ◌<◌, true, false, nat_eq, length, All, None, is_some, IfOk, IfSome, IfErr, OnOk, OnErr, option_map};
+    ghost use Rattle.std.specs.List.{list_any};
     ghost use Rattle.sand_base.specs.declared.refusal.Refusal.TheVariants as why;
     ghost use Rattle.page_pool.specs.Disk.{PageMap};
     ghost use Rattle.sand_base.specs.declared.limits.Limits.{Limits};
-    ghost use Rattle.sand_model.specs.Database.{column_named};
-    ghost use Rattle.sand_store.specs.Contents.{rows_in};
+    ghost use Rattle.rtree_rows.specs.Listing.{ListsRows};
+    ghost use Rattle.sand_model.specs.Database.{column_named, shapes_of};
+    ghost use Rattle.sand_store.specs.Contents.{rows_in, relation_in};
     ghost use Rattle.sand_store.specs.Standing.{RelationStands};
-    ghost use Rattle.sand_store.specs.Paths.{path_at, tree_in_path, attribute_in_path, IsTreeOf, IsAttributeOf, HasNoIndex};
+    ghost use Rattle.sand_store.specs.Paths.{path_at, rtree_at, tree_in_path, attribute_in_path, IsTreeOf, IsAttributeOf, HasNoIndex};
     ghost use Rattle.sand_store.specs.Building.{indexed_view};
+    ghost use Rattle.sand_store.specs.Treeing.{treed_view};
 
     /// The place of the first column of the name, counted from 0; `None` exactly where none has it.
     pub fn column(&self, name: &str) -> Option<usize>
@@ -77,6 +89,27 @@ impl Relation {
             Some(AccessPath::Attribute(index)) => Some(index),
             Some(AccessPath::Quadtree(_)) => None,
             None => None,
+        }
+    }
+
+    /// The R-tree of a column; `None` exactly where it has none.
+    pub fn rtree(&self, column: usize) -> Option<RTree>
+        ensures tree { result ≡ rtree_at self.now.trees column }
+        ensures there { (pages : PageMap) → is_some result ≡ list_any (λ tree. nat_eq tree.0 column) (relation_in pages self.now).rectangles }
+        ensures lists { IfSome result (λ tree. (pages : PageMap) (limits : Limits) → RelationStands pages limits self.now → ListsRows pages tree (shapes_of column (rows_in pages self.now))) }
+    {
+        tree_in(&self.trees, column)
+    }
+
+    // The relation with one R-tree more, the last one. After a refusal it is as it was.
+    pub(crate) fn take_tree(&mut self, column: usize, tree: RTree) -> Result<(), Refusal>
+        ensures added { OnOk result (self.new ≡ treed_view self.old column tree) }
+        ensures unchanged { OnErr result (self.new ≡ self.old) }
+        ensures memory { IfErr result (λ refusal. refusal ≡ why.Memory) }
+    {
+        match self.trees.push((column, tree)) {
+            Ok(()) => Ok(()),
+            Err(_full) => Err(Refusal::Memory),
         }
     }
 

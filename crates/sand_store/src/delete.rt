@@ -13,12 +13,13 @@ ghost use Rattle.sand_store.specs.Catalog.{IsPathOf};
 ghost use Rattle.sand_store.specs.Contents.{rows_in};
 ghost use Rattle.sand_store.specs.Leaving.{RelationCanLose, Shrank, IsOutsideOrMissing};
 ghost use Rattle.sand_store.specs.Standing.{RelationStands, IsStore};
-ghost use Rattle.sand_store.specs.Steps.{SamePlaces, IsOutside, store_from};
+ghost use Rattle.sand_store.specs.Steps.{SamePlaces, SameColumns, IsOutside, store_from};
 ghost use Rattle.std.specs.List.{All};
 
 use crate::refusal::refusal_of;
 use crate::relation::{Relation, Roots, place_of};
 use crate::shrink::shrunk_paths;
+use crate::trees::{RowChange, changed_trees};
 use page_pool::{Disk, Pool};
 use sand_base::{Limits, Refusal, Row};
 use std::alloc::Global;
@@ -48,7 +49,7 @@ fn found<D: Disk>(
     }
 }
 
-// Takes the row of an id out of the relation's file and out of each of its indexes, in an open command, and gives the
+// Takes the row of an id out of the relation's file and out of each of its indexes and R-trees, in an open command, and gives the
 // numbers that lead to them then. After a refusal the command is to be aborted.
 fn without_row<D: Disk>(
     alloc: Global,
@@ -60,8 +61,9 @@ fn without_row<D: Disk>(
     requires opened { IsOpen pool.old }
     requires id { 1 ≤ id }
     requires can { IsTold pool.old → (bounds : Bounds) × RelationCanLose pool.old.pages bounds relation.now id row.now }
-    ensures shrank { IfOk result (λ roots. IsTold pool.old → (bounds : Bounds) → RelationCanLose pool.old.pages bounds relation.now id row.now → Shrank pool.old.pages pool.new.pages bounds relation.now id roots.file roots.paths.items) }
+    ensures shrank { IfOk result (λ roots. IsTold pool.old → (bounds : Bounds) → RelationCanLose pool.old.pages bounds relation.now id row.now → Shrank pool.old.pages pool.new.pages bounds relation.now id roots.file roots.paths.items roots.trees.items) }
     ensures places { IfOk result (λ roots. All (IsPathOf relation.now.schema) relation.now.paths → SamePlaces relation.now.schema relation.now.paths roots.paths.items) }
+    ensures columns { IfOk result (λ roots. SameColumns relation.now.trees roots.trees.items) }
     ensures outside { IfErr result IsOutside }
     ensures within { InCommand pool.old pool.new }
     ensures cause { HasCause pool.old pool.new result }
@@ -71,13 +73,17 @@ fn without_row<D: Disk>(
         Ok(_there) => {}
         Err(why) => return Err(refusal_of(why)),
     }
-    match shrunk_paths(alloc, pool, &relation.paths, id, row) {
-        Ok(paths) => Ok(Roots { file, paths }),
+    let paths = match shrunk_paths(alloc, pool, &relation.paths, id, row) {
+        Ok(paths) => paths,
+        Err(why) => return Err(why),
+    };
+    match changed_trees(alloc, pool, &relation.trees, RowChange::Leaves, id, row) {
+        Ok(trees) => Ok(Roots { file, paths, trees }),
         Err(why) => Err(why),
     }
 }
 
-// Takes the row of an id out of the relation's file and indexes, in one command, and gives the numbers that lead to
+// Takes the row of an id out of the relation's file, indexes and R-trees, in one command, and gives the numbers that lead to
 // them then.
 fn remove<D: Disk>(
     alloc: Global,
@@ -92,8 +98,9 @@ fn remove<D: Disk>(
     ensures closed { IsClosed pool.new }
     ensures told { pool.new.disk.told ≡ pool.old.disk.told }
     ensures stamps { SettlesStamps pool.old pool.new }
-    ensures shrank { IfOk result (λ roots. IsTold pool.old → (bounds : Bounds) → RelationCanLose pool.old.pages bounds relation.now id row.now → Shrank pool.old.pages pool.new.pages bounds relation.now id roots.file roots.paths.items) }
+    ensures shrank { IfOk result (λ roots. IsTold pool.old → (bounds : Bounds) → RelationCanLose pool.old.pages bounds relation.now id row.now → Shrank pool.old.pages pool.new.pages bounds relation.now id roots.file roots.paths.items roots.trees.items) }
     ensures places { IfOk result (λ roots. All (IsPathOf relation.now.schema) relation.now.paths → SamePlaces relation.now.schema relation.now.paths roots.paths.items) }
+    ensures columns { IfOk result (λ roots. SameColumns relation.now.trees roots.trees.items) }
     ensures reverted { OnErr result (IsTold pool.old → pool.new.pages ≡ pool.old.pages) }
     ensures outside { IfErr result IsOutside }
     ensures cause { HasCause pool.old pool.new result }

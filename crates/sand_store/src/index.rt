@@ -39,10 +39,10 @@ use std::alloc::Global;
 const PLAIN_THRESHOLD: u8 = 8;
 
 /// The most columns that a relation has.
-const MOST_COLUMNS: usize = 12;
+pub const MOST_COLUMNS: usize = 12;
 
-// Whether a column of the kind has shapes.
-fn has_shapes(kind: Kind) -> bool
+/// Whether a column of the kind has shapes.
+pub fn has_shapes(kind: Kind) -> bool
     ensures { result ≡ is_spatial kind }
 {
     match kind {
@@ -219,8 +219,8 @@ impl AccessPath {
     }
 }
 
-// The first row of a file from an id on.
-fn row_from<D: Disk>(
+/// The first row of a file from an id on.
+pub fn row_from<D: Disk>(
     alloc: Global,
     pool: &mut Pool<D>,
     shapes: &RowShapes,

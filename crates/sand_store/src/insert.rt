@@ -20,17 +20,18 @@ ghost use Rattle.sand_store.specs.Calls.{HasCause, Inserted, IsUnchanged, IsRefu
 ghost use Rattle.sand_store.specs.Catalog.{IsDescribed};
 ghost use Rattle.sand_store.specs.Ownership.{relation_pages};
 ghost use Rattle.sand_store.specs.Standing.{RelationStands, IsStore};
-ghost use Rattle.sand_store.specs.Steps.{SamePlaces, IsOutsideOrFull, Grew, store_from};
+ghost use Rattle.sand_store.specs.Steps.{SamePlaces, SameColumns, IsOutsideOrFull, Grew, store_from};
 
 use crate::admit::admitted;
 use crate::grow::grown_paths;
 use crate::refusal::refusal_of;
 use crate::relation::{Growth, Relation, place_of};
+use crate::trees::{RowChange, changed_trees};
 use page_pool::{Disk, Pool};
 use sand_base::{Limits, Refusal, Row};
 use std::alloc::Global;
 
-/// Puts the row into the relation's file and into each of its indexes, in an open command, and gives the numbers that
+/// Puts the row into the relation's file and into each of its indexes and R-trees, in an open command, and gives the numbers that
 /// lead to them then. After a refusal the command is to be aborted.
 pub fn with_row<D: Disk>(
     alloc: Global,
@@ -49,8 +50,9 @@ pub fn with_row<D: Disk>(
     requires described { IsDescribed limits relation.now }
     requires stands { IsTold pool.old → RelationStands pool.old.pages limits relation.now }
     requires owns { IsTold pool.old → (q : ℕ) → times q (relation_pages pool.old.pages relation.now) ≤ live (store_of pool.old.pages) q }
-    ensures grew { IfOk result (λ growth. IsTold pool.old → Grew pool.old.pages pool.new.pages limits relation.now growth.file growth.paths.items growth.span row.now) }
+    ensures grew { IfOk result (λ growth. IsTold pool.old → Grew pool.old.pages pool.new.pages limits relation.now growth.file growth.paths.items growth.trees.items growth.span row.now) }
     ensures places { IfOk result (λ growth. SamePlaces relation.now.schema relation.now.paths growth.paths.items) }
+    ensures columns { IfOk result (λ growth. SameColumns relation.now.trees growth.trees.items) }
     ensures full { IfErr result (λ e. e ≡ why.IndexFull → IsTold pool.old → (gap : Measure) → IsMeasure gap → check_listings limits (with_row gap row.now (relation_in pool.old.pages relation.now)) ≡ Some why.IndexFull) }
     ensures outside { IfErr result IsOutsideOrFull }
     ensures within { InCommand pool.old pool.new }
@@ -62,7 +64,7 @@ pub fn with_row<D: Disk>(
         Ok(span) => span,
         Err(why) => return Err(refusal_of(why)),
     };
-    match grown_paths(
+    let paths = match grown_paths(
         alloc,
         pool,
         &relation.paths,
@@ -72,12 +74,21 @@ pub fn with_row<D: Disk>(
         row,
         limits,
     ) {
-        Ok(paths) => Ok(Growth { file, span, paths }),
+        Ok(paths) => paths,
+        Err(why) => return Err(why),
+    };
+    match changed_trees(alloc, pool, &relation.trees, RowChange::Enters, id, row) {
+        Ok(trees) => Ok(Growth {
+            file,
+            span,
+            paths,
+            trees,
+        }),
         Err(why) => Err(why),
     }
 }
 
-// Puts the row into the relation's file and indexes, in one command, and gives the numbers that lead to them then.
+// Puts the row into the relation's file, indexes and R-trees, in one command, and gives the numbers that lead to them then.
 fn add<D: Disk>(
     alloc: Global,
     pool: &mut Pool<D>,
@@ -98,8 +109,9 @@ fn add<D: Disk>(
     ensures closed { IsClosed pool.new }
     ensures told { pool.new.disk.told ≡ pool.old.disk.told }
     ensures stamps { SettlesStamps pool.old pool.new }
-    ensures grew { IfOk result (λ growth. IsTold pool.old → Grew pool.old.pages pool.new.pages limits relation.now growth.file growth.paths.items growth.span row.now) }
+    ensures grew { IfOk result (λ growth. IsTold pool.old → Grew pool.old.pages pool.new.pages limits relation.now growth.file growth.paths.items growth.trees.items growth.span row.now) }
     ensures places { IfOk result (λ growth. SamePlaces relation.now.schema relation.now.paths growth.paths.items) }
+    ensures columns { IfOk result (λ growth. SameColumns relation.now.trees growth.trees.items) }
     ensures reverted { OnErr result (IsTold pool.old → pool.new.pages ≡ pool.old.pages) }
     ensures full { IfErr result (λ e. e ≡ why.IndexFull → IsTold pool.old → (gap : Measure) → IsMeasure gap → check_listings limits (with_row gap row.now (relation_in pool.old.pages relation.now)) ≡ Some why.IndexFull) }
     ensures outside { IfErr result IsOutsideOrFull }

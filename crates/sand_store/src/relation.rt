@@ -2,12 +2,13 @@ ghost use Rattle.std.specs.Prelude.{◌≡◌, ◌<◌, find, position, option_m
 ghost use Rattle.sand_store.specs.Catalog.{is_named};
 
 use crate::AccessPath;
+use r_tree::RTree;
 use sand_base::{Label, NoMemory, Schema};
 use std::alloc::Global;
 use std::marker::Model;
 use tuple_file::{Span, Spans, TupleFile};
 
-/// A relation of the catalog: its columns, the numbers that lead to its rows and indexes, and where its rows lie, as far
+/// A relation of the catalog: its columns, the numbers that lead to its rows, indexes and R-trees, and where its rows lie, as far
 /// as it is known.
 #[derive(Drop)]
 pub struct Relation {
@@ -17,6 +18,7 @@ pub struct Relation {
     pub(crate) file: TupleFile,
     pub(crate) spans: Spans,
     pub(crate) paths: Vec<(usize, AccessPath)>,
+    pub(crate) trees: Vec<(usize, RTree)>,
 }
 
 /// The numbers that lead to a relation's rows and indexes, as a new row makes them, and where the row lies.
@@ -25,6 +27,7 @@ pub(crate) struct Growth {
     pub(crate) file: TupleFile,
     pub(crate) span: Span,
     pub(crate) paths: Vec<(usize, AccessPath)>,
+    pub(crate) trees: Vec<(usize, RTree)>,
 }
 
 /// The numbers that lead to a relation's rows and indexes, as the loss of a row makes them.
@@ -32,6 +35,7 @@ pub(crate) struct Growth {
 pub(crate) struct Roots {
     pub(crate) file: TupleFile,
     pub(crate) paths: Vec<(usize, AccessPath)>,
+    pub(crate) trees: Vec<(usize, RTree)>,
 }
 
 impl Model for Relation {
@@ -46,6 +50,7 @@ impl Model for Relation {
       file = r.file;
       spans = r.spans;
       paths = r.paths.items;
+      trees = r.trees.items;
     } };
 }
 
@@ -56,7 +61,7 @@ impl Relation {
     ghost use Rattle.sand_store.specs.Leaving.{shrunk_view};
     ghost use Rattle.tuple_file.specs.Spans.{Learnt, Forgot};
 
-    /// A relation without access paths, whose ids begin at 1.
+    /// A relation without access paths and R-trees, whose ids begin at 1.
     pub fn new(alloc: Global, name: Label, schema: Schema, file: TupleFile) -> Relation
         ensures { result ≡ new_view name schema file }
     {
@@ -67,6 +72,7 @@ impl Relation {
             file,
             spans: Spans::new(alloc),
             paths: Vec::new(alloc),
+            trees: Vec::new(alloc),
         }
     }
 
@@ -81,29 +87,32 @@ impl Relation {
             file: self.file,
             spans: self.spans.copy()?,
             paths: Vec::from_slice(alloc, &self.paths)?,
+            trees: Vec::from_slice(alloc, &self.trees)?,
         })
     }
 
     /// The relation with the numbers that a new row gave it, under the id that was its next one.
     pub(crate) fn take_over(&mut self, growth: Growth)
         requires { self.old.next < 4294967295 }
-        ensures grown { self.new ≡ grown_view self.old growth.file growth.paths.items self.new.spans }
+        ensures grown { self.new ≡ grown_view self.old growth.file growth.paths.items growth.trees.items self.new.spans }
         ensures learnt { Learnt self.old.spans self.old.next growth.span self.new.spans }
     {
         self.spans.learn(self.next, growth.span);
         self.next += 1;
         self.file = growth.file;
         self.paths = growth.paths;
+        self.trees = growth.trees;
     }
 
     /// The relation with the numbers that the loss of the row of an id gave it.
     pub(crate) fn lead_to(&mut self, id: u32, roots: Roots)
-        ensures shrunk { self.new ≡ shrunk_view self.old self.new.spans roots.file roots.paths.items }
+        ensures shrunk { self.new ≡ shrunk_view self.old self.new.spans roots.file roots.paths.items roots.trees.items }
         ensures forgot { Forgot self.old.spans id self.new.spans }
     {
         self.spans.forget(id);
         self.file = roots.file;
         self.paths = roots.paths;
+        self.trees = roots.trees;
     }
 
     /// The name.

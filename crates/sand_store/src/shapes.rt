@@ -1,5 +1,5 @@
 // Where trees read the shapes of rows, in the middle of a change and for readers.
-ghost use Rattle.std.specs.Prelude.{◌≡◌, ◌↔◌, true, Some, IfOk, IfErr, option_map};
+ghost use Rattle.std.specs.Prelude.{◌≡◌, ◌↔◌, true, Some, IfOk, IfErr, IfSome, option_map};
 ghost use Rattle.sand_base.specs.Grid.{IsInPlane};
 ghost use Rattle.sand_base.specs.Plane.{IsShapeInPlane};
 ghost use Rattle.sand_base.specs.declared.value.Value.TheVariants as held;
@@ -45,6 +45,19 @@ pub fn shape_at<'r>(row: &'r Row, column: usize) -> Option<&'r Shape>
         Some(Value::Shape(shape)) => Some(shape),
         _ => None,
     }
+}
+
+/// The shape that a row has in a column, where it lies in the plane; every row of a store over a disk that tells has
+/// it there.
+pub fn plane_shape_at<'r>(row: &'r Row, column: usize) -> Option<&'r Shape>
+    ensures shape { IfSome result (λ s. shape_in column row.now ≡ Some s.now) }
+    ensures plane { IfSome result (λ s. IsShapeInPlane s.now) }
+{
+    let shape = shape_at(row, column)?;
+    if !is_shape_in_plane(shape) {
+        return None;
+    }
+    Some(shape)
 }
 
 // The shape that a value is. Where it is none, or it lies outside the plane, it is out of memory: no row of a store

@@ -3,9 +3,8 @@ ghost use Rattle.std.specs.Prelude.{◌≡◌, ℕ, ◌≤◌, List, All, IfOk, 
 ghost use Rattle.page_pool.specs.Pool.{IsOpen, IsTold};
 ghost use Rattle.page_pool.specs.Steps.{InCommand};
 ghost use Rattle.attr_index.specs.Key.{IsAttribute};
-ghost use Rattle.sand_base.specs.Plane.{IsShapeInPlane};
 ghost use Rattle.sand_base.specs.declared.kind.Kind.{Kind};
-ghost use Rattle.sand_model.specs.Database.{element, shape_in};
+ghost use Rattle.sand_model.specs.Database.{element};
 ghost use Rattle.sand_store.specs.declared.path.AccessPath.TheVariants as path;
 ghost use Rattle.sand_store.specs.Calls.{HasCause};
 ghost use Rattle.sand_store.specs.Catalog.{IsPathOf};
@@ -14,26 +13,13 @@ ghost use Rattle.sand_store.specs.Steps.{SamePlaces, IsOutside};
 
 use crate::AccessPath;
 use crate::refusal::refusal_of;
-use crate::shapes::{is_shape_in_plane, shape_at, value_at};
+use crate::shapes::{plane_shape_at, value_at};
 use attr_index::AttrIndex;
 use page_pool::{Disk, Pool};
 use pmr_tree::Pmr;
 use pmr_tree::laws::growth_laws;
-use sand_base::{Refusal, Row, Shape, Value};
+use sand_base::{Refusal, Row, Value};
 use std::alloc::Global;
-
-// The shape that a row has in a column, where it lies in the plane; every row of a store over a disk that tells has
-// it there.
-fn plane_shape_at<'r>(row: &'r Row, column: usize) -> Option<&'r Shape>
-    ensures shape { IfSome result (λ s. shape_in column row.now ≡ Some s.now) }
-    ensures plane { IfSome result (λ s. IsShapeInPlane s.now) }
-{
-    let shape = shape_at(row, column)?;
-    if !is_shape_in_plane(shape) {
-        return None;
-    }
-    Some(shape)
-}
 
 // The value that a row has in a column, where it is no shape.
 fn attribute_at<'r>(row: &'r Row, column: usize) -> Option<&'r Value>

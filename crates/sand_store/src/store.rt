@@ -8,11 +8,11 @@ ghost use Rattle.page_pool.specs.Causes.{IsNoDamage, faults_at};
 ghost use Rattle.page_pool.specs.Desk.{DeskState};
 ghost use Rattle.sand_model.specs.Kept.{IsDatabase};
 ghost use Rattle.sand_model.specs.Measure.{Measure, IsMeasure};
-ghost use Rattle.statements.specs.Statement.{Create, Insert, Delete, Index};
+ghost use Rattle.statements.specs.Statement.{Create, Insert, Delete, Index, Rtree};
 ghost use Rattle.sand_store.specs.Catalog.{IsLimits, new_catalog};
 ghost use Rattle.sand_store.specs.Contents.{database};
 ghost use Rattle.sand_store.specs.Standing.{IsStore};
-ghost use Rattle.sand_store.specs.Calls.{Carries, IsUnchanged, HasCause, Created, Inserted, Deleted, Indexed, Loaded, IsRefusedBy, LoadIsRefusedBy, IsRefusedPlainly, is_none, is_full, is_missing};
+ghost use Rattle.sand_store.specs.Calls.{Carries, IsUnchanged, HasCause, Created, Inserted, Deleted, Indexed, Treed, Loaded, IsRefusedBy, LoadIsRefusedBy, IsRefusedPlainly, is_none, is_full, is_missing};
 
 use crate::Catalog;
 use crate::create::create;
@@ -20,6 +20,7 @@ use crate::delete::delete;
 use crate::index::index;
 use crate::insert::insert;
 use crate::load::load_rows;
+use crate::rtree::rtree;
 use page_pool::{Desk, Disk, PageFault, Pool, Stamp};
 use sand_base::{Limits, NoMemory, Refusal, Row, Schema};
 use std::alloc::Global;
@@ -98,7 +99,7 @@ impl<D: Disk> Store<D> {
         )
     }
 
-    /// Adds a row to the relation and to each of its indexes, and gives its id.
+    /// Adds a row to the relation and to each of its indexes and R-trees, and gives its id.
     pub fn insert(&mut self, relation: &str, row: Row) -> Result<u32, Refusal>
         requires { IsRowInRange row }
         ensures inserted { IfOk result (λ id. Inserted self.old self.new relation.now row id) }
@@ -117,7 +118,7 @@ impl<D: Disk> Store<D> {
         )
     }
 
-    /// Removes the row of the id from the relation and from each of its indexes.
+    /// Removes the row of the id from the relation and from each of its indexes and R-trees.
     pub fn delete(&mut self, relation: &str, id: u32) -> Result<(), Refusal>
         ensures deleted { OnOk result (Deleted self.old self.new relation.now id) }
         ensures unchanged { OnErr result (IsUnchanged self.old self.new) }
@@ -158,6 +159,24 @@ impl<D: Disk> Store<D> {
             relation,
             column,
             threshold,
+        )
+    }
+
+    /// Gives a column of shapes an R-tree, with the rows that are there.
+    pub fn rtree(&mut self, relation: &str, column: &str) -> Result<(), Refusal>
+        ensures treed { OnOk result (Treed self.old self.new (record { relation = relation.now; column = column.now })) }
+        ensures unchanged { OnErr result (IsUnchanged self.old self.new) }
+        ensures refused { IfErr result (IsRefusedBy is_none self.old (Rtree (record { relation = relation.now; column = column.now }))) }
+        ensures carries { Carries self.old self.new }
+        ensures cause { HasCause self.old.pool self.new.pool result }
+    {
+        rtree(
+            self.alloc,
+            &mut self.pool,
+            &mut self.catalog.relations,
+            self.catalog.limits,
+            relation,
+            column,
         )
     }
 

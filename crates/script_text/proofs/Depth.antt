@@ -41,7 +41,7 @@ begins-told more_places ts h = h
 
 -- and go on as told
 goes-told : (r : Rule) (more : List Placed) → Stops (goes_of r) more → Stops (goes (body r)) more
-goes-told a_plan more h = (h.0, (h.1.0, (h.0, (h.0, (h.0, (h.1.1.0, (h.1.1.1.0, (h.1.0, tt))))))))
+goes-told a_plan more h = (h.0, (h.1.0, (h.0, (h.0, (h.0, (h.0, (h.1.0, (h.1.1.0, (h.1.1.1.0, (h.1.0, tt))))))))))
 goes-told more_columns more h = (h.0, (h.0, tt))
 goes-told more_values more h = (h.0, (h.1.0, (h.1.0, (h.0, tt))))
 goes-told more_spots more h = (h.0, (h.0, tt))

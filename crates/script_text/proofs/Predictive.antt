@@ -52,7 +52,7 @@ null_of _ = true
 
 abbrev pub firsts_of : Rule → List Class
 firsts_of a_plan = a_word (codes "scan") ∷ a_word (codes "rank") ∷ a_word (codes "window") ∷ a_word (codes "pick") ∷ a_word (codes "join") ∷ a_word (codes "semi")
-    ∷ a_word (codes "knn") ∷ a_word (codes "filter") ∷ a_word (codes "match") ∷ a_word (codes "fetch") ∷ a_word (codes "first") ∷ a_word (codes "sort") ∷ []
+    ∷ a_word (codes "knn") ∷ a_word (codes "near") ∷ a_word (codes "filter") ∷ a_word (codes "match") ∷ a_word (codes "fetch") ∷ a_word (codes "first") ∷ a_word (codes "sort") ∷ []
 firsts_of more_spots = a_mark symbol.Open ∷ []
 firsts_of more_tests = a_word (codes "and") ∷ []
 firsts_of _ = a_mark symbol.Comma ∷ []

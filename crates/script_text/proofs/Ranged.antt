@@ -22,7 +22,7 @@ use Rattle.script_text.specs.Lexical.{Placed, ArePieces}
 use Rattle.script_text.specs.Name.{IsName}
 use Rattle.script_text.specs.Number.{is_between, is_natural, magnitude, natural, or_zero, is_int, int, value_of}
 use Rattle.statements.specs.Plan.{Plan}
-use Rattle.script_text.specs.Rules.{word, sign, after_word, after_sign, before_sign, case_word, case_sign, name_form, natural_form, int_form, coordinate_form, column_form, place_form, plain_form, spot_rest, spot_form, spots_form, spot_or_way, way_form, spot_end, polygon_form, shape_form, value_form, values_form, kind_form, field_form, columns_form, op_form, test_form, tests_form, places_form, within_form, inner_form, rank_rest, corner_form, rect_form, window_rest, pick_rest, join_rest, semi_rest, knn_rest, filter_rest, match_rest, fetch_rest, first_rest, sort_rest, plan_form, body, create_rest, load_rest, index_rest, far_rest, statement_form}
+use Rattle.script_text.specs.Rules.{word, sign, after_word, after_sign, before_sign, case_word, case_sign, name_form, natural_form, int_form, coordinate_form, column_form, place_form, plain_form, spot_rest, spot_form, spots_form, spot_or_way, way_form, spot_end, polygon_form, shape_form, value_form, values_form, kind_form, field_form, columns_form, op_form, test_form, tests_form, places_form, within_form, inner_form, rank_rest, corner_form, rect_form, window_rest, pick_rest, join_rest, semi_rest, knn_rest, near_rest, filter_rest, match_rest, fetch_rest, first_rest, sort_rest, plan_form, body, create_rest, load_rest, index_rest, rtree_rest, far_rest, statement_form}
 use Rattle.statements.specs.Statement.{Statement}
 use Rattle.script_text.specs.Text.{content}
 use Rattle.script_text.specs.Token.{Piece, name, number, text, mark, IsPiece}
@@ -336,6 +336,9 @@ module _ (P : (r : Rule) → RuleValue r → Bool → List Placed → Type 0) (r
       (seq-so {Q = λ r. IsColumnInRange r.0 × IsWithinInRange r.1} column-so within-so (λ r w a b. (a, b))) (λ l r a b. (a, b)))
       (λ k lr a b. (a, b.0, b.1.0, b.1.1))
 
+  near-so : Keeps P near_rest IsPlanInRange
+  near-so = seq-so column-so (after_word-so (codes "from") (seq-so {Q = λ g. IsShapeInPlane g.0 × IsWithinInRange g.1} shape-so within-so (λ g w a b. (a, b)))) (λ c g a b. (a, b.0, b.1))
+
   filter-so : Keeps P filter_rest IsPlanInRange
   filter-so = seq-so inner-so (after_word-so (codes "where") tests-so) (λ p ts a b. (a, b))
 
@@ -356,8 +359,9 @@ module _ (P : (r : Rule) → RuleValue r → Bool → List Placed → Type 0) (r
 
   plan-so : Keeps P plan_form IsPlanInRange
   plan-so = case_word-so (codes "scan") (take-so name-gets) (case_word-so (codes "rank") rank-so (case_word-so (codes "window") window-so (case_word-so (codes "pick") pick-so
-      (case_word-so (codes "join") join-so (case_word-so (codes "semi") semi-so (case_word-so (codes "knn") knn-so (case_word-so (codes "filter") filter-so (case_word-so (codes "match") match-so
-      (case_word-so (codes "fetch") fetch-so (case_word-so (codes "first") first-so (after_word-so (codes "sort") sort-so)))))))))))
+      (case_word-so (codes "join") join-so (case_word-so (codes "semi") semi-so (case_word-so (codes "knn") knn-so (case_word-so (codes "near") near-so
+      (case_word-so (codes "filter") filter-so (case_word-so (codes "match") match-so
+      (case_word-so (codes "fetch") fetch-so (case_word-so (codes "first") first-so (after_word-so (codes "sort") sort-so))))))))))))
 
   body-so : (r : Rule) → Keeps P (body r) (RangeOf r)
   body-so a_plan = plan-so
@@ -379,6 +383,9 @@ module _ (P : (r : Rule) → RuleValue r → Bool → List Placed → Type 0) (r
   index-so : Keeps P index_rest IsInRange
   index-so = seq-so {N = IsThresholdInRange} column-so (alt-so (natural-gets 1 64) nil-so (λ n u a b. a) (nothing-so tt)) (λ c t a b. (a, b))
 
+  rtree-so : Keeps P rtree_rest IsInRange
+  rtree-so = seq-so nil-so column-so (λ u c a b. b)
+
   far-so : Keeps P far_rest IsInRange
   far-so = seq-so count-so (seq-so {Q = λ cg. IsColumnInRange cg.0 × IsInPlane cg.1} column-so (after_word-so (codes "from") spot-so) (λ c g a b. (a, b))) (λ n cg a b. (a, b.0, b.1))
 
@@ -386,10 +393,10 @@ module _ (P : (r : Rule) → RuleValue r → Bool → List Placed → Type 0) (r
   statement-so =
       case_word-so (codes "create") create-so (case_word-so (codes "insert") (seq-so name-so values-so (λ r vs a b. (a, b)))
       (case_word-so (codes "delete") (seq-so name-so (natural-so 0 4294967295) (λ r n a b. (a, b.1))) (case_word-so (codes "load") load-so
-      (case_word-so (codes "index") index-so (case_word-so (codes "open") (seq-so name-so (after_sign-so Equal (rules a_plan)) (λ c p a b. (a, b)))
+      (case_word-so (codes "index") index-so (case_word-so (codes "rtree") rtree-so (case_word-so (codes "open") (seq-so name-so (after_sign-so Equal (rules a_plan)) (λ c p a b. (a, b)))
       (case_word-so (codes "next") (seq-so name-so count-so (λ c n a b. (a, b))) (case_word-so (codes "close") (take-so name-gets)
       (case_word-so (codes "show") (seq-so count-so (rules a_plan) (λ n p a b. (a, b))) (case_word-so (codes "stats") (take-so name-gets)
-      (case_word-so (codes "far") far-so (after_word-so (codes "blocks") (seq-so nil-so column-so (λ u c a b. b)))))))))))))
+      (case_word-so (codes "far") far-so (after_word-so (codes "blocks") (seq-so nil-so column-so (λ u c a b. b))))))))))))))
 
 -- the rules keep to their ranges to each depth, and to any
 rules-at : (n : ℕ) (r : Rule) → Keeps (spelled_at n) (rule r) (RangeOf r)

@@ -12,7 +12,7 @@ use Rattle.statements.specs.Plan.{plan_value}
 use Rattle.script_text.specs.Reading.{State, GivesAs, bind, go_on, pure}
 use Rattle.statements.specs.Statement.{statement_value}
 use Rattle.statements.specs.declared.statement.Statement.{Statement}
-use Rattle.script_text.specs.Rules.{plan_form, rank_rest, knn_rest, far_rest, query_form}
+use Rattle.script_text.specs.Rules.{plan_form, rank_rest, knn_rest, near_rest, far_rest, query_form}
 use Rattle.script_text.proofs.Depth.{rule-body}
 use Rattle.script_text.proofs.ListReading.{gives-same}
 
@@ -74,6 +74,56 @@ knn-given s a b c d e f u new r scan rank window pick join semi is = gives r
         (no d (codes "join") fourth join.other) (no e (codes "semi") fifth semi.other) (subst (λ (y : State). IsTaken (a_word (codes "knn")) y u) sixth is)
 
     gives : (r : Result Plan Stuck) → GivesAs plan_value (reading knn_rest) u new r → GivesAs plan_value (reading (rule a_plan)) s new r
+    gives (Ok plan) e = unfolds ∙ e
+    gives (Err stuck.Here) e = unfolds ∙ e
+    gives (Err stuck.Memory) e = tt
+
+-- behind its word a `near` is read
+near-unfolds : (s u : State) → head_fits (a_word (codes "scan")) s.left ≡ false → head_fits (a_word (codes "rank")) s.left ≡ false → head_fits (a_word (codes "window")) s.left ≡ false
+    → head_fits (a_word (codes "pick")) s.left ≡ false → head_fits (a_word (codes "join")) s.left ≡ false → head_fits (a_word (codes "semi")) s.left ≡ false
+    → head_fits (a_word (codes "knn")) s.left ≡ false → IsTaken (a_word (codes "near")) s u → reading (rule a_plan) s ≡ reading near_rest u
+near-unfolds s u scan rank window pick join semi knn is =
+    plan_unfolds s ∙ cond-false (head_fits (a_word (codes "scan")) s.left) _ _ scan ∙ cond-false (head_fits (a_word (codes "rank")) s.left) _ _ rank
+    ∙ cond-false (head_fits (a_word (codes "window")) s.left) _ _ window ∙ cond-false (head_fits (a_word (codes "pick")) s.left) _ _ pick
+    ∙ cond-false (head_fits (a_word (codes "join")) s.left) _ _ join ∙ cond-false (head_fits (a_word (codes "semi")) s.left) _ _ semi
+    ∙ cond-false (head_fits (a_word (codes "knn")) s.left) _ _ knn ∙ cond-true (head_fits (a_word (codes "near")) s.left) _ _ is.fits
+    ∙ ap (λ r. go_on r (λ v. bind (reading near_rest) (λ x. pure x))) is.taken ∙ gives-same (reading near_rest u)
+
+-- where none of the words before it came
+pub near-given : (s a b c d e f g u new : State) (r : Result Plan Stuck) → IsPassed (a_word (codes "scan")) s a → IsPassed (a_word (codes "rank")) a b
+    → IsPassed (a_word (codes "window")) b c → IsPassed (a_word (codes "pick")) c d → IsPassed (a_word (codes "join")) d e → IsPassed (a_word (codes "semi")) e f
+    → IsPassed (a_word (codes "knn")) f g → IsTaken (a_word (codes "near")) g u
+    → GivesAs plan_value (reading near_rest) u new r → GivesAs plan_value (reading (rule a_plan)) s new r
+near-given s a b c d e f g u new r scan rank window pick join semi knn is = gives r
+  where
+    second : b ≡ s
+    second = rank.same ∙ scan.same
+
+    third : c ≡ s
+    third = window.same ∙ second
+
+    fourth : d ≡ s
+    fourth = pick.same ∙ third
+
+    fifth : e ≡ s
+    fifth = join.same ∙ fourth
+
+    sixth : f ≡ s
+    sixth = semi.same ∙ fifth
+
+    seventh : g ≡ s
+    seventh = knn.same ∙ sixth
+
+    no : (x : State) (w : List ℕ) → x ≡ s → head_fits (a_word w) x.left ≡ false → head_fits (a_word w) s.left ≡ false
+    no x w same other = subst (λ (y : State). head_fits (a_word w) y.left ≡ false) same other
+
+    unfolds : reading (rule a_plan) s ≡ reading near_rest u
+    unfolds =
+        near-unfolds s u scan.other (no a (codes "rank") scan.same rank.other) (no b (codes "window") second window.other) (no c (codes "pick") third pick.other)
+        (no d (codes "join") fourth join.other) (no e (codes "semi") fifth semi.other) (no f (codes "knn") sixth knn.other)
+        (subst (λ (y : State). IsTaken (a_word (codes "near")) y u) seventh is)
+
+    gives : (r : Result Plan Stuck) → GivesAs plan_value (reading near_rest) u new r → GivesAs plan_value (reading (rule a_plan)) s new r
     gives (Ok plan) e = unfolds ∙ e
     gives (Err stuck.Here) e = unfolds ∙ e
     gives (Err stuck.Memory) e = tt

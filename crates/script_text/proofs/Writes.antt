@@ -441,25 +441,28 @@ plan-w (plan.Semi l r w) h =
 plan-w (plan.Knn k l r w) h =
     rule-w a_plan (else-w (else-w (else-w (else-w (else-w (else-w (case_word-w (codes "knn") refl refl
     (seq-w (natural-w (omega (arith, h.0.1)) h.0.0 h.0.1) (seq-w (column-w l h.1) (seq-w (column-w r h.2) (within-w w h.3) refl refl) refl refl) refl refl))))))))
+plan-w (plan.Near c g w) h =
+    rule-w a_plan (else-w (else-w (else-w (else-w (else-w (else-w (else-w (case_word-w (codes "near") refl refl
+    (seq-w (column-w c h.0) (after_word-w (codes "from") refl refl (seq-w (shape-w g h.1) (within-w w h.2) refl refl)) refl refl)))))))))
 plan-w (plan.Filter p ts) h =
-    rule-w a_plan (else-w (else-w (else-w (else-w (else-w (else-w (else-w (case_word-w (codes "filter") refl refl
-    (seq-w (inner-w p (plan_words p) (plan-w p h.0)) (after_word-w (codes "where") refl refl (tests-w ts h.1)) refl refl)))))))))
+    rule-w a_plan (else-w (else-w (else-w (else-w (else-w (else-w (else-w (else-w (case_word-w (codes "filter") refl refl
+    (seq-w (inner-w p (plan_words p) (plan-w p h.0)) (after_word-w (codes "where") refl refl (tests-w ts h.1)) refl refl))))))))))
 plan-w (plan.Match p l c) h =
-    rule-w a_plan (else-w (else-w (else-w (else-w (else-w (else-w (else-w (else-w (case_word-w (codes "match") refl refl
-    (seq-w (inner-w p (plan_words p) (plan-w p h.0)) (seq-w (place-w l h.1) (equal-w (column-w c h.2)) refl refl) refl refl))))))))))
+    rule-w a_plan (else-w (else-w (else-w (else-w (else-w (else-w (else-w (else-w (else-w (case_word-w (codes "match") refl refl
+    (seq-w (inner-w p (plan_words p) (plan-w p h.0)) (seq-w (place-w l h.1) (equal-w (column-w c h.2)) refl refl) refl refl)))))))))))
 plan-w (plan.Fetch p ls) h =
-    rule-w a_plan (else-w (else-w (else-w (else-w (else-w (else-w (else-w (else-w (else-w (case_word-w (codes "fetch") refl refl
-    (seq-w (inner-w p (plan_words p) (plan-w p h.0)) (places-w ls h.1) refl refl)))))))))))
+    rule-w a_plan (else-w (else-w (else-w (else-w (else-w (else-w (else-w (else-w (else-w (else-w (case_word-w (codes "fetch") refl refl
+    (seq-w (inner-w p (plan_words p) (plan-w p h.0)) (places-w ls h.1) refl refl))))))))))))
 plan-w (plan.First n p) h =
-    rule-w a_plan (else-w (else-w (else-w (else-w (else-w (else-w (else-w (else-w (else-w (else-w (case_word-w (codes "first") refl refl
-    (seq-w (count-w h.0) (inner-w p (plan_words p) (plan-w p h.1)) refl refl))))))))))))
+    rule-w a_plan (else-w (else-w (else-w (else-w (else-w (else-w (else-w (else-w (else-w (else-w (else-w (case_word-w (codes "first") refl refl
+    (seq-w (count-w h.0) (inner-w p (plan_words p) (plan-w p h.1)) refl refl)))))))))))))
 plan-w (plan.SortBy p l) h =
-    rule-w a_plan (else-w (else-w (else-w (else-w (else-w (else-w (else-w (else-w (else-w (else-w (else-w (after_word-w (codes "sort") refl refl
-    (seq-w (inner-w p (plan_words p) (plan-w p h.0)) (case_word-w (codes "by") refl refl (told-w (place-w l h.1) refl)) refl refl)))))))))))))
+    rule-w a_plan (else-w (else-w (else-w (else-w (else-w (else-w (else-w (else-w (else-w (else-w (else-w (else-w (after_word-w (codes "sort") refl refl
+    (seq-w (inner-w p (plan_words p) (plan-w p h.0)) (case_word-w (codes "by") refl refl (told-w (place-w l h.1) refl)) refl refl))))))))))))))
 plan-w (plan.SortNear p l g) h =
-    rule-w a_plan (else-w (else-w (else-w (else-w (else-w (else-w (else-w (else-w (else-w (else-w (else-w (after_word-w (codes "sort") refl refl
+    rule-w a_plan (else-w (else-w (else-w (else-w (else-w (else-w (else-w (else-w (else-w (else-w (else-w (else-w (after_word-w (codes "sort") refl refl
     (seq-w (inner-w p (plan_words p) (plan-w p h.0))
-    (else-w (after_word-w (codes "near") refl refl (seq-w (place-w l h.1) (after_word-w (codes "from") refl refl (shape-w g h.2)) refl refl))) refl refl)))))))))))))
+    (else-w (after_word-w (codes "near") refl refl (seq-w (place-w l h.1) (after_word-w (codes "from") refl refl (shape-w g h.2)) refl refl))) refl refl))))))))))))))
 
 -- what may end a `load` and an `index`
 header-w : (h : Bool) → Writes (case_word (codes "header") (nothing true) (nothing false)) h (header_words h)
@@ -483,18 +486,20 @@ statement-w (statement.Load r f b) h =
     (seq-w (name-w h.0) (seq-w (take-w (text-word h.1) refl refl) (header-w b) refl refl) refl refl))))
 statement-w (statement.Index c t) h =
     else-w (else-w (else-w (else-w (case_word-w (codes "index") refl refl (seq-w (column-w c h.0) (threshold-w t h.1) refl refl)))))
+statement-w (statement.Rtree c) h =
+    else-w (else-w (else-w (else-w (else-w (case_word-w (codes "rtree") refl refl (told-w (column-w c h) refl))))))
 statement-w (statement.OpenCursor c p) h =
-    else-w (else-w (else-w (else-w (else-w (case_word-w (codes "open") refl refl (seq-w (name-w h.0) (equal-w (plan-w p h.1)) refl refl))))))
+    else-w (else-w (else-w (else-w (else-w (else-w (case_word-w (codes "open") refl refl (seq-w (name-w h.0) (equal-w (plan-w p h.1)) refl refl)))))))
 statement-w (statement.Next c n) h =
-    else-w (else-w (else-w (else-w (else-w (else-w (case_word-w (codes "next") refl refl (seq-w (name-w h.0) (count-w h.1) refl refl)))))))
+    else-w (else-w (else-w (else-w (else-w (else-w (else-w (case_word-w (codes "next") refl refl (seq-w (name-w h.0) (count-w h.1) refl refl))))))))
 statement-w (statement.CloseCursor c) h =
-    else-w (else-w (else-w (else-w (else-w (else-w (else-w (case_word-w (codes "close") refl refl (take-w (name-word h) refl refl))))))))
+    else-w (else-w (else-w (else-w (else-w (else-w (else-w (else-w (case_word-w (codes "close") refl refl (take-w (name-word h) refl refl)))))))))
 statement-w (statement.Show n p) h =
-    else-w (else-w (else-w (else-w (else-w (else-w (else-w (else-w (case_word-w (codes "show") refl refl (seq-w (count-w h.0) (plan-w p h.1) refl refl)))))))))
+    else-w (else-w (else-w (else-w (else-w (else-w (else-w (else-w (else-w (case_word-w (codes "show") refl refl (seq-w (count-w h.0) (plan-w p h.1) refl refl))))))))))
 statement-w (statement.Stats c) h =
-    else-w (else-w (else-w (else-w (else-w (else-w (else-w (else-w (else-w (case_word-w (codes "stats") refl refl (take-w (name-word h) refl refl))))))))))
+    else-w (else-w (else-w (else-w (else-w (else-w (else-w (else-w (else-w (else-w (case_word-w (codes "stats") refl refl (take-w (name-word h) refl refl)))))))))))
 statement-w (statement.Far n c g) h =
-    else-w (else-w (else-w (else-w (else-w (else-w (else-w (else-w (else-w (else-w (case_word-w (codes "far") refl refl
-    (seq-w (count-w h.0) (seq-w (column-w c h.1) (after_word-w (codes "from") refl refl (spot-w g h.2)) refl refl) refl refl)))))))))))
+    else-w (else-w (else-w (else-w (else-w (else-w (else-w (else-w (else-w (else-w (else-w (case_word-w (codes "far") refl refl
+    (seq-w (count-w h.0) (seq-w (column-w c h.1) (after_word-w (codes "from") refl refl (spot-w g h.2)) refl refl) refl refl))))))))))))
 statement-w (statement.Blocks c) h =
-    else-w (else-w (else-w (else-w (else-w (else-w (else-w (else-w (else-w (else-w (else-w (after_word-w (codes "blocks") refl refl (told-w (column-w c h) refl))))))))))))
+    else-w (else-w (else-w (else-w (else-w (else-w (else-w (else-w (else-w (else-w (else-w (else-w (after_word-w (codes "blocks") refl refl (told-w (column-w c h) refl)))))))))))))

@@ -10,8 +10,8 @@ use Rattle.statements.specs.declared.column.Column.{Column}
 use Rattle.statements.specs.declared.column.Place.{Place}
 use Rattle.statements.specs.declared.test.Test.{Test}
 use Rattle.script_text.specs.Name.{IsName}
-use Rattle.statements.specs.Plan.{Plan, Scan, Rank, Window, PickEqual, PickBetween, Join, Semi, Knn, Filter, Match, Fetch, First, SortBy, SortNear}
-use Rattle.statements.specs.Statement.{Statement, Create, Insert, Delete, Load, Index, OpenCursor, Next, CloseCursor, Show, Stats, Far, Blocks}
+use Rattle.statements.specs.Plan.{Plan, Scan, Rank, Window, PickEqual, PickBetween, Join, Semi, Knn, Near, Filter, Match, Fetch, First, SortBy, SortNear}
+use Rattle.statements.specs.Statement.{Statement, Create, Insert, Delete, Load, Index, Rtree, OpenCursor, Next, CloseCursor, Show, Stats, Far, Blocks}
 
 -- both names of the column are names
 pub record IsColumnInRange (c : Column) : Type 0 where
@@ -69,6 +69,7 @@ IsPlanInRange (PickBetween column low high) = IsColumnInRange column × IsIntInR
 IsPlanInRange (Join left right within) = IsColumnInRange left × IsColumnInRange right × IsWithinInRange within
 IsPlanInRange (Semi left right within) = IsColumnInRange left × IsColumnInRange right × IsWithinInRange within
 IsPlanInRange (Knn k left right within) = ((1 ≤ k) × (k ≤ 255)) × IsColumnInRange left × IsColumnInRange right × IsWithinInRange within
+IsPlanInRange (Near column goal within) = IsColumnInRange column × IsShapeInPlane goal × IsWithinInRange within
 IsPlanInRange (Filter plan tests) = IsPlanInRange plan × SomeAre IsTestInRange tests
 IsPlanInRange (Match plan place column) = IsPlanInRange plan × IsPlaceInRange place × IsColumnInRange column
 IsPlanInRange (Fetch plan places) = IsPlanInRange plan × SomeAre IsPlaceInRange places
@@ -83,6 +84,7 @@ IsInRange (Insert relation values) = IsName relation × SomeAre IsValueInRange v
 IsInRange (Delete relation id) = IsName relation × (id ≤ 4294967295)
 IsInRange (Load relation file header) = IsName relation × IsTextInRange file
 IsInRange (Index column threshold) = IsColumnInRange column × IsThresholdInRange threshold
+IsInRange (Rtree column) = IsColumnInRange column
 IsInRange (OpenCursor cursor plan) = IsName cursor × IsPlanInRange plan
 IsInRange (Next cursor count) = IsName cursor × IsCountInRange count
 IsInRange (CloseCursor cursor) = IsName cursor

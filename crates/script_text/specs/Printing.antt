@@ -15,8 +15,8 @@ use Rattle.statements.specs.declared.test.Op.TheVariants as op
 use Rattle.statements.specs.declared.test.Test.{Test}
 use Rattle.script_text.specs.declared.token.Symbol.{Symbol}
 use Rattle.script_text.specs.declared.token.Symbol.TheVariants as symbol
-use Rattle.statements.specs.Plan.{Plan, Scan, Rank, Window, PickEqual, PickBetween, Join, Semi, Knn, Filter, Match, Fetch, First, SortBy, SortNear}
-use Rattle.statements.specs.Statement.{Statement, Create, Insert, Delete, Load, Index, OpenCursor, Next, CloseCursor, Show, Stats, Far, Blocks}
+use Rattle.statements.specs.Plan.{Plan, Scan, Rank, Window, PickEqual, PickBetween, Join, Semi, Knn, Near, Filter, Match, Fetch, First, SortBy, SortNear}
+use Rattle.statements.specs.Statement.{Statement, Create, Insert, Delete, Load, Index, Rtree, OpenCursor, Next, CloseCursor, Show, Stats, Far, Blocks}
 use Rattle.script_text.specs.Text.{doubled}
 use Rattle.script_text.specs.Token.{Piece, name, number, text, mark, spelling}
 
@@ -120,6 +120,7 @@ plan_words (PickBetween column low high) = name (codes "pick") ∷ column_words 
 plan_words (Join left right within) = name (codes "join") ∷ column_words left ++ (column_words right ++ within_words within)
 plan_words (Semi left right within) = name (codes "semi") ∷ column_words left ++ (column_words right ++ within_words within)
 plan_words (Knn k left right within) = name (codes "knn") ∷ number (decimal k) ∷ column_words left ++ (column_words right ++ within_words within)
+plan_words (Near column goal within) = name (codes "near") ∷ column_words column ++ (name (codes "from") ∷ shape_words goal ++ within_words within)
 plan_words (Filter plan tests) = name (codes "filter") ∷ inner_words (plan_words plan) ++ (name (codes "where") ∷ list_words (fixed (codes "and")) test_words tests)
 plan_words (Match plan place column) = name (codes "match") ∷ inner_words (plan_words plan) ++ (place_words place ++ (mark symbol.Equal ∷ column_words column))
 plan_words (Fetch plan places) = name (codes "fetch") ∷ inner_words (plan_words plan) ++ list_words comma place_words places
@@ -144,6 +145,7 @@ words (Insert relation values) = name (codes "insert") ∷ name relation ∷ lis
 words (Delete relation id) = name (codes "delete") ∷ name relation ∷ natural_words id
 words (Load relation file header) = name (codes "load") ∷ name relation ∷ text (doubled file) ∷ header_words header
 words (Index column threshold) = name (codes "index") ∷ column_words column ++ threshold_words threshold
+words (Rtree column) = name (codes "rtree") ∷ column_words column
 words (OpenCursor cursor plan) = name (codes "open") ∷ name cursor ∷ mark symbol.Equal ∷ plan_words plan
 words (Next cursor count) = name (codes "next") ∷ name cursor ∷ natural_words count
 words (CloseCursor cursor) = name (codes "close") ∷ name cursor ∷ []

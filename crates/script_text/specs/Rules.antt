@@ -228,6 +228,10 @@ abbrev pub knn_rest : Form Plan
 knn_rest = seq (λ k (lr : Column × (Column × Option ℕ)). plan.Knn k lr.0 lr.1.0 lr.1.1) (natural_form 1 255)
     (seq (λ l (r : Column × Option ℕ). (l, r)) column_form (seq (λ r w. (r, w)) column_form within_form))
 
+-- what follows the word of a ranking by an R-tree
+abbrev pub near_rest : Form Plan
+near_rest = seq (λ c (g : Shape × Option ℕ). plan.Near c g.0 g.1) column_form (after_word (codes "from") (seq (λ g w. (g, w)) shape_form within_form))
+
 -- `"(" plan ")" where test { and test }`
 abbrev pub filter_rest : Form Plan
 filter_rest = seq (λ p ts. plan.Filter p ts) inner_form (after_word (codes "where") tests_form)
@@ -254,8 +258,8 @@ sort_rest = seq (λ p (s : Plan → Plan). s p) inner_form
 abbrev pub plan_form : Form Plan
 plan_form =
     case_word (codes "scan") scan_rest (case_word (codes "rank") rank_rest (case_word (codes "window") window_rest (case_word (codes "pick") pick_rest
-    (case_word (codes "join") join_rest (case_word (codes "semi") semi_rest (case_word (codes "knn") knn_rest (case_word (codes "filter") filter_rest (case_word (codes "match") match_rest
-    (case_word (codes "fetch") fetch_rest (case_word (codes "first") first_rest (after_word (codes "sort") sort_rest)))))))))))
+    (case_word (codes "join") join_rest (case_word (codes "semi") semi_rest (case_word (codes "knn") knn_rest (case_word (codes "near") near_rest (case_word (codes "filter") filter_rest
+    (case_word (codes "match") match_rest (case_word (codes "fetch") fetch_rest (case_word (codes "first") first_rest (after_word (codes "sort") sort_rest))))))))))))
 
 -- the rules: a plan, and the rest of each list
 abbrev pub body : (r : Rule) → Form (RuleValue r)
@@ -287,6 +291,10 @@ load_rest = seq (λ r (f : List ℕ × Bool). statement.Load r f.0 f.1) name_for
 -- `column [ NUM ]`
 abbrev pub index_rest : Form Statement
 index_rest = seq (λ c t. statement.Index c t) column_form (alt (a_natural 1 64) (λ n (u : Unit {0}). Some n) (nothing tt) (nothing None))
+
+-- what follows the word of an R-tree
+abbrev pub rtree_rest : Form Statement
+rtree_rest = told (λ c. statement.Rtree c) column_form
 
 -- `NAME "=" plan`
 abbrev pub open_rest : Form Statement
@@ -327,4 +335,4 @@ query_form =
 abbrev pub statement_form : Form Statement
 statement_form =
     case_word (codes "create") create_rest (case_word (codes "insert") insert_rest (case_word (codes "delete") delete_rest (case_word (codes "load") load_rest
-    (case_word (codes "index") index_rest query_form))))
+    (case_word (codes "index") index_rest (case_word (codes "rtree") rtree_rest query_form)))))

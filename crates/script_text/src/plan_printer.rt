@@ -1,6 +1,6 @@
 ghost use Rattle.std.specs.Prelude.{◌≡◌, IfOk};
 ghost use Rattle.script_text.specs.Page.{put_all};
-ghost use Rattle.statements.specs.Plan.{plan_value, Scan, Rank, Window, PickEqual, PickBetween, Join, Semi, Knn, Filter, Match, Fetch, First, SortBy, SortNear};
+ghost use Rattle.statements.specs.Plan.{plan_value, Scan, Rank, Window, PickEqual, PickBetween, Join, Semi, Knn, Near, Filter, Match, Fetch, First, SortBy, SortNear};
 ghost use Rattle.script_text.specs.Printing.{inner_words, plan_words};
 
 use crate::printer::Printer;
@@ -104,6 +104,18 @@ impl Printer {
         self.natural(u32::from(k))?;
         self.column(left)?;
         self.column(right)?;
+        self.within(within)?;
+        Ok(())
+    }
+
+    // Writes a `near`.
+    fn near(&mut self, column: &Column, goal: &Shape, within: Option<u32>) -> Result<(), NoMemory>
+        ensures { IfOk result (λ _. self.new ≡ put_all self.old (plan_words (Near column.now goal.now within))) }
+    {
+        self.name("near")?;
+        self.column(column)?;
+        self.name("from")?;
+        self.shape(goal)?;
         self.within(within)?;
         Ok(())
     }
@@ -224,6 +236,11 @@ impl Printer {
                 right,
                 within,
             } => self.knn(*k, left, right, *within),
+            Plan::Near {
+                column,
+                goal,
+                within,
+            } => self.near(column, goal, *within),
             Plan::Filter { plan, tests } => self.filter(plan, tests),
             Plan::Match {
                 plan,

@@ -6,7 +6,7 @@ ghost use Rattle.statements.specs.Plan.{PickBetween, Plan as PlanTree, SortNear,
 ghost use Rattle.statements.specs.declared.column.Column.{Column};
 ghost use Rattle.script_text.specs.Reading.{Gives, GivesAs};
 ghost use Rattle.script_text.specs.Rules.{after_sign, after_word, column_form, int_form, place_form, shape_form, tests_form, within_form};
-ghost use Rattle.script_text.specs.Rules.{inner_form, scan_rest, rank_rest, window_rest, pick_rest, join_rest, semi_rest, knn_rest};
+ghost use Rattle.script_text.specs.Rules.{inner_form, scan_rest, rank_rest, window_rest, pick_rest, join_rest, semi_rest, knn_rest, near_rest};
 ghost use Rattle.script_text.specs.Rules.{filter_rest, match_rest, fetch_rest, first_rest, sort_rest};
 
 use crate::cursor::Cursor;
@@ -136,6 +136,19 @@ impl<'t> Cursor<'t> {
             k: k as u8,
             left,
             right,
+            within,
+        })
+    }
+
+    // Reads a `near`, after its word.
+    fn near(&mut self, alloc: Global) -> Result<Plan, Stuck>
+        ensures { GivesAs plan_value (reading near_rest) self.old self.new result }
+    {
+        let column = self.column(alloc)?;
+        let (goal, within) = self.goal(alloc)?;
+        Ok(Plan::Near {
+            column,
+            goal,
             within,
         })
     }
@@ -276,6 +289,9 @@ impl<'t> Cursor<'t> {
         }
         if self.accept_word("knn") {
             return self.knn(alloc);
+        }
+        if self.accept_word("near") {
+            return self.near(alloc);
         }
         if self.accept_word("filter") {
             return self.filter(alloc);

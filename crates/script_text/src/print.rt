@@ -2,7 +2,7 @@ ghost use Rattle.std.specs.Prelude.{◌≡◌, IfOk};
 ghost use Rattle.script_text.specs.Page.{put_all};
 ghost use Rattle.statements.specs.Plan.{plan_value};
 ghost use Rattle.script_text.specs.Printing.{printed, words};
-ghost use Rattle.statements.specs.Statement.{statement_value, Create, Insert, Delete, Load, Index, OpenCursor, Next, CloseCursor, Show, Stats, Far, Blocks};
+ghost use Rattle.statements.specs.Statement.{statement_value, Create, Insert, Delete, Load, Index, Rtree, OpenCursor, Next, CloseCursor, Show, Stats, Far, Blocks};
 
 use crate::printer::Printer;
 use crate::token::Symbol;
@@ -66,6 +66,15 @@ impl Printer {
         if let Some(threshold) = threshold {
             self.natural(u32::from(threshold))?;
         }
+        Ok(())
+    }
+
+    // Writes an `rtree`.
+    fn rtree(&mut self, column: &Column) -> Result<(), NoMemory>
+        ensures { IfOk result (λ _. self.new ≡ put_all self.old (words (Rtree column.now))) }
+    {
+        self.name("rtree")?;
+        self.column(column)?;
         Ok(())
     }
 
@@ -153,6 +162,7 @@ impl Printer {
                 header,
             } => self.load(relation, file, *header),
             Statement::Index { column, threshold } => self.index(column, *threshold),
+            Statement::Rtree { column } => self.rtree(column),
             Statement::OpenCursor { cursor, plan } => self.open(cursor, plan),
             Statement::Next { cursor, count } => self.next(cursor, *count),
             Statement::CloseCursor { cursor } => self.close(cursor),

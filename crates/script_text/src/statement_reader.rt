@@ -3,7 +3,7 @@ ghost use Rattle.script_text.specs.Form.{a_natural, alt, nothing};
 ghost use Rattle.script_text.specs.Grammar.{reading, whole};
 ghost use Rattle.statements.specs.Statement.{statement_value};
 ghost use Rattle.script_text.specs.Reading.{Gives, GivesAs};
-ghost use Rattle.script_text.specs.Rules.{after_word, case_word, create_rest, insert_rest, delete_rest, load_rest, index_rest, open_rest};
+ghost use Rattle.script_text.specs.Rules.{after_word, case_word, create_rest, insert_rest, delete_rest, load_rest, index_rest, rtree_rest, open_rest};
 ghost use Rattle.script_text.specs.Rules.{next_rest, close_rest, show_rest, stats_rest, far_rest, blocks_rest, query_form, statement_form};
 
 use crate::cursor::Cursor;
@@ -86,6 +86,14 @@ impl<'t> Cursor<'t> {
         let column = self.column(alloc)?;
         let threshold = self.threshold()?;
         Ok(Statement::Index { column, threshold })
+    }
+
+    // Reads an `rtree`, after its word.
+    fn rtree(&mut self, alloc: Global) -> Result<Statement, Stuck>
+        ensures { GivesAs statement_value (reading rtree_rest) self.old self.new result }
+    {
+        let column = self.column(alloc)?;
+        Ok(Statement::Rtree { column })
     }
 
     // Reads an `open`, after its word.
@@ -199,6 +207,9 @@ impl<'t> Cursor<'t> {
         }
         if self.accept_word("index") {
             return self.index(alloc);
+        }
+        if self.accept_word("rtree") {
+            return self.rtree(alloc);
         }
         self.query(alloc)
     }

@@ -4,7 +4,7 @@ use Rattle.sand_base.specs.Shelf.{Files}
 use Rattle.sand_base.specs.declared.refusal.Refusal.{Refusal}
 use Rattle.sand_base.specs.declared.refusal.Refusal.TheVariants as why
 use Rattle.sand_model.specs.Cursor.{State, OutputLine, Refused}
-use Rattle.statements.specs.Statement.{Statement, Create, Insert, Delete, Load, Index as IndexOn, OpenCursor, Next, CloseCursor, Show, Stats, Far, Blocks}
+use Rattle.statements.specs.Statement.{Statement, Create, Insert, Delete, Load, Index as IndexOn, Rtree, OpenCursor, Next, CloseCursor, Show, Stats, Far, Blocks}
 use Rattle.sand_model.specs.StatementChecks.{Setting, early, check_load}
 use Rattle.statement_exec.specs.Deciding.{ComesBehind, PrintsPassed, DecidesEarly, InFound}
 use Rattle.statement_exec.specs.Moment.{AreTold}
@@ -23,6 +23,7 @@ after_refusal old (Insert name row) w = refl
 after_refusal old (Delete name id) w = refl
 after_refusal old (Load name file header) w = refl
 after_refusal old (IndexOn column threshold) w = refl
+after_refusal old (Rtree column) w = refl
 after_refusal old (OpenCursor name p) w = refl
 after_refusal old (Next name count) w = refl
 after_refusal old (CloseCursor name) w = refl

@@ -13,12 +13,14 @@ use Rattle.sand_model.specs.Cursor.{Cursor, Accepted, Id, Loaded as LoadedLine, 
 use Rattle.sand_model.specs.Database.{Index}
 use Rattle.sand_model.specs.Outcome.{uses_pages}
 use Rattle.statements.specs.declared.column.Column.{Column}
-use Rattle.statements.specs.Statement.{Statement, Create, Insert, Delete, Load, Index as IndexOn}
+use Rattle.statements.specs.Statement.{Statement, Create, Insert, Delete, Load, Index as IndexOn, Rtree}
 use Rattle.sand_model.specs.StatementChecks.{Setting, early, file_rows, late}
-use Rattle.sand_store.specs.Calls.{Refuses, IsRefusedBy, IsUnchanged, Created, Inserted, Deleted, Indexed, Loaded, LoadIsRefusedBy, IsRefusedPlainly, early_at, late_at, load_early, load_late, load_plain, plain_checks, is_none, is_full, is_missing, is_of_a_row}
+use Rattle.sand_store.specs.Calls.{Refuses, IsRefusedBy, IsUnchanged, Created, Inserted, Deleted, Indexed, Treed, Loaded, LoadIsRefusedBy, IsRefusedPlainly, early_at, late_at, load_early, load_late, load_plain, plain_checks, is_none, is_full, is_missing, is_of_a_row}
 use Rattle.sand_store.specs.Catalog.{CatalogView, RelationView, StoreState}
-use Rattle.sand_store.specs.Contents.{database, database_in, indexes_in}
-use Rattle.sand_store.specs.Sketches.{Sketch, sketch_of, sketches, new_sketch, with_ids, with_indexed, sketched_at}
+use Rattle.r_tree.specs.declared.tree.RTree.{RTree}
+use Rattle.sand_model.specs.Database.{Rectangles}
+use Rattle.sand_store.specs.Contents.{database, database_in, indexes_in, rectangles_of, rows_in}
+use Rattle.sand_store.specs.Sketches.{Sketch, sketch_of, sketches, new_sketch, with_ids, with_indexed, with_treed, sketched_at}
 use Rattle.sand_store.specs.declared.path.AccessPath.{AccessPath}
 use Rattle.statement_exec.specs.Deciding.{ComesBehind, DecidesEarly, PrintsPassed, line_of_rows}
 use Rattle.statement_exec.specs.Loading.{LoadOf, Yields, InSettings, IsRefusedEarly}
@@ -35,11 +37,16 @@ indexed_same : (pages : PageMap) (paths : List (ℕ × AccessPath)) → map (λ 
 indexed_same pages [] = refl
 indexed_same pages (path ∷ paths) = ap (λ (places : List ℕ). path.0 ∷ places) (indexed_same pages paths)
 
+treed_same : (rows : List (ℕ × List Value)) (trees : List (ℕ × RTree)) → map (λ (tree : Rectangles). tree.0) (rectangles_of rows trees) ≡ map (λ (tree : ℕ × RTree). tree.0) trees
+treed_same rows [] = refl
+treed_same rows (tree ∷ trees) = ap (λ (places : List ℕ). tree.0 ∷ places) (treed_same rows trees)
+
 -- the sketches of a catalog's relations are those of its database, whatever the pages
 pub sketched_in : (pages : PageMap) (rs : List RelationView) → map sketch_in (database_in pages rs) ≡ map sketch_of rs
 sketched_in pages [] = refl
 sketched_in pages (r ∷ rs) =
-    ap₂ (λ (places : List ℕ) (rest : List Sketch). record { name = r.name; schema = r.schema; next = r.next; indexed = places } ∷ rest) (indexed_same pages r.paths) (sketched_in pages rs)
+    ap₂ (λ (places : List ℕ × List ℕ) (rest : List Sketch). record { name = r.name; schema = r.schema; next = r.next; indexed = places.0; treed = places.1 } ∷ rest)
+    (ap₂ (λ (indexed treed : List ℕ). (indexed, treed)) (indexed_same pages r.paths) (treed_same (rows_in pages r) r.trees)) (sketched_in pages rs)
 
 -- beside any cursors the outline of a catalog is the same over any pages
 pub outline_in : (catalog : CatalogView) (pages pages' : PageMap) (cs : List Cursor)
@@ -89,6 +96,12 @@ module _ (old new : StoreState) where
       outline_changed cs (sketched_at column.relation (with_indexed column.column)) h.sketched,
     )
 
+    pub treed_decides : (column : Column) → Treed old new column → IsDecided (Rtree column) (while_open old files shelf cs) (while_open new files shelf cs) (Accepted ∷ [])
+    treed_decides column h = λ setting s. (
+      by_passing setting (state_with cs (database old)) (Rtree column) (Accepted ∷ []) (h.passes setting s.is s.limits).0 refl,
+      outline_changed cs (sketched_at column.relation (with_treed column.column)) h.sketched,
+    )
+
     -- a refusal of the call
     pub refused_decides : (statement : Statement) (is_late : Refusal → Bool) (w : Refusal) → uses_pages statement ≡ true
         → ((setting : Setting) → (early setting (state_with cs (database old)) statement ≡ early_at setting old statement) × (late setting (state_with cs (database old)) statement ≡ late_at setting old statement)) → ((r : Refusal) → is_late r ≡ true → ComesBehind statement r)
@@ -125,6 +138,9 @@ late_delete name id _ e = absurd (true≢false (sym e))
 pub late_index : (column : Column) (threshold : Option ℕ) (r : Refusal) → is_full r ≡ true → ComesBehind (IndexOn column threshold) r
 late_index column threshold why.IndexFull e = tt
 late_index column threshold _ e = absurd (true≢false (sym e))
+
+pub late_rtree : (column : Column) (r : Refusal) → is_none r ≡ true → ComesBehind (Rtree column) r
+late_rtree column r e = absurd (true≢false (sym e))
 
 -- ---- loads
 

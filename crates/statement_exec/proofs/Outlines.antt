@@ -1,5 +1,6 @@
 -- The early checks read no more of a state than its outline.
 use Rattle.std.proofs.Common.{◌≡◌, ℕ, ◌+◌, Bool, true, false, cond, not, ◌&&◌, ◌||◌, List, [], ◌∷◌, length, map, Option, Some, None, refl, ◌∙◌, ap, ap₂}
+use Rattle.std.specs.List.{list_any}
 use Rattle.std.specs.Prelude.{⊤, nat_eq, nat_le, nat_lt, find, option_map}
 use Rattle.std.proofs.lemmas.List.{length-map}
 use Rattle.sand_base.specs.declared.kind.Kind.{Kind}
@@ -10,9 +11,9 @@ use Rattle.sand_base.specs.declared.value.Value.{Value}
 use Rattle.sand_base.specs.declared.shape.Shape.TheVariants as shape
 use Rattle.sand_base.specs.Shape.{value_kind, same_kind, is_spatial}
 use Rattle.sand_base.specs.declared.kind.Kind.TheVariants as kind
-use Rattle.sand_model.specs.Checks.{first_refusal, kind_named, is_indexed, check_column, place_kind, check_place, check_relation, check_tests, check_places, check_operators, can_compare, is_plain, is_plain_pair}
+use Rattle.sand_model.specs.Checks.{first_refusal, kind_named, is_indexed, has_rectangles, check_search, check_column, place_kind, check_place, check_relation, check_tests, check_places, check_operators, can_compare, is_plain, is_plain_pair}
 use Rattle.sand_model.specs.Cursor.{State, Cursor, new_cursor}
-use Rattle.sand_model.specs.Database.{Database, Relation, Index, Attribute, same_name, has_name, relation_named, column_named, element}
+use Rattle.sand_model.specs.Database.{Database, Relation, Index, Attribute, Rectangles, same_name, has_name, relation_named, column_named, element}
 use Rattle.sand_model.specs.Kept.{has_twice, most_relations}
 use Rattle.sand_model.specs.Operators.{relations_of, kth}
 use Rattle.statements.specs.Plan as plan
@@ -20,7 +21,7 @@ use Rattle.statements.specs.Plan.{Plan, Scan}
 use Rattle.statements.specs.declared.column.Column.{Column}
 use Rattle.statements.specs.declared.column.Place.{Place}
 use Rattle.statements.specs.declared.test.Test.{Test}
-use Rattle.statements.specs.Statement.{Statement, Create, Insert, Delete, Load, Index as IndexOn, OpenCursor, Next, CloseCursor, Show, Stats, Far, Blocks}
+use Rattle.statements.specs.Statement.{Statement, Create, Insert, Delete, Load, Index as IndexOn, Rtree, OpenCursor, Next, CloseCursor, Show, Stats, Far, Blocks}
 use Rattle.sand_model.specs.StatementChecks.{Setting, FileRows, AreRows, HasBad, early, refused_where, in_relation, in_column, is_there, is_row_of, check_cursor, check_length, check_ids, check_load, check_records, check_depth, in_file, file_rows, most_cursors, longest_file}
 use Rattle.sand_store.specs.Calls.{plain_checks, check_kinds}
 use Rattle.statement_exec.specs.Outline.{sketch_in, outline_of, bare, bare_relation}
@@ -63,6 +64,17 @@ indexed_shown r column = go (column_named r.schema column) refl where
   go : (o : Option ℕ) → column_named r.schema column ≡ o → is_indexed (shown r) column ≡ is_indexed r column
   go None e = rw e refl
   go (Some at) e = by_index at e (find (λ (p : ℕ × Index). nat_eq p.0 at) (shown r).indexes) (find (λ (p : ℕ × Index). nat_eq p.0 at) r.indexes) refl refl (index_alike at r.indexes)
+
+listed_alike : (at : ℕ) (xs : List Rectangles) → list_any (λ (tree : Rectangles). nat_eq tree.0 at) (map (λ n. (n, [])) (map (λ (tree : Rectangles). tree.0) xs)) ≡ list_any (λ (tree : Rectangles). nat_eq tree.0 at) xs
+listed_alike at [] = refl
+listed_alike at (x ∷ xs) = ap (λ (b : Bool). nat_eq x.0 at || b) (listed_alike at xs)
+
+-- and an R-tree where it has one
+treed_shown : (r : Relation) (column : List ℕ) → has_rectangles (shown r) column ≡ has_rectangles r column
+treed_shown r column = go (column_named r.schema column) refl where
+  go : (o : Option ℕ) → column_named r.schema column ≡ o → has_rectangles (shown r) column ≡ has_rectangles r column
+  go None e = rw e refl
+  go (Some at) e = rw e (listed_alike at r.rectangles)
 
 -- its columns have the same kinds
 kind_shown : (r : Relation) (column : List ℕ) → kind_named (shown r) column ≡ kind_named r column
@@ -127,19 +139,23 @@ module _ (d : Database) where
 
   -- ---- plans
 
-  asked_shown : (column : Column) (asked : Kind → Bool) → check_column (shown_all d) column asked ≡ check_column d column asked
-  asked_shown column asked =
-      let at : (r : Relation) → relation_named d column.relation ≡ Some r → check_column (shown_all d) column asked ≡ check_column d column asked = λ r e.
-      let go : (o : Option Kind) → kind_named r column.column ≡ o → check_column (shown_all d) column asked ≡ check_column d column asked = elim [
+  searched_shown : (has : Relation → List ℕ → Bool) → ((r : Relation) (name : List ℕ) → has (shown r) name ≡ has r name) → (column : Column) (asked : Kind → Bool)
+      → check_search has (shown_all d) column asked ≡ check_search has d column asked
+  searched_shown has same column asked =
+      let at : (r : Relation) → relation_named d column.relation ≡ Some r → check_search has (shown_all d) column asked ≡ check_search has d column asked = λ r e.
+      let go : (o : Option Kind) → kind_named r column.column ≡ o → check_search has (shown_all d) column asked ≡ check_search has d column asked = elim [
         | None ↦ λ k. rw (e, named_shown d column.relation (Some r) e, k) refl
-        | Some kind ↦ λ k. rw (e, named_shown d column.relation (Some r) e, k, indexed_shown r column.column) refl
+        | Some kind ↦ λ k. rw (e, named_shown d column.relation (Some r) e, k, same r column.column) refl
       ] in
       go (kind_named r column.column) refl in
-      let go : (o : Option Relation) → relation_named d column.relation ≡ o → check_column (shown_all d) column asked ≡ check_column d column asked = elim [
+      let go : (o : Option Relation) → relation_named d column.relation ≡ o → check_search has (shown_all d) column asked ≡ check_search has d column asked = elim [
         | None ↦ λ e. rw (e, named_shown d column.relation None e) refl
         | Some r ↦ λ e. at r e
       ] in
       go (relation_named d column.relation) refl
+
+  asked_shown : (column : Column) (asked : Kind → Bool) → check_column (shown_all d) column asked ≡ check_column d column asked
+  asked_shown = searched_shown is_indexed indexed_shown
 
   place_shown : (names : List (List ℕ)) (place : Place) → place_kind (shown_all d) names place ≡ place_kind d names place
   place_shown names place =
@@ -176,6 +192,7 @@ module _ (d : Database) where
   operators_shown : (p : Plan) → check_operators (shown_all d) p ≡ check_operators d p
   operators_shown (plan.Scan relation) = known_shown relation
   operators_shown (plan.Rank column goal within) = asked_shown column is_spatial
+  operators_shown (plan.Near column goal within) = searched_shown has_rectangles treed_shown column is_spatial
   operators_shown (plan.Window column window) = asked_shown column is_spatial
   operators_shown (plan.PickEqual column v) = asked_shown column (λ k. is_plain k && same_kind k (value_kind v))
   operators_shown (plan.PickBetween column low high) = asked_shown column (same_kind kind.Int)
@@ -277,6 +294,9 @@ module _ (state : State) where
       (column_shown state.database column (λ relation kind. refused_where (is_there threshold && not (is_spatial kind)) why.WrongKind) (λ r k. refl))
       (ap (λ (a : Option Refusal). a ∷ [])
       (column_shown state.database column (λ relation kind. refused_where (is_indexed relation column.column) why.IndexThere) (λ r k. ap (λ (b : Bool). refused_where b why.IndexThere) (indexed_shown r column.column))))
+  early_shown setting (Rtree column) =
+      column_shown state.database column (λ relation kind. first_refusal (refused_where (not (is_spatial kind)) why.WrongKind ∷ refused_where (has_rectangles relation column.column) why.IndexThere ∷ []))
+      (λ r k. ap (λ (b : Bool). first_refusal (refused_where (not (is_spatial k)) why.WrongKind ∷ refused_where b why.IndexThere ∷ [])) (treed_shown r column.column))
   early_shown setting (OpenCursor name p) =
       ap₂ (λ (b : Bool) (os : List (Option Refusal)). first_refusal (refused_where b why.CursorNameTaken ∷ os)) (cursor_shown state.cursors name)
       (ap₂ (λ (a : Option Refusal) (n : ℕ). a ∷ refused_where (nat_le most_cursors n) why.TooManyCursors ∷ check_depth p ∷ []) (operators_shown state.database p) (cursors_counted state.cursors))

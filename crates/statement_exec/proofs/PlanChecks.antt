@@ -6,7 +6,7 @@ use Rattle.sand_base.specs.declared.kind.Kind.{Kind}
 use Rattle.sand_base.specs.declared.kind.Kind.TheVariants as kind
 use Rattle.sand_base.specs.declared.refusal.Refusal.{Refusal}
 use Rattle.sand_base.specs.declared.refusal.Refusal.TheVariants as why
-use Rattle.sand_model.specs.Checks.{check, most_operators, first_refusal, check_column, check_place, check_relation, check_tests, check_places, check_operators, kind_named, is_indexed, place_kind, is_plain, is_plain_pair, can_compare}
+use Rattle.sand_model.specs.Checks.{check, most_operators, first_refusal, check_search, check_column, check_place, check_relation, check_tests, check_places, check_operators, kind_named, has_rectangles, is_indexed, place_kind, is_plain, is_plain_pair, can_compare}
 use Rattle.sand_model.specs.Database.{Database, Relation, relation_named}
 use Rattle.sand_model.specs.Operators.{relations_of}
 use Rattle.statements.specs.Plan as plan
@@ -50,19 +50,22 @@ inside_three a b c h k l = inside_first a (b ∷ c ∷ []) h (inside_two b c k l
 pub inside_four : (a b c d : Option Refusal) → IsInside a → IsInside b → IsInside c → IsInside d → IsInside (first_refusal (a ∷ b ∷ c ∷ d ∷ []))
 inside_four a b c d h k l m = inside_first a (b ∷ c ∷ d ∷ []) h (inside_three b c d k l m)
 
-inside_column : (d : Database) (column : Column) (asked : Kind → Bool) → IsInside (check_column d column asked)
-inside_column d column asked = go (relation_named d column.relation) refl where
-  at_kind : (r : Relation) → relation_named d column.relation ≡ Some r → (o : Option Kind) → kind_named r column.column ≡ o → IsInside (check_column d column asked)
+inside_search : (has : Relation → List ℕ → Bool) (d : Database) (column : Column) (asked : Kind → Bool) → IsInside (check_search has d column asked)
+inside_search has d column asked = go (relation_named d column.relation) refl where
+  at_kind : (r : Relation) → relation_named d column.relation ≡ Some r → (o : Option Kind) → kind_named r column.column ≡ o → IsInside (check_search has d column asked)
   at_kind r e None k = rw (e, k) refl
-  at_kind r e (Some one) k = by_kind (asked one) refl (is_indexed r column.column) refl where
-    by_kind : (b : Bool) → asked one ≡ b → (i : Bool) → is_indexed r column.column ≡ i → IsInside (check_column d column asked)
+  at_kind r e (Some one) k = by_kind (asked one) refl (has r column.column) refl where
+    by_kind : (b : Bool) → asked one ≡ b → (i : Bool) → has r column.column ≡ i → IsInside (check_search has d column asked)
     by_kind true t true u = rw (e, k, t, u) refl
     by_kind true t false u = rw (e, k, t, u) refl
     by_kind false t i u = rw (e, k, t) refl
 
-  go : (o : Option Relation) → relation_named d column.relation ≡ o → IsInside (check_column d column asked)
+  go : (o : Option Relation) → relation_named d column.relation ≡ o → IsInside (check_search has d column asked)
   go None e = rw e refl
   go (Some r) e = at_kind r e (kind_named r column.column) refl
+
+inside_column : (d : Database) (column : Column) (asked : Kind → Bool) → IsInside (check_column d column asked)
+inside_column = inside_search is_indexed
 
 inside_place : (d : Database) (names : List (List ℕ)) (place : Place) (asked : Kind → Bool) → IsInside (check_place d names place asked)
 inside_place d names place asked = go (place_kind d names place) refl where
@@ -92,6 +95,7 @@ inside_places d names (place ∷ places) = inside_two _ _ (inside_place d names 
 pub inside_operators : (d : Database) (p : Plan) → IsInside (check_operators d p)
 inside_operators d (plan.Scan relation) = inside_relation d relation
 inside_operators d (plan.Rank column goal within) = inside_column d column is_spatial
+inside_operators d (plan.Near column goal within) = inside_search has_rectangles d column is_spatial
 inside_operators d (plan.Window column window) = inside_column d column is_spatial
 inside_operators d (plan.PickEqual column v) = inside_column d column (λ k. is_plain k && same_kind k (value_kind v))
 inside_operators d (plan.PickBetween column low high) = inside_column d column (same_kind kind.Int)

@@ -6,16 +6,16 @@ use Rattle.sand_base.specs.declared.refusal.Refusal.{Refusal}
 use Rattle.sand_base.specs.declared.refusal.Refusal.TheVariants as why
 use Rattle.sand_base.specs.declared.value.Value.{Value}
 use Rattle.sand_base.specs.Shape.{is_spatial}
-use Rattle.sand_model.specs.Checks.{check_relation, is_indexed}
+use Rattle.sand_model.specs.Checks.{check_relation, first_refusal, has_rectangles, is_indexed}
 use Rattle.sand_model.specs.Cursor.{Cursor, Accepted, Id, Refused}
 use Rattle.sand_model.specs.Database.{Database, Relation, relation_named}
 use Rattle.sand_model.specs.Kept.{has_twice, most_relations, longest_row}
 use Rattle.sand_model.specs.Outcome.{Rises, uses_pages}
 use Rattle.statements.specs.declared.column.Column.{Column}
 use Rattle.sand_model.specs.RowSize.{row_size}
-use Rattle.statements.specs.Statement.{Statement, Create, Insert, Delete, Index}
+use Rattle.statements.specs.Statement.{Statement, Create, Insert, Delete, Index, Rtree}
 use Rattle.sand_model.specs.StatementChecks.{Setting, IsSetting, refused_where, is_there, in_relation, in_column, is_row_of, check_length, check_ids, early, late}
-use Rattle.sand_store.specs.Calls.{HasCause, IsUnchanged, IsRefusedBy, Created, Inserted, Deleted, Indexed, Refuses, early_at, late_at}
+use Rattle.sand_store.specs.Calls.{HasCause, IsUnchanged, IsRefusedBy, Created, Inserted, Deleted, Indexed, Treed, Refuses, early_at, late_at}
 use Rattle.sand_store.specs.Catalog.{StoreState}
 use Rattle.sand_store.specs.Contents.{database}
 use Rattle.page_pool.specs.Pool.{IsTold}
@@ -23,7 +23,7 @@ use Rattle.statement_exec.specs.Deciding.{ComesBehind}
 use Rattle.statement_exec.specs.Moment.{rises_between, state_with, while_open}
 use Rattle.statement_exec.specs.Performing.{Changes}
 use Rattle.statement_exec.specs.declared.reply.Reply.TheVariants as reply
-use Rattle.statement_exec.proofs.DecidedCalls.{created_decides, inserted_decides, deleted_decides, indexed_decides, refused_decides}
+use Rattle.statement_exec.proofs.DecidedCalls.{created_decides, inserted_decides, deleted_decides, indexed_decides, treed_decides, refused_decides}
 use Rattle.statement_exec.proofs.Outcomes.{outcome_done, outcome_over}
 use Rattle.statement_exec.proofs.CausedLines.{caused_plain, caused_refusal, pools_cause}
 use Rattle.statement_exec.proofs.SomeSetting.{some_setting, is_some_setting}
@@ -78,6 +78,18 @@ indexed old new column threshold h = λ cs files shelf. (
   λ told disk few setting s.
       let p = h.passes setting s.is s.limits in
       outcome_done setting (rises_between (while_open old files shelf cs) (while_open new files shelf cs)) (state_with cs (database old)) (Index column threshold) (Accepted ∷ []) (state_with cs (database new))
+      p.0 (p.1 told) (refl, ap (state_with cs) (h.becomes told setting.gap s.is.gap)),
+)
+
+pub treed : (old new : StoreState) (column : Column) → Treed old new column → Changes (Rtree column) old new (Ok reply.Accepted)
+treed old new column h = λ cs files shelf. (
+  (
+    caused_plain (while_open old files shelf cs) (while_open new files shelf cs) (Accepted ∷ []) refl,
+    treed_decides old new cs files shelf column h,
+  ),
+  λ told disk few setting s.
+      let p = h.passes setting s.is s.limits in
+      outcome_done setting (rises_between (while_open old files shelf cs) (while_open new files shelf cs)) (state_with cs (database old)) (Rtree column) (Accepted ∷ []) (state_with cs (database new))
       p.0 (p.1 told) (refl, ap (state_with cs) (h.becomes told setting.gap s.is.gap)),
 )
 
@@ -151,3 +163,10 @@ never_index old column threshold setting =
     (never_column d column spatial (λ r k. never_where (is_there threshold && not (is_spatial k)) why.WrongKind refl))
     (never_first (in_column d column there) []
     (never_column d column there (λ r k. never_where (is_indexed r column.column) why.IndexThere refl)) refl)
+
+pub never_rtree : (old : StoreState) (column : Column) (setting : Setting) → Never (early_at setting old (Rtree column))
+never_rtree old column setting =
+    let d : Database = database old in
+    let checks : Relation → Kind → Option Refusal = λ relation kind. first_refusal (refused_where (not (is_spatial kind)) why.WrongKind ∷ refused_where (has_rectangles relation column.column) why.IndexThere ∷ []) in
+    never_column d column checks (λ r k. never_first (refused_where (not (is_spatial k)) why.WrongKind) (refused_where (has_rectangles r column.column) why.IndexThere ∷ [])
+    (never_where (not (is_spatial k)) why.WrongKind refl) (never_first (refused_where (has_rectangles r column.column) why.IndexThere) [] (never_where (has_rectangles r column.column) why.IndexThere refl) refl))

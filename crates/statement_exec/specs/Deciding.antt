@@ -8,7 +8,7 @@ use Rattle.sand_model.specs.Cursor.{State, OutputLine, Accepted, Id, Loaded, Sta
 use Rattle.sand_model.specs.Outcome.{OfRelation, ReachesFile, uses_pages}
 use Rattle.sand_model.specs.OutputText.{is_refused}
 use Rattle.sand_model.specs.Reach.{Counts}
-use Rattle.statements.specs.Statement.{Statement, Create, Insert, Delete, Load, Index as IndexOn, OpenCursor, CloseCursor, Stats}
+use Rattle.statements.specs.Statement.{Statement, Create, Insert, Delete, Load, Index as IndexOn, Rtree, OpenCursor, CloseCursor, Stats}
 use Rattle.sand_model.specs.StatementChecks.{Setting, early, file_rows}
 use Rattle.sand_store.specs.Calls.{plain_checks}
 use Rattle.statement_exec.specs.Moment.{AreTold}
@@ -55,6 +55,7 @@ PrintsPassed setting state (Load name file header) lines =
     OfRelation state name (λ relation. let rows = file_rows setting file header relation in
     lines ≡ line_of_rows (plain_checks setting.limits rows relation) (length rows) ∷ [])
 PrintsPassed setting state (IndexOn column threshold) lines = lines ≡ Accepted ∷ []
+PrintsPassed setting state (Rtree column) lines = lines ≡ Accepted ∷ []
 PrintsPassed setting state (OpenCursor name p) lines = lines ≡ Accepted ∷ []
 PrintsPassed setting state (CloseCursor name) lines = lines ≡ Accepted ∷ []
 PrintsPassed setting state (Stats name) lines = (seen : Counts) × (given : ℕ) × (lines ≡ StatsOf seen given ∷ [])

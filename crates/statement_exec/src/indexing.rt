@@ -1,5 +1,5 @@
 ghost use Rattle.std.specs.Prelude.{◌≤◌, IfSome};
-ghost use Rattle.statements.specs.Statement.{Index};
+ghost use Rattle.statements.specs.Statement.{Index, Rtree};
 ghost use Rattle.sand_store.specs.Calls.{Carries, HasCause};
 ghost use Rattle.statement_exec.specs.Performing.{Changes};
 
@@ -21,6 +21,22 @@ pub fn index<D: Disk>(
     ensures cause { HasCause store.old.pool store.new.pool result }
 {
     match store.index(relation.as_str(), column.as_str(), threshold) {
+        Ok(()) => Ok(Reply::Accepted),
+        Err(why) => Err(why),
+    }
+}
+
+/// `rtree`: a column of shapes gets an R-tree, with the rows that are there. After a refusal all is as it was.
+pub fn rtree<D: Disk>(
+    store: &mut Store<D>,
+    relation: &Label,
+    column: &Label,
+) -> Result<Reply, Refusal>
+    ensures performs { Changes (Rtree (record { relation = relation.now; column = column.now })) store.old store.new result }
+    ensures carries { Carries store.old store.new }
+    ensures cause { HasCause store.old.pool store.new.pool result }
+{
+    match store.rtree(relation.as_str(), column.as_str()) {
         Ok(()) => Ok(Reply::Accepted),
         Err(why) => Err(why),
     }

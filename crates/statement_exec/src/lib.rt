@@ -27,7 +27,7 @@ pub use answers::{end_with, finish, refuse};
 pub use column_blocks::print_blocks;
 pub use creating::create;
 pub use deleting::delete;
-pub use indexing::index;
+pub use indexing::{index, rtree};
 pub use inserting::insert;
 pub use loading::{enter_rows, rows_to_load};
 pub use reply::Reply;

@@ -13,6 +13,7 @@ use Rattle.statements.specs.declared.test.Test.{Test}
 pub data Plan : Type 0 where
   Scan : List ℕ → Plan
   Rank : Column → Shape → Option ℕ → Plan
+  Near : Column → Shape → Option ℕ → Plan
   Window : Column → Rect → Plan
   PickEqual : Column → Value → Plan
   PickBetween : Column → ℤ → ℤ → Plan
@@ -30,6 +31,7 @@ pub data Plan : Type 0 where
 abbrev pub plan_value : declared.Plan → Plan
 plan_value (plan.Scan relation) = Scan relation
 plan_value (plan.Rank column goal within) = Rank column goal within
+plan_value (plan.Near column goal within) = Near column goal within
 plan_value (plan.Window column window) = Window column window
 plan_value (plan.PickEqual column value) = PickEqual column value
 plan_value (plan.PickBetween column low high) = PickBetween column low high

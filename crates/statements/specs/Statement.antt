@@ -15,6 +15,7 @@ pub data Statement : Type 0 where
   Delete : List ℕ → ℕ → Statement
   Load : List ℕ → List ℕ → Bool → Statement
   Index : Column → Option ℕ → Statement
+  Rtree : Column → Statement
   OpenCursor : List ℕ → Plan → Statement
   Next : List ℕ → ℕ → Statement
   CloseCursor : List ℕ → Statement
@@ -30,6 +31,7 @@ statement_value (statement.Insert relation values) = Insert relation values
 statement_value (statement.Delete relation id) = Delete relation id
 statement_value (statement.Load relation file header) = Load relation file header
 statement_value (statement.Index column threshold) = Index column threshold
+statement_value (statement.Rtree column) = Rtree column
 statement_value (statement.OpenCursor cursor plan) = OpenCursor cursor (plan_value plan)
 statement_value (statement.Next cursor count) = Next cursor count
 statement_value (statement.CloseCursor cursor) = CloseCursor cursor

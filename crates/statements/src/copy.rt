@@ -1,5 +1,5 @@
 ghost use Rattle.std.specs.Prelude.{◌≡◌, ◌^◌, ◌-◌, IfOk, box_value, min};
-ghost use Rattle.statements.specs.Plan.{plan_value, depth, Rank, PickEqual, Join, Semi, Knn, Filter, Match, Fetch, First, SortBy, SortNear};
+ghost use Rattle.statements.specs.Plan.{plan_value, depth, Rank, Near, PickEqual, Join, Semi, Knn, Filter, Match, Fetch, First, SortBy, SortNear};
 
 use crate::{Column, Place, Places, Plan, Test, Tests};
 use sand_base::{NoMemory, Shape, Value};
@@ -74,6 +74,16 @@ fn rank(alloc: Global, column: &Column, goal: &Shape, within: Option<u32>) -> Re
     ensures { IfOk result (λ copy. plan_value copy ≡ Rank column.now goal.now within) }
 {
     Ok(Plan::Rank {
+        column: column.copy(alloc)?,
+        goal: goal.copy(alloc)?,
+        within,
+    })
+}
+
+fn near(alloc: Global, column: &Column, goal: &Shape, within: Option<u32>) -> Result<Plan, NoMemory>
+    ensures { IfOk result (λ copy. plan_value copy ≡ Near column.now goal.now within) }
+{
+    Ok(Plan::Near {
         column: column.copy(alloc)?,
         goal: goal.copy(alloc)?,
         within,
@@ -212,6 +222,11 @@ impl Plan {
                 goal,
                 within,
             } => rank(alloc, column, goal, *within),
+            Plan::Near {
+                column,
+                goal,
+                within,
+            } => near(alloc, column, goal, *within),
             Plan::Window { column, window } => Ok(Plan::Window {
                 column: column.copy(alloc)?,
                 window: *window,

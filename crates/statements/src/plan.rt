@@ -15,6 +15,12 @@ pub enum Plan {
         goal: Shape,
         within: Option<u32>,
     },
+    /// `near RELATION.COLUMN from SHAPE [within DISTANCE]`: the rows of `rank`, found by the column's R-tree.
+    Near {
+        column: Column,
+        goal: Shape,
+        within: Option<u32>,
+    },
     /// `window RELATION.COLUMN X1 Y1 X2 Y2`: rows whose shape meets the closed rectangle.
     Window {
         column: Column,

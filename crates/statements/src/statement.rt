@@ -30,6 +30,10 @@ pub enum Statement {
         column: Column,
         threshold: Option<u8>,
     },
+    /// `rtree RELATION.COLUMN`: an R-tree on the column.
+    Rtree {
+        column: Column,
+    },
     /// `open CURSOR = PLAN`: a cursor over the rows of a plan.
     OpenCursor {
         cursor: Label,

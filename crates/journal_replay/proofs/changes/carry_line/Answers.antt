@@ -1,15 +1,15 @@
 use Rattle.std.proofs.Common.{List, ℕ, sym, subst}
 use Rattle.sand_journal.specs.ChangeBody.{Line, line_value}
 use Rattle.statements.specs.Statement as model
-use Rattle.sand_store.specs.Calls.{Created, Deleted, Indexed, IsRefusedBy, is_none, is_missing, is_full}
+use Rattle.sand_store.specs.Calls.{Created, Deleted, Indexed, Treed, IsRefusedBy, is_none, is_missing, is_full}
 use Rattle.script_text.specs.InRange.{IsInRange}
-use Rattle.statements.specs.Statement.{Statement, Create, Delete, Index}
+use Rattle.statements.specs.Statement.{Statement, Create, Delete, Index, Rtree}
 use Rattle.journal_replay.specs.LedBy.{LedByOne}
 use Rattle.journal_replay.specs.Declined.{fault_of}
 use Rattle.journal_replay.specs.Replayed.{IsDeclined}
 use Rattle.journal_replay.proofs.Declined.{passed_on, line_declined}
-use Rattle.journal_replay.proofs.Leading.{led_by_create, led_by_delete, led_by_index}
-use Rattle.journal_replay.proofs.Lines.{create_is, delete_is, index_is, threshold_fits, kept_ones}
+use Rattle.journal_replay.proofs.Leading.{led_by_create, led_by_delete, led_by_index, led_by_rtree}
+use Rattle.journal_replay.proofs.Lines.{create_is, delete_is, index_is, rtree_is, threshold_fits, kept_ones}
 use Rattle.journal_replay.proofs.changes.carry_line.Goals as goal
 
 -- a statement in range has a schema in range
@@ -72,4 +72,24 @@ returns-in_ok-index-in-Index-clause-led g c =
 
 -- a journal keeps no other statement
 pub returns-in_default : goal.returns-in_default
-returns-in_default g c = absurd (kept_ones c.args.statement c.requires.kept c.in_default.not-Create c.in_default.not-Delete c.in_default.not-Index)
+returns-in_default g c = absurd (kept_ones c.args.statement c.requires.kept c.in_default.not-Create c.in_default.not-Delete c.in_default.not-Index c.in_default.not-Rtree)
+
+-- an R-tree that is refused
+pub returns-in_err-rtree-in-Rtree-clause-declined : goal.returns-in_err-rtree-in-Rtree-clause-declined
+returns-in_err-rtree-in-Rtree-clause-declined g c =
+    passed_on c.from_residual-in_err-rtree-in-Rtree.result (fault_of c.in_err-rtree-in-Rtree.field-0.0) (IsDeclined c.args.store.now (Line (line_value c.args.statement))) c.from_residual-in_err-rtree-in-Rtree.ensures.1
+    (line_declined c.args.store.now c.args.statement (Rtree c.in-Rtree.column)
+    (model.Rtree (record { relation = c.in-Rtree.column.relation; column = c.in-Rtree.column.column })) is_none c.in_err-rtree-in-Rtree.field-0.0
+    (rtree_is c.args.statement c.in-Rtree.column c.in-Rtree.is) (λ setting takes. takes) (λ check. check)
+    (subst (λ (n : List ℕ). IsRefusedBy is_none c.args.store.now (model.Rtree (record { relation = n; column = c.in-Rtree.column.column })) c.in_err-rtree-in-Rtree.field-0.0) c.as_str-in-Rtree.ensures
+    (subst (λ (n : List ℕ). IsRefusedBy is_none c.args.store.now (model.Rtree (record { relation = c.as_str-in-Rtree.result.now; column = n })) c.in_err-rtree-in-Rtree.field-0.0) c.as_str-in-Rtree-2.ensures
+    c.in_err-rtree-in-Rtree.ensures.refused)))
+
+-- an R-tree that was made
+pub returns-in_ok-rtree-in-Rtree-clause-led : goal.returns-in_ok-rtree-in-Rtree-clause-led
+returns-in_ok-rtree-in-Rtree-clause-led g c =
+    subst (λ (v : Statement). LedByOne (Line v) c.args.store.now c.rtree.new.self) (sym (rtree_is c.args.statement c.in-Rtree.column c.in-Rtree.is))
+    (led_by_rtree c.args.store.now c.rtree.new.self c.in-Rtree.column
+    (subst (λ (n : List ℕ). Treed c.args.store.now c.rtree.new.self (record { relation = n; column = c.in-Rtree.column.column })) c.as_str-in-Rtree.ensures
+    (subst (λ (n : List ℕ). Treed c.args.store.now c.rtree.new.self (record { relation = c.as_str-in-Rtree.result.now; column = n })) c.as_str-in-Rtree-2.ensures c.in_ok-rtree-in-Rtree.ensures.treed))
+    c.rtree.ensures.carries)

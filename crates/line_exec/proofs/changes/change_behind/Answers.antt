@@ -32,6 +32,12 @@ returns-in-Index-clause-answers g c = λ cs.
     (while_open c.index.new.store (g.H.Shelf.files c.args.shelf.now) (g.H.Shelf.faults c.args.shelf.now) cs) (line_of_answer c.index.result ∷ [])) (sym c.in-Index.is)
     (c.index.ensures.performs cs (g.H.Shelf.files c.args.shelf.now) (g.H.Shelf.faults c.args.shelf.now))
 
+pub returns-in-Rtree-clause-answers : goal.returns-in-Rtree-clause-answers
+returns-in-Rtree-clause-answers g c = λ cs.
+    subst (λ (s : Statement). Performs (statement_value s) (while_open c.args.store.now (g.H.Shelf.files c.args.shelf.now) (g.H.Shelf.faults c.args.shelf.now) cs)
+    (while_open c.rtree.new.store (g.H.Shelf.files c.args.shelf.now) (g.H.Shelf.faults c.args.shelf.now) cs) (line_of_answer c.rtree.result ∷ [])) (sym c.in-Rtree.is)
+    (c.rtree.ensures.performs cs (g.H.Shelf.files c.args.shelf.now) (g.H.Shelf.faults c.args.shelf.now))
+
 -- the relation of a load has a name
 pub load-requires : goal.load-requires
 load-requires g c = (subst (λ (s : Statement). IsInRange (statement_value s)) c.in-Load.is c.requires.in_range).0
@@ -54,3 +60,6 @@ returns-in-Delete-clause-counts g c = counted_alike c.args.store.now.pool c.dele
 
 pub returns-in-Index-clause-counts : goal.returns-in-Index-clause-counts
 returns-in-Index-clause-counts g c = counted_alike c.args.store.now.pool c.index.new.store.pool (g.H.Shelf.faults c.args.shelf.now) (g.H.Shelf.faults c.args.shelf.now) c.index.result c.index.ensures.cause refl
+
+pub returns-in-Rtree-clause-counts : goal.returns-in-Rtree-clause-counts
+returns-in-Rtree-clause-counts g c = counted_alike c.args.store.now.pool c.rtree.new.store.pool (g.H.Shelf.faults c.args.shelf.now) (g.H.Shelf.faults c.args.shelf.now) c.rtree.result c.rtree.ensures.cause refl

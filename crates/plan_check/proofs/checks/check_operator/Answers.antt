@@ -24,7 +24,7 @@ returns-in-Scan c = λ is_catalog pages.
 pub returns-in-PickEqual : goal.returns-in-PickEqual
 returns-in-PickEqual c = λ is_catalog pages.
     let d = database_in pages c.args.catalog.now.relations in
-    c.check_column.ensures is_catalog pages
+    c.check_column-in-PickEqual.ensures is_catalog pages
     ∙ (ap (λ (k : Kind). check_column d c.in-PickEqual.column (is_asked (asked.EqualTo k))) c.kind.ensures
     ∙ ap (λ (p : Plan). check_operator d (plan_value p)) (sym c.in-PickEqual.is))
 
@@ -83,3 +83,8 @@ returns-in-Rank c = λ is_catalog pages.
     let same : check_column d c.in-Rank.column (is_asked asked.Spatial) ≡ check c.args.plan.now =
     elim c.in-Rank.is [ inl h ↦ ap check (sym h.2) | inr h ↦ ap check (sym h.1) ] in
     c.check_column-in-Rank.ensures is_catalog pages ∙ same
+
+pub returns-in-Near : goal.returns-in-Near
+returns-in-Near c = λ is_catalog pages.
+    let d = database_in pages c.args.catalog.now.relations in
+    c.check_column.ensures is_catalog pages ∙ ap (λ (p : Plan). check_operator d (plan_value p)) (sym c.in-Near.is)

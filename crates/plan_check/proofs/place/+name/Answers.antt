@@ -29,8 +29,9 @@ returns-in-Rank t c =
     let names : c.in-Rank.column.relation ∷ [] ≡ names_of c.args.plan.now =
     elim c.in-Rank.is [
       | inl h ↦ ap names_of (sym h.2)
-      | inr (inl h) ↦ ap names_of (sym h.1)
+      | inr (inl h) ↦ ap names_of (sym h.2)
       | inr (inr (inl h)) ↦ ap names_of (sym h.1)
-      | inr (inr (inr h)) ↦ ap names_of (sym h.2)
+      | inr (inr (inr (inl h))) ↦ ap names_of (sym h.1)
+      | inr (inr (inr (inr h))) ↦ ap names_of (sym h.2)
     ] in
     subst (λ (names : List (List ℕ)). IsSearched names c.args.at c.or_next-in-Rank.result) names (c.or_next-in-Rank.ensures [] c.args.at start)

@@ -51,17 +51,17 @@ returns-clause-store g c =
     let rs : List RelationView = c.args.relations.now.items in
     let r : RelationView = c.index-relation.result.now in
     let spans : List ℕ = c.take_over.new.self.spans in
-    let u : RelationView = grown_view r c.in-Ok-add.growth.file c.in-Ok-add.growth.paths.items spans in
+    let u : RelationView = grown_view r c.in-Ok-add.growth.file c.in-Ok-add.growth.paths.items c.in-Ok-add.growth.trees.items spans in
     let f = first_at c.args.name.now rs c.in-Some.at (place_seen c.place_of.result _ c.args.name.now c.deref.result.now rs c.place_of.ensures c.deref.ensures.value c.in-Some.is) in
     let again : c.index_mut.result.now ≡ r = read_twice rs c.in-Some.at r c.index_mut.result.now f.1 c.index-relation.ensures c.index_mut.ensures.value in
-    let same : c.take_over.new.self ≡ u = c.take_over.ensures.grown ∙ ap (λ y. grown_view y c.in-Ok-add.growth.file c.in-Ok-add.growth.paths.items spans) again in
+    let same : c.take_over.new.self ≡ u = c.take_over.ensures.grown ∙ ap (λ y. grown_view y c.in-Ok-add.growth.file c.in-Ok-add.growth.paths.items c.in-Ok-add.growth.trees.items spans) again in
     let L : RelationView → Type 0 = λ y. Learnt y.spans y.next c.in-Ok-add.growth.span spans in
     let became : IsTold c.args.pool.now → Became c.args.pool.now.pages c.add.new.pool.pages c.args.limits r u (λ gap. with_row gap c.args.row.now) =
     λ told. (c.in-Ok-add.ensures.grew told).became spans (subst L again c.take_over.ensures.learnt) in
     put_in_place c.args.pool.now c.add.new.pool c.args.limits c.args.name.now rs (set rs c.in-Some.at c.take_over.new.self) c.in-Some.at r u (λ gap. with_row gap c.args.row.now)
     c.requires.store f.0 f.1 c.index-relation.ensures (ap (λ y. set rs c.in-Some.at y) same) refl
-    (grown_described c.args.limits r c.in-Ok-add.growth.file c.in-Ok-add.growth.paths.items spans c.args.row.now
-    (described_at c.args.pool.now rs c.args.limits c.in-Some.at r c.requires.store f.1 c.index-relation.ensures) c.in-Ok.ensures.passes c.in-Ok-add.ensures.places)
+    (grown_described c.args.limits r c.in-Ok-add.growth.file c.in-Ok-add.growth.paths.items c.in-Ok-add.growth.trees.items spans c.args.row.now
+    (described_at c.args.pool.now rs c.args.limits c.in-Some.at r c.requires.store f.1 c.index-relation.ensures) c.in-Ok.ensures.passes c.in-Ok-add.ensures.places c.in-Ok-add.ensures.columns)
     c.in-Ok-add.ensures.told c.in-Ok-add.ensures.closed became
 
 pub returns-clause-inserted : goal.returns-clause-inserted
@@ -69,10 +69,10 @@ returns-clause-inserted g c =
     let rs : List RelationView = c.args.relations.now.items in
     let r : RelationView = c.index-relation.result.now in
     let spans : List ℕ = c.take_over.new.self.spans in
-    let u : RelationView = grown_view r c.in-Ok-add.growth.file c.in-Ok-add.growth.paths.items spans in
+    let u : RelationView = grown_view r c.in-Ok-add.growth.file c.in-Ok-add.growth.paths.items c.in-Ok-add.growth.trees.items spans in
     let f = first_at c.args.name.now rs c.in-Some.at (place_seen c.place_of.result _ c.args.name.now c.deref.result.now rs c.place_of.ensures c.deref.ensures.value c.in-Some.is) in
     let again : c.index_mut.result.now ≡ r = read_twice rs c.in-Some.at r c.index_mut.result.now f.1 c.index-relation.ensures c.index_mut.ensures.value in
-    let same : c.take_over.new.self ≡ u = c.take_over.ensures.grown ∙ ap (λ y. grown_view y c.in-Ok-add.growth.file c.in-Ok-add.growth.paths.items spans) again in
+    let same : c.take_over.new.self ≡ u = c.take_over.ensures.grown ∙ ap (λ y. grown_view y c.in-Ok-add.growth.file c.in-Ok-add.growth.paths.items c.in-Ok-add.growth.trees.items spans) again in
     let L : RelationView → Type 0 = λ y. Learnt y.spans y.next c.in-Ok-add.growth.span spans in
     let became : IsTold c.args.pool.now → Became c.args.pool.now.pages c.add.new.pool.pages c.args.limits r u (λ gap. with_row gap c.args.row.now) =
     λ told. (c.in-Ok-add.ensures.grew told).became spans (subst L again c.take_over.ensures.learnt) in
@@ -81,4 +81,4 @@ returns-clause-inserted g c =
     subst P (sym (ap (λ y. y.next) c.relation.view_is))
     (inserted_is c.args.pool.now c.add.new.pool c.args.limits c.args.name.now c.args.row.now rs us c.in-Some.at r u
     c.requires.store f.0 f.1 c.index-relation.ensures (ap (λ y. set rs c.in-Some.at y) same) c.in-Ok.ensures.passes
-    (grown_sketch r c.in-Ok-add.growth.file c.in-Ok-add.growth.paths.items spans c.in-Ok-add.ensures.places) became)
+    (grown_sketch r c.in-Ok-add.growth.file c.in-Ok-add.growth.paths.items c.in-Ok-add.growth.trees.items spans c.in-Ok-add.ensures.places c.in-Ok-add.ensures.columns) became)

@@ -21,8 +21,8 @@ pub returns-in-Ok-with_row-clause-counts : goal.returns-in-Ok-with_row-clause-co
 returns-in-Ok-with_row-clause-counts g c =
     let P : RelationView → Type 0 = λ u. Counts c.args.limits c.args.relation.now u 1 in
     subst P (sym c.take_over.ensures.grown)
-    (counts_one c.args.limits c.args.relation.now c.in-Ok-with_row.growth.file c.in-Ok-with_row.growth.paths.items c.take_over.new.self.spans c.args.row.now c.requires.described
-    c.in-Ok.ensures.passes c.in-Ok-with_row.ensures.places)
+    (counts_one c.args.limits c.args.relation.now c.in-Ok-with_row.growth.file c.in-Ok-with_row.growth.paths.items c.in-Ok-with_row.growth.trees.items c.take_over.new.self.spans c.args.row.now c.requires.described
+    c.in-Ok.ensures.passes c.in-Ok-with_row.ensures.places c.in-Ok-with_row.ensures.columns)
 
 pub returns-in-Ok-with_row-clause-became : goal.returns-in-Ok-with_row-clause-became
 returns-in-Ok-with_row-clause-became g c = λ told.

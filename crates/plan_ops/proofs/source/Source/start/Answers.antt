@@ -5,8 +5,8 @@ use Rattle.sand_model.specs.Checks.{check_relation}
 use Rattle.sand_store.specs.Contents.{database_in}
 use Rattle.plan_ops.specs.Sources.{source_at}
 use Rattle.plan_ops.specs.declared.source.Source.TheVariants as source
-use Rattle.plan_ops.proofs.Started.{scan_checked, rank_checked, window_checked, pick_checked, ints_checked, join_checked, semi_checked, knn_checked}
-use Rattle.plan_ops.proofs.Started.{rank_untaken, rank_ranks, window_ranks, join_untaken, semi_untaken, knn_untaken}
+use Rattle.plan_ops.proofs.Started.{scan_checked, rank_checked, near_checked, window_checked, pick_checked, ints_checked, join_checked, semi_checked, knn_checked}
+use Rattle.plan_ops.proofs.Started.{rank_untaken, near_untaken, rank_ranks, window_ranks, join_untaken, semi_untaken, knn_untaken}
 use Rattle.plan_ops.proofs.source.Source.start.Goals as goal
 
 pub scan-requires : goal.scan-requires
@@ -17,6 +17,10 @@ scan-requires c = λ pages.
 pub tree_column-requires-clause-checked : goal.tree_column-requires-clause-checked
 tree_column-requires-clause-checked c =
     rank_checked c.args.catalog.now c.args.plan.now c.in-Rank.column c.in-Rank.goal c.in-Rank.within c.in-Rank.is c.requires.openable
+
+pub rtree_column-requires-clause-checked : goal.rtree_column-requires-clause-checked
+rtree_column-requires-clause-checked c =
+    near_checked c.args.catalog.now c.args.plan.now c.in-Near.column c.in-Near.goal c.in-Near.within c.in-Near.is c.requires.openable
 
 pub tree_column-requires-in-Window-clause-checked : goal.tree_column-requires-in-Window-clause-checked
 tree_column-requires-in-Window-clause-checked c =
@@ -62,6 +66,14 @@ returns-in_ok-ranked-in-Rank-clause-begun c =
     (figure.Shape c.in_ok-copy-in-Rank.field-0) c.in-Rank.within c.args.plan.now c.requires.openable
     (record { named = h.named; spatial = h.spatial; tree_of = h.tree; stands = h.stands }) c.in_ok-ranked-in-Rank.ensures.begun
     (rank_ranks c.args.plan.now c.in-Rank.column c.in-Rank.goal c.in_ok-copy-in-Rank.field-0 c.in-Rank.within c.in-Rank.is c.in_ok-copy-in-Rank.ensures)
+
+pub returns-in_ok-near-in-Near-clause-begun : goal.returns-in_ok-near-in-Near-clause-begun
+returns-in_ok-near-in-Near-clause-begun c =
+    let f = c.rtree_column.result in
+    let h = c.rtree_column.ensures in
+    near_untaken (source_at (source.Near c.in_ok-near-in-Near.near)) c.args.catalog.now c.in-Near.column f.relation.now f.column f.tree
+    c.in-Near.goal c.in_ok-goal-in-Near.goal c.in-Near.within c.args.plan.now c.requires.openable
+    (record { named = h.named; tree_of = h.tree; described = h.described; stands = h.stands }) c.in_ok-near-in-Near.ensures.begun c.in-Near.is c.in_ok-goal-in-Near.ensures
 
 pub returns-in_ok-ranked-in-Window-clause-begun : goal.returns-in_ok-ranked-in-Window-clause-begun
 returns-in_ok-ranked-in-Window-clause-begun c =

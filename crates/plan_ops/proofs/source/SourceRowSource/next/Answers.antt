@@ -41,6 +41,9 @@ next-requires-in-Semi g c = record { stands = to_kind (Ready c.args.desk.now) c.
 pub next-requires-in-Knn : goal.next-requires-in-Knn
 next-requires-in-Knn g c = record { stands = to_kind (Ready c.args.desk.now) c.args.self.now (source.Knn c.in-Knn.source) c.in-Knn.is c.requires.stands }
 
+pub next-requires-in-Near : goal.next-requires-in-Near
+next-requires-in-Near g c = record { stands = to_kind (Ready c.args.desk.now) c.args.self.now (source.Near c.in-Near.source) c.in-Near.is c.requires.stands }
+
 pub returns-in-Semi-clause-step : goal.returns-in-Semi-clause-step
 returns-in-Semi-clause-step g c =
     of_kind (Stepped c.args.desk.now c.next-in-Semi.new.desk (source.Semi c.next-in-Semi.new.self) c.next-in-Semi.result) c.args.self.now (source.Semi c.in-Semi.source) c.in-Semi.is c.next-in-Semi.ensures.step
@@ -50,6 +53,10 @@ returns-in-Semi-clause-step g c =
 pub returns-in-Knn-clause-step : goal.returns-in-Knn-clause-step
 returns-in-Knn-clause-step g c =
     of_kind (Stepped c.args.desk.now c.next-in-Knn.new.desk (source.Knn c.next-in-Knn.new.self) c.next-in-Knn.result) c.args.self.now (source.Knn c.in-Knn.source) c.in-Knn.is c.next-in-Knn.ensures.step
+
+pub returns-in-Near-clause-step : goal.returns-in-Near-clause-step
+returns-in-Near-clause-step g c =
+    of_kind (Stepped c.args.desk.now c.next-in-Near.new.desk (source.Near c.next-in-Near.new.self) c.next-in-Near.result) c.args.self.now (source.Near c.in-Near.source) c.in-Near.is c.next-in-Near.ensures.step
 
 -- ---- what a call costs
 
@@ -104,14 +111,23 @@ returns-in-Semi-clause-heights g c = of_kind (HasHeights (source.Semi c.next-in-
 pub returns-in-Knn-clause-heights : goal.returns-in-Knn-clause-heights
 returns-in-Knn-clause-heights g c = of_kind (HasHeights (source.Knn c.next-in-Knn.new.self)) c.args.self.now (source.Knn c.in-Knn.source) c.in-Knn.is c.next-in-Knn.ensures.heights
 
+pub returns-in-Near-clause-heights : goal.returns-in-Near-clause-heights
+returns-in-Near-clause-heights g c = of_kind (HasHeights (source.Near c.next-in-Near.new.self)) c.args.self.now (source.Near c.in-Near.source) c.in-Near.is c.next-in-Near.ensures.heights
+
 pub returns-in-Semi-clause-step_price : goal.returns-in-Semi-clause-step_price
 returns-in-Semi-clause-step_price g c = of_kind (HasStepPrice (source.Semi c.next-in-Semi.new.self)) c.args.self.now (source.Semi c.in-Semi.source) c.in-Semi.is c.next-in-Semi.ensures.step_price
 
 pub returns-in-Knn-clause-step_price : goal.returns-in-Knn-clause-step_price
 returns-in-Knn-clause-step_price g c = of_kind (HasStepPrice (source.Knn c.next-in-Knn.new.self)) c.args.self.now (source.Knn c.in-Knn.source) c.in-Knn.is c.next-in-Knn.ensures.step_price
 
+pub returns-in-Near-clause-step_price : goal.returns-in-Near-clause-step_price
+returns-in-Near-clause-step_price g c = of_kind (HasStepPrice (source.Near c.next-in-Near.new.self)) c.args.self.now (source.Near c.in-Near.source) c.in-Near.is c.next-in-Near.ensures.step_price
+
 pub returns-in-Semi-clause-costs : goal.returns-in-Semi-clause-costs
 returns-in-Semi-clause-costs g c = of_kind (Paid c.args.desk.now c.next-in-Semi.new.desk (source.Semi c.next-in-Semi.new.self) c.next-in-Semi.result) c.args.self.now (source.Semi c.in-Semi.source) c.in-Semi.is c.next-in-Semi.ensures.costs
 
 pub returns-in-Knn-clause-costs : goal.returns-in-Knn-clause-costs
 returns-in-Knn-clause-costs g c = of_kind (Paid c.args.desk.now c.next-in-Knn.new.desk (source.Knn c.next-in-Knn.new.self) c.next-in-Knn.result) c.args.self.now (source.Knn c.in-Knn.source) c.in-Knn.is c.next-in-Knn.ensures.costs
+
+pub returns-in-Near-clause-costs : goal.returns-in-Near-clause-costs
+returns-in-Near-clause-costs g c = of_kind (Paid c.args.desk.now c.next-in-Near.new.desk (source.Near c.next-in-Near.new.self) c.next-in-Near.result) c.args.self.now (source.Near c.in-Near.source) c.in-Near.is c.next-in-Near.ensures.costs

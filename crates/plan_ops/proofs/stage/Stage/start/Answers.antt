@@ -1,5 +1,5 @@
 -- By the outermost operator: its places and columns passed their checks, and it begins over all pages over which the catalog stands.
-use Rattle.std.proofs.Common.{◌≡◌, List, None, map, subst, sym}
+use Rattle.std.proofs.Common.{◌≡◌, List, None, subst, sym}
 use Rattle.statements.specs.declared.column.Place.{Place}
 use Rattle.statements.specs.declared.plan.Plan.{Plan}
 use Rattle.statements.specs.declared.test.Test.{Test}

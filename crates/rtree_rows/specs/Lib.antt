@@ -1,0 +1,2 @@
+-- The rows that an R-tree lists.
+pub mod Listing
