@@ -18,6 +18,13 @@ const NUMBERED: &str = "create p (at point, pop int)\n\
     index q.at\n\
     insert p (1048575 1048575), 1\n";
 
+/// A relation of points with numbers, whose points have an R-tree and no quadtree.
+const TREED: &str = "create p (at point, pop int)\n\
+    load p \"points.csv\"\n\
+    rtree p.at\n\
+    index p.pop\n\
+    insert p (1048575 1048575), 1\n";
+
 /// 41 rows of a ranking.
 pub static RANKING: Taking = Taking {
     made: POINTS,
@@ -37,7 +44,7 @@ const THREE: &str = "next c 1\nnext c 1\nnext c 1\n";
 
 /// Three rows of other plans. The `show` before them puts other pages into the pool. A semi-join and a sort read most pages
 /// for their first row.
-pub static PLANS: [(&str, Taking); 4] = [
+pub static PLANS: [(&str, Taking); 5] = [
     (
         "calls of the disk that fail in three rows of a filter",
         Taking {
@@ -65,6 +72,17 @@ pub static PLANS: [(&str, Taking); 4] = [
         Taking {
             made: NUMBERED,
             before: "open c = semi p.at q.at\nshow 1 sort (scan p) by 1.pop\n",
+            struck: THREE,
+            after: "next c 5\n",
+            lacking: Lacking::LastRow,
+        },
+    ),
+    (
+        "calls of the disk that fail in three rows by an R-tree",
+        Taking {
+            made: TREED,
+            before: "open c = near p.at from (30000 30000)\nshow 1 sort (scan p) by 1.pop\n\
+                show 1 sort (match (scan p) 1.pop = p.pop) by 1.pop\n",
             struck: THREE,
             after: "next c 5\n",
             lacking: Lacking::LastRow,
@@ -101,7 +119,7 @@ const BETWEEN_CHANGES: &str =
 const ALL_THREE: &str = "next d 4\nnext e 4\nnext c 5\n";
 
 /// Rows of the one that was opened first, and changes beside all of them.
-pub static BESIDE_CHANGES: [(&str, Taking); 2] = [
+pub static BESIDE_CHANGES: [(&str, Taking); 3] = [
     (
         "calls of the disk that fail in three rows of a cursor beside changes",
         Taking {
@@ -119,6 +137,17 @@ pub static BESIDE_CHANGES: [(&str, Taking); 2] = [
             before: BETWEEN_CHANGES,
             struck: "delete p 14\ndelete p 600\ndelete p 1200\n",
             after: ALL_THREE,
+            lacking: Lacking::Change,
+        },
+    ),
+    (
+        "calls of the disk that fail in three changes of an R-tree",
+        Taking {
+            made: TREED,
+            before: "open c = near p.at from (30000 30000)\nnext c 5\n\
+                show 1 sort (scan p) by 1.pop\n",
+            struck: "delete p 14\ninsert p (30000 30001), 7\ndelete p 600\n",
+            after: "next c 5\n",
             lacking: Lacking::Change,
         },
     ),
