@@ -114,7 +114,8 @@ between_behind m x low high after from o d i fit ef e is r over =
     sym (entry_is low high after es None
     (all_behind Kept (wanted low high after) from d es (searched low high after from fit ef) (λ k p l. greater_at low high after d.0 k r one over p l) kept i.index.tree.at.ascending (sym e ∙ is)))
 
-pub between_found : (m : Store) (x : AttrIndex) (low high : ℤ) (after : Option IntEntry) (from : ℕ) (o : Option Pair) (d : Pair) (entry : IntEntry) → IsIntIndex m x → IsFitEntry after → from ≡ least_place low after
+pub between_found : (m : Store) (x : AttrIndex) (low high : ℤ) (after : Option IntEntry) (from : ℕ) (o : Option Pair) (d : Pair) (entry : IntEntry) → IsIntIndex m x
+    → IsFitEntry after → from ≡ least_place low after
     → o ≡ ceiling_item from (tree_items m x.tree) → o ≡ Some d → entry.0 ≡ int_from (d.0 / 2 ^ 64) → entry.1 ≡ d.0 % 2 ^ 32 → low ≤ℤ entry.0 → entry.0 ≤ℤ high → is_after after entry ≡ true
     → Some entry ≡ between_entry low high after (int_entries (entries_at m x))
 between_found m x low high after from o d entry i fit ef e is number id least most behind =

@@ -44,7 +44,8 @@ int_key_is (value.Int n) fit e = (n, (fit, refl))
 int_key_is (value.Text bytes) fit e = absurd (true≢false (sym (ap (λ k. same_kind k kind.Int) e)))
 int_key_is (value.Shape s) fit e = absurd (true≢false (sym (ap (λ k. same_kind k kind.Int) e) ∙ no_int s))
 
-pub added : (m w : Store) (x : AttrIndex) (u : Tree) (v : Value) (id place kept : ℕ) (was : Option ℕ) → IsAttribute v → IsFit v → id < 2 ^ 32 → place ≡ entry_number (key_of v, id) → kept ≡ text_length v
+pub added : (m w : Store) (x : AttrIndex) (u : Tree) (v : Value) (id place kept : ℕ) (was : Option ℕ) → IsAttribute v → IsFit v → id < 2 ^ 32
+    → place ≡ entry_number (key_of v, id) → kept ≡ text_length v
     → IsAttrIndex m x → of_tree.Inserted m w x.tree u place kept was → Added m w x (record { tree = u }) v id
 added m w x u v id place kept was attr fit small ep ek is i =
     let y : AttrIndex = record { tree = u } in
@@ -60,7 +61,8 @@ added m w x u v id place kept was attr fit small ep ek is i =
       pairs = pairs;
       ints = λ of_int old. record {
         index = index;
-        ints = each_same (λ e. IsIntKey e.0) (entries_at w y) (with_entry (key_of v, id) (entries_at m x)) same (each_with (λ e. IsIntKey e.0) (key_of v, id) (entries_at m x) (int_key_is v fit of_int) old.ints);
+        ints = each_same (λ e. IsIntKey e.0) (entries_at w y) (with_entry (key_of v, id) (entries_at m x)) same
+            (each_with (λ e. IsIntKey e.0) (key_of v, id) (entries_at m x) (int_key_is v fit of_int) old.ints);
       };
       keeps = i.keeps;
     }

@@ -37,7 +37,8 @@ searched : (key after from : ℕ) → from ≡ entry_number (key, after) + 1 →
 searched key after from ef = record { lesser = λ k p l. has_not key after k (omega (arith, l, ef)) }
 
 -- the id that the pair found stands for
-id_is : (key after : ℕ) (es : List Pair) (o : Option Pair) → find (λ e. has key after e.0) es ≡ o → equal_id key after (entries es) ≡ option_map (λ (d : Entry). d.1) (option_map (λ (e : Pair). entry_of e.0) o)
+id_is : (key after : ℕ) (es : List Pair) (o : Option Pair) → find (λ e. has key after e.0) es ≡ o
+    → equal_id key after (entries es) ≡ option_map (λ (d : Entry). d.1) (option_map (λ (e : Pair). entry_of e.0) o)
 id_is key after es o h =
     let f : Pair → Entry = λ e. entry_of e.0 in
     let q : Entry → Bool = λ d. nat_eq d.0 key && nat_lt after d.1 in
@@ -55,7 +56,8 @@ equal_behind m x key after from o d i ef e is other =
     let es : List Pair = tree_items m x.tree in
     let reached : from ≤ d.0 = ceiling_reached from d es (sym e ∙ is) in
     sym (id_is key after es None
-    (all_behind Kept (has key after) from d es (searched key after from ef) (λ k p l. other_key key after from d.0 k ef reached other l) (Each-pairs (λ c. IsKey c.0) es i.keys) i.tree.at.ascending (sym e ∙ is)))
+    (all_behind Kept (has key after) from d es (searched key after from ef) (λ k p l. other_key key after from d.0 k ef reached other l)
+    (Each-pairs (λ c. IsKey c.0) es i.keys) i.tree.at.ascending (sym e ∙ is)))
 
 pub equal_found : (m : Store) (x : AttrIndex) (key after from : ℕ) (o : Option Pair) (d : Pair) → IsAttrIndex m x → from ≡ entry_number (key, after) + 1
     → o ≡ ceiling_item from (tree_items m x.tree) → o ≡ Some d → d.0 / 2 ^ 32 ≡ key → after < d.0 % 2 ^ 32 → Some (d.0 % 2 ^ 32) ≡ equal_id key after (entries_at m x)

@@ -25,7 +25,8 @@ entry_back key id h =
 entries-filter : (p : ℕ → Bool) (es : List Pair) → entries (filter (λ e. p e.0) es) ≡ filter (λ d. p (entry_number d)) (entries es)
 entries-filter p [] = refl
 entries-filter p (e ∷ es) =
-    (elim (p e.0) as (λ b. entries (cond b (e ∷ filter (λ i. p i.0) es) (filter (λ i. p i.0) es)) ≡ cond b (entry_of e.0 ∷ filter (λ d. p (entry_number d)) (entries es)) (filter (λ d. p (entry_number d)) (entries es))) [
+    (elim (p e.0) as (λ b. entries (cond b (e ∷ filter (λ i. p i.0) es) (filter (λ i. p i.0) es))
+    ≡ cond b (entry_of e.0 ∷ filter (λ d. p (entry_number d)) (entries es)) (filter (λ d. p (entry_number d)) (entries es))) [
       | true ↦ ap (λ (r : List Entry). entry_of e.0 ∷ r) (entries-filter p es)
       | false ↦ entries-filter p es
     ])

@@ -31,7 +31,8 @@ none_left P test from (e ∷ es) s h c = elim (leb_tells (suc e.0) from) [
 ]
 
 -- the least key from there on passes
-pub one_found : (P : ℕ → Type 0) (test : ℕ → Bool) (from : ℕ) (d : Pair) (es : List Pair) → IsSearch P test from → Each (λ e. P e.0) es → ceiling_item from es ≡ Some d → test d.0 ≡ true → find (λ e. test e.0) es ≡ Some d
+pub one_found : (P : ℕ → Type 0) (test : ℕ → Bool) (from : ℕ) (d : Pair) (es : List Pair) → IsSearch P test from → Each (λ e. P e.0) es → ceiling_item from es ≡ Some d
+    → test d.0 ≡ true → find (λ e. test e.0) es ≡ Some d
 one_found P test from d [] s h c t = absurd (none-some d c)
 one_found P test from d (e ∷ es) s h c t = elim (leb_tells (suc e.0) from) [
   | inl x ↦
@@ -50,7 +51,8 @@ none_above P test top (e ∷ es) greater h a =
     ap (λ (b : Bool). cond b (Some e) (find (λ i. test i.0) es)) (greater e.0 h.0 (omega (arith, l))) ∙ none_above P test top es greater h.1 a.1
 
 -- the least key from there on is too great, and so are those behind it
-pub all_behind : (P : ℕ → Type 0) (test : ℕ → Bool) (from : ℕ) (d : Pair) (es : List Pair) → IsSearch P test from → ((k : ℕ) → P k → d.0 ≤ k → test k ≡ false) → Each (λ e. P e.0) es → Ascending es → ceiling_item from es ≡ Some d
+pub all_behind : (P : ℕ → Type 0) (test : ℕ → Bool) (from : ℕ) (d : Pair) (es : List Pair) → IsSearch P test from → ((k : ℕ) → P k → d.0 ≤ k → test k ≡ false)
+    → Each (λ e. P e.0) es → Ascending es → ceiling_item from es ≡ Some d
     → find (λ e. test e.0) es ≡ None
 all_behind P test from d [] s greater h a c = refl
 all_behind P test from d (e ∷ es) s greater h a c = elim (leb_tells (suc e.0) from) [

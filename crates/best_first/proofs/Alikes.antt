@@ -125,6 +125,8 @@ is_found m laws a items h = record {
   alike = h;
   nodes = alike_nodes items (m.finds a) h;
   gaps = All-by (HasGap m) items (λ x at. let (y, among, is) = alike_from items (m.finds a) x h at in alike_has_gap m x y is (All-contains (HasGap m) (m.finds a) y (laws.gaps a) among));
-  bound = All-by (λ item. IsAtMost (m.gap a) (gap_of item)) items (λ x at. let (y, among, is) = alike_from items (m.finds a) x h at in at_most_trans (m.gap a) (gap_of y) (gap_of x) (All-contains (λ item. IsAtMost (m.gap a) (gap_of item)) (m.finds a) y (laws.bound a) among) (equal_at_least (gap_of x) (gap_of y) (alike_gaps x y is)));
+  bound = All-by (λ item. IsAtMost (m.gap a) (gap_of item)) items (λ x at. let (y, among, is) = alike_from items (m.finds a) x h at in
+      at_most_trans (m.gap a) (gap_of y) (gap_of x) (All-contains (λ item. IsAtMost (m.gap a) (gap_of item)) (m.finds a) y (laws.bound a) among)
+      (equal_at_least (gap_of x) (gap_of y) (alike_gaps x y is)));
   honest = All-by (IsHonest m) items (λ x at. let (y, among, is) = alike_from items (m.finds a) x h at in alike_honest m x y is (All-contains (IsHonest m) (m.finds a) y (laws.honest a) among));
 }

@@ -28,7 +28,8 @@ pub record Gives {N : Type 0} (cmp : N → N → Ordering) (mid new : SearchStat
   pub desk : new.desk ≡ mid.desk
 
 -- the number of steps after the answer
-pub answer_falls : {N : Type 0} (cmp : N → N → Ordering) (weight : N → ℕ) (old : ℕ) (mid new : SearchState N) (row : Option Hit) → steps weight mid.held ≤ old → Gives cmp mid new row → Falls old (steps weight new.held) (Ok row)
+pub answer_falls : {N : Type 0} (cmp : N → N → Ordering) (weight : N → ℕ) (old : ℕ) (mid new : SearchState N) (row : Option Hit) → steps weight mid.held ≤ old
+    → Gives cmp mid new row → Falls old (steps weight new.held) (Ok row)
 answer_falls cmp weight old mid new None h gives = let same = ap (steps weight) (gives.queue.1 ∙ sym gives.queue.0) in omega arith
 answer_falls cmp weight old mid new (Some hit) h gives = let less = give_falls cmp weight mid.held new.held hit gives.queue.taken in omega arith
 
@@ -38,11 +39,13 @@ answer_last cmp old mid new None e gives = gives.last ∙ e
 answer_last cmp old mid new (Some hit) e gives = gives.last
 
 module _ {N : Type 0} {cmp : N → N → Ordering} (o : IsTotalOrder cmp) (m : Meaning N) (laws : MeetsLaws m) (note : Item N → Visit) where
-  one_row : (done : List (Item N)) (last : Option Hit) (mid new : SearchState N) (row : Option Hit) → mid.last ≡ last → Stands cmp m mid.held mid.last done → Gives cmp mid new row → GivesNext m last (Ok row)
+  one_row : (done : List (Item N)) (last : Option Hit) (mid new : SearchState N) (row : Option Hit) → mid.last ≡ last → Stands cmp m mid.held mid.last done
+      → Gives cmp mid new row → GivesNext m last (Ok row)
   one_row done last mid new None e h gives = is_exhausted o m laws mid.held last gives.queue.0 (subst (λ l. Rattle.best_first.specs.Frontier.Covers cmp m mid.held l) e h.covers)
   one_row done last mid new (Some hit) e h gives =
       is_next o m laws mid.held last hit gives.queue.front.queued gives.queue.front.least (All-right (HasGap m) done mid.held h.tracks.gaps)
-      (All-contains (λ item. within m.ceiling (gap_of item) ≡ true) mid.held (row_of hit) (All-right (λ item. within m.ceiling (gap_of item) ≡ true) done mid.held h.tracks.inside) gives.queue.front.queued)
+      (All-contains (λ item. within m.ceiling (gap_of item) ≡ true) mid.held (row_of hit)
+      (All-right (λ item. within m.ceiling (gap_of item) ≡ true) done mid.held h.tracks.inside) gives.queue.front.queued)
       (subst (λ l. Rattle.best_first.specs.Frontier.Covers cmp m mid.held l) e h.covers)
 
   all_visits : (old mid new : SearchState N) (row : Option Hit) → mid.last ≡ old.last → Goes cmp m note old mid → Gives cmp mid new row → MakesVisits cmp m note old new (Ok row)
@@ -58,23 +61,31 @@ module _ {N : Type 0} {cmp : N → N → Ordering} (o : IsTotalOrder cmp) (m : M
 
 module _ {N : Type 0} {cmp : N → N → Ordering} (o : IsTotalOrder cmp) (meaning : PageMap → Meaning N) (note : Item N → Visit) where
   -- the row that is given is the next one
-  pub answer_row : (pages : Option PageMap) (old mid new : SearchState N) (row : Option Hit) → mid.last ≡ old.last → IfSome pages (λ p. StandsOver cmp (meaning p) old.held old.last) → IfSome pages (λ p. Goes cmp (meaning p) note old mid) → Gives cmp mid new row → IfSome pages (λ p. GivesNext (meaning p) old.last (Ok row))
+  pub answer_row : (pages : Option PageMap) (old mid new : SearchState N) (row : Option Hit) → mid.last ≡ old.last
+      → IfSome pages (λ p. StandsOver cmp (meaning p) old.held old.last) → IfSome pages (λ p. Goes cmp (meaning p) note old mid) → Gives cmp mid new row
+      → IfSome pages (λ p. GivesNext (meaning p) old.last (Ok row))
   answer_row None old mid new row e stands goes gives = tt
   answer_row (Some p) old mid new row e (laws, (done, h)) goes gives =
       let makes = goes done h in
       one_row o (meaning p) laws note (done ++ makes.taken) old.last mid new row e makes.stands gives
 
   -- the visits of an answered call
-  pub answer_visits : (pages : Option PageMap) (old mid new : SearchState N) (row : Option Hit) → mid.last ≡ old.last → IfSome pages (λ p. StandsOver cmp (meaning p) old.held old.last) → IfSome pages (λ p. Goes cmp (meaning p) note old mid) → Gives cmp mid new row → IfSome pages (λ p. MakesVisits cmp (meaning p) note old new (Ok row))
+  pub answer_visits : (pages : Option PageMap) (old mid new : SearchState N) (row : Option Hit) → mid.last ≡ old.last
+      → IfSome pages (λ p. StandsOver cmp (meaning p) old.held old.last) → IfSome pages (λ p. Goes cmp (meaning p) note old mid) → Gives cmp mid new row
+      → IfSome pages (λ p. MakesVisits cmp (meaning p) note old new (Ok row))
   answer_visits None old mid new row e stands goes gives = tt
   answer_visits (Some p) old mid new row e (laws, _) goes gives = all_visits o (meaning p) laws note old mid new row e goes gives
 
   -- the visits of a refused call
-  pub refusal_visits : (pages : Option PageMap) (old new : SearchState N) (fault : PageFault) → new.last ≡ old.last → IfSome pages (λ p. StandsOver cmp (meaning p) old.held old.last) → IfSome pages (λ p. Fails cmp (meaning p) note old new) → IfSome pages (λ p. MakesVisits cmp (meaning p) note old new (Err fault))
+  pub refusal_visits : (pages : Option PageMap) (old new : SearchState N) (fault : PageFault) → new.last ≡ old.last
+      → IfSome pages (λ p. StandsOver cmp (meaning p) old.held old.last) → IfSome pages (λ p. Fails cmp (meaning p) note old new)
+      → IfSome pages (λ p. MakesVisits cmp (meaning p) note old new (Err fault))
   refusal_visits None old new fault e stands fails = tt
   refusal_visits (Some p) old new fault e (laws, _) fails = gives_fault o (meaning p) laws note old new fault fails e
 
   -- a search stands after a call
-  pub stands_after : (pages : Option PageMap) (old new : SearchState N) (result : Result (Option Hit) PageFault) → IfSome pages (λ p. StandsOver cmp (meaning p) old.held old.last) → IfSome pages (λ p. MakesVisits cmp (meaning p) note old new result) → IfSome pages (λ p. StandsOver cmp (meaning p) new.held new.last)
+  pub stands_after : (pages : Option PageMap) (old new : SearchState N) (result : Result (Option Hit) PageFault)
+      → IfSome pages (λ p. StandsOver cmp (meaning p) old.held old.last) → IfSome pages (λ p. MakesVisits cmp (meaning p) note old new result)
+      → IfSome pages (λ p. StandsOver cmp (meaning p) new.held new.last)
   stands_after None old new result stands visits = tt
   stands_after (Some p) old new result (laws, (done, h)) visits = let call = visits done h in (laws, (done ++ call.makes.taken, call.makes.stands))

@@ -1,7 +1,9 @@
 -- Lists as bags: what stands in a list, and what a flat_map and a filter do to a permutation.
-use Rattle.std.proofs.Common.{◌≡◌, ℕ, zero, suc, ◌<◌, ◌≤◌, Bool, true, false, cond, List, [], ◌∷◌, ◌++◌, length, get_or, set, swap, All, Contains, filter, flat_map, IsPermutation, ◌⊎◌, inl, inr, ⊎_elim, refl, sym, ap, ◌∙◌, subst, arith, true≢false, append_assoc}
+use Rattle.std.proofs.Common.{◌≡◌, ℕ, zero, suc, ◌<◌, ◌≤◌, Bool, true, false, cond, List, [], ◌∷◌, ◌++◌, length, get_or, set, swap, All, Contains, filter, flat_map}
+use Rattle.std.proofs.Common.{IsPermutation, ◌⊎◌, inl, inr, ⊎_elim, refl, sym, ap, ◌∙◌, subst, arith, true≢false, append_assoc}
 use Rattle.std.proofs.lemmas.List.{get_or_default}
-use Rattle.std.proofs.lemmas.List.Elements.{All-contains, All-contains_itself, All-nil, All-cons, All-head, All-tail, All-filter, filter_passes, filter-append, Contains-get_or, Contains-append_left, Contains-append_right, Contains-append_cases}
+use Rattle.std.proofs.lemmas.List.Elements.{All-contains, All-contains_itself, All-nil, All-cons, All-head, All-tail, All-filter, filter_passes, filter-append}
+use Rattle.std.proofs.lemmas.List.Elements.{Contains-get_or, Contains-append_left, Contains-append_right, Contains-append_cases}
 use Rattle.std.proofs.lemmas.List.Sorted.{IsPermutation-refl, IsPermutation-trans, IsPermutation-append_left, IsPermutation-append_right, IsPermutation-append_comm, IsPermutation-keeps}
 
 -- ---- what stands in a list
@@ -95,7 +97,8 @@ pub filter_short : {X : Type 0} (p : X → Bool) (xs : List X) → length (filte
 filter_short p [] = omega arith
 filter_short p (x ∷ xs) =
     let rest = filter_short p xs in
-    let go : (b : Bool) → p x ≡ b → length (filter p (x ∷ xs)) ≤ length (x ∷ xs) = elim [ true ↦ λ e. (let same = ap length (filter_here p x xs e) in omega arith) | false ↦ λ e. (let same = ap length (filter_skips p x xs e) in omega arith) ] in
+    let go : (b : Bool) → p x ≡ b → length (filter p (x ∷ xs)) ≤ length (x ∷ xs) =
+    elim [ true ↦ λ e. (let same = ap length (filter_here p x xs e) in omega arith) | false ↦ λ e. (let same = ap length (filter_skips p x xs e) in omega arith) ] in
     go (p x) refl
 
 pub filter_all : {X : Type 0} (p : X → Bool) (xs : List X) → All (λ x. p x ≡ true) xs → filter p xs ≡ xs
@@ -112,11 +115,13 @@ pub filter-flat_map : {X A : Type 0} (p : A → Bool) (f : X → List A) (xs : L
 filter-flat_map p f [] = refl
 filter-flat_map p f (x ∷ xs) = filter-append p (f x) (flat_map f xs) ∙ ap (λ rest. filter p (f x) ++ rest) (filter-flat_map p f xs)
 
-filter_both_by : {X : Type 0} (p q : X → Bool) (x : X) (xs : List X) → (p x ≡ true → q x ≡ true) → filter p (filter q xs) ≡ filter p xs → (b : Bool) → q x ≡ b → filter p (filter q (x ∷ xs)) ≡ filter p (x ∷ xs)
+filter_both_by : {X : Type 0} (p q : X → Bool) (x : X) (xs : List X) → (p x ≡ true → q x ≡ true) → filter p (filter q xs) ≡ filter p xs → (b : Bool) → q x ≡ b
+    → filter p (filter q (x ∷ xs)) ≡ filter p (x ∷ xs)
 filter_both_by p q x xs narrow rest true e =
     ap (filter p) (filter_here q x xs e) ∙ ap (λ ys. cond (p x) (x ∷ ys) ys) rest
 filter_both_by p q x xs narrow rest false e =
-    ap (filter p) (filter_skips q x xs e) ∙ rest ∙ sym (filter_skips p x xs (elim (p x) as (λ b. (b ≡ true → q x ≡ true) → b ≡ false) [ true ↦ λ h. absurd (true≢false (sym (h refl) ∙ e)) | false ↦ λ h. refl ] narrow))
+    ap (filter p) (filter_skips q x xs e) ∙ rest
+    ∙ sym (filter_skips p x xs (elim (p x) as (λ b. (b ≡ true → q x ≡ true) → b ≡ false) [ true ↦ λ h. absurd (true≢false (sym (h refl) ∙ e)) | false ↦ λ h. refl ] narrow))
 
 -- a filter after a wider one is the filter alone
 pub filter_both : {X : Type 0} (p q : X → Bool) → ((x : X) → p x ≡ true → q x ≡ true) → (xs : List X) → filter p (filter q xs) ≡ filter p xs

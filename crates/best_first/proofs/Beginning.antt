@@ -36,7 +36,8 @@ module _ {N : Type 0} {cmp : N → N → Ordering} (o : IsTotalOrder cmp) (m : M
       }
 
   -- a search stands at its beginning
-  pub begun_stands : (ceiling : Option ℕ) (gap : Frac) (node : N) (held new : List (Item N)) → ceiling ≡ m.ceiling → (node ≡ m.root) × IsSameGap gap (m.gap node) → held ≡ [] → IsPermutation (kept (within ceiling) (Node gap node ∷ []) ++ held) new → Stands cmp m new None []
+  pub begun_stands : (ceiling : Option ℕ) (gap : Frac) (node : N) (held new : List (Item N)) → ceiling ≡ m.ceiling → (node ≡ m.root) × IsSameGap gap (m.gap node)
+      → held ≡ [] → IsPermutation (kept (within ceiling) (Node gap node ∷ []) ++ held) new → Stands cmp m new None []
   begun_stands ceiling gap node held new caps (is, same) empty put =
       let first : IsPermutation (kept (within m.ceiling) (Node gap m.root ∷ [])) new =
       subst (λ c. IsPermutation (kept (within c) (Node gap m.root ∷ [])) new) caps

@@ -1,5 +1,6 @@
 -- The number of steps falls with each step.
-use Rattle.std.proofs.Common.{◌≡◌, ℕ, ◌+◌, ◌*◌, ◌^◌, ◌≤◌, ◌<◌, List, [], ◌∷◌, ◌++◌, length, sum_by, filter, Bool, true, false, All, IsPermutation, Option, refl, sym, ap, ◌∙◌, subst, arith, Ordering, Equal, mul-le-mul_right}
+use Rattle.std.proofs.Common.{◌≡◌, ℕ, ◌+◌, ◌*◌, ◌^◌, ◌≤◌, ◌<◌, List, [], ◌∷◌, ◌++◌, length, sum_by, filter, Bool, true, false, All, IsPermutation, Option, refl, sym, ap}
+use Rattle.std.proofs.Common.{◌∙◌, subst, arith, Ordering, Equal, mul-le-mul_right}
 use Rattle.std.proofs.lemmas.List.Elements.{All-head, All-weaker}
 use Rattle.std.proofs.lemmas.List.Sums.{sum_by-cons, sum_by-append, sum_by-le}
 use Rattle.std.proofs.lemmas.List.Sorted.{sum_by-IsPermutation}
@@ -19,7 +20,12 @@ sum_filter f p [] = omega arith
 sum_filter f p (x ∷ xs) =
     let rest = sum_filter f p xs in
     let whole = sum_by-cons f x xs in
-    let go : (b : Bool) → p x ≡ b → sum_by f (filter p (x ∷ xs)) ≤ sum_by f (x ∷ xs) = elim [ true ↦ λ e. (let same = ap (sum_by f) (Rattle.best_first.proofs.Bags.filter_here p x xs e) in let grown = sum_by-cons f x (filter p xs) in omega arith) | false ↦ λ e. (let same = ap (sum_by f) (Rattle.best_first.proofs.Bags.filter_skips p x xs e) in omega arith) ] in
+    let go : (b : Bool) → p x ≡ b → sum_by f (filter p (x ∷ xs)) ≤ sum_by f (x ∷ xs) =
+    elim [
+      | true ↦ λ e. (let same = ap (sum_by f) (Rattle.best_first.proofs.Bags.filter_here p x xs e) in let grown = sum_by-cons f x (filter p xs) in
+          omega arith)
+      | false ↦ λ e. (let same = ap (sum_by f) (Rattle.best_first.proofs.Bags.filter_skips p x xs e) in omega arith)
+    ] in
     go (p x) refl
 
 -- what nodes weigh, and two steps for each item, bound the steps
@@ -38,7 +44,9 @@ less_steps : (sum weight : ℕ) → sum < weight → sum * 2 ^ 65 + 2 ^ 65 ≤ w
 less_steps sum weight h = let step : (sum + 1) * 2 ^ 65 ≤ weight * 2 ^ 65 = mul-le-mul_right (2 ^ 65) (omega arith) in omega arith
 
 -- an expansion lowers the number
-pub open_falls : {N : Type 0} (weight : N → ℕ) (old rest found new : List (Item N)) (x : Item N) (far : Frac) (node : N) (ceiling : Option ℕ) → x ≡ Node far node → IsPermutation old (x ∷ rest) → IsPermutation (filter (λ item. within ceiling (Rattle.best_first.specs.Item.gap_of item)) found ++ rest) new → AddsLess weight node [] found → length found < 2 ^ 64 → steps weight new < steps weight old
+pub open_falls : {N : Type 0} (weight : N → ℕ) (old rest found new : List (Item N)) (x : Item N) (far : Frac) (node : N) (ceiling : Option ℕ) → x ≡ Node far node
+    → IsPermutation old (x ∷ rest) → IsPermutation (filter (λ item. within ceiling (Rattle.best_first.specs.Item.gap_of item)) found ++ rest) new
+    → AddsLess weight node [] found → length found < 2 ^ 64 → steps weight new < steps weight old
 open_falls weight old rest found new x far node ceiling is taken put adds short =
     let f = item_steps weight in
     let p = λ (item : Item _). within ceiling (Rattle.best_first.specs.Item.gap_of item) in
@@ -54,7 +62,8 @@ open_falls weight old rest found new x far node ceiling is taken put adds short 
     omega arith
 
 -- a fetch lowers the number
-pub fetch_falls : {N : Type 0} (cmp : N → N → Ordering) (weight : N → ℕ) (old mid new : List (Item N)) (ceiling : Option ℕ) (gap : Frac) (left right : ℕ) (hit : Hit) → TakesEqual (item_cmp cmp) (Rough gap left right) old mid → AddsRow ceiling gap hit mid new → steps weight new < steps weight old
+pub fetch_falls : {N : Type 0} (cmp : N → N → Ordering) (weight : N → ℕ) (old mid new : List (Item N)) (ceiling : Option ℕ) (gap : Frac) (left right : ℕ) (hit : Hit)
+    → TakesEqual (item_cmp cmp) (Rough gap left right) old mid → AddsRow ceiling gap hit mid new → steps weight new < steps weight old
 fetch_falls cmp weight old mid new ceiling gap left right hit taken adds =
     let f = item_steps weight in
     let gone = taken.first ∷ taken.more in
@@ -65,7 +74,9 @@ fetch_falls cmp weight old mid new ceiling gap left right hit taken adds =
     let front : f taken.first ≡ 2 = ap f is in
     let after : sum_by f new ≡ sum_by f (adds.added ++ mid) = sum_by-IsPermutation f (adds.added ++ mid) new adds.put in
     let joined = sum_by-append f adds.added mid in
-    let each : All (λ item. f item ≤ 1) adds.added = All-weaker (λ item. (item ≡ row_of hit) × IsAtMost gap hit.gap × (within ceiling hit.gap ≡ true)) (λ item. f item ≤ 1) (λ item says. let e = ap f says.0 in omega arith) adds.added adds.adds.only in
+    let each : All (λ item. f item ≤ 1) adds.added =
+    All-weaker (λ item. (item ≡ row_of hit) × IsAtMost gap hit.gap × (within ceiling hit.gap ≡ true)) (λ item. f item ≤ 1)
+    (λ item says. let e = ap f says.0 in omega arith) adds.added adds.adds.only in
     let most = sum_by-le f 1 adds.added each in
     let few = adds.few in
     omega arith

@@ -1,5 +1,7 @@
 -- Gaps by their values: how the comparison, the order and a reach agree.
-use Rattle.std.proofs.Common.{◌≡◌, ℕ, ◌*◌, ◌<◌, ◌≤◌, ◌⊎◌, inl, inr, Bool, true, false, true≢false, Option, None, Some, refl, sym, ◌∙◌, arith, mul-le-mul_right, le_of_mul-le-mul_right, lt_of_mul-lt-mul_right, mul-lt-mul_of_pos_right, le_of_lt, le_of_eq, le_refl, leb-true, le-leb, Ordering, Less, Equal, Greater}
+use Rattle.std.proofs.Common.{◌≡◌, ℕ, ◌*◌, ◌<◌, ◌≤◌, ◌⊎◌, inl, inr, Bool, true, false, true≢false, Option, None, Some, refl, sym, ◌∙◌, arith, mul-le-mul_right}
+use Rattle.std.proofs.Common.{le_of_mul-le-mul_right, lt_of_mul-lt-mul_right, mul-lt-mul_of_pos_right, le_of_lt, le_of_eq, le_refl, leb-true, le-leb, Ordering, Less}
+use Rattle.std.proofs.Common.{Equal, Greater}
 use Rattle.std.specs.Ordering.{is_gt}
 use Rattle.std.specs.Cmp.{nat_cmp_is, tied_itself, tied_back}
 use Rattle.std.proofs.lemmas.Cmp.{ranked}
@@ -64,7 +66,8 @@ is_less g h p = sym (nat_cmp_is (g.num * h.den) (h.num * g.den) Less p)
 
 pub not_greater : (g h : Frac) → is_gt (value_cmp g h) ≡ false → IsAtMost g h
 not_greater g h e =
-    let go : (a : Ordering) → value_cmp g h ≡ a → is_gt a ≡ false → IsAtMost g h = elim [ Less ↦ λ f n. below_at_most g h (less_is g h f) | Equal ↦ λ f n. equal_at_most g h f | Greater ↦ λ f n. absurd (true≢false n) ] in
+    let go : (a : Ordering) → value_cmp g h ≡ a → is_gt a ≡ false → IsAtMost g h =
+    elim [ Less ↦ λ f n. below_at_most g h (less_is g h f) | Equal ↦ λ f n. equal_at_most g h f | Greater ↦ λ f n. absurd (true≢false n) ] in
     go (value_cmp g h) refl e
 
 pub at_most_not_greater : (g h : Frac) → IsAtMost g h → is_gt (value_cmp g h) ≡ false
@@ -106,7 +109,8 @@ up_to_reach most g h p e = is_up_to most g (at_most_trans g h most p (up_to_is m
 
 pub compared : (g h : Frac) → IsAtMost g h ⊎ IsBelow h g
 compared g h =
-    let go : (r : Ordering) → value_cmp g h ≡ r → IsAtMost g h ⊎ IsBelow h g = elim [ Less ↦ λ e. inl (below_at_most g h (less_is g h e)) | Equal ↦ λ e. inl (equal_at_most g h e) | Greater ↦ λ e. inr (greater_is g h e) ] in
+    let go : (r : Ordering) → value_cmp g h ≡ r → IsAtMost g h ⊎ IsBelow h g =
+    elim [ Less ↦ λ e. inl (below_at_most g h (less_is g h e)) | Equal ↦ λ e. inl (equal_at_most g h e) | Greater ↦ λ e. inr (greater_is g h e) ] in
     go (value_cmp g h) refl
 
 -- a reach takes gaps of one value alike

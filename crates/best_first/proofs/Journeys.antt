@@ -21,7 +21,8 @@ use Rattle.best_first.proofs.Pending.{nodes-append, roughs-append}
 pub noted_none : {N : Type 0} (note : Item N → Visit) (price : Item N → ℕ) (desk : DeskState) → Noted note price [] desk desk
 noted_none note price desk = record { log = sym (append-nil desk.visits); up = omega arith; most = omega arith }
 
-pub noted_both : {N : Type 0} (note : Item N → Visit) (price : Item N → ℕ) (xs ys : List (Item N)) (old mid new : DeskState) → Noted note price xs old mid → Noted note price ys mid new → Noted note price (xs ++ ys) old new
+pub noted_both : {N : Type 0} (note : Item N → Visit) (price : Item N → ℕ) (xs ys : List (Item N)) (old mid new : DeskState) → Noted note price xs old mid
+    → Noted note price ys mid new → Noted note price (xs ++ ys) old new
 noted_both note price xs ys old mid new p q = record {
   log = q.log ∙ ap (λ l. l ++ map note ys) p.log ∙ append_assoc old.visits (map note xs) (map note ys) ∙ ap (λ l. old.visits ++ l) (sym (map-append note xs ys));
   up = let first = p.up in let second = q.up in omega arith;
@@ -35,16 +36,19 @@ pub rose_none : (desk : DeskState) → RoseBy 0 desk desk
 rose_none desk = omega arith
 
 -- the lengths of what was taken, after more
-lengths : {N : Type 0} (done more : List (Item N)) → (length (nodes_of (done ++ more)) ≡ length (nodes_of done) + length (nodes_of more)) × (length (roughs_of (done ++ more)) ≡ length (roughs_of done) + length (roughs_of more))
+lengths : {N : Type 0} (done more : List (Item N)) → (length (nodes_of (done ++ more)) ≡ length (nodes_of done) + length (nodes_of more))
+    × (length (roughs_of (done ++ more)) ≡ length (roughs_of done) + length (roughs_of more))
 lengths done more =
     (ap length (nodes-append done more) ∙ length-append (nodes_of done) (nodes_of more), ap length (roughs-append done more) ∙ length-append (roughs_of done) (roughs_of more))
 
 -- the counts after one more node
-pub counted_node : {N : Type 0} (done : List (Item N)) (gap : Frac) (node : N) (old new : Counts) → new.visited ≡ min (old.visited + 1) last_count → new.fetched ≡ old.fetched → IsCounted done old → IsCounted (done ++ Node gap node ∷ []) new
+pub counted_node : {N : Type 0} (done : List (Item N)) (gap : Frac) (node : N) (old new : Counts) → new.visited ≡ min (old.visited + 1) last_count
+    → new.fetched ≡ old.fetched → IsCounted done old → IsCounted (done ++ Node gap node ∷ []) new
 counted_node done gap node old new v f (visited, fetched) = let (nodes, roughs) = lengths done (Node gap node ∷ []) in (omega arith, omega arith)
 
 -- the counts after one more rough object
-pub counted_rough : {N : Type 0} (done : List (Item N)) (gap : Frac) (left right : ℕ) (old new : Counts) → new.visited ≡ old.visited → new.fetched ≡ min (old.fetched + 1) last_count → IsCounted done old → IsCounted (done ++ Rough gap left right ∷ []) new
+pub counted_rough : {N : Type 0} (done : List (Item N)) (gap : Frac) (left right : ℕ) (old new : Counts) → new.visited ≡ old.visited
+    → new.fetched ≡ min (old.fetched + 1) last_count → IsCounted done old → IsCounted (done ++ Rough gap left right ∷ []) new
 counted_rough done gap left right old new v f (visited, fetched) = let (nodes, roughs) = lengths done (Rough gap left right ∷ []) in (omega arith, omega arith)
 
 module _ {N : Type 0} {cmp : N → N → Ordering} (m : Meaning N) (note : Item N → Visit) where
@@ -62,15 +66,19 @@ module _ {N : Type 0} {cmp : N → N → Ordering} (m : Meaning N) (note : Item 
   }
 
   -- what a second call makes, after a first one with nothing attempted in vain
-  pub makes_both : (done : List (Item N)) (old mid new : SearchState N) (first : Makes cmp m note done old mid []) (attempt : List (Item N)) → Makes cmp m note (done ++ first.taken) mid new attempt → Makes cmp m note done old new attempt
+  pub makes_both : (done : List (Item N)) (old mid new : SearchState N) (first : Makes cmp m note done old mid []) (attempt : List (Item N))
+      → Makes cmp m note (done ++ first.taken) mid new attempt → Makes cmp m note done old new attempt
   makes_both done old mid new first attempt second =
       let regroup = append_assoc done first.taken second.taken in
       record {
         taken = first.taken ++ second.taken;
-        noted = subst (λ l. Noted note m.price l old.desk new.desk) (ap (λ l. l ++ (second.taken ++ attempt)) (append-nil first.taken) ∙ sym (append_assoc first.taken second.taken attempt)) (noted_both note m.price (first.taken ++ []) (second.taken ++ attempt) old.desk mid.desk new.desk first.noted second.noted);
-        rose = subst (λ n. RoseBy n old.desk new.desk) (sym (ap length (nodes-append first.taken second.taken) ∙ length-append (nodes_of first.taken) (nodes_of second.taken))) (rose_both (length (nodes_of first.taken)) (length (nodes_of second.taken)) old.desk mid.desk new.desk first.rose second.rose);
+        noted = subst (λ l. Noted note m.price l old.desk new.desk) (ap (λ l. l ++ (second.taken ++ attempt)) (append-nil first.taken)
+            ∙ sym (append_assoc first.taken second.taken attempt)) (noted_both note m.price (first.taken ++ []) (second.taken ++ attempt) old.desk mid.desk new.desk first.noted second.noted);
+        rose = subst (λ n. RoseBy n old.desk new.desk) (sym (ap length (nodes-append first.taken second.taken) ∙ length-append (nodes_of first.taken) (nodes_of second.taken)))
+            (rose_both (length (nodes_of first.taken)) (length (nodes_of second.taken)) old.desk mid.desk new.desk first.rose second.rose);
         stands = subst (Stands cmp m new.held new.last) regroup second.stands;
-        visits = subst (All IsVisit) (sym (append_assoc first.taken second.taken attempt)) (All-append IsVisit first.taken (second.taken ++ attempt) (All-left IsVisit first.taken [] first.visits) second.visits);
+        visits = subst (All IsVisit) (sym (append_assoc first.taken second.taken attempt))
+            (All-append IsVisit first.taken (second.taken ++ attempt) (All-left IsVisit first.taken [] first.visits) second.visits);
         tried = second.tried;
         nearer = second.nearer;
         counted = λ c. subst (λ d. IsCounted d new.counts) regroup (second.counted (first.counted c));

@@ -51,7 +51,8 @@ visit_kind cmp (Rough gap l r) hit v e = cc
 visit_kind cmp (Row gap l r) hit v e = v
 
 -- where a node or a rough object is at the front, no row is
-pub not_settled : {N : Type 0} {cmp : N → N → Ordering} → IsTotalOrder cmp → (front : Item N) (held : List (Item N)) → IsVisit front → IsFirst (item_cmp cmp) front held → IsSettled (item_cmp cmp) held → ⊥
+pub not_settled : {N : Type 0} {cmp : N → N → Ordering} → IsTotalOrder cmp → (front : Item N) (held : List (Item N)) → IsVisit front → IsFirst (item_cmp cmp) front held
+    → IsSettled (item_cmp cmp) held → ⊥
 not_settled {N} {cmp} o front held visit first settled =
     ⊎_elim
     (λ empty. none front (subst (λ l. Contains l front) empty first.queued))
@@ -66,25 +67,31 @@ module _ {N : Type 0} (cmp : N → N → Ordering) (meaning : PageMap → Meanin
   stays_over pages s = all_over pages (λ p. Goes cmp (meaning p) note s s) (λ p. stays (meaning p) note s)
 
   -- a search stands where it went
-  pub stands_over : (pages : Option PageMap) (old new : SearchState N) → IfSome pages (λ p. StandsOver cmp (meaning p) old.held old.last) → IfSome pages (λ p. Goes cmp (meaning p) note old new) → IfSome pages (λ p. StandsOver cmp (meaning p) new.held new.last)
+  pub stands_over : (pages : Option PageMap) (old new : SearchState N) → IfSome pages (λ p. StandsOver cmp (meaning p) old.held old.last)
+      → IfSome pages (λ p. Goes cmp (meaning p) note old new) → IfSome pages (λ p. StandsOver cmp (meaning p) new.held new.last)
   stands_over None old new s h = tt
   stands_over (Some p) old new (laws, (done, s)) h = let makes = h done s in (laws, (done ++ makes.taken, makes.stands))
 
   -- and after a refused step too
-  pub stands_cut : (pages : Option PageMap) (old new : SearchState N) → IfSome pages (λ p. StandsOver cmp (meaning p) old.held old.last) → IfSome pages (λ p. Fails cmp (meaning p) note old new) → IfSome pages (λ p. StandsOver cmp (meaning p) new.held new.last)
+  pub stands_cut : (pages : Option PageMap) (old new : SearchState N) → IfSome pages (λ p. StandsOver cmp (meaning p) old.held old.last)
+      → IfSome pages (λ p. Fails cmp (meaning p) note old new) → IfSome pages (λ p. StandsOver cmp (meaning p) new.held new.last)
   stands_cut None old new s h = tt
   stands_cut (Some p) old new (laws, (done, s)) h = let cut = h done s in (laws, (done ++ cut.makes.taken, cut.makes.stands))
 
-  pub goes_over : (pages : Option PageMap) (old mid new : SearchState N) → IfSome pages (λ p. Goes cmp (meaning p) note old mid) → IfSome pages (λ p. Goes cmp (meaning p) note mid new) → IfSome pages (λ p. Goes cmp (meaning p) note old new)
+  pub goes_over : (pages : Option PageMap) (old mid new : SearchState N) → IfSome pages (λ p. Goes cmp (meaning p) note old mid)
+      → IfSome pages (λ p. Goes cmp (meaning p) note mid new) → IfSome pages (λ p. Goes cmp (meaning p) note old new)
   goes_over None old mid new a b = tt
   goes_over (Some p) old mid new a b = goes_both (meaning p) note old mid new a b
 
-  pub fails_over : (pages : Option PageMap) (old mid new : SearchState N) → IfSome pages (λ p. Goes cmp (meaning p) note old mid) → IfSome pages (λ p. Fails cmp (meaning p) note mid new) → IfSome pages (λ p. Fails cmp (meaning p) note old new)
+  pub fails_over : (pages : Option PageMap) (old mid new : SearchState N) → IfSome pages (λ p. Goes cmp (meaning p) note old mid)
+      → IfSome pages (λ p. Fails cmp (meaning p) note mid new) → IfSome pages (λ p. Fails cmp (meaning p) note old new)
   fails_over None old mid new a b = tt
   fails_over (Some p) old mid new a b = goes_fails (meaning p) note old mid new a b
 
 -- a step of a loop over a search: it stands, over the desk as it is now, and its number fell
-pub row_goes : {N H : Type 0} (cmp : N → N → Ordering) (meaning : H → PageMap → Meaning N) (old_desk new_desk : DeskState) (old_hierarchy new_hierarchy : H) (held : List (Item N)) (last : Option Hit) → IsRead old_desk.pool new_desk.pool → new_hierarchy ≡ old_hierarchy → IfSome (told_pages old_desk) (λ p. StandsOver cmp (meaning old_hierarchy p) held last) → IfSome (told_pages new_desk) (λ p. StandsOver cmp (meaning new_hierarchy p) held last)
+pub row_goes : {N H : Type 0} (cmp : N → N → Ordering) (meaning : H → PageMap → Meaning N) (old_desk new_desk : DeskState) (old_hierarchy new_hierarchy : H) (held : List (Item N)) (last : Option Hit)
+    → IsRead old_desk.pool new_desk.pool → new_hierarchy ≡ old_hierarchy → IfSome (told_pages old_desk) (λ p. StandsOver cmp (meaning old_hierarchy p) held last)
+    → IfSome (told_pages new_desk) (λ p. StandsOver cmp (meaning new_hierarchy p) held last)
 row_goes cmp meaning old_desk new_desk old_hierarchy new_hierarchy held last read same stands =
     subst (λ t. IfSome t (λ p. StandsOver cmp (meaning new_hierarchy p) held last)) (sym (told_read old_desk new_desk read))
     (subst (λ h. IfSome (told_pages old_desk) (λ p. StandsOver cmp (meaning h p) held last)) (sym same) stands)

@@ -42,7 +42,8 @@ module _ {N : Type 0} (m : Meaning N) (laws : MeetsLaws m) where
   skipped (Rough gap l r) is out = refl
   skipped (Row gap l r) is out = refl
 
-  pending_kept_by : (item : Item N) (items : List (Item N)) → HasGap m item → pending m (kept (within m.ceiling) items) ≡ pending m items → (b : Bool) → within m.ceiling (gap_of item) ≡ b → pending m (kept (within m.ceiling) (item ∷ items)) ≡ pending m (item ∷ items)
+  pending_kept_by : (item : Item N) (items : List (Item N)) → HasGap m item → pending m (kept (within m.ceiling) items) ≡ pending m items → (b : Bool)
+      → within m.ceiling (gap_of item) ≡ b → pending m (kept (within m.ceiling) (item ∷ items)) ≡ pending m (item ∷ items)
   pending_kept_by item items is rest true e =
       ap (pending m) (filter_here (λ i. within m.ceiling (gap_of i)) item items e)
       ∙ pending-append m (item ∷ []) (kept (within m.ceiling) items)
@@ -61,11 +62,13 @@ module _ {N : Type 0} (m : Meaning N) (laws : MeetsLaws m) where
       pending_kept_by item items (All-head (HasGap m) item items h) (pending_kept items (All-tail (HasGap m) item items h)) (within m.ceiling (gap_of item)) refl
 
   -- a node within the ceiling is pending, with what is pending below its children
-  pub pending_here : (a : N) (items : List (Item N)) → nodes_of items ≡ nodes_of (m.finds a) → All (HasGap m) items → within m.ceiling (m.gap a) ≡ true → near m (within m.ceiling) (m.under a) ≡ a ∷ pending m (kept (within m.ceiling) items)
+  pub pending_here : (a : N) (items : List (Item N)) → nodes_of items ≡ nodes_of (m.finds a) → All (HasGap m) items → within m.ceiling (m.gap a) ≡ true
+      → near m (within m.ceiling) (m.under a) ≡ a ∷ pending m (kept (within m.ceiling) items)
   pending_here a items same gaps inside =
       ap (near m (within m.ceiling)) (laws.unfolds a)
       ∙ filter_here (λ node. within m.ceiling (m.gap node)) a (flat_map m.under (nodes_of (m.finds a))) inside
-      ∙ ap (λ l. a ∷ l) (filter-flat_map (λ node. within m.ceiling (m.gap node)) m.under (nodes_of (m.finds a)) ∙ ap (flat_map (λ node. near m (within m.ceiling) (m.under node))) (sym same) ∙ sym (pending_kept items gaps))
+      ∙ ap (λ l. a ∷ l) (filter-flat_map (λ node. within m.ceiling (m.gap node)) m.under (nodes_of (m.finds a))
+      ∙ ap (flat_map (λ node. near m (within m.ceiling) (m.under node))) (sym same) ∙ sym (pending_kept items gaps))
 
   -- a queued node within the ceiling is pending
   pub queued_pending : (held : List (Item N)) (gap : Frac) (node : N) → Contains held (Node gap node) → IsSameGap gap (m.gap node) → within m.ceiling gap ≡ true → Contains (pending m held) node
@@ -74,7 +77,8 @@ module _ {N : Type 0} (m : Meaning N) (laws : MeetsLaws m) where
       (in_filter (λ n. within m.ceiling (m.gap n)) (m.under node) node (under_here m laws node) (reach_same (within m.ceiling) (within_reach m.ceiling) gap (m.gap node) is true inside))
 
   -- what the split names is a node of the tree within the ceiling
-  pub split_node : (opened rest : List N) → IsPermutation (nodes_within m (within m.ceiling)) (opened ++ rest) → (node : N) → Contains (opened ++ rest) node → IsNode m node × (within m.ceiling (m.gap node) ≡ true)
+  pub split_node : (opened rest : List N) → IsPermutation (nodes_within m (within m.ceiling)) (opened ++ rest) → (node : N) → Contains (opened ++ rest) node
+      → IsNode m node × (within m.ceiling (m.gap node) ≡ true)
   split_node opened rest split node at =
       from_filter (λ n. within m.ceiling (m.gap n)) (m.under m.root) node
       (Contains-permutation (opened ++ rest) (nodes_within m (within m.ceiling)) node (IsPermutation-sym (nodes_within m (within m.ceiling)) (opened ++ rest) split) at)

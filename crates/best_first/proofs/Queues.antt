@@ -1,5 +1,6 @@
 -- Taking what is one with the front from a queue, and queueing a row that was fetched.
-use Rattle.std.proofs.Common.{◌≡◌, ℕ, List, [], ◌∷◌, ◌++◌, true, false, Option, All, Contains, IsPermutation, ⊎_elim, refl, sym, ap, ◌∙◌, subst, append_assoc, true≢false, arith, Ordering, Less, Equal, Greater}
+use Rattle.std.proofs.Common.{◌≡◌, ℕ, List, [], ◌∷◌, ◌++◌, true, false, Option, All, Contains, IsPermutation, ⊎_elim, refl, sym, ap, ◌∙◌, subst, append_assoc, true≢false}
+use Rattle.std.proofs.Common.{arith, Ordering, Less, Equal, Greater}
 use Rattle.std.specs.Ordering.{is_gt, is_eq, ordering_reverse}
 use Rattle.std.specs.Cmp.{IsTotalOrder, tied_itself, alike_right}
 use Rattle.std.proofs.lemmas.List.Elements.{All-contains, All-tail, All-append, All-nil, All-weaker}
@@ -20,7 +21,8 @@ module _ {T : Type 0} {cmp : T → T → Ordering} (o : IsTotalOrder cmp) where
   pub both_first : (x y : T) → is_gt (cmp x y) ≡ false → is_gt (cmp y x) ≡ false → cmp x y ≡ Equal
   both_first x y p q =
       let turned = o.antisymm y x in
-      let go : (a : Ordering) → cmp x y ≡ a → is_gt a ≡ false → cmp x y ≡ Equal = elim [ Less ↦ λ e h. absurd (let f : cmp y x ≡ Greater = turned ∙ ap ordering_reverse e in true≢false (sym (ap is_gt f) ∙ q)) | Equal ↦ λ e h. e | Greater ↦ λ e h. absurd (true≢false h) ] in
+      let go : (a : Ordering) → cmp x y ≡ a → is_gt a ≡ false → cmp x y ≡ Equal =
+      elim [ Less ↦ λ e h. absurd (let f : cmp y x ≡ Greater = turned ∙ ap ordering_reverse e in true≢false (sym (ap is_gt f) ∙ q)) | Equal ↦ λ e h. e | Greater ↦ λ e h. absurd (true≢false h) ] in
       go (cmp x y) refl p
 
   -- the first item of a queue and an item that was popped are one
@@ -48,20 +50,23 @@ module _ {T : Type 0} {cmp : T → T → Ordering} (o : IsTotalOrder cmp) where
   is_equal Equal e = refl
   is_equal Greater e = absurd (true≢false (sym e))
 
-  pub takes_more : (front item x : T) (old held new : List T) → TakesSome cmp front old held → IsFirst cmp item held → is_eq (cmp front item) ≡ true → IsPermutation held (x ∷ new) → IsLeast cmp x new → TakesSome cmp front old new
+  pub takes_more : (front item x : T) (old held new : List T) → TakesSome cmp front old held → IsFirst cmp item held → is_eq (cmp front item) ≡ true
+      → IsPermutation held (x ∷ new) → IsLeast cmp x new → TakesSome cmp front old new
   takes_more front item x old held new some first same taken least =
       let one = o.congr front item x (is_equal (cmp front item) same) ∙ popped_first item x held new first taken least in
       record {
         first = some.first;
         more = some.more ++ x ∷ [];
         split = IsPermutation-trans old ((some.first ∷ some.more) ++ held) ((some.first ∷ (some.more ++ x ∷ [])) ++ new) some.split
-            (subst (IsPermutation ((some.first ∷ some.more) ++ held)) (sym (append_assoc (some.first ∷ some.more) (x ∷ []) new)) (IsPermutation-append_right (some.first ∷ some.more) held (x ∷ new) taken));
+            (subst (IsPermutation ((some.first ∷ some.more) ++ held)) (sym (append_assoc (some.first ∷ some.more) (x ∷ []) new))
+            (IsPermutation-append_right (some.first ∷ some.more) held (x ∷ new) taken));
         equal = All-append (λ y. cmp front y ≡ Equal) (some.first ∷ some.more) (x ∷ []) some.equal (All-one (λ y. cmp front y ≡ Equal) x one);
         least = least_rest front x held new some.least taken;
       }
 
   pub takes_none_left : (front : T) (old held : List T) → held ≡ [] → TakesSome cmp front old held → TakesEqual cmp front old held
-  takes_none_left front old held empty some = record { first = some.first; more = some.more; split = some.split; equal = some.equal; after = subst (All (λ y. cmp front y ≡ Less)) (sym empty) (All-nil (λ y. cmp front y ≡ Less)) }
+  takes_none_left front old held empty some =
+      record { first = some.first; more = some.more; split = some.split; equal = some.equal; after = subst (All (λ y. cmp front y ≡ Less)) (sym empty) (All-nil (λ y. cmp front y ≡ Less)) }
 
   strict : (a : Ordering) → is_eq a ≡ false → is_gt a ≡ false → a ≡ Less
   strict Less e h = refl
@@ -70,7 +75,8 @@ module _ {T : Type 0} {cmp : T → T → Ordering} (o : IsTotalOrder cmp) where
 
   after_upto : (x y z : T) → cmp x y ≡ Less → is_gt (cmp y z) ≡ false → cmp x z ≡ Less
   after_upto x y z p q =
-      let go : (a : Ordering) → cmp y z ≡ a → is_gt a ≡ false → cmp x z ≡ Less = elim [ Less ↦ λ e h. o.trans x y z p e | Equal ↦ λ e h. sym (alike_right o y z x e) ∙ p | Greater ↦ λ e h. absurd (true≢false h) ] in
+      let go : (a : Ordering) → cmp y z ≡ a → is_gt a ≡ false → cmp x z ≡ Less =
+      elim [ Less ↦ λ e h. o.trans x y z p e | Equal ↦ λ e h. sym (alike_right o y z x e) ∙ p | Greater ↦ λ e h. absurd (true≢false h) ] in
       go (cmp y z) refl q
 
   pub takes_all : (front item : T) (old held : List T) → IsFirst cmp item held → is_eq (cmp front item) ≡ false → TakesSome cmp front old held → TakesEqual cmp front old held
@@ -89,10 +95,14 @@ module _ {T : Type 0} {cmp : T → T → Ordering} (o : IsTotalOrder cmp) where
 
 -- ---- queueing a row that was fetched
 
-pub row_added : {N : Type 0} (ceiling : Option ℕ) (rough : Frac) (hit : Hit) (old new : List (Item N)) → is_gt (value_cmp rough hit.gap) ≡ false → within ceiling hit.gap ≡ true → IsPermutation (row_of hit ∷ old) new → AddsRow ceiling rough hit old new
+pub row_added : {N : Type 0} (ceiling : Option ℕ) (rough : Frac) (hit : Hit) (old new : List (Item N)) → is_gt (value_cmp rough hit.gap) ≡ false
+    → within ceiling hit.gap ≡ true → IsPermutation (row_of hit ∷ old) new → AddsRow ceiling rough hit old new
 row_added ceiling rough hit old new near inside put = record {
   added = row_of hit ∷ [];
-  adds = record { only = All-one (λ item. (item ≡ row_of hit) × IsAtMost rough hit.gap × (within ceiling hit.gap ≡ true)) (row_of hit) (refl, not_greater rough hit.gap near, inside); whole = λ _ _. here (row_of hit) [] };
+  adds = record {
+    only = All-one (λ item. (item ≡ row_of hit) × IsAtMost rough hit.gap × (within ceiling hit.gap ≡ true)) (row_of hit) (refl, not_greater rough hit.gap near, inside);
+    whole = λ _ _. here (row_of hit) [];
+  };
   put = put;
   few = omega arith;
 }
@@ -100,7 +110,10 @@ row_added ceiling rough hit old new near inside put = record {
 pub row_nearer : {N : Type 0} (ceiling : Option ℕ) (rough : Frac) (hit : Hit) (old : List (Item N)) → is_gt (value_cmp rough hit.gap) ≡ true → AddsRow ceiling rough hit old old
 row_nearer ceiling rough hit old e = record {
   added = [];
-  adds = record { only = All-nil (λ item. (item ≡ row_of hit) × IsAtMost rough hit.gap × (within ceiling hit.gap ≡ true)); whole = λ near _. absurd (true≢false (sym e ∙ at_most_not_greater rough hit.gap near)) };
+  adds = record {
+    only = All-nil (λ item. (item ≡ row_of hit) × IsAtMost rough hit.gap × (within ceiling hit.gap ≡ true));
+    whole = λ near _. absurd (true≢false (sym e ∙ at_most_not_greater rough hit.gap near));
+  };
   put = IsPermutation-refl old;
   few = omega arith;
 }

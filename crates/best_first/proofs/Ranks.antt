@@ -109,12 +109,14 @@ module _ {N : Type 0} {cmp : N → N → Ordering} (o : IsTotalOrder cmp) where
   -- Less and no more than: the strict order chains with the other
   pub after_upto : (x y z : Item N) → IsAfter cmp x y → is_gt (item_cmp cmp y z) ≡ false → IsAfter cmp x z
   after_upto x y z p q =
-      let go : (a : Ordering) → item_cmp cmp y z ≡ a → is_gt a ≡ false → IsAfter cmp x z = elim [ Less ↦ λ e h. (item_total o).trans x y z p e | Equal ↦ λ e h. sym (alike_right (item_total o) y z x e) ∙ p | Greater ↦ λ e h. absurd (true≢false h) ] in
+      let go : (a : Ordering) → item_cmp cmp y z ≡ a → is_gt a ≡ false → IsAfter cmp x z =
+      elim [ Less ↦ λ e h. (item_total o).trans x y z p e | Equal ↦ λ e h. sym (alike_right (item_total o) y z x e) ∙ p | Greater ↦ λ e h. absurd (true≢false h) ] in
       go (item_cmp cmp y z) refl q
 
   pub upto_after : (x y z : Item N) → is_gt (item_cmp cmp x y) ≡ false → IsAfter cmp y z → IsAfter cmp x z
   upto_after x y z p q =
-      let go : (a : Ordering) → item_cmp cmp x y ≡ a → is_gt a ≡ false → IsAfter cmp x z = elim [ Less ↦ λ e h. (item_total o).trans x y z e q | Equal ↦ λ e h. (item_total o).congr x y z e ∙ q | Greater ↦ λ e h. absurd (true≢false h) ] in
+      let go : (a : Ordering) → item_cmp cmp x y ≡ a → is_gt a ≡ false → IsAfter cmp x z =
+      elim [ Less ↦ λ e h. (item_total o).trans x y z e q | Equal ↦ λ e h. (item_total o).congr x y z e ∙ q | Greater ↦ λ e h. absurd (true≢false h) ] in
       go (item_cmp cmp x y) refl p
 
   pub alike_after : (x y z : Item N) → item_cmp cmp x y ≡ Equal → IsAfter cmp x z → IsAfter cmp y z
@@ -128,5 +130,11 @@ module _ {N : Type 0} {cmp : N → N → Ordering} (o : IsTotalOrder cmp) where
   pub both_first : (x y : Item N) → is_gt (item_cmp cmp x y) ≡ false → is_gt (item_cmp cmp y x) ≡ false → item_cmp cmp x y ≡ Equal
   both_first x y p q =
       let turned = (item_total o).antisymm y x in
-      let go : (a : Ordering) → item_cmp cmp x y ≡ a → is_gt a ≡ false → item_cmp cmp x y ≡ Equal = elim [ Less ↦ λ e h. absurd (let f : item_cmp cmp y x ≡ Greater = turned ∙ ap Rattle.std.specs.Ordering.ordering_reverse e in true≢false (sym (ap is_gt f) ∙ q)) | Equal ↦ λ e h. e | Greater ↦ λ e h. absurd (true≢false h) ] in
+      let go : (a : Ordering) → item_cmp cmp x y ≡ a → is_gt a ≡ false → item_cmp cmp x y ≡ Equal =
+      elim [
+        | Less ↦ λ e h. absurd (let f : item_cmp cmp y x ≡ Greater = turned ∙ ap Rattle.std.specs.Ordering.ordering_reverse e in true≢false (sym (ap is_gt f) ∙ q))
+        | Equal ↦ λ e h.
+            e
+        | Greater ↦ λ e h. absurd (true≢false h)
+      ] in
       go (item_cmp cmp x y) refl p

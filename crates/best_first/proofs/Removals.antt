@@ -4,7 +4,8 @@ use Rattle.std.specs.declared.cmp.Ordering.{Ordering}
 use Rattle.std.specs.Cmp.{IsTotalOrder}
 use Rattle.std.proofs.lemmas.List.{get_or-set_same, length-set}
 use Rattle.std.proofs.lemmas.List.Edits.{swap_is}
-use Rattle.std.proofs.lemmas.List.Sorted.{IsPermutation-refl, IsPermutation-sym, IsPermutation-trans, IsPermutation-cons, IsPermutation-middle, IsPermutation-append_right, IsPermutation-swap, IsPermutation-keeps}
+use Rattle.std.proofs.lemmas.List.Sorted.{IsPermutation-refl, IsPermutation-sym, IsPermutation-trans, IsPermutation-cons, IsPermutation-middle}
+use Rattle.std.proofs.lemmas.List.Sorted.{IsPermutation-append_right, IsPermutation-swap, IsPermutation-keeps}
 use Rattle.rank_queue.specs.Least.{IsFirst, IsLeast}
 use Rattle.best_first.proofs.Queues.{least_rest}
 
@@ -50,7 +51,8 @@ module _ {X : Type 0} where
   put w (x ∷ xs) zero d below = flipped w x xs
   put w (x ∷ xs) (suc j) d below = past w x (get_or xs j d) xs (set xs j w) (put w xs j d (omega arith))
 
-  more : (x z w : X) (xs ys : List X) (k m : ℕ) → m < length (z ∷ ys) → ((d : X) → get_or (z ∷ ys) m d ≡ get_or xs k d) → IsPermutation (w ∷ without xs k) (without (z ∷ ys) m) → Follows (w ∷ (x ∷ xs)) (z ∷ (x ∷ ys)) (suc (suc k))
+  more : (x z w : X) (xs ys : List X) (k m : ℕ) → m < length (z ∷ ys) → ((d : X) → get_or (z ∷ ys) m d ≡ get_or xs k d)
+      → IsPermutation (w ∷ without xs k) (without (z ∷ ys) m) → Follows (w ∷ (x ∷ xs)) (z ∷ (x ∷ ys)) (suc (suc k))
   more x z w xs ys k zero below same others = record {
     at = zero;
     below = omega arith;
@@ -98,7 +100,8 @@ module _ {X : Type 0} where
   }
   swap_follows (x ∷ xs) (suc k) (suc i) (suc j) at one other =
       let f = swap_follows xs k i j (omega arith) (omega arith) (omega arith) in
-      let whole : Follows (x ∷ xs) (x ∷ swap xs i j) (suc k) = record { at = suc f.at; below = (let low = f.below in omega arith); same = f.same; others = IsPermutation-cons x (without xs k) (without (swap xs i j) f.at) f.others } in
+      let whole : Follows (x ∷ xs) (x ∷ swap xs i j) (suc k) =
+      record { at = suc f.at; below = (let low = f.below in omega arith); same = f.same; others = IsPermutation-cons x (without xs k) (without (swap xs i j) f.at) f.others } in
       subst (λ l. Follows (x ∷ xs) (x ∷ l) (suc k)) (sym (swap_is xs i j x (omega arith) (omega arith))) whole
 
   gone : (x : X) (a b : List X) (m : ℕ) → m < length (x ∷ b) → get_or (x ∷ b) m x ≡ x → IsPermutation a (without (x ∷ b) m) → IsPermutation a b
@@ -124,7 +127,8 @@ pub record Replaces {X : Type 0} (cmp : X → X → Ordering) (x : X) (added old
   pub put : IsPermutation (added ++ rest) new
 
 -- so it is where the first item leaves
-pub replaces_first : {X : Type 0} {cmp : X → X → Ordering} → IsTotalOrder cmp → (x : X) (added old new : List X) → IsFirst cmp x old → IsPermutation (added ++ old) (x ∷ new) → Replaces cmp x added old new
+pub replaces_first : {X : Type 0} {cmp : X → X → Ordering} → IsTotalOrder cmp → (x : X) (added old new : List X) → IsFirst cmp x old
+    → IsPermutation (added ++ old) (x ∷ new) → Replaces cmp x added old new
 replaces_first o x added old new first same =
     let (k, below, is) = first.queued in
     let rest = without old k in

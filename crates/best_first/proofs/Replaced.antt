@@ -1,5 +1,6 @@
 -- What was taken keeps its account of the tree where items that are one with the front, which is no node, leave the frontier, and rows come.
-use Rattle.std.proofs.Common.{◌≡◌, ℕ, Bool, true, false, List, [], ◌∷◌, ◌++◌, All, Contains, flat_map, IsPermutation, ◌⊎◌, inl, inr, ⊎_elim, refl, sym, ap, ◌∙◌, subst, append-nil, append_assoc, Ordering, Less, Equal, Greater}
+use Rattle.std.proofs.Common.{◌≡◌, ℕ, Bool, true, false, List, [], ◌∷◌, ◌++◌, All, Contains, flat_map, IsPermutation, ◌⊎◌, inl, inr, ⊎_elim, refl, sym, ap, ◌∙◌, subst}
+use Rattle.std.proofs.Common.{append-nil, append_assoc, Ordering, Less, Equal, Greater}
 use Rattle.std.specs.Cmp.{IsTotalOrder, tied_back}
 use Rattle.std.proofs.lemmas.List.Elements.{All-contains, All-head, All-tail, All-append, All-weaker, Contains-append_left, Contains-append_right, Contains-append_cases}
 use Rattle.std.proofs.lemmas.List.Sorted.{IsPermutation-sym, IsPermutation-trans, IsPermutation-append_right, All-permutation, Contains-permutation}
@@ -54,7 +55,8 @@ alike_among cmp (Node g node) gap l r e h = absurd (cc)
 alike_among cmp (Rough g k s) gap l r e h = here (Rough g k s) []
 alike_among cmp (Row g k s) gap l r e h = let (far, is) = alike_row cmp g k s (Rough gap l r) h in absurd (cc)
 
-once_of : {N : Type 0} (cmp : N → N → Ordering) (items : List (Item N)) (front : Item N) → All (λ other. item_cmp cmp other front ≡ Equal → ⊥) items → IsOnce cmp items → IsOnce cmp (items ++ rough_of front)
+once_of : {N : Type 0} (cmp : N → N → Ordering) (items : List (Item N)) (front : Item N) → All (λ other. item_cmp cmp other front ≡ Equal → ⊥) items → IsOnce cmp items
+    → IsOnce cmp (items ++ rough_of front)
 once_of cmp items (Node gap node) apart h = subst (IsOnce cmp) (sym (append-nil items)) h
 once_of cmp items (Rough gap l r) apart h = once_push cmp items (Rough gap l r) apart h
 once_of cmp items (Row gap l r) apart h = subst (IsOnce cmp) (sym (append-nil items)) h
@@ -70,7 +72,9 @@ no_node_gap m (Node gap node) e = absurd (cc)
 no_node_gap m (Rough gap l r) e = tt
 no_node_gap m (Row gap l r) e = tt
 
-module _ {N : Type 0} {cmp : N → N → Ordering} (o : IsTotalOrder cmp) (m : Meaning N) (held gone rest added new done : List (Item N)) (front : Item N) (no_node : node_of front ≡ []) (at : Contains held front) (alike : All (λ item. item_cmp cmp front item ≡ Equal) gone) (taken : IsPermutation held (gone ++ rest)) (put : IsPermutation (added ++ rest) new) (later : All (IsAfter cmp front) (added ++ rest)) (rows : All (IsRowWithin m.ceiling) added) (h : Tracks cmp m held done) where
+module _ {N : Type 0} {cmp : N → N → Ordering} (o : IsTotalOrder cmp) (m : Meaning N) (held gone rest added new done : List (Item N)) (front : Item N)
+    (no_node : node_of front ≡ []) (at : Contains held front) (alike : All (λ item. item_cmp cmp front item ≡ Equal) gone) (taken : IsPermutation held (gone ++ rest))
+    (put : IsPermutation (added ++ rest) new) (later : All (IsAfter cmp front) (added ++ rest)) (rows : All (IsRowWithin m.ceiling) added) (h : Tracks cmp m held done) where
   new_of : (P : Item N → Type 0) → All P (added ++ rest) → All P new
   new_of P all = All-permutation P (added ++ rest) new put all
 
@@ -99,7 +103,8 @@ module _ {N : Type 0} {cmp : N → N → Ordering} (o : IsTotalOrder cmp) (m : M
 
   gone_pending : pending m (gone ++ rest) ≡ pending m rest
   unfolding below
-  gone_pending = pending-append m gone rest ∙ ap (λ l. below l ++ pending m rest) (nodes_none gone (All-weaker (λ i. item_cmp cmp front i ≡ Equal) (λ i. node_of i ≡ []) (λ i e. alike_no_node cmp front i no_node e) gone alike))
+  gone_pending = pending-append m gone rest
+      ∙ ap (λ l. below l ++ pending m rest) (nodes_none gone (All-weaker (λ i. item_cmp cmp front i ≡ Equal) (λ i. node_of i ≡ []) (λ i e. alike_no_node cmp front i no_node e) gone alike))
 
   added_pending : pending m (added ++ rest) ≡ pending m rest
   unfolding below
@@ -115,7 +120,8 @@ module _ {N : Type 0} {cmp : N → N → Ordering} (o : IsTotalOrder cmp) (m : M
       (subst (λ l. IsPermutation l (pending m new)) added_pending (pending_moves m (added ++ rest) new put)))))
 
   far : All (λ item. IsAtMost (gap_of front) (gap_of item)) new
-  far = new_of (λ item. IsAtMost (gap_of front) (gap_of item)) (All-weaker (IsAfter cmp front) (λ item. IsAtMost (gap_of front) (gap_of item)) (λ item a. after_far cmp front item a) (added ++ rest) later)
+  far = new_of (λ item. IsAtMost (gap_of front) (gap_of item))
+      (All-weaker (IsAfter cmp front) (λ item. IsAtMost (gap_of front) (gap_of item)) (λ item a. after_far cmp front item a) (added ++ rest) later)
 
   of_front : (P : Item N → Type 0) → P front → All P (rough_of front)
   of_front P p = All-by P (rough_of front) (λ item i. subst P (sym (of_rough front item i)) p)
@@ -125,7 +131,9 @@ module _ {N : Type 0} {cmp : N → N → Ordering} (o : IsTotalOrder cmp) (m : M
   nearer =
       let P = λ (k : Item N). All (λ item. IsAtMost (gap_of k) (gap_of item)) new in
       All-append P done (rough_of front)
-      (All-by P done (λ k i. All-weaker (λ item. IsAtMost (gap_of front) (gap_of item)) (λ item. IsAtMost (gap_of k) (gap_of item)) (λ item a. at_most_trans (gap_of k) (gap_of front) (gap_of item) (All-contains (λ item. IsAtMost (gap_of k) (gap_of item)) held front (All-contains (λ k. All (λ item. IsAtMost (gap_of k) (gap_of item)) held) done k h.nearer i) at) a) new far))
+      (All-by P done (λ k i. All-weaker (λ item. IsAtMost (gap_of front) (gap_of item)) (λ item. IsAtMost (gap_of k) (gap_of item))
+      (λ item a. at_most_trans (gap_of k) (gap_of front) (gap_of item)
+      (All-contains (λ item. IsAtMost (gap_of k) (gap_of item)) held front (All-contains (λ k. All (λ item. IsAtMost (gap_of k) (gap_of item)) held) done k h.nearer i) at) a) new far))
       (of_front P far)
 
   after : All (λ r. All (IsAfter cmp r) new) (roughs_of now)
@@ -134,12 +142,19 @@ module _ {N : Type 0} {cmp : N → N → Ordering} (o : IsTotalOrder cmp) (m : M
       let all = new_of (IsAfter cmp front) later in
       subst (All P) (sym done_roughs)
       (All-append P (roughs_of done) (rough_of front)
-      (All-by P (roughs_of done) (λ r i. All-weaker (IsAfter cmp front) (IsAfter cmp r) (λ item a. (item_total o).trans r front item (All-contains (IsAfter cmp r) held front (All-contains (λ r. All (IsAfter cmp r) held) (roughs_of done) r h.after i) at) a) new all))
+      (All-by P (roughs_of done) (λ r i. All-weaker (IsAfter cmp front) (IsAfter cmp r)
+      (λ item a. (item_total o).trans r front item (All-contains (IsAfter cmp r) held front (All-contains (λ r. All (IsAfter cmp r) held) (roughs_of done) r h.after i) at) a) new all))
       (of_front P all))
 
   rough_front : (item : Item N) → Contains (rough_of front) item → Contains (roughs_of held) item
   rough_front item i =
-      let go : (x : Item N) → x ≡ front → Contains (rough_of x) item → Contains (roughs_of held) item = elim [ Node g node ↦ λ e c. absurd (none item c) | Rough g l r ↦ λ e c. subst (Contains (roughs_of held)) (only (Rough g l r) item c) (rough_among held g l r (subst (Contains held) (sym e) at)) | Row g l r ↦ λ e c. absurd (none item c) ] in
+      let go : (x : Item N) → x ≡ front → Contains (rough_of x) item → Contains (roughs_of held) item =
+      elim [
+        | Node g node ↦ λ e c. absurd (none item c)
+        | Rough g l r ↦ λ e c.
+            subst (Contains (roughs_of held)) (only (Rough g l r) item c) (rough_among held g l r (subst (Contains held) (sym e) at))
+        | Row g l r ↦ λ e c. absurd (none item c)
+      ] in
       go front refl i
 
   no_rough_added : (item : Item N) (gap : Frac) (l r : ℕ) → item ≡ Rough gap l r → Contains added item → ⊥
@@ -151,7 +166,8 @@ module _ {N : Type 0} {cmp : N → N → Ordering} (o : IsTotalOrder cmp) (m : M
   unfolding now
   listed =
       let P = IsListed m (done ++ rough_of front) in
-      let old = λ (r : Item N) (l : Contains (roughs_of done ++ roughs_of held) r). listed_more m done (rough_of front) r (All-contains (IsListed m done) (roughs_of done ++ roughs_of held) r h.listed l) in
+      let old = λ (r : Item N) (l : Contains (roughs_of done ++ roughs_of held) r).
+      listed_more m done (rough_of front) r (All-contains (IsListed m done) (roughs_of done ++ roughs_of held) r h.listed l) in
       All-append P (roughs_of (done ++ rough_of front)) (roughs_of new)
       (subst (All P) (sym done_roughs) (All-append P (roughs_of done) (rough_of front)
       (All-by P (roughs_of done) (λ r i. old r (Contains-append_left (roughs_of done) (roughs_of held) r i)))
@@ -168,7 +184,8 @@ module _ {N : Type 0} {cmp : N → N → Ordering} (o : IsTotalOrder cmp) (m : M
       let P = λ (n : N). All (HasAlike cmp (roughs_of now ++ roughs_of new)) (kept (within m.ceiling) (roughs_of (m.finds n))) in
       subst (All P) (sym done_nodes)
       (All-weaker (λ n. All (HasAlike cmp (roughs_of done ++ roughs_of held)) (kept (within m.ceiling) (roughs_of (m.finds n)))) P
-      (λ n all. All-weaker (HasAlike cmp (roughs_of done ++ roughs_of held)) (HasAlike cmp (roughs_of now ++ roughs_of new)) (λ r a. alike_more cmp (roughs_of done ++ roughs_of held) (roughs_of now ++ roughs_of new) r (λ other i. moved other i) o a) (kept (within m.ceiling) (roughs_of (m.finds n))) all)
+      (λ n all. All-weaker (HasAlike cmp (roughs_of done ++ roughs_of held)) (HasAlike cmp (roughs_of now ++ roughs_of new))
+      (λ r a. alike_more cmp (roughs_of done ++ roughs_of held) (roughs_of now ++ roughs_of new) r (λ other i. moved other i) o a) (kept (within m.ceiling) (roughs_of (m.finds n))) all)
       (nodes_of done) h.whole)
     where
       left : (r : Item N) → Contains (roughs_of done ++ rough_of front) r → Contains (roughs_of now ++ roughs_of new) r
@@ -183,13 +200,21 @@ module _ {N : Type 0} {cmp : N → N → Ordering} (o : IsTotalOrder cmp) (m : M
           ⊎_elim
           (λ g.
           let same = All-contains (λ item. item_cmp cmp front item ≡ Equal) gone r alike g in
-          record { other = front; listed = left front (Contains-append_right (roughs_of done) (rough_of front) front (alike_among cmp front gap l s no_node (subst (λ x. item_cmp cmp front x ≡ Equal) e same))); alike = tied_back (item_total o) front r same })
-          (λ t. alike_here cmp o (roughs_of now ++ roughs_of new) r (Contains-append_right (roughs_of now) (roughs_of new) r (rough_moves held new r (λ _. Contains-permutation (added ++ rest) new r put (Contains-append_right added rest r t)) q)))
+          record {
+            other = front;
+            listed = left front
+                (Contains-append_right (roughs_of done) (rough_of front) front (alike_among cmp front gap l s no_node (subst (λ x. item_cmp cmp front x ≡ Equal) e same)));
+            alike = tied_back (item_total o) front r same;
+          })
+          (λ t. alike_here cmp o (roughs_of now ++ roughs_of new) r
+          (Contains-append_right (roughs_of now) (roughs_of new) r (rough_moves held new r (λ _. Contains-permutation (added ++ rest) new r put (Contains-append_right added rest r t)) q)))
           (Contains-append_cases gone rest r (Contains-permutation held (gone ++ rest) r taken queued)))
           (Contains-append_cases (roughs_of done) (roughs_of held) r i)
 
   once : IsOnce cmp (roughs_of now)
-  once = subst (IsOnce cmp) (sym done_roughs) (once_of cmp (roughs_of done) front (All-by (λ other. item_cmp cmp other front ≡ Equal → ⊥) (roughs_of done) (λ r i e. not_itself o r front e (All-contains (IsAfter cmp r) held front (All-contains (λ r. All (IsAfter cmp r) held) (roughs_of done) r h.after i) at))) h.once)
+  once = subst (IsOnce cmp) (sym done_roughs)
+      (once_of cmp (roughs_of done) front (All-by (λ other. item_cmp cmp other front ≡ Equal → ⊥) (roughs_of done)
+      (λ r i e. not_itself o r front e (All-contains (IsAfter cmp r) held front (All-contains (λ r. All (IsAfter cmp r) held) (roughs_of done) r h.after i) at))) h.once)
 
   spread : (P : Item N → Type 0) → All P (done ++ held) → All P added → All P (now ++ new)
   unfolding now

@@ -75,32 +75,53 @@ module _ {N : Type 0} {cmp : N → N → Ordering} (o : IsTotalOrder cmp) (m : M
       record { item = Node g c; queued = in_filter (λ i. within m.ceiling (gap_of i)) items (Node g c) at inside; leads = leads })
       (under_cases m laws a h.leaf h.below)
 
-  pub opened_covers : (held rest new : List (Item N)) (last : Option Hit) (gap : Frac) (a : N) (items : List (Item N)) → IsFoundAt m a items → IsSameGap gap (m.gap a) → IsPermutation held (Node gap a ∷ rest) → IsPermutation (kept (within m.ceiling) items ++ rest) new → Covers cmp m held last → Covers cmp m new last
+  pub opened_covers : (held rest new : List (Item N)) (last : Option Hit) (gap : Frac) (a : N) (items : List (Item N)) → IsFoundAt m a items → IsSameGap gap (m.gap a)
+      → IsPermutation held (Node gap a ∷ rest) → IsPermutation (kept (within m.ceiling) items ++ rest) new → Covers cmp m held last → Covers cmp m new last
   opened_covers held rest new last gap a items says is taken put h =
       let found = kept (within m.ceiling) items in
       let sound = All-permutation (IsHonest m) held (Node gap a ∷ rest) taken h.sound in
       let past = All-permutation (IsPast cmp last) held (Node gap a ∷ rest) taken h.past in
       let before : IsPast cmp last (Node gap a) = All-head (IsPast cmp last) (Node gap a) rest past in
       record {
-        sound = All-permutation (IsHonest m) (found ++ rest) new put (All-append (IsHonest m) found rest (All-filter (λ i. within m.ceiling (gap_of i)) (IsHonest m) items says.honest) (All-tail (IsHonest m) (Node gap a) rest sound));
-        past = All-permutation (IsPast cmp last) (found ++ rest) new put (All-append (IsPast cmp last) found rest (All-by (IsPast cmp last) found (λ item at. past_far last (Node gap a) item (λ k p. far_after cmp (row_of k) item (below_trans k.gap gap (gap_of item) (after_strict cmp (row_of k) (Node gap a) refl p) (at_most_trans gap (m.gap a) (gap_of item) (equal_at_most gap (m.gap a) is) (All-contains (λ i. IsAtMost (m.gap a) (gap_of i)) items item says.bound (from_filter (λ i. within m.ceiling (gap_of i)) items item at).0)))) before)) (All-tail (IsPast cmp last) (Node gap a) rest past));
+        sound = All-permutation (IsHonest m) (found ++ rest) new put
+            (All-append (IsHonest m) found rest (All-filter (λ i. within m.ceiling (gap_of i)) (IsHonest m) items says.honest) (All-tail (IsHonest m) (Node gap a) rest sound));
+        past = All-permutation (IsPast cmp last) (found ++ rest) new put
+            (All-append (IsPast cmp last) found rest
+            (All-by (IsPast cmp last) found (λ item at.
+            past_far last (Node gap a) item (λ k p.
+            far_after cmp (row_of k) item (below_trans k.gap gap (gap_of item) (after_strict cmp (row_of k) (Node gap a) refl p)
+            (at_most_trans gap (m.gap a) (gap_of item) (equal_at_most gap (m.gap a) is)
+            (All-contains (λ i. IsAtMost (m.gap a) (gap_of i)) items item says.bound
+            (from_filter (λ i. within m.ceiling (gap_of i)) items item at).0)))) before)) (All-tail (IsPast cmp last) (Node gap a) rest past));
         whole = λ hit answer later.
             let p = h.whole hit answer later in
             ⊎_elim
-            (λ e. let q = opened_leads a items says hit answer (subst (LeadsTo m hit) (sym e) p.leads) in record { item = q.item; queued = Contains-permutation (found ++ rest) new q.item put (Contains-append_left found rest q.item q.queued); leads = q.leads })
+            (λ e. let q = opened_leads a items says hit answer (subst (LeadsTo m hit) (sym e) p.leads) in
+            record { item = q.item; queued = Contains-permutation (found ++ rest) new q.item put (Contains-append_left found rest q.item q.queued); leads = q.leads })
             (λ t. record { item = p.item; queued = Contains-permutation (found ++ rest) new p.item put (Contains-append_right found rest p.item t); leads = p.leads })
             (cons_cases (Node gap a) rest p.item (Contains-permutation held (Node gap a ∷ rest) p.item taken p.queued));
       }
 
   -- ---- a fetch
 
-  pub fetched_covers : (held gone rest added new : List (Item N)) (last : Option Hit) (gap : Frac) (hit : Hit) → HasRow m hit → Contains held (Rough gap hit.left hit.right) → All (λ item. item_cmp cmp (Rough gap hit.left hit.right) item ≡ Equal) gone → Adds m.ceiling gap hit added → IsPermutation held (gone ++ rest) → IsPermutation (added ++ rest) new → Covers cmp m held last → Covers cmp m new last
+  pub fetched_covers : (held gone rest added new : List (Item N)) (last : Option Hit) (gap : Frac) (hit : Hit) → HasRow m hit
+      → Contains held (Rough gap hit.left hit.right) → All (λ item. item_cmp cmp (Rough gap hit.left hit.right) item ≡ Equal) gone → Adds m.ceiling gap hit added
+      → IsPermutation held (gone ++ rest) → IsPermutation (added ++ rest) new → Covers cmp m held last → Covers cmp m new last
   fetched_covers held gone rest added new last gap hit listed at alike adds taken put h =
       let front : Item N = Rough gap hit.left hit.right in
-      let right = λ (P : Item N → Type 0) (all : All P held). All-by P rest (λ item i. All-contains P (gone ++ rest) item (All-permutation P held (gone ++ rest) taken all) (Contains-append_right gone rest item i)) in
+      let right = λ (P : Item N → Type 0) (all : All P held).
+      All-by P rest (λ item i. All-contains P (gone ++ rest) item (All-permutation P held (gone ++ rest) taken all) (Contains-append_right gone rest item i)) in
       record {
-        sound = All-permutation (IsHonest m) (added ++ rest) new put (All-append (IsHonest m) added rest (All-by (IsHonest m) added (λ item i. subst (IsHonest m) (sym (All-contains (λ x. (x ≡ row_of hit) × IsAtMost gap hit.gap × (within m.ceiling hit.gap ≡ true)) added item adds.only i).0) listed)) (right (IsHonest m) h.sound));
-        past = All-permutation (IsPast cmp last) (added ++ rest) new put (All-append (IsPast cmp last) added rest (All-by (IsPast cmp last) added (λ item i. let says = All-contains (λ x. (x ≡ row_of hit) × IsAtMost gap hit.gap × (within m.ceiling hit.gap ≡ true)) added item adds.only i in subst (IsPast cmp last) (sym says.0) (past_far last front (row_of hit) (λ k p. far_after cmp (row_of k) (row_of hit) (below_trans k.gap gap hit.gap (after_strict cmp (row_of k) front refl p) says.1)) (All-contains (IsPast cmp last) held front h.past at)))) (right (IsPast cmp last) h.past));
+        sound = All-permutation (IsHonest m) (added ++ rest) new put
+            (All-append (IsHonest m) added rest (All-by (IsHonest m) added
+            (λ item i. subst (IsHonest m) (sym (All-contains (λ x. (x ≡ row_of hit) × IsAtMost gap hit.gap × (within m.ceiling hit.gap ≡ true)) added item adds.only i).0) listed)) (right
+            (IsHonest m) h.sound));
+        past = All-permutation (IsPast cmp last) (added ++ rest) new put
+            (All-append (IsPast cmp last) added rest
+            (All-by (IsPast cmp last) added (λ item i. let says = All-contains (λ x. (x ≡ row_of hit) × IsAtMost gap hit.gap × (within m.ceiling hit.gap ≡ true)) added item adds.only i in
+            subst (IsPast cmp last) (sym says.0) (past_far last front (row_of hit)
+            (λ k p. far_after cmp (row_of k) (row_of hit) (below_trans k.gap gap hit.gap (after_strict cmp (row_of k) front refl p) says.1))
+            (All-contains (IsPast cmp last) held front h.past at)))) (right (IsPast cmp last) h.past));
         whole = λ other answer later.
             let p = h.whole other answer later in
             ⊎_elim
@@ -108,11 +129,16 @@ module _ {N : Type 0} {cmp : N → N → Ordering} (o : IsTotalOrder cmp) (m : M
             let same = All-contains (λ item. item_cmp cmp front item ≡ Equal) gone p.item alike g in
             let (far, is) = alike_rough cmp gap hit.left hit.right p.item same in
             let shows : Shows {N = N} other (Rough far hit.left hit.right) = subst (LeadsTo m other) is p.leads in
-            let one : IsSameGap other.gap hit.gap = same_trans other.gap listed.row.gap hit.gap (laws.once other listed.row answer.0 listed.among (sym shows.0 ∙ sym listed.same.1) (sym shows.1 ∙ sym listed.same.2)) listed.same.0 in
+            let one : IsSameGap other.gap hit.gap =
+            same_trans other.gap listed.row.gap hit.gap (laws.once other listed.row answer.0 listed.among (sym shows.0 ∙ sym listed.same.1) (sym shows.1 ∙ sym listed.same.2)) listed.same.0 in
             let level : IsAtMost gap far = equal_at_most gap far (alike_gap cmp front (Rough far hit.left hit.right) (subst (λ x. item_cmp cmp front x ≡ Equal) is same)) in
             let near : IsAtMost gap hit.gap = at_most_trans gap other.gap hit.gap (at_most_trans gap far other.gap level shows.2) (equal_at_most other.gap hit.gap one) in
             let inside : within m.ceiling hit.gap ≡ true = reach_same (within m.ceiling) (within_reach m.ceiling) other.gap hit.gap one true answer.1 in
-            record { item = row_of hit; queued = Contains-permutation (added ++ rest) new (row_of hit) put (Contains-append_left added rest (row_of hit) (adds.whole near inside)); leads = (same_back other.gap hit.gap one, shows.0, shows.1) })
+            record {
+              item = row_of hit;
+              queued = Contains-permutation (added ++ rest) new (row_of hit) put (Contains-append_left added rest (row_of hit) (adds.whole near inside));
+              leads = (same_back other.gap hit.gap one, shows.0, shows.1);
+            })
             (λ t. record { item = p.item; queued = Contains-permutation (added ++ rest) new p.item put (Contains-append_right added rest p.item t); leads = p.leads })
             (Contains-append_cases gone rest p.item (Contains-permutation held (gone ++ rest) p.item taken p.queued));
       }
@@ -123,9 +149,11 @@ module _ {N : Type 0} {cmp : N → N → Ordering} (o : IsTotalOrder cmp) (m : M
   still_later None hit other p q = tt
   still_later (Some k) hit other p q = (item_total o).trans (row_of k) (row_of hit) (row_of other) p q
 
-  pub given_covers : (held gone rest : List (Item N)) (last : Option Hit) (hit : Hit) → Contains held (row_of hit) → All (λ item. item_cmp cmp (row_of hit) item ≡ Equal) gone → All (IsAfter cmp (row_of hit)) rest → IsPermutation held (gone ++ rest) → Covers cmp m held last → Covers cmp m rest (Some hit)
+  pub given_covers : (held gone rest : List (Item N)) (last : Option Hit) (hit : Hit) → Contains held (row_of hit)
+      → All (λ item. item_cmp cmp (row_of hit) item ≡ Equal) gone → All (IsAfter cmp (row_of hit)) rest → IsPermutation held (gone ++ rest) → Covers cmp m held last → Covers cmp m rest (Some hit)
   given_covers held gone rest last hit at alike after taken h = record {
-    sound = All-by (IsHonest m) rest (λ item i. All-contains (IsHonest m) (gone ++ rest) item (All-permutation (IsHonest m) held (gone ++ rest) taken h.sound) (Contains-append_right gone rest item i));
+    sound = All-by (IsHonest m) rest (λ item i. All-contains (IsHonest m) (gone ++ rest) item (All-permutation (IsHonest m) held (gone ++ rest) taken h.sound)
+        (Contains-append_right gone rest item i));
     past = after;
     whole = λ other answer later.
         let p = h.whole other answer (still_later last hit other (All-contains (IsPast cmp last) held (row_of hit) h.past at) later) in
@@ -142,7 +170,8 @@ module _ {N : Type 0} {cmp : N → N → Ordering} (o : IsTotalOrder cmp) (m : M
   }
 
   -- the row at the front is the next row of the answer
-  pub is_next : (held : List (Item N)) (last : Option Hit) (hit : Hit) → Contains held (row_of hit) → All (λ item. is_gt (item_cmp cmp (row_of hit) item) ≡ false) held → All (HasGap m) held → within m.ceiling hit.gap ≡ true → Covers cmp m held last → IsNext m last hit
+  pub is_next : (held : List (Item N)) (last : Option Hit) (hit : Hit) → Contains held (row_of hit) → All (λ item. is_gt (item_cmp cmp (row_of hit) item) ≡ false) held
+      → All (HasGap m) held → within m.ceiling hit.gap ≡ true → Covers cmp m held last → IsNext m last hit
   is_next held last hit at least gaps inside h =
       let past : IsPast cmp last (row_of hit) = All-contains (IsPast cmp last) held (row_of hit) h.past at in
       let has : HasRow m hit = All-contains (IsHonest m) held (row_of hit) h.sound at in
@@ -152,10 +181,16 @@ module _ {N : Type 0} {cmp : N → N → Ordering} (o : IsTotalOrder cmp) (m : M
         row = has.row;
         same = has.same;
         answer = (has.among, reach_same (within m.ceiling) (within_reach m.ceiling) hit.gap has.row.gap (same_back has.row.gap hit.gap has.same.0) true inside);
-        later = elim last as (λ l. IsPast cmp l (row_of hit) → IsLater l has.row) [ None ↦ λ p. tt | Some k ↦ λ p. sym (alike_right (item_total o) (row_of hit) (row_of has.row) (row_of k) tied) ∙ p ] past;
+        later = elim last as (λ l. IsPast cmp l (row_of hit) → IsLater l has.row) [
+          | None ↦ λ p. tt
+          | Some k ↦ λ p.
+              sym (alike_right (item_total o) (row_of hit) (row_of has.row) (row_of k) tied) ∙ p
+        ] past;
         first = λ other answer later.
             let p = h.whole other answer later in
-            let first : is_gt (hit_cmp hit other) ≡ false = upto (item_total o) (row_of hit) p.item (row_of other) (All-contains (λ item. is_gt (item_cmp cmp (row_of hit) item) ≡ false) held p.item least p.queued) (leads_first other p.item (All-contains (HasGap m) held p.item gaps p.queued) p.leads) in
+            let first : is_gt (hit_cmp hit other) ≡ false =
+            upto (item_total o) (row_of hit) p.item (row_of other) (All-contains (λ item. is_gt (item_cmp cmp (row_of hit) item) ≡ false) held p.item least p.queued)
+            (leads_first other p.item (All-contains (HasGap m) held p.item gaps p.queued) p.leads) in
             ap is_gt ((item_total o).congr (row_of has.row) (row_of hit) (row_of other) back) ∙ first;
       }
 
@@ -170,17 +205,25 @@ module _ {N : Type 0} {cmp : N → N → Ordering} (o : IsTotalOrder cmp) (m : M
   begun_covers gap new is put =
       let root : List (Item N) = Node gap m.root ∷ [] in
       record {
-        sound = All-permutation (IsHonest m) (kept (within m.ceiling) root) new put (All-filter (λ i. within m.ceiling (gap_of i)) (IsHonest m) root (Rattle.best_first.proofs.Bags.All-one (IsHonest m) (Node gap m.root) tt));
+        sound = All-permutation (IsHonest m) (kept (within m.ceiling) root) new put
+            (All-filter (λ i. within m.ceiling (gap_of i)) (IsHonest m) root (Rattle.best_first.proofs.Bags.All-one (IsHonest m) (Node gap m.root) tt));
         past = λ k d below. tt;
         whole = λ hit answer later.
             let leads = laws.covers hit answer.0 in
-            record { item = Node gap m.root; queued = Contains-permutation (kept (within m.ceiling) root) new (Node gap m.root) put (in_filter (λ i. within m.ceiling (gap_of i)) root (Node gap m.root) (here (Node gap m.root) []) (leads_within hit (Node gap m.root) is leads answer)); leads = leads };
+            record {
+              item = Node gap m.root;
+              queued = Contains-permutation (kept (within m.ceiling) root) new (Node gap m.root) put
+                  (in_filter (λ i. within m.ceiling (gap_of i)) root (Node gap m.root) (here (Node gap m.root) []) (leads_within hit (Node gap m.root) is leads answer));
+              leads = leads;
+            };
       }
 
   -- what is no farther than all that is queued is no farther than the row that comes next
-  pub within_row : (held : List (Item N)) (last : Option Hit) (hit : Hit) (gap : Frac) → IsNext m last hit → All (HasGap m) held → All (λ item. IsAtMost gap (gap_of item)) held → Covers cmp m held last → IsAtMost gap hit.gap
+  pub within_row : (held : List (Item N)) (last : Option Hit) (hit : Hit) (gap : Frac) → IsNext m last hit → All (HasGap m) held
+      → All (λ item. IsAtMost gap (gap_of item)) held → Covers cmp m held last → IsAtMost gap hit.gap
   within_row held last hit gap next gaps near h =
       let p = h.whole next.row next.answer next.later in
       at_most_trans gap next.row.gap hit.gap
-      (at_most_trans gap (gap_of p.item) next.row.gap (All-contains (λ item. IsAtMost gap (gap_of item)) held p.item near p.queued) (leads_far next.row p.item (All-contains (HasGap m) held p.item gaps p.queued) p.leads))
+      (at_most_trans gap (gap_of p.item) next.row.gap (All-contains (λ item. IsAtMost gap (gap_of item)) held p.item near p.queued)
+      (leads_far next.row p.item (All-contains (HasGap m) held p.item gaps p.queued) p.leads))
       (equal_at_most next.row.gap hit.gap next.same.0)

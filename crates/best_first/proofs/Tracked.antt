@@ -1,7 +1,8 @@
 -- What was taken keeps its account of the tree: at an expansion, at a fetch and at a row given.
 use Rattle.std.proofs.Common.{◌≡◌, true, List, [], ◌∷◌, ◌++◌, All, Contains, IsPermutation, ◌⊎◌, inl, inr, ⊎_elim, refl, sym, ap, ◌∙◌, subst, append-nil, append_assoc, Ordering, Equal}
 use Rattle.std.specs.Cmp.{IsTotalOrder, tied_itself, tied_back}
-use Rattle.std.proofs.lemmas.List.Elements.{All-contains, All-head, All-tail, All-append, All-filter, All-nil, All-weaker, filter_passes, Contains-append_left, Contains-append_right, Contains-append_cases}
+use Rattle.std.proofs.lemmas.List.Elements.{All-contains, All-head, All-tail, All-append, All-filter, All-nil, All-weaker, filter_passes, Contains-append_left}
+use Rattle.std.proofs.lemmas.List.Elements.{Contains-append_right, Contains-append_cases}
 use Rattle.std.proofs.lemmas.List.Sorted.{IsPermutation-sym, IsPermutation-trans, IsPermutation-append_right, All-permutation, Contains-permutation}
 use Rattle.exact_frac.specs.declared.frac.Frac.{Frac}
 use Rattle.best_first.specs.declared.item.Item.{Item}
@@ -20,7 +21,8 @@ use Rattle.best_first.proofs.Ranks.{after_strict, far_after, alike_rough}
 
 -- ---- parts of the account under more that was taken and another frontier
 
-pub alike_more : {N : Type 0} (cmp : N → N → Ordering) (xs ys : List (Item N)) (item : Item N) → ((other : Item N) → Contains xs other → HasAlike cmp ys other) → IsTotalOrder cmp → HasAlike cmp xs item → HasAlike cmp ys item
+pub alike_more : {N : Type 0} (cmp : N → N → Ordering) (xs ys : List (Item N)) (item : Item N) → ((other : Item N) → Contains xs other → HasAlike cmp ys other)
+    → IsTotalOrder cmp → HasAlike cmp xs item → HasAlike cmp ys item
 alike_more cmp xs ys item step o h =
     let more = step h.other h.listed in
     record { other = more.other; listed = more.listed; alike = (item_total o).congr item h.other more.other h.alike ∙ more.alike }
@@ -43,7 +45,8 @@ rough_moves xs ys item step h =
     let (at, (gap, l, r, is)) = rough_item xs item h in
     subst (Contains (roughs_of ys)) (sym is) (rough_among ys gap l r (subst (Contains ys) is (step at)))
 
-pub once_push : {N : Type 0} (cmp : N → N → Ordering) (items : List (Item N)) (item : Item N) → All (λ other. item_cmp cmp other item ≡ Equal → ⊥) items → IsOnce cmp items → IsOnce cmp (items ++ item ∷ [])
+pub once_push : {N : Type 0} (cmp : N → N → Ordering) (items : List (Item N)) (item : Item N) → All (λ other. item_cmp cmp other item ≡ Equal → ⊥) items
+    → IsOnce cmp items → IsOnce cmp (items ++ item ∷ [])
 once_push cmp [] item apart h = (All-nil (λ other. item_cmp cmp item other ≡ Equal → ⊥), tt)
 once_push cmp (first ∷ items) item apart (alone, rest) =
     let P = λ (other : Item _). item_cmp cmp first other ≡ Equal → ⊥ in
@@ -53,7 +56,9 @@ once_push cmp (first ∷ items) item apart (alone, rest) =
 module _ {N : Type 0} {cmp : N → N → Ordering} (o : IsTotalOrder cmp) (m : Meaning N) (laws : MeetsLaws m) where
   -- ---- an expansion
 
-  module _ (held rest new done : List (Item N)) (gap near_gap : Frac) (a : N) (items : List (Item N)) (says : IsFoundAt m a items) (asked : Contains held (Node gap a)) (taken : IsPermutation held (Node near_gap a ∷ rest)) (put : IsPermutation (kept (within m.ceiling) items ++ rest) new) (far : All (λ item. IsAtMost gap (gap_of item)) rest) (h : Tracks cmp m held done) where
+  module _ (held rest new done : List (Item N)) (gap near_gap : Frac) (a : N) (items : List (Item N)) (says : IsFoundAt m a items) (asked : Contains held (Node gap a))
+      (taken : IsPermutation held (Node near_gap a ∷ rest)) (put : IsPermutation (kept (within m.ceiling) items ++ rest) new)
+      (far : All (λ item. IsAtMost gap (gap_of item)) rest) (h : Tracks cmp m held done) where
     -- the node as it was opened, and as it left the frontier
     front : Item N
     front = Node gap a
@@ -130,10 +135,12 @@ module _ {N : Type 0} {cmp : N → N → Ordering} (o : IsTotalOrder cmp) (m : M
     opened_nearer : All (λ k. All (λ item. IsAtMost (gap_of k) (gap_of item)) new) (done ++ front ∷ [])
     unfolding front
     opened_nearer =
-        let all = λ (g : Frac) (near : IsAtMost g gap) (more : All (λ item. IsAtMost g (gap_of item)) rest). new_of (λ item. IsAtMost g (gap_of item)) (All-by (λ item. IsAtMost g (gap_of item)) found (λ item at. at_most_trans g gap (gap_of item) near (found_far item at))) more in
+        let all = λ (g : Frac) (near : IsAtMost g gap) (more : All (λ item. IsAtMost g (gap_of item)) rest).
+        new_of (λ item. IsAtMost g (gap_of item)) (All-by (λ item. IsAtMost g (gap_of item)) found (λ item at. at_most_trans g gap (gap_of item) near (found_far item at))) more in
         let P = λ (k : Item N). All (λ item. IsAtMost (gap_of k) (gap_of item)) new in
         All-append P done (front ∷ [])
-        (All-by P done (λ k at. let near = All-contains (λ k. All (λ item. IsAtMost (gap_of k) (gap_of item)) held) done k h.nearer at in all (gap_of k) (All-contains (λ item. IsAtMost (gap_of k) (gap_of item)) held front near was_queued) (rest_of (λ item. IsAtMost (gap_of k) (gap_of item)) near)))
+        (All-by P done (λ k at. let near = All-contains (λ k. All (λ item. IsAtMost (gap_of k) (gap_of item)) held) done k h.nearer at in
+        all (gap_of k) (All-contains (λ item. IsAtMost (gap_of k) (gap_of item)) held front near was_queued) (rest_of (λ item. IsAtMost (gap_of k) (gap_of item)) near)))
         (All-one P front (all gap (Rattle.best_first.proofs.Gaps.at_most_itself gap) far))
 
     opened_after : All (λ r. All (IsAfter cmp r) new) (roughs_of (done ++ front ∷ []))
@@ -154,12 +161,19 @@ module _ {N : Type 0} {cmp : N → N → Ordering} (o : IsTotalOrder cmp) (m : M
     unfolding front
     opened_listed =
         let P = IsListed m (done ++ front ∷ []) in
-        let old = λ (r : Item N) (l : Contains (roughs_of done ++ roughs_of held) r). listed_more m done (front ∷ []) r (All-contains (IsListed m done) (roughs_of done ++ roughs_of held) r h.listed l) in
+        let old = λ (r : Item N) (l : Contains (roughs_of done ++ roughs_of held) r).
+        listed_more m done (front ∷ []) r (All-contains (IsListed m done) (roughs_of done ++ roughs_of held) r h.listed l) in
         All-append P (roughs_of (done ++ front ∷ [])) (roughs_of new)
         (subst (All P) (sym done_roughs) (All-by P (roughs_of done) (λ r at. old r (Contains-append_left (roughs_of done) (roughs_of held) r at))))
         (All-by P (roughs_of new) (λ r at.
         ⊎_elim
-        (λ i. record { leaf = a; opened = subst (λ l. Contains l a) (sym done_nodes) (Contains-append_right (nodes_of done) (a ∷ []) a (here a [])); other = (alike_from items (m.finds a) r says.alike (of_found r i).0).0; listed = (alike_from items (m.finds a) r says.alike (of_found r i).0).1; alike = (alike_from items (m.finds a) r says.alike (of_found r i).0).2 })
+        (λ i. record {
+          leaf = a;
+          opened = subst (λ l. Contains l a) (sym done_nodes) (Contains-append_right (nodes_of done) (a ∷ []) a (here a []));
+          other = (alike_from items (m.finds a) r says.alike (of_found r i).0).0;
+          listed = (alike_from items (m.finds a) r says.alike (of_found r i).0).1;
+          alike = (alike_from items (m.finds a) r says.alike (of_found r i).0).2;
+        })
         (λ i. old r (Contains-append_right (roughs_of done) (roughs_of held) r (rough_moves new held r (λ _. queued r (Rattle.best_first.proofs.Bags.there left rest r i)) at)))
         (from_new r (rough_item new r at).0)))
 
@@ -167,25 +181,39 @@ module _ {N : Type 0} {cmp : N → N → Ordering} (o : IsTotalOrder cmp) (m : M
     unfolding front left found
     opened_whole =
         let P = λ (n : N). All (HasAlike cmp (roughs_of (done ++ front ∷ []) ++ roughs_of new)) (kept (within m.ceiling) (roughs_of (m.finds n))) in
-        let to = λ (r : Item N) (at : Contains (roughs_of done ++ roughs_of new) r). alike_here cmp o (roughs_of (done ++ front ∷ []) ++ roughs_of new) r (subst (λ l. Contains (l ++ roughs_of new) r) (sym done_roughs) at) in
+        let to = λ (r : Item N) (at : Contains (roughs_of done ++ roughs_of new) r).
+        alike_here cmp o (roughs_of (done ++ front ∷ []) ++ roughs_of new) r (subst (λ l. Contains (l ++ roughs_of new) r) (sym done_roughs) at) in
         subst (All P) (sym done_nodes)
         (All-append P (nodes_of done) (a ∷ [])
         (All-weaker (λ n. All (HasAlike cmp (roughs_of done ++ roughs_of held)) (kept (within m.ceiling) (roughs_of (m.finds n)))) P
-        (λ n all. All-weaker (HasAlike cmp (roughs_of done ++ roughs_of held)) (HasAlike cmp (roughs_of (done ++ front ∷ []) ++ roughs_of new)) (λ r alike. alike_more cmp (roughs_of done ++ roughs_of held) (roughs_of (done ++ front ∷ []) ++ roughs_of new) r (λ other at. to other (⊎_elim (Contains-append_left (roughs_of done) (roughs_of new) other) (λ q. Contains-append_right (roughs_of done) (roughs_of new) other (moved other q)) (Contains-append_cases (roughs_of done) (roughs_of held) other at))) o alike) (kept (within m.ceiling) (roughs_of (m.finds n))) all)
+        (λ n all. All-weaker (HasAlike cmp (roughs_of done ++ roughs_of held)) (HasAlike cmp (roughs_of (done ++ front ∷ []) ++ roughs_of new))
+        (λ r alike. alike_more cmp (roughs_of done ++ roughs_of held) (roughs_of (done ++ front ∷ []) ++ roughs_of new) r
+        (λ other at. to other (⊎_elim (Contains-append_left (roughs_of done) (roughs_of new) other)
+        (λ q. Contains-append_right (roughs_of done) (roughs_of new) other (moved other q))
+        (Contains-append_cases (roughs_of done) (roughs_of held) other at))) o alike) (kept (within m.ceiling) (roughs_of (m.finds n))) all)
         (nodes_of done) h.whole)
         (All-one P a (All-by (HasAlike cmp (roughs_of (done ++ front ∷ []) ++ roughs_of new)) (kept (within m.ceiling) (roughs_of (m.finds a))) (λ r at.
         let (among, near) = from_filter (λ i. within m.ceiling (gap_of i)) (roughs_of (m.finds a)) r at in
         let (there, (g, l, s, e)) = rough_item (m.finds a) r among in
         let (x, listed, alike) = alike_to items (m.finds a) r says.alike there in
-        let inside2 : within m.ceiling (gap_of x) ≡ true = reach_same (within m.ceiling) (within_reach m.ceiling) (gap_of r) (gap_of x) (same_back (gap_of x) (gap_of r) (alike_gaps x r alike)) true near in
+        let inside2 : within m.ceiling (gap_of x) ≡ true =
+        reach_same (within m.ceiling) (within_reach m.ceiling) (gap_of r) (gap_of x) (same_back (gap_of x) (gap_of r) (alike_gaps x r alike)) true near in
         let same : item_cmp cmp r x ≡ Equal = tied_back (item_total o) x r (alike_cmp o x r alike) in
         let rough = alike_rough cmp g l s x (subst (λ y. item_cmp cmp y x ≡ Equal) e same) in
-        record { other = x; listed = subst (λ l. Contains (l ++ roughs_of new) x) (sym done_roughs) (Contains-append_right (roughs_of done) (roughs_of new) x (subst (Contains (roughs_of new)) (sym rough.1) (rough_among new rough.0 l s (subst (Contains new) rough.1 (to_new x (inl (in_filter (λ i. within m.ceiling (gap_of i)) items x listed inside2))))))); alike = same }))))
+        record {
+          other = x;
+          listed = subst (λ l. Contains (l ++ roughs_of new) x) (sym done_roughs)
+              (Contains-append_right (roughs_of done) (roughs_of new) x
+              (subst (Contains (roughs_of new)) (sym rough.1)
+              (rough_among new rough.0 l s (subst (Contains new) rough.1 (to_new x (inl (in_filter (λ i. within m.ceiling (gap_of i)) items x listed inside2)))))));
+          alike = same;
+        }))))
       where
         moved : (r : Item N) → Contains (roughs_of held) r → Contains (roughs_of new) r
         moved r at =
             let (there, (g, l, s, e)) = rough_item held r at in
-            rough_moves held new r (λ _. ⊎_elim (λ same. absurd (let e2 : left ≡ Rough g l s = same ∙ e in cc)) (λ t. to_new r (inr t)) (cons_cases left rest r (Contains-permutation held (left ∷ rest) r taken there))) at
+            rough_moves held new r (λ _. ⊎_elim (λ same. absurd (let e2 : left ≡ Rough g l s = same ∙ e in cc)) (λ t. to_new r (inr t))
+            (cons_cases left rest r (Contains-permutation held (left ∷ rest) r taken there))) at
 
     opened_inside : All (λ item. within m.ceiling (gap_of item) ≡ true) ((done ++ front ∷ []) ++ new)
     unfolding front found

@@ -16,16 +16,32 @@ use Rattle.best_first.proofs.Gaps.{at_most_itself, at_most_trans, equal_at_most}
 pub node_item : {N : Type 0} (items : List (Item N)) (node : N) → Contains (nodes_of items) node → (gap : Frac) × Contains items (Node gap node)
 node_item {N} items node h =
     let (item, at, is) = from_flat_map node_of items node h in
-    elim item as (λ i. Contains items i → Contains (node_of i) node → (gap : Frac) × Contains items (Node gap node)) [ Node gap other ↦ λ there same. (gap, subst (λ n. Contains items (Node gap n)) (only other node same) there) | Rough gap l r ↦ λ there same. absurd (none node same) | Row gap l r ↦ λ there same. absurd (none node same) ] at is
+    elim item as (λ i. Contains items i → Contains (node_of i) node → (gap : Frac)
+    × Contains items (Node gap node)) [
+      | Node gap other ↦ λ there same. (gap, subst (λ n. Contains items (Node gap n)) (only other node same) there)
+      | Rough gap l r ↦ λ there same.
+          absurd (none node same)
+      | Row gap l r ↦ λ there same. absurd (none node same)
+    ] at is
 
 pub node_among : {N : Type 0} (items : List (Item N)) (gap : Frac) (node : N) → Contains items (Node gap node) → Contains (nodes_of items) node
 node_among items gap node h = in_flat_map node_of items (Node gap node) node h (here node [])
 
 -- an item among the rough ones is rough, and stands in the list
-pub rough_item : {N : Type 0} (items : List (Item N)) (item : Item N) → Contains (roughs_of items) item → Contains items item × ((gap : Frac) × (left : ℕ) × (right : ℕ) × (item ≡ Rough gap left right))
+pub rough_item : {N : Type 0} (items : List (Item N)) (item : Item N) → Contains (roughs_of items) item
+    → Contains items item × ((gap : Frac) × (left : ℕ) × (right : ℕ) × (item ≡ Rough gap left right))
 rough_item {N} items item h =
     let (from, at, is) = from_flat_map rough_of items item h in
-    elim from as (λ i. Contains items i → Contains (rough_of i) item → Contains items item × ((gap : Frac) × (left : ℕ) × (right : ℕ) × (item ≡ Rough gap left right))) [ Node gap other ↦ λ there same. absurd (none item same) | Rough gap l r ↦ λ there same. (subst (Contains items) (only (Rough gap l r) item same) there, (gap, l, r, sym (only (Rough gap l r) item same))) | Row gap l r ↦ λ there same. absurd (none item same) ] at is
+    elim from as (λ i. Contains items i → Contains (rough_of i) item → Contains items item
+    × ((gap : Frac) × (left : ℕ) × (right : ℕ) × (item ≡ Rough gap left right))) [
+      | Node gap other ↦ λ there same.
+          absurd (none item same)
+      | Rough gap l r ↦ λ there same. (
+        subst (Contains items) (only (Rough gap l r) item same) there,
+        (gap, l, r, sym (only (Rough gap l r) item same)),
+      )
+      | Row gap l r ↦ λ there same. absurd (none item same)
+    ] at is
 
 pub rough_among : {N : Type 0} (items : List (Item N)) (gap : Frac) (left right : ℕ) → Contains items (Rough gap left right) → Contains (roughs_of items) (Rough gap left right)
 rough_among items gap left right h = in_flat_map rough_of items (Rough gap left right) (Rough gap left right) h (here (Rough gap left right) [])

@@ -26,11 +26,14 @@ pub record Beyond {N : Type 0} (reach : Frac → Bool) (held : List (Item N)) : 
   pub nodes : (gap : Frac) (node : N) → Contains held (Node gap node) → reach gap ≡ false
   pub roughs : (gap : Frac) (left right : ℕ) → Contains held (Rough gap left right) → reach gap ≡ false
 
-module _ {N : Type 0} {cmp : N → N → Ordering} (o : IsTotalOrder cmp) (m : Meaning N) (laws : MeetsLaws m) (reach : Frac → Bool) (is : IsReach reach) (narrow : (gap : Frac) → reach gap ≡ true → within m.ceiling gap ≡ true) (held done : List (Item N)) (h : Tracks cmp m held done) (took : All (λ item. reach (gap_of item) ≡ true) done) (out : Beyond reach held) where
+module _ {N : Type 0} {cmp : N → N → Ordering} (o : IsTotalOrder cmp) (m : Meaning N) (laws : MeetsLaws m) (reach : Frac → Bool) (is : IsReach reach)
+    (narrow : (gap : Frac) → reach gap ≡ true → within m.ceiling gap ≡ true) (held done : List (Item N)) (h : Tracks cmp m held done)
+    (took : All (λ item. reach (gap_of item) ≡ true) done) (out : Beyond reach held) where
   done_in : (node : N) → Contains (nodes_of done) node → reach (m.gap node) ≡ true
   done_in node i =
       let (gap, at) = node_item done node i in
-      reach_same reach is gap (m.gap node) (All-contains (HasGap m) done (Node gap node) (All-left (HasGap m) done held h.gaps) at) true (All-contains (λ item. reach (gap_of item) ≡ true) done (Node gap node) took at)
+      reach_same reach is gap (m.gap node) (All-contains (HasGap m) done (Node gap node) (All-left (HasGap m) done held h.gaps) at) true
+      (All-contains (λ item. reach (gap_of item) ≡ true) done (Node gap node) took at)
 
   pending_out : (node : N) → Contains (pending m held) node → reach (m.gap node) ≡ false
   pending_out node i =
@@ -61,7 +64,8 @@ module _ {N : Type 0} {cmp : N → N → Ordering} (o : IsTotalOrder cmp) (m : M
       record {
         other = from.other;
         listed = in_filter (λ item. reach (gap_of item)) (flat_map (λ n. roughs_of (m.finds n)) (m.under m.root)) from.other
-            (in_flat_map (λ n. roughs_of (m.finds n)) (m.under m.root) from.leaf from.other node.0 (subst (Contains (roughs_of (m.finds from.leaf))) (sym rough.1) (rough_among (m.finds from.leaf) rough.0 l s (subst (Contains (m.finds from.leaf)) rough.1 from.listed))))
+            (in_flat_map (λ n. roughs_of (m.finds n)) (m.under m.root) from.leaf from.other node.0
+            (subst (Contains (roughs_of (m.finds from.leaf))) (sym rough.1) (rough_among (m.finds from.leaf) rough.0 l s (subst (Contains (m.finds from.leaf)) rough.1 from.listed))))
             (reach_same reach is (gap_of r) (gap_of from.other) (alike_gaps r from.other from.alike) true (All-contains (λ item. reach (gap_of item) ≡ true) done r took at));
         alike = same;
       })
@@ -73,7 +77,9 @@ module _ {N : Type 0} {cmp : N → N → Ordering} (o : IsTotalOrder cmp) (m : M
       let bound = All-contains (λ item. IsAtMost (m.gap leaf) (gap_of item)) (m.finds leaf) r (laws.bound leaf) (rough_item (m.finds leaf) r among).0 in
       let close : reach (m.gap leaf) ≡ true = is (m.gap leaf) (gap_of r) bound inside in
       let opened : Contains (nodes_of done) leaf = Contains-permutation (nodes_within m reach) (nodes_of done) leaf nodes (in_filter (λ n. reach (m.gap n)) (m.under m.root) leaf node close) in
-      let found = All-contains (HasAlike cmp (roughs_of done ++ roughs_of held)) (kept (within m.ceiling) (roughs_of (m.finds leaf))) r (All-contains (λ n. All (HasAlike cmp (roughs_of done ++ roughs_of held)) (kept (within m.ceiling) (roughs_of (m.finds n)))) (nodes_of done) leaf h.whole opened) (in_filter (λ item. within m.ceiling (gap_of item)) (roughs_of (m.finds leaf)) r among (narrow (gap_of r) inside)) in
+      let found = All-contains (HasAlike cmp (roughs_of done ++ roughs_of held)) (kept (within m.ceiling) (roughs_of (m.finds leaf))) r
+      (All-contains (λ n. All (HasAlike cmp (roughs_of done ++ roughs_of held)) (kept (within m.ceiling) (roughs_of (m.finds n)))) (nodes_of done) leaf h.whole opened)
+      (in_filter (λ item. within m.ceiling (gap_of item)) (roughs_of (m.finds leaf)) r among (narrow (gap_of r) inside)) in
       ⊎_elim
       (λ d. record { other = found.other; listed = d; alike = found.alike })
       (λ q.
@@ -88,20 +94,29 @@ module _ {N : Type 0} {cmp : N → N → Ordering} (o : IsTotalOrder cmp) (m : M
   reached = record { nodes = nodes; roughs = roughs; all_roughs = all_roughs; once = h.once }
 
 -- at a row that no queued item comes before, what was taken is what lies within its gap
-pub reached_row : {N : Type 0} {cmp : N → N → Ordering} (o : IsTotalOrder cmp) (m : Meaning N) (laws : MeetsLaws m) (held done : List (Item N)) (hit : Hit) → Contains held (row_of hit) → All (λ item. is_gt (item_cmp cmp (row_of hit) item) ≡ false) held → Tracks cmp m held done → Reached cmp m (up_to hit.gap) done
+pub reached_row : {N : Type 0} {cmp : N → N → Ordering} (o : IsTotalOrder cmp) (m : Meaning N) (laws : MeetsLaws m) (held done : List (Item N)) (hit : Hit)
+    → Contains held (row_of hit) → All (λ item. is_gt (item_cmp cmp (row_of hit) item) ≡ false) held → Tracks cmp m held done → Reached cmp m (up_to hit.gap) done
 reached_row {N} {cmp} o m laws held done hit at least h =
-    let out = λ (item : Item N) (i : Contains held item) (below : IsBelow hit.gap (gap_of item)). (let go : (b : Bool) → up_to hit.gap (gap_of item) ≡ b → b ≡ false = elim [ true ↦ λ e. absurd (not_below hit.gap (gap_of item) below (up_to_is hit.gap (gap_of item) e)) | false ↦ λ e. refl ] in let says : up_to hit.gap (gap_of item) ≡ false = go (up_to hit.gap (gap_of item)) refl in says) in
+    let out = λ (item : Item N) (i : Contains held item) (below : IsBelow hit.gap (gap_of item)). (let go : (b : Bool) → up_to hit.gap (gap_of item) ≡ b
+    → b ≡ false = elim [ true ↦ λ e. absurd (not_below hit.gap (gap_of item) below (up_to_is hit.gap (gap_of item) e)) | false ↦ λ e. refl ] in
+    let says : up_to hit.gap (gap_of item) ≡ false = go (up_to hit.gap (gap_of item)) refl in says) in
     reached o m laws (up_to hit.gap) (up_to_reach hit.gap)
-    (λ gap e. within_reach m.ceiling gap hit.gap (up_to_is hit.gap gap e) (All-contains (λ item. within m.ceiling (gap_of item) ≡ true) held (row_of hit) (All-right (λ item. within m.ceiling (gap_of item) ≡ true) done held h.inside) at))
+    (λ gap e. within_reach m.ceiling gap hit.gap (up_to_is hit.gap gap e)
+    (All-contains (λ item. within m.ceiling (gap_of item) ≡ true) held (row_of hit) (All-right (λ item. within m.ceiling (gap_of item) ≡ true) done held h.inside) at))
     held done h
-    (All-by (λ item. up_to hit.gap (gap_of item) ≡ true) done (λ k i. is_up_to hit.gap (gap_of k) (All-contains (λ item. IsAtMost (gap_of k) (gap_of item)) held (row_of hit) (All-contains (λ k. All (λ item. IsAtMost (gap_of k) (gap_of item)) held) done k h.nearer i) at)))
+    (All-by (λ item. up_to hit.gap (gap_of item) ≡ true) done
+    (λ k i. is_up_to hit.gap (gap_of k) (All-contains (λ item. IsAtMost (gap_of k) (gap_of item)) held (row_of hit)
+    (All-contains (λ k. All (λ item. IsAtMost (gap_of k) (gap_of item)) held) done k h.nearer i) at)))
     (record {
-      nodes = λ gap node i. out (Node gap node) i (upto_strict cmp (row_of hit) (Node gap node) refl (All-contains (λ item. is_gt (item_cmp cmp (row_of hit) item) ≡ false) held (Node gap node) least i));
-      roughs = λ gap l r i. out (Rough gap l r) i (upto_strict cmp (row_of hit) (Rough gap l r) refl (All-contains (λ item. is_gt (item_cmp cmp (row_of hit) item) ≡ false) held (Rough gap l r) least i));
+      nodes = λ gap node i. out (Node gap node) i
+          (upto_strict cmp (row_of hit) (Node gap node) refl (All-contains (λ item. is_gt (item_cmp cmp (row_of hit) item) ≡ false) held (Node gap node) least i));
+      roughs = λ gap l r i. out (Rough gap l r) i
+          (upto_strict cmp (row_of hit) (Rough gap l r) refl (All-contains (λ item. is_gt (item_cmp cmp (row_of hit) item) ≡ false) held (Rough gap l r) least i));
     })
 
 -- where nothing is queued, what was taken is what lies within the ceiling
-pub reached_end : {N : Type 0} {cmp : N → N → Ordering} (o : IsTotalOrder cmp) (m : Meaning N) (laws : MeetsLaws m) (held done : List (Item N)) → held ≡ [] → Tracks cmp m held done → Reached cmp m (within m.ceiling) done
+pub reached_end : {N : Type 0} {cmp : N → N → Ordering} (o : IsTotalOrder cmp) (m : Meaning N) (laws : MeetsLaws m) (held done : List (Item N)) → held ≡ []
+    → Tracks cmp m held done → Reached cmp m (within m.ceiling) done
 reached_end o m laws held done empty h =
     reached o m laws (within m.ceiling) (within_reach m.ceiling) (λ gap e. e) held done h
     (All-left (λ item. within m.ceiling (gap_of item) ≡ true) done held h.inside)

@@ -61,7 +61,10 @@ abbrev pub IsOnce : {N : Type 0} → (N → N → Ordering) → List (Item N) �
 IsOnce cmp [] = ⊤
 IsOnce cmp (item ∷ items) = All (λ other. item_cmp cmp item other ≡ Equal → ⊥) items × IsOnce cmp items
 
--- What was taken from the frontier, nodes opened and rough objects fetched, in this order. The nodes within the ceiling are those opened and those at or below a queued node, each once; nothing taken is farther than what is queued; what is queued comes strictly after each rough object that was fetched; rough objects come from opened leaves, and each rough object of an opened leaf within the ceiling is queued or was fetched; none was fetched twice; all is within the ceiling.
+-- What was taken from the frontier, nodes opened and rough objects fetched, in this order. The nodes within the ceiling are those opened
+-- and those at or below a queued node, each once; nothing taken is farther than what is queued; what is queued comes strictly after each
+-- rough object that was fetched; rough objects come from opened leaves, and each rough object of an opened leaf within the ceiling is
+-- queued or was fetched; none was fetched twice; all is within the ceiling.
 pub record Tracks {N : Type 0} (cmp : N → N → Ordering) (m : Meaning N) (held done : List (Item N)) : Type 0 where
   pub split : IsPermutation (nodes_within m (within m.ceiling)) (nodes_of done ++ pending m held)
   pub gaps : All (HasGap m) (done ++ held)

@@ -11,7 +11,9 @@ use Rattle.best_first.specs.declared.item.Item.TheVariants.{Node, Rough, Row}
 use Rattle.best_first.specs.Item.{gap_of, nodes_of, roughs_of, IsAlike, IsSameRow}
 use Rattle.best_first.specs.Reach.{IsSameGap, IsAtMost}
 
--- What must hold of the pages so that the hierarchy can be read; the root; each node's gap; what an expansion of a node finds, its children with their gaps or the items of the leaf; the node with all nodes below it; the rows; the ceiling; and what a visit of a node or a rough object may cost in page gets. A value that is no node of the tree finds nothing and has itself alone below it.
+-- What must hold of the pages so that the hierarchy can be read; the root; each node's gap; what an expansion of a node finds, its children
+-- with their gaps or the items of the leaf; the node with all nodes below it; the rows; the ceiling; and what a visit of a node or a rough
+-- object may cost in page gets. A value that is no node of the tree finds nothing and has itself alone below it.
 pub record Meaning (N : Type 0) : Type 1 where
   pub IsReadable : Type 0
   pub root : N
@@ -58,7 +60,8 @@ IsHonest m (Node gap node) = ⊤
 IsHonest m (Rough gap left right) = ⊤
 IsHonest m (Row gap left right) = HasRow m (record { gap = gap; left = left; right = right })
 
--- The laws of a hierarchy; gaps count by their values. It can be read; the tree is that of its expansions, and finite; a node has one gap; no child and no item is nearer than its node; a listed row is honest; each row is listed, exactly or rough; a row has one gap.
+-- The laws of a hierarchy; gaps count by their values. It can be read; the tree is that of its expansions, and finite; a node has one gap;
+-- no child and no item is nearer than its node; a listed row is honest; each row is listed, exactly or rough; a row has one gap.
 pub record MeetsLaws {N : Type 0} (m : Meaning N) : Type 0 where
   pub readable : m.IsReadable
   pub unfolds : (node : N) → m.under node ≡ node ∷ flat_map m.under (nodes_of (m.finds node))

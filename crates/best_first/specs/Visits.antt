@@ -1,5 +1,6 @@
 -- The visits and page gets of a search: what a call notes in the desk's log, and what it may cost.
-use Rattle.std.specs.Prelude.{◌≡◌, ℕ, ◌+◌, ◌≤◌, min, List, [], ◌∷◌, ◌++◌, length, map, sum_by, Bool, true, if◌then◌else◌, Option, None, Some, ◌⊎◌, All, Contains, IsPermutation, Result, Ok, Err, MatchResult, ⊤}
+use Rattle.std.specs.Prelude.{◌≡◌, ℕ, ◌+◌, ◌≤◌, min, List, [], ◌∷◌, ◌++◌, length, map, sum_by, Bool, true, if◌then◌else◌, Option, None, Some, ◌⊎◌, All, Contains}
+use Rattle.std.specs.Prelude.{IsPermutation, Result, Ok, Err, MatchResult, ⊤}
 use Rattle.std.specs.declared.cmp.Ordering.{Ordering}
 use Rattle.exact_frac.specs.declared.frac.Frac.{Frac}
 use Rattle.sand_base.specs.Faults.{last_count}
@@ -73,7 +74,8 @@ IsVisit (Node gap node) = ⊤
 IsVisit (Rough gap left right) = ⊤
 IsVisit (Row gap left right) = ⊥
 
--- A call takes more from the frontier. It notes one visit for each item taken, and after them those attempted, for no more gets than their price and at least one for each node; what was attempted is still queued and no farther than all that is queued.
+-- A call takes more from the frontier. It notes one visit for each item taken, and after them those attempted, for no more gets than their
+-- price and at least one for each node; what was attempted is still queued and no farther than all that is queued.
 pub record Makes {N : Type 0} (cmp : N → N → Ordering) (m : Meaning N) (note : Item N → Visit) (done : List (Item N)) (old new : SearchState N) (attempt : List (Item N)) : Type 0 where
   pub taken : List (Item N)
   pub noted : Noted note m.price (taken ++ attempt) old.desk new.desk
@@ -108,7 +110,8 @@ Bounds cmp m last (Ok None) attempt all = VisitsAll cmp m attempt all
 Bounds cmp m last (Err fault) attempt all = VisitsBefore m last attempt all
 
 -- The visits of one call of `next`, where the search had taken this before it.
-pub record CallVisits {N : Type 0} (cmp : N → N → Ordering) (m : Meaning N) (note : Item N → Visit) (done : List (Item N)) (old new : SearchState N) (result : Result (Option Hit) PageFault) : Type 0 where
+pub record CallVisits {N : Type 0} (cmp : N → N → Ordering) (m : Meaning N) (note : Item N → Visit) (done : List (Item N)) (old new : SearchState N)
+    (result : Result (Option Hit) PageFault) : Type 0 where
   pub attempt : List (Item N)
   pub makes : Makes cmp m note done old new attempt
   pub bounds : Bounds cmp m old.last result attempt (done ++ makes.taken)

@@ -73,7 +73,8 @@ leaf_items : (m : Store) (a b : ℕ) → all_items m 0 (a ∷ (b ∷ [])) ≡ en
 leaf_items m a b = ap (λ (x : List Pair). entries_of (node m a) ++ x) (append-nil (entries_of (node m b)))
 
 -- two leaves shared out anew
-pub leaves_shared : (m w : Store) (a b k : ℕ) (l r : List Pair) → Neighbours m 0 a b → Shares m w a b (leaf l (next_of (node m a))) (leaf r (next_of (node m b))) → HalvesLeaf l r (entries_of (node m a) ++ entries_of (node m b))
+pub leaves_shared : (m w : Store) (a b k : ℕ) (l r : List Pair) → Neighbours m 0 a b → Shares m w a b (leaf l (next_of (node m a))) (leaf r (next_of (node m b)))
+    → HalvesLeaf l r (entries_of (node m a) ++ entries_of (node m b))
     → k ≡ first_key r → Balances m w 0 a b (Some k)
 leaves_shared m w a b k l r nb s hv kf =
     let na : next_of (node w a) ≡ next_of (node m a) = ap (λ (x : Node). next_of x) s.node in
@@ -94,7 +95,8 @@ leaves_shared m w a b k l r nb s hv kf =
     }
 
 -- two leaves that became one
-pub leaves_merged : (m w : Store) (a b : ℕ) → Neighbours m 0 a b → Merges m w a b (leaf (entries_of (node m a) ++ entries_of (node m b)) (next_of (node m b))) → length (entries_of (node m a) ++ entries_of (node m b)) ≤ 127 → Balances m w 0 a b None
+pub leaves_merged : (m w : Store) (a b : ℕ) → Neighbours m 0 a b → Merges m w a b (leaf (entries_of (node m a) ++ entries_of (node m b)) (next_of (node m b)))
+    → length (entries_of (node m a) ++ entries_of (node m b)) ≤ 127 → Balances m w 0 a b None
 leaves_merged m w a b nb s l =
     let es : List Pair = entries_of (node m a) ++ entries_of (node m b) in
     let nx : next_of (node w a) ≡ next_of (node m b) = ap (λ (x : Node). next_of x) s.node in
@@ -132,7 +134,8 @@ both m h a b key nb e =
     let k : key ≡ first_of_list fb = e ∙ first_least m h cb tb.some nb.right_sound.1 in
     record {
       seps = ap₂ (λ (x y : List ℕ). x ++ (key ∷ y)) ta.separators tb.separators
-          ∙ (ap (λ (x : ℕ). drop 1 fa ++ (x ∷ drop 1 fb)) k ∙ (seps_join fa fb (omega (arith, ta.some, la)) (omega (arith, tb.some, lb)) ∙ ap (λ (x : List ℕ). drop 1 x) (sym (map-append (λ c. least m h c) ca cb))));
+          ∙ (ap (λ (x : ℕ). drop 1 fa ++ (x ∷ drop 1 fb)) k
+          ∙ (seps_join fa fb (omega (arith, ta.some, la)) (omega (arith, tb.some, lb)) ∙ ap (λ (x : List ℕ). drop 1 x) (sym (map-append (λ c. least m h c) ca cb))));
       filled = Each-append (λ c. Filled m h c) ca cb nb.sound.1 nb.right_sound.1;
       kids = ap (λ (x : List ℕ). ca ++ x) (append-nil cb);
     }
@@ -173,7 +176,8 @@ inners_shared m w h a b key k lk lc rk rc nb e s hv =
     let right_filled : Each (λ c. Filled m h c) rc = Each-right (λ c. Filled m h c) lc rc (subst R (sym hv.children) bo.filled) in
     let S : List ℕ → Type 0 = λ x. Each (λ c. Stays m w h c) x in
     let stay : Each (λ c. Stays m w h c) rc = Each-right (λ c. Stays m w h c) lc rc (subst S (kw ∙ sym hv.children) (kids_stay m m w h (a ∷ (b ∷ [])) news t)) in
-    let lst : least w (suc h) b ≡ k = ap (λ (x : List ℕ). first_key (all_items w h x)) kb ∙ (ap (λ (x : List Pair). first_key x) (row_items m w h rc stay) ∙ (first_least m h rc (omega (arith, hv.right)) right_filled ∙ sym sp.1.0)) in
+    let lst : least w (suc h) b ≡ k = ap (λ (x : List ℕ). first_key (all_items w h x)) kb
+    ∙ (ap (λ (x : List Pair). first_key x) (row_items m w h rc stay) ∙ (first_least m h rc (omega (arith, hv.right)) right_filled ∙ sym sp.1.0)) in
     record {
       change = lift m m w h (a ∷ (b ∷ [])) news t (
         top_made (λ c. least m h c) (node w a) lk lc s.node sp.0 (omega (arith, hv.left)) (omega (arith, hv.left, hv.left_fits)),
@@ -186,7 +190,8 @@ inners_shared m w h a b key k lk lc rk rc nb e s hv =
     }
 
 -- two inner pages that became one
-pub inners_merged : (m w : Store) (h a b key : ℕ) → Neighbours m (suc h) a b → key ≡ least m (suc h) b → Merges m w a b (inner (keys_of (node m a) ++ (key ∷ keys_of (node m b))) (children_of (node m a) ++ children_of (node m b)))
+pub inners_merged : (m w : Store) (h a b key : ℕ) → Neighbours m (suc h) a b → key ≡ least m (suc h) b
+    → Merges m w a b (inner (keys_of (node m a) ++ (key ∷ keys_of (node m b))) (children_of (node m a) ++ children_of (node m b)))
     → size_of (node m a) + size_of (node m b) ≤ 168 → Balances m w (suc h) a b None
 inners_merged m w h a b key nb e s l =
     let ks : List ℕ = keys_of (node m a) ++ (key ∷ keys_of (node m b)) in

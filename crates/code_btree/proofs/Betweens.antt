@@ -1,5 +1,6 @@
 -- The pairs of a key range, taken leaf by leaf.
-use Rattle.std.proofs.Common.{◌≡◌, ℕ, suc, ◌+◌, ◌-◌, ◌/◌, ◌<◌, ◌≤◌, cond, List, [], ◌∷◌, ◌++◌, length, take, drop, refl, sym, ◌∙◌, ap, ap₂, subst, inl, inr, arith, append_assoc, append-nil, length-append, length-drop, take-append-drop}
+use Rattle.std.proofs.Common.{◌≡◌, ℕ, suc, ◌+◌, ◌-◌, ◌/◌, ◌<◌, ◌≤◌, cond, List, [], ◌∷◌, ◌++◌, length, take, drop, refl, sym, ◌∙◌, ap, ap₂, subst, inl, inr, arith}
+use Rattle.std.proofs.Common.{append_assoc, append-nil, length-append, length-drop, take-append-drop}
 use Rattle.std.specs.Prelude.{Some, Result, Ok}
 use Rattle.std.proofs.lemmas.List.{drop_all, drop_more, take_all}
 use Rattle.std.proofs.lemmas.List.Concat.{flat_map-append}
@@ -16,7 +17,8 @@ use Rattle.code_btree.specs.Steps.{Subtree, LeadsTo, InnerStep}
 use Rattle.code_btree.specs.Run.{chained}
 use Rattle.code_btree.specs.Between.{items_between, AtLeast, Takes, IsTakenIn, IsLeafFor, IsRestAt, IsRest, IsPartDone}
 use Rattle.code_btree.proofs.Lists.{Each-append, Each-right, Each-map}
-use Rattle.code_btree.proofs.Orders.{items_from-append, items_below-append, below-Below, from-Below, from-AtLeast, Above-AtLeast, Ascending-left, Ascending-right, lt_is, lt_not, Below-rank, AtLeast-rank}
+use Rattle.code_btree.proofs.Orders.{items_from-append, items_below-append, below-Below, from-Below, from-AtLeast, Above-AtLeast, Ascending-left, Ascending-right, lt_is}
+use Rattle.code_btree.proofs.Orders.{lt_not, Below-rank, AtLeast-rank}
 use Rattle.code_btree.proofs.Looks.{entry_is}
 use Rattle.code_btree.proofs.Leaves.{here, ranked}
 use Rattle.code_btree.proofs.Inserts.{at_page}
@@ -66,7 +68,8 @@ take_step p n at high old all new k v is l kk vv lt new_is so_far =
     ap (λ (x : List Pair). x ++ more) new_is ∙ (append_assoc old ((k, v) ∷ []) more ∙ (ap (λ (x : List Pair). old ++ x) (sym t) ∙ so_far))
 
 -- where no pair of the range is to come, all were taken
-taken_all : (p : List ℕ) (count from at low high : ℕ) (old new : List Pair) → IsLeafOf p count → Ranked p count low from → AtLeast high (drop at (entries_of (node_of p))) → Ascending (entries_of (node_of p))
+taken_all : (p : List ℕ) (count from at low high : ℕ) (old new : List Pair) → IsLeafOf p count → Ranked p count low from
+    → AtLeast high (drop at (entries_of (node_of p))) → Ascending (entries_of (node_of p))
     → new ++ items_below high (drop at (entries_of (node_of p))) ≡ old ++ items_below high (drop from (entries_of (node_of p))) → new ≡ old ++ items_between low high (entries_of (node_of p))
 taken_all p count from at low high old new is f above asc so_far =
     let es : List Pair = entries_of (node_of p) in
@@ -75,12 +78,14 @@ taken_all p count from at low high old new is f above asc so_far =
 
 -- a leaf with an entry at the end of the range or behind it leads nowhere
 pub takes_inside : (p : List ℕ) (count from at low high next : ℕ) (old new : List Pair) → IsLeafOf p count → Ranked p count low from → at < count → high ≤ entry_key p at
-    → new ++ items_below high (drop at (entries_of (node_of p))) ≡ old ++ items_below high (drop from (entries_of (node_of p))) → Ascending (entries_of (node_of p)) → Takes (entries_of (node_of p)) next low high old new 0
+    → new ++ items_below high (drop at (entries_of (node_of p))) ≡ old ++ items_below high (drop from (entries_of (node_of p))) → Ascending (entries_of (node_of p))
+    → Takes (entries_of (node_of p)) next low high old new 0
 takes_inside p count from at low high next old new is f l h so_far asc =
     let es : List Pair = entries_of (node_of p) in
     let above : AtLeast high (drop at es) = AtLeast-rank high es at (0, 0) asc (λ i. omega (arith, h, ap (λ (x : Pair). x.0) (entry_is p count at (0, 0) is l))) in
     let cut : items_from high es ≡ items_from high (take at es) ++ drop at es =
-    ap (λ (x : List Pair). items_from high x) (sym (take-append-drop at es)) ∙ (items_from-append high (take at es) (drop at es) ∙ ap (λ (x : List Pair). items_from high (take at es) ++ x) (from-AtLeast high (drop at es) above)) in
+    ap (λ (x : List Pair). items_from high x) (sym (take-append-drop at es))
+    ∙ (items_from-append high (take at es) (drop at es) ∙ ap (λ (x : List Pair). items_from high (take at es) ++ x) (from-AtLeast high (drop at es) above)) in
     record {
       taken = taken_all p count from at low high old new is f above asc so_far;
       ends = λ z. inr (omega (arith, ap (λ (x : List Pair). length x) cut, length-append (items_from high (take at es)) (drop at es), length-drop at es, is.counted, l));
@@ -88,21 +93,25 @@ takes_inside p count from at low high next old new is f l h so_far asc =
     }
 
 -- all entries are below the end of the range where the last one is, or where none was below its beginning or in it
-all_below : (p : List ℕ) (count from at low high : ℕ) → IsLeafOf p count → Ranked p count low from → count ≤ at → at ≤ count → (from < at → entry_key p (at - 1) < high) → Ascending (entries_of (node_of p)) → AtLeast low (entries_of (node_of p))
+all_below : (p : List ℕ) (count from at low high : ℕ) → IsLeafOf p count → Ranked p count low from → count ≤ at → at ≤ count → (from < at → entry_key p (at - 1) < high)
+    → Ascending (entries_of (node_of p)) → AtLeast low (entries_of (node_of p))
     → Below high (entries_of (node_of p))
 all_below p count from at low high is f l u last asc least =
     let es : List Pair = entries_of (node_of p) in
     let B : List Pair → Type 0 = λ x. Below high x in
     elim (leb_tells (suc from) at) [
-      | inl i ↦ subst B (take_all at es (omega (arith, is.counted, l))) (Below-rank high es at (0, 0) asc (omega (arith, is.counted, u)) (λ o. ranked p count at high is u (λ o. last (omega (arith, i.1))) o))
+      | inl i ↦ subst B (take_all at es (omega (arith, is.counted, l)))
+          (Below-rank high es at (0, 0) asc (omega (arith, is.counted, u)) (λ o. ranked p count at high is u (λ o. last (omega (arith, i.1))) o))
       | inr i ↦
           let none : es ≡ [] = sym (from-AtLeast low es least) ∙ (sym (rank_from p count from low is f.place f.before f.behind asc) ∙ drop_all from es (omega (arith, is.counted, l, i.1))) in
           subst B (sym none) tt
     ]
 
 -- and one without leads on
-pub takes_on : (p : List ℕ) (count from at low high next on : ℕ) (old new : List Pair) → IsLeafOf p count → Ranked p count low from → count ≤ at → at ≤ count → (from < at → entry_key p (at - 1) < high) → on ≡ next
-    → new ++ items_below high (drop at (entries_of (node_of p))) ≡ old ++ items_below high (drop from (entries_of (node_of p))) → Ascending (entries_of (node_of p)) → Takes (entries_of (node_of p)) next low high old new on
+pub takes_on : (p : List ℕ) (count from at low high next on : ℕ) (old new : List Pair) → IsLeafOf p count → Ranked p count low from → count ≤ at → at ≤ count
+    → (from < at → entry_key p (at - 1) < high) → on ≡ next
+    → new ++ items_below high (drop at (entries_of (node_of p))) ≡ old ++ items_below high (drop from (entries_of (node_of p))) → Ascending (entries_of (node_of p))
+    → Takes (entries_of (node_of p)) next low high old new on
 takes_on p count from at low high next on old new is f l u last n so_far asc =
     let es : List Pair = entries_of (node_of p) in
     let above : AtLeast high (drop at es) = AtLeast-rank high es at (0, 0) asc (λ i. absurd (omega (arith, i, is.counted, l))) in
@@ -125,7 +134,8 @@ leaf_lone m n key s = record {
 }
 
 -- the leaf under the child to which a key belongs
-leaf_up : (m : Store) (h n k c lf : ℕ) (xs ys : List ℕ) → children_of (node m n) ≡ xs ++ (c ∷ ys) → Below k (all_items m h xs) → Above k (all_items m h ys) → IsLeafFor m h c k lf → IsLeafFor m (suc h) n k lf
+leaf_up : (m : Store) (h n k c lf : ℕ) (xs ys : List ℕ) → children_of (node m n) ≡ xs ++ (c ∷ ys) → Below k (all_items m h xs) → Above k (all_items m h ys)
+    → IsLeafFor m h c k lf → IsLeafFor m (suc h) n k lf
 leaf_up m h n k c lf xs ys e below above s =
     let X : List (ℕ × ℕ) = all_links m h xs in
     let Y : List (ℕ × ℕ) = all_links m h ys in
@@ -158,7 +168,8 @@ leaf_led m h n k c s l =
       child = subst S (sym st.child_is) t.descent.child;
       up = λ lf z.
           let Z : ℕ → Type 0 = λ x. IsLeafFor m h x k lf in
-          leaf_up m h n k (child_in l.page st.at) lf (take st.at (children_of (node_of l.page))) (drop (st.at + 1) (children_of (node_of l.page))) t.split t.descent.below t.descent.above (subst Z st.child_is z);
+          leaf_up m h n k (child_in l.page st.at) lf (take st.at (children_of (node_of l.page)))
+          (drop (st.at + 1) (children_of (node_of l.page))) t.split t.descent.below t.descent.above (subst Z st.child_is z);
     }
 
 -- what is still wanted behind a leaf
@@ -191,7 +202,8 @@ next_rest m t low high lf nx most before (r ∷ rest) tree e p some few least =
     })
 
 go_on : (m : Store) (t : Tree) (low high lf nx most on : ℕ) (before behind : List (ℕ × ℕ)) (old new : List Pair) → IsTree m t → links m (t.height - 1) t.root ≡ before ++ ((lf, nx) ∷ behind)
-    → Takes (entries_of (node m lf)) nx low high old new on → Ascending (entries_of (node m lf) ++ chained m behind) → length (chained m behind) ≤ most → AtLeast low (chained m behind) → GoneOn m t low high lf most on behind old new
+    → Takes (entries_of (node m lf)) nx low high old new on → Ascending (entries_of (node m lf) ++ chained m behind) → length (chained m behind) ≤ most
+    → AtLeast low (chained m behind) → GoneOn m t low high lf most on behind old new
 go_on m t low high lf nx most on before behind old new tree e takes asc few least =
     let E : List Pair = entries_of (node m lf) in
     let C : List Pair = chained m behind in
@@ -213,10 +225,12 @@ go_on m t low high lf nx most on before behind old new tree e takes asc few leas
     }
 
 -- the pairs of a tree from a leaf on
-chain_items : (m : Store) (t : Tree) (lf nx : ℕ) (before behind : List (ℕ × ℕ)) → links m (t.height - 1) t.root ≡ before ++ ((lf, nx) ∷ behind) → tree_items m t ≡ chained m before ++ (entries_of (node m lf) ++ chained m behind)
+chain_items : (m : Store) (t : Tree) (lf nx : ℕ) (before behind : List (ℕ × ℕ)) → links m (t.height - 1) t.root ≡ before ++ ((lf, nx) ∷ behind)
+    → tree_items m t ≡ chained m before ++ (entries_of (node m lf) ++ chained m behind)
 chain_items m t lf nx before behind e = items_chained m (t.height - 1) t.root ∙ (ap (λ (ls : List (ℕ × ℕ)). chained m ls) e ∙ chained-append m before ((lf, nx) ∷ behind))
 
-chain_ascends : (m : Store) (t : Tree) (lf nx : ℕ) (before behind : List (ℕ × ℕ)) → IsTree m t → links m (t.height - 1) t.root ≡ before ++ ((lf, nx) ∷ behind) → Ascending (entries_of (node m lf) ++ chained m behind)
+chain_ascends : (m : Store) (t : Tree) (lf nx : ℕ) (before behind : List (ℕ × ℕ)) → IsTree m t → links m (t.height - 1) t.root ≡ before ++ ((lf, nx) ∷ behind)
+    → Ascending (entries_of (node m lf) ++ chained m behind)
 chain_ascends m t lf nx before behind tree e =
     let A : List Pair → Type 0 = λ x. Ascending x in
     Ascending-right (chained m before) (entries_of (node m lf) ++ chained m behind) (subst A (chain_items m t lf nx before behind e) tree.at.ascending)
@@ -240,7 +254,8 @@ pub record FirstTaken (m : Store) (t : Tree) (low high on : ℕ) (old new : List
   pub found : old ++ items_between low high (tree_items m t) ≡ new ++ rest
   pub fewer : length rest ≤ length (items_between low high (tree_items m t))
 
-pub first_taken : (m : Store) (t : Tree) (low high lf on : ℕ) (old new : List Pair) → IsTree m t → IsLeafFor m (t.height - 1) t.root low lf → IsTakenIn m lf low high old new on → FirstTaken m t low high on old new
+pub first_taken : (m : Store) (t : Tree) (low high lf on : ℕ) (old new : List Pair) → IsTree m t → IsLeafFor m (t.height - 1) t.root low lf
+    → IsTakenIn m lf low high old new on → FirstTaken m t low high on old new
 first_taken m t low high lf on old new tree w i =
     let E : List Pair = entries_of (node m lf) in
     let C : List Pair = chained m w.behind in
@@ -257,7 +272,14 @@ first_taken m t low high lf on old new tree w i =
       rest = g.rest;
       is = g.is;
       found = found;
-      fewer = omega (arith, ap (λ (x : List Pair). length x) found, length-append old (items_between low high (tree_items m t)), length-append new g.rest, ap (λ (x : List Pair). length x) takes.taken, length-append old (items_between low high E));
+      fewer = omega (
+        arith,
+        ap (λ (x : List Pair). length x) found,
+        length-append old (items_between low high (tree_items m t)),
+        length-append new g.rest,
+        ap (λ (x : List Pair). length x) takes.taken,
+        length-append old (items_between low high E),
+      );
     }
 
 -- A further leaf of the range: it gave all that it has, or it is the last.
@@ -268,17 +290,26 @@ record TakenOn (m : Store) (t : Tree) (low high left on : ℕ) (old new want : L
   fewer : length rest ≤ length want
   full : 1 ≤ on → 63 + length rest ≤ length want
 
-taken_on : (m : Store) (t : Tree) (low high lf left on : ℕ) (old new want : List Pair) → IsTree m t → IsRestAt m t low high lf left want → IsTakenIn m lf low high old new on → TakenOn m t low high (left - 1) on old new want
+taken_on : (m : Store) (t : Tree) (low high lf left on : ℕ) (old new want : List Pair) → IsTree m t → IsRestAt m t low high lf left want
+    → IsTakenIn m lf low high old new on → TakenOn m t low high (left - 1) on old new want
 taken_on m t low high lf left on old new want tree w i =
     let E : List Pair = entries_of (node m lf) in
     let C : List Pair = chained m w.behind in
     let lengths : length (E ++ C) ≡ length E + length C = length-append E C in
     let few : length C ≤ left - 1 = omega (arith, lengths, w.few, w.full) in
     let takes = taken_there m t low high lf w.next on w.before w.behind old new tree w.chain (leaf_by (node m lf) (omega (arith, w.full))) i in
-    let g = go_on m t low high lf w.next (left - 1) on w.before w.behind old new tree w.chain takes (chain_ascends m t lf w.next w.before w.behind tree w.chain) few (Each-right (λ x. low ≤ x.0) E C w.least) in
+    let g = go_on m t low high lf w.next (left - 1) on w.before w.behind old new tree w.chain takes (chain_ascends m t lf w.next w.before w.behind tree w.chain) few
+    (Each-right (λ x. low ≤ x.0) E C w.least) in
     let found : old ++ want ≡ new ++ g.rest = ap (λ (x : List Pair). old ++ x) w.pairs ∙ g.found in
     let sizes : length want ≡ length (items_between low high E) + length g.rest =
-    omega (arith, ap (λ (x : List Pair). length x) found, length-append old want, length-append new g.rest, ap (λ (x : List Pair). length x) takes.taken, length-append old (items_between low high E)) in
+    omega (
+      arith,
+      ap (λ (x : List Pair). length x) found,
+      length-append old want,
+      length-append new g.rest,
+      ap (λ (x : List Pair). length x) takes.taken,
+      length-append old (items_between low high E),
+    ) in
     record {
       rest = g.rest;
       is = g.is;
@@ -299,7 +330,8 @@ pub part_begun : (m : Store) (t : Tree) (low high lf most : ℕ) (old want : Lis
 part_begun m t low high lf most old want gets is = record { rest = want; on = is; found = refl; price = omega arith; tight = λ l. omega arith }
 
 -- one leaf more
-pub part_on : (m : Store) (t : Tree) (low high lf left on : ℕ) (old want mid new : List Pair) (before now then : ℕ) → IsTree m t → 1 ≤ lf → IsPartDone m t low high lf left old want mid before now → IsTakenIn m lf low high mid new on → then ≤ now + 1
+pub part_on : (m : Store) (t : Tree) (low high lf left on : ℕ) (old want mid new : List Pair) (before now then : ℕ) → IsTree m t → 1 ≤ lf
+    → IsPartDone m t low high lf left old want mid before now → IsTakenIn m lf low high mid new on → then ≤ now + 1
     → IsPartDone m t low high on (left - 1) old want new before then
 part_on m t low high lf left on old want mid new before now then tree l d i more =
     let k = taken_on m t low high lf left on mid new d.rest tree (d.on.here l) i in
@@ -325,11 +357,13 @@ part_last m t low high lf left old want new before now z d = elim (leb_tells 1 l
 ]
 
 -- the gets of a range
-pub part_price : (m : Store) (t : Tree) (low high lf left : ℕ) (old want new : List Pair) (before now : ℕ) → IsPartDone m t low high lf left old want new before now → now ≤ before + (1 + length want / 63)
+pub part_price : (m : Store) (t : Tree) (low high lf left : ℕ) (old want new : List Pair) (before now : ℕ) → IsPartDone m t low high lf left old want new before now
+    → now ≤ before + (1 + length want / 63)
 part_price m t low high lf left old want new before now d = omega (arith, d.price)
 
 -- those of a leaf that was refused
-pub part_failed : (m : Store) (t : Tree) (low high lf left : ℕ) (old want new : List Pair) (before now then : ℕ) → 1 ≤ lf → IsPartDone m t low high lf left old want new before now → then ≤ now + 1 → then ≤ before + (1 + length want / 63)
+pub part_failed : (m : Store) (t : Tree) (low high lf left : ℕ) (old want new : List Pair) (before now then : ℕ) → 1 ≤ lf
+    → IsPartDone m t low high lf left old want new before now → then ≤ now + 1 → then ≤ before + (1 + length want / 63)
 part_failed m t low high lf left old want new before now then l d more = omega (arith, d.tight l, more)
 
 -- gets of a descent, of a first leaf and of those behind it

@@ -67,7 +67,8 @@ cells_spliced w a i j k m p b ij long within room =
     let long_inner : length inner ≡ length p = length-pasted p ((a + w * i) + length b) tail inner_fits in
     let outer_fits : (a + w * i) + length b ≤ length inner = omega arith in
     let q : List ℕ = pasted inner (a + w * i) b in
-    let first : cells w a i q ≡ cells w a i p = cells_apart w a i inner (a + w * i) b outer_fits (inl (omega arith)) ∙ cells_apart w a i p ((a + w * i) + length b) tail inner_fits (inl (omega arith)) in
+    let first : cells w a i q ≡ cells w a i p = cells_apart w a i inner (a + w * i) b outer_fits (inl (omega arith))
+    ∙ cells_apart w a i p ((a + w * i) + length b) tail inner_fits (inl (omega arith)) in
     let zeroth : (a + w * i) + zero ≡ a + w * i = omega arith in
     let second : cells w (a + w * i) m q ≡ cells w zero m b = ap (λ (x : ℕ). cells w x m q) (sym zeroth) ∙ cells_within w zero m inner (a + w * i) b outer_fits (omega arith) in
     let place : (a + w * i) + w * m ≡ ((a + w * i) + length b) + zero = omega arith in

@@ -1,5 +1,6 @@
 -- The chain of leaves: a tree's pairs in the order of its leaves, and where a run goes from a leaf.
-use Rattle.std.proofs.Common.{◌≡◌, ℕ, zero, suc, ◌+◌, ◌-◌, ◌<◌, ◌≤◌, true, cond, List, [], ◌∷◌, ◌++◌, length, get_or, take, drop, refl, sym, ◌∙◌, ap, ap₂, subst, inl, inr, arith, append_assoc, append-nil, length-append}
+use Rattle.std.proofs.Common.{◌≡◌, ℕ, zero, suc, ◌+◌, ◌-◌, ◌<◌, ◌≤◌, true, cond, List, [], ◌∷◌, ◌++◌, length, get_or, take, drop, refl, sym, ◌∙◌, ap, ap₂, subst, inl}
+use Rattle.std.proofs.Common.{inr, arith, append_assoc, append-nil, length-append}
 use Rattle.std.specs.Prelude.{Option, None, Some, MatchOption}
 use Rattle.std.proofs.lemmas.List.{drop_all, drop_more}
 use Rattle.std.proofs.lemmas.List.Concat.{flat_map-append}
@@ -81,7 +82,8 @@ path_from m t lf nx before behind tree e =
     let r = Path-split tree.at.chain.0 0 before ((lf, nx) ∷ behind) (subst P e tree.at.chain.1) in
     (omega (arith, r.1.1.0, r.1.1.1.0), r.1.1.1.1)
 
-begins_next : (m : Store) (t : Tree) (lf nx : ℕ) (before behind : List (ℕ × ℕ)) → IsTree m t → links m (t.height - 1) t.root ≡ before ++ ((lf, nx) ∷ behind) → Path nx behind 0 → BeginsAt m t nx 0 (chained m behind)
+begins_next : (m : Store) (t : Tree) (lf nx : ℕ) (before behind : List (ℕ × ℕ)) → IsTree m t → links m (t.height - 1) t.root ≡ before ++ ((lf, nx) ∷ behind)
+    → Path nx behind 0 → BeginsAt m t nx 0 (chained m behind)
 begins_next m t lf nx before [] tree e p = record { none = λ z. refl; here = λ l. absurd (omega (arith, p)) }
 begins_next m t lf nx before (r ∷ rest) tree e p =
     let full : 63 ≤ length (entries_of (node m r.0)) = next_filled m (t.height - 1) t.root before (lf, nx) r rest tree.at.sound e in
@@ -113,7 +115,8 @@ moves_on m t es lf nx at before behind g tree e from gives = go g.pair gives.pai
     next : BeginsAt m t nx 0 (chained m behind)
     next = begins_next m t lf nx before behind tree e (path_from m t lf nx before behind tree e).1
 
-    go : (o : Option Pair) → MatchOption o (length E ≤ at) (λ x. (at < length E) × (drop at E ≡ x ∷ drop (at + 1) E)) → MatchOption o (BeginsAt m t g.leaf g.place es) (λ x. Follows m t es x g.leaf g.place)
+    go : (o : Option Pair) → MatchOption o (length E ≤ at) (λ x. (at < length E) × (drop at E ≡ x ∷ drop (at + 1) E))
+        → MatchOption o (BeginsAt m t g.leaf g.place es) (λ x. Follows m t es x g.leaf g.place)
     go None l = elim gives.spot [
       | inl s ↦ absurd (omega (arith, s.2, l))
       | inr s ↦ begins_same m t nx g.leaf 0 g.place (chained m behind) es s.0 s.1 (from ∙ ap (λ (x : List Pair). x ++ chained m behind) (drop_all at E l)) next
@@ -138,16 +141,19 @@ moves_on m t es lf nx at before behind g tree e from gives = go g.pair gives.pai
         ]
 
 -- what a leaf gives at a place, in the code's words
-pub gives_none : (p : List ℕ) (n nx count at : ℕ) → IsLeafOf p count → nx ≡ next_of (node_of p) → count ≤ at → Gives (entries_of (node_of p)) (next_of (node_of p)) n at (record { pair = None; leaf = nx; place = 0 })
+pub gives_none : (p : List ℕ) (n nx count at : ℕ) → IsLeafOf p count → nx ≡ next_of (node_of p) → count ≤ at
+    → Gives (entries_of (node_of p)) (next_of (node_of p)) n at (record { pair = None; leaf = nx; place = 0 })
 gives_none p n nx count at is e l = record { pair = omega (arith, is.counted); spot = inr (e, refl, omega (arith, is.counted)) }
 
-given_pair : (p : List ℕ) (count at : ℕ) → IsLeafOf p count → at < count → (at < length (entries_of (node_of p))) × (drop at (entries_of (node_of p)) ≡ (entry_key p at, entry_value p at) ∷ drop (at + 1) (entries_of (node_of p)))
+given_pair : (p : List ℕ) (count at : ℕ) → IsLeafOf p count → at < count → (at < length (entries_of (node_of p)))
+    × (drop at (entries_of (node_of p)) ≡ (entry_key p at, entry_value p at) ∷ drop (at + 1) (entries_of (node_of p)))
 given_pair p count at is l =
     let es : List Pair = entries_of (node_of p) in
     let i : at < length es = omega (arith, is.counted) in
     (i, drop_more es at (0, 0) i ∙ ap (λ (x : Pair). x ∷ drop (at + 1) es) (entry_is p count at (0, 0) is l))
 
-pub gives_inside : (p : List ℕ) (n count at k v : ℕ) → IsLeafOf p count → at + 1 < count → k ≡ entry_key p at → v ≡ entry_value p at → Gives (entries_of (node_of p)) (next_of (node_of p)) n at (record { pair = Some (k, v); leaf = n; place = at + 1 })
+pub gives_inside : (p : List ℕ) (n count at k v : ℕ) → IsLeafOf p count → at + 1 < count → k ≡ entry_key p at → v ≡ entry_value p at
+    → Gives (entries_of (node_of p)) (next_of (node_of p)) n at (record { pair = Some (k, v); leaf = n; place = at + 1 })
 gives_inside p n count at k v is l ek ev =
     let h = given_pair p count at is (omega arith) in
     record { pair = (h.0, h.1 ∙ ap₂ (λ (x y : ℕ). (x, y) ∷ drop (at + 1) (entries_of (node_of p))) (sym ek) (sym ev)); spot = inl (refl, refl, omega (arith, is.counted)) }
@@ -178,12 +184,15 @@ seeks_leaf m n k g s f =
       next = next_of (node m n);
       at = r.at;
       chain = refl;
-      from = ap (λ (o : Node). items_from k (entries_of o)) hh ∙ (sym (rank_from f.page r.count r.at k r.is r.place r.before r.behind (leaf_sound m n f.page f.read s)) ∙ (ap (λ (o : Node). drop r.at (entries_of o)) (sym hh) ∙ sym (append-nil (drop r.at (entries_of (node m n))))));
+      from = ap (λ (o : Node). items_from k (entries_of o)) hh
+          ∙ (sym (rank_from f.page r.count r.at k r.is r.place r.before r.behind (leaf_sound m n f.page f.read s))
+          ∙ (ap (λ (o : Node). drop r.at (entries_of o)) (sym hh) ∙ sym (append-nil (drop r.at (entries_of (node m n))))));
       gives = subst G (sym hh) r.gives;
     }
 
 -- and one level higher
-seeks_up : (m : Store) (h n k c : ℕ) (xs ys : List ℕ) (g : Given) → children_of (node m n) ≡ xs ++ (c ∷ ys) → Below k (all_items m h xs) → Above k (all_items m h ys) → Seeks m h c k g → Seeks m (suc h) n k g
+seeks_up : (m : Store) (h n k c : ℕ) (xs ys : List ℕ) (g : Given) → children_of (node m n) ≡ xs ++ (c ∷ ys) → Below k (all_items m h xs) → Above k (all_items m h ys)
+    → Seeks m h c k g → Seeks m (suc h) n k g
 seeks_up m h n k c xs ys g e below above s =
     let X : List (ℕ × ℕ) = all_links m h xs in
     let Y : List (ℕ × ℕ) = all_links m h ys in
@@ -193,7 +202,8 @@ seeks_up m h n k c xs ys g e below above s =
     let D : List Pair = drop s.at (entries_of (node m s.leaf)) in
     let ys_all : items_from k (all_items m h ys) ≡ chained m Y = from-AtLeast k (all_items m h ys) (Above-AtLeast k (all_items m h ys) above) ∙ row_chained m h (λ d. items_chained m h d) ys in
     let mid : items_from k (items m h c ++ all_items m h ys) ≡ D ++ chained m (s.behind ++ Y) =
-    items_from-append k (items m h c) (all_items m h ys) ∙ (ap₂ (λ (a b : List Pair). a ++ b) s.from ys_all ∙ (append_assoc D (chained m s.behind) (chained m Y) ∙ ap (λ (b : List Pair). D ++ b) (sym (chained-append m s.behind Y)))) in
+    items_from-append k (items m h c) (all_items m h ys)
+    ∙ (ap₂ (λ (a b : List Pair). a ++ b) s.from ys_all ∙ (append_assoc D (chained m s.behind) (chained m Y) ∙ ap (λ (b : List Pair). D ++ b) (sym (chained-append m s.behind Y)))) in
     record {
       before = X ++ s.before;
       behind = s.behind ++ Y;
@@ -201,7 +211,8 @@ seeks_up m h n k c xs ys g e below above s =
       next = s.next;
       at = s.at;
       chain = links_all ∙ (ap (λ (ls : List (ℕ × ℕ)). X ++ (ls ++ Y)) s.chain ∙ moved);
-      from = ap (λ (es : List Pair). items_from k es) items_all ∙ (items_from-append k (all_items m h xs) (items m h c ++ all_items m h ys) ∙ ap₂ (λ (a b : List Pair). a ++ b) (from-Below k (all_items m h xs) below) mid);
+      from = ap (λ (es : List Pair). items_from k es) items_all
+          ∙ (items_from-append k (all_items m h xs) (items m h c ++ all_items m h ys) ∙ ap₂ (λ (a b : List Pair). a ++ b) (from-Below k (all_items m h xs) below) mid);
       gives = s.gives;
     }
 
@@ -218,7 +229,8 @@ seek_led m h n k c s l =
       child = subst S (sym st.child_is) t.descent.child;
       up = λ g z.
           let Z : ℕ → Type 0 = λ x. Seeks m h x k g in
-          seeks_up m h n k (child_in l.page st.at) (take st.at (children_of (node_of l.page))) (drop (st.at + 1) (children_of (node_of l.page))) g t.split t.descent.below t.descent.above (subst Z st.child_is z);
+          seeks_up m h n k (child_in l.page st.at) (take st.at (children_of (node_of l.page)))
+          (drop (st.at + 1) (children_of (node_of l.page))) g t.split t.descent.below t.descent.above (subst Z st.child_is z);
     }
 
 pub seek_moves : (m : Store) (t : Tree) (k : ℕ) (g : Given) → IsTree m t → Seeks m (t.height - 1) t.root k g → MovesOn m t (items_from k (tree_items m t)) g
@@ -260,7 +272,8 @@ given_on m t es lf pl g tree b none some = elim (leb_tells 1 lf) [
     empty None i h = h
     empty (Some x) i h = absurd (cc)
 
-    inside : (o : Option Pair) → MatchOption o (length (entries_of (node m lf)) ≤ pl) (λ x. (pl < length (entries_of (node m lf))) × (drop pl (entries_of (node m lf)) ≡ x ∷ drop (pl + 1) (entries_of (node m lf)))) → pl < length (entries_of (node m lf))
+    inside : (o : Option Pair) → MatchOption o (length (entries_of (node m lf)) ≤ pl) (λ x. (pl < length (entries_of (node m lf)))
+        × (drop pl (entries_of (node m lf)) ≡ x ∷ drop (pl + 1) (entries_of (node m lf)))) → pl < length (entries_of (node m lf))
         → MatchOption o (BeginsAt m t g.leaf g.place es) (λ x. Follows m t es x g.leaf g.place) → MatchOption o (es ≡ []) (λ x. Follows m t es x g.leaf g.place)
     inside None l i h = absurd (omega arith)
     inside (Some x) l i h = h
@@ -298,7 +311,8 @@ pub record Stepping (m : Store) (s after : Spot) (e : Pair) : Type 0 where
   pub first : left_at m s ≡ e ∷ left_at m after
   pub stands : StandsAt m after
 
-pub stepping : (m : Store) (s : Spot) (g : Given) (e : Pair) → StandsAt m s → g.pair ≡ Some e → IsFirstOf m s.tree (left_at m s) g → Stepping m s (record { tree = s.tree; from = e.0; begun = true; leaf = g.leaf; place = g.place }) e
+pub stepping : (m : Store) (s : Spot) (g : Given) (e : Pair) → StandsAt m s → g.pair ≡ Some e → IsFirstOf m s.tree (left_at m s) g
+    → Stepping m s (record { tree = s.tree; from = e.0; begun = true; leaf = g.leaf; place = g.place }) e
 stepping m s g e st i f =
     let h = first_at m s.tree (left_at m s) g e i f in
     let r = next_from (least_left s) (tree_items m s.tree) e h.rest st.tree.at.ascending h.first in

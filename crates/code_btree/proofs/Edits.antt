@@ -1,5 +1,6 @@
 -- What the edits of a page make of its node.
-use Rattle.std.proofs.Common.{◌≡◌, ℕ, suc, ◌+◌, ◌-◌, ◌*◌, ◌/◌, ◌%◌, ◌^◌, ◌<◌, ◌≤◌, List, [], ◌∷◌, ◌++◌, length, get_or, take, drop, map, replicate, refl, sym, ◌∙◌, ap, ap₂, inl, inr, arith, length-append, length-take, length-drop, take_all}
+use Rattle.std.proofs.Common.{◌≡◌, ℕ, suc, ◌+◌, ◌-◌, ◌*◌, ◌/◌, ◌%◌, ◌^◌, ◌<◌, ◌≤◌, List, [], ◌∷◌, ◌++◌, length, get_or, take, drop, map, replicate, refl, sym, ◌∙◌, ap}
+use Rattle.std.proofs.Common.{ap₂, inl, inr, arith, length-append, length-take, length-drop, take_all}
 use Rattle.std.proofs.lemmas.List.{length-map, map-append, take-map, drop-map, length-replicate}
 use Rattle.code_btree.specs.Bytes.{piece, cells, pasted, spliced, half_of, half_bytes, word_of, word_bytes, number_of, number_bytes}
 use Rattle.code_btree.specs.Node.{Pair, Node, leaf, inner, entry_of, count_of, node_of, entries_of, next_of, keys_of, children_of, IsLeafOf, IsInnerOf, entries_in, keys_in, children_in}
@@ -31,12 +32,14 @@ row_part {A = A} f w base n a b L p ab bn long fits =
     let z : (base + w * a) + 0 ≡ base + w * a = omega arith in
     let row : cells w 0 (b - a) (piece L (base + w * a) p) ≡ cells w (base + w * a) (b - a) p = cells_piece w 0 (b - a) L (base + w * a) p fits (omega arith) ∙ ap (λ (x : ℕ). cells w x (b - a) p) z in
     let dropped : drop a (map f (cells w base n p)) ≡ map f (cells w (base + w * a) ((b - a) + (n - b)) p) =
-    ap (λ (x : ℕ). drop a (map f (cells w base x p))) (sym e) ∙ (drop-map f a (cells w base (a + ((b - a) + (n - b))) p) ∙ ap (λ (x : List (List ℕ)). map f x) (cells-drop w base a ((b - a) + (n - b)) p)) in
+    ap (λ (x : ℕ). drop a (map f (cells w base x p))) (sym e)
+    ∙ (drop-map f a (cells w base (a + ((b - a) + (n - b))) p) ∙ ap (λ (x : List (List ℕ)). map f x) (cells-drop w base a ((b - a) + (n - b)) p)) in
     let taken : take (b - a) (map f (cells w (base + w * a) ((b - a) + (n - b)) p)) ≡ map f (cells w (base + w * a) (b - a) p) =
     take-map f (b - a) (cells w (base + w * a) ((b - a) + (n - b)) p) ∙ ap (λ (x : List (List ℕ)). map f x) (cells-take w (base + w * a) (b - a) (n - b) p) in
     ap (λ (x : List (List ℕ)). map f x) row ∙ sym (ap (λ (x : List A). take (b - a) x) dropped ∙ taken)
 
-pub entries_part : (p : List ℕ) (n a b : ℕ) → a ≤ b → b ≤ n → length p ≡ 4096 → IsLeafOf p n → entries_in (piece ((32 + 32 * b) - (32 + 32 * a)) (32 + 32 * a) p) ≡ take (b - a) (drop a (entries_of (node_of p)))
+pub entries_part : (p : List ℕ) (n a b : ℕ) → a ≤ b → b ≤ n → length p ≡ 4096 → IsLeafOf p n
+    → entries_in (piece ((32 + 32 * b) - (32 + 32 * a)) (32 + 32 * a) p) ≡ take (b - a) (drop a (entries_of (node_of p)))
 entries_part p n a b ab bn size h =
     let f : n ≤ 127 = h.fits in
     let l : length (piece ((32 + 32 * b) - (32 + 32 * a)) (32 + 32 * a) p) / 32 ≡ b - a = omega (arith, length-piece ((32 + 32 * b) - (32 + 32 * a)) (32 + 32 * a) p (omega arith)) in
@@ -44,7 +47,8 @@ entries_part p n a b ab bn size h =
     ∙ (row_part entry_of 32 32 n a b ((32 + 32 * b) - (32 + 32 * a)) p ab bn (omega arith) (omega arith)
     ∙ ap (λ (x : List Pair). take (b - a) (drop a x)) (sym (leaf_bytes p n h).entries))
 
-pub keys_part : (p : List ℕ) (n a b : ℕ) → a ≤ b → b ≤ n → length p ≡ 4096 → IsInnerOf p n → keys_in (piece ((32 + 16 * b) - (32 + 16 * a)) (32 + 16 * a) p) ≡ take (b - a) (drop a (keys_of (node_of p)))
+pub keys_part : (p : List ℕ) (n a b : ℕ) → a ≤ b → b ≤ n → length p ≡ 4096 → IsInnerOf p n
+    → keys_in (piece ((32 + 16 * b) - (32 + 16 * a)) (32 + 16 * a) p) ≡ take (b - a) (drop a (keys_of (node_of p)))
 keys_part p n a b ab bn size h =
     let f : n ≤ 169 = h.fits in
     let l : length (piece ((32 + 16 * b) - (32 + 16 * a)) (32 + 16 * a) p) / 16 ≡ b - a = omega (arith, length-piece ((32 + 16 * b) - (32 + 16 * a)) (32 + 16 * a) p (omega arith)) in
@@ -52,7 +56,8 @@ keys_part p n a b ab bn size h =
     ∙ (row_part number_of 16 32 n a b ((32 + 16 * b) - (32 + 16 * a)) p ab bn (omega arith) (omega arith)
     ∙ ap (λ (x : List ℕ). take (b - a) (drop a x)) (sym (inner_bytes p n h).keys))
 
-pub children_part : (p : List ℕ) (n a b : ℕ) → a ≤ b → b ≤ n + 1 → length p ≡ 4096 → IsInnerOf p n → children_in (piece ((2736 + 8 * b) - (2736 + 8 * a)) (2736 + 8 * a) p) ≡ take (b - a) (drop a (children_of (node_of p)))
+pub children_part : (p : List ℕ) (n a b : ℕ) → a ≤ b → b ≤ n + 1 → length p ≡ 4096 → IsInnerOf p n
+    → children_in (piece ((2736 + 8 * b) - (2736 + 8 * a)) (2736 + 8 * a) p) ≡ take (b - a) (drop a (children_of (node_of p)))
 children_part p n a b ab bn size h =
     let f : n ≤ 169 = h.fits in
     let l : length (piece ((2736 + 8 * b) - (2736 + 8 * a)) (2736 + 8 * a) p) / 8 ≡ b - a = omega (arith, length-piece ((2736 + 8 * b) - (2736 + 8 * a)) (2736 + 8 * a) p (omega arith)) in
@@ -74,7 +79,8 @@ pub key_cell : (z : List ℕ) (x : ℕ) → length z ≡ 16 → x < 2 ^ 128 → 
 key_cell z x lz fits =
     let lb = length-number_bytes x in
     let l : length (pasted z 0 (number_bytes x)) / 16 ≡ 1 = omega (arith, length-pasted z 0 (number_bytes x) (omega arith)) in
-    ap (λ (n : ℕ). map number_of (cells 16 0 n (pasted z 0 (number_bytes x)))) l ∙ ap (λ (y : ℕ). y ∷ []) (ap (λ (y : List ℕ). number_of y) (whole_piece 16 z (number_bytes x) lz lb) ∙ number_back x fits)
+    ap (λ (n : ℕ). map number_of (cells 16 0 n (pasted z 0 (number_bytes x)))) l
+    ∙ ap (λ (y : ℕ). y ∷ []) (ap (λ (y : List ℕ). number_of y) (whole_piece 16 z (number_bytes x) lz lb) ∙ number_back x fits)
 
 pub entry_cell : (z : List ℕ) (k v : ℕ) → length z ≡ 32 → k < 2 ^ 128 → v < 2 ^ 128 → entries_in (pasted (pasted z 0 (number_bytes k)) 16 (number_bytes v)) ≡ (k, v) ∷ []
 unfolding entry_of
@@ -123,7 +129,8 @@ leaf_linked p r n x er size fits h =
     let kind : get_or q 0 0 ≡ 1 = pasted-before p 8 (word_bytes x) 0 0 (omega arith) (omega arith) ∙ d.kind in
     let count : count_of q ≡ n = ap (λ (c : List ℕ). half_of c) (piece_apart 2 2 p 8 (word_bytes x) (omega arith) (inl (omega arith))) ∙ d.count in
     let row : cells 32 32 n q ≡ cells 32 32 n p = cells_apart 32 32 n p 8 (word_bytes x) (omega arith) (inr (omega arith)) in
-    let next : word_of (piece 8 8 q) ≡ x = ap (λ (c : List ℕ). word_of c) (piece_within 8 0 p 8 (word_bytes x) (omega arith) (omega arith) ∙ take_all 8 (word_bytes x) (omega arith)) ∙ word_back x fits in
+    let next : word_of (piece 8 8 q) ≡ x = ap (λ (c : List ℕ). word_of c) (piece_within 8 0 p 8 (word_bytes x) (omega arith) (omega arith) ∙ take_all 8 (word_bytes x) (omega arith))
+    ∙ word_back x fits in
     ap (λ (y : List ℕ). node_of y) er
     ∙ (leaf_made q n kind count f ∙ ap₂ (λ (es : List Pair) (y : ℕ). leaf es y) (ap (λ (y : List (List ℕ)). map entry_of y) row ∙ sym d.entries) next)
 
@@ -151,7 +158,8 @@ inner_edit p kb cb q s r n i j a b eq es er size is ij jn ab bn kl cl fits one =
     let kind_s : piece 1 0 s' ≡ piece 1 0 q' = piece_unspliced 1 0 q' (2736 + 8 * a) (2736 + 8 * b) (2744 + 8 * n) cb (omega arith) (omega arith) (omega arith) (omega arith) (inl (omega arith)) in
     let kind_r : piece 1 0 r' ≡ piece 1 0 s' = piece_apart 1 0 s' 2 (half_bytes t) (omega arith) (inl (omega arith)) in
     let kind : get_or r' 0 0 ≡ 2 = first_byte r' p (kind_r ∙ (kind_s ∙ kind_q)) ∙ h.kind in
-    let count : count_of r' ≡ t = ap (λ (c : List ℕ). half_of c) (piece_within 2 0 s' 2 (half_bytes t) (omega arith) (omega arith) ∙ take_all 2 (half_bytes t) (omega arith)) ∙ half_back t (omega arith) in
+    let count : count_of r' ≡ t = ap (λ (c : List ℕ). half_of c) (piece_within 2 0 s' 2 (half_bytes t) (omega arith) (omega arith) ∙ take_all 2 (half_bytes t) (omega arith))
+    ∙ half_back t (omega arith) in
     let kend : 32 + 16 * n ≡ (32 + 16 * j) + 16 * k = omega arith in
     let keys_row : cells 16 32 t r' ≡ cells 16 32 i p ++ (cells 16 0 m kb ++ cells 16 (32 + 16 * j) k p) =
     cells_apart 16 32 t s' 2 (half_bytes t) (omega arith) (inr (omega arith))
@@ -160,7 +168,8 @@ inner_edit p kb cb q s r n i j a b eq es er size is ij jn ab bn kl cl fits one =
     ∙ cells_spliced 16 32 i j k m p kb ij (omega arith) (omega arith) (omega arith))) in
     let cend : 2744 + 8 * n ≡ (2736 + 8 * b) + 8 * v = omega arith in
     let cnum : suc t ≡ a + (u + v) = omega arith in
-    let old_row : (x y : ℕ) → 2736 ≤ x → cells 8 x y q' ≡ cells 8 x y p = λ x y hx. cells_unspliced 8 x y p (32 + 16 * i) (32 + 16 * j) (32 + 16 * n) kb (omega arith) (omega arith) (omega arith) (omega arith) (inr (omega arith)) in
+    let old_row : (x y : ℕ) → 2736 ≤ x → cells 8 x y q' ≡ cells 8 x y p =
+    λ x y hx. cells_unspliced 8 x y p (32 + 16 * i) (32 + 16 * j) (32 + 16 * n) kb (omega arith) (omega arith) (omega arith) (omega arith) (inr (omega arith)) in
     let children_row : cells 8 2736 (suc t) r' ≡ cells 8 2736 a p ++ (cells 8 0 u cb ++ cells 8 (2736 + 8 * b) v p) =
     cells_apart 8 2736 (suc t) s' 2 (half_bytes t) (omega arith) (inr (omega arith))
     ∙ (ap₂ (λ (e x : ℕ). cells 8 2736 x (spliced q' (2736 + 8 * a) (2736 + 8 * b) e cb)) cend cnum
@@ -171,13 +180,17 @@ inner_edit p kb cb q s r n i j a b eq es er size is ij jn ab bn kl cl fits one =
     let aa : a + (suc n - a) ≡ suc n = omega arith in
     let bb : b + (suc n - b) ≡ suc n = omega arith in
     let kh : map number_of (cells 16 32 i p) ≡ take i (keys_of (node_of p)) =
-    sym (ap (λ (x : List ℕ). take i x) (h.keys ∙ ap (λ (x : ℕ). map number_of (cells 16 32 x p)) (sym ii)) ∙ (take-map number_of i (cells 16 32 (i + (n - i)) p) ∙ ap (λ (x : List (List ℕ)). map number_of x) (cells-take 16 32 i (n - i) p))) in
+    sym (ap (λ (x : List ℕ). take i x) (h.keys ∙ ap (λ (x : ℕ). map number_of (cells 16 32 x p)) (sym ii))
+    ∙ (take-map number_of i (cells 16 32 (i + (n - i)) p) ∙ ap (λ (x : List (List ℕ)). map number_of x) (cells-take 16 32 i (n - i) p))) in
     let kt : map number_of (cells 16 (32 + 16 * j) k p) ≡ drop j (keys_of (node_of p)) =
-    sym (ap (λ (x : List ℕ). drop j x) (h.keys ∙ ap (λ (x : ℕ). map number_of (cells 16 32 x p)) (sym jj)) ∙ (drop-map number_of j (cells 16 32 (j + (n - j)) p) ∙ ap (λ (x : List (List ℕ)). map number_of x) (cells-drop 16 32 j (n - j) p))) in
+    sym (ap (λ (x : List ℕ). drop j x) (h.keys ∙ ap (λ (x : ℕ). map number_of (cells 16 32 x p)) (sym jj))
+    ∙ (drop-map number_of j (cells 16 32 (j + (n - j)) p) ∙ ap (λ (x : List (List ℕ)). map number_of x) (cells-drop 16 32 j (n - j) p))) in
     let ch : map word_of (cells 8 2736 a p) ≡ take a (children_of (node_of p)) =
-    sym (ap (λ (x : List ℕ). take a x) (h.children ∙ ap (λ (x : ℕ). map word_of (cells 8 2736 x p)) (sym aa)) ∙ (take-map word_of a (cells 8 2736 (a + (suc n - a)) p) ∙ ap (λ (x : List (List ℕ)). map word_of x) (cells-take 8 2736 a (suc n - a) p))) in
+    sym (ap (λ (x : List ℕ). take a x) (h.children ∙ ap (λ (x : ℕ). map word_of (cells 8 2736 x p)) (sym aa))
+    ∙ (take-map word_of a (cells 8 2736 (a + (suc n - a)) p) ∙ ap (λ (x : List (List ℕ)). map word_of x) (cells-take 8 2736 a (suc n - a) p))) in
     let ct : map word_of (cells 8 (2736 + 8 * b) v p) ≡ drop b (children_of (node_of p)) =
-    sym (ap (λ (x : List ℕ). drop b x) (h.children ∙ ap (λ (x : ℕ). map word_of (cells 8 2736 x p)) (sym bb)) ∙ (drop-map word_of b (cells 8 2736 (b + (suc n - b)) p) ∙ ap (λ (x : List (List ℕ)). map word_of x) (cells-drop 8 2736 b (suc n - b) p))) in
+    sym (ap (λ (x : List ℕ). drop b x) (h.children ∙ ap (λ (x : ℕ). map word_of (cells 8 2736 x p)) (sym bb))
+    ∙ (drop-map word_of b (cells 8 2736 (b + (suc n - b)) p) ∙ ap (λ (x : List (List ℕ)). map word_of x) (cells-drop 8 2736 b (suc n - b) p))) in
     let rr : r ≡ r' = er ∙ ap (λ (x : List ℕ). pasted x 2 (half_bytes t)) (es ∙ ap (λ (x : List ℕ). spliced x (2736 + 8 * a) (2736 + 8 * b) (2744 + 8 * n) cb) eq) in
     ap (λ (x : List ℕ). node_of x) rr
     ∙ (inner_made r' t kind count fits
@@ -208,7 +221,8 @@ inner_edit_is p kb cb r n i j a b h ij jn ab bn fits one m =
     let l4 : length (take a cs) ≡ a = omega (arith, length-take a cs) in
     let l5 : length (children_in cb) ≡ length cb / 8 = length-map (cells 8 0 (length cb / 8) cb) word_of ∙ length-cells 8 0 (length cb / 8) cb in
     let l6 : length (drop b cs) ≡ (n + 1) - b = omega (arith, length-drop b cs) in
-    inner_is r _ _ _ m (omega (arith, length-append (take i ks) (keys_in kb ++ drop j ks), length-append (keys_in kb) (drop j ks))) (omega (arith, length-append (take a cs) (children_in cb ++ drop b cs), length-append (children_in cb) (drop b cs))) fits
+    inner_is r _ _ _ m (omega (arith, length-append (take i ks) (keys_in kb ++ drop j ks), length-append (keys_in kb) (drop j ks)))
+    (omega (arith, length-append (take a cs) (children_in cb ++ drop b cs), length-append (children_in cb) (drop b cs))) fits
 
 -- a page of zeros, made a leaf or an inner page
 pub leaf_new : (r : List ℕ) → r ≡ pasted (replicate 4096 0) 0 (1 ∷ []) → node_of r ≡ leaf [] 0
@@ -227,5 +241,6 @@ inner_new r x e fits =
     let q : List ℕ = pasted z 2736 (word_bytes x) in
     let kind : get_or q 0 0 ≡ 2 = pasted-before z 2736 (word_bytes x) 0 0 (omega arith) (omega arith) ∙ pasted-within (replicate 4096 0) 0 (2 ∷ []) 0 0 (omega arith) (omega arith) in
     let count : count_of q ≡ 0 = ap (λ (c : List ℕ). half_of c) (piece_apart 2 2 z 2736 (word_bytes x) (omega arith) (inl (omega arith))) ∙ zero_count in
-    let child : word_of (piece 8 2736 q) ≡ x = ap (λ (c : List ℕ). word_of c) (piece_within 8 0 z 2736 (word_bytes x) (omega arith) (omega arith) ∙ take_all 8 (word_bytes x) (omega arith)) ∙ word_back x fits in
+    let child : word_of (piece 8 2736 q) ≡ x = ap (λ (c : List ℕ). word_of c) (piece_within 8 0 z 2736 (word_bytes x) (omega arith) (omega arith) ∙ take_all 8 (word_bytes x) (omega arith))
+    ∙ word_back x fits in
     ap (λ (y : List ℕ). node_of y) e ∙ (inner_made q 0 kind count (omega arith) ∙ ap (λ (y : ℕ). inner [] (y ∷ [])) child)

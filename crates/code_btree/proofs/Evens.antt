@@ -40,7 +40,8 @@ inners_read m m1 a b pl pr n k e1 e f is js =
 
 -- one entry was moved between two leaves
 pub leaves_evened : (m m1 m2 u v : Store) (a b n k up : ℕ) (pl pr ql qr : List ℕ) → m1 ≡ m → m2 ≡ m → m a ≡ Some pl → m1 b ≡ Some pr → IsLeafOf pl n → IsLeafOf pr k
-    → (62 ≤ n → 62 ≤ k → HalvesLeaf (entries_of (node_of ql)) (entries_of (node_of qr)) (entries_of (node_of pl) ++ entries_of (node_of pr))) → node_of ql ≡ leaf (entries_of (node_of ql)) (next_of (node_of pl)) → node_of qr ≡ leaf (entries_of (node_of qr)) (next_of (node_of pr))
+    → (62 ≤ n → 62 ≤ k → HalvesLeaf (entries_of (node_of ql)) (entries_of (node_of qr)) (entries_of (node_of pl) ++ entries_of (node_of pr)))
+    → node_of ql ≡ leaf (entries_of (node_of ql)) (next_of (node_of pl)) → node_of qr ≡ leaf (entries_of (node_of qr)) (next_of (node_of pr))
     → Wrote m2 u a ql → Wrote u v b qr → up ≡ entry_key qr 0 → Neighbours m 0 a b → Balances m v 0 a b (Some up)
 leaves_evened m m1 m2 u v a b n k up pl pr ql qr e1 e2 e f is js halves eql eqr wa wb eu nb =
     let r = leaves_read m m1 a b pl pr n k e1 e f is js in
@@ -48,7 +49,8 @@ leaves_evened m m1 m2 u v a b n k up pl pr ql qr e1 e2 e f is js halves eql eqr 
     let H : List Pair → Type 0 = λ x. HalvesLeaf (entries_of (node_of ql)) (entries_of (node_of qr)) x in
     let hv = subst H (sym (ap₂ (λ (x y : Node). entries_of x ++ entries_of y) r.left r.right)) hv0 in
     let W : Store → Type 0 = λ x. Wrote x u a ql in
-    let s = shares_of m u v a b ql qr _ _ (apart m 0 a b nb.owns) (subst W e2 wa) wb (eql ∙ ap (λ (x : Node). leaf (entries_of (node_of ql)) (next_of x)) (sym r.left)) (eqr ∙ ap (λ (x : Node). leaf (entries_of (node_of qr)) (next_of x)) (sym r.right)) in
+    let s = shares_of m u v a b ql qr _ _ (apart m 0 a b nb.owns) (subst W e2 wa) wb (eql ∙ ap (λ (x : Node). leaf (entries_of (node_of ql)) (next_of x)) (sym r.left))
+    (eqr ∙ ap (λ (x : Node). leaf (entries_of (node_of qr)) (next_of x)) (sym r.right)) in
     let full = hv0.right_full in
     let isr : IsLeafOf qr (length (entries_of (node_of qr))) = record {
       is_leaf = eqr ∙ ap (λ (x : ℕ). leaf (entries_of (node_of qr)) x) (sym (ap (λ (x : Node). next_of x) eqr));
@@ -58,18 +60,29 @@ leaves_evened m m1 m2 u v a b n k up pl pr ql qr e1 e2 e f is js halves eql eqr 
     leaves_shared m v a b up (entries_of (node_of ql)) (entries_of (node_of qr)) nb s hv (eu ∙ first_read qr (length (entries_of (node_of qr))) isr (omega (arith, full)))
 
 -- two leaves became one
-pub leaves_joined : (m m1 m2 u v : Store) (a b n k : ℕ) (pl pr ql : List ℕ) → m1 ≡ m → m2 ≡ m → m a ≡ Some pl → m1 b ≡ Some pr → IsLeafOf pl n → IsLeafOf pr k → n + k ≤ 127 → node_of ql ≡ leaf (entries_of (node_of pl) ++ entries_of (node_of pr)) (next_of (node_of pr))
+pub leaves_joined : (m m1 m2 u v : Store) (a b n k : ℕ) (pl pr ql : List ℕ) → m1 ≡ m → m2 ≡ m → m a ≡ Some pl → m1 b ≡ Some pr → IsLeafOf pl n → IsLeafOf pr k
+    → n + k ≤ 127 → node_of ql ≡ leaf (entries_of (node_of pl) ++ entries_of (node_of pr)) (next_of (node_of pr))
     → Wrote m2 u a ql → Freed u v b → Neighbours m 0 a b → Balances m v 0 a b None
 leaves_joined m m1 m2 u v a b n k pl pr ql e1 e2 e f is js l eql wa fb nb =
     let r = leaves_read m m1 a b pl pr n k e1 e f is js in
     let W : Store → Type 0 = λ x. Wrote x u a ql in
     let s = merges_of m u v a b ql _ (apart m 0 a b nb.owns) (subst W e2 wa) fb (eql ∙ ap₂ (λ (x y : Node). leaf (entries_of x ++ entries_of y) (next_of y)) (sym r.left) (sym r.right)) in
-    leaves_merged m v a b nb s (omega (arith, l, is.counted, js.counted, length-append (entries_of (node m a)) (entries_of (node m b)), ap (λ (x : Node). length (entries_of x)) r.left, ap (λ (x : Node). length (entries_of x)) r.right))
+    leaves_merged m v a b nb s (omega (
+      arith,
+      l,
+      is.counted,
+      js.counted,
+      length-append (entries_of (node m a)) (entries_of (node m b)),
+      ap (λ (x : Node). length (entries_of x)) r.left,
+      ap (λ (x : Node). length (entries_of x)) r.right,
+    ))
 
 -- one child was moved between two inner pages
 pub inners_evened : (m m1 m2 u v : Store) (h a b n k key up : ℕ) (pl pr ql qr : List ℕ) → m1 ≡ m → m2 ≡ m → m a ≡ Some pl → m1 b ≡ Some pr → IsInnerOf pl n → IsInnerOf pr k
-    → (83 ≤ n → 83 ≤ k → HalvesInner (keys_of (node_of ql)) (children_of (node_of ql)) up (keys_of (node_of qr)) (children_of (node_of qr)) (keys_of (node_of pl) ++ (key ∷ keys_of (node_of pr))) (children_of (node_of pl) ++ children_of (node_of pr)))
-    → node_of ql ≡ inner (keys_of (node_of ql)) (children_of (node_of ql)) → node_of qr ≡ inner (keys_of (node_of qr)) (children_of (node_of qr)) → Wrote m2 u a ql → Wrote u v b qr → key ≡ least m (suc h) b → Neighbours m (suc h) a b → Balances m v (suc h) a b (Some up)
+    → (83 ≤ n → 83 ≤ k → HalvesInner (keys_of (node_of ql)) (children_of (node_of ql)) up (keys_of (node_of qr)) (children_of (node_of qr))
+    (keys_of (node_of pl) ++ (key ∷ keys_of (node_of pr))) (children_of (node_of pl) ++ children_of (node_of pr)))
+    → node_of ql ≡ inner (keys_of (node_of ql)) (children_of (node_of ql)) → node_of qr ≡ inner (keys_of (node_of qr)) (children_of (node_of qr)) → Wrote m2 u a ql
+    → Wrote u v b qr → key ≡ least m (suc h) b → Neighbours m (suc h) a b → Balances m v (suc h) a b (Some up)
 inners_evened m m1 m2 u v h a b n k key up pl pr ql qr e1 e2 e f is js halves eql eqr wa wb ek nb =
     let r = inners_read m m1 a b pl pr n k e1 e f is js in
     let hv0 = halves (omega (arith, nb.size, r.size)) (omega (arith, nb.right_size, r.right_size)) in
@@ -78,13 +91,16 @@ inners_evened m m1 m2 u v h a b n k key up pl pr ql qr e1 e2 e f is js halves eq
     let C : List ℕ → Type 0 = λ y. H (keys_of (node m a) ++ (key ∷ keys_of (node m b))) y in
     let hv = subst C (sym (ap₂ (λ (x y : Node). children_of x ++ children_of y) r.left r.right)) (subst K (sym (ap₂ (λ (x y : Node). keys_of x ++ (key ∷ keys_of y)) r.left r.right)) hv0) in
     let W : Store → Type 0 = λ x. Wrote x u a ql in
-    inners_shared m v h a b key up (keys_of (node_of ql)) (children_of (node_of ql)) (keys_of (node_of qr)) (children_of (node_of qr)) nb ek (shares_of m u v a b ql qr _ _ (apart m (suc h) a b nb.owns) (subst W e2 wa) wb eql eqr) hv
+    inners_shared m v h a b key up (keys_of (node_of ql)) (children_of (node_of ql)) (keys_of (node_of qr)) (children_of (node_of qr)) nb ek
+    (shares_of m u v a b ql qr _ _ (apart m (suc h) a b nb.owns) (subst W e2 wa) wb eql eqr) hv
 
 -- two inner pages became one
 pub inners_joined : (m m1 m2 u v : Store) (h a b n k key : ℕ) (pl pr ql : List ℕ) → m1 ≡ m → m2 ≡ m → m a ≡ Some pl → m1 b ≡ Some pr → IsInnerOf pl n → IsInnerOf pr k → n + k ≤ 168
-    → node_of ql ≡ inner (keys_of (node_of pl) ++ (key ∷ keys_of (node_of pr))) (children_of (node_of pl) ++ children_of (node_of pr)) → Wrote m2 u a ql → Freed u v b → key ≡ least m (suc h) b → Neighbours m (suc h) a b → Balances m v (suc h) a b None
+    → node_of ql ≡ inner (keys_of (node_of pl) ++ (key ∷ keys_of (node_of pr))) (children_of (node_of pl) ++ children_of (node_of pr)) → Wrote m2 u a ql → Freed u v b
+    → key ≡ least m (suc h) b → Neighbours m (suc h) a b → Balances m v (suc h) a b None
 inners_joined m m1 m2 u v h a b n k key pl pr ql e1 e2 e f is js l eql wa fb ek nb =
     let r = inners_read m m1 a b pl pr n k e1 e f is js in
     let W : Store → Type 0 = λ x. Wrote x u a ql in
-    let s = merges_of m u v a b ql _ (apart m (suc h) a b nb.owns) (subst W e2 wa) fb (eql ∙ ap₂ (λ (x y : Node). inner (keys_of x ++ (key ∷ keys_of y)) (children_of x ++ children_of y)) (sym r.left) (sym r.right)) in
+    let s = merges_of m u v a b ql _ (apart m (suc h) a b nb.owns) (subst W e2 wa) fb
+    (eql ∙ ap₂ (λ (x y : Node). inner (keys_of x ++ (key ∷ keys_of y)) (children_of x ++ children_of y)) (sym r.left) (sym r.right)) in
     inners_merged m v h a b key nb ek s (omega (arith, l, r.size, r.right_size))

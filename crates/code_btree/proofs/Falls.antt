@@ -1,12 +1,14 @@
 -- Whole trees after a key was taken: with the root kept, and with its only child as the new root.
-use Rattle.std.proofs.Common.{◌≡◌, ◌≢◌, ℕ, zero, suc, ◌+◌, ◌-◌, ◌*◌, ◌^◌, ◌<◌, ◌≤◌, ◌⊎◌, Bool, true, false, List, [], ◌∷◌, ◌++◌, length, drop, map, refl, sym, ◌∙◌, ap, ap₂, subst, inl, inr, arith, append-nil}
+use Rattle.std.proofs.Common.{◌≡◌, ◌≢◌, ℕ, zero, suc, ◌+◌, ◌-◌, ◌*◌, ◌^◌, ◌<◌, ◌≤◌, ◌⊎◌, Bool, true, false, List, [], ◌∷◌, ◌++◌, length, drop, map, refl, sym, ◌∙◌, ap}
+use Rattle.std.proofs.Common.{ap₂, subst, inl, inr, arith, append-nil}
 use Rattle.std.specs.Prelude.{Option, None, Some}
 use Rattle.std.proofs.lemmas.Bool.Decides.{leb_tells, eqb_tells}
 use Rattle.code_btree.specs.declared.map.Tree.{Tree}
 use Rattle.code_btree.specs.declared.remove.Shrunk.{Shrunk}
 use Rattle.code_btree.specs.Node.{Pair, Node, inner, node_of, keys_of, children_of, size_of, IsInnerOf, child_in}
 use Rattle.code_btree.specs.Items.{Each, Above, Ascending, find_item}
-use Rattle.code_btree.specs.Tree.{Store, node_in, node, items, pages, links, all_items, all_pages, all_links, same, times, live, Owns, Path, few, Sound, Filled, IsTreeAt, IsTree, tree_items, tree_pages}
+use Rattle.code_btree.specs.Tree.{Store, node_in, node, items, pages, links, all_items, all_pages, all_links, same, times, live, Owns, Path, few, Sound, Filled, IsTreeAt}
+use Rattle.code_btree.specs.Tree.{IsTree, tree_items, tree_pages}
 use Rattle.code_btree.specs.Calls.{Keeps, Removed}
 use Rattle.code_btree.specs.Steps.{alter, Freed}
 use Rattle.code_btree.specs.Removals.{RemovesUnder, count_before, FallsTo}
@@ -45,12 +47,14 @@ before_same : (o : Option ℕ) (a b : ℕ) → count_before a o ≡ count_before
 before_same None a b e = e
 before_same (Some x) a b e = omega (arith, e)
 
-counts : (m : Store) (h n k count entries : ℕ) (was : Option ℕ) (es : List Pair) → IsTreeAt m h n count → was ≡ find_item k (items m h n) → count ≡ count_before entries was → es ≡ alter k [] (items m h n) → entries ≡ length es
+counts : (m : Store) (h n k count entries : ℕ) (was : Option ℕ) (es : List Pair) → IsTreeAt m h n count → was ≡ find_item k (items m h n)
+    → count ≡ count_before entries was → es ≡ alter k [] (items m h n) → entries ≡ length es
 counts m h n k count entries was es t f e i =
     before_same was entries (length es) (sym e ∙ (t.counted ∙ (length_drop k (items m h n) t.ascending ∙ ap₂ (λ (x : List Pair) (y : Option ℕ). count_before (length x) y) (sym i) (sym f))))
 
 -- the root keeps a key, or it is a leaf
-pub root_stays : (m w : Store) (t : Tree) (k entries : ℕ) (s : Shrunk) → IsTree m t → RemovesUnder m w (t.height - 1) t.root k s → t.entries ≡ count_before entries s.was → (1 ≤ t.height - 1 → 1 ≤ size_of (node w t.root)) → Removed m w t (record t { entries = entries }) k s.was
+pub root_stays : (m w : Store) (t : Tree) (k entries : ℕ) (s : Shrunk) → IsTree m t → RemovesUnder m w (t.height - 1) t.root k s → t.entries ≡ count_before entries s.was
+    → (1 ≤ t.height - 1 → 1 ≤ size_of (node w t.root)) → Removed m w t (record t { entries = entries }) k s.was
 root_stays m w t k entries s tree r e top =
     let h : ℕ = t.height - 1 in
     let n : ℕ = t.root in
@@ -91,7 +95,8 @@ lower : (w x : Store) (h n c : ℕ) → Sound w (suc h) n → Owns w (suc h) (n 
 lower w x h n c s o e f =
     let kids : children_of (node w n) ≡ c ∷ [] = ap (λ (y : Node). children_of y) e in
     let F : List ℕ → Type 0 = λ cs. Each (λ d. Filled w h d) cs in
-    let pgs : (q : ℕ) → times q (pages w (suc h) n) ≡ same q n + times q (pages w h c) = λ q. ap (λ (cs : List ℕ). same q n + times q (all_pages w h cs)) kids ∙ ap (λ (ps : List ℕ). same q n + times q ps) (append-nil (pages w h c)) in
+    let pgs : (q : ℕ) → times q (pages w (suc h) n) ≡ same q n + times q (pages w h c) = λ q. ap (λ (cs : List ℕ). same q n + times q (all_pages w h cs)) kids
+    ∙ ap (λ (ps : List ℕ). same q n + times q ps) (append-nil (pages w h c)) in
     record {
       filled = (subst F kids s.1).0;
       stays = tree_stays w x h c (λ q l. f.others q (omega (arith, l, o q, one_pages w (suc h) q n, pgs q, live_small w q)));
@@ -107,7 +112,8 @@ freed_live w x n q f = elim (same_cases q n) [
 ]
 
 -- the root has no key left: its only child is the new root
-pub root_falls : (m w x : Store) (t : Tree) (k entries height c : ℕ) (s : Shrunk) → IsTree m t → RemovesUnder m w (t.height - 1) t.root k s → t.entries ≡ count_before entries s.was → node w t.root ≡ inner [] (c ∷ []) → Freed w x t.root → t.height ≡ height + 1 → 1 ≤ height
+pub root_falls : (m w x : Store) (t : Tree) (k entries height c : ℕ) (s : Shrunk) → IsTree m t → RemovesUnder m w (t.height - 1) t.root k s
+    → t.entries ≡ count_before entries s.was → node w t.root ≡ inner [] (c ∷ []) → Freed w x t.root → t.height ≡ height + 1 → 1 ≤ height
     → Removed m x t (record { root = c; height = height; entries = entries }) k s.was
 root_falls m w x t k entries height c s tree r0 e lone_node f eh tall =
     let h : ℕ = height - 1 in
@@ -149,7 +155,8 @@ root_falls m w x t k entries height c s tree r0 e lone_node f eh tall =
 
 -- the only child of a page with no key, as it is read
 pub lone : (p : List ℕ) → IsInnerOf p 0 → node_of p ≡ inner [] (child_in p 0 ∷ [])
-lone p is = is.is_inner ∙ ap₂ (λ (x y : List ℕ). inner x y) (no_key (keys_of (node_of p)) is.counted) (one_child (children_of (node_of p)) (child_in p 0) (omega (arith, is.children)) (child_is p 0 0 is (omega arith)))
+lone p is = is.is_inner ∙ ap₂ (λ (x y : List ℕ). inner x y) (no_key (keys_of (node_of p)) is.counted)
+    (one_child (children_of (node_of p)) (child_in p 0) (omega (arith, is.children)) (child_is p 0 0 is (omega arith)))
   where
     no_key : (ks : List ℕ) → length ks ≡ 0 → ks ≡ []
     no_key [] e = refl
@@ -166,12 +173,14 @@ root_top w h n true f g l = g refl l
 root_top w h n false f g l = omega (arith, few_some h, f refl)
 
 -- in the code's words
-pub remove_stays : (m w v : Store) (t : Tree) (k entries : ℕ) (s : Shrunk) → v ≡ w → IsTree m t → RemovesUnder m w (t.height - 1) t.root k s → t.entries ≡ count_before entries s.was → FallsTo w t.height t.root s.short None → Removed m v t (record t { entries = entries }) k s.was
+pub remove_stays : (m w v : Store) (t : Tree) (k entries : ℕ) (s : Shrunk) → v ≡ w → IsTree m t → RemovesUnder m w (t.height - 1) t.root k s
+    → t.entries ≡ count_before entries s.was → FallsTo w t.height t.root s.short None → Removed m v t (record t { entries = entries }) k s.was
 remove_stays m w v t k entries s e tree r c f =
     let P : Store → Type 0 = λ y. Removed m y t (record t { entries = entries }) k s.was in
     subst P (sym e) (root_stays m w t k entries s tree r c (λ l. root_top w (t.height - 1) t.root s.short r.filled (λ b i. f b (omega arith)) l))
 
-pub remove_falls : (m w v x : Store) (t : Tree) (k entries c : ℕ) (s : Shrunk) → v ≡ w → IsTree m t → RemovesUnder m w (t.height - 1) t.root k s → t.entries ≡ count_before entries s.was → FallsTo w t.height t.root s.short (Some c) → Freed v x t.root
+pub remove_falls : (m w v x : Store) (t : Tree) (k entries c : ℕ) (s : Shrunk) → v ≡ w → IsTree m t → RemovesUnder m w (t.height - 1) t.root k s
+    → t.entries ≡ count_before entries s.was → FallsTo w t.height t.root s.short (Some c) → Freed v x t.root
     → Removed m x t (record { root = c; height = t.height - 1; entries = entries }) k s.was
 remove_falls m w v x t k entries c s e tree r n f fr =
     let P : Store → Type 0 = λ y. Freed y x t.root in

@@ -43,15 +43,18 @@ led_none m h n k s l =
     l.step (subst P hh s.sound.0.is_inner)
 
 -- in the code's words
-pub found_at : (p : List ℕ) (count at k : ℕ) (found : Option ℕ) → IsLeafOf p count → Ascending (entries_of (node_of p)) → at ≤ count → (1 ≤ at → entry_key p (at - 1) < k) → (at < count → k ≤ entry_key p at)
+pub found_at : (p : List ℕ) (count at k : ℕ) (found : Option ℕ) → IsLeafOf p count → Ascending (entries_of (node_of p)) → at ≤ count
+    → (1 ≤ at → entry_key p (at - 1) < k) → (at < count → k ≤ entry_key p at)
     → MatchOption found (at < count → entry_key p at ≢ k) (λ value. (at < count) × (entry_key p at ≡ k) × (value ≡ entry_value p at)) → found ≡ find_item k (entries_of (node_of p))
-found_at p count at k None is a l f g miss = sym (leaf_miss k [] (entries_of (node_of p)) at (0, 0) a (omega (arith, l, is.counted)) (λ o. ranked p count at k is l f o) (λ i. missed p count at k is l g miss i)).1
+found_at p count at k None is a l f g miss =
+    sym (leaf_miss k [] (entries_of (node_of p)) at (0, 0) a (omega (arith, l, is.counted)) (λ o. ranked p count at k is l f o) (λ i. missed p count at k is l g miss i)).1
 found_at p count at k (Some v) is a l f g hit =
     let entry = entry_is p count at (0, 0) is hit.0 in
     sym ((leaf_hit k [] (entries_of (node_of p)) at (0, 0) a (omega (arith, hit.0, is.counted)) (λ o. ranked p count at k is l f o) (ap (λ (x : Pair). x.0) entry ∙ hit.1)).1
     ∙ ap (λ (x : ℕ). Some x) (ap (λ (x : Pair). x.1) entry ∙ sym hit.2))
 
-pub found_here : (p : List ℕ) (count at k v : ℕ) → IsLeafOf p count → Ascending (entries_of (node_of p)) → (at < count) × (entry_key p at ≡ k) × (v ≡ entry_value p at) → Some v ≡ find_item k (entries_of (node_of p))
+pub found_here : (p : List ℕ) (count at k v : ℕ) → IsLeafOf p count → Ascending (entries_of (node_of p)) → (at < count) × (entry_key p at ≡ k) × (v ≡ entry_value p at)
+    → Some v ≡ find_item k (entries_of (node_of p))
 found_here p count at k v is a hit =
     let es : List Pair = entries_of (node_of p) in
     let entry = entry_is p count at (0, 0) is hit.0 in

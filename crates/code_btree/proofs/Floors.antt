@@ -54,38 +54,45 @@ floor_down m h n k p count at t =
 last_taken : (es : List Pair) (at : ℕ) (d : Pair) → at < length es → last_item (take (at + 1) es) ≡ Some (get_or es at d)
 last_taken es at d l = ap (λ (x : List Pair). last_item x) (take_more es at d l) ∙ last-append (take at es) (get_or es at d ∷ []) (omega arith)
 
-pub floor_hit : (k : ℕ) (es : List Pair) (at : ℕ) (d : Pair) → Ascending es → at < length es → (1 ≤ at → (get_or es (at - 1) d).0 < k) → (get_or es at d).0 ≡ k → floor_item k es ≡ Some (get_or es at d)
+pub floor_hit : (k : ℕ) (es : List Pair) (at : ℕ) (d : Pair) → Ascending es → at < length es → (1 ≤ at → (get_or es (at - 1) d).0 < k) → (get_or es at d).0 ≡ k
+    → floor_item k es ≡ Some (get_or es at d)
 floor_hit k es at d h l f e =
     let bx : Below k (take at es) = Below-rank k es at d h (omega arith) f in
     let A : List Pair → Type 0 = λ x. Ascending x in
     let tail : Ascending (get_or es at d ∷ drop (at + 1) es) = subst A (drop_more es at d l) (ascending_drop es at h) in
     let K : ℕ → Type 0 = λ x. Above x (drop (at + 1) es) in
     let ax : Above k (drop (at + 1) es) = subst K e tail.0 in
-    let one : items_upto k (get_or es at d ∷ drop (at + 1) es) ≡ get_or es at d ∷ [] = rw (lt_not k (get_or es at d).0 (omega arith)) (ap (λ (x : List Pair). get_or es at d ∷ x) (upto-Above k (drop (at + 1) es) ax)) in
+    let one : items_upto k (get_or es at d ∷ drop (at + 1) es) ≡ get_or es at d ∷ [] =
+    rw (lt_not k (get_or es at d).0 (omega arith)) (ap (λ (x : List Pair). get_or es at d ∷ x) (upto-Above k (drop (at + 1) es) ax)) in
     ap (λ (x : List Pair). floor_item k x) (split_at es at d l)
     ∙ (ap (λ (x : List Pair). last_item x) (items_upto-append k (take at es) (get_or es at d ∷ drop (at + 1) es) ∙ ap (λ (x : List Pair). items_upto k (take at es) ++ x) one)
     ∙ last-append (items_upto k (take at es)) (get_or es at d ∷ []) (omega arith))
 
-pub floor_miss : (k : ℕ) (es : List Pair) (at : ℕ) (d : Pair) → Ascending es → at ≤ length es → (1 ≤ at → (get_or es (at - 1) d).0 < k) → (at < length es → k < (get_or es at d).0) → floor_item k es ≡ last_item (take at es)
+pub floor_miss : (k : ℕ) (es : List Pair) (at : ℕ) (d : Pair) → Ascending es → at ≤ length es → (1 ≤ at → (get_or es (at - 1) d).0 < k)
+    → (at < length es → k < (get_or es at d).0) → floor_item k es ≡ last_item (take at es)
 floor_miss k es at d h l f g =
     let bx : Below k (take at es) = Below-rank k es at d h l f in
     let ax : Above k (drop at es) = Above-rank k es at d h g in
     ap (λ (x : List Pair). floor_item k x) (sym (take-append-drop at es))
-    ∙ ap (λ (x : List Pair). last_item x) (items_upto-append k (take at es) (drop at es) ∙ (ap₂ (λ (x y : List Pair). x ++ y) (upto-AtMost k (take at es) (Below-AtMost k (take at es) bx)) (upto-Above k (drop at es) ax) ∙ append-nil (take at es)))
+    ∙ ap (λ (x : List Pair). last_item x) (items_upto-append k (take at es) (drop at es)
+    ∙ (ap₂ (λ (x y : List Pair). x ++ y) (upto-AtMost k (take at es) (Below-AtMost k (take at es) bx)) (upto-Above k (drop at es) ax) ∙ append-nil (take at es)))
 
 -- in the code's words
-pub floor_found : (p : List ℕ) (count at k old : ℕ) → IsLeafOf p count → Ascending (entries_of (node_of p)) → at ≤ count → (1 ≤ at → entry_key p (at - 1) < k) → (at < count) × (entry_key p at ≡ k) × (old ≡ entry_value p at) → Some (k, old) ≡ floor_item k (entries_of (node_of p))
+pub floor_found : (p : List ℕ) (count at k old : ℕ) → IsLeafOf p count → Ascending (entries_of (node_of p)) → at ≤ count → (1 ≤ at → entry_key p (at - 1) < k)
+    → (at < count) × (entry_key p at ≡ k) × (old ≡ entry_value p at) → Some (k, old) ≡ floor_item k (entries_of (node_of p))
 floor_found p count at k old is a l f hit =
     let entry = entry_is p count at (0, 0) is hit.0 in
     sym (floor_hit k (entries_of (node_of p)) at (0, 0) a (omega (arith, hit.0, is.counted)) (λ o. ranked p count at k is l f o) (ap (λ (x : Pair). x.0) entry ∙ hit.1)
     ∙ ap (λ (x : Pair). Some x) (entry ∙ ap₂ (λ (x y : ℕ). (x, y)) hit.1 (sym hit.2)))
 
-pub floor_none : (p : List ℕ) (count at k : ℕ) → IsLeafOf p count → Ascending (entries_of (node_of p)) → at ≤ count → (1 ≤ at → entry_key p (at - 1) < k) → (at < count → k ≤ entry_key p at) → (at < count → entry_key p at ≢ k) → at ≡ 0 → None ≡ floor_item k (entries_of (node_of p))
+pub floor_none : (p : List ℕ) (count at k : ℕ) → IsLeafOf p count → Ascending (entries_of (node_of p)) → at ≤ count → (1 ≤ at → entry_key p (at - 1) < k)
+    → (at < count → k ≤ entry_key p at) → (at < count → entry_key p at ≢ k) → at ≡ 0 → None ≡ floor_item k (entries_of (node_of p))
 floor_none p count at k is a l f g miss z =
     sym (floor_miss k (entries_of (node_of p)) at (0, 0) a (omega (arith, is.counted)) (λ o. ranked p count at k is l f o) (λ i. missed p count at k is l g miss i)
     ∙ ap (λ (i : ℕ). last_item (take i (entries_of (node_of p)))) z)
 
-pub floor_below : (p : List ℕ) (count at k : ℕ) → IsLeafOf p count → Ascending (entries_of (node_of p)) → at ≤ count → (1 ≤ at → entry_key p (at - 1) < k) → (at < count → k ≤ entry_key p at) → (at < count → entry_key p at ≢ k) → 1 ≤ at
+pub floor_below : (p : List ℕ) (count at k : ℕ) → IsLeafOf p count → Ascending (entries_of (node_of p)) → at ≤ count → (1 ≤ at → entry_key p (at - 1) < k)
+    → (at < count → k ≤ entry_key p at) → (at < count → entry_key p at ≢ k) → 1 ≤ at
     → Some (entry_key p (at - 1), entry_value p (at - 1)) ≡ floor_item k (entries_of (node_of p))
 floor_below p count at k is a l f g miss z =
     let e : (at - 1) + 1 ≡ at = omega arith in

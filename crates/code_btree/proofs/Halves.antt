@@ -1,5 +1,6 @@
 -- Lists with an element put in, cut in two.
-use Rattle.std.proofs.Common.{◌≡◌, ℕ, ◌+◌, ◌-◌, ◌≤◌, List, [], ◌∷◌, ◌++◌, length, get_or, take, drop, sym, ◌∙◌, ap, ap₂, subst, arith, append_assoc, append-nil, length-append, length-take, length-drop, take_at, drop_at, take-add, drop-drop, take-append-drop}
+use Rattle.std.proofs.Common.{◌≡◌, ℕ, ◌+◌, ◌-◌, ◌≤◌, List, [], ◌∷◌, ◌++◌, length, get_or, take, drop, sym, ◌∙◌, ap, ap₂, subst, arith, append_assoc, append-nil}
+use Rattle.std.proofs.Common.{length-append, length-take, length-drop, take_at, drop_at, take-add, drop-drop, take-append-drop}
 use Rattle.std.proofs.lemmas.List.{take-append-le, drop-append-le, drop_all, drop_more}
 use Rattle.code_btree.specs.Node.{Pair}
 use Rattle.code_btree.specs.Steps.{put_at, HalvesLeaf, HalvesInner}
@@ -68,13 +69,15 @@ inner_low at key child ks cs lk lc h =
     let tk : length (take 84 ks) ≡ 84 = omega (arith, length-take 84 ks) in
     let tc : length (take 85 cs) ≡ 85 = omega (arith, length-take 85 cs) in
     let ll : length (put_at at key (take 84 ks ++ ([] ++ drop 169 ks))) ≡ 85 = ap (λ (a : List ℕ). length (put_at at key a)) f ∙ (length-put_at at key (take 84 ks) (omega arith) ∙ omega arith) in
-    let lm : length (put_at (at + 1) child (take 85 cs ++ ([] ++ drop 170 cs))) ≡ 86 = ap (λ (a : List ℕ). length (put_at (at + 1) child a)) g ∙ (length-put_at (at + 1) child (take 85 cs) (omega arith) ∙ omega arith) in
+    let lm : length (put_at (at + 1) child (take 85 cs ++ ([] ++ drop 170 cs))) ≡ 86 = ap (λ (a : List ℕ). length (put_at (at + 1) child a)) g
+    ∙ (length-put_at (at + 1) child (take 85 cs) (omega arith) ∙ omega arith) in
     let rk : length (drop 85 ks) ≡ 84 = omega (arith, length-drop 85 ks) in
     let rc : length (drop 85 cs) ≡ 85 = omega (arith, length-drop 85 cs) in
     let m : get_or ks 84 0 ∷ drop 85 ks ≡ drop 84 ks = sym (drop_more ks 84 0 (omega arith)) in
     record {
       keys = ap₂ (λ (a b : List ℕ). put_at at key a ++ b) f m ∙ (sym (put_left at key (take 84 ks) (drop 84 ks) (omega arith)) ∙ ap (λ (a : List ℕ). put_at at key a) (take-append-drop 84 ks));
-      children = ap (λ (a : List ℕ). put_at (at + 1) child a ++ drop 85 cs) g ∙ (sym (put_left (at + 1) child (take 85 cs) (drop 85 cs) (omega arith)) ∙ ap (λ (a : List ℕ). put_at (at + 1) child a) (take-append-drop 85 cs));
+      children = ap (λ (a : List ℕ). put_at (at + 1) child a ++ drop 85 cs) g
+          ∙ (sym (put_left (at + 1) child (take 85 cs) (drop 85 cs) (omega arith)) ∙ ap (λ (a : List ℕ). put_at (at + 1) child a) (take-append-drop 85 cs));
       left = omega arith;
       right = omega arith;
       left_full = omega arith;

@@ -1,5 +1,6 @@
 -- A pair put under an inner page, in the code's words.
-use Rattle.std.proofs.Common.{◌≡◌, ℕ, suc, ◌+◌, ◌-◌, ◌<◌, ◌≤◌, List, [], ◌∷◌, ◌++◌, length, get_or, take, drop, map, refl, sym, ◌∙◌, ap, ap₂, subst, inl, inr, arith, length-append, length-take, length-drop, take-append-drop, take_at, drop_at}
+use Rattle.std.proofs.Common.{◌≡◌, ℕ, suc, ◌+◌, ◌-◌, ◌<◌, ◌≤◌, List, [], ◌∷◌, ◌++◌, length, get_or, take, drop, map, refl, sym, ◌∙◌, ap, ap₂, subst, inl, inr, arith}
+use Rattle.std.proofs.Common.{length-append, length-take, length-drop, take-append-drop, take_at, drop_at}
 use Rattle.std.specs.Prelude.{Option, Some}
 use Rattle.std.proofs.lemmas.List.{map-append, length-map, drop_more}
 use Rattle.std.proofs.lemmas.Bool.Decides.{leb_tells}
@@ -16,7 +17,8 @@ use Rattle.code_btree.proofs.Seps.{seps_insert, seps_same, seps_join, first_of_l
 use Rattle.code_btree.proofs.Halves.{length-put_at, put_right}
 use Rattle.code_btree.proofs.Looks.{key_is, child_is}
 use Rattle.code_btree.proofs.Leaves.{here}
-use Rattle.code_btree.proofs.Rises.{Descent, descend, rowed, row_left, row_right, fulls, filled_some, first_key-append, one_items, one_kids, top_stays, top_live, topped, cut_moved, up_quiet, up_written, up_cut}
+use Rattle.code_btree.proofs.Rises.{Descent, descend, rowed, row_left, row_right, fulls, filled_some, first_key-append, one_items, one_kids, top_stays, top_live, topped}
+use Rattle.code_btree.proofs.Rises.{cut_moved, up_quiet, up_written, up_cut}
 
 -- the first key stays where a pair is put at it or behind it
 first_put : (k v : ℕ) (es : List Pair) → Ascending es → 1 ≤ length es → first_key es ≤ k → first_key (alter k ((k, v) ∷ []) es) ≡ first_key es
@@ -40,7 +42,8 @@ pub record At (m : Store) (h n k : ℕ) (p : List ℕ) (count at : ℕ) : Type 0
   pub front : length (take at (children_of (node_of p))) ≡ at
   pub descent : Descent m h k (take at (children_of (node_of p))) (child_in p at) (drop (at + 1) (children_of (node_of p)))
 
-pub at_page : (m : Store) (h n k : ℕ) (p : List ℕ) (count at : ℕ) → m n ≡ Some p → Subtree m (suc h) n → IsInnerOf p count → at ≤ count → (1 ≤ at → key_in p (at - 1) ≤ k) → (at < count → k < key_in p at) → At m h n k p count at
+pub at_page : (m : Store) (h n k : ℕ) (p : List ℕ) (count at : ℕ) → m n ≡ Some p → Subtree m (suc h) n → IsInnerOf p count → at ≤ count
+    → (1 ≤ at → key_in p (at - 1) ≤ k) → (at < count → k < key_in p at) → At m h n k p count at
 at_page m h n k p count at e s is l f g =
     let cs : List ℕ = children_of (node_of p) in
     let hh : node m n ≡ node_of p = here m n p e in
@@ -48,7 +51,8 @@ at_page m h n k p count at e s is l f g =
     let lx : length (take at cs) ≡ at = omega (arith, length-take at cs) in
     let ly : length (drop (at + 1) cs) ≡ (count + 1) - (at + 1) = omega (arith, length-drop (at + 1) cs) in
     let sp : children_of (node m n) ≡ take at cs ++ (child_in p at ∷ drop (at + 1) cs) =
-    ap (λ (o : Node). children_of o) hh ∙ (sym (take-append-drop at cs) ∙ ap (λ (r : List ℕ). take at cs ++ r) (drop_more cs at 0 (omega arith) ∙ ap (λ (x : ℕ). x ∷ drop (at + 1) cs) (child_is p count at is (omega arith)))) in
+    ap (λ (o : Node). children_of o) hh ∙ (sym (take-append-drop at cs)
+    ∙ ap (λ (r : List ℕ). take at cs ++ r) (drop_more cs at 0 (omega arith) ∙ ap (λ (x : ℕ). x ∷ drop (at + 1) cs) (child_is p count at is (omega arith)))) in
     let kk : keys_of (node m n) ≡ keys_of (node_of p) = ap (λ (o : Node). keys_of o) hh in
     record {
       is = is;
@@ -62,13 +66,15 @@ at_page m h n k p count at e s is l f g =
           (λ i. omega (arith, g (omega arith), key_is p count at is (omega arith), ap₂ (λ (ks : List ℕ) (j : ℕ). get_or ks j 0) kk lx));
     }
 
-least_new : (m w : Store) (h k v : ℕ) (c : ℕ) (rest : List ℕ) → Subtree m h c → Filled m h c → least m h c ≤ k → all_items w h (c ∷ rest) ≡ alter k ((k, v) ∷ []) (all_items m h (c ∷ [])) → 1 ≤ length (items w h c) → least w h c ≡ least m h c
+least_new : (m w : Store) (h k v : ℕ) (c : ℕ) (rest : List ℕ) → Subtree m h c → Filled m h c → least m h c ≤ k
+    → all_items w h (c ∷ rest) ≡ alter k ((k, v) ∷ []) (all_items m h (c ∷ [])) → 1 ≤ length (items w h c) → least w h c ≡ least m h c
 least_new m w h k v c rest s f l e some =
     sym (first_key-append (items w h c) (all_items w h rest) some)
     ∙ (ap (λ (x : List Pair). first_key x) (e ∙ ap (λ (x : List Pair). alter k ((k, v) ∷ []) x) (one_items m h c)) ∙ first_put k v (items m h c) s.ascending (filled_some m h c f) l)
 
 -- the child is whole
-pub insert_quiet : (m0 m w : Store) (h n k v count at : ℕ) (p : List ℕ) (was : Option ℕ) → m0 ≡ m → At m h n k p count at → InsertsUnder m0 w h (child_in p at) k v was Kept → InsertsUnder m w (suc h) n k v was Kept
+pub insert_quiet : (m0 m w : Store) (h n k v count at : ℕ) (p : List ℕ) (was : Option ℕ) → m0 ≡ m → At m h n k p count at
+    → InsertsUnder m0 w h (child_in p at) k v was Kept → InsertsUnder m w (suc h) n k v was Kept
 insert_quiet m0 m w h n k v count at p was e0 t i0 =
     let i : InsertsUnder m w h (child_in p at) k v was Kept = (let P : Store → Type 0 = λ x. InsertsUnder x w h (child_in p at) k v was Kept in subst P e0 i0) in
     let xs : List ℕ = take at (children_of (node_of p)) in
@@ -87,8 +93,10 @@ insert_quiet m0 m w h n k v count at p was e0 t i0 =
     let mapped_w : map (λ x. least w h x) (xs ++ (c ∷ ys)) ≡ fs ++ (least w h c ∷ gs) =
     map-append (λ x. least w h x) xs (c ∷ ys) ∙ ap₂ (λ (x y : List ℕ). x ++ (least w h c ∷ y)) (row_least m w h xs lx) (row_least m w h ys ly) in
     let seps : drop 1 (map (λ x. least m h x) (xs ++ (c ∷ ys))) ≡ drop 1 (map (λ x. least w h x) (xs ++ (c ∷ ys))) =
-    ap (λ (x : List ℕ). drop 1 x) mapped_m ∙ (seps_same fs gs (least m h c) (least w h c) (λ o. same_least (omega (arith, length-map xs (λ x. least m h x)))) ∙ ap (λ (x : List ℕ). drop 1 x) (sym mapped_w)) in
-    let full : Each (λ x. few h ≤ size_of (node w x)) (xs ++ (c ∷ ys)) = Each-append (λ x. few h ≤ size_of (node w x)) xs (c ∷ ys) (row_full m w h xs lx (fulls m h xs d.left)) (full_c, row_full m w h ys ly (fulls m h ys d.right)) in
+    ap (λ (x : List ℕ). drop 1 x) mapped_m ∙ (seps_same fs gs (least m h c) (least w h c) (λ o. same_least (omega (arith, length-map xs (λ x. least m h x))))
+    ∙ ap (λ (x : List ℕ). drop 1 x) (sym mapped_w)) in
+    let full : Each (λ x. few h ≤ size_of (node w x)) (xs ++ (c ∷ ys)) =
+    Each-append (λ x. few h ≤ size_of (node w x)) xs (c ∷ ys) (row_full m w h xs lx (fulls m h xs d.left)) (full_c, row_full m w h ys ly (fulls m h ys d.right)) in
     let st : w n ≡ m n = top_stays m w h n (xs ++ (c ∷ ys)) (xs ++ (c ∷ ys)) t.tree t.split a.change in
     record {
       alters = up_quiet m w h n k (xs ++ (c ∷ ys)) ((k, v) ∷ []) was t.tree t.split a seps full;
@@ -103,14 +111,16 @@ same_front xs ys zs ws l e = (
 )
 
 -- separators shared out with the key between them
-pub seps_split : (f : ℕ → ℕ) (lk lc : List ℕ) (up : ℕ) (rk rc ks cs : List ℕ) → ks ≡ drop 1 (map f cs) → HalvesInner lk lc up rk rc ks cs → (lk ≡ drop 1 (map f lc)) × ((up ≡ first_of_list (map f rc)) × (rk ≡ drop 1 (map f rc)))
+pub seps_split : (f : ℕ → ℕ) (lk lc : List ℕ) (up : ℕ) (rk rc ks cs : List ℕ) → ks ≡ drop 1 (map f cs) → HalvesInner lk lc up rk rc ks cs
+    → (lk ≡ drop 1 (map f lc)) × ((up ≡ first_of_list (map f rc)) × (rk ≡ drop 1 (map f rc)))
 seps_split f lk lc up rk rc ks cs e h =
     let fl : List ℕ = map f lc in
     let fr : List ℕ = map f rc in
     let ll : length fl ≡ length lc = length-map lc f in
     let lr : length fr ≡ length rc = length-map rc f in
     let j : lk ++ (up ∷ rk) ≡ drop 1 fl ++ (first_of_list fr ∷ drop 1 fr) =
-    h.keys ∙ (e ∙ (ap (λ (x : List ℕ). drop 1 (map f x)) (sym h.children) ∙ (ap (λ (x : List ℕ). drop 1 x) (map-append f lc rc) ∙ sym (seps_join fl fr (omega (arith, h.left)) (omega (arith, h.right)))))) in
+    h.keys ∙ (e ∙ (ap (λ (x : List ℕ). drop 1 (map f x)) (sym h.children)
+    ∙ (ap (λ (x : List ℕ). drop 1 x) (map-append f lc rc) ∙ sym (seps_join fl fr (omega (arith, h.left)) (omega (arith, h.right)))))) in
     let s = same_front lk (drop 1 fl) (up ∷ rk) (first_of_list fr ∷ drop 1 fr) (omega (arith, length-drop 1 fl, h.left)) j in
     (s.0, (ap (λ (x : List ℕ). first_of_list x) s.1, ap (λ (x : List ℕ). drop 1 x) s.1))
 
@@ -134,10 +144,16 @@ pub adopted_more : (m0 m w v : Store) (h n k val count at up r : ℕ) (p : List 
     → (live w n ≡ 1 → Adopts w v n (put_at at up (keys_of (node_of p))) (put_at (at + 1) r (children_of (node_of p))) Kept) → size_of (node m n) + 1 ≤ size_of (node v n)
 adopted_more m0 m w v h n k val count at up r p was e0 t i0 ad =
     let wr = ad (adopter_live m0 m w h n k val count at up r p was e0 t i0) in
-    omega (arith, ap (λ (x : Node). size_of x) (here m n p t.read ∙ t.is.is_inner), ap (λ (x : Node). size_of x) wr.0.node, length-put_at at up (keys_of (node_of p)) (omega (arith, t.is.counted, t.place)))
+    omega (
+      arith,
+      ap (λ (x : Node). size_of x) (here m n p t.read ∙ t.is.is_inner),
+      ap (λ (x : Node). size_of x) wr.0.node,
+      length-put_at at up (keys_of (node_of p)) (omega (arith, t.is.counted, t.place)),
+    )
 
 -- the child was split: this page takes the new one in
-pub insert_adopted : (m0 m w v : Store) (h n k val count at up r : ℕ) (p : List ℕ) (was : Option ℕ) (grown : Grown) → m0 ≡ m → At m h n k p count at → InsertsUnder m0 w h (child_in p at) k val was (Split up r)
+pub insert_adopted : (m0 m w v : Store) (h n k val count at up r : ℕ) (p : List ℕ) (was : Option ℕ) (grown : Grown) → m0 ≡ m → At m h n k p count at
+    → InsertsUnder m0 w h (child_in p at) k val was (Split up r)
     → (live w n ≡ 1 → Adopts w v n (put_at at up (keys_of (node_of p))) (put_at (at + 1) r (children_of (node_of p))) grown) → InsertsUnder m v (suc h) n k val was grown
 insert_adopted m0 m w v h n k val count at up r p was grown e0 t i0 ad =
     let i : InsertsUnder m w h (child_in p at) k val was (Split up r) = (let P : Store → Type 0 = λ x. InsertsUnder x w h (child_in p at) k val was (Split up r) in subst P e0 i0) in
@@ -159,7 +175,8 @@ insert_adopted m0 m w v h n k val count at up r p was grown e0 t i0 ad =
     let lf : length fs ≡ at = length-map xs (λ x. least m h x) ∙ t.front in
     let hh : node m n ≡ node_of p = here m n p t.read in
     let keys : keys_of (node_of p) ≡ drop 1 (fs ++ (least m h c ∷ gs)) =
-    ap (λ (x : Node). keys_of x) (sym hh) ∙ (t.tree.sound.0.separators ∙ (ap (λ (x : List ℕ). drop 1 (map (λ y. least m h y) x)) t.split ∙ ap (λ (x : List ℕ). drop 1 x) (map-append (λ x. least m h x) xs (c ∷ ys)))) in
+    ap (λ (x : Node). keys_of x) (sym hh) ∙
+    (t.tree.sound.0.separators ∙ (ap (λ (x : List ℕ). drop 1 (map (λ y. least m h y) x)) t.split ∙ ap (λ (x : List ℕ). drop 1 x) (map-append (λ x. least m h x) xs (c ∷ ys)))) in
     let mapped : map (λ x. least w h x) new ≡ fs ++ (least w h c ∷ (least w h r ∷ gs)) =
     map-append (λ x. least w h x) xs (c ∷ (r ∷ ys)) ∙ ap₂ (λ (x y : List ℕ). x ++ (least w h c ∷ (least w h r ∷ y))) (row_least m w h xs lx) (row_least m w h ys ly) in
     let ks : List ℕ = put_at at up (keys_of (node_of p)) in
@@ -176,7 +193,8 @@ insert_adopted m0 m w v h n k val count at up r p was grown e0 t i0 ad =
     go grown (let A : List ℕ → Type 0 = λ x. Adopts w v n ks x grown in subst A kids (ad lw)) a seps full
   where
     go : (grown : Grown) → Adopts w v n (put_at at up (keys_of (node_of p))) (take at (children_of (node_of p)) ++ (child_in p at ∷ (r ∷ drop (at + 1) (children_of (node_of p))))) grown
-        → Alters m w h (take at (children_of (node_of p)) ++ (child_in p at ∷ drop (at + 1) (children_of (node_of p)))) (take at (children_of (node_of p)) ++ (child_in p at ∷ (r ∷ drop (at + 1) (children_of (node_of p))))) k ((k, val) ∷ []) was
+        → Alters m w h (take at (children_of (node_of p)) ++ (child_in p at ∷ drop (at + 1) (children_of (node_of p))))
+        (take at (children_of (node_of p)) ++ (child_in p at ∷ (r ∷ drop (at + 1) (children_of (node_of p))))) k ((k, val) ∷ []) was
         → put_at at up (keys_of (node_of p)) ≡ drop 1 (map (λ x. least w h x) (take at (children_of (node_of p)) ++ (child_in p at ∷ (r ∷ drop (at + 1) (children_of (node_of p))))))
         → Each (λ x. few h ≤ size_of (node w x)) (take at (children_of (node_of p)) ++ (child_in p at ∷ (r ∷ drop (at + 1) (children_of (node_of p)))))
         → InsertsUnder m v (suc h) n k val was grown
@@ -184,9 +202,15 @@ insert_adopted m0 m w v h n k val count at up r p was grown e0 t i0 ad =
         let new : List ℕ = take at (children_of (node_of p)) ++ (child_in p at ∷ (r ∷ drop (at + 1) (children_of (node_of p)))) in
         let ks : List ℕ = keys_of (node_of p) in
         record {
-          alters = up_written m w v h n k (take at (children_of (node_of p)) ++ (child_in p at ∷ drop (at + 1) (children_of (node_of p)))) new (put_at at up ks) ((k, val) ∷ []) was t.tree t.split a wr.0 seps
+          alters = up_written m w v h n k (take at (children_of (node_of p)) ++ (child_in p at ∷ drop (at + 1) (children_of (node_of p)))) new (put_at at up ks)
+              ((k, val) ∷ []) was t.tree t.split a wr.0 seps
               (omega (arith, length-append (take at (children_of (node_of p))) (child_in p at ∷ (r ∷ drop (at + 1) (children_of (node_of p)))))) wr.1 full;
-          grows = omega (arith, ap (λ (x : Node). size_of x) (here m n p t.read ∙ t.is.is_inner), ap (λ (x : Node). size_of x) wr.0.node, length-put_at at up ks (omega (arith, t.is.counted, t.place)));
+          grows = omega (
+            arith,
+            ap (λ (x : Node). size_of x) (here m n p t.read ∙ t.is.is_inner),
+            ap (λ (x : Node). size_of x) wr.0.node,
+            length-put_at at up ks (omega (arith, t.is.counted, t.place)),
+          );
         }
     go (Split up2 r2) sp a seps full =
         let new : List ℕ = take at (children_of (node_of p)) ++ (child_in p at ∷ (r ∷ drop (at + 1) (children_of (node_of p)))) in
@@ -195,14 +219,18 @@ insert_adopted m0 m w v h n k val count at up r p was grown e0 t i0 ad =
         let s = seps_split (λ x. least w h x) sp.lk sp.lc up2 sp.rk sp.rc (put_at at up (keys_of (node_of p))) new seps hv in
         let kn : children_of (node v n) ≡ sp.lc = ap (λ (x : Node). children_of x) sp.cuts.node in
         let kr : children_of (node v r2) ≡ sp.rc = ap (λ (x : Node). children_of x) sp.cuts.right_node in
-        let tp = topped m w v h n cs0 new (n ∷ (r2 ∷ [])) t.tree t.split (ap₂ (λ (x y : List ℕ). x ++ y) kn (one_kids v r2 ∙ kr) ∙ hv.children) a.change (λ q x y. sp.cuts.others q x (omega arith)) (cut_moved w v n r2 (inner sp.lk sp.lc) (inner sp.rk sp.rc) sp.cuts) in
+        let tp = topped m w v h n cs0 new (n ∷ (r2 ∷ [])) t.tree t.split (ap₂ (λ (x y : List ℕ). x ++ y) kn (one_kids v r2 ∙ kr) ∙ hv.children) a.change
+        (λ q x y. sp.cuts.others q x (omega arith)) (cut_moved w v n r2 (inner sp.lk sp.lc) (inner sp.rk sp.rc) sp.cuts) in
         let filled : Each (λ x. Filled w h x) (sp.lc ++ sp.rc) =
-        (let P : List ℕ → Type 0 = λ x. Each (λ y. Filled w h y) x in subst P (sym hv.children) (Each-zip (λ x. Sound w h x) (λ x. few h ≤ size_of (node w x)) (λ x. Filled w h x) (λ x y z. (y, z)) new a.change.sound full)) in
+        (let P : List ℕ → Type 0 = λ x. Each (λ y. Filled w h y) x in
+        subst P (sym hv.children) (Each-zip (λ x. Sound w h x) (λ x. few h ≤ size_of (node w x)) (λ x. Filled w h x) (λ x y z. (y, z)) new a.change.sound full)) in
         let right_filled : Each (λ x. Filled w h x) sp.rc = Each-right (λ x. Filled w h x) sp.lc sp.rc filled in
         let stay : Each (λ x. Stays w v h x) sp.rc =
-        (let P : List ℕ → Type 0 = λ x. Each (λ y. Stays w v h y) x in subst P (one_kids v r2 ∙ kr) (Each-right (λ x. Stays w v h x) (children_of (node v n)) (all_kids v (r2 ∷ [])) (kids_stay m w v h (n ∷ []) (n ∷ (r2 ∷ [])) tp))) in
+        (let P : List ℕ → Type 0 = λ x. Each (λ y. Stays w v h y) x in
+        subst P (one_kids v r2 ∙ kr) (Each-right (λ x. Stays w v h x) (children_of (node v n)) (all_kids v (r2 ∷ [])) (kids_stay m w v h (n ∷ []) (n ∷ (r2 ∷ [])) tp))) in
         let lst : least v (suc h) r2 ≡ up2 =
-        ap (λ (x : List ℕ). first_key (all_items v h x)) kr ∙ (ap (λ (x : List Pair). first_key x) (row_items w v h sp.rc stay) ∙ (first_least w h sp.rc (omega (arith, hv.right)) right_filled ∙ sym s.1.0)) in
+        ap (λ (x : List ℕ). first_key (all_items v h x)) kr
+        ∙ (ap (λ (x : List Pair). first_key x) (row_items w v h sp.rc stay) ∙ (first_least w h sp.rc (omega (arith, hv.right)) right_filled ∙ sym s.1.0)) in
         record {
           alters = up_cut m w v h n r2 k cs0 new sp.lk sp.lc sp.rk sp.rc ((k, val) ∷ []) was t.tree t.split a sp.cuts hv.children s.0 s.1.1
               (omega (arith, hv.left)) (omega (arith, hv.left, hv.left_fits)) (omega (arith, hv.right)) (omega (arith, hv.right, hv.right_fits)) full;

@@ -1,5 +1,6 @@
 -- Two neighbours joined, and one element moved from the fuller to the other.
-use Rattle.std.proofs.Common.{◌≡◌, ℕ, zero, suc, ◌+◌, ◌-◌, ◌<◌, ◌≤◌, List, [], ◌∷◌, ◌++◌, length, get_or, take, drop, refl, sym, ◌∙◌, ap, ap₂, arith, append_assoc, append-nil, length-take, length-drop, take_all}
+use Rattle.std.proofs.Common.{◌≡◌, ℕ, zero, suc, ◌+◌, ◌-◌, ◌<◌, ◌≤◌, List, [], ◌∷◌, ◌++◌, length, get_or, take, drop, refl, sym, ◌∙◌, ap, ap₂, arith, append_assoc}
+use Rattle.std.proofs.Common.{append-nil, length-take, length-drop, take_all}
 use Rattle.std.proofs.lemmas.List.{drop_all, take_more}
 use Rattle.code_btree.specs.Node.{Pair}
 use Rattle.code_btree.specs.Steps.{put_at, HalvesLeaf, HalvesInner}
@@ -33,13 +34,15 @@ move_end {A = A} n x xs ys e l i =
     ap (λ (a : List A). a ++ (x ∷ ys)) (cut_end (n - 1) n xs e)
     ∙ (sym (append_assoc (take (n - 1) xs) (x ∷ []) ys) ∙ ap (λ (a : List A). a ++ ys) (ap (λ (z : A). take (n - 1) xs ++ (z ∷ [])) i ∙ last_apart n x xs e l))
 
-pub even_low : (n k : ℕ) (x : Pair) (es fs : List Pair) → length es ≡ n → length fs ≡ k → n < k → 128 ≤ n + k → k ≤ 127 → x ≡ get_or fs 0 x → 62 ≤ n → 62 ≤ k → HalvesLeaf (put_at n x es) (take 0 fs ++ ([] ++ drop 1 fs)) (es ++ fs)
+pub even_low : (n k : ℕ) (x : Pair) (es fs : List Pair) → length es ≡ n → length fs ≡ k → n < k → 128 ≤ n + k → k ≤ 127 → x ≡ get_or fs 0 x → 62 ≤ n → 62 ≤ k
+    → HalvesLeaf (put_at n x es) (take 0 fs ++ ([] ++ drop 1 fs)) (es ++ fs)
 even_low n k x es fs e f l s b i p q =
     let ll : length (put_at n x es) ≡ n + 1 = length-put_at n x es (omega arith) ∙ omega arith in
     let lr : length (drop 1 fs) ≡ k - 1 = omega (arith, length-drop 1 fs) in
     record { joined = move_front n x es fs e (omega arith) i; left_full = omega arith; right_full = omega arith; left_fits = omega arith; right_fits = omega arith }
 
-pub even_high : (n k : ℕ) (x : Pair) (es fs : List Pair) → length es ≡ n → length fs ≡ k → k ≤ n → 128 ≤ n + k → n + k ≤ 253 → n ≤ 127 → x ≡ get_or es (n - 1) x → 62 ≤ n → 62 ≤ k → HalvesLeaf (take (n - 1) es ++ ([] ++ drop n es)) (put_at 0 x fs) (es ++ fs)
+pub even_high : (n k : ℕ) (x : Pair) (es fs : List Pair) → length es ≡ n → length fs ≡ k → k ≤ n → 128 ≤ n + k → n + k ≤ 253 → n ≤ 127 → x ≡ get_or es (n - 1) x → 62 ≤ n
+    → 62 ≤ k → HalvesLeaf (take (n - 1) es ++ ([] ++ drop n es)) (put_at 0 x fs) (es ++ fs)
 even_high n k x es fs e f l s t b i p q =
     let ll : length (take (n - 1) es ++ ([] ++ drop n es)) ≡ n - 1 = ap (λ (a : List Pair). length a) (cut_end (n - 1) n es e) ∙ omega (arith, length-take (n - 1) es) in
     let lr : length (put_at 0 x fs) ≡ k + 1 = omega arith in
@@ -55,7 +58,8 @@ keys_end n key up ks js e l i =
     ap₂ (λ (a : List ℕ) (b : ℕ). a ++ (b ∷ (key ∷ js))) (cut_end (n - 1) n ks e) i
     ∙ (sym (append_assoc (take (n - 1) ks) (get_or ks (n - 1) 0 ∷ []) (key ∷ js)) ∙ ap (λ (a : List ℕ). a ++ (key ∷ js)) (last_apart n 0 ks e l))
 
-pub inners_low : (n k key up c : ℕ) (ks cs js ds : List ℕ) → length ks ≡ n → length cs ≡ n + 1 → length js ≡ k → length ds ≡ k + 1 → n < k → 169 ≤ n + k → k ≤ 169 → up ≡ get_or js 0 0 → c ≡ get_or ds 0 0 → 83 ≤ n → 83 ≤ k
+pub inners_low : (n k key up c : ℕ) (ks cs js ds : List ℕ) → length ks ≡ n → length cs ≡ n + 1 → length js ≡ k → length ds ≡ k + 1 → n < k → 169 ≤ n + k → k ≤ 169
+    → up ≡ get_or js 0 0 → c ≡ get_or ds 0 0 → 83 ≤ n → 83 ≤ k
     → HalvesInner (put_at n key ks) (put_at (n + 1) c cs) up (take 0 js ++ ([] ++ drop 1 js)) (take 0 ds ++ ([] ++ drop 1 ds)) (ks ++ (key ∷ js)) (cs ++ ds)
 inners_low n k key up c ks cs js ds lk lc lj ld l s b iu ic p q =
     let a1 : length (put_at n key ks) ≡ n + 1 = length-put_at n key ks (omega arith) ∙ omega arith in
@@ -82,13 +86,15 @@ at_of [] i d e l = absurd (omega arith)
 at_of (x ∷ xs) zero d e l = refl
 at_of (x ∷ xs) (suc i) d e l = at_of xs i d e (omega arith)
 
-pub inners_high : (n k key up c : ℕ) (ks cs js ds : List ℕ) → length ks ≡ n → length cs ≡ n + 1 → length js ≡ k → length ds ≡ k + 1 → k ≤ n → 169 ≤ n + k → n + k ≤ 337 → n ≤ 169 → up ≡ get_or ks (n - 1) 0 → c ≡ get_or cs n 0 → 83 ≤ n → 83 ≤ k
+pub inners_high : (n k key up c : ℕ) (ks cs js ds : List ℕ) → length ks ≡ n → length cs ≡ n + 1 → length js ≡ k → length ds ≡ k + 1 → k ≤ n → 169 ≤ n + k → n + k ≤ 337
+    → n ≤ 169 → up ≡ get_or ks (n - 1) 0 → c ≡ get_or cs n 0 → 83 ≤ n → 83 ≤ k
     → HalvesInner (take (n - 1) ks ++ ([] ++ drop n ks)) (take n cs ++ ([] ++ drop (n + 1) cs)) up (key ∷ js) (c ∷ ds) (ks ++ (key ∷ js)) (cs ++ ds)
 inners_high n k key up c ks cs js ds lk lc lj ld l s t b iu ic p q =
     let a1 : length (take (n - 1) ks ++ ([] ++ drop n ks)) ≡ n - 1 = ap (λ (a : List ℕ). length a) (cut_end (n - 1) n ks lk) ∙ omega (arith, length-take (n - 1) ks) in
     let a2 : length (take n cs ++ ([] ++ drop (n + 1) cs)) ≡ n = ap (λ (a : List ℕ). length a) (cut_end n (n + 1) cs lc) ∙ omega (arith, length-take n cs) in
     let i : (n + 1) - 1 ≡ n = omega arith in
-    let moved : (take ((n + 1) - 1) cs ++ ([] ++ drop (n + 1) cs)) ++ (c ∷ ds) ≡ cs ++ ds = move_end (n + 1) c cs ds lc (omega arith) (ic ∙ (at_of cs n 0 c (omega arith) ∙ ap (λ (j : ℕ). get_or cs j c) (sym i))) in
+    let moved : (take ((n + 1) - 1) cs ++ ([] ++ drop (n + 1) cs)) ++ (c ∷ ds) ≡ cs ++ ds =
+    move_end (n + 1) c cs ds lc (omega arith) (ic ∙ (at_of cs n 0 c (omega arith) ∙ ap (λ (j : ℕ). get_or cs j c) (sym i))) in
     record {
       keys = keys_end n key up ks js lk (omega arith) iu;
       children = ap (λ (j : ℕ). (take j cs ++ ([] ++ drop (n + 1) cs)) ++ (c ∷ ds)) (sym i) ∙ moved;

@@ -1,5 +1,6 @@
 -- Leaves written, cut and read.
-use Rattle.std.proofs.Common.{◌≡◌, ◌≢◌, ℕ, ◌+◌, ◌-◌, ◌<◌, ◌≤◌, List, [], ◌∷◌, ◌++◌, length, get_or, take, drop, refl, sym, ◌∙◌, ap, ap₂, subst, inl, inr, arith, length-append, length-take, length-drop}
+use Rattle.std.proofs.Common.{◌≡◌, ◌≢◌, ℕ, ◌+◌, ◌-◌, ◌<◌, ◌≤◌, List, [], ◌∷◌, ◌++◌, length, get_or, take, drop, refl, sym, ◌∙◌, ap, ap₂, subst, inl, inr, arith}
+use Rattle.std.proofs.Common.{length-append, length-take, length-drop}
 use Rattle.std.specs.Prelude.{Option, None, Some}
 use Rattle.code_btree.specs.Node.{Pair, Node, leaf, inner, node_of, entries_of, next_of, keys_of, children_of, size_of, IsLeafOf, entry_key, entry_value}
 use Rattle.code_btree.specs.Items.{Ascending, find_item}
@@ -39,7 +40,8 @@ first_get : (es : List Pair) → first_key es ≡ (get_or es 0 (0, 0)).0
 first_get [] = refl
 first_get (e ∷ es) = refl
 
-pub leaf_split_done : (m u v : Store) (n r up nx : ℕ) (pl pr p1 : List ℕ) (es : List Pair) → live m n ≡ 1 → Gained m u r pr → Wrote u v n p1 → node_of p1 ≡ leaf (entries_of (node_of pl)) r → IsLeafOf pr 65
+pub leaf_split_done : (m u v : Store) (n r up nx : ℕ) (pl pr p1 : List ℕ) (es : List Pair) → live m n ≡ 1 → Gained m u r pr → Wrote u v n p1
+    → node_of p1 ≡ leaf (entries_of (node_of pl)) r → IsLeafOf pr 65
     → next_of (node_of pr) ≡ nx → HalvesLeaf (entries_of (node_of pl)) (entries_of (node_of pr)) es → up ≡ entry_key pr 0 → SplitsLeaf m v n r up es nx
 leaf_split_done m u v n r up nx pl pr p1 es l g wr e is nxt halves ue = record {
   left = entries_of (node_of pl);
@@ -49,8 +51,10 @@ leaf_split_done m u v n r up nx pl pr p1 es l g wr e is nxt halves ue = record {
   up_is = ue ∙ sym (first_get (entries_of (node_of pr)) ∙ ap (λ (x : Pair). x.0) (entry_is pr 65 0 (0, 0) is (omega arith)));
 }
 
-pub inner_split_done : (m u v : Store) (n r up : ℕ) (pl pr : List ℕ) (ks cs : List ℕ) → live m n ≡ 1 → Gained m u r pr → Wrote u v n pl → node_of pl ≡ inner (keys_of (node_of pl)) (children_of (node_of pl))
-    → node_of pr ≡ inner (keys_of (node_of pr)) (children_of (node_of pr)) → HalvesInner (keys_of (node_of pl)) (children_of (node_of pl)) up (keys_of (node_of pr)) (children_of (node_of pr)) ks cs → SplitsInner m v n r up ks cs
+pub inner_split_done : (m u v : Store) (n r up : ℕ) (pl pr : List ℕ) (ks cs : List ℕ) → live m n ≡ 1 → Gained m u r pr → Wrote u v n pl
+    → node_of pl ≡ inner (keys_of (node_of pl)) (children_of (node_of pl))
+    → node_of pr ≡ inner (keys_of (node_of pr)) (children_of (node_of pr))
+    → HalvesInner (keys_of (node_of pl)) (children_of (node_of pl)) up (keys_of (node_of pr)) (children_of (node_of pr)) ks cs → SplitsInner m v n r up ks cs
 inner_split_done m u v n r up pl pr ks cs l g wr e f halves = record {
   lk = keys_of (node_of pl);
   lc = children_of (node_of pl);
@@ -79,7 +83,11 @@ leaf_written m w n k o was es nx en wr l ea ef =
       change = record {
         sound = (leaf_ok (node w n) es nx wr.node l, tt);
         frame = λ q a b. wr.others q (omega arith);
-        moved = λ q. elim (same_cases q n) [ inl i ↦ omega (arith, wr.before, wr.now, ap (λ (x : ℕ). live w x) i.1, ap (λ (x : ℕ). live m x) i.1) | inr i ↦ omega (arith, live_same m w q (wr.others q i.0)) ];
+        moved = λ q. elim (same_cases q n) [
+          | inl i ↦ omega (arith, wr.before, wr.now, ap (λ (x : ℕ). live w x) i.1, ap (λ (x : ℕ). live m x) i.1)
+          | inr i ↦ omega
+              (arith, live_same m w q (wr.others q i.0))
+        ];
         linked = λ s e p. let P : List (ℕ × ℕ) → Type 0 = λ ls. Path s ls e in subst P (sym link) p;
       };
       items = one_items w 0 n ∙ (ap (λ (x : Node). entries_of x) wr.node ∙ (sym ea ∙ ap (λ (x : List Pair). alter k o x) (sym one)));
@@ -87,7 +95,8 @@ leaf_written m w n k o was es nx en wr l ea ef =
     }
 
 -- a leaf that was cut in two
-pub leaf_cut : (m w : Store) (n r k : ℕ) (o : List Pair) (was : Option ℕ) (left right : List Pair) (nx : ℕ) → nx ≡ next_of (node m n) → Cuts m w n r (leaf left r) (leaf right nx) → length left ≤ 127 → length right ≤ 127
+pub leaf_cut : (m w : Store) (n r k : ℕ) (o : List Pair) (was : Option ℕ) (left right : List Pair) (nx : ℕ) → nx ≡ next_of (node m n)
+    → Cuts m w n r (leaf left r) (leaf right nx) → length left ≤ 127 → length right ≤ 127
     → alter k o (entries_of (node m n)) ≡ left ++ right → find_item k (entries_of (node m n)) ≡ was → Alters m w 0 (n ∷ []) (n ∷ (r ∷ [])) k o was
 leaf_cut m w n r k o was left right nx en cut l u ea ef =
     let nl : next_of (node w n) ≡ r = ap (λ (x : Node). next_of x) cut.node in
@@ -109,7 +118,8 @@ leaf_cut m w n r k o was left right nx en cut l u ea ef =
         ];
         linked = λ s e p. (p.0, (p.1.0, (nl, (omega (arith, nl, cut.positive), nr ∙ p.1.1))));
       };
-      items = ap₂ (λ (x y : List Pair). x ++ y) (ap (λ (x : Node). entries_of x) cut.node) (one_items w 0 r ∙ ap (λ (x : Node). entries_of x) cut.right_node) ∙ (sym ea ∙ ap (λ (x : List Pair). alter k o x) (sym one));
+      items = ap₂ (λ (x y : List Pair). x ++ y) (ap (λ (x : Node). entries_of x) cut.node) (one_items w 0 r ∙ ap (λ (x : Node). entries_of x) cut.right_node)
+          ∙ (sym ea ∙ ap (λ (x : List Pair). alter k o x) (sym one));
       found = sym ef ∙ ap (λ (x : List Pair). find_item k x) (sym one);
     }
 
@@ -125,7 +135,8 @@ leaf_sound m n p e s = let P : Node → Type 0 = λ o. Ascending (entries_of o) 
 
 -- the key stands in the leaf: its value is set
 pub insert_found : (m1 m w : Store) (n k v count at old : ℕ) (p q : List ℕ) → m1 ≡ m → m n ≡ Some p → Subtree m 0 n → IsLeafOf p count → at ≤ count → (1 ≤ at → entry_key p (at - 1) < k)
-    → (at < count) × (entry_key p at ≡ k) × (old ≡ entry_value p at) → node_of q ≡ leaf (take at (entries_of (node_of p)) ++ (((k, v) ∷ []) ++ drop (at + 1) (entries_of (node_of p)))) (next_of (node_of p)) → Wrote m1 w n q
+    → (at < count) × (entry_key p at ≡ k) × (old ≡ entry_value p at)
+    → node_of q ≡ leaf (take at (entries_of (node_of p)) ++ (((k, v) ∷ []) ++ drop (at + 1) (entries_of (node_of p)))) (next_of (node_of p)) → Wrote m1 w n q
     → InsertsUnder m w 0 n k v (Some old) Kept
 insert_found m1 m w n k v count at old p q e1 e s is l f hit eq wr =
     let es : List Pair = entries_of (node_of p) in
@@ -135,7 +146,8 @@ insert_found m1 m w n k v count at old p q e1 e s is l f hit eq wr =
     let hh = here m n p e in
     let entry = entry_is p count at (0, 0) is hit.0 in
     let h = leaf_hit k ((k, v) ∷ []) es at (0, 0) (leaf_sound m n p e s) (omega (arith, hit.0)) (λ o. ranked p count at k is l f o) (ap (λ (x : Pair). x.0) entry ∙ hit.1) in
-    let len : length (take at es ++ (((k, v) ∷ []) ++ drop (at + 1) es)) ≡ count = omega (arith, hit.0, length-append (take at es) ((k, v) ∷ drop (at + 1) es), length-take at es, length-drop (at + 1) es) in
+    let len : length (take at es ++ (((k, v) ∷ []) ++ drop (at + 1) es)) ≡ count =
+    omega (arith, hit.0, length-append (take at es) ((k, v) ∷ drop (at + 1) es), length-take at es, length-drop (at + 1) es) in
     record {
       alters = leaf_written m w n k ((k, v) ∷ []) (Some old) _ _ (sym (ap (λ (x : Node). next_of x) hh)) wo (omega (arith, is.fits))
           (ap (λ (x : Node). alter k ((k, v) ∷ []) (entries_of x)) hh ∙ h.0)
@@ -143,14 +155,16 @@ insert_found m1 m w n k v count at old p q e1 e s is l f hit eq wr =
       grows = omega (arith, ap (λ (x : Node). size_of x) (hh ∙ is.is_leaf), ap (λ (x : Node). size_of x) wo.node);
     }
 
-pub missed : (p : List ℕ) (count at k : ℕ) → IsLeafOf p count → at ≤ count → (at < count → k ≤ entry_key p at) → (at < count → entry_key p at ≢ k) → at < length (entries_of (node_of p)) → k < (get_or (entries_of (node_of p)) at (0, 0)).0
+pub missed : (p : List ℕ) (count at k : ℕ) → IsLeafOf p count → at ≤ count → (at < count → k ≤ entry_key p at) → (at < count → entry_key p at ≢ k)
+    → at < length (entries_of (node_of p)) → k < (get_or (entries_of (node_of p)) at (0, 0)).0
 missed p count at k is l g miss i =
     let j : at < count = omega (arith, is.counted) in
     let ne = miss j in
     omega (arith, g j, ap (λ (x : Pair). x.0) (entry_is p count at (0, 0) is j))
 
 -- the key isn't there, and the leaf has room
-pub insert_room : (m1 m w : Store) (n k v count at : ℕ) (p q : List ℕ) → m1 ≡ m → m n ≡ Some p → Subtree m 0 n → IsLeafOf p count → at ≤ count → (1 ≤ at → entry_key p (at - 1) < k) → (at < count → k ≤ entry_key p at)
+pub insert_room : (m1 m w : Store) (n k v count at : ℕ) (p q : List ℕ) → m1 ≡ m → m n ≡ Some p → Subtree m 0 n → IsLeafOf p count → at ≤ count
+    → (1 ≤ at → entry_key p (at - 1) < k) → (at < count → k ≤ entry_key p at)
     → (at < count → entry_key p at ≢ k) → count < 127 → node_of q ≡ leaf (put_at at (k, v) (entries_of (node_of p))) (next_of (node_of p)) → Wrote m1 w n q → InsertsUnder m w 0 n k v None Kept
 insert_room m1 m w n k v count at p q e1 e s is l f g miss room eq wr =
     let es : List Pair = entries_of (node_of p) in
@@ -168,7 +182,8 @@ insert_room m1 m w n k v count at p q e1 e s is l f g miss room eq wr =
     }
 
 -- the key isn't there, and the leaf is full
-pub insert_split : (m1 m w : Store) (n k v count at up r : ℕ) (p : List ℕ) → m1 ≡ m → m n ≡ Some p → Subtree m 0 n → IsLeafOf p count → at ≤ count → (1 ≤ at → entry_key p (at - 1) < k) → (at < count → k ≤ entry_key p at)
+pub insert_split : (m1 m w : Store) (n k v count at up r : ℕ) (p : List ℕ) → m1 ≡ m → m n ≡ Some p → Subtree m 0 n → IsLeafOf p count → at ≤ count
+    → (1 ≤ at → entry_key p (at - 1) < k) → (at < count → k ≤ entry_key p at)
     → (at < count → entry_key p at ≢ k) → (live m1 n ≡ 1 → SplitsLeaf m1 w n r up (put_at at (k, v) (entries_of (node_of p))) (next_of (node_of p))) → InsertsUnder m w 0 n k v None (Split up r)
 insert_split m1 m w n k v count at up r p e1 e s is l f g miss sp =
     let es : List Pair = entries_of (node_of p) in
@@ -181,5 +196,8 @@ insert_split m1 m w n k v count at up r p e1 e s is l f g miss sp =
       alters = leaf_cut m w n r k ((k, v) ∷ []) None t.left t.right _ (sym (ap (λ (x : Node). next_of x) hh)) t.cuts t.halves.left_fits t.halves.right_fits
           (ap (λ (x : Node). alter k ((k, v) ∷ []) (entries_of x)) hh ∙ (h.0 ∙ sym t.halves.joined))
           (ap (λ (x : Node). find_item k (entries_of x)) hh ∙ h.1);
-      grows = (omega (arith, ap (λ (x : Node). size_of x) t.cuts.node, t.halves.left_full), (omega (arith, ap (λ (x : Node). size_of x) t.cuts.right_node, t.halves.right_full), t.up_is ∙ sym (ap (λ (x : Node). first_key (entries_of x)) t.cuts.right_node)));
+      grows = (
+        omega (arith, ap (λ (x : Node). size_of x) t.cuts.node, t.halves.left_full),
+        (omega (arith, ap (λ (x : Node). size_of x) t.cuts.right_node, t.halves.right_full), t.up_is ∙ sym (ap (λ (x : Node). first_key (entries_of x)) t.cuts.right_node)),
+      );
     }

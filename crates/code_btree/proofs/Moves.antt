@@ -8,7 +8,8 @@ use Rattle.code_btree.specs.Node.{Pair, Node, inner, entries_of, next_of, keys_o
 use Rattle.code_btree.specs.Items.{Each}
 use Rattle.code_btree.specs.Tree.{Store, node_in, node, items, pages, links, all_items, all_pages, all_links, first_key, least, same, times, live, Owns, Path, LeafOk, TopOk, few, Sound, Filled}
 use Rattle.code_btree.specs.Steps.{Change}
-use Rattle.code_btree.proofs.Lists.{same_self, live_small, live_same, times-append, Each-append, Each-map, Each-zip, Each-flat, flat_map-same, map-same, flat_map-flat, times-heads, Path-append, Path-split}
+use Rattle.code_btree.proofs.Lists.{same_self, live_small, live_same, times-append, Each-append, Each-map, Each-zip, Each-flat, flat_map-same, map-same, flat_map-flat}
+use Rattle.code_btree.proofs.Lists.{times-heads, Path-append, Path-split}
 
 -- the tree under page n is in w what it is in m
 pub record Stays (m w : Store) (h n : ℕ) : Type 0 where
@@ -117,10 +118,12 @@ pages-three m h q xs ys zs = omega (arith, pages-append m h q xs (ys ++ zs), pag
 
 -- the trees beside a row that changed stay
 pub left_stays : (m w : Store) (h : ℕ) (xs old ys new : List ℕ) → Change m w h old new → Owns m h (xs ++ (old ++ ys)) → Each (λ c. Stays m w h c) xs
-left_stays m w h xs old ys new c o = row_stays m w h xs (λ q l. c.frame q (omega (arith, pages-three m h q xs old ys, o q, live_small m q)) (omega (arith, pages-three m h q xs old ys, o q, live_small m q)))
+left_stays m w h xs old ys new c o = row_stays m w h xs
+    (λ q l. c.frame q (omega (arith, pages-three m h q xs old ys, o q, live_small m q)) (omega (arith, pages-three m h q xs old ys, o q, live_small m q)))
 
 pub right_stays : (m w : Store) (h : ℕ) (xs old ys new : List ℕ) → Change m w h old new → Owns m h (xs ++ (old ++ ys)) → Each (λ c. Stays m w h c) ys
-right_stays m w h xs old ys new c o = row_stays m w h ys (λ q l. c.frame q (omega (arith, pages-three m h q xs old ys, o q, live_small m q)) (omega (arith, pages-three m h q xs old ys, o q, live_small m q)))
+right_stays m w h xs old ys new c o = row_stays m w h ys
+    (λ q l. c.frame q (omega (arith, pages-three m h q xs old ys, o q, live_small m q)) (omega (arith, pages-three m h q xs old ys, o q, live_small m q)))
 
 pub links-three : (m : Store) (h : ℕ) (xs ys zs : List ℕ) → all_links m h (xs ++ (ys ++ zs)) ≡ all_links m h xs ++ (all_links m h ys ++ all_links m h zs)
 links-three m h xs ys zs = flat_map-append (λ c. links m h c) xs (ys ++ zs) ∙ ap (λ (r : List (ℕ × ℕ)). all_links m h xs ++ r) (flat_map-append (λ c. links m h c) ys zs)
@@ -151,7 +154,8 @@ widen m w h xs old ys new c o sx sy =
           (Path-append a.0 b.0 e (all_links w h new) (all_links w h ys) (c.linked a.0 b.0 b.1.0) (subst Y (sym (row_links m w h ys r)) b.1.1)));
     }
 
-pub widen-items : (m w : Store) (h : ℕ) (xs old ys new : List ℕ) → Change m w h old new → Owns m h (xs ++ (old ++ ys)) → all_items w h (xs ++ (new ++ ys)) ≡ all_items m h xs ++ (all_items w h new ++ all_items m h ys)
+pub widen-items : (m w : Store) (h : ℕ) (xs old ys new : List ℕ) → Change m w h old new → Owns m h (xs ++ (old ++ ys))
+    → all_items w h (xs ++ (new ++ ys)) ≡ all_items m h xs ++ (all_items w h new ++ all_items m h ys)
 widen-items m w h xs old ys new c o =
     items-three w h xs new ys
     ∙ ap₂ (λ (a b : List Pair). a ++ (all_items w h new ++ b)) (row_items m w h xs (left_stays m w h xs old ys new c o)) (row_items m w h ys (right_stays m w h xs old ys new c o))
@@ -161,7 +165,8 @@ abbrev pub all_kids : Store → List ℕ → List ℕ
 all_kids m ns = flat_map (λ n. children_of (node m n)) ns
 
 pub pages_up : (m : Store) (h q : ℕ) (ns : List ℕ) → times q (all_pages m (suc h) ns) ≡ times q ns + times q (all_pages m h (all_kids m ns))
-pages_up m h q ns = times-heads q (λ n. all_pages m h (children_of (node m n))) ns ∙ ap (λ (ps : List ℕ). times q ns + times q ps) (sym (flat_map-flat (λ c. pages m h c) (λ n. children_of (node m n)) ns))
+pages_up m h q ns = times-heads q (λ n. all_pages m h (children_of (node m n))) ns
+    ∙ ap (λ (ps : List ℕ). times q ns + times q ps) (sym (flat_map-flat (λ c. pages m h c) (λ n. children_of (node m n)) ns))
 
 pub items_up : (m : Store) (h : ℕ) (ns : List ℕ) → all_items m (suc h) ns ≡ all_items m h (all_kids m ns)
 items_up m h ns = sym (flat_map-flat (λ c. items m h c) (λ n. children_of (node m n)) ns)

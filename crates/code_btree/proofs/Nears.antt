@@ -58,7 +58,8 @@ near_child m h n k near s l =
     }
 
 -- from level to level
-pub near_led : (m : Store) (level n k left h : ℕ) (near next : Near) → left ≡ suc h → NearLed m level n k left near → LeadsNear m near.page k next → near.low ≤ next.low → next.high ≤ near.high → NearLed m level n k h next
+pub near_led : (m : Store) (level n k left h : ℕ) (near next : Near) → left ≡ suc h → NearLed m level n k left near → LeadsNear m near.page k next → near.low ≤ next.low
+    → next.high ≤ near.high → NearLed m level n k h next
 near_led m level n k left h near next e led l low high =
     let S : ℕ → Type 0 = λ x. Subtree m x near.page in
     let F : Near → ℕ → Type 0 = λ leaf x. IsFoundNear m x near.page k leaf in

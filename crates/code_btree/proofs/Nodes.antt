@@ -51,13 +51,21 @@ reading p =
 
 as_leaf_node : (p : List ℕ) → get_or p 0 0 ≡ 1 → count_of p ≤ 127 → node_of p ≡ leaf_of p
 unfolding node_of
-as_leaf_node p k c = elim (eqb_tells (get_or p 0 0) 1) [ inl one ↦ elim (leb_tells (count_of p) 127) [ inl few ↦ rw (one.0, few.0) | inr many ↦ absurd (omega arith) ] | inr other ↦ absurd (other.1 k) ]
+as_leaf_node p k c = elim (eqb_tells (get_or p 0 0) 1) [
+  | inl one ↦ elim
+      (leb_tells (count_of p) 127) [ inl few ↦ rw (one.0, few.0) | inr many ↦ absurd (omega arith) ]
+  | inr other ↦ absurd (other.1 k)
+]
 
 as_inner_node : (p : List ℕ) → get_or p 0 0 ≡ 2 → count_of p ≤ 169 → node_of p ≡ inner_of p
 unfolding node_of
 as_inner_node p k c = elim (eqb_tells (get_or p 0 0) 1) [
   | inl one ↦ absurd (omega arith)
-  | inr other ↦ elim (eqb_tells (get_or p 0 0) 2) [ inl two ↦ elim (leb_tells (count_of p) 169) [ inl few ↦ rw (other.0, two.0, few.0) | inr many ↦ absurd (omega arith) ] | inr none ↦ absurd (none.1 k) ]
+  | inr other ↦ elim (eqb_tells (get_or p 0 0) 2) [
+    | inl two ↦ elim
+        (leb_tells (count_of p) 169) [ inl few ↦ rw (other.0, two.0, few.0) | inr many ↦ absurd (omega arith) ]
+    | inr none ↦ absurd (none.1 k)
+  ]
 ]
 
 pub leaf_made : (p : List ℕ) (n : ℕ) → get_or p 0 0 ≡ 1 → count_of p ≡ n → n ≤ 127 → node_of p ≡ leaf (map entry_of (cells 32 32 n p)) (word_of (piece 8 8 p))
@@ -114,7 +122,13 @@ inner_bytes p n h = elim (reading p) [
   | as_leaf x y z ↦ absurd (leaf_not_inner p _ _ z h.is_inner)
   | as_inner x y z ↦
       let c : count_of p ≡ n = sym (inner_counted p z) ∙ h.counted in
-      record { kind = x; count = c; fits = h.fits; keys = inner_keys p z ∙ ap (λ (i : ℕ). map number_of (cells 16 32 i p)) c; children = inner_children p z ∙ ap (λ (i : ℕ). map word_of (cells 8 2736 (suc i) p)) c }
+      record {
+        kind = x;
+        count = c;
+        fits = h.fits;
+        keys = inner_keys p z ∙ ap (λ (i : ℕ). map number_of (cells 16 32 i p)) c;
+        children = inner_children p z ∙ ap (λ (i : ℕ). map word_of (cells 8 2736 (suc i) p)) c;
+      }
   | as_blank z ↦ absurd (let i = h.is_inner in cc)
 ]
 
@@ -160,22 +174,30 @@ leaf_spliced p b n i j k m size is jk ij long fits =
     let lh : length (half_bytes (i + (m + k))) ≡ 2 = length-half_bytes (i + (m + k)) in
     let fit : 2 + length (half_bytes (i + (m + k))) ≤ length q = omega arith in
     let kind : get_or r 0 0 ≡ 1 = pasted-before q 2 (half_bytes (i + (m + k))) 0 0 (omega arith) (omega arith)
-    ∙ ((pasted-before _ (32 + 32 * i) b 0 0 (omega (arith, length-pasted p ((32 + 32 * i) + length b) (piece ((32 + 32 * n) - (32 + 32 * j)) (32 + 32 * j) p) (omega (arith, length-piece ((32 + 32 * n) - (32 + 32 * j)) (32 + 32 * j) p (omega arith))))) (omega arith)
+    ∙ ((pasted-before _ (32 + 32 * i) b 0 0
+    (omega (
+      arith,
+      length-pasted p ((32 + 32 * i) + length b) (piece ((32 + 32 * n) - (32 + 32 * j)) (32 + 32 * j) p)
+          (omega (arith, length-piece ((32 + 32 * n) - (32 + 32 * j)) (32 + 32 * j) p (omega arith))),
+    )) (omega arith)
     ∙ pasted-before p ((32 + 32 * i) + length b) (piece ((32 + 32 * n) - (32 + 32 * j)) (32 + 32 * j) p) 0 0 (omega arith) (omega arith)) ∙ h.kind) in
     let two : 2 + 0 ≡ 2 = omega arith in
     let count : count_of r ≡ i + (m + k) =
     ap (λ (c : List ℕ). half_of c) (piece_within 2 0 q 2 (half_bytes (i + (m + k))) fit (omega arith) ∙ whole (half_bytes (i + (m + k))) lh)
     ∙ half_back (i + (m + k)) (omega arith) in
-    let next : piece 8 8 r ≡ piece 8 8 p = piece_apart 8 8 q 2 (half_bytes (i + (m + k))) fit (inr (omega arith)) ∙ piece_unspliced 8 8 p (32 + 32 * i) (32 + 32 * j) (32 + 32 * n) b (omega arith) (omega arith) (omega arith) (omega arith) (inl (omega arith)) in
+    let next : piece 8 8 r ≡ piece 8 8 p = piece_apart 8 8 q 2 (half_bytes (i + (m + k))) fit (inr (omega arith))
+    ∙ piece_unspliced 8 8 p (32 + 32 * i) (32 + 32 * j) (32 + 32 * n) b (omega arith) (omega arith) (omega arith) (omega arith) (inl (omega arith)) in
     let row : cells 32 32 (i + (m + k)) r ≡ cells 32 32 i p ++ (cells 32 0 m b ++ cells 32 (32 + 32 * j) k p) =
     cells_apart 32 32 (i + (m + k)) q 2 (half_bytes (i + (m + k))) fit (inr (omega arith))
     ∙ (ap (λ (e : ℕ). cells 32 32 (i + (m + k)) (spliced p (32 + 32 * i) (32 + 32 * j) e b)) end
     ∙ cells_spliced 32 32 i j k m p b ij long (omega arith) (omega arith)) in
     let ik : i + (n - i) ≡ n = omega arith in
     let head : map entry_of (cells 32 32 i p) ≡ take i (entries_of (node_of p)) =
-    sym (ap (λ (x : List Pair). take i x) (h.entries ∙ ap (λ (x : ℕ). map entry_of (cells 32 32 x p)) (sym ik)) ∙ (take-map entry_of i (cells 32 32 (i + (n - i)) p) ∙ ap (λ (x : List (List ℕ)). map entry_of x) (cells-take 32 32 i (n - i) p))) in
+    sym (ap (λ (x : List Pair). take i x) (h.entries ∙ ap (λ (x : ℕ). map entry_of (cells 32 32 x p)) (sym ik))
+    ∙ (take-map entry_of i (cells 32 32 (i + (n - i)) p) ∙ ap (λ (x : List (List ℕ)). map entry_of x) (cells-take 32 32 i (n - i) p))) in
     let tail : map entry_of (cells 32 (32 + 32 * j) k p) ≡ drop j (entries_of (node_of p)) =
-    sym (ap (λ (x : List Pair). drop j x) (h.entries ∙ ap (λ (x : ℕ). map entry_of (cells 32 32 x p)) (sym jk)) ∙ (drop-map entry_of j (cells 32 32 (j + k) p) ∙ ap (λ (x : List (List ℕ)). map entry_of x) (cells-drop 32 32 j k p))) in
+    sym (ap (λ (x : List Pair). drop j x) (h.entries ∙ ap (λ (x : ℕ). map entry_of (cells 32 32 x p)) (sym jk))
+    ∙ (drop-map entry_of j (cells 32 32 (j + k) p) ∙ ap (λ (x : List (List ℕ)). map entry_of x) (cells-drop 32 32 j k p))) in
     leaf_made r (i + (m + k)) kind count fits
     ∙ ap₂ (λ (es : List Pair) (x : ℕ). leaf es x)
     (ap (λ (x : List (List ℕ)). map entry_of x) row

@@ -1,5 +1,6 @@
 -- Numbers in bytes: what is read of a page, and what is read back of what was written.
-use Rattle.std.proofs.Common.{◌≡◌, ℕ, suc, ◌+◌, ◌*◌, ◌/◌, ◌%◌, ◌^◌, ◌<◌, ◌≤◌, List, [], ◌∷◌, ◌++◌, length, get_or, take, drop, refl, sym, ◌∙◌, ap, ap₂, arith, length-append, take-take, drop-drop, take_at, drop_at}
+use Rattle.std.proofs.Common.{◌≡◌, ℕ, suc, ◌+◌, ◌*◌, ◌/◌, ◌%◌, ◌^◌, ◌<◌, ◌≤◌, List, [], ◌∷◌, ◌++◌, length, get_or, take, drop, refl, sym, ◌∙◌, ap, ap₂, arith}
+use Rattle.std.proofs.Common.{length-append, take-take, drop-drop, take_at, drop_at}
 use Rattle.std.specs.Int.{w16, w64, from_be_bytes}
 use Rattle.std.proofs.lemmas.Nat.{from_be_bytes-to_be_bytes_2, from_be_bytes-to_be_bytes_8}
 use Rattle.std.proofs.lemmas.List.{drop_more, drop-take}
@@ -14,7 +15,8 @@ pub bytes_2 : (at : ℕ) (p : List ℕ) → at + 2 ≤ length p → piece 2 at p
 bytes_2 at p h =
     ap (λ (q : List ℕ). take 2 q) (drop_more p at 0 (omega arith)) ∙ ap (λ (q : List ℕ). get_or p at 0 ∷ q) (step 0 at 1 p (omega arith))
 
-pub bytes_8 : (at : ℕ) (p : List ℕ) → at + 8 ≤ length p → piece 8 at p ≡ get_or p at 0 ∷ get_or p (at + 1) 0 ∷ get_or p (at + 2) 0 ∷ get_or p (at + 3) 0 ∷ get_or p (at + 4) 0 ∷ get_or p (at + 5) 0 ∷ get_or p (at + 6) 0 ∷ get_or p (at + 7) 0 ∷ []
+pub bytes_8 : (at : ℕ) (p : List ℕ) → at + 8 ≤ length p
+    → piece 8 at p ≡ get_or p at 0 ∷ get_or p (at + 1) 0 ∷ get_or p (at + 2) 0 ∷ get_or p (at + 3) 0 ∷ get_or p (at + 4) 0 ∷ get_or p (at + 5) 0 ∷ get_or p (at + 6) 0 ∷ get_or p (at + 7) 0 ∷ []
 bytes_8 at p h =
     ap (λ (q : List ℕ). take 8 q) (drop_more p at 0 (omega arith))
     ∙ ap (λ (q : List ℕ). get_or p at 0 ∷ q) (step 6 at 1 p (omega arith)
@@ -29,7 +31,9 @@ pub half_read : (at n : ℕ) (p : List ℕ) → at + 2 ≤ length p → n ≡ fr
 unfolding half_of
 half_read at n p h e = e ∙ ap (λ (q : List ℕ). from_be_bytes w16 q) (sym (bytes_2 at p h))
 
-pub word_read : (at n : ℕ) (p : List ℕ) → at + 8 ≤ length p → n ≡ from_be_bytes w64 (get_or p at 0 ∷ get_or p (at + 1) 0 ∷ get_or p (at + 2) 0 ∷ get_or p (at + 3) 0 ∷ get_or p (at + 4) 0 ∷ get_or p (at + 5) 0 ∷ get_or p (at + 6) 0 ∷ get_or p (at + 7) 0 ∷ []) → n ≡ word_of (piece 8 at p)
+pub word_read : (at n : ℕ) (p : List ℕ) → at + 8 ≤ length p
+    → n ≡ from_be_bytes w64 (get_or p at 0 ∷ get_or p (at + 1) 0 ∷ get_or p (at + 2) 0 ∷ get_or p (at + 3) 0 ∷ get_or p (at + 4) 0 ∷ get_or p (at + 5) 0
+    ∷ get_or p (at + 6) 0 ∷ get_or p (at + 7) 0 ∷ []) → n ≡ word_of (piece 8 at p)
 unfolding word_of
 word_read at n p h e = e ∙ ap (λ (q : List ℕ). from_be_bytes w64 q) (sym (bytes_8 at p h))
 

@@ -1,5 +1,6 @@
 -- Pairs in order: cut at a key, found, put and dropped.
-use Rattle.std.proofs.Common.{◌≡◌, ◌≢◌, ℕ, zero, suc, ◌+◌, ◌-◌, ◌<◌, ◌≤◌, true, false, cond, List, [], ◌∷◌, ◌++◌, length, get_or, take, drop, refl, sym, ◌∙◌, ap, ap₂, subst, inl, inr, arith, append_assoc, append-nil, take-append-drop}
+use Rattle.std.proofs.Common.{◌≡◌, ◌≢◌, ℕ, zero, suc, ◌+◌, ◌-◌, ◌<◌, ◌≤◌, true, false, cond, List, [], ◌∷◌, ◌++◌, length, get_or, take, drop, refl, sym, ◌∙◌, ap, ap₂}
+use Rattle.std.proofs.Common.{subst, inl, inr, arith, append_assoc, append-nil, take-append-drop}
 use Rattle.std.specs.Prelude.{None, Some, ◌==◌, nat_lt}
 use Rattle.std.proofs.lemmas.Bool.Decides.{leb_tells, eqb_tells}
 use Rattle.std.proofs.lemmas.List.{drop_more}
@@ -11,21 +12,24 @@ use Rattle.code_btree.proofs.Lists.{Each-append, Each-left, Each-right, Each-map
 
 pub length-items_from : (k : ℕ) (es : List Pair) → length (items_from k es) ≤ length es
 length-items_from k [] = omega arith
-length-items_from k (e ∷ es) = elim (nat_lt e.0 k) as (λ b. length (cond b (items_from k es) (e ∷ items_from k es)) ≤ suc (length es)) [ true ↦ omega (arith, length-items_from k es) | false ↦ omega (arith, length-items_from k es) ]
+length-items_from k (e ∷ es) = elim (nat_lt e.0 k) as
+    (λ b. length (cond b (items_from k es) (e ∷ items_from k es)) ≤ suc (length es)) [ true ↦ omega (arith, length-items_from k es) | false ↦ omega (arith, length-items_from k es) ]
 
 pub items_below-append : (k : ℕ) (xs ys : List Pair) → items_below k (xs ++ ys) ≡ items_below k xs ++ items_below k ys
 items_below-append k [] ys = refl
-items_below-append k (x ∷ xs) ys = elim (nat_lt x.0 k) as (λ b. cond b (x ∷ items_below k (xs ++ ys)) (items_below k (xs ++ ys)) ≡ cond b (x ∷ items_below k xs) (items_below k xs) ++ items_below k ys) [
-  | true ↦ ap (λ (r : List Pair). x ∷ r) (items_below-append k xs ys)
-  | false ↦ items_below-append k xs ys
-]
+items_below-append k (x ∷ xs) ys = elim (nat_lt x.0 k) as (λ b. cond b (x ∷ items_below k (xs ++ ys)) (items_below k (xs ++ ys))
+    ≡ cond b (x ∷ items_below k xs) (items_below k xs) ++ items_below k ys) [
+      | true ↦ ap (λ (r : List Pair). x ∷ r) (items_below-append k xs ys)
+      | false ↦ items_below-append k xs ys
+    ]
 
 pub items_above-append : (k : ℕ) (xs ys : List Pair) → items_above k (xs ++ ys) ≡ items_above k xs ++ items_above k ys
 items_above-append k [] ys = refl
-items_above-append k (x ∷ xs) ys = elim (nat_lt k x.0) as (λ b. cond b (x ∷ items_above k (xs ++ ys)) (items_above k (xs ++ ys)) ≡ cond b (x ∷ items_above k xs) (items_above k xs) ++ items_above k ys) [
-  | true ↦ ap (λ (r : List Pair). x ∷ r) (items_above-append k xs ys)
-  | false ↦ items_above-append k xs ys
-]
+items_above-append k (x ∷ xs) ys = elim (nat_lt k x.0) as (λ b. cond b (x ∷ items_above k (xs ++ ys)) (items_above k (xs ++ ys))
+    ≡ cond b (x ∷ items_above k xs) (items_above k xs) ++ items_above k ys) [
+      | true ↦ ap (λ (r : List Pair). x ∷ r) (items_above-append k xs ys)
+      | false ↦ items_above-append k xs ys
+    ]
 
 pub items_from-append : (k : ℕ) (xs ys : List Pair) → items_from k (xs ++ ys) ≡ items_from k xs ++ items_from k ys
 items_from-append k [] ys = refl
@@ -144,11 +148,13 @@ each_above P k (e ∷ es) h = elim (nat_lt k e.0) as (λ b. Each P (cond b (e �
 
 ascending_below : (k : ℕ) (es : List Pair) → Ascending es → Ascending (items_below k es)
 ascending_below k [] h = tt
-ascending_below k (e ∷ es) h = elim (nat_lt e.0 k) as (λ b. Ascending (cond b (e ∷ items_below k es) (items_below k es))) [ true ↦ (each_below (λ x. e.0 < x.0) k es h.0, ascending_below k es h.1) | false ↦ ascending_below k es h.1 ]
+ascending_below k (e ∷ es) h = elim (nat_lt e.0 k) as
+    (λ b. Ascending (cond b (e ∷ items_below k es) (items_below k es))) [ true ↦ (each_below (λ x. e.0 < x.0) k es h.0, ascending_below k es h.1) | false ↦ ascending_below k es h.1 ]
 
 ascending_above : (k : ℕ) (es : List Pair) → Ascending es → Ascending (items_above k es)
 ascending_above k [] h = tt
-ascending_above k (e ∷ es) h = elim (nat_lt k e.0) as (λ b. Ascending (cond b (e ∷ items_above k es) (items_above k es))) [ true ↦ (each_above (λ x. e.0 < x.0) k es h.0, ascending_above k es h.1) | false ↦ ascending_above k es h.1 ]
+ascending_above k (e ∷ es) h = elim (nat_lt k e.0) as
+    (λ b. Ascending (cond b (e ∷ items_above k es) (items_above k es))) [ true ↦ (each_above (λ x. e.0 < x.0) k es h.0, ascending_above k es h.1) | false ↦ ascending_above k es h.1 ]
 
 below_is : (k : ℕ) (es : List Pair) → Below k (items_below k es)
 below_is k [] = tt
@@ -162,7 +168,8 @@ pub Above-AtLeast : (k : ℕ) (es : List Pair) → Above k es → AtLeast k es
 Above-AtLeast k es h = Each-map (λ e. k < e.0) (λ e. k ≤ e.0) (λ e i. omega arith) es h
 
 pub Ascending-put : (k v : ℕ) (es : List Pair) → Ascending es → Ascending (alter k ((k, v) ∷ []) es)
-Ascending-put k v es h = Ascending-append k (items_below k es) ((k, v) ∷ items_above k es) (below_is k es) (omega arith, Above-AtLeast k (items_above k es) (above_is k es)) (ascending_below k es h) (above_is k es, ascending_above k es h)
+Ascending-put k v es h = Ascending-append k (items_below k es) ((k, v) ∷ items_above k es) (below_is k es)
+    (omega arith, Above-AtLeast k (items_above k es) (above_is k es)) (ascending_below k es h) (above_is k es, ascending_above k es h)
 
 pub Ascending-drop : (k : ℕ) (es : List Pair) → Ascending es → Ascending (alter k [] es)
 Ascending-drop k es h = Ascending-append k (items_below k es) (items_above k es) (below_is k es) (Above-AtLeast k (items_above k es) (above_is k es)) (ascending_below k es h) (ascending_above k es h)
@@ -243,7 +250,8 @@ leaf_hit k o es at d h l f e =
     let tail : Ascending (get_or es at d ∷ drop (at + 1) es) = let P : List Pair → Type 0 = λ x. Ascending x in subst P (drop_more es at d l) (ascending_drop es at h) in
     let ax : Above k (drop (at + 1) es) = let P : ℕ → Type 0 = λ x. Above x (drop (at + 1) es) in subst P e tail.0 in
     let c = split_at es at d l in (
-      ap (λ (x : List Pair). alter k o x) c ∙ (alter_middle k o (take at es) (get_or es at d ∷ []) (drop (at + 1) es) bx ax ∙ ap (λ (x : List Pair). take at es ++ (x ++ drop (at + 1) es)) (alter_one k (get_or es at d).0 (get_or es at d).1 o e)),
+      ap (λ (x : List Pair). alter k o x) c ∙ (alter_middle k o (take at es) (get_or es at d ∷ []) (drop (at + 1) es) bx ax
+          ∙ ap (λ (x : List Pair). take at es ++ (x ++ drop (at + 1) es)) (alter_one k (get_or es at d).0 (get_or es at d).1 o e)),
       ap (λ (x : List Pair). find_item k x) c ∙ (find_middle k (take at es) (get_or es at d ∷ []) (drop (at + 1) es) bx ax ∙ rw (eq_is (get_or es at d).0 k e)),
     )
 

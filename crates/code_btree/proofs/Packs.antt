@@ -50,7 +50,8 @@ row_beside m h j cs f l =
     }
 
 -- neighbours were balanced and their page was written
-pub packed : (m0 m v : Store) (h n j count size : ℕ) (p : List ℕ) → m0 ≡ m → m n ≡ Some p → Subtree m (suc h) n → IsInnerOf p count → Mends m0 v h n j (keys_of (node_of p)) (children_of (node_of p)) size → Packs m v (suc h) n
+pub packed : (m0 m v : Store) (h n j count size : ℕ) (p : List ℕ) → m0 ≡ m → m n ≡ Some p → Subtree m (suc h) n → IsInnerOf p count
+    → Mends m0 v h n j (keys_of (node_of p)) (children_of (node_of p)) size → Packs m v (suc h) n
 packed m0 m v h n j count size p e0 e s is me0 =
     let ks : List ℕ = keys_of (node_of p) in
     let cs : List ℕ = children_of (node_of p) in
@@ -85,7 +86,8 @@ put_under m w h n k val was s i =
 
 -- the child was split, and its page took the new one in: where it kept it, it has a key more
 pub split_under : (m0 m w v : Store) (level n k val count at up r child : ℕ) (p : List ℕ) (was : Option ℕ) (below grown : Grown) → m0 ≡ m → 1 ≤ level → m n ≡ Some p → Subtree m level n
-    → IsInnerOf p count → at ≤ count → (1 ≤ at → key_in p (at - 1) ≤ k) → (at < count → k < key_in p at) → child ≡ child_in p at → below ≡ Split up r → InsertsUnder m0 w (level - 1) child k val was below
+    → IsInnerOf p count → at ≤ count → (1 ≤ at → key_in p (at - 1) ≤ k) → (at < count → k < key_in p at) → child ≡ child_in p at → below ≡ Split up r
+    → InsertsUnder m0 w (level - 1) child k val was below
     → (live w n ≡ 1 → Adopts w v n (put_at at up (keys_of (node_of p))) (put_at (at + 1) r (children_of (node_of p))) grown)
     → InsertsUnder m v level n k val was grown × (grown ≡ Kept → size_of (node m n) + 1 ≤ size_of (node v n))
 split_under m0 m w v level n k val count at up r child p was below grown e0 some e s is place before behind ce be i0 ad =
@@ -103,7 +105,8 @@ split_under m0 m w v level n k val count at up r child p was below grown e0 some
     )
 
 -- a page that had gained a key was packed
-pub insert_packed : (m w v : Store) (h n k val : ℕ) (was : Option ℕ) → Subtree m h n → InsertsUnder m w h n k val was Kept → size_of (node m n) + 1 ≤ size_of (node w n) → Packs w v h n → InsertsUnder m v h n k val was Kept
+pub insert_packed : (m w v : Store) (h n k val : ℕ) (was : Option ℕ) → Subtree m h n → InsertsUnder m w h n k val was Kept → size_of (node m n) + 1 ≤ size_of (node w n)
+    → Packs w v h n → InsertsUnder m v h n k val was Kept
 insert_packed m w v h n k val was s i l p = record {
   alters = record {
     change = change_next m w v h (n ∷ []) (n ∷ []) (n ∷ []) s.owns i.alters.change p.change;

@@ -21,11 +21,13 @@ page_gives p n i h l =
     drop_more es i (0, 0) (omega (arith, h.counted)) ∙ ap (λ (x : Pair). x ∷ drop (i + 1) es) (entry ∙ ap (λ (w : ℕ). entry_of (piece w (32 + 32 * i) p)) (sym width))
 
 -- the pairs of a leaf from a key on begin at the key's rank
-pub rank_from : (p : List ℕ) (count at k : ℕ) → IsLeafOf p count → at ≤ count → (1 ≤ at → entry_key p (at - 1) < k) → (at < count → k ≤ entry_key p at) → Ascending (entries_of (node_of p)) → entries_on p at ≡ items_from k (entries_of (node_of p))
+pub rank_from : (p : List ℕ) (count at k : ℕ) → IsLeafOf p count → at ≤ count → (1 ≤ at → entry_key p (at - 1) < k) → (at < count → k ≤ entry_key p at)
+    → Ascending (entries_of (node_of p)) → entries_on p at ≡ items_from k (entries_of (node_of p))
 rank_from p count at k is l f g asc =
     let es : List Pair = entries_of (node_of p) in
     let below : Below k (take at es) = Below-rank k es at (0, 0) asc (omega (arith, is.counted)) (λ o. ranked p count at k is l f o) in
     let above : AtLeast k (drop at es) = AtLeast-rank k es at (0, 0) asc (λ i.
     let j : at < count = omega (arith, is.counted) in
     omega (arith, g j, ap (λ (x : Pair). x.0) (entry_is p count at (0, 0) is j))) in
-    sym (ap (λ (x : List Pair). items_from k x) (sym (take-append-drop at es)) ∙ (items_from-append k (take at es) (drop at es) ∙ ap₂ (λ (x y : List Pair). x ++ y) (from-Below k (take at es) below) (from-AtLeast k (drop at es) above)))
+    sym (ap (λ (x : List Pair). items_from k x) (sym (take-append-drop at es))
+    ∙ (items_from-append k (take at es) (drop at es) ∙ ap₂ (λ (x y : List Pair). x ++ y) (from-Below k (take at es) below) (from-AtLeast k (drop at es) above)))

@@ -1,5 +1,6 @@
 -- What the pieces and the cells of a page are after a paste.
-use Rattle.std.proofs.Common.{◌≡◌, ℕ, suc, ◌+◌, ◌-◌, ◌<◌, ◌≤◌, ◌⊎◌, List, ◌++◌, length, get_or, take, drop, refl, sym, ◌∙◌, ap, inl, inr, arith, length-append, length-drop, length-take, get_or-drop, get_or-take}
+use Rattle.std.proofs.Common.{◌≡◌, ℕ, suc, ◌+◌, ◌-◌, ◌<◌, ◌≤◌, ◌⊎◌, List, ◌++◌, length, get_or, take, drop, refl, sym, ◌∙◌, ap, inl, inr, arith, length-append}
+use Rattle.std.proofs.Common.{length-drop, length-take, get_or-drop, get_or-take}
 use Rattle.std.proofs.lemmas.List.{same_lists, get_or_append_left, get_or-append_right}
 use Rattle.std.proofs.lemmas.Bool.Decides.{leb_tells}
 use Rattle.code_btree.specs.Bytes.{piece, pasted}
@@ -49,7 +50,8 @@ piece_within w i p at b h s =
     (λ k d l.
     let short : k < w = omega (arith, length-take w (drop (at + i) (pasted p at b))) in
     let back : get_or (piece w i b) k d ≡ get_or b (i + k) d = get_or-take w (drop i b) k d short ∙ get_or-drop i b k d in
-    let forth : get_or (piece w (at + i) (pasted p at b)) k d ≡ get_or (pasted p at b) ((at + i) + k) d = get_or-take w (drop (at + i) (pasted p at b)) k d short ∙ get_or-drop (at + i) (pasted p at b) k d in
+    let forth : get_or (piece w (at + i) (pasted p at b)) k d ≡ get_or (pasted p at b) ((at + i) + k) d =
+    get_or-take w (drop (at + i) (pasted p at b)) k d short ∙ get_or-drop (at + i) (pasted p at b) k d in
     let same : (at + i) + k ≡ at + (i + k) = omega arith in
     forth ∙ (ap (λ j. get_or (pasted p at b) j d) same ∙ (pasted-within p at b (i + k) d (omega arith) (omega arith) ∙ sym back)))
 
@@ -79,17 +81,20 @@ pasted_twice p at a b h =
         | inl y ↦
             let e : at + (k - at) ≡ k = omega arith in
             let goal_a : get_or (pasted p at a) k d ≡ get_or a (k - at) d = ap (λ (j : ℕ). get_or (pasted p at a) j d) (sym e) ∙ pasted-within p at a (k - at) d (omega arith) (omega arith) in
-            let goal_b : get_or (pasted p at (a ++ b)) k d ≡ get_or (a ++ b) (k - at) d = ap (λ (j : ℕ). get_or (pasted p at (a ++ b)) j d) (sym e) ∙ pasted-within p at (a ++ b) (k - at) d (omega arith) (omega arith) in
+            let goal_b : get_or (pasted p at (a ++ b)) k d ≡ get_or (a ++ b) (k - at) d = ap (λ (j : ℕ). get_or (pasted p at (a ++ b)) j d) (sym e)
+            ∙ pasted-within p at (a ++ b) (k - at) d (omega arith) (omega arith) in
             pasted-before (pasted p at a) (at + length a) b k d (omega arith) y.1 ∙ (goal_a ∙ sym (goal_b ∙ get_or_append_left a b d (k - at) (omega arith)))
         | inr y ↦ elim (leb_tells (suc k) (at + (length a + length b))) [
           | inl z ↦
               let e : (at + length a) + (k - (at + length a)) ≡ k = omega arith in
               let f : at + (k - at) ≡ k = omega arith in
               let g : (k - at) - length a ≡ k - (at + length a) = omega arith in
-              let goal_b : get_or (pasted p at (a ++ b)) k d ≡ get_or (a ++ b) (k - at) d = ap (λ (j : ℕ). get_or (pasted p at (a ++ b)) j d) (sym f) ∙ pasted-within p at (a ++ b) (k - at) d (omega arith) (omega arith) in
+              let goal_b : get_or (pasted p at (a ++ b)) k d ≡ get_or (a ++ b) (k - at) d = ap (λ (j : ℕ). get_or (pasted p at (a ++ b)) j d) (sym f)
+              ∙ pasted-within p at (a ++ b) (k - at) d (omega arith) (omega arith) in
               ap (λ (j : ℕ). get_or (pasted (pasted p at a) (at + length a) b) j d) (sym e) ∙ (pasted-within (pasted p at a) (at + length a) b (k - (at + length a)) d (omega arith) (omega arith)
               ∙ sym (goal_b ∙ (get_or-append_right a b (length a) (k - at) d refl (omega arith) ∙ ap (λ (j : ℕ). get_or b j d) g)))
-          | inr z ↦ pasted-behind (pasted p at a) (at + length a) b k d (omega arith) (omega arith) ∙ (pasted-behind p at a k d (omega arith) (omega arith) ∙ sym (pasted-behind p at (a ++ b) k d (omega arith) (omega arith)))
+          | inr z ↦ pasted-behind (pasted p at a) (at + length a) b k d (omega arith) (omega arith)
+              ∙ (pasted-behind p at a k d (omega arith) (omega arith) ∙ sym (pasted-behind p at (a ++ b) k d (omega arith) (omega arith)))
         ]
       ]
     ])

@@ -1,5 +1,6 @@
 -- A key taken from under an inner page, in the code's words.
-use Rattle.std.proofs.Common.{◌≡◌, ◌≢◌, ℕ, zero, suc, ◌+◌, ◌-◌, ◌<◌, ◌≤◌, Bool, false, List, [], ◌∷◌, ◌++◌, length, get_or, take, drop, map, refl, sym, ◌∙◌, ap, ap₂, subst, arith, append_assoc, length-append, length-take, length-drop, take-append-drop}
+use Rattle.std.proofs.Common.{◌≡◌, ◌≢◌, ℕ, zero, suc, ◌+◌, ◌-◌, ◌<◌, ◌≤◌, Bool, false, List, [], ◌∷◌, ◌++◌, length, get_or, take, drop, map, refl, sym, ◌∙◌, ap, ap₂}
+use Rattle.std.proofs.Common.{subst, arith, append_assoc, length-append, length-take, length-drop, take-append-drop}
 use Rattle.std.specs.Prelude.{Option, None, Some}
 use Rattle.std.proofs.lemmas.List.{map-append, length-map}
 use Rattle.code_btree.specs.declared.remove.Shrunk.{Shrunk}
@@ -42,9 +43,11 @@ noted_seps (Some k) [] gs a b e = refl
 noted_seps (Some k) (f ∷ fs) gs a b e =
     let ks : List ℕ = fs ++ (a ∷ gs) in
     let i : suc (length fs) - 1 ≡ length fs = omega arith in
-    ap (λ (j : ℕ). take j ks ++ ((k ∷ []) ++ drop (suc (length fs)) ks)) (sym i) ∙ (ap (λ (x : ℕ). take (suc (length fs) - 1) ks ++ ((x ∷ []) ++ drop (suc (length fs)) ks)) (sym e) ∙ seps_set (f ∷ fs) gs a b (omega arith))
+    ap (λ (j : ℕ). take j ks ++ ((k ∷ []) ++ drop (suc (length fs)) ks)) (sym i)
+    ∙ (ap (λ (x : ℕ). take (suc (length fs) - 1) ks ++ ((x ∷ []) ++ drop (suc (length fs)) ks)) (sym e) ∙ seps_set (f ∷ fs) gs a b (omega arith))
 
-pub noted : (m w : Store) (h k : ℕ) (xs : List ℕ) (c : ℕ) (ys : List ℕ) (s : Shrunk) (ks : List ℕ) → Descent m h k xs c ys → RemovesUnder m w h c k s → ks ≡ drop 1 (map (λ x. least m h x) (xs ++ (c ∷ ys)))
+pub noted : (m w : Store) (h k : ℕ) (xs : List ℕ) (c : ℕ) (ys : List ℕ) (s : Shrunk) (ks : List ℕ) → Descent m h k xs c ys → RemovesUnder m w h c k s
+    → ks ≡ drop 1 (map (λ x. least m h x) (xs ++ (c ∷ ys)))
     → noted_keys (length xs) s.least ks ≡ drop 1 (map (λ x. least w h x) (xs ++ (c ∷ ys)))
 noted m w h k xs c ys s ks d r e =
     let fs : List ℕ = map (λ x. least m h x) xs in
@@ -53,7 +56,8 @@ noted m w h k xs c ys s ks d r e =
     let mapped_m : map (λ x. least m h x) (xs ++ (c ∷ ys)) ≡ fs ++ (least m h c ∷ gs) = map-append (λ x. least m h x) xs (c ∷ ys) in
     let mapped_w : map (λ x. least w h x) (xs ++ (c ∷ ys)) ≡ fs ++ (least w h c ∷ gs) =
     map-append (λ x. least w h x) xs (c ∷ ys)
-    ∙ ap₂ (λ (x y : List ℕ). x ++ (least w h c ∷ y)) (row_least m w h xs (row_left m w h k xs c ys (c ∷ []) [] s.was d r.alters)) (row_least m w h ys (row_right m w h k xs c ys (c ∷ []) [] s.was d r.alters)) in
+    ∙ ap₂ (λ (x y : List ℕ). x ++ (least w h c ∷ y)) (row_least m w h xs (row_left m w h k xs c ys (c ∷ []) [] s.was d r.alters))
+    (row_least m w h ys (row_right m w h k xs c ys (c ∷ []) [] s.was d r.alters)) in
     ap₂ (λ (i : ℕ) (x : List ℕ). noted_keys i s.least x) (sym lf) (e ∙ ap (λ (x : List ℕ). drop 1 x) mapped_m)
     ∙ (noted_seps s.least fs gs (least m h c) (least w h c) (r.least_key d.filled.1) ∙ ap (λ (x : List ℕ). drop 1 x) (sym mapped_w))
 
@@ -63,16 +67,21 @@ least_up : (m w v : Store) (h n k : ℕ) (xs : List ℕ) (c : ℕ) (ys : List �
 least_up m w v h n k xs c ys s o e d r i first behind =
     let all : items m (suc h) n ≡ all_items m h xs ++ (all_items m h (c ∷ []) ++ all_items m h ys) = ap (λ (cs : List ℕ). all_items m h cs) e ∙ items-three m h xs (c ∷ []) ys in
     let new : items v (suc h) n ≡ all_items m h xs ++ (all_items w h (c ∷ []) ++ all_items m h ys) =
-    i ∙ (ap (λ (es : List Pair). alter k [] es) all ∙ (alter_middle k [] (all_items m h xs) (all_items m h (c ∷ [])) (all_items m h ys) d.below d.above ∙ ap (λ (es : List Pair). all_items m h xs ++ (es ++ all_items m h ys)) (sym r.alters.items))) in
+    i ∙ (ap (λ (es : List Pair). alter k [] es) all
+    ∙ (alter_middle k [] (all_items m h xs) (all_items m h (c ∷ [])) (all_items m h ys) d.below d.above
+    ∙ ap (λ (es : List Pair). all_items m h xs ++ (es ++ all_items m h ys)) (sym r.alters.items))) in
     go xs d.left all new first behind
   where
-    go : (zs : List ℕ) → Each (λ x. Filled m h x) zs → items m (suc h) n ≡ all_items m h zs ++ (all_items m h (c ∷ []) ++ all_items m h ys) → items v (suc h) n ≡ all_items m h zs ++ (all_items w h (c ∷ []) ++ all_items m h ys)
+    go : (zs : List ℕ) → Each (λ x. Filled m h x) zs → items m (suc h) n ≡ all_items m h zs ++ (all_items m h (c ∷ []) ++ all_items m h ys)
+        → items v (suc h) n ≡ all_items m h zs ++ (all_items w h (c ∷ []) ++ all_items m h ys)
         → (length zs ≡ 0 → o ≡ s.least) → (1 ≤ length zs → o ≡ None) → least v (suc h) n ≡ or_least o (least m (suc h) n)
     go [] f all new first behind =
         let old_first : least m (suc h) n ≡ least m h c =
-        ap (λ (es : List Pair). first_key es) all ∙ (ap (λ (es : List Pair). first_key (es ++ all_items m h ys)) (one_items m h c) ∙ first_key-append (items m h c) (all_items m h ys) (filled_some m h c d.filled)) in
+        ap (λ (es : List Pair). first_key es) all
+        ∙ (ap (λ (es : List Pair). first_key (es ++ all_items m h ys)) (one_items m h c) ∙ first_key-append (items m h c) (all_items m h ys) (filled_some m h c d.filled)) in
         let new_first : least v (suc h) n ≡ least w h c =
-        ap (λ (es : List Pair). first_key es) new ∙ (ap (λ (es : List Pair). first_key (es ++ all_items m h ys)) (one_items w h c) ∙ first_key-append (items w h c) (all_items m h ys) (child_some m w h c k s d.filled r)) in
+        ap (λ (es : List Pair). first_key es) new
+        ∙ (ap (λ (es : List Pair). first_key (es ++ all_items m h ys)) (one_items w h c) ∙ first_key-append (items w h c) (all_items m h ys) (child_some m w h c k s d.filled r)) in
         new_first ∙ (r.least_key d.filled.1 ∙ ap₂ (λ (x : Option ℕ) (y : ℕ). or_least x y) (sym (first refl)) (sym old_first))
     go (z ∷ zs) f all new first behind =
         let some : 1 ≤ length (all_items m h (z ∷ zs)) = kids_items m h (z ∷ zs) (omega arith) f in
@@ -94,7 +103,8 @@ pub record Beside (w : Store) (h j : ℕ) (cs : List ℕ) : Type 0 where
   pub size : few h ≤ size_of (node w a) + 1
   pub right_size : few h ≤ size_of (node w b) + 1
 
-beside : (w : Store) (h j : ℕ) (xs : List ℕ) (c : ℕ) (ys : List ℕ) → Each (λ x. few h ≤ size_of (node w x)) xs → Each (λ x. few h ≤ size_of (node w x)) ys → few h ≤ size_of (node w c) + 1 → j ≡ length xs - 1 → j + 1 < length (xs ++ (c ∷ ys)) → Beside w h j (xs ++ (c ∷ ys))
+beside : (w : Store) (h j : ℕ) (xs : List ℕ) (c : ℕ) (ys : List ℕ) → Each (λ x. few h ≤ size_of (node w x)) xs → Each (λ x. few h ≤ size_of (node w x)) ys
+    → few h ≤ size_of (node w c) + 1 → j ≡ length xs - 1 → j + 1 < length (xs ++ (c ∷ ys)) → Beside w h j (xs ++ (c ∷ ys))
 beside w h j [] c [] l r z e i = absurd (omega arith)
 beside w h j [] c (y ∷ ys) l r z e i = record { us = []; a = c; b = y; vs = ys; whole = refl; place = omega arith; left = tt; right = r.1; size = z; right_size = omega (arith, r.0) }
 beside w h j (x ∷ xs) c ys l r z e i =
@@ -143,7 +153,8 @@ pub record Mended (w mid : Store) (h j : ℕ) (cs ks : List ℕ) (up : Option �
 owns_part : (w : Store) (h : ℕ) (us zs vs : List ℕ) → Owns w h (us ++ (zs ++ vs)) → Owns w h zs
 owns_part w h us zs vs o = λ q. omega (arith, o q, pages-three w h q us zs vs)
 
-neighbours : (w : Store) (h a b : ℕ) (us vs : List ℕ) → Each (λ x. Sound w h x) (us ++ (a ∷ (b ∷ vs))) → Owns w h (us ++ ((a ∷ (b ∷ [])) ++ vs)) → few h ≤ size_of (node w a) + 1 → few h ≤ size_of (node w b) + 1 → Neighbours w h a b
+neighbours : (w : Store) (h a b : ℕ) (us vs : List ℕ) → Each (λ x. Sound w h x) (us ++ (a ∷ (b ∷ vs))) → Owns w h (us ++ ((a ∷ (b ∷ [])) ++ vs))
+    → few h ≤ size_of (node w a) + 1 → few h ≤ size_of (node w b) + 1 → Neighbours w h a b
 neighbours w h a b us vs s o za zb =
     let r = Each-right (λ x. Sound w h x) us (a ∷ (b ∷ vs)) s in
     record { sound = r.0; right_sound = r.1.0; owns = owns_part w h us (a ∷ (b ∷ [])) vs o; size = za; right_size = zb }
@@ -156,7 +167,8 @@ first_stays w mid h a b up nb bl =
     sym (first_key-append (items mid h a) (all_items mid h (left_over b up)) sm) ∙ (ap (λ (es : List Pair). first_key es) bl.items ∙ first_key-append (items w h a) (all_items w h (b ∷ [])) sw)
 
 -- the keys of the row: the one between is gone, or it is another one
-mended_seps : (w mid : Store) (h j a b : ℕ) (us vs ks : List ℕ) (up : Option ℕ) → length us ≡ j → ks ≡ drop 1 (map (λ x. least w h x) (us ++ (a ∷ (b ∷ vs)))) → Each (λ x. Stays w mid h x) us → Each (λ x. Stays w mid h x) vs → least mid h a ≡ least w h a
+mended_seps : (w mid : Store) (h j a b : ℕ) (us vs ks : List ℕ) (up : Option ℕ) → length us ≡ j → ks ≡ drop 1 (map (λ x. least w h x) (us ++ (a ∷ (b ∷ vs))))
+    → Each (λ x. Stays w mid h x) us → Each (λ x. Stays w mid h x) vs → least mid h a ≡ least w h a
     → Balances w mid h a b up → mended_keys j up ks ≡ drop 1 (map (λ x. least mid h x) (us ++ ((a ∷ left_over b up) ++ vs)))
 mended_seps w mid h j a b us vs ks None e k l r first bl =
     let fs : List ℕ = map (λ x. least w h x) us in
@@ -173,7 +185,8 @@ mended_seps w mid h j a b us vs ks (Some up) e k l r first bl =
     let fa : List ℕ = fs ++ (least w h a ∷ []) in
     let lf : length fs ≡ j = length-map us (λ x. least w h x) ∙ e in
     let la : length fa ≡ j + 1 = omega (arith, lf, length-append fs (least w h a ∷ [])) in
-    let kk : ks ≡ drop 1 (fa ++ (least w h b ∷ gs)) = k ∙ (ap (λ (x : List ℕ). drop 1 x) (map-append (λ x. least w h x) us (a ∷ (b ∷ vs)) ∙ sym (append_assoc fs (least w h a ∷ []) (least w h b ∷ gs)))) in
+    let kk : ks ≡ drop 1 (fa ++ (least w h b ∷ gs)) =
+    k ∙ (ap (λ (x : List ℕ). drop 1 x) (map-append (λ x. least w h x) us (a ∷ (b ∷ vs)) ∙ sym (append_assoc fs (least w h a ∷ []) (least w h b ∷ gs)))) in
     let ij : length fa - 1 ≡ j = omega (arith, la) in
     let new : map (λ x. least mid h x) (us ++ (a ∷ (b ∷ vs))) ≡ fa ++ (up ∷ gs) =
     map-append (λ x. least mid h x) us (a ∷ (b ∷ vs))
@@ -219,7 +232,8 @@ mended w mid h j cs ks up o sound e be f =
     let fs : List ℕ = map (λ x. least w h x) us in
     let gk : get_or ks j 0 ≡ least w h b =
     ap (λ (x : List ℕ). get_or x j 0) (kr ∙ ap (λ (x : List ℕ). drop 1 x) (map-append (λ x. least w h x) us (a ∷ (b ∷ vs))))
-    ∙ (ap (λ (i : ℕ). get_or (drop 1 (fs ++ (least w h a ∷ (least w h b ∷ map (λ x. least w h x) vs)))) i 0) (sym (length-map us (λ x. least w h x) ∙ be.place)) ∙ sep_behind fs (map (λ x. least w h x) vs) (least w h a) (least w h b)) in
+    ∙ (ap (λ (i : ℕ). get_or (drop 1 (fs ++ (least w h a ∷ (least w h b ∷ map (λ x. least w h x) vs)))) i 0) (sym (length-map us (λ x. least w h x) ∙ be.place))
+    ∙ sep_behind fs (map (λ x. least w h x) vs) (least w h a) (least w h b)) in
     let G : ℕ → ℕ → Type 0 = λ x y. get_or ks j 0 ≡ least w h y → Neighbours w h x y → Balances w mid h x y up in
     let A : ℕ → Type 0 = λ x. G x (get_or cs (j + 1) 0) in
     let B : ℕ → Type 0 = λ y. G a y in
@@ -291,7 +305,8 @@ taken m0 m w h n k count at p s e0 t r0 =
     }
 
 -- what is said of the page above, once its tree is known
-removed : (m w v : Store) (h n k at size : ℕ) (p : List ℕ) (s : Shrunk) (o : Option ℕ) (short : Bool) (t : Taken m w h n k p at s) → Alters m v (suc h) (n ∷ []) (n ∷ []) k [] s.was → size_of (node v n) ≡ size → size_of (node m n) ≤ size + 1
+removed : (m w v : Store) (h n k at size : ℕ) (p : List ℕ) (s : Shrunk) (o : Option ℕ) (short : Bool) (t : Taken m w h n k p at s)
+    → Alters m v (suc h) (n ∷ []) (n ∷ []) k [] s.was → size_of (node v n) ≡ size → size_of (node m n) ≤ size + 1
     → (short ≡ false → 84 ≤ size) → (at ≡ 0 → o ≡ s.least) → (1 ≤ at → o ≡ None) → RemovesUnder m v (suc h) n k (record { was = s.was; least = o; short = short })
 removed m w v h n k at size p s o short t al z l f first behind = record {
   alters = al;
@@ -308,7 +323,8 @@ pub top_size : (m : Store) (n count : ℕ) (p : List ℕ) → m n ≡ Some p →
 top_size m n count p e is = omega (arith, ap (λ (x : Node). size_of x) (here m n p e ∙ is.is_inner), is.counted)
 
 -- neither the page nor its children's fills are touched
-pub removed_quiet : (m w : Store) (h n k count at : ℕ) (p : List ℕ) (s : Shrunk) (o : Option ℕ) (short : Bool) → At m h n k p count at → Taken m w h n k p at s → noted_keys at s.least (keys_of (node_of p)) ≡ keys_of (node_of p) → s.short ≡ false
+pub removed_quiet : (m w : Store) (h n k count at : ℕ) (p : List ℕ) (s : Shrunk) (o : Option ℕ) (short : Bool) → At m h n k p count at → Taken m w h n k p at s
+    → noted_keys at s.least (keys_of (node_of p)) ≡ keys_of (node_of p) → s.short ≡ false
     → (short ≡ false → 84 ≤ count) → (at ≡ 0 → o ≡ s.least) → (1 ≤ at → o ≡ None) → RemovesUnder m w (suc h) n k (record { was = s.was; least = o; short = short })
 removed_quiet m w h n k count at p s o short a t e b f first behind =
     let cs : List ℕ = t.xs ++ (t.c ∷ t.ys) in
@@ -317,10 +333,12 @@ removed_quiet m w h n k count at p s o short a t e b f first behind =
     let seps : drop 1 (map (λ x. least m h x) cs) ≡ drop 1 (map (λ x. least w h x) cs) =
     sym (ap (λ (x : Node). keys_of x) (sym hh) ∙ (t.tree.sound.0.separators ∙ ap (λ (x : List ℕ). drop 1 (map (λ y. least m h y) x)) t.kids)) ∙ (sym e ∙ t.seps) in
     let sm = top_size m n count p a.read a.is in
-    removed m w w h n k at count p s o short t (up_quiet m w h n k cs [] s.was t.tree t.kids t.row seps (full_row m w h n k at p s t b)) (ap (λ (x : Option (List ℕ)). size_of (node_in x)) st ∙ sm) (omega (arith, sm)) f first behind
+    removed m w w h n k at count p s o short t (up_quiet m w h n k cs [] s.was t.tree t.kids t.row seps (full_row m w h n k at p s t b))
+    (ap (λ (x : Option (List ℕ)). size_of (node_in x)) st ∙ sm) (omega (arith, sm)) f first behind
 
 -- the key in front of the child is written
-pub removed_noted : (m w v : Store) (h n k count at : ℕ) (p q : List ℕ) (s : Shrunk) (o : Option ℕ) (short : Bool) → At m h n k p count at → Taken m w h n k p at s → node_of q ≡ inner (noted_keys at s.least (keys_of (node_of p))) (children_of (node_of p)) → IsInnerOf q count → Wrote w v n q → s.short ≡ false
+pub removed_noted : (m w v : Store) (h n k count at : ℕ) (p q : List ℕ) (s : Shrunk) (o : Option ℕ) (short : Bool) → At m h n k p count at → Taken m w h n k p at s
+    → node_of q ≡ inner (noted_keys at s.least (keys_of (node_of p))) (children_of (node_of p)) → IsInnerOf q count → Wrote w v n q → s.short ≡ false
     → (short ≡ false → 84 ≤ count) → (at ≡ 0 → o ≡ s.least) → (1 ≤ at → o ≡ None) → RemovesUnder m v (suc h) n k (record { was = s.was; least = o; short = short })
 removed_noted m w v h n k count at p q s o short a t e is wr b f first behind =
     let cs : List ℕ = t.xs ++ (t.c ∷ t.ys) in
@@ -329,7 +347,8 @@ removed_noted m w v h n k count at p q s o short a t e is wr b f first behind =
     let sm = top_size m n count p a.read a.is in
     let lk : length ks ≡ count = sym (ap (λ (x : Node). length (keys_of x)) e) ∙ is.counted in
     let fits : length cs ≤ 170 = omega (arith, t.tree.sound.0.fits, ap (λ (x : List ℕ). length x) t.kids) in
-    removed m w v h n k at count p s o short t (up_written m w v h n k cs cs ks [] s.was t.tree t.kids t.row wo t.seps (omega (arith, length-append t.xs (t.c ∷ t.ys))) fits (full_row m w h n k at p s t b))
+    removed m w v h n k at count p s o short t
+    (up_written m w v h n k cs cs ks [] s.was t.tree t.kids t.row wo t.seps (omega (arith, length-append t.xs (t.c ∷ t.ys))) fits (full_row m w h n k at p s t b))
     (ap (λ (x : Node). size_of x) wo.node ∙ lk) (omega (arith, sm)) f first behind
 
 pub mended_length : (j : ℕ) (up : Option ℕ) (ks : List ℕ) → j < length ks → length ks ≤ length (mended_keys j up ks) + 1
@@ -337,7 +356,8 @@ mended_length j None ks l = omega (arith, length-append (take j ks) (drop (j + 1
 mended_length j (Some k) ks l = omega (arith, length-append (take j ks) (k ∷ drop (j + 1) ks), length-take j ks, length-drop (j + 1) ks)
 
 -- the child is short: it and a neighbour are balanced
-pub removed_mended : (m w v : Store) (h n k count at j size : ℕ) (p q : List ℕ) (s : Shrunk) (o : Option ℕ) (short : Bool) → At m h n k p count at → Taken m w h n k p at s → node_of q ≡ inner (noted_keys at s.least (keys_of (node_of p))) (children_of (node_of p)) → IsInnerOf q count
+pub removed_mended : (m w v : Store) (h n k count at j size : ℕ) (p q : List ℕ) (s : Shrunk) (o : Option ℕ) (short : Bool) → At m h n k p count at
+    → Taken m w h n k p at s → node_of q ≡ inner (noted_keys at s.least (keys_of (node_of p))) (children_of (node_of p)) → IsInnerOf q count
     → j ≡ at - 1 → Mends w v h n j (keys_of (node_of q)) (children_of (node_of q)) size
     → (short ≡ false → 84 ≤ size) → (at ≡ 0 → o ≡ s.least) → (1 ≤ at → o ≡ None) → RemovesUnder m v (suc h) n k (record { was = s.was; least = o; short = short })
 removed_mended m w v h n k count at j size p q s o short a t e is ej me f first behind =
@@ -368,12 +388,14 @@ first_taken zero es zs l i = absurd (omega arith)
 first_taken (suc at) [] zs l i = absurd (omega arith)
 first_taken (suc at) (e ∷ es) zs l i = refl
 
-leaf_least : (at : ℕ) (es zs : List Pair) (o : Option ℕ) (before : ℕ) → before ≡ first_key es → 1 ≤ length es → (at ≡ 0 → o ≡ Some (first_key (take at es ++ zs))) → (1 ≤ at → o ≡ None) → first_key (take at es ++ zs) ≡ or_least o before
+leaf_least : (at : ℕ) (es zs : List Pair) (o : Option ℕ) (before : ℕ) → before ≡ first_key es → 1 ≤ length es → (at ≡ 0 → o ≡ Some (first_key (take at es ++ zs)))
+    → (1 ≤ at → o ≡ None) → first_key (take at es ++ zs) ≡ or_least o before
 leaf_least zero es zs o before b l f g = sym (ap (λ (x : Option ℕ). or_least x before) (f refl))
 leaf_least (suc at) es zs o before b l f g = first_taken (suc at) es zs (omega arith) l ∙ (sym b ∙ sym (ap (λ (x : Option ℕ). or_least x before) (g (omega arith))))
 
 -- the key isn't in the leaf
-pub leaf_lacks : (m1 m : Store) (n k count at : ℕ) (p : List ℕ) (short : Bool) → m1 ≡ m → m n ≡ Some p → Subtree m 0 n → IsLeafOf p count → at ≤ count → (1 ≤ at → entry_key p (at - 1) < k) → (at < count → k ≤ entry_key p at) → (at < count → entry_key p at ≢ k)
+pub leaf_lacks : (m1 m : Store) (n k count at : ℕ) (p : List ℕ) (short : Bool) → m1 ≡ m → m n ≡ Some p → Subtree m 0 n → IsLeafOf p count → at ≤ count
+    → (1 ≤ at → entry_key p (at - 1) < k) → (at < count → k ≤ entry_key p at) → (at < count → entry_key p at ≢ k)
     → (short ≡ false → 63 ≤ count) → RemovesUnder m m1 0 n k (record { was = None; least = None; short = short })
 leaf_lacks m1 m n k count at p short e1 e s is l f g miss sh =
     let es : List Pair = entries_of (node_of p) in
@@ -396,9 +418,12 @@ leaf_lacks m1 m n k count at p short e1 e s is l f g miss sh =
     subst R (sym e1) r
 
 -- the key stands in the leaf: its entry is taken
-pub leaf_taken : (m1 m w : Store) (n k count at old : ℕ) (p q : List ℕ) (o : Option ℕ) (short : Bool) → m1 ≡ m → m n ≡ Some p → Subtree m 0 n → IsLeafOf p count → at ≤ count → (1 ≤ at → entry_key p (at - 1) < k)
-    → (at < count) × (entry_key p at ≡ k) × (old ≡ entry_value p at) → node_of q ≡ leaf (take at (entries_of (node_of p)) ++ ([] ++ drop (at + 1) (entries_of (node_of p)))) (next_of (node_of p)) → IsLeafOf q (count - 1) → Wrote m1 w n q
-    → (IsLeafOf q (count - 1) → 1 ≤ count - 1 → at ≡ 0 → o ≡ Some (first_key (entries_of (node_of q)))) → (1 ≤ at → o ≡ None) → (short ≡ false → 63 ≤ count - 1) → RemovesUnder m w 0 n k (record { was = Some old; least = o; short = short })
+pub leaf_taken : (m1 m w : Store) (n k count at old : ℕ) (p q : List ℕ) (o : Option ℕ) (short : Bool) → m1 ≡ m → m n ≡ Some p → Subtree m 0 n → IsLeafOf p count
+    → at ≤ count → (1 ≤ at → entry_key p (at - 1) < k)
+    → (at < count) × (entry_key p at ≡ k) × (old ≡ entry_value p at)
+    → node_of q ≡ leaf (take at (entries_of (node_of p)) ++ ([] ++ drop (at + 1) (entries_of (node_of p)))) (next_of (node_of p)) → IsLeafOf q (count - 1) → Wrote m1 w n q
+    → (IsLeafOf q (count - 1) → 1 ≤ count - 1 → at ≡ 0 → o ≡ Some (first_key (entries_of (node_of q)))) → (1 ≤ at → o ≡ None) → (short ≡ false → 63 ≤ count - 1)
+    → RemovesUnder m w 0 n k (record { was = Some old; least = o; short = short })
 leaf_taken m1 m w n k count at old p q o short e1 e s is l f hit eq isq wr first behind sh =
     let es : List Pair = entries_of (node_of p) in
     let fs : List Pair = take at es ++ ([] ++ drop (at + 1) es) in
@@ -419,7 +444,8 @@ leaf_taken m1 m w n k count at old p q o short e1 e s is l f hit eq isq wr first
           (ap (λ (x : Node). find_item k (entries_of x)) hh ∙ (h.1 ∙ ap (λ (x : ℕ). Some x) (ap (λ (x : Pair). x.1) entry ∙ sym hit.2)));
       lost = omega (arith, sm, sw);
       filled = λ b. let i = sh b in omega (arith, sw, i);
-      least_key = λ z. new ∙ leaf_least at es (drop (at + 1) es) o (least m 0 n) old_first (omega (arith, hit.0)) (λ i. first isq (omega (arith, z, sm)) i ∙ ap (λ (x : Node). Some (first_key (entries_of x))) eq) behind;
+      least_key = λ z. new ∙ leaf_least at es (drop (at + 1) es) o (least m 0 n) old_first (omega (arith, hit.0))
+          (λ i. first isq (omega (arith, z, sm)) i ∙ ap (λ (x : Node). Some (first_key (entries_of x))) eq) behind;
     }
 
 mended_count : (j count : ℕ) (ks : List ℕ) → length ks ≡ count → j < count → (count - 1 ≡ length (mended_keys j None ks)) × ((k : ℕ) → count ≡ length (mended_keys j (Some k) ks))
@@ -428,13 +454,16 @@ mended_count j count ks e l = (
   λ k. omega (arith, length-append (take j ks) (k ∷ drop (j + 1) ks), length-take j ks, length-drop (j + 1) ks),
 )
 
-mend_size : (j count size : ℕ) (up : Option ℕ) (ks : List ℕ) → length ks ≡ count → j < count → (up ≡ None → size ≡ count - 1) → ((k : ℕ) → up ≡ Some k → size ≡ count) → size ≡ length (mended_keys j up ks)
+mend_size : (j count size : ℕ) (up : Option ℕ) (ks : List ℕ) → length ks ≡ count → j < count → (up ≡ None → size ≡ count - 1) → ((k : ℕ) → up ≡ Some k → size ≡ count)
+    → size ≡ length (mended_keys j up ks)
 mend_size j count size None ks e l f g = f refl ∙ (mended_count j count ks e l).0
 mend_size j count size (Some k) ks e l f g = g k refl ∙ (mended_count j count ks e l).1 k
 
 -- two children were balanced and their page written, in the code's words
-pub mend_done : (m mid w : Store) (h n j count size left right key : ℕ) (p q : List ℕ) (up : Option ℕ) → IsInnerOf p count → j < count → left ≡ child_in p j → right ≡ child_in p (j + 1) → key ≡ key_in p j
-    → (key ≡ least m h right → Neighbours m h left right → Balances m mid h left right up) → node_of q ≡ inner (mended_keys j up (keys_of (node_of p))) (mended_children j up (children_of (node_of p))) → Wrote mid w n q
+pub mend_done : (m mid w : Store) (h n j count size left right key : ℕ) (p q : List ℕ) (up : Option ℕ) → IsInnerOf p count → j < count → left ≡ child_in p j
+    → right ≡ child_in p (j + 1) → key ≡ key_in p j
+    → (key ≡ least m h right → Neighbours m h left right → Balances m mid h left right up)
+    → node_of q ≡ inner (mended_keys j up (keys_of (node_of p))) (mended_children j up (children_of (node_of p))) → Wrote mid w n q
     → (up ≡ None → size ≡ count - 1) → ((k : ℕ) → up ≡ Some k → size ≡ count) → Mends m w h n j (keys_of (node_of p)) (children_of (node_of p)) size
 mend_done m mid w h n j count size left right key p q up is l el er ek f e wr g i =
     let ks : List ℕ = keys_of (node_of p) in

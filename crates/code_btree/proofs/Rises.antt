@@ -61,11 +61,13 @@ descend m h n k xs c ys s e f g =
     let some : 1 ≤ length (items m h c) = filled_some m h c right.0 in
     let owns_row : Owns m h (xs ++ ((c ∷ []) ++ ys)) = λ q. omega (arith, s.owns q, pages_up m h q (n ∷ []), ap (λ (cs : List ℕ). times q (all_pages m h cs)) (one_kids m n ∙ e)) in
     let rest : List Pair = all_items m h (c ∷ ys) in
-    let asc : Ascending (all_items m h xs ++ rest) = (let Q : List Pair → Type 0 = λ es. Ascending es in subst Q (ap (λ (cs : List ℕ). all_items m h cs) e ∙ flat_map-append (λ d. items m h d) xs (c ∷ ys)) s.ascending) in
+    let asc : Ascending (all_items m h xs ++ rest) =
+    (let Q : List Pair → Type 0 = λ es. Ascending es in subst Q (ap (λ (cs : List ℕ). all_items m h cs) e ∙ flat_map-append (λ d. items m h d) xs (c ∷ ys)) s.ascending) in
     let asc_rest : Ascending (items m h c ++ all_items m h ys) = Ascending-right (all_items m h xs) rest asc in
     let fs : List ℕ = map (λ d. least m h d) xs in
     let gs : List ℕ = map (λ d. least m h d) ys in
-    let keys : keys_of (node m n) ≡ drop 1 (fs ++ (least m h c ∷ gs)) = s.sound.0.separators ∙ (ap (λ (cs : List ℕ). drop 1 (map (λ d. least m h d) cs)) e ∙ ap (λ (ks : List ℕ). drop 1 ks) (map-append (λ d. least m h d) xs (c ∷ ys))) in
+    let keys : keys_of (node m n) ≡ drop 1 (fs ++ (least m h c ∷ gs)) = s.sound.0.separators
+    ∙ (ap (λ (cs : List ℕ). drop 1 (map (λ d. least m h d) cs)) e ∙ ap (λ (ks : List ℕ). drop 1 ks) (map-append (λ d. least m h d) xs (c ∷ ys))) in
     let lx : length fs ≡ length xs = length-map xs (λ d. least m h d) in
     let first : 1 ≤ length xs → least m h c ≤ k = λ l.
     let at : get_or (keys_of (node m n)) (length xs - 1) 0 ≡ least m h c = ap₂ (λ (ks : List ℕ) (i : ℕ). get_or ks (i - 1) 0) keys (sym lx) ∙ sep_before fs gs (least m h c) (omega arith) in
@@ -84,7 +86,8 @@ descend m h n k xs c ys s e f g =
       below = below_by m h k xs rest asc (omega (arith, length-append (items m h c) (all_items m h ys))) (λ l. omega (arith, first l, first_rest));
       above = above_by m h k ys right.1 (Ascending-right (items m h c) (all_items m h ys) asc_rest) (λ y zs i.
           let at : get_or (keys_of (node m n)) (length xs) 0 ≡ least m h y =
-          ap₂ (λ (ks : List ℕ) (j : ℕ). get_or ks j 0) (keys ∙ ap (λ (r : List ℕ). drop 1 (fs ++ (least m h c ∷ map (λ d. least m h d) r))) i) (sym lx) ∙ sep_behind fs (map (λ d. least m h d) zs) (least m h c) (least m h y) in
+          ap₂ (λ (ks : List ℕ) (j : ℕ). get_or ks j 0) (keys ∙ ap (λ (r : List ℕ). drop 1 (fs ++ (least m h c ∷ map (λ d. least m h d) r))) i) (sym lx)
+          ∙ sep_behind fs (map (λ d. least m h d) zs) (least m h c) (least m h y) in
           omega (arith, g (omega (arith, ap (λ (r : List ℕ). length r) i)), at));
       first = first;
     }
@@ -104,13 +107,16 @@ rowed m w h k xs c ys news o was d a = record {
       ∙ (ap (λ (es : List Pair). all_items m h xs ++ (es ++ all_items m h ys)) a.items
       ∙ (sym (alter_middle k o (all_items m h xs) (all_items m h (c ∷ [])) (all_items m h ys) d.below d.above)
       ∙ ap (λ (es : List Pair). alter k o es) (sym (items-three m h xs (c ∷ []) ys))));
-  found = a.found ∙ (sym (find_middle k (all_items m h xs) (all_items m h (c ∷ [])) (all_items m h ys) d.below d.above) ∙ ap (λ (es : List Pair). find_item k es) (sym (items-three m h xs (c ∷ []) ys)));
+  found = a.found ∙ (sym (find_middle k (all_items m h xs) (all_items m h (c ∷ [])) (all_items m h ys) d.below d.above)
+      ∙ ap (λ (es : List Pair). find_item k es) (sym (items-three m h xs (c ∷ []) ys)));
 }
 
-pub row_left : (m w : Store) (h k : ℕ) (xs : List ℕ) (c : ℕ) (ys news : List ℕ) (o : List Pair) (was : Option ℕ) → Descent m h k xs c ys → Alters m w h (c ∷ []) news k o was → Each (λ d. Stays m w h d) xs
+pub row_left : (m w : Store) (h k : ℕ) (xs : List ℕ) (c : ℕ) (ys news : List ℕ) (o : List Pair) (was : Option ℕ) → Descent m h k xs c ys
+    → Alters m w h (c ∷ []) news k o was → Each (λ d. Stays m w h d) xs
 row_left m w h k xs c ys news o was d a = left_stays m w h xs (c ∷ []) ys news a.change d.owns_row
 
-pub row_right : (m w : Store) (h k : ℕ) (xs : List ℕ) (c : ℕ) (ys news : List ℕ) (o : List Pair) (was : Option ℕ) → Descent m h k xs c ys → Alters m w h (c ∷ []) news k o was → Each (λ d. Stays m w h d) ys
+pub row_right : (m w : Store) (h k : ℕ) (xs : List ℕ) (c : ℕ) (ys news : List ℕ) (o : List Pair) (was : Option ℕ) → Descent m h k xs c ys
+    → Alters m w h (c ∷ []) news k o was → Each (λ d. Stays m w h d) ys
 row_right m w h k xs c ys news o was d a = right_stays m w h xs (c ∷ []) ys news a.change d.owns_row
 
 -- the page above a row stays while the row changes
@@ -184,13 +190,15 @@ up_quiet m w h n k cs o was s e a seps full =
     let kids : children_of (node w n) ≡ cs = ap (λ (x : Node). children_of x) no ∙ e in
     up m w w h n k cs cs (n ∷ []) o was s e (one_kids w n ∙ kids) a (λ q x y. refl) (λ q. omega arith) (
       top_made (λ c. least w h c) (node w n) (keys_of (node m n)) cs (no ∙ (t.is_inner ∙ ap (λ (x : List ℕ). inner (keys_of (node m n)) x) e))
-          (t.separators ∙ (ap (λ (x : List ℕ). drop 1 (map (λ c. least m h c) x)) e ∙ seps)) (omega (arith, t.some, ap (λ (x : List ℕ). length x) e)) (omega (arith, t.fits, ap (λ (x : List ℕ). length x) e)),
+          (t.separators ∙ (ap (λ (x : List ℕ). drop 1 (map (λ c. least m h c) x)) e ∙ seps)) (omega (arith, t.some, ap (λ (x : List ℕ). length x) e))
+          (omega (arith, t.fits, ap (λ (x : List ℕ). length x) e)),
       tt,
     )
     full
 
 -- the top is written
-pub raise_written : (m w v : Store) (h n : ℕ) (cs new ks : List ℕ) → Subtree m (suc h) n → children_of (node m n) ≡ cs → Change m w h cs new → Writes w v n (inner ks new) → ks ≡ drop 1 (map (λ c. least w h c) new)
+pub raise_written : (m w v : Store) (h n : ℕ) (cs new ks : List ℕ) → Subtree m (suc h) n → children_of (node m n) ≡ cs → Change m w h cs new
+    → Writes w v n (inner ks new) → ks ≡ drop 1 (map (λ c. least w h c) new)
     → 1 ≤ length new → length new ≤ 170 → Each (λ c. few h ≤ size_of (node w c)) new → Change m v (suc h) (n ∷ []) (n ∷ []) × (all_items v (suc h) (n ∷ []) ≡ all_items w h new)
 raise_written m w v h n cs new ks s e a wr seps l u full =
     let kids : children_of (node v n) ≡ new = ap (λ (x : Node). children_of x) wr.node in
@@ -203,7 +211,8 @@ raise_written m w v h n cs new ks s e a wr seps l u full =
     full
 
 pub up_written : (m w v : Store) (h n k : ℕ) (cs new ks : List ℕ) (o : List Pair) (was : Option ℕ) → Subtree m (suc h) n → children_of (node m n) ≡ cs → Alters m w h cs new k o was
-    → Writes w v n (inner ks new) → ks ≡ drop 1 (map (λ c. least w h c) new) → 1 ≤ length new → length new ≤ 170 → Each (λ c. few h ≤ size_of (node w c)) new → Alters m v (suc h) (n ∷ []) (n ∷ []) k o was
+    → Writes w v n (inner ks new) → ks ≡ drop 1 (map (λ c. least w h c) new) → 1 ≤ length new → length new ≤ 170 → Each (λ c. few h ≤ size_of (node w c)) new
+    → Alters m v (suc h) (n ∷ []) (n ∷ []) k o was
 up_written m w v h n k cs new ks o was s e a wr seps l u full = altered m w v h n k cs new (n ∷ []) o was e a (raise_written m w v h n cs new ks s e a.change wr seps l u full)
 
 pub cut_moved : (w v : Store) (n r : ℕ) (o p : Node) → Cuts w v n r o p → (q : ℕ) → live v q + same q n ≡ live w q + times q (n ∷ (r ∷ []))

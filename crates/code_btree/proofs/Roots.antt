@@ -16,7 +16,8 @@ use Rattle.code_btree.proofs.Leaves.{leaf_ok}
 use Rattle.code_btree.proofs.Seps.{first_of_list}
 use Rattle.code_btree.proofs.Counts.{length_put, many}
 
-pub keeps_of : (m w : Store) (before after : List ℕ) → ((q : ℕ) → live m q ≡ 1 → times q before ≡ 0 → w q ≡ m q) → ((q : ℕ) → live w q + times q before ≡ live m q + times q after) → Keeps m w before after
+pub keeps_of : (m w : Store) (before after : List ℕ) → ((q : ℕ) → live m q ≡ 1 → times q before ≡ 0 → w q ≡ m q)
+    → ((q : ℕ) → live w q + times q before ≡ live m q + times q after) → Keeps m w before after
 keeps_of m w before after others moved = record {
   others = others;
   gained = λ q a b. none_live m q (omega (arith, moved q, live_small w q));
@@ -60,12 +61,14 @@ planted m w r p g e =
           (λ q. elim (same_cases q r) [ inl i ↦ omega (arith, i.0, ap (λ (x : ℕ). live m x) i.1, ap (λ (x : ℕ). live w x) i.1) | inr i ↦ omega (arith, i.0, live_same m w q (g.others q i.0)) ]);
     }
 
-counts : (m : Store) (h n k v count entries : ℕ) (was : Option ℕ) (es : List Pair) → IsTreeAt m h n count → was ≡ find_item k (items m h n) → entries ≡ count_after count was → es ≡ alter k ((k, v) ∷ []) (items m h n) → entries ≡ length es
+counts : (m : Store) (h n k v count entries : ℕ) (was : Option ℕ) (es : List Pair) → IsTreeAt m h n count → was ≡ find_item k (items m h n)
+    → entries ≡ count_after count was → es ≡ alter k ((k, v) ∷ []) (items m h n) → entries ≡ length es
 counts m h n k v count entries was es t f e i =
     e ∙ (ap₂ (λ (x : ℕ) (y : Option ℕ). count_after x y) t.counted f ∙ (sym (length_put k v (items m h n) t.ascending) ∙ sym (ap (λ (x : List Pair). length x) i)))
 
 -- the root is whole
-pub root_kept : (m w : Store) (t : Tree) (k v entries : ℕ) (was : Option ℕ) → IsTree m t → InsertsUnder m w (t.height - 1) t.root k v was Kept → entries ≡ count_after t.entries was → Inserted m w t (record t { entries = entries }) k v was
+pub root_kept : (m w : Store) (t : Tree) (k v entries : ℕ) (was : Option ℕ) → IsTree m t → InsertsUnder m w (t.height - 1) t.root k v was Kept
+    → entries ≡ count_after t.entries was → Inserted m w t (record t { entries = entries }) k v was
 root_kept m w t k v entries was tree i e =
     let h : ℕ = t.height - 1 in
     let n : ℕ = t.root in
@@ -95,7 +98,8 @@ root_kept m w t k v entries was tree i e =
     }
 
 -- the root was split: a new one stands above the two
-pub root_grown : (m w x : Store) (t : Tree) (k v entries height up r p : ℕ) (was : Option ℕ) (page : List ℕ) → IsTree m t → InsertsUnder m w (t.height - 1) t.root k v was (Split up r) → entries ≡ count_after t.entries was → height ≡ t.height + 1
+pub root_grown : (m w x : Store) (t : Tree) (k v entries height up r p : ℕ) (was : Option ℕ) (page : List ℕ) → IsTree m t
+    → InsertsUnder m w (t.height - 1) t.root k v was (Split up r) → entries ≡ count_after t.entries was → height ≡ t.height + 1
     → Gained w x p page → node_of page ≡ inner (up ∷ []) (t.root ∷ (r ∷ [])) → Inserted m x t (record { root = p; height = height; entries = entries }) k v was
 root_grown m w x t k v entries height up r p was page tree i e eh g en =
     let h : ℕ = t.height - 1 in
@@ -107,7 +111,8 @@ root_grown m w x t k v entries height up r p was page tree i e eh g en =
     let owned : Owns w h row = owns_after m w h (n ∷ []) row a.change tree.at.owns in
     let lw : live w p ≡ 0 = live_none w p g.before in
     let lx : live x p ≡ 1 = live_some x p page g.now in
-    let stay : Each (λ c. Stays w x h c) row = row_stays w x h row (λ q l. g.others q (elim (same_cases q p) [ inl j ↦ absurd (omega (arith, owned q, ap (λ (y : ℕ). live w y) j.1)) | inr j ↦ j.0 ])) in
+    let stay : Each (λ c. Stays w x h c) row =
+    row_stays w x h row (λ q l. g.others q (elim (same_cases q p) [ inl j ↦ absurd (omega (arith, owned q, ap (λ (y : ℕ). live w y) j.1)) | inr j ↦ j.0 ])) in
     let ps : all_pages x h row ≡ all_pages w h row = row_pages w x h row stay in
     let filled : Each (λ c. Filled x h c) row = row_filled w x h row stay ((a.change.sound.0, i.grows.0), ((a.change.sound.1.0, i.grows.1.0), tt)) in
     let old : all_items m h (n ∷ []) ≡ items m h n = one_items m h n in
@@ -119,7 +124,8 @@ root_grown m w x t k v entries height up r p was page tree i e eh g en =
     let F : List ℕ → Type 0 = λ cs. Each (λ c. Filled x h c) cs in
     let P : List (ℕ × ℕ) → Type 0 = λ ls. Path tree.at.chain.0 ls 0 in
     let lks : links x (suc h) p ≡ all_links w h row = ap (λ (cs : List ℕ). all_links x h cs) kids ∙ row_links w x h row stay in
-    let pgs : (q : ℕ) → times q (pages x (suc h) p) ≡ same q p + times q (all_pages w h row) = λ q. ap (λ (cs : List ℕ). same q p + times q (all_pages x h cs)) kids ∙ ap (λ (y : List ℕ). same q p + times q y) ps in
+    let pgs : (q : ℕ) → times q (pages x (suc h) p) ≡ same q p + times q (all_pages w h row) = λ q. ap (λ (cs : List ℕ). same q p + times q (all_pages x h cs)) kids
+    ∙ ap (λ (y : List ℕ). same q p + times q y) ps in
     let at : IsTreeAt x (suc h) p entries = record {
       sound = (top_made (λ c. least x h c) (node x p) (up ∷ []) row no seps (omega arith) (omega arith), subst F (sym kids) filled);
       top = λ l. omega (arith, ap (λ (y : Node). size_of y) no);

@@ -21,7 +21,8 @@ pub given_by : (old : PoolState) (s : Spot) (r : Option (Pair × Spot)) (e : Pai
 given_by old s r e after i h = let P : Option (Pair × Spot) → Type 0 = λ x. IsStep old s x in subst P i h
 
 -- a pair came
-pub run_gave : {T : Type 0} (old new : PoolState) (s after : Spot) (e : Pair) (o : Result Bool PageFault) (x : T) → o ≡ Ok false → IsGiven old s (e, after) → Peeks old new (step_gets s) (Ok x) → (s.begun ≡ false → next_count old.gets ≤ new.gets)
+pub run_gave : {T : Type 0} (old new : PoolState) (s after : Spot) (e : Pair) (o : Result Bool PageFault) (x : T) → o ≡ Ok false → IsGiven old s (e, after)
+    → Peeks old new (step_gets s) (Ok x) → (s.begun ≡ false → next_count old.gets ≤ new.gets)
     → RunsOn (record { pool = old; spot = s; outcome = o }) (Some e) (record { pool = new; spot = after; outcome = o })
 run_gave old new s after e o x ok h p some =
     let same : pages_in new ≡ pages_in old = same_store new old p.read.pages in

@@ -1,5 +1,6 @@
 -- Separators: the least keys of a row of trees but the first.
-use Rattle.std.proofs.Common.{◌≡◌, ℕ, zero, suc, ◌+◌, ◌-◌, ◌<◌, ◌≤◌, List, [], ◌∷◌, ◌++◌, length, get_or, take, drop, refl, sym, ◌∙◌, ap, ap₂, arith, append_assoc, length-append, take_at, drop_at, drop-drop}
+use Rattle.std.proofs.Common.{◌≡◌, ℕ, zero, suc, ◌+◌, ◌-◌, ◌<◌, ◌≤◌, List, [], ◌∷◌, ◌++◌, length, get_or, take, drop, refl, sym, ◌∙◌, ap, ap₂, arith, append_assoc}
+use Rattle.std.proofs.Common.{length-append, take_at, drop_at, drop-drop}
 
 -- a key put in front of child `length fs + 1`
 pub seps_insert : (fs gs : List ℕ) (a b k : ℕ) → (1 ≤ length fs → b ≡ a)

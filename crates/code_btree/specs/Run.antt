@@ -75,7 +75,8 @@ pub record Rested (a : RunView) (r : Option Pair) (b : RunView) : Type 0 where
   pub none : r ≡ None
   pub stays : b ≡ a
 
--- A step of a run that hadn't ended. Where the disk tells, a pair is the first of those left, and without a fault None comes exactly where none was left. Over any disk keys rise. The number of gets doesn't fall, and a first step without a fault makes at least one.
+-- A step of a run that hadn't ended. Where the disk tells, a pair is the first of those left, and without a fault None comes exactly where
+-- none was left. Over any disk keys rise. The number of gets doesn't fall, and a first step without a fault makes at least one.
 pub record Stepped (a : RunView) (r : Option Pair) (b : RunView) : Type 0 where
   pub given : IfSome r (λ e. IsTold a.pool → run_left a ≡ e ∷ run_left b)
   pub rises : IfSome r (λ e. (least_left a.spot ≤ e.0) × (least_left b.spot ≡ e.0 + 1))

@@ -102,7 +102,8 @@ first-some true = omega arith
 first-some false = omega arith
 
 -- one was given that is no row
-bad-given : (bytes : List ℕ) (schema : List (List ℕ × Kind)) (header : Bool) (first number : ℕ) (rows : List (List Value)) (a b : ByteRecordsIntoIter (Bor (List ℕ))) (fields : List (List ℕ)) (column : ℕ)
+bad-given : (bytes : List ℕ) (schema : List (List ℕ × Kind)) (header : Bool) (first number : ℕ) (rows : List (List Value)) (a b : ByteRecordsIntoIter (Bor (List ℕ)))
+    (fields : List (List ℕ)) (column : ℕ)
     → first ≡ first_row header → HasEntered bytes schema first number rows a → ReadRecord left_of a.rdr b.rdr true fields → b.rdr.first ≡ true → 0 < b.left → first ≤ number + 1
     → record_row 1 schema fields ≡ Err column → file_rows bytes schema header ≡ HasBad (number + 1) column
 unfolding file_rows
@@ -117,7 +118,8 @@ bad-given bytes schema header first number rows a b fields column is h r begun l
     ∙ ap (λ n. HasBad n column) same
 
 -- what a fault of that record tells, it tells of the file
-pub bad-told : (bytes : List ℕ) (schema : List (List ℕ × Kind)) (header : Bool) (first number : ℕ) (rows : List (List Value)) (a b : ByteRecordsIntoIter (Bor (List ℕ))) (fields : List (List ℕ)) (why : LoadFault)
+pub bad-told : (bytes : List ℕ) (schema : List (List ℕ × Kind)) (header : Bool) (first number : ℕ) (rows : List (List Value)) (a b : ByteRecordsIntoIter (Bor (List ℕ)))
+    (fields : List (List ℕ)) (why : LoadFault)
     → first ≡ first_row header → HasEntered bytes schema first number rows a → ReadRecord left_of a.rdr b.rdr true fields → b.rdr.first ≡ true → 0 < b.left → first ≤ number + 1
     → TellsColumn (number + 1) (record_row 1 schema fields) why → TellsBad (file_rows bytes schema header) why
 bad-told bytes schema header first number rows a b fields fault.Memory is h r begun left many tells = tells

@@ -1,5 +1,6 @@
 -- How a record is read column by column, and a file record by record.
-use Rattle.std.proofs.Common.{◌≡◌, ℕ, zero, suc, ◌+◌, ◌-◌, ◌<◌, ◌≤◌, Bool, true, false, List, [], ◌∷◌, ◌++◌, length, drop, get_or, Option, Some, None, Result, Ok, Err, Bor, refl, sym, ap, subst, ◌∙◌, arith, append_assoc, length-append, map}
+use Rattle.std.proofs.Common.{◌≡◌, ℕ, zero, suc, ◌+◌, ◌-◌, ◌<◌, ◌≤◌, Bool, true, false, List, [], ◌∷◌, ◌++◌, length, drop, get_or, Option, Some, None, Result, Ok, Err}
+use Rattle.std.proofs.Common.{Bor, refl, sym, ap, subst, ◌∙◌, arith, append_assoc, length-append, map}
 use Rattle.std.specs.Option.{is_some, option_map}
 use Rattle.std.specs.Prelude.{All}
 use Rattle.std.proofs.lemmas.Bool.{false≢true}
@@ -142,7 +143,8 @@ whole-there columns fields values i at h so_far None e is = whole-row columns fi
 whole-there columns fields values i at h so_far (Some field) e is = absurd (false≢true (sym is))
 
 -- rows are those of the records before the last, and the last one
-row-parts : (number : ℕ) (row : List Value) (rest : FileRows) (rows : List (List Value)) → put_row number (Ok row) rest ≡ AreRows rows → (more : List (List Value)) × (rest ≡ AreRows more) × (rows ≡ row ∷ more)
+row-parts : (number : ℕ) (row : List Value) (rest : FileRows) (rows : List (List Value)) → put_row number (Ok row) rest ≡ AreRows rows
+    → (more : List (List Value)) × (rest ≡ AreRows more) × (rows ≡ row ∷ more)
 row-parts number row (AreRows more) rows e = let same : row ∷ more ≡ rows = cc in (more, refl, sym same)
 row-parts number row (HasBad later column) rows e = absurd cc
 
@@ -177,7 +179,8 @@ bad-row schema number (g ∷ given) rows fields column left e is = go (record_ro
   go (Err column) e later = absurd cc
 
 -- the values of a row are of their kinds and in range
-value-first : (at : ℕ) (o : Option Value) (rest : Result (List Value) ℕ) (row : List Value) → put_value at o rest ≡ Ok row → (v : Value) × (more : List Value) × (o ≡ Some v) × (rest ≡ Ok more) × (row ≡ v ∷ more)
+value-first : (at : ℕ) (o : Option Value) (rest : Result (List Value) ℕ) (row : List Value) → put_value at o rest ≡ Ok row
+    → (v : Value) × (more : List Value) × (o ≡ Some v) × (rest ≡ Ok more) × (row ≡ v ∷ more)
 value-first at None rest row e = absurd cc
 value-first at (Some v) (Ok more) row e = let same : v ∷ more ≡ row = cc in (v, more, refl, refl, sym same)
 value-first at (Some v) (Err column) row e = absurd cc
@@ -224,11 +227,13 @@ skipped schema first given rows fields h e =
     ap (rows_from first schema) (drop_all (first - 1) (given ++ fields ∷ []) (omega (arith, size)) ∙ sym (drop_all (first - 1) given (omega arith))) ∙ e
 
 pub entered : (schema : List (List ℕ × Kind)) (first : ℕ) (given : List (List (List ℕ))) (rows : List (List Value)) (fields : List (List ℕ)) (row : List Value) → first ≤ length given + 1
-    → rows_from first schema (drop (first - 1) given) ≡ AreRows rows → record_row 1 schema fields ≡ Ok row → rows_from first schema (drop (first - 1) (given ++ fields ∷ [])) ≡ AreRows (rows ++ row ∷ [])
+    → rows_from first schema (drop (first - 1) given) ≡ AreRows rows → record_row 1 schema fields ≡ Ok row
+    → rows_from first schema (drop (first - 1) (given ++ fields ∷ [])) ≡ AreRows (rows ++ row ∷ [])
 entered schema first given rows fields row h e is =
     ap (rows_from first schema) (drop-append-le (first - 1) given (fields ∷ []) (omega arith)) ∙ more-rows schema first (drop (first - 1) given) rows fields row e is
 
-pub refused : (schema : List (List ℕ × Kind)) (first : ℕ) (given : List (List (List ℕ))) (rows : List (List Value)) (fields : List (List ℕ)) (column : ℕ) (left : List (List (List ℕ))) → 1 ≤ first → first ≤ length given + 1
+pub refused : (schema : List (List ℕ × Kind)) (first : ℕ) (given : List (List (List ℕ))) (rows : List (List Value)) (fields : List (List ℕ)) (column : ℕ) (left : List (List (List ℕ)))
+    → 1 ≤ first → first ≤ length given + 1
     → rows_from first schema (drop (first - 1) given) ≡ AreRows rows → record_row 1 schema fields ≡ Err column
     → rows_from first schema (drop (first - 1) (given ++ fields ∷ left)) ≡ HasBad (length given + 1) column
 refused schema first given rows fields column left one h e is =

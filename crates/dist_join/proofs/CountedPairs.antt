@@ -1,5 +1,6 @@
 -- A search over a join visits as many pairs of places and fetches as many rough pairs as the model counts.
-use Rattle.std.proofs.Common.{◌≡◌, ⊎_elim, ℕ, Bool, true, false, cond, not, ◌||◌, ◌&&◌, true≢false, List, [], ◌∷◌, ◌++◌, map, length, filter, filter_map, flat_map, Contains, Option, Some, refl, sym, ap, ap₂, ◌∙◌, subst, arith, Ordering}
+use Rattle.std.proofs.Common.{◌≡◌, ⊎_elim, ℕ, Bool, true, false, cond, not, ◌||◌, ◌&&◌, true≢false, List, [], ◌∷◌, ◌++◌, map, length, filter, filter_map, flat_map}
+use Rattle.std.proofs.Common.{Contains, Option, Some, refl, sym, ap, ap₂, ◌∙◌, subst, arith, Ordering}
 use Rattle.std.specs.Ordering.{is_lt}
 use Rattle.std.specs.Cmp.{IsTotalOrder}
 use Rattle.std.proofs.lemmas.List.Elements.{Contains-append_right, Contains-append_cases}
@@ -50,7 +51,8 @@ nothing_counted gap left right =
     let nodes = all_pairs left right in
     let items = join_items gap left.shapes right.shapes nodes in
     record {
-      pairs = sym (ap length (filter_none (λ (node : PairNode). reaches Nothing (pair_gap gap node)) nodes (All-by (λ (node : PairNode). reaches Nothing (pair_gap gap node) ≡ false) nodes (λ node at. refl))));
+      pairs = sym (ap length (filter_none (λ (node : PairNode). reaches Nothing (pair_gap gap node)) nodes
+          (All-by (λ (node : PairNode). reaches Nothing (pair_gap gap node) ≡ false) nodes (λ node at. refl))));
       geometries =
           sym (ap (λ (l : List LeafItem). length (distinct l))
           (filter_none (is_counted Nothing) items (All-by (λ item. is_counted Nothing item ≡ false) items (λ item at. none_reached item.is_rough))));
@@ -199,7 +201,8 @@ module _ (j : Joining) (sound : IsSound j) (gap : Measure) (is : IsMeasure gap) 
       )
 
   -- what a pair of places finds
-  finds_there : (node : PairNode) → Contains nodes node → (t u : Tree) × (m.finds (blocks_of node) ≡ map (blocks_item j) (divided node.left t node.right u) ++ map leaf_item (shown j (blocks_of node) node.ids))
+  finds_there : (node : PairNode) → Contains nodes node → (t u : Tree)
+      × (m.finds (blocks_of node) ≡ map (blocks_item j) (divided node.left t node.right u) ++ map leaf_item (shown j (blocks_of node) node.ids))
   finds_there node at =
       let k = pair_stands root_block j.left.tree root_block j.right.tree node at in (
         k.place,

@@ -1,5 +1,6 @@
 -- Rough items that a search has taken, and what the model counts: each has a counterpart among the others, so they are as many.
-use Rattle.std.proofs.Common.{◌≡◌, ⊎_elim, Bool, true, false, cond, not, ◌&&◌, true≢false, List, [], ◌∷◌, length, filter, Contains, refl, sym, ap, ◌∙◌, subst, le_antisymm, Ordering, Less, Equal, Greater}
+use Rattle.std.proofs.Common.{◌≡◌, ⊎_elim, Bool, true, false, cond, not, ◌&&◌, true≢false, List, [], ◌∷◌, length, filter, Contains, refl, sym, ap, ◌∙◌, subst}
+use Rattle.std.proofs.Common.{le_antisymm, Ordering, Less, Equal, Greater}
 use Rattle.std.specs.Ordering.{is_eq}
 use Rattle.std.specs.Prelude.{nat_eq}
 use Rattle.std.specs.Cmp.{IsTotalOrder, tied_back}

@@ -1,5 +1,6 @@
 -- A look at a pair of places finds what the join has there, for no more gets than its price; so does a fetch of two geometries.
-use Rattle.std.proofs.Common.{◌≡◌, inl, inr, ⊎_elim, ℕ, zero, suc, ◌+◌, ◌-◌, ◌*◌, ◌^◌, ◌<◌, ◌≤◌, Bool, true, false, cond, ◌||◌, true≢false, List, [], ◌∷◌, ◌++◌, map, flat_map, sum_by, All, Contains, Option, None, Some, IfSome, refl, sym, ap, ap₂, ◌∙◌, subst, arith, append-nil, pow-suc, lit<}
+use Rattle.std.proofs.Common.{◌≡◌, inl, inr, ⊎_elim, ℕ, zero, suc, ◌+◌, ◌-◌, ◌*◌, ◌^◌, ◌<◌, ◌≤◌, Bool, true, false, cond, ◌||◌, true≢false, List, [], ◌∷◌, ◌++◌, map}
+use Rattle.std.proofs.Common.{flat_map, sum_by, All, Contains, Option, None, Some, IfSome, refl, sym, ap, ap₂, ◌∙◌, subst, arith, append-nil, pow-suc, lit<}
 use Rattle.std.specs.Ordering.{is_lt}
 use Rattle.std.specs.List.{AllZip}
 use Rattle.std.proofs.lemmas.List.Concat.{flat_map-append}
@@ -252,17 +253,20 @@ module _ (left right : PageSide) (ceiling : Option ℕ) (left_plane : (p : PageM
   at_places p laws b c gap near (Leaf ids) (Leaf others) at too place.Inner (place.Leaf list') is is' roughs roughs' = absurd is
   at_places p laws b c gap near (Leaf ids) (Leaf others) at too place.Inner place.Inner is is' roughs roughs' = absurd is
   at_places p laws b c gap near (Leaf ids) (Inner w x y z) at too (place.Leaf list) (place.Leaf list') is is' roughs roughs' = absurd is'
-  at_places p laws b c gap near (Leaf ids) (Inner w x y z) at too (place.Leaf list) place.Inner is is' roughs roughs' = all_alike_itself (map (blocks_item (over p)) (map (λ (d : Block). (b, d)) (children_of c)))
+  at_places p laws b c gap near (Leaf ids) (Inner w x y z) at too (place.Leaf list) place.Inner is is' roughs roughs' =
+      all_alike_itself (map (blocks_item (over p)) (map (λ (d : Block). (b, d)) (children_of c)))
   at_places p laws b c gap near (Leaf ids) (Inner w x y z) at too place.Inner (place.Leaf list') is is' roughs roughs' = absurd is
   at_places p laws b c gap near (Leaf ids) (Inner w x y z) at too place.Inner place.Inner is is' roughs roughs' = absurd is
   at_places p laws b c gap near (Inner q r s v) (Leaf others) at too (place.Leaf list) (place.Leaf list') is is' roughs roughs' = absurd is
   at_places p laws b c gap near (Inner q r s v) (Leaf others) at too (place.Leaf list) place.Inner is is' roughs roughs' = absurd is
-  at_places p laws b c gap near (Inner q r s v) (Leaf others) at too place.Inner (place.Leaf list') is is' roughs roughs' = all_alike_itself (map (blocks_item (over p)) (map (λ (d : Block). (d, c)) (children_of b)))
+  at_places p laws b c gap near (Inner q r s v) (Leaf others) at too place.Inner (place.Leaf list') is is' roughs roughs' =
+      all_alike_itself (map (blocks_item (over p)) (map (λ (d : Block). (d, c)) (children_of b)))
   at_places p laws b c gap near (Inner q r s v) (Leaf others) at too place.Inner place.Inner is is' roughs roughs' = absurd is'
   at_places p laws b c gap near (Inner q r s v) (Inner w x y z) at too (place.Leaf list) (place.Leaf list') is is' roughs roughs' = absurd is
   at_places p laws b c gap near (Inner q r s v) (Inner w x y z) at too (place.Leaf list) place.Inner is is' roughs roughs' = absurd is
   at_places p laws b c gap near (Inner q r s v) (Inner w x y z) at too place.Inner (place.Leaf list') is is' roughs roughs' = absurd is'
-  at_places p laws b c gap near (Inner q r s v) (Inner w x y z) at too place.Inner place.Inner is is' roughs roughs' = all_alike_itself (map (blocks_item (over p)) (flat_map (λ (d : Block). map (λ (e : Block). (d, e)) (children_of c)) (children_of b)))
+  at_places p laws b c gap near (Inner q r s v) (Inner w x y z) at too place.Inner place.Inner is is' roughs roughs' =
+      all_alike_itself (map (blocks_item (over p)) (flat_map (λ (d : Block). map (λ (e : Block). (d, e)) (children_of c)) (children_of b)))
 
   finds_alike : (p : PageMap) → MeetsLaws (m p) → (pair : Block × Block) (gap : Frac) → IsNode (m p) pair → IsSameGap gap (squares_gap (over p) pair) → (found other : Place)
       → Sees p left.pmr pair.0 found → Sees p right.pmr pair.1 other → (old new : List (Item (Block × Block))) → FindsAlike (places_found gap pair found other) old new
@@ -295,7 +299,8 @@ module _ (left right : PageSide) (ceiling : Option ℕ) (left_plane : (p : PageM
       record {
         log = log;
         up = up;
-        most = summed (visit_price (over p) (item.Node gap pair)) (pair_price left.pmr.map.height (entries.id_count k.here) right.pmr.map.height (entries.id_count k.there)) old.pool.gets new.pool.gets same
+        most = summed (visit_price (over p) (item.Node gap pair))
+            (pair_price left.pmr.map.height (entries.id_count k.here) right.pmr.map.height (entries.id_count k.there)) old.pool.gets new.pool.gets same
             (within k.here k.there k.at_left k.at_right);
       }
     where
@@ -353,7 +358,8 @@ module _ (left right : PageSide) (ceiling : Option ℕ) (left_plane : (p : PageM
       (subst (λ (q : PoolState). q.gets ≤ new.pool.gets) lent up)
       (subst (λ (q : PoolState). IsTold q → IsWithinPairPrice q.pages left.pmr pair.0 right.pmr pair.1 q new.pool) lent within told))
 
-  pub visits_tried : (d noted new : DeskState) (pair : Block × Block) (gap : Frac) → Asks d pair gap → noted ≡ record d { visits = d.visits ++ note (item.Node gap pair) ∷ [] } → new.visits ≡ noted.visits
+  pub visits_tried : (d noted new : DeskState) (pair : Block × Block) (gap : Frac) → Asks d pair gap
+      → noted ≡ record d { visits = d.visits ++ note (item.Node gap pair) ∷ [] } → new.visits ≡ noted.visits
       → (pool : PoolState) → pool ≡ noted.pool → pool.gets ≤ new.pool.gets → (IsTold pool → IsWithinPairPrice pool.pages left.pmr pair.0 right.pmr pair.1 pool new.pool)
       → IfSome (told_pages d) (λ p. Attempts note (m p).price (item.Node gap pair) d new)
   visits_tried d noted new pair gap asks is log pool same up within =

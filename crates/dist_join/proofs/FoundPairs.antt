@@ -1,5 +1,6 @@
 -- What the code finds at a pair of leaves stands for what the join finds there.
-use Rattle.std.proofs.Common.{◌≡◌, ℕ, ◌≤◌, arith, Bool, true, false, cond, not, ◌||◌, true≢false, List, [], ◌∷◌, ◌++◌, map, filter, filter_map, flat_map, All, Contains, Option, None, Some, option_to_list, refl, sym, ap, ap₂, ◌∙◌, subst}
+use Rattle.std.proofs.Common.{◌≡◌, ℕ, ◌≤◌, arith, Bool, true, false, cond, not, ◌||◌, true≢false, List, [], ◌∷◌, ◌++◌, map, filter, filter_map, flat_map, All, Contains}
+use Rattle.std.proofs.Common.{Option, None, Some, option_to_list, refl, sym, ap, ap₂, ◌∙◌, subst}
 use Rattle.std.specs.List.{AllZip}
 use Rattle.std.specs.Ordering.{is_lt}
 use Rattle.std.specs.Cmp.{alike_right}
@@ -89,7 +90,8 @@ exact_same leaf a b g h same items is =
     go true = tt
     go false = ((same, refl, refl), tt)
 
-pub bound_same : (leaf : Frac) (a b : ℕ) (g h : Frac) → IsSameGap g h → (i : Item (Block × Block)) → i ≡ item.Rough (greater g leaf) a b → AllZip IsAlike (i ∷ []) (item.Rough (greater h leaf) a b ∷ [])
+pub bound_same : (leaf : Frac) (a b : ℕ) (g h : Frac) → IsSameGap g h → (i : Item (Block × Block)) → i ≡ item.Rough (greater g leaf) a b
+    → AllZip IsAlike (i ∷ []) (item.Rough (greater h leaf) a b ∷ [])
 bound_same leaf a b g h same i is =
     subst (λ (x : Item (Block × Block)). AllZip IsAlike (x ∷ []) (item.Rough (greater h leaf) a b ∷ [])) (sym is)
     ((same_greater g leaf h leaf same (same_itself leaf), refl, refl), tt)
@@ -177,7 +179,8 @@ module _ (left right : PageSide) (ceiling : Option ℕ) (p : PageMap) (pair : Bl
   ids_in list = map (λ (l : Listed). l.id) list
 
   shown_pairs : (node : List (ℕ × ℕ)) (lefts rights : List Listed)
-      → map leaf_item (filter queued (filter_map (gives node) (pairs_of (ids_in lefts) (ids_in rights)))) ≡ flat_map (λ (l : Listed). flat_map (λ (r : Listed). each_shown node (l.id, r.id)) rights) lefts
+      → map leaf_item (filter queued (filter_map (gives node) (pairs_of (ids_in lefts) (ids_in rights))))
+      ≡ flat_map (λ (l : Listed). flat_map (λ (r : Listed). each_shown node (l.id, r.id)) rights) lefts
   shown_pairs node lefts rights =
       shown_all node (pairs_of (ids_in lefts) (ids_in rights))
       ∙ flat_twice (each_shown node) (λ (l : ℕ). map (λ (r : ℕ). (l, r)) (ids_in rights)) (ids_in lefts)

@@ -1,5 +1,6 @@
 -- A sound join meets the laws of a hierarchy.
-use Rattle.std.proofs.Common.{◌≡◌, ⊎_elim, ℕ, ◌+◌, ◌<◌, ◌≤◌, Bool, true, false, cond, not, ◌||◌, true≢false, List, [], ◌∷◌, ◌++◌, map, filter_map, flat_map, All, Contains, Option, None, Some, refl, sym, ap, ap₂, ◌∙◌, subst, arith, Ordering, Less, Equal, Greater, append-nil}
+use Rattle.std.proofs.Common.{◌≡◌, ⊎_elim, ℕ, ◌+◌, ◌<◌, ◌≤◌, Bool, true, false, cond, not, ◌||◌, true≢false, List, [], ◌∷◌, ◌++◌, map, filter_map, flat_map, All}
+use Rattle.std.proofs.Common.{Contains, Option, None, Some, refl, sym, ap, ap₂, ◌∙◌, subst, arith, Ordering, Less, Equal, Greater, append-nil}
 use Rattle.std.specs.Ordering.{is_lt}
 use Rattle.std.proofs.lemmas.Bool.{ltb-true}
 use Rattle.std.proofs.lemmas.List.Concat.{flat_map-append}
@@ -36,14 +37,16 @@ use Rattle.rank_cursor.specs.Ranking.{place_at}
 use Rattle.rank_cursor.proofs.Elements.{in_map, from_map, map_append, in_filter_map, from_filter_map, some_is, some_term}
 use Rattle.rank_cursor.proofs.Places.{pick, place_below, place_here, place_more, inside, is_place, place_is, leaf_place, leaf_fits}
 use Rattle.rank_cursor.proofs.RankingLaws.{greater_second, greater_least, shape_is, is_shape}
-use Rattle.dist_join.specs.Joining.{Side, Joining, IsSoundSide, IsSound, node_at, blocks_of, squares_gap, blocks_item, ids_of_both, divided, leaf_item, shown, found_at, pairs_under, row_of_pair, join_meaning}
+use Rattle.dist_join.specs.Joining.{Side, Joining, IsSoundSide, IsSound, node_at, blocks_of, squares_gap, blocks_item, ids_of_both, divided, leaf_item, shown, found_at}
+use Rattle.dist_join.specs.Joining.{pairs_under, row_of_pair, join_meaning}
 use Rattle.dist_join.proofs.PairPlaces.{leaf_node, leaf_pair}
 
 -- ---- gaps in order
 
 not_less : (f g : Frac) → is_lt (value_cmp f g) ≡ false → IsAtMost g f
 not_less f g e =
-    let go : (a : Ordering) → value_cmp f g ≡ a → is_lt a ≡ false → IsAtMost g f = elim [ Less ↦ λ h k. absurd (true≢false k) | Equal ↦ λ h k. equal_at_least f g h | Greater ↦ λ h k. below_at_most g f (greater_is f g h) ] in
+    let go : (a : Ordering) → value_cmp f g ≡ a → is_lt a ≡ false → IsAtMost g f =
+    elim [ Less ↦ λ h k. absurd (true≢false k) | Equal ↦ λ h k. equal_at_least f g h | Greater ↦ λ h k. below_at_most g f (greater_is f g h) ] in
     go (value_cmp f g) refl e
 
 -- what is no less is not told to be less

@@ -24,7 +24,8 @@ pub record Side : Type 0 where
   pub tree : Tree
   pub height : ℕ
 
--- A join: what must hold of the pages so that it can be read, how gaps are measured, the ceiling, the two sides, which are one where a relation is joined with itself, and what it costs to fetch the geometries of a pair.
+-- A join: what must hold of the pages so that it can be read, how gaps are measured, the ceiling, the two sides, which are one where a
+-- relation is joined with itself, and what it costs to fetch the geometries of a pair.
 pub record Joining : Type 1 where
   pub IsReadable : Type 0
   pub measure : Measure

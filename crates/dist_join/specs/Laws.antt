@@ -16,7 +16,8 @@ use Rattle.semi_join.specs.Listed.{ListsAnswer}
 use Rattle.dist_join.specs.Joining.{Side, Joining, join_meaning}
 use Rattle.dist_join.specs.Answers.{CountsAs}
 
--- A join meets the laws of a hierarchy. It gives the joined rows, told by any measure, and its answer is their list. Its left rows are those of its left side. A search over it that has taken just what lies within a reach has visited as much as is counted there.
+-- A join meets the laws of a hierarchy. It gives the joined rows, told by any measure, and its answer is their list. Its left rows are
+-- those of its left side. A search over it that has taken just what lies within a reach has visited as much as is counted there.
 pub record IsLawful (j : Joining) : Type 0 where
   pub hierarchy : MeetsLaws (join_meaning j)
   pub rows : (gap : Measure) → IsMeasure gap → GivesList (join_meaning j) (joined gap j.ceiling j.left.shapes j.right.shapes)

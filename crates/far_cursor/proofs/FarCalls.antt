@@ -71,7 +71,8 @@ module _ (rows : PageMap → List (ℕ × Shape)) (Stands_on : PageMap → Type 
   next_short : (last : Option Hit) (key : Hit) → IsNext m last key → IsShort key.gap
   next_short last key next =
       let (row, among, is) = from_map (row_at (far_ranking rows Stands_on price t goal pages)) (rows pages) next.row next.answer.0 in
-      short_same next.row.gap key.gap next.same.0 (subst (λ (h : Hit). IsShort h.gap) is (key_short (Rattle.rank_cursor.specs.Cursor.the_measure (spot_figure goal) (Rattle.sand_base.specs.declared.goal.Goal.TheVariants.Shape row.1))))
+      short_same next.row.gap key.gap next.same.0
+      (subst (λ (h : Hit). IsShort h.gap) is (key_short (Rattle.rank_cursor.specs.Cursor.the_measure (spot_figure goal) (Rattle.sand_base.specs.declared.goal.Goal.TheVariants.Shape row.1))))
 
   -- a turned row's key is that of the search
   turned_key : (last : Option Hit) (key hit : Hit) → IsNext m last key → IsTurned key hit → IsSameGap (key_of_gap hit.gap) key.gap
@@ -117,7 +118,8 @@ module _ (rows : PageMap → List (ℕ × Shape)) (Stands_on : PageMap → Type 
   fault_far fault last new is gap measure n given = subst (λ l. AreGivenFar (far_rows gap goal (rows pages)) n l) (sym is) given
 
   -- each block visited before a row was given has a corner at least as far
-  pub row_visits : (cmp : Block → Block → Ordering) (note : Item Block → Visit) (old new : SearchState Block) (key hit : Hit) → IsNext m old.last key → IsTurned key hit → MakesVisits cmp m note old new (Ok (Some key))
+  pub row_visits : (cmp : Block → Block → Ordering) (note : Item Block → Visit) (old new : SearchState Block) (key hit : Hit) → IsNext m old.last key → IsTurned key hit
+      → MakesVisits cmp m note old new (Ok (Some key))
       → (done : List (Item Block)) → Stands cmp m old.held old.last done → FarVisits cmp m note goal done old new (Ok (Some hit))
   row_visits cmp note old new key hit next turned visits done h =
       let call = visits done h in
@@ -132,7 +134,8 @@ module _ (rows : PageMap → List (ℕ × Shape)) (Stands_on : PageMap → Type 
               let own = All-contains (HasGap m) all (Node g b) (All-left (HasGap m) all new.held call.makes.stands.tracks.gaps) among in
               let near = All-contains (λ item. IsAtMost (gap_of item) key.gap) all (Node g b) call.bounds.near among in
               far_corner goal (square_of b) hit.gap (turned_short key hit turned)
-              (at_most_trans (m.gap b) key.gap (key_of_gap hit.gap) (at_most_trans (m.gap b) g key.gap (equal_at_least g (m.gap b) own) near) (equal_at_least (key_of_gap hit.gap) key.gap (turned_key old.last key hit next turned)))),
+              (at_most_trans (m.gap b) key.gap (key_of_gap hit.gap) (at_most_trans (m.gap b) g key.gap (equal_at_least g (m.gap b) own) near)
+              (equal_at_least (key_of_gap hit.gap) key.gap (turned_key old.last key hit next turned)))),
         );
       }
 

@@ -1,6 +1,7 @@
 -- What the code finds at a place of a quadtree stands for what the search farthest first finds there.
 use Rattle.sand_model.specs.Sources.{spot_figure}
-use Rattle.std.proofs.Common.{◌≡◌, ℕ, ◌*◌, ◌-◌, ◌≤◌, arith, Bool, true, false, cond, not, true≢false, List, [], ◌∷◌, ◌++◌, length, take, map, filter, append-nil, filter_map, flat_map, All, Option, None, Some, option_map, refl, sym, ap, ap₂, ◌∙◌, subst}
+use Rattle.std.proofs.Common.{◌≡◌, ℕ, ◌*◌, ◌-◌, ◌≤◌, arith, Bool, true, false, cond, not, true≢false, List, [], ◌∷◌, ◌++◌, length, take, map, filter, append-nil}
+use Rattle.std.proofs.Common.{filter_map, flat_map, All, Option, None, Some, option_map, refl, sym, ap, ap₂, ◌∙◌, subst}
 use Rattle.std.specs.Prelude.{nat_eq}
 use Rattle.std.specs.List.{AllZip}
 use Rattle.std.specs.Ordering.{is_lt}
@@ -54,13 +55,15 @@ pub rect_is : (p : Point) (r : Rect) (far key : Frac) → far.num ≡ farthest p
 rect_is p r far key num den is under = parts_same key (key_of_rect p r) (is ∙ ap₂ (λ (n d : ℕ). diagonal * d - n) num den) (under ∙ den)
 
 -- a gap that was measured has the value of the model's
-gap_one : (p : Point) (s : Shape) (f : Frac) → IsInClosedPlane p → IsShapeInClosedPlane s → IsFigureGap (spot_figure p) (figure.Shape s) f → f.num * (the_measure (spot_figure p) (figure.Shape s)).den ≡ (the_measure (spot_figure p) (figure.Shape s)).num * f.den
+gap_one : (p : Point) (s : Shape) (f : Frac) → IsInClosedPlane p → IsShapeInClosedPlane s → IsFigureGap (spot_figure p) (figure.Shape s) f
+    → f.num * (the_measure (spot_figure p) (figure.Shape s)).den ≡ (the_measure (spot_figure p) (figure.Shape s)).num * f.den
 gap_one p s f hp hs h =
     let g = the_measure (spot_figure p) (figure.Shape s) in
     gap_unique (spot_figure p) (figure.Shape s) f.num f.den g.num g.den h (measured.1 (spot_figure p) (figure.Shape s) hp hs)
 
 -- what it lacks to the diagonal is the key of the shape
-pub shape_is : (p : Point) (s : Shape) (f key : Frac) → IsInClosedPlane p → IsShapeInClosedPlane s → IsFigureGap (spot_figure p) (figure.Shape s) f → key.num ≡ diagonal * f.den - f.num → key.den ≡ f.den → IsSameGap key (key_from p (figure.Shape s))
+pub shape_is : (p : Point) (s : Shape) (f key : Frac) → IsInClosedPlane p → IsShapeInClosedPlane s → IsFigureGap (spot_figure p) (figure.Shape s) f
+    → key.num ≡ diagonal * f.den - f.num → key.den ≡ f.den → IsSameGap key (key_from p (figure.Shape s))
 shape_is p s f key hp hs h is under =
     let g = the_measure (spot_figure p) (figure.Shape s) in
     value_cmp_total.congr key (key_of_gap f) (key_of_gap g) (parts_same key (key_of_gap f) is under)
@@ -130,7 +133,8 @@ entry_is p leaf id (rough.Bound r) = refl
 abbrev one_shown : Frac → LeafItem → List (Item Block)
 one_shown leaf i = map leaf_item (cond (is_queued leaf i) (i ∷ []) [])
 
-module _ (rows : PageMap → List (ℕ × Shape)) (Stands : PageMap → Type 0) (price : ℕ) (t : Pmr) (p : Point) (pages : PageMap) (b : Block) (leaf : Frac) (near : IsSameGap leaf (block_gap (far_ranking rows Stands price t p pages) b)) where
+module _ (rows : PageMap → List (ℕ × Shape)) (Stands : PageMap → Type 0) (price : ℕ) (t : Pmr) (p : Point) (pages : PageMap) (b : Block) (leaf : Frac)
+    (near : IsSameGap leaf (block_gap (far_ranking rows Stands price t p pages) b)) where
   abbrev r : Ranking
   r = far_ranking rows Stands price t p pages
 
@@ -146,7 +150,8 @@ module _ (rows : PageMap → List (ℕ × Shape)) (Stands : PageMap → Type 0) 
       → AllZip IsAlike (by_figure p leaf id (rough_figure s) k) (one_shown (block_gap r b) (one_item r b id s))
   entry_alike id s true e =
       let g = key_from p (rough_figure s) in
-      let whole : AllZip IsAlike (item.Rough (greater (key_from p (rough_figure s)) leaf) id 0 ∷ []) (map leaf_item (record { left = id; right = 0; is_rough = true; gap = greater g (block_gap r b) } ∷ [])) =
+      let whole : AllZip IsAlike (item.Rough (greater (key_from p (rough_figure s)) leaf) id 0 ∷ [])
+      (map leaf_item (record { left = id; right = 0; is_rough = true; gap = greater g (block_gap r b) } ∷ [])) =
       ((same_greater (key_from p (rough_figure s)) leaf g (block_gap r b) (same_itself (key_from p (rough_figure s))) near, refl, refl), tt) in
       subst (λ c. AllZip IsAlike (item.Rough (greater (key_from p (rough_figure s)) leaf) id 0 ∷ [])
       (one_shown (block_gap r b) (record { left = id; right = 0; is_rough = c; gap = cond c (greater g (block_gap r b)) (key_from p (figure.Shape s)) })))

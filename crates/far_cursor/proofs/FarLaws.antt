@@ -13,7 +13,8 @@ use Rattle.far_cursor.specs.FarRanking.{far_ranking}
 use Rattle.far_cursor.proofs.FarSound.{child_key, rough_key, leaf_key}
 use Rattle.far_cursor.proofs.KeyedLaws.{IsKeyed}
 
-module _ (rows : PageMap → List (ℕ × Shape)) (Stands : PageMap → Type 0) (price : ℕ) (t : Pmr) (goal : Point) (in_plane : (p : PageMap) → Stands p → AreInPlane (rows p)) (plane : IsInClosedPlane goal) where
+module _ (rows : PageMap → List (ℕ × Shape)) (Stands : PageMap → Type 0) (price : ℕ) (t : Pmr) (goal : Point) (in_plane : (p : PageMap) → Stands p → AreInPlane (rows p))
+    (plane : IsInClosedPlane goal) where
   -- its keys meet what a hierarchy asks
   pub keyed_over : (p : PageMap) → FitsRows p t (rows p) → Stands p → IsKeyed (far_ranking rows Stands price t goal p)
   keyed_over p fits stands =

@@ -60,7 +60,8 @@ apart f g other e =
     let left = (then_equal (nat_cmp f.left g.left) (nat_cmp f.right g.right) ids).0 in
     absurd (other (number_ranked f.left g.left Equal (sym left)))
 
-module _ (rows : PageMap → List (ℕ × Shape)) (Stands : PageMap → Type 0) (price : ℕ) (t : Pmr) (goal : Point) (plane : IsInClosedPlane goal) (pages : PageMap) (keys : IsKeyed (far_ranking rows Stands price t goal pages))
+module _ (rows : PageMap → List (ℕ × Shape)) (Stands : PageMap → Type 0) (price : ℕ) (t : Pmr) (goal : Point) (plane : IsInClosedPlane goal) (pages : PageMap)
+    (keys : IsKeyed (far_ranking rows Stands price t goal pages))
     (gap : Measure) (is : IsMeasure gap) where
   abbrev r : Ranking
   r = far_ranking rows Stands price t goal pages

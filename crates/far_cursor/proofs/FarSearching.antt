@@ -1,5 +1,6 @@
 -- A visit of a place finds what the search farthest first has there, for no more gets than its price; so does a fetch of a geometry.
-use Rattle.std.proofs.Common.{◌≡◌, ◌⊎◌, inr, ⊎_elim, ℕ, ◌+◌, ◌≤◌, Bool, true, false, true≢false, List, [], ◌∷◌, ◌++◌, map, sum_by, Contains, Option, None, Some, Ok, IfSome, refl, sym, ap, ◌∙◌, subst, arith}
+use Rattle.std.proofs.Common.{◌≡◌, ◌⊎◌, inr, ⊎_elim, ℕ, ◌+◌, ◌≤◌, Bool, true, false, true≢false, List, [], ◌∷◌, ◌++◌, map, sum_by, Contains, Option, None, Some, Ok}
+use Rattle.std.proofs.Common.{IfSome, refl, sym, ap, ◌∙◌, subst, arith}
 use Rattle.std.specs.List.{AllZip}
 use Rattle.std.proofs.lemmas.List.Elements.{All-contains}
 use Rattle.exact_frac.specs.declared.frac.Frac.{Frac}
@@ -182,7 +183,8 @@ module _ (rows : PageMap → List (ℕ × Shape)) (Stands : PageMap → Type 0) 
       let (tree, place) = node_place rows Stands price t goal in_plane plane d.pool.pages b laws node in
       absurd (fails (inside root_block (tree_at d.pool.pages t) root_is_block (shaped_shallow root_block (tree_at d.pool.pages t) laws.readable.0.tree.shaped) b tree place).block))
 
-  pub found_ok : (d : DeskState) (b : Block) (gap : Frac) → Asks d b gap → (found : Place) → (IsTold d.pool → pmr.Finds (tree_at d.pool.pages t) b found) → (IsTold d.pool → HasRoughs d.pool.pages t found)
+  pub found_ok : (d : DeskState) (b : Block) (gap : Frac) → Asks d b gap → (found : Place) → (IsTold d.pool → pmr.Finds (tree_at d.pool.pages t) b found)
+      → (IsTold d.pool → HasRoughs d.pool.pages t found)
       → (old new : List (Item Block)) → FindsAlike (far_place goal gap b found) old new → IfSome (told_pages d) (λ p. FindsAlike ((m p).finds b) old new)
   found_ok d b gap asks found finds roughs old new h =
       by_told d (λ p. FindsAlike ((m p).finds b) old new) (λ told.

@@ -103,7 +103,8 @@ bound_holds first [] = (self_covered first, tt)
 bound_holds first (next ∷ more) =
     let rest = bound_from next more in (
       record { left = least first.x rest.low.x; right = most first.x rest.high.x; bottom = least first.y rest.low.y; top = most first.y rest.high.y },
-      wider (next ∷ more) rest (bound_from first (next ∷ more)) (least_too first.x rest.low.x) (most_too first.x rest.high.x) (least_too first.y rest.low.y) (most_too first.y rest.high.y) (bound_holds next more),
+      wider (next ∷ more) rest (bound_from first (next ∷ more)) (least_too first.x rest.low.x) (most_too first.x rest.high.x) (least_too first.y rest.low.y)
+          (most_too first.y rest.high.y) (bound_holds next more),
     )
   where
     least : (a b : ℕ) → min a b ≤ a

@@ -49,7 +49,8 @@ list_nodes goal leaf (l ∷ ls) =
     ∙ ap₂ (λ (x : List Block) (y : List Block). x ++ y) (entry_nodes goal leaf l.id l.rough) (list_nodes goal leaf ls)
 
 -- what a place gives weighs less than its block
-place_weight : (goal : Point) (leaf : Frac) (b : Block) (found : Place) → (found ≡ place.Inner → b.level < COORDINATE_BITS) → sum_by block_weight (nodes_of (far_place goal leaf b found)) < block_weight b
+place_weight : (goal : Point) (leaf : Frac) (b : Block) (found : Place) → (found ≡ place.Inner → b.level < COORDINATE_BITS)
+    → sum_by block_weight (nodes_of (far_place goal leaf b found)) < block_weight b
 place_weight goal leaf b place.Inner above =
     let level = above refl in
     let height : COORDINATE_BITS - b.level ≡ suc (COORDINATE_BITS - (b.level + 1)) = omega arith in

@@ -1,5 +1,6 @@
 -- A ranking under keys meets the laws of a hierarchy, where the key of a block is at most those of what it holds.
-use Rattle.std.proofs.Common.{◌≡◌, ◌≢◌, ⊎_elim, ℕ, ◌<◌, Bool, true, false, cond, not, ◌||◌, true≢false, List, [], ◌∷◌, ◌++◌, map, filter_map, flat_map, All, Contains, Option, None, Some, option_map, refl, sym, ap, ap₂, ◌∙◌, subst, arith, Ordering, Less, Equal, Greater, append-nil}
+use Rattle.std.proofs.Common.{◌≡◌, ◌≢◌, ⊎_elim, ℕ, ◌<◌, Bool, true, false, cond, not, ◌||◌, true≢false, List, [], ◌∷◌, ◌++◌, map, filter_map, flat_map, All, Contains}
+use Rattle.std.proofs.Common.{Option, None, Some, option_map, refl, sym, ap, ap₂, ◌∙◌, subst, arith, Ordering, Less, Equal, Greater, append-nil}
 use Rattle.std.specs.Ordering.{is_lt}
 use Rattle.std.proofs.lemmas.Bool.{ltb-true}
 use Rattle.std.proofs.lemmas.List.Elements.{All-nil, All-contains}
@@ -42,11 +43,13 @@ pub record IsKeyed (r : Ranking) : Type 0 where
   pub shallow : IsShallow root_block r.tree
   pub down : (b : Block) (i : ℕ) → IsBlock b → b.level < COORDINATE_BITS → i < 4 → IsAtMost (block_gap r b) (block_gap r (child b i))
   pub rough : (s : Shape) → IsShapeInClosedPlane s → IsAtMost (r.measure r.goal (rough_figure s)) (r.measure r.goal (figure.Shape s))
-  pub covered : (s : Shape) → IsShapeInClosedPlane s → SomeOf (λ leaf. (meets the_measure s (square_of leaf.0) ≡ true) × IsAtMost (block_gap r leaf.0) (r.measure r.goal (figure.Shape s))) (leaves root_block r.tree)
+  pub covered : (s : Shape) → IsShapeInClosedPlane s
+      → SomeOf (λ leaf. (meets the_measure s (square_of leaf.0) ≡ true) × IsAtMost (block_gap r leaf.0) (r.measure r.goal (figure.Shape s))) (leaves root_block r.tree)
 
 not_less : (f g : Frac) → is_lt (value_cmp f g) ≡ false → IsAtMost g f
 not_less f g e =
-    let go : (a : Ordering) → value_cmp f g ≡ a → is_lt a ≡ false → IsAtMost g f = elim [ Less ↦ λ h k. absurd (true≢false k) | Equal ↦ λ h k. equal_at_least f g h | Greater ↦ λ h k. below_at_most g f (greater_is f g h) ] in
+    let go : (a : Ordering) → value_cmp f g ≡ a → is_lt a ≡ false → IsAtMost g f =
+    elim [ Less ↦ λ h k. absurd (true≢false k) | Equal ↦ λ h k. equal_at_least f g h | Greater ↦ λ h k. below_at_most g f (greater_is f g h) ] in
     go (value_cmp f g) refl e
 
 -- what is no less is not told to be less
@@ -216,7 +219,8 @@ module _ (r : Ranking) (keys : IsKeyed r) where
   covers_row : (id : ℕ) (s : Shape) → Contains r.shapes (id, s) → IsListedUnder m root_block (row_at r (id, s))
   covers_row id s at =
       let plane = All-contains (λ (row : ℕ × Shape). IsShapeInClosedPlane row.1) r.shapes (id, s) keys.plane at in
-      let (leaf, among, met) = some_term (λ (leaf : Block × List ℕ). (meets the_measure s (square_of leaf.0) ≡ true) × IsAtMost (r.measure r.goal (square_figure leaf.0)) (r.measure r.goal (figure.Shape s)))
+      let (leaf, among, met) = some_term (λ (leaf : Block × List ℕ). (meets the_measure s (square_of leaf.0) ≡ true)
+      × IsAtMost (r.measure r.goal (square_figure leaf.0)) (r.measure r.goal (figure.Shape s)))
       (leaves root_block r.tree) (keys.covered s plane) in
       let c = leaf.0 in
       let ids = leaf.1 in

@@ -72,7 +72,8 @@ module _ (old : StoreState) (name : List ℕ) (encodings : List (List ℕ)) (row
       passes = ap (λ (p : Option Refusal × Relation). p.0) (entered_is setting) ∙ sym (late_is setting) ∙ h.late told setting is limits;
     };
     becomes = λ told setting is limits. h.becomes told setting is limits
-        ∙ changed_alike (λ r. (loaded setting rows r).1) (λ r. (with_encoded setting encodings r).1) name (database old) relation named (sym (ap (λ (p : Option Refusal × Relation). p.1) (entered_is setting)));
+        ∙ changed_alike (λ r. (loaded setting rows r).1) (λ r. (with_encoded setting encodings r).1) name (database old) relation named
+        (sym (ap (λ (p : Option Refusal × Relation). p.1) (entered_is setting)));
   }
 
 -- a relation of the database is one of the catalog

@@ -21,7 +21,8 @@ unfolding line_value
 insert_is s relation values is = ap statement_value is
 
 -- what is kept of an insertion is what is kept of its row
-pub insert_kept : {E : Type 0} (catalog : CatalogView) (s : spoken.Statement) (relation : List ℕ) (values : List Value) (rows : List (List Value)) (r : Result (Option (List ℕ)) E) → s ≡ statement.Insert relation values
+pub insert_kept : {E : Type 0} (catalog : CatalogView) (s : spoken.Statement) (relation : List ℕ) (values : List Value) (rows : List (List Value)) (r : Result (Option (List ℕ)) E)
+    → s ≡ statement.Insert relation values
     → rows ≡ values ∷ [] → IfOk r (IsKeptOfRows catalog relation rows) → IfOk r (IsKeptOf catalog (line_value s))
 insert_kept catalog s relation values rows (Ok kept) is same h =
     subst (λ (v : Statement). IsKeptOf catalog v kept) (sym (insert_is s relation values is)) (subst (λ (rs : List (List Value)). IsKeptOfRows catalog relation rs kept) same h)
@@ -72,7 +73,8 @@ pub delete_copied : (s : spoken.Statement) (relation relation' : List ℕ) (id :
 unfolding line_value
 delete_copied s relation relation' id is same = rw (is, same) (refl, tt)
 
-pub index_copied : (s : spoken.Statement) (column : Column) (relation' column' : List ℕ) (threshold : Option ℕ) → s ≡ statement.Index column threshold → relation' ≡ column.relation → column' ≡ column.column
+pub index_copied : (s : spoken.Statement) (column : Column) (relation' column' : List ℕ) (threshold : Option ℕ) → s ≡ statement.Index column threshold
+    → relation' ≡ column.relation → column' ≡ column.column
     → (line_value (statement.Index (record { relation = relation'; column = column' }) threshold) ≡ line_value s) × IsKept (line_value s)
 unfolding line_value
 index_copied s column relation' column' threshold is same same_column = rw (is, same, same_column) (refl, tt)
@@ -89,7 +91,8 @@ rows_change name label encodings rows same same_rows named short few =
     subst IsChange (sym (rows_are (change.Rows label rows) name encodings (rw (same, same_rows) refl))) (named, short, few)
 
 -- its body is that of the rows
-pub rows_body : (catalog : CatalogView) (relation : RelationView) (name label : List ℕ) (values : List (List Value)) (encodings rows : List (List ℕ)) (one : List ℕ) → find (is_named name) catalog.relations ≡ Some relation
+pub rows_body : (catalog : CatalogView) (relation : RelationView) (name label : List ℕ) (values : List (List Value)) (encodings rows : List (List ℕ)) (one : List ℕ)
+    → find (is_named name) catalog.relations ≡ Some relation
     → AreShortEncodingsOf relation.schema values encodings → label ≡ name → rows ≡ encodings → IsName name → length (body_of (Rows name encodings)) < 4294967296
     → one ≡ body_of (change_value (change.Rows label rows)) → IsBodyOfRows catalog name values one
 rows_body catalog relation name label values encodings rows one found all same same_rows named few is = record {

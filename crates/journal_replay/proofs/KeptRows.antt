@@ -1,5 +1,6 @@
 -- Rows that are encoded one by one, and the length of their body.
-use Rattle.std.proofs.Common.{◌≡◌, inl, inr, ℕ, zero, suc, ◌+◌, ◌<◌, ◌≤◌, Bool, true, false, nat_lt, ◌&&◌, List, [], ◌∷◌, ◌++◌, length, get_or, take, drop, map, Vec, refl, sym, ap, subst, ◌∙◌, arith, length-append, true≢false}
+use Rattle.std.proofs.Common.{◌≡◌, inl, inr, ℕ, zero, suc, ◌+◌, ◌<◌, ◌≤◌, Bool, true, false, nat_lt, ◌&&◌, List, [], ◌∷◌, ◌++◌, length, get_or, take, drop, map, Vec}
+use Rattle.std.proofs.Common.{refl, sym, ap, subst, ◌∙◌, arith, length-append, true≢false}
 use Rattle.std.proofs.Math.ListN.{get_or-map}
 use Rattle.std.proofs.Math.Seq.{take-suc}
 use Rattle.std.proofs.lemmas.List.{length-map, map-append, take_all}
@@ -113,7 +114,8 @@ told_less a b told = elim (leb_tells (suc a) b) [ inl x ↦ omega (arith, x.1) |
 pub body_short : (relation : List ℕ) (xs : List (Vec ℕ Global)) (at size : ℕ) → size ≡ 6 + length relation + length (flat_map framed_row (bytes_of_each (take at xs))) → length xs ≤ at
     → nat_lt size 4294967296 ≡ true → length (body_of (Rows relation (bytes_of_each xs))) < 4294967296
 body_short relation xs at size is le told =
-    let whole : length (flat_map framed_row (bytes_of_each (take at xs))) ≡ length (flat_map framed_row (bytes_of_each xs)) = ap (λ (l : List (Vec ℕ Global)). length (flat_map framed_row (bytes_of_each l))) (take_all at xs le) in
+    let whole : length (flat_map framed_row (bytes_of_each (take at xs))) ≡ length (flat_map framed_row (bytes_of_each xs)) =
+    ap (λ (l : List (Vec ℕ Global)). length (flat_map framed_row (bytes_of_each l))) (take_all at xs le) in
     let less : size < 4294967296 = told_less size 4294967296 told in
     omega (arith, is, whole, less, body_size relation (bytes_of_each xs))
 

@@ -44,7 +44,8 @@ threshold_fits (Some n) h = h
 
 -- a journal keeps no other statement
 pub kept_ones : (s : Statement) → IsKept (line_value s) → ((relation : List ℕ) (columns : List (List ℕ × Kind)) → s ≡ statement.Create relation columns → ⊥)
-    → ((relation : List ℕ) (id : ℕ) → s ≡ statement.Delete relation id → ⊥) → ((column : Column) (threshold : Option ℕ) → s ≡ statement.Index column threshold → ⊥) → ((column : Column) → s ≡ statement.Rtree column → ⊥) → ⊥
+    → ((relation : List ℕ) (id : ℕ) → s ≡ statement.Delete relation id → ⊥) → ((column : Column) (threshold : Option ℕ) → s ≡ statement.Index column threshold → ⊥)
+    → ((column : Column) → s ≡ statement.Rtree column → ⊥) → ⊥
 unfolding line_value
 kept_ones (statement.Create relation columns) kept create delete index rtree = create relation columns refl
 kept_ones (statement.Insert relation values) kept create delete index rtree = kept

@@ -41,7 +41,8 @@ next_before : {N : Type 0} (m : Meaning N) (last : Option Hit) (row : Hit) → I
 unfolding found_of
 next_before m last row answer later =
     let test = λ (hit : Hit). within m.ceiling hit.gap && comes_after last (found_of hit) in
-    let passes : (hit : Hit) → IsAnswer m hit → IsLater last hit → test hit ≡ true = λ hit a l. and_from (within m.ceiling hit.gap) (comes_after last (found_of hit)) a.1 (tests_later last (found_of hit) l) in
+    let passes : (hit : Hit) → IsAnswer m hit → IsLater last hit → test hit ≡ true =
+    λ hit a l. and_from (within m.ceiling hit.gap) (comes_after last (found_of hit)) a.1 (tests_later last (found_of hit) l) in
     ⊎_elim
     (λ empty. absurd (empty row answer.0 (passes row answer later)))
     (λ l.
@@ -61,7 +62,8 @@ next_before m last row answer later =
 
 -- what lies before the search's next row lies before the next partner
 before_partner : {N : Type 0} (m : Meaning N) (first last : Option Hit) (counts : PartnerCounts) (attempt all : List (Item N))
-    → ((answer : List Found) → ListsAnswer m answer → partners_left first counts answer ≡ partners_left last counts answer) → VisitsBefore m last attempt all → VisitsBeforePartner m first counts attempt all
+    → ((answer : List Found) → ListsAnswer m answer → partners_left first counts answer ≡ partners_left last counts answer) → VisitsBefore m last attempt all
+    → VisitsBeforePartner m first counts attempt all
 before_partner m first last counts attempt all same h = record {
   few = h.few;
   near = λ answer lists found more is.
@@ -80,22 +82,28 @@ before_partner m first last counts attempt all same h = record {
 
 module _ {N : Type 0} {cmp : N → N → Ordering} (m : Meaning N) (note : Item N → Visit) where
   -- what a second call makes after a first one
-  both : (done : List (Item N)) (old mid new : SearchState N) (first : Makes cmp m note done old mid []) (attempt : List (Item N)) → Makes cmp m note (done ++ first.taken) mid new attempt → Makes cmp m note done old new attempt
+  both : (done : List (Item N)) (old mid new : SearchState N) (first : Makes cmp m note done old mid []) (attempt : List (Item N))
+      → Makes cmp m note (done ++ first.taken) mid new attempt → Makes cmp m note done old new attempt
   both done old mid new first attempt second =
       let regroup = append_assoc done first.taken second.taken in
       record {
         taken = first.taken ++ second.taken;
-        noted = subst (λ l. Noted note m.price l old.desk new.desk) (ap (λ l. l ++ (second.taken ++ attempt)) (append-nil first.taken) ∙ sym (append_assoc first.taken second.taken attempt)) (noted_both note m.price (first.taken ++ []) (second.taken ++ attempt) old.desk mid.desk new.desk first.noted second.noted);
-        rose = subst (λ n. RoseBy n old.desk new.desk) (sym (ap length (nodes-append first.taken second.taken) ∙ length-append (nodes_of first.taken) (nodes_of second.taken))) (rose_both (length (nodes_of first.taken)) (length (nodes_of second.taken)) old.desk mid.desk new.desk first.rose second.rose);
+        noted = subst (λ l. Noted note m.price l old.desk new.desk) (ap (λ l. l ++ (second.taken ++ attempt)) (append-nil first.taken)
+            ∙ sym (append_assoc first.taken second.taken attempt)) (noted_both note m.price (first.taken ++ []) (second.taken ++ attempt) old.desk mid.desk new.desk first.noted second.noted);
+        rose = subst (λ n. RoseBy n old.desk new.desk) (sym (ap length (nodes-append first.taken second.taken) ∙ length-append (nodes_of first.taken) (nodes_of second.taken)))
+            (rose_both (length (nodes_of first.taken)) (length (nodes_of second.taken)) old.desk mid.desk new.desk first.rose second.rose);
         stands = subst (Stands cmp m new.held new.last) regroup second.stands;
-        visits = subst (All IsVisit) (sym (append_assoc first.taken second.taken attempt)) (All-append IsVisit first.taken (second.taken ++ attempt) (All-left IsVisit first.taken [] first.visits) second.visits);
+        visits = subst (All IsVisit) (sym (append_assoc first.taken second.taken attempt))
+            (All-append IsVisit first.taken (second.taken ++ attempt) (All-left IsVisit first.taken [] first.visits) second.visits);
         tried = second.tried;
         nearer = second.nearer;
         counted = λ c. subst (λ d. IsCounted d new.counts) regroup (second.counted (first.counted c));
       }
 
   -- the calls before, all accepted, and a last one whose bounds are those of the join
-  joined : (counts : PartnerCounts) (done : List (Item N)) (old mid new : SearchState N) (result : Result (Option Hit) PageFault) (first : Makes cmp m note done old mid []) (attempt : List (Item N)) (second : Makes cmp m note (done ++ first.taken) mid new attempt) → PartnerBounds cmp m old.last counts result attempt ((done ++ first.taken) ++ second.taken) → PartnerVisits cmp m note counts done old new result
+  joined : (counts : PartnerCounts) (done : List (Item N)) (old mid new : SearchState N) (result : Result (Option Hit) PageFault)
+      (first : Makes cmp m note done old mid []) (attempt : List (Item N)) (second : Makes cmp m note (done ++ first.taken) mid new attempt)
+      → PartnerBounds cmp m old.last counts result attempt ((done ++ first.taken) ++ second.taken) → PartnerVisits cmp m note counts done old new result
   unfolding both
   joined counts done old mid new result first attempt second bounds = record {
     attempt = attempt;
@@ -104,7 +112,8 @@ module _ {N : Type 0} {cmp : N → N → Ordering} (m : Meaning N) (note : Item 
   }
 
   -- after a row
-  pub row_visits : (counts : PartnerCounts) (old mid new : SearchState N) (hit : Hit) → Goes cmp m note old mid → MakesVisits cmp m note mid new (Ok (Some hit)) → MakesPartnerVisits cmp m note counts old new (Ok (Some hit))
+  pub row_visits : (counts : PartnerCounts) (old mid new : SearchState N) (hit : Hit) → Goes cmp m note old mid → MakesVisits cmp m note mid new (Ok (Some hit))
+      → MakesPartnerVisits cmp m note counts old new (Ok (Some hit))
   row_visits counts old mid new hit goes visits done h =
       let first = goes done h in
       let call = visits (done ++ first.taken) first.stands in
@@ -118,7 +127,8 @@ module _ {N : Type 0} {cmp : N → N → Ordering} (m : Meaning N) (note : Item 
       joined counts done old mid new (Ok None) first call.attempt call.makes call.bounds
 
   -- after a refusal
-  pub fault_visits : (counts : PartnerCounts) (old mid new : SearchState N) (fault : PageFault) → ((answer : List Found) → ListsAnswer m answer → partners_left old.last counts answer ≡ partners_left mid.last counts answer)
+  pub fault_visits : (counts : PartnerCounts) (old mid new : SearchState N) (fault : PageFault)
+      → ((answer : List Found) → ListsAnswer m answer → partners_left old.last counts answer ≡ partners_left mid.last counts answer)
       → Goes cmp m note old mid → MakesVisits cmp m note mid new (Err fault) → MakesPartnerVisits cmp m note counts old new (Err fault)
   fault_visits counts old mid new fault same goes visits done h =
       let first = goes done h in

@@ -1,5 +1,6 @@
 -- What a row of the search does to the counts: it is passed over, or it is the next partner. And the beginning and the end.
-use Rattle.std.proofs.Common.{◌≡◌, ◌⊎◌, inl, inr, ⊎_elim, ℕ, suc, ◌+◌, ◌*◌, ◌<◌, ◌≤◌, min, Bool, true, false, cond, List, [], ◌∷◌, length, get_or, set, Contains, Option, None, Some, refl, sym, ap, ap₂, ◌∙◌, subst, arith, get_or-set_same, get_or-set_other}
+use Rattle.std.proofs.Common.{◌≡◌, ◌⊎◌, inl, inr, ⊎_elim, ℕ, suc, ◌+◌, ◌*◌, ◌<◌, ◌≤◌, min, Bool, true, false, cond, List, [], ◌∷◌, length, get_or, set, Contains, Option}
+use Rattle.std.proofs.Common.{None, Some, refl, sym, ap, ap₂, ◌∙◌, subst, arith, get_or-set_same, get_or-set_other}
 use Rattle.std.specs.Prelude.{nat_eq}
 use Rattle.std.proofs.lemmas.Bool.{eqb-true, eq-eqb}
 use Rattle.std.proofs.lemmas.List.{length-set}
@@ -90,7 +91,8 @@ module _ (answer : List Found) (last : Option Hit) (hit : Hit) (f : Found) (is :
       (let first = later_first in let all = upto.came f.left in let few = upto.few f.left in let enough = upto.enough f among in omega arith) in
       let l = leaves f.left upto.rest more in
       let now = gives_to hit.left counts in
-      let twice : given_to now f.left ≡ suc (given_to counts f.left) = subst (λ id. given_to (gives_to id counts) f.left ≡ suc (given_to counts f.left)) (sym same) (given_same counts f.left (subst (λ id. id < length counts.given) same inside)) in
+      let twice : given_to now f.left ≡ suc (given_to counts f.left) =
+      subst (λ id. given_to (gives_to id counts) f.left ≡ suc (given_to counts f.left)) (sym same) (given_same counts f.left (subst (λ id. id < length counts.given) same inside)) in
       let others : (id : ℕ) → nat_eq id f.left ≡ false → given_to now id ≡ given_to counts id = λ id e. given_other counts hit.left inside id (subst (λ n. nat_eq id n ≡ false) (sym same) e) in
       record {
         rights = upto.rights;
@@ -102,28 +104,33 @@ module _ (answer : List Found) (last : Option Hit) (hit : Hit) (f : Found) (is :
         few = upto.few;
       }
     where
-      enough_now : (id : ℕ) (l : Leaves f.left upto.rest) → given_to (gives_to hit.left counts) f.left ≡ suc (given_to counts f.left) → ((id : ℕ) → nat_eq id f.left ≡ false → given_to (gives_to hit.left counts) id ≡ given_to counts id)
+      enough_now : (id : ℕ) (l : Leaves f.left upto.rest) → given_to (gives_to hit.left counts) f.left ≡ suc (given_to counts f.left)
+          → ((id : ℕ) → nat_eq id f.left ≡ false → given_to (gives_to hit.left counts) id ≡ given_to counts id)
           → min counts.most upto.rights ≤ given_to counts id + how_often id upto.rest → min counts.most upto.rights ≤ given_to (gives_to hit.left counts) id + how_often id l.rest
       enough_now id l twice others enough =
           let go : (t : Bool) → nat_eq id f.left ≡ t → min counts.most upto.rights ≤ given_to (gives_to hit.left counts) id + how_often id l.rest = elim [
             | true ↦ λ e.
                 let it = eqb-true id f.left e in
                 subst (λ n. min counts.most upto.rights ≤ given_to (gives_to hit.left counts) n + how_often n l.rest) (sym it)
-                (let before : min counts.most upto.rights ≤ given_to counts f.left + how_often f.left upto.rest = subst (λ n. min counts.most upto.rights ≤ given_to counts n + how_often n upto.rest) it enough in
+                (let before : min counts.most upto.rights ≤ given_to counts f.left + how_often f.left upto.rest =
+                subst (λ n. min counts.most upto.rights ≤ given_to counts n + how_often n upto.rest) it enough in
                 let fewer = l.here in
                 omega arith)
             | false ↦ λ e. let one = others id e in let two = l.others id e in omega arith
           ] in
           go (nat_eq id f.left) refl
 
-      came_now : (id : ℕ) → given_to (gives_to hit.left counts) f.left ≡ suc (given_to counts f.left) → ((id : ℕ) → nat_eq id f.left ≡ false → given_to (gives_to hit.left counts) id ≡ given_to counts id)
-          → given_to counts id + with_left id (later_than last answer) ≤ with_left id answer → given_to (gives_to hit.left counts) id + with_left id (later_than (Some hit) answer) ≤ with_left id answer
+      came_now : (id : ℕ) → given_to (gives_to hit.left counts) f.left ≡ suc (given_to counts f.left)
+          → ((id : ℕ) → nat_eq id f.left ≡ false → given_to (gives_to hit.left counts) id ≡ given_to counts id)
+          → given_to counts id + with_left id (later_than last answer) ≤ with_left id answer
+          → given_to (gives_to hit.left counts) id + with_left id (later_than (Some hit) answer) ≤ with_left id answer
       came_now id twice others came =
           let go : (t : Bool) → nat_eq id f.left ≡ t → given_to (gives_to hit.left counts) id + with_left id (later_than (Some hit) answer) ≤ with_left id answer = elim [
             | true ↦ λ e.
                 let it = eqb-true id f.left e in
                 subst (λ n. given_to (gives_to hit.left counts) n + with_left n (later_than (Some hit) answer) ≤ with_left n answer) (sym it)
-                (let before : given_to counts f.left + with_left f.left (later_than last answer) ≤ with_left f.left answer = subst (λ n. given_to counts n + with_left n (later_than last answer) ≤ with_left n answer) it came in
+                (let before : given_to counts f.left + with_left f.left (later_than last answer) ≤ with_left f.left answer =
+                subst (λ n. given_to counts n + with_left n (later_than last answer) ≤ with_left n answer) it came in
                 let first = later_first in
                 omega arith)
             | false ↦ λ e. let one = others id e in let less = later_less id in omega arith
@@ -171,7 +178,8 @@ one_gap m answer laws lists f g at too left right =
     same_trans f.gap o.row.gap g.gap (same_back o.row.gap f.gap o.same.0) (same_trans o.row.gap p.row.gap g.gap between p.same.0)
 
 -- at the beginning all rows are to come
-pub begun : {N : Type 0} (m : Meaning N) (lefts rights greatest : ℕ) (counts : PartnerCounts) → MeetsLaws m → HasSides m lefts rights greatest → ((id : ℕ) → given_to counts id ≡ 0) → greatest < length counts.given → counts.waiting ≡ lefts * min counts.most rights
+pub begun : {N : Type 0} (m : Meaning N) (lefts rights greatest : ℕ) (counts : PartnerCounts) → MeetsLaws m → HasSides m lefts rights greatest
+    → ((id : ℕ) → given_to counts id ≡ 0) → greatest < length counts.given → counts.waiting ≡ lefts * min counts.most rights
     → (answer : List Found) → ListsAnswer m answer → AreCountedUpTo answer None counts
 begun m lefts rights greatest counts laws sides zeros places waits answer lists = record {
   rights = rights;

@@ -94,7 +94,8 @@ pub record IsFirstLater (last : Option Hit) (hit : Hit) (answer : List Found) : 
 pub next_later : {N : Type 0} (m : Meaning N) (answer : List Found) → ListsAnswer m answer → (last : Option Hit) (hit : Hit) → IsNext m last hit → IsFirstLater last hit answer
 next_later m answer lists last hit next =
     let w = lists.whole next.row next.answer in
-    let same : IsSameRow hit (hit_of w.found) = (same_trans hit.gap next.row.gap w.found.gap (same_back next.row.gap hit.gap next.same.0) w.same.0, sym next.same.1 ∙ w.same.1, sym next.same.2 ∙ w.same.2) in
+    let same : IsSameRow hit (hit_of w.found) =
+    (same_trans hit.gap next.row.gap w.found.gap (same_back next.row.gap hit.gap next.same.0) w.same.0, sym next.same.1 ∙ w.same.1, sym next.same.2 ∙ w.same.2) in
     record {
       found = w.found;
       is =
@@ -103,7 +104,8 @@ next_later m answer lists last hit next =
           let o = lists.only x at in
           let back = later_row last (hit_of x) o.row (same_back o.row.gap x.gap o.same.0, sym o.same.1, sym o.same.2) (is_later last x late) in
           let over : hit_cmp next.row o.row ≡ Greater =
-          rows_total.antisymm next.row o.row ∙ ap ordering_reverse (rows_total.congr o.row (hit_of x) next.row (rows_tied o.row (hit_of x) o.same) ∙ alike_right rows_total next.row (hit_of w.found) (hit_of x) (rows_tied next.row (hit_of w.found) w.same) ∙ less) in
+          rows_total.antisymm next.row o.row ∙ ap ordering_reverse (rows_total.congr o.row (hit_of x) next.row (rows_tied o.row (hit_of x) o.same)
+          ∙ alike_right rows_total next.row (hit_of w.found) (hit_of x) (rows_tied next.row (hit_of w.found) w.same) ∙ less) in
           true≢false (sym (ap is_gt over) ∙ next.first o.row o.answer back));
       same = same;
       among = w.among;

@@ -1,5 +1,6 @@
 -- How often ids stand in lists: one leaves, some are left out, and each left row has at most one row for each right one.
-use Rattle.std.proofs.Common.{◌≡◌, ⊎_elim, ℕ, zero, suc, ◌+◌, ◌*◌, ◌≤◌, Bool, true, false, cond, List, [], ◌∷◌, ◌++◌, length, map, Contains, refl, sym, ap, ◌∙◌, subst, arith, length-append, true≢false, Less}
+use Rattle.std.proofs.Common.{◌≡◌, ⊎_elim, ℕ, zero, suc, ◌+◌, ◌*◌, ◌≤◌, Bool, true, false, cond, List, [], ◌∷◌, ◌++◌, length, map, Contains, refl, sym, ap, ◌∙◌, subst}
+use Rattle.std.proofs.Common.{arith, length-append, true≢false, Less}
 use Rattle.std.specs.Prelude.{nat_eq}
 use Rattle.std.specs.Ordering.{is_lt}
 use Rattle.std.specs.List.Sorted.{IsStrictlySortedBy}
@@ -38,7 +39,8 @@ pub often_append : (id : ℕ) (xs ys : List ℕ) → how_often id (xs ++ ys) ≡
 often_append id [] ys = let none : how_often id ys ≡ 0 + how_often id ys = omega arith in none
 often_append id (x ∷ xs) ys =
     let rest = often_append id xs ys in
-    let go : (t : Bool) → cond t (suc (how_often id (xs ++ ys))) (how_often id (xs ++ ys)) ≡ cond t (suc (how_often id xs)) (how_often id xs) + how_often id ys = elim [ true ↦ more (how_often id (xs ++ ys)) (how_often id xs) (how_often id ys) rest | false ↦ rest ] in
+    let go : (t : Bool) → cond t (suc (how_often id (xs ++ ys))) (how_often id (xs ++ ys)) ≡ cond t (suc (how_often id xs)) (how_often id xs) + how_often id ys =
+    elim [ true ↦ more (how_often id (xs ++ ys)) (how_often id xs) (how_often id ys) rest | false ↦ rest ] in
     go (nat_eq x id)
   where
     more : (a b c : ℕ) → a ≡ b + c → suc a ≡ suc b + c
@@ -138,7 +140,8 @@ abbrev pub HaveOneGap : List Found → Type 0
 HaveOneGap fs = (f g : Found) → Contains fs f → Contains fs g → f.left ≡ g.left → f.right ≡ g.right → IsSameGap f.gap g.gap
 
 -- so a rising list has each pair once
-pub few_partners : (id : ℕ) (fs : List Found) → IsStrictlySortedBy found_cmp fs → HaveOneGap fs → (rights : List ℕ) → ((f : Found) → Contains fs f → f.left ≡ id → Contains rights f.right) → with_left id fs ≤ length rights
+pub few_partners : (id : ℕ) (fs : List Found) → IsStrictlySortedBy found_cmp fs → HaveOneGap fs → (rights : List ℕ)
+    → ((f : Found) → Contains fs f → f.left ≡ id → Contains rights f.right) → with_left id fs ≤ length rights
 few_partners id [] rises one rights on = omega arith
 few_partners id (f ∷ fs) rises one rights on =
     let below = rest_rises f fs rises in
@@ -148,7 +151,8 @@ few_partners id (f ∷ fs) rises one rights on =
           let same = eqb-true f.left id e in
           let d = dropped f.right rights (on f (here f fs) same) in
           let rest = few_partners id fs below fewer d.rest (λ g at is.
-          ⊎_elim (λ twice. absurd (apart f g (All-contains (λ q. found_cmp f q ≡ Less) fs g (All-after_first found_cmp f fs rises) at) (one f g (here f fs) (there f fs g at) (same ∙ sym is) (sym twice)) (same ∙ sym is) (sym twice))) (λ left. left)
+          ⊎_elim (λ twice. absurd (apart f g (All-contains (λ q. found_cmp f q ≡ Less) fs g (All-after_first found_cmp f fs rises) at)
+          (one f g (here f fs) (there f fs g at) (same ∙ sym is) (sym twice)) (same ∙ sym is) (sym twice))) (λ left. left)
           (d.cases g.right (on g (there f fs g at) is))) in
           let first : with_left id (f ∷ fs) ≡ suc (with_left id fs) = often_first id f.left (map (λ (g : Found). g.left) fs) same in
           let long = d.count in

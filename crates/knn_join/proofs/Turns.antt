@@ -37,7 +37,8 @@ module _ {N : Type 0} (cmp : N → N → Ordering) (meaning : PageMap → Meanin
 
   -- a row whose left row was refused a partner is passed over
   pub passes : (pages : Option PageMap) (mid new : SearchState N) (hit : Hit) → new.last ≡ Some hit → (length counts.given ≤ hit.left) ⊎ (counts.most ≤ given_to counts hit.left)
-      → IfSome pages (λ p. Passes cmp (meaning p) note counts old mid) → IfSome pages (λ p. Calls cmp (meaning p) note mid new (Ok (Some hit))) → IfSome pages (λ p. Passes cmp (meaning p) note counts old new)
+      → IfSome pages (λ p. Passes cmp (meaning p) note counts old mid) → IfSome pages (λ p. Calls cmp (meaning p) note mid new (Ok (Some hit)))
+      → IfSome pages (λ p. Passes cmp (meaning p) note counts old new)
   passes None mid new hit last why h call = tt
   passes (Some p) mid new hit last why h call = record {
     stands = call.stands;
@@ -73,45 +74,55 @@ module _ {N : Type 0} (cmp : N → N → Ordering) (meaning : PageMap → Meanin
         subst (λ l. AreCountedUpTo answer l (gives_to hit.left counts)) (sym last) (given_now answer mid.last hit f.found f.is f.among f.same.1 counts (h.upto answer lists) open_ inside),
   )
 
-  pub partner_visits : (pages : Option PageMap) (mid new : SearchState N) (hit : Hit) → IfSome pages (λ p. Passes cmp (meaning p) note counts old mid) → IfSome pages (λ p. Calls cmp (meaning p) note mid new (Ok (Some hit))) → IfSome pages (λ p. MakesPartnerVisits cmp (meaning p) note counts old new (Ok (Some hit)))
+  pub partner_visits : (pages : Option PageMap) (mid new : SearchState N) (hit : Hit) → IfSome pages (λ p. Passes cmp (meaning p) note counts old mid)
+      → IfSome pages (λ p. Calls cmp (meaning p) note mid new (Ok (Some hit))) → IfSome pages (λ p. MakesPartnerVisits cmp (meaning p) note counts old new (Ok (Some hit)))
   partner_visits None mid new hit h call = tt
   partner_visits (Some p) mid new hit h call = row_visits (meaning p) note counts old mid new hit h.goes call.visits
 
   -- the end of the search
-  pub end_left : (pages : Option PageMap) (mid new : SearchState N) → new.last ≡ mid.last → IfSome pages (λ p. Passes cmp (meaning p) note counts old mid) → IfSome pages (λ p. Calls cmp (meaning p) note mid new (Ok None))
+  pub end_left : (pages : Option PageMap) (mid new : SearchState N) → new.last ≡ mid.last → IfSome pages (λ p. Passes cmp (meaning p) note counts old mid)
+      → IfSome pages (λ p. Calls cmp (meaning p) note mid new (Ok None))
       → LeavesRest meaning pages old.last counts new.last counts (Ok None)
   end_left None mid new last h call = tt
   end_left (Some p) mid new last h call = λ answer lists.
       let none : partners_left mid.last counts answer ≡ [] = ap (nearest_after counts.most (given_to counts)) (none_later (meaning p) answer lists mid.last call.row) in
       (h.same answer lists ∙ none, ap (λ l. partners_left l counts answer) last ∙ none)
 
-  pub end_noted : (pages : Option PageMap) (mid new : SearchState N) → IfSome pages (λ p. Passes cmp (meaning p) note counts old mid) → IfSome pages (λ p. Calls cmp (meaning p) note mid new (Ok None)) → IfSome pages (λ p. MakesPartnerVisits cmp (meaning p) note counts old new (Ok None))
+  pub end_noted : (pages : Option PageMap) (mid new : SearchState N) → IfSome pages (λ p. Passes cmp (meaning p) note counts old mid)
+      → IfSome pages (λ p. Calls cmp (meaning p) note mid new (Ok None)) → IfSome pages (λ p. MakesPartnerVisits cmp (meaning p) note counts old new (Ok None))
   end_noted None mid new h call = tt
   end_noted (Some p) mid new h call = end_visits (meaning p) note counts old mid new h.goes call.visits
 
   -- a refusal
-  pub fault_left : (pages : Option PageMap) (mid new : SearchState N) (fault : PageFault) → new.last ≡ mid.last → IfSome pages (λ p. Passes cmp (meaning p) note counts old mid) → LeavesRest meaning pages old.last counts new.last counts (Err fault)
+  pub fault_left : (pages : Option PageMap) (mid new : SearchState N) (fault : PageFault) → new.last ≡ mid.last
+      → IfSome pages (λ p. Passes cmp (meaning p) note counts old mid) → LeavesRest meaning pages old.last counts new.last counts (Err fault)
   fault_left None mid new fault last h = tt
   fault_left (Some p) mid new fault last h = λ answer lists. ap (λ l. partners_left l counts answer) last ∙ sym (h.same answer lists)
 
-  pub fault_noted : (pages : Option PageMap) (mid new : SearchState N) (fault : PageFault) → IfSome pages (λ p. Passes cmp (meaning p) note counts old mid) → IfSome pages (λ p. Calls cmp (meaning p) note mid new (Err fault)) → IfSome pages (λ p. MakesPartnerVisits cmp (meaning p) note counts old new (Err fault))
+  pub fault_noted : (pages : Option PageMap) (mid new : SearchState N) (fault : PageFault) → IfSome pages (λ p. Passes cmp (meaning p) note counts old mid)
+      → IfSome pages (λ p. Calls cmp (meaning p) note mid new (Err fault)) → IfSome pages (λ p. MakesPartnerVisits cmp (meaning p) note counts old new (Err fault))
   fault_noted None mid new fault h call = tt
   fault_noted (Some p) mid new fault h call = fault_visits (meaning p) note counts old mid new fault h.same h.goes call.visits
 
   -- the search stands after the end or a refusal, and no partner was given
-  pub still_stands : (pages : Option PageMap) (mid new : SearchState N) (result : Result (Option Hit) PageFault) → new.last ≡ mid.last → IfSome pages (λ p. Passes cmp (meaning p) note counts old mid) → IfSome pages (λ p. Calls cmp (meaning p) note mid new result) → IfSome pages (λ p. KnnStands cmp (meaning p) new.held new.last counts)
+  pub still_stands : (pages : Option PageMap) (mid new : SearchState N) (result : Result (Option Hit) PageFault) → new.last ≡ mid.last
+      → IfSome pages (λ p. Passes cmp (meaning p) note counts old mid) → IfSome pages (λ p. Calls cmp (meaning p) note mid new result)
+      → IfSome pages (λ p. KnnStands cmp (meaning p) new.held new.last counts)
   still_stands None mid new result last h call = tt
   still_stands (Some p) mid new result last h call = (call.stands, λ answer lists. subst (λ l. AreCountedUpTo answer l counts) (sym last) (h.upto answer lists))
 
   -- where no row is to come, none is left
-  pub ended : (pages : Option PageMap) → counts.waiting ≡ 0 → IfSome pages (λ p. KnnStands cmp (meaning p) old.held old.last counts) → LeavesRest meaning pages old.last counts old.last counts (Ok None)
+  pub ended : (pages : Option PageMap) → counts.waiting ≡ 0 → IfSome pages (λ p. KnnStands cmp (meaning p) old.held old.last counts)
+      → LeavesRest meaning pages old.last counts old.last counts (Ok None)
   ended None none h = tt
   ended (Some p) none h = λ answer lists. let empty = none_waits answer old.last counts (h.1 answer lists) none in (empty, empty)
 
 -- at the beginning the join stands over each meaning that has its two sides
-pub stands_begun : {N : Type 0} (cmp : N → N → Ordering) (m : Meaning N) (held : List (Item N)) (last : Option Hit) (counts : PartnerCounts) (most lefts rights greatest : ℕ) → last ≡ None → counts.most ≡ most → ((id : ℕ) → given_to counts id ≡ 0) → greatest < length counts.given
+pub stands_begun : {N : Type 0} (cmp : N → N → Ordering) (m : Meaning N) (held : List (Item N)) (last : Option Hit) (counts : PartnerCounts) (most lefts rights greatest : ℕ)
+    → last ≡ None → counts.most ≡ most → ((id : ℕ) → given_to counts id ≡ 0) → greatest < length counts.given
     → counts.waiting ≡ lefts * min most rights → StandsOver cmp m held last → HasSides m lefts rights greatest → KnnStands cmp m held last counts
 stands_begun cmp m held last counts most lefts rights greatest none is zeros places waits stands sides = (
   stands,
-  λ answer lists. subst (λ l. AreCountedUpTo answer l counts) (sym none) (begun m lefts rights greatest counts stands.0 sides zeros places (waits ∙ ap (λ n. lefts * min n rights) (sym is)) answer lists),
+  λ answer lists. subst (λ l. AreCountedUpTo answer l counts) (sym none)
+      (begun m lefts rights greatest counts stands.0 sides zeros places (waits ∙ ap (λ n. lefts * min n rights) (sym is)) answer lists),
 )

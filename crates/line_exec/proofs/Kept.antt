@@ -33,7 +33,8 @@ err_written P (Ok refused) h = tt
 err_written P (Err why) h = h
 
 -- where the sink alone may fail, its count says why
-pub cause_of_sink : (sink sink' tape tape' : ℕ) (r : Result Bool LineFault) → IfErr r (λ why. why ≡ fault.Sink) → HasCause sink sink' (sink_result r) → tape' ≡ tape → HasLineCause sink sink' tape tape' r
+pub cause_of_sink : (sink sink' tape tape' : ℕ) (r : Result Bool LineFault) → IfErr r (λ why. why ≡ fault.Sink) → HasCause sink sink' (sink_result r) → tape' ≡ tape
+    → HasLineCause sink sink' tape tape' r
 cause_of_sink sink sink' tape tape' (Ok refused) e c same = record { of_sink = c.done; of_tape = same }
 cause_of_sink sink sink' tape tape' (Err fault.Sink) e c same = record { of_sink = c.failed; of_tape = same }
 cause_of_sink sink sink' tape tape' (Err fault.Journal) e c same = absurd (let no : fault.Journal ≡ fault.Sink = e in cc)
@@ -80,7 +81,8 @@ module _ {T : Type 0} (seen : T → TapeView) where
   keeps_same journal (Err why) = record { there = refl; takes = λ bound h. tt }
 
   -- a line that kept what it did
-  pub keeps_behind : (old new : Option (Journal T)) (r : Result Bool LineFault) → is_some new ≡ is_some old → ((bound : ℕ) → TakesUpTo seen bound old → TakesUpTo seen (bound + most_kept) new) → KeepsOn seen old new r
+  pub keeps_behind : (old new : Option (Journal T)) (r : Result Bool LineFault) → is_some new ≡ is_some old
+      → ((bound : ℕ) → TakesUpTo seen bound old → TakesUpTo seen (bound + most_kept) new) → KeepsOn seen old new r
   keeps_behind old new (Ok refused) there takes = record { there = there; takes = takes }
   keeps_behind old new (Err why) there takes = record { there = there; takes = λ bound h. tt }
 

@@ -59,8 +59,10 @@ asks_few (statement.Far count column goal) range = omega arith
 asks_few (statement.Blocks column) range = omega arith
 
 -- the statement, which may have come back, read over a store whose moment is the first one: its line did so
-pub line_of_reading : (line : List ℕ) (statement other : declared.Statement) (mid new : StoreState) (old : List Cursor → Moment) (files : Option Files) (shelf : ℕ) (cs : List Cursor) (a b : List ℕ → Type 0)
-    (r : Result Bool Failed) (At : List Cursor → Type 0) → Says line (Some statement) → statement_value other ≡ statement_value statement → new.catalog ≡ mid.catalog → while_open mid files shelf cs ≡ old cs
+pub line_of_reading : (line : List ℕ) (statement other : declared.Statement) (mid new : StoreState) (old : List Cursor → Moment) (files : Option Files) (shelf : ℕ)
+    (cs : List Cursor) (a b : List ℕ → Type 0)
+    (r : Result Bool Failed) (At : List Cursor → Type 0) → Says line (Some statement) → statement_value other ≡ statement_value statement → new.catalog ≡ mid.catalog
+    → while_open mid files shelf cs ≡ old cs
     → CarriesBeside (statement_value other) mid.catalog mid.pool new.pool cs a b r At → LineCarried (Some line) old (while_open new files shelf) cs a b r At
 line_of_reading line statement other mid new old files shelf cs a b r At says same kept begins h =
     let range : IsInRange (statement_value other) = subst (λ (v : Statement). IsInRange v) (sym same) says.0 in
@@ -80,7 +82,8 @@ line_of_reading line statement other mid new old files shelf cs a b r At says sa
     }
 
 -- the statement changed relations: its line did so, and the open cursors stand where they stood
-pub line_of_change : (line : List ℕ) (statement : declared.Statement) (old new : StoreState) (files files' : Option Files) (shelf shelf' : ℕ) (a b : List ℕ → Type 0) (answer : Result Reply Refusal) (r : Result Bool Failed)
+pub line_of_change : (line : List ℕ) (statement : declared.Statement) (old new : StoreState) (files files' : Option Files) (shelf shelf' : ℕ) (a b : List ℕ → Type 0)
+    (answer : Result Reply Refusal) (r : Result Bool Failed)
     (items : List (OpenCursor Source Stage)) (cs : List Cursor) → Says line (Some statement) → HaveOwnNames cs → Carries old new → StandOver old.pool items cs
     → Performs (statement_value statement) (while_open old files shelf cs) (while_open new files' shelf' cs) (line_of_answer answer ∷ [])
     → IfOk r (λ refused. (refused ≡ is_err answer) × Writes (IsText (line_of_answer answer ∷ [])) a b) → OnErr r (WritesPrefix (IsText (line_of_answer answer ∷ [])) a b)

@@ -26,7 +26,8 @@ rises before now (inl e) few = omega (arith, e)
 rises before now (inr e) few = omega (arith, e, few)
 
 -- what is read over a store leaves a moment that follows
-pub follows_read : (old new : StoreState) (files : Option Files) (shelf : ℕ) → new.catalog ≡ old.catalog → LeavesPages old.pool new.pool → Follows (moment_of old files shelf) (moment_of new files shelf)
+pub follows_read : (old new : StoreState) (files : Option Files) (shelf : ℕ) → new.catalog ≡ old.catalog → LeavesPages old.pool new.pool
+    → Follows (moment_of old files shelf) (moment_of new files shelf)
 follows_read old new files shelf same left = record {
   limits = ap (λ (k : CatalogView). k.limits) same;
   told = left.told;
@@ -41,7 +42,8 @@ pub follows_open : (old new : StoreState) (files files' : Option Files) (shelf s
 follows_open old new files files' shelf shelf' cs cs' f = record { limits = f.limits; told = f.told; files = f.files; disk = f.disk; shelf = f.shelf }
 
 -- a store and a shelf that didn't change have one moment
-pub same_moment : (old new : StoreState) (files files' : Option Files) (shelf shelf' : ℕ) (cs : List Cursor) → new ≡ old → files' ≡ files → shelf' ≡ shelf → while_open new files' shelf' cs ≡ while_open old files shelf cs
+pub same_moment : (old new : StoreState) (files files' : Option Files) (shelf shelf' : ℕ) (cs : List Cursor) → new ≡ old → files' ≡ files → shelf' ≡ shelf
+    → while_open new files' shelf' cs ≡ while_open old files shelf cs
 same_moment old new files files' shelf shelf' cs store told count = λ i. while_open (store i) (told i) (count i) cs
 
 -- no cursor stands where none of the model does
@@ -56,7 +58,8 @@ are_standing pool items cs held stand = (held, go (told_stamps pool) stand.1) wh
   go (Some stamps) h = (cs, h)
 
 -- after a change the open cursors stand where they stood
-pub stands_after : (old new : PoolState) → new.disk.told ≡ old.disk.told → SettlesStamps old new → (items : List (OpenCursor Source Stage)) (cs : List Cursor) → StandOver old items cs → StandOver new items cs
+pub stands_after : (old new : PoolState) → new.disk.told ≡ old.disk.told → SettlesStamps old new → (items : List (OpenCursor Source Stage)) (cs : List Cursor)
+    → StandOver old items cs → StandOver new items cs
 stands_after old new told settles items cs stand = (stand.0, go (told_stamps old) refl stand.1) where
   P : StampMap → Type 0
   P stamps = StandAll PlanAt stamps items cs

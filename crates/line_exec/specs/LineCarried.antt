@@ -13,7 +13,8 @@ abbrev pub most_rows : ℕ
 most_rows = 4294967295
 
 -- The line was carried out beside these cursors of the model, and its lines of output were written. The cursors behind it have names of their own, they stand, and none gave many rows more.
-pub record LineCarried (line : Option (List ℕ)) (old new : List Cursor → Moment) (cs : List Cursor) (before now : List ℕ → Type 0) (result : Result Bool Failed) (At : List Cursor → Type 0) : Type 0 where
+pub record LineCarried (line : Option (List ℕ)) (old new : List Cursor → Moment) (cs : List Cursor) (before now : List ℕ → Type 0) (result : Result Bool Failed)
+    (At : List Cursor → Type 0) : Type 0 where
   pub after : List Cursor
   pub own : HaveOwnNames after
   pub at : At after

@@ -32,7 +32,8 @@ finds_own files setting (SaysOf (Load relation file header)) told = (setting.fil
 finds_own files setting _ told = refl
 
 -- an outcome over a shelf is one in the setting that the statement finds
-outcome_found : (files : Option Files) (setting : Setting) (rises : Rises) (old : State) (statement : Spoken) (lines : List OutputLine) (new : State) → ShelfOutcome files setting rises old statement lines new
+outcome_found : (files : Option Files) (setting : Setting) (rises : Rises) (old : State) (statement : Spoken) (lines : List OutputLine) (new : State)
+    → ShelfOutcome files setting rises old statement lines new
     → (own : Setting) × Finds files setting (SaysOf statement) own × Outcome own rises old statement lines new
 outcome_found files setting rises old (Load relation file header) lines new (found, told, h) = (record setting { files = found }, (found, told, refl), h)
 outcome_found files setting rises old _ lines new h = (setting, refl, h)

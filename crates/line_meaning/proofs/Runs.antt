@@ -33,7 +33,8 @@ both a b = record { disk = a.disk + b.disk; shelf = a.shelf + b.shelf }
 no_rises : Rises
 no_rises = record { disk = 0; shelf = 0 }
 
-pub run_append : (files : Option Files) (setting : Setting) (old mid new : State) (script : List ScriptLine) (line : ScriptLine) (before own all : Rises) (printed more : List OutputLine) (found : Setting)
+pub run_append : (files : Option Files) (setting : Setting) (old mid new : State) (script : List ScriptLine) (line : ScriptLine) (before own all : Rises)
+    (printed more : List OutputLine) (found : Setting)
     → ShelfRun files setting old script before printed mid → Finds files setting line found → Goes found own mid line more new → FitIn before own all
     → ShelfRun files setting old (script ++ line ∷ []) all (printed ++ more) new
 unfolding no_rises

@@ -26,7 +26,8 @@ pub record Follows (old new : Moment) : Type 0 where
 abbrev pub InEach : Moment → Moment → (Setting → Type 0) → Type 0
 InEach old new P = IsTrue old.told → new.disk < last_count → new.shelf < last_count → (setting : Setting) → setting.gap ≡ plan_measure → IsSettingOf old setting → P setting
 
--- A line led from one moment to another and gave these lines of output, which have their causes, whatever it says: by what it says over any disk, and as the model has it in the setting that the line finds, or refused as out of memory.
+-- A line led from one moment to another and gave these lines of output, which have their causes, whatever it says: by what it says over any
+-- disk, and as the model has it in the setting that the line finds, or refused as out of memory.
 abbrev pub CarriesLine : Option (List ℕ) → Moment → Moment → List OutputLine → Type 0
 CarriesLine line old new printed =
     AreCaused old new printed × ((told : ScriptLine) → IsLine line told → IsAnswered told old new printed × InEach old new (λ setting. (own : Setting) × Finds old.files setting told own

@@ -13,7 +13,8 @@ use Rattle.statement_exec.specs.Outline.{Outline, outline_of}
 abbrev pub PrintsOrMemory : List OutputLine → List OutputLine → Type 0
 PrintsOrMemory lines printed = (printed ≡ lines) ⊎ (printed ≡ Refused why.Memory ∷ [])
 
--- A line that is passed over prints nothing. One that is too long, has a bad token or is out of range is refused as such. None of these changes the outline. What a statement prints is decided in the outline.
+-- A line that is passed over prints nothing. One that is too long, has a bad token or is out of range is refused as such. None of these
+-- changes the outline. What a statement prints is decided in the outline.
 abbrev pub AnswersSaid : Option Files → Setting → Outline → ScriptLine → List OutputLine → Outline → Type 0
 AnswersSaid files setting old Blank printed new = PrintsOrMemory [] printed × (new ≡ old)
 AnswersSaid files setting old TooLong printed new = (printed ≡ Refused why.LineTooLong ∷ []) × (new ≡ old)

@@ -1,5 +1,6 @@
 -- A search over a ranking by an R-tree fetches as many geometries as the model counts: one for each polygon whose rectangle lies within the reach.
-use Rattle.std.proofs.Common.{◌≡◌, ◌≢◌, ℕ, suc, zero, ◌-◌, ◌≤◌, Bool, true, false, cond, ◌&&◌, true≢false, List, [], ◌∷◌, length, filter, flat_map, Contains, refl, sym, ap, ◌∙◌, subst, arith, le_antisymm, Ordering, Equal}
+use Rattle.std.proofs.Common.{◌≡◌, ◌≢◌, ℕ, suc, zero, ◌-◌, ◌≤◌, Bool, true, false, cond, ◌&&◌, true≢false, List, [], ◌∷◌, length, filter, flat_map, Contains, refl, sym}
+use Rattle.std.proofs.Common.{ap, ◌∙◌, subst, arith, le_antisymm, Ordering, Equal}
 use Rattle.std.specs.Prelude.{Option}
 use Rattle.std.specs.Cmp.{IsTotalOrder, tied_back}
 use Rattle.std.proofs.lemmas.List.Elements.{All-contains}

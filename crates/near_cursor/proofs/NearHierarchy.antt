@@ -123,7 +123,8 @@ module _ (rows : PageMap → List (ℕ × Shape)) (Stands : PageMap → Type 0) 
       ap₂ (λ (xs : List PageNode) (ys : List PageNode). xs ++ ys) (sym (each e (here e es) j refl)) (below_level (suc j) es (λ x at i h. each x (there e es x at) i h))
 
   -- a node of the tree with those below it is the node and what stands below what it finds
-  unfolds_true : (node : PageNode) → NodeStands m (t.height - 1) t.root node → nodes_under m (node.1 - 1) node.0 ≡ node ∷ flat_map (near_under m t) (nodes_of (entries_found goal (node.1 - 1) (entries_at m node.0)))
+  unfolds_true : (node : PageNode) → NodeStands m (t.height - 1) t.root node
+      → nodes_under m (node.1 - 1) node.0 ≡ node ∷ flat_map (near_under m t) (nodes_of (entries_found goal (node.1 - 1) (entries_at m node.0)))
   unfolds_true node f =
       let level : node.1 - 1 ≡ f.above = ap (λ (h : ℕ). h - 1) f.height ∙ less_one f.above in
       let child : (e : NodeEntry) → Contains (entries_at m node.0) e → (j : ℕ) → f.above ≡ suc j → near_under m t (e.child, f.above) ≡ nodes_under m j e.child =
@@ -196,7 +197,8 @@ module _ (rows : PageMap → List (ℕ × Shape)) (Stands : PageMap → Type 0) 
   gaps_at node = by_found (HasGap meaning) node (λ f. by_items (HasGap meaning) node.0 f.above (λ e at h. member_has_gap e.id e.rough) (λ e at j h. branch_has_gap node f e at j h))
 
   -- no item is nearer than its node
-  far_entry : (node : PageNode) (f : NodeStands m (t.height - 1) t.root node) (e : NodeEntry) → Contains (entries_at m node.0) e → (q : Rough) → IsGoalInClosedPlane (figure_of q) → box_of q ≡ box_of e.rough
+  far_entry : (node : PageNode) (f : NodeStands m (t.height - 1) t.root node) (e : NodeEntry) → Contains (entries_at m node.0) e → (q : Rough)
+      → IsGoalInClosedPlane (figure_of q) → box_of q ≡ box_of e.rough
       → IsAtMost (meaning.gap node) (goal_gap goal (figure_of q))
   far_entry node f e at q k same =
       subst (λ (o : Option Rect). IsAtMost (bound_gap goal o) (goal_gap goal (figure_of q))) (sym (node_bound_is m t root node))
@@ -227,7 +229,8 @@ module _ (rows : PageMap → List (ℕ × Shape)) (Stands : PageMap → Type 0) 
   -- so is that of each entry of a leaf
   leaf_honest : (node : PageNode) (f : NodeStands m (t.height - 1) t.root node) (e : NodeEntry) → Contains (entries_at m node.0) e → f.above ≡ zero → IsHonest meaning (member_found goal e.id e.rough)
   leaf_honest node f e at h =
-      let among : Contains (members_under m f.above node.0) (member_of e) = subst (λ (k : ℕ). Contains (members_under m k node.0) (member_of e)) (sym h) (in_map member_of (entries_at m node.0) e at) in
+      let among : Contains (members_under m f.above node.0) (member_of e) =
+      subst (λ (k : ℕ). Contains (members_under m k node.0) (member_of e)) (sym h) (in_map member_of (entries_at m node.0) e at) in
       let (row, there_is, is) = member_row pages t (rows pages) fits (member_of e) (f.members (member_of e) among) in
       member_honest e.id e.rough row there_is is
 

@@ -24,7 +24,8 @@ use Rattle.near_cursor.proofs.RowLemmas.{rows_apart, flat_ranking, flat_sound}
 module _ (rows : PageMap → List (ℕ × Shape)) (Stands : PageMap → Type 0) (price : ℕ) (t : RTree) (goal : Goal) (ceiling : Option ℕ)
     (in_plane : (p : PageMap) → Stands p → AreInPlane (rows p)) (reach : IsGoalInClosedPlane goal) where
   -- the rows and the ceiling are those of a quadtree of one leaf, and the answer rests on nothing else
-  gives : (pages : PageMap) → ListsRows pages t (rows pages) → Stands pages → (gap : Measure) → IsMeasure gap → GivesList (near_meaning rows Stands price t goal ceiling pages) (ranked gap goal ceiling (rows pages))
+  gives : (pages : PageMap) → ListsRows pages t (rows pages) → Stands pages → (gap : Measure) → IsMeasure gap
+      → GivesList (near_meaning rows Stands price t goal ceiling pages) (ranked gap goal ceiling (rows pages))
   gives pages fits stands gap is =
       let list : GivesList (rank_meaning (flat_ranking goal ceiling (rows pages))) (ranked gap goal ceiling (rows pages)) =
       gives_ranked (flat_ranking goal ceiling (rows pages)) (flat_sound goal ceiling (rows pages) reach (in_plane pages stands) (rows_apart pages t (rows pages) fits)) gap is in

@@ -1,5 +1,6 @@
 -- A visit of a node finds what the ranking has there, for one page get; a fetch of a geometry gives the row's gap at its price.
-use Rattle.std.proofs.Common.{◌≡◌, ◌⊎◌, inl, inr, ⊎_elim, ℕ, zero, suc, ◌+◌, ◌-◌, ◌*◌, ◌^◌, ◌<◌, ◌≤◌, Bool, true, false, true≢false, List, [], ◌∷◌, ◌++◌, length, map, sum_by, Contains, Some, IfSome, Ok, Err, refl, sym, ap, ◌∙◌, subst, arith, append-nil, pow-suc, lit<, mul-le-mul_right}
+use Rattle.std.proofs.Common.{◌≡◌, ◌⊎◌, inl, inr, ⊎_elim, ℕ, zero, suc, ◌+◌, ◌-◌, ◌*◌, ◌^◌, ◌<◌, ◌≤◌, Bool, true, false, true≢false, List, [], ◌∷◌, ◌++◌, length, map}
+use Rattle.std.proofs.Common.{sum_by, Contains, Some, IfSome, Ok, Err, refl, sym, ap, ◌∙◌, subst, arith, append-nil, pow-suc, lit<, mul-le-mul_right}
 use Rattle.std.specs.Prelude.{Option, Result, OnOk}
 use Rattle.std.proofs.lemmas.List.Sums.{sum_by-cons}
 use Rattle.exact_frac.specs.declared.frac.Frac.{Frac}
@@ -95,7 +96,8 @@ pub members_fall : (goal : Goal) (parent : PageNode) (is : List Member) (old new
 members_fall goal parent is old new h = record {
   added = h.found;
   adds = h.adds;
-  less = subst (λ ns. sum_by near_weight ns < near_weight parent) (sym (alike_nodes h.found (map (λ (i : Member). member_found goal i.0 i.1) is) h.alike ∙ member_nodes goal is)) (weight_some parent.1);
+  less = subst (λ ns. sum_by near_weight ns < near_weight parent) (sym (alike_nodes h.found (map (λ (i : Member). member_found goal i.0 i.1) is) h.alike ∙ member_nodes goal is))
+      (weight_some parent.1);
 }
 
 -- ---- a node as it is read
@@ -106,7 +108,8 @@ inner_view (view.node inner es) = inner
 inner_view view.no_node = false
 
 -- what is read of a node that stands at a level gives what its entries give there
-found_level : (goal : Goal) (v : NodeView) (k : ℕ) → v ≡ view.node (is_inner k) (entries_of v) → (found : TreeNode) → Shows v found → node_found goal (suc k) found ≡ entries_found goal k (entries_of v)
+found_level : (goal : Goal) (v : NodeView) (k : ℕ) → v ≡ view.node (is_inner k) (entries_of v) → (found : TreeNode) → Shows v found
+    → node_found goal (suc k) found ≡ entries_found goal k (entries_of v)
 found_level goal v zero is (of_tree.Leaf members) h = ap (map (λ (i : Member). member_found goal i.0 i.1)) h.1
 found_level goal v zero is (of_tree.Inner branches) h = absurd (true≢false (ap inner_view (sym h.0 ∙ is)))
 found_level goal v (suc k) is (of_tree.Leaf members) h = absurd (true≢false (ap inner_view (sym is ∙ h.0)))
@@ -216,14 +219,16 @@ module _ (rows : PageMap → List (ℕ × Shape)) (Stands : PageMap → Type 0) 
       → new.pool.gets ≤ d.pool.gets + 1 → IfSome (told_pages d) (λ p. Attempts (near_visit t.number) (m p).price (item.Node gap node) d new)
   visits_refused d new node gap noted up most =
       ⊎_elim (λ log. visits_tried d new node gap log up most)
-      (λ h. by_told d (λ p. Attempts (near_visit t.number) (m p).price (item.Node gap node) d new) (λ told. not_tried (near_visit t.number) (m d.pool.pages).price (item.Node gap node) d new h.0 h.1)) noted
+      (λ h. by_told d (λ p. Attempts (near_visit t.number) (m p).price (item.Node gap node) d new)
+      (λ told. not_tried (near_visit t.number) (m d.pool.pages).price (item.Node gap node) d new h.0 h.1)) noted
 
   -- ---- a fetch
 
   -- a rough object that is listed is a row
   rough_row : (p : PageMap) (laws : MeetsLaws (m p)) (left right : ℕ) → IsRoughListed (m p) left right → (row : ℕ × Shape) × Contains (rows p) row × (row.0 ≡ left) × (right ≡ 0)
   rough_row p laws left right h =
-      let (i, among, gives) = rough_listed rows Stands price t goal ceiling reach p laws.readable.0 laws.readable.1 (in_plane p laws.readable.1) h.leaf (node_of_tree p laws h.leaf h.node) h.gap left right h.listed in
+      let (i, among, gives) = rough_listed rows Stands price t goal ceiling reach p laws.readable.0 laws.readable.1 (in_plane p laws.readable.1) h.leaf
+      (node_of_tree p laws h.leaf h.node) h.gap left right h.listed in
       let (ids, none_right) = rough_ids goal i.0 i.1 h.gap left right gives in
       let (row, there_is, is) = member_row p t (rows p) laws.readable.0 i among in
       (row, there_is, ap (λ (x : ℕ × Goal). x.0) is ∙ ids, none_right)

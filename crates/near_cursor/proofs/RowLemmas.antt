@@ -112,7 +112,8 @@ module _ (pages : PageMap) (t : RTree) (rows : List (ℕ × Shape)) (fits : List
   pub row_member : (row : ℕ × Shape) → Contains rows row → (i : Member) × Contains members i × (member_figure i ≡ row_figure row)
   row_member row at =
       from_map member_figure members (row_figure row)
-      (Contains-permutation (map row_figure rows) (map member_figure members) (row_figure row) (IsPermutation-sym (map member_figure members) (map row_figure rows) fits.lists) (in_map row_figure rows row at))
+      (Contains-permutation (map row_figure rows) (map member_figure members) (row_figure row) (IsPermutation-sym (map member_figure members) (map row_figure rows) fits.lists)
+      (in_map row_figure rows row at))
 
   -- each row has an id of its own
   pub rows_apart : HaveOwnIds rows
@@ -165,7 +166,8 @@ row_gap goal f (shape.Polygon []) e k = subst (λ (x : Goal). IsSameGap (goal_ga
 row_gap goal f (shape.Polygon (p ∷ ps)) e k = absurd (true≢false (ap is_rect (sym e) ∙ k))
 
 -- a member's item shows the row
-pub show_row : (goal : Goal) (id : ℕ) (q : Rough) (s : Shape) → IsGoalInClosedPlane goal → IsShapeInClosedPlane s → figure_of q ≡ rough_figure s → Shows {N = PageNode} (near_row goal (id, s)) (member_found goal id q)
+pub show_row : (goal : Goal) (id : ℕ) (q : Rough) (s : Shape) → IsGoalInClosedPlane goal → IsShapeInClosedPlane s → figure_of q ≡ rough_figure s
+    → Shows {N = PageNode} (near_row goal (id, s)) (member_found goal id q)
 show_row goal id (rough.Point p) s g h e = (row_gap goal (figure.Shape (shape.Point p)) s e refl, refl, refl)
 show_row goal id (rough.Segment d) s g h e = (row_gap goal (figure.Shape (shape.Segment d)) s e refl, refl, refl)
 show_row goal id (rough.Bound r) s g h e = (

@@ -56,7 +56,9 @@ HasBoundGaps m pages goal = (node : PageNode) → IsNode m node → IsBoundGap g
 abbrev pub HasPagesOnce : Meaning PageNode → Type 0
 HasPagesOnce m = (page : ℕ) → times page (map (λ node. node.0) (m.under m.root)) ≤ 1
 
--- Over these pages the ranking meets the laws of a hierarchy, of nodes with rectangles and pages of their own. It gives the ranked rows, told by any measure, finds each polygon under the gap of its rectangle and counts the polygons within each reach; none is within the reach nothing.
+-- Over these pages the ranking meets the laws of a hierarchy, of nodes with rectangles and pages of their own. It gives the ranked rows,
+-- told by any measure, finds each polygon under the gap of its rectangle and counts the polygons within each reach; none is within the
+-- reach nothing.
 pub record IsLawfulNear (listed : PageMap → List (ℕ × Shape)) (Stands : PageMap → Type 0) (price : ℕ) (t : RTree) (goal : Goal) (ceiling : Option ℕ) (pages : PageMap) : Type 0 where
   pub hierarchy : MeetsLaws (near_meaning listed Stands price t goal ceiling pages)
   pub bounds : HasBoundGaps (near_meaning listed Stands price t goal ceiling pages) (store_of pages) goal

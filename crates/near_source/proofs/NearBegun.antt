@@ -63,7 +63,8 @@ pub record IsMadeOf (made : NearTree FileShapes) (r : RelationView) (at : ℕ) (
   pub ceiling : made.ceiling ≡ most
 
 -- the laws of a ranking are those of the hierarchy that was made of these
-pub made_laws : (made : NearTree FileShapes) (shapes : FileShapes) (tree : RTree) (goal : Goal) (ceiling : Option ℕ) → made.shapes ≡ shapes → made.tree ≡ tree → made.goal ≡ goal → made.ceiling ≡ ceiling
+pub made_laws : (made : NearTree FileShapes) (shapes : FileShapes) (tree : RTree) (goal : Goal) (ceiling : Option ℕ) → made.shapes ≡ shapes → made.tree ≡ tree
+    → made.goal ≡ goal → made.ceiling ≡ ceiling
     → IsLawfulNearOver (λ m. shapes_of shapes.column (rows_at m shapes.schema shapes.file)) (λ m. TableStands m shapes.schema shapes.file) (shapes.file.tree.height + 1) tree goal ceiling
     → IsLawfulNearOver (rows_under made) (TableOf made) (fetch_of made) made.tree made.goal made.ceiling
 made_laws made shapes tree goal ceiling s t g c laws =

@@ -1,5 +1,6 @@
 -- A call of a ranking by an R-tree as a source: what it gives, what it visits, and where the source stands then.
-use Rattle.std.proofs.Common.{◌≡◌, ⊎_elim, ℕ, suc, ◌+◌, ◌-◌, ◌≤◌, min, true, false, true≢false, List, [], ◌∷◌, ◌++◌, map, length, length-append, All, Contains, Option, None, Some, option_map, Result, Ok, Err, OnOk, refl, sym, ap, ap₂, ◌∙◌, subst, arith}
+use Rattle.std.proofs.Common.{◌≡◌, ⊎_elim, ℕ, suc, ◌+◌, ◌-◌, ◌≤◌, min, true, false, true≢false, List, [], ◌∷◌, ◌++◌, map, length, length-append, All, Contains, Option}
+use Rattle.std.proofs.Common.{None, Some, option_map, Result, Ok, Err, OnOk, refl, sym, ap, ap₂, ◌∙◌, subst, arith}
 use Rattle.std.proofs.Math.Numerals.{add-one}
 use Rattle.std.proofs.lemmas.List.{map-append, length-map}
 use Rattle.std.proofs.lemmas.List.Elements.{All-contains, Contains-append_left, Contains-append_right, Contains-append_cases}
@@ -137,7 +138,8 @@ module _ (tree : NearTree FileShapes) (pages : PageMap) (number : ℕ) (d : Data
 
       -- it lies within the reach, with what was attempted
       reached : CallReach by_page m to result call.attempt all
-      reached = subst (λ x. CallReach by_page m x result call.attempt all) (sym to_is) (far_after m rows gives t.rows old.last h.rows result new.held new.last call.attempt all next call.makes.stands call.bounds)
+      reached = subst (λ x. CallReach by_page m x result call.attempt all) (sym to_is)
+          (far_after m rows gives t.rows old.last h.rows result new.held new.last call.attempt all next call.makes.stands call.bounds)
 
       now_counted : IsCounted all new.counts
       now_counted = call.makes.counted h.counted
@@ -224,7 +226,8 @@ module _ (tree : NearTree FileShapes) (pages : PageMap) (number : ℕ) (d : Data
           settled (Ok a) just = ap (map (near_visit number)) just.0
           settled (Err fault) just = tt
 
-          exactly : (answer : Result (Option Answer) PageFault) → OnOk answer ((call.attempt ≡ []) × Reached by_page m reached.far.test all) → OnOk answer (counts_by new.counts ≡ counts_taken d p (next_taken d p t))
+          exactly : (answer : Result (Option Answer) PageFault) → OnOk answer ((call.attempt ≡ []) × Reached by_page m reached.far.test all)
+              → OnOk answer (counts_by new.counts ≡ counts_taken d p (next_taken d p t))
           exactly (Ok a) just = counted_exactly just.1
           exactly (Err fault) just = tt
 

@@ -61,7 +61,8 @@ search_costs number tree pages d p t old new result answer k makes =
     none_left (Err fault) = refl
 
 -- over whatever pages the disk tells
-pub costs_over : (number : ℕ) (pages : Option PageMap) (tree : NearTree FileShapes) (old new : SearchState PageNode) (result : Result (Option Hit) PageFault) (answer : Result (Option Answer) PageFault)
+pub costs_over : (number : ℕ) (pages : Option PageMap) (tree : NearTree FileShapes) (old new : SearchState PageNode) (result : Result (Option Hit) PageFault)
+    (answer : Result (Option Answer) PageFault)
     → IfSome pages (λ m. MakesVisits by_page (nearing tree m) (near_visit number) old new result)
     → IfSome pages (λ m. (d : Database) (p : Plan) (t : Taken) → HasTakenNear tree m old.held old.last old.counts d p t → Costs (near_heights tree) 0 0 0 d p old.desk new.desk answer)
 costs_over number None tree old new result answer makes = tt

@@ -48,10 +48,12 @@ pub visits_counted : (number : ℕ) (items : List (Item PageNode)) → All IsVis
 visits_counted number [] h = refl
 visits_counted number (Node g n ∷ items) h =
     ap (λ (c : Counts). count_of (near_visit number (Node g n)) plus c) (visits_counted number items (All-tail IsVisit (Node g n) items h))
-    ∙ counts_one (count_of (near_visit number (Node g n)) plus record { blocks = 0; pairs = 0; geometries = length (roughs_of items) }) (record { blocks = 0; pairs = 0; geometries = length (roughs_of items) }) (omega arith) (omega arith) (omega arith)
+    ∙ counts_one (count_of (near_visit number (Node g n)) plus record { blocks = 0; pairs = 0; geometries = length (roughs_of items) })
+    (record { blocks = 0; pairs = 0; geometries = length (roughs_of items) }) (omega arith) (omega arith) (omega arith)
 visits_counted number (Rough g l s ∷ items) h =
     ap (λ (c : Counts). count_of (near_visit number (Rough g l s)) plus c) (visits_counted number items (All-tail IsVisit (Rough g l s) items h))
-    ∙ counts_one (count_of (near_visit number (Rough g l s)) plus record { blocks = 0; pairs = 0; geometries = length (roughs_of items) }) (record { blocks = 0; pairs = 0; geometries = suc (length (roughs_of items)) }) (omega arith) (omega arith) (omega arith)
+    ∙ counts_one (count_of (near_visit number (Rough g l s)) plus record { blocks = 0; pairs = 0; geometries = length (roughs_of items) })
+    (record { blocks = 0; pairs = 0; geometries = suc (length (roughs_of items)) }) (omega arith) (omega arith) (omega arith)
 visits_counted number (Row g l s ∷ items) h = absurd (All-head IsVisit (Row g l s) items h)
 
 -- a gap of 0 has the value of any other
@@ -98,7 +100,8 @@ module _ (tree : NearTree FileShapes) (pages : PageMap) (lawful : IsLawfulNear (
         ⊎_elim (λ i. Contains-append_left (nodes_of done) (pending m held) b (node_among done g b i))
         (λ i.
         Contains-append_right (nodes_of done) (pending m held) b
-        (queued_pending m lawful.hierarchy held g b i (All-contains (HasGap m) (done ++ held) (Node g b) h.gaps at) (All-contains (λ item. within m.ceiling (gap_of item) ≡ true) (done ++ held) (Node g b) h.inside at)))
+        (queued_pending m lawful.hierarchy held g b i (All-contains (HasGap m) (done ++ held) (Node g b) h.gaps at)
+        (All-contains (λ item. within m.ceiling (gap_of item) ≡ true) (done ++ held) (Node g b) h.inside at)))
         (Contains-append_cases done held (Node g b) at) in
         (split_node m lawful.hierarchy (nodes_of done) (pending m held) h.split b there).0
 

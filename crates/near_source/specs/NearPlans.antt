@@ -74,7 +74,8 @@ geometries_seen counts = record { blocks = 0; pairs = 0; geometries = counts.fet
 
 -- ---- where it stands
 
--- So much was taken of the plan's source: it ranks a column by an R-tree, the search stands under the laws of such rankings where it has taken all that its counts count, its rows are the first of the ranked ones, and at its end all.
+-- So much was taken of the plan's source: it ranks a column by an R-tree, the search stands under the laws of such rankings where it has
+-- taken all that its counts count, its rows are the first of the ranked ones, and at its end all.
 pub record HasTakenNear (tree : NearTree FileShapes) (pages : PageMap) (held : List (Item PageNode)) (last : Option Hit) (counts : Counts) (d : Database) (p : Plan) (t : Taken) : Type 0 where
   pub column : Column
   pub goal : Shape

@@ -1,6 +1,6 @@
 -- What becomes of the open cursors where one makes steps or is closed, with the lines that were written.
 use Rattle.std.proofs.Common.{◌≡◌, ℕ, ◌+◌, ◌≤◌, arith, Bool, true, false, cond, List, [], ◌∷◌, ◌++◌, Option, Some, None, refl, sym, ap, subst, inl, inr, true≢false}
-use Rattle.std.specs.Prelude.{Result, Ok, Err, IfOk, OnErr, is_some, is_err}
+use Rattle.std.specs.Prelude.{All, Result, Ok, Err, IfOk, OnErr, is_some, is_err}
 use Rattle.output_text.specs.Writing.{Writes, WritesPrefix}
 use Rattle.page_pool.specs.Pool.{StampMap}
 use Rattle.page_pool.specs.Pool.{PoolState}
@@ -11,6 +11,7 @@ use Rattle.row_output.proofs.StepsAllowed.{steps_allowed}
 use Rattle.sand_base.specs.declared.refusal.Refusal.{Refusal}
 use Rattle.sand_base.specs.declared.refusal.Refusal.TheVariants as why
 use Rattle.sand_base.specs.declared.source.Failed.{Failed}
+use Rattle.sand_model.specs.PlainLines.{IsPlainLine}
 use Rattle.sand_model.specs.Cursor.{Cursor, OutputLine, Accepted, Refused, Steps, IsRefusedStep}
 use Rattle.sand_model.specs.Database.{same_name}
 use Rattle.sand_model.specs.Measure.{Measure}
@@ -30,7 +31,8 @@ use Rattle.statement_exec.specs.Moment.{beside, rises_between}
 use Rattle.statement_exec.specs.Printing.{PrintsSome, WritesOf}
 use Rattle.statement_exec.specs.declared.reply.Reply.TheVariants as reply
 use Rattle.open_cursors.proofs.CursorOutcomes.{next_performs, close_performs, close_unknown}
-use Rattle.open_cursors.proofs.DecidedCursors.{early_decides, passing_decides, steps_up_to}
+use Rattle.open_cursors.proofs.DecidedCursors.{early_decides, passing_decides}
+use Rattle.statement_exec.proofs.CountedRows.{steps_up_to}
 use Rattle.open_cursors.proofs.OwnNames.{own_replaced, own_closed, replaced_names}
 use Rattle.open_cursors.specs.OpenCursors.{Places, StandAll, HaveOwnNames, NextOf, ClosesOf, named}
 use Rattle.open_cursors.specs.Outcomes.{PerformsBeside}
@@ -38,6 +40,7 @@ use Rattle.open_cursors.specs.Steps.{GivesSome}
 use Rattle.open_cursors.specs.declared.open_cursor.OpenCursor.{OpenCursor}
 use Rattle.open_cursors.specs.Carried.{CarriesBeside}
 use Rattle.open_cursors.proofs.Given.{named_most, most_more, most_replaced, most_closed}
+use Rattle.open_cursors.proofs.StepCalls.{plain_refused}
 use Rattle.open_cursors.proofs.MoreSteps.{Kept, IsMemory, memory_caused, more_steps, steps_kept}
 use Rattle.statement_exec.proofs.Written.{answer_written, ending_written, some_written}
 
@@ -54,7 +57,8 @@ found_stands : {S T : Type 0} (At : Places S T) (stamps : StampMap) (xs : List (
 found_stands At stamps xs [] name c after is h = absurd (true≢false (sym (ap (λ (o : Option Cursor). is_some o) is)))
 found_stands At stamps [] (k ∷ cs) name c after is h = absurd h
 found_stands {S} {T} At stamps (x ∷ xs) (k ∷ cs) name c after is h =
-    let go : (b : Bool) → same_name k.name name ≡ b → cond b (Some k) (named cs name) ≡ Some c → StandAll At stamps (x ∷ xs) (cond b after k ∷ replaced name after cs) → (r : OpenCursor S T) × At r stamps after = elim [
+    let go : (b : Bool) → same_name k.name name ≡ b → cond b (Some k) (named cs name) ≡ Some c → StandAll At stamps (x ∷ xs) (cond b after k ∷ replaced name after cs)
+    → (r : OpenCursor S T) × At r stamps after = elim [
       | true ↦ λ e i s. (x, s.1)
       | false ↦ λ e i s. found_stands At stamps xs cs name c after i s.2
     ] in
@@ -70,18 +74,20 @@ module _ (catalog : CatalogView) (cs : List Cursor) (old new : PoolState) (read 
     ),
     λ told disk few setting gap s.
         let fails : early setting (state_of catalog old.pages cs) (Next name count) ≡ Some why.UnknownCursor = rw is refl in
-        outcome_early setting (rises_between (beside cs catalog old files shelf) (beside cs catalog new files shelf)) (state_of catalog old.pages cs) (Next name count) (Refused why.UnknownCursor ∷ []) (state_of catalog new.pages cs)
+        outcome_early setting (rises_between (beside cs catalog old files shelf) (beside cs catalog new files shelf)) (state_of catalog old.pages cs) (Next name count)
+        (Refused why.UnknownCursor ∷ []) (state_of catalog new.pages cs)
         why.UnknownCursor fails tt (refl, ap (λ m. state_of catalog m cs) read.pages),
   )
 
   -- steps of the cursor of the name, behind which memory may be refused
-  pub memory_performs : (c after : Cursor) (lines : List OutputLine) → named cs name ≡ Some c → Steps plan_measure IsMemory count c lines after
+  pub memory_performs : (c after : Cursor) (lines : List OutputLine) → named cs name ≡ Some c → Steps plan_measure IsMemory count c lines after → All IsPlainLine lines
       → PerformsBeside (Next name count) catalog old new cs (replaced name after cs) lines
-  memory_performs c after lines is steps = λ files shelf. (
+  memory_performs c after lines is steps plain = λ files shelf. (
     (
       memory_caused (beside cs catalog old files shelf) (beside (replaced name after cs) catalog new files shelf) count c lines after steps,
-      passing_decides catalog cs (replaced name after cs) old new files files shelf shelf (Next name count) (replaced_names cs name c after is (steps_kept IsMemory count c lines after steps).name) lines (λ setting. rw is refl)
-          (λ setting. steps_up_to plan_measure IsMemory (ComesBehind (Next name count)) (λ w k. subst (ComesBehind (Next name count)) (sym k) tt) count c lines after steps) refl,
+      passing_decides catalog cs (replaced name after cs) old new files files shelf shelf (Next name count)
+          (replaced_names cs name c after is (steps_kept IsMemory count c lines after steps).name) lines (λ setting. rw is refl)
+          (λ setting. steps_up_to plan_measure IsMemory (ComesBehind (Next name count)) (λ w k. subst (ComesBehind (Next name count)) (sym k) tt) count c lines after steps plain) refl,
     ),
     λ told disk few setting gap s.
         let cs' : List Cursor = replaced name after cs in
@@ -89,18 +95,20 @@ module _ (catalog : CatalogView) (cs : List Cursor) (old new : PoolState) (read 
         let may : Refusal → Type 0 = IsLicensed setting (rises_between (beside cs catalog old files shelf) (beside cs' catalog new files shelf)) (state_of catalog old.pages cs) (Next name count) in
         let made : Steps plan_measure may count c lines after = steps_allowed plan_measure IsMemory may (λ r k. subst may (sym k) tt) count c lines after steps in
         let measured : Steps setting.gap may count c lines after = subst (λ (g : Measure). Steps g may count c lines after) (sym gap) made in
-        outcome_done setting (rises_between (beside cs catalog old files shelf) (beside cs' catalog new files shelf)) (state_of catalog old.pages cs) (Next name count) lines (state_of catalog new.pages cs')
+        outcome_done setting (rises_between (beside cs catalog old files shelf) (beside cs' catalog new files shelf)) (state_of catalog old.pages cs)
+        (Next name count) lines (state_of catalog new.pages cs')
         passes refl (c, is, (after, measured, ap (λ m. state_of catalog m cs') read.pages)),
   )
 
   -- a prefix of the lines of some steps is one of an outcome
-  pub some_performs : (c after : Cursor) (a b : List ℕ → Type 0) → named cs name ≡ Some c → IsRefusedStep plan_measure after why.Memory after → (lines : List OutputLine) → GivesSome c count after lines
+  pub some_performs : (c after : Cursor) (a b : List ℕ → Type 0) → named cs name ≡ Some c → IsRefusedStep plan_measure after why.Memory after → (lines : List OutputLine)
+      → GivesSome c count after lines
       → WritesPrefix (IsText lines) a b → WritesPrefix (PrintsSome (PerformsBeside (Next name count) catalog old new cs (replaced name after cs))) a b
   some_performs c after a b is stays lines gives w =
       let P : List OutputLine → Type 0 = PerformsBeside (Next name count) catalog old new cs (replaced name after cs) in
       elim (more_steps gives.0 count c lines after gives.1 stays gives.2) [
-        | inl all ↦ some_written P a b lines (memory_performs c after lines is all) w
-        | inr all ↦ breaks_with P a b lines why.Memory (memory_performs c after (lines ++ Refused why.Memory ∷ []) is all) w
+        | inl all ↦ some_written P a b lines (memory_performs c after lines is all gives.3) w
+        | inr all ↦ breaks_with P a b lines why.Memory (memory_performs c after (lines ++ Refused why.Memory ∷ []) is all (plain_refused lines why.Memory gives.3)) w
       ]
 
   module _ (own : HaveOwnNames cs) (a b d : List ℕ → Type 0) (At : List Cursor → Type 0) where
@@ -131,7 +139,7 @@ module _ (catalog : CatalogView) (cs : List Cursor) (old new : PoolState) (read 
       }
       go (Some c) is s =
           let P : List OutputLine → Type 0 = PerformsBeside (Next name count) catalog old new cs (replaced name s.after cs) in
-          let kept : Kept count c s.after = steps_kept (λ w. end ≡ Some w) count c (s.steps.lines ++ refused_line end) s.after s.steps.holds in
+          let kept : Kept count c s.after = steps_kept (λ w. end ≡ Some w) count c (s.steps.lines ++ refused_line end) s.after s.steps.holds.0 in
           let up : WritesUpTo P end a b = record {
             lines = s.steps.lines;
             written = s.steps.written;
@@ -152,7 +160,8 @@ module _ (catalog : CatalogView) (cs : List Cursor) (old new : PoolState) (read 
       → NextOf (named cs name) cs name count a b (Err failed) (λ after. StandAll At stamps xs after)
       → CarriesBeside (Next name count) catalog old new cs a b (Err failed) (λ after. StandAll At stamps xs after)
   next_broken At stamps xs a b failed own stays h = go (named cs name) refl h where
-    go : (o : Option Cursor) → named cs name ≡ o → NextOf o cs name count a b (Err failed) (λ after. StandAll At stamps xs after) → CarriesBeside (Next name count) catalog old new cs a b (Err failed) (λ after. StandAll At stamps xs after)
+    go : (o : Option Cursor) → named cs name ≡ o → NextOf o cs name count a b (Err failed) (λ after. StandAll At stamps xs after)
+        → CarriesBeside (Next name count) catalog old new cs a b (Err failed) (λ after. StandAll At stamps xs after)
     go None is n = absurd (not_ok n.0) where
       not_ok : Err failed ≡ Ok (Some why.UnknownCursor) → ⊥
       not_ok e = true≢false (ap (λ (x : Result (Option Refusal) Failed). is_err x) e)

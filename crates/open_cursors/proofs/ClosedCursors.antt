@@ -58,7 +58,8 @@ module _ {S T : Type 0} (At : Places S T) (stamps : StampMap) where
       subst (λ (o : Option Cursor). ClosesOf o cs name (Err why.UnknownCursor) (StandAll At stamps xs)) (sym (none_named At stamps xs cs name h n)) (refl, h)
 
   -- the cursor of the name is gone
-  pub closes_named : (xs ys : List (OpenCursor S T)) (cs : List Cursor) (name : List ℕ) (at : ℕ) → ys ≡ remove xs at → FirstAt (λ x. same_name x.name name) xs at → HaveOwnNames cs → StandAll At stamps xs cs
+  pub closes_named : (xs ys : List (OpenCursor S T)) (cs : List Cursor) (name : List ℕ) (at : ℕ) → ys ≡ remove xs at → FirstAt (λ x. same_name x.name name) xs at
+      → HaveOwnNames cs → StandAll At stamps xs cs
       → ClosesOf (named cs name) cs name (Ok tt) (StandAll At stamps ys)
   closes_named xs ys cs name at gone f own h =
       let w : IsClosed At stamps xs cs name at = is_closed xs cs name at own h f in
@@ -66,6 +67,7 @@ module _ {S T : Type 0} (At : Places S T) (stamps : StampMap) where
       (refl, subst (λ (zs : List (OpenCursor S T)). StandAll At stamps zs (closed name cs)) (sym gone) w.others)
 
 -- what holds of the cursors that are left holds of them in another way
-pub closes_so : (P Q : List Cursor → Type 0) (o : Option Cursor) (cs : List Cursor) (name : List ℕ) (r : Result (Unit {0}) Refusal) → ((ks : List Cursor) → P ks → Q ks) → ClosesOf o cs name r P → ClosesOf o cs name r Q
+pub closes_so : (P Q : List Cursor → Type 0) (o : Option Cursor) (cs : List Cursor) (name : List ℕ) (r : Result (Unit {0}) Refusal) → ((ks : List Cursor) → P ks → Q ks)
+    → ClosesOf o cs name r P → ClosesOf o cs name r Q
 closes_so P Q None cs name r so h = (h.0, so cs h.1)
 closes_so P Q (Some c) cs name r so h = (h.0, so (closed name cs) h.1)

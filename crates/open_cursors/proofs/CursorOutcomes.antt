@@ -25,7 +25,8 @@ use Rattle.statement_exec.specs.Deciding.{ComesBehind}
 use Rattle.statement_exec.specs.Ending.{IsCausedByPages, PagesHaveCause}
 use Rattle.statement_exec.specs.LeafLines.{state_of}
 use Rattle.statement_exec.specs.Moment.{beside, rises_between}
-use Rattle.open_cursors.proofs.DecidedCursors.{pages_come, steps_up_to, early_decides, passing_decides, close_decides, open_decides}
+use Rattle.open_cursors.proofs.DecidedCursors.{pages_come, early_decides, passing_decides, close_decides, open_decides}
+use Rattle.statement_exec.proofs.CountedRows.{steps_up_to}
 use Rattle.open_cursors.proofs.OwnNames.{replaced_names}
 use Rattle.open_cursors.proofs.CausedSteps.{cause_of_end, pages_no_file, steps_caused}
 use Rattle.open_cursors.specs.OpenCursors.{named}
@@ -48,12 +49,14 @@ module _ (catalog : CatalogView) (cs : List Cursor) (old new : PoolState) (read 
     value None = a
     value (Some r) = r
 
-  of_end : (setting : Setting) (files : Option Files) (shelf : ℕ) (cs' : List Cursor) (end : Option Refusal) → IsOfPages end → PagesHaveCause {E = Failed} old new (Ok end) → IsTold old → new.disk.faults < last_count
+  of_end : (setting : Setting) (files : Option Files) (shelf : ℕ) (cs' : List Cursor) (end : Option Refusal) → IsOfPages end
+      → PagesHaveCause {E = Failed} old new (Ok end) → IsTold old → new.disk.faults < last_count
       → early setting (state_of catalog old.pages cs) (Next name count) ≡ None → (r : Refusal) → end ≡ Some r
       → IsLicensed setting (rises_between (beside cs catalog old files shelf) (beside cs' catalog new files shelf)) (state_of catalog old.pages cs) (Next name count) r
   of_end setting files shelf cs' None o c t l e r k = absurd (true≢false (sym (ap (λ (x : Option Refusal). is_some x) k)))
   of_end setting files shelf cs' (Some w) o c t l e r k =
-      subst (λ (x : Refusal). IsLicensed setting (rises_between (beside cs catalog old files shelf) (beside cs' catalog new files shelf)) (state_of catalog old.pages cs) (Next name count) x) (some_is w r k)
+      subst (λ (x : Refusal). IsLicensed setting (rises_between (beside cs catalog old files shelf) (beside cs' catalog new files shelf)) (state_of catalog old.pages cs) (Next name count) x)
+      (some_is w r k)
       (licensed setting files shelf cs' w o c t l e)
 
   -- it comes behind the early checks
@@ -61,24 +64,26 @@ module _ (catalog : CatalogView) (cs : List Cursor) (old new : PoolState) (read 
   end_comes end o w e = pages_come (Next name count) refl w (subst IsOfPages e o)
 
   -- steps of the cursor of the name
-  pub next_performs : (c after : Cursor) (end : Option Refusal) (lines : List OutputLine) → named cs name ≡ Some c → after.name ≡ c.name → IsOfPages end → PagesHaveCause {E = Failed} old new (Ok end) → GivesSteps c count after end lines
+  pub next_performs : (c after : Cursor) (end : Option Refusal) (lines : List OutputLine) → named cs name ≡ Some c → after.name ≡ c.name → IsOfPages end
+      → PagesHaveCause {E = Failed} old new (Ok end) → GivesSteps c count after end lines
       → PerformsBeside (Next name count) catalog old new cs (replaced name after cs) lines
   next_performs c after end lines is kept o cause steps = λ files shelf. (
     (
       steps_caused (beside cs catalog old files shelf) (beside (replaced name after cs) catalog new files shelf) plan_measure (λ r. end ≡ Some r)
           (cause_of_end (beside cs catalog old files shelf) (beside (replaced name after cs) catalog new files shelf) end
-          (end_cause cs (replaced name after cs) catalog catalog old new read.told files files shelf shelf Failed end cause (pages_no_file end o))) count c lines after steps,
+          (end_cause cs (replaced name after cs) catalog catalog old new read.told files files shelf shelf Failed end cause (pages_no_file end o))) count c lines after steps.0,
       passing_decides catalog cs (replaced name after cs) old new files files shelf shelf (Next name count) (replaced_names cs name c after is kept) lines (λ setting. rw is refl)
-          (λ setting. steps_up_to plan_measure (λ r. end ≡ Some r) (ComesBehind (Next name count)) (end_comes end o) count c lines after steps) refl,
+          (λ setting. steps_up_to plan_measure (λ r. end ≡ Some r) (ComesBehind (Next name count)) (end_comes end o) count c lines after steps.0 steps.1) refl,
     ),
     λ told disk few setting gap s.
         let cs' : List Cursor = replaced name after cs in
         let passes : early setting (state_of catalog old.pages cs) (Next name count) ≡ None = rw is refl in
         let may : Refusal → Type 0 = IsLicensed setting (rises_between (beside cs catalog old files shelf) (beside cs' catalog new files shelf)) (state_of catalog old.pages cs) (Next name count) in
         let made : Steps plan_measure may count c lines after =
-        steps_allowed plan_measure (λ r. end ≡ Some r) may (of_end setting files shelf cs' end o cause told disk passes) count c lines after steps in
+        steps_allowed plan_measure (λ r. end ≡ Some r) may (of_end setting files shelf cs' end o cause told disk passes) count c lines after steps.0 in
         let measured : Steps setting.gap may count c lines after = subst (λ (g : Measure). Steps g may count c lines after) (sym gap) made in
-        outcome_done setting (rises_between (beside cs catalog old files shelf) (beside cs' catalog new files shelf)) (state_of catalog old.pages cs) (Next name count) lines (state_of catalog new.pages cs')
+        outcome_done setting (rises_between (beside cs catalog old files shelf) (beside cs' catalog new files shelf)) (state_of catalog old.pages cs)
+        (Next name count) lines (state_of catalog new.pages cs')
         passes refl (c, is, (after, measured, ap (λ m. state_of catalog m cs') read.pages)),
   )
 
@@ -91,7 +96,8 @@ module _ (catalog : CatalogView) (cs : List Cursor) (old new : PoolState) (read 
     ),
     λ told disk few setting gap s.
         let fails : early setting (state_of catalog old.pages cs) (Next name count) ≡ Some why.UnknownCursor = rw is refl in
-        outcome_early setting (rises_between (beside cs catalog old files shelf) (beside cs catalog old files shelf)) (state_of catalog old.pages cs) (Next name count) (Refused why.UnknownCursor ∷ []) (state_of catalog old.pages cs)
+        outcome_early setting (rises_between (beside cs catalog old files shelf) (beside cs catalog old files shelf)) (state_of catalog old.pages cs) (Next name count)
+        (Refused why.UnknownCursor ∷ []) (state_of catalog old.pages cs)
         why.UnknownCursor fails tt (refl, refl),
   )
 
@@ -118,7 +124,8 @@ module _ (catalog : CatalogView) (cs : List Cursor) (pool : PoolState) (name : L
     ),
     λ told disk few setting gap s.
         let fails : early setting (state_of catalog pool.pages cs) (CloseCursor name) ≡ Some why.UnknownCursor = rw is refl in
-        outcome_early setting (rises_between (beside cs catalog pool files shelf) (beside cs catalog pool files shelf)) (state_of catalog pool.pages cs) (CloseCursor name) (Refused why.UnknownCursor ∷ []) (state_of catalog pool.pages cs)
+        outcome_early setting (rises_between (beside cs catalog pool files shelf) (beside cs catalog pool files shelf)) (state_of catalog pool.pages cs)
+        (CloseCursor name) (Refused why.UnknownCursor ∷ []) (state_of catalog pool.pages cs)
         why.UnknownCursor fails tt (refl, refl),
   )
 
@@ -132,6 +139,7 @@ module _ (catalog : CatalogView) (cs : List Cursor) (pool : PoolState) (name : L
     ),
     λ told disk few setting gap s.
         let all : List Cursor = cs ++ new_cursor name p (database_in pool.pages catalog.relations) ∷ [] in
-        outcome_done setting (rises_between (beside cs catalog pool files shelf) (beside all catalog pool files shelf)) (state_of catalog pool.pages cs) (Opens name p) (Accepted ∷ []) (state_of catalog pool.pages all)
+        outcome_done setting (rises_between (beside cs catalog pool files shelf) (beside all catalog pool files shelf)) (state_of catalog pool.pages cs) (Opens name p)
+        (Accepted ∷ []) (state_of catalog pool.pages all)
         (passes setting) refl (refl, refl),
   )

@@ -1,17 +1,14 @@
 -- What is decided of the lines of a statement beside open cursors, by their names.
 use Rattle.std.proofs.Common.{◌≡◌, ℕ, zero, suc, Bool, true, false, not, cond, List, [], ◌∷◌, ◌++◌, map, Option, Some, None, refl, sym, ◌∙◌, ap, ap₂, subst, inl, inr}
 use Rattle.std.specs.Prelude.{filter}
-use Rattle.std.specs.List.{list_any}
-use Rattle.std.proofs.lemmas.List.{append-nil, map-append}
+use Rattle.std.proofs.lemmas.List.{map-append}
 use Rattle.page_pool.specs.Pool.{PoolState}
 use Rattle.sand_base.specs.Shelf.{Files}
 use Rattle.sand_base.specs.declared.refusal.Refusal.{Refusal}
 use Rattle.sand_base.specs.declared.refusal.Refusal.TheVariants as why
-use Rattle.sand_model.specs.Cursor.{Cursor, OutputLine, Accepted, Row, Refused, Steps, new_cursor}
+use Rattle.sand_model.specs.Cursor.{Cursor, OutputLine, Accepted, Refused, new_cursor}
 use Rattle.sand_model.specs.Database.{same_name}
-use Rattle.sand_model.specs.Measure.{Measure}
 use Rattle.sand_model.specs.Outcome.{closed, uses_pages}
-use Rattle.sand_model.specs.OutputText.{is_refused}
 use Rattle.statements.specs.Plan.{Plan}
 use Rattle.statements.specs.Statement.{Statement, CloseCursor, OpenCursor as Opens}
 use Rattle.sand_model.specs.StatementChecks.{Setting, early}
@@ -20,8 +17,7 @@ use Rattle.sand_store.specs.Contents.{database_in}
 use Rattle.sand_store.specs.Sketches.{Sketch}
 use Rattle.statement_exec.proofs.Decided.{found_own, after_refusal, by_early, by_memory, by_passing}
 use Rattle.statement_exec.proofs.DecidedCalls.{sketched_in}
-use Rattle.statement_exec.specs.Deciding.{ComesBehind, DecidesEarly, PrintsPassed, PrintsUpTo}
-use Rattle.statement_exec.specs.Ending.{refused_line}
+use Rattle.statement_exec.specs.Deciding.{ComesBehind, DecidesEarly, PrintsPassed}
 use Rattle.statement_exec.specs.LeafLines.{state_of}
 use Rattle.statement_exec.specs.Moment.{beside}
 use Rattle.statement_exec.specs.Outline.{outline_of, bare, outline_after}
@@ -37,37 +33,15 @@ pages_come statement uses why.Device h = uses
 pages_come statement uses (why.Damaged page kept read) h = uses
 pages_come statement uses _ h = absurd h
 
--- one line more that is no refusal
-one_more : (may : Refusal → Type 0) (line : OutputLine) (lines : List OutputLine) → is_refused line ≡ false → PrintsUpTo may lines → PrintsUpTo may (line ∷ lines)
-one_more may line lines e (inl plain) = inl (rw e plain)
-one_more may line lines e (inr (printed, w, plain, comes, is)) = inr (line ∷ printed, w, rw e plain, comes, ap (λ (rest : List OutputLine). line ∷ rest) is)
-
--- refusals that may come are others that may
-pub up_to_so : (may comes : Refusal → Type 0) → ((w : Refusal) → may w → comes w) → (lines : List OutputLine) → PrintsUpTo may lines → PrintsUpTo comes lines
-up_to_so may comes so lines (inl plain) = inl plain
-up_to_so may comes so lines (inr (printed, w, plain, m, is)) = inr (printed, w, plain, so w m, is)
-
--- the lines of steps have no refusal but one at their end
-pub steps_up_to : (gap : Measure) (may comes : Refusal → Type 0) → ((w : Refusal) → may w → comes w) → (count : ℕ) (c : Cursor) (lines : List OutputLine) (after : Cursor)
-    → Steps gap may count c lines after → PrintsUpTo comes lines
-steps_up_to gap may comes so zero c lines after h = subst (PrintsUpTo comes) (sym h.0) (inl refl)
-steps_up_to gap may comes so (suc count) c lines after (inl (row, mid, more, stepped, is, rest)) =
-    subst (PrintsUpTo comes) (sym is) (one_more comes (Row row) more refl (steps_up_to gap may comes so count mid more after rest))
-steps_up_to gap may comes so (suc count) c lines after (inr (inl (stepped, is))) = subst (PrintsUpTo comes) (sym is) (inl refl)
-steps_up_to gap may comes so (suc count) c lines after (inr (inr (w, allowed, stepped, is))) = subst (PrintsUpTo comes) (sym is) (inr ([], w, refl, so w allowed, refl))
-
--- lines without a refusal, and the line of one that may come
-pub ended_up_to : (may : Refusal → Type 0) (lines : List OutputLine) (end : Option Refusal) → list_any is_refused lines ≡ false → ((w : Refusal) → end ≡ Some w → may w) → PrintsUpTo may (lines ++ refused_line end)
-ended_up_to may lines None plain comes = inl (subst (λ (xs : List OutputLine). list_any is_refused xs ≡ false) (sym (append-nil lines)) plain)
-ended_up_to may lines (Some w) plain comes = inr (lines, w, plain, comes w refl, refl)
-
 -- ---- names
 
 -- the names of cursors of which those of a name are closed
 pub names_closed : (name : List ℕ) (cs : List Cursor) → map (λ (c : Cursor). c.name) (closed name cs) ≡ filter (λ (other : List ℕ). not (same_name other name)) (map (λ (c : Cursor). c.name) cs)
 names_closed name [] = refl
 names_closed name (c ∷ cs) =
-    let go : (b : Bool) → map (λ (k : Cursor). k.name) (cond b (c ∷ closed name cs) (closed name cs)) ≡ cond b (c.name ∷ filter (λ (other : List ℕ). not (same_name other name)) (map (λ (k : Cursor). k.name) cs)) (filter (λ (other : List ℕ). not (same_name other name)) (map (λ (k : Cursor). k.name) cs)) = elim [
+    let go : (b : Bool) → map (λ (k : Cursor). k.name) (cond b (c ∷ closed name cs) (closed name cs))
+    ≡ cond b (c.name ∷ filter (λ (other : List ℕ). not (same_name other name)) (map (λ (k : Cursor). k.name) cs))
+    (filter (λ (other : List ℕ). not (same_name other name)) (map (λ (k : Cursor). k.name) cs)) = elim [
       | true ↦ ap (λ (ns : List (List ℕ)). c.name ∷ ns) (names_closed name cs)
       | false ↦ names_closed name cs
     ] in
@@ -111,7 +85,8 @@ module _ (catalog : CatalogView) (cs cs' : List Cursor) (old new : PoolState) (f
     )
 
 -- a cursor was closed
-pub close_decides : (catalog : CatalogView) (cs : List Cursor) (pool : PoolState) (name : List ℕ) (files : Option Files) (shelf : ℕ) → ((setting : Setting) → early setting (state_of catalog pool.pages cs) (CloseCursor name) ≡ None)
+pub close_decides : (catalog : CatalogView) (cs : List Cursor) (pool : PoolState) (name : List ℕ) (files : Option Files) (shelf : ℕ)
+    → ((setting : Setting) → early setting (state_of catalog pool.pages cs) (CloseCursor name) ≡ None)
     → IsDecided (CloseCursor name) (beside cs catalog pool files shelf) (beside (closed name cs) catalog pool files shelf) (Accepted ∷ [])
 close_decides catalog cs pool name files shelf passes = λ setting s. (
   by_passing setting (state_of catalog pool.pages cs) (CloseCursor name) (Accepted ∷ []) (passes setting) refl,
@@ -119,7 +94,8 @@ close_decides catalog cs pool name files shelf passes = λ setting s. (
 )
 
 -- a cursor was opened
-pub open_decides : (catalog : CatalogView) (cs : List Cursor) (pool : PoolState) (name : List ℕ) (p : Plan) (files : Option Files) (shelf : ℕ) → ((setting : Setting) → early setting (state_of catalog pool.pages cs) (Opens name p) ≡ None)
+pub open_decides : (catalog : CatalogView) (cs : List Cursor) (pool : PoolState) (name : List ℕ) (p : Plan) (files : Option Files) (shelf : ℕ)
+    → ((setting : Setting) → early setting (state_of catalog pool.pages cs) (Opens name p) ≡ None)
     → IsDecided (Opens name p) (beside cs catalog pool files shelf) (beside (cs ++ new_cursor name p (database_in pool.pages catalog.relations) ∷ []) catalog pool files shelf) (Accepted ∷ [])
 open_decides catalog cs pool name p files shelf passes = λ setting s. (
   by_passing setting (state_of catalog pool.pages cs) (Opens name p) (Accepted ∷ []) (passes setting) refl,

@@ -1,5 +1,6 @@
 -- What the steps of a search farthest first print, one after the other.
-use Rattle.std.proofs.Common.{◌≡◌, ℕ, zero, suc, ◌+◌, ◌-◌, ◌<◌, ◌≤◌, Bool, true, false, List, [], ◌∷◌, ◌++◌, map, length, Contains, Option, Some, None, option_map, refl, sym, ◌∙◌, ap, subst, arith, true≢false}
+use Rattle.std.proofs.Common.{◌≡◌, ◌⊎◌, inl, inr, ℕ, zero, suc, ◌+◌, ◌-◌, ◌<◌, ◌≤◌, Bool, true, false, List, [], ◌∷◌, ◌++◌, map, length, Contains, Option, Some, None}
+use Rattle.std.proofs.Common.{option_map, refl, sym, ◌∙◌, ap, subst, arith, true≢false}
 use Rattle.std.specs.Prelude.{Result, Ok, Err, IfSome, IsTrue, drop, is_some, is_none, if◌then◌else◌}
 use Rattle.std.specs.List.{list_any}
 use Rattle.std.proofs.Math.Numerals.{add-one}
@@ -7,11 +8,12 @@ use Rattle.std.proofs.lemmas.List.{append-nil, append_assoc, length-map}
 use Rattle.sand_base.specs.declared.goal.Goal.TheVariants as figure
 use Rattle.sand_base.specs.declared.point.Point.{Point}
 use Rattle.sand_base.specs.declared.refusal.Refusal.{Refusal}
+use Rattle.sand_base.specs.declared.refusal.Refusal.TheVariants as why
 use Rattle.sand_base.specs.declared.shape.Shape.{Shape}
 use Rattle.sand_base.specs.declared.source.Failed.{Failed}
 use Rattle.z_code.specs.declared.block.Block.{Block}
 use Rattle.sand_model.specs.Answer.{single_row}
-use Rattle.sand_model.specs.Cursor.{OutputLine, Row, End}
+use Rattle.sand_model.specs.Cursor.{OutputLine, Row, End, Refused}
 use Rattle.sand_model.specs.Database.{element}
 use Rattle.sand_model.specs.Operators.{PlanRow}
 use Rattle.sand_model.specs.Outcome.{first_lines}
@@ -40,12 +42,17 @@ use Rattle.plan_rows.proofs.LowestFractions.{lowest_same, lowest_one}
 use Rattle.plan_rows.proofs.PlanMeasure.{plan_measure_is}
 use Rattle.plan_rows.specs.Lowest.{lowest_of}
 use Rattle.plan_rows.specs.Rows.{plan_measure, row_of}
-use Rattle.row_output.proofs.PlainTexts.{plain_both}
+use Rattle.row_output.proofs.CountedLines.{row_behind}
+use Rattle.sand_model.specs.PlainLines.{AreLinesOfRows, IsRowLine}
+use Rattle.statement_exec.proofs.CountedRows.{accepted_behind, behind_rows, rows_accepted}
+use Rattle.statement_exec.specs.Deciding.{PrintsRowsUpTo}
+use Rattle.std.proofs.lemmas.List.Elements.{All-nil}
+use Rattle.std.proofs.lemmas.Bool.{cases_lt}
 use Rattle.row_output.specs.Stepping.{PrintsStep}
 use Rattle.row_output.specs.declared.next.Next.{Next}
 use Rattle.row_output.specs.declared.next.Next.TheVariants.{Row as GaveRow, End as AtEnd, Refused as WasRefused}
 use Rattle.statement_exec.proofs.Texts.{writes_none, writes_more, breaks_more, writes_then_stays}
-use Rattle.open_cursors.specs.FarthestLines.{answer_of, plan_answer, PrintsFarthest, far_found, first_found, WritesFound, BreaksFound}
+use Rattle.open_cursors.specs.FarthestLines.{answer_of, plan_answer, PrintsFarthest, far_found, first_found, WritesFound, BreaksFound, AreWholeOrRefused}
 
 -- ---- lists
 
@@ -79,7 +86,8 @@ lowest_far p shapes found at hit same =
     sym gap ∙ lowest_one g hit.gap (same_trans g (lowest_of g) hit.gap (same_back (lowest_of g) g (lowest_same g)) (subst (λ x. IsSameGap x hit.gap) (sym gap) same))
 
 -- the row that is given stands in the list as it is printed
-row_stands : (tree : FarTree FileShapes) (pages : PageMap) (n : ℕ) (hit : Hit) → StandsAt (far_found tree pages) n hit → element (map single_row (far_found tree pages)) n ≡ Some (row_of (answer_of hit))
+row_stands : (tree : FarTree FileShapes) (pages : PageMap) (n : ℕ) (hit : Hit) → StandsAt (far_found tree pages) n hit
+    → element (map single_row (far_found tree pages)) n ≡ Some (row_of (answer_of hit))
 row_stands tree pages n hit (found, here, same) =
     let gap : found.gap ≡ lowest_of hit.gap = lowest_far tree.goal (shapes_in tree.shapes pages) found (at_is (far_found tree pages) n found here) hit same.0 in
     let is : single_row found ≡ row_of (answer_of hit) = λ i. record {
@@ -94,13 +102,14 @@ row_stands tree pages n hit (found, here, same) =
 -- So many rows were printed: over pages that are told they are the first of the list, and the lines are followed by those of the others.
 pub record SoFar (told : Bool) (pages : PageMap) (tree : FarTree FileShapes) (count n : ℕ) (last : Option Hit) (before now : List ℕ → Type 0) : Type 0 where
   pub lines : List OutputLine
-  pub plain : list_any is_refused lines ≡ false
+  pub of_rows : AreLinesOfRows n lines
   pub given : IsTrue told → AreGivenFar (far_found tree pages) n last
   pub left : IsTrue told → first_found count (far_found tree pages) ≡ lines ++ first_lines (count - n) (drop n (map single_row (far_found tree pages)))
   pub written : Writes (IsText lines) before now
 
 -- a step by its answer
-pub prints_farthest : (told : Option PageMap) (tree : FarTree FileShapes) (old new : Option Hit) (answer is : Result (Option Hit) PageFault) (result : Result Next Failed) (a b : List ℕ → Type 0) → answer ≡ is
+pub prints_farthest : (told : Option PageMap) (tree : FarTree FileShapes) (old new : Option Hit) (answer is : Result (Option Hit) PageFault) (result : Result Next Failed) (a b : List ℕ → Type 0)
+    → answer ≡ is
     → IfSome told (GivesFarthest tree old new answer) → PrintsStep (plan_answer is) result a b → PrintsFarthest told tree old new result a b
 prints_farthest told tree old new answer is result a b same gives prints = record {
   answer = is;
@@ -113,7 +122,7 @@ pub none_yet : (told : Bool) (pages : PageMap) (tree : FarTree FileShapes) (coun
 none_yet told pages tree count last a none =
     let whole : count ≡ count - 0 = omega arith in record {
       lines = [];
-      plain = refl;
+      of_rows = (All-nil IsRowLine, refl);
       given = λ t. none;
       left = λ t. ap (λ (k : ℕ). first_lines k (map single_row (far_found tree pages))) whole;
       written = writes_none a;
@@ -147,13 +156,14 @@ module _ (told : Bool) (pages : PageMap) (tree : FarTree FileShapes) (count n : 
   -- one row more
   pub one_row : n < count → Steps (Ok GaveRow) → SoFar told pages tree count (n + 1) new a c
   one_row less s = subst (λ (k : ℕ). SoFar told pages tree count k new a c) (sym (add-one n)) (go s.answer s.gives s.prints) where
-    go : (answer : Result (Option Hit) PageFault) → IfSome (if told then Some pages else None) (GivesFarthest tree old new answer) → PrintsStep (plan_answer answer) (Ok GaveRow) b c → SoFar told pages tree count (suc n) new a c
+    go : (answer : Result (Option Hit) PageFault) → IfSome (if told then Some pages else None) (GivesFarthest tree old new answer)
+        → PrintsStep (plan_answer answer) (Ok GaveRow) b c → SoFar told pages tree count (suc n) new a c
     go (Ok (Some hit)) gives prints =
         let at : IsTrue told → StandsAt (far_found tree pages) n hit × AreGivenFar (far_found tree pages) (suc n) new =
         λ t. told_is told pages (GivesFarthest tree old new (Ok (Some hit))) gives t plan_measure plan_measure_is n (so.given t) in
         record {
           lines = so.lines ++ Row (row_of (answer_of hit)) ∷ [];
-          plain = plain_both so.lines (Row (row_of (answer_of hit)) ∷ []) so.plain refl;
+          of_rows = subst (λ (k : ℕ). AreLinesOfRows k (so.lines ++ Row (row_of (answer_of hit)) ∷ [])) (add-one n) (row_behind n so.lines (answer_of hit) so.of_rows);
           given = λ t. (at t).1;
           left = λ t. next_row hit less t (at t).0;
           written = writes_more a b c so.lines (Row (row_of (answer_of hit)) ∷ []) so.written prints;
@@ -162,13 +172,15 @@ module _ (told : Bool) (pages : PageMap) (tree : FarTree FileShapes) (count n : 
     go (Err fault) gives prints = absurd prints
 
   -- the end
-  pub at_end : n < count → Steps (Ok AtEnd) → WritesFound (IsTrue told) (first_found count (far_found tree pages)) None a c
+  pub at_end : n < count → Steps (Ok AtEnd) → WritesFound (IsTrue told) count (first_found count (far_found tree pages)) None a c
   at_end less s = go s.answer s.gives s.prints where
     go : (answer : Result (Option Hit) PageFault) → IfSome (if told then Some pages else None) (GivesFarthest tree old new answer) → PrintsStep (plan_answer answer) (Ok AtEnd) b c
-        → WritesFound (IsTrue told) (first_found count (far_found tree pages)) None a c
+        → WritesFound (IsTrue told) count (first_found count (far_found tree pages)) None a c
     go (Ok None) gives prints = record {
       lines = so.lines ++ End ∷ [];
-      plain = plain_both so.lines (End ∷ []) so.plain refl;
+      plain = accepted_behind n so.lines End so.of_rows refl;
+      counted = subst (PrintsRowsUpTo (λ refusal. None ≡ Some refusal) count) (sym (append-nil (so.lines ++ End ∷ [])))
+          (behind_rows (λ refusal. None ≡ Some refusal) count n so.lines End so.of_rows less tt);
       first = λ t. sym (next_end less t (told_is told pages (GivesFarthest tree old new (Ok None)) gives t plan_measure plan_measure_is n (so.given t)).0);
       written = writes_more a b c so.lines (End ∷ []) so.written prints;
     }
@@ -176,39 +188,66 @@ module _ (told : Bool) (pages : PageMap) (tree : FarTree FileShapes) (count n : 
     go (Err fault) gives prints = absurd prints
 
   -- a refusal
-  pub at_refusal : (fault : PageFault) (w : Refusal) → Steps (Ok (WasRefused fault)) → WritesFound (IsTrue told) (first_found count (far_found tree pages)) (Some w) a c
-  at_refusal fault w s = go s.answer s.prints where
-    go : (answer : Result (Option Hit) PageFault) → PrintsStep (plan_answer answer) (Ok (WasRefused fault)) b c → WritesFound (IsTrue told) (first_found count (far_found tree pages)) (Some w) a c
+  pub at_refusal : (fault : PageFault) (w : Refusal) → n < count → Steps (Ok (WasRefused fault)) → WritesFound (IsTrue told) count (first_found count (far_found tree pages)) (Some w) a c
+  at_refusal fault w less s = go s.answer s.prints where
+    go : (answer : Result (Option Hit) PageFault) → PrintsStep (plan_answer answer) (Ok (WasRefused fault)) b c
+        → WritesFound (IsTrue told) count (first_found count (far_found tree pages)) (Some w) a c
     go (Err other) prints = record {
       lines = so.lines;
-      plain = so.plain;
+      plain = rows_accepted n so.lines so.of_rows;
+      counted = behind_rows (λ refusal. Some w ≡ Some refusal) count n so.lines (Refused w) so.of_rows less refl;
       first = λ t. (rest n, so.left t);
       written = writes_then_stays a b c (IsText so.lines) so.written prints.1;
     }
     go (Ok (Some hit)) prints = absurd prints
     go (Ok None) prints = absurd prints
 
+  -- with one row more they are all, or memory may be refused behind them
+  row_counted : (hit : Hit) → n < count → (IsTrue told → StandsAt (far_found tree pages) n hit)
+      → AreWholeOrRefused (IsTrue told) count (first_found count (far_found tree pages)) (so.lines ++ Row (row_of (answer_of hit)) ∷ [])
+  row_counted hit less stands = by_count (cases_lt (suc n) count) where
+    of_rows : AreLinesOfRows (suc n) (so.lines ++ Row (row_of (answer_of hit)) ∷ [])
+    of_rows = subst (λ (k : ℕ). AreLinesOfRows k (so.lines ++ Row (row_of (answer_of hit)) ∷ [])) (add-one n) (row_behind n so.lines (answer_of hit) so.of_rows)
+
+    by_count : (suc n < count) ⊎ (count ≤ suc n) → AreWholeOrRefused (IsTrue told) count (first_found count (far_found tree pages)) (so.lines ++ Row (row_of (answer_of hit)) ∷ [])
+    by_count (inl few) = inr (behind_rows (λ refusal. refusal ≡ why.Memory) count (suc n) (so.lines ++ Row (row_of (answer_of hit)) ∷ []) (Refused why.Memory) of_rows few refl)
+    by_count (inr past) =
+        let none : count - suc n ≡ 0 = omega (arith, past) in
+        let all : suc n ≡ count = omega (arith, less, past) in
+        inl (
+          λ t.
+              sym (next_row hit less t (stands t) ∙ ap (λ (k : ℕ). (so.lines ++ Row (row_of (answer_of hit)) ∷ []) ++ first_lines k (drop (suc n) (map single_row (far_found tree pages)))) none
+              ∙ append-nil (so.lines ++ Row (row_of (answer_of hit)) ∷ [])),
+          inl (subst (λ (k : ℕ). AreLinesOfRows k (so.lines ++ Row (row_of (answer_of hit)) ∷ [])) all of_rows),
+        )
+
   -- the sink failed in a line
-  pub at_break : (failed : Failed) → n < count → Steps (Err failed) → BreaksFound (IsTrue told) (first_found count (far_found tree pages)) a c
+  pub at_break : (failed : Failed) → n < count → Steps (Err failed) → BreaksFound (IsTrue told) count (first_found count (far_found tree pages)) a c
   at_break failed less s = go s.answer s.gives s.prints where
     go : (answer : Result (Option Hit) PageFault) → IfSome (if told then Some pages else None) (GivesFarthest tree old new answer) → PrintsStep (plan_answer answer) (Err failed) b c
-        → BreaksFound (IsTrue told) (first_found count (far_found tree pages)) a c
+        → BreaksFound (IsTrue told) count (first_found count (far_found tree pages)) a c
     go (Ok (Some hit)) gives prints = record {
       lines = so.lines ++ Row (row_of (answer_of hit)) ∷ [];
-      plain = plain_both so.lines (Row (row_of (answer_of hit)) ∷ []) so.plain refl;
+      plain = accepted_behind n so.lines (Row (row_of (answer_of hit))) so.of_rows refl;
+      counted = row_counted hit less (λ t. (told_is told pages (GivesFarthest tree old new (Ok (Some hit))) gives t plan_measure plan_measure_is n (so.given t)).0);
       first = λ t. (rest (suc n), next_row hit less t (told_is told pages (GivesFarthest tree old new (Ok (Some hit))) gives t plan_measure plan_measure_is n (so.given t)).0);
       broken = breaks_more a b c so.lines (Row (row_of (answer_of hit)) ∷ []) so.written prints;
     }
     go (Ok None) gives prints = record {
       lines = so.lines ++ End ∷ [];
-      plain = plain_both so.lines (End ∷ []) so.plain refl;
+      plain = accepted_behind n so.lines End so.of_rows refl;
+      counted = inl (
+        λ t. sym (next_end less t (told_is told pages (GivesFarthest tree old new (Ok None)) gives t plan_measure plan_measure_is n (so.given t)).0),
+        behind_rows (λ refusal. ⊥) count n so.lines End so.of_rows less tt,
+      );
       first = λ t. ([], next_end less t (told_is told pages (GivesFarthest tree old new (Ok None)) gives t plan_measure plan_measure_is n (so.given t)).0 ∙ sym (append-nil (so.lines ++ End ∷ [])));
       broken = breaks_more a b c so.lines (End ∷ []) so.written prints;
     }
     go (Err fault) gives prints = absurd prints
 
 -- what the pages tell now is what they told at the beginning
-pub as_before : (first now : DeskState) (tree tree' : FarTree FileShapes) (old new : Option Hit) (result : Result Next Failed) (b c : List ℕ → Type 0) → told_pages now ≡ told_pages first → tree' ≡ tree
+pub as_before : (first now : DeskState) (tree tree' : FarTree FileShapes) (old new : Option Hit) (result : Result Next Failed) (b c : List ℕ → Type 0)
+    → told_pages now ≡ told_pages first → tree' ≡ tree
     → PrintsFarthest (told_pages now) tree' old new result b c → PrintsFarthest (told_pages first) tree old new result b c
 as_before first now tree tree' old new result b c told same h =
     subst (λ (t : FarTree FileShapes). PrintsFarthest (told_pages first) t old new result b c) same (subst (λ (p : Option PageMap). PrintsFarthest p tree' old new result b c) told h)
@@ -220,12 +259,13 @@ stands_on old new tree tree' held last told same h =
     subst (λ (p : Option PageMap). IfSome p (FarStands by_code tree' held last)) (sym told) (subst (λ (t : FarTree FileShapes). IfSome (told_pages old) (FarStands by_code t held last)) (sym same) h)
 
 -- as many rows as are asked
-pub all_asked : (told : Bool) (pages : PageMap) (tree : FarTree FileShapes) (count n : ℕ) (last : Option Hit) (a b : List ℕ → Type 0) → count ≤ n → SoFar told pages tree count n last a b
-    → WritesFound (IsTrue told) (first_found count (far_found tree pages)) None a b
-all_asked told pages tree count n last a b past so =
-    let none : count - n ≡ 0 = omega (arith, past) in record {
+pub all_asked : (told : Bool) (pages : PageMap) (tree : FarTree FileShapes) (count n : ℕ) (last : Option Hit) (a b : List ℕ → Type 0) → n ≡ count → SoFar told pages tree count n last a b
+    → WritesFound (IsTrue told) count (first_found count (far_found tree pages)) None a b
+all_asked told pages tree count n last a b all so =
+    let none : count - n ≡ 0 = omega (arith, all) in record {
       lines = so.lines;
-      plain = so.plain;
+      plain = rows_accepted n so.lines so.of_rows;
+      counted = subst (PrintsRowsUpTo (λ refusal. None ≡ Some refusal) count) (sym (append-nil so.lines)) (inl (subst (λ (k : ℕ). AreLinesOfRows k so.lines) all so.of_rows));
       first = λ t.
           sym (so.left t ∙ ap (λ (k : ℕ). so.lines ++ first_lines k (drop n (map single_row (far_found tree pages)))) none ∙ append-nil so.lines);
       written = so.written;

@@ -38,7 +38,8 @@ alone_settled old new s stamp none = go (map.get new.stamps stamp) refl where
 
 module _ {S T : Type 0} where
   -- the stamp of the one at the place is held
-  pub held_at : (stamps : StampMap) (xs : List (OpenCursor S T)) (p : OpenCursor S T → Bool) (at : ℕ) (d : OpenCursor S T) → HaveStamps stamps xs → FirstAt p xs at → IsHeld stamps (get_or xs at d).stamp
+  pub held_at : (stamps : StampMap) (xs : List (OpenCursor S T)) (p : OpenCursor S T → Bool) (at : ℕ) (d : OpenCursor S T) → HaveStamps stamps xs → FirstAt p xs at
+      → IsHeld stamps (get_or xs at d).stamp
   held_at stamps [] p at d h f = absurd f
   held_at stamps (x ∷ xs) p zero d h f = h.0
   held_at stamps (x ∷ xs) p (suc at) d h f = held_at stamps xs p at d h.2 f.1
@@ -83,7 +84,8 @@ module _ {S T : Type 0} where
   apart_at stamp (x ∷ xs) p (suc at) d h f = apart_at stamp xs p at d h.1 f.1
 
   -- the others don't have the stamp of the one at the place
-  pub others_apart : (stamps : StampMap) (xs : List (OpenCursor S T)) (p : OpenCursor S T → Bool) (at : ℕ) (d : OpenCursor S T) → HaveStamps stamps xs → FirstAt p xs at → HasNone (get_or xs at d).stamp (remove xs at)
+  pub others_apart : (stamps : StampMap) (xs : List (OpenCursor S T)) (p : OpenCursor S T → Bool) (at : ℕ) (d : OpenCursor S T) → HaveStamps stamps xs → FirstAt p xs at
+      → HasNone (get_or xs at d).stamp (remove xs at)
   others_apart stamps [] p at d h f = absurd f
   others_apart stamps (x ∷ xs) p zero d h f = h.1
   others_apart stamps (x ∷ xs) p (suc at) d h f = (λ same. apart_at x.stamp xs p at d h.1 f.1 (sym same), others_apart stamps xs p at d h.2 f.1)
@@ -114,7 +116,8 @@ module _ {S T : Type 0} where
     go false e = get-remove_other stamps s stamp (false-eqb stamp s (sym e)) ∙ alone stamp (none_unremoved stamp xs at d (λ same. false-eqb stamp s (sym e) (sym same)) none)
 
   -- cursors without the stamp stand where they stood
-  pub stand_released : (At : OverPages S T) (stamps : StampMap) (stamp : ℕ) (xs : List (OpenCursor S T)) (cs : List Cursor) → HasNone stamp xs → StandAll (AtStamp At) stamps xs cs → StandAll (AtStamp At) (map.remove stamps stamp) xs cs
+  pub stand_released : (At : OverPages S T) (stamps : StampMap) (stamp : ℕ) (xs : List (OpenCursor S T)) (cs : List Cursor) → HasNone stamp xs
+      → StandAll (AtStamp At) stamps xs cs → StandAll (AtStamp At) (map.remove stamps stamp) xs cs
   stand_released At stamps stamp [] [] n h = tt
   stand_released At stamps stamp [] (c ∷ cs) n h = absurd h
   stand_released At stamps stamp (x ∷ xs) [] n h = absurd h
@@ -135,7 +138,8 @@ module _ {S T : Type 0} where
   none_behind stamp [] y apart h = (apart, tt)
   none_behind stamp (x ∷ xs) y apart h = (h.0, none_behind stamp xs y apart h.1)
 
-  held_behind : (stamps : StampMap) (shown : Shown) (y : OpenCursor S T) (xs : List (OpenCursor S T)) → HasNone y.stamp xs → HaveStamps stamps xs → HaveStamps (map.insert stamps y.stamp shown) (xs ++ y ∷ [])
+  held_behind : (stamps : StampMap) (shown : Shown) (y : OpenCursor S T) (xs : List (OpenCursor S T)) → HasNone y.stamp xs → HaveStamps stamps xs
+      → HaveStamps (map.insert stamps y.stamp shown) (xs ++ y ∷ [])
   held_behind stamps shown y [] n h = ((shown, get-insert_same stamps y.stamp shown), tt, tt)
   held_behind stamps shown y (x ∷ xs) n h = (
     (h.0.0, get-insert_other stamps y.stamp shown x.stamp n.0 ∙ h.0.1),
@@ -144,7 +148,8 @@ module _ {S T : Type 0} where
   )
 
   -- one more, whose stamp wasn't held
-  pub held_opened : (stamps : StampMap) (shown : Shown) (y : OpenCursor S T) (xs : List (OpenCursor S T)) → map.get stamps y.stamp ≡ None → HaveStamps stamps xs → HaveStamps (map.insert stamps y.stamp shown) (xs ++ y ∷ [])
+  pub held_opened : (stamps : StampMap) (shown : Shown) (y : OpenCursor S T) (xs : List (OpenCursor S T)) → map.get stamps y.stamp ≡ None → HaveStamps stamps xs
+      → HaveStamps (map.insert stamps y.stamp shown) (xs ++ y ∷ [])
   held_opened stamps shown y xs fresh h = held_behind stamps shown y xs (fresh_apart stamps y.stamp xs fresh h) h
 
   -- behind one more no other stamp is held
@@ -166,7 +171,8 @@ module _ {S T : Type 0} where
       (h.0, (h.1.0, get-insert_other stamps stamp shown x.stamp n.0 ∙ h.1.1, h.1.2), stand_apart At stamps stamp shown xs cs n.1 h.2)
 
   -- the others stand where they stood
-  pub stand_opened : (At : OverPages S T) (stamps : StampMap) (stamp : ℕ) (shown : Shown) (xs : List (OpenCursor S T)) (cs : List Cursor) → map.get stamps stamp ≡ None → HaveStamps stamps xs → StandAll (AtStamp At) stamps xs cs
+  pub stand_opened : (At : OverPages S T) (stamps : StampMap) (stamp : ℕ) (shown : Shown) (xs : List (OpenCursor S T)) (cs : List Cursor) → map.get stamps stamp ≡ None
+      → HaveStamps stamps xs → StandAll (AtStamp At) stamps xs cs
       → StandAll (AtStamp At) (map.insert stamps stamp shown) xs cs
   stand_opened At stamps stamp shown xs cs fresh held h = stand_apart At stamps stamp shown xs cs (fresh_apart stamps stamp xs fresh held) h
 
@@ -179,7 +185,8 @@ module _ {S T : Type 0} where
   pub held_settled : (old new : PoolState) → SettlesStamps old new → (xs : List (OpenCursor S T)) → AreHeld old.stamps xs → AreHeld new.stamps xs
   held_settled old new s xs h = (have_settled old new s xs h.0, λ stamp none. alone_settled old new s stamp (h.1 stamp none))
 
-  pub stand_settled : (At : OverPages S T) (old new : PoolState) → SettlesStamps old new → IsTold old → (xs : List (OpenCursor S T)) (cs : List Cursor) → StandAll (AtStamp At) old.stamps xs cs → StandAll (AtStamp At) new.stamps xs cs
+  pub stand_settled : (At : OverPages S T) (old new : PoolState) → SettlesStamps old new → IsTold old → (xs : List (OpenCursor S T)) (cs : List Cursor)
+      → StandAll (AtStamp At) old.stamps xs cs → StandAll (AtStamp At) new.stamps xs cs
   stand_settled At old new s told [] [] h = tt
   stand_settled At old new s told [] (c ∷ cs) h = absurd h
   stand_settled At old new s told (x ∷ xs) [] h = absurd h
@@ -190,18 +197,21 @@ module _ {S T : Type 0} where
   -- ---- calls of the store
 
   -- the one in hand is held
-  pub held_in_hand : (stamps : StampMap) (xs : List (OpenCursor S T)) (p : OpenCursor S T → Bool) (at : ℕ) (d : OpenCursor S T) → d ≡ get_or xs at d → AreHeld stamps xs → FirstAt p xs at → IsHeld stamps d.stamp
+  pub held_in_hand : (stamps : StampMap) (xs : List (OpenCursor S T)) (p : OpenCursor S T → Bool) (at : ℕ) (d : OpenCursor S T) → d ≡ get_or xs at d → AreHeld stamps xs
+      → FirstAt p xs at → IsHeld stamps d.stamp
   held_in_hand stamps xs p at d here held f = subst (λ (x : OpenCursor S T). IsHeld stamps x.stamp) (sym here) (held_at stamps xs p at d held.0 f)
 
   -- none of the others has the stamp of one that was taken out
-  ended_apart : (stamps : StampMap) (xs ys : List (OpenCursor S T)) (p : OpenCursor S T → Bool) (at : ℕ) (ended : OpenCursor S T) → ended ≡ get_or xs at ended → ys ≡ remove xs at → AreHeld stamps xs → FirstAt p xs at
+  ended_apart : (stamps : StampMap) (xs ys : List (OpenCursor S T)) (p : OpenCursor S T → Bool) (at : ℕ) (ended : OpenCursor S T) → ended ≡ get_or xs at ended
+      → ys ≡ remove xs at → AreHeld stamps xs → FirstAt p xs at
       → HasNone ended.stamp ys
   ended_apart stamps xs ys p at ended here gone held f =
       subst (λ (zs : List (OpenCursor S T)). HasNone ended.stamp zs) (sym gone)
       (subst (λ (x : OpenCursor S T). HasNone x.stamp (remove xs at)) (sym here) (others_apart stamps xs p at ended held.0 f))
 
   -- one was taken out, and its stamp was let go: the others stand where they stood
-  pub stand_let_go : (At : OverPages S T) (old new : PoolState) (xs ys : List (OpenCursor S T)) (p : OpenCursor S T → Bool) (at : ℕ) (ended : OpenCursor S T) → ended ≡ get_or xs at ended → ys ≡ remove xs at
+  pub stand_let_go : (At : OverPages S T) (old new : PoolState) (xs ys : List (OpenCursor S T)) (p : OpenCursor S T → Bool) (at : ℕ) (ended : OpenCursor S T)
+      → ended ≡ get_or xs at ended → ys ≡ remove xs at
       → LetsMapGo old new ended.stamp → AreHeld old.stamps xs → FirstAt p xs at → (cs : List Cursor) → StandAll (AtStamp At) old.stamps ys cs → StandAll (AtStamp At) new.stamps ys cs
   stand_let_go At old new xs ys p at ended here gone lets held f cs h =
       subst (λ (m : StampMap). StandAll (AtStamp At) m ys cs) (sym (ap (λ (q : PoolState). q.stamps) lets.after))
@@ -217,7 +227,8 @@ module _ {S T : Type 0} where
       (held_removed old.stamps xs p at ended held.0 f, alone_removed old.stamps xs at ended held.1)))
 
   -- one more was put behind them, whose stamp was just taken: they stand where they stood
-  pub stand_kept : (At : OverPages S T) (old new : PoolState) (stamp : ℕ) (xs : List (OpenCursor S T)) (cs : List Cursor) → KeepsMap old new stamp → AreHeld old.stamps xs → StandAll (AtStamp At) old.stamps xs cs
+  pub stand_kept : (At : OverPages S T) (old new : PoolState) (stamp : ℕ) (xs : List (OpenCursor S T)) (cs : List Cursor) → KeepsMap old new stamp
+      → AreHeld old.stamps xs → StandAll (AtStamp At) old.stamps xs cs
       → StandAll (AtStamp At) new.stamps xs cs
   stand_kept At old new stamp xs cs kept held h =
       subst (λ (m : StampMap). StandAll (AtStamp At) m xs cs) (sym (ap (λ (q : PoolState). q.stamps) kept.after)) (stand_opened At old.stamps stamp (shown_of old) xs cs kept.fresh held.0 h)

@@ -18,7 +18,8 @@ shows_live store desk desk' none is read =
 
 -- what is said of a catalog and a desk before and after is said of the store
 pub lent : (P : CatalogView → PoolState → PoolState → Type 0) (store new : StoreState) (catalog : CatalogView) (desk desk' : DeskState) → IsNone store.pool.live → catalog ≡ store.catalog
-    → desk ≡ record { pool = store.pool; visits = [] } → IsRead desk.pool desk'.pool → new ≡ record { catalog = catalog; pool = back desk'.pool } → P catalog desk.pool desk'.pool → P store.catalog store.pool new.pool
+    → desk ≡ record { pool = store.pool; visits = [] } → IsRead desk.pool desk'.pool → new ≡ record { catalog = catalog; pool = back desk'.pool }
+    → P catalog desk.pool desk'.pool → P store.catalog store.pool new.pool
 lent P store new catalog desk desk' none catalog_is desk_is read new_is h =
     subst (λ (p : PoolState). P store.catalog store.pool p) (sym (ap (λ (s : StoreState). s.pool) new_is ∙ shows_live store desk desk' none desk_is read))
     (subst (λ (p : PoolState). P store.catalog p desk'.pool) (pool_of store desk desk_is) (subst (λ (k : CatalogView). P k desk.pool desk'.pool) catalog_is h))

@@ -1,5 +1,6 @@
 -- the steps of a cursor
 pub mod StepCalls
+pub mod RowsWritten
 -- the open cursor of a name, where it makes steps and where it is gone
 pub mod NamedCursors
 pub mod ClosedCursors

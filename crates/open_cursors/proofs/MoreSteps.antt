@@ -34,7 +34,8 @@ pub record Kept (n : ℕ) (c after : Cursor) : Type 0 where
 
 step_name : (c : Cursor) → (step_of plan_measure c).1.name ≡ c.name
 step_name c =
-    let go : (o : Option PlanRow) → element (answer plan_measure c.database c.plan) c.given ≡ o → (step_of plan_measure c).1.name ≡ c.name = elim [ None ↦ λ e. rw e refl | Some row ↦ λ e. rw e refl ] in
+    let go : (o : Option PlanRow) → element (answer plan_measure c.database c.plan) c.given ≡ o → (step_of plan_measure c).1.name ≡ c.name =
+    elim [ None ↦ λ e. rw e refl | Some row ↦ λ e. rw e refl ] in
     go (element (answer plan_measure c.database c.plan) c.given) refl
 
 pub steps_kept : (may : Refusal → Type 0) (n : ℕ) (c : Cursor) (lines : List OutputLine) (after : Cursor) → Steps plan_measure may n c lines after → Kept n c after
@@ -58,7 +59,8 @@ abbrev pub IsMemory : Refusal → Type 0
 IsMemory w = w ≡ why.Memory
 
 -- some steps are all steps, or the next one may be refused
-pub more_steps : (made count : ℕ) (c : Cursor) (lines : List OutputLine) (after : Cursor) → made ≤ count → IsRefusedStep plan_measure after why.Memory after → Steps plan_measure (λ w. ⊥) made c lines after
+pub more_steps : (made count : ℕ) (c : Cursor) (lines : List OutputLine) (after : Cursor) → made ≤ count → IsRefusedStep plan_measure after why.Memory after
+    → Steps plan_measure (λ w. ⊥) made c lines after
     → Steps plan_measure IsMemory count c lines after ⊎ Steps plan_measure IsMemory count c (lines ++ Refused why.Memory ∷ []) after
 more_steps zero zero c lines after few stays h = inl h
 more_steps zero (suc n) c lines after few stays h =

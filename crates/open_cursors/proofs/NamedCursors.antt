@@ -1,5 +1,6 @@
 -- The open cursor of a name, and the cursors of the model where it makes steps.
-use Rattle.std.proofs.Common.{◌≡◌, ℕ, zero, suc, ◌+◌, ◌<◌, ◌≤◌, Bool, true, false, not, cond, ltb, ◌||◌, List, [], ◌∷◌, ◌++◌, length, map, get_or, set, Option, Some, None, refl, sym, ◌∙◌, ap, subst, inl, inr, arith, true≢false}
+use Rattle.std.proofs.Common.{◌≡◌, ℕ, zero, suc, ◌+◌, ◌<◌, ◌≤◌, Bool, true, false, not, cond, ltb, ◌||◌, List, [], ◌∷◌, ◌++◌, length, map, get_or, set, Option, Some}
+use Rattle.std.proofs.Common.{None, refl, sym, ◌∙◌, ap, subst, inl, inr, arith, true≢false}
 use Rattle.std.specs.Prelude.{is_some, Result, Ok, Err, IfSome}
 use Rattle.plan_rows.specs.Rows.{plan_measure}
 use Rattle.sand_base.specs.declared.refusal.Refusal.{Refusal}
@@ -167,7 +168,8 @@ module _ {S T : Type 0} (At : Places S T) (stamps : StampMap) where
 -- a step keeps the name
 step_name : (c : Cursor) → (step_of plan_measure c).1.name ≡ c.name
 step_name c =
-    let go : (o : Option PlanRow) → element (answer plan_measure c.database c.plan) c.given ≡ o → (step_of plan_measure c).1.name ≡ c.name = elim [ None ↦ λ e. rw e refl | Some row ↦ λ e. rw e refl ] in
+    let go : (o : Option PlanRow) → element (answer plan_measure c.database c.plan) c.given ≡ o → (step_of plan_measure c).1.name ≡ c.name =
+    elim [ None ↦ λ e. rw e refl | Some row ↦ λ e. rw e refl ] in
     go (element (answer plan_measure c.database c.plan) c.given) refl
 
 steps_name : (may : Refusal → Type 0) (n : ℕ) (c : Cursor) (lines : List OutputLine) (after : Cursor) → Steps plan_measure may n c lines after → after.name ≡ c.name
@@ -178,19 +180,22 @@ steps_name may (suc n) c lines after (inr (inl end)) = sym (ap (λ (p : OutputLi
 steps_name may (suc n) c lines after (inr (inr refused)) = ap (λ (k : Cursor). k.name) refused.2.2
 
 kept_name : (c : Cursor) (count : ℕ) (a b : List ℕ → Type 0) (result : Result (Option Refusal) Failed) (after : Cursor) → WritesSteps c count after a b result → after.name ≡ c.name
-kept_name c count a b (Ok end) after h = steps_name (λ r. end ≡ Some r) count c (h.lines ++ refused_line end) after h.holds
+kept_name c count a b (Ok end) after h = steps_name (λ r. end ≡ Some r) count c (h.lines ++ refused_line end) after h.holds.0
 kept_name c count a b (Err failed) after h = steps_name (λ r. ⊥) h.1.0 c h.0 after h.1.2
 
 module _ {S T : Type 0} (At : Places S T) (told : Option StampMap) (xs : List (OpenCursor S T)) (name : List ℕ) (count : ℕ) where
   -- no cursor has the name
   pub next_none : NonePasses (λ x. same_name x.name name) xs → (a : List ℕ → Type 0)
-      → IfSome told (λ stamps. (cs : List Cursor) → HaveOwnNames cs → StandAll At stamps xs cs → NextOf (named cs name) cs name count a a (Ok (Some why.UnknownCursor)) (λ after. StandAll At stamps xs after))
+      → IfSome told (λ stamps. (cs : List Cursor) → HaveOwnNames cs → StandAll At stamps xs cs
+      → NextOf (named cs name) cs name count a a (Ok (Some why.UnknownCursor)) (λ after. StandAll At stamps xs after))
   next_none n a = over told where
     over : (told : Option StampMap)
-        → IfSome told (λ stamps. (cs : List Cursor) → HaveOwnNames cs → StandAll At stamps xs cs → NextOf (named cs name) cs name count a a (Ok (Some why.UnknownCursor)) (λ after. StandAll At stamps xs after))
+        → IfSome told (λ stamps. (cs : List Cursor) → HaveOwnNames cs → StandAll At stamps xs cs
+        → NextOf (named cs name) cs name count a a (Ok (Some why.UnknownCursor)) (λ after. StandAll At stamps xs after))
     over None = tt
     over (Some stamps) = λ cs own h.
-        subst (λ (o : Option Cursor). NextOf o cs name count a a (Ok (Some why.UnknownCursor)) (λ after. StandAll At stamps xs after)) (sym (none_named At stamps xs cs name h n)) (refl, (λ bytes k. k), h)
+        subst (λ (o : Option Cursor). NextOf o cs name count a a (Ok (Some why.UnknownCursor)) (λ after. StandAll At stamps xs after))
+        (sym (none_named At stamps xs cs name h n)) (refl, (λ bytes k. k), h)
 
   -- the cursor of the name makes steps
   pub next_named : (at : ℕ) (d r : OpenCursor S T) → r.name ≡ (get_or xs at d).name → (a b : List ℕ → Type 0) (result : Result (Option Refusal) Failed) → FirstAt (λ x. same_name x.name name) xs at

@@ -12,7 +12,7 @@ use Rattle.sand_model.specs.Cursor.{Cursor, IsRefusedStep}
 use Rattle.sand_model.specs.OutputText.{IsText}
 use Rattle.statement_exec.proofs.Texts.{breaks_with}
 use Rattle.statement_exec.specs.Ending.{PagesHaveCause, WritesUpTo, is_refusal, refused_line}
-use Rattle.open_cursors.proofs.StepCalls.{some_so}
+use Rattle.open_cursors.proofs.StepCalls.{some_so, plain_refused}
 use Rattle.open_cursors.specs.Steps.{StepsOn}
 use Rattle.open_cursors.specs.Carried.{RowsOf}
 use Rattle.statement_exec.specs.Printing.{WritesOf}
@@ -44,10 +44,11 @@ module _ (told : Option PageMap) (Before After : PageMap → Cursor → Type 0) 
   pub told_rows_broken : (a b : List ℕ → Type 0) (failed : Failed) → ((pages : PageMap) (c : Cursor) → After pages c → IsRefusedStep plan_measure c why.Memory c)
       → IfSome told (Steps a b (Err failed)) → IfSome told (Rows a b (Err failed))
   told_rows_broken a b failed stays = some_so told (Steps a b (Err failed)) (Rows a b (Err failed)) (λ pages steps c at. write c (After pages) (stays pages) (steps c at)) where
-    write : (c : Cursor) (At : Cursor → Type 0) → ((k : Cursor) → At k → IsRefusedStep plan_measure k why.Memory k) → StepsOn c count a b (Err failed) At → WritesOf (RowsOf c count old new) a b (Err failed)
+    write : (c : Cursor) (At : Cursor → Type 0) → ((k : Cursor) → At k → IsRefusedStep plan_measure k why.Memory k) → StepsOn c count a b (Err failed) At
+        → WritesOf (RowsOf c count old new) a b (Err failed)
     write c At waits s =
         let some = s.steps in
         elim (more_steps some.1.0 count c some.0 s.after some.1.1 (waits s.after s.at) some.1.2) [
-          | inl all ↦ some_written (RowsOf c count old new) a b some.0 (s.after, inr all) some.2
-          | inr all ↦ breaks_with (RowsOf c count old new) a b some.0 why.Memory (s.after, inr all) some.2
+          | inl all ↦ some_written (RowsOf c count old new) a b some.0 (s.after, inr (all, some.1.3)) some.2
+          | inr all ↦ breaks_with (RowsOf c count old new) a b some.0 why.Memory (s.after, inr (all, plain_refused some.0 why.Memory some.1.3)) some.2
         ]

@@ -37,7 +37,8 @@ line_is c numbers are few =
     ap₂ (λ (k : Counts) (n : ℕ). StatsLine k n) are.counts same
 
 -- the line of some numbers, where no check refuses
-numbers_decide : (catalog : CatalogView) (cs : List Cursor) (pool : PoolState) (name : List ℕ) (files : Option Files) (shelf : ℕ) → ((setting : Setting) → early setting (state_of catalog pool.pages cs) (StatsOf name) ≡ None)
+numbers_decide : (catalog : CatalogView) (cs : List Cursor) (pool : PoolState) (name : List ℕ) (files : Option Files) (shelf : ℕ)
+    → ((setting : Setting) → early setting (state_of catalog pool.pages cs) (StatsOf name) ≡ None)
     → (line : OutputLine) (seen : Counts) (given : ℕ) → line ≡ StatsLine seen given → IsDecided (StatsOf name) (beside cs catalog pool files shelf) (beside cs catalog pool files shelf) (line ∷ [])
 numbers_decide catalog cs pool name files shelf passes line seen given is =
     passing_decides catalog cs cs pool pool files files shelf shelf (StatsOf name) refl (line ∷ []) passes (λ setting. (seen, given, ap (λ (l : OutputLine). l ∷ []) is)) refl
@@ -64,7 +65,8 @@ module _ (catalog : CatalogView) (cs : List Cursor) (pool : PoolState) (name : L
     ),
     λ told disk few setting gap s.
         let fails : early setting (state_of catalog pool.pages cs) (StatsOf name) ≡ Some why.UnknownCursor = rw is refl in
-        outcome_early setting (rises_between (beside cs catalog pool files shelf) (beside cs catalog pool files shelf)) (state_of catalog pool.pages cs) (StatsOf name) (Refused why.UnknownCursor ∷ []) (state_of catalog pool.pages cs)
+        outcome_early setting (rises_between (beside cs catalog pool files shelf) (beside cs catalog pool files shelf)) (state_of catalog pool.pages cs) (StatsOf name)
+        (Refused why.UnknownCursor ∷ []) (state_of catalog pool.pages cs)
         why.UnknownCursor fails tt (refl, refl),
   )
 

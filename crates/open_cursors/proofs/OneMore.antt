@@ -19,7 +19,8 @@ module _ {S T : Type 0} (At : Places S T) (stamps : StampMap) (x : OpenCursor S 
   all_stand xs ys cs is h = subst (λ (zs : List (OpenCursor S T)). StandAll At stamps zs (cs ++ c ∷ [])) (sym is) (behind xs cs h)
 
 -- they have the names, and the last one too
-pub all_named : {S T : Type 0} (x : OpenCursor S T) (c : Cursor) → c.name ≡ x.name → (xs ys : List (OpenCursor S T)) (cs : List Cursor) → ys ≡ xs ++ x ∷ [] → AreNamed xs cs → AreNamed ys (cs ++ c ∷ [])
+pub all_named : {S T : Type 0} (x : OpenCursor S T) (c : Cursor) → c.name ≡ x.name → (xs ys : List (OpenCursor S T)) (cs : List Cursor) → ys ≡ xs ++ x ∷ []
+    → AreNamed xs cs → AreNamed ys (cs ++ c ∷ [])
 all_named {S} {T} x c name xs ys cs is h =
     map-append (λ (k : Cursor). k.name) cs (c ∷ [])
     ∙ (ap₂ (λ (ns : List (List ℕ)) (n : List ℕ). ns ++ n ∷ []) h name

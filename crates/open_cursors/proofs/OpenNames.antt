@@ -70,7 +70,8 @@ module _ {S T : Type 0} (name : List ℕ) where
   pub next_unknown : (xs : List (OpenCursor S T)) → NonePasses (λ x. same_name x.name name) xs → AnswersNext (is_open xs name) (Ok (Some why.UnknownCursor))
   next_unknown xs n = subst (λ (b : Bool). AnswersNext b (Ok (Some why.UnknownCursor))) (sym (open_none xs n)) refl
 
-  pub next_known : (xs : List (OpenCursor S T)) (at : ℕ) (result : Result (Option Refusal) Failed) → FirstAt (λ x. same_name x.name name) xs at → AnswersPages result → AnswersNext (is_open xs name) result
+  pub next_known : (xs : List (OpenCursor S T)) (at : ℕ) (result : Result (Option Refusal) Failed) → FirstAt (λ x. same_name x.name name) xs at → AnswersPages result
+      → AnswersNext (is_open xs name) result
   next_known xs at result f h = subst (λ (b : Bool). AnswersNext b result) (sym (open_at xs at f)) h
 
   -- a cursor of the name is open, so nothing is said of what is written where none is

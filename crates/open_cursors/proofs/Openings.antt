@@ -46,7 +46,8 @@ checks_named catalog k shown xs name p result end here same is checks pages cs a
     (λ setting. checks pages cs (subst (λ (ys : List (OpenCursor Source Stage)). AreNamed ys cs) (sym same) all) setting ∙ is)
 
 -- a refusal of the checks is handed on, and the cursors are as they were
-pub handed_on : (catalog : CatalogView) (pages : PageMap) (cs : List Cursor) (name : List ℕ) (p : Plan) (e : Refusal) (r : Result (Unit {0}) Refusal) (At : List Cursor → Type 0) → IsErr r × IsErrAnd r (λ f. f ≡ e)
+pub handed_on : (catalog : CatalogView) (pages : PageMap) (cs : List Cursor) (name : List ℕ) (p : Plan) (e : Refusal) (r : Result (Unit {0}) Refusal) (At : List Cursor → Type 0)
+    → IsErr r × IsErrAnd r (λ f. f ≡ e)
     → (e ≡ why.Memory) ⊎ ChecksGive catalog pages cs name p (Some e) → At cs → OpensOf catalog pages cs name p r At
 handed_on catalog pages cs name p e (Ok x) At h checks at = absurd h.1
 handed_on catalog pages cs name p e (Err f) At h checks at = (subst (λ (w : Refusal). (w ≡ why.Memory) ⊎ ChecksGive catalog pages cs name p (Some w)) (sym h.1) checks, at)

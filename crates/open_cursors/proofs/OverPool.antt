@@ -56,10 +56,12 @@ module _ (catalog : CatalogView) (old new : PoolState) (statement : Statement) (
 pub next_beside : (catalog : CatalogView) (old new : PoolState) (read : IsRead old new) (name : List ℕ) (count : ℕ) (a b : List ℕ → Type 0) (r : Result Bool Failed)
     (xs ys : List (OpenCursor Source Stage)) (cs : List Cursor) → HaveOwnNames cs
     → (old.disk.told ≡ false → (ks : List Cursor) → HaveOwnNames ks → AreNamed xs ks → (k : CatalogView) → CarriesBeside (Next name count) k old new ks a b r (AreNamed ys))
-    → IfSome (told_stamps old) (λ stamps. (ks : List Cursor) → HaveOwnNames ks → StandAll PlanAt stamps xs ks → (k : CatalogView) → CarriesBeside (Next name count) k old new ks a b r (StandAll PlanAt stamps ys))
+    → IfSome (told_stamps old) (λ stamps. (ks : List Cursor) → HaveOwnNames ks → StandAll PlanAt stamps xs ks → (k : CatalogView)
+    → CarriesBeside (Next name count) k old new ks a b r (StandAll PlanAt stamps ys))
     → StandOver old xs cs → CarriesBeside (Next name count) catalog old new cs a b r (StandOver new ys)
 next_beside catalog old new read name count a b r xs ys cs own named carried =
-    let Carried : StampMap → Type 0 = λ stamps. (ks : List Cursor) → HaveOwnNames ks → StandAll PlanAt stamps xs ks → (k : CatalogView) → CarriesBeside (Next name count) k old new ks a b r (StandAll PlanAt stamps ys) in
+    let Carried : StampMap → Type 0 = λ stamps. (ks : List Cursor) → HaveOwnNames ks → StandAll PlanAt stamps xs ks → (k : CatalogView)
+    → CarriesBeside (Next name count) k old new ks a b r (StandAll PlanAt stamps ys) in
     over_pool catalog old new (Next name count) a b r xs ys cs read.told (λ untold names. named untold cs own names catalog)
     (λ told all.
     let here : Carried old.stamps = told_here old Carried told carried in
@@ -74,7 +76,8 @@ kept_pool catalog old new statement a b r cs At same h = record {
   at = h.at;
   given = h.given;
   writes = writes_so (PerformsBeside statement catalog old old cs h.after) (PerformsBeside statement catalog old new cs h.after) a b
-      (λ lines performs files shelf. subst (λ (p : PoolState). PerformsLowest statement (beside cs catalog old files shelf) (beside h.after catalog p files shelf) lines) (sym same) (performs files shelf)) r h.writes;
+      (λ lines performs files shelf. subst (λ (p : PoolState). PerformsLowest statement (beside cs catalog old files shelf) (beside h.after catalog p files shelf) lines)
+      (sym same) (performs files shelf)) r h.writes;
 }
 
 -- a cursor is opened or closed: which maps are held changed alone
@@ -88,9 +91,11 @@ held_beside catalog old new statement a b r xs ys cs same named told =
     (λ t all. kept_pool catalog old new statement a b r cs (StandAll PlanAt new.stamps ys) same (told t all))
 
 -- the numbers of a cursor
-pub stats_beside : (catalog : CatalogView) (pool : PoolState) (a b : List ℕ → Type 0) (r : Result Bool Failed) (xs : List (OpenCursor Source Stage)) (cs : List Cursor) → HaveOwnNames cs → (name : List ℕ) → AreCounted cs
+pub stats_beside : (catalog : CatalogView) (pool : PoolState) (a b : List ℕ → Type 0) (r : Result Bool Failed) (xs : List (OpenCursor Source Stage)) (cs : List Cursor)
+    → HaveOwnNames cs → (name : List ℕ) → AreCounted cs
     → ((ks : List Cursor) → AreNamed xs ks → (k : CatalogView) (p : PoolState) → p.disk.told ≡ false → WritesOf (PerformsBeside (Stats name) k p p ks ks) a b r)
-    → ((stamps : StampMap) (ks : List Cursor) → HaveOwnNames ks → StandAll PlanAt stamps xs ks → AreCounted ks → (k : CatalogView) (p : PoolState) → WritesOf (PerformsBeside (Stats name) k p p ks ks) a b r)
+    → ((stamps : StampMap) (ks : List Cursor) → HaveOwnNames ks → StandAll PlanAt stamps xs ks → AreCounted ks → (k : CatalogView) (p : PoolState)
+    → WritesOf (PerformsBeside (Stats name) k p p ks ks) a b r)
     → StandOver pool xs cs → CarriesBeside (Stats name) catalog pool pool cs a b r (StandOver pool xs)
 stats_beside catalog pool a b r xs cs own name counted named written =
     over_pool catalog pool pool (Stats name) a b r xs xs cs refl

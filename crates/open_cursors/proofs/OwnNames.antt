@@ -78,7 +78,8 @@ other_way a b h =
     ] in
     go (same_name b a) refl
 
-same_more : (other name : List ℕ) (cs : List Cursor) (new : Cursor) → new.name ≡ name → has_same other (names cs) ≡ false → same_name other name ≡ false → has_same other (names (cs ++ new ∷ [])) ≡ false
+same_more : (other name : List ℕ) (cs : List Cursor) (new : Cursor) → new.name ≡ name → has_same other (names cs) ≡ false → same_name other name ≡ false
+    → has_same other (names (cs ++ new ∷ [])) ≡ false
 unfolding names
 same_more other name [] new e h n = ap (λ (m : List ℕ). same_name m other || false) e ∙ ap (λ (b : Bool). b || false) (other_way other name n)
 same_more other name (c ∷ cs) new e h n =

@@ -1,6 +1,6 @@
 -- What statements with a plan do beside open cursors is the outcome of the model.
 use Rattle.std.proofs.Common.{◌≡◌, ◌<◌, ℕ, List, [], ◌∷◌, Option, Some, None, refl, sym, ◌∙◌, ap, subst, true≢false}
-use Rattle.std.specs.Prelude.{Ok, Err, ⊤, is_some}
+use Rattle.std.specs.Prelude.{All, Ok, Err, ⊤, is_some}
 use Rattle.page_pool.specs.Pool.{PoolState, IsTold}
 use Rattle.page_pool.specs.Reads.{IsRead}
 use Rattle.plan_rows.specs.Rows.{plan_measure}
@@ -10,6 +10,7 @@ use Rattle.sand_base.specs.Shelf.{Files}
 use Rattle.sand_base.specs.declared.refusal.Refusal.{Refusal}
 use Rattle.sand_base.specs.declared.refusal.Refusal.TheVariants as why
 use Rattle.sand_base.specs.declared.source.Failed.{Failed}
+use Rattle.sand_model.specs.PlainLines.{IsPlainLine}
 use Rattle.sand_model.specs.Cursor.{Cursor, OutputLine, Refused, Steps, new_cursor}
 use Rattle.sand_model.specs.Measure.{Measure}
 use Rattle.sand_model.specs.Outcome.{IsLicensed}
@@ -28,7 +29,8 @@ use Rattle.statement_exec.specs.Ending.{IsCausedByPages, PagesHaveCause}
 use Rattle.statement_exec.specs.LeafLines.{state_of}
 use Rattle.statement_exec.specs.Moment.{beside, rises_between}
 use Rattle.open_cursors.proofs.CausedSteps.{cause_of_end, pages_no_file, steps_caused}
-use Rattle.open_cursors.proofs.DecidedCursors.{early_decides, memory_decides, pages_come, passing_decides, steps_up_to}
+use Rattle.open_cursors.proofs.DecidedCursors.{early_decides, memory_decides, pages_come, passing_decides}
+use Rattle.statement_exec.proofs.CountedRows.{steps_up_to}
 use Rattle.open_cursors.specs.Outcomes.{PerformsBeside}
 use Rattle.open_cursors.specs.Steps.{GivesSteps, IsOfPages}
 use Rattle.open_cursors.proofs.MoreSteps.{IsMemory}
@@ -46,7 +48,8 @@ module _ (catalog : CatalogView) (cs : List Cursor) (old new : PoolState) (read 
       memory_decides catalog cs cs old new files files shelf shelf statement refl,
     ),
     λ told disk few setting gap s.
-        outcome_outside setting (rises_between (beside cs catalog old files shelf) (beside cs catalog new files shelf)) (state_of catalog old.pages cs) statement (Refused why.Memory ∷ []) (state_of catalog new.pages cs)
+        outcome_outside setting (rises_between (beside cs catalog old files shelf) (beside cs catalog new files shelf)) (state_of catalog old.pages cs) statement
+        (Refused why.Memory ∷ []) (state_of catalog new.pages cs)
         why.Memory tt (refl, ap (λ m. state_of catalog m cs) read.pages),
   )
 
@@ -61,13 +64,16 @@ module _ (catalog : CatalogView) (cs : List Cursor) (old new : PoolState) (read 
       early_decides catalog cs cs old new files files shelf shelf (Opens name p) refl w fails,
     ),
     λ told disk few setting gap s.
-        outcome_early setting (rises_between (beside cs catalog old files shelf) (beside cs catalog new files shelf)) (state_of catalog old.pages cs) (Opens name p) (Refused w ∷ []) (state_of catalog new.pages cs)
-        w (fails setting) (caused (rises_between (beside cs catalog old files shelf) (beside cs catalog new files shelf)) w (open_refuses setting (state_of catalog old.pages cs) name p w (fails setting)))
+        outcome_early setting (rises_between (beside cs catalog old files shelf) (beside cs catalog new files shelf)) (state_of catalog old.pages cs) (Opens name p)
+        (Refused w ∷ []) (state_of catalog new.pages cs)
+        w (fails setting) (caused (rises_between (beside cs catalog old files shelf) (beside cs catalog new files shelf)) w
+        (open_refuses setting (state_of catalog old.pages cs) name p w (fails setting)))
         (refl, ap (λ m. state_of catalog m cs) read.pages),
   )
 
   module _ (count : ℕ) (p : Plan) where
-    pub show_refused : (w : Refusal) → ((setting : Setting) → early setting (state_of catalog old.pages cs) (Show count p) ≡ Some w) → PerformsBeside (Show count p) catalog old new cs cs (Refused w ∷ [])
+    pub show_refused : (w : Refusal) → ((setting : Setting) → early setting (state_of catalog old.pages cs) (Show count p) ≡ Some w)
+        → PerformsBeside (Show count p) catalog old new cs cs (Refused w ∷ [])
     show_refused w fails = λ files shelf. (
       (
         caused_inside (beside cs catalog old files shelf) (beside cs catalog new files shelf) w
@@ -75,8 +81,10 @@ module _ (catalog : CatalogView) (cs : List Cursor) (old new : PoolState) (read 
         early_decides catalog cs cs old new files files shelf shelf (Show count p) refl w fails,
       ),
       λ told disk few setting gap s.
-          outcome_early setting (rises_between (beside cs catalog old files shelf) (beside cs catalog new files shelf)) (state_of catalog old.pages cs) (Show count p) (Refused w ∷ []) (state_of catalog new.pages cs)
-          w (fails setting) (caused (rises_between (beside cs catalog old files shelf) (beside cs catalog new files shelf)) w (show_refuses setting (state_of catalog old.pages cs) count p w (fails setting)))
+          outcome_early setting (rises_between (beside cs catalog old files shelf) (beside cs catalog new files shelf)) (state_of catalog old.pages cs) (Show count p)
+          (Refused w ∷ []) (state_of catalog new.pages cs)
+          w (fails setting) (caused (rises_between (beside cs catalog old files shelf) (beside cs catalog new files shelf)) w
+          (show_refuses setting (state_of catalog old.pages cs) count p w (fails setting)))
           (refl, ap (λ m. state_of catalog m cs) read.pages),
     )
 
@@ -85,31 +93,36 @@ module _ (catalog : CatalogView) (cs : List Cursor) (old new : PoolState) (read 
       May files shelf setting = IsLicensed setting (rises_between (beside cs catalog old files shelf) (beside cs catalog new files shelf)) (state_of catalog old.pages cs) (Show count p)
 
       -- steps of a new cursor, refused as the setting allows
-      performs : (may : Refusal → Type 0) (after : Cursor) (lines : List OutputLine) → ((w : Refusal) → may w → ComesBehind (Show count p) w) → ((files : Option Files) (shelf : ℕ) → IsTold old → new.disk.faults < last_count → (setting : Setting) (w : Refusal) → may w → May files shelf setting w)
+      performs : (may : Refusal → Type 0) (after : Cursor) (lines : List OutputLine) → ((w : Refusal) → may w → ComesBehind (Show count p) w)
+          → ((files : Option Files) (shelf : ℕ) → IsTold old → new.disk.faults < last_count → (setting : Setting) (w : Refusal) → may w → May files shelf setting w)
           → ((files : Option Files) (shelf : ℕ) (w : Refusal) → may w → HasItsCause (beside cs catalog old files shelf) (beside cs catalog new files shelf) w)
-          → Steps plan_measure may count (new_cursor [] p (database_in old.pages catalog.relations)) lines after → PerformsBeside (Show count p) catalog old new cs cs lines
-      performs may after lines comes allowed cause steps = λ files shelf. (
+          → Steps plan_measure may count (new_cursor [] p (database_in old.pages catalog.relations)) lines after → All IsPlainLine lines → PerformsBeside (Show count p) catalog old new cs cs lines
+      performs may after lines comes allowed cause steps plain = λ files shelf. (
         (
-          steps_caused (beside cs catalog old files shelf) (beside cs catalog new files shelf) plan_measure may (cause files shelf) count (new_cursor [] p (database_in old.pages catalog.relations)) lines after steps,
+          steps_caused (beside cs catalog old files shelf) (beside cs catalog new files shelf) plan_measure may (cause files shelf) count
+              (new_cursor [] p (database_in old.pages catalog.relations)) lines after steps,
           passing_decides catalog cs cs old new files files shelf shelf (Show count p) refl lines passes
-              (λ setting. steps_up_to plan_measure may (ComesBehind (Show count p)) comes count (new_cursor [] p (database_in old.pages catalog.relations)) lines after steps) refl,
+              (λ setting. steps_up_to plan_measure may (ComesBehind (Show count p)) comes count (new_cursor [] p (database_in old.pages catalog.relations)) lines after steps plain) refl,
         ),
         λ told disk few setting gap s.
             let made : Steps plan_measure (May files shelf setting) count (new_cursor [] p (database_in old.pages catalog.relations)) lines after =
             steps_allowed plan_measure may (May files shelf setting) (allowed files shelf told disk setting) count (new_cursor [] p (database_in old.pages catalog.relations)) lines after steps in
             let measured : Steps setting.gap (May files shelf setting) count (new_cursor [] p (database_in old.pages catalog.relations)) lines after =
             subst (λ (g : Measure). Steps g (May files shelf setting) count (new_cursor [] p (database_in old.pages catalog.relations)) lines after) (sym gap) made in
-            outcome_done setting (rises_between (beside cs catalog old files shelf) (beside cs catalog new files shelf)) (state_of catalog old.pages cs) (Show count p) lines (state_of catalog new.pages cs)
+            outcome_done setting (rises_between (beside cs catalog old files shelf) (beside cs catalog new files shelf)) (state_of catalog old.pages cs)
+            (Show count p) lines (state_of catalog new.pages cs)
             (passes setting) refl (after, measured, ap (λ m. state_of catalog m cs) read.pages),
       )
 
-      licensed : (files : Option Files) (shelf : ℕ) (setting : Setting) (w : Refusal) → IsOfPages (Some w) → IsCausedByPages old new w → IsTold old → new.disk.faults < last_count → May files shelf setting w
+      licensed : (files : Option Files) (shelf : ℕ) (setting : Setting) (w : Refusal) → IsOfPages (Some w) → IsCausedByPages old new w → IsTold old
+          → new.disk.faults < last_count → May files shelf setting w
       licensed files shelf setting why.Memory o c t l = tt
       licensed files shelf setting why.Device o c t l = ((refl, passes setting), rose old.disk.faults new.disk.faults c.counted l)
       licensed files shelf setting (why.Damaged n kept read') o c t l = absurd (true≢false (sym (read.told ∙ t) ∙ c.damaged.untold))
       licensed files shelf setting _ o c t l = absurd o
 
-      of_end : (end : Option Refusal) → IsOfPages end → PagesHaveCause {E = Failed} old new (Ok end) → (files : Option Files) (shelf : ℕ) → IsTold old → new.disk.faults < last_count → (setting : Setting) (w : Refusal) → end ≡ Some w → May files shelf setting w
+      of_end : (end : Option Refusal) → IsOfPages end → PagesHaveCause {E = Failed} old new (Ok end) → (files : Option Files) (shelf : ℕ) → IsTold old
+          → new.disk.faults < last_count → (setting : Setting) (w : Refusal) → end ≡ Some w → May files shelf setting w
       of_end None o c files shelf t l setting w k = absurd (true≢false (sym (ap (λ (x : Option Refusal). is_some x) k)))
       of_end (Some v) o c files shelf t l setting w k = subst (May files shelf setting) (ap inside k) (licensed files shelf setting v o c t l) where
         inside : Option Refusal → Refusal
@@ -120,12 +133,12 @@ module _ (catalog : CatalogView) (cs : List Cursor) (old new : PoolState) (read 
 
       pub show_performs : (end : Option Refusal) (after : Cursor) (lines : List OutputLine) → IsOfPages end → PagesHaveCause {E = Failed} old new (Ok end)
           → GivesSteps (new_cursor [] p (database_in old.pages catalog.relations)) count after end lines → PerformsBeside (Show count p) catalog old new cs cs lines
-      show_performs end after lines o cause =
+      show_performs end after lines o cause steps =
           performs (λ w. end ≡ Some w) after lines (λ w e. pages_come (Show count p) refl w (subst IsOfPages e o)) (of_end end o cause)
           (λ files shelf. cause_of_end (beside cs catalog old files shelf) (beside cs catalog new files shelf) end
-          (end_cause cs cs catalog catalog old new read.told files files shelf shelf Failed end cause (pages_no_file end o)))
+          (end_cause cs cs catalog catalog old new read.told files files shelf shelf Failed end cause (pages_no_file end o))) steps.0 steps.1
 
-      pub show_memory : (after : Cursor) (lines : List OutputLine) → Steps plan_measure IsMemory count (new_cursor [] p (database_in old.pages catalog.relations)) lines after
+      pub show_memory : (after : Cursor) (lines : List OutputLine) → Steps plan_measure IsMemory count (new_cursor [] p (database_in old.pages catalog.relations)) lines after → All IsPlainLine lines
           → PerformsBeside (Show count p) catalog old new cs cs lines
       show_memory after lines = performs IsMemory after lines (λ w k. subst (ComesBehind (Show count p)) (sym k) tt) (λ files shelf t l setting w k. subst (May files shelf setting) (sym k) tt)
           (λ files shelf w k. subst (HasItsCause (beside cs catalog old files shelf) (beside cs catalog new files shelf)) (sym k) tt)

@@ -92,7 +92,8 @@ store_back catalog pool new shown store read =
     }
 
 -- a map that is shown is nothing of a fault's cause
-pub cause_back : (E : Type 0) (pool new : PoolState) (shown : Shown) (read : IsRead (showing pool shown) new) (result : Result (Option Refusal) E) → PagesHaveCause (showing pool shown) new result → PagesHaveCause pool (back new) result
+pub cause_back : (E : Type 0) (pool new : PoolState) (shown : Shown) (read : IsRead (showing pool shown) new) (result : Result (Option Refusal) E)
+    → PagesHaveCause (showing pool shown) new result → PagesHaveCause pool (back new) result
 cause_back E pool new shown read result h = subst (λ (p : PoolState). PagesHaveCause pool p result) (sym (back_is new (shown_of pool) read.live)) (go result h) where
   go : (result : Result (Option Refusal) E) → PagesHaveCause (showing pool shown) new result → PagesHaveCause pool (live_again new (shown_of pool)) result
   go (Ok None) h = h

@@ -1,8 +1,9 @@
 -- What printing the rows of a cursor is of its steps.
 use Rattle.std.proofs.Common.{◌≡◌, ℕ, zero, suc, Bool, false, List, [], ◌∷◌, ◌++◌, length, Option, Some, None, refl, sym, ◌∙◌, ap, subst, inl, inr, arith}
-use Rattle.std.specs.Prelude.{Result, Ok, Err, IfSome}
+use Rattle.std.specs.Prelude.{All, Result, Ok, Err, IfSome}
 use Rattle.std.specs.List.{list_any}
 use Rattle.std.proofs.lemmas.List.{append-nil}
+use Rattle.std.proofs.lemmas.List.Elements.{All-nil, All-cons, All-append}
 use Rattle.page_pool.specs.Desk.{DeskState}
 use Rattle.page_pool.specs.declared.fault.PageFault.{PageFault}
 use Rattle.page_pool.specs.declared.fault.PageFault.TheVariants as page
@@ -16,6 +17,7 @@ use Rattle.sand_base.specs.declared.refusal.Refusal.{Refusal}
 use Rattle.sand_base.specs.declared.source.Failed.{Failed}
 use Rattle.sand_model.specs.Cursor.{Cursor, OutputLine, Row, Refused, Steps}
 use Rattle.sand_model.specs.OutputText.{is_refused}
+use Rattle.sand_model.specs.PlainLines.{IsPlainLine}
 use Rattle.sand_model.specs.Reach.{Counts}
 use Rattle.sand_store.specs.Calls.{refusal_of}
 use Rattle.row_output.proofs.StepsAllowed.{steps_allowed}
@@ -44,6 +46,10 @@ none_refused (suc n) c lines after (inr (inr refused)) = absurd refused.1
 not_none : (xs : List OutputLine) (w : Refusal) → xs ++ Refused w ∷ [] ≡ [] → ⊥
 not_none [] w e = let n : 1 ≡ 0 = ap (λ (ys : List OutputLine). length ys) e in omega (arith, n)
 not_none (x ∷ xs) w e = let n : length ((x ∷ xs) ++ Refused w ∷ []) ≡ 0 = ap (λ (ys : List OutputLine). length ys) e in omega (arith, n)
+
+-- a refusal behind plain lines
+pub plain_refused : (lines : List OutputLine) (w : Refusal) → All IsPlainLine lines → All IsPlainLine (lines ++ Refused w ∷ [])
+plain_refused lines w h = All-append IsPlainLine lines (Refused w ∷ []) h (All-cons IsPlainLine (Refused w) [] tt (All-nil IsPlainLine))
 
 -- a fault of a page is of memory or of a page
 pub of_pages : (fault : PageFault) → IsOfPages (Some (refusal_of fault))
@@ -74,7 +80,7 @@ module _ (pages : PageMap) (c : Cursor) (count rows : ℕ) (old new : DeskState)
       written = p.writes;
       accepted = none_refused count c p.lines p.after p.gives.2.steps;
       holds = subst (λ (xs : List OutputLine). GivesSteps c count p.after None xs) (sym (append-nil p.lines))
-          (steps_allowed plan_measure (λ r. ⊥) (λ r. None ≡ Some r) (λ r e. absurd e) count c p.lines p.after p.gives.2.steps);
+          (steps_allowed plan_measure (λ r. ⊥) (λ r. None ≡ Some r) (λ r e. absurd e) count c p.lines p.after p.gives.2.steps, p.plain);
     };
     pages = tt;
   }
@@ -90,17 +96,21 @@ module _ (pages : PageMap) (c : Cursor) (count rows : ℕ) (old new : DeskState)
           lines = p.lines;
           written = p.writes;
           accepted = before_refused (λ why. why ≡ w) w count c p.lines p.after all;
-          holds = steps_allowed plan_measure (λ why. why ≡ w) (λ r. Some w ≡ Some r) (λ r e. ap (λ (x : Refusal). Some x) (sym e)) count c (p.lines ++ Refused w ∷ []) p.after all;
+          holds = (
+            steps_allowed plan_measure (λ why. why ≡ w) (λ r. Some w ≡ Some r) (λ r e. ap (λ (x : Refusal). Some x) (sym e)) count c (p.lines ++ Refused w ∷ []) p.after all,
+            plain_refused p.lines w p.plain,
+          );
         };
         pages = of_pages fault;
       }
 
-pub steps_broken : (pages : PageMap) (c : Cursor) (count : ℕ) (old new : DeskState) (a b : List ℕ → Type 0) (failed : Failed) (At : Cursor → Type 0) → PrintsRows pages c count old new a b (Err failed) At
+pub steps_broken : (pages : PageMap) (c : Cursor) (count : ℕ) (old new : DeskState) (a b : List ℕ → Type 0) (failed : Failed) (At : Cursor → Type 0)
+    → PrintsRows pages c count old new a b (Err failed) At
     → StepsOn c count a b (Err failed) At
 steps_broken pages c count old new a b failed At p = record {
   after = p.after;
   at = p.at;
-  steps = (p.lines, (p.gives.0, p.gives.3, p.gives.4.steps), p.writes);
+  steps = (p.lines, (p.gives.0, p.gives.3, p.gives.4.steps, p.plain), p.writes);
   pages = tt;
 }
 
@@ -118,21 +128,24 @@ module _ (told : Option PageMap) (Before After : Place) (count : ℕ) (old new :
       → IfSome told (λ pages. (c : Cursor) → Before pages c → PrintsRows pages c count old new a b (Ok r) (After pages))
       → IfSome told (λ pages. (c : Cursor) → Before pages c → StepsOn c count a b (Ok None) (After pages))
   told_end r rows end is h =
-      some_so told (λ pages. (c : Cursor) → Before pages c → PrintsRows pages c count old new a b (Ok r) (After pages)) (λ pages. (c : Cursor) → Before pages c → StepsOn c count a b (Ok None) (After pages))
+      some_so told (λ pages. (c : Cursor) → Before pages c → PrintsRows pages c count old new a b (Ok r) (After pages))
+      (λ pages. (c : Cursor) → Before pages c → StepsOn c count a b (Ok None) (After pages))
       (λ pages k c at. steps_to_end pages c count rows old new a b (After pages) end (subst (λ (x : Printed). PrintsRows pages c count old new a b (Ok x) (After pages)) is (k c at))) h
 
   pub told_fault : (r : Printed) (rows : ℕ) (fault : PageFault) → r ≡ printed.Refused rows fault
       → IfSome told (λ pages. (c : Cursor) → Before pages c → PrintsRows pages c count old new a b (Ok r) (After pages))
       → IfSome told (λ pages. (c : Cursor) → Before pages c → StepsOn c count a b (Ok (Some (refusal_of fault))) (After pages))
   told_fault r rows fault is h =
-      some_so told (λ pages. (c : Cursor) → Before pages c → PrintsRows pages c count old new a b (Ok r) (After pages)) (λ pages. (c : Cursor) → Before pages c → StepsOn c count a b (Ok (Some (refusal_of fault))) (After pages))
+      some_so told (λ pages. (c : Cursor) → Before pages c → PrintsRows pages c count old new a b (Ok r) (After pages))
+      (λ pages. (c : Cursor) → Before pages c → StepsOn c count a b (Ok (Some (refusal_of fault))) (After pages))
       (λ pages k c at. steps_to_fault pages c count rows old new a b (After pages) fault (subst (λ (x : Printed). PrintsRows pages c count old new a b (Ok x) (After pages)) is (k c at))) h
 
   pub told_broken : (failed : Failed)
       → IfSome told (λ pages. (c : Cursor) → Before pages c → PrintsRows pages c count old new a b (Err failed) (After pages))
       → IfSome told (λ pages. (c : Cursor) → Before pages c → StepsOn c count a b (Err failed) (After pages))
   told_broken failed h =
-      some_so told (λ pages. (c : Cursor) → Before pages c → PrintsRows pages c count old new a b (Err failed) (After pages)) (λ pages. (c : Cursor) → Before pages c → StepsOn c count a b (Err failed) (After pages))
+      some_so told (λ pages. (c : Cursor) → Before pages c → PrintsRows pages c count old new a b (Err failed) (After pages))
+      (λ pages. (c : Cursor) → Before pages c → StepsOn c count a b (Err failed) (After pages))
       (λ pages k c at. steps_broken pages c count old new a b failed (After pages) (k c at)) h
 
 -- where the cursor stands after what was printed, without what was paid for it
@@ -148,6 +161,7 @@ told_stands At Stands closed q seen told cursor cursor' count old new a b r h =
       last = p.last;
       at = p.at.stands;
       gives = p.gives;
+      plain = p.plain;
       writes = p.writes;
       cuts = p.cuts;
       completed = p.completed;

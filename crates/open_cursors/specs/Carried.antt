@@ -1,5 +1,5 @@
 -- A statement that was carried out beside open cursors, with all that it prints.
-use Rattle.std.specs.Prelude.{◌≡◌, ◌⊎◌, ⊤, ℕ, ◌+◌, ◌≤◌, Bool, List, [], ◌∷◌, Option, Some, Result, Ok}
+use Rattle.std.specs.Prelude.{◌≡◌, ◌⊎◌, ⊤, ℕ, ◌+◌, ◌≤◌, All, Bool, List, [], ◌∷◌, Option, Some, Result, Ok}
 use Rattle.page_pool.specs.Pool.{PoolState}
 use Rattle.plan_cursor.specs.Standing.{counts_among}
 use Rattle.plan_rows.specs.Rows.{plan_measure}
@@ -9,11 +9,12 @@ use Rattle.sand_base.specs.declared.refusal.Refusal.{Refusal}
 use Rattle.sand_base.specs.declared.refusal.Refusal.TheVariants as why
 use Rattle.sand_base.specs.declared.source.Failed.{Failed}
 use Rattle.sand_model.specs.Cursor.{Cursor, OutputLine, Stats, Steps}
+use Rattle.sand_model.specs.PlainLines.{IsPlainLine}
 use Rattle.statements.specs.Statement.{Statement, Next}
 use Rattle.sand_store.specs.Catalog.{CatalogView}
 use Rattle.statements.specs.Statement as statement
 use Rattle.statement_exec.specs.Causes.{AreCausedIn}
-use Rattle.statement_exec.specs.Deciding.{PrintsUpTo}
+use Rattle.statement_exec.specs.Deciding.{PrintsRowsUpTo}
 use Rattle.statement_exec.specs.Ending.{PagesHaveCause}
 use Rattle.statement_exec.specs.Printing.{WritesOf}
 use Rattle.open_cursors.specs.OpenCursors.{HaveOwnNames}
@@ -44,8 +45,10 @@ abbrev pub rows_by : Statement → ℕ
 rows_by (Next name count) = count
 rows_by _ = 0
 
--- The statement was carried out beside these cursors of the model, as its outcome says, and its lines were written. The cursors behind it have names of their own, they stand, and none gave more rows than the statement asks for.
-pub record CarriesBeside (statement : Statement) (catalog : CatalogView) (old new : PoolState) (cs : List Cursor) (before now : List ℕ → Type 0) (result : Result Bool Failed) (At : List Cursor → Type 0) : Type 0 where
+-- The statement was carried out beside these cursors of the model, as its outcome says, and its lines were written. The cursors behind it
+-- have names of their own, they stand, and none gave more rows than the statement asks for.
+pub record CarriesBeside (statement : Statement) (catalog : CatalogView) (old new : PoolState) (cs : List Cursor) (before now : List ℕ → Type 0)
+    (result : Result Bool Failed) (At : List Cursor → Type 0) : Type 0 where
   pub after : List Cursor
   pub own : HaveOwnNames after
   pub at : At after
@@ -60,8 +63,8 @@ line_of_numbers numbers = Stats (counts_among numbers) numbers.rows
 abbrev pub RowsOf : Cursor → ℕ → PoolState → PoolState → List OutputLine → Type 0
 RowsOf c count old new lines =
     (after : Cursor) × (((end : Option Refusal) × IsOfPages end × PagesHaveCause {E = Failed} old new (Ok end) × GivesSteps c count after end lines)
-    ⊎ Steps plan_measure (λ w. w ≡ why.Memory) count c lines after)
+    ⊎ (Steps plan_measure (λ w. w ≡ why.Memory) count c lines after × All IsPlainLine lines))
 
--- These are lines of rows over any disk: none is a refusal but one of memory or of a page at their end, which has its cause.
-abbrev pub AreRowLines : PoolState → PoolState → List OutputLine → Type 0
-AreRowLines old new lines = AreCausedIn old new lines × PrintsUpTo (λ refusal. IsOfPages (Some refusal)) lines
+-- These are lines of rows over any disk, no more than so many, up to the end or to a refusal of memory or of a page, which has its cause.
+abbrev pub AreRowLines : ℕ → PoolState → PoolState → List OutputLine → Type 0
+AreRowLines count old new lines = AreCausedIn old new lines × PrintsRowsUpTo (λ refusal. IsOfPages (Some refusal)) count lines

@@ -95,8 +95,8 @@ fn print_far<D: Disk, K: Sink>(
 ) -> Result<Option<Refusal>, Failed>
     requires stands { IfSome (told_pages desk.old) (FarStands ⟦<Block as Ord>⟧.cmp far.old.search.hierarchy far.old.search.frontier.queue.items far.old.search.frontier.last) }
     requires none { far.old.search.frontier.last ≡ None }
-    ensures written { IfOk result (λ end. WritesFound (IsTold desk.old.pool) (first_found count (far_found far.old.search.hierarchy desk.old.pool.pages)) end (K.took out.old) (K.took out.new)) }
-    ensures broken { OnErr result (BreaksFound (IsTold desk.old.pool) (first_found count (far_found far.old.search.hierarchy desk.old.pool.pages)) (K.took out.old) (K.took out.new)) }
+    ensures written { IfOk result (λ end. WritesFound (IsTold desk.old.pool) count (first_found count (far_found far.old.search.hierarchy desk.old.pool.pages)) end (K.took out.old) (K.took out.new)) }
+    ensures broken { OnErr result (BreaksFound (IsTold desk.old.pool) count (first_found count (far_found far.old.search.hierarchy desk.old.pool.pages)) (K.took out.old) (K.took out.new)) }
     ensures read { IsRead desk.old.pool desk.new.pool }
     ensures cause { PagesHaveCause desk.old.pool desk.new.pool result }
     ensures pages { AnswersPages result }

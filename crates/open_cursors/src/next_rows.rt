@@ -1,9 +1,7 @@
-ghost use Rattle.std.specs.Prelude.{◌≡◌, List, IfOk, IfSome, OnErr, OnOk, false, map, position};
-ghost use Rattle.output_text.specs.Writing.{Writes, WritesPrefix};
+ghost use Rattle.std.specs.Prelude.{◌≡◌, List, IfOk, IfSome, false, true, map, position};
 ghost use Rattle.page_pool.specs.Reads.{IsRead};
 ghost use Rattle.plan_cursor.specs.Standing.{IsAt};
 ghost use Rattle.plan_rows.specs.Rows.{counts_of};
-ghost use Rattle.row_output.specs.Printing.{IsPlainText};
 ghost use Rattle.sand_base.specs.Faults.{HasCause};
 ghost use Rattle.sand_base.specs.Streams.{Stays};
 ghost use Rattle.sand_model.specs.Cursor.{Cursor};
@@ -15,6 +13,7 @@ ghost use Rattle.statements.specs.Statement.{Next};
 ghost use Rattle.sand_store.specs.Catalog.{CatalogView};
 ghost use Rattle.open_cursors.specs.Carried.{CarriesBeside};
 ghost use Rattle.open_cursors.specs.OverPages.{told_stamps};
+ghost use Rattle.open_cursors.specs.Steps.{WritesRows};
 
 use crate::OpenCursor;
 use crate::row_steps::print_steps;
@@ -56,8 +55,7 @@ fn print_next<S: RowSource, T: RowStage, D: Disk, K: Sink>(
     ensures others { without name.now cursors.new.items ≡ without name.now cursors.old.items }
     ensures held { AreHeld store.pool.stamps cursors.new.items }
     ensures sink { HasCause (K.faults out.old) (K.faults out.new) result.1 }
-    ensures plain { OnOk result.1 (Writes IsPlainText (K.took out.old) (K.took out.new)) }
-    ensures broken { OnErr result.1 (WritesPrefix IsPlainText (K.took out.old) (K.took out.new)) }
+    ensures rows { is_open cursors.old.items name.now ≡ true → WritesRows count (K.took out.old) (K.took out.new) result.1 }
     ensures steps { IfSome (told_stamps store.pool) (λ stamps. (cs : List Cursor) → HaveOwnNames cs → StandAll (AtStamp (λ r. IsAt S.At T.Stands T.closed (λ s. counts_of (S.seen s)) r)) stamps cursors.old.items cs
         → NextOf (named cs name.now) cs name.now count (K.took out.old) (K.took out.new) result.1 (λ after. StandAll (AtStamp (λ r. IsAt S.At T.Stands T.closed (λ s. counts_of (S.seen s)) r)) stamps cursors.new.items after)) }
 {

@@ -1,17 +1,15 @@
 // The next rows of a cursor.
-ghost use Rattle.std.specs.Prelude.{◌≡◌, IfOk, IfSome, OnErr, OnOk};
+ghost use Rattle.std.specs.Prelude.{◌≡◌, IfOk, IfSome};
 ghost use Rattle.best_first.specs.Visits.{told_pages};
-ghost use Rattle.output_text.specs.Writing.{Writes, WritesPrefix};
 ghost use Rattle.page_pool.specs.Reads.{IsRead};
 ghost use Rattle.plan_cursor.specs.Standing.{IsAt};
 ghost use Rattle.plan_rows.specs.Rows.{counts_of};
-ghost use Rattle.row_output.specs.Printing.{IsPlainText};
 ghost use Rattle.sand_base.specs.Faults.{HasCause};
 ghost use Rattle.sand_model.specs.Cursor.{Cursor};
 ghost use Rattle.sand_store.specs.Calls.{refusal_of};
 ghost use Rattle.statement_exec.specs.Causes.{BlamesNoFile};
 ghost use Rattle.statement_exec.specs.Ending.{PagesHaveCause};
-ghost use Rattle.open_cursors.specs.Steps.{AnswersPages, StepsOn};
+ghost use Rattle.open_cursors.specs.Steps.{AnswersPages, StepsOn, WritesRows};
 
 use page_pool::{Desk, Disk, PageFault};
 use plan_cursor::RowCursor;
@@ -47,8 +45,7 @@ pub(crate) fn print_steps<S: RowSource, T: RowStage, D: Disk, K: Sink>(
     ensures no_file { IfOk result BlamesNoFile }
     ensures pages { AnswersPages result }
     ensures sink { HasCause (K.faults out.old) (K.faults out.new) result }
-    ensures plain { OnOk result (Writes IsPlainText (K.took out.old) (K.took out.new)) }
-    ensures broken { OnErr result (WritesPrefix IsPlainText (K.took out.old) (K.took out.new)) }
+    ensures rows { WritesRows count (K.took out.old) (K.took out.new) result }
     ensures steps { IfSome (told_pages desk.old) (λ pages. (c : Cursor) → IsAt S.At T.Stands T.closed (λ s. counts_of (S.seen s)) cursor.old pages c → StepsOn c count (K.took out.old) (K.took out.new) result (IsAt S.At T.Stands T.closed (λ s. counts_of (S.seen s)) cursor.new pages)) }
 {
     match print_rows(cursor, alloc, desk, count, out) {

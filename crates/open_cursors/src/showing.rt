@@ -36,7 +36,7 @@ fn rows_line<S: RowSource, T: RowStage, D: Disk, K: Sink>(
     out: &mut K,
 ) -> Result<bool, Failed>
     requires stands { IfSome (told_pages desk.old) (λ pages. (c : Cursor) × IsAt S.At T.Stands T.closed (λ s. counts_of (S.seen s)) cursor.old pages c) }
-    ensures plain { WritesOf (AreRowLines desk.old.pool desk.new.pool) (K.took out.old) (K.took out.new) result }
+    ensures plain { WritesOf (AreRowLines count desk.old.pool desk.new.pool) (K.took out.old) (K.took out.new) result }
     ensures written { IfSome (told_pages desk.old) (λ pages. (c : Cursor) → IsAt S.At T.Stands T.closed (λ s. counts_of (S.seen s)) cursor.old pages c → WritesOf (RowsOf c count desk.old.pool desk.new.pool) (K.took out.old) (K.took out.new) result) }
     ensures read { IsRead desk.old.pool desk.new.pool }
     ensures cause { RisesByOne desk.old.pool.disk.faults desk.new.pool.disk.faults }

@@ -42,14 +42,17 @@ account-same f g top spare is a = record {
 -- whether a number is used after one more change
 pub used-insert : (changes : ChangeMap) (kept : DigestMap) (n : ℕ) (change : Option (List ℕ)) (q : ℕ) → is_used (map.insert changes n change) kept q ≡ (eq_by_cmp nat_cmp q n || is_used changes kept q)
 used-insert changes kept n change q = ap (λ c. is_some c || map.contains_key kept q) (get-insert changes n change q)
-    ∙ elim (eq_by_cmp nat_cmp q n) as (λ b. (is_some (cond b (Some change) (map.get changes q)) || map.contains_key kept q) ≡ (b || (map.contains_key changes q || map.contains_key kept q))) [ true ↦ refl | false ↦ refl ]
+    ∙ elim (eq_by_cmp nat_cmp q n) as (λ b. (is_some (cond b (Some change) (map.get changes q)) || map.contains_key kept q)
+    ≡ (b || (map.contains_key changes q || map.contains_key kept q))) [ true ↦ refl | false ↦ refl ]
 
 -- a change of a number that is used
-pub used-again : (changes : ChangeMap) (kept : DigestMap) (n : ℕ) (change : Option (List ℕ)) → is_used changes kept n ≡ true → (q : ℕ) → is_used (map.insert changes n change) kept q ≡ is_used changes kept q
-used-again changes kept n change used q = used-insert changes kept n change q ∙ (elim (eq_by_cmp nat_cmp q n) as (λ b. eq_by_cmp nat_cmp q n ≡ b → (b || is_used changes kept q) ≡ is_used changes kept q) [
-  | true ↦ λ tie. sym (ap (is_used changes kept) (tied q n tie) ∙ used)
-  | false ↦ λ _. refl
-]) refl
+pub used-again : (changes : ChangeMap) (kept : DigestMap) (n : ℕ) (change : Option (List ℕ)) → is_used changes kept n ≡ true → (q : ℕ)
+    → is_used (map.insert changes n change) kept q ≡ is_used changes kept q
+used-again changes kept n change used q = used-insert changes kept n change q
+    ∙ (elim (eq_by_cmp nat_cmp q n) as (λ b. eq_by_cmp nat_cmp q n ≡ b → (b || is_used changes kept q) ≡ is_used changes kept q) [
+      | true ↦ λ tie. sym (ap (is_used changes kept) (tied q n tie) ∙ used)
+      | false ↦ λ _. refl
+    ]) refl
 
 -- the number that is taken was not in use
 pub taken_free : (f : ℕ → Bool) (old new : NumbersState) (n : ℕ) → IsAccount f old.top old.spare → Takes old new n → f n ≡ false
@@ -68,7 +71,8 @@ taken_positive f old new n a takes = elim takes.again [
 ]
 
 -- the number above all is taken
-above : (f g : ℕ → Bool) (top : ℕ) (spare none : NumberSet) → ((q : ℕ) → g q ≡ (eq_by_cmp nat_cmp q (top + 1) || f q)) → spare ≡ set.empty → none ≡ set.empty → IsAccount f top spare → IsAccount g (top + 1) none
+above : (f g : ℕ → Bool) (top : ℕ) (spare none : NumberSet) → ((q : ℕ) → g q ≡ (eq_by_cmp nat_cmp q (top + 1) || f q)) → spare ≡ set.empty → none ≡ set.empty
+    → IsAccount f top spare → IsAccount g (top + 1) none
 above f g top spare none is empty gone a = record {
   all = λ m low high. (elim (eq_by_cmp nat_cmp m (top + 1)) as (λ b. eq_by_cmp nat_cmp m (top + 1) ≡ b → IsTrue (g m) ⊎ IsTrue (set.contains none m)) [
     | true ↦ λ tie. inl (is m ∙ left_of _ (f m) tie)
@@ -96,7 +100,8 @@ without : (s : NumberSet) (n m : ℕ) → set.contains (set.remove s n) m ≡ (n
 without s n m = set.contains-remove nat_cmp_total s n m
 
 -- a freed number is taken again
-again : (f g : ℕ → Bool) (top : ℕ) (spare : NumberSet) (n : ℕ) → ((q : ℕ) → g q ≡ (eq_by_cmp nat_cmp q n || f q)) → set.contains spare n ≡ true → IsAccount f top spare → IsAccount g top (set.remove spare n)
+again : (f g : ℕ → Bool) (top : ℕ) (spare : NumberSet) (n : ℕ) → ((q : ℕ) → g q ≡ (eq_by_cmp nat_cmp q n || f q)) → set.contains spare n ≡ true → IsAccount f top spare
+    → IsAccount g top (set.remove spare n)
 again f g top spare n is waits a = record {
   all = λ m low high. (elim (eq_by_cmp nat_cmp m n) as (λ b. eq_by_cmp nat_cmp m n ≡ b → IsTrue (g m) ⊎ IsTrue (set.contains (set.remove spare n) m)) [
     | true ↦ λ tie. inl (is m ∙ left_of _ (f m) tie)
@@ -126,7 +131,8 @@ again f g top spare n is waits a = record {
     nor false = refl
 
 -- a number is taken, and is in use from then on
-pub account-taken : (f g : ℕ → Bool) (old new : NumbersState) (n : ℕ) → ((q : ℕ) → g q ≡ (eq_by_cmp nat_cmp q n || f q)) → IsAccount f old.top old.spare → Takes old new n → IsAccount g new.top new.spare
+pub account-taken : (f g : ℕ → Bool) (old new : NumbersState) (n : ℕ) → ((q : ℕ) → g q ≡ (eq_by_cmp nat_cmp q n || f q)) → IsAccount f old.top old.spare
+    → Takes old new n → IsAccount g new.top new.spare
 account-taken f g old new n is a takes = elim takes.again [
   | inl next ↦ subst (λ top. IsAccount g top new.spare) (sym (next.1 ∙ next.0))
       (above f g old.top old.spare new.spare (λ q. is q ∙ ap (λ k. eq_by_cmp nat_cmp q k || f q) next.0) next.2 next.3 a)
@@ -139,7 +145,8 @@ with_one : (s : NumberSet) (n m : ℕ) → set.contains (set.insert s n) m ≡ (
 with_one s n m = set.contains-insert nat_cmp_total s n m
 
 -- a number that was in use is so no more, and is spare
-pub account-freed : (f g : ℕ → Bool) (top : ℕ) (spare : NumberSet) (n : ℕ) → ((q : ℕ) → f q ≡ (eq_by_cmp nat_cmp q n || g q)) → g n ≡ false → IsAccount f top spare → IsAccount g top (set.insert spare n)
+pub account-freed : (f g : ℕ → Bool) (top : ℕ) (spare : NumberSet) (n : ℕ) → ((q : ℕ) → f q ≡ (eq_by_cmp nat_cmp q n || g q)) → g n ≡ false → IsAccount f top spare
+    → IsAccount g top (set.insert spare n)
 account-freed f g top spare n is gone a =
     let was : f n ≡ true = is n ∙ left_of _ (g n) (tie_itself n) in
     record {

@@ -1,5 +1,6 @@
 -- The calls of an archive, whatever their answers.
-use Rattle.std.proofs.Common.{◌≡◌, ◌≢◌, ◌<◌, ℕ, List, cond, refl, sym, ap, subst, ◌∙◌, Option, Some, None, is_some, IsTrue, option_map, option_and_then, IfSome, Result, Ok, Err, OnOk, OnErr, IfOk, IfErr, inl, inr, arith}
+use Rattle.std.proofs.Common.{◌≡◌, ◌≢◌, ◌<◌, ℕ, List, cond, refl, sym, ap, subst, ◌∙◌, Option, Some, None, is_some, IsTrue, option_map, option_and_then, IfSome, Result}
+use Rattle.std.proofs.Common.{Ok, Err, OnOk, OnErr, IfOk, IfErr, inl, inr, arith}
 use Rattle.std.specs.FinMap as map
 use Rattle.std.proofs.lemmas.Bool.{cases_eq}
 use Rattle.std.proofs.lemmas.Option.{same_Some, none-some}
@@ -17,7 +18,8 @@ use Rattle.page_pool.proofs.Archives.{get-newest_of, get-seen_of, get-stamps_of,
 use Rattle.page_pool.proofs.ArchiveChanges.{is_archive, KeepsSight, sight_same, sight_settled, sight_left, place_settled, stored_rest, changes_page}
 
 -- a writing spoils its place at most
-pub spoils_write : {T : Type 0} (disk disk' : DiskView) (kept kept' : DigestMap) (place : ℕ) (page : List ℕ) (r : Result T DiskFault) → WritesPage disk disk' place page r → kept' ≡ kept → Spoils disk disk' kept kept' place
+pub spoils_write : {T : Type 0} (disk disk' : DiskView) (kept kept' : DigestMap) (place : ℕ) (page : List ℕ) (r : Result T DiskFault)
+    → WritesPage disk disk' place page r → kept' ≡ kept → Spoils disk disk' kept kept' place
 spoils_write disk disk' kept kept' place page r writes is = record {
   told = writes.told;
   given = writes.given;
@@ -26,7 +28,8 @@ spoils_write disk disk' kept kept' place page r writes is = record {
   has = λ there. ap (λ m. map.contains_key m place) is ∙ there;
 }
 
-pub spoils_insert : {T : Type 0} (disk disk' : DiskView) (kept kept' : DigestMap) (place : ℕ) (page digest : List ℕ) (r : Result T DiskFault) → WritesPage disk disk' place page r → kept' ≡ map.insert kept place digest → Spoils disk disk' kept kept' place
+pub spoils_insert : {T : Type 0} (disk disk' : DiskView) (kept kept' : DigestMap) (place : ℕ) (page digest : List ℕ) (r : Result T DiskFault)
+    → WritesPage disk disk' place page r → kept' ≡ map.insert kept place digest → Spoils disk disk' kept kept' place
 spoils_insert disk disk' kept kept' place page digest r writes is = record {
   told = writes.told;
   given = writes.given;
@@ -36,7 +39,8 @@ spoils_insert disk disk' kept kept' place page digest r writes is = record {
 }
 
 -- the parts fit together after a change of sight
-pub archived_sight : (disk : DiskView) (kept : DigestMap) (s t : ImagesState) (n : ℕ) → KeepsSight s t n → ((p : ℕ) → newest_place t n ≡ Some p → IsTrue (map.contains_key kept p)) → IsArchived disk kept s → IsArchived disk kept t
+pub archived_sight : (disk : DiskView) (kept : DigestMap) (s t : ImagesState) (n : ℕ) → KeepsSight s t n
+    → ((p : ℕ) → newest_place t n ≡ Some p → IsTrue (map.contains_key kept p)) → IsArchived disk kept s → IsArchived disk kept t
 archived_sight disk kept s t n sight has good = record {
   digested = λ q p is. elim (cases_eq q n) [
     | inl q_is ↦ has p (ap (newest_place t) (sym q_is) ∙ is)
@@ -47,7 +51,8 @@ archived_sight disk kept s t n sight has good = record {
 }
 
 -- and where a free place is spoiled
-pub archived_spoiled : (disk disk' : DiskView) (kept kept' : DigestMap) (s : ImagesState) (n place : ℕ) → IsFreePlace s n place → Spoils disk disk' kept kept' place → IsArchived disk kept s → IsArchived disk' kept' s
+pub archived_spoiled : (disk disk' : DiskView) (kept kept' : DigestMap) (s : ImagesState) (n place : ℕ) → IsFreePlace s n place → Spoils disk disk' kept kept' place
+    → IsArchived disk kept s → IsArchived disk' kept' s
 archived_spoiled disk disk' kept kept' s n place free spoils good = record {
   digested = λ q p is. elim (cases_eq p place) [
     | inl here ↦ ap (map.contains_key kept') here ∙ spoils.has (ap (map.contains_key kept) (sym here) ∙ good.digested q p is)
@@ -72,9 +77,11 @@ module _ (disk disk' : DiskView) (kept kept' : DigestMap) (s : ImagesState) (n p
   -- a writing of page n at a free place changes its own images at most
   spoiled_change : (t : ImagesState) → KeepsSight s t n → ChangesPage (archive_of disk kept s) (archive_of disk' kept' t) n
   spoiled_change t sight = changes_page disk disk' kept kept' s t n (λ q. q ≡ place) spoils.kept_rest (λ q other. stored_rest disk disk' kept kept' place q spoils other)
-      (λ id at q p held early is here. free.stamps id at q held early (is ∙ ap (λ x. Some x) here)) (λ q p other is here. free.others q other (is ∙ ap (λ x. Some x) here)) sight spoils.told spoils.given
+      (λ id at q p held early is here. free.stamps id at q held early (is ∙ ap (λ x. Some x) here))
+      (λ q p other is here. free.others q other (is ∙ ap (λ x. Some x) here)) sight spoils.told spoils.given
 
-  pub write_refused : (page : List ℕ) (fault : PageFault) → disk'.faults ≡ faults_after {T = ℕ} disk.faults (Err fault) → IsNoDamage fault → WritesImage (archive_of disk kept s) (archive_of disk' kept' s) n page (Err fault)
+  pub write_refused : (page : List ℕ) (fault : PageFault) → disk'.faults ≡ faults_after {T = ℕ} disk.faults (Err fault) → IsNoDamage fault
+      → WritesImage (archive_of disk kept s) (archive_of disk' kept' s) n page (Err fault)
   write_refused page fault counted undamaged = record {
     change = spoiled_change s (sight_same s n);
     written = tt;
@@ -85,14 +92,16 @@ module _ (disk disk' : DiskView) (kept kept' : DigestMap) (s : ImagesState) (n p
     undamaged = undamaged;
   }
 
-  pub write_done : (t : ImagesState) (page : List ℕ) → SettlesImage s t n place → map.get kept' place ≡ Some (sha256 page) → (IsTrue disk'.told → map.get disk'.pages place ≡ Some page) → disk'.faults ≡ disk.faults
+  pub write_done : (t : ImagesState) (page : List ℕ) → SettlesImage s t n place → map.get kept' place ≡ Some (sha256 page)
+      → (IsTrue disk'.told → map.get disk'.pages place ≡ Some page) → disk'.faults ≡ disk.faults
       → WritesImage (archive_of disk kept s) (archive_of disk' kept' t) n page (Ok place)
   write_done t page settles digest stands counted = record {
     change = spoiled_change t (sight_settled s t n place settles);
     written = record {
       place = get-newest_of Some t n ∙ ap (option_and_then Some) (place_settled s t n place settles);
       kept = get-newest_of (map.get kept') t n ∙ ap (option_and_then (map.get kept')) (place_settled s t n place settles) ∙ digest;
-      page = λ told. get-newest_of (stored_at disk' kept') t n ∙ ap (option_and_then (stored_at disk' kept')) (place_settled s t n place settles) ∙ stored_told disk' kept' place told (ap is_some digest) ∙ stands told;
+      page = λ told. get-newest_of (stored_at disk' kept') t n ∙ ap (option_and_then (stored_at disk' kept')) (place_settled s t n place settles)
+          ∙ stored_told disk' kept' place told (ap is_some digest) ∙ stands told;
     };
     replaced = record { seen = settles.change.counted; shared = settles.change.seen };
     kept_place = tt;
@@ -174,7 +183,8 @@ module _ (disk disk' : DiskView) (kept : DigestMap) (s : ImagesState) (told : di
 
 -- page n of these images lies at this place and was read there
 pub reads_image : (disk disk' : DiskView) (kept : DigestMap) (s : ImagesState) (images_pages : PageMap) (images_kept : DigestMap) (n place : ℕ) (r : Result (List ℕ) PageFault)
-    → map.get images_kept n ≡ map.get kept place → map.get images_pages n ≡ stored_at disk kept place → ReadsPlace disk disk' kept n place r → ReadsImage (archive_of disk kept s) (archive_of disk' kept s) images_pages images_kept n r
+    → map.get images_kept n ≡ map.get kept place → map.get images_pages n ≡ stored_at disk kept place → ReadsPlace disk disk' kept n place r
+    → ReadsImage (archive_of disk kept s) (archive_of disk' kept s) images_pages images_kept n r
 reads_image disk disk' kept s images_pages images_kept n place r digest stored reads = record {
   read = reads_archive disk disk' kept s reads.told reads.stored;
   there = there r reads.digested;
@@ -193,7 +203,8 @@ reads_image disk disk' kept s images_pages images_kept n place r digest stored r
     digested (Ok page) is = digest ∙ is
     digested (Err fault) is = tt
 
-    value : (r : Result (List ℕ) PageFault) → IfOk r (λ page. map.get kept place ≡ Some (sha256 page)) → IfOk r (λ page. IsTrue disk.told → map.get disk.pages place ≡ Some page) → IfOk r (λ page. IsTrue disk.told → map.get images_pages n ≡ Some page)
+    value : (r : Result (List ℕ) PageFault) → IfOk r (λ page. map.get kept place ≡ Some (sha256 page))
+        → IfOk r (λ page. IsTrue disk.told → map.get disk.pages place ≡ Some page) → IfOk r (λ page. IsTrue disk.told → map.get images_pages n ≡ Some page)
     value (Ok page) is page_is = λ told. stored ∙ stored_told disk kept place told (ap is_some is) ∙ page_is told
     value (Err fault) is page_is = tt
 
@@ -204,7 +215,8 @@ reads_image disk disk' kept s images_pages images_kept n place r digest stored r
     damaged (Err (Damaged page kept_digest read)) h = (h.0, (digest ∙ h.1.0, h.1.1))
 
 -- a page that isn't there is refused
-pub reads_none : (disk : DiskView) (kept : DigestMap) (s : ImagesState) (images_pages : PageMap) (images_kept : DigestMap) (n : ℕ) → ReadsImage (archive_of disk kept s) (archive_of disk kept s) images_pages images_kept n (Err Memory)
+pub reads_none : (disk : DiskView) (kept : DigestMap) (s : ImagesState) (images_pages : PageMap) (images_kept : DigestMap) (n : ℕ)
+    → ReadsImage (archive_of disk kept s) (archive_of disk kept s) images_pages images_kept n (Err Memory)
 reads_none disk kept s images_pages images_kept n = record {
   read = record { same = refl; told = refl; stored = refl };
   there = tt;
@@ -216,27 +228,31 @@ reads_none disk kept s images_pages images_kept n = record {
 }
 
 -- a page that stands written at its place stands there stored
-pub stands_stored : (disk : DiskView) (kept : DigestMap) (s : ImagesState) (n place : ℕ) → newest_place s n ≡ Some place → StandsWritten disk.told (newest_of (stored_at disk kept) s) (newest_of (map.get kept) s) n → StandsStored disk kept place
+pub stands_stored : (disk : DiskView) (kept : DigestMap) (s : ImagesState) (n place : ℕ) → newest_place s n ≡ Some place
+    → StandsWritten disk.told (newest_of (stored_at disk kept) s) (newest_of (map.get kept) s) n → StandsStored disk kept place
 stands_stored disk kept s n place here stands = λ digest has told.
     let page = stands digest (get-newest_of (map.get kept) s n ∙ ap (option_and_then (map.get kept)) here ∙ has) told in
     (page.0, (sym (stored_told disk kept place told (ap is_some has)) ∙ sym (ap (option_and_then (stored_at disk kept)) here) ∙ sym (get-newest_of (stored_at disk kept) s n) ∙ page.1.0, page.1.1))
 
 -- the calls of an archive with what holds of it afterwards
-pub write_kept : {T : Type 0} (disk disk' : DiskView) (kept kept' : DigestMap) (s : ImagesState) (n place : ℕ) (page : List ℕ) (fault : PageFault) → IsImages s → IsFreePlace s n place → StoresAt {T = T} disk disk' kept kept' place page (Err fault) → IsArchived disk kept s
+pub write_kept : {T : Type 0} (disk disk' : DiskView) (kept kept' : DigestMap) (s : ImagesState) (n place : ℕ) (page : List ℕ) (fault : PageFault) → IsImages s
+    → IsFreePlace s n place → StoresAt {T = T} disk disk' kept kept' place page (Err fault) → IsArchived disk kept s
     → IsArchived disk' kept' s × (WritesImage (archive_of disk kept s) (archive_of disk' kept' s) n page (Err fault) × IsArchive (archive_of disk' kept' s))
 write_kept disk disk' kept kept' s n place page fault whole free stores good =
     let after = archived_spoiled disk disk' kept kept' s n place free stores.spoils good in
     (after, (write_refused disk disk' kept kept' s n place free stores.spoils page fault stores.counted stores.undamaged, is_archive disk' kept' s whole after))
 
 -- memory for the books was refused
-pub write_unsettled : {T : Type 0} (x : T) (disk disk' : DiskView) (kept kept' : DigestMap) (s t : ImagesState) (n place : ℕ) (page : List ℕ) → IsImages s → IsFreePlace s n place → StoresAt disk disk' kept kept' place page (Ok x) → t ≡ s → IsArchived disk kept s
+pub write_unsettled : {T : Type 0} (x : T) (disk disk' : DiskView) (kept kept' : DigestMap) (s t : ImagesState) (n place : ℕ) (page : List ℕ) → IsImages s
+    → IsFreePlace s n place → StoresAt disk disk' kept kept' place page (Ok x) → t ≡ s → IsArchived disk kept s
     → IsArchived disk' kept' t × (WritesImage (archive_of disk kept s) (archive_of disk' kept' t) n page (Err Memory) × IsArchive (archive_of disk' kept' t))
 write_unsettled x disk disk' kept kept' s t n place page whole free stores is good =
     let after = archived_spoiled disk disk' kept kept' s n place free stores.spoils good in
     subst (λ x. IsArchived disk' kept' x × (WritesImage (archive_of disk kept s) (archive_of disk' kept' x) n page (Err Memory) × IsArchive (archive_of disk' kept' x))) (sym is)
     (after, (write_refused disk disk' kept kept' s n place free stores.spoils page Memory stores.counted tt, is_archive disk' kept' s whole after))
 
-pub write_made : {T : Type 0} (x : T) (disk disk' : DiskView) (kept kept' : DigestMap) (s t : ImagesState) (n place : ℕ) (page : List ℕ) → IsImages t → IsFreePlace s n place → StoresAt disk disk' kept kept' place page (Ok x) → SettlesImage s t n place → IsArchived disk kept s
+pub write_made : {T : Type 0} (x : T) (disk disk' : DiskView) (kept kept' : DigestMap) (s t : ImagesState) (n place : ℕ) (page : List ℕ) → IsImages t
+    → IsFreePlace s n place → StoresAt disk disk' kept kept' place page (Ok x) → SettlesImage s t n place → IsArchived disk kept s
     → IsArchived disk' kept' t × (WritesImage (archive_of disk kept s) (archive_of disk' kept' t) n page (Ok place) × IsArchive (archive_of disk' kept' t))
 write_made x disk disk' kept kept' s t n place page whole free stores settles good =
     let after = archived_written disk disk' kept kept' s n place free stores.spoils t settles (ap is_some stores.digest) good in
@@ -249,14 +265,16 @@ left disk kept s t n (Ok x) leaves same good = (archived_left disk kept s t n le
 left disk kept s t n (Err e) leaves same good = (subst (IsArchived disk kept) (sym same) good, tt)
 
 -- what a stamp of an earlier command sees stands stored
-pub seen_stored : (disk : DiskView) (kept : DigestMap) (s : ImagesState) (slot at n place : ℕ) → map.get s.held slot ≡ Some at → seen_place at s n ≡ Some place → IfSome (map.get (stamps_of disk kept s) slot) (λ f. f.at < s.begun) → IsArchived disk kept s → StandsStored disk kept place
+pub seen_stored : (disk : DiskView) (kept : DigestMap) (s : ImagesState) (slot at n place : ℕ) → map.get s.held slot ≡ Some at → seen_place at s n ≡ Some place
+    → IfSome (map.get (stamps_of disk kept s) slot) (λ f. f.at < s.begun) → IsArchived disk kept s → StandsStored disk kept place
 seen_stored disk kept s slot at n place held here early good = λ digest has told.
     let stands = good.stands slot at n place held (subst (λ o. IfSome o (λ f. f.at < s.begun)) (get-stamps_of disk kept s slot ∙ ap (option_map (images_at disk kept s)) held) early) here in
     let page = stands.1.1 told in
     (page.0, (page.1.0, same_Some digest stands.0 (sym has ∙ stands.1.0) ∙ page.1.1))
 
 -- page n was read as a stamp sees it
-pub reads_seen : (disk disk' : DiskView) (kept : DigestMap) (s : ImagesState) (slot at n place : ℕ) (r : Result (List ℕ) PageFault) → map.get s.held slot ≡ Some at → seen_place at s n ≡ Some place → ReadsPlace disk disk' kept n place r
+pub reads_seen : (disk disk' : DiskView) (kept : DigestMap) (s : ImagesState) (slot at n place : ℕ) (r : Result (List ℕ) PageFault) → map.get s.held slot ≡ Some at
+    → seen_place at s n ≡ Some place → ReadsPlace disk disk' kept n place r
     → IfSome (map.get (stamps_of disk kept s) slot) (λ f. ReadsImage (archive_of disk kept s) (archive_of disk' kept s) f.pages f.kept n r)
 reads_seen disk disk' kept s slot at n place r held here reads =
     subst (λ o. IfSome o (λ f. ReadsImage (archive_of disk kept s) (archive_of disk' kept s) f.pages f.kept n r)) (sym (get-stamps_of disk kept s slot ∙ ap (option_map (images_at disk kept s)) held))

@@ -97,7 +97,8 @@ module _ (disk disk' : DiskView) (kept kept' : DigestMap) (s t : ImagesState) (n
     (sight : KeepsSight s t n) where
   -- what a stamp of an earlier command sees is as it was
   seen_stays : {X : Type 0} (f g : ℕ → Option X) → ((q : ℕ) → (touched q → ⊥) → g q ≡ f q) → (id at : ℕ) → map.get s.held id ≡ Some at → at < s.begun → seen_of g t at ≡ seen_of f s at
-  seen_stays {X = X} f g rest id at held early = same (seen_of g t at) (seen_of f s at) (λ q. get-seen_of g t at q ∙ ap (option_and_then g) (sight.stamps id at held early q) ∙ by_place q (seen_place at s q) refl ∙ sym (get-seen_of f s at q))
+  seen_stays {X = X} f g rest id at held early =
+      same (seen_of g t at) (seen_of f s at) (λ q. get-seen_of g t at q ∙ ap (option_and_then g) (sight.stamps id at held early q) ∙ by_place q (seen_place at s q) refl ∙ sym (get-seen_of f s at q))
     where
       by_place : (q : ℕ) (o : Option ℕ) → seen_place at s q ≡ o → option_and_then g (seen_place at s q) ≡ option_and_then f (seen_place at s q)
       by_place q None is = ap (option_and_then g) is ∙ sym (ap (option_and_then f) is)

@@ -1,5 +1,6 @@
 -- Stamps of an archive that are taken, kept while one more command begins, and given back.
-use Rattle.std.proofs.Common.{◌≡◌, ◌≤◌, ◌<◌, ℕ, ◌+◌, List, Bool, true, false, cond, refl, sym, ap, subst, ◌∙◌, Option, Some, None, is_some, IsTrue, option_map, option_and_then, Result, Ok, Err, OnOk, OnErr, IfOk, ◌⊎◌, inl, inr, arith}
+use Rattle.std.proofs.Common.{◌≡◌, ◌≤◌, ◌<◌, ℕ, ◌+◌, List, Bool, true, false, cond, refl, sym, ap, subst, ◌∙◌, Option, Some, None, is_some, IsTrue, option_map}
+use Rattle.std.proofs.Common.{option_and_then, Result, Ok, Err, OnOk, OnErr, IfOk, ◌⊎◌, inl, inr, arith}
 use Rattle.std.specs.Ordering.{nat_cmp, eq_by_cmp}
 use Rattle.std.specs.FinMap as map
 use Rattle.std.specs.FinSet as set
@@ -44,7 +45,8 @@ module _ (s : ImagesState) (whole : IsImages s) (slot : ℕ) (free : map.get s.h
       old id at life (inr before) = seen_by s.held made until id at before life
 
   past_still : past_seen with_stamp s.past ≡ past_seen s.held s.past
-  past_still = same_numbers (past_seen with_stamp s.past) (past_seen s.held s.past) (λ p. contains-past_seen with_stamp s.past p ∙ by_item p (map.get s.past p) refl ∙ sym (contains-past_seen s.held s.past p))
+  past_still = same_numbers (past_seen with_stamp s.past) (past_seen s.held s.past)
+      (λ p. contains-past_seen with_stamp s.past p ∙ by_item p (map.get s.past p) refl ∙ sym (contains-past_seen s.held s.past p))
     where
       by_item : (p : ℕ) (o : Option Past) → map.get s.past p ≡ o → is_past_seen with_stamp (map.get s.past p) ≡ is_past_seen s.held (map.get s.past p)
       by_item p None is = ap (is_past_seen with_stamp) is ∙ sym (ap (is_past_seen s.held) is)
@@ -76,7 +78,8 @@ module _ (s : ImagesState) (whole : IsImages s) (slot : ℕ) (free : map.get s.h
         each_still None = refl
         each_still (Some at) = ap (λ f. Some f) (images_still at)
 
-        by_tie : (q : ℕ) (b : Bool) → option_map (images_at disk kept kept_state) (cond b (Some s.begun) (map.get s.held q)) ≡ cond b (Some (newest_images (archive_of disk kept s))) (map.get (stamps_of disk kept s) q)
+        by_tie : (q : ℕ) (b : Bool) → option_map (images_at disk kept kept_state) (cond b (Some s.begun) (map.get s.held q))
+            ≡ cond b (Some (newest_images (archive_of disk kept s))) (map.get (stamps_of disk kept s) q)
         by_tie q true = ap (λ f. Some f) (images_still s.begun ∙ unchanged_images disk kept s whole s.begun whole.changed)
         by_tie q false = each_still (map.get s.held q) ∙ sym (get-stamps_of disk kept s q)
 
@@ -145,7 +148,8 @@ module _ (s : ImagesState) (slot : ℕ) where
 
     stamps_fewer : stamps_of disk kept released_state ≡ map.remove (stamps_of disk kept s) slot
     stamps_fewer = same (stamps_of disk kept released_state) (map.remove (stamps_of disk kept s) slot) (λ q.
-        get-stamps_of disk kept released_state q ∙ ap (option_map (images_at disk kept released_state)) (get-remove s.held slot q) ∙ by_tie q (eq_by_cmp nat_cmp q slot) ∙ sym (get-remove (stamps_of disk kept s) slot q))
+        get-stamps_of disk kept released_state q ∙ ap (option_map (images_at disk kept released_state)) (get-remove s.held slot q) ∙ by_tie q (eq_by_cmp nat_cmp q slot)
+        ∙ sym (get-remove (stamps_of disk kept s) slot q))
       where
         each_left : (o : Option ℕ) → option_map (images_at disk kept released_state) o ≡ option_map (images_at disk kept s) o
         each_left None = refl
@@ -201,7 +205,8 @@ module _ (s : ImagesState) where
   }
 
   -- what a stamp of the command before sees is what stands now
-  pub archived_advanced : (disk : DiskView) (kept : DigestMap) → IsImages s → ((n : ℕ) → StandsWritten disk.told (newest_of (stored_at disk kept) s) (newest_of (map.get kept) s) n) → IsArchived disk kept s → IsArchived disk kept advanced_state
+  pub archived_advanced : (disk : DiskView) (kept : DigestMap) → IsImages s → ((n : ℕ) → StandsWritten disk.told (newest_of (stored_at disk kept) s) (newest_of (map.get kept) s) n)
+      → IsArchived disk kept s → IsArchived disk kept advanced_state
   archived_advanced disk kept whole stands good = record {
     digested = good.digested;
     stands = λ slot at n p held early is. by_time slot at n p held is (cases_eq at s.begun) early;
@@ -217,8 +222,14 @@ module _ (s : ImagesState) where
             (
               is,
               λ told.
-                  let page = stands n digest (get-newest_of (map.get kept) s n ∙ ap (option_and_then (map.get kept)) here ∙ is) told in
-                  (page.0, (sym (stored_told disk kept p told (ap is_some is)) ∙ sym (ap (option_and_then (stored_at disk kept)) here) ∙ sym (get-newest_of (stored_at disk kept) s n) ∙ page.1.0, page.1.1)),
+                  let page = stands n digest (get-newest_of (map.get kept) s n ∙ ap (option_and_then (map.get kept)) here ∙ is) told in (
+                    page.0,
+                    (
+                      sym (stored_told disk kept p told (ap is_some is)) ∙ sym (ap (option_and_then (stored_at disk kept)) here)
+                          ∙ sym (get-newest_of (stored_at disk kept) s n) ∙ page.1.0,
+                      page.1.1,
+                    ),
+                  ),
             ),
           )
 
@@ -228,7 +239,8 @@ module _ (s : ImagesState) where
       by_time slot at n p held is (inr before) early = good.stands slot at n p held (omega arith) is
 
 -- a stamp was taken, or memory refused
-pub kept_answer : {E : Type 0} (disk : DiskView) (kept : DigestMap) (s t : ImagesState) (r : Result ℕ E) → IsImages s → IfOk r (λ slot. map.get s.held slot ≡ None) → IfOk r (λ slot. t ≡ record s { held = map.insert s.held slot s.begun }) → OnErr r (t ≡ s) → IsArchived disk kept s
+pub kept_answer : {E : Type 0} (disk : DiskView) (kept : DigestMap) (s t : ImagesState) (r : Result ℕ E) → IsImages s → IfOk r (λ slot. map.get s.held slot ≡ None)
+    → IfOk r (λ slot. t ≡ record s { held = map.insert s.held slot s.begun }) → OnErr r (t ≡ s) → IsArchived disk kept s
     → IsArchived disk kept t × (IfOk r (λ slot. map.get (stamps_of disk kept s) slot ≡ None)
     × IfOk r (λ slot. archive_of disk kept t ≡ record (archive_of disk kept s) { stamps = map.insert (stamps_of disk kept s) slot (newest_images (archive_of disk kept s)) }))
 kept_answer disk kept s t (Err e) whole free more same good = (subst (IsArchived disk kept) (sym same) good, (tt, tt))
@@ -238,11 +250,15 @@ kept_answer disk kept s t (Ok slot) whole free more same good = (
 )
 
 -- a stamp was given back
-pub released_answer : (disk : DiskView) (kept : DigestMap) (s t : ImagesState) (slot : ℕ) → t ≡ record s { held = map.remove s.held slot } → IsArchived disk kept s → IsArchived disk kept t × Releases (archive_of disk kept s) (archive_of disk kept t) slot
-released_answer disk kept s t slot is good = subst (λ x. IsArchived disk kept x × Releases (archive_of disk kept s) (archive_of disk kept x) slot) (sym is) (archived_released s slot disk kept good, releases s slot disk kept)
+pub released_answer : (disk : DiskView) (kept : DigestMap) (s t : ImagesState) (slot : ℕ) → t ≡ record s { held = map.remove s.held slot } → IsArchived disk kept s
+    → IsArchived disk kept t × Releases (archive_of disk kept s) (archive_of disk kept t) slot
+released_answer disk kept s t slot is good = subst (λ x. IsArchived disk kept x × Releases (archive_of disk kept s) (archive_of disk kept x) slot) (sym is)
+    (archived_released s slot disk kept good, releases s slot disk kept)
 
 -- one more command began, or memory was refused
-pub advanced_answer : {T E : Type 0} (disk : DiskView) (kept : DigestMap) (s t : ImagesState) (r : Result T E) → IsImages s → ((n : ℕ) → StandsWritten disk.told (newest_of (stored_at disk kept) s) (newest_of (map.get kept) s) n)
+pub advanced_answer : {T E : Type 0} (disk : DiskView) (kept : DigestMap) (s t : ImagesState) (r : Result T E) → IsImages s
+    → ((n : ℕ) → StandsWritten disk.told (newest_of (stored_at disk kept) s) (newest_of (map.get kept) s) n)
     → OnOk r (t ≡ record s { begun = s.begun + 1 }) → OnErr r (t ≡ s) → IsArchived disk kept s → IsArchived disk kept t × OnOk r (Advances (archive_of disk kept s) (archive_of disk kept t))
 advanced_answer disk kept s t (Err e) whole stands more same good = (subst (IsArchived disk kept) (sym same) good, tt)
-advanced_answer disk kept s t (Ok x) whole stands more same good = subst (λ y. IsArchived disk kept y × Advances (archive_of disk kept s) (archive_of disk kept y)) (sym more) (archived_advanced s disk kept whole stands good, advances s disk kept)
+advanced_answer disk kept s t (Ok x) whole stands more same good =
+    subst (λ y. IsArchived disk kept y × Advances (archive_of disk kept s) (archive_of disk kept y)) (sym more) (archived_advanced s disk kept whole stands good, advances s disk kept)

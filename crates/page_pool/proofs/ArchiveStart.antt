@@ -34,13 +34,16 @@ start_is disk kept s is = ap (archive_of disk kept) is ∙ (λ i. record {
 })
   where
     none : {X : Type 0} (f : ℕ → Option X) → newest_of f no_images ≡ map.empty
-    none f = same (newest_of f no_images) map.empty (λ n. get-newest_of f no_images n ∙ ap (λ o. option_and_then f (option_map (λ h. h.place) o)) (map.get-empty nat_cmp n) ∙ sym (map.get-empty nat_cmp n))
+    none f = same (newest_of f no_images) map.empty (λ n. get-newest_of f no_images n ∙ ap (λ o. option_and_then f (option_map (λ h. h.place) o)) (map.get-empty nat_cmp n)
+        ∙ sym (map.get-empty nat_cmp n))
 
     no_stamps : stamps_of disk kept no_images ≡ map.empty
-    no_stamps = same (stamps_of disk kept no_images) map.empty (λ n. get-stamps_of disk kept no_images n ∙ ap (option_map (images_at disk kept no_images)) (map.get-empty nat_cmp n) ∙ sym (map.get-empty nat_cmp n))
+    no_stamps = same (stamps_of disk kept no_images) map.empty (λ n. get-stamps_of disk kept no_images n
+        ∙ ap (option_map (images_at disk kept no_images)) (map.get-empty nat_cmp n) ∙ sym (map.get-empty nat_cmp n))
 
     no_past : set.len (seen_past no_images) ≡ 0
-    no_past = ap set.len (same_numbers (seen_past no_images) set.empty (λ p. contains-past_seen map.empty map.empty p ∙ ap (is_past_seen map.empty) (map.get-empty nat_cmp p) ∙ sym (set.contains-empty nat_cmp p))) ∙ set.len-empty nat_cmp
+    no_past = ap set.len (same_numbers (seen_past no_images) set.empty (λ p. contains-past_seen map.empty map.empty p
+        ∙ ap (is_past_seen map.empty) (map.get-empty nat_cmp p) ∙ sym (set.contains-empty nat_cmp p))) ∙ set.len-empty nat_cmp
 
     no_homes : seen_homes no_images ≡ set.empty
     no_homes = same_numbers (seen_homes no_images) set.empty (λ n. contains-seen_homes no_images n ∙ ap (is_home_seen map.empty 0) (map.get-empty nat_cmp n) ∙ sym (set.contains-empty nat_cmp n))

@@ -48,7 +48,8 @@ get-stamps_of disk kept s slot = get-collected (λ slot. option_map (images_at d
     by_stamp (Some at) is out = absurd (true≢false (sym (key_in s.held slot at is) ∙ out))
 
 -- a stamp in its slot sees these images
-pub stamp_is : (disk : DiskView) (kept : DigestMap) (s : ImagesState) (slot : ℕ) (f : ImageMap) → map.get (stamps_of disk kept s) slot ≡ Some f → (at : ℕ) × ((map.get s.held slot ≡ Some at) × (images_at disk kept s at ≡ f))
+pub stamp_is : (disk : DiskView) (kept : DigestMap) (s : ImagesState) (slot : ℕ) (f : ImageMap) → map.get (stamps_of disk kept s) slot ≡ Some f
+    → (at : ℕ) × ((map.get s.held slot ≡ Some at) × (images_at disk kept s at ≡ f))
 stamp_is disk kept s slot f is = by_stamp (map.get s.held slot) refl (sym (get-stamps_of disk kept s slot) ∙ is)
   where
     by_stamp : (o : Option ℕ) → map.get s.held slot ≡ o → option_map (images_at disk kept s) o ≡ Some f → (at : ℕ) × ((map.get s.held slot ≡ Some at) × (images_at disk kept s at ≡ f))
@@ -81,7 +82,8 @@ pub newest_seen : {X : Type 0} (f : ℕ → Option X) (s : ImagesState) → IsIm
 newest_seen f s whole at late = same (seen_of f s at) (newest_of f s) (λ n. get-seen_of f s at n ∙ ap (option_and_then f) (now_newest s whole at n late) ∙ sym (get-newest_of f s n))
 
 -- the images that a stamp sees since which nothing changed
-pub unchanged_images : (disk : DiskView) (kept : DigestMap) (s : ImagesState) → IsImages s → (at : ℕ) → s.changed ≤ at → images_at disk kept s at ≡ record (newest_images (archive_of disk kept s)) { at = at }
+pub unchanged_images : (disk : DiskView) (kept : DigestMap) (s : ImagesState) → IsImages s → (at : ℕ) → s.changed ≤ at
+    → images_at disk kept s at ≡ record (newest_images (archive_of disk kept s)) { at = at }
 unchanged_images disk kept s whole at late = λ i. record {
   at = at;
   pages = newest_seen (stored_at disk kept) s whole at late i;
@@ -104,7 +106,8 @@ place_in (Some q) p is = is
 module _ (disk : DiskView) (kept : DigestMap) (s : ImagesState) (whole : IsImages s) where
   -- images at these places, each with a digest and none at a place of another page's newest image
   images_map : (f : ImageMap) (place : ℕ → Option ℕ)
-      → ((n : ℕ) → map.get f.pages n ≡ option_and_then (stored_at disk kept) (place n)) → ((n : ℕ) → map.get f.kept n ≡ option_and_then (map.get kept) (place n)) → ((n : ℕ) → map.get f.places n ≡ option_and_then Some (place n))
+      → ((n : ℕ) → map.get f.pages n ≡ option_and_then (stored_at disk kept) (place n)) → ((n : ℕ) → map.get f.kept n ≡ option_and_then (map.get kept) (place n))
+      → ((n : ℕ) → map.get f.places n ≡ option_and_then Some (place n))
       → ((n p : ℕ) → place n ≡ Some p → IsTrue (map.contains_key kept p)) → ((n q p : ℕ) → place n ≡ Some p → newest_place s q ≡ Some p → n ≡ q) → IsImageMap (archive_of disk kept s) f
   images_map f place pages digests places digested apart = record {
     keys = λ n. ap is_some (digests n) ∙ by_place n (place n) refl ∙ sym (ap is_some (places n));
@@ -162,7 +165,8 @@ module _ (disk : DiskView) (kept : DigestMap) (s : ImagesState) (whole : IsImage
         lt_from_le a b low other = omega arith
 
     pub newest_map : IsImageMap (archive_of disk kept s) (newest_images (archive_of disk kept s))
-    newest_map = images_map (newest_images (archive_of disk kept s)) (newest_place s) (get-newest_of (stored_at disk kept) s) (get-newest_of (map.get kept) s) (get-newest_of Some s) good.digested newest_apart
+    newest_map = images_map (newest_images (archive_of disk kept s)) (newest_place s) (get-newest_of (stored_at disk kept) s) (get-newest_of (map.get kept) s)
+        (get-newest_of Some s) good.digested newest_apart
 
     pub seen_map : (slot at : ℕ) → map.get s.held slot ≡ Some at → IsImageMap (archive_of disk kept s) (images_at disk kept s at)
     seen_map slot at held = images_map (images_at disk kept s at) (seen_place at s) (get-seen_of (stored_at disk kept) s at) (get-seen_of (map.get kept) s at) (get-seen_of Some s at)
@@ -208,8 +212,10 @@ itself (Some x) = refl
 pub place_is : (s : ImagesState) (n : ℕ) → newest_place s n ≡ map.get (newest_of Some s) n
 place_is s n = sym (get-newest_of Some s n ∙ itself (newest_place s n))
 
-pub seen_place_is : (disk : DiskView) (kept : DigestMap) (s : ImagesState) (slot n at : ℕ) → map.get s.held slot ≡ Some at → seen_place at s n ≡ option_and_then (λ f. map.get f.places n) (map.get (stamps_of disk kept s) slot)
-seen_place_is disk kept s slot n at held = sym (ap (option_and_then (λ f. map.get f.places n)) (get-stamps_of disk kept s slot ∙ ap (option_map (images_at disk kept s)) held) ∙ get-seen_of Some s at n ∙ itself (seen_place at s n))
+pub seen_place_is : (disk : DiskView) (kept : DigestMap) (s : ImagesState) (slot n at : ℕ) → map.get s.held slot ≡ Some at
+    → seen_place at s n ≡ option_and_then (λ f. map.get f.places n) (map.get (stamps_of disk kept s) slot)
+seen_place_is disk kept s slot n at held =
+    sym (ap (option_and_then (λ f. map.get f.places n)) (get-stamps_of disk kept s slot ∙ ap (option_map (images_at disk kept s)) held) ∙ get-seen_of Some s at n ∙ itself (seen_place at s n))
 
 pub no_stamp : (disk : DiskView) (kept : DigestMap) (s : ImagesState) (slot : ℕ) → map.get s.held slot ≡ None → map.get (stamps_of disk kept s) slot ≡ None
 no_stamp disk kept s slot none = get-stamps_of disk kept s slot ∙ ap (option_map (images_at disk kept s)) none

@@ -56,11 +56,14 @@ promoted_same k es distinct = same _ _ (λ q.
     sym (get-cached q (promoted (nat_eq k) es)) ∙ moved k q es (lookup_entry (nat_eq k) es) distinct refl ∙ get-cached q es)
 
 -- after a pair was put in where room was left
-pub put_kept : {X : Type 0} (c : LruCache ℕ X) (k : ℕ) (v : X) → IsDistinct nat_eq (keys_of c.entries) → length c.entries < c.cap → of_entries (put_entries nat_eq c k v) ≡ map.insert (of_entries c.entries) k v
-put_kept {X = X} c k v distinct room = same _ _ (λ q. sym (get-cached q (put_entries nat_eq c k v)) ∙ by_entry q (lookup_entry (nat_eq k) c.entries) refl ∙ sym (get-insert (of_entries c.entries) k v q))
+pub put_kept : {X : Type 0} (c : LruCache ℕ X) (k : ℕ) (v : X) → IsDistinct nat_eq (keys_of c.entries) → length c.entries < c.cap
+    → of_entries (put_entries nat_eq c k v) ≡ map.insert (of_entries c.entries) k v
+put_kept {X = X} c k v distinct room = same _ _ (λ q. sym (get-cached q (put_entries nat_eq c k v)) ∙ by_entry q (lookup_entry (nat_eq k) c.entries) refl
+    ∙ sym (get-insert (of_entries c.entries) k v q))
   where
     by_entry : (q : ℕ) (o : Option (ℕ × X)) → lookup_entry (nat_eq k) c.entries ≡ o
-        → lookup (nat_eq q) (option_map_or (λ e. (e.0, v) ∷ remove_entry (nat_eq k) c.entries) o ((k, v) ∷ take (c.cap - 1) c.entries)) ≡ cond (eq_by_cmp nat_cmp q k) (Some v) (map.get (of_entries c.entries) q)
+        → lookup (nat_eq q) (option_map_or (λ e. (e.0, v) ∷ remove_entry (nat_eq k) c.entries) o ((k, v) ∷ take (c.cap - 1) c.entries))
+        ≡ cond (eq_by_cmp nat_cmp q k) (Some v) (map.get (of_entries c.entries) q)
     by_entry q None found =
         ap (λ es. cond (nat_eq q k) (Some v) (lookup (nat_eq q) es)) (take_all (c.cap - 1) c.entries (omega arith))
         ∙ (λ i. cond (sym (unsigned_tied q k) i) (Some v) (get-cached q c.entries i))

@@ -47,10 +47,11 @@ same_numbers s t is = set.same_set nat_cmp_total nat_cmp-IsAntisymmetric s t is
 -- the numbers of the list that pass
 pub contains-numbers_where : (test : ℕ → Bool) (ns : List ℕ) (q : ℕ) → set.contains (numbers_where test ns) q ≡ (is_in q ns && test q)
 contains-numbers_where test [] q = set.contains-empty nat_cmp q
-contains-numbers_where test (n ∷ ns) q = (elim (test n) as (λ b. test n ≡ b → set.contains (cond b (set.insert (numbers_where test ns) n) (numbers_where test ns)) q ≡ ((eq_by_cmp nat_cmp q n || is_in q ns) && test q)) [
-  | true ↦ λ is. set.contains-insert nat_cmp_total (numbers_where test ns) n q ∙ ap (λ b. eq_by_cmp nat_cmp q n || b) (contains-numbers_where test ns q) ∙ passes is
-  | false ↦ λ is. contains-numbers_where test ns q ∙ fails is
-]) refl
+contains-numbers_where test (n ∷ ns) q =
+    (elim (test n) as (λ b. test n ≡ b → set.contains (cond b (set.insert (numbers_where test ns) n) (numbers_where test ns)) q ≡ ((eq_by_cmp nat_cmp q n || is_in q ns) && test q)) [
+      | true ↦ λ is. set.contains-insert nat_cmp_total (numbers_where test ns) n q ∙ ap (λ b. eq_by_cmp nat_cmp q n || b) (contains-numbers_where test ns q) ∙ passes is
+      | false ↦ λ is. contains-numbers_where test ns q ∙ fails is
+    ]) refl
   where
     passes : test n ≡ true → (eq_by_cmp nat_cmp q n || (is_in q ns && test q)) ≡ ((eq_by_cmp nat_cmp q n || is_in q ns) && test q)
     passes is = (elim (eq_by_cmp nat_cmp q n) as (λ b. eq_by_cmp nat_cmp q n ≡ b → (b || (is_in q ns && test q)) ≡ ((b || is_in q ns) && test q)) [
@@ -76,10 +77,11 @@ get-set_at m n (Some x) q = get-insert m n x q
 -- at a number of the list the map is the function
 pub get-collected_in : {X : Type 0} (f : ℕ → Option X) (ns : List ℕ) (q : ℕ) → is_in q ns ≡ true → map.get (collected f ns) q ≡ f q
 get-collected_in f [] q there = absurd (false≢true there)
-get-collected_in f (n ∷ ns) q there = get-set_at (collected f ns) n (f n) q ∙ (elim (eq_by_cmp nat_cmp q n) as (λ b. eq_by_cmp nat_cmp q n ≡ b → (b || is_in q ns) ≡ true → cond b (f n) (map.get (collected f ns) q) ≡ f q) [
-  | true ↦ λ tie _. ap f (sym (tied q n tie))
-  | false ↦ λ _ later. get-collected_in f ns q later
-]) refl there
+get-collected_in f (n ∷ ns) q there = get-set_at (collected f ns) n (f n) q
+    ∙ (elim (eq_by_cmp nat_cmp q n) as (λ b. eq_by_cmp nat_cmp q n ≡ b → (b || is_in q ns) ≡ true → cond b (f n) (map.get (collected f ns) q) ≡ f q) [
+      | true ↦ λ tie _. ap f (sym (tied q n tie))
+      | false ↦ λ _ later. get-collected_in f ns q later
+    ]) refl there
 
 pub get-collected_out : {X : Type 0} (f : ℕ → Option X) (ns : List ℕ) (q : ℕ) → is_in q ns ≡ false → map.get (collected f ns) q ≡ None
 get-collected_out f [] q out = map.get-empty nat_cmp q
@@ -110,10 +112,11 @@ in_second n (m ∷ ns) ms there = or_right (eq_by_cmp nat_cmp n m) (is_in n (ns 
 -- what an item gives is among what all items give
 pub value_in : {X : Type 0} (f : X → ℕ) (es : List (ℕ × X)) (p : ℕ) (x : X) → find nat_cmp p es ≡ Some x → is_in (f x) (each f (each (λ e. e.1) es)) ≡ true
 value_in f [] p x is = absurd (true≢false (sym (ap is_some is)))
-value_in f (e ∷ es) p x is = (elim (eq_by_cmp nat_cmp p e.0) as (λ b. cond b (Some e.1) (find nat_cmp p es) ≡ Some x → (eq_by_cmp nat_cmp (f x) (f e.1) || is_in (f x) (each f (each (λ e. e.1) es))) ≡ true) [
-  | true ↦ λ h. or_left _ _ (ap (λ y. eq_by_cmp nat_cmp (f x) (f y)) (same_Some e.1 x h) ∙ tie_itself (f x))
-  | false ↦ λ h. or_right _ _ (value_in f es p x h)
-]) is
+value_in f (e ∷ es) p x is = (elim (eq_by_cmp nat_cmp p e.0) as (λ b. cond b (Some e.1) (find nat_cmp p es) ≡ Some x
+    → (eq_by_cmp nat_cmp (f x) (f e.1) || is_in (f x) (each f (each (λ e. e.1) es))) ≡ true) [
+      | true ↦ λ h. or_left _ _ (ap (λ y. eq_by_cmp nat_cmp (f x) (f y)) (same_Some e.1 x h) ∙ tie_itself (f x))
+      | false ↦ λ h. or_right _ _ (value_in f es p x h)
+    ]) is
 
 pub item_in : {X : Type 0} (f : X → ℕ) (m : map.FinMap nat_cmp X) (p : ℕ) (x : X) → map.get m p ≡ Some x → is_in (f x) (each f (map.values m)) ≡ true
 item_in f m p x is = value_in f (map.entries m) p x (sym (map.get-entries m p) ∙ is)

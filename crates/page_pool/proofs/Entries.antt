@@ -48,7 +48,8 @@ at_most_one false n m h = omega arith
 
 pub few_among : (held : HeldMap) (es : List (ℕ × Past)) → seen_among held es ≤ length es
 few_among held [] = omega arith
-few_among held (e ∷ es) = let h : cond (is_seen held e.1.made e.1.until) 1 0 + seen_among held es ≤ length es + 1 = at_most_one (is_seen held e.1.made e.1.until) (seen_among held es) (length es) (few_among held es) in omega arith
+few_among held (e ∷ es) = let h : cond (is_seen held e.1.made e.1.until) 1 0 + seen_among held es ≤ length es + 1 =
+    at_most_one (is_seen held e.1.made e.1.until) (seen_among held es) (length es) (few_among held es) in omega arith
 
 -- a key that lies below all others is none of them
 not_among : (p : ℕ) (es : List (ℕ × Past)) → AllByRecursion (λ y. nat_cmp p y ≡ Less) (each (λ e. e.0) es) → find nat_cmp p es ≡ None
@@ -56,15 +57,19 @@ not_among p [] low = refl
 not_among p (e ∷ es) low = ap (λ r. cond (is_eq r) (Some e.1) (find nat_cmp p es)) low.0 ∙ not_among p es low.1
 
 -- one more entry, whose key is new, counts where it is seen
-one_more : (held : HeldMap) (past : PastMap) (p : ℕ) (e : Past) → map.get past p ≡ None → set.len (past_seen held (map.insert past p e)) ≡ cond (is_seen held e.made e.until) 1 0 + set.len (past_seen held past)
-one_more held past p e new = (elim (is_seen held e.made e.until) as (λ b. is_seen held e.made e.until ≡ b → set.len (past_seen held (map.insert past p e)) ≡ cond b 1 0 + set.len (past_seen held past)) [
-  | true ↦ λ sees. let grown : past_seen held (map.insert past p e) ≡ set.insert (past_seen held past) p = same_numbers _ _ (λ q. at q ∙ seen_at sees q ∙ sym (set.contains-insert nat_cmp_total (past_seen held past) p q)) in
-      let size : set.len (past_seen held (map.insert past p e)) ≡ set.len (past_seen held past) + 1 = ap set.len grown ∙ set.len-insert nat_cmp_total (past_seen held past) p ∙ ap (λ b. cond b (set.len (past_seen held past)) (set.len (past_seen held past) + 1)) fresh in
-      omega arith
-  | false ↦ λ unseen. let same : past_seen held (map.insert past p e) ≡ past_seen held past = same_numbers _ _ (λ q. at q ∙ unseen_at unseen q) in
-      let size : set.len (past_seen held (map.insert past p e)) ≡ set.len (past_seen held past) = ap set.len same in
-      omega arith
-]) refl
+one_more : (held : HeldMap) (past : PastMap) (p : ℕ) (e : Past) → map.get past p ≡ None
+    → set.len (past_seen held (map.insert past p e)) ≡ cond (is_seen held e.made e.until) 1 0 + set.len (past_seen held past)
+one_more held past p e new = (elim (is_seen held e.made e.until) as (λ b. is_seen held e.made e.until ≡ b
+    → set.len (past_seen held (map.insert past p e)) ≡ cond b 1 0 + set.len (past_seen held past)) [
+      | true ↦ λ sees. let grown : past_seen held (map.insert past p e) ≡ set.insert (past_seen held past) p =
+          same_numbers _ _ (λ q. at q ∙ seen_at sees q ∙ sym (set.contains-insert nat_cmp_total (past_seen held past) p q)) in
+          let size : set.len (past_seen held (map.insert past p e)) ≡ set.len (past_seen held past) + 1 = ap set.len grown
+          ∙ set.len-insert nat_cmp_total (past_seen held past) p ∙ ap (λ b. cond b (set.len (past_seen held past)) (set.len (past_seen held past) + 1)) fresh in
+          omega arith
+      | false ↦ λ unseen. let same : past_seen held (map.insert past p e) ≡ past_seen held past = same_numbers _ _ (λ q. at q ∙ unseen_at unseen q) in
+          let size : set.len (past_seen held (map.insert past p e)) ≡ set.len (past_seen held past) = ap set.len same in
+          omega arith
+    ]) refl
   where
     at : (q : ℕ) → set.contains (past_seen held (map.insert past p e)) q ≡ is_past_seen held (cond (eq_by_cmp nat_cmp q p) (Some e) (map.get past q))
     at q = contains-past_seen held (map.insert past p e) q ∙ ap (is_past_seen held) (get-insert past p e q)
@@ -72,7 +77,8 @@ one_more held past p e new = (elim (is_seen held e.made e.until) as (λ b. is_se
     fresh : set.contains (past_seen held past) p ≡ false
     fresh = contains-past_seen held past p ∙ ap (is_past_seen held) new
 
-    seen_at : is_seen held e.made e.until ≡ true → (q : ℕ) → is_past_seen held (cond (eq_by_cmp nat_cmp q p) (Some e) (map.get past q)) ≡ (eq_by_cmp nat_cmp q p || set.contains (past_seen held past) q)
+    seen_at : is_seen held e.made e.until ≡ true → (q : ℕ) → is_past_seen held (cond (eq_by_cmp nat_cmp q p) (Some e) (map.get past q))
+        ≡ (eq_by_cmp nat_cmp q p || set.contains (past_seen held past) q)
     seen_at sees q = (elim (eq_by_cmp nat_cmp q p) as (λ b. is_past_seen held (cond b (Some e) (map.get past q)) ≡ (b || set.contains (past_seen held past) q)) [
       | true ↦ sees
       | false ↦ sym (contains-past_seen held past q)

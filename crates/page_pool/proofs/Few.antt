@@ -1,5 +1,6 @@
 -- The images that are kept for stamps alone are no more than those that the stamps see.
-use Rattle.std.proofs.Common.{◌≡◌, ◌≤◌, ◌<◌, ℕ, zero, suc, ◌+◌, Bool, true, false, cond, refl, sym, ap, subst, ◌∙◌, Option, Some, None, is_some, option_map, option_and_then, inl, inr, arith, nat_lt, ltb-false, le-ltb}
+use Rattle.std.proofs.Common.{◌≡◌, ◌≤◌, ◌<◌, ℕ, zero, suc, ◌+◌, Bool, true, false, cond, refl, sym, ap, subst, ◌∙◌, Option, Some, None, is_some, option_map}
+use Rattle.std.proofs.Common.{option_and_then, inl, inr, arith, nat_lt, ltb-false, le-ltb}
 use Rattle.std.specs.FinMap as map
 use Rattle.std.specs.FinSet as set
 use Rattle.std.proofs.lemmas.Bool.{false≢true, and_right}
@@ -48,7 +49,8 @@ module _ (s : ImagesState) (whole : IsImages s) where
   seen_there at n p sight = ap is_some (get-seen_of Some s at n ∙ ap (option_and_then Some) (is_found s whole at n p sight))
 
   -- for one stamp of an earlier command
-  one_stamp : (at : ℕ) → tally (λ p. past_by (Some at) (map.get s.past p)) (map.keys s.past) + tally (λ n. home_by s.begun (Some at) (map.get s.homes n)) (map.keys s.homes) ≤ map.len (seen_of Some s at)
+  one_stamp : (at : ℕ) → tally (λ p. past_by (Some at) (map.get s.past p)) (map.keys s.past) + tally (λ n. home_by s.begun (Some at) (map.get s.homes n)) (map.keys s.homes)
+      ≤ map.len (seen_of Some s at)
   one_stamp at =
       let first = drain shown_past page (map.keys s.past) (seen_of Some s at) past_has past_apart in
       let second = drain shown_home (λ n. n) (map.keys s.homes) (drained shown_past page (map.keys s.past) (seen_of Some s at)) home_has (λ n k _ _ is. is) in
@@ -82,7 +84,8 @@ module _ (s : ImagesState) (whole : IsImages s) where
     -- for one slot
     one_slot : (id : ℕ) → tally (λ p. past_by (map.get s.held id) (map.get s.past p)) (map.keys s.past) + tally (λ n. home_by s.begun (map.get s.held id) (map.get s.homes n)) (map.keys s.homes)
         ≤ slot_size s.begun (map.get (stamps_of disk kept s) id)
-    one_slot id = subst (λ o. tally (λ p. past_by (map.get s.held id) (map.get s.past p)) (map.keys s.past) + tally (λ n. home_by s.begun (map.get s.held id) (map.get s.homes n)) (map.keys s.homes) ≤ slot_size s.begun o)
+    one_slot id = subst (λ o. tally (λ p. past_by (map.get s.held id) (map.get s.past p)) (map.keys s.past) + tally
+        (λ n. home_by s.begun (map.get s.held id) (map.get s.homes n)) (map.keys s.homes) ≤ slot_size s.begun o)
         (sym (get-stamps_of disk kept s id)) (by_stamp (map.get s.held id))
       where
         none : (a b : ℕ → Bool) → ((p : ℕ) → a p ≡ false) → ((n : ℕ) → b n ≡ false) → (k : ℕ) → tally a (map.keys s.past) + tally b (map.keys s.homes) ≤ k
@@ -113,12 +116,16 @@ module _ (s : ImagesState) (whole : IsImages s) where
             by_item None = refl
             by_item (Some h) = and_right _ _ (le-ltb at s.begun late)
 
-        by_stamp : (o : Option ℕ) → tally (λ p. past_by o (map.get s.past p)) (map.keys s.past) + tally (λ n. home_by s.begun o (map.get s.homes n)) (map.keys s.homes) ≤ slot_size s.begun (option_map (images_at disk kept s) o)
+        by_stamp : (o : Option ℕ) → tally (λ p. past_by o (map.get s.past p)) (map.keys s.past) + tally (λ n. home_by s.begun o (map.get s.homes n)) (map.keys s.homes)
+            ≤ slot_size s.begun (option_map (images_at disk kept s) o)
         by_stamp None = none (λ p. past_by None (map.get s.past p)) (λ n. home_by s.begun None (map.get s.homes n)) (λ p. no_past (map.get s.past p)) (λ n. no_home (map.get s.homes n)) 0
-        by_stamp (Some at) = (elim (nat_lt at s.begun) as (λ b. nat_lt at s.begun ≡ b → tally (λ p. past_by (Some at) (map.get s.past p)) (map.keys s.past) + tally (λ n. home_by s.begun (Some at) (map.get s.homes n)) (map.keys s.homes) ≤ cond b (map.len (seen_of Some s at)) 0) [
-          | true ↦ λ early. one_stamp at
-          | false ↦ λ late. none (λ p. past_by (Some at) (map.get s.past p)) (λ n. home_by s.begun (Some at) (map.get s.homes n)) (λ p. late_past at p (ltb-false at s.begun late)) (λ n. late_home at n (ltb-false at s.begun late)) 0
-        ]) refl
+        by_stamp (Some at) = (elim (nat_lt at s.begun) as (λ b. nat_lt at s.begun ≡ b
+            → tally (λ p. past_by (Some at) (map.get s.past p)) (map.keys s.past) + tally (λ n. home_by s.begun (Some at) (map.get s.homes n)) (map.keys s.homes)
+            ≤ cond b (map.len (seen_of Some s at)) 0) [
+              | true ↦ λ early. one_stamp at
+              | false ↦ λ late. none (λ p. past_by (Some at) (map.get s.past p)) (λ n. home_by s.begun (Some at) (map.get s.homes n))
+                  (λ p. late_past at p (ltb-false at s.begun late)) (λ n. late_home at n (ltb-false at s.begun late)) 0
+            ]) refl
 
     sizes_are : (k : ℕ) → slot_sizes (archive_of disk kept s) k ≡ over_slots (λ id. slot_size s.begun (map.get (stamps_of disk kept s) id)) k
     sizes_are zero = refl
@@ -130,9 +137,12 @@ module _ (s : ImagesState) (whole : IsImages s) where
         let pasts = set_tally (λ p. is_past_seen s.held (map.get s.past p)) (map.keys s.past) in
         let homes = set_tally (λ n. is_home_seen s.held s.begun (map.get s.homes n)) (map.keys s.homes) in
         let past_slots = tally_slots k (λ p. is_past_seen s.held (map.get s.past p)) (λ id p. past_by (map.get s.held id) (map.get s.past p)) (map.keys s.past) (λ p. by_past (map.get s.past p)) in
-        let home_slots = tally_slots k (λ n. is_home_seen s.held s.begun (map.get s.homes n)) (λ id n. home_by s.begun (map.get s.held id) (map.get s.homes n)) (map.keys s.homes) (λ n. by_home (map.get s.homes n)) in
-        let sum = slots_add (λ id. tally (λ p. past_by (map.get s.held id) (map.get s.past p)) (map.keys s.past)) (λ id. tally (λ n. home_by s.begun (map.get s.held id) (map.get s.homes n)) (map.keys s.homes)) k in
-        let more = slots_more (λ id. tally (λ p. past_by (map.get s.held id) (map.get s.past p)) (map.keys s.past) + tally (λ n. home_by s.begun (map.get s.held id) (map.get s.homes n)) (map.keys s.homes)) (λ id. slot_size s.begun (map.get (stamps_of disk kept s) id)) k one_slot in
+        let home_slots = tally_slots k (λ n. is_home_seen s.held s.begun (map.get s.homes n)) (λ id n. home_by s.begun (map.get s.held id) (map.get s.homes n))
+        (map.keys s.homes) (λ n. by_home (map.get s.homes n)) in
+        let sum = slots_add (λ id. tally (λ p. past_by (map.get s.held id) (map.get s.past p)) (map.keys s.past))
+        (λ id. tally (λ n. home_by s.begun (map.get s.held id) (map.get s.homes n)) (map.keys s.homes)) k in
+        let more = slots_more (λ id. tally (λ p. past_by (map.get s.held id) (map.get s.past p)) (map.keys s.past) + tally
+        (λ n. home_by s.begun (map.get s.held id) (map.get s.homes n)) (map.keys s.homes)) (λ id. slot_size s.begun (map.get (stamps_of disk kept s) id)) k one_slot in
         let sizes = sizes_are k in
         omega arith
       where

@@ -22,7 +22,9 @@ no_stamps a none = same _ _ (λ id. get-shown a map.empty id ∙ ap (λ m. shown
 no_places : (disk : ArchiveState) → place_count (new_archive disk.disk) map.empty ≡ 0
 no_places a =
     let pages : map.len (overlaid map.empty map.empty) ≡ 0 = ap map.len (overlaid-empty map.empty) ∙ map.len-empty nat_cmp (List ℕ) in
-    let shared : set.len (staged_shared set.empty map.empty) ≡ 0 = ap set.len (same_set (staged_shared set.empty map.empty) set.empty (λ q. contains-shared set.empty map.empty q ∙ ap (λ o. set.contains {R = nat_cmp} set.empty q && is_some o) (map.get-empty nat_cmp q)
+    let shared : set.len (staged_shared set.empty map.empty) ≡ 0 =
+    ap set.len (same_set (staged_shared set.empty map.empty) set.empty (λ q. contains-shared set.empty map.empty q
+    ∙ ap (λ o. set.contains {R = nat_cmp} set.empty q && is_some o) (map.get-empty nat_cmp q)
     ∙ and_none (set.contains {R = nat_cmp} set.empty q) ∙ sym (set.contains-empty nat_cmp q))) ∙ set.len-empty nat_cmp in
     omega arith
 

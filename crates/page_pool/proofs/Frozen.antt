@@ -1,5 +1,6 @@
 -- What a change of one page leaves of the maps of stamps, and how many images are kept for them.
-use Rattle.std.proofs.Common.{◌≡◌, ◌≢◌, ◌≤◌, ◌<◌, ◌+◌, ◌-◌, ℕ, Bool, true, false, cond, not, ◌&&◌, refl, sym, ap, subst, ◌∙◌, Option, Some, None, is_some, IsTrue, ◌⊎◌, inl, inr, nat_eq, nat_lt, arith, eqb-true, eq-eqb}
+use Rattle.std.proofs.Common.{◌≡◌, ◌≢◌, ◌≤◌, ◌<◌, ◌+◌, ◌-◌, ℕ, Bool, true, false, cond, not, ◌&&◌, refl, sym, ap, subst, ◌∙◌, Option, Some, None, is_some, IsTrue, ◌⊎◌}
+use Rattle.std.proofs.Common.{inl, inr, nat_eq, nat_lt, arith, eqb-true, eq-eqb}
 use mathlib.Core.Bool.{true≢false}
 use Rattle.std.specs.Ordering.{nat_cmp, eq_by_cmp}
 use Rattle.std.specs.Cmp.{nat_cmp_total}
@@ -78,7 +79,8 @@ module _ (a b : ArchiveState) (n : ℕ) (change : ChangesPage a b n) where
       by_at (Some f) None h = absurd (true≢false (ap is_some h))
 
 -- a map whose pages and dirty ones stay, with the digests of the clean ones
-pub settles_same : (told : Bool) (x y : Shown) → y.pages ≡ x.pages → y.dirty ≡ x.dirty → ((q : ℕ) → IsTrue (map.contains_key x.pages q) → set.contains x.dirty q ≡ false → map.get y.kept q ≡ map.get x.kept q) → Settles told x y
+pub settles_same : (told : Bool) (x y : Shown) → y.pages ≡ x.pages → y.dirty ≡ x.dirty
+    → ((q : ℕ) → IsTrue (map.contains_key x.pages q) → set.contains x.dirty q ≡ false → map.get y.kept q ≡ map.get x.kept q) → Settles told x y
 settles_same told x y pages dirty kept = record {
   pages = λ _. pages;
   lives = λ q. ap (λ m. map.contains_key m q) pages;
@@ -89,12 +91,14 @@ settles_same told x y pages dirty kept = record {
 }
 
 -- page n waits no more to be replaced, and its image counts with the replaced ones where a stamp sees it
-pub shared_falls : (shared shared' : NumberSet) (changes changes' : ChangeMap) (n seen seen' : ℕ) → map.contains_key changes n ≡ true → ((q : ℕ) → q ≢ n → map.contains_key changes' q ≡ map.contains_key changes q)
+pub shared_falls : (shared shared' : NumberSet) (changes changes' : ChangeMap) (n seen seen' : ℕ) → map.contains_key changes n ≡ true
+    → ((q : ℕ) → q ≢ n → map.contains_key changes' q ≡ map.contains_key changes q)
     → shared' ≡ set.remove shared n → seen' ≡ seen + cond (set.contains shared n) 1 0
     → seen' + set.len (staged_shared shared' changes') ≤ seen + set.len (staged_shared shared changes)
 shared_falls shared shared' changes changes' n seen seen' waits others less counted =
     let fewer : staged_shared shared' changes' ≡ set.remove (staged_shared shared changes) n = same_set _ _ (λ q.
-    contains-shared shared' changes' q ∙ ap (λ s. set.contains s q && map.contains_key changes' q) less ∙ ap (λ b. b && map.contains_key changes' q) (set.contains-remove nat_cmp_total shared n q) ∙ by_tie q
+    contains-shared shared' changes' q ∙ ap (λ s. set.contains s q && map.contains_key changes' q) less
+    ∙ ap (λ b. b && map.contains_key changes' q) (set.contains-remove nat_cmp_total shared n q) ∙ by_tie q
     ∙ sym (set.contains-remove nat_cmp_total (staged_shared shared changes) n q ∙ ap (λ b. not (eq_by_cmp nat_cmp q n) && b) (contains-shared shared changes q))) in
     let has : set.contains (staged_shared shared changes) n ≡ (set.contains shared n && true) = contains-shared shared changes n ∙ ap (λ b. set.contains shared n && b) waits in
     (elim (set.contains shared n) as (λ b. set.contains shared n ≡ b → seen' + set.len (staged_shared shared' changes') ≤ seen + set.len (staged_shared shared changes)) [
@@ -112,7 +116,8 @@ shared_falls shared shared' changes changes' n seen seen' waits others less coun
     ]) refl
   where
     by_tie : (q : ℕ) → ((not (eq_by_cmp nat_cmp q n) && set.contains shared q) && map.contains_key changes' q) ≡ (not (eq_by_cmp nat_cmp q n) && (set.contains shared q && map.contains_key changes q))
-    by_tie q = (elim (eq_by_cmp nat_cmp q n) as (λ t. eq_by_cmp nat_cmp q n ≡ t → ((not t && set.contains shared q) && map.contains_key changes' q) ≡ (not t && (set.contains shared q && map.contains_key changes q))) [
-      | true ↦ λ _. refl
-      | false ↦ λ apart. ap (λ b. set.contains shared q && b) (others q (λ e. true≢false (sym (tie_itself n) ∙ ap (λ k. eq_by_cmp nat_cmp k n) (sym e) ∙ apart)))
-    ]) refl
+    by_tie q = (elim (eq_by_cmp nat_cmp q n) as (λ t. eq_by_cmp nat_cmp q n ≡ t
+        → ((not t && set.contains shared q) && map.contains_key changes' q) ≡ (not t && (set.contains shared q && map.contains_key changes q))) [
+          | true ↦ λ _. refl
+          | false ↦ λ apart. ap (λ b. set.contains shared q && b) (others q (λ e. true≢false (sym (tie_itself n) ∙ ap (λ k. eq_by_cmp nat_cmp k n) (sym e) ∙ apart)))
+        ]) refl

@@ -7,7 +7,8 @@ use Rattle.std.specs.Option.{option_map}
 use Rattle.std.specs.FinMap as map
 use Rattle.std.specs.FinSet as set
 use Rattle.page_pool.specs.Archive.{ImageMap, ArchiveState, IsArchive, IsFrozen, Releases, newest_images}
-use Rattle.page_pool.specs.Inside.{ChangeMap, StagedState, CacheState, NumbersState, IsAccount, IsWhole, is_used, state_of, overlaid, dirty_of, freed_of, staged_shared, place_count, shown_images, shown_stamps}
+use Rattle.page_pool.specs.Inside.{ChangeMap, StagedState, CacheState, NumbersState, IsAccount, IsWhole, is_used, state_of, overlaid, dirty_of, freed_of, staged_shared}
+use Rattle.page_pool.specs.Inside.{place_count, shown_images, shown_stamps}
 use Rattle.page_pool.specs.Stamps.{KeepsMap, LetsMapGo}
 use Rattle.page_pool.proofs.Maps.{same, get-insert, get-remove}
 use Rattle.page_pool.proofs.Bounds.{contains-shared}
@@ -27,9 +28,11 @@ sees_live a changes = shown-late a.begun changes (newest_images a) (le-ltb a.beg
 stamps_kept : (a : ArchiveState) (changes : ChangeMap) (slot : ℕ) → shown_stamps (holding a slot) changes ≡ map.insert (shown_stamps a changes) slot (shown_live changes (newest_images a))
 stamps_kept a changes slot = same _ _ (λ id.
     get-shown (holding a slot) changes id ∙ ap (option_map (shown_images a.begun changes)) (get-insert a.stamps slot (newest_images a) id) ∙ by_tie (eq_by_cmp nat_cmp id slot) (map.get a.stamps id)
-    ∙ sym (get-insert (shown_stamps a changes) slot (shown_live changes (newest_images a)) id ∙ ap (cond (eq_by_cmp nat_cmp id slot) (Some (shown_live changes (newest_images a)))) (get-shown a changes id)))
+    ∙ sym (get-insert (shown_stamps a changes) slot (shown_live changes (newest_images a)) id
+    ∙ ap (cond (eq_by_cmp nat_cmp id slot) (Some (shown_live changes (newest_images a)))) (get-shown a changes id)))
   where
-    by_tie : (b : Bool) (o : Option ImageMap) → option_map (shown_images a.begun changes) (cond b (Some (newest_images a)) o) ≡ cond b (Some (shown_live changes (newest_images a))) (option_map (shown_images a.begun changes) o)
+    by_tie : (b : Bool) (o : Option ImageMap) → option_map (shown_images a.begun changes) (cond b (Some (newest_images a)) o)
+        ≡ cond b (Some (shown_live changes (newest_images a))) (option_map (shown_images a.begun changes) o)
     by_tie true o = ap (λ m. Some m) (sees_live a changes)
     by_tie false o = refl
 
@@ -38,7 +41,8 @@ none_shown : (a : ArchiveState) (changes : ChangeMap) (slot : ℕ) → map.get a
 none_shown a changes slot none = get-shown a changes slot ∙ ap (option_map (shown_images a.begun changes)) none
 
 -- a stamp was taken
-pub keeps_state : (a b : ArchiveState) (staged : StagedState) (frames : CacheState) (numbers : NumbersState) (is_open : Bool) (gets refused slot : ℕ) → map.get a.stamps slot ≡ None → b ≡ holding a slot
+pub keeps_state : (a b : ArchiveState) (staged : StagedState) (frames : CacheState) (numbers : NumbersState) (is_open : Bool) (gets refused slot : ℕ)
+    → map.get a.stamps slot ≡ None → b ≡ holding a slot
     → KeepsMap (state_of a staged frames numbers is_open gets refused) (state_of b staged frames numbers is_open gets refused) slot
 keeps_state a b staged frames numbers is_open gets refused slot none is =
     subst (λ s. KeepsMap (state_of a staged frames numbers is_open gets refused) (state_of s staged frames numbers is_open gets refused) slot) (sym is) record {
@@ -71,7 +75,8 @@ whole-kept a b changes frames numbers is_open slot closed is archive w = subst (
 -- what the other stamps show stays
 stamps_left : (a b : ArchiveState) (changes : ChangeMap) (slot : ℕ) → Releases a b slot → shown_stamps b changes ≡ map.remove (shown_stamps a changes) slot
 stamps_left a b changes slot r = same _ _ (λ id.
-    get-shown b changes id ∙ (λ i. option_map (shown_images (r.begun i) changes) (map.get (r.stamps i) id)) ∙ ap (option_map (shown_images a.begun changes)) (get-remove a.stamps slot id) ∙ by_tie (eq_by_cmp nat_cmp id slot) (map.get a.stamps id)
+    get-shown b changes id ∙ (λ i. option_map (shown_images (r.begun i) changes) (map.get (r.stamps i) id))
+    ∙ ap (option_map (shown_images a.begun changes)) (get-remove a.stamps slot id) ∙ by_tie (eq_by_cmp nat_cmp id slot) (map.get a.stamps id)
     ∙ sym (get-remove (shown_stamps a changes) slot id ∙ ap (cond (eq_by_cmp nat_cmp id slot) None) (get-shown a changes id)))
   where
     by_tie : (t : Bool) (o : Option ImageMap) → option_map (shown_images a.begun changes) (cond t None o) ≡ cond t None (option_map (shown_images a.begun changes) o)
@@ -128,7 +133,8 @@ pub whole-left : (a b : ArchiveState) (changes : ChangeMap) (frames : CacheState
     → IsWhole a changes frames numbers is_open → IsWhole b changes frames numbers is_open
 whole-left a b changes frames numbers is_open slot closed r archive w = record {
   archived = archive;
-  stands = λ q none digest has tells. let there = w.stands q none digest (ap (λ m. map.get m q) (sym r.kept) ∙ has) (ap (λ d. d.told) (sym r.disk) ∙ tells) in (there.0, (ap (λ m. map.get m q) r.pages ∙ there.1.0, there.1.1));
+  stands = λ q none digest has tells. let there = w.stands q none digest (ap (λ m. map.get m q) (sym r.kept) ∙ has) (ap (λ d. d.told) (sym r.disk) ∙ tells) in
+      (there.0, (ap (λ m. map.get m q) r.pages ∙ there.1.0, there.1.1));
   newest = λ q bytes is. let was = w.newest q bytes is in (ap (λ m. map.get m q) r.kept ∙ was.0, λ tells. ap (λ m. map.get m q) r.pages ∙ was.1 (ap (λ d. d.told) (sym r.disk) ∙ tells));
   past = λ id f frozen q place bytes is there. let was = w.past id f (frozen_still a b slot id f r frozen) q place bytes is there in (was.0, λ tells. was.1 (ap (λ d. d.told) (sym r.disk) ∙ tells));
   replaced = λ q place bytes is there. w.replaced q place bytes (ap (λ m. map.get m q) (sym r.places) ∙ is) there;

@@ -14,7 +14,8 @@ use Rattle.page_pool.specs.Causes.{faults_after, refused_after, IsDamageIfDamage
 use Rattle.page_pool.proofs.States.{read_state}
 
 -- the damage of an image is one of its page, and names it
-pub damage_of : {T : Type 0} (s : PoolState) (kept : DigestMap) (n : ℕ) (result : Result T PageFault) → s.kept ≡ kept → IfErr result (IsImageDamage s.disk kept n) → IfErr result (IsDamageIfDamaged s) × IfErr result (Names n)
+pub damage_of : {T : Type 0} (s : PoolState) (kept : DigestMap) (n : ℕ) (result : Result T PageFault) → s.kept ≡ kept → IfErr result (IsImageDamage s.disk kept n)
+    → IfErr result (IsDamageIfDamaged s) × IfErr result (Names n)
 damage_of s kept n (Ok x) same h = (tt, tt)
 damage_of s kept n (Err Memory) same h = (tt, tt)
 damage_of s kept n (Err Device) same h = (tt, tt)
@@ -22,7 +23,8 @@ damage_of s kept n (Err (Damaged page digest read)) same h =
     (record { kept_is = (λ i. map.get (same i) (h.0 i)) ∙ h.1.0; read_is = h.1.1.0; differ = h.1.1.1.0; untold = h.1.1.1.1 }, h.0)
 
 -- the page is read and compared, whatever the answer
-pub compares_state : {T : Type 0} (a b : ArchiveState) (staged : StagedState) (frames frames' : CacheState) (numbers : NumbersState) (is_open : Bool) (gets refused : ℕ) (n : ℕ) (result : Result T PageFault)
+pub compares_state : {T : Type 0} (a b : ArchiveState) (staged : StagedState) (frames frames' : CacheState) (numbers : NumbersState) (is_open : Bool) (gets refused : ℕ)
+    (n : ℕ) (result : Result T PageFault)
     → IsReadArchive a b → frames'.most ≡ frames.most → b.disk.faults ≡ faults_after a.disk.faults result → IfErr result (IsImageDamage b.disk a.kept n)
     → Compares (state_of a staged frames numbers is_open gets refused) (state_of b staged frames' numbers is_open gets refused) n result
 compares_state a b staged frames frames' numbers is_open gets refused n result read most faults damaged =
@@ -61,7 +63,8 @@ not_there None h = refl
 not_there (Some x) h = absurd (true≢false h)
 
 -- a page that was read and compared, and its refusal counted
-pub counted_in : {T : Type 0} (old mid new : PoolState) (n : ℕ) (result : Result T PageFault) → Compares old mid n result → new ≡ record mid { refused = refused_after mid.refused result } → ReadsIn old new n result
+pub counted_in : {T : Type 0} (old mid new : PoolState) (n : ℕ) (result : Result T PageFault) → Compares old mid n result
+    → new ≡ record mid { refused = refused_after mid.refused result } → ReadsIn old new n result
 counted_in {T = T} old mid new n result h is = subst (λ s. ReadsIn old s n result) (sym is) record {
   read = record {
     pages = h.read.pages;

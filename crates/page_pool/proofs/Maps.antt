@@ -107,7 +107,8 @@ len_without {X = X} m k there = by_item (map.get m k) refl there
     by_item : (o : Option X) → map.get m k ≡ o → map.contains_key m k ≡ true → map.len m ≡ map.len (map.remove m k) + 1
     by_item None is h = absurd (true≢false (sym h ∙ ap is_some is))
     by_item (Some item) is h =
-        let whole : m ≡ map.insert (map.remove m k) k item = same _ _ (λ q. sym (get-insert (map.remove m k) k item q ∙ ap (cond (eq_by_cmp nat_cmp q k) (Some item)) (get-remove m k q) ∙ by_tie item is q)) in
+        let whole : m ≡ map.insert (map.remove m k) k item =
+        same _ _ (λ q. sym (get-insert (map.remove m k) k item q ∙ ap (cond (eq_by_cmp nat_cmp q k) (Some item)) (get-remove m k q) ∙ by_tie item is q)) in
         let gone : map.contains_key (map.remove m k) k ≡ false = ap is_some (get-remove m k k) ∙ ap (λ b. is_some (cond b None (map.get m k))) (tie_itself k) in
         ap map.len whole ∙ map.len-insert nat_cmp_total (map.remove m k) k item ∙ ap (λ b. cond b (map.len (map.remove m k)) (map.len (map.remove m k) + 1)) gone
       where

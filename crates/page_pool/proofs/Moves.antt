@@ -1,5 +1,6 @@
 -- The calls of the images as changes of one page, and where a page may be written.
-use Rattle.std.proofs.Common.{◌≡◌, ◌≢◌, ◌≤◌, ◌<◌, ℕ, false, refl, sym, ap, subst, ◌∙◌, Option, Some, None, is_some, IfSome, IsSomeAnd, Result, Ok, Err, IfOk, OnErr, option_map, ◌⊎◌, inl, inr, max, arith}
+use Rattle.std.proofs.Common.{◌≡◌, ◌≢◌, ◌≤◌, ◌<◌, ℕ, false, refl, sym, ap, subst, ◌∙◌, Option, Some, None, is_some, IfSome, IsSomeAnd, Result, Ok, Err, IfOk, OnErr}
+use Rattle.std.proofs.Common.{option_map, ◌⊎◌, inl, inr, max, arith}
 use Rattle.std.specs.Ordering.{nat_cmp}
 use Rattle.std.specs.FinMap as map
 use Rattle.std.proofs.lemmas.Bool.{true≢false, cases_eq}
@@ -126,7 +127,10 @@ module _ (s : ImagesState) (whole : IsImages s) (n place top : ℕ) (free : IsFr
     joins = λ k at_n away. let one : h ≡ k = same_Some h k (sym home ∙ at_n) in
         ap (λ x. map.get (map.remove (joined h) place) x.place) (sym one) ∙ get-remove_other (joined h) place h.place elsewhere
         ∙ get-insert_same s.past h.place (replaced n h s.begun) ∙ ap (λ x. Some (replaced n x s.begun)) one;
-    comes = λ p e now. (λ is. absurd (none-some e (sym (get-remove_same (joined h) place) ∙ ap (map.get (map.remove (joined h) place)) (at_spot p is) ∙ now)), by_insert p e (found-insert s.past h.place (replaced n h s.begun) p e (found-remove (joined h) place p e now)));
+    comes = λ p e now. (
+      λ is. absurd (none-some e (sym (get-remove_same (joined h) place) ∙ ap (map.get (map.remove (joined h) place)) (at_spot p is) ∙ now)),
+      by_insert p e (found-insert s.past h.place (replaced n h s.begun) p e (found-remove (joined h) place p e now)),
+    );
     low = low_spot;
     free = free_spot;
   }
@@ -213,7 +217,8 @@ module _ (s : ImagesState) (whole : IsImages s) (n : ℕ) where
   left_without_images none = turned_images s left_without n None whole (none_turns none)
 
 -- the held stamps may change, and one more command may begin
-pub held_images : (s : ImagesState) (held : HeldMap) → IsImages s → ((id at : ℕ) → map.get held id ≡ Some at → (id < 16) × (at ≤ s.begun)) → IsImages (images_of s.homes s.past held s.begun s.changed s.top)
+pub held_images : (s : ImagesState) (held : HeldMap) → IsImages s → ((id at : ℕ) → map.get held id ≡ Some at → (id < 16) × (at ≤ s.begun))
+    → IsImages (images_of s.homes s.past held s.begun s.changed s.top)
 held_images s held whole stamps = record {
   one = whole.one;
   apart = whole.apart;
@@ -226,7 +231,8 @@ held_images s held whole stamps = record {
 }
 
 -- a stamp may be held in a slot that is free
-pub kept_images : {E : Type 0} (s : ImagesState) → IsImages s → (held : HeldMap) (r : Result ℕ E) → IfOk r (λ slot. slot < 16) → IfOk r (λ slot. held ≡ map.insert s.held slot s.begun) → OnErr r (held ≡ s.held)
+pub kept_images : {E : Type 0} (s : ImagesState) → IsImages s → (held : HeldMap) (r : Result ℕ E) → IfOk r (λ slot. slot < 16)
+    → IfOk r (λ slot. held ≡ map.insert s.held slot s.begun) → OnErr r (held ≡ s.held)
     → IsImages (images_of s.homes s.past held s.begun s.changed s.top)
 kept_images s whole held (Err e) few kept same = held_images s held whole (λ id at is. whole.held id at (ap (λ m. map.get m id) (sym same) ∙ is))
 kept_images s whole held (Ok slot) few kept same = held_images s held whole (λ id at is. by_insert id at (found-insert s.held slot s.begun id at (ap (λ m. map.get m id) (sym kept) ∙ is)))
@@ -280,10 +286,12 @@ move_done s whole n place free old home elsewhere homes past top h p t =
     (move_images s whole n place top free (omega arith) (omega arith) old home elsewhere, move_settles s whole n place top free (omega arith) (omega arith) old home elsewhere)
 
 -- after a refusal the image is where it was
-pub unmoved : (s : ImagesState) → IsImages s → (n : ℕ) (h : Home) → map.get s.homes n ≡ Some h → (e : Past) (joined past : PastMap) → joined ≡ map.insert s.past h.place e → past ≡ map.remove joined h.place → past ≡ s.past
+pub unmoved : (s : ImagesState) → IsImages s → (n : ℕ) (h : Home) → map.get s.homes n ≡ Some h → (e : Past) (joined past : PastMap)
+    → joined ≡ map.insert s.past h.place e → past ≡ map.remove joined h.place → past ≡ s.past
 unmoved s whole n h home e joined past put taken = undone s.past joined past h.place e (ap is_some (whole.apart n h home)) put taken
 
-pub leave_done : (s : ImagesState) → IsImages s → (n : ℕ) (h : Home) → map.get s.homes n ≡ Some h → (homes : HomeMap) (past : PastMap) → homes ≡ map.remove s.homes n → past ≡ map.insert s.past h.place (replaced n h s.begun)
+pub leave_done : (s : ImagesState) → IsImages s → (n : ℕ) (h : Home) → map.get s.homes n ≡ Some h → (homes : HomeMap) (past : PastMap) → homes ≡ map.remove s.homes n
+    → past ≡ map.insert s.past h.place (replaced n h s.begun)
     → IsImages (images_of homes past s.held s.begun s.begun s.top) × LeavesImage s (images_of homes past s.held s.begun s.begun s.top) n
 leave_done s whole n h home homes past is_homes is_past =
     subst (λ x. IsImages x × LeavesImage s x n) (λ i. images_of (sym is_homes i) (sym is_past i) s.held s.begun s.begun s.top) (left_with_images s whole n h home, leaves_with s whole n h home)

@@ -57,11 +57,13 @@ counted_map {X = X} m (suc n) within = by_last (map.contains_key m (suc n)) (λ 
         below : (q : ℕ) → q ≤ suc n → q ≢ suc n → q ≤ n
         below q low apart = omega arith
 
-    by_last : (b : Bool) → ((rest : map.FinMap nat_cmp X) → ((q : ℕ) → map.contains_key rest q ≡ true → (1 ≤ q) × (q ≤ n)) → map.len rest ≡ count_upto (map.contains_key rest) n) → map.contains_key m (suc n) ≡ b → map.len m ≡ count_upto (map.contains_key m) (suc n)
+    by_last : (b : Bool) → ((rest : map.FinMap nat_cmp X) → ((q : ℕ) → map.contains_key rest q ≡ true → (1 ≤ q) × (q ≤ n)) → map.len rest ≡ count_upto (map.contains_key rest) n)
+        → map.contains_key m (suc n) ≡ b → map.len m ≡ count_upto (map.contains_key m) (suc n)
     by_last true counted is =
         let size = len_without m (suc n) is in
         let rest : map.len (map.remove m (suc n)) ≡ count_upto (map.contains_key (map.remove m (suc n))) n = counted (map.remove m (suc n)) rest_within in
-        let alike : count_upto (map.contains_key (map.remove m (suc n))) n ≡ count_upto (map.contains_key m) n = count_agree (map.contains_key (map.remove m (suc n))) (map.contains_key m) n (λ q low. ap is_some (get-remove_other m (suc n) q (other q low))) in
+        let alike : count_upto (map.contains_key (map.remove m (suc n))) n ≡ count_upto (map.contains_key m) n =
+        count_agree (map.contains_key (map.remove m (suc n))) (map.contains_key m) n (λ q low. ap is_some (get-remove_other m (suc n) q (other q low))) in
         let last : cond {A = ℕ} (map.contains_key m (suc n)) 1 0 ≡ 1 = ap (λ b. cond {A = ℕ} b 1 0) is in
         let all : count_upto (map.contains_key m) (suc n) ≡ count_upto (map.contains_key m) n + cond {A = ℕ} (map.contains_key m (suc n)) 1 0 = refl in omega arith
     by_last false counted is =
@@ -95,11 +97,13 @@ counted_set s (suc n) within = by_last (set.contains s (suc n)) (λ rest low. co
         let apart : q ≢ suc n = λ is. true≢false (sym has ∙ ap (set.contains (set.remove s (suc n))) is ∙ removed-same s (suc n)) in
         let low = within q (sym (removed-other s (suc n) q apart) ∙ has) in (low.0, below q low.1 apart)
 
-    by_last : (b : Bool) → ((rest : NumberSet) → ((q : ℕ) → set.contains rest q ≡ true → (1 ≤ q) × (q ≤ n)) → set.len rest ≡ count_upto (set.contains rest) n) → set.contains s (suc n) ≡ b → set.len s ≡ count_upto (set.contains s) (suc n)
+    by_last : (b : Bool) → ((rest : NumberSet) → ((q : ℕ) → set.contains rest q ≡ true → (1 ≤ q) × (q ≤ n)) → set.len rest ≡ count_upto (set.contains rest) n)
+        → set.contains s (suc n) ≡ b → set.len s ≡ count_upto (set.contains s) (suc n)
     by_last true counted is =
         let size = len_falls s (suc n) is in
         let rest : set.len (set.remove s (suc n)) ≡ count_upto (set.contains (set.remove s (suc n))) n = counted (set.remove s (suc n)) rest_within in
-        let alike : count_upto (set.contains (set.remove s (suc n))) n ≡ count_upto (set.contains s) n = count_agree (set.contains (set.remove s (suc n))) (set.contains s) n (λ q low. removed-other s (suc n) q (other q low)) in
+        let alike : count_upto (set.contains (set.remove s (suc n))) n ≡ count_upto (set.contains s) n =
+        count_agree (set.contains (set.remove s (suc n))) (set.contains s) n (λ q low. removed-other s (suc n) q (other q low)) in
         let last : cond {A = ℕ} (set.contains s (suc n)) 1 0 ≡ 1 = ap (λ b. cond {A = ℕ} b 1 0) is in
         let all : count_upto (set.contains s) (suc n) ≡ count_upto (set.contains s) n + cond {A = ℕ} (set.contains s (suc n)) 1 0 = refl in omega arith
     by_last false counted is =
@@ -110,11 +114,13 @@ counted_set s (suc n) within = by_last (set.contains s (suc n)) (λ rest low. co
 module _ (a : ArchiveState) (changes : ChangeMap) (frames : CacheState) (numbers : NumbersState) (is_open : Bool) (whole : IsWhole a changes frames numbers is_open) where
   -- each live page has one of the numbers that were given
   pub live_counted : map.len (overlaid changes a.pages) ≡ count_upto (map.contains_key (overlaid changes a.pages)) numbers.top
-  live_counted = counted_map (overlaid changes a.pages) numbers.top (λ q live. let used = live_used a whole.archived changes q live in (whole.numbers_now.positive q used, whole.numbers_now.given q used))
+  live_counted = counted_map (overlaid changes a.pages) numbers.top (λ q live. let used = live_used a whole.archived changes q live in
+      (whole.numbers_now.positive q used, whole.numbers_now.given q used))
 
   -- and each that waits
   pub shared_counted : set.len (staged_shared a.shared changes) ≡ count_upto (λ n. set.contains a.shared n && map.contains_key changes n) numbers.top
-  shared_counted = counted_set (staged_shared a.shared changes) numbers.top (λ q has. let used = waits q (set.contains a.shared q) (map.contains_key changes q) refl (sym (contains-shared a.shared changes q) ∙ has) in (whole.numbers_now.positive q used, whole.numbers_now.given q used))
+  shared_counted = counted_set (staged_shared a.shared changes) numbers.top (λ q has. let used =
+      waits q (set.contains a.shared q) (map.contains_key changes q) refl (sym (contains-shared a.shared changes q) ∙ has) in (whole.numbers_now.positive q used, whole.numbers_now.given q used))
       ∙ count_agree (set.contains (staged_shared a.shared changes)) (λ n. set.contains a.shared n && map.contains_key changes n) numbers.top (λ q low. contains-shared a.shared changes q)
     where
       waits : (q : ℕ) (x y : Bool) → map.contains_key changes q ≡ y → (x && y) ≡ true → is_used changes a.kept q ≡ true
@@ -133,5 +139,6 @@ pub saturated_most : (x y z one both last : ℕ) → one ≡ min (x + y) last �
 saturated_most x y z one both last first second = omega arith
 
 -- what is kept for stamps is within the sizes of their maps
-pub within_sizes : (both live replaced waiting pages seen shared sizes : ℕ) → both ≤ live + (replaced + waiting) → live ≡ pages → replaced ≡ seen → waiting ≡ shared → seen + shared ≤ sizes → both ≤ pages + sizes
+pub within_sizes : (both live replaced waiting pages seen shared sizes : ℕ) → both ≤ live + (replaced + waiting) → live ≡ pages → replaced ≡ seen → waiting ≡ shared
+    → seen + shared ≤ sizes → both ≤ pages + sizes
 within_sizes both live replaced waiting pages seen shared sizes most one two three few = omega arith

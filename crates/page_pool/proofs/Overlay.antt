@@ -22,36 +22,42 @@ same_set s t is = set.same_set nat_cmp_total nat_cmp-IsAntisymmetric s t is
 
 get-overlay : (es : List (ℕ × Option (List ℕ))) (base : PageMap) (q : ℕ) → map.get (overlay es base) q ≡ unwrap_or (find nat_cmp q es) (map.get base q)
 get-overlay [] base q = refl
-get-overlay ((n, None) ∷ es) base q = get-remove _ n q ∙ elim (eq_by_cmp nat_cmp q n) as (λ b. cond b None (map.get (overlay es base) q) ≡ unwrap_or (cond b (Some None) (find nat_cmp q es)) (map.get base q)) [
-  | true ↦ refl
-  | false ↦ get-overlay es base q
-]
-get-overlay ((n, Some page) ∷ es) base q = get-insert _ n page q ∙ elim (eq_by_cmp nat_cmp q n) as (λ b. cond b (Some page) (map.get (overlay es base) q) ≡ unwrap_or (cond b (Some (Some page)) (find nat_cmp q es)) (map.get base q)) [
-  | true ↦ refl
-  | false ↦ get-overlay es base q
-]
+get-overlay ((n, None) ∷ es) base q = get-remove _ n q
+    ∙ elim (eq_by_cmp nat_cmp q n) as (λ b. cond b None (map.get (overlay es base) q) ≡ unwrap_or (cond b (Some None) (find nat_cmp q es)) (map.get base q)) [
+      | true ↦ refl
+      | false ↦ get-overlay es base q
+    ]
+get-overlay ((n, Some page) ∷ es) base q = get-insert _ n page q
+    ∙ elim (eq_by_cmp nat_cmp q n) as (λ b. cond b (Some page) (map.get (overlay es base) q) ≡ unwrap_or (cond b (Some (Some page)) (find nat_cmp q es)) (map.get base q)) [
+      | true ↦ refl
+      | false ↦ get-overlay es base q
+    ]
 
 pub contains-written : (es : List (ℕ × Option (List ℕ))) (q : ℕ) → set.contains (written es) q ≡ is_page (find nat_cmp q es)
 contains-written [] q = set.contains-empty nat_cmp q
-contains-written ((n, None) ∷ es) q = set.contains-remove nat_cmp_total _ n q ∙ elim (eq_by_cmp nat_cmp q n) as (λ b. (not b && set.contains (written es) q) ≡ is_page (cond b (Some None) (find nat_cmp q es))) [
-  | true ↦ refl
-  | false ↦ contains-written es q
-]
-contains-written ((n, Some page) ∷ es) q = set.contains-insert nat_cmp_total _ n q ∙ elim (eq_by_cmp nat_cmp q n) as (λ b. (b || set.contains (written es) q) ≡ is_page (cond b (Some (Some page)) (find nat_cmp q es))) [
-  | true ↦ refl
-  | false ↦ contains-written es q
-]
+contains-written ((n, None) ∷ es) q = set.contains-remove nat_cmp_total _ n q
+    ∙ elim (eq_by_cmp nat_cmp q n) as (λ b. (not b && set.contains (written es) q) ≡ is_page (cond b (Some None) (find nat_cmp q es))) [
+      | true ↦ refl
+      | false ↦ contains-written es q
+    ]
+contains-written ((n, Some page) ∷ es) q = set.contains-insert nat_cmp_total _ n q
+    ∙ elim (eq_by_cmp nat_cmp q n) as (λ b. (b || set.contains (written es) q) ≡ is_page (cond b (Some (Some page)) (find nat_cmp q es))) [
+      | true ↦ refl
+      | false ↦ contains-written es q
+    ]
 
 contains-dropped : (es : List (ℕ × Option (List ℕ))) (q : ℕ) → set.contains (dropped es) q ≡ is_gone (find nat_cmp q es)
 contains-dropped [] q = set.contains-empty nat_cmp q
-contains-dropped ((n, None) ∷ es) q = set.contains-insert nat_cmp_total _ n q ∙ elim (eq_by_cmp nat_cmp q n) as (λ b. (b || set.contains (dropped es) q) ≡ is_gone (cond b (Some None) (find nat_cmp q es))) [
-  | true ↦ refl
-  | false ↦ contains-dropped es q
-]
-contains-dropped ((n, Some page) ∷ es) q = set.contains-remove nat_cmp_total _ n q ∙ elim (eq_by_cmp nat_cmp q n) as (λ b. (not b && set.contains (dropped es) q) ≡ is_gone (cond b (Some (Some page)) (find nat_cmp q es))) [
-  | true ↦ refl
-  | false ↦ contains-dropped es q
-]
+contains-dropped ((n, None) ∷ es) q = set.contains-insert nat_cmp_total _ n q
+    ∙ elim (eq_by_cmp nat_cmp q n) as (λ b. (b || set.contains (dropped es) q) ≡ is_gone (cond b (Some None) (find nat_cmp q es))) [
+      | true ↦ refl
+      | false ↦ contains-dropped es q
+    ]
+contains-dropped ((n, Some page) ∷ es) q = set.contains-remove nat_cmp_total _ n q
+    ∙ elim (eq_by_cmp nat_cmp q n) as (λ b. (not b && set.contains (dropped es) q) ≡ is_gone (cond b (Some (Some page)) (find nat_cmp q es))) [
+      | true ↦ refl
+      | false ↦ contains-dropped es q
+    ]
 
 -- a live page is what was staged for it, or else what is stored
 pub get-overlaid : (changes : ChangeMap) (base : PageMap) (q : ℕ) → map.get (overlaid changes base) q ≡ unwrap_or (map.get changes q) (map.get base q)

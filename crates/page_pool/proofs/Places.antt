@@ -1,5 +1,6 @@
 -- A table of items by number, seen as a finite map.
-use Rattle.std.proofs.Common.{◌≡◌, ◌≤◌, ◌<◌, ℕ, suc, zero, ◌+◌, List, [], ◌∷◌, cond, false, refl, sym, ap, ◌∙◌, Option, Some, None, get_or, set, length, is_some, count_by, inl, inr, arith, Result, Ok, Err, OnErr}
+use Rattle.std.proofs.Common.{◌≡◌, ◌≤◌, ◌<◌, ℕ, suc, zero, ◌+◌, List, [], ◌∷◌, cond, false, refl, sym, ap, ◌∙◌, Option, Some, None, get_or, set, length, is_some}
+use Rattle.std.proofs.Common.{count_by, inl, inr, arith, Result, Ok, Err, OnErr}
 use Rattle.std.specs.Ordering.{nat_cmp, eq_by_cmp}
 use Rattle.std.specs.Cmp.{nat_cmp_total}
 use Rattle.std.specs.FinMap as map
@@ -41,7 +42,8 @@ pub items-same : {X : Type 0} (xs ys : List (Option X)) → ((q : ℕ) → get_o
 items-same xs ys is = same _ _ (λ q. get-items_in ys q ∙ is q ∙ sym (get-items_in xs q))
 
 -- after a write to the place of a number
-get-set : {X : Type 0} (places : List (Option X)) (n : ℕ) (place : Option X) (q : ℕ) → n < length places → map.get (items_in (set places n place)) q ≡ cond (eq_by_cmp nat_cmp q n) place (map.get (items_in places) q)
+get-set : {X : Type 0} (places : List (Option X)) (n : ℕ) (place : Option X) (q : ℕ) → n < length places
+    → map.get (items_in (set places n place)) q ≡ cond (eq_by_cmp nat_cmp q n) place (map.get (items_in places) q)
 get-set places n place q within = get-items_in (set places n place) q ∙ elim (cases_eq q n) [
   | inl one ↦ ap (λ k. get_or (set places n place) k None) one ∙ get_or-set_same places n place None within
       ∙ sym (ap (λ b. cond b place (map.get (items_in places) q)) (ap (λ k. eq_by_cmp nat_cmp k n) one ∙ tie_itself n))
@@ -73,7 +75,8 @@ items-past places n above = same _ _ (λ q. at q ∙ sym (get-remove (items_in p
 -- the items in a table are as many as the places that aren't empty
 as_many : {X : Type 0} (n : ℕ) (places : List (Option X)) → map.len {R = nat_cmp} (map.from_entries (entries_from n places)) ≡ count_by (λ place. is_some place) places
 as_many {X = X} n [] = map.len-empty nat_cmp X
-as_many n (None ∷ places) = let rest = as_many (suc n) places in let more : count_by (λ place. is_some place) (None ∷ places) ≡ 0 + count_by (λ place. is_some place) places = sum_by-cons (λ place. cond (is_some place) 1 0) None places in omega arith
+as_many n (None ∷ places) = let rest = as_many (suc n) places in let more : count_by (λ place. is_some place) (None ∷ places) ≡ 0 + count_by (λ place. is_some place) places =
+    sum_by-cons (λ place. cond (is_some place) 1 0) None places in omega arith
 as_many {X = X} n (Some item ∷ places) =
     let rest = as_many (suc n) places in
     let others : map.FinMap nat_cmp X = map.from_entries (entries_from (suc n) places) in

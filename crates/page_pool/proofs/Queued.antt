@@ -36,7 +36,8 @@ pub queue-promoted : (k : ℕ) (queue queue' : LruCache ℕ ⊤) → IsDistinct 
 queue-promoted k queue queue' distinct moved = ap of_entries moved ∙ promoted_same k queue.entries distinct
 
 -- a page leaves with its place
-pub queue-removed : (pages pages' : PageMap) (k : ℕ) (queue queue' : LruCache ℕ ⊤) → IsDistinct nat_eq (keys_of queue.entries) → queue'.entries ≡ remove_entry (nat_eq k) queue.entries → pages' ≡ map.remove pages k
+pub queue-removed : (pages pages' : PageMap) (k : ℕ) (queue queue' : LruCache ℕ ⊤) → IsDistinct nat_eq (keys_of queue.entries)
+    → queue'.entries ≡ remove_entry (nat_eq k) queue.entries → pages' ≡ map.remove pages k
     → IsQueueOf pages queue → IsQueueOf pages' queue'
 queue-removed pages pages' k queue queue' distinct left gone is = λ q.
     ap (λ es. map.contains_key (of_entries es) q) left ∙ ap (λ m. map.contains_key m q) (uncached k queue.entries distinct)
@@ -63,9 +64,11 @@ queue-put pages pages' k page queue queue' distinct room came put is = λ q.
 
 -- pages are as many as their places
 as_many : {X : Type 0} (es : List (ℕ × ⊤)) (m : map.FinMap nat_cmp X) → IsDistinct nat_eq (keys_of es) → ((q : ℕ) → map.contains_key (of_entries es) q ≡ map.contains_key m q) → map.len m ≡ length es
-as_many {X = X} [] m distinct is = ap map.len (same m map.empty (λ q. nothing (map.get m q) (sym (is q) ∙ ap is_some (map.get-empty nat_cmp q)) ∙ sym (map.get-empty nat_cmp q))) ∙ map.len-empty nat_cmp X
+as_many {X = X} [] m distinct is = ap map.len (same m map.empty (λ q. nothing (map.get m q) (sym (is q) ∙ ap is_some (map.get-empty nat_cmp q)) ∙ sym (map.get-empty nat_cmp q)))
+    ∙ map.len-empty nat_cmp X
 as_many (e ∷ es) m distinct is =
-    let rest : of_entries es ≡ map.remove (of_entries (e ∷ es)) e.0 = ap (λ b. of_entries (cond b es (e ∷ remove_entry (nat_eq e.0) es))) (sym (nat_eq_equiv.refl e.0)) ∙ uncached e.0 (e ∷ es) distinct in
+    let rest : of_entries es ≡ map.remove (of_entries (e ∷ es)) e.0 = ap (λ b. of_entries (cond b es (e ∷ remove_entry (nat_eq e.0) es))) (sym (nat_eq_equiv.refl e.0))
+    ∙ uncached e.0 (e ∷ es) distinct in
     let others : map.len (map.remove m e.0) ≡ length es = as_many es (map.remove m e.0) (IsDistinct-tail nat_eq e.0 (keys_of es) distinct)
     (λ q. ap (λ n. map.contains_key n q) rest ∙ keys-remove (of_entries (e ∷ es)) m e.0 is q) in
     let there : map.contains_key m e.0 ≡ true = sym (is e.0) ∙ ap is_some (sym (get-cached e.0 (e ∷ es))) ∙ ap (λ b. is_some (cond b (Some e.1) (lookup (nat_eq e.0) es))) (nat_eq_equiv.refl e.0) in
@@ -77,7 +80,8 @@ pub page_count : (pages : PageMap) (queue : LruCache ℕ ⊤) → IsDistinct nat
 page_count pages queue distinct is = as_many queue.entries pages distinct is
 
 -- the place that leaves next has a page
-pub last_there : (pages : PageMap) (queue : LruCache ℕ ⊤) (e : ℕ × ⊤) → IsDistinct nat_eq (keys_of queue.entries) → Some e ≡ last_entry queue.entries → IsQueueOf pages queue → map.contains_key pages e.0 ≡ true
+pub last_there : (pages : PageMap) (queue : LruCache ℕ ⊤) (e : ℕ × ⊤) → IsDistinct nat_eq (keys_of queue.entries) → Some e ≡ last_entry queue.entries
+    → IsQueueOf pages queue → map.contains_key pages e.0 ≡ true
 last_there pages queue e distinct last is =
     sym (is e.0) ∙ ap is_some (sym (get-cached e.0 queue.entries) ∙ lookup_from_place nat_eq_equiv queue.entries (length queue.entries - 1) e.0 e.1 distinct (sym last))
 

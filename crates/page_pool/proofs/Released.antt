@@ -35,7 +35,8 @@ module _ (a b : ArchiveState) (changes changes' : ChangeMap) (frames frames' : C
 
   used_now : (q : ℕ) → is_used changes a.kept q ≡ (eq_by_cmp nat_cmp q n || is_used changes' b.kept q)
   used_now q = elim (decide q n) [
-    | inl one ↦ ap (is_used changes a.kept) one ∙ ap (λ c. is_some c || map.contains_key a.kept n) gone ∙ sym (ap (λ x. x || is_used changes' b.kept q) (ap (λ k. eq_by_cmp nat_cmp k n) one ∙ tie_itself n))
+    | inl one ↦ ap (is_used changes a.kept) one ∙ ap (λ c. is_some c || map.contains_key a.kept n) gone
+        ∙ sym (ap (λ x. x || is_used changes' b.kept q) (ap (λ k. eq_by_cmp nat_cmp k n) one ∙ tie_itself n))
     | inr apart ↦ sym (ap (λ x. x || is_used changes' b.kept q) (tie_apart q n apart) ∙ (λ i. is_some (change_apart q apart i) || is_some (change.kept q apart i)))
   ]
 
@@ -44,10 +45,13 @@ module _ (a b : ArchiveState) (changes changes' : ChangeMap) (frames frames' : C
     archived = archive;
     stands = λ q none digest has tells. elim (decide q n) [
       | inl one ↦ no_one digest (map.get b.kept q) (ap (map.get b.kept) one ∙ kept_gone) has _
-      | inr apart ↦ let there = w.stands q (λ c. sym (change_apart q apart) ∙ none c) digest (sym (change.kept q apart) ∙ has) (sym change.told ∙ tells) in (there.0, (change.pages q apart ∙ there.1.0, there.1.1))
+      | inr apart ↦ let there = w.stands q (λ c. sym (change_apart q apart) ∙ none c) digest (sym (change.kept q apart) ∙ has) (sym change.told ∙ tells) in
+          (there.0, (change.pages q apart ∙ there.1.0, there.1.1))
     ];
-    newest = λ q bytes is. let f = forgot_newest frames frames' n forgot q bytes is in let was = w.newest q bytes f.1 in (change.kept q f.0 ∙ was.0, λ tells. change.pages q f.0 ∙ was.1 (sym change.told ∙ tells));
-    past = λ id f frozen q p bytes is there. let was = w.past id f (frozen_back a b n change id f frozen) q p bytes is (ap (λ m. map.get m p) (sym same_past) ∙ there) in (was.0, λ tells. was.1 (sym change.told ∙ tells));
+    newest = λ q bytes is. let f = forgot_newest frames frames' n forgot q bytes is in let was = w.newest q bytes f.1 in
+        (change.kept q f.0 ∙ was.0, λ tells. change.pages q f.0 ∙ was.1 (sym change.told ∙ tells));
+    past = λ id f frozen q p bytes is there. let was = w.past id f (frozen_back a b n change id f frozen) q p bytes is (ap (λ m. map.get m p) (sym same_past) ∙ there) in
+        (was.0, λ tells. was.1 (sym change.told ∙ tells));
     replaced = λ q p bytes is there. elim (decide q n) [
       | inl one ↦ no_one p (map.get b.places q) (ap (map.get b.places) one ∙ left) is ⊥
       | inr apart ↦ w.replaced q p bytes (sym (change.places q apart) ∙ is) (ap (λ m. map.get m p) (sym same_past) ∙ there)
@@ -81,15 +85,18 @@ module _ (a b : ArchiveState) (changes changes' : ChangeMap) (frames frames' : C
       ]
 
   settles_released : Settles a.disk.told (shown_live changes (newest_images a)) (shown_live changes' (newest_images b))
-  settles_released = settles_same a.disk.told _ _ pages_released dirty_stays (λ q live clean. change.kept q (λ one. true≢false (sym live ∙ ap (map.contains_key (overlaid changes a.pages)) one ∙ ap is_some not_live)))
+  settles_released = settles_same a.disk.told _ _ pages_released dirty_stays
+      (λ q live clean. change.kept q (λ one. true≢false (sym live ∙ ap (map.contains_key (overlaid changes a.pages)) one ∙ ap is_some not_live)))
 
   pub writes_released : (count count' gets refused : ℕ) → IsArchive a → frames'.most ≡ frames.most → ReplacesImage a b n
-      → Writes (state_of a record { changes = changes; count = count } frames numbers is_open gets refused) (state_of b record { changes = changes'; count = count' } frames' numbers' is_open gets refused)
+      → Writes (state_of a record { changes = changes; count = count } frames numbers is_open gets refused)
+      (state_of b record { changes = changes'; count = count' } frames' numbers' is_open gets refused)
   writes_released count count' gets refused old most replaces =
       let fewer : b.seen + set.len (staged_shared b.shared changes') ≤ a.seen + set.len (staged_shared a.shared changes) =
       shared_falls a.shared b.shared changes changes' n a.seen b.seen (ap is_some gone) (λ q apart. ap is_some (change_apart q apart)) replaces.shared replaces.seen in
       let pages : map.len (overlaid changes' b.pages) ≡ map.len (overlaid changes a.pages) = ap map.len pages_released in
-      writes_from (state_of a record { changes = changes; count = count } frames numbers is_open gets refused) (state_of b record { changes = changes'; count = count' } frames' numbers' is_open gets refused)
+      writes_from (state_of a record { changes = changes; count = count } frames numbers is_open gets refused)
+      (state_of b record { changes = changes'; count = count' } frames' numbers' is_open gets refused)
       settles_released change.told change.given top most refl refl
       record { held = held_still a b n change changes changes'; settles = stamp_settled a b n change a.disk.told changes changes' old archive settles_released }
       refl (omega arith)
@@ -100,12 +107,14 @@ module _ (a b : ArchiveState) (changes changes' : ChangeMap) (frames frames' : C
 
   pub fewer_released : set.len (dirty_of changes') + set.len (freed_of changes') < set.len (dirty_of changes) + set.len (freed_of changes)
   fewer_released =
-      let freed : set.len (freed_of changes) ≡ set.len (freed_of changes') + 1 = len_falls (freed_of changes) n (contains-freed changes n ∙ ap is_gone gone) ∙ ap (λ s. set.len s + 1) (sym (ap freed_of rest ∙ freed-removed changes n)) in
+      let freed : set.len (freed_of changes) ≡ set.len (freed_of changes') + 1 = len_falls (freed_of changes) n (contains-freed changes n ∙ ap is_gone gone)
+      ∙ ap (λ s. set.len s + 1) (sym (ap freed_of rest ∙ freed-removed changes n)) in
       let dirty : set.len (dirty_of changes') ≡ set.len (dirty_of changes) = ap set.len dirty_stays in
       omega arith
 
 -- only the frames lost a page, and nothing is seen to change
-pub whole-forgot : (a : ArchiveState) (changes : ChangeMap) (frames frames' : CacheState) (numbers : NumbersState) (is_open : Bool) (n : ℕ) → is_open ≡ false → frames'.newest ≡ map.remove frames.newest n → frames'.past ≡ frames.past
+pub whole-forgot : (a : ArchiveState) (changes : ChangeMap) (frames frames' : CacheState) (numbers : NumbersState) (is_open : Bool) (n : ℕ) → is_open ≡ false
+    → frames'.newest ≡ map.remove frames.newest n → frames'.past ≡ frames.past
     → IsWhole a changes frames numbers is_open → IsWhole a changes frames' numbers is_open
 whole-forgot a changes frames frames' numbers is_open n closed forgot same_past w = record {
   archived = w.archived;

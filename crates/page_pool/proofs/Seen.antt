@@ -74,11 +74,13 @@ is_map a f changes images stands = record {
         )
 
 -- no change at all
-no_change : (f : ImageMap) (a : ArchiveState) → IsMap a.disk (record { pages = overlaid map.empty f.pages; dirty = dirty_of map.empty; kept = f.kept }) → IsMap a.disk (record { pages = f.pages; dirty = set.empty; kept = f.kept })
+no_change : (f : ImageMap) (a : ArchiveState) → IsMap a.disk (record { pages = overlaid map.empty f.pages; dirty = dirty_of map.empty; kept = f.kept })
+    → IsMap a.disk (record { pages = f.pages; dirty = set.empty; kept = f.kept })
 no_change f a h = subst (IsMap a.disk) (λ i. record { pages = overlaid-empty f.pages i; dirty = dirty-empty i; kept = f.kept }) h
 
 -- the map of a held stamp
-pub stamp_map : (a : ArchiveState) (f : ImageMap) (id : ℕ) (changes : ChangeMap) → IsArchive a → map.get a.stamps id ≡ Some f → ((n : ℕ) → map.get changes n ≡ None → StandsWritten a.disk.told a.pages a.kept n) → IsMap a.disk (shown_images a.begun changes f)
+pub stamp_map : (a : ArchiveState) (f : ImageMap) (id : ℕ) (changes : ChangeMap) → IsArchive a → map.get a.stamps id ≡ Some f
+    → ((n : ℕ) → map.get changes n ≡ None → StandsWritten a.disk.told a.pages a.kept n) → IsMap a.disk (shown_images a.begun changes f)
 stamp_map a f id changes archive held stands = (elim (nat_lt f.at a.begun) as (λ b. nat_lt f.at a.begun ≡ b → IsMap a.disk (shown_images a.begun changes f)) [
   | true ↦ λ early. subst (IsMap a.disk) (sym (shown-early a.begun changes f early))
       (no_change f a (is_map a f map.empty (archive.maps id f held) (λ n _. archive.stands id f (held, lt_is f.at a.begun early) n)))

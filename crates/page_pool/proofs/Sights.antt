@@ -1,5 +1,6 @@
 -- What held stamps see of the images.
-use Rattle.std.proofs.Common.{◌≡◌, ◌≤◌, ◌<◌, ℕ, List, [], ◌∷◌, Bool, true, false, cond, refl, sym, ap, ◌∙◌, Option, Some, None, IfSome, IfNone, ◌⊎◌, inl, inr, arith, le-leb, lt-ltb, leb-true, ltb-true, eqb-true, nat_eq, nat_le}
+use Rattle.std.proofs.Common.{◌≡◌, ◌≤◌, ◌<◌, ℕ, List, [], ◌∷◌, Bool, true, false, cond, refl, sym, ap, ◌∙◌, Option, Some, None, IfSome, IfNone, ◌⊎◌, inl, inr, arith}
+use Rattle.std.proofs.Common.{le-leb, lt-ltb, leb-true, ltb-true, eqb-true, nat_eq, nat_le}
 use Rattle.std.specs.FinMap as map
 use Rattle.std.specs.List.{list_any}
 use Rattle.std.specs.Cmp.{nat_eq_equiv}
@@ -108,10 +109,12 @@ past_none at past n none p = by_item (map.get past p) refl
     by_item (Some e) is = first_none (λ place. is_shown n at (map.get past place)) (map.keys past) none p (key_in past p e is)
 
 -- what a search of the replaced images found is the place
-pub searched : (s : ImagesState) → IsImages s → (at n : ℕ) (r : Option ℕ) → IfSome r (λ p. is_shown n at (map.get s.past p) ≡ true) → IfNone r ((p : ℕ) → is_shown n at (map.get s.past p) ≡ false) → r ≡ past_place at s.past n
+pub searched : (s : ImagesState) → IsImages s → (at n : ℕ) (r : Option ℕ) → IfSome r (λ p. is_shown n at (map.get s.past p) ≡ true)
+    → IfNone r ((p : ℕ) → is_shown n at (map.get s.past p) ≡ false) → r ≡ past_place at s.past n
 searched s whole at n r found none = by_both r refl (past_place at s.past n) refl found none
   where
-    by_both : (a : Option ℕ) → r ≡ a → (b : Option ℕ) → past_place at s.past n ≡ b → IfSome a (λ p. is_shown n at (map.get s.past p) ≡ true) → IfNone a ((p : ℕ) → is_shown n at (map.get s.past p) ≡ false) → r ≡ past_place at s.past n
+    by_both : (a : Option ℕ) → r ≡ a → (b : Option ℕ) → past_place at s.past n ≡ b → IfSome a (λ p. is_shown n at (map.get s.past p) ≡ true)
+        → IfNone a ((p : ℕ) → is_shown n at (map.get s.past p) ≡ false) → r ≡ past_place at s.past n
     by_both None r_is None is f nothing = r_is ∙ sym is
     by_both None r_is (Some q) is f nothing = absurd (true≢false (sym (past_found at s.past n q is) ∙ nothing q))
     by_both (Some p) r_is None is f nothing = absurd (true≢false (sym f ∙ past_none at s.past n is p))
@@ -122,7 +125,8 @@ searched s whole at n r found none = by_both r refl (past_place at s.past n) ref
 
 -- The stamp sees the image at this place as page n: the newest one, or a replaced one.
 abbrev pub Sees : ImagesState → ℕ → ℕ → ℕ → Type 0
-Sees s at n p = ((h : Home) × ((map.get s.homes n ≡ Some h) × ((h.made ≤ at) × (h.place ≡ p)))) ⊎ ((e : Past) × ((map.get s.past p ≡ Some e) × ((e.number ≡ n) × (was_newest e.made e.until at ≡ true))))
+Sees s at n p = ((h : Home) × ((map.get s.homes n ≡ Some h) × ((h.made ≤ at) × (h.place ≡ p))))
+    ⊎ ((e : Past) × ((map.get s.past p ≡ Some e) × ((e.number ≡ n) × (was_newest e.made e.until at ≡ true))))
 
 -- a replaced image that is found is seen
 past_sees : (s : ImagesState) (at n p : ℕ) → past_place at s.past n ≡ Some p → Sees s at n p
@@ -140,7 +144,8 @@ sees s at n p is = by_home (map.get s.homes n) refl is
 
 -- what the stamp sees is found
 pub is_found : (s : ImagesState) → IsImages s → (at n p : ℕ) → Sees s at n p → seen_place at s n ≡ Some p
-is_found s whole at n p (inl (h, (there, (low, here)))) = ap (λ o. home_or at o (past_place at s.past n)) there ∙ ap (λ b. cond b (Some h.place) (past_place at s.past n)) (le-leb h.made at low) ∙ ap (λ q. Some q) here
+is_found s whole at n p (inl (h, (there, (low, here)))) = ap (λ o. home_or at o (past_place at s.past n)) there
+    ∙ ap (λ b. cond b (Some h.place) (past_place at s.past n)) (le-leb h.made at low) ∙ ap (λ q. Some q) here
 is_found s whole at n p (inr (e, (there, (of_page, life)))) = by_home (map.get s.homes n) refl
   where
     in_past : past_place at s.past n ≡ Some p
@@ -167,7 +172,8 @@ same_place None (Some q) to from = from q refl
 same_place (Some p) b to from = sym (to p refl)
 
 -- a stamp that sees the same sees it at the same places
-pub sees_same : (s t : ImagesState) → IsImages s → IsImages t → (at n : ℕ) → ((p : ℕ) → Sees s at n p → Sees t at n p) → ((p : ℕ) → Sees t at n p → Sees s at n p) → seen_place at t n ≡ seen_place at s n
+pub sees_same : (s t : ImagesState) → IsImages s → IsImages t → (at n : ℕ) → ((p : ℕ) → Sees s at n p → Sees t at n p) → ((p : ℕ) → Sees t at n p → Sees s at n p)
+    → seen_place at t n ≡ seen_place at s n
 sees_same s t whole whole' at n to from = same_place (seen_place at t n) (seen_place at s n)
     (λ p is. is_found s whole at n p (from p (sees t at n p is)))
     (λ p is. is_found t whole' at n p (to p (sees s at n p is)))

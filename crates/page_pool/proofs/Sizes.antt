@@ -72,7 +72,8 @@ no_more m n alike = let even : map.len m ≡ map.len n = len_alike m n alike in 
 pub map_falls : {X : Type 0} (m : map.FinMap nat_cmp X) (n : ℕ) → map.contains_key m n ≡ true → map.len m ≡ map.len (map.remove m n) + 1
 map_falls {X = X} m n has =
     let there = some_is (map.get m n) has in
-    let whole : m ≡ map.insert (map.remove m n) n there.0 = same _ _ (λ q. sym (get-insert (map.remove m n) n there.0 q ∙ ap (cond (eq_by_cmp nat_cmp q n) (Some there.0)) (get-remove m n q) ∙ by_tie q there.0 there.1)) in
+    let whole : m ≡ map.insert (map.remove m n) n there.0 =
+    same _ _ (λ q. sym (get-insert (map.remove m n) n there.0 q ∙ ap (cond (eq_by_cmp nat_cmp q n) (Some there.0)) (get-remove m n q) ∙ by_tie q there.0 there.1)) in
     let out : map.contains_key (map.remove m n) n ≡ false = ap is_some (get-remove m n n ∙ ap (λ b. cond b None (map.get m n)) (tie_itself n)) in
     ap map.len whole ∙ map.len-insert nat_cmp_total (map.remove m n) n there.0 ∙ ap (λ b. cond b (map.len (map.remove m n)) (map.len (map.remove m n) + 1)) out
   where
@@ -85,7 +86,8 @@ map_falls {X = X} m n has =
 -- a set with n has one number more than without
 pub len_falls : (s : NumberSet) (n : ℕ) → set.contains s n ≡ true → set.len s ≡ set.len (set.remove s n) + 1
 len_falls s n has =
-    let whole : s ≡ set.insert (set.remove s n) n = same_set _ _ (λ q. sym (set.contains-insert nat_cmp_total (set.remove s n) n q ∙ ap (λ b. eq_by_cmp nat_cmp q n || b) (set.contains-remove nat_cmp_total s n q) ∙ by_tie q)) in
+    let whole : s ≡ set.insert (set.remove s n) n =
+    same_set _ _ (λ q. sym (set.contains-insert nat_cmp_total (set.remove s n) n q ∙ ap (λ b. eq_by_cmp nat_cmp q n || b) (set.contains-remove nat_cmp_total s n q) ∙ by_tie q)) in
     let out : set.contains (set.remove s n) n ≡ false = set.contains-remove nat_cmp_total s n n ∙ ap (λ b. not b && set.contains s n) (tie_itself n) in
     ap set.len whole ∙ set.len-insert nat_cmp_total (set.remove s n) n ∙ ap (λ b. cond b (set.len (set.remove s n)) (set.len (set.remove s n) + 1)) out
   where

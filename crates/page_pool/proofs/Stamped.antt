@@ -41,7 +41,8 @@ pub stamps-alike : (a b : ArchiveState) (changes changes' : ChangeMap) → ((id 
 stamps-alike a b changes changes' alike = same _ _ (λ id. get-shown b changes' id ∙ alike id ∙ sym (get-shown a changes id))
 
 -- the stamp whose map this is
-pub stamp_there : (a : ArchiveState) (changes : ChangeMap) (id : ℕ) (m : Shown) → map.get (shown_stamps a changes) id ≡ Some m → (f : ImageMap) × ((map.get a.stamps id ≡ Some f) × (shown_images a.begun changes f ≡ m))
+pub stamp_there : (a : ArchiveState) (changes : ChangeMap) (id : ℕ) (m : Shown) → map.get (shown_stamps a changes) id ≡ Some m
+    → (f : ImageMap) × ((map.get a.stamps id ≡ Some f) × (shown_images a.begun changes f ≡ m))
 stamp_there a changes id m is = by_slot (map.get a.stamps id) refl (sym (get-shown a changes id) ∙ is)
   where
     by_slot : (o : Option ImageMap) → map.get a.stamps id ≡ o → shown_slot a changes id ≡ Some m → (f : ImageMap) × ((map.get a.stamps id ≡ Some f) × (shown_images a.begun changes f ≡ m))

@@ -21,15 +21,19 @@ use Rattle.page_pool.proofs.Bounds.{put_places, freed_places}
 pub stamps_frozen : (a : ArchiveState) (changes changes' : ChangeMap) → ((id : ℕ) (f : ImageMap) → map.get a.stamps id ≡ Some f → f.at < a.begun) → shown_stamps a changes' ≡ shown_stamps a changes
 stamps_frozen a changes changes' early = stamps-alike a a changes changes' (λ id. by_slot id (map.get a.stamps id) refl)
   where
-    by_slot : (id : ℕ) (o : Option ImageMap) → map.get a.stamps id ≡ o → option_map (shown_images a.begun changes') (map.get a.stamps id) ≡ option_map (shown_images a.begun changes) (map.get a.stamps id)
+    by_slot : (id : ℕ) (o : Option ImageMap) → map.get a.stamps id ≡ o → option_map (shown_images a.begun changes') (map.get a.stamps id)
+        ≡ option_map (shown_images a.begun changes) (map.get a.stamps id)
     by_slot id None is = ap (option_map (shown_images a.begun changes')) is ∙ sym (ap (option_map (shown_images a.begun changes)) is)
     by_slot id (Some f) is =
         let before : nat_lt f.at a.begun ≡ true = lt_to f.at a.begun (early id f is) in
-        ap (option_map (shown_images a.begun changes')) is ∙ ap (λ m. Some m) (shown-early a.begun changes' f before ∙ sym (shown-early a.begun changes f before)) ∙ sym (ap (option_map (shown_images a.begun changes)) is)
+        ap (option_map (shown_images a.begun changes')) is ∙ ap (λ m. Some m) (shown-early a.begun changes' f before ∙ sym (shown-early a.begun changes f before))
+        ∙ sym (ap (option_map (shown_images a.begun changes)) is)
 
-module _ (a : ArchiveState) (staged staged' : StagedState) (frames : CacheState) (numbers : NumbersState) (is_open : Bool) (gets refused : ℕ) (opened : is_open ≡ true) (whole : IsWhole a staged.changes frames numbers is_open) where
+module _ (a : ArchiveState) (staged staged' : StagedState) (frames : CacheState) (numbers : NumbersState) (is_open : Bool) (gets refused : ℕ) (opened : is_open ≡ true)
+    (whole : IsWhole a staged.changes frames numbers is_open) where
   -- a staged page
-  pub puts_state : (n : ℕ) (page : List ℕ) → staged'.changes ≡ map.insert staged.changes n (Some page) → map.contains_key (overlaid staged.changes a.pages) n ≡ true → is_gone (map.get staged.changes n) ≡ false
+  pub puts_state : (n : ℕ) (page : List ℕ) → staged'.changes ≡ map.insert staged.changes n (Some page) → map.contains_key (overlaid staged.changes a.pages) n ≡ true
+      → is_gone (map.get staged.changes n) ≡ false
       → Puts (state_of a staged frames numbers is_open gets refused) (state_of a staged' frames numbers is_open gets refused) n page
   puts_state n page is live there = record {
     changes = record {
@@ -112,7 +116,8 @@ allocates_state a staged staged' frames numbers taken is_open gets refused n ope
     at false h = tt
 
 -- the changes are dropped, and the numbers are those of the beginning
-pub aborts_state : (a : ArchiveState) (staged staged' : StagedState) (frames : CacheState) (numbers numbers' : NumbersState) (is_open : Bool) (gets refused : ℕ) → is_open ≡ true → IsWhole a staged.changes frames numbers is_open
+pub aborts_state : (a : ArchiveState) (staged staged' : StagedState) (frames : CacheState) (numbers numbers' : NumbersState) (is_open : Bool) (gets refused : ℕ)
+    → is_open ≡ true → IsWhole a staged.changes frames numbers is_open
     → staged'.changes ≡ map.empty → Aborts (state_of a staged frames numbers is_open gets refused) (state_of a staged' frames numbers' false gets refused)
 aborts_state a staged staged' frames numbers numbers' is_open gets refused opened whole is = record {
   pages = at is_open;

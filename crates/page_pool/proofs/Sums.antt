@@ -43,7 +43,8 @@ slots_within a changes (suc k) archive =
 pub few_kept_images : (a : ArchiveState) (changes : ChangeMap) → IsArchive a → a.seen + set.len (staged_shared a.shared changes) ≤ map_sizes (shown_stamps a changes) 16
 unfolding frozen_sizes
 few_kept_images a changes archive =
-    let inside : set.len (staged_shared a.shared changes) ≤ set.len a.shared = no_larger (staged_shared a.shared changes) a.shared (λ q has. first (set.contains a.shared q) (map.contains_key changes q) (sym (contains-shared a.shared changes q) ∙ has)) in
+    let inside : set.len (staged_shared a.shared changes) ≤ set.len a.shared =
+    no_larger (staged_shared a.shared changes) a.shared (λ q has. first (set.contains a.shared q) (map.contains_key changes q) (sym (contains-shared a.shared changes q) ∙ has)) in
     let few : a.seen + set.len a.shared ≤ slot_sizes a 16 = archive.few in
     let all : slot_sizes a 16 ≤ map_sizes (shown_stamps a changes) 16 = slots_within a changes 16 archive in
     omega arith
@@ -55,7 +56,8 @@ few_kept_images a changes archive =
 slot_low : (a : ArchiveState) (changes : ChangeMap) (id : ℕ) → IsArchive a → map.contains_key (shown_stamps a changes) id ≡ true → id < 16
 slot_low a changes id archive held = let there = some_is (map.get a.stamps id) (sym (held-shown a changes id) ∙ held) in (archive.early id there.0 there.1).0
 
-pub is_pool : (a : ArchiveState) (staged : StagedState) (frames : CacheState) (numbers : NumbersState) (is_open : Bool) (gets refused : ℕ) → IsWhole a staged.changes frames numbers is_open → frames.count ≤ frames.most → staged.count ≤ set.len (dirty_of staged.changes) → IsPool (state_of a staged frames numbers is_open gets refused)
+pub is_pool : (a : ArchiveState) (staged : StagedState) (frames : CacheState) (numbers : NumbersState) (is_open : Bool) (gets refused : ℕ)
+    → IsWhole a staged.changes frames numbers is_open → frames.count ≤ frames.most → staged.count ≤ set.len (dirty_of staged.changes) → IsPool (state_of a staged frames numbers is_open gets refused)
 is_pool a staged frames numbers is_open gets refused whole few_frames few_staged = record {
   slots = λ id held. slot_low a staged.changes id whole.archived held;
   least = omega arith;

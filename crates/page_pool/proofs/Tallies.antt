@@ -31,7 +31,8 @@ set_tally test (n ∷ ns) = by_tests (test n) refl (is_in n ns) refl (set_tally 
     by_tests : (t : Bool) → test n ≡ t → (b : Bool) → is_in n ns ≡ b → set.len (numbers_where test ns) ≡ tally test ns
         → set.len (cond (test n) (set.insert (numbers_where test ns) n) (numbers_where test ns)) ≡ cond (is_in n ns) 0 (cond (test n) 1 0) + tally test ns
     by_tests false is b there rest =
-        let left : set.len (cond (test n) (set.insert (numbers_where test ns) n) (numbers_where test ns)) ≡ set.len (numbers_where test ns) = ap (λ t. set.len (cond t (set.insert (numbers_where test ns) n) (numbers_where test ns))) is in
+        let left : set.len (cond (test n) (set.insert (numbers_where test ns) n) (numbers_where test ns)) ≡ set.len (numbers_where test ns) =
+        ap (λ t. set.len (cond t (set.insert (numbers_where test ns) n) (numbers_where test ns))) is in
         let right : cond {A = ℕ} (is_in n ns) 0 (cond (test n) 1 0) ≡ 0 = ap (λ t. cond {A = ℕ} (is_in n ns) 0 (cond t 1 0)) is ∙ nothing (is_in n ns) in omega arith
       where
         nothing : (b : Bool) → cond {A = ℕ} b 0 0 ≡ 0
@@ -44,7 +45,8 @@ set_tally test (n ∷ ns) = by_tests (test n) refl (is_in n ns) refl (set_tally 
         let right : cond {A = ℕ} (is_in n ns) 0 (cond (test n) 1 0) ≡ cond {A = ℕ} b 0 1 = (λ i. cond {A = ℕ} (there i) 0 (cond (is i) 1 0)) in
         by_place b left right
       where
-        all_true : (b : Bool) → cond {A = ℕ} (b && true) (set.len (numbers_where test ns)) (set.len (numbers_where test ns) + 1) ≡ cond b (set.len (numbers_where test ns)) (set.len (numbers_where test ns) + 1)
+        all_true : (b : Bool) → cond {A = ℕ} (b && true) (set.len (numbers_where test ns)) (set.len (numbers_where test ns) + 1)
+            ≡ cond b (set.len (numbers_where test ns)) (set.len (numbers_where test ns) + 1)
         all_true true = refl
         all_true false = refl
 
@@ -78,7 +80,8 @@ slots_one f (suc k) id low = elim (cases_eq id k) [
     below id k low other = omega arith
 
 -- what passes passes for some slot, so the tallies of the slots are no less
-pub tally_slots : (k : ℕ) (test : ℕ → Bool) (by_slot : ℕ → ℕ → Bool) (ns : List ℕ) → ((n : ℕ) → test n ≡ true → (id : ℕ) × ((id < k) × (by_slot id n ≡ true))) → tally test ns ≤ over_slots (λ id. tally (by_slot id) ns) k
+pub tally_slots : (k : ℕ) (test : ℕ → Bool) (by_slot : ℕ → ℕ → Bool) (ns : List ℕ) → ((n : ℕ) → test n ≡ true → (id : ℕ) × ((id < k) × (by_slot id n ≡ true)))
+    → tally test ns ≤ over_slots (λ id. tally (by_slot id) ns) k
 tally_slots k test by_slot [] some = omega arith
 tally_slots k test by_slot (n ∷ ns) some = step (tally_slots k test by_slot ns some)
   where
@@ -113,7 +116,8 @@ module _ {X : Type 0} (test : ℕ → Bool) (number : ℕ → ℕ) where
   drained (n ∷ ns) m = cond (test n) (map.remove (drained ns m) (number n)) (drained ns m)
 
   -- the other numbers are left
-  pub drained_keeps : (ns : List ℕ) (m : map.FinMap nat_cmp X) (q : ℕ) → map.contains_key m q ≡ true → ((n : ℕ) → is_in n ns ≡ true → test n ≡ true → number n ≢ q) → map.contains_key (drained ns m) q ≡ true
+  pub drained_keeps : (ns : List ℕ) (m : map.FinMap nat_cmp X) (q : ℕ) → map.contains_key m q ≡ true → ((n : ℕ) → is_in n ns ≡ true → test n ≡ true → number n ≢ q)
+      → map.contains_key (drained ns m) q ≡ true
   drained_keeps [] m q there other = there
   drained_keeps (n ∷ ns) m q there other = by_test (test n) refl (drained_keeps ns m q there (λ k later. other k (or_right_true (eq_by_cmp nat_cmp k n) (is_in k ns) later)))
     where
@@ -130,7 +134,8 @@ module _ {X : Type 0} (test : ℕ → Bool) (number : ℕ → ℕ) where
           itself n = ap (λ b. b || is_in n ns) (tie_itself n)
 
   -- what passes has numbers of its own in the map, so the tally and the rest are no more than the map
-  pub drain : (ns : List ℕ) (m : map.FinMap nat_cmp X) → ((n : ℕ) → test n ≡ true → map.contains_key m (number n) ≡ true) → ((n k : ℕ) → test n ≡ true → test k ≡ true → number n ≡ number k → n ≡ k) → tally test ns + map.len (drained ns m) ≤ map.len m
+  pub drain : (ns : List ℕ) (m : map.FinMap nat_cmp X) → ((n : ℕ) → test n ≡ true → map.contains_key m (number n) ≡ true)
+      → ((n k : ℕ) → test n ≡ true → test k ≡ true → number n ≡ number k → n ≡ k) → tally test ns + map.len (drained ns m) ≤ map.len m
   drain [] m has apart = omega arith
   drain (n ∷ ns) m has apart = by_tests (test n) refl (is_in n ns) refl (drain ns m has apart)
     where
@@ -140,25 +145,30 @@ module _ {X : Type 0} (test : ℕ → Bool) (number : ℕ → ℕ) where
       size : map.len (map.remove (drained ns m) (number n)) ≡ cond (map.contains_key (drained ns m) (number n)) (map.len (drained ns m) - 1) (map.len (drained ns m))
       size = map.len-remove nat_cmp_total (drained ns m) (number n)
 
-      by_tests : (t : Bool) → test n ≡ t → (b : Bool) → is_in n ns ≡ b → tally test ns + map.len (drained ns m) ≤ map.len m → one test n ns + tally test ns + map.len (cond (test n) (map.remove (drained ns m) (number n)) (drained ns m)) ≤ map.len m
+      by_tests : (t : Bool) → test n ≡ t → (b : Bool) → is_in n ns ≡ b → tally test ns + map.len (drained ns m) ≤ map.len m
+          → one test n ns + tally test ns + map.len (cond (test n) (map.remove (drained ns m) (number n)) (drained ns m)) ≤ map.len m
       by_tests false is b there rest =
           let left : one test n ns ≡ 0 = ap (λ t. cond {A = ℕ} (is_in n ns) 0 (cond t 1 0)) is ∙ nothing (is_in n ns) in
-          let right : map.len (cond (test n) (map.remove (drained ns m) (number n)) (drained ns m)) ≡ map.len (drained ns m) = ap (λ t. map.len (cond t (map.remove (drained ns m) (number n)) (drained ns m))) is in omega arith
+          let right : map.len (cond (test n) (map.remove (drained ns m) (number n)) (drained ns m)) ≡ map.len (drained ns m) =
+          ap (λ t. map.len (cond t (map.remove (drained ns m) (number n)) (drained ns m))) is in omega arith
         where
           nothing : (b : Bool) → cond {A = ℕ} b 0 0 ≡ 0
           nothing true = refl
           nothing false = refl
       by_tests true is true there rest =
           let left : one test n ns ≡ 0 = ap (λ b. cond {A = ℕ} b 0 (cond (test n) 1 0)) there in
-          let right : map.len (cond (test n) (map.remove (drained ns m) (number n)) (drained ns m)) ≡ map.len (map.remove (drained ns m) (number n)) = ap (λ t. map.len (cond t (map.remove (drained ns m) (number n)) (drained ns m))) is in
+          let right : map.len (cond (test n) (map.remove (drained ns m) (number n)) (drained ns m)) ≡ map.len (map.remove (drained ns m) (number n)) =
+          ap (λ t. map.len (cond t (map.remove (drained ns m) (number n)) (drained ns m))) is in
           let less = shorter (map.contains_key (drained ns m) (number n)) size in omega arith
         where
-          shorter : (b : Bool) → map.len (map.remove (drained ns m) (number n)) ≡ cond b (map.len (drained ns m) - 1) (map.len (drained ns m)) → map.len (map.remove (drained ns m) (number n)) ≤ map.len (drained ns m)
+          shorter : (b : Bool) → map.len (map.remove (drained ns m) (number n)) ≡ cond b (map.len (drained ns m) - 1) (map.len (drained ns m))
+              → map.len (map.remove (drained ns m) (number n)) ≤ map.len (drained ns m)
           shorter true h = omega arith
           shorter false h = omega arith
       by_tests true is false there rest =
           let left : one test n ns ≡ 1 = (λ i. cond {A = ℕ} (there i) 0 (cond (is i) 1 0)) in
-          let right : map.len (cond (test n) (map.remove (drained ns m) (number n)) (drained ns m)) ≡ map.len (map.remove (drained ns m) (number n)) = ap (λ t. map.len (cond t (map.remove (drained ns m) (number n)) (drained ns m))) is in
+          let right : map.len (cond (test n) (map.remove (drained ns m) (number n)) (drained ns m)) ≡ map.len (map.remove (drained ns m) (number n)) =
+          ap (λ t. map.len (cond t (map.remove (drained ns m) (number n)) (drained ns m))) is in
           let less : map.len (map.remove (drained ns m) (number n)) ≡ map.len (drained ns m) - 1 = size ∙ ap (λ b. cond b (map.len (drained ns m) - 1) (map.len (drained ns m))) (fresh is there) in
           let some = some_left (drained ns m) (number n) (fresh is there) in omega arith
         where
@@ -184,22 +194,32 @@ fewer_where p q (n ∷ ns) harder = by_tests (p n) refl (q n) refl (is_in n ns) 
         → set.len (cond (p n) (set.insert (numbers_where p ns) n) (numbers_where p ns)) ≤ set.len (cond (q n) (set.insert (numbers_where q ns) n) (numbers_where q ns))
     by_tests true a false b c is_c less = absurd (true≢false (sym (harder n a) ∙ b))
     by_tests true a true b true c less =
-        let left : set.len (cond (p n) (set.insert (numbers_where p ns) n) (numbers_where p ns)) ≡ set.len (numbers_where p ns) = ap (λ t. set.len (cond t (set.insert (numbers_where p ns) n) (numbers_where p ns))) a ∙ grown p true true a c in
-        let right : set.len (cond (q n) (set.insert (numbers_where q ns) n) (numbers_where q ns)) ≡ set.len (numbers_where q ns) = ap (λ t. set.len (cond t (set.insert (numbers_where q ns) n) (numbers_where q ns))) b ∙ grown q true true b c in
+        let left : set.len (cond (p n) (set.insert (numbers_where p ns) n) (numbers_where p ns)) ≡ set.len (numbers_where p ns) =
+        ap (λ t. set.len (cond t (set.insert (numbers_where p ns) n) (numbers_where p ns))) a ∙ grown p true true a c in
+        let right : set.len (cond (q n) (set.insert (numbers_where q ns) n) (numbers_where q ns)) ≡ set.len (numbers_where q ns) =
+        ap (λ t. set.len (cond t (set.insert (numbers_where q ns) n) (numbers_where q ns))) b ∙ grown q true true b c in
         omega arith
     by_tests true a true b false c less =
-        let left : set.len (cond (p n) (set.insert (numbers_where p ns) n) (numbers_where p ns)) ≡ set.len (numbers_where p ns) + 1 = ap (λ t. set.len (cond t (set.insert (numbers_where p ns) n) (numbers_where p ns))) a ∙ grown p true false a c in
-        let right : set.len (cond (q n) (set.insert (numbers_where q ns) n) (numbers_where q ns)) ≡ set.len (numbers_where q ns) + 1 = ap (λ t. set.len (cond t (set.insert (numbers_where q ns) n) (numbers_where q ns))) b ∙ grown q true false b c in
+        let left : set.len (cond (p n) (set.insert (numbers_where p ns) n) (numbers_where p ns)) ≡ set.len (numbers_where p ns) + 1 =
+        ap (λ t. set.len (cond t (set.insert (numbers_where p ns) n) (numbers_where p ns))) a ∙ grown p true false a c in
+        let right : set.len (cond (q n) (set.insert (numbers_where q ns) n) (numbers_where q ns)) ≡ set.len (numbers_where q ns) + 1 =
+        ap (λ t. set.len (cond t (set.insert (numbers_where q ns) n) (numbers_where q ns))) b ∙ grown q true false b c in
         omega arith
     by_tests false a false b c is_c less =
-        let left : set.len (cond (p n) (set.insert (numbers_where p ns) n) (numbers_where p ns)) ≡ set.len (numbers_where p ns) = ap (λ t. set.len (cond t (set.insert (numbers_where p ns) n) (numbers_where p ns))) a in
-        let right : set.len (cond (q n) (set.insert (numbers_where q ns) n) (numbers_where q ns)) ≡ set.len (numbers_where q ns) = ap (λ t. set.len (cond t (set.insert (numbers_where q ns) n) (numbers_where q ns))) b in
+        let left : set.len (cond (p n) (set.insert (numbers_where p ns) n) (numbers_where p ns)) ≡ set.len (numbers_where p ns) =
+        ap (λ t. set.len (cond t (set.insert (numbers_where p ns) n) (numbers_where p ns))) a in
+        let right : set.len (cond (q n) (set.insert (numbers_where q ns) n) (numbers_where q ns)) ≡ set.len (numbers_where q ns) =
+        ap (λ t. set.len (cond t (set.insert (numbers_where q ns) n) (numbers_where q ns))) b in
         omega arith
     by_tests false a true b true c less =
-        let left : set.len (cond (p n) (set.insert (numbers_where p ns) n) (numbers_where p ns)) ≡ set.len (numbers_where p ns) = ap (λ t. set.len (cond t (set.insert (numbers_where p ns) n) (numbers_where p ns))) a in
-        let right : set.len (cond (q n) (set.insert (numbers_where q ns) n) (numbers_where q ns)) ≡ set.len (numbers_where q ns) = ap (λ t. set.len (cond t (set.insert (numbers_where q ns) n) (numbers_where q ns))) b ∙ grown q true true b c in
+        let left : set.len (cond (p n) (set.insert (numbers_where p ns) n) (numbers_where p ns)) ≡ set.len (numbers_where p ns) =
+        ap (λ t. set.len (cond t (set.insert (numbers_where p ns) n) (numbers_where p ns))) a in
+        let right : set.len (cond (q n) (set.insert (numbers_where q ns) n) (numbers_where q ns)) ≡ set.len (numbers_where q ns) =
+        ap (λ t. set.len (cond t (set.insert (numbers_where q ns) n) (numbers_where q ns))) b ∙ grown q true true b c in
         omega arith
     by_tests false a true b false c less =
-        let left : set.len (cond (p n) (set.insert (numbers_where p ns) n) (numbers_where p ns)) ≡ set.len (numbers_where p ns) = ap (λ t. set.len (cond t (set.insert (numbers_where p ns) n) (numbers_where p ns))) a in
-        let right : set.len (cond (q n) (set.insert (numbers_where q ns) n) (numbers_where q ns)) ≡ set.len (numbers_where q ns) + 1 = ap (λ t. set.len (cond t (set.insert (numbers_where q ns) n) (numbers_where q ns))) b ∙ grown q true false b c in
+        let left : set.len (cond (p n) (set.insert (numbers_where p ns) n) (numbers_where p ns)) ≡ set.len (numbers_where p ns) =
+        ap (λ t. set.len (cond t (set.insert (numbers_where p ns) n) (numbers_where p ns))) a in
+        let right : set.len (cond (q n) (set.insert (numbers_where q ns) n) (numbers_where q ns)) ≡ set.len (numbers_where q ns) + 1 =
+        ap (λ t. set.len (cond t (set.insert (numbers_where q ns) n) (numbers_where q ns))) b ∙ grown q true false b c in
         omega arith

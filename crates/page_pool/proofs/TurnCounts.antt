@@ -65,10 +65,11 @@ module _ (s t : ImagesState) (n : ℕ) (spot : Option ℕ) (whole : IsImages s) 
     where
       by_both : (a : Option Past) → map.get t.past p ≡ a → (b : Option Past) → map.get s.past p ≡ b → is_past_seen s.held (map.get t.past p) ≡ is_past_seen s.held (map.get s.past p)
       by_both None now None before = ap (is_past_seen s.held) now ∙ sym (ap (is_past_seen s.held) before)
-      by_both None now (Some e) before = (elim (is_seen s.held e.made e.until) as (λ b. is_seen s.held e.made e.until ≡ b → is_past_seen s.held (map.get t.past p) ≡ is_past_seen s.held (map.get s.past p)) [
-        | true ↦ λ sees. absurd (none-some e (sym now ∙ seen_stays p e before sees))
-        | false ↦ λ unseen. ap (is_past_seen s.held) now ∙ sym (ap (is_past_seen s.held) before ∙ unseen)
-      ]) refl
+      by_both None now (Some e) before = (elim (is_seen s.held e.made e.until) as (λ b. is_seen s.held e.made e.until ≡ b
+          → is_past_seen s.held (map.get t.past p) ≡ is_past_seen s.held (map.get s.past p)) [
+            | true ↦ λ sees. absurd (none-some e (sym now ∙ seen_stays p e before sees))
+            | false ↦ λ unseen. ap (is_past_seen s.held) now ∙ sym (ap (is_past_seen s.held) before ∙ unseen)
+          ]) refl
       by_both (Some e) now b before = elim (turn.comes p e now).1 [
         | inl was ↦ ap (is_past_seen s.held) (now ∙ sym was)
         | inr (h, (home, (place, joined))) ↦ ap (is_past_seen s.held) (now ∙ ap (λ x. Some x) (sym joined)) ∙ unjoined h home place
@@ -81,9 +82,11 @@ module _ (s t : ImagesState) (n : ℕ) (spot : Option ℕ) (whole : IsImages s) 
       in_t : (p : ℕ) → set.contains (seen_past t) p ≡ is_past_seen s.held (map.get t.past p)
       in_t p = contains-past_seen t.held t.past p ∙ ap (λ h. is_past_seen h (map.get t.past p)) turn.held
 
-      none_joins : ((h : Home) → map.get s.homes n ≡ Some h → is_seen s.held h.made s.begun ≡ false) → set.contains (seen_homes s) n ≡ false → set.len (seen_past t) ≡ set.len (seen_past s) + cond (set.contains (seen_homes s) n) 1 0
+      none_joins : ((h : Home) → map.get s.homes n ≡ Some h → is_seen s.held h.made s.begun ≡ false) → set.contains (seen_homes s) n ≡ false
+          → set.len (seen_past t) ≡ set.len (seen_past s) + cond (set.contains (seen_homes s) n) 1 0
       none_joins unseen unshared =
-          let size : set.len (seen_past t) ≡ set.len (seen_past s) = ap set.len (same_numbers (seen_past t) (seen_past s) (λ p. in_t p ∙ past_at p (λ h home _. unseen h home) ∙ sym (contains-past_seen s.held s.past p))) in
+          let size : set.len (seen_past t) ≡ set.len (seen_past s) =
+          ap set.len (same_numbers (seen_past t) (seen_past s) (λ p. in_t p ∙ past_at p (λ h home _. unseen h home) ∙ sym (contains-past_seen s.held s.past p))) in
           let none : cond {A = ℕ} (set.contains (seen_homes s) n) 1 0 ≡ 0 = ap (λ b. cond {A = ℕ} b 1 0) unshared in
           omega arith
 
@@ -93,25 +96,30 @@ module _ (s t : ImagesState) (n : ℕ) (spot : Option ℕ) (whole : IsImages s) 
           let inside = within_life h.made s.begun by.1.0 by.1.1.1 in
           let away : spot ≢ Some h.place = spot_unseen s t n spot whole turn by.0 by.1.0 n h.place by.1.1.0 inside.1 (inl (h, (home, (inside.0, refl)))) in
           let joined : map.get t.past h.place ≡ Some (replaced n h s.begun) = turn.joins h home away in
-          let grown : seen_past t ≡ set.insert (seen_past s) h.place = same_numbers (seen_past t) (set.insert (seen_past s) h.place) (λ p. in_t p ∙ at_place joined p (cases_eq p h.place) ∙ sym (set.contains-insert nat_cmp_total (seen_past s) h.place p)) in
+          let grown : seen_past t ≡ set.insert (seen_past s) h.place =
+          same_numbers (seen_past t) (set.insert (seen_past s) h.place) (λ p. in_t p ∙ at_place joined p (cases_eq p h.place) ∙ sym (set.contains-insert nat_cmp_total (seen_past s) h.place p)) in
           let fresh : set.contains (seen_past s) h.place ≡ false = contains-past_seen s.held s.past h.place ∙ ap (is_past_seen s.held) (whole.apart n h home) in
-          let size : set.len (seen_past t) ≡ set.len (seen_past s) + 1 = ap set.len grown ∙ set.len-insert nat_cmp_total (seen_past s) h.place ∙ ap (λ b. cond b (set.len (seen_past s)) (set.len (seen_past s) + 1)) fresh in
+          let size : set.len (seen_past t) ≡ set.len (seen_past s) + 1 = ap set.len grown ∙ set.len-insert nat_cmp_total (seen_past s) h.place
+          ∙ ap (λ b. cond b (set.len (seen_past s)) (set.len (seen_past s) + 1)) fresh in
           let shared : cond {A = ℕ} (set.contains (seen_homes s) n) 1 0 ≡ 1 = ap (λ b. cond {A = ℕ} b 1 0) (contains-seen_homes s n ∙ ap (is_home_seen s.held s.begun) home ∙ sees) in
           omega arith
         where
-          at_place : map.get t.past h.place ≡ Some (replaced n h s.begun) → (p : ℕ) → (p ≡ h.place) ⊎ (p ≡ h.place → ⊥) → is_past_seen s.held (map.get t.past p) ≡ (eq_by_cmp nat_cmp p h.place || set.contains (seen_past s) p)
-          at_place joined p (inl is) = ap (λ k. is_past_seen s.held (map.get t.past k)) is ∙ ap (is_past_seen s.held) joined ∙ sees ∙ sym (ap (λ b. b || set.contains (seen_past s) p) (ap (λ k. eq_by_cmp nat_cmp k h.place) is ∙ tie_itself h.place))
+          at_place : map.get t.past h.place ≡ Some (replaced n h s.begun) → (p : ℕ) → (p ≡ h.place) ⊎ (p ≡ h.place → ⊥)
+              → is_past_seen s.held (map.get t.past p) ≡ (eq_by_cmp nat_cmp p h.place || set.contains (seen_past s) p)
+          at_place joined p (inl is) = ap (λ k. is_past_seen s.held (map.get t.past k)) is ∙ ap (is_past_seen s.held) joined ∙ sees
+              ∙ sym (ap (λ b. b || set.contains (seen_past s) p) (ap (λ k. eq_by_cmp nat_cmp k h.place) is ∙ tie_itself h.place))
           at_place joined p (inr apart) = past_at p (λ k at_n here. absurd (apart (sym here ∙ ap (λ x. x.place) (same_Some k h (sym at_n ∙ home)))))
               ∙ sym (contains-past_seen s.held s.past p) ∙ sym (ap (λ b. b || set.contains (seen_past s) p) (tie_apart p h.place apart))
 
       by_home : (o : Option Home) → map.get s.homes n ≡ o → set.len (seen_past t) ≡ set.len (seen_past s) + cond (set.contains (seen_homes s) n) 1 0
       by_home None none = none_joins (λ h home. absurd (none-some h (sym none ∙ home))) (contains-seen_homes s n ∙ ap (is_home_seen s.held s.begun) none)
-      by_home (Some h) home = (elim (is_seen s.held h.made s.begun) as (λ b. is_seen s.held h.made s.begun ≡ b → set.len (seen_past t) ≡ set.len (seen_past s) + cond (set.contains (seen_homes s) n) 1 0) [
-        | true ↦ λ sees. one_joins h home sees
-        | false ↦ λ unseen. none_joins
-            (λ k at_n. ap (λ x. is_seen s.held x.made s.begun) (same_Some k h (sym at_n ∙ home)) ∙ unseen)
-            (contains-seen_homes s n ∙ ap (is_home_seen s.held s.begun) home ∙ unseen)
-      ]) refl
+      by_home (Some h) home = (elim (is_seen s.held h.made s.begun) as (λ b. is_seen s.held h.made s.begun ≡ b
+          → set.len (seen_past t) ≡ set.len (seen_past s) + cond (set.contains (seen_homes s) n) 1 0) [
+            | true ↦ λ sees. one_joins h home sees
+            | false ↦ λ unseen. none_joins
+                (λ k at_n. ap (λ x. is_seen s.held x.made s.begun) (same_Some k h (sym at_n ∙ home)) ∙ unseen)
+                (contains-seen_homes s n ∙ ap (is_home_seen s.held s.begun) home ∙ unseen)
+          ]) refl
 
   pub changes_image : ChangesImage s t n
   changes_image = record {

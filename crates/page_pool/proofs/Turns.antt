@@ -76,7 +76,8 @@ module _ (s t : ImagesState) (n : ℕ) (spot : Option ℕ) (whole : IsImages s) 
   alone p q at e f is_e is_f same life_e life_f = by_both (turn.comes p e is_e).1 (turn.comes q f is_f).1
     where
       -- an image of before and the one that joined have no moment in common
-      apart_in_time : (p : ℕ) (e f : Past) (h : Home) → map.get s.past p ≡ Some e → map.get s.homes n ≡ Some h → replaced n h s.begun ≡ f → e.number ≡ f.number → was_newest e.made e.until at ≡ true → was_newest f.made f.until at ≡ true → ⊥
+      apart_in_time : (p : ℕ) (e f : Past) (h : Home) → map.get s.past p ≡ Some e → map.get s.homes n ≡ Some h → replaced n h s.begun ≡ f → e.number ≡ f.number
+          → was_newest e.made e.until at ≡ true → was_newest f.made f.until at ≡ true → ⊥
       apart_in_time p e f h before home joined same life_e life_f =
           let last : e.until ≤ h.made = whole.behind n p h e home before (same ∙ ap (λ x. x.number) (sym joined)) in
           let made : h.made ≡ f.made = ap (λ x. x.made) joined in

@@ -61,7 +61,8 @@ latest_shown a staged frames numbers is_open gets refused slot archive held late
     let f = some_is (map.get a.stamps slot) (sym (held-shown a staged.changes slot) ∙ held) in
     let not_early : nat_lt f.0.at a.begun ≡ false = sym (ap (λ o. option_map_or (λ f. nat_lt f.at a.begun) o false) f.1) ∙ late in
     let same : f.0 ≡ newest_images a = archive.latest slot f.0 f.1 (at_end f.0.at a.begun not_early (archive.early slot f.0 f.1).1) in
-    get-shown a staged.changes slot ∙ ap (option_map (shown_images a.begun staged.changes)) f.1 ∙ ap (λ m. Some m) (shown-late a.begun staged.changes f.0 not_early ∙ ap (shown_live staged.changes) same)
+    get-shown a staged.changes slot ∙ ap (option_map (shown_images a.begun staged.changes)) f.1
+    ∙ ap (λ m. Some m) (shown-late a.begun staged.changes f.0 not_early ∙ ap (shown_live staged.changes) same)
 
 -- a stamp of an earlier command, by the test
 pub older_is : (a : ArchiveState) (slot : ℕ) → option_map_or (λ f. nat_lt f.at a.begun) (map.get a.stamps slot) false ≡ true → (f : ImageMap) × ((map.get a.stamps slot ≡ Some f) × (f.at < a.begun))
@@ -71,13 +72,15 @@ older_is a slot older = by_slot (map.get a.stamps slot) refl older
     by_slot None is h = absurd (true≢false (sym h))
     by_slot (Some f) is h = (f, (is, lt_is f.at a.begun h))
 
-module _ (a : ArchiveState) (staged : StagedState) (frames : CacheState) (numbers : NumbersState) (is_open : Bool) (gets refused slot n : ℕ) (f : ImageMap) (held : map.get a.stamps slot ≡ Some f) (early : f.at < a.begun) where
+module _ (a : ArchiveState) (staged : StagedState) (frames : CacheState) (numbers : NumbersState) (is_open : Bool) (gets refused slot n : ℕ) (f : ImageMap)
+    (held : map.get a.stamps slot ≡ Some f) (early : f.at < a.begun) where
   abbrev state : PoolState
   state = state_of a staged frames numbers is_open gets refused
 
   -- a stamp of an earlier command shows its images
   pub older_shown : seen_at (state_of a staged frames numbers is_open gets refused) slot ≡ showing (state_of a staged frames numbers is_open gets refused) (shown_frozen f)
-  older_shown = seen_is state slot (shown_frozen f) (get-shown a staged.changes slot ∙ ap (option_map (shown_images a.begun staged.changes)) held ∙ ap (λ m. Some m) (shown-early a.begun staged.changes f (lt_to f.at a.begun early)))
+  older_shown = seen_is state slot (shown_frozen f) (get-shown a staged.changes slot ∙ ap (option_map (shown_images a.begun staged.changes)) held
+      ∙ ap (λ m. Some m) (shown-early a.begun staged.changes f (lt_to f.at a.begun early)))
 
   -- its images are its pages
   pub older_page : (page : List ℕ) → IsImageOf a.disk.told f.pages f.kept n page → IsPage (seen_at (state_of a staged frames numbers is_open gets refused) slot) n page
@@ -92,14 +95,17 @@ module _ (a : ArchiveState) (staged : StagedState) (frames : CacheState) (number
   older_live archive = ap (λ s. map.contains_key s.pages n) older_shown ∙ imaged_kept a f (archive.maps slot f held) n (archive.stands slot f (held, early) n)
 
   -- and it has one where it lies at a place
-  pub older_place_live : IsArchive a → map.contains_key (seen_at (state_of a staged frames numbers is_open gets refused) slot).pages n ≡ is_some (option_and_then (λ g. map.get g.places n) (map.get a.stamps slot))
+  pub older_place_live : IsArchive a → map.contains_key (seen_at (state_of a staged frames numbers is_open gets refused) slot).pages n
+      ≡ is_some (option_and_then (λ g. map.get g.places n) (map.get a.stamps slot))
   older_place_live archive = older_live archive ∙ (archive.maps slot f held).keys n ∙ ap (λ o. is_some (option_and_then (λ g. map.get g.places n) o)) (sym held)
 
 -- an image that lies at a place, newest or replaced, came into a frame at most
 module _ (a b : ArchiveState) (changes : ChangeMap) (frames frames' : CacheState) (numbers : NumbersState) (is_open : Bool) (slot n place : ℕ) (f : ImageMap) (is_newest : Bool)
-    (held : map.get a.stamps slot ≡ Some f) (lies : map.get f.places n ≡ Some place) (there : is_newest ≡ true → map.get a.places n ≡ Some place) (elsewhere : is_newest ≡ false → map.get a.places n ≢ Some place) where
+    (held : map.get a.stamps slot ≡ Some f) (lies : map.get f.places n ≡ Some place) (there : is_newest ≡ true → map.get a.places n ≡ Some place)
+    (elsewhere : is_newest ≡ false → map.get a.places n ≢ Some place) where
   -- the image that is seen is what the frame has
-  pub image_framed : IsFrozen a slot f → IsWhole a changes frames numbers is_open → (page : List ℕ) → cond is_newest (map.get frames.newest n) (map.get frames.past place) ≡ Some page → IsImageOf a.disk.told f.pages f.kept n page
+  pub image_framed : IsFrozen a slot f → IsWhole a changes frames numbers is_open → (page : List ℕ)
+      → cond is_newest (map.get frames.newest n) (map.get frames.past place) ≡ Some page → IsImageOf a.disk.told f.pages f.kept n page
   image_framed frozen w page is = (elim is_newest as (λ t. is_newest ≡ t → cond t (map.get frames.newest n) (map.get frames.past place) ≡ Some page → IsImageOf a.disk.told f.pages f.kept n page) [
     | true ↦ λ t e. let same = w.archived.newest slot f held n n place lies (there t) in let now = w.newest n page e in (same.1.0 ∙ now.0, λ tells. same.1.1 ∙ now.1 tells)
     | false ↦ λ t e. w.past slot f frozen n place page lies e

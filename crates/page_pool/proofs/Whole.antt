@@ -81,7 +81,8 @@ module _ (a : ArchiveState) (changes : ChangeMap) (frames : CacheState) (numbers
   live_staged n c is = ap is_some (get-overlaid changes a.pages n ∙ ap (λ x. unwrap_or x (map.get a.pages n)) is)
 
 -- one more change of a page that is live, while a command is open
-pub whole-changed : (a : ArchiveState) (changes : ChangeMap) (frames : CacheState) (numbers : NumbersState) (is_open : Bool) (n : ℕ) (change : Option (List ℕ)) → is_open ≡ true → is_used changes a.kept n ≡ true
+pub whole-changed : (a : ArchiveState) (changes : ChangeMap) (frames : CacheState) (numbers : NumbersState) (is_open : Bool) (n : ℕ) (change : Option (List ℕ))
+    → is_open ≡ true → is_used changes a.kept n ≡ true
     → IsWhole a changes frames numbers is_open → IsWhole a (map.insert changes n change) frames numbers is_open
 whole-changed a changes frames numbers is_open n change opened used w = record {
   archived = w.archived;
@@ -95,7 +96,8 @@ whole-changed a changes frames numbers is_open n change opened used w = record {
 }
 
 -- one more page under a number that is taken
-pub whole-taken : (a : ArchiveState) (changes : ChangeMap) (frames : CacheState) (numbers taken : NumbersState) (is_open : Bool) (n : ℕ) (change : Option (List ℕ)) → is_open ≡ true → Takes numbers taken n
+pub whole-taken : (a : ArchiveState) (changes : ChangeMap) (frames : CacheState) (numbers taken : NumbersState) (is_open : Bool) (n : ℕ) (change : Option (List ℕ))
+    → is_open ≡ true → Takes numbers taken n
     → IsWhole a changes frames numbers is_open → IsWhole a (map.insert changes n change) frames taken is_open
 whole-taken a changes frames numbers taken is_open n change opened takes w = record {
   archived = w.archived;
@@ -104,7 +106,8 @@ whole-taken a changes frames numbers taken is_open n change opened takes w = rec
   past = w.past;
   replaced = w.replaced;
   numbers_now = account-taken (is_used changes a.kept) (is_used (map.insert changes n change) a.kept) numbers taken n (used-insert changes a.kept n change) w.numbers_now takes;
-  numbers_before = λ is. subst (λ top. IsAccount (λ q. map.contains_key a.kept q) top taken.past_spare) (sym takes.past_top) (subst (IsAccount (λ q. map.contains_key a.kept q) numbers.past_top) (sym takes.past_spare) (w.numbers_before is));
+  numbers_before = λ is. subst (λ top. IsAccount (λ q. map.contains_key a.kept q) top taken.past_spare) (sym takes.past_top)
+      (subst (IsAccount (λ q. map.contains_key a.kept q) numbers.past_top) (sym takes.past_spare) (w.numbers_before is));
   early = w.early;
 }
 
@@ -126,7 +129,8 @@ whole-aborted a changes changes' frames numbers numbers' is_open opened dropped 
 }
 
 -- the changes of an open command are settled
-pub whole-committed : (a : ArchiveState) (changes : ChangeMap) (frames : CacheState) (numbers numbers' : NumbersState) (is_open : Bool) → is_open ≡ true → numbers'.top ≡ numbers.top → numbers'.spare ≡ numbers.spare
+pub whole-committed : (a : ArchiveState) (changes : ChangeMap) (frames : CacheState) (numbers numbers' : NumbersState) (is_open : Bool) → is_open ≡ true
+    → numbers'.top ≡ numbers.top → numbers'.spare ≡ numbers.spare
     → IsWhole a changes frames numbers is_open → IsWhole a changes frames numbers' false
 whole-committed a changes frames numbers numbers' is_open opened top spare w = record {
   archived = w.archived;
@@ -140,7 +144,8 @@ whole-committed a changes frames numbers numbers' is_open opened top spare w = r
 }
 
 -- nothing is there yet
-pub whole-new : (a : ArchiveState) (changes : ChangeMap) (frames : CacheState) (numbers : NumbersState) → IsArchive a → a ≡ new_archive a.disk → changes ≡ map.empty → frames.newest ≡ map.empty → frames.past ≡ map.empty
+pub whole-new : (a : ArchiveState) (changes : ChangeMap) (frames : CacheState) (numbers : NumbersState) → IsArchive a → a ≡ new_archive a.disk → changes ≡ map.empty
+    → frames.newest ≡ map.empty → frames.past ≡ map.empty
     → numbers.top ≡ 0 → numbers.spare ≡ set.empty → IsWhole a changes frames numbers false
 whole-new a changes frames numbers archive new unchanged free free_past top spare = record {
   archived = archive;
@@ -149,7 +154,8 @@ whole-new a changes frames numbers archive new unchanged free free_past top spar
   past = λ id f frozen q place page is there. no_entry frames.past free_past place page there _;
   replaced = λ q place page is there. no_entry frames.past free_past place page there ⊥;
   numbers_now = subst (λ n. IsAccount (is_used changes a.kept) n numbers.spare) (sym top) (subst (IsAccount (is_used changes a.kept) 0) (sym spare)
-      (account-none (is_used changes a.kept) (λ q. (λ i. map.contains_key (unchanged i) q || map.contains_key (new i).kept q) ∙ (λ i. is_some {T = Option (List ℕ)} (map.get-empty nat_cmp q i) || is_some {T = List ℕ} (map.get-empty nat_cmp q i)))));
+      (account-none (is_used changes a.kept) (λ q. (λ i. map.contains_key (unchanged i) q || map.contains_key (new i).kept q)
+      ∙ (λ i. is_some {T = Option (List ℕ)} (map.get-empty nat_cmp q i) || is_some {T = List ℕ} (map.get-empty nat_cmp q i)))));
   numbers_before = λ is. absurd (true≢false (sym is));
   early = λ is. absurd (true≢false (sym is));
 }

@@ -1,5 +1,6 @@
 -- Writings add up.
-use Rattle.std.proofs.Common.{◌≡◌, ◌≢◌, ◌≤◌, ◌<◌, ◌+◌, ℕ, List, Bool, true, false, ◌&&◌, ◌||◌, refl, sym, ap, subst, ◌∙◌, Option, Some, None, is_some, IsTrue, IsNone, Result, Ok, Err, ◌⊎◌, inl, inr, nat_lt, arith}
+use Rattle.std.proofs.Common.{◌≡◌, ◌≢◌, ◌≤◌, ◌<◌, ◌+◌, ℕ, List, Bool, true, false, ◌&&◌, ◌||◌, refl, sym, ap, subst, ◌∙◌, Option, Some, None, is_some, IsTrue, IsNone}
+use Rattle.std.proofs.Common.{Result, Ok, Err, ◌⊎◌, inl, inr, nat_lt, arith}
 use mathlib.Core.Bool.{true≢false}
 use Rattle.std.specs.Prelude.{⊤}
 use Rattle.std.specs.Ordering.{nat_cmp}
@@ -82,13 +83,15 @@ nothing_staged changes dirty freed q = by_change (map.get changes q) refl
     by_change (Some None) is = absurd (true≢false (sym (contains-freed changes q ∙ ap is_gone is) ∙ ap (λ s. set.contains s q) freed ∙ set.contains-empty nat_cmp q))
 
 -- a command opens where nothing waits
-pub whole-opened : (a b : ArchiveState) (changes : ChangeMap) (frames : CacheState) (numbers numbers' : NumbersState) (is_open : Bool) → ((q : ℕ) → map.get changes q ≡ None) → Advances a b → IsArchive b
+pub whole-opened : (a b : ArchiveState) (changes : ChangeMap) (frames : CacheState) (numbers numbers' : NumbersState) (is_open : Bool)
+    → ((q : ℕ) → map.get changes q ≡ None) → Advances a b → IsArchive b
     → numbers'.top ≡ numbers.top → numbers'.spare ≡ numbers.spare → numbers'.past_top ≡ numbers.top → numbers'.past_spare ≡ numbers.spare
     → IsWhole a changes frames numbers is_open → IsWhole b changes frames numbers' true
 whole-opened a b changes frames numbers numbers' is_open none advances archive top spare past_top past_spare w = record {
   archived = archive;
   stands = λ q _ digest has tells.
-      let there = w.stands q (λ _. none q) digest (ap (λ m. map.get m q) (sym advances.kept) ∙ has) (ap (λ d. d.told) (sym advances.disk) ∙ tells) in (there.0, (ap (λ m. map.get m q) advances.pages ∙ there.1.0, there.1.1));
+      let there = w.stands q (λ _. none q) digest (ap (λ m. map.get m q) (sym advances.kept) ∙ has) (ap (λ d. d.told) (sym advances.disk) ∙ tells) in
+      (there.0, (ap (λ m. map.get m q) advances.pages ∙ there.1.0, there.1.1));
   newest = λ q bytes is. moved q bytes (w.newest q bytes is);
   past = λ id f frozen q place bytes is there. stamped id f (ap (λ m. map.get m id) (sym advances.stamps) ∙ frozen.0) q place bytes is there;
   replaced = λ q place bytes is there. w.replaced q place bytes (ap (λ m. map.get m q) (sym advances.places) ∙ is) there;
@@ -107,7 +110,8 @@ whole-opened a b changes frames numbers numbers' is_open none advances archive t
     told_as = ap (λ d. d.told) advances.disk
 
     -- a stamp of the last command saw the newest images, and no replaced one lies at their places
-    stamped : (id : ℕ) (f : ImageMap) → map.get a.stamps id ≡ Some f → (q place : ℕ) (bytes : List ℕ) → map.get f.places q ≡ Some place → map.get frames.past place ≡ Some bytes → IsImageOf b.disk.told f.pages f.kept q bytes
+    stamped : (id : ℕ) (f : ImageMap) → map.get a.stamps id ≡ Some f → (q place : ℕ) (bytes : List ℕ) → map.get f.places q ≡ Some place
+        → map.get frames.past place ≡ Some bytes → IsImageOf b.disk.told f.pages f.kept q bytes
     stamped id f held q place bytes is there = (elim (nat_lt f.at a.begun) as (λ t. nat_lt f.at a.begun ≡ t → IsImageOf b.disk.told f.pages f.kept q bytes) [
       | true ↦ λ early. let was = w.past id f (held, lt_is f.at a.begun early) q place bytes is there in (was.0, λ tells. was.1 (sym told_as ∙ tells))
       | false ↦ λ late. let now : f ≡ newest_images a = w.archived.latest id f held (at_end f.at a.begun late (w.archived.early id f held).1) in
@@ -140,13 +144,17 @@ shown_alike begun begun' changes f none = as_images begun ∙ sym (as_images beg
 
 -- none of no pages is shared
 none_shared : (shared : NumberSet) (changes : ChangeMap) → ((q : ℕ) → map.get changes q ≡ None) → set.len (staged_shared shared changes) ≡ 0
-none_shared shared changes none = ap set.len (same_set (staged_shared shared changes) set.empty (λ q. contains-shared shared changes q ∙ ap (λ c. set.contains shared q && is_some c) (none q) ∙ and_none (set.contains shared q) ∙ sym (set.contains-empty nat_cmp q)))
+none_shared shared changes none = ap set.len
+    (same_set (staged_shared shared changes) set.empty (λ q. contains-shared shared changes q ∙ ap (λ c. set.contains shared q && is_some c) (none q)
+    ∙ and_none (set.contains shared q) ∙ sym (set.contains-empty nat_cmp q)))
     ∙ set.len-empty nat_cmp
 
 -- a pool that opened after an accepted writing
-pub writes_opened : (old : PoolState) (a b : ArchiveState) (staged : StagedState) (frames : CacheState) (numbers numbers' : NumbersState) (is_open : Bool) (gets refused : ℕ) → ((q : ℕ) → map.get staged.changes q ≡ None) → Advances a b → numbers'.top ≡ numbers.top
+pub writes_opened : (old : PoolState) (a b : ArchiveState) (staged : StagedState) (frames : CacheState) (numbers numbers' : NumbersState) (is_open : Bool) (gets refused : ℕ)
+    → ((q : ℕ) → map.get staged.changes q ≡ None) → Advances a b → numbers'.top ≡ numbers.top
     → Writes old (state_of a staged frames numbers is_open gets refused) → Writes old (state_of b staged frames numbers' true gets refused)
-writes_opened old a b staged frames numbers numbers' is_open gets refused none advances top w = Writes-trans old (state_of a staged frames numbers is_open gets refused) (state_of b staged frames numbers' true gets refused) w
+writes_opened old a b staged frames numbers numbers' is_open gets refused none advances top w =
+    Writes-trans old (state_of a staged frames numbers is_open gets refused) (state_of b staged frames numbers' true gets refused) w
     (writes_from (state_of a staged frames numbers is_open gets refused) (state_of b staged frames numbers' true gets refused)
     (settles_same a.disk.told _ _ (ap (overlaid staged.changes) advances.pages) refl (λ q live clean. ap (λ m. map.get m q) advances.kept))
     (ap (λ d. d.told) advances.disk) (ap (λ d. d.given) advances.disk) top refl refl refl

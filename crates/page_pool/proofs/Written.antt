@@ -1,5 +1,6 @@
 -- The parts of a pool after one waiting page was written, or could not be, and after a freed number was let go.
-use Rattle.std.proofs.Common.{◌≡◌, ◌≢◌, ◌≤◌, ◌<◌, ◌+◌, ◌-◌, ℕ, List, Bool, true, false, cond, not, ◌&&◌, ◌||◌, refl, sym, ap, subst, ◌∙◌, Option, Some, None, is_some, IsTrue, IsNone, ◌⊎◌, inl, inr, arith}
+use Rattle.std.proofs.Common.{◌≡◌, ◌≢◌, ◌≤◌, ◌<◌, ◌+◌, ◌-◌, ℕ, List, Bool, true, false, cond, not, ◌&&◌, ◌||◌, refl, sym, ap, subst, ◌∙◌, Option, Some, None, is_some}
+use Rattle.std.proofs.Common.{IsTrue, IsNone, ◌⊎◌, inl, inr, arith}
 use mathlib.Core.Bool.{true≢false}
 use Rattle.std.specs.Ordering.{nat_cmp, eq_by_cmp}
 use Rattle.std.specs.Cmp.{nat_cmp_total}
@@ -66,7 +67,8 @@ freed_is changes n freed = by_change (map.get changes n) refl (sym (contains-fre
     by_change (Some None) is h = is
 
 -- a writing, by what it does to the live map and to those of the stamps
-pub writes_from : (old new : PoolState) → Settles old.disk.told (shown_of old) (shown_of new) → new.disk.told ≡ old.disk.told → new.disk.given ≡ old.disk.given → new.top ≡ old.top → new.frames ≡ old.frames → new.gets ≡ old.gets → new.refused ≡ old.refused
+pub writes_from : (old new : PoolState) → Settles old.disk.told (shown_of old) (shown_of new) → new.disk.told ≡ old.disk.told → new.disk.given ≡ old.disk.given
+    → new.top ≡ old.top → new.frames ≡ old.frames → new.gets ≡ old.gets → new.refused ≡ old.refused
     → SettlesStamps old new → IsNone new.live → new.places ≤ old.places → Writes old new
 writes_from old new live told given top frames gets refused stamps shown places = record {
   lives = live.lives;
@@ -94,7 +96,8 @@ forgot_one pages pages' n forgot q bytes is = elim (decide q n) [
 ]
 
 -- the frames lost that of the newest image of page n
-pub forgot_newest : (frames frames' : CacheState) (n : ℕ) → frames'.newest ≡ map.remove frames.newest n → (q : ℕ) (bytes : List ℕ) → map.get frames'.newest q ≡ Some bytes → (q ≢ n) × (map.get frames.newest q ≡ Some bytes)
+pub forgot_newest : (frames frames' : CacheState) (n : ℕ) → frames'.newest ≡ map.remove frames.newest n → (q : ℕ) (bytes : List ℕ)
+    → map.get frames'.newest q ≡ Some bytes → (q ≢ n) × (map.get frames.newest q ≡ Some bytes)
 forgot_newest frames frames' n forgot = forgot_one frames.newest frames'.newest n forgot
 
 -- a freed number's image is no more, or page n may be spoiled, and waits: the maps stay
@@ -106,7 +109,8 @@ module _ (a b : ArchiveState) (changes : ChangeMap) (frames frames' : CacheState
 
   pages_spoiled : overlaid changes b.pages ≡ overlaid changes a.pages
   pages_spoiled = same _ _ (λ q. elim (decide q n) [
-    | inl one ↦ get-overlaid changes b.pages q ∙ staged_or (map.get changes q) (map.get b.pages q) (map.get a.pages q) (ap (map.contains_key changes) one ∙ waits) ∙ sym (get-overlaid changes a.pages q)
+    | inl one ↦ get-overlaid changes b.pages q ∙ staged_or (map.get changes q) (map.get b.pages q) (map.get a.pages q) (ap (map.contains_key changes) one ∙ waits)
+        ∙ sym (get-overlaid changes a.pages q)
     | inr apart ↦ get-overlaid changes b.pages q ∙ ap (unwrap_or (map.get changes q)) (change.pages q apart) ∙ sym (get-overlaid changes a.pages q)
   ])
     where
@@ -120,7 +124,8 @@ module _ (a b : ArchiveState) (changes : ChangeMap) (frames frames' : CacheState
     where
       waiting_not : (c : Option (Option (List ℕ))) → map.get changes n ≡ c → ⊥
       waiting_not None is = true≢false (sym waits ∙ ap is_some is)
-      waiting_not (Some None) is = true≢false (sym live ∙ ap (map.contains_key (overlaid changes a.pages)) one ∙ ap is_some (get-overlaid changes a.pages n ∙ ap (λ c. unwrap_or c (map.get a.pages n)) is))
+      waiting_not (Some None) is = true≢false (sym live ∙ ap (map.contains_key (overlaid changes a.pages)) one
+          ∙ ap is_some (get-overlaid changes a.pages n ∙ ap (λ c. unwrap_or c (map.get a.pages n)) is))
       waiting_not (Some (Some page)) is = true≢false (sym (contains-dirty changes n ∙ ap is_page is) ∙ ap (set.contains (dirty_of changes)) (sym one) ∙ clean)
 
   settles_spoiled : Settles a.disk.told (shown_live changes (newest_images a)) (shown_live changes (newest_images b))
@@ -133,7 +138,8 @@ module _ (a b : ArchiveState) (changes : ChangeMap) (frames frames' : CacheState
         let there = w.stands q none digest (sym (change.kept q apart) ∙ has) (sym change.told ∙ tells) in (there.0, (change.pages q apart ∙ there.1.0, there.1.1));
     newest = λ q bytes is. let f = forgot_newest frames frames' n forgot q bytes is in let was = w.newest q bytes f.1 in
         (change.kept q f.0 ∙ was.0, λ tells. change.pages q f.0 ∙ was.1 (sym change.told ∙ tells));
-    past = λ id f frozen q p bytes is there. let was = w.past id f (frozen_back a b n change id f frozen) q p bytes is (ap (λ m. map.get m p) (sym same_past) ∙ there) in (was.0, λ tells. was.1 (sym change.told ∙ tells));
+    past = λ id f frozen q p bytes is there. let was = w.past id f (frozen_back a b n change id f frozen) q p bytes is (ap (λ m. map.get m p) (sym same_past) ∙ there) in
+        (was.0, λ tells. was.1 (sym change.told ∙ tells));
     replaced = λ q p bytes is there. elim (decide q n) [
       | inl one ↦ w.replaced q p bytes (ap (map.get a.places) one ∙ still p (ap (map.get b.places) (sym one) ∙ is)) (ap (λ m. map.get m p) (sym same_past) ∙ there)
       | inr apart ↦ w.replaced q p bytes (sym (change.places q apart) ∙ is) (ap (λ m. map.get m p) (sym same_past) ∙ there)
@@ -154,7 +160,8 @@ module _ (a b : ArchiveState) (changes : ChangeMap) (frames frames' : CacheState
   pub writes_spoiled : (staged : StagedState) (gets refused : ℕ) → staged.changes ≡ changes → IsArchive a → frames'.most ≡ frames.most → numbers'.top ≡ numbers.top
       → b.seen + set.len (staged_shared b.shared changes) ≤ a.seen + set.len (staged_shared a.shared changes)
       → Writes (state_of a staged frames numbers is_open gets refused) (state_of b staged frames' numbers' is_open gets refused)
-  writes_spoiled staged gets refused is old most top fewer = subst (λ c. Writes (state_of a (record staged { changes = c }) frames numbers is_open gets refused) (state_of b (record staged { changes = c }) frames' numbers' is_open gets refused)) (sym is)
+  writes_spoiled staged gets refused is old most top fewer =
+      subst (λ c. Writes (state_of a (record staged { changes = c }) frames numbers is_open gets refused) (state_of b (record staged { changes = c }) frames' numbers' is_open gets refused)) (sym is)
       (writes_from (state_of a (record staged { changes = changes }) frames numbers is_open gets refused) (state_of b (record staged { changes = changes }) frames' numbers' is_open gets refused)
       settles_spoiled change.told change.given top most refl refl
       record { held = held_still a b n change changes changes; settles = stamp_settled a b n change a.disk.told changes changes old archive settles_spoiled }
@@ -178,7 +185,8 @@ module _ (a b : ArchiveState) (changes changes' : ChangeMap) (frames forgotten f
 
   used_settled : (q : ℕ) → is_used changes' b.kept q ≡ is_used changes a.kept q
   used_settled q = elim (decide q n) [
-    | inl one ↦ ap (is_used changes' b.kept) one ∙ (λ i. is_some (change_here i) || is_some (image.kept i)) ∙ sym (ap (is_used changes a.kept) one ∙ ap (λ c. is_some c || map.contains_key a.kept n) waits)
+    | inl one ↦ ap (is_used changes' b.kept) one ∙ (λ i. is_some (change_here i) || is_some (image.kept i))
+        ∙ sym (ap (is_used changes a.kept) one ∙ ap (λ c. is_some c || map.contains_key a.kept n) waits)
     | inr apart ↦ (λ i. is_some (change_other q apart i) || is_some (change.kept q apart i))
   ]
 
@@ -187,13 +195,16 @@ module _ (a b : ArchiveState) (changes changes' : ChangeMap) (frames forgotten f
     archived = archive;
     stands = λ q none digest has tells. elim (decide q n) [
       | inl one ↦ (page, (ap (map.get b.pages) one ∙ image.page tells, some_one digest (sha256 page) (sym has ∙ ap (map.get b.kept) one ∙ image.kept)))
-      | inr apart ↦ let there = w.stands q (λ c. sym (change_other q apart) ∙ none c) digest (sym (change.kept q apart) ∙ has) (sym change.told ∙ tells) in (there.0, (change.pages q apart ∙ there.1.0, there.1.1))
+      | inr apart ↦ let there = w.stands q (λ c. sym (change_other q apart) ∙ none c) digest (sym (change.kept q apart) ∙ has) (sym change.told ∙ tells) in
+          (there.0, (change.pages q apart ∙ there.1.0, there.1.1))
     ];
     newest = λ q bytes is. elim (framed q bytes is) [
       | inl this ↦ image_of q bytes this.0 this.1
-      | inr before ↦ let f = forgot_newest frames forgotten n forgot q bytes before in let was = w.newest q bytes f.1 in (change.kept q f.0 ∙ was.0, λ tells. change.pages q f.0 ∙ was.1 (sym change.told ∙ tells))
+      | inr before ↦ let f = forgot_newest frames forgotten n forgot q bytes before in let was = w.newest q bytes f.1 in
+          (change.kept q f.0 ∙ was.0, λ tells. change.pages q f.0 ∙ was.1 (sym change.told ∙ tells))
     ];
-    past = λ id f frozen q p bytes is there. let was = w.past id f (frozen_back a b n change id f frozen) q p bytes is (framed_past p bytes there).1 in (was.0, λ tells. was.1 (sym change.told ∙ tells));
+    past = λ id f frozen q p bytes is there. let was = w.past id f (frozen_back a b n change id f frozen) q p bytes is (framed_past p bytes there).1 in
+        (was.0, λ tells. was.1 (sym change.told ∙ tells));
     replaced = λ q p bytes is there. elim (decide q n) [
       | inl one ↦ (framed_past p bytes there).0 (some_one p place (sym is ∙ ap (map.get b.places) one ∙ image.place))
       | inr apart ↦ w.replaced q p bytes (sym (change.places q apart) ∙ is) (framed_past p bytes there).1
@@ -251,12 +262,14 @@ module _ (a b : ArchiveState) (changes changes' : ChangeMap) (frames forgotten f
   }
 
   pub writes_settled : (count count' gets refused : ℕ) → IsArchive a → frames'.most ≡ frames.most → ReplacesImage a b n
-      → Writes (state_of a record { changes = changes; count = count } frames numbers is_open gets refused) (state_of b record { changes = changes'; count = count' } frames' numbers is_open gets refused)
+      → Writes (state_of a record { changes = changes; count = count } frames numbers is_open gets refused)
+      (state_of b record { changes = changes'; count = count' } frames' numbers is_open gets refused)
   writes_settled count count' gets refused old most replaces =
       let fewer : b.seen + set.len (staged_shared b.shared changes') ≤ a.seen + set.len (staged_shared a.shared changes) =
       shared_falls a.shared b.shared changes changes' n a.seen b.seen (ap is_some waits) (λ q apart. ap is_some (change_other q apart)) replaces.shared replaces.seen in
       let pages : map.len (overlaid changes' b.pages) ≤ map.len (overlaid changes a.pages) = no_more _ _ lives_settled in
-      writes_from (state_of a record { changes = changes; count = count } frames numbers is_open gets refused) (state_of b record { changes = changes'; count = count' } frames' numbers is_open gets refused)
+      writes_from (state_of a record { changes = changes; count = count } frames numbers is_open gets refused)
+      (state_of b record { changes = changes'; count = count' } frames' numbers is_open gets refused)
       settles_written change.told change.given refl most refl refl
       record { held = held_still a b n change changes changes'; settles = stamp_settled a b n change a.disk.told changes changes' old archive settles_written }
       refl (omega arith)
@@ -268,5 +281,6 @@ module _ (a b : ArchiveState) (changes changes' : ChangeMap) (frames forgotten f
   pub fewer_settled : set.len (dirty_of changes') + set.len (freed_of changes') < set.len (dirty_of changes) + set.len (freed_of changes)
   fewer_settled =
       let dirty : set.len (dirty_of changes) ≡ set.len (dirty_of changes') + 1 = len_falls (dirty_of changes) n was_dirty ∙ ap (λ s. set.len s + 1) (sym dirty_less) in
-      let freed : set.len (freed_of changes') ≡ set.len (freed_of changes) = ap set.len (ap freed_of rest ∙ freed-removed changes n) ∙ len_stays (freed_of changes) n (contains-freed changes n ∙ ap is_gone waits) in
+      let freed : set.len (freed_of changes') ≡ set.len (freed_of changes) = ap set.len (ap freed_of rest ∙ freed-removed changes n)
+      ∙ len_stays (freed_of changes) n (contains-freed changes n ∙ ap is_gone waits) in
       omega arith

@@ -18,7 +18,8 @@ sure_disk_code = code_by (PageMap × List ℕ) (coded× page_map_code (coded_lis
 
 -- the calls that fail, by their list and the counts of those made and of faults
 abbrev pub calls_code : Coded CallsState
-calls_code = code_by (List ℕ × (ℕ × ℕ)) (coded× (coded_list coded_ℕ) (coded× coded_ℕ coded_ℕ)) (λ s. (s.fails, (s.made, s.faults))) (λ p. record { fails = p.0; made = p.1.0; faults = p.1.1 }) (λ _. refl)
+calls_code = code_by (List ℕ × (ℕ × ℕ)) (coded× (coded_list coded_ℕ) (coded× coded_ℕ coded_ℕ)) (λ s. (s.fails, (s.made, s.faults)))
+    (λ p. record { fails = p.0; made = p.1.0; faults = p.1.1 }) (λ _. refl)
 
 -- a disk that fails at some calls, by its pages and those calls
 abbrev pub mem_disk_code : Coded MemDiskState
@@ -43,7 +44,8 @@ held_map_code = map.code coded_ℕ coded_ℕ
 -- the images and the stamps, then the numbers of commands, then the greatest place
 abbrev pub images_code : Coded ImagesState
 images_code = code_by (HomeMap × (PastMap × (HeldMap × (ℕ × (ℕ × ℕ))))) (coded× (map.code coded_ℕ home_code) (coded× past_map_code (coded× held_map_code (coded× coded_ℕ (coded× coded_ℕ coded_ℕ)))))
-    (λ s. (s.homes, (s.past, (s.held, (s.begun, (s.changed, s.top)))))) (λ p. record { homes = p.0; past = p.1.0; held = p.1.1.0; begun = p.1.1.1.0; changed = p.1.1.1.1.0; top = p.1.1.1.1.1 }) (λ _. refl)
+    (λ s. (s.homes, (s.past, (s.held, (s.begun, (s.changed, s.top))))))
+    (λ p. record { homes = p.0; past = p.1.0; held = p.1.1.0; begun = p.1.1.1.0; changed = p.1.1.1.1.0; top = p.1.1.1.1.1 }) (λ _. refl)
 
 -- the images that a stamp sees, by its number and the numbers of their pages
 abbrev pub image_map_code : Coded ImageMap
@@ -54,7 +56,8 @@ image_map_code = code_by (ℕ × (PageMap × (PageMap × PlaceMap))) (coded× co
 abbrev pub archive_code : Coded ArchiveState
 archive_code = code_by
     (DiskView × (PageMap × (PageMap × (PlaceMap × (map.FinMap nat_cmp ImageMap × (ℕ × (ℕ × (ℕ × NumberSet))))))))
-    (coded× disk_code (coded× page_map_code (coded× page_map_code (coded× (map.code coded_ℕ coded_ℕ) (coded× (map.code coded_ℕ image_map_code) (coded× coded_ℕ (coded× coded_ℕ (coded× coded_ℕ number_set_code))))))))
+    (coded× disk_code (coded× page_map_code
+    (coded× page_map_code (coded× (map.code coded_ℕ coded_ℕ) (coded× (map.code coded_ℕ image_map_code) (coded× coded_ℕ (coded× coded_ℕ (coded× coded_ℕ number_set_code))))))))
     (λ s. (s.disk, (s.pages, (s.kept, (s.places, (s.stamps, (s.begun, (s.changed, (s.seen, s.shared)))))))))
     (λ p. record {
       disk = p.0;

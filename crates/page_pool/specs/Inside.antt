@@ -1,5 +1,6 @@
 -- How a pool's parts make up what contracts see of it. (For proofs; no clause above speaks of it.)
-use Rattle.std.specs.Prelude.{◌≡◌, ℕ, zero, suc, ◌+◌, ◌-◌, ◌^◌, ◌≤◌, ◌<◌, List, [], ◌∷◌, length, slice_get, Bool, true, false, cond, ◌||◌, nat_eq, nat_lt, IsTrue, Option, None, Some, is_some, Result, IfErr, ◌⊎◌, ⊤, refl}
+use Rattle.std.specs.Prelude.{◌≡◌, ℕ, zero, suc, ◌+◌, ◌-◌, ◌^◌, ◌≤◌, ◌<◌, List, [], ◌∷◌, length, slice_get, Bool, true, false, cond, ◌||◌, nat_eq, nat_lt, IsTrue, Option}
+use Rattle.std.specs.Prelude.{None, Some, is_some, Result, IfErr, ◌⊎◌, ⊤, refl}
 use Rattle.std.specs.FinMap as map
 use Rattle.std.specs.FinSet as set
 use Rattle.std.specs.BTreeSet as tree

@@ -1,6 +1,7 @@
 -- Which lists of items are the same but for their order, as trees are melded and gathered.
 use Rattle.std.proofs.Common.{◌≡◌, List, [], ◌∷◌, ◌++◌, IsPermutation, refl, sym, subst, append_assoc, arith}
-use Rattle.std.proofs.lemmas.List.Sorted.{IsPermutation-cons, IsPermutation-middle, IsPermutation-append_comm, IsPermutation-append_left, IsPermutation-trans, IsPermutation-sym, IsPermutation-to_front, length_permutation}
+use Rattle.std.proofs.lemmas.List.Sorted.{IsPermutation-cons, IsPermutation-middle, IsPermutation-append_comm, IsPermutation-append_left, IsPermutation-trans}
+use Rattle.std.proofs.lemmas.List.Sorted.{IsPermutation-sym, IsPermutation-to_front, length_permutation}
 use Rattle.pair_heap.specs.Chain.{Chain, end, link, items}
 
 module _ {X : Type 0} where
@@ -23,7 +24,8 @@ module _ {X : Type 0} where
       let moved : IsPermutation (one ++ (two ++ rest)) (rest ++ new) =
       subst (λ l. IsPermutation l (rest ++ new)) (append_assoc one two rest)
       (IsPermutation-trans ((one ++ two) ++ rest) (new ++ rest) (rest ++ new) (IsPermutation-append_left rest (one ++ two) new melded) (IsPermutation-append_comm new rest)) in
-      subst (IsPermutation start) (append_assoc rest new pairs) (IsPermutation-trans start ((one ++ (two ++ rest)) ++ pairs) ((rest ++ new) ++ pairs) kept (IsPermutation-append_left pairs (one ++ (two ++ rest)) (rest ++ new) moved))
+      subst (IsPermutation start) (append_assoc rest new pairs)
+      (IsPermutation-trans start ((one ++ (two ++ rest)) ++ pairs) ((rest ++ new) ++ pairs) kept (IsPermutation-append_left pairs (one ++ (two ++ rest)) (rest ++ new) moved))
 
   -- a chain that holds no item is the end
   pub nothing_held : (c : Chain X) → IsPermutation (items c) [] → c ≡ end

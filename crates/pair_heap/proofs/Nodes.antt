@@ -10,7 +10,8 @@ use base.Logic.{ent, sep, wand, emp, via, apply∗, guard_i, id⊢}
 use base.Fml.{Fml, fsep, fwand, fat, froom}
 use base.Fraction.{full_share}
 use types.Logic.{Logic, sem}
-use types.Kit.{Item, Goal, Seq, Step, step, ‵, raw, ◌⊛◌, some, given, frame, assume, join, ◌$◌, ◌∵◌, !, qed, done, learn, move, drop, pick, split, fsplit, fjoin, fpick, fpack, use0, use1, use2, feq_l, feq_i, rewrite}
+use types.Kit.{Item, Goal, Seq, Step, step, ‵, raw, ◌⊛◌, some, given, frame, assume, join, ◌$◌, ◌∵◌, !, qed, done, learn, move, drop, pick, split, fsplit, fjoin, fpick}
+use types.Kit.{fpack, use0, use1, use2, feq_l, feq_i, rewrite}
 use denote.RattleType.{RattleType, Valss}
 use denote.Builtin.{RawPtr}
 use denote.Laws.{Is, shows}
@@ -167,7 +168,8 @@ module _ (U : RattleType) (L : Laws U) where
         use1 𝓛 (given (Testable p) (‵ T)) (fact_use 𝓤 (Testable p) (dealloc_token-Testable 𝓛 handle (bare (layout S)) p) (guard_i 𝓤 (Testable p) (sem 𝓛 T))) $ learn t k
 
     -- and that its place is the start of its block
-    pub token_start : K → (b o : ℕ) → (o ≡ zero → Seq K 𝓛 (‵ (ghosts.dealloc_token handle (bare (layout S)) (block_ptr b o)) ∷ Γ) G) → Seq K 𝓛 (‵ (ghosts.dealloc_token handle (bare (layout S)) (block_ptr b o)) ∷ Γ) G
+    pub token_start : K → (b o : ℕ) → (o ≡ zero → Seq K 𝓛 (‵ (ghosts.dealloc_token handle (bare (layout S)) (block_ptr b o)) ∷ Γ) G)
+        → Seq K 𝓛 (‵ (ghosts.dealloc_token handle (bare (layout S)) (block_ptr b o)) ∷ Γ) G
     token_start t b o k = let T = ghosts.dealloc_token handle (bare (layout S)) (block_ptr b o) in
         use1 𝓛 (given (o ≡ zero) (‵ T)) (fact_use 𝓤 (o ≡ zero) (dealloc_token_start 𝓛 handle (bare (layout S)) (block_ptr b o)) (guard_i 𝓤 (o ≡ zero) (sem 𝓛 T))) $ learn t k
 
@@ -177,7 +179,8 @@ module _ (U : RattleType) (L : Laws U) where
 
     -- a slot at this place
     pub slotted : K → (b o : ℕ) → Testable (block_ptr b o) → Step K 𝓛 (‵ (SlotOf.own_val (record { ptr = block_ptr b o }) (word (block_ptr b o) ∷ [])) ∷ Γ) G (‵ (froom (bare (layout N)) b o) ∷ Γ) G
-    slotted t b o test = step (λ s. fpack t (Testable (block_ptr b o)) (λ _. froom (bare (layout N)) b o) test $ use0 𝓛 (‵ (word_own (block_ptr b o) (word (block_ptr b o) ∷ []))) (word_made 𝓛 (block_ptr b o)) $ fjoin t $ s)
+    slotted t b o test = step (λ s. fpack t (Testable (block_ptr b o)) (λ _. froom (bare (layout N)) b o) test $ use0 𝓛
+        (‵ (word_own (block_ptr b o) (word (block_ptr b o) ∷ []))) (word_made 𝓛 (block_ptr b o)) $ fjoin t $ s)
 
     -- the struct of one pointer, beside what stands behind it
     pub worded : K → (p : Ptr) (F : Fml) → Step K 𝓛 (‵ (fsep (word_own p (word p ∷ [])) F) ∷ Γ) G (‵ F ∷ Γ) G
@@ -196,7 +199,8 @@ module _ (U : RattleType) (L : Laws U) where
         → ((b o : ℕ) → p ≡ block_ptr b o → Testable (block_ptr b o) → (v : Val) → Good (layout R) v
         → Seq K 𝓛 (‵ (fat full_share (layout N) b o (node_val links.0 links.1 v)) ∷ ‵ (R.own_val x (v ∷ [])) ∷ ‵ (chain_owns R kids links.0) ∷ Γ) G)
         → Seq K 𝓛 (‵ (tree_owns R links x kids p) ∷ Γ) G
-    tree_out t links x kids p k = fsplit t $ in_a_block t p (λ r. lies_at N full_share r (node_with links.0 links.1 x)) (id⊢ 𝓤 _) (λ b o at_block. node_out t (node_with links.0 links.1 x) b o (λ v good.
+    tree_out t links x kids p k = fsplit t $ in_a_block t p (λ r. lies_at N full_share r (node_with links.0 links.1 x)) (id⊢ 𝓤 _)
+        (λ b o at_block. node_out t (node_with links.0 links.1 x) b o (λ v good.
         move t (2 ∷ []) $ fpick t (λ may. move t (1 ∷ 2 ∷ 0 ∷ []) $ k b o at_block (subst Testable at_block may) v good)))
 
   pub node_typed : (c n : Ptr) (v : Val) → Good (layout R) v → Good (layout N) (node_val c n v)

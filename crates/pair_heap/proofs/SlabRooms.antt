@@ -91,7 +91,8 @@ module _ (U : RattleType) (L : Laws U) where
     slab_cut {𝓤 = 𝓤} 𝓛 fits small =
         let Word = 𝓛.H.room ty_ptr b (o + 0) in let Array = 𝓛.H.room (ty_array node 64) b (o + first_slot) in let Rooms : SProp 𝓤 = sep 𝓤 Word (sep 𝓤 Array (emp 𝓤)) in
         qed 𝓛 (‵ (froom slab b o) ∷ []) ∵
-        use1 𝓛 ((‵ (froom ty_ptr b (o + 0)) ⊛ ‵ (froom (ty_array node 64) b (o + first_slot)) ⊛ ‵ ftrue) ⊛ raw (wand 𝓤 Rooms (𝓛.H.room slab b o))) (𝓛.laws.room_fields [] (tcons ty_ptr (tcons (ty_array node 64) tnil)) b o) $
+        use1 𝓛 ((‵ (froom ty_ptr b (o + 0)) ⊛ ‵ (froom (ty_array node 64) b (o + first_slot)) ⊛ ‵ ftrue) ⊛ raw (wand 𝓤 Rooms (𝓛.H.room slab b o)))
+        (𝓛.laws.room_fields [] (tcons ty_ptr (tcons (ty_array node 64) tnil)) b o) $
         split ! $ split3 ! $ move ! (2 ∷ []) $ drop ! $ frame ! $
         use1 𝓛 (‵ (fresh_own (R U L) (run 64 b (o + first_slot)) (block_ptr b (o + first_slot)))) (opened 𝓛 64 b (o + first_slot) fits small) $ frame ! $
         assume ! (‵ (fsep (froom ty_ptr b (o + 0)) (slots_own (R U L) (run 64 b (o + first_slot))))) $ fsplit ! $ move ! (1 ∷ []) $
@@ -113,7 +114,8 @@ module _ (U : RattleType) (L : Laws U) where
     pub unchained : (ps : List Ptr) (p : Ptr) → ent 𝓤 (sem 𝓛 (spares_own (R U L) ps p)) (sem 𝓛 (slots_own (R U L) ps))
     unchained [] p = qed 𝓛 (‵ (spares_own (R U L) [] p) ∷ []) ∵ drop ! $ nothing ! $ done !
     unchained (q ∷ qs) p =
-        qed 𝓛 (‵ (spares_own (R U L) (q ∷ qs) p) ∷ []) ∵ fpick ! (λ same. fpick ! (λ next. fsplit ! $ in_a_block ! p (λ r. spare_at (R U L) r next) (id⊢ 𝓤 _) (λ b o at_block. fpick ! (λ test. fsplit ! $
+        qed 𝓛 (‵ (spares_own (R U L) (q ∷ qs) p) ∷ []) ∵ fpick !
+        (λ same. fpick ! (λ next. fsplit ! $ in_a_block ! p (λ r. spare_at (R U L) r next) (id⊢ 𝓤 _) (λ b o at_block. fpick ! (λ test. fsplit ! $
         word_glued U L b o ! _ $ fpack ! (Testable (block_ptr b o)) (λ _. froom node b o) test $ move ! (1 ∷ []) $ use1 𝓛 (‵ (slots_own (R U L) qs)) (unchained qs next) $ move ! (1 ∷ 0 ∷ []) $
         rewrite ! 0 (λ r. ‵ (slot_owns (R U L) r)) (sym (same ∙ at_block)) refl $ fjoin ! $ done !))))
 
@@ -132,19 +134,23 @@ module _ (U : RattleType) (L : Laws U) where
         qed 𝓛 (‵ (slot_owns (R U L) x) ∷ ‵ (slots_own (R U L) (p ∷ ps)) ∷ []) ∵ move ! (1 ∷ []) $ fsplit ! $ move ! (2 ∷ 1 ∷ []) $ fjoin ! $ move ! (1 ∷ 0 ∷ []) $ join ! $ done !
     exchanged x d (p ∷ ps) (suc i) short =
         qed 𝓛 (‵ (slot_owns (R U L) x) ∷ ‵ (slots_own (R U L) (p ∷ ps)) ∷ []) ∵ move ! (1 ∷ []) $ fsplit ! $ move ! (2 ∷ 1 ∷ []) $
-        use2 𝓛 (‵ (slot_owns (R U L) (slice_index_or ps i d)) ⊛ ‵ (slots_own (R U L) (slice_set ps i x))) (exchanged x d ps i (omega arith)) $ split ! $ move ! (2 ∷ 1 ∷ []) $ fjoin ! $ move ! (1 ∷ 0 ∷ []) $ join ! $ done !
+        use2 𝓛 (‵ (slot_owns (R U L) (slice_index_or ps i d)) ⊛ ‵ (slots_own (R U L) (slice_set ps i x))) (exchanged x d ps i (omega arith)) $ split ! $ move !
+        (2 ∷ 1 ∷ []) $ fjoin ! $ move ! (1 ∷ 0 ∷ []) $ join ! $ done !
 
     -- two of them change places
     swapped : (d : Ptr) (ps : List Ptr) (i j : ℕ) → i < length ps → j < length ps → ent 𝓤 (slots_at ps) (slots_at (slice_set (slice_set ps i (slice_index_or ps j d)) j (slice_index_or ps i d)))
     swapped d [] i j short _ = absurd (omega arith)
     swapped d (p ∷ ps) zero zero _ _ = id⊢ 𝓤 _
     swapped d (p ∷ ps) zero (suc j) _ short =
-        qed 𝓛 (‵ (slots_own (R U L) (p ∷ ps)) ∷ []) ∵ fsplit ! $ use2 𝓛 (‵ (slot_owns (R U L) (slice_index_or ps j d)) ⊛ ‵ (slots_own (R U L) (slice_set ps j p))) (exchanged p d ps j (omega arith)) $ split ! $ fjoin ! $ done !
+        qed 𝓛 (‵ (slots_own (R U L) (p ∷ ps)) ∷ []) ∵ fsplit ! $ use2 𝓛 (‵ (slot_owns (R U L) (slice_index_or ps j d)) ⊛ ‵ (slots_own (R U L) (slice_set ps j p)))
+        (exchanged p d ps j (omega arith)) $ split ! $ fjoin ! $ done !
     swapped d (p ∷ ps) (suc i) zero short _ =
-        qed 𝓛 (‵ (slots_own (R U L) (p ∷ ps)) ∷ []) ∵ fsplit ! $ use2 𝓛 (‵ (slot_owns (R U L) (slice_index_or ps i d)) ⊛ ‵ (slots_own (R U L) (slice_set ps i p))) (exchanged p d ps i (omega arith)) $ split ! $ fjoin ! $ done !
+        qed 𝓛 (‵ (slots_own (R U L) (p ∷ ps)) ∷ []) ∵ fsplit ! $ use2 𝓛 (‵ (slot_owns (R U L) (slice_index_or ps i d)) ⊛ ‵ (slots_own (R U L) (slice_set ps i p)))
+        (exchanged p d ps i (omega arith)) $ split ! $ fjoin ! $ done !
     swapped d (p ∷ ps) (suc i) (suc j) short small =
         qed 𝓛 (‵ (slots_own (R U L) (p ∷ ps)) ∷ []) ∵ fsplit ! $ move ! (1 ∷ []) $
-        use1 𝓛 (‵ (slots_own (R U L) (slice_set (slice_set ps i (slice_index_or ps j d)) j (slice_index_or ps i d)))) (swapped d ps i j (omega arith) (omega arith)) $ move ! (1 ∷ 0 ∷ []) $ fjoin ! $ done !
+        use1 𝓛 (‵ (slots_own (R U L) (slice_set (slice_set ps i (slice_index_or ps j d)) j (slice_index_or ps i d))))
+        (swapped d ps i j (omega arith) (omega arith)) $ move ! (1 ∷ 0 ∷ []) $ fjoin ! $ done !
 
     once_swapped : (ps : List Ptr) (i j : ℕ) → i < length ps → j < length ps → ent 𝓤 (slots_at ps) (slots_at (swap ps i j))
     once_swapped [] i j _ _ = id⊢ 𝓤 _
@@ -162,12 +168,14 @@ module _ (U : RattleType) (L : Laws U) where
     apart : (ps qs : List Ptr) → ent 𝓤 (slots_at (ps ++ qs)) (sep 𝓤 (slots_at ps) (slots_at qs))
     apart [] qs = qed 𝓛 (‵ (slots_own (R U L) qs) ∷ []) ∵ nothing ! $ join ! $ done !
     apart (p ∷ ps) qs =
-        qed 𝓛 (‵ (slots_own (R U L) (p ∷ (ps ++ qs))) ∷ []) ∵ fsplit ! $ move ! (1 ∷ []) $ use1 𝓛 (‵ (slots_own (R U L) ps) ⊛ ‵ (slots_own (R U L) qs)) (apart ps qs) $ split ! $ move ! (2 ∷ 0 ∷ []) $ fjoin ! $ join ! $ done !
+        qed 𝓛 (‵ (slots_own (R U L) (p ∷ (ps ++ qs))) ∷ []) ∵ fsplit ! $ move ! (1 ∷ []) $ use1 𝓛 (‵ (slots_own (R U L) ps) ⊛ ‵ (slots_own (R U L) qs))
+        (apart ps qs) $ split ! $ move ! (2 ∷ 0 ∷ []) $ fjoin ! $ join ! $ done !
 
     pub together : (ps qs : List Ptr) → ent 𝓤 (sep 𝓤 (slots_at ps) (slots_at qs)) (slots_at (ps ++ qs))
     together [] qs = qed 𝓛 (‵ (slots_own (R U L) []) ∷ ‵ (slots_own (R U L) qs) ∷ []) ∵ drop ! $ done !
     together (p ∷ ps) qs =
-        qed 𝓛 (‵ (slots_own (R U L) (p ∷ ps)) ∷ ‵ (slots_own (R U L) qs) ∷ []) ∵ fsplit ! $ move ! (1 ∷ 2 ∷ []) $ use2 𝓛 (‵ (slots_own (R U L) (ps ++ qs))) (together ps qs) $ move ! (1 ∷ 0 ∷ []) $ fjoin ! $ done !
+        qed 𝓛 (‵ (slots_own (R U L) (p ∷ ps)) ∷ ‵ (slots_own (R U L) qs) ∷ []) ∵ fsplit ! $ move ! (1 ∷ 2 ∷ []) $ use2 𝓛 (‵ (slots_own (R U L) (ps ++ qs)))
+        (together ps qs) $ move ! (1 ∷ 0 ∷ []) $ fjoin ! $ done !
 
     -- a chain of trees is its nodes' slots, once their items are let go
     pub cleared : (c : Chain (R U L).Denot) (p : Ptr) → ent 𝓤 (sem 𝓛 (chain_owns (R U L) c p)) (slots_at (places c))
@@ -186,7 +194,8 @@ module _ (U : RattleType) (L : Laws U) where
     filled : (ps : List Ptr) (b o : ℕ) → ent 𝓤 (sep 𝓤 (slots_at ps) (sem 𝓛 (fwand (fsep (froom ty_ptr b (o + 0)) (slots_own (R U L) ps)) (froom slab b o)))) (sem 𝓛 (slab_back b o))
     filled ps b o =
         let Word = 𝓛.H.room ty_ptr b (o + 0) in let Whole : Fml = fwand (fsep (froom ty_ptr b (o + 0)) (slots_own (R U L) ps)) (froom slab b o) in
-        wand_i 𝓤 (sep 𝓤 (slots_at ps) (sem 𝓛 Whole)) Word (𝓛.H.room slab b o) (qed 𝓛 ((‵ (slots_own (R U L) ps) ⊛ ‵ Whole) ∷ ‵ (froom ty_ptr b (o + 0)) ∷ []) ∵ split ! $ move ! (2 ∷ 0 ∷ []) $ fjoin ! $
+        wand_i 𝓤 (sep 𝓤 (slots_at ps) (sem 𝓛 Whole)) Word (𝓛.H.room slab b o)
+        (qed 𝓛 ((‵ (slots_own (R U L) ps) ⊛ ‵ Whole) ∷ ‵ (froom ty_ptr b (o + 0)) ∷ []) ∵ split ! $ move ! (2 ∷ 0 ∷ []) $ fjoin ! $
         by ! (apply∗ 𝓤 (sep 𝓤 Word (slots_at ps)) (𝓛.H.room slab b o)))
 
     pub made_whole : (pss : List (List Ptr)) (p : Ptr) → ent 𝓤 (sep 𝓤 (slots_at (all_slots pss)) (sem 𝓛 (slabs_own (R U L) pss p))) (sem 𝓛 (blocks_own (R U L) (length pss) p))

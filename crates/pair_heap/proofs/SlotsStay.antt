@@ -31,7 +31,8 @@ module _ {X : Type 0} where
       (IsPermutation-trans (p ∷ (less ++ spares)) (root ++ spares) all (IsPermutation-append_left spares (p ∷ less) root (IsPermutation-sym root (p ∷ less) emptied)) kept)
 
   -- a slot loses its item and is spare, before others take their items, and what is left is joined
-  pub slots_exchanged : (p : X) (below spares mixed left root : List X) → IsPermutation (below ++ (p ∷ spares)) (mixed ++ left) → IsPermutation mixed root → IsPermutation ((p ∷ below) ++ spares) (root ++ left)
+  pub slots_exchanged : (p : X) (below spares mixed left root : List X) → IsPermutation (below ++ (p ∷ spares)) (mixed ++ left) → IsPermutation mixed root
+      → IsPermutation ((p ∷ below) ++ spares) (root ++ left)
   slots_exchanged p below spares mixed left root filled joined =
       IsPermutation-trans ((p ∷ below) ++ spares) (below ++ (p ∷ spares)) (root ++ left) (IsPermutation-sym (below ++ (p ∷ spares)) (p ∷ (below ++ spares)) (IsPermutation-middle below p spares))
       (IsPermutation-trans (below ++ (p ∷ spares)) (mixed ++ left) (root ++ left) filled (IsPermutation-append_left left mixed root joined))

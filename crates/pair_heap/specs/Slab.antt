@@ -30,7 +30,9 @@ module _ (R : RattleType) where
   -- A slab's block, whose first word is q, and which is room for a slab once that word and the slots at these places are given up.
   abbrev pub slab_at : List Ptr → Ptr → Ptr → Fml
   slab_at ps null_ptr q = ffalse
-  slab_at ps (block_ptr b o) q = fex SlabFits (λ _. fsep (fat full_share ty_ptr b (o + 0) (ptr_val q)) (fsep (fwand (fsep (froom ty_ptr b (o + 0)) (slots_own R ps)) (froom (raw slab_ty) b o)) (ghosts.dealloc_token heap (raw slab_ty) (block_ptr b o))))
+  slab_at ps (block_ptr b o) q = fex SlabFits
+      (λ _. fsep (fat full_share ty_ptr b (o + 0) (ptr_val q))
+      (fsep (fwand (fsep (froom ty_ptr b (o + 0)) (slots_own R ps)) (froom (raw slab_ty) b o)) (ghosts.dealloc_token heap (raw slab_ty) (block_ptr b o))))
 
   -- null at the end; else the first slab, whose slots are those of the first list, and the others from where it leads
   abbrev pub slabs_own : List (List Ptr) → Ptr → Fml
@@ -40,7 +42,8 @@ module _ (R : RattleType) where
   -- A slab's block, whose first word is q, and which is room for a slab once that word is given up.
   abbrev pub block_at : Ptr → Ptr → Fml
   block_at null_ptr q = ffalse
-  block_at (block_ptr b o) q = fex SlabFits (λ _. fsep (fat full_share ty_ptr b (o + 0) (ptr_val q)) (fsep (fwand (froom ty_ptr b (o + 0)) (froom (raw slab_ty) b o)) (ghosts.dealloc_token heap (raw slab_ty) (block_ptr b o))))
+  block_at (block_ptr b o) q = fex SlabFits
+      (λ _. fsep (fat full_share ty_ptr b (o + 0) (ptr_val q)) (fsep (fwand (froom ty_ptr b (o + 0)) (froom (raw slab_ty) b o)) (ghosts.dealloc_token heap (raw slab_ty) (block_ptr b o))))
 
   -- null at the end; else the first block, and the others from where it leads
   abbrev pub blocks_own : ℕ → Ptr → Fml

@@ -32,7 +32,8 @@ use Rattle.pair_source.proofs.PairOrder.{pair_cmp}
 shapes_are : (pages : PageMap) (c : ColumnView) (d : Database) (column : Column) → IsColumnOf pages c.relation c.at d column → column_shapes d column ≡ shapes_of c.at (rows_in pages c.relation)
 shapes_are pages c d column of = rw of.0 (rw of.1 refl)
 
-tree_is : (pages : PageMap) (c : ColumnView) (d : Database) (column : Column) → IsColumnOf pages c.relation c.at d column → IsTreeOf c.relation c.at c.tree → quadtree_of d column ≡ tree_at pages c.tree
+tree_is : (pages : PageMap) (c : ColumnView) (d : Database) (column : Column) → IsColumnOf pages c.relation c.at d column → IsTreeOf c.relation c.at c.tree
+    → quadtree_of d column ≡ tree_at pages c.tree
 tree_is pages c d column of is = rw of.0 (rw of.1 (rw (is.index pages) refl))
 
 is_side : (pages : PageMap) (limits : Limits) (c : ColumnView) (d : Database) (column : Column) → IsLimits limits → RelationStands pages limits c.relation → IsColumnOf pages c.relation c.at d column
@@ -62,7 +63,8 @@ module _ (v : JoinedColumns) (trees : HaveTrees v) (pages : PageMap) (d : Databa
       (fitted pages of.limits v.left of.left_stands trees.0) (fitted pages of.limits v.right of.right_stands trees.1)
 
   pub searched : (held : List (Item (Block × Block))) (last : Option Hit) (counts : Counts) → IsCounted {N = Block × Block} [] counts
-      → (MeetsLaws (join_meaning (joining_in (join_view v) pages)) → Stands pair_cmp (join_meaning (joining_in (join_view v) pages)) held last []) → IsSearched pair_cmp (joining_in (join_view v) pages) held last counts
+      → (MeetsLaws (join_meaning (joining_in (join_view v) pages)) → Stands pair_cmp (join_meaning (joining_in (join_view v) pages)) held last [])
+      → IsSearched pair_cmp (joining_in (join_view v) pages) held last counts
   searched held last counts counted search = record {
     sound = is_sound;
     done = [];
@@ -79,7 +81,8 @@ moved_search wanted made same held last stands =
 
 -- the source that keeps this search has taken nothing, over all pages
 pub begun_over : (wanted : JoinedColumns) (kept : JoinView) → kept ≡ join_view wanted → (held : List (Item (Block × Block))) (last : Option Hit) (counts : Counts) → last ≡ None
-    → IsCounted {N = Block × Block} [] counts → ((m : PageMap) → MeetsLaws (join_meaning (joining_in (join_view wanted) m)) → Stands pair_cmp (join_meaning (joining_in (join_view wanted) m)) held last [])
+    → IsCounted {N = Block × Block} [] counts
+    → ((m : PageMap) → MeetsLaws (join_meaning (joining_in (join_view wanted) m)) → Stands pair_cmp (join_meaning (joining_in (join_view wanted) m)) held last [])
     → Begins (λ m d p t. HasTaken pair_cmp (joining_in kept m) held last counts d p t) wanted
 begun_over wanted kept same held last counts none counted stands =
     subst (λ (x : JoinView). Begins (λ m d p t. HasTaken pair_cmp (joining_in x m) held last counts d p t) wanted) (sym same)

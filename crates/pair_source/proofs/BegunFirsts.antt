@@ -47,9 +47,11 @@ HasIdsUpTo r greatest = (pages : PageMap) (limits : Limits) → RelationStands p
 
 -- where the source keeps a search of which nothing was taken
 begun_alone : (wanted : JoinedColumns) (kept : JoinView) → kept ≡ join_view wanted → (held : List (Item (Block × Block))) (last : Option Hit) (counts : Counts) → last ≡ None
-    → IsCounted {N = Block × Block} [] counts → ((m : PageMap) → MeetsLaws (join_meaning (joining_in (join_view wanted) m)) → Stands pair_cmp (join_meaning (joining_in (join_view wanted) m)) held last [])
+    → IsCounted {N = Block × Block} [] counts
+    → ((m : PageMap) → MeetsLaws (join_meaning (joining_in (join_view wanted) m)) → Stands pair_cmp (join_meaning (joining_in (join_view wanted) m)) held last [])
     → (lefts : LeftRows) (count greatest : ℕ) → lefts.given ≡ set.empty → lefts.waiting ≡ count → HasRowCount wanted.left.relation count → HasIdsUpTo wanted.left.relation greatest
-    → ((m : PageMap) → StandsOver pair_cmp (join_meaning (joining_in kept m)) held last → HasLefts (join_meaning (joining_in kept m)) count greatest → SemiStands pair_cmp (join_meaning (joining_in kept m)) held last lefts)
+    → ((m : PageMap) → StandsOver pair_cmp (join_meaning (joining_in kept m)) held last → HasLefts (join_meaning (joining_in kept m)) count greatest
+    → SemiStands pair_cmp (join_meaning (joining_in kept m)) held last lefts)
     → BeginsFirsts (λ m d p t. HasTakenFirsts pair_cmp (joining_in kept m) held last counts lefts d p t) wanted
 begun_alone wanted kept same held last counts none counted stands lefts count greatest empty all counts_rows bounds_ids semi =
     subst (λ (x : JoinView). ((m : PageMap) → StandsOver pair_cmp (join_meaning (joining_in x m)) held last → HasLefts (join_meaning (joining_in x m)) count greatest

@@ -51,14 +51,18 @@ has_sides j sound greatest small =
 
 -- where the source keeps a search of which nothing was taken
 begun_alone : (k : ℕ) (wanted : JoinedColumns) (kept : JoinView) → kept ≡ join_view wanted → (held : List (Item (Block × Block))) (last : Option Hit) (counts : Counts) → last ≡ None
-    → IsCounted {N = Block × Block} [] counts → ((m : PageMap) → MeetsLaws (join_meaning (joining_in (join_view wanted) m)) → Stands pair_cmp (join_meaning (joining_in (join_view wanted) m)) held last [])
-    → (partners : PartnerCounts) (lefts rights greatest : ℕ) → partners.most ≡ k → partners.waiting ≡ lefts * min k rights → ((answer : List Found) → partners_left last partners answer ≡ nearest_of k answer)
+    → IsCounted {N = Block × Block} [] counts
+    → ((m : PageMap) → MeetsLaws (join_meaning (joining_in (join_view wanted) m)) → Stands pair_cmp (join_meaning (joining_in (join_view wanted) m)) held last [])
+    → (partners : PartnerCounts) (lefts rights greatest : ℕ) → partners.most ≡ k → partners.waiting ≡ lefts * min k rights
+    → ((answer : List Found) → partners_left last partners answer ≡ nearest_of k answer)
     → HasRowCount wanted.left.relation lefts → HasRowCount wanted.right.relation rights → HasIdsUpTo wanted.left.relation greatest
-    → ((m : PageMap) → StandsOver pair_cmp (join_meaning (joining_in kept m)) held last → HasSides (join_meaning (joining_in kept m)) lefts rights greatest → KnnStands pair_cmp (join_meaning (joining_in kept m)) held last partners)
+    → ((m : PageMap) → StandsOver pair_cmp (join_meaning (joining_in kept m)) held last → HasSides (join_meaning (joining_in kept m)) lefts rights greatest
+    → KnnStands pair_cmp (join_meaning (joining_in kept m)) held last partners)
     → BeginsPartners k (λ m d p t. HasTakenPartners pair_cmp (joining_in kept m) held last counts partners d p t) wanted
 begun_alone k wanted kept same held last counts none counted stands partners lefts rights greatest most all rest lefts_rows rights_rows bounds_ids knn =
     subst (λ (x : JoinView). ((m : PageMap) → StandsOver pair_cmp (join_meaning (joining_in x m)) held last → HasSides (join_meaning (joining_in x m)) lefts rights greatest
-    → KnnStands pair_cmp (join_meaning (joining_in x m)) held last partners) → BeginsPartners k (λ m d p t. HasTakenPartners pair_cmp (joining_in x m) held last counts partners d p t) wanted) (sym same)
+    → KnnStands pair_cmp (join_meaning (joining_in x m)) held last partners) → BeginsPartners k (λ m d p t.
+    HasTakenPartners pair_cmp (joining_in x m) held last counts partners d p t) wanted) (sym same)
     (λ standing trees column other m d left right of.
     let j = joining_in (join_view wanted) m in
     let sound = is_sound wanted trees m d left right of in
@@ -67,7 +71,8 @@ begun_alone k wanted kept same held last counts none counted stands partners lef
     let side_too = right_side wanted trees m d left right of in
     let rows = rows_in m wanted.left.relation in
     let long : length j.left.shapes ≡ lefts = shapes_long wanted.left.relation.schema wanted.left.at column rows of.left_stands.table.rows ∙ sym (lefts_rows m of.limits of.left_stands) in
-    let long_too : length j.right.shapes ≡ rights = shapes_long wanted.right.relation.schema wanted.right.at other (rows_in m wanted.right.relation) of.right_stands.table.rows ∙ sym (rights_rows m of.limits of.right_stands) in
+    let long_too : length j.right.shapes ≡ rights = shapes_long wanted.right.relation.schema wanted.right.at other (rows_in m wanted.right.relation) of.right_stands.table.rows
+    ∙ sym (rights_rows m of.limits of.right_stands) in
     let small = shapes_small wanted.left.at greatest rows (bounds_ids m of.limits of.left_stands) in
     let sides = subst₂ (λ a b. HasSides (join_meaning j) a b greatest) long long_too (has_sides j sound greatest small) in
     let upto = (standing m (join_laws j sound, (found.done, found.stands)) sides).1 in
@@ -93,7 +98,8 @@ begun_alone k wanted kept same held last counts none counted stands partners lef
 -- the source that keeps the search that was made has taken nothing, over all pages
 pub begun_over : (k : ℕ) (wanted : JoinedColumns) (made kept : SearchParts) → kept ≡ made → made.view ≡ join_view wanted → made.last ≡ None → IsCounted {N = Block × Block} [] made.counts
     → ((m : PageMap) → MeetsLaws (join_meaning (joining_in (join_view wanted) m)) → Stands pair_cmp (join_meaning (joining_in (join_view wanted) m)) made.held made.last [])
-    → (partners : PartnerCounts) (lefts rights greatest : ℕ) → partners.most ≡ k → partners.waiting ≡ lefts * min k rights → ((answer : List Found) → partners_left kept.last partners answer ≡ nearest_of k answer)
+    → (partners : PartnerCounts) (lefts rights greatest : ℕ) → partners.most ≡ k → partners.waiting ≡ lefts * min k rights
+    → ((answer : List Found) → partners_left kept.last partners answer ≡ nearest_of k answer)
     → HasRowCount wanted.left.relation lefts → HasRowCount wanted.right.relation rights → HasIdsUpTo wanted.left.relation greatest
     → ((m : PageMap) → StandsOver pair_cmp (join_meaning (joining_in made.view m)) made.held made.last → HasSides (join_meaning (joining_in made.view m)) lefts rights greatest
     → KnnStands pair_cmp (join_meaning (joining_in made.view m)) kept.held kept.last partners)

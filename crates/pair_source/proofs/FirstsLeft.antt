@@ -1,5 +1,6 @@
 -- How far the visits of a call of a semi-join go: up to the gap of the first pair that comes next, or up to the ceiling where none is left.
-use Rattle.std.proofs.Common.{◌≡◌, ℕ, zero, suc, Bool, true, false, not, List, [], ◌∷◌, ◌++◌, All, Contains, filter, drop, ◌⊎◌, inl, inr, ⊎_elim, Option, None, Some, Result, Ok, Err, refl, sym, ap, ◌∙◌, subst, append-nil, Ordering}
+use Rattle.std.proofs.Common.{◌≡◌, ℕ, zero, suc, Bool, true, false, not, List, [], ◌∷◌, ◌++◌, All, Contains, filter, drop, ◌⊎◌, inl, inr, ⊎_elim, Option, None, Some}
+use Rattle.std.proofs.Common.{Result, Ok, Err, refl, sym, ap, ◌∙◌, subst, append-nil, Ordering}
 use Rattle.std.specs.FinSet as set
 use Rattle.std.proofs.lemmas.Bool.{not-true}
 use Rattle.std.proofs.lemmas.List.Elements.{All-contains}
@@ -137,14 +138,19 @@ module _ {N : Type 0} (m : Meaning N) (answer : List Found) (lists : ListsAnswer
       (first_or_none m lefts.given)
 
   -- after a call
-  pub far_after : PageMap → {cmp : N → N → Ordering} (result : Result (Option Hit) PageFault) (held : List (Item N)) (after : Option Hit) (attempt all : List (Item N)) → GivesFirstPair m lefts.given result
+  pub far_after : PageMap → {cmp : N → N → Ordering} (result : Result (Option Hit) PageFault) (held : List (Item N)) (after : Option Hit) (attempt all : List (Item N))
+      → GivesFirstPair m lefts.given result
       → Stands cmp m held after all → PairBounds cmp m lefts.given result attempt all → CallReach cmp m to_next result attempt all
   far_after pages {cmp} (Ok (Some hit)) held after attempt all pair h bounds =
       let (found, here, more, same) = given_next (gives hit.left lefts).given hit (taken_of pages hit pair) in
       let same_items : all ≡ all ++ attempt = sym (append-nil all) ∙ ap (λ l. all ++ l) (sym bounds.settled) in
       subst (λ o. CallReach cmp m (reach_from m.ceiling o) (Ok (Some hit)) attempt all) (sym here)
       (record {
-        far = record { test = up_to hit.gap; goes = row_goes m found hit (same_back hit.gap found.gap same.0) (pair_inside m lefts.given hit pair); near = subst (λ l. All (λ item. up_to hit.gap (gap_of item) ≡ true) l) same_items (all_up_to hit all bounds.near) };
+        far = record {
+          test = up_to hit.gap;
+          goes = row_goes m found hit (same_back hit.gap found.gap same.0) (pair_inside m lefts.given hit pair);
+          near = subst (λ l. All (λ item. up_to hit.gap (gap_of item) ≡ true) l) same_items (all_up_to hit all bounds.near);
+        };
         few = few_none attempt bounds.settled;
         exact = (bounds.settled, bounds.reached);
       })
@@ -152,7 +158,11 @@ module _ {N : Type 0} (m : Meaning N) (answer : List Found) (lists : ListsAnswer
       let same_items : all ≡ all ++ attempt = sym (append-nil all) ∙ ap (λ l. all ++ l) (sym bounds.settled) in
       subst (λ o. CallReach cmp m (reach_from m.ceiling o) ended attempt all) (sym (all_given pages over))
       (record {
-        far = record { test = within m.ceiling; goes = ceiling_goes m; near = subst (λ l. All (λ item. within m.ceiling (gap_of item) ≡ true) l) same_items (All-left (λ item. within m.ceiling (gap_of item) ≡ true) all held h.tracks.inside) };
+        far = record {
+          test = within m.ceiling;
+          goes = ceiling_goes m;
+          near = subst (λ l. All (λ item. within m.ceiling (gap_of item) ≡ true) l) same_items (All-left (λ item. within m.ceiling (gap_of item) ≡ true) all held h.tracks.inside);
+        };
         few = few_none attempt bounds.settled;
         exact = (bounds.settled, bounds.reached);
       })

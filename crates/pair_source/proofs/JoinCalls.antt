@@ -39,7 +39,8 @@ use Rattle.pair_source.proofs.Unasked.{no_visits}
 abbrev pub ids_of : Found → List ℕ
 ids_of found = found.left ∷ found.right ∷ []
 
-module _ {cmp : Block × Block → Block × Block → Ordering} (o : IsTotalOrder cmp) (j : Joining) (left right : ℕ) (pages : PageMap) (d : Database) (t : Taken) (one other : Column) (side : IsSideOf j.left d one) (side_too : IsSideOf j.right d other) where
+module _ {cmp : Block × Block → Block × Block → Ordering} (o : IsTotalOrder cmp) (j : Joining) (left right : ℕ) (pages : PageMap) (d : Database) (t : Taken)
+    (one other : Column) (side : IsSideOf j.left d one) (side_too : IsSideOf j.right d other) where
   abbrev m : Meaning (Block × Block)
   m = join_meaning j
 
@@ -70,12 +71,14 @@ module _ {cmp : Block × Block → Block × Block → Ordering} (o : IsTotalOrde
     gives : GivesList m rows
     gives = gives_joined j h.sound plan_measure plan_measure_is
 
-    module _ (new : SearchState (Block × Block)) (result : Result (Option Hit) PageFault) (next : GivesNext m old.last result) (call : CallVisits cmp m (visit_of left right) h.done old new result) where
+    module _ (new : SearchState (Block × Block)) (result : Result (Option Hit) PageFault) (next : GivesNext m old.last result)
+        (call : CallVisits cmp m (visit_of left right) h.done old new result) where
       abbrev all : List (Item (Block × Block))
       all = h.done ++ call.makes.taken
 
       reached : CallReach cmp m to result call.attempt all
-      reached = subst (λ x. CallReach cmp m x result call.attempt all) (sym to_is) (far_after m rows gives t.rows old.last given result new.held new.last call.attempt all next call.makes.stands call.bounds)
+      reached = subst (λ x. CallReach cmp m x result call.attempt all) (sym to_is)
+          (far_after m rows gives t.rows old.last given result new.held new.last call.attempt all next call.makes.stands call.bounds)
 
       -- the source when so much was taken after the call
       stands_at : (u : Taken) → AreGiven rows u.rows new.last → Standing new u
@@ -111,7 +114,8 @@ module _ {cmp : Block × Block → Block × Block → Ordering} (o : IsTotalOrde
         let far = reached new (Ok None) over call in
         record {
           row = ap (λ l. element l t.rows) told.rows_are ∙ element_map pair_row rows t.rows ∙ ap (option_map pair_row) none;
-          at = subst (Standing new) (sym (none_taken d p t ids_of rows told.rows_are none)) (stands_at new (Ok None) over call (record { rows = t.rows; is_ended = true }) (subst (AreGiven rows t.rows) (sym last) given));
+          at = subst (Standing new) (sym (none_taken d p t ids_of rows told.rows_are none))
+              (stands_at new (Ok None) over call (record { rows = t.rows; is_ended = true }) (subst (AreGiven rows t.rows) (sym last) given));
           visits = visits o j h.sound side.few side_too.few left right pages d p t rows told old new h.done h.stands h.counted call.attempt call.makes (Ok None) far (Ok None) far.exact;
         }
 

@@ -40,7 +40,8 @@ by_plan : (v : JoinView) (m : PageMap) (old new : SearchState (Block × Block)) 
     (HasTaken pair_cmp (joining_in v m) new.held new.last new.counts d (plan.Join h.left h.right v.ceiling))
     → SourceStep m d p t (counts_by old.counts) (counts_by new.counts) old.desk new.desk answer (HasTaken pair_cmp (joining_in v m) new.held new.last new.counts d p)
 by_plan v m old new answer d p t h step =
-    subst (λ (x : Plan). SourceStep m d x t (counts_by old.counts) (counts_by new.counts) old.desk new.desk answer (HasTaken pair_cmp (joining_in v m) new.held new.last new.counts d x)) (sym h.is) step
+    subst (λ (x : Plan). SourceStep m d x t (counts_by old.counts) (counts_by new.counts) old.desk new.desk answer (HasTaken pair_cmp (joining_in v m) new.held new.last new.counts d x))
+    (sym h.is) step
 
 unchanged : (pages : Option PageMap) (v after : JoinView) (old new : SearchState (Block × Block)) (answer : Result (Option Answer) PageFault) → after ≡ v
     → IfSome pages (StepOver v v old new answer) → IfSome pages (StepOver v after old new answer)

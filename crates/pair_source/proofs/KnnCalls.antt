@@ -1,5 +1,7 @@
 -- A call of a join of k partners as a source: what it gives, what it visits, and where the source stands then.
-use Rattle.std.proofs.Common.{◌≡◌, ℕ, zero, suc, ◌+◌, ◌*◌, ◌-◌, ◌≤◌, ◌<◌, min, Bool, true, false, cond, not, ◌&&◌, true≢false, List, [], ◌∷◌, ◌++◌, map, length, take, drop, Contains, ◌⊎◌, inl, inr, ⊎_elim, Option, None, Some, IfSome, option_map, Result, Ok, Err, OnOk, All, refl, sym, ap, ap₂, ◌∙◌, subst, arith, append-nil, Ordering}
+use Rattle.std.proofs.Common.{◌≡◌, ℕ, zero, suc, ◌+◌, ◌*◌, ◌-◌, ◌≤◌, ◌<◌, min, Bool, true, false, cond, not, ◌&&◌, true≢false, List, [], ◌∷◌, ◌++◌, map, length, take}
+use Rattle.std.proofs.Common.{drop, Contains, ◌⊎◌, inl, inr, ⊎_elim, Option, None, Some, IfSome, option_map, Result, Ok, Err, OnOk, All, refl, sym, ap, ap₂, ◌∙◌, subst}
+use Rattle.std.proofs.Common.{arith, append-nil, Ordering}
 use Rattle.std.specs.Prelude.{nat_eq}
 use Rattle.std.proofs.Math.Numerals.{add-one}
 use Rattle.std.proofs.lemmas.Bool.{ne_eqb, eq-eqb}
@@ -169,7 +171,8 @@ module _ {cmp : Block × Block → Block × Block → Ordering} (o : IsTotalOrde
           made.exact ∙ ap (λ (u : Taken). counts_at plan_measure d p (reach plan_measure d p u)) next in
           let total = h.waiting in
           record {
-            row = ap (λ l. element l t.rows) told.rows_are ∙ element_map pair_row rows t.rows ∙ ap (option_map pair_row) at ∙ ap (λ x. Some x) (pair_is a found hit tells gap (sym same.1) (sym same.2));
+            row = ap (λ l. element l t.rows) told.rows_are ∙ element_map pair_row rows t.rows ∙ ap (option_map pair_row) at
+                ∙ ap (λ x. Some x) (pair_is a found hit tells gap (sym same.1) (sym same.2));
             at = subst (Standing new after) (sym next) (record {
               left = one;
               right = other;

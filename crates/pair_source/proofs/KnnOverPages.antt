@@ -47,7 +47,8 @@ knn_plan : (v : JoinView) (m : PageMap) (old new : SearchState (Block × Block))
     (HasTakenPartners pair_cmp (joining_in v m) new.held new.last new.counts left d (plan.Knn counts.most h.left h.right v.ceiling)))
     → SourceStep m d p t (counts_by old.counts) (counts_by new.counts) old.desk new.desk answer (HasTakenPartners pair_cmp (joining_in v m) new.held new.last new.counts left d p)
 knn_plan v m old new counts left answer d p t h step =
-    subst (λ (x : Plan). SourceStep m d x t (counts_by old.counts) (counts_by new.counts) old.desk new.desk answer (HasTakenPartners pair_cmp (joining_in v m) new.held new.last new.counts left d x)) (sym h.is)
+    subst (λ (x : Plan). SourceStep m d x t (counts_by old.counts) (counts_by new.counts) old.desk new.desk answer (HasTakenPartners pair_cmp (joining_in v m) new.held new.last new.counts left d x))
+    (sym h.is)
     (step (subst (λ (x : Plan). HasTakenPartners pair_cmp (joining_in v m) old.held old.last old.counts counts d x t) h.is h))
 
 unchanged : (pages : Option PageMap) (v after : JoinView) (old new : SearchState (Block × Block)) (counts left : PartnerCounts) (answer : Result (Option Answer) PageFault) → after ≡ v

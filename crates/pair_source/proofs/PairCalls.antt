@@ -1,5 +1,6 @@
 -- A call of a search over a join, as the call of a source: what it visits, and what is counted.
-use Rattle.std.proofs.Common.{◌≡◌, ⊎_elim, ℕ, true, ◌+◌, ◌-◌, ◌≤◌, min, List, [], ◌∷◌, ◌++◌, map, flat_map, length, length-append, All, Contains, Option, Some, option_map, Result, Ok, Err, OnOk, refl, sym, ap, ◌∙◌, subst, arith, Ordering}
+use Rattle.std.proofs.Common.{◌≡◌, ⊎_elim, ℕ, true, ◌+◌, ◌-◌, ◌≤◌, min, List, [], ◌∷◌, ◌++◌, map, flat_map, length, length-append, All, Contains, Option, Some}
+use Rattle.std.proofs.Common.{option_map, Result, Ok, Err, OnOk, refl, sym, ap, ◌∙◌, subst, arith, Ordering}
 use Rattle.std.specs.Cmp.{IsTotalOrder}
 use Rattle.std.proofs.lemmas.List.{map-append, length-map}
 use Rattle.std.proofs.lemmas.List.Elements.{All-contains, Contains-append_left, Contains-append_right, Contains-append_cases}
@@ -81,7 +82,8 @@ pair_is a found hit tells gap left right =
 
 -- ---- calls
 
-module _ {cmp : Block × Block → Block × Block → Ordering} (o : IsTotalOrder cmp) (j : Joining) (sound : IsSound j) (few : listings j.left.tree ≤ most_listings) (few_too : listings j.right.tree ≤ most_listings)
+module _ {cmp : Block × Block → Block × Block → Ordering} (o : IsTotalOrder cmp) (j : Joining) (sound : IsSound j) (few : listings j.left.tree ≤ most_listings)
+    (few_too : listings j.right.tree ≤ most_listings)
     (left right : ℕ) (pages : PageMap) (d : Database) (p : Plan) (t : Taken) (rows : List Found) (told : IsTold d p rows j) where
   abbrev m : Meaning (Block × Block)
   m = join_meaning j
@@ -99,7 +101,8 @@ module _ {cmp : Block × Block → Block × Block → Ordering} (o : IsTotalOrde
 
   -- the search before the call, what the call took and attempted, and how far that is
   module _ (old new : SearchState (Block × Block)) (done : List (Item (Block × Block))) (before : Stands cmp m old.held old.last done) (counted : IsCounted done old.counts)
-      (attempt : List (Item (Block × Block))) (makes : Makes cmp m (visit_of left right) done old new attempt) (result : Result (Option Hit) PageFault) (reached : CallReach cmp m to result attempt (done ++ makes.taken)) where
+      (attempt : List (Item (Block × Block))) (makes : Makes cmp m (visit_of left right) done old new attempt) (result : Result (Option Hit) PageFault)
+      (reached : CallReach cmp m to result attempt (done ++ makes.taken)) where
     abbrev all : List (Item (Block × Block))
     all = done ++ makes.taken
 
@@ -193,6 +196,7 @@ module _ {cmp : Block × Block → Block × Block → Ordering} (o : IsTotalOrde
         settled (Ok a) just = ap (map (visit_of left right)) just.0
         settled (Err fault) just = tt
 
-        exactly : (answer : Result (Option Answer) PageFault) → OnOk answer ((attempt ≡ []) × Reached cmp m reached.far.test all) → OnOk answer (counts_by new.counts ≡ counts_taken d p (next_taken d p t))
+        exactly : (answer : Result (Option Answer) PageFault) → OnOk answer ((attempt ≡ []) × Reached cmp m reached.far.test all)
+            → OnOk answer (counts_by new.counts ≡ counts_taken d p (next_taken d p t))
         exactly (Ok a) just = counted_exactly just.1
         exactly (Err fault) just = tt

@@ -71,7 +71,8 @@ module _ (j : Joining) (sound : IsSound j) (gap : Measure) (is : IsMeasure gap) 
       (omega (arith, all.0, near_nodes, as_many, pairs, product), omega (arith, all.1, once, roughs, listed, ids, product))
 
   -- the counters are the numbers of what was taken
-  pub counted_is : listings j.left.tree ≤ most_listings → listings j.right.tree ≤ most_listings → (held done : List (Item (Block × Block))) → Tracks cmp m held done → (counts : Counts) → IsCounted done counts
+  pub counted_is : listings j.left.tree ≤ most_listings → listings j.right.tree ≤ most_listings → (held done : List (Item (Block × Block))) → Tracks cmp m held done
+      → (counts : Counts) → IsCounted done counts
       → (counts.visited ≡ length (nodes_of done)) × (counts.fetched ≡ length (roughs_of done))
   counted_is few few_too held done h counts counted =
       let small = small_counts few few_too held done h in

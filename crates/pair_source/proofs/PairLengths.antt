@@ -83,10 +83,14 @@ few_pairs b (Inner p q r s) c (Leaf rights) =
     let all = sum-four (λ node. 1) (pair_nodes (child b 0) p c u) (pair_nodes (child b 1) q c u) (pair_nodes (child b 2) r c u) (pair_nodes (child b 3) s c u) in
     omega (arith, one, two, three, four, all)
 few_pairs b (Inner p q r s) c (Inner v w x y) =
-    let one = few_under (λ node. 1) (pair_nodes (child b 0) p) c v w x y 1 (2 * listings p) (few_pairs (child b 0) p (child c 0) v) (few_pairs (child b 0) p (child c 1) w) (few_pairs (child b 0) p (child c 2) x) (few_pairs (child b 0) p (child c 3) y) in
-    let two = few_under (λ node. 1) (pair_nodes (child b 1) q) c v w x y 1 (2 * listings q) (few_pairs (child b 1) q (child c 0) v) (few_pairs (child b 1) q (child c 1) w) (few_pairs (child b 1) q (child c 2) x) (few_pairs (child b 1) q (child c 3) y) in
-    let three = few_under (λ node. 1) (pair_nodes (child b 2) r) c v w x y 1 (2 * listings r) (few_pairs (child b 2) r (child c 0) v) (few_pairs (child b 2) r (child c 1) w) (few_pairs (child b 2) r (child c 2) x) (few_pairs (child b 2) r (child c 3) y) in
-    let four = few_under (λ node. 1) (pair_nodes (child b 3) s) c v w x y 1 (2 * listings s) (few_pairs (child b 3) s (child c 0) v) (few_pairs (child b 3) s (child c 1) w) (few_pairs (child b 3) s (child c 2) x) (few_pairs (child b 3) s (child c 3) y) in
+    let one = few_under (λ node. 1) (pair_nodes (child b 0) p) c v w x y 1 (2 * listings p) (few_pairs (child b 0) p (child c 0) v)
+    (few_pairs (child b 0) p (child c 1) w) (few_pairs (child b 0) p (child c 2) x) (few_pairs (child b 0) p (child c 3) y) in
+    let two = few_under (λ node. 1) (pair_nodes (child b 1) q) c v w x y 1 (2 * listings q) (few_pairs (child b 1) q (child c 0) v)
+    (few_pairs (child b 1) q (child c 1) w) (few_pairs (child b 1) q (child c 2) x) (few_pairs (child b 1) q (child c 3) y) in
+    let three = few_under (λ node. 1) (pair_nodes (child b 2) r) c v w x y 1 (2 * listings r) (few_pairs (child b 2) r (child c 0) v)
+    (few_pairs (child b 2) r (child c 1) w) (few_pairs (child b 2) r (child c 2) x) (few_pairs (child b 2) r (child c 3) y) in
+    let four = few_under (λ node. 1) (pair_nodes (child b 3) s) c v w x y 1 (2 * listings s) (few_pairs (child b 3) s (child c 0) v)
+    (few_pairs (child b 3) s (child c 1) w) (few_pairs (child b 3) s (child c 2) x) (few_pairs (child b 3) s (child c 3) y) in
     let all = sum-four (λ node. 1) (under_children (pair_nodes (child b 0) p) c v w x y) (under_children (pair_nodes (child b 1) q) c v w x y)
     (under_children (pair_nodes (child b 2) r) c v w x y) (under_children (pair_nodes (child b 3) s) c v w x y) in
     omega (arith, one, two, three, four, all)
@@ -125,10 +129,14 @@ few_ids b (Inner p q r s) c (Leaf rights) =
     let all = sum-four ids_long (pair_nodes (child b 0) p c u) (pair_nodes (child b 1) q c u) (pair_nodes (child b 2) r c u) (pair_nodes (child b 3) s c u) in
     omega (arith, one, two, three, four, all)
 few_ids b (Inner p q r s) c (Inner v w x y) =
-    let one = few_under ids_long (pair_nodes (child b 0) p) c v w x y 0 (listings p) (omega (arith, few_ids (child b 0) p (child c 0) v)) (omega (arith, few_ids (child b 0) p (child c 1) w)) (omega (arith, few_ids (child b 0) p (child c 2) x)) (omega (arith, few_ids (child b 0) p (child c 3) y)) in
-    let two = few_under ids_long (pair_nodes (child b 1) q) c v w x y 0 (listings q) (omega (arith, few_ids (child b 1) q (child c 0) v)) (omega (arith, few_ids (child b 1) q (child c 1) w)) (omega (arith, few_ids (child b 1) q (child c 2) x)) (omega (arith, few_ids (child b 1) q (child c 3) y)) in
-    let three = few_under ids_long (pair_nodes (child b 2) r) c v w x y 0 (listings r) (omega (arith, few_ids (child b 2) r (child c 0) v)) (omega (arith, few_ids (child b 2) r (child c 1) w)) (omega (arith, few_ids (child b 2) r (child c 2) x)) (omega (arith, few_ids (child b 2) r (child c 3) y)) in
-    let four = few_under ids_long (pair_nodes (child b 3) s) c v w x y 0 (listings s) (omega (arith, few_ids (child b 3) s (child c 0) v)) (omega (arith, few_ids (child b 3) s (child c 1) w)) (omega (arith, few_ids (child b 3) s (child c 2) x)) (omega (arith, few_ids (child b 3) s (child c 3) y)) in
+    let one = few_under ids_long (pair_nodes (child b 0) p) c v w x y 0 (listings p) (omega (arith, few_ids (child b 0) p (child c 0) v))
+    (omega (arith, few_ids (child b 0) p (child c 1) w)) (omega (arith, few_ids (child b 0) p (child c 2) x)) (omega (arith, few_ids (child b 0) p (child c 3) y)) in
+    let two = few_under ids_long (pair_nodes (child b 1) q) c v w x y 0 (listings q) (omega (arith, few_ids (child b 1) q (child c 0) v))
+    (omega (arith, few_ids (child b 1) q (child c 1) w)) (omega (arith, few_ids (child b 1) q (child c 2) x)) (omega (arith, few_ids (child b 1) q (child c 3) y)) in
+    let three = few_under ids_long (pair_nodes (child b 2) r) c v w x y 0 (listings r) (omega (arith, few_ids (child b 2) r (child c 0) v))
+    (omega (arith, few_ids (child b 2) r (child c 1) w)) (omega (arith, few_ids (child b 2) r (child c 2) x)) (omega (arith, few_ids (child b 2) r (child c 3) y)) in
+    let four = few_under ids_long (pair_nodes (child b 3) s) c v w x y 0 (listings s) (omega (arith, few_ids (child b 3) s (child c 0) v))
+    (omega (arith, few_ids (child b 3) s (child c 1) w)) (omega (arith, few_ids (child b 3) s (child c 2) x)) (omega (arith, few_ids (child b 3) s (child c 3) y)) in
     let all = sum-four ids_long (under_children (pair_nodes (child b 0) p) c v w x y) (under_children (pair_nodes (child b 1) q) c v w x y)
     (under_children (pair_nodes (child b 2) r) c v w x y) (under_children (pair_nodes (child b 3) s) c v w x y) in
     omega (arith, one, two, three, four, all)

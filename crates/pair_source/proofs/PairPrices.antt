@@ -132,7 +132,8 @@ pub semi_still : (pages : Option PageMap) (v : JoinView) (lefts : LeftRows) (s :
 semi_still None v lefts s answer = tt
 semi_still (Some m) v lefts s answer = λ d p t k. still v m 0 0 d p (semi_pays v m 0 0 d p k.left k.right k.is k.left_side k.right_side) s.desk answer
 
-pub semi_costs : (one other : ℕ) (pages : Option PageMap) (v : JoinView) (lefts : LeftRows) (old new : SearchState (Block × Block)) (result : Result (Option Hit) PageFault) (answer : Result (Option Answer) PageFault)
+pub semi_costs : (one other : ℕ) (pages : Option PageMap) (v : JoinView) (lefts : LeftRows) (old new : SearchState (Block × Block))
+    (result : Result (Option Hit) PageFault) (answer : Result (Option Answer) PageFault)
     → (0 < lefts.waiting → IfSome pages (λ m. MakesPairVisits pair_cmp (join_meaning (joining_in v m)) (visit_of one other) lefts.given old new result)) → (lefts.waiting ≡ 0 → new ≡ old)
     → IfSome pages (SemiCosts v lefts old new answer)
 semi_costs one other None v lefts old new result answer makes over = tt
@@ -149,11 +150,13 @@ abbrev pub KnnCosts : JoinView → PartnerCounts → SearchState (Block × Block
 KnnCosts v counts old new answer m =
     (d : Database) (p : Plan) (t : Taken) → HasTakenPartners pair_cmp (joining_in v m) old.held old.last old.counts counts d p t → Costs (heights_of v) 0 0 0 d p old.desk new.desk answer
 
-pub knn_still : (pages : Option PageMap) (v : JoinView) (counts : PartnerCounts) (s : SearchState (Block × Block)) (answer : Result (Option Answer) PageFault) → IfSome pages (KnnCosts v counts s s answer)
+pub knn_still : (pages : Option PageMap) (v : JoinView) (counts : PartnerCounts) (s : SearchState (Block × Block)) (answer : Result (Option Answer) PageFault)
+    → IfSome pages (KnnCosts v counts s s answer)
 knn_still None v counts s answer = tt
 knn_still (Some m) v counts s answer = λ d p t k. still v m 0 0 d p (knn_pays v m 0 0 d p counts.most k.left k.right k.is k.left_side k.right_side) s.desk answer
 
-pub knn_costs : (one other : ℕ) (pages : Option PageMap) (v : JoinView) (counts : PartnerCounts) (old new : SearchState (Block × Block)) (result : Result (Option Hit) PageFault) (answer : Result (Option Answer) PageFault)
+pub knn_costs : (one other : ℕ) (pages : Option PageMap) (v : JoinView) (counts : PartnerCounts) (old new : SearchState (Block × Block))
+    (result : Result (Option Hit) PageFault) (answer : Result (Option Answer) PageFault)
     → (0 < counts.waiting → IfSome pages (λ m. MakesPartnerVisits pair_cmp (join_meaning (joining_in v m)) (visit_of one other) counts old new result)) → (counts.waiting ≡ 0 → new ≡ old)
     → IfSome pages (KnnCosts v counts old new answer)
 knn_costs one other None v counts old new result answer makes over = tt

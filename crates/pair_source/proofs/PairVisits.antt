@@ -54,10 +54,12 @@ pub visits_counted : (left right : ℕ) (items : List (Item (Block × Block))) �
 visits_counted left right [] h = refl
 visits_counted left right (Node g b ∷ items) h =
     ap (λ (c : Counts). count_of (visit_of left right (Node g b)) plus c) (visits_counted left right items (All-tail IsVisit (Node g b) items h))
-    ∙ counts_one (count_of (visit_of left right (Node g b)) plus record { blocks = 0; pairs = length (nodes_of items); geometries = length (roughs_of items) }) (record { blocks = 0; pairs = suc (length (nodes_of items)); geometries = length (roughs_of items) }) (omega arith) (omega arith) (omega arith)
+    ∙ counts_one (count_of (visit_of left right (Node g b)) plus record { blocks = 0; pairs = length (nodes_of items); geometries = length (roughs_of items) })
+    (record { blocks = 0; pairs = suc (length (nodes_of items)); geometries = length (roughs_of items) }) (omega arith) (omega arith) (omega arith)
 visits_counted left right (Rough g l s ∷ items) h =
     ap (λ (c : Counts). count_of (visit_of left right (Rough g l s)) plus c) (visits_counted left right items (All-tail IsVisit (Rough g l s) items h))
-    ∙ counts_one (count_of (visit_of left right (Rough g l s)) plus record { blocks = 0; pairs = length (nodes_of items); geometries = length (roughs_of items) }) (record { blocks = 0; pairs = length (nodes_of items); geometries = suc (length (roughs_of items)) }) (omega arith) (omega arith) (omega arith)
+    ∙ counts_one (count_of (visit_of left right (Rough g l s)) plus record { blocks = 0; pairs = length (nodes_of items); geometries = length (roughs_of items) })
+    (record { blocks = 0; pairs = length (nodes_of items); geometries = suc (length (roughs_of items)) }) (omega arith) (omega arith) (omega arith)
 visits_counted left right (Row g l s ∷ items) h = absurd (All-head IsVisit (Row g l s) items h)
 
 module _ (j : Joining) (sound : IsSound j) (gap : Measure) (is : IsMeasure gap) (to : Reach) (test : Frac → Bool) (tells : IsTestOf to test) where
@@ -122,7 +124,8 @@ module _ (j : Joining) (sound : IsSound j) (gap : Measure) (is : IsMeasure gap) 
       go (is_rough s || is_rough t)
 
   -- what a pair of places finds
-  finds_there : (node : PairNode) → Contains nodes node → (t u : Tree) × (m.finds (blocks_of node) ≡ map (blocks_item j) (divided node.left t node.right u) ++ map leaf_item (shown j (blocks_of node) node.ids))
+  finds_there : (node : PairNode) → Contains nodes node → (t u : Tree)
+      × (m.finds (blocks_of node) ≡ map (blocks_item j) (divided node.left t node.right u) ++ map leaf_item (shown j (blocks_of node) node.ids))
   finds_there node at =
       let k = pair_stands root_block j.left.tree root_block j.right.tree node at in (
         k.place,
@@ -193,7 +196,8 @@ module _ (j : Joining) (sound : IsSound j) (gap : Measure) (is : IsMeasure gap) 
         ⊎_elim (λ i. Contains-append_left (nodes_of done) (pending m held) b (node_among done g b i))
         (λ i.
         Contains-append_right (nodes_of done) (pending m held) b
-        (queued_pending m laws held g b i (All-contains (HasGap m) (done ++ held) (Node g b) h.gaps at) (All-contains (λ item. within m.ceiling (gap_of item) ≡ true) (done ++ held) (Node g b) h.inside at)))
+        (queued_pending m laws held g b i (All-contains (HasGap m) (done ++ held) (Node g b) h.gaps at)
+        (All-contains (λ item. within m.ceiling (gap_of item) ≡ true) (done ++ held) (Node g b) h.inside at)))
         (Contains-append_cases done held (Node g b) at) in
         (split_node m laws (nodes_of done) (pending m held) h.split b there).0
 

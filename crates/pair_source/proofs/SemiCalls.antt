@@ -1,5 +1,7 @@
 -- A call of a semi-join as a source: what it gives, what it visits, and where the source stands then.
-use Rattle.std.proofs.Common.{◌≡◌, ℕ, zero, suc, ◌+◌, ◌-◌, ◌≤◌, ◌<◌, min, Bool, true, false, cond, not, ◌&&◌, true≢false, List, [], ◌∷◌, ◌++◌, map, length, take, drop, Contains, ◌⊎◌, inl, inr, ⊎_elim, Option, None, Some, IfSome, option_map, Result, Ok, Err, OnOk, All, refl, sym, ap, ◌∙◌, subst, arith, append-nil, Ordering}
+use Rattle.std.proofs.Common.{◌≡◌, ℕ, zero, suc, ◌+◌, ◌-◌, ◌≤◌, ◌<◌, min, Bool, true, false, cond, not, ◌&&◌, true≢false, List, [], ◌∷◌, ◌++◌, map, length, take, drop}
+use Rattle.std.proofs.Common.{Contains, ◌⊎◌, inl, inr, ⊎_elim, Option, None, Some, IfSome, option_map, Result, Ok, Err, OnOk, All, refl, sym, ap, ◌∙◌, subst, arith}
+use Rattle.std.proofs.Common.{append-nil, Ordering}
 use Rattle.std.specs.Prelude.{nat_eq}
 use Rattle.std.proofs.Math.Numerals.{add-one}
 use Rattle.std.proofs.lemmas.Bool.{ne_eqb, eq-eqb}
@@ -55,9 +57,11 @@ from_firsts : (rows : List Found) (found : Found) → Contains (first_of_each ro
 from_firsts [] found at = at
 from_firsts (x ∷ xs) found at =
     let others = λ (other : Found). not (nat_eq other.left x.left) in
-    ⊎_elim (λ e. subst (Contains (x ∷ xs)) e (here x xs)) (λ t. there x xs found (from_firsts xs found (from_filter others (first_of_each xs) found t).0)) (cons_cases x (Rattle.std.proofs.Common.filter others (first_of_each xs)) found at)
+    ⊎_elim (λ e. subst (Contains (x ∷ xs)) e (here x xs)) (λ t. there x xs found (from_firsts xs found (from_filter others (first_of_each xs) found t).0))
+    (cons_cases x (Rattle.std.proofs.Common.filter others (first_of_each xs)) found at)
 
-module _ {cmp : Block × Block → Block × Block → Ordering} (o : IsTotalOrder cmp) (j : Joining) (pages : PageMap) (left right : ℕ) (d : Database) (t : Taken) (one other : Column) (side : IsSideOf j.left d one) (side_too : IsSideOf j.right d other) where
+module _ {cmp : Block × Block → Block × Block → Ordering} (o : IsTotalOrder cmp) (j : Joining) (pages : PageMap) (left right : ℕ) (d : Database) (t : Taken)
+    (one other : Column) (side : IsSideOf j.left d one) (side_too : IsSideOf j.right d other) where
   abbrev m : Meaning (Block × Block)
   m = join_meaning j
 
@@ -127,7 +131,8 @@ module _ {cmp : Block × Block → Block × Block → Ordering} (o : IsTotalOrde
       below : t.rows < length j.left.shapes
       below = let all = h.waiting in omega (arith, all, waits)
 
-      module _ (new : SearchState (Block × Block)) (result : Result (Option Hit) PageFault) (pair : GivesFirstPair m lefts.given result) (call : PairVisits cmp m (visit_of left right) lefts.given done old new result) where
+      module _ (new : SearchState (Block × Block)) (result : Result (Option Hit) PageFault) (pair : GivesFirstPair m lefts.given result)
+          (call : PairVisits cmp m (visit_of left right) lefts.given done old new result) where
         abbrev all : List (Item (Block × Block))
         all = done ++ call.makes.taken
 
@@ -143,7 +148,8 @@ module _ {cmp : Block × Block → Block × Block → Ordering} (o : IsTotalOrde
         searched : IsSearched cmp j new.held new.last new.counts
         searched = record { sound = h.searched.sound; done = all; stands = call.makes.stands; counted = call.makes.counted h.searched.counted }
 
-      pub row_step : (new : SearchState (Block × Block)) (after : LeftRows) (hit : Hit) (a : Answer) → TellsPair a hit → GivesFirstPair m lefts.given (Ok (Some hit)) → GivesLeft lefts after (Ok (Some hit))
+      pub row_step : (new : SearchState (Block × Block)) (after : LeftRows) (hit : Hit) (a : Answer) → TellsPair a hit → GivesFirstPair m lefts.given (Ok (Some hit))
+          → GivesLeft lefts after (Ok (Some hit))
           → AreGivenUpTo m new.last after → TakesFirst (pairs_left lefts.given (pairs_in j)) (pairs_left after.given (pairs_in j)) (Ok (Some hit))
           → MakesPairVisits cmp m (visit_of left right) lefts.given old new (Ok (Some hit)) → Step old new after (Ok (Some a))
       row_step new after hit a tells pair left_row upto takes makes =
@@ -159,7 +165,8 @@ module _ {cmp : Block × Block → Block × Block → Ordering} (o : IsTotalOrde
           made.exact ∙ ap (λ (u : Taken). counts_at plan_measure d p (reach plan_measure d p u)) next in
           let total = h.waiting in
           record {
-            row = ap (λ l. element l t.rows) told.rows_are ∙ element_map pair_row rows t.rows ∙ ap (option_map pair_row) at ∙ ap (λ x. Some x) (pair_is a found hit tells gap (sym same.1) (sym same.2));
+            row = ap (λ l. element l t.rows) told.rows_are ∙ element_map pair_row rows t.rows ∙ ap (option_map pair_row) at
+                ∙ ap (λ x. Some x) (pair_is a found hit tells gap (sym same.1) (sym same.2));
             at = subst (Standing new after) (sym next) (record {
               left = one;
               right = other;
@@ -177,7 +184,8 @@ module _ {cmp : Block × Block → Block × Block → Ordering} (o : IsTotalOrde
           }
 
       -- the source when nothing more was given
-      stays_at : (new : SearchState (Block × Block)) (after : LeftRows) → after ≡ lefts → IsSearched cmp j new.held new.last new.counts → AreGivenUpTo m new.last after → (u : Taken) → u.rows ≡ t.rows → Standing new after u
+      stays_at : (new : SearchState (Block × Block)) (after : LeftRows) → after ≡ lefts → IsSearched cmp j new.held new.last new.counts → AreGivenUpTo m new.last after
+          → (u : Taken) → u.rows ≡ t.rows → Standing new after u
       stays_at new after same found upto u rows_same =
           let waiting_same : after.waiting ≡ lefts.waiting = ap (λ (l : LeftRows). l.waiting) same in
           let total = h.waiting in

@@ -52,7 +52,8 @@ semi_plan : (v : JoinView) (m : PageMap) (old new : SearchState (Block × Block)
     (HasTakenFirsts pair_cmp (joining_in v m) new.held new.last new.counts left d (plan.Semi h.left h.right v.ceiling)))
     → SourceStep m d p t (counts_by old.counts) (counts_by new.counts) old.desk new.desk answer (HasTakenFirsts pair_cmp (joining_in v m) new.held new.last new.counts left d p)
 semi_plan v m old new lefts left answer d p t h step =
-    subst (λ (x : Plan). SourceStep m d x t (counts_by old.counts) (counts_by new.counts) old.desk new.desk answer (HasTakenFirsts pair_cmp (joining_in v m) new.held new.last new.counts left d x)) (sym h.is)
+    subst (λ (x : Plan). SourceStep m d x t (counts_by old.counts) (counts_by new.counts) old.desk new.desk answer (HasTakenFirsts pair_cmp (joining_in v m) new.held new.last new.counts left d x))
+    (sym h.is)
     (step (subst (λ (x : Plan). HasTakenFirsts pair_cmp (joining_in v m) old.held old.last old.counts lefts d x t) h.is h))
 
 unchanged : (pages : Option PageMap) (v after : JoinView) (old new : SearchState (Block × Block)) (lefts left : LeftRows) (answer : Result (Option Answer) PageFault) → after ≡ v

@@ -134,7 +134,8 @@ pub record IsSearched (cmp : Block × Block → Block × Block → Ordering) (j 
 -- ---- where a source stands
 
 -- So much was taken of a join: it is that of two columns, the search stands, and its rows are the first of the joined ones.
-pub record HasTaken (cmp : Block × Block → Block × Block → Ordering) (j : Joining) (held : List (Item (Block × Block))) (last : Option Hit) (counts : Numbers) (d : Database) (p : Plan) (t : Taken) : Type 0 where
+pub record HasTaken (cmp : Block × Block → Block × Block → Ordering) (j : Joining) (held : List (Item (Block × Block))) (last : Option Hit) (counts : Numbers)
+    (d : Database) (p : Plan) (t : Taken) : Type 0 where
   pub left : Column
   pub right : Column
   pub is : p ≡ plan.Join left right j.ceiling
@@ -143,8 +144,10 @@ pub record HasTaken (cmp : Block × Block → Block × Block → Ordering) (j : 
   pub searched : IsSearched cmp j held last counts
   pub rows : AreGiven (pairs_in j) t.rows last
 
--- So much was taken of a semi-join: it is that of two columns, the search stands, the rows were the first of the first pairs, as many left rows as are not given wait, and where none waits the counts are those of the last row.
-pub record HasTakenFirsts (cmp : Block × Block → Block × Block → Ordering) (j : Joining) (held : List (Item (Block × Block))) (last : Option Hit) (counts : Numbers) (lefts : LeftRows) (d : Database) (p : Plan) (t : Taken) : Type 0 where
+-- So much was taken of a semi-join: it is that of two columns, the search stands, the rows were the first of the first pairs, as many left
+-- rows as are not given wait, and where none waits the counts are those of the last row.
+pub record HasTakenFirsts (cmp : Block × Block → Block × Block → Ordering) (j : Joining) (held : List (Item (Block × Block))) (last : Option Hit) (counts : Numbers)
+    (lefts : LeftRows) (d : Database) (p : Plan) (t : Taken) : Type 0 where
   pub left : Column
   pub right : Column
   pub is : p ≡ plan.Semi left right j.ceiling
@@ -157,8 +160,10 @@ pub record HasTakenFirsts (cmp : Block × Block → Block × Block → Ordering)
   pub waiting : t.rows + lefts.waiting ≡ length j.left.shapes
   pub spent : lefts.waiting ≡ 0 → counts_by counts ≡ counts_at plan_measure d (innermost p) (reach_of_last (take t.rows (source plan_measure d p)))
 
--- So much was taken of a join of k partners: it is that of two columns, the search stands and is counted, the rows were the first of the partners, as many as can still be given wait, and where none waits the counts are those of the last row.
-pub record HasTakenPartners (cmp : Block × Block → Block × Block → Ordering) (j : Joining) (held : List (Item (Block × Block))) (last : Option Hit) (counts : Numbers) (partners : PartnerCounts) (d : Database) (p : Plan) (t : Taken) : Type 0 where
+-- So much was taken of a join of k partners: it is that of two columns, the search stands and is counted, the rows were the first of the
+-- partners, as many as can still be given wait, and where none waits the counts are those of the last row.
+pub record HasTakenPartners (cmp : Block × Block → Block × Block → Ordering) (j : Joining) (held : List (Item (Block × Block))) (last : Option Hit) (counts : Numbers)
+    (partners : PartnerCounts) (d : Database) (p : Plan) (t : Taken) : Type 0 where
   pub left : Column
   pub right : Column
   pub is : p ≡ plan.Knn partners.most left right j.ceiling

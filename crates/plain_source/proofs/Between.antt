@@ -1,5 +1,6 @@
 -- The sorted rows of a column whose ints lie within bounds, and the entries of its index that do.
-use Rattle.std.proofs.Common.{◌≡◌, ℕ, ℤ, suc, ◌+◌, ◌/◌, ◌%◌, ◌^◌, ◌<◌, ◌≤◌, ◌<ℤ◌, Bool, true, false, not, ◌&&◌, ◌||◌, cond, List, [], ◌∷◌, map, filter, refl, sym, ◌∙◌, ap, ap₂, subst, inl, inr, arith, true≢false}
+use Rattle.std.proofs.Common.{◌≡◌, ℕ, ℤ, suc, ◌+◌, ◌/◌, ◌%◌, ◌^◌, ◌<◌, ◌≤◌, ◌<ℤ◌, Bool, true, false, not, ◌&&◌, ◌||◌, cond, List, [], ◌∷◌, map, filter, refl, sym, ◌∙◌}
+use Rattle.std.proofs.Common.{ap, ap₂, subst, inl, inr, arith, true≢false}
 use Rattle.std.specs.Prelude.{nat_lt, nat_le, int_lt, int_le, Option, None, Some, is_some}
 use Rattle.std.specs.Cmp.{int_ranks}
 use Rattle.std.specs.Ordering.{int_cmp, is_lt, MatchOrdering}
@@ -133,7 +134,8 @@ after_is (Some a) e f i =
     let back : int_of e.0 ≡ v = ap int_of i.0.1.1 ∙ key_back v i.0.1.0 in
     ap (λ (n : ℤ). int_lt a.0 n || (int_le a.0 n && nat_lt a.1 e.1)) back ∙ go (int_cmp a.0 v) refl (int_ranks a.0 v)
   where
-    go : (o : Ordering) → int_cmp a.0 i.0.0 ≡ o → MatchOrdering o (a.0 <ℤ i.0.0) (a.0 ≡ i.0.0) (i.0.0 <ℤ a.0) → (int_lt a.0 i.0.0 || (int_le a.0 i.0.0 && nat_lt a.1 e.1)) ≡ nat_le (place_after (Some a)) (entry_number e)
+    go : (o : Ordering) → int_cmp a.0 i.0.0 ≡ o → MatchOrdering o (a.0 <ℤ i.0.0) (a.0 ≡ i.0.0) (i.0.0 <ℤ a.0)
+        → (int_lt a.0 i.0.0 || (int_le a.0 i.0.0 && nat_lt a.1 e.1)) ≡ nat_le (place_after (Some a)) (entry_number e)
     go ordering.Less s r =
         let l : key_of (value.Int a.0) < key_of (value.Int i.0.0) = key_lt a.0 i.0.0 f.0 i.0.1.0 r in
         rw (int_lt_is a.0 i.0.0 r) (sym (le_true (place_after (Some a)) (entry_number e) (omega (arith, l, i.0.1.1, f.1))))
@@ -168,7 +170,8 @@ left_out low high from e es h = rw h refl
 
 left_below : (low high : ℤ) (from : ℕ) (e : Entry) (es : List Entry) → nat_le from (entry_number e) ≡ false → left_from low high from (e ∷ es) ≡ left_from low high from es
 left_below low high from e es h =
-    elim (lies_within low high (entry_number e)) as (λ b. filter (nat_le from) (cond b (entry_number e ∷ filter (lies_within low high) (map entry_number es)) (filter (lies_within low high) (map entry_number es))) ≡ left_from low high from es) [
+    elim (lies_within low high (entry_number e)) as
+    (λ b. filter (nat_le from) (cond b (entry_number e ∷ filter (lies_within low high) (map entry_number es)) (filter (lies_within low high) (map entry_number es))) ≡ left_from low high from es) [
       | true ↦ rw h refl
       | false ↦ refl
     ]
@@ -182,7 +185,8 @@ pub left_none : (low high : ℤ) (after : Option IntEntry) (es : List Entry) →
     → left_from low high (place_after after) es ≡ []
 left_none low high after [] f i h = refl
 left_none low high after (e ∷ es) f i h = go (λ k. left_none low high after es f i.1 k) (is_within low high (int_of e.0)) (is_after after (int_of e.0, e.1)) refl refl where
-  go : (between_entry low high after (int_entries es) ≡ None → left_from low high (place_after after) es ≡ []) → (w a : Bool) → is_within low high (int_of e.0) ≡ w → is_after after (int_of e.0, e.1) ≡ a → left_from low high (place_after after) (e ∷ es) ≡ []
+  go : (between_entry low high after (int_entries es) ≡ None → left_from low high (place_after after) es ≡ []) → (w a : Bool) → is_within low high (int_of e.0) ≡ w
+      → is_after after (int_of e.0, e.1) ≡ a → left_from low high (place_after after) (e ∷ es) ≡ []
   go rest true true ew ea = (let k : between_entry low high after (int_entries (e ∷ es)) ≡ Some (int_of e.0, e.1) = rw (ew, ea) refl in absurd (none_some (int_of e.0, e.1) (sym h ∙ k)))
   go rest true false ew ea =
       let k : between_entry low high after (int_entries (e ∷ es)) ≡ between_entry low high after (int_entries es) = rw (ew, ea) refl in
@@ -211,7 +215,8 @@ some_is x y e = ap value_or e where
   value_or (Some n) = n
 
 -- an entry: it is the first that is left, and the others come after it
-pub left_some : (low high : ℤ) (after : Option IntEntry) (x : IntEntry) (es : List Entry) → IsFitAfter after → Each IsIntEntry es → IsInOrder es → between_entry low high after (int_entries es) ≡ Some x
+pub left_some : (low high : ℤ) (after : Option IntEntry) (x : IntEntry) (es : List Entry) → IsFitAfter after → Each IsIntEntry es → IsInOrder es
+    → between_entry low high after (int_entries es) ≡ Some x
     → IsLeft low high (place_after after) x es
 left_some low high after x [] f i o h = absurd (none_some x h)
 left_some low high after x (e ∷ es) f i o h = go (λ k. left_some low high after x es f i.1 o.1 k) (is_within low high (int_of e.0)) (is_after after (int_of e.0, e.1)) refl refl where
@@ -221,13 +226,15 @@ left_some low high after x (e ∷ es) f i o h = go (λ k. left_some low high aft
       let behind : Each (λ n. entry_number e < n) (l.number ∷ left_from low high (place_after (Some x)) es) = subst P l.first (above_left low high (place_after after) e es o.0) in
       record {
         number = l.number;
-        first = s ∙ l.first ∙ ap (λ (ns : List ℕ). l.number ∷ ns) (sym (left_below low high (place_after (Some x)) e es (le_false (place_after (Some x)) (entry_number e) (omega (arith, l.place, behind.0)))));
+        first = s ∙ l.first ∙ ap (λ (ns : List ℕ). l.number ∷ ns)
+            (sym (left_below low high (place_after (Some x)) e es (le_false (place_after (Some x)) (entry_number e) (omega (arith, l.place, behind.0)))));
         place = l.place;
         id = l.id;
         fit = l.fit;
       }
 
-  go : (between_entry low high after (int_entries es) ≡ Some x → IsLeft low high (place_after after) x es) → (w a : Bool) → is_within low high (int_of e.0) ≡ w → is_after after (int_of e.0, e.1) ≡ a → IsLeft low high (place_after after) x (e ∷ es)
+  go : (between_entry low high after (int_entries es) ≡ Some x → IsLeft low high (place_after after) x es) → (w a : Bool) → is_within low high (int_of e.0) ≡ w
+      → is_after after (int_of e.0, e.1) ≡ a → IsLeft low high (place_after after) x (e ∷ es)
   go rest true true ew ea =
       let k : between_entry low high after (int_entries (e ∷ es)) ≡ Some (int_of e.0, e.1) = rw (ew, ea) refl in
       let is : (int_of e.0, e.1) ≡ x = some_is (int_of e.0, e.1) x (sym k ∙ h) in
@@ -237,10 +244,13 @@ left_some low high after x (e ∷ es) f i o h = go (λ k. left_some low high aft
       let key : key_of (value.Int x.0) ≡ e.0 = ap (λ (y : IntEntry). key_of (value.Int y.0)) (sym is) ∙ ap (λ (n : ℤ). key_of (value.Int n)) whole ∙ sym i.0.0.1.1 in
       let id : x.1 ≡ e.1 = ap (λ (y : IntEntry). y.1) (sym is) in
       let place : place_after (Some x) ≡ entry_number e + 1 = omega (arith, key, id) in
-      let all : Each (λ n. entry_number e < n) (filter (lies_within low high) (map entry_number es)) = Each-filter (λ n. entry_number e < n) (lies_within low high) (map entry_number es) (above_numbers e es o.0) in
+      let all : Each (λ n. entry_number e < n) (filter (lies_within low high) (map entry_number es)) =
+      Each-filter (λ n. entry_number e < n) (lies_within low high) (map entry_number es) (above_numbers e es o.0) in
       let behind : left_from low high (place_after after) es ≡ left_from low high (place_after (Some x)) es =
-      filter_none (place_after after) (filter (lies_within low high) (map entry_number es)) (Each-map (λ n. entry_number e < n) (λ n. place_after after ≤ n) (λ n l. omega (arith, l, reached)) (filter (lies_within low high) (map entry_number es)) all)
-      ∙ sym (filter_none (place_after (Some x)) (filter (lies_within low high) (map entry_number es)) (Each-map (λ n. entry_number e < n) (λ n. place_after (Some x) ≤ n) (λ n l. omega (arith, l, place)) (filter (lies_within low high) (map entry_number es)) all)) in
+      filter_none (place_after after) (filter (lies_within low high) (map entry_number es))
+      (Each-map (λ n. entry_number e < n) (λ n. place_after after ≤ n) (λ n l. omega (arith, l, reached)) (filter (lies_within low high) (map entry_number es)) all)
+      ∙ sym (filter_none (place_after (Some x)) (filter (lies_within low high) (map entry_number es))
+      (Each-map (λ n. entry_number e < n) (λ n. place_after (Some x) ≤ n) (λ n l. omega (arith, l, place)) (filter (lies_within low high) (map entry_number es)) all)) in
       record {
         number = entry_number e;
         first =

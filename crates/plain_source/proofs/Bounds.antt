@@ -55,11 +55,13 @@ ints_index low high last l m d p t h = h.look_up.holds.index.ints h.ints
 -- what was asked where the desk tells its pages
 asked : (desk : DeskState) (F : PageMap → Type 0) → IfSome (told_pages desk) F → IsTold desk.pool → F desk.pool.pages
 asked desk F =
-    let go : (b : Bool) → desk.pool.disk.told ≡ b → IfSome (cond b (Some desk.pool.pages) None) F → b ≡ true → F desk.pool.pages = elim [ true ↦ λ e f t. f | false ↦ λ e f t. absurd (true≢false (sym t)) ] in
+    let go : (b : Bool) → desk.pool.disk.told ≡ b → IfSome (cond b (Some desk.pool.pages) None) F → b ≡ true
+    → F desk.pool.pages = elim [ true ↦ λ e f t. f | false ↦ λ e f t. absurd (true≢false (sym t)) ] in
     go desk.pool.disk.told refl
 
 -- where nothing was taken all rows within the bounds are left
-pub between_begun : (m : PageMap) (l : LookUp) (d : Database) (column : Column) (low high : ℤ) (greatest : ℕ) → IsLookUp d column l m → HasInts l → FitsSigned w64 low → FitsSigned w64 high → greatest ≡ l.spot.relation.value.next - 1 → greatest < 2 ^ 32
+pub between_begun : (m : PageMap) (l : LookUp) (d : Database) (column : Column) (low high : ℤ) (greatest : ℕ) → IsLookUp d column l m → HasInts l → FitsSigned w64 low
+    → FitsSigned w64 high → greatest ≡ l.spot.relation.value.next - 1 → greatest < 2 ^ 32
     → IsPickBetween l low high None m d (plan.PickBetween column low high) nothing_taken
 between_begun m l d column low high greatest h i lf hf g s =
     let rows : List (ℕ × List Value) = rows_in m l.spot.relation.value in
@@ -83,9 +85,11 @@ between_begun m l d column low high greatest h i lf hf g s =
       high_fits = hf;
       last_fits = tt;
       left =
-          ap (λ (xs : Pairs). map (λ (p : ℕ × Value). plain_row p.0) (sorted number_cmp (filter (λ p. is_between low high p.1) xs))) (values_are d column (relation_in m l.spot.relation.value) at h.is.relation h.is.at)
+          ap (λ (xs : Pairs). map (λ (p : ℕ × Value). plain_row p.0) (sorted number_cmp (filter (λ p. is_between low high p.1) xs)))
+          (values_are d column (relation_in m l.spot.relation.value) at h.is.relation h.is.at)
           ∙ (rows_of_pairs (sorted number_cmp part) small
-          ∙ ap (λ (ns : List ℕ). map row_of_number ns) (sorted_numbers low high ps es pairs (in_order at rows kept.rise) (entries_in_order (tree_items (store_of m) l.index.tree) kept.is.tree.at.ascending) counted
+          ∙ ap (λ (ns : List ℕ). map row_of_number ns)
+          (sorted_numbers low high ps es pairs (in_order at rows kept.rise) (entries_in_order (tree_items (store_of m) l.index.tree) kept.is.tree.at.ascending) counted
           ∙ sym (filter_none 0 kept_numbers all)));
     }
   where
@@ -109,30 +113,38 @@ finds l low high last m found a b e =
     sym (e ∙ ap₂ (λ (x y : ℤ). between_entry x y last (int_entries (entries_at (store_of m) l.index))) (to_z-of_z w64 low a) (to_z-of_z w64 high b))
 
 -- a row
-pub between_row : (l : LookUp) (low high : ℤ) (last : Option IntEntry) (x : IntEntry) (a : Answer) (old new : DeskState) → (IsTold old.pool → Finds l low high last old.pool.pages (Some x)) → row_of a ≡ plain_row x.1 → Reads old new
-    → IfSome (told_pages old) (λ pages. (d : Database) (p : Plan) (t : Taken) → IsPickBetween l low high last pages d p t → SourceStep pages d p t no_counts no_counts old new (Ok (Some a)) (λ u. IsPickBetween l low high (Some x) pages d p u))
+pub between_row : (l : LookUp) (low high : ℤ) (last : Option IntEntry) (x : IntEntry) (a : Answer) (old new : DeskState)
+    → (IsTold old.pool → Finds l low high last old.pool.pages (Some x)) → row_of a ≡ plain_row x.1 → Reads old new
+    → IfSome (told_pages old) (λ pages. (d : Database) (p : Plan) (t : Taken) → IsPickBetween l low high last pages d p t
+    → SourceStep pages d p t no_counts no_counts old new (Ok (Some a)) (λ u. IsPickBetween l low high (Some x) pages d p u))
 between_row l low high last x a old new gives is reads =
-    let F : PageMap → Type 0 = λ pages. (d : Database) (p : Plan) (t : Taken) → IsPickBetween l low high last pages d p t → SourceStep pages d p t no_counts no_counts old new (Ok (Some a)) (λ u. IsPickBetween l low high (Some x) pages d p u) in
+    let F : PageMap → Type 0 = λ pages. (d : Database) (p : Plan) (t : Taken) → IsPickBetween l low high last pages d p t
+    → SourceStep pages d p t no_counts no_counts old new (Ok (Some a)) (λ u. IsPickBetween l low high (Some x) pages d p u) in
     where_told old F (λ told d p t h.
     let m : PageMap = old.pool.pages in
     let es : List Entry = entries_at (store_of m) l.index in
     let ints = ints_index low high last l m d p t h in
     let first : IsLeft low high (place_after last) x es =
-    left_some low high last x es h.last_fits (int_entries_of m l ints) (entries_in_order (tree_items (store_of m) l.index.tree) ints.index.tree.at.ascending) (finds l low high last m (Some x) h.low_fits h.high_fits (gives told)) in
-    row_step m d p t a (row_of_number first.number) (map row_of_number (left_from low high (place_after (Some x)) es)) old new (λ u. IsPickBetween l low high (Some x) m d p u) (plain l low high last m d p t h)
+    left_some low high last x es h.last_fits (int_entries_of m l ints) (entries_in_order (tree_items (store_of m) l.index.tree) ints.index.tree.at.ascending)
+    (finds l low high last m (Some x) h.low_fits h.high_fits (gives told)) in
+    row_step m d p t a (row_of_number first.number) (map row_of_number (left_from low high (place_after (Some x)) es)) old new
+    (λ u. IsPickBetween l low high (Some x) m d p u) (plain l low high last m d p t h)
     (h.left ∙ ap (λ (ns : List ℕ). map row_of_number ns) first.first) (is ∙ ap plain_row (sym first.id)) reads
     (λ u left. record { column = h.column; is = h.is; look_up = h.look_up; ints = h.ints; low_fits = h.low_fits; high_fits = h.high_fits; last_fits = first.fit; left = left }))
 
 -- the end
 pub between_end : (l : LookUp) (low high : ℤ) (last : Option IntEntry) (old new : DeskState) → (IsTold old.pool → Finds l low high last old.pool.pages None) → Reads old new
-    → IfSome (told_pages old) (λ pages. (d : Database) (p : Plan) (t : Taken) → IsPickBetween l low high last pages d p t → SourceStep pages d p t no_counts no_counts old new (Ok None) (λ u. IsPickBetween l low high last pages d p u))
+    → IfSome (told_pages old) (λ pages. (d : Database) (p : Plan) (t : Taken) → IsPickBetween l low high last pages d p t
+    → SourceStep pages d p t no_counts no_counts old new (Ok None) (λ u. IsPickBetween l low high last pages d p u))
 between_end l low high last old new gives reads =
-    let F : PageMap → Type 0 = λ pages. (d : Database) (p : Plan) (t : Taken) → IsPickBetween l low high last pages d p t → SourceStep pages d p t no_counts no_counts old new (Ok None) (λ u. IsPickBetween l low high last pages d p u) in
+    let F : PageMap → Type 0 = λ pages. (d : Database) (p : Plan) (t : Taken) → IsPickBetween l low high last pages d p t
+    → SourceStep pages d p t no_counts no_counts old new (Ok None) (λ u. IsPickBetween l low high last pages d p u) in
     where_told old F (λ told d p t h.
     let m : PageMap = old.pool.pages in
     let es : List Entry = entries_at (store_of m) l.index in
     let none : map row_of_number (left_from low high (place_after last) es) ≡ [] =
-    ap (λ (ns : List ℕ). map row_of_number ns) (left_none low high last es h.last_fits (int_entries_of m l (ints_index low high last l m d p t h)) (finds l low high last m None h.low_fits h.high_fits (gives told))) in
+    ap (λ (ns : List ℕ). map row_of_number ns)
+    (left_none low high last es h.last_fits (int_entries_of m l (ints_index low high last l m d p t h)) (finds l low high last m None h.low_fits h.high_fits (gives told))) in
     end_step m d p t old new (λ u. IsPickBetween l low high last m d p u) (plain l low high last m d p t h) (h.left ∙ none) reads
     (λ u left. record { column = h.column; is = h.is; look_up = h.look_up; ints = h.ints; low_fits = h.low_fits; high_fits = h.high_fits; last_fits = h.last_fits; left = left ∙ sym none }))
 
@@ -146,7 +158,9 @@ index_asked low high last l desk pool e h =
 
 -- where a look is refused, nothing is taken
 pub between_refused : (l : LookUp) (low high : ℤ) (last : Option IntEntry) (fault : PageFault) (old new : DeskState) → Reads old new
-    → IfSome (told_pages old) (λ pages. (d : Database) (p : Plan) (t : Taken) → IsPickBetween l low high last pages d p t → SourceStep pages d p t no_counts no_counts old new (Err fault) (λ u. IsPickBetween l low high last pages d p u))
+    → IfSome (told_pages old) (λ pages. (d : Database) (p : Plan) (t : Taken) → IsPickBetween l low high last pages d p t
+    → SourceStep pages d p t no_counts no_counts old new (Err fault) (λ u. IsPickBetween l low high last pages d p u))
 between_refused l low high last fault old new reads =
-    let F : PageMap → Type 0 = λ pages. (d : Database) (p : Plan) (t : Taken) → IsPickBetween l low high last pages d p t → SourceStep pages d p t no_counts no_counts old new (Err fault) (λ u. IsPickBetween l low high last pages d p u) in
+    let F : PageMap → Type 0 = λ pages. (d : Database) (p : Plan) (t : Taken) → IsPickBetween l low high last pages d p t
+    → SourceStep pages d p t no_counts no_counts old new (Err fault) (λ u. IsPickBetween l low high last pages d p u) in
     where_told old F (λ told d p t h. fault_step old.pool.pages d p t fault old new (λ u. IsPickBetween l low high last old.pool.pages d p u) (plain l low high last old.pool.pages d p t h) reads h)

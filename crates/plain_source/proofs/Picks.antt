@@ -49,9 +49,11 @@ Looks l v last pages found = (d : Database) (column : Column) → IsLookUp d col
 
 -- a row
 pub pick_row : (l : LookUp) (v : Value) (last id : ℕ) (a : Answer) (old new : DeskState) → (IsTold old.pool → Looks l v last old.pool.pages (Some id)) → row_of a ≡ plain_row id → Reads old new
-    → IfSome (told_pages old) (λ pages. (d : Database) (p : Plan) (t : Taken) → IsPickEqual l v last pages d p t → SourceStep pages d p t no_counts no_counts old new (Ok (Some a)) (λ u. IsPickEqual l v id pages d p u))
+    → IfSome (told_pages old) (λ pages. (d : Database) (p : Plan) (t : Taken) → IsPickEqual l v last pages d p t
+    → SourceStep pages d p t no_counts no_counts old new (Ok (Some a)) (λ u. IsPickEqual l v id pages d p u))
 pick_row l v last id a old new gives is reads =
-    let F : PageMap → Type 0 = λ pages. (d : Database) (p : Plan) (t : Taken) → IsPickEqual l v last pages d p t → SourceStep pages d p t no_counts no_counts old new (Ok (Some a)) (λ u. IsPickEqual l v id pages d p u) in
+    let F : PageMap → Type 0 = λ pages. (d : Database) (p : Plan) (t : Taken) → IsPickEqual l v last pages d p t
+    → SourceStep pages d p t no_counts no_counts old new (Ok (Some a)) (λ u. IsPickEqual l v id pages d p u) in
     where_told old F (λ told d p t h.
     let first = gives told d h.column h.look_up in
     row_step old.pool.pages d p t a (plain_row id) (rows_of (above id (equals d h.column v))) old new (λ u. IsPickEqual l v id old.pool.pages d p u) (plain l v last old.pool.pages d p t h)
@@ -70,9 +72,11 @@ none_higher low high (pair ∷ pairs) l h = elim (leb_tells (suc low) pair.0) [
 
 -- the end, after which the last id is one that none is above
 pub pick_end : (l : LookUp) (v : Value) (last high : ℕ) (old new : DeskState) → last ≤ high → (IsTold old.pool → Looks l v last old.pool.pages None) → Reads old new
-    → IfSome (told_pages old) (λ pages. (d : Database) (p : Plan) (t : Taken) → IsPickEqual l v last pages d p t → SourceStep pages d p t no_counts no_counts old new (Ok None) (λ u. IsPickEqual l v high pages d p u))
+    → IfSome (told_pages old) (λ pages. (d : Database) (p : Plan) (t : Taken) → IsPickEqual l v last pages d p t
+    → SourceStep pages d p t no_counts no_counts old new (Ok None) (λ u. IsPickEqual l v high pages d p u))
 pick_end l v last high old new higher gives reads =
-    let F : PageMap → Type 0 = λ pages. (d : Database) (p : Plan) (t : Taken) → IsPickEqual l v last pages d p t → SourceStep pages d p t no_counts no_counts old new (Ok None) (λ u. IsPickEqual l v high pages d p u) in
+    let F : PageMap → Type 0 = λ pages. (d : Database) (p : Plan) (t : Taken) → IsPickEqual l v last pages d p t
+    → SourceStep pages d p t no_counts no_counts old new (Ok None) (λ u. IsPickEqual l v high pages d p u) in
     where_told old F (λ told d p t h.
     let none : rows_of (above last (equals d h.column v)) ≡ [] = ap rows_of (gives told d h.column h.look_up) in
     let past : rows_of (above high (equals d h.column v)) ≡ [] = ap rows_of (none_higher last high (equals d h.column v) higher (gives told d h.column h.look_up)) in
@@ -81,8 +85,10 @@ pick_end l v last high old new higher gives reads =
 
 -- a refusal takes nothing
 pub pick_refused : (l : LookUp) (v : Value) (last : ℕ) (result : Result (Option Answer) PageFault) (old new : DeskState) → IsErr result → Reads old new
-    → IfSome (told_pages old) (λ pages. (d : Database) (p : Plan) (t : Taken) → IsPickEqual l v last pages d p t → SourceStep pages d p t no_counts no_counts old new result (λ u. IsPickEqual l v last pages d p u))
+    → IfSome (told_pages old) (λ pages. (d : Database) (p : Plan) (t : Taken) → IsPickEqual l v last pages d p t
+    → SourceStep pages d p t no_counts no_counts old new result (λ u. IsPickEqual l v last pages d p u))
 pick_refused l v last (Ok a) old new refused reads = absurd (true≢false (sym refused))
 pick_refused l v last (Err fault) old new refused reads =
-    let F : PageMap → Type 0 = λ pages. (d : Database) (p : Plan) (t : Taken) → IsPickEqual l v last pages d p t → SourceStep pages d p t no_counts no_counts old new (Err fault) (λ u. IsPickEqual l v last pages d p u) in
+    let F : PageMap → Type 0 = λ pages. (d : Database) (p : Plan) (t : Taken) → IsPickEqual l v last pages d p t
+    → SourceStep pages d p t no_counts no_counts old new (Err fault) (λ u. IsPickEqual l v last pages d p u) in
     where_told old F (λ told d p t h. fault_step old.pool.pages d p t fault old new (λ u. IsPickEqual l v last old.pool.pages d p u) (plain l v last old.pool.pages d p t h) reads h)

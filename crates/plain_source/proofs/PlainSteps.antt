@@ -54,7 +54,8 @@ no_nodes d (plan.First _ _) t h = absurd h
 no_nodes d (plan.SortBy _ _) t h = absurd h
 no_nodes d (plan.SortNear _ _ _) t h = absurd h
 
-visits_none : (pages : PageMap) (d : Database) (p : Plan) (t : Taken) (old new : DeskState) (result : Result (Option Answer) PageFault) → IsPlain p → Reads old new → MakesVisits pages d p t no_counts no_counts old new result
+visits_none : (pages : PageMap) (d : Database) (p : Plan) (t : Taken) (old new : DeskState) (result : Result (Option Answer) PageFault) → IsPlain p → Reads old new
+    → MakesVisits pages d p t no_counts no_counts old new result
 visits_none pages d p t old new result h r =
     let none = no_nodes d p (next_taken d p t) h in record {
       completed = [];
@@ -111,7 +112,8 @@ none_left (x ∷ rows) zero h = (let k : length (x ∷ rows) ≡ 0 = ap (λ (ys 
 none_left (x ∷ rows) (suc n) h = (let f = none_left rows n h in record { none = f.none; past = (let b = f.past in omega (arith, b)) })
 
 -- the row that is given is the first that is left
-pub row_step : (pages : PageMap) (d : Database) (p : Plan) (t : Taken) (a : Answer) (row : PlanRow) (rest : List PlanRow) (old new : DeskState) (At : Taken → Type 0) → IsPlain p → left_of d p t ≡ row ∷ rest → row_of a ≡ row
+pub row_step : (pages : PageMap) (d : Database) (p : Plan) (t : Taken) (a : Answer) (row : PlanRow) (rest : List PlanRow) (old new : DeskState) (At : Taken → Type 0)
+    → IsPlain p → left_of d p t ≡ row ∷ rest → row_of a ≡ row
     → Reads old new → ((u : Taken) → left_of d p u ≡ rest → At u) → SourceStep pages d p t no_counts no_counts old new (Ok (Some a)) At
 row_step pages d p t a row rest old new At h left is r at =
     let f = first_left (source plan_measure d p) t.rows row rest left in
@@ -122,7 +124,8 @@ row_step pages d p t a row rest old new At h left is r at =
     }
 
 -- at the end none is left
-pub end_step : (pages : PageMap) (d : Database) (p : Plan) (t : Taken) (old new : DeskState) (At : Taken → Type 0) → IsPlain p → left_of d p t ≡ [] → Reads old new → ((u : Taken) → left_of d p u ≡ [] → At u)
+pub end_step : (pages : PageMap) (d : Database) (p : Plan) (t : Taken) (old new : DeskState) (At : Taken → Type 0) → IsPlain p → left_of d p t ≡ [] → Reads old new
+    → ((u : Taken) → left_of d p u ≡ [] → At u)
     → SourceStep pages d p t no_counts no_counts old new (Ok None) At
 end_step pages d p t old new At h left r at =
     let f = none_left (source plan_measure d p) t.rows left in
@@ -133,7 +136,8 @@ end_step pages d p t old new At h left r at =
     }
 
 -- a refusal takes nothing
-pub fault_step : (pages : PageMap) (d : Database) (p : Plan) (t : Taken) (fault : PageFault) (old new : DeskState) (At : Taken → Type 0) → IsPlain p → Reads old new → At t → SourceStep pages d p t no_counts no_counts old new (Err fault) At
+pub fault_step : (pages : PageMap) (d : Database) (p : Plan) (t : Taken) (fault : PageFault) (old new : DeskState) (At : Taken → Type 0) → IsPlain p → Reads old new
+    → At t → SourceStep pages d p t no_counts no_counts old new (Err fault) At
 fault_step pages d p t fault old new At h r at = record { row = tt; at = at; visits = visits_none pages d p t old new (Err fault) h r }
 
 -- where the desk tells its pages
@@ -150,7 +154,8 @@ reads_of old pool new e u =
 -- ---- what a call costs
 
 -- a call that reads a desk's pages, and notes nothing
-pub costs_read : (h : Heights) (step : ℕ) (owed left : PageMap → ℕ) (At : PageMap → Database → Plan → Taken → Type 0) (old : DeskState) (pool new : PoolState) (result : Result (Option Answer) PageFault)
+pub costs_read : (h : Heights) (step : ℕ) (owed left : PageMap → ℕ) (At : PageMap → Database → Plan → Taken → Type 0) (old : DeskState) (pool new : PoolState)
+    (result : Result (Option Answer) PageFault)
     → pool ≡ old.pool → (IsTold pool → new.gets + unless_refused result (left pool.pages) ≤ pool.gets + owed pool.pages + step)
     → IfSome (told_pages old) (λ pages. (d : Database) (p : Plan) (t : Taken) → At pages d p t → Costs h step (owed pages) (left pages) d p old (record { pool = new; visits = old.visits }) result)
 costs_read h step owed left At old pool new result same bound =

@@ -113,31 +113,40 @@ plain : (r : RelationView) (last : ℕ) (m : PageMap) (d : Database) (p : Plan) 
 plain r last m d p t h = (let P : Plan → Type 0 = IsPlain in let one : P (plan.Scan h.name) = tt in subst P (sym h.is) one)
 
 -- the scan after an id
-after_row : (r : RelationView) (last id : ℕ) (m : PageMap) (d : Database) (p : Plan) (t u : Taken) → IsScan r last m d p t → left_of d p u ≡ map plain_row (ids_above id (ids_of (rows_in m r))) → IsScan r id m d p u
+after_row : (r : RelationView) (last id : ℕ) (m : PageMap) (d : Database) (p : Plan) (t u : Taken) → IsScan r last m d p t
+    → left_of d p u ≡ map plain_row (ids_above id (ids_of (rows_in m r))) → IsScan r id m d p u
 after_row r last id m d p t u h left = record { name = h.name; is = h.is; stands = h.stands; left = left }
 
 -- a row
-pub scan_row : (r : RelationView) (last id : ℕ) (a : Answer) (old new : DeskState) → (IsTold old.pool → GivesNext last (ids_of (rows_in old.pool.pages r)) (Some id)) → row_of a ≡ plain_row id → Reads old new
-    → IfSome (told_pages old) (λ pages. (d : Database) (p : Plan) (t : Taken) → IsScan r last pages d p t → SourceStep pages d p t no_counts no_counts old new (Ok (Some a)) (λ u. IsScan r id pages d p u))
+pub scan_row : (r : RelationView) (last id : ℕ) (a : Answer) (old new : DeskState) → (IsTold old.pool → GivesNext last (ids_of (rows_in old.pool.pages r)) (Some id))
+    → row_of a ≡ plain_row id → Reads old new
+    → IfSome (told_pages old) (λ pages. (d : Database) (p : Plan) (t : Taken) → IsScan r last pages d p t
+    → SourceStep pages d p t no_counts no_counts old new (Ok (Some a)) (λ u. IsScan r id pages d p u))
 scan_row r last id a old new gives is reads =
-    let F : PageMap → Type 0 = λ pages. (d : Database) (p : Plan) (t : Taken) → IsScan r last pages d p t → SourceStep pages d p t no_counts no_counts old new (Ok (Some a)) (λ u. IsScan r id pages d p u) in
+    let F : PageMap → Type 0 = λ pages. (d : Database) (p : Plan) (t : Taken) → IsScan r last pages d p t
+    → SourceStep pages d p t no_counts no_counts old new (Ok (Some a)) (λ u. IsScan r id pages d p u) in
     where_told old F (λ told d p t h.
-    row_step old.pool.pages d p t a (plain_row id) (map plain_row (ids_above id (ids_of (rows_in old.pool.pages r)))) old new (λ u. IsScan r id old.pool.pages d p u) (plain r last old.pool.pages d p t h)
+    row_step old.pool.pages d p t a (plain_row id) (map plain_row (ids_above id (ids_of (rows_in old.pool.pages r)))) old new (λ u. IsScan r id old.pool.pages d p u)
+    (plain r last old.pool.pages d p t h)
     (h.left ∙ ap (λ (ns : List ℕ). map plain_row ns) (gives told)) is reads (λ u left. after_row r last id old.pool.pages d p t u h left))
 
 -- the end
 pub scan_end : (r : RelationView) (last : ℕ) (old new : DeskState) → (IsTold old.pool → GivesNext last (ids_of (rows_in old.pool.pages r)) None) → Reads old new
-    → IfSome (told_pages old) (λ pages. (d : Database) (p : Plan) (t : Taken) → IsScan r last pages d p t → SourceStep pages d p t no_counts no_counts old new (Ok None) (λ u. IsScan r last pages d p u))
+    → IfSome (told_pages old) (λ pages. (d : Database) (p : Plan) (t : Taken) → IsScan r last pages d p t
+    → SourceStep pages d p t no_counts no_counts old new (Ok None) (λ u. IsScan r last pages d p u))
 scan_end r last old new gives reads =
-    let F : PageMap → Type 0 = λ pages. (d : Database) (p : Plan) (t : Taken) → IsScan r last pages d p t → SourceStep pages d p t no_counts no_counts old new (Ok None) (λ u. IsScan r last pages d p u) in
+    let F : PageMap → Type 0 = λ pages. (d : Database) (p : Plan) (t : Taken) → IsScan r last pages d p t
+    → SourceStep pages d p t no_counts no_counts old new (Ok None) (λ u. IsScan r last pages d p u) in
     where_told old F (λ told d p t h.
     let none : map plain_row (ids_above last (ids_of (rows_in old.pool.pages r))) ≡ [] = ap (λ (ns : List ℕ). map plain_row ns) (gives told) in
-    end_step old.pool.pages d p t old new (λ u. IsScan r last old.pool.pages d p u) (plain r last old.pool.pages d p t h) (h.left ∙ none) reads (λ u left. after_row r last last old.pool.pages d p t u h (left ∙ sym none)))
+    end_step old.pool.pages d p t old new (λ u. IsScan r last old.pool.pages d p u) (plain r last old.pool.pages d p t h) (h.left ∙ none) reads
+    (λ u left. after_row r last last old.pool.pages d p t u h (left ∙ sym none)))
 
 -- a refusal takes nothing
 pub scan_refused : (r : RelationView) (last : ℕ) (result : Result (Option Answer) PageFault) (old new : DeskState) → IsErr result → Reads old new
     → IfSome (told_pages old) (λ pages. (d : Database) (p : Plan) (t : Taken) → IsScan r last pages d p t → SourceStep pages d p t no_counts no_counts old new result (λ u. IsScan r last pages d p u))
 scan_refused r last (Ok a) old new refused reads = absurd (true≢false (sym refused))
 scan_refused r last (Err fault) old new refused reads =
-    let F : PageMap → Type 0 = λ pages. (d : Database) (p : Plan) (t : Taken) → IsScan r last pages d p t → SourceStep pages d p t no_counts no_counts old new (Err fault) (λ u. IsScan r last pages d p u) in
+    let F : PageMap → Type 0 = λ pages. (d : Database) (p : Plan) (t : Taken) → IsScan r last pages d p t
+    → SourceStep pages d p t no_counts no_counts old new (Err fault) (λ u. IsScan r last pages d p u) in
     where_told old F (λ told d p t h. fault_step old.pool.pages d p t fault old new (λ u. IsScan r last old.pool.pages d p u) (plain r last old.pool.pages d p t h) reads h)

@@ -56,7 +56,8 @@ abbrev pub numbers : Pairs → List ℕ
 numbers ps = map number_of ps
 
 -- a pair is before another one where its number is less
-less_is : (i j : ℕ) (n k : ℤ) → IsIntInRange n → IsIntInRange k → i < 2 ^ 32 → j < 2 ^ 32 → is_lt (number_cmp (i, value.Int n) (j, value.Int k)) ≡ nat_lt (number_of (i, value.Int n)) (number_of (j, value.Int k))
+less_is : (i j : ℕ) (n k : ℤ) → IsIntInRange n → IsIntInRange k → i < 2 ^ 32 → j < 2 ^ 32
+    → is_lt (number_cmp (i, value.Int n) (j, value.Int k)) ≡ nat_lt (number_of (i, value.Int n)) (number_of (j, value.Int k))
 less_is i j n k rn rk si sj = go (int_cmp n k) refl (int_ranks n k) where
   by_id : n ≡ k → is_lt (nat_cmp i j) ≡ nat_lt (number_of (i, value.Int n)) (number_of (j, value.Int k))
   by_id e =
@@ -72,7 +73,8 @@ less_is i j n k rn rk si sj = go (int_cmp n k) refl (int_ranks n k) where
             ]
       ]
 
-  go : (o : Ordering) → int_cmp n k ≡ o → MatchOrdering o (n <ℤ k) (n ≡ k) (k <ℤ n) → is_lt (number_cmp (i, value.Int n) (j, value.Int k)) ≡ nat_lt (number_of (i, value.Int n)) (number_of (j, value.Int k))
+  go : (o : Ordering) → int_cmp n k ≡ o → MatchOrdering o (n <ℤ k) (n ≡ k) (k <ℤ n)
+      → is_lt (number_cmp (i, value.Int n) (j, value.Int k)) ≡ nat_lt (number_of (i, value.Int n)) (number_of (j, value.Int k))
   go ordering.Less e r = rw e (sym (lt_is (number_of (i, value.Int n)) (number_of (j, value.Int k)) (let l = key_lt n k rn rk r in omega (arith, l, si))))
   go ordering.Equal e r = rw e (by_id r)
   go ordering.Greater e r = rw e (sym (lt_not (number_of (i, value.Int n)) (number_of (j, value.Int k)) (let l = key_lt k n rk rn r in omega (arith, l, sj))))

@@ -1,5 +1,6 @@
 -- Steps of an operator, one after another, make one step of the cursor of the model.
-use Rattle.std.proofs.Common.{◌≡◌, inl, inr, ◌+◌, ◌≤◌, Bool, true, false, cond, List, [], ◌∷◌, ◌++◌, length, take, Option, Some, None, Result, Ok, Err, refl, sym, ap, ◌∙◌, subst, le_of_eq, arith, length-append, append_assoc}
+use Rattle.std.proofs.Common.{◌≡◌, inl, inr, ◌+◌, ◌≤◌, Bool, true, false, cond, List, [], ◌∷◌, ◌++◌, length, take, Option, Some, None, Result, Ok, Err, refl, sym, ap}
+use Rattle.std.proofs.Common.{◌∙◌, subst, le_of_eq, arith, length-append, append_assoc}
 use Rattle.std.specs.Prelude.{All}
 use Rattle.std.proofs.lemmas.Bool.{lt-ltb, le-ltb}
 use Rattle.page_pool.specs.Desk.{DeskState}
@@ -77,7 +78,8 @@ module _ {S T : Type 0} (At : S → Taking) (Stands : T → Standing) (closed : 
     pub pays : Pays At Stands closed q seen first o pages c (record c { counts = seen (source_of o) }) k keeps old new (left_at closed q o pages c)
     pub visits : VisitsWithin {T = Unit} pages c.database c.plan (model.step_taken plan_measure c.database c.plan c.given) c.counts (seen (source_of o)) old new (Ok tt)
 
-  module _ (c : Cursor) (first : Operator S T) (k : Keeps At Stands closed seen first pages c) (o o' : Operator S T) (old mid new : DeskState) (result : Result Step PageFault) (passed : Passed c first k o old mid)
+  module _ (c : Cursor) (first : Operator S T) (k : Keeps At Stands closed seen first pages c) (o o' : Operator S T) (old mid new : DeskState)
+      (result : Result Step PageFault) (passed : Passed c first k o old mid)
       (goes : Goes pages c.database c.plan passed.keeps.taken passed.keeps.rows (seen (source_of o)) (seen (source_of o')) mid new result
       (IsPaid At Stands closed q o o' pages c.database c.plan passed.keeps.taken passed.keeps.rows passed.keeps.follows mid new result)) where
     -- what the step did to the source
@@ -137,7 +139,8 @@ module _ {S T : Type 0} (At : S → Taking) (Stands : T → Standing) (closed : 
         (so_far c first k o o' old mid new (Ok Pass) passed goes);
   }
 
-  module _ (front : GivesFront Stands) (late : OpensLate Stands closed) (c : Cursor) (first : Operator S T) (k : Keeps At Stands closed seen first pages c) (o o' : Operator S T) (old mid new : DeskState) (passed : Passed c first k o old mid) where
+  module _ (front : GivesFront Stands) (late : OpensLate Stands closed) (c : Cursor) (first : Operator S T) (k : Keeps At Stands closed seen first pages c)
+      (o o' : Operator S T) (old mid new : DeskState) (passed : Passed c first k o old mid) where
     module _ (a : Answer)
         (goes : Goes pages c.database c.plan passed.keeps.taken passed.keeps.rows (seen (source_of o)) (seen (source_of o')) mid new (Ok (Row a))
         (IsPaid At Stands closed q o o' pages c.database c.plan passed.keeps.taken passed.keeps.rows passed.keeps.follows mid new (Ok (Row a)))) where

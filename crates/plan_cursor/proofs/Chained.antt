@@ -35,7 +35,8 @@ module _ {S T : Type 0} (At : S → Taking) (Stands : T → Standing) (closed : 
   pays_none o c k desk = record { same = record { heights = refl; step = refl; rows = refl }; most = omega arith }
 
   -- one payment after the other
-  pub pays_both : (o o' o'' : Operator S T) (c mid_c after : Cursor) (k : Keeps At Stands closed seen o pages c) (k' : Keeps At Stands closed seen o' pages mid_c) (k'' : Keeps At Stands closed seen o'' pages after)
+  pub pays_both : (o o' o'' : Operator S T) (c mid_c after : Cursor) (k : Keeps At Stands closed seen o pages c) (k' : Keeps At Stands closed seen o' pages mid_c)
+      (k'' : Keeps At Stands closed seen o'' pages after)
       → (old mid new : DeskState) (left : ℕ) → Pays At Stands closed q seen o o' pages c mid_c k k' old mid (left_at closed q o' pages mid_c)
       → Pays At Stands closed q seen o' o'' pages mid_c after k' k'' mid new left → Pays At Stands closed q seen o o'' pages c after k k'' old new left
   pays_both o o' o'' c mid_c after k k' k'' old mid new left first second = record {

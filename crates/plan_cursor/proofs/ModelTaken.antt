@@ -117,7 +117,8 @@ module _ (d : Database) (p : Plan) (given : ℕ) (lazy : is_lazy p ≡ true) (so
   }
     where
       open_before : (k : ℕ) → k < found → is_full plan_measure d (beneath_sort p) (take k (source plan_measure d p)) ≡ false
-      open_before k below = subst (λ q. is_full plan_measure d q (take k (source plan_measure d p)) ≡ false) (sym (beneath_itself p lazy)) (go (is_full plan_measure d p (take k (source plan_measure d p))) refl)
+      open_before k below = subst (λ q. is_full plan_measure d q (take k (source plan_measure d p)) ≡ false) (sym (beneath_itself p lazy))
+          (go (is_full plan_measure d p (take k (source plan_measure d p))) refl)
         where
           go : (b : Bool) → is_full plan_measure d p (take k (source plan_measure d p)) ≡ b → is_full plan_measure d p (take k (source plan_measure d p)) ≡ false
           go true full =

@@ -41,7 +41,9 @@ LieWithinRow pages c (Ok (Some a)) noted = is_lazy c.plan ≡ true → All (Lies
 LieWithinRow pages c (Ok None) noted = ⊤
 LieWithinRow pages c (Err fault) noted = ⊤
 
--- The visits of a call: they were noted behind those before, those completed and after them, only in a refused call, at most one that was attempted in vain; each lies within the reach of the step, also of one that is refused. The counts rise by just the completed ones, to at most those of the step that is made or would have been made, and at least one page get was made for each node that was counted.
+-- The visits of a call: they were noted behind those before, those completed and after them, only in a refused call, at most one that was
+-- attempted in vain; each lies within the reach of the step, also of one that is refused. The counts rise by just the completed ones, to at
+-- most those of the step that is made or would have been made, and at least one page get was made for each node that was counted.
 pub record StepVisits (pages : PageMap) (c after : Cursor) (old new : DeskState) (result : Result (Option Answer) PageFault) : Type 0 where
   pub completed : List Visit
   pub attempted : List Visit

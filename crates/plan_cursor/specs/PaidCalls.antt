@@ -50,13 +50,15 @@ pub record IsAtPaid {S T : Type 0} (At : S → Taking) (Stands : T → Standing)
   pub pays : Pays At Stands closed q seen cursor.operator cursor'.operator pages c after at.keeps stands.keeps old new (left after)
 
 -- wherever the cursor of the model stands that an operator keeps to: the call is one step of it, and is paid
-abbrev pub AdvancesPaid : {S T : Type 0} → (S → Taking) → (T → Standing) → (T → Bool) → Prices S T → (S → Counts) → Operator S T → Operator S T → DeskState → DeskState → Result (Option Answer) PageFault → PageMap → Type 0
+abbrev pub AdvancesPaid : {S T : Type 0} → (S → Taking) → (T → Standing) → (T → Bool) → Prices S T → (S → Counts) → Operator S T → Operator S T → DeskState → DeskState
+    → Result (Option Answer) PageFault → PageMap → Type 0
 AdvancesPaid At Stands closed q seen o o' old new result pages =
     (c : Cursor) (k : Keeps At Stands closed seen o pages c)
     → CursorStep pages c old new result (KeepsPaid At Stands closed q seen o o' pages c k old new (λ after. left_behind closed q o' pages after result))
 
 -- wherever the cursor of the model stands: the call is one step of it, and is paid
-abbrev pub StepsPaid : {S T : Type 0} → (S → Taking) → (T → Standing) → (T → Bool) → Prices S T → (S → Counts) → RowCursor S T → RowCursor S T → DeskState → DeskState → Result (Option Answer) PageFault → PageMap → Type 0
+abbrev pub StepsPaid : {S T : Type 0} → (S → Taking) → (T → Standing) → (T → Bool) → Prices S T → (S → Counts) → RowCursor S T → RowCursor S T → DeskState → DeskState
+    → Result (Option Answer) PageFault → PageMap → Type 0
 StepsPaid At Stands closed q seen cursor cursor' old new result pages =
     (c : Cursor) (at : IsAt At Stands closed seen cursor pages c)
     → CursorStep pages c old new result (IsAtPaid At Stands closed q seen cursor cursor' pages c at old new (λ after. left_behind closed q cursor'.operator pages after result))

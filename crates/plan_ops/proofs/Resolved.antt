@@ -137,7 +137,8 @@ module _ (d : Database) (names : List (List ℕ)) (place : Place) (checked : IsP
       there (kind_named at_place.relation place.column) at_place.kind at_place.of_kind gone
 
 -- the relation that the catalog gives is described
-pub described_at : (catalog : CatalogView) (o : Option (Bor StoredRelation)) (r : Bor StoredRelation) → o ≡ Some r → IfSome o (λ x. IsCatalog catalog → IsDescribed catalog.limits x.now) → IsCatalog catalog
+pub described_at : (catalog : CatalogView) (o : Option (Bor StoredRelation)) (r : Bor StoredRelation) → o ≡ Some r
+    → IfSome o (λ x. IsCatalog catalog → IsDescribed catalog.limits x.now) → IsCatalog catalog
     → IsDescribed catalog.limits r.now
 described_at catalog o r e h is = subst (λ (x : Option (Bor StoredRelation)). IfSome x (λ y. IsCatalog catalog → IsDescribed catalog.limits y.now)) e h is
 

@@ -140,7 +140,8 @@ pub window_ranks : (p : Plan) (column : Column) (window : Rect) → p ≡ declar
 window_ranks p column window is =
     subst (λ (q : Plan). Ranks (plan_value q) column (figure.Rect window) (Some 0)) (sym is) (refl, refl, refl)
 
-module _ (catalog : CatalogView) (p : Plan) (left right : Column) (within : Option ℕ) (one : RelationView) (at : ℕ) (tree : Pmr) (two : RelationView) (place : ℕ) (other : Pmr) (o : IsOpenable catalog p)
+module _ (catalog : CatalogView) (p : Plan) (left right : Column) (within : Option ℕ) (one : RelationView) (at : ℕ) (tree : Pmr) (two : RelationView) (place : ℕ)
+    (other : Pmr) (o : IsOpenable catalog p)
     (found : IsFound catalog left one at tree) (second : IsFound catalog right two place other) (At : Taking) where
   -- the two columns
   abbrev columns : JoinedColumns

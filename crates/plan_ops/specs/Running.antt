@@ -28,6 +28,7 @@ steps_left r = steps_of source_steps stage_steps r.cursor.operator
 abbrev pub plan_prices : Prices Source Stage
 plan_prices = prices source_heights source_step_price source_owed stage_price stage_owed
 
--- wherever the cursor of the model stands: the call is one step of it, and its page gets are at most the price of the visits that it noted, of the steps of its source and of the rows that its operators handled
+-- wherever the cursor of the model stands: the call is one step of it, and its page gets are at most the price of the visits that it noted,
+-- of the steps of its source and of the rows that its operators handled
 abbrev pub TakesPaidStep : Running → Running → DeskState → DeskState → Result (Option Answer) PageFault → PageMap → Type 0
 TakesPaidStep r r' = StepsPaid source_at StageStands is_closed plan_prices (λ s. counts_of (source_seen s)) r.cursor r'.cursor

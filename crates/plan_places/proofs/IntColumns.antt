@@ -41,13 +41,15 @@ range_of [] at v h e = absurd (true≢false (sym (ap (λ (o : Option Value). is_
 range_of (x ∷ row) zero v h e = subst IsValueInRange (some_is x v e) (All-head IsValueInRange x row h)
 range_of (x ∷ row) (suc at) v h e = range_of row at v (All-tail IsValueInRange x row h) e
 
-int_pair : (schema : List (List ℕ × Kind)) (at : ℕ) (row : ℕ × List Value) (v : Value) → IsRowFor schema row.1 → kind_at schema at ≡ Some kind.Int → row.0 < 2 ^ 32 → element row.1 at ≡ Some v → IsIntPair (row.0, v)
+int_pair : (schema : List (List ℕ × Kind)) (at : ℕ) (row : ℕ × List Value) (v : Value) → IsRowFor schema row.1 → kind_at schema at ≡ Some kind.Int → row.0 < 2 ^ 32
+    → element row.1 at ≡ Some v → IsIntPair (row.0, v)
 int_pair schema at row v h k s e =
     let number = int_of_kind v (kind_of_value schema row.1 at v kind.Int h.of_schema e k) in
     (number.0, (number.1, (subst IsValueInRange number.1 (range_of row.1 at v h.in_range e), s)))
 
 -- all values of a column of ints are
-pub int_pairs : (schema : List (List ℕ × Kind)) (at : ℕ) (rows : List (ℕ × List Value)) → Each (λ row. IsRowFor schema row.1) rows → Each (λ row. row.0 < 2 ^ 32) rows → kind_at schema at ≡ Some kind.Int
+pub int_pairs : (schema : List (List ℕ × Kind)) (at : ℕ) (rows : List (ℕ × List Value)) → Each (λ row. IsRowFor schema row.1) rows → Each (λ row. row.0 < 2 ^ 32) rows
+    → kind_at schema at ≡ Some kind.Int
     → Each IsIntPair (values_at at rows)
 int_pairs schema at rows h s k =
     each_value IsIntPair at rows

@@ -1,5 +1,6 @@
 -- The gets of a look-up, entry by entry.
-use Rattle.std.proofs.Common.{◌≡◌, ℕ, suc, ◌+◌, ◌*◌, ◌^◌, ◌<◌, ◌≤◌, Bool, true, false, cond, nat_lt, nat_eq, ◌&&◌, List, [], ◌∷◌, length, filter, refl, sym, ◌∙◌, ap, inl, inr, arith, true≢false, mul-le-mul_left}
+use Rattle.std.proofs.Common.{◌≡◌, ℕ, suc, ◌+◌, ◌*◌, ◌^◌, ◌<◌, ◌≤◌, Bool, true, false, cond, nat_lt, nat_eq, ◌&&◌, List, [], ◌∷◌, length, filter, refl, sym, ◌∙◌, ap, inl}
+use Rattle.std.proofs.Common.{inr, arith, true≢false, mul-le-mul_left}
 use Rattle.std.specs.Prelude.{Option, None, Some, is_some}
 use Rattle.std.proofs.lemmas.Bool.Decides.{leb_tells, eqb_tells}
 use Rattle.page_pool.specs.Disk.{PageMap}
@@ -96,10 +97,12 @@ module _ (m : PageMap) (l : LookUp) (v : Value) (last id : ℕ) (key : List ℕ)
     with_tuple : descent_price l + tuple_price l.spot.relation.value.file.tree.height ≡ entry_price l v
     with_tuple = ap (λ b. descent_price l + cond b 0 (tuple_price l.spot.relation.value.file.tree.height)) (sym untold)
 
-    both : (old mid new : ℕ) → mid ≤ old + (l.index.tree.height + 1) → new ≤ mid + (l.spot.relation.value.file.tree.height + 1) → new + entries_above m l v id * entry_price l v ≤ old + entries_above m l v last * entry_price l v
+    both : (old mid new : ℕ) → mid ≤ old + (l.index.tree.height + 1) → new ≤ mid + (l.spot.relation.value.file.tree.height + 1)
+        → new + entries_above m l v id * entry_price l v ≤ old + entries_above m l v last * entry_price l v
     both old mid new h k =
         let price = with_tuple in
-        one_entry old new (descent_price l + tuple_price l.spot.relation.value.file.tree.height) (entries_above m l v id) (entries_above m l v last) (entry_price l v) (omega (arith, h, k)) (omega (arith, price)) passed
+        one_entry old new (descent_price l + tuple_price l.spot.relation.value.file.tree.height) (entries_above m l v id) (entries_above m l v last) (entry_price l v)
+        (omega (arith, h, k)) (omega (arith, price)) passed
 
     -- another one costs its tuple too
     pub entry_read : (old mid new : ℕ) → mid ≤ old + (l.index.tree.height + 1) → new ≤ mid + (l.spot.relation.value.file.tree.height + 1)
@@ -107,7 +110,8 @@ module _ (m : PageMap) (l : LookUp) (v : Value) (last id : ℕ) (key : List ℕ)
     entry_read old mid new h k = (fewer, both old mid new h k)
 
     -- so it does where the tuple is refused
-    pub entry_refused : (old mid new : ℕ) → mid ≤ old + (l.index.tree.height + 1) → new ≤ mid + (l.spot.relation.value.file.tree.height + 1) → new ≤ old + entries_above m l v last * entry_price l v + descent_price l
+    pub entry_refused : (old mid new : ℕ) → mid ≤ old + (l.index.tree.height + 1) → new ≤ mid + (l.spot.relation.value.file.tree.height + 1)
+        → new ≤ old + entries_above m l v last * entry_price l v + descent_price l
     entry_refused old mid new h k = let all = both old mid new h k in omega (arith, all)
 
 -- ---- above the greatest id

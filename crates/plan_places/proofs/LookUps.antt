@@ -96,7 +96,8 @@ candidate_is m w l v last id key o found equal h s b k e is same f q =
         looked_past (store_of m) l.spot.column (rows_in m l.spot.relation.value) l.index v last id (of_id id (rows_in m l.spot.relation.value)) (keeps_of m l h s) b entry refl (sym q)
 
 -- an entry of an int leads to a row with it, in a column of ints
-pub told_candidate : (m : PageMap) (l : LookUp) (v : Value) (last id : ℕ) (key : List ℕ) (o : Option ℕ) → Holds m l → HasInts l → IsInt v → IsFit v → l.spot.relation.value.next ≤ 4294967296 → last < id
+pub told_candidate : (m : PageMap) (l : LookUp) (v : Value) (last id : ℕ) (key : List ℕ) (o : Option ℕ) → Holds m l → HasInts l → IsInt v → IsFit v
+    → l.spot.relation.value.next ≤ 4294967296 → last < id
     → key ≡ key_bytes v → o ≡ equal_id (key_number key) last (entries_at (store_of m) l.index) → o ≡ Some id → IsCandidate last (found_in m l v) id true
 told_candidate m l v last id key o h ints int fit s b k e is =
     let n : ℤ = int.0 in
@@ -107,7 +108,8 @@ told_candidate m l v last id key o h ints int fit s b k e is =
     let same_key : key_number key ≡ key_of (value.Int n) = ap key_number k ∙ ap key_of int.1 in
     let entry : equal_id (key_of (value.Int n)) last (entries_at (store_of m) l.index) ≡ Some id =
     ap (λ (x : ℕ). equal_id x last (entries_at (store_of m) l.index)) (sym same_key) ∙ (sym e ∙ is) in
-    subst V (sym int.1) (looked_told (store_of m) l.spot.column rows l.index n last id kept (int_pairs l.spot.relation.value.schema l.spot.column rows fitting kept.small ints) (subst IsFit int.1 fit) b entry)
+    subst V (sym int.1) (looked_told (store_of m) l.spot.column rows l.index n last id kept (int_pairs l.spot.relation.value.schema l.spot.column rows fitting kept.small ints)
+    (subst IsFit int.1 fit) b entry)
 
 not_shape : (w : Value) (s : Shape) → same_value w (value.Shape s) ≡ false
 not_shape (value.Int n) s = refl
@@ -125,7 +127,8 @@ none_of_shape d column v s after e =
     (each_any (λ p. same_value p.1 v ≡ true → p.0 ≤ after) (column_values d column) (λ p t. absurd (true≢false (sym t ∙ (ap (λ (x : Value). same_value p.1 x) e ∙ not_shape p.1 s)))))
 
 -- no row with the value is left where the last id is the greatest
-pub all_looked_up : (d : Database) (column : Column) (m : PageMap) (l : LookUp) (v : Value) (after last greatest : ℕ) → IsLookUp d column l m → All (λ row. row.0 ≤ greatest) (rows_in m l.spot.relation.value)
+pub all_looked_up : (d : Database) (column : Column) (m : PageMap) (l : LookUp) (v : Value) (after last greatest : ℕ) → IsLookUp d column l m
+    → All (λ row. row.0 ≤ greatest) (rows_in m l.spot.relation.value)
     → greatest ≤ last → above after (found_in m l v) ≡ above last (found_in m l v) → above after (equals d column v) ≡ []
 all_looked_up d column m l v after last greatest h all b left =
     ap (λ (ps : Pairs). above after ps) (equals_are d column l m v h) ∙ (left ∙ none_behind m l v last greatest all b)
@@ -147,5 +150,6 @@ all_above_zero d column l m v h =
     each_all (λ row. (1 ≤ row.0) × (row.0 < l.spot.relation.value.next)) (rows_in m l.spot.relation.value) h.holds.stands.1.given_out in
     let some : Each (λ p. 1 ≤ p.0) (values_at l.spot.column (rows_in m l.spot.relation.value)) =
     each_value (λ p. 1 ≤ p.0) l.spot.column (rows_in m l.spot.relation.value)
-    (Each-map (λ row. (1 ≤ row.0) × (row.0 < l.spot.relation.value.next)) (λ row. (w : Value) → element row.1 l.spot.column ≡ Some w → 1 ≤ row.0) (λ row k w f. k.0) (rows_in m l.spot.relation.value) given) in
+    (Each-map (λ row. (1 ≤ row.0) × (row.0 < l.spot.relation.value.next)) (λ row. (w : Value) → element row.1 l.spot.column ≡ Some w → 1 ≤ row.0) (λ row k w f. k.0)
+    (rows_in m l.spot.relation.value) given) in
     ap (λ (ps : Pairs). above 0 ps) e ∙ (above_zero (λ pair. same_value pair.1 v) (values_at l.spot.column (rows_in m l.spot.relation.value)) some ∙ sym e)

@@ -142,7 +142,8 @@ pub looked_past : (m : Store) (at : ℕ) (rows : Rows) (index : AttrIndex) (v : 
 looked_past m at rows index v last id found k l h row other =
     none_between (λ pair. same_value pair.1 v) last id (values_at at rows) l
     (Each-zip (λ p. same_value p.1 v ≡ true → last < p.0 → id ≤ p.0) (λ p. p.0 ≡ id → has_equal at v found ≡ same_value p.1 v) (λ p. same_value p.1 v ≡ true → last < p.0 → id < p.0)
-    (λ p a b same after. higher p.0 (a same after) (λ e. true≢false (sym (sym other ∙ (b e ∙ same))))) (values_at at rows) (least m at rows index v last id k h) (only_value id at v rows found k.rise row))
+    (λ p a b same after. higher p.0 (a same after) (λ e. true≢false (sym (sym other ∙ (b e ∙ same))))) (values_at at rows) (least m at rows index v last id k h)
+    (only_value id at v rows found k.rise row))
   where
     higher : (n : ℕ) → id ≤ n → (n ≡ id → ⊥) → id < n
     higher n le ne = elim (eqb_tells n id) [ inl x ↦ absurd (ne x.1) | inr x ↦ omega (arith, le, x.1) ]

@@ -1,4 +1,5 @@
--- What a look-up costs in page gets: one descent of the index for each entry that it passes, with the entry's tuple where the entry doesn't tell the value, and one descent more where it comes to the end.
+-- What a look-up costs in page gets: one descent of the index for each entry that it passes, with the entry's tuple where the entry doesn't
+-- tell the value, and one descent more where it comes to the end.
 use Rattle.std.specs.Prelude.{ℕ, ◌+◌, ◌*◌, ◌<◌, ◌≤◌, Bool, true, false, cond, nat_eq, nat_lt, ◌&&◌, List, length, filter, Option, None, Some, Result, Ok, Err}
 use Rattle.page_pool.specs.Disk.{PageMap}
 use Rattle.page_pool.specs.Pool.{PoolState}

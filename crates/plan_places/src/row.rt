@@ -1,5 +1,6 @@
 // Values of rows by id.
-ghost use Rattle.std.specs.Prelude.{◌≡◌, ◌+◌, IfOk};
+ghost use Rattle.std.specs.Prelude.{◌≡◌, ◌+◌, IfOk, IfSome};
+ghost use Rattle.sand_base.specs.InRange.{IsValueInRange};
 ghost use Rattle.page_pool.specs.Pool.{IsTold};
 ghost use Rattle.code_btree.specs.Calls.{Looks};
 ghost use Rattle.sand_model.specs.Operators.{kth};
@@ -24,6 +25,7 @@ pub(crate) fn value_of<P: Pages>(
 ) -> Result<Option<Value>, PageFault>
     requires { IsTold (P.shown pages.old) → Stands (P.shown pages.old).pages relation.now }
     ensures value { IfOk result (λ value. IsTold (P.shown pages.old) → value ≡ value_of (rows_in (P.shown pages.old).pages relation.now) id column) }
+    ensures in_range { IfOk result (λ value. IfSome value IsValueInRange) }
     ensures looks { Looks (P.shown pages.old) (P.shown pages.new) (relation.now.file.tree.height + 1) result }
 {
     return relation.file().fetch_placed_value(

@@ -1,4 +1,5 @@
-ghost use Rattle.std.specs.Prelude.{◌≡◌, ℕ, ◌+◌, List, Some, None, Ok, IfOk};
+ghost use Rattle.std.specs.Prelude.{◌≡◌, ℕ, ◌+◌, List, Some, None, Ok, IfOk, IfSome};
+ghost use Rattle.sand_base.specs.InRange.{IsValueInRange};
 ghost use Rattle.page_pool.specs.Disk.{PageMap};
 ghost use Rattle.page_pool.specs.Pool.{IsTold};
 ghost use Rattle.code_btree.specs.Calls.{Peeks};
@@ -58,6 +59,7 @@ impl Spot {
     ) -> Result<Option<Value>, PageFault>
         requires { IsTold (P.shown pages.old) → Stands (P.shown pages.old).pages self.now.relation.value }
         ensures value { IfOk result (λ value. IsTold (P.shown pages.old) → (d : Database) (names : List (List ℕ)) (place : Place) (row : PlanRow) → IsSpot d names place self.now (P.shown pages.old).pages → row.ids ≡ ids.now → value ≡ value_at d names row place) }
+        ensures in_range { IfOk result (λ value. IfSome value IsValueInRange) }
         ensures peeks { Peeks (P.shown pages.old) (P.shown pages.new) (self.now.relation.value.file.tree.height + 1) result }
     {
         let Some(id) = kth_id(ids, self.k) else {

@@ -1,5 +1,6 @@
 -- Operators without a sort over the first rows of their source: more rows beneath give more above, behind those that were there.
-use Rattle.std.proofs.Common.{◌≡◌, ◌⊎◌, inl, inr, ℕ, zero, suc, ◌+◌, ◌-◌, ◌≤◌, Bool, true, false, ◌||◌, true≢false, List, [], ◌∷◌, ◌++◌, length, take, drop, map, filter, flat_map, nat_le, refl, sym, ap, ◌∙◌, arith, length-append, take-append-drop, le_trans}
+use Rattle.std.proofs.Common.{◌≡◌, ◌⊎◌, inl, inr, ℕ, zero, suc, ◌+◌, ◌-◌, ◌≤◌, Bool, true, false, ◌||◌, true≢false, List, [], ◌∷◌, ◌++◌, length, take, drop, map, filter}
+use Rattle.std.proofs.Common.{flat_map, nat_le, refl, sym, ap, ◌∙◌, arith, length-append, take-append-drop, le_trans}
 use Rattle.std.proofs.Math.Seq.{take-add}
 use Rattle.std.proofs.lemmas.Bool.{le-leb, leb-true}
 use Rattle.std.proofs.lemmas.List.{map-append, take-append-le}

@@ -1,5 +1,6 @@
 -- The rows of a source come nearest first and lie within its ceiling, so more of them reach farther.
-use Rattle.std.proofs.Common.{◌≡◌, ◌⊎◌, ⊎_elim, inl, inr, ℕ, zero, suc, ◌≤◌, Bool, true, false, cond, not, true≢false, List, [], ◌∷◌, map, filter, flat_map, take, Contains, All, Option, None, Some, refl, sym, ap, ◌∙◌, subst, subst₂, arith, Greater}
+use Rattle.std.proofs.Common.{◌≡◌, ◌⊎◌, ⊎_elim, inl, inr, ℕ, zero, suc, ◌≤◌, Bool, true, false, cond, not, true≢false, List, [], ◌∷◌, map, filter, flat_map, take}
+use Rattle.std.proofs.Common.{Contains, All, Option, None, Some, refl, sym, ap, ◌∙◌, subst, subst₂, arith, Greater}
 use Rattle.std.specs.Ordering.{is_lt, ordering_then, ordering_reverse, nat_cmp}
 use Rattle.std.specs.Prelude.{⊤, nat_eq, nat_lt}
 use Rattle.std.proofs.lemmas.List.Elements.{All-nil, All-cons, All-head, All-tail, All-contains, All-filter, All-map}

@@ -1,5 +1,6 @@
 -- The calls of a source in one step of a cursor, one after another: their visits lie within the reach after the step, and are counted.
-use Rattle.std.proofs.Common.{◌≡◌, ◌⊎◌, inl, inr, ℕ, ◌+◌, ◌-◌, ◌≤◌, min, Bool, true, false, cond, nat_lt, true≢false, List, [], ◌++◌, length, take, Option, Result, Ok, Err, OnOk, refl, sym, ap, ◌∙◌, subst, arith, append_assoc, append-nil, le_antisymm, le_trans}
+use Rattle.std.proofs.Common.{◌≡◌, ◌⊎◌, inl, inr, ℕ, ◌+◌, ◌-◌, ◌≤◌, min, Bool, true, false, cond, nat_lt, true≢false, List, [], ◌++◌, length, take, Option, Result, Ok}
+use Rattle.std.proofs.Common.{Err, OnOk, refl, sym, ap, ◌∙◌, subst, arith, append_assoc, append-nil, le_antisymm, le_trans}
 use Rattle.std.specs.Prelude.{All}
 use Rattle.std.proofs.lemmas.Bool.{ltb-true}
 use Rattle.std.proofs.lemmas.List.Elements.{All-nil, All-append, All-contains}
@@ -26,7 +27,9 @@ use Rattle.plan_rows.proofs.ModelSteps.{step_taken}
 use Rattle.plan_rows.proofs.VisitCounts.{plus_none, counts_behind}
 use Rattle.plan_rows.proofs.TakenSoFar.{IsNeeded, IsSpent, needed_before, asked_before}
 
--- What the calls of a source in a step did to what was visited: each visit lies within the reach of what is taken later, the counts rose by those that were completed, at most one was attempted in vain after them where the last call was refused, and a page get was made for each node that was counted.
+-- What the calls of a source in a step did to what was visited: each visit lies within the reach of what is taken later, the counts rose by
+-- those that were completed, at most one was attempted in vain after them where the last call was refused, and a page get was made for each
+-- node that was counted.
 pub record VisitsWithin {T : Type 0} (pages : PageMap) (d : Database) (p : Plan) (later : Taken) (before now : Counts) (old new : DeskState) (result : Result T PageFault) : Type 0 where
   pub completed : List Visit
   pub attempted : List Visit

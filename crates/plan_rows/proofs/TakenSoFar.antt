@@ -1,5 +1,6 @@
 -- What an operator has taken of its source when it asks for no row that it doesn't need: exactly what the model says after each step.
-use Rattle.std.proofs.Common.{◌≡◌, ◌⊎◌, inl, inr, ℕ, ◌+◌, ◌<◌, ◌≤◌, Bool, true, false, cond, nat_le, nat_lt, true≢false, List, length, take, Option, None, Some, refl, sym, ap, ◌∙◌, subst, arith, le_trans, le_antisymm, le_refl, le_of_eq, take_all, eq-or-lt_of_le}
+use Rattle.std.proofs.Common.{◌≡◌, ◌⊎◌, inl, inr, ℕ, ◌+◌, ◌<◌, ◌≤◌, Bool, true, false, cond, nat_le, nat_lt, true≢false, List, length, take, Option, None, Some, refl}
+use Rattle.std.proofs.Common.{sym, ap, ◌∙◌, subst, arith, le_trans, le_antisymm, le_refl, le_of_eq, take_all, eq-or-lt_of_le}
 use Rattle.std.proofs.lemmas.Bool.{cases_lt, ltb-true, ltb-false, lt-ltb, le-leb, leb-true}
 use Rattle.sand_model.specs.Answer.{source, answer}
 use Rattle.sand_model.specs.Database.{Database, element}
@@ -20,7 +21,8 @@ use Rattle.plan_rows.proofs.TakenRows.{taken_is, spent_full, spent_all}
 abbrev pub WasAsked : Taken → ℕ → Type 0
 WasAsked t k = (k < t.rows) ⊎ ((t.is_ended ≡ true) × (k ≡ t.rows))
 
--- So much was taken of the source of a plan that has given so many rows: it was asked only where no `first n` beneath the innermost sort was full, and, without a sort, where the plan had no more rows than it has given.
+-- So much was taken of the source of a plan that has given so many rows: it was asked only where no `first n` beneath the innermost sort
+-- was full, and, without a sort, where the plan had no more rows than it has given.
 pub record IsNeeded (gap : Measure) (d : Database) (p : Plan) (given : ℕ) (t : Taken) : Type 0 where
   pub within : t.rows ≤ length (source gap d p)
   pub ended : t.is_ended ≡ true → t.rows ≡ length (source gap d p)

@@ -44,7 +44,9 @@ counts_taken d p t = counts_at plan_measure d (innermost p) (reach plan_measure 
 abbrev pub node_count : Counts → ℕ
 node_count c = c.blocks + c.pairs
 
--- The visits of a call: they were noted behind those before, those completed and after them, only in a refused call, at most one that was attempted in vain; each lies within the reach of what would be taken next, over these pages. The counts rise by just the completed ones, to at most those of that reach, and are these after a row and at the end. At least one page get was made for each node that was counted.
+-- The visits of a call: they were noted behind those before, those completed and after them, only in a refused call, at most one that was
+-- attempted in vain; each lies within the reach of what would be taken next, over these pages. The counts rise by just the completed ones,
+-- to at most those of that reach, and are these after a row and at the end. At least one page get was made for each node that was counted.
 pub record MakesVisits (pages : PageMap) (d : Database) (p : Plan) (t : Taken) (before now : Counts) (old new : DeskState) (result : Result (Option Answer) PageFault) : Type 0 where
   pub completed : List Visit
   pub attempted : List Visit
@@ -58,7 +60,8 @@ pub record MakesVisits (pages : PageMap) (d : Database) (p : Plan) (t : Taken) (
   pub rose : min (old.pool.gets + (node_count now - node_count before)) last_count ≤ new.pool.gets
 
 -- A call of a source of which so much was taken.
-pub record SourceStep (pages : PageMap) (d : Database) (p : Plan) (t : Taken) (before now : Counts) (old new : DeskState) (result : Result (Option Answer) PageFault) (At : Taken → Type 0) : Type 0 where
+pub record SourceStep (pages : PageMap) (d : Database) (p : Plan) (t : Taken) (before now : Counts) (old new : DeskState) (result : Result (Option Answer) PageFault)
+    (At : Taken → Type 0) : Type 0 where
   pub row : GivesRow d p t result
   pub at : At (taken_after d p t result)
   pub visits : MakesVisits pages d p t before now old new result

@@ -1,4 +1,5 @@
--- What visits count, and whether a visit of a plan's source lies within a reach: its node's gap does, or the gap of a rough item that a leaf lists. A node of an R-tree has the gap of the rectangle that its page tells.
+-- What visits count, and whether a visit of a plan's source lies within a reach: its node's gap does, or the gap of a rough item that a
+-- leaf lists. A node of an R-tree has the gap of the rectangle that its page tells.
 use Rattle.std.specs.Prelude.{◌≡◌, ℕ, ◌+◌, true, List, [], ◌∷◌, Contains, Option, None, Some}
 use Rattle.std.specs.FinMap as fin
 use Rattle.exact_frac.specs.declared.frac.Frac.{Frac}

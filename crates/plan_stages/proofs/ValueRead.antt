@@ -49,7 +49,8 @@ Passes m after pages =
     (d : Database) (p : Plan) (taken given : List PlanRow) → MatchStands m pages d p taken given → Works d p taken given false (Ok Pass) (MatchStands (with_held m after) pages d p taken)
 
 passes : (m : Match) (after : Option Held) (pages : PageMap)
-    → ((d : Database) (p : Plan) (taken given : List PlanRow) (s : MatchStands m pages d p taken given) → to_come d (relations_of s.below) s.place s.column m.held ≡ to_come d (relations_of s.below) s.place s.column after)
+    → ((d : Database) (p : Plan) (taken given : List PlanRow) (s : MatchStands m pages d p taken given)
+    → to_come d (relations_of s.below) s.place s.column m.held ≡ to_come d (relations_of s.below) s.place s.column after)
     → Passes m after pages
 passes m after pages same d p taken given s = record {
   stands = record {
@@ -77,7 +78,8 @@ row_is : (spot : Spot) (l : LookUp) (pages : PageMap) (row : Answer) (v : Value)
 row_is spot l pages row v = go (tells l v)
   where
     go : (b : Bool)
-        → cond b (tuple_price (value_height spot) + lookup_price (index_height l) (entries_above pages l v 0)) (tuple_price (value_height spot) + text_lookup_price (index_height l) (entries_above pages l v 0) (others_height l))
+        → cond b (tuple_price (value_height spot) + lookup_price (index_height l) (entries_above pages l v 0))
+        (tuple_price (value_height spot) + text_lookup_price (index_height l) (entries_above pages l v 0) (others_height l))
         ≡ tuple_price (value_height spot) + cond b (lookup_price (index_height l) (entries_above pages l v 0)) (text_lookup_price (index_height l) (entries_above pages l v 0) (others_height l))
     go true = refl
     go false = refl

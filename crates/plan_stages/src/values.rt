@@ -1,11 +1,13 @@
 // Values at places of rows.
-ghost use Rattle.std.specs.Prelude.{◌≡◌, ◌+◌, ◌≤◌, [], ◌∷◌, ◌++◌, ℕ, List, min, option_to_list, IfOk, OnOk};
+ghost use Rattle.std.specs.Prelude.{◌≡◌, ◌+◌, ◌≤◌, [], ◌∷◌, ◌++◌, ℕ, List, min, option_to_list, true, IfOk, OnOk};
+ghost use Rattle.std.specs.List.{list_all};
 ghost use Rattle.sand_base.specs.Faults.{last_count};
 ghost use Rattle.page_pool.specs.Causes.{HasPageCause};
 ghost use Rattle.page_pool.specs.Pool.{IsTold};
 ghost use Rattle.page_pool.specs.Reads.{IsRead};
 ghost use Rattle.sand_model.specs.Database.{Database};
 ghost use Rattle.sand_model.specs.Operators.{PlanRow, value_at, fetched_values};
+ghost use Rattle.sand_model.specs.PlainLines.{fits_line};
 ghost use Rattle.statements.specs.declared.column.Place.{Place};
 ghost use Rattle.plan_rows.specs.Rows.{row_of};
 ghost use Rattle.plan_places.specs.Spots.{Stands, IsSpot};
@@ -48,6 +50,7 @@ fn add_value<P: Pages>(
 ) -> Result<(), PageFault>
     requires stands { IsTold (P.shown pages.old) → Stands (P.shown pages.old).pages spot.now.relation.value }
     ensures value { OnOk result (IsTold (P.shown pages.old) → (d : Database) (names : List (List ℕ)) (place : Place) (row : PlanRow) → IsSpot d names place spot.now (P.shown pages.old).pages → row.ids ≡ ids.now → values.new.items ≡ values.old.items ++ option_to_list (value_at d names row place)) }
+    ensures fits { OnOk result (list_all fits_line values.old.items ≡ true → list_all fits_line values.new.items ≡ true) }
     ensures read { IsRead (P.shown pages.old) (P.shown pages.new) }
     ensures up { min (P.shown pages.old).gets last_count ≤ (P.shown pages.new).gets }
     ensures cause { HasPageCause (P.shown pages.old) (P.shown pages.new) result }
@@ -73,6 +76,7 @@ fn add_values<P: Pages>(
 ) -> Result<(), PageFault>
     requires stands { SpotsStand (P.shown pages.old) spots.now }
     ensures value { OnOk result (IsTold (P.shown pages.old) → (d : Database) (names : List (List ℕ)) (places : List Place) (row : PlanRow) → AreSpots d names (P.shown pages.old).pages spots.now places → row.ids ≡ ids.now → values.new.items ≡ values.old.items ++ fetched_values d names row places) }
+    ensures fits { OnOk result (list_all fits_line values.old.items ≡ true → list_all fits_line values.new.items ≡ true) }
     ensures read { IsRead (P.shown pages.old) (P.shown pages.new) }
     ensures up { min (P.shown pages.old).gets last_count ≤ (P.shown pages.new).gets }
     ensures cause { HasPageCause (P.shown pages.old) (P.shown pages.new) result }
@@ -96,6 +100,7 @@ pub(crate) fn with_values<P: Pages>(
 ) -> Result<Row, PageFault>
     requires stands { SpotsStand (P.shown pages.old) spots.now }
     ensures value { IfOk result (λ values. IsTold (P.shown pages.old) → (d : Database) (names : List (List ℕ)) (places : List Place) → AreSpots d names (P.shown pages.old).pages spots.now places → values ≡ row.now.values ++ fetched_values d names (row_of row.now) places) }
+    ensures fits { IfOk result (λ values. list_all fits_line values ≡ true) }
     ensures read { IsRead (P.shown pages.old) (P.shown pages.new) }
     ensures up { min (P.shown pages.old).gets last_count ≤ (P.shown pages.new).gets }
     ensures cause { HasPageCause (P.shown pages.old) (P.shown pages.new) result }

@@ -10,7 +10,8 @@ use Rattle.plan_steps.specs.Outermost.{inner, is_sort, source_rows, over_rows, w
 use Rattle.plan_steps.specs.Stages.{Standing, GivesFront, OpensLate}
 use Rattle.plan_steps.specs.Steps.{IsSpent}
 use Rattle.plan_steps.specs.declared.operator.Operator.{Operator, Source, Over'}
-use Rattle.plan_steps.proofs.Levels.{over_made, source_inner, whole_made, over_source, lazy_source, lazy_inner, sort_inner, begins_itself, begins_same, begins_nil, take_begins, made_nil, over_front, spent_inner}
+use Rattle.plan_steps.proofs.Levels.{over_made, source_inner, whole_made, over_source, lazy_source, lazy_inner, sort_inner, begins_itself, begins_same, begins_nil}
+use Rattle.plan_steps.proofs.Levels.{take_begins, made_nil, over_front, spent_inner}
 
 -- what was given begins the whole answer
 pub begins_whole : {S T : Type 0} (At : S → Taking) (Stands : T → Standing) (closed : T → Bool) → GivesFront Stands

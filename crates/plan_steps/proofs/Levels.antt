@@ -1,5 +1,6 @@
 -- What a plan makes of rows is what its outermost operator makes of what the plan beneath makes.
-use Rattle.std.proofs.Common.{◌≡◌, inl, inr, ℕ, zero, suc, ◌≤◌, Bool, true, false, cond, nat_le, ◌||◌, true≢false, List, [], ◌∷◌, ◌++◌, length, map, filter, flat_map, take, refl, sym, ap, ◌∙◌, subst, le_trans, arith}
+use Rattle.std.proofs.Common.{◌≡◌, inl, inr, ℕ, zero, suc, ◌≤◌, Bool, true, false, cond, nat_le, ◌||◌, true≢false, List, [], ◌∷◌, ◌++◌, length, map, filter, flat_map}
+use Rattle.std.proofs.Common.{take, refl, sym, ap, ◌∙◌, subst, le_trans, arith}
 use Rattle.std.proofs.lemmas.List.{append_assoc, append-nil, map-append, length-append}
 use Rattle.std.proofs.lemmas.List.Elements.{filter-append}
 use Rattle.std.proofs.lemmas.Bool.{leb-true, le-leb}
@@ -379,4 +380,5 @@ spent_inner d p t h = go (is_lazy p) refl
 
 -- a `first` that has its rows of those beneath that were taken
 pub spent_filled : (d : Database) (p : Plan) (t : Taken) → is_lazy p ≡ true → is_filled p (over_rows d (inner p) (take t.rows (source_rows d p))) ≡ true → IsSpent d (beneath_sort p) t
-spent_filled d p t e h = subst (λ q. IsSpent d q t) (sym (beneath_lazy p e)) (inl (full_inner d p (take t.rows (source_rows d p)) ∙ ap (λ b. b || is_full plan_measure d (inner p) (take t.rows (source_rows d p))) h))
+spent_filled d p t e h = subst (λ q. IsSpent d q t) (sym (beneath_lazy p e))
+    (inl (full_inner d p (take t.rows (source_rows d p)) ∙ ap (λ b. b || is_full plan_measure d (inner p) (take t.rows (source_rows d p))) h))

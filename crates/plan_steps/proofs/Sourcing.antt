@@ -1,5 +1,6 @@
 -- A step of a source.
-use Rattle.std.proofs.Common.{◌≡◌, inl, inr, ℕ, zero, suc, ◌+◌, ◌≤◌, Bool, true, false, cond, nat_lt, true≢false, List, [], ◌∷◌, ◌++◌, length, take, sum_by, Option, Some, None, Result, Ok, Err, refl, sym, ap, ◌∙◌, subst, le_antisymm, arith}
+use Rattle.std.proofs.Common.{◌≡◌, inl, inr, ℕ, zero, suc, ◌+◌, ◌≤◌, Bool, true, false, cond, nat_lt, true≢false, List, [], ◌∷◌, ◌++◌, length, take, sum_by, Option, Some}
+use Rattle.std.proofs.Common.{None, Result, Ok, Err, refl, sym, ap, ◌∙◌, subst, le_antisymm, arith}
 use Rattle.std.proofs.lemmas.Bool.{lt-ltb, le-ltb}
 use Rattle.std.proofs.lemmas.List.{take_all}
 use Rattle.std.proofs.lemmas.List.Sums.{sum_by-append}
@@ -105,7 +106,8 @@ next_end d p t h = ap (λ b. cond b (record { rows = t.rows + 1; is_ended = fals
 
 -- ---- the step
 
-pub source_goes : {S T : Type 0} (At : S → Taking) (Stands : T → Standing) (closed : T → Bool) (q : Prices S T) (s s' : S) (pages : PageMap) (d : Database) (p : Plan) (t : Taken) (given : List PlanRow)
+pub source_goes : {S T : Type 0} (At : S → Taking) (Stands : T → Standing) (closed : T → Bool) (q : Prices S T) (s s' : S) (pages : PageMap) (d : Database) (p : Plan)
+    (t : Taken) (given : List PlanRow)
     → (before now : Counts) (old new : DeskState) (answer : Result (Option Answer) PageFault) → q.heights s' ≡ q.heights s → q.step s' ≡ q.step s
     → SourceStep pages d p t before now old new answer (At s' pages d p) → Costs (q.heights s) (q.step s) (q.entries s pages) (q.entries s' pages) d p old new answer
     → (f : Follows At Stands closed (Source s) pages d p t given)
@@ -153,7 +155,8 @@ source_goes {S} {T} At Stands closed q s s' pages d p t given before now old new
           same = same;
           most =
               pays_row old.pool.gets new.pool.gets (q.entries s pages) (q.entries s' pages) (q.step s) (q.step s') (worth old.visits) (worth costs.noted) (worth new.visits)
-              (sum_by (visit_price (q.heights s') d p) new.visits) t.rows (next_taken d p t).rows step alike (logged costs.noted costs.log) (ap (λ (u : Taken). u.rows) (next_row d p t there)) costs.most;
+              (sum_by (visit_price (q.heights s') d p) new.visits) t.rows (next_taken d p t).rows step alike (logged costs.noted costs.log)
+              (ap (λ (u : Taken). u.rows) (next_row d p t there)) costs.most;
         }
     followed (Ok None) row at costs =
         let behind : length all ≤ t.rows = element_behind all t.rows row in record {
@@ -166,7 +169,8 @@ source_goes {S} {T} At Stands closed q s s' pages d p t given before now old new
           same = same;
           most =
               pays_stop old.pool.gets new.pool.gets (q.entries s pages) (q.entries s' pages) (q.step s) (q.step s') (worth old.visits) (worth costs.noted) (worth new.visits)
-              (sum_by (visit_price (q.heights s') d p) new.visits) t.rows (next_taken d p t).rows step alike (logged costs.noted costs.log) (ap (λ (u : Taken). u.rows) (next_end d p t behind)) costs.most;
+              (sum_by (visit_price (q.heights s') d p) new.visits) t.rows (next_taken d p t).rows step alike (logged costs.noted costs.log)
+              (ap (λ (u : Taken). u.rows) (next_end d p t behind)) costs.most;
         }
     followed (Err fault) row at costs = record {
       follows = record { plain = f.plain; stands = at; few = f.few; rows = f.rows };

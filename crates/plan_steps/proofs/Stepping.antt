@@ -1,5 +1,6 @@
 -- A step of an operator, from the step of the stage or of the operator beneath.
-use Rattle.std.proofs.Common.{◌≡◌, ◌≢◌, ◌⊎◌, inl, inr, ℕ, ◌<◌, ◌+◌, ◌≤◌, min, Bool, true, false, cond, nat_lt, ◌||◌, true≢false, List, [], ◌∷◌, ◌++◌, length, take, sum_by, Option, Result, Ok, Err, refl, sym, ap, ap₂, ◌∙◌, subst, le_of_eq, arith}
+use Rattle.std.proofs.Common.{◌≡◌, ◌≢◌, ◌⊎◌, inl, inr, ℕ, ◌<◌, ◌+◌, ◌≤◌, min, Bool, true, false, cond, nat_lt, ◌||◌, true≢false, List, [], ◌∷◌, ◌++◌, length, take}
+use Rattle.std.proofs.Common.{sum_by, Option, Result, Ok, Err, refl, sym, ap, ap₂, ◌∙◌, subst, le_of_eq, arith}
 use Rattle.std.specs.Prelude.{⊤}
 use Rattle.std.specs.Global.{Box}
 use Rattle.std.proofs.lemmas.List.Sums.{sum_by_push}
@@ -213,15 +214,18 @@ waits_over {S} {T} At Stands closed q pages d p t given before now old new resul
         ≤ old.pool.gets + left_of closed q below pages d (inner p) + paid At Stands closed q below' pages d (inner p) t' f.taken b new.visits
         → new.pool.gets + left + paid At Stands closed q (Over' stage pointer below) pages d p t given f old.visits
         ≤ old.pool.gets + left_of closed q (Over' stage pointer below) pages d p
-        + paid At Stands closed q (Over' stage pointer' below') pages d p t' given (record { taken = f.taken; beneath = b; stands = f.stands; spent = λ e. absurd (true≢false (sym e ∙ open_)) }) new.visits
+        + paid At Stands closed q (Over' stage pointer' below') pages d p t' given
+        (record { taken = f.taken; beneath = b; stands = f.stands; spent = λ e. absurd (true≢false (sym e ∙ open_)) }) new.visits
     most t' b left left' less pays =
         pays_none old.pool.gets new.pool.gets (left_of closed q (Over' stage pointer below) pages d p) left (q.held stage pages d p)
         (left_of closed q below pages d (inner p)) left' (paid At Stands closed q (Over' stage pointer below) pages d p t given f old.visits)
-        (paid At Stands closed q (Over' stage pointer' below') pages d p t' given (record { taken = f.taken; beneath = b; stands = f.stands; spent = λ e. absurd (true≢false (sym e ∙ open_)) }) new.visits)
+        (paid At Stands closed q (Over' stage pointer' below') pages d p t' given
+        (record { taken = f.taken; beneath = b; stands = f.stands; spent = λ e. absurd (true≢false (sym e ∙ open_)) }) new.visits)
         (paid At Stands closed q below pages d (inner p) t f.taken f.beneath old.visits) (paid At Stands closed q below' pages d (inner p) t' f.taken b new.visits)
         (sum_by (q.row stage pages d p) f.taken) (left_open At Stands closed q stage pointer below pages d p open_) less
         (paid_over At Stands closed q stage pointer below pages d p t given f old.visits)
-        (paid_over At Stands closed q stage pointer' below' pages d p t' given (record { taken = f.taken; beneath = b; stands = f.stands; spent = λ e. absurd (true≢false (sym e ∙ open_)) }) new.visits) pays
+        (paid_over At Stands closed q stage pointer' below' pages d p t' given
+        (record { taken = f.taken; beneath = b; stands = f.stands; spent = λ e. absurd (true≢false (sym e ∙ open_)) }) new.visits) pays
 
     same : HasSamePrices q below below' → HasSamePrices q (Over' stage pointer below) (Over' stage pointer' below')
     same = same_over At Stands closed q stage stage pointer pointer' below below' refl
@@ -373,29 +377,32 @@ pub takes_over : {S T : Type 0} (At : S → Taking) (Stands : T → Standing) (c
     → Goes pages d (inner p) t taken before now old mid (Ok (Row a)) (IsPaid At Stands closed q below below' pages d (inner p) t taken f old mid (Ok (Row a))))
     → (f : Follows At Stands closed (Over' stage pointer below) pages d p t given)
     → Goes pages d p t given before now old new result (IsPaid At Stands closed q (Over' stage pointer below) (Over' stage' pointer' below') pages d p t given f old new result)
-takes_over {S} {T} At Stands closed q front late pages d p t given before now old mid new result a stage stage' pointer pointer' below below' was_open same price log up dry work costs step f = record {
-  taken = g.taken;
-  follows = record {
-    follows = now_taken;
-    same = same_over At Stands closed q stage stage' pointer pointer' below below' price g.follows.same;
-    most =
-        pays_take old.pool.gets mid.pool.gets new.pool.gets (left_of closed q (Over' stage pointer below) pages d p) (left_after closed q (Over' stage' pointer' below') pages d p result)
-        (q.held stage pages d p) (unless_refused result (q.held stage' pages d p)) (left_of closed q below pages d (inner p)) (left_of closed q below' pages d (inner p))
-        (paid At Stands closed q (Over' stage pointer below) pages d p t given f old.visits) (paid At Stands closed q (Over' stage' pointer' below') pages d p g.taken (given_after given result) now_taken new.visits)
-        (paid At Stands closed q below pages d (inner p) t f.taken f.beneath old.visits) (paid At Stands closed q below' pages d (inner p) g.taken (f.taken ++ row_of a ∷ []) g.follows.follows mid.visits)
-        (sum_by (q.row stage pages d p) f.taken) (sum_by (q.row stage' pages d p) (f.taken ++ row_of a ∷ [])) (q.row stage pages d p (row_of a))
-        (left_open At Stands closed q stage pointer below pages d p was_open) (left_taken At Stands closed q stage' pointer' below' pages d p result open_)
-        (paid_over At Stands closed q stage pointer below pages d p t given f old.visits) (paid_later new.visits log)
-        (ap (λ (row : PageMap → Database → Plan → PlanRow → ℕ). sum_by (row pages d p) (f.taken ++ row_of a ∷ [])) price ∙ sum_by_push (q.row stage pages d p) f.taken (row_of a))
-        (costs f.taken given f.stands) g.follows.most;
-  };
-  asks =
-      asks_later pages d p t g.taken given before now old mid new result log up
-      (asks_up pages d p t g.taken f.taken given before now old mid (Ok (Row a)) (Ok Pass) (dry f.taken given f.stands) (λ fault e. absurd (ok-err e)) g.asks);
-  ends =
-      worked_ends At Stands closed front late pages d p g.taken below' (f.taken ++ row_of a ∷ []) given (closed stage') g.follows.follows (λ e. absurd (true≢false (sym e ∙ open_)))
-      result w.whole w.full;
-}
+takes_over {S} {T} At Stands closed q front late pages d p t given before now old mid new result a stage stage' pointer pointer' below below' was_open same price log up dry work costs step f =
+    record {
+      taken = g.taken;
+      follows = record {
+        follows = now_taken;
+        same = same_over At Stands closed q stage stage' pointer pointer' below below' price g.follows.same;
+        most =
+            pays_take old.pool.gets mid.pool.gets new.pool.gets (left_of closed q (Over' stage pointer below) pages d p) (left_after closed q (Over' stage' pointer' below') pages d p result)
+            (q.held stage pages d p) (unless_refused result (q.held stage' pages d p)) (left_of closed q below pages d (inner p)) (left_of closed q below' pages d (inner p))
+            (paid At Stands closed q (Over' stage pointer below) pages d p t given f old.visits)
+            (paid At Stands closed q (Over' stage' pointer' below') pages d p g.taken (given_after given result) now_taken new.visits)
+            (paid At Stands closed q below pages d (inner p) t f.taken f.beneath old.visits)
+            (paid At Stands closed q below' pages d (inner p) g.taken (f.taken ++ row_of a ∷ []) g.follows.follows mid.visits)
+            (sum_by (q.row stage pages d p) f.taken) (sum_by (q.row stage' pages d p) (f.taken ++ row_of a ∷ [])) (q.row stage pages d p (row_of a))
+            (left_open At Stands closed q stage pointer below pages d p was_open) (left_taken At Stands closed q stage' pointer' below' pages d p result open_)
+            (paid_over At Stands closed q stage pointer below pages d p t given f old.visits) (paid_later new.visits log)
+            (ap (λ (row : PageMap → Database → Plan → PlanRow → ℕ). sum_by (row pages d p) (f.taken ++ row_of a ∷ [])) price ∙ sum_by_push (q.row stage pages d p) f.taken (row_of a))
+            (costs f.taken given f.stands) g.follows.most;
+      };
+      asks =
+          asks_later pages d p t g.taken given before now old mid new result log up
+          (asks_up pages d p t g.taken f.taken given before now old mid (Ok (Row a)) (Ok Pass) (dry f.taken given f.stands) (λ fault e. absurd (ok-err e)) g.asks);
+      ends =
+          worked_ends At Stands closed front late pages d p g.taken below' (f.taken ++ row_of a ∷ []) given (closed stage') g.follows.follows (λ e. absurd (true≢false (sym e ∙ open_)))
+          result w.whole w.full;
+    }
   where
     open_ : closed stage' ≡ false
     open_ = same ∙ was_open
@@ -419,7 +426,8 @@ takes_over {S} {T} At Stands closed q front late pages d p t given before now ol
         ≡ paid At Stands closed q below' pages d (inner p) g.taken (f.taken ++ row_of a ∷ []) g.follows.follows mid.visits + sum_by (q.row stage' pages d p) (f.taken ++ row_of a ∷ [])
     paid_later visits log =
         paid_over At Stands closed q stage' pointer' below' pages d p g.taken (given_after given result) now_taken visits
-        ∙ ap (λ (l : List Visit). paid At Stands closed q below' pages d (inner p) g.taken (f.taken ++ row_of a ∷ []) g.follows.follows l + sum_by (q.row stage' pages d p) (f.taken ++ row_of a ∷ [])) log
+        ∙ ap (λ (l : List Visit). paid At Stands closed q below' pages d (inner p) g.taken (f.taken ++ row_of a ∷ []) g.follows.follows l + sum_by
+        (q.row stage' pages d p) (f.taken ++ row_of a ∷ [])) log
 
     ok-err : {fault : PageFault} → Ok (Row a) ≡ Err fault → ⊥
     ok-err e = true≢false (ap is_ok e)

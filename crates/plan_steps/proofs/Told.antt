@@ -88,7 +88,8 @@ module _ {S T : Type 0} (At : S → Taking) (Stands : T → Standing) (closed : 
       (λ pages. (d : Database) (p : Plan) (taken given : List PlanRow) → Stands stage pages d p taken given
       → new.pool.gets + unless_refused result (q.held stage' pages d p) ≤ old.pool.gets + q.held stage pages d p)
       (GoesPaid At Stands closed q seen (Over' stage pointer below) (Over' stage' pointer' below) old new result)
-      (λ pages k c d p t given f. works_over At Stands closed q front late pages d p t given (seen (source_of below)) old new result stage stage' pointer pointer' below same price log up (k d p) (c d p) f)
+      (λ pages k c d p t given f. works_over At Stands closed q front late pages d p t given
+      (seen (source_of below)) old new result stage stage' pointer pointer' below same price log up (k d p) (c d p) f)
       works costs
 
   module _ (below_gave : Result Step PageFault) (stage : T) (pointer pointer' : Box Unit) (below below' : Operator S T) (open_ : closed stage ≡ false)

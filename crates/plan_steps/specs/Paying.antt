@@ -18,7 +18,8 @@ use Rattle.plan_steps.specs.declared.operator.Operator.{Operator, Source, Over'}
 use Rattle.plan_steps.specs.declared.step.Step.{Step}
 use Rattle.plan_steps.specs.declared.step.Step.TheVariants.{Row, Pass, End}
 
--- What sources and stages cost in page gets: the heights of the B-trees by which a visit is paid, a step of a source, the entries of an index that it has still to pass, a row that a stage handles, and what is still to be done for the row that it holds.
+-- What sources and stages cost in page gets: the heights of the B-trees by which a visit is paid, a step of a source, the entries of an
+-- index that it has still to pass, a row that a stage handles, and what is still to be done for the row that it holds.
 pub record Prices (S T : Type 0) : Type 0 where
   pub heights : S → Heights
   pub step : S → ℕ
@@ -81,7 +82,8 @@ pub record HasSamePrices {S T : Type 0} (q : Prices S T) (o o' : Operator S T) :
   pub step : q.step (source_of o') ≡ q.step (source_of o)
   pub rows : row_prices q o' ≡ row_prices q o
 
--- A step after which so much was taken and these rows were given. Its page gets, with what is left to pay after it, are at most what was left to pay before it and the price of what it noted, asked and handled.
+-- A step after which so much was taken and these rows were given. Its page gets, with what is left to pay after it, are at most what was
+-- left to pay before it and the price of what it noted, asked and handled.
 pub record IsPaid {S T : Type 0} (At : S → Taking) (Stands : T → Standing) (closed : T → Bool) (q : Prices S T) (o o' : Operator S T) (pages : PageMap) (d : Database) (p : Plan)
     (t : Taken) (given : List PlanRow) (f : Follows At Stands closed o pages d p t given) (old new : DeskState) (result : Result Step PageFault) (after : Taken) (rows : List PlanRow) : Type 0 where
   pub follows : Follows At Stands closed o' pages d p after rows
@@ -90,7 +92,8 @@ pub record IsPaid {S T : Type 0} (At : S → Taking) (Stands : T → Standing) (
       ≤ old.pool.gets + left_of closed q o pages d p + paid At Stands closed q o' pages d p after rows follows new.visits
 
 -- whatever of whatever plan the operator took and gave: the step gives what the model does, and is paid
-abbrev pub GoesPaid : {S T : Type 0} → (S → Taking) → (T → Standing) → (T → Bool) → Prices S T → (S → Counts) → Operator S T → Operator S T → DeskState → DeskState → Result Step PageFault → PageMap → Type 0
+abbrev pub GoesPaid : {S T : Type 0} → (S → Taking) → (T → Standing) → (T → Bool) → Prices S T → (S → Counts) → Operator S T → Operator S T → DeskState → DeskState
+    → Result Step PageFault → PageMap → Type 0
 GoesPaid At Stands closed q seen o o' old new result pages =
     (d : Database) (p : Plan) (t : Taken) (given : List PlanRow) (f : Follows At Stands closed o pages d p t given)
     → Goes pages d p t given (seen (source_of o)) (seen (source_of o')) old new result (IsPaid At Stands closed q o o' pages d p t given f old new result)

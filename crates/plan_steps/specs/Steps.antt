@@ -83,7 +83,8 @@ pub record IsDone (d : Database) (p : Plan) (t : Taken) (given : List PlanRow) :
   pub spent : IsSpent d (beneath_sort p) t
 
 -- A step of an operator that gave these rows before, where so much of the source was taken.
-pub record Goes (pages : PageMap) (d : Database) (p : Plan) (t : Taken) (given : List PlanRow) (before now : Counts) (old new : DeskState) (result : Result Step PageFault) (After : Taken → List PlanRow → Type 0) : Type 0 where
+pub record Goes (pages : PageMap) (d : Database) (p : Plan) (t : Taken) (given : List PlanRow) (before now : Counts) (old new : DeskState)
+    (result : Result Step PageFault) (After : Taken → List PlanRow → Type 0) : Type 0 where
   pub taken : Taken
   pub follows : After taken (given_after given result)
   pub asks : AsksOnce pages d p t taken given before now old new result

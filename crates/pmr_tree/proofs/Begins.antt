@@ -125,7 +125,8 @@ four_grown : (m : Block → ℕ → Bool) (n id : ℕ) (b : Block) (k0 k1 k2 k3 
     → Becomes b (grown_where m n id b) k0 k4
 four_grown m n id b k0 k1 k2 k3 k4 stands none met g0 g1 g2 g3 =
     becomes_grown_inner m n id b k0 k4 none met
-    (becomes_four b (grown_where m n id (child b 0)) (grown_where m n id (child b 1)) (grown_where m n id (child b 2)) (grown_where m n id (child b 3)) k0 k1 k2 k3 k4 (below_grown m n id b) (λ p q r s. refl) stands none g0 g1 g2 g3)
+    (becomes_four b (grown_where m n id (child b 0)) (grown_where m n id (child b 1)) (grown_where m n id (child b 2)) (grown_where m n id (child b 3)) k0 k1 k2 k3 k4
+    (below_grown m n id b) (λ p q r s. refl) stands none g0 g1 g2 g3)
 
 -- what has grown at a leaf has grown from the block of its tree
 grown_up : (m : Block → ℕ → Bool) (n id : ℕ) (l : Block) → MeetsAlone m id l → (old new : List ℕ) → Rises old → Becomes l (grown_where m n id l) old new
@@ -202,9 +203,10 @@ record Inside (b : Block) (p : Point) : Type 0 where
   high_y : p.y < (square_of b).high.y
 
 inside : (b : Block) (p : Point) → has_inside b p ≡ true → Inside b p
-inside b p h = (let f = four (square_of b).low.x (square_of b).high.x p.x (square_of b).low.y (square_of b).high.y p.y h in record { low_x = f.0; high_x = f.1.0; low_y = f.1.1.0; high_y = f.1.1.1 }) where
-  four : (lx hx x ly hy y : ℕ) → (((nat_lt lx x && nat_lt x hx) && nat_lt ly y) && nat_lt y hy) ≡ true → (lx < x) × ((x < hx) × ((ly < y) × (y < hy)))
-  four lx hx x ly hy y t = (grind (arith, nat_tests), (grind (arith, nat_tests), (grind (arith, nat_tests), grind (arith, nat_tests))))
+inside b p h = (let f = four (square_of b).low.x (square_of b).high.x p.x (square_of b).low.y (square_of b).high.y p.y h in
+    record { low_x = f.0; high_x = f.1.0; low_y = f.1.1.0; high_y = f.1.1.1 }) where
+      four : (lx hx x ly hy y : ℕ) → (((nat_lt lx x && nat_lt x hx) && nat_lt ly y) && nat_lt y hy) ≡ true → (lx < x) × ((x < hx) × ((ly < y) × (y < hy)))
+      four lx hx x ly hy y t = (grind (arith, nat_tests), (grind (arith, nat_tests), (grind (arith, nat_tests), grind (arith, nat_tests))))
 
 -- a coordinate inside one range, and in another or at its end: it or the one before is in both
 record Both (low high x first side : ℕ) : Type 0 where

@@ -64,7 +64,8 @@ stepped leaf b id ks p q r s block rise reads c hc level code at =
               (λ m h n new one.
               let u : (j : ℕ) → 3 ≢ j → j < 4 → m (child b j) id ≡ false = λ j differ small. beside m h 3 j differ small s parts.fourth.shaped a in
               four m n ks ks ks new
-              (before m n 0 p parts.first (u 0 (omega arith) (omega arith))) (before m n 1 q parts.second (u 1 (omega arith) (omega arith))) (before m n 2 r parts.third (u 2 (omega arith) (omega arith))) one)
+              (before m n 0 p parts.first (u 0 (omega arith) (omega arith))) (before m n 1 q parts.second (u 1 (omega arith) (omega arith)))
+              (before m n 2 r parts.third (u 2 (omega arith) (omega arith))) one)
               (λ n new st no inner. some_inner n b new new st no (inr (inr (inr inner))) refl)
         ]
       ]
@@ -102,7 +103,8 @@ stepped leaf b id ks p q r s block rise reads c hc level code at =
         → Becomes (child b 3) (shrunk_where m n id (child b 3)) k2 new
         → Becomes b (below_shrunk m n id b) ks new
     four m n k0 k1 k2 new g0 g1 g2 g3 =
-        becomes_four b (shrunk_where m n id (child b 0)) (shrunk_where m n id (child b 1)) (shrunk_where m n id (child b 2)) (shrunk_where m n id (child b 3)) ks k0 k1 k2 new (below_shrunk m n id b) (λ p q r s. refl) stands none g0 g1 g2 g3
+        becomes_four b (shrunk_where m n id (child b 0)) (shrunk_where m n id (child b 1)) (shrunk_where m n id (child b 2))
+        (shrunk_where m n id (child b 3)) ks k0 k1 k2 new (below_shrunk m n id b) (λ p q r s. refl) stands none g0 g1 g2 g3
 
     -- the child of the leaf is the one that has its first code
     from : (i : ℕ) → i < 4 → (t : Tree) → Reads (child b i) ks t → IsLeafIn (child b i) t leaf
@@ -132,21 +134,26 @@ pub child_stands : (leaf b c : Block) (id : ℕ) (ks : List ℕ) → Step leaf b
 child_stands leaf b c id ks h = record { rises = h.has.rises; tree = h.has.tree; reads = h.has.reads }
 
 -- when it has shrunk, the block is an inner place still
-pub block_stands : (leaf b c : Block) (id : ℕ) (ks : List ℕ) → Step leaf b c id ks → (m : Block → ℕ → Bool) → MeetsAlone m id leaf → (n : ℕ) (new : List ℕ) → Becomes c (shrunk_where m n id c) ks new → Stands b new
+pub block_stands : (leaf b c : Block) (id : ℕ) (ks : List ℕ) → Step leaf b c id ks → (m : Block → ℕ → Bool) → MeetsAlone m id leaf → (n : ℕ) (new : List ℕ)
+    → Becomes c (shrunk_where m n id c) ks new → Stands b new
 block_stands leaf b c id ks h m alone n new one = stands_after b (below_shrunk m n id b) ks new (h.up m alone n new one) h.stands
 
-pub block_inner : (leaf b c : Block) (id : ℕ) (ks : List ℕ) → Step leaf b c id ks → (m : Block → ℕ → Bool) → MeetsAlone m id leaf → (n : ℕ) (new : List ℕ) → Becomes c (shrunk_where m n id c) ks new → own b new ≡ []
+pub block_inner : (leaf b c : Block) (id : ℕ) (ks : List ℕ) → Step leaf b c id ks → (m : Block → ℕ → Bool) → MeetsAlone m id leaf → (n : ℕ) (new : List ℕ)
+    → Becomes c (shrunk_where m n id c) ks new → own b new ≡ []
 block_inner leaf b c id ks h m alone n new one =
-    still_inner b (below_shrunk m n id b) (shrunk_where m n id (child b 0)) (shrunk_where m n id (child b 1)) (shrunk_where m n id (child b 2)) (shrunk_where m n id (child b 3)) ks new (λ p q r s. refl) h.stands h.none (h.up m alone n new one)
+    still_inner b (below_shrunk m n id b) (shrunk_where m n id (child b 0)) (shrunk_where m n id (child b 1)) (shrunk_where m n id (child b 2))
+    (shrunk_where m n id (child b 3)) ks new (λ p q r s. refl) h.stands h.none (h.up m alone n new one)
 
 -- where the child is an inner place then, nothing merges
-pub block_kept : (leaf b c : Block) (id : ℕ) (ks : List ℕ) → Step leaf b c id ks → (m : Block → ℕ → Bool) → MeetsAlone m id leaf → (n : ℕ) (new : List ℕ) → Becomes c (shrunk_where m n id c) ks new → own c new ≡ []
+pub block_kept : (leaf b c : Block) (id : ℕ) (ks : List ℕ) → Step leaf b c id ks → (m : Block → ℕ → Bool) → MeetsAlone m id leaf → (n : ℕ) (new : List ℕ)
+    → Becomes c (shrunk_where m n id c) ks new → own c new ≡ []
     → Becomes b (shrunk_where m n id b) ks new
 block_kept leaf b c id ks h m alone n new one inner =
     shrunk_inner m n id b ks new new h.none (h.met m alone) (h.up m alone n new one)
     (h.kept n new (block_stands leaf b c id ks h m alone n new one) (block_inner leaf b c id ks h m alone n new one) inner)
 
 -- and else what merging leaves is the block that has shrunk
-pub block_merged : (leaf b c : Block) (id : ℕ) (ks : List ℕ) → Step leaf b c id ks → (m : Block → ℕ → Bool) → MeetsAlone m id leaf → (n : ℕ) (mid new : List ℕ) → Becomes c (shrunk_where m n id c) ks mid
+pub block_merged : (leaf b c : Block) (id : ℕ) (ks : List ℕ) → Step leaf b c id ks → (m : Block → ℕ → Bool) → MeetsAlone m id leaf → (n : ℕ) (mid new : List ℕ)
+    → Becomes c (shrunk_where m n id c) ks mid
     → Becomes b (merging n) mid new → Becomes b (shrunk_where m n id b) ks new
 block_merged leaf b c id ks h m alone n mid new one merge = shrunk_inner m n id b ks mid new h.none (h.met m alone) (h.up m alone n mid one) merge

@@ -60,7 +60,8 @@ no_leaf_found b es pairs is none = sym (firsts_own b es) ∙ sym (ap firsts is) 
   nil (x ∷ xs) h = absurd (omega arith)
 
 pub found_passes : (test : ℕ → ℕ → Bool) (b : Block) (es pairs : List Pair) → pairs ≡ own_pairs b es → Passes test es → ListPasses test (kept_of pairs)
-found_passes test b es pairs is h = passes_kept test pairs (subst (Passes test) (sym is) (each_filter (λ e. 1 ≤ id_in e.0 → test (id_in e.0) e.1 ≡ true) (λ e. is_between (mark_of b) (mark_of b + 2 ^ 32) e.0) es h))
+found_passes test b es pairs is h = passes_kept test pairs
+    (subst (Passes test) (sym is) (each_filter (λ e. 1 ≤ id_in e.0 → test (id_in e.0) e.1 ≡ true) (λ e. is_between (mark_of b) (mark_of b + 2 ^ 32) e.0) es h))
 
 -- a leaf's keys have its ids
 pub id_in_key : (b : Block) (id : ℕ) → id < 2 ^ 32 → id_in (key_of b id) ≡ id

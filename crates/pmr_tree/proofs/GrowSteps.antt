@@ -32,7 +32,8 @@ pub grow_steps : (m : Block → ℕ → Bool) (n id : ℕ) (b : Block) (cs : Lis
     → Becomes b (grown_where m n id b) k0 k4
 grow_steps m n id b cs d0 d1 d2 d3 k0 k1 k2 k3 k4 stands none met is g0 g1 g2 g3 =
     becomes_grown_inner m n id b k0 k4 none met
-    (becomes_four b (grown_where m n id (child b 0)) (grown_where m n id (child b 1)) (grown_where m n id (child b 2)) (grown_where m n id (child b 3)) k0 k1 k2 k3 k4 (below_grown m n id b) (λ p q r s. refl) stands none
+    (becomes_four b (grown_where m n id (child b 0)) (grown_where m n id (child b 1)) (grown_where m n id (child b 2)) (grown_where m n id (child b 3)) k0 k1 k2 k3 k4
+    (below_grown m n id b) (λ p q r s. refl) stands none
     (at_child b cs 0 d0 (λ x. Becomes x (grown_where m n id x) k0 k1) is g0)
     (at_child b cs 1 d1 (λ x. Becomes x (grown_where m n id x) k1 k2) is g1)
     (at_child b cs 2 d2 (λ x. Becomes x (grown_where m n id x) k2 k3) is g2)

@@ -48,7 +48,14 @@ measure_tells law gap measure rows plane id has = go (shape_at rows id) refl whe
   go : (o : Option Shape) → shape_at rows id ≡ o
       → (s : Shape) × ((shape_at rows id ≡ Some s) × ((b : Block) → IsBlock b → IsTrue (meets_block gap rows b id) ↔ IsMeeting (figure.Shape s) (figure.Rect (square_of b))))
   go None e = absurd (false≢true (sym (ap is_some e) ∙ has))
-  go (Some s) e = (s, (e, λ b block. subst (λ t. IsTrue t ↔ IsMeeting (figure.Shape s) (figure.Rect (square_of b))) (sym (meets_is b s e)) (law gap measure s (square_of b) (shape_in_closed s (row_in_plane rows id s plane e)) (square_in_closed_plane b block))))
+  go (Some s) e = (
+    s,
+    (
+      e,
+      λ b block. subst (λ t. IsTrue t ↔ IsMeeting (figure.Shape s) (figure.Rect (square_of b))) (sym (meets_is b s e))
+          (law gap measure s (square_of b) (shape_in_closed s (row_in_plane rows id s plane e)) (square_in_closed_plane b block)),
+    ),
+  )
     where
       meets_is : (b : Block) (s : Shape) → shape_at rows id ≡ Some s → meets_block gap rows b id ≡ meets gap s (square_of b)
       meets_is b s e = rw e refl
@@ -133,7 +140,8 @@ listed_have old t rows id s h gap measure =
     each_two [] a b = tt
     each_two (x ∷ xs) a b = (ap is_some (other_shape id s rows x b.0) ∙ a.0, each_two xs a.1 b.1)
 
-unlisted : (old : PageMap) (t : Pmr) (rows : List (ℕ × Shape)) (id : ℕ) (s : Shape) → Premises old t rows id s → (gap : Measure) → IsMeasure gap → (value : ℕ) → Passes (keeps_test id value) (entries_at old t)
+unlisted : (old : PageMap) (t : Pmr) (rows : List (ℕ × Shape)) (id : ℕ) (s : Shape) → Premises old t rows id s → (gap : Measure) → IsMeasure gap → (value : ℕ)
+    → Passes (keeps_test id value) (entries_at old t)
 unlisted old t rows id s h gap measure value =
     let f = h.fits gap measure in
     let P : ℕ → Type 0 = λ i. id ≡ i → ⊥ in
@@ -163,10 +171,13 @@ full_by old t rows id s h gap measure =
     let others = (id, s) ∷ rows in
     let m = meets_block gap others in
     let quarters = rows_quarters h.quarters gap measure others (h.shape_in, h.rows_in) in
-    let alike : (b : Block) → Each (λ i. meets_block gap rows b i ≡ m b i) f.ids = λ b. each_map (λ other. id ≡ other → ⊥) (λ i. meets_block gap rows b i ≡ m b i) (λ i e. meets_alike gap rows others b i (sym (other_shape id s rows i e))) f.ids (each_other f.ids id f.new) in
-    full_grown m quarters t.threshold id f.ids f.rise root_block (tree_at old t) is_root (shaped_shallow root_block (tree_at old t) h.is.shaped) (fits_alike (meets_block gap rows) m f.ids alike root_block (tree_at old t) f.fits) h.is.full
+    let alike : (b : Block) → Each (λ i. meets_block gap rows b i ≡ m b i) f.ids =
+    λ b. each_map (λ other. id ≡ other → ⊥) (λ i. meets_block gap rows b i ≡ m b i) (λ i e. meets_alike gap rows others b i (sym (other_shape id s rows i e))) f.ids (each_other f.ids id f.new) in
+    full_grown m quarters t.threshold id f.ids f.rise root_block (tree_at old t) is_root (shaped_shallow root_block (tree_at old t) h.is.shaped)
+    (fits_alike (meets_block gap rows) m f.ids alike root_block (tree_at old t) f.fits) h.is.full
 
-pub grows : (old new : PageMap) (t u : Pmr) (rows : List (ℕ × Shape)) (id : ℕ) (s : Shape) → Premises old t rows id s → Grew old new t u rows id s → (gap : Measure) → IsMeasure gap → Grows old new t u rows id s
+pub grows : (old new : PageMap) (t u : Pmr) (rows : List (ℕ × Shape)) (id : ℕ) (s : Shape) → Premises old t rows id s → Grew old new t u rows id s → (gap : Measure)
+    → IsMeasure gap → Grows old new t u rows id s
 grows old new t u rows id s h g gap measure =
     let one = grown_by old new t u rows id s h g gap measure in
     let full = subst (IsFull t.threshold) (sym one.tree_is) (full_by old t rows id s h gap measure) in record {
@@ -180,7 +191,8 @@ grows old new t u rows id s h g gap measure =
       rough = (let v = value_of (rough_figure s) in passes_keeps (entries_at new u) id v h.some (g.values (keeps_test id v) (this_passes id v) (unlisted old t rows id s h gap measure v)));
       others = λ other o some differ kept.
           (let v = value_of (rough_figure o) in
-          passes_keeps (entries_at new u) other v some (g.values (keeps_test other v) (other_passes other v id (value_of (rough_figure s)) (λ e. differ (sym e))) (keeps_passes (entries_at old t) other v kept)));
+          passes_keeps (entries_at new u) other v some
+          (g.values (keeps_test other v) (other_passes other v id (value_of (rough_figure s)) (λ e. differ (sym e))) (keeps_passes (entries_at old t) other v kept)));
     }
 
 -- the block of code 0 and level 0 is the root

@@ -9,7 +9,8 @@ use Rattle.z_code.specs.declared.block.Block.{Block}
 use Rattle.sand_model.specs.Tree.{Tree, Leaf, Inner, add, union, union_of_four, without, split, settled, grown, merged, shrunk, Fits, IsShallow, HasEnough, IsFull}
 use Rattle.pmr_tree.specs.Lists.{Each, Above, Rises}
 use Rattle.pmr_tree.specs.Changes.{Quarters, grown_where, shrunk_where, ListsWhere}
-use Rattle.pmr_tree.proofs.Orders.{holds, fails, test, each_add, each_filter, add_first, add_after, add_here, filter_add, filter_swap, filter_weaker, filter_same, rises_add, rises_filter, order, below, same, above, add_before}
+use Rattle.pmr_tree.proofs.Orders.{holds, fails, test, each_add, each_filter, add_first, add_after, add_here, filter_add, filter_swap, filter_weaker, filter_same}
+use Rattle.pmr_tree.proofs.Orders.{rises_add, rises_filter, order, below, same, above, add_before}
 use Rattle.pmr_tree.proofs.Quarter.{child_block}
 
 -- a test of what meets
@@ -51,13 +52,16 @@ pub met_0 : (m : Met) → Quarters m → (b : Block) → IsBlock b → b.level <
 met_0 m q b block up id h = q b id block up ∙ or_left (m (child b 0) id) (m (child b 1) id || (m (child b 2) id || m (child b 3) id)) h
 
 pub met_1 : (m : Met) → Quarters m → (b : Block) → IsBlock b → b.level < COORDINATE_BITS → (id : ℕ) → m (child b 1) id ≡ true → m b id ≡ true
-met_1 m q b block up id h = q b id block up ∙ or_right (m (child b 0) id) (m (child b 1) id || (m (child b 2) id || m (child b 3) id)) (or_left (m (child b 1) id) (m (child b 2) id || m (child b 3) id) h)
+met_1 m q b block up id h = q b id block up ∙ or_right (m (child b 0) id) (m (child b 1) id || (m (child b 2) id || m (child b 3) id))
+    (or_left (m (child b 1) id) (m (child b 2) id || m (child b 3) id) h)
 
 pub met_2 : (m : Met) → Quarters m → (b : Block) → IsBlock b → b.level < COORDINATE_BITS → (id : ℕ) → m (child b 2) id ≡ true → m b id ≡ true
-met_2 m q b block up id h = q b id block up ∙ or_right (m (child b 0) id) (m (child b 1) id || (m (child b 2) id || m (child b 3) id)) (or_right (m (child b 1) id) (m (child b 2) id || m (child b 3) id) (or_left (m (child b 2) id) (m (child b 3) id) h))
+met_2 m q b block up id h = q b id block up ∙ or_right (m (child b 0) id) (m (child b 1) id || (m (child b 2) id || m (child b 3) id))
+    (or_right (m (child b 1) id) (m (child b 2) id || m (child b 3) id) (or_left (m (child b 2) id) (m (child b 3) id) h))
 
 pub met_3 : (m : Met) → Quarters m → (b : Block) → IsBlock b → b.level < COORDINATE_BITS → (id : ℕ) → m (child b 3) id ≡ true → m b id ≡ true
-met_3 m q b block up id h = q b id block up ∙ or_right (m (child b 0) id) (m (child b 1) id || (m (child b 2) id || m (child b 3) id)) (or_right (m (child b 1) id) (m (child b 2) id || m (child b 3) id) (or_right (m (child b 2) id) (m (child b 3) id) h))
+met_3 m q b block up id h = q b id block up ∙ or_right (m (child b 0) id) (m (child b 1) id || (m (child b 2) id || m (child b 3) id))
+    (or_right (m (child b 1) id) (m (child b 2) id || m (child b 3) id) (or_right (m (child b 2) id) (m (child b 3) id) h))
 
 -- four trees that are equal make equal inner places
 inner_same : (p q r s p' q' r' s' : Tree) → p ≡ p' → q ≡ q' → r ≡ r' → s ≡ s' → Inner p q r s ≡ Inner p' q' r' s'
@@ -226,15 +230,19 @@ grown_enough : (m : Met) → Quarters m → (n id : ℕ) (b : Block) → IsBlock
     → HasEnough n (grown m n id (child b 0) p) (grown m n id (child b 1) r) (grown m n id (child b 2) s) (grown m n id (child b 3) t)
 grown_enough m q n id b block up rows rise (Leaf p) (Leaf r) (Leaf s) (Leaf t) fit fit' h =
     let before : n ≤ length (filter (m b) rows) = subst (λ u. n ≤ length u) (union_fits m q b block up rows p r s t rise fit) (not_less (length (union_of_four p r s t)) n h) in
-    enough_fits m q n b block up (add id rows) (rises_add id rows rise) (grown m n id (child b 0) (Leaf p)) (grown m n id (child b 1) (Leaf r)) (grown m n id (child b 2) (Leaf s)) (grown m n id (child b 3) (Leaf t)) fit'
+    enough_fits m q n b block up (add id rows) (rises_add id rows rise) (grown m n id (child b 0) (Leaf p)) (grown m n id (child b 1) (Leaf r))
+    (grown m n id (child b 2) (Leaf s)) (grown m n id (child b 3) (Leaf t)) fit'
     (omega (arith, before, length_filter_add (m b) id rows rise))
 grown_enough m q n id b block up rows rise (Inner p p' p'' p''') r s t fit fit' h = tt
 grown_enough m q n id b block up rows rise (Leaf p) (Inner r r' r'' r''') s t fit fit' h =
-    enough_second n (grown m n id (child b 0) (Leaf p)) (grown m n id (child (child b 1) 0) r) (grown m n id (child (child b 1) 1) r') (grown m n id (child (child b 1) 2) r'') (grown m n id (child (child b 1) 3) r''') (grown m n id (child b 2) s) (grown m n id (child b 3) t)
+    enough_second n (grown m n id (child b 0) (Leaf p)) (grown m n id (child (child b 1) 0) r) (grown m n id (child (child b 1) 1) r')
+    (grown m n id (child (child b 1) 2) r'') (grown m n id (child (child b 1) 3) r''') (grown m n id (child b 2) s) (grown m n id (child b 3) t)
 grown_enough m q n id b block up rows rise (Leaf p) (Leaf r) (Inner s s' s'' s''') t fit fit' h =
-    enough_third n (grown m n id (child b 0) (Leaf p)) (grown m n id (child b 1) (Leaf r)) (grown m n id (child (child b 2) 0) s) (grown m n id (child (child b 2) 1) s') (grown m n id (child (child b 2) 2) s'') (grown m n id (child (child b 2) 3) s''') (grown m n id (child b 3) t)
+    enough_third n (grown m n id (child b 0) (Leaf p)) (grown m n id (child b 1) (Leaf r)) (grown m n id (child (child b 2) 0) s) (grown m n id (child (child b 2) 1) s')
+    (grown m n id (child (child b 2) 2) s'') (grown m n id (child (child b 2) 3) s''') (grown m n id (child b 3) t)
 grown_enough m q n id b block up rows rise (Leaf p) (Leaf r) (Leaf s) (Inner t t' t'' t''') fit fit' h =
-    enough_fourth n (grown m n id (child b 0) (Leaf p)) (grown m n id (child b 1) (Leaf r)) (grown m n id (child b 2) (Leaf s)) (grown m n id (child (child b 3) 0) t) (grown m n id (child (child b 3) 1) t') (grown m n id (child (child b 3) 2) t'') (grown m n id (child (child b 3) 3) t''')
+    enough_fourth n (grown m n id (child b 0) (Leaf p)) (grown m n id (child b 1) (Leaf r)) (grown m n id (child b 2) (Leaf s)) (grown m n id (child (child b 3) 0) t)
+    (grown m n id (child (child b 3) 1) t') (grown m n id (child (child b 3) 2) t'') (grown m n id (child (child b 3) 3) t''')
 
 -- what has just been split is full
 settled_full : (m : Met) → Quarters m → (n : ℕ) (b : Block) → IsBlock b → (rows ids : List ℕ) → Rises rows → ids ≡ filter (m b) rows → IsFull n (settled m n b ids)
@@ -245,7 +253,11 @@ settled_full m q n b block rows ids rise fit =
           let up = less_true b.level COORDINATE_BITS tests.1 in
           let many : n < length ids = less_true n (length ids) tests.0 in
           let enough : n ≤ length (filter (m b) rows) = subst (λ u. n ≤ length u) fit (omega (arith, many)) in
-          rw h (enough_fits m q n b block up rows rise (Leaf (filter (m (child b 0)) ids)) (Leaf (filter (m (child b 1)) ids)) (Leaf (filter (m (child b 2)) ids)) (Leaf (filter (m (child b 3)) ids)) (split_fits m q b block up rows ids fit) enough, (tt, (tt, (tt, tt)))))
+          rw h (
+            enough_fits m q n b block up rows rise (Leaf (filter (m (child b 0)) ids)) (Leaf (filter (m (child b 1)) ids)) (Leaf (filter (m (child b 2)) ids))
+                (Leaf (filter (m (child b 3)) ids)) (split_fits m q b block up rows ids fit) enough,
+            (tt, (tt, (tt, tt))),
+          ))
       | fails h ↦ rw h tt
     ]
 
@@ -255,7 +267,8 @@ pub full_grown : (m : Met) → Quarters m → (n id : ℕ) (rows : List ℕ) →
 full_grown m q n id rows rise b (Leaf ids) block shallow fit full =
     let more = filter_add (m b) id rows rise in
     elim (test (m b id)) [
-      | holds h ↦ rw h (settled_full m q n b block (add id rows) (add id ids) (rises_add id rows rise) (ap (add id) fit ∙ sym (more ∙ ap (λ c. cond c (add id (filter (m b) rows)) (filter (m b) rows)) h)))
+      | holds h ↦ rw h (settled_full m q n b block (add id rows) (add id ids) (rises_add id rows rise)
+          (ap (add id) fit ∙ sym (more ∙ ap (λ c. cond c (add id (filter (m b) rows)) (filter (m b) rows)) h)))
       | fails h ↦ rw h tt
     ]
 full_grown m q n id rows rise b (Inner p r s t) block shallow fit full =

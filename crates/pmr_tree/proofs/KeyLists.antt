@@ -117,7 +117,8 @@ mine : (b : Block) (i : ℕ) (t : Tree) → IsShaped (child b i) t → within (c
 mine b i t h = filter_all (is_inside (child b i)) (keys (child b i) t) (keys_inside (child b i) t h)
 
 other : (b : Block) (i j : ℕ) → j ≢ i → (t : Tree) → IsShaped (child b j) t → within (child b i) (keys (child b j) t) ≡ []
-other b i j differ t h = filter_none (is_inside (child b i)) (keys (child b j) t) (each_map (λ k. is_inside (child b j) k ≡ true) (λ k. is_inside (child b i) k ≡ false) (child_apart b j i differ) (keys (child b j) t) (keys_inside (child b j) t h))
+other b i j differ t h = filter_none (is_inside (child b i)) (keys (child b j) t)
+    (each_map (λ k. is_inside (child b j) k ≡ true) (λ k. is_inside (child b i) k ≡ false) (child_apart b j i differ) (keys (child b j) t) (keys_inside (child b j) t h))
 
 -- the keys inside a child are among those inside its block
 narrowed : (b : Block) → b.level < COORDINATE_BITS → (i : ℕ) → i < 4 → (ks xs : List ℕ) → within b ks ≡ xs → within (child b i) ks ≡ within (child b i) xs
@@ -134,19 +135,36 @@ pub record Parts (b : Block) (ks : List ℕ) (p q r s : Tree) : Type 0 where
 pub reads_children : (b : Block) (ks : List ℕ) (p q r s : Tree) → Reads b ks (Inner p q r s) → Parts b ks p q r s
 reads_children b ks p q r s h =
     let sh = h.shaped in
-    let part_of : (i : ℕ) → i < 4 → within (child b i) ks ≡ within (child b i) (keys (child b 0) p) ++ (within (child b i) (keys (child b 1) q) ++ (within (child b i) (keys (child b 2) r) ++ within (child b i) (keys (child b 3) s))) =
-    λ i small. narrowed b sh.0 i small ks (keys b (Inner p q r s)) h.is ∙ four_parts (is_inside (child b i)) (keys (child b 0) p) (keys (child b 1) q) (keys (child b 2) r) (keys (child b 3) s) in record {
+    let part_of : (i : ℕ) → i < 4 → within (child b i) ks ≡ within (child b i) (keys (child b 0) p)
+    ++ (within (child b i) (keys (child b 1) q) ++ (within (child b i) (keys (child b 2) r) ++ within (child b i) (keys (child b 3) s))) =
+    λ i small. narrowed b sh.0 i small ks (keys b (Inner p q r s)) h.is ∙ four_parts (is_inside (child b i)) (keys (child b 0) p) (keys (child b 1) q) (keys (child b 2) r) (keys (child b 3) s) in
+    record {
       above = sh.0;
       first = record {
-        is = part_of 0 (omega arith) ∙ rw (mine b 0 p sh.1.0, other b 0 1 (omega arith) q sh.1.1.0, other b 0 2 (omega arith) r sh.1.1.1.0, other b 0 3 (omega arith) s sh.1.1.1.1) (append-nil (keys (child b 0) p));
+        is = part_of 0 (omega arith) ∙ rw (
+          mine b 0 p sh.1.0,
+          other b 0 1 (omega arith) q sh.1.1.0,
+          other b 0 2 (omega arith) r sh.1.1.1.0,
+          other b 0 3 (omega arith) s sh.1.1.1.1,
+        ) (append-nil (keys (child b 0) p));
         shaped = sh.1.0;
       };
       second = record {
-        is = part_of 1 (omega arith) ∙ rw (other b 1 0 (omega arith) p sh.1.0, mine b 1 q sh.1.1.0, other b 1 2 (omega arith) r sh.1.1.1.0, other b 1 3 (omega arith) s sh.1.1.1.1) (append-nil (keys (child b 1) q));
+        is = part_of 1 (omega arith) ∙ rw (
+          other b 1 0 (omega arith) p sh.1.0,
+          mine b 1 q sh.1.1.0,
+          other b 1 2 (omega arith) r sh.1.1.1.0,
+          other b 1 3 (omega arith) s sh.1.1.1.1,
+        ) (append-nil (keys (child b 1) q));
         shaped = sh.1.1.0;
       };
       third = record {
-        is = part_of 2 (omega arith) ∙ rw (other b 2 0 (omega arith) p sh.1.0, other b 2 1 (omega arith) q sh.1.1.0, mine b 2 r sh.1.1.1.0, other b 2 3 (omega arith) s sh.1.1.1.1) (append-nil (keys (child b 2) r));
+        is = part_of 2 (omega arith) ∙ rw (
+          other b 2 0 (omega arith) p sh.1.0,
+          other b 2 1 (omega arith) q sh.1.1.0,
+          mine b 2 r sh.1.1.1.0,
+          other b 2 3 (omega arith) s sh.1.1.1.1,
+        ) (append-nil (keys (child b 2) r));
         shaped = sh.1.1.1.0;
       };
       fourth = record {
@@ -196,7 +214,9 @@ pub own_leaf : (b : Block) (ks ids : List ℕ) → Reads b ks (Leaf ids) → own
 own_leaf b ks ids h = own_narrowed b h.shaped.0 ks (leaf_keys b ids) h.is ∙ filter_all (is_between (mark_of b) (mark_of b + 2 ^ 32)) (leaf_keys b ids) (leaf_own b ids h.shaped.1.1)
 
 child_own : (b : Block) (i : ℕ) (t : Tree) → IsShaped (child b i) t → own b (keys (child b i) t) ≡ []
-child_own b i t h = filter_none (is_between (mark_of b) (mark_of b + 2 ^ 32)) (keys (child b i) t) (each_map (Lies (child b i)) (λ k. is_between (mark_of b) (mark_of b + 2 ^ 32) k ≡ false) (λ k l. between_above (mark_of b) (mark_of b + 2 ^ 32) k (omega (arith, l.0, child_mark b i))) (keys (child b i) t) (keys_lie (child b i) t h))
+child_own b i t h = filter_none (is_between (mark_of b) (mark_of b + 2 ^ 32)) (keys (child b i) t)
+    (each_map (Lies (child b i)) (λ k. is_between (mark_of b) (mark_of b + 2 ^ 32) k ≡ false)
+    (λ k l. between_above (mark_of b) (mark_of b + 2 ^ 32) k (omega (arith, l.0, child_mark b i))) (keys (child b i) t) (keys_lie (child b i) t h))
 
 pub own_inner : (b : Block) (ks : List ℕ) (p q r s : Tree) → Reads b ks (Inner p q r s) → own b ks ≡ []
 own_inner b ks p q r s h =

@@ -150,9 +150,12 @@ first_up z b p q r s h c l = record {
   id = l.id;
   small = l.small;
   is_block = l.is_block;
-  place = has_more (b, Inner p q r s) (all_places b p q r s) (l.block, Leaf l.ids) (Contains-append_left (places (child b 0) p) (places (child b 1) q ++ (places (child b 2) r ++ (places (child b 3) s))) (l.block, Leaf l.ids) l.place);
+  place = has_more (b, Inner p q r s) (all_places b p q r s) (l.block, Leaf l.ids)
+      (Contains-append_left (places (child b 0) p) (places (child b 1) q ++ (places (child b 2) r ++ (places (child b 3) s))) (l.block, Leaf l.ids) l.place);
   code = l.code;
-  last = (last_before (last_key z) (key_of l.block l.id) (keys (child b 0) p) (keys (child b 1) q ++ (keys (child b 2) r ++ (keys (child b 3) s))) (each_append (λ j. last_key z < j) (keys (child b 1) q) (keys (child b 2) r ++ (keys (child b 3) s)) (keys_above b 0 1 z (omega arith) c q h.second) (each_append (λ j. last_key z < j) (keys (child b 2) r) (keys (child b 3) s) (keys_above b 0 2 z (omega arith) c r h.third) (keys_above b 0 3 z (omega arith) c s h.fourth))) l.last);
+  last = (last_before (last_key z) (key_of l.block l.id) (keys (child b 0) p) (keys (child b 1) q ++ (keys (child b 2) r ++ (keys (child b 3) s)))
+      (each_append (λ j. last_key z < j) (keys (child b 1) q) (keys (child b 2) r ++ (keys (child b 3) s)) (keys_above b 0 1 z (omega arith) c q h.second)
+      (each_append (λ j. last_key z < j) (keys (child b 2) r) (keys (child b 3) s) (keys_above b 0 2 z (omega arith) c r h.third) (keys_above b 0 3 z (omega arith) c s h.fourth))) l.last);
 }
 
 second_up : (z : ℕ) (b : Block) (p q r s : Tree) → AreShaped b p q r s → HasCode (child b 1) z → LeafOf z (child b 1) q → LeafOf z b (Inner p q r s)
@@ -162,9 +165,14 @@ second_up z b p q r s h c l = record {
   id = l.id;
   small = l.small;
   is_block = l.is_block;
-  place = has_more (b, Inner p q r s) (all_places b p q r s) (l.block, Leaf l.ids) (Contains-append_right (places (child b 0) p) (places (child b 1) q ++ (places (child b 2) r ++ (places (child b 3) s))) (l.block, Leaf l.ids) (Contains-append_left (places (child b 1) q) (places (child b 2) r ++ (places (child b 3) s)) (l.block, Leaf l.ids) l.place));
+  place = has_more (b, Inner p q r s) (all_places b p q r s) (l.block, Leaf l.ids)
+      (Contains-append_right (places (child b 0) p) (places (child b 1) q ++ (places (child b 2) r ++ (places (child b 3) s))) (l.block, Leaf l.ids)
+      (Contains-append_left (places (child b 1) q) (places (child b 2) r ++ (places (child b 3) s)) (l.block, Leaf l.ids) l.place));
   code = l.code;
-  last = (last_after (last_key z) (key_of l.block l.id) (keys (child b 0) p) (keys (child b 1) q ++ (keys (child b 2) r ++ (keys (child b 3) s))) (keys_below b 0 1 z (omega arith) c p h.first) (last_before (last_key z) (key_of l.block l.id) (keys (child b 1) q) (keys (child b 2) r ++ (keys (child b 3) s)) (each_append (λ j. last_key z < j) (keys (child b 2) r) (keys (child b 3) s) (keys_above b 1 2 z (omega arith) c r h.third) (keys_above b 1 3 z (omega arith) c s h.fourth)) l.last));
+  last = (last_after (last_key z) (key_of l.block l.id) (keys (child b 0) p) (keys (child b 1) q ++ (keys (child b 2) r ++ (keys (child b 3) s)))
+      (keys_below b 0 1 z (omega arith) c p h.first)
+      (last_before (last_key z) (key_of l.block l.id) (keys (child b 1) q) (keys (child b 2) r ++ (keys (child b 3) s))
+      (each_append (λ j. last_key z < j) (keys (child b 2) r) (keys (child b 3) s) (keys_above b 1 2 z (omega arith) c r h.third) (keys_above b 1 3 z (omega arith) c s h.fourth)) l.last));
 }
 
 third_up : (z : ℕ) (b : Block) (p q r s : Tree) → AreShaped b p q r s → HasCode (child b 2) z → LeafOf z (child b 2) r → LeafOf z b (Inner p q r s)
@@ -174,9 +182,16 @@ third_up z b p q r s h c l = record {
   id = l.id;
   small = l.small;
   is_block = l.is_block;
-  place = has_more (b, Inner p q r s) (all_places b p q r s) (l.block, Leaf l.ids) (Contains-append_right (places (child b 0) p) (places (child b 1) q ++ (places (child b 2) r ++ (places (child b 3) s))) (l.block, Leaf l.ids) (Contains-append_right (places (child b 1) q) (places (child b 2) r ++ (places (child b 3) s)) (l.block, Leaf l.ids) (Contains-append_left (places (child b 2) r) (places (child b 3) s) (l.block, Leaf l.ids) l.place)));
+  place = has_more (b, Inner p q r s) (all_places b p q r s) (l.block, Leaf l.ids)
+      (Contains-append_right (places (child b 0) p) (places (child b 1) q ++ (places (child b 2) r ++ (places (child b 3) s))) (l.block, Leaf l.ids)
+      (Contains-append_right (places (child b 1) q) (places (child b 2) r ++ (places (child b 3) s)) (l.block, Leaf l.ids)
+      (Contains-append_left (places (child b 2) r) (places (child b 3) s) (l.block, Leaf l.ids) l.place)));
   code = l.code;
-  last = (last_after (last_key z) (key_of l.block l.id) (keys (child b 0) p) (keys (child b 1) q ++ (keys (child b 2) r ++ (keys (child b 3) s))) (keys_below b 0 2 z (omega arith) c p h.first) (last_after (last_key z) (key_of l.block l.id) (keys (child b 1) q) (keys (child b 2) r ++ (keys (child b 3) s)) (keys_below b 1 2 z (omega arith) c q h.second) (last_before (last_key z) (key_of l.block l.id) (keys (child b 2) r) (keys (child b 3) s) (keys_above b 2 3 z (omega arith) c s h.fourth) l.last)));
+  last = (last_after (last_key z) (key_of l.block l.id) (keys (child b 0) p) (keys (child b 1) q ++ (keys (child b 2) r ++ (keys (child b 3) s)))
+      (keys_below b 0 2 z (omega arith) c p h.first)
+      (last_after (last_key z) (key_of l.block l.id) (keys (child b 1) q) (keys (child b 2) r ++ (keys (child b 3) s))
+      (keys_below b 1 2 z (omega arith) c q h.second)
+      (last_before (last_key z) (key_of l.block l.id) (keys (child b 2) r) (keys (child b 3) s) (keys_above b 2 3 z (omega arith) c s h.fourth) l.last)));
 }
 
 fourth_up : (z : ℕ) (b : Block) (p q r s : Tree) → AreShaped b p q r s → HasCode (child b 3) z → LeafOf z (child b 3) s → LeafOf z b (Inner p q r s)
@@ -186,9 +201,16 @@ fourth_up z b p q r s h c l = record {
   id = l.id;
   small = l.small;
   is_block = l.is_block;
-  place = has_more (b, Inner p q r s) (all_places b p q r s) (l.block, Leaf l.ids) (Contains-append_right (places (child b 0) p) (places (child b 1) q ++ (places (child b 2) r ++ (places (child b 3) s))) (l.block, Leaf l.ids) (Contains-append_right (places (child b 1) q) (places (child b 2) r ++ (places (child b 3) s)) (l.block, Leaf l.ids) (Contains-append_right (places (child b 2) r) (places (child b 3) s) (l.block, Leaf l.ids) l.place)));
+  place = has_more (b, Inner p q r s) (all_places b p q r s) (l.block, Leaf l.ids)
+      (Contains-append_right (places (child b 0) p) (places (child b 1) q ++ (places (child b 2) r ++ (places (child b 3) s))) (l.block, Leaf l.ids)
+      (Contains-append_right (places (child b 1) q) (places (child b 2) r ++ (places (child b 3) s)) (l.block, Leaf l.ids)
+      (Contains-append_right (places (child b 2) r) (places (child b 3) s) (l.block, Leaf l.ids) l.place)));
   code = l.code;
-  last = (last_after (last_key z) (key_of l.block l.id) (keys (child b 0) p) (keys (child b 1) q ++ (keys (child b 2) r ++ (keys (child b 3) s))) (keys_below b 0 3 z (omega arith) c p h.first) (last_after (last_key z) (key_of l.block l.id) (keys (child b 1) q) (keys (child b 2) r ++ (keys (child b 3) s)) (keys_below b 1 3 z (omega arith) c q h.second) (last_after (last_key z) (key_of l.block l.id) (keys (child b 2) r) (keys (child b 3) s) (keys_below b 2 3 z (omega arith) c r h.third) l.last)));
+  last = (last_after (last_key z) (key_of l.block l.id) (keys (child b 0) p) (keys (child b 1) q ++ (keys (child b 2) r ++ (keys (child b 3) s)))
+      (keys_below b 0 3 z (omega arith) c p h.first)
+      (last_after (last_key z) (key_of l.block l.id) (keys (child b 1) q) (keys (child b 2) r ++ (keys (child b 3) s))
+      (keys_below b 1 3 z (omega arith) c q h.second)
+      (last_after (last_key z) (key_of l.block l.id) (keys (child b 2) r) (keys (child b 3) s) (keys_below b 2 3 z (omega arith) c r h.third) l.last)));
 }
 
 by_child : {X : Type 0} (b : Block) (z : ℕ) → Child b z → (HasCode (child b 0) z → X) → (HasCode (child b 1) z → X) → (HasCode (child b 2) z → X) → (HasCode (child b 3) z → X) → X

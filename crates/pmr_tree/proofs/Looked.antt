@@ -159,7 +159,8 @@ node_roughs b all es h = go (nat_eq (length es) 0 && nat_lt b.level COORDINATE_B
   go false = each es h
 
 -- the same of a quadtree in pages
-pub looked : (pages : PageMap) (t : Pmr) (b : Block) (pairs : List Pair) (found : Node) → IsPmr pages t → pairs ≡ own_pairs b (entries_at pages t) → found ≡ node_in b pairs → Finds (tree_at pages t) b found
+pub looked : (pages : PageMap) (t : Pmr) (b : Block) (pairs : List Pair) (found : Node) → IsPmr pages t → pairs ≡ own_pairs b (entries_at pages t)
+    → found ≡ node_in b pairs → Finds (tree_at pages t) b found
 looked pages t b pairs found h is e = λ place at.
     let r = place_reads root_block (keys_at pages t) (tree_at pages t) (pmr_reads pages t h) b place at in
     subst (IsNodeOf place) (sym (e ∙ ap (node_in b) is)) (node_of b (entries_at pages t) place r)
@@ -168,7 +169,8 @@ pub looked_roughs : (pages : PageMap) (t : Pmr) (b : Block) (pairs : List Pair) 
 looked_roughs pages t b pairs found is e =
     let es = entries_at pages t in
     subst (HasRoughs pages t) (sym (e ∙ ap (node_in b) is))
-    (node_roughs b es (own_pairs b es) (each_filter (λ e. (id : ℕ) (s : Shape) → KeepsIn es id s → id_in e.0 ≡ id → e.1 ≡ value_of (rough_figure s)) (λ e. Rattle.pmr_tree.specs.Lists.is_between (mark_of b) (mark_of b + 2 ^ 32) e.0) es (each_keeps es)))
+    (node_roughs b es (own_pairs b es) (each_filter (λ e. (id : ℕ) (s : Shape) → KeepsIn es id s → id_in e.0 ≡ id → e.1 ≡ value_of (rough_figure s))
+    (λ e. Rattle.pmr_tree.specs.Lists.is_between (mark_of b) (mark_of b + 2 ^ 32) e.0) es (each_keeps es)))
 
 pub looked_price : (pages : PageMap) (t : Pmr) (b : Block) (place : Tree) (old new : ℕ) → IsPmr pages t → 1 ≤ t.map.height → IsPlace (tree_at pages t) b place
     → new ≤ old + ((t.map.height + 1) + length (own_pairs b (entries_at pages t)) / 63) → new ≤ old + block_price t.map.height (id_count place)

@@ -125,7 +125,8 @@ merge_few n b k0 k1 p q r s all stands none four is few new = becomes_refilled b
       let at = subst (Reads b k0) e read in
       let sh = at.shaped in
       let rise : Rises (union_of_four p q r s) = rises_union p (union q (union r s)) (rises_union q (union r s) (rises_union r s sh.1.1.1.1.1.0)) in
-      let each : Each IsId (union_of_four p q r s) = each_union IsId p (union q (union r s)) sh.1.0.1.1 (each_union IsId q (union r s) sh.1.1.0.1.1 (each_union IsId r s sh.1.1.1.0.1.1 sh.1.1.1.1.1.1)) in
+      let each : Each IsId (union_of_four p q r s) =
+      each_union IsId p (union q (union r s)) sh.1.0.1.1 (each_union IsId q (union r s) sh.1.1.0.1.1 (each_union IsId r s sh.1.1.1.0.1.1 sh.1.1.1.1.1.1)) in
       let one : IsShaped b (Leaf all) × (k1 ≡ put_all (keys b (Leaf all)) (take_all (keys b (Inner (Leaf p) (Leaf q) (Leaf r) (Leaf s))) k0)) =
       ((omega (arith, sh.0), (subst Rises (sym whole) rise, subst (Each IsId) (sym whole) each)), new ∙ ap (put_all (leaf_keys b all)) apart) in
       subst (λ t. IsShaped b (merging n t) × (k1 ≡ put_all (keys b (merging n t)) (take_all (keys b t) k0))) (sym e)
@@ -133,7 +134,8 @@ merge_few n b k0 k1 p q r s all stands none four is few new = becomes_refilled b
 
 -- the keys of the four leaves, as an array has the children
 pub take_four : (b : Block) (cs : List Block) (d0 d1 d2 d3 d : Block) (k0 k1 k2 k3 k4 k5 p q r s all : List ℕ) → cs ≡ children_of b
-    → k1 ≡ take_all (leaf_keys (get_or cs 0 d0) p) k0 → k2 ≡ take_all (leaf_keys (get_or cs 1 d1) q) k1 → k3 ≡ take_all (leaf_keys (get_or cs 2 d2) r) k2 → k4 ≡ take_all (leaf_keys (get_or cs 3 d3) s) k3
+    → k1 ≡ take_all (leaf_keys (get_or cs 0 d0) p) k0 → k2 ≡ take_all (leaf_keys (get_or cs 1 d1) q) k1 → k3 ≡ take_all (leaf_keys (get_or cs 2 d2) r) k2
+    → k4 ≡ take_all (leaf_keys (get_or cs 3 d3) s) k3
     → k5 ≡ put_all (leaf_keys b all) k4
     → k5 ≡ put_all (leaf_keys b all) (take_all (leaf_keys (child b 3) s) (take_all (leaf_keys (child b 2) r) (take_all (leaf_keys (child b 1) q) (take_all (leaf_keys (child b 0) p) k0))))
 take_four b cs d0 d1 d2 d3 d k0 k1 k2 k3 k4 k5 p q r s all is e0 e1 e2 e3 e4 =
@@ -148,7 +150,8 @@ pub cleared : (b : Block) (k0 k1 : List ℕ) (list read : List Kept) → read �
 cleared b k0 k1 list read is e = e ∙ ap (λ x. take_all (leaf_keys b (ids_of x)) k0) is
 
 -- an inner place whose children have changed is one still
-pub still_inner : (b : Block) (f : Tree → Tree) (g h k l : Tree → Tree) (k0 k1 : List ℕ) → ((p q r s : Tree) → f (Inner p q r s) ≡ Inner (g p) (h q) (k r) (l s)) → Stands b k0 → own b k0 ≡ [] → Becomes b f k0 k1 → own b k1 ≡ []
+pub still_inner : (b : Block) (f : Tree → Tree) (g h k l : Tree → Tree) (k0 k1 : List ℕ) → ((p q r s : Tree) → f (Inner p q r s) ≡ Inner (g p) (h q) (k r) (l s))
+    → Stands b k0 → own b k0 ≡ [] → Becomes b f k0 k1 → own b k1 ≡ []
 still_inner b f g h k l k0 k1 is stands none change =
     let parts = stands_parts b k0 stands none in
     go stands.tree stands.reads
@@ -165,13 +168,15 @@ pub shrink_steps : (m : Block → ℕ → Bool) (n id : ℕ) (b : Block) (cs : L
     → Becomes (get_or cs 3 d3) (shrunk_where m n id (get_or cs 3 d3)) k3 k4
     → Becomes b (below_shrunk m n id b) k0 k4
 shrink_steps m n id b cs d0 d1 d2 d3 k0 k1 k2 k3 k4 stands none is g0 g1 g2 g3 =
-    becomes_four b (shrunk_where m n id (child b 0)) (shrunk_where m n id (child b 1)) (shrunk_where m n id (child b 2)) (shrunk_where m n id (child b 3)) k0 k1 k2 k3 k4 (below_shrunk m n id b) (λ p q r s. refl) stands none
+    becomes_four b (shrunk_where m n id (child b 0)) (shrunk_where m n id (child b 1)) (shrunk_where m n id (child b 2)) (shrunk_where m n id (child b 3)) k0 k1 k2 k3 k4
+    (below_shrunk m n id b) (λ p q r s. refl) stands none
     (at_child b cs 0 d0 (λ x. Becomes x (shrunk_where m n id x) k0 k1) is g0)
     (at_child b cs 1 d1 (λ x. Becomes x (shrunk_where m n id x) k1 k2) is g1)
     (at_child b cs 2 d2 (λ x. Becomes x (shrunk_where m n id x) k2 k3) is g2)
     (at_child b cs 3 d3 (λ x. Becomes x (shrunk_where m n id x) k3 k4) is g3)
 
-pub shrunk_inner : (m : Block → ℕ → Bool) (n id : ℕ) (b : Block) (k0 k1 k2 : List ℕ) → own b k0 ≡ [] → m b id ≡ true → Becomes b (below_shrunk m n id b) k0 k1 → Becomes b (merging n) k1 k2 → Becomes b (shrunk_where m n id b) k0 k2
+pub shrunk_inner : (m : Block → ℕ → Bool) (n id : ℕ) (b : Block) (k0 k1 k2 : List ℕ) → own b k0 ≡ [] → m b id ≡ true → Becomes b (below_shrunk m n id b) k0 k1
+    → Becomes b (merging n) k1 k2 → Becomes b (shrunk_where m n id b) k0 k2
 shrunk_inner m n id b k0 k1 k2 none h below merge =
     becomes_as b (λ t. merging n (below_shrunk m n id b t)) (shrunk_where m n id b) k0 k2 same (becomes_then b (below_shrunk m n id b) (merging n) k0 k1 k2 below merge)
   where

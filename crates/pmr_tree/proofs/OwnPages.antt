@@ -106,7 +106,8 @@ never_full page.Device = tt
 never_full (page.Damaged n kept read) = tt
 
 -- a page that rows own is no page of the tree, and stays
-pub own_page : (Owns : PageMap → ℕ → Type 0) (s : Shape) (Stands : PageMap → Type 0) (t : Tree) (p q : PoolState) (after : List ℕ) → IsTold p → IsReadyOn s Stands Owns t p → Keeps (pages_in p) (pages_in q) (tree_pages (pages_in p) t) after
+pub own_page : (Owns : PageMap → ℕ → Type 0) (s : Shape) (Stands : PageMap → Type 0) (t : Tree) (p q : PoolState) (after : List ℕ) → IsTold p
+    → IsReadyOn s Stands Owns t p → Keeps (pages_in p) (pages_in q) (tree_pages (pages_in p) t) after
     → (n : ℕ) → Owns p.pages n → store_of q.pages n ≡ store_of p.pages n
 own_page Owns s Stands t p q after told ready keep n own = (let a = ready.apart told n own in keep.others n (live_is p n a.0) a.1)
 

@@ -40,7 +40,8 @@ kept : (es : List Pair) → es ≡ (0, 0) ∷ [] → (id : ℕ) (s : Shape) → 
 kept es e id s some = subst (Each (λ e. id_in e.0 ≡ id → e.1 ≡ value_of (rough_figure s))) (sym e) ((λ same. absurd (omega (arith, same, some))), tt)
 
 -- planted, and then the mark put
-pub plants : (m v w : PageMap) (old : Pmr) (t : Pmr) → btree.Planted (store_of m) (store_of v) old.map → tree_items (store_of w) t.map ≡ put_item 0 0 (tree_items (store_of v) old.map) → IsTree (store_of w) t.map
+pub plants : (m v w : PageMap) (old : Pmr) (t : Pmr) → btree.Planted (store_of m) (store_of v) old.map
+    → tree_items (store_of w) t.map ≡ put_item 0 0 (tree_items (store_of v) old.map) → IsTree (store_of w) t.map
     → btree.Keeps (store_of v) (store_of w) (pages_at v old) (pages_at w t) → Plants m w t
 plants m v w old t planted items tree keeps =
     let es : entries_at w t ≡ (0, 0) ∷ [] = items ∙ ap (put_item 0 0) planted.items in

@@ -36,5 +36,6 @@ pub own_range : (b : Block) (mark : ℕ) (es : List Pair) → mark ≡ mark_of b
 own_range b mark es me = range_filter mark (mark + 2 ^ 32) es ∙ ap (λ m. filter (λ e. is_between m (m + 2 ^ 32) e.0) es) me
 
 -- and so the gets
-pub own_price : (b : Block) (mark height old new : ℕ) (es : List Pair) → mark ≡ mark_of b → new ≤ old + (height + 1 + length (items_between mark (mark + 2 ^ 32) es) / 63) → new ≤ old + (height + 1 + length (own_pairs b es) / 63)
+pub own_price : (b : Block) (mark height old new : ℕ) (es : List Pair) → mark ≡ mark_of b → new ≤ old + (height + 1 + length (items_between mark (mark + 2 ^ 32) es) / 63)
+    → new ≤ old + (height + 1 + length (own_pairs b es) / 63)
 own_price b mark height old new es me h = omega (arith, h, ap length (own_range b mark es me))

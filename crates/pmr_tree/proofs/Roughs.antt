@@ -36,7 +36,8 @@ rough_in_plane value = go (nat_eq (value / 2 ^ 124) 2) (nat_eq (value / 2 ^ 124)
   b : IsInPlane (point_in value 0)
   b = point_in_plane value 0
 
-  go : (s r : Bool) → IsRoughInPlane (cond s (rough.Segment (record { a = point_in value 62; b = point_in value 0 })) (cond r (rough.Bound (rect_round (point_in value 62) (point_in value 0))) (rough.Point (point_in value 62))))
+  go : (s r : Bool) → IsRoughInPlane (cond s (rough.Segment (record { a = point_in value 62; b = point_in value 0 }))
+      (cond r (rough.Bound (rect_round (point_in value 62) (point_in value 0))) (rough.Point (point_in value 62))))
   go true r = record { a = a; b = b }
   go false true = round_in_plane (point_in value 62) (point_in value 0) a b
   go false false = a

@@ -78,7 +78,8 @@ filter_alike f h e ids = ap Leaf (filter_same f h ids (each_all (λ x. f x ≡ h
 
 pub grown_alike : (f h : Block → ℕ → Bool) → ((b : Block) (id : ℕ) → f b id ≡ h b id) → (n id : ℕ) (b : Block) (t : Tree) → grown f n id b t ≡ grown h n id b t
 grown_alike f h e n id b (Leaf ids) =
-    let one = inner_same (Leaf (filter (f (child b 0)) (add id ids))) (Leaf (filter (f (child b 1)) (add id ids))) (Leaf (filter (f (child b 2)) (add id ids))) (Leaf (filter (f (child b 3)) (add id ids)))
+    let one = inner_same (Leaf (filter (f (child b 0)) (add id ids))) (Leaf (filter (f (child b 1)) (add id ids))) (Leaf (filter (f (child b 2)) (add id ids)))
+    (Leaf (filter (f (child b 3)) (add id ids)))
     (Leaf (filter (h (child b 0)) (add id ids))) (Leaf (filter (h (child b 1)) (add id ids))) (Leaf (filter (h (child b 2)) (add id ids))) (Leaf (filter (h (child b 3)) (add id ids)))
     (filter_alike (f (child b 0)) (h (child b 0)) (e (child b 0)) (add id ids)) (filter_alike (f (child b 1)) (h (child b 1)) (e (child b 1)) (add id ids))
     (filter_alike (f (child b 2)) (h (child b 2)) (e (child b 2)) (add id ids)) (filter_alike (f (child b 3)) (h (child b 3)) (e (child b 3)) (add id ids)) in

@@ -55,7 +55,8 @@ shrinks old new t u id s h g measured =
     let rows = (id, s) ∷ [] in
     let m = meets_block measured.0 rows in
     let plane : AreInPlane rows = (h.shape_in, tt) in
-    let same = shrunk_where_same m (rows_quarters h.quarters measured.0 measured.1 rows plane) t.threshold id root_block (tree_at old t) is_root (shaped_shallow root_block (tree_at old t) h.is.shaped) h.is.full (h.listed measured.0 measured.1) in
+    let same = shrunk_where_same m (rows_quarters h.quarters measured.0 measured.1 rows plane) t.threshold id root_block (tree_at old t) is_root
+    (shaped_shallow root_block (tree_at old t) h.is.shaped) h.is.full (h.listed measured.0 measured.1) in
     let one = subst (Changed old t new u) same
     (changed old t new u (shrunk_where m t.threshold id root_block) h.is (g.becomes m (has_shape rows) (measure_tells h.tests measured.0 measured.1 rows plane) (ap is_some (first_shape id s [])))) in
     let full = subst (IsFull t.threshold) (sym one.tree_is) (full_shrunk t.threshold id (tree_at old t)) in record {

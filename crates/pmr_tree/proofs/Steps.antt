@@ -90,7 +90,8 @@ pub becomes_four : (b : Block) (f g h k : Tree → Tree) (k0 k1 k2 k3 k4 : List 
 becomes_four b f g h k k0 k1 k2 k3 k4 change is stands none a c d e =
     let up = stands_above b k0 stands none in record {
       rises = e.rises;
-      elsewhere = four_elsewhere b up 3 (omega arith) k3 k4 e.elsewhere ∙ four_elsewhere b up 2 (omega arith) k2 k3 d.elsewhere ∙ four_elsewhere b up 1 (omega arith) k1 k2 c.elsewhere ∙ four_elsewhere b up 0 (omega arith) k0 k1 a.elsewhere;
+      elsewhere = four_elsewhere b up 3 (omega arith) k3 k4 e.elsewhere ∙ four_elsewhere b up 2 (omega arith) k2 k3 d.elsewhere
+          ∙ four_elsewhere b up 1 (omega arith) k1 k2 c.elsewhere ∙ four_elsewhere b up 0 (omega arith) k0 k1 a.elsewhere;
       here = here;
     }
   where
@@ -132,7 +133,8 @@ refilled b old t u rise reads shaped new is =
     let empty : within b base ≡ [] = filter_take_all (is_inside b) xs old ∙ ap (take_all xs) reads.is ∙ take_all_same xs (keys_rise b t reads.shaped) in
     let rest : outside b base ≡ outside b old = filter_take_all (λ k. not (is_inside b k)) xs old ∙ take_all_other (is_inside b) xs old (keys_inside b t reads.shaped) in
     let all : filter (is_inside b) ys ≡ ys = filter_all (is_inside b) ys (keys_inside b u shaped) in
-    let none : filter (λ k. not (is_inside b k)) ys ≡ [] = filter_none (λ k. not (is_inside b k)) ys (each_map (λ k. is_inside b k ≡ true) (λ k. not (is_inside b k) ≡ false) (λ k h. ap not h) ys (keys_inside b u shaped)) in (
+    let none : filter (λ k. not (is_inside b k)) ys ≡ [] =
+    filter_none (λ k. not (is_inside b k)) ys (each_map (λ k. is_inside b k ≡ true) (λ k. not (is_inside b k) ≡ false) (λ k h. ap not h) ys (keys_inside b u shaped)) in (
       subst Rises (sym is) (rises_put_all ys base rise_base),
       (
         ap (outside b) is ∙ filter_put_all (λ k. not (is_inside b k)) ys base rise_base ∙ ap₂ put_all none rest,
@@ -144,7 +146,8 @@ refilled b old t u rise reads shaped new is =
     )
 
 -- a change of a tree to another one, by its keys
-pub becomes_refilled : (b : Block) (change : Tree → Tree) (old new : List ℕ) → Rises old → ((t : Tree) → Reads b old t → IsShaped b (change t) × (new ≡ put_all (keys b (change t)) (take_all (keys b t) old))) → Stands b old → Becomes b change old new
+pub becomes_refilled : (b : Block) (change : Tree → Tree) (old new : List ℕ) → Rises old
+    → ((t : Tree) → Reads b old t → IsShaped b (change t) × (new ≡ put_all (keys b (change t)) (take_all (keys b t) old))) → Stands b old → Becomes b change old new
 becomes_refilled b change old new rise h stands =
     let at = h stands.tree stands.reads in
     let done = refilled b old stands.tree (change stands.tree) rise stands.reads at.0 new at.1 in record {

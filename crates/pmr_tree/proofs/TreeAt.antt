@@ -46,7 +46,8 @@ tree_reads (suc levels) b ks (Inner p q u v) e r =
     let next : levels + (b.level + 1) ≡ COORDINATE_BITS = omega (arith, e) in
     rw none
     (inner_same (tree_in levels (child b 0) ks) (tree_in levels (child b 1) ks) (tree_in levels (child b 2) ks) (tree_in levels (child b 3) ks) p q u v
-    (tree_reads levels (child b 0) ks p next parts.first) (tree_reads levels (child b 1) ks q next parts.second) (tree_reads levels (child b 2) ks u next parts.third) (tree_reads levels (child b 3) ks v next parts.fourth))
+    (tree_reads levels (child b 0) ks p next parts.first) (tree_reads levels (child b 1) ks q next parts.second) (tree_reads levels (child b 2) ks u next parts.third)
+    (tree_reads levels (child b 3) ks v next parts.fourth))
 
 pub tree_is : (pages : PageMap) (t : Pmr) (tree : Tree) → Reads root_block (keys_at pages t) tree → tree_at pages t ≡ tree
 unfolding tree_at
@@ -85,7 +86,8 @@ pub record Changed (old : PageMap) (t : Pmr) (new : PageMap) (u : Pmr) (tree : T
   pub keys : keys_at new u ≡ keys root_block (tree_at new u)
   pub shaped : IsShaped root_block (tree_at new u)
 
-pub changed : (old : PageMap) (t : Pmr) (new : PageMap) (u : Pmr) (change : Tree → Tree) → IsPmr old t → Becomes root_block change (keys_at old t) (keys_at new u) → Changed old t new u (change (tree_at old t))
+pub changed : (old : PageMap) (t : Pmr) (new : PageMap) (u : Pmr) (change : Tree → Tree) → IsPmr old t → Becomes root_block change (keys_at old t) (keys_at new u)
+    → Changed old t new u (change (tree_at old t))
 changed old t new u change h becomes =
     let reads = becomes.here (tree_at old t) (pmr_reads old t h) in
     let is = tree_is new u (change (tree_at old t)) reads in record {
@@ -100,8 +102,10 @@ less_true x y h = grind (arith, nat_tests)
 -- no place of a shaped tree is below the finest level
 pub shaped_shallow : (b : Block) (t : Tree) → IsShaped b t → IsShallow b t
 shaped_shallow b (Leaf ids) h = tt
-shaped_shallow b (Inner p q r s) h =
-    (less_true b.level COORDINATE_BITS h.0, (shaped_shallow (child b 0) p h.1.0, (shaped_shallow (child b 1) q h.1.1.0, (shaped_shallow (child b 2) r h.1.1.1.0, shaped_shallow (child b 3) s h.1.1.1.1))))
+shaped_shallow b (Inner p q r s) h = (
+  less_true b.level COORDINATE_BITS h.0,
+  (shaped_shallow (child b 0) p h.1.0, (shaped_shallow (child b 1) q h.1.1.0, (shaped_shallow (child b 2) r h.1.1.1.0, shaped_shallow (child b 3) s h.1.1.1.1))),
+)
 
 -- what holds of all ids that a tree fits holds of those in its keys
 each_keys : (P : ℕ → Type 0) (b : Block) (ids : List ℕ) → Each IsId ids → Each P ids → Each (λ k. 1 ≤ id_in k → P (id_in k)) (map (key_of b) ids)

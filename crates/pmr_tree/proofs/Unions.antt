@@ -25,9 +25,11 @@ place_stop list at id d h l = rw (drop-cons list at d h) (stop (get_or list at d
   stop : (y x n : ℕ) → x ≤ y → cond (nat_lt y x) (suc n) 0 ≡ 0
   stop y x n l = grind (arith, nat_tests)
 
-pub place_go : (list : List Kept) (at id : ℕ) (d : Kept) → at < length list → (get_or list at d).id < id → (at + 1) + place_in id (ids_of (drop (at + 1) list)) ≡ at + place_in id (ids_of (drop at list))
+pub place_go : (list : List Kept) (at id : ℕ) (d : Kept) → at < length list → (get_or list at d).id < id
+    → (at + 1) + place_in id (ids_of (drop (at + 1) list)) ≡ at + place_in id (ids_of (drop at list))
 place_go list at id d h l =
-    let next : place_in id (ids_of (drop at list)) ≡ suc (place_in id (ids_of (drop (suc at) list))) = rw (drop-cons list at d h) (goes (get_or list at d).id id (place_in id (ids_of (drop (suc at) list))) l) in
+    let next : place_in id (ids_of (drop at list)) ≡ suc (place_in id (ids_of (drop (suc at) list))) =
+    rw (drop-cons list at d h) (goes (get_or list at d).id id (place_in id (ids_of (drop (suc at) list))) l) in
     let one : place_in id (ids_of (drop (at + 1) list)) ≡ place_in id (ids_of (drop (suc at) list)) = ap (λ t. place_in id (ids_of (drop t list))) (add-one at) in
     omega (arith, next, one)
   where
@@ -101,7 +103,8 @@ insert_passes test list kept at one all =
     (one, each_drop (λ k. test k.id k.value ≡ true) at list all)
 
 -- one step of a loop from the last id of a list to its first
-pub join_step : (more : List Kept) (i : ℕ) (d : Kept) (j : ℕ) → i < length more → j ≡ suc i → (ys old new : List ℕ) → old ≡ union (ids_of (drop j more)) ys → new ≡ add (get_or more i d).id old → new ≡ union (ids_of (drop i more)) ys
+pub join_step : (more : List Kept) (i : ℕ) (d : Kept) (j : ℕ) → i < length more → j ≡ suc i → (ys old new : List ℕ) → old ≡ union (ids_of (drop j more)) ys
+    → new ≡ add (get_or more i d).id old → new ≡ union (ids_of (drop i more)) ys
 join_step more i d j h n ys old new e f =
     f ∙ ap (add (get_or more i d).id) (e ∙ ap (λ t. union (ids_of (drop t more)) ys) n) ∙ ap (λ t. union (ids_of t) ys) (sym (drop-cons more i d h))
 

@@ -53,14 +53,17 @@ pub record IsReadyOn (s : Shape) (Stands : PageMap → Type 0) (Owns : PageMap �
   pub stands : IsTold p → Stands p.pages
   pub apart : IsTold p → (n : ℕ) → Owns p.pages n → IsLive p n × (times n (tree_pages (pages_in p) t) ≡ 0)
 
--- What leads from one tree and its pages to another: within the command, with the cause of a refusal. Where none came, all is ready still, the rows are the same, and what had touched only these pages did so still.
-pub record LeadsOn (rows : PageMap → List (ℕ × Shape)) (s : Shape) (Stands : PageMap → Type 0) (Owns : PageMap → ℕ → Type 0) (t : Tree) (p : PoolState) (u : Tree) (q : PoolState) (end : Option PmrFault) : Type 0 where
+-- What leads from one tree and its pages to another: within the command, with the cause of a refusal. Where none came, all is ready still,
+-- the rows are the same, and what had touched only these pages did so still.
+pub record LeadsOn (rows : PageMap → List (ℕ × Shape)) (s : Shape) (Stands : PageMap → Type 0) (Owns : PageMap → ℕ → Type 0) (t : Tree) (p : PoolState) (u : Tree)
+    (q : PoolState) (end : Option PmrFault) : Type 0 where
   pub within : InCommand p q
   pub cause : HasPageCause p q (of_end end)
   pub not_full : IsNotFull end
   pub ready : end ≡ None → IsReadyOn s Stands Owns t p → IsReadyOn s Stands Owns u q
   pub same : end ≡ None → IsTold p → IsReadyOn s Stands Owns t p → rows q.pages ≡ rows p.pages
-  pub keeps : end ≡ None → IsTold p → IsReadyOn s Stands Owns t p → (m : Store) (before : List ℕ) → Keeps m (pages_in p) before (tree_pages (pages_in p) t) → Keeps m (pages_in q) before (tree_pages (pages_in q) u)
+  pub keeps : end ≡ None → IsTold p → IsReadyOn s Stands Owns t p → (m : Store) (before : List ℕ) → Keeps m (pages_in p) before (tree_pages (pages_in p) t)
+      → Keeps m (pages_in q) before (tree_pages (pages_in q) u)
 
 -- no call at all
 pub LeadsOn-still : (rows : PageMap → List (ℕ × Shape)) (s : Shape) (Stands : PageMap → Type 0) (Owns : PageMap → ℕ → Type 0) (t : Tree) (p : PoolState) → LeadsOn rows s Stands Owns t p t p None
@@ -74,7 +77,8 @@ LeadsOn-still rows s Stands Owns t p = record {
 }
 
 -- memory is refused
-pub LeadsOn-spent : (rows : PageMap → List (ℕ × Shape)) (s : Shape) (Stands : PageMap → Type 0) (Owns : PageMap → ℕ → Type 0) (t : Tree) (p : PoolState) → LeadsOn rows s Stands Owns t p t p (Some Memory)
+pub LeadsOn-spent : (rows : PageMap → List (ℕ × Shape)) (s : Shape) (Stands : PageMap → Type 0) (Owns : PageMap → ℕ → Type 0) (t : Tree) (p : PoolState)
+    → LeadsOn rows s Stands Owns t p t p (Some Memory)
 LeadsOn-spent rows s Stands Owns t p = record {
   within = InCommand-refl p;
   cause = HasPageCause-memory p p refl;
@@ -85,7 +89,8 @@ LeadsOn-spent rows s Stands Owns t p = record {
 }
 
 -- one call after another
-pub LeadsOn-onward : (rows : PageMap → List (ℕ × Shape)) (s : Shape) (Stands : PageMap → Type 0) (Owns : PageMap → ℕ → Type 0) (t : Tree) (p : PoolState) (u : Tree) (q : PoolState) (v : Tree) (r : PoolState) (end : Option PmrFault)
+pub LeadsOn-onward : (rows : PageMap → List (ℕ × Shape)) (s : Shape) (Stands : PageMap → Type 0) (Owns : PageMap → ℕ → Type 0) (t : Tree) (p : PoolState) (u : Tree)
+    (q : PoolState) (v : Tree) (r : PoolState) (end : Option PmrFault)
     → LeadsOn rows s Stands Owns t p u q None → LeadsOn rows s Stands Owns u q v r end → LeadsOn rows s Stands Owns t p v r end
 LeadsOn-onward rows s Stands Owns t p u q v r end h k = record {
   within = InCommand-trans p q r h.within k.within;

@@ -1,5 +1,6 @@
 -- Entries written into bytes, and read back.
-use Rattle.std.proofs.Common.{◌≡◌, ℕ, ◌+◌, ◌*◌, ◌/◌, ◌%◌, ◌^◌, ◌<◌, ◌≤◌, Bool, true, false, cond, eqb, leb, List, [], ◌∷◌, ◌++◌, length, get_or, take, map, refl, sym, ◌∙◌, ap, ap₂, subst, inl, inr, arith, take_all}
+use Rattle.std.proofs.Common.{◌≡◌, ℕ, ◌+◌, ◌*◌, ◌/◌, ◌%◌, ◌^◌, ◌<◌, ◌≤◌, Bool, true, false, cond, eqb, leb, List, [], ◌∷◌, ◌++◌, length, get_or, take, map, refl, sym}
+use Rattle.std.proofs.Common.{◌∙◌, ap, ap₂, subst, inl, inr, arith, take_all}
 use Rattle.std.proofs.lemmas.Bool.Decides.{eqb_tells, leb_tells}
 use Rattle.std.proofs.lemmas.List.{map-append, length-map, take_more, get_or-take}
 use Rattle.sand_base.specs.declared.point.Point.{Point}
@@ -21,7 +22,8 @@ point_is w p e l =
     ap₂ point a b
 
 -- the numbers of an entry, and the entry of them
-pub entry_back : (tag : ℕ) (p q : Point) (id child w v k : ℕ) → w ≡ p.x * 2 ^ 32 + p.y → p.y < 2 ^ 32 → v ≡ q.x * 2 ^ 32 + q.y → q.y < 2 ^ 32 → k ≡ tag * 2 ^ 32 + id → id < 2 ^ 32 → entry_from w v k child ≡ record { rough = rough_of tag p q; id = id; child = child }
+pub entry_back : (tag : ℕ) (p q : Point) (id child w v k : ℕ) → w ≡ p.x * 2 ^ 32 + p.y → p.y < 2 ^ 32 → v ≡ q.x * 2 ^ 32 + q.y → q.y < 2 ^ 32 → k ≡ tag * 2 ^ 32 + id
+    → id < 2 ^ 32 → entry_from w v k child ≡ record { rough = rough_of tag p q; id = id; child = child }
 unfolding entry_from
 entry_back tag p q id child w v k e l f m g n =
     let a : k / 2 ^ 32 ≡ tag = omega arith in
@@ -36,7 +38,8 @@ word_put p at v l h =
     let len : length (word_bytes v) ≡ 8 = length-word_bytes v in
     let e : at + 0 ≡ at = omega arith in
     let whole : piece 8 0 (word_bytes v) ≡ word_bytes v = take_all 8 (word_bytes v) (omega arith) in
-    ap (λ (i : ℕ). word_of (piece 8 i (pasted p at (word_bytes v)))) (sym e) ∙ (ap (λ (b : List ℕ). word_of b) (piece_within 8 0 p at (word_bytes v) (omega arith) (omega arith) ∙ whole) ∙ word_back v l)
+    ap (λ (i : ℕ). word_of (piece 8 i (pasted p at (word_bytes v)))) (sym e)
+    ∙ (ap (λ (b : List ℕ). word_of b) (piece_within 8 0 p at (word_bytes v) (omega arith) (omega arith) ∙ whole) ∙ word_back v l)
 
 word_past : (p : List ℕ) (a at v : ℕ) → a + 8 ≤ at → at + 8 ≤ length p → word_of (piece 8 a (pasted p at (word_bytes v))) ≡ word_of (piece 8 a p)
 word_past p a at v l h = let len : length (word_bytes v) ≡ 8 = length-word_bytes v in ap (λ (b : List ℕ). word_of b) (piece_apart 8 a p at (word_bytes v) (omega arith) (inl l))
@@ -44,7 +47,8 @@ word_past p a at v l h = let len : length (word_bytes v) ≡ 8 = length-word_byt
 long : (p : List ℕ) (at v n : ℕ) → length p ≡ n → at + 8 ≤ n → length (pasted p at (word_bytes v)) ≡ n
 long p at v n e h = let len : length (word_bytes v) ≡ 8 = length-word_bytes v in length-pasted p at (word_bytes v) (omega arith) ∙ e
 
-pub cell_back : (z f1 f2 f3 f4 : List ℕ) (p q k c : ℕ) → length z ≡ 32 → p < 2 ^ 64 → q < 2 ^ 64 → k < 2 ^ 64 → c < 2 ^ 64 → f1 ≡ pasted z 0 (word_bytes p) → f2 ≡ pasted f1 8 (word_bytes q) → f3 ≡ pasted f2 16 (word_bytes k) → f4 ≡ pasted f3 24 (word_bytes c) → entry_of f4 ≡ entry_from p q k c
+pub cell_back : (z f1 f2 f3 f4 : List ℕ) (p q k c : ℕ) → length z ≡ 32 → p < 2 ^ 64 → q < 2 ^ 64 → k < 2 ^ 64 → c < 2 ^ 64 → f1 ≡ pasted z 0 (word_bytes p)
+    → f2 ≡ pasted f1 8 (word_bytes q) → f3 ≡ pasted f2 16 (word_bytes k) → f4 ≡ pasted f3 24 (word_bytes c) → entry_of f4 ≡ entry_from p q k c
 unfolding entry_of
 cell_back z f1 f2 f3 f4 p q k c lz lp lq lk lc e1 e2 e3 e4 =
     let l1 : length f1 ≡ 32 = ap (λ (x : List ℕ). length x) e1 ∙ long z 0 p 32 lz (omega arith) in
@@ -62,7 +66,8 @@ cell_back z f1 f2 f3 f4 p q k c lz lp lq lk lc e1 e2 e3 e4 =
     ∙ (ap (λ (x : ℕ). entry_from p x (word_of (piece 8 16 f4)) (word_of (piece 8 24 f4))) a1
     ∙ (ap (λ (x : ℕ). entry_from p q x (word_of (piece 8 24 f4))) a2 ∙ ap (λ (x : ℕ). entry_from p q k x) a3))
 
-pub cell_long : (z f1 f2 f3 f4 : List ℕ) (p q k c : ℕ) → length z ≡ 32 → f1 ≡ pasted z 0 (word_bytes p) → f2 ≡ pasted f1 8 (word_bytes q) → f3 ≡ pasted f2 16 (word_bytes k) → f4 ≡ pasted f3 24 (word_bytes c) → length f4 ≡ 32
+pub cell_long : (z f1 f2 f3 f4 : List ℕ) (p q k c : ℕ) → length z ≡ 32 → f1 ≡ pasted z 0 (word_bytes p) → f2 ≡ pasted f1 8 (word_bytes q)
+    → f3 ≡ pasted f2 16 (word_bytes k) → f4 ≡ pasted f3 24 (word_bytes c) → length f4 ≡ 32
 cell_long z f1 f2 f3 f4 p q k c lz e1 e2 e3 e4 =
     let l1 : length f1 ≡ 32 = ap (λ (x : List ℕ). length x) e1 ∙ long z 0 p 32 lz (omega arith) in
     let l2 : length f2 ≡ 32 = ap (λ (x : List ℕ). length x) e2 ∙ long f1 8 q 32 l1 (omega arith) in
@@ -70,7 +75,8 @@ cell_long z f1 f2 f3 f4 p q k c lz e1 e2 e3 e4 =
     ap (λ (x : List ℕ). length x) e4 ∙ long f3 24 c 32 l3 (omega arith)
 
 -- the entry in 32 bytes of a page, by its words
-pub entry_read : (p : List ℕ) (at a b c d : ℕ) → at + 32 ≤ length p → a ≡ word_of (piece 8 at p) → b ≡ word_of (piece 8 (at + 8) p) → c ≡ word_of (piece 8 (at + 16) p) → d ≡ word_of (piece 8 (at + 24) p) → entry_from a b c d ≡ entry_of (piece 32 at p)
+pub entry_read : (p : List ℕ) (at a b c d : ℕ) → at + 32 ≤ length p → a ≡ word_of (piece 8 at p) → b ≡ word_of (piece 8 (at + 8) p) → c ≡ word_of (piece 8 (at + 16) p)
+    → d ≡ word_of (piece 8 (at + 24) p) → entry_from a b c d ≡ entry_of (piece 32 at p)
 unfolding entry_of
 entry_read p at a b c d h ea eb ec ed =
     let e : at + 0 ≡ at = omega arith in
@@ -80,7 +86,8 @@ entry_read p at a b c d h ea eb ec ed =
     let wd : d ≡ word_of (piece 8 24 (piece 32 at p)) = ed ∙ sym (ap (λ (x : List ℕ). word_of x) (piece_piece 8 24 32 at p h (omega arith))) in
     ap (λ (x : ℕ). entry_from x b c d) wa
     ∙ (ap (λ (x : ℕ). entry_from (word_of (piece 8 0 (piece 32 at p))) x c d) wb
-    ∙ (ap (λ (x : ℕ). entry_from (word_of (piece 8 0 (piece 32 at p))) (word_of (piece 8 8 (piece 32 at p))) x d) wc ∙ ap (λ (x : ℕ). entry_from (word_of (piece 8 0 (piece 32 at p))) (word_of (piece 8 8 (piece 32 at p))) (word_of (piece 8 16 (piece 32 at p))) x) wd))
+    ∙ (ap (λ (x : ℕ). entry_from (word_of (piece 8 0 (piece 32 at p))) (word_of (piece 8 8 (piece 32 at p))) x d) wc
+    ∙ ap (λ (x : ℕ). entry_from (word_of (piece 8 0 (piece 32 at p))) (word_of (piece 8 8 (piece 32 at p))) (word_of (piece 8 16 (piece 32 at p))) x) wd))
 
 -- one entry more, read
 pub entries_read_more : (p : List ℕ) (i : ℕ) → page_entries (i + 1) p ≡ page_entries i p ++ entry_of (piece 32 (32 + 32 * i) p) ∷ []
@@ -92,13 +99,15 @@ pub record Written (p z : List ℕ) (es : List NodeEntry) (i : ℕ) : Type 0 whe
   pub head : piece 32 0 p ≡ piece 32 0 z
   pub size : length p ≡ 4096
 
-pub written_more : (p q z cell : List ℕ) (es : List NodeEntry) (i : ℕ) (d : NodeEntry) → i < length es → length es ≤ 126 → length cell ≡ 32 → entry_of cell ≡ get_or es i d → q ≡ pasted p (32 + 32 * i) cell → Written p z es i → Written q z es (i + 1)
+pub written_more : (p q z cell : List ℕ) (es : List NodeEntry) (i : ℕ) (d : NodeEntry) → i < length es → length es ≤ 126 → length cell ≡ 32
+    → entry_of cell ≡ get_or es i d → q ≡ pasted p (32 + 32 * i) cell → Written p z es i → Written q z es (i + 1)
 written_more p q z cell es i d lt few lc ec eq w =
     let fits : (32 + 32 * i) + length cell ≤ length p = omega (arith, w.size) in
     let f : pasted p (32 + 32 * i) cell ≡ q = sym eq in
     let zero_off : (32 + 32 * i) + 0 ≡ 32 + 32 * i = omega arith in
     let whole : piece 32 0 cell ≡ cell = take_all 32 cell (omega arith) in
-    let own : piece 32 (32 + 32 * i) (pasted p (32 + 32 * i) cell) ≡ cell = ap (λ (j : ℕ). piece 32 j (pasted p (32 + 32 * i) cell)) (sym zero_off) ∙ (piece_within 32 0 p (32 + 32 * i) cell fits (omega arith) ∙ whole) in
+    let own : piece 32 (32 + 32 * i) (pasted p (32 + 32 * i) cell) ≡ cell = ap (λ (j : ℕ). piece 32 j (pasted p (32 + 32 * i) cell)) (sym zero_off)
+    ∙ (piece_within 32 0 p (32 + 32 * i) cell fits (omega arith) ∙ whole) in
     let before : page_entries i (pasted p (32 + 32 * i) cell) ≡ page_entries i p = ap (λ (cs : List (List ℕ)). map entry_of cs) (cells_apart 32 32 i p (32 + 32 * i) cell fits (inl (omega arith))) in
     let all : page_entries (i + 1) (pasted p (32 + 32 * i) cell) ≡ take (i + 1) es = entries_read_more (pasted p (32 + 32 * i) cell) i
     ∙ (ap₂ (λ (x : List NodeEntry) (y : NodeEntry). x ++ y ∷ []) (before ∙ w.entries) (ap (λ (x : List ℕ). entry_of x) own ∙ ec) ∙ sym (take_more es i d lt)) in
@@ -123,10 +132,12 @@ head_byte : (p q : List ℕ) → piece 32 0 p ≡ piece 32 0 q → get_or p 0 0 
 head_byte p q h = sym (get_or-take 32 p 0 0 (omega arith)) ∙ (ap (λ (x : List ℕ). get_or x 0 0) h ∙ get_or-take 32 q 0 0 (omega arith))
 
 head_count : (p q : List ℕ) → length p ≡ 4096 → length q ≡ 4096 → piece 32 0 p ≡ piece 32 0 q → entry_count p ≡ entry_count q
-head_count p q lp lq h = ap (λ (x : List ℕ). half_of x) (sym (piece_piece 2 2 32 0 p (omega arith) (omega arith)) ∙ (ap (λ (x : List ℕ). piece 2 2 x) h ∙ piece_piece 2 2 32 0 q (omega arith) (omega arith)))
+head_count p q lp lq h = ap (λ (x : List ℕ). half_of x) (sym (piece_piece 2 2 32 0 p (omega arith) (omega arith))
+    ∙ (ap (λ (x : List ℕ). piece 2 2 x) h ∙ piece_piece 2 2 32 0 q (omega arith) (omega arith)))
 
 -- a page whose head was written before its entries
-pub node_written : (z h f : List ℕ) (es : List NodeEntry) (n k : ℕ) (inner : Bool) → length z ≡ 4096 → length f ≡ 4096 → n < 2 ^ 16 → n ≡ length es → length es ≤ 126 → k ≡ cond inner 5 4 → get_or z 0 0 ≡ k → h ≡ pasted z 2 (half_bytes n) → piece 32 0 f ≡ piece 32 0 h
+pub node_written : (z h f : List ℕ) (es : List NodeEntry) (n k : ℕ) (inner : Bool) → length z ≡ 4096 → length f ≡ 4096 → n < 2 ^ 16 → n ≡ length es → length es ≤ 126
+    → k ≡ cond inner 5 4 → get_or z 0 0 ≡ k → h ≡ pasted z 2 (half_bytes n) → piece 32 0 f ≡ piece 32 0 h
     → page_entries (length es) f ≡ es → node_of f ≡ node inner es
 node_written z h f es n k inner lz lf small en few ek e eh head all =
     let len : length (half_bytes n) ≡ 2 = length-half_bytes n in
@@ -134,7 +145,8 @@ node_written z h f es n k inner lz lf small en few ek e eh head all =
     let byte : get_or f 0 0 ≡ k = head_byte f h head ∙ (ap (λ (x : List ℕ). get_or x 0 0) eh ∙ (pasted-before z 2 (half_bytes n) 0 0 (omega arith) (omega arith) ∙ e)) in
     let whole : piece 2 0 (half_bytes n) ≡ half_bytes n = take_all 2 (half_bytes n) (omega arith) in
     let two : 2 + 0 ≡ 2 = omega arith in
-    let count : entry_count f ≡ length es = head_count f h lf lh head ∙ (ap (λ (x : List ℕ). half_of (piece 2 2 x)) eh ∙ (ap (λ (x : List ℕ). half_of x) (piece_within 2 0 z 2 (half_bytes n) (omega arith) (omega arith) ∙ whole) ∙ (half_back n small ∙ en))) in
+    let count : entry_count f ≡ length es = head_count f h lf lh head
+    ∙ (ap (λ (x : List ℕ). half_of (piece 2 2 x)) eh ∙ (ap (λ (x : List ℕ). half_of x) (piece_within 2 0 z 2 (half_bytes n) (omega arith) (omega arith) ∙ whole) ∙ (half_back n small ∙ en))) in
     node_made f (length es) k inner ek byte count few ∙ ap (λ (x : List NodeEntry). node inner x) all
 
 -- the byte that was pasted in front

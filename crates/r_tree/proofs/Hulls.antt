@@ -51,7 +51,8 @@ pub bound-append : (xs ys : List NodeEntry) → bound_of (xs ++ ys) ≡ union_of
 bound-append xs ys = ap (λ (rs : List Rough). hull rs) (map-append rough_of_entry xs ys) ∙ hull-append (map rough_of_entry xs) (map rough_of_entry ys)
 
 -- one entry more
-pub hull_more : (es : List NodeEntry) (i : ℕ) (d : NodeEntry) (b : Option Rect) (box r : Rect) → i < length es → b ≡ bound_of (take i es) → box ≡ box_of (get_or es i d).rough → Some r ≡ union_of b (Some box) → Some r ≡ bound_of (take (i + 1) es)
+pub hull_more : (es : List NodeEntry) (i : ℕ) (d : NodeEntry) (b : Option Rect) (box r : Rect) → i < length es → b ≡ bound_of (take i es)
+    → box ≡ box_of (get_or es i d).rough → Some r ≡ union_of b (Some box) → Some r ≡ bound_of (take (i + 1) es)
 hull_more es i d b box r lt e f g =
     let x : NodeEntry = get_or es i d in
     g ∙ (ap₂ (λ (o p : Option Rect). union_of o p) e (ap (λ (q : Rect). Some q) f) ∙ sym (ap (λ (fs : List NodeEntry). bound_of fs) (take_more es i d lt) ∙ bound-append (take i es) (x ∷ [])))
@@ -64,7 +65,8 @@ leaf_bound : (es : List NodeEntry) → bound_of_members (members_of es) ≡ boun
 leaf_bound [] = refl
 leaf_bound (e ∷ es) = ap (λ (o : Option Rect). union_of (Some (box_of e.rough)) o) (leaf_bound es)
 
-row_bound : (m : Store) (l : ℕ) (below : (n : ℕ) → StandsAt m l n → bound_of_members (members_under m l n) ≡ bound_of (entries_at m n)) (es : List NodeEntry) → StandsUnder m (suc l) es → bound_of_members (members_in m (suc l) es) ≡ bound_of es
+row_bound : (m : Store) (l : ℕ) (below : (n : ℕ) → StandsAt m l n → bound_of_members (members_under m l n) ≡ bound_of (entries_at m n)) (es : List NodeEntry)
+    → StandsUnder m (suc l) es → bound_of_members (members_in m (suc l) es) ≡ bound_of es
 row_bound m l below [] s = refl
 row_bound m l below (e ∷ es) s =
     members-bound-append (members_under m l e.child) (members_in m (suc l) es)
@@ -82,7 +84,12 @@ pub record Inside (r b : Rect) : Type 0 where
   pub high_y : b.high.y ≤ r.high.y
 
 pub inside-trans : (a b c : Rect) → Inside a b → Inside b c → Inside a c
-inside-trans a b c h k = record { low_x = omega (arith, h.low_x, k.low_x); low_y = omega (arith, h.low_y, k.low_y); high_x = omega (arith, h.high_x, k.high_x); high_y = omega (arith, h.high_y, k.high_y) }
+inside-trans a b c h k = record {
+  low_x = omega (arith, h.low_x, k.low_x);
+  low_y = omega (arith, h.low_y, k.low_y);
+  high_x = omega (arith, h.high_x, k.high_x);
+  high_y = omega (arith, h.high_y, k.high_y);
+}
 
 both_true : (a b : Bool) → a ≡ true → b ≡ true → (a && b) ≡ true
 both_true a b h k = rw h k
@@ -122,11 +129,13 @@ leaf_members : (r : Rect) (es : List NodeEntry) → Each (λ e. Inside r (box_of
 leaf_members r [] h = tt
 leaf_members r (e ∷ es) h = (h.0, leaf_members r es h.1)
 
-row_each : (m : Store) (l : ℕ) (below : (n : ℕ) (b : Rect) → StandsAt m l n → bound_of (entries_at m n) ≡ Some b → Each (λ i. Inside b (box_of i.1)) (members_under m l n)) (r : Rect) (es : List NodeEntry)
+row_each : (m : Store) (l : ℕ) (below : (n : ℕ) (b : Rect) → StandsAt m l n → bound_of (entries_at m n) ≡ Some b → Each (λ i. Inside b (box_of i.1)) (members_under m l n))
+    (r : Rect) (es : List NodeEntry)
     → StandsUnder m (suc l) es → Each (λ e. Inside r (box_of e.rough)) es → Each (λ i. Inside r (box_of i.1)) (members_in m (suc l) es)
 row_each m l below r [] s h = tt
 row_each m l below r (e ∷ es) s h = Each-append (λ i. Inside r (box_of i.1)) (members_under m l e.child) (members_in m (suc l) es)
-    (Each-map (λ i. Inside (box_of e.rough) (box_of i.1)) (λ i. Inside r (box_of i.1)) (λ i k. inside-trans r (box_of e.rough) (box_of i.1) h.0 k) (members_under m l e.child) (below e.child (box_of e.rough) s.0.1.1 s.0.0.least))
+    (Each-map (λ i. Inside (box_of e.rough) (box_of i.1)) (λ i. Inside r (box_of i.1)) (λ i k. inside-trans r (box_of e.rough) (box_of i.1) h.0 k)
+    (members_under m l e.child) (below e.child (box_of e.rough) s.0.1.1 s.0.0.least))
     (row_each m l below r es s.1 h.1)
 
 -- it holds each shape that is listed under the node

@@ -23,7 +23,8 @@ pub record Stepped (m u : Store) (l n : ℕ) (es new : List NodeEntry) (less mor
   pub owns : (q : ℕ) → times q (n ∷ pages_below u (suc l) new) ≤ live u q
 
 -- the other entries of a node, some of whose entries lead on otherwise
-pub others_stay : (m u : Store) (l n : ℕ) (es olds rest : List NodeEntry) (Q : List ℕ) (I J less more : List Member) → IsPermutation es (olds ++ rest) → ((q : ℕ) → times q (n ∷ pages_below m (suc l) es) ≤ live m q)
+pub others_stay : (m u : Store) (l n : ℕ) (es olds rest : List NodeEntry) (Q : List ℕ) (I J less more : List Member) → IsPermutation es (olds ++ rest)
+    → ((q : ℕ) → times q (n ∷ pages_below m (suc l) es) ≤ live m q)
     → Moves m u (pages_below m (suc l) olds) Q I J less more → InStays m u (suc l) rest
 others_stay m u l n es olds rest Q I J less more p o a = in_stays m u (suc l) rest (λ q k. a.frame q
     (omega (arith, k, o q, live_small m q, pages-perm q m (suc l) es (olds ++ rest) p, pages-append q m (suc l) olds rest))
@@ -33,7 +34,8 @@ pub stepped : (m u : Store) (l n : ℕ) (es olds rest news : List NodeEntry) (le
     → Moves m u (pages_below m (suc l) olds) (pages_below u (suc l) news) (members_in m (suc l) olds) (members_in u (suc l) news) less more → Stepped m u l n es (rest ++ news) less more
 stepped m u l n es olds rest news less more p o a =
     let st : InStays m u (suc l) rest = others_stay m u l n es olds rest (pages_below u (suc l) news) (members_in m (suc l) olds) (members_in u (suc l) news) less more p o a in
-    let mv : Moves m u (n ∷ pages_below m (suc l) es) (n ∷ pages_below u (suc l) (rest ++ news)) (members_in m (suc l) es) (members_in u (suc l) (rest ++ news)) less more = moves_beside m u (pages_below m (suc l) olds) (pages_below u (suc l) news) (n ∷ pages_below m (suc l) es) (n ∷ pages_below u (suc l) (rest ++ news))
+    let mv : Moves m u (n ∷ pages_below m (suc l) es) (n ∷ pages_below u (suc l) (rest ++ news)) (members_in m (suc l) es) (members_in u (suc l) (rest ++ news)) less more =
+    moves_beside m u (pages_below m (suc l) olds) (pages_below u (suc l) news) (n ∷ pages_below m (suc l) es) (n ∷ pages_below u (suc l) (rest ++ news))
     (members_in m (suc l) olds) (members_in u (suc l) news) (members_in m (suc l) es) (members_in u (suc l) (rest ++ news)) less more
     (λ q. same q n + times q (pages_below m (suc l) rest)) (λ f. weigh f (members_in m (suc l) rest)) a
     (λ q. omega (arith, pages-perm q m (suc l) es (olds ++ rest) p, pages-append q m (suc l) olds rest))
@@ -46,8 +48,10 @@ stepped m u l n es olds rest news less more p o a =
     }
 
 -- what an entry of an inner node leads to, as one entry of a row
-pub one_moves : (m u : Store) (l : ℕ) (e : NodeEntry) (Q : List ℕ) (J less more : List Member) → Moves m u (pages_under m l e.child) Q (members_under m l e.child) J less more → Moves m u (pages_below m (suc l) (e ∷ [])) Q (members_in m (suc l) (e ∷ [])) J less more
-one_moves m u l e Q J less more a = moves_beside m u (pages_under m l e.child) Q (pages_below m (suc l) (e ∷ [])) Q (members_under m l e.child) J (members_in m (suc l) (e ∷ [])) J less more (λ q. 0) (λ f. 0) a
+pub one_moves : (m u : Store) (l : ℕ) (e : NodeEntry) (Q : List ℕ) (J less more : List Member) → Moves m u (pages_under m l e.child) Q (members_under m l e.child) J less more
+    → Moves m u (pages_below m (suc l) (e ∷ [])) Q (members_in m (suc l) (e ∷ [])) J less more
+one_moves m u l e Q J less more a = moves_beside m u (pages_under m l e.child) Q (pages_below m (suc l) (e ∷ [])) Q (members_under m l e.child) J
+    (members_in m (suc l) (e ∷ [])) J less more (λ q. 0) (λ f. 0) a
     (λ q. omega (arith, one_pages q m l e)) (λ q. omega arith) (λ f. omega (arith, one_members f m l e)) (λ f. omega arith)
 
 -- the entries that lead to a child that grew
@@ -56,7 +60,8 @@ raised_stands m u l c (Kept r) few le gr = ((le.0.0, (omega (arith, few, gr), le
 raised_stands m u l c (Split r s p) few le gr = ((le.0.0, (gr.0, le.0.1)), ((le.1.0.0, (gr.1.0, le.1.0.1)), tt))
 
 -- a page that was laid out anew has no fewer entries, or was split
-grown_of : (m w : Store) (n : ℕ) (g : Grown) (es fs : List NodeEntry) → entries_at m n ≡ es → length es ≤ length fs → IsPermutation fs (grandchildren w (raised n g)) → IsFilledIfSplit w n g → Grows m w n g
+grown_of : (m w : Store) (n : ℕ) (g : Grown) (es fs : List NodeEntry) → entries_at m n ≡ es → length es ≤ length fs → IsPermutation fs (grandchildren w (raised n g))
+    → IsFilledIfSplit w n g → Grows m w n g
 grown_of m w n (Kept r) es fs e l p f = omega (arith, l, ap (λ (x : List NodeEntry). length x) e, length-perm fs (entries_at w n ++ []) p, length-append (entries_at w n) [])
 grown_of m w n (Split r s p2) es fs e l p f = f
 
@@ -69,24 +74,29 @@ pub read_as : (m : Store) (n : ℕ) (inner : Bool) (es : List NodeEntry) → nod
 read_as m n inner es e = ap (λ (v : NodeView). entries_of v) e
 
 -- entries that became others under page n, and were laid into it
-laid_up : (m u w : Store) (l n : ℕ) (g : Grown) (i : Member) (es fs : List NodeEntry) → entries_at m n ≡ es → length es ≤ length fs → StandsUnder u l fs → ((q : ℕ) → times q (n ∷ pages_below u l fs) ≤ live u q)
-    → Moves m u (n ∷ pages_below m l es) (n ∷ pages_below u l fs) (members_in m l es) (members_in u l fs) [] (i ∷ []) → Lays u w (n ∷ []) (raised n g) fs (is_inner l) → IsFilledIfSplit w n g → InsertsUnder m w l n i g
+laid_up : (m u w : Store) (l n : ℕ) (g : Grown) (i : Member) (es fs : List NodeEntry) → entries_at m n ≡ es → length es ≤ length fs → StandsUnder u l fs
+    → ((q : ℕ) → times q (n ∷ pages_below u l fs) ≤ live u q)
+    → Moves m u (n ∷ pages_below m l es) (n ∷ pages_below u l fs) (members_in m l es) (members_in u l fs) [] (i ∷ []) → Lays u w (n ∷ []) (raised n g) fs (is_inner l)
+    → IsFilledIfSplit w n g → InsertsUnder m w l n i g
 laid_up m u w l n g i es fs e len s o mv a full =
     let ld : Laid u w l (n ∷ []) (raised n g) fs = laid u w l (n ∷ []) (raised n g) fs s o a in
     let M : List NodeEntry → Type 0 = λ x. Moves m w (n ∷ pages_below m l x) (pages_below w (suc l) (raised n g)) (members_in m l x) (members_in w (suc l) (raised n g)) [] (i ∷ []) in
     record {
       leads = ld.leads;
       grows = grown_of m w n g es fs e len a.shared full;
-      moves = subst M (sym e) (moves_next m u w (n ∷ pages_below m l es) (n ∷ pages_below u l fs) (pages_below w (suc l) (raised n g)) (members_in m l es) (members_in u l fs) (members_in w (suc l) (raised n g)) [] (i ∷ []) mv ld.moves);
+      moves = subst M (sym e) (moves_next m u w (n ∷ pages_below m l es) (n ∷ pages_below u l fs) (pages_below w (suc l) (raised n g)) (members_in m l es)
+          (members_in u l fs) (members_in w (suc l) (raised n g)) [] (i ∷ []) mv ld.moves);
     }
 
 -- a member more in a leaf
-pub leaf_put : (m w : Store) (n : ℕ) (g : Grown) (x : NodeEntry) (es : List NodeEntry) → node_at m n ≡ node false es → Subtree m 0 n → Lays m w (n ∷ []) (raised n g) (es ++ x ∷ []) false → IsFilledIfSplit w n g → InsertsUnder m w 0 n (member_of x) g
+pub leaf_put : (m w : Store) (n : ℕ) (g : Grown) (x : NodeEntry) (es : List NodeEntry) → node_at m n ≡ node false es → Subtree m 0 n
+    → Lays m w (n ∷ []) (raised n g) (es ++ x ∷ []) false → IsFilledIfSplit w n g → InsertsUnder m w 0 n (member_of x) g
 leaf_put m w n g x es e t a full = laid_up m m w 0 n g (member_of x) es (es ++ x ∷ []) (read_as m n false es e) (omega (arith, length-append es (x ∷ []))) tt t.owns
     (record { frame = λ q l z. refl; moved = λ q. refl; weighed = λ f. omega (arith, members-append f m 0 es (x ∷ [])) }) a full
 
 -- a member more under an entry of an inner node
-pub inner_put : (m u w : Store) (l n at : ℕ) (below g : Grown) (i : Member) (c : NodeEntry) (es : List NodeEntry) → node_at m n ≡ node true es → Subtree m (suc l) n → at < length es → c ≡ get_or es at c → InsertsUnder m u l c.child i below
+pub inner_put : (m u w : Store) (l n at : ℕ) (below g : Grown) (i : Member) (c : NodeEntry) (es : List NodeEntry) → node_at m n ≡ node true es → Subtree m (suc l) n
+    → at < length es → c ≡ get_or es at c → InsertsUnder m u l c.child i below
     → Lays u w (n ∷ []) (raised n g) (swap_remove es at c ++ raised c.child below) true → IsFilledIfSplit w n g → InsertsUnder m w (suc l) n i g
 inner_put m u w l n at below g i c es e t lt is ins a full =
     let rest : List NodeEntry = swap_remove es at c in
@@ -98,18 +108,21 @@ inner_put m u w l n at below g i c es e t lt is ins a full =
     let o : (q : ℕ) → times q (n ∷ pages_below m (suc l) es) ≤ live m q = subst O ee t.owns in
     let mv = one_moves m u l c (pages_below u (suc l) (raised c.child below)) (members_in u (suc l) (raised c.child below)) [] (i ∷ []) ins.moves in
     let st : Stepped m u l n es (rest ++ raised c.child below) [] (i ∷ []) = stepped m u l n es (c ∷ []) rest (raised c.child below) [] (i ∷ []) p o mv in
-    let stay : InStays m u (suc l) rest = others_stay m u l n es (c ∷ []) rest (pages_below u (suc l) (raised c.child below)) (members_in m (suc l) (c ∷ [])) (members_in u (suc l) (raised c.child below)) [] (i ∷ []) p o mv in
+    let stay : InStays m u (suc l) rest = others_stay m u l n es (c ∷ []) rest (pages_below u (suc l) (raised c.child below)) (members_in m (suc l) (c ∷ []))
+    (members_in u (suc l) (raised c.child below)) [] (i ∷ []) p o mv in
     laid_up m u w (suc l) n g i es (rest ++ raised c.child below) ee (omega (arith, length-perm es (c ∷ rest) p, length-append rest (raised c.child below), raised_some c.child below))
     (stands-append u (suc l) rest (raised c.child below) (stay.stands s.1) (raised_stands m u l c.child below s.0.1.0 ins.leads ins.grows)) st.owns st.moves a full
 
 -- the same, from a store where the pages are as before, with the entries as they were handed on
-pub leaf_put_from : (m m0 w : Store) (n : ℕ) (g : Grown) (x : NodeEntry) (es fs : List NodeEntry) → m0 ≡ m → fs ≡ es ++ x ∷ [] → node_at m n ≡ node false es → Subtree m 0 n → Lays m0 w (n ∷ []) (raised n g) fs false → IsFilledIfSplit w n g → InsertsUnder m w 0 n (member_of x) g
+pub leaf_put_from : (m m0 w : Store) (n : ℕ) (g : Grown) (x : NodeEntry) (es fs : List NodeEntry) → m0 ≡ m → fs ≡ es ++ x ∷ [] → node_at m n ≡ node false es
+    → Subtree m 0 n → Lays m0 w (n ∷ []) (raised n g) fs false → IsFilledIfSplit w n g → InsertsUnder m w 0 n (member_of x) g
 leaf_put_from m m0 w n g x es fs s f e t a full =
     let P : Store → Type 0 = λ y. Lays y w (n ∷ []) (raised n g) fs false in
     let Q : List NodeEntry → Type 0 = λ y. Lays m w (n ∷ []) (raised n g) y false in
     leaf_put m w n g x es e t (subst Q f (subst P s a)) full
 
-pub inner_put_from : (m m0 u w : Store) (l n at : ℕ) (below g : Grown) (i : Member) (c : NodeEntry) (es fs : List NodeEntry) → m0 ≡ m → fs ≡ swap_remove es at c ++ raised c.child below → node_at m n ≡ node true es → Subtree m (suc l) n → at < length es → c ≡ get_or es at c
+pub inner_put_from : (m m0 u w : Store) (l n at : ℕ) (below g : Grown) (i : Member) (c : NodeEntry) (es fs : List NodeEntry) → m0 ≡ m
+    → fs ≡ swap_remove es at c ++ raised c.child below → node_at m n ≡ node true es → Subtree m (suc l) n → at < length es → c ≡ get_or es at c
     → InsertsUnder m0 u l c.child i below → Lays u w (n ∷ []) (raised n g) fs true → IsFilledIfSplit w n g → InsertsUnder m w (suc l) n i g
 inner_put_from m m0 u w l n at below g i c es fs s f e t lt is ins a full =
     let P : Store → Type 0 = λ y. InsertsUnder y u l c.child i below in

@@ -24,15 +24,27 @@ lays_from m u w old row es fs inner e f a =
     let Q : List NodeEntry → Type 0 = λ x. Lays m w old row x inner in
     subst Q f (subst P e a)
 
-pub balanced_one : (m u w : Store) (inner : Bool) (a b : ℕ) (bound : Rect) (es more fs : List NodeEntry) → u ≡ m → node_at m a ≡ node inner es → node_at m b ≡ node inner more → fs ≡ es ++ more → Lays u w (a ∷ (b ∷ [])) (branch bound a ∷ []) fs inner → Balances m w inner a b (Kept bound)
+pub balanced_one : (m u w : Store) (inner : Bool) (a b : ℕ) (bound : Rect) (es more fs : List NodeEntry) → u ≡ m → node_at m a ≡ node inner es
+    → node_at m b ≡ node inner more → fs ≡ es ++ more → Lays u w (a ∷ (b ∷ [])) (branch bound a ∷ []) fs inner → Balances m w inner a b (Kept bound)
 balanced_one m u w inner a b bound es more fs s e f g y =
-    let ly : Lays m w (a ∷ (b ∷ [])) (branch bound a ∷ []) (entries_at m a ++ entries_at m b) inner = lays_from m u w (a ∷ (b ∷ [])) (branch bound a ∷ []) (entries_at m a ++ entries_at m b) fs inner s (g ∙ sym (both_read m a b inner es more e f)) y in
+    let ly : Lays m w (a ∷ (b ∷ [])) (branch bound a ∷ []) (entries_at m a ++ entries_at m b) inner =
+    lays_from m u w (a ∷ (b ∷ [])) (branch bound a ∷ []) (entries_at m a ++ entries_at m b) fs inner s (g ∙ sym (both_read m a b inner es more e f)) y in
     record {
       lays = ly;
-      full = λ k. (omega (arith, k, length-perm (entries_at m a ++ entries_at m b) (entries_at w a ++ []) ly.shared, length-append (entries_at w a) [], length-append (entries_at m a) (entries_at m b)), tt);
+      full = λ k. (
+        omega (
+          arith,
+          k,
+          length-perm (entries_at m a ++ entries_at m b) (entries_at w a ++ []) ly.shared,
+          length-append (entries_at w a) [],
+          length-append (entries_at m a) (entries_at m b),
+        ),
+        tt,
+      );
     }
 
-pub balanced_two : (m u w : Store) (inner : Bool) (a b : ℕ) (g : Grown) (es more fs : List NodeEntry) → u ≡ m → node_at m a ≡ node inner es → node_at m b ≡ node inner more → fs ≡ es ++ more → Lays u w (a ∷ (b ∷ [])) (raised a g) fs inner → AllFilled w (raised a g) → Balances m w inner a b g
+pub balanced_two : (m u w : Store) (inner : Bool) (a b : ℕ) (g : Grown) (es more fs : List NodeEntry) → u ≡ m → node_at m a ≡ node inner es
+    → node_at m b ≡ node inner more → fs ≡ es ++ more → Lays u w (a ∷ (b ∷ [])) (raised a g) fs inner → AllFilled w (raised a g) → Balances m w inner a b g
 balanced_two m u w inner a b g es more fs s e f h y full = record {
   lays = lays_from m u w (a ∷ (b ∷ [])) (raised a g) (entries_at m a ++ entries_at m b) fs inner s (h ∙ sym (both_read m a b inner es more e f)) y;
   full = λ k. full;

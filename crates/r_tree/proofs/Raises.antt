@@ -47,14 +47,23 @@ pub record Laid (u w : Store) (l : ℕ) (old : List ℕ) (row es : List NodeEntr
   pub leads : Each (LeadsToTree w l) row
   pub moves : Moves u w (old ++ pages_below u l es) (pages_below w (suc l) row) (members_in u l es) (members_in w (suc l) row) [] []
 
-pub laid : (u w : Store) (l : ℕ) (old : List ℕ) (row es : List NodeEntry) → StandsUnder u l es → ((q : ℕ) → times q (old ++ pages_below u l es) ≤ live u q) → Lays u w old row es (is_inner l) → Laid u w l old row es
+pub laid : (u w : Store) (l : ℕ) (old : List ℕ) (row es : List NodeEntry) → StandsUnder u l es → ((q : ℕ) → times q (old ++ pages_below u l es) ≤ live u q)
+    → Lays u w old row es (is_inner l) → Laid u w l old row es
 laid u w l old row es s o a =
-    let st : InStays u w l es = in_stays u w l es (λ q k. a.frame q (omega (arith, k, o q, live_small u q, times-append q old (pages_below u l es))) (omega (arith, k, o q, live_small u q, times-append q old (pages_below u l es)))) in
+    let st : InStays u w l es = in_stays u w l es
+    (λ q k. a.frame q (omega (arith, k, o q, live_small u q, times-append q old (pages_below u l es))) (omega (arith, k, o q, live_small u q, times-append q old (pages_below u l es)))) in
     record {
       leads = row_leads w l row a.nodes (stands-perm w l es (grandchildren w row) a.shared (st.stands s));
       moves = record {
         frame = λ q k z. a.frame q k (omega (arith, z, times-append q old (pages_below u l es)));
-        moved = λ q. omega (arith, a.moved q, times-append q old (pages_below u l es), row_pages q w l row, pages-perm q w l es (grandchildren w row) a.shared, ap (λ (x : List ℕ). times q x) st.pages);
+        moved = λ q. omega (
+          arith,
+          a.moved q,
+          times-append q old (pages_below u l es),
+          row_pages q w l row,
+          pages-perm q w l es (grandchildren w row) a.shared,
+          ap (λ (x : List ℕ). times q x) st.pages,
+        );
         weighed = λ f. omega (arith, row_members f w l row, members-perm f w l es (grandchildren w row) a.shared, ap (λ (x : List Member). weigh f x) st.members);
       };
     }
@@ -65,13 +74,17 @@ pub record Held (u w : Store) (l n : ℕ) (es : List NodeEntry) : Type 0 where
   pub entries : entries_at w n ≡ es
   pub moves : Moves u w (n ∷ pages_below u l es) (pages_under w l n) (members_in u l es) (members_under w l n) [] []
 
-pub held : (u w : Store) (l n : ℕ) (es : List NodeEntry) → length es ≤ 126 → StandsUnder u l es → ((q : ℕ) → times q (n ∷ pages_below u l es) ≤ live u q) → WritesNode u w n (is_inner l) es → Held u w l n es
+pub held : (u w : Store) (l n : ℕ) (es : List NodeEntry) → length es ≤ 126 → StandsUnder u l es → ((q : ℕ) → times q (n ∷ pages_below u l es) ≤ live u q)
+    → WritesNode u w n (is_inner l) es → Held u w l n es
 held u w l n es fits s o a =
     let st : InStays u w l es = in_stays u w l es (λ q k. a.others q (omega (arith, k, o q, live_small u q))) in
     let ee : entries_at w n ≡ es = ap (λ (v : NodeView). entries_of v) a.is in
     let U : List NodeEntry → Type 0 = λ fs. StandsUnder w l fs in
     record {
-      stands = (record { is = a.is ∙ ap (λ (fs : List NodeEntry). node (is_inner l) fs) (sym ee); fits = omega (arith, fits, ap (λ (fs : List NodeEntry). length fs) ee) }, subst U (sym ee) (st.stands s));
+      stands = (
+        record { is = a.is ∙ ap (λ (fs : List NodeEntry). node (is_inner l) fs) (sym ee); fits = omega (arith, fits, ap (λ (fs : List NodeEntry). length fs) ee) },
+        subst U (sym ee) (st.stands s),
+      );
       entries = ee;
       moves = record {
         frame = λ q k z. a.others q (omega (arith, z));

@@ -26,7 +26,12 @@ members-sum : (f : Member → ℕ) (m : Store) (l : ℕ) (es : List NodeEntry) �
 members-sum f m zero [] = refl
 members-sum f m (suc l) [] = refl
 members-sum f m zero (e ∷ es) = omega (arith, members-sum f m zero es, sum_by-cons (entry_weight f m zero) e es)
-members-sum f m (suc l) (e ∷ es) = omega (arith, members-sum f m (suc l) es, sum_by-cons (entry_weight f m (suc l)) e es, weigh-append f (members_in m l (entries_at m e.child)) (members_in m (suc l) es))
+members-sum f m (suc l) (e ∷ es) = omega (
+  arith,
+  members-sum f m (suc l) es,
+  sum_by-cons (entry_weight f m (suc l)) e es,
+  weigh-append f (members_in m l (entries_at m e.child)) (members_in m (suc l) es),
+)
 
 pages-sum : (q : ℕ) (m : Store) (l : ℕ) (es : List NodeEntry) → times q (pages_below m l es) ≡ sum_by (entry_times q m l) es
 pages-sum q m zero [] = refl
@@ -117,8 +122,18 @@ in_stays m w (suc l) es f = row_stays m w l (λ fs g. in_stays m w l fs g) es f
 -- a row's pages and members, by those under all entries of its nodes
 pub row_pages : (q : ℕ) (m : Store) (l : ℕ) (row : List NodeEntry) → times q (pages_below m (suc l) row) ≡ times q (children row) + times q (pages_below m l (grandchildren m row))
 row_pages q m l [] = omega (arith, pages-sum q m l [])
-row_pages q m l (e ∷ row) = omega (arith, row_pages q m l row, times-append q (pages_below m l (entries_at m e.child)) (pages_below m (suc l) row), pages-append q m l (entries_at m e.child) (grandchildren m row))
+row_pages q m l (e ∷ row) = omega (
+  arith,
+  row_pages q m l row,
+  times-append q (pages_below m l (entries_at m e.child)) (pages_below m (suc l) row),
+  pages-append q m l (entries_at m e.child) (grandchildren m row),
+)
 
 pub row_members : (f : Member → ℕ) (m : Store) (l : ℕ) (row : List NodeEntry) → weigh f (members_in m (suc l) row) ≡ weigh f (members_in m l (grandchildren m row))
 row_members f m l [] = omega (arith, members-sum f m l [])
-row_members f m l (e ∷ row) = omega (arith, row_members f m l row, weigh-append f (members_in m l (entries_at m e.child)) (members_in m (suc l) row), members-append f m l (entries_at m e.child) (grandchildren m row))
+row_members f m l (e ∷ row) = omega (
+  arith,
+  row_members f m l row,
+  weigh-append f (members_in m l (entries_at m e.child)) (members_in m (suc l) row),
+  members-append f m l (entries_at m e.child) (grandchildren m row),
+)

@@ -22,7 +22,8 @@ use Rattle.r_tree.proofs.Inserts.{read_as}
 use Rattle.r_tree.proofs.Roots.{Rooted, Raised, raised_over, ids_weigh}
 
 -- a part that has room in one new node
-pub tiled_one : (m w : Store) (n : ℕ) (inner : Bool) (es before after : List NodeEntry) (r : Rect) → length es ≤ 126 → bound_of es ≡ Some r → GainsNode m w n inner es → after ≡ before ++ branch r n ∷ [] → Tiles m w inner es before after
+pub tiled_one : (m w : Store) (n : ℕ) (inner : Bool) (es before after : List NodeEntry) (r : Rect) → length es ≤ 126 → bound_of es ≡ Some r → GainsNode m w n inner es
+    → after ≡ before ++ branch r n ∷ [] → Tiles m w inner es before after
 tiled_one m w n inner es before after r l b a e = record {
   row = branch r n ∷ [];
   joined = e;
@@ -57,14 +58,17 @@ children-append q xs ys = ap (λ (x : List ℕ). times q x) (map-append (λ (e :
 under_both : (u w : Store) (xs ys : List NodeEntry) → Each (λ e. node_at w e.child ≡ node_at u e.child) xs → grandchildren w (xs ++ ys) ≡ grandchildren u xs ++ grandchildren w ys
 under_both u w xs ys h =
     flat_map-append (λ (e : NodeEntry). entries_at w e.child) xs ys
-    ∙ ap (λ (x : List NodeEntry). x ++ grandchildren w ys) (flat_map-same (λ (e : NodeEntry). entries_at w e.child) (λ (e : NodeEntry). entries_at u e.child) xs (Each-map (λ e. node_at w e.child ≡ node_at u e.child) (λ e. entries_at w e.child ≡ entries_at u e.child) (λ e k. ap (λ (v : NodeView). entries_of v) k) xs h))
+    ∙ ap (λ (x : List NodeEntry). x ++ grandchildren w ys)
+    (flat_map-same (λ (e : NodeEntry). entries_at w e.child) (λ (e : NodeEntry). entries_at u e.child) xs
+    (Each-map (λ e. node_at w e.child ≡ node_at u e.child) (λ e. entries_at w e.child ≡ entries_at u e.child) (λ e k. ap (λ (v : NodeView). entries_of v) k) xs h))
 
 -- two parts, one after the other
 pub tiled_two : (m u w : Store) (inner : Bool) (es left right before mid after : List NodeEntry) → IsPermutation es (left ++ right) → 50 ≤ length left → 50 ≤ length right
     → Tiles m u inner left before mid → Tiles u w inner right mid after → Tiles m w inner es before after
 tiled_two m u w inner es left right before mid after p few_left few_right a b =
     let lives : Each (λ e. live u e.child ≡ 1) a.row = row_lives u a.row (λ q. omega (arith, a.lays.moved q)) in
-    let stay : Each (λ e. node_at w e.child ≡ node_at u e.child) a.row = Each-map (λ e. live u e.child ≡ 1) (λ e. node_at w e.child ≡ node_at u e.child) (λ e k. node_stays u w e.child (b.lays.frame e.child k refl)) a.row lives in
+    let stay : Each (λ e. node_at w e.child ≡ node_at u e.child) a.row =
+    Each-map (λ e. live u e.child ≡ 1) (λ e. node_at w e.child ≡ node_at u e.child) (λ e k. node_stays u w e.child (b.lays.frame e.child k refl)) a.row lives in
     let P : List NodeEntry → Type 0 = λ x. IsPermutation es x in
     record {
       row = a.row ++ b.row;
@@ -75,12 +79,14 @@ tiled_two m u w inner es left right before mid after p few_left few_right a b =
             b.lays.frame q (omega (arith, k, live_same m u q e)) z ∙ e;
         moved = λ q. omega (arith, a.lays.moved q, b.lays.moved q, children-append q a.row b.row);
         nodes = Each-append (λ e. LeadsToNode w inner e) a.row b.row
-            (Each-zip (λ e. node_at w e.child ≡ node_at u e.child) (λ e. LeadsToNode u inner e) (λ e. LeadsToNode w inner e) (λ e x y. lead_stays u w inner e x y) a.row stay a.lays.nodes) b.lays.nodes;
+            (Each-zip (λ e. node_at w e.child ≡ node_at u e.child) (λ e. LeadsToNode u inner e) (λ e. LeadsToNode w inner e)
+            (λ e x y. lead_stays u w inner e x y) a.row stay a.lays.nodes) b.lays.nodes;
         shared = subst P (sym (under_both u w a.row b.row stay)) (IsPermutation-trans es (left ++ right) (grandchildren u a.row ++ grandchildren w b.row) p
             (IsPermutation-append left (grandchildren u a.row) right (grandchildren w b.row) a.lays.shared b.lays.shared));
       };
       full = λ k. Each-append (λ e. 50 ≤ length (entries_at w e.child)) a.row b.row
-          (Each-zip (λ e. node_at w e.child ≡ node_at u e.child) (λ e. 50 ≤ length (entries_at u e.child)) (λ e. 50 ≤ length (entries_at w e.child)) (λ e x y. fill_stays u w e x y) a.row stay (a.full few_left)) (b.full few_right);
+          (Each-zip (λ e. node_at w e.child ≡ node_at u e.child) (λ e. 50 ≤ length (entries_at u e.child)) (λ e. 50 ≤ length (entries_at w e.child))
+          (λ e x y. fill_stays u w e x y) a.row stay (a.full few_left)) (b.full few_right);
     }
 
 -- filled nodes are at most a fiftieth of their entries
@@ -95,7 +101,13 @@ room_in w inner (e ∷ row) n = omega (arith, n.0.fits, room_in w inner row n.1,
 
 -- a level has fewer nodes than entries
 pub level_fewer : (u w : Store) (inner : Bool) (es row : List NodeEntry) → 127 ≤ length es → Tiles u w inner es [] row → length row < length es
-level_fewer u w inner es row many a = omega (arith, many, few_filled w a.row (a.full (omega (arith, many))), length-perm es (grandchildren w a.row) a.lays.shared, ap (λ (x : List NodeEntry). length x) a.joined)
+level_fewer u w inner es row many a = omega (
+  arith,
+  many,
+  few_filled w a.row (a.full (omega (arith, many))),
+  length-perm es (grandchildren w a.row) a.lays.shared,
+  ap (λ (x : List NodeEntry). length x) a.joined,
+)
 
 -- the members of a list are the first level
 pub level_first : (m : Store) (es : List NodeEntry) (is : List Member) → members_of es ≡ is → IsTop m m 0 es is
@@ -119,13 +131,15 @@ level_next m u w l es row is many h a =
     let o : (q : ℕ) → times q (pages_below u l es) ≤ live u q = owns_after m u [] (pages_below u l es) [] (members_in u l es) [] is h.moves (λ q. omega arith) in
     let ld : Laid u w l [] row es = laid u w l [] row es h.stands o ly in
     record {
-      stands = Each-zip (λ e. LeadsToTree w l e) (λ e. 50 ≤ length (entries_at w e.child)) (λ e. Encloses w e × ((50 ≤ length (entries_at w e.child)) × (IsNodeAt w l e.child × StandsUnder w l (entries_at w e.child)))) (λ e x y. (x.0, (y, x.1))) row ld.leads full;
+      stands = Each-zip (λ e. LeadsToTree w l e) (λ e. 50 ≤ length (entries_at w e.child))
+          (λ e. Encloses w e × ((50 ≤ length (entries_at w e.child)) × (IsNodeAt w l e.child × StandsUnder w l (entries_at w e.child)))) (λ e x y. (x.0, (y, x.1))) row ld.leads full;
       top = λ k. omega (arith, many, room_in w (is_inner l) row ly.nodes, length-perm es (grandchildren w row) ly.shared);
       moves = moves_next m u w [] (pages_below u l es) (pages_below w (suc l) row) [] (members_in u l es) (members_in w (suc l) row) [] is h.moves ld.moves;
     }
 
 -- the root of a tree that was built
-pub built : (m u w : Store) (l n : ℕ) (b : Option Rect) (es : List NodeEntry) (is : List Member) → length es ≤ 126 → b ≡ bound_of es → HasEachIdOnce is → IsTop m u l es is → GainsNode u w n (is_inner l) es → Rooted m w l n b [] [] [] is
+pub built : (m u w : Store) (l n : ℕ) (b : Option Rect) (es : List NodeEntry) (is : List Member) → length es ≤ 126 → b ≡ bound_of es → HasEachIdOnce is
+    → IsTop m u l es is → GainsNode u w n (is_inner l) es → Rooted m w l n b [] [] [] is
 built m u w l n b es is fits be once h a =
     let o : (q : ℕ) → times q (pages_below u l es) ≤ live u q = owns_after m u [] (pages_below u l es) [] (members_in u l es) [] is h.moves (λ q. omega arith) in
     let r : Raised u w l n es = raised_over u w l n es fits h.stands o a in

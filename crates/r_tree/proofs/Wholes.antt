@@ -20,7 +20,8 @@ plants_of m w t number is h e r = record {
   keeps = keeps_of m w [] (tree_pages w t) [] (tree_members w t) [] is r.moves (λ q. omega arith);
 }
 
-pub inserts_of : (m w : Store) (t u : RTree) (id : ℕ) (shape : Rough) → IsRTree m t → 1 ≤ u.height → u.number ≡ t.number → Rooted m w (u.height - 1) u.root u.bound (tree_pages m t) (tree_members m t) [] ((id, shape) ∷ []) → InsertsMember m w t u id shape
+pub inserts_of : (m w : Store) (t u : RTree) (id : ℕ) (shape : Rough) → IsRTree m t → 1 ≤ u.height → u.number ≡ t.number
+    → Rooted m w (u.height - 1) u.root u.bound (tree_pages m t) (tree_members m t) [] ((id, shape) ∷ []) → InsertsMember m w t u id shape
 inserts_of m w t u id shape is h e r = record {
   tree = record { tall = h; at = r.root };
   numbered = e;
@@ -28,7 +29,8 @@ inserts_of m w t u id shape is h e r = record {
   keeps = keeps_of m w (tree_pages m t) (tree_pages w u) (tree_members m t) (tree_members w u) [] ((id, shape) ∷ []) r.moves is.at.owns;
 }
 
-pub removes_of : (m w : Store) (t u : RTree) (id : ℕ) (shape : Rough) → IsRTree m t → 1 ≤ u.height → u.number ≡ t.number → Rooted m w (u.height - 1) u.root u.bound (tree_pages m t) (tree_members m t) ((id, shape) ∷ []) [] → RemovesMember m w t u id shape
+pub removes_of : (m w : Store) (t u : RTree) (id : ℕ) (shape : Rough) → IsRTree m t → 1 ≤ u.height → u.number ≡ t.number
+    → Rooted m w (u.height - 1) u.root u.bound (tree_pages m t) (tree_members m t) ((id, shape) ∷ []) [] → RemovesMember m w t u id shape
 removes_of m w t u id shape is h e r = record {
   tree = record { tall = h; at = r.root };
   numbered = e;

@@ -59,7 +59,8 @@ in_one w n inner es r e =
     let P : List NodeEntry → Type 0 = λ x. IsPermutation es x in
     subst P (sym (append-nil (entries_at w n) ∙ ee)) (IsPermutation-refl es)
 
-in_two : (w : Store) (n r : ℕ) (inner : Bool) (es left right : List NodeEntry) (b s : Rect) → node_at w n ≡ node inner left → node_at w r ≡ node inner right → IsPermutation es (left ++ right) → IsPermutation es (grandchildren w (branch b n ∷ (branch s r ∷ [])))
+in_two : (w : Store) (n r : ℕ) (inner : Bool) (es left right : List NodeEntry) (b s : Rect) → node_at w n ≡ node inner left → node_at w r ≡ node inner right
+    → IsPermutation es (left ++ right) → IsPermutation es (grandchildren w (branch b n ∷ (branch s r ∷ [])))
 in_two w n r inner es left right b s e f p =
     let ee : entries_at w n ≡ left = ap (λ (v : NodeView). entries_of v) e in
     let ff : entries_at w r ≡ right = ap (λ (v : NodeView). entries_of v) f in
@@ -94,7 +95,8 @@ pub record Parts (es left right : List NodeEntry) (b s : Rect) : Type 0 where
   pub left_bound : bound_of left ≡ Some b
   pub right_bound : bound_of right ≡ Some s
 
-filled : (w : Store) (n r : ℕ) (inner : Bool) (es left right : List NodeEntry) (b s : Rect) → Parts es left right b s → node_at w n ≡ node inner left → node_at w r ≡ node inner right → AllFilled w (branch b n ∷ (branch s r ∷ []))
+filled : (w : Store) (n r : ℕ) (inner : Bool) (es left right : List NodeEntry) (b s : Rect) → Parts es left right b s → node_at w n ≡ node inner left
+    → node_at w r ≡ node inner right → AllFilled w (branch b n ∷ (branch s r ∷ []))
 filled w n r inner es left right b s p e f = (
   omega (arith, p.left_full, ap (λ (v : NodeView). length (entries_of v)) e),
   (omega (arith, p.right_full, ap (λ (v : NodeView). length (entries_of v)) f), tt),
@@ -105,7 +107,8 @@ pub record Split (u w : Store) (n r : ℕ) (inner : Bool) (es : List NodeEntry) 
   pub lays : Lays u w (n ∷ []) (branch b n ∷ (branch s r ∷ [])) es inner
   pub full : AllFilled w (branch b n ∷ (branch s r ∷ []))
 
-pub two_laid : (u v w : Store) (n r : ℕ) (inner : Bool) (es left right : List NodeEntry) (b s : Rect) → Parts es left right b s → WritesNode u v n inner left → GainsNode v w r inner right → Split u w n r inner es b s
+pub two_laid : (u v w : Store) (n r : ℕ) (inner : Bool) (es left right : List NodeEntry) (b s : Rect) → Parts es left right b s → WritesNode u v n inner left
+    → GainsNode v w r inner right → Split u w n r inner es b s
 two_laid u v w n r inner es left right b s p a g =
     let apart : same n r ≡ 0 = elim (same_cases n r) [ inl i ↦ absurd (omega (arith, a.now, g.before, ap (λ (x : ℕ). live v x) i.1)) | inr i ↦ i.0 ] in
     let e : node_at w n ≡ node inner left = at_node w v n inner left (g.others n apart) a.is in
@@ -126,7 +129,8 @@ pub record Shared (u w : Store) (a b : ℕ) (inner : Bool) (es : List NodeEntry)
   pub lays : Lays u w (a ∷ (b ∷ [])) (branch r a ∷ (branch s b ∷ [])) es inner
   pub full : AllFilled w (branch r a ∷ (branch s b ∷ []))
 
-pub both_laid : (u v w : Store) (a b : ℕ) (inner : Bool) (es left right : List NodeEntry) (r s : Rect) → Parts es left right r s → WritesNode u v a inner left → WritesNode v w b inner right → same b a ≡ 0 → Shared u w a b inner es r s
+pub both_laid : (u v w : Store) (a b : ℕ) (inner : Bool) (es left right : List NodeEntry) (r s : Rect) → Parts es left right r s → WritesNode u v a inner left
+    → WritesNode v w b inner right → same b a ≡ 0 → Shared u w a b inner es r s
 both_laid u v w a b inner es left right r s p x y h =
     let e : node_at w a ≡ node inner left = at_node w v a inner left (y.others a (turned a b h)) x.is in
     record {
@@ -140,7 +144,8 @@ both_laid u v w a b inner es left right r s p x y h =
     }
 
 -- one node was written, and another freed
-pub merged : (u v w : Store) (a b : ℕ) (inner : Bool) (es : List NodeEntry) (r : Rect) → length es ≤ 126 → bound_of es ≡ Some r → WritesNode u v a inner es → Freed v w b → same b a ≡ 0 → Lays u w (a ∷ (b ∷ [])) (branch r a ∷ []) es inner
+pub merged : (u v w : Store) (a b : ℕ) (inner : Bool) (es : List NodeEntry) (r : Rect) → length es ≤ 126 → bound_of es ≡ Some r → WritesNode u v a inner es → Freed v w b
+    → same b a ≡ 0 → Lays u w (a ∷ (b ∷ [])) (branch r a ∷ []) es inner
 merged u v w a b inner es r l bo x y h =
     let e : node_at w a ≡ node inner es = at_node w v a inner es (y.others a (turned a b h)) x.is in
     record {

@@ -1,5 +1,6 @@
 -- What the entries of a leaf and the children of a block give to a queue at the distance 0.
-use Rattle.std.proofs.Common.{◌≡◌, ℕ, suc, ◌+◌, ◌<◌, ◌≤◌, Bool, true, false, cond, List, [], ◌∷◌, ◌++◌, length, take, get_or, flat_map, map, not, All, IsPermutation, refl, sym, ap, ◌∙◌, subst, arith, append-nil, Some, Ordering, Less, Equal, Greater}
+use Rattle.std.proofs.Common.{◌≡◌, ℕ, suc, ◌+◌, ◌<◌, ◌≤◌, Bool, true, false, cond, List, [], ◌∷◌, ◌++◌, length, take, get_or, flat_map, map, not, All, IsPermutation}
+use Rattle.std.proofs.Common.{refl, sym, ap, ◌∙◌, subst, arith, append-nil, Some, Ordering, Less, Equal, Greater}
 use Rattle.std.specs.Prelude.{nat_eq, ◌↔◌, IsTrue, Result, Ok, Err, OnOk}
 use Rattle.std.specs.List.{AllZip}
 use Rattle.std.specs.Ordering.{is_lt}
@@ -50,7 +51,8 @@ brought : {A : Type 0} (f : Item Block → List A) (item : Item Block) → is_at
 brought f item near = ap (λ b. flat_map f (cond b (item ∷ []) [])) near ∙ append-nil (f item)
 
 -- an item may be told under another gap at the distance 0
-retold : (item other : Item Block) (rest : List Block) (old new : ZeroItems Block) → is_at_zero item ≡ true → is_at_zero other ≡ true → node_of item ≡ node_of other → rough_id_in item ≡ rough_id_in other → row_id_in item ≡ row_id_in other
+retold : (item other : Item Block) (rest : List Block) (old new : ZeroItems Block) → is_at_zero item ≡ true → is_at_zero other ≡ true → node_of item ≡ node_of other
+    → rough_id_in item ≡ rough_id_in other → row_id_in item ≡ row_id_in other
     → Opens rest (item ∷ []) old new → Opens rest (other ∷ []) old new
 retold item other rest old new near too nodes roughs rows o = record {
   nodes = subst (λ l. IsPermutation (l ++ rest) new.nodes) (brought node_of item near ∙ nodes ∙ sym (brought node_of other too)) o.nodes;
@@ -88,7 +90,8 @@ exact_far id g h q same far =
     subst (λ (l : List (Item Block)). Opens q.nodes l q q) (sym (exact_is id h)) (left_out (Row h id 0) q (sym (both_zero g h same) ∙ far))
 
 -- a rough object at the distance 0
-pub bound_near : (id : ℕ) (g h : Frac) (q new : ZeroItems Block) → IsSameGap g h → nat_eq g.num 0 ≡ true → Opens q.nodes (rough_at_zero id ∷ []) q new → Opens q.nodes (Rough (greater h zero_gap) id 0 ∷ []) q new
+pub bound_near : (id : ℕ) (g h : Frac) (q new : ZeroItems Block) → IsSameGap g h → nat_eq g.num 0 ≡ true → Opens q.nodes (rough_at_zero id ∷ []) q new
+    → Opens q.nodes (Rough (greater h zero_gap) id 0 ∷ []) q new
 bound_near id g h q new same near o =
     subst (λ f. Opens q.nodes (Rough f id 0 ∷ []) q new) (sym (greater_is h))
     (retold (rough_at_zero id) (Rough h id 0) q.nodes q new refl (sym (both_zero g h same) ∙ near) refl refl refl o)
@@ -260,7 +263,8 @@ few_pairs goal pairs list bound is below =
 
 -- four items stand for the children
 pub four_alike : (goal : Goal) (b : Block) (pairs : List (Block × Rect)) (d : Block × Rect) → pairs ≡ map with_square (children_of b) → (first second third fourth : Item Block)
-    → IsAlike first (block_found goal (get_or pairs 0 d).0) → IsAlike second (block_found goal (get_or pairs 1 d).0) → IsAlike third (block_found goal (get_or pairs 2 d).0) → IsAlike fourth (block_found goal (get_or pairs 3 d).0)
+    → IsAlike first (block_found goal (get_or pairs 0 d).0) → IsAlike second (block_found goal (get_or pairs 1 d).0)
+    → IsAlike third (block_found goal (get_or pairs 2 d).0) → IsAlike fourth (block_found goal (get_or pairs 3 d).0)
     → AllZip IsAlike (first ∷ second ∷ third ∷ fourth ∷ []) (map (block_found goal) (children_of b))
 four_alike goal b pairs d is first second third fourth h1 h2 h3 h4 = (
   subst (λ (ps : List (Block × Rect)). IsAlike first (block_found goal (get_or ps 0 d).0)) is h1,

@@ -1,5 +1,6 @@
 -- A search over a ranking visits as many places and fetches as many rough objects as the model counts.
-use Rattle.std.proofs.Common.{◌≡◌, ⊎_elim, ℕ, ◌*◌, Bool, true, false, cond, not, ◌||◌, ◌&&◌, true≢false, List, [], ◌∷◌, map, length, filter, filter_map, flat_map, Contains, Option, Some, option_map, refl, sym, ap, ◌∙◌, subst, arith, le_antisymm, Ordering, Less, Equal, Greater}
+use Rattle.std.proofs.Common.{◌≡◌, ⊎_elim, ℕ, ◌*◌, Bool, true, false, cond, not, ◌||◌, ◌&&◌, true≢false, List, [], ◌∷◌, map, length, filter, filter_map, flat_map}
+use Rattle.std.proofs.Common.{Contains, Option, Some, option_map, refl, sym, ap, ◌∙◌, subst, arith, le_antisymm, Ordering, Less, Equal, Greater}
 use Rattle.std.specs.Ordering.{is_lt, is_gt, is_eq}
 use Rattle.std.specs.Prelude.{nat_eq}
 use Rattle.std.specs.Cmp.{IsTotalOrder, both_ways, tied_back}
@@ -308,7 +309,8 @@ module _ (r : Ranking) (sound : IsSound r) (gap : Measure) (is : IsMeasure gap) 
       let (c, below, among) = from_flat_map (λ node. roughs_of (m.finds node)) (m.under m.root) x listed in
       let (found, parts) = rough_item (m.finds c) x among in
       let (g, l, s, same) = parts in
-      let (place, at, block) = from_map (λ (y : Block × Tree). y.0) (places root_block r.tree) c (subst (λ (bs : List Block). Contains bs c) (under_place r sound root_block r.tree (place_here root_block r.tree)) below) in
+      let (place, at, block) = from_map (λ (y : Block × Tree). y.0) (places root_block r.tree) c
+      (subst (λ (bs : List Block). Contains bs c) (under_place r sound root_block r.tree (place_here root_block r.tree)) below) in
       let there : Contains (found_at r place.0 (place_at r.tree place.0)) x = subst (λ (b : Block). Contains (m.finds b) x) (sym block) found in
       subst (λ (y : Item Block). (a : LeafItem) × Contains (filter counted model_items) a × IsCounterpart y a) (sym same)
       (model_at place.0 place.1 at g l s
@@ -340,7 +342,8 @@ module _ (r : Ranking) (sound : IsSound r) (gap : Measure) (is : IsMeasure gap) 
         Rough item.gap id 0,
         in_filter (λ item. test (gap_of item)) (flat_map (λ node. roughs_of (m.finds node)) (m.under m.root)) (Rough item.gap id 0)
             (in_flat_map (λ node. roughs_of (m.finds node)) (m.under m.root) c (Rough item.gap id 0)
-            (subst (λ (bs : List Block). Contains bs c) (sym (under_place r sound root_block r.tree (place_here root_block r.tree))) (in_map (λ (y : Block × Tree). y.0) (places root_block r.tree) (c, Leaf ids) place))
+            (subst (λ (bs : List Block). Contains bs c) (sym (under_place r sound root_block r.tree (place_here root_block r.tree)))
+            (in_map (λ (y : Block × Tree). y.0) (places root_block r.tree) (c, Leaf ids) place))
             (rough_among (m.finds c) item.gap id 0 finds))
             (tells item.gap a.gap alike ∙ near),
         (alike, ap (λ (b : LeafItem). b.left) same, ap (λ (b : LeafItem). b.right) same),

@@ -115,7 +115,8 @@ module _ (pages : PageMap) (t : Pmr) (rows : List (ℕ × Shape)) (fits : FitsRo
       let (there_is, passes) = found_is test rows pair found in
       let s = pair.1 in
       let closed = All-contains (λ (row : ℕ × Shape). IsShapeInClosedPlane row.1) rows pair (closed_rows rows plane) there_is in
-      let (leaf, in_leaves, met) = some_term (λ (leaf : Block × List ℕ). (meets the_measure s (square_of leaf.0) ≡ true) × IsAtMost (the_measure goal (square_figure leaf.0)) (the_measure goal (figure.Shape s))) (leaves root_block tree)
+      let (leaf, in_leaves, met) = some_term (λ (leaf : Block × List ℕ). (meets the_measure s (square_of leaf.0) ≡ true)
+      × IsAtMost (the_measure goal (square_figure leaf.0)) (the_measure goal (figure.Shape s))) (leaves root_block tree)
       (leaves_cover the_measure measured.1 goal s tree reach closed shallow) in
       let place = leaf_place root_block tree leaf.0 leaf.1 in_leaves in (
         meets_block the_measure rows leaf.0,

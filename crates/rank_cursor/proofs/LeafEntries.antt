@@ -1,5 +1,6 @@
 -- What the code finds at a place of a quadtree stands for what the ranking finds there.
-use Rattle.std.proofs.Common.{◌≡◌, ℕ, ◌*◌, ◌<◌, ◌≤◌, arith, Bool, true, false, cond, not, true≢false, List, [], ◌∷◌, ◌++◌, length, take, map, filter, append-nil, filter_map, flat_map, All, Option, None, Some, option_map, refl, sym, ap, ap₂, ◌∙◌, subst}
+use Rattle.std.proofs.Common.{◌≡◌, ℕ, ◌*◌, ◌<◌, ◌≤◌, arith, Bool, true, false, cond, not, true≢false, List, [], ◌∷◌, ◌++◌, length, take, map, filter, append-nil}
+use Rattle.std.proofs.Common.{filter_map, flat_map, All, Option, None, Some, option_map, refl, sym, ap, ap₂, ◌∙◌, subst}
 use Rattle.std.specs.Prelude.{nat_eq}
 use Rattle.std.specs.List.{AllZip}
 use Rattle.std.specs.Ordering.{is_lt}
@@ -134,8 +135,16 @@ module _ (r : Ranking) (same : r.measure ≡ the_measure) (b : Block) (leaf : Fr
       → AllZip IsAlike (by_figure r.goal leaf id (rough_figure s) k) (one_shown (block_gap r b) (one_item r b id s))
   entry_alike id s true e =
       let g = r.measure r.goal (rough_figure s) in
-      let whole : AllZip IsAlike (item.Rough (greater (goal_gap r.goal (rough_figure s)) leaf) id 0 ∷ []) (map leaf_item (record { left = id; right = 0; is_rough = true; gap = greater g (block_gap r b) } ∷ [])) =
-      ((same_greater (goal_gap r.goal (rough_figure s)) leaf g (block_gap r b) (subst (λ m. IsSameGap (goal_gap r.goal (rough_figure s)) (m r.goal (rough_figure s))) (sym same) (same_itself (goal_gap r.goal (rough_figure s)))) near, refl, refl), tt) in
+      let whole : AllZip IsAlike (item.Rough (greater (goal_gap r.goal (rough_figure s)) leaf) id 0 ∷ [])
+      (map leaf_item (record { left = id; right = 0; is_rough = true; gap = greater g (block_gap r b) } ∷ [])) = (
+        (
+          same_greater (goal_gap r.goal (rough_figure s)) leaf g (block_gap r b)
+              (subst (λ m. IsSameGap (goal_gap r.goal (rough_figure s)) (m r.goal (rough_figure s))) (sym same) (same_itself (goal_gap r.goal (rough_figure s)))) near,
+          refl,
+          refl,
+        ),
+        tt,
+      ) in
       subst (λ c. AllZip IsAlike (item.Rough (greater (goal_gap r.goal (rough_figure s)) leaf) id 0 ∷ [])
       (one_shown (block_gap r b) (record { left = id; right = 0; is_rough = c; gap = cond c (greater g (block_gap r b)) (r.measure r.goal (figure.Shape s)) })))
       (sym e) whole
@@ -174,7 +183,8 @@ module _ (r : Ranking) (same : r.measure ≡ the_measure) (b : Block) (leaf : Fr
       let written : map leaf_item (shown r b (map (λ (m : Listed). m.id) (l ∷ ls))) ≡ one_shown (block_gap r b) i ++ map leaf_item (filter (is_queued (block_gap r b)) rest) =
       ap (λ o. map leaf_item (filter (is_queued (block_gap r b)) (with_first o rest))) one ∙ shown_first i rest (is_queued (block_gap r b) i) in
       subst (λ xs. AllZip IsAlike (entry_found r.goal leaf l.id l.rough ++ flat_map (λ m. entry_found r.goal leaf m.id m.rough) ls) xs) (sym written)
-      (all_alike_append (entry_found r.goal leaf l.id l.rough) (one_shown (block_gap r b) i) (flat_map (λ m. entry_found r.goal leaf m.id m.rough) ls) (map leaf_item (filter (is_queued (block_gap r b)) rest))
+      (all_alike_append (entry_found r.goal leaf l.id l.rough) (one_shown (block_gap r b) i) (flat_map (λ m. entry_found r.goal leaf m.id m.rough) ls)
+      (map leaf_item (filter (is_queued (block_gap r b)) rest))
       (one_entry l first) (leaf_alike ls (All-tail (IsEntryOf r.shapes) l ls h)))
     where
       with_first : Option LeafItem → List LeafItem → List LeafItem

@@ -1,5 +1,6 @@
 -- Places of a quadtree: each has a block of its own, by which it is found.
-use Rattle.std.proofs.Common.{◌≡◌, ◌⊎◌, inl, inr, ⊎_elim, ℕ, zero, suc, ◌+◌, ◌<◌, ◌≤◌, Bool, true, false, cond, ◌&&◌, true≢false, List, [], ◌∷◌, ◌++◌, find, filter, Contains, Option, None, Some, option_map, refl, sym, ap, ap₂, ◌∙◌, subst, arith}
+use Rattle.std.proofs.Common.{◌≡◌, ◌⊎◌, inl, inr, ⊎_elim, ℕ, zero, suc, ◌+◌, ◌<◌, ◌≤◌, Bool, true, false, cond, ◌&&◌, true≢false, List, [], ◌∷◌, ◌++◌, find, filter}
+use Rattle.std.proofs.Common.{Contains, Option, None, Some, option_map, refl, sym, ap, ap₂, ◌∙◌, subst, arith}
 use Rattle.std.specs.Prelude.{nat_eq}
 use Rattle.std.proofs.lemmas.Bool.{ltb-true, eqb-true, eq-eqb}
 use Rattle.std.proofs.lemmas.List.Elements.{Contains-append_left, Contains-append_right, Contains-append_cases}
@@ -239,7 +240,8 @@ leaf_place b (Inner p q s t) c ids h =
 -- and a place that is a leaf is one
 pub place_leaf : (b : Block) (tree : Tree) (c : Block) (ids : List ℕ) → Contains (places b tree) (c, Leaf ids) → Contains (leaves b tree) (c, ids)
 place_leaf b (Leaf listed) c ids h =
-    subst (λ (x : Block × Tree). Contains {X = Block × List ℕ} ((b, listed) ∷ []) (x.0, elim x.1 as (λ _. List ℕ) [ Leaf l ↦ l | Inner p q s t ↦ [] ])) (only (b, Leaf listed) (c, Leaf ids) h) (here (b, listed) [])
+    subst (λ (x : Block × Tree). Contains {X = Block × List ℕ} ((b, listed) ∷ []) (x.0, elim x.1 as (λ _. List ℕ) [ Leaf l ↦ l | Inner p q s t ↦ [] ]))
+    (only (b, Leaf listed) (c, Leaf ids) h) (here (b, listed) [])
 place_leaf b (Inner p q s t) c ids h =
     let first = leaves (child b 0) p in
     let second = leaves (child b 1) q in
@@ -250,8 +252,10 @@ place_leaf b (Inner p q s t) c ids h =
     by_four (λ j. Contains (places (child b j) (pick p q s t j)) (c, Leaf ids) → Contains (first ++ (second ++ (third ++ fourth))) (c, ids))
     (λ k. Contains-append_left first (second ++ (third ++ fourth)) (c, ids) (place_leaf (child b 0) p c ids k))
     (λ k. Contains-append_right first (second ++ (third ++ fourth)) (c, ids) (Contains-append_left second (third ++ fourth) (c, ids) (place_leaf (child b 1) q c ids k)))
-    (λ k. Contains-append_right first (second ++ (third ++ fourth)) (c, ids) (Contains-append_right second (third ++ fourth) (c, ids) (Contains-append_left third fourth (c, ids) (place_leaf (child b 2) s c ids k))))
-    (λ k. Contains-append_right first (second ++ (third ++ fourth)) (c, ids) (Contains-append_right second (third ++ fourth) (c, ids) (Contains-append_right third fourth (c, ids) (place_leaf (child b 3) t c ids k))))
+    (λ k. Contains-append_right first (second ++ (third ++ fourth)) (c, ids)
+    (Contains-append_right second (third ++ fourth) (c, ids) (Contains-append_left third fourth (c, ids) (place_leaf (child b 2) s c ids k))))
+    (λ k. Contains-append_right first (second ++ (third ++ fourth)) (c, ids)
+    (Contains-append_right second (third ++ fourth) (c, ids) (Contains-append_right third fourth (c, ids) (place_leaf (child b 3) t c ids k))))
     i small below)
     (place_cases b p q s t (c, Leaf ids) h)
   where

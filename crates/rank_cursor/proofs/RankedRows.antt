@@ -1,5 +1,6 @@
 -- The rows that a ranking gives one after the other are those of the model's list.
-use Rattle.std.proofs.Common.{◌≡◌, ◌≢◌, ⊎_elim, ℕ, zero, suc, ◌*◌, ◌<◌, ◌≤◌, true, true≢false, List, [], ◌∷◌, map, length, Contains, Option, None, Some, refl, sym, ap, ◌∙◌, subst, arith, Ordering, Less, Equal, Greater}
+use Rattle.std.proofs.Common.{◌≡◌, ◌≢◌, ⊎_elim, ℕ, zero, suc, ◌*◌, ◌<◌, ◌≤◌, true, true≢false, List, [], ◌∷◌, map, length, Contains, Option, None, Some, refl, sym, ap}
+use Rattle.std.proofs.Common.{◌∙◌, subst, arith, Ordering, Less, Equal, Greater}
 use Rattle.std.proofs.lemmas.Bool.{cases_lt}
 use Rattle.std.specs.Ordering.{is_gt, nat_cmp, ordering_then, ordering_reverse}
 use Rattle.std.specs.Cmp.{IsTotalOrder, nat_cmp_total, on_total, then_total, alike_right}

@@ -1,5 +1,6 @@
 -- A sound ranking meets the laws of a hierarchy.
-use Rattle.std.proofs.Common.{◌≡◌, ◌≢◌, ⊎_elim, ℕ, ◌<◌, Bool, true, false, cond, not, ◌||◌, true≢false, List, [], ◌∷◌, ◌++◌, map, find, filter_map, flat_map, All, Contains, Option, None, Some, option_map, refl, sym, ap, ap₂, ◌∙◌, subst, arith, Ordering, Less, Equal, Greater, append-nil}
+use Rattle.std.proofs.Common.{◌≡◌, ◌≢◌, ⊎_elim, ℕ, ◌<◌, Bool, true, false, cond, not, ◌||◌, true≢false, List, [], ◌∷◌, ◌++◌, map, find, filter_map, flat_map, All}
+use Rattle.std.proofs.Common.{Contains, Option, None, Some, option_map, refl, sym, ap, ap₂, ◌∙◌, subst, arith, Ordering, Less, Equal, Greater, append-nil}
 use Rattle.std.specs.Ordering.{is_lt}
 use Rattle.std.specs.Prelude.{nat_eq}
 use Rattle.std.proofs.lemmas.Bool.{ltb-true, eqb-true, eq-eqb}
@@ -35,12 +36,14 @@ use Rattle.rank_cursor.proofs.Places.{pick, place_below, place_here, place_more,
 
 not_less : (f g : Frac) → is_lt (value_cmp f g) ≡ false → IsAtMost g f
 not_less f g e =
-    let go : (a : Ordering) → value_cmp f g ≡ a → is_lt a ≡ false → IsAtMost g f = elim [ Less ↦ λ h k. absurd (true≢false k) | Equal ↦ λ h k. equal_at_least f g h | Greater ↦ λ h k. below_at_most g f (greater_is f g h) ] in
+    let go : (a : Ordering) → value_cmp f g ≡ a → is_lt a ≡ false → IsAtMost g f =
+    elim [ Less ↦ λ h k. absurd (true≢false k) | Equal ↦ λ h k. equal_at_least f g h | Greater ↦ λ h k. below_at_most g f (greater_is f g h) ] in
     go (value_cmp f g) refl e
 
 is_less : (f g : Frac) → is_lt (value_cmp f g) ≡ true → IsAtMost f g
 is_less f g e =
-    let go : (a : Ordering) → value_cmp f g ≡ a → is_lt a ≡ true → IsAtMost f g = elim [ Less ↦ λ h k. below_at_most f g (less_is f g h) | Equal ↦ λ h k. absurd (true≢false (sym k)) | Greater ↦ λ h k. absurd (true≢false (sym k)) ] in
+    let go : (a : Ordering) → value_cmp f g ≡ a → is_lt a ≡ true → IsAtMost f g =
+    elim [ Less ↦ λ h k. below_at_most f g (less_is f g h) | Equal ↦ λ h k. absurd (true≢false (sym k)) | Greater ↦ λ h k. absurd (true≢false (sym k)) ] in
     go (value_cmp f g) refl e
 
 -- what is no less is not told to be less
@@ -272,7 +275,12 @@ module _ (r : Ranking) (sound : IsSound r) where
       let exact = r.measure r.goal (figure.Shape s) in
       let go : (k : Bool) → Shows {N = Block} (row_at r (id, s)) (cond k (Rough (cond k (greater rough (block_gap r c)) exact) id 0) (Row (cond k (greater rough (block_gap r c)) exact) id 0)) =
       elim [
-        | true ↦ (refl, refl, greater_least rough (block_gap r c) exact (rough_no_farther r.measure sound.measure r.goal s sound.goal (All-contains (λ (row : ℕ × Shape). IsShapeInClosedPlane row.1) r.shapes (id, s) sound.plane at)) near)
+        | true ↦ (
+          refl,
+          refl,
+          greater_least rough (block_gap r c) exact
+              (rough_no_farther r.measure sound.measure r.goal s sound.goal (All-contains (λ (row : ℕ × Shape). IsShapeInClosedPlane row.1) r.shapes (id, s) sound.plane at)) near,
+        )
         | false ↦ (same_itself exact, refl, refl)
       ] in
       go (is_rough s)
@@ -280,7 +288,8 @@ module _ (r : Ranking) (sound : IsSound r) where
   covers_row : (id : ℕ) (s : Shape) → Contains r.shapes (id, s) → IsListedUnder m root_block (row_at r (id, s))
   covers_row id s at =
       let plane = All-contains (λ (row : ℕ × Shape). IsShapeInClosedPlane row.1) r.shapes (id, s) sound.plane at in
-      let (leaf, among, met) = some_term (λ (leaf : Block × List ℕ). (meets r.measure s (square_of leaf.0) ≡ true) × IsAtMost (r.measure r.goal (square_figure leaf.0)) (r.measure r.goal (figure.Shape s)))
+      let (leaf, among, met) = some_term (λ (leaf : Block × List ℕ). (meets r.measure s (square_of leaf.0) ≡ true)
+      × IsAtMost (r.measure r.goal (square_figure leaf.0)) (r.measure r.goal (figure.Shape s)))
       (leaves root_block r.tree) (leaves_cover r.measure sound.measure r.goal s r.tree sound.goal plane sound.shallow) in
       let c = leaf.0 in
       let ids = leaf.1 in

@@ -1,5 +1,7 @@
 -- A visit of a place finds what the ranking has there, for no more gets than its price; so does a fetch of a geometry.
-use Rattle.std.proofs.Common.{◌≡◌, ◌⊎◌, inl, inr, ⊎_elim, ℕ, zero, suc, ◌+◌, ◌-◌, ◌*◌, ◌^◌, ◌<◌, ◌≤◌, Bool, true, false, cond, if◌then◌else◌, true≢false, List, [], ◌∷◌, ◌++◌, map, flat_map, sum_by, Contains, Option, None, Some, Ok, Err, IfSome, IsTrue, refl, sym, ap, ap₂, ◌∙◌, subst, arith, append-nil, pow-suc, lit<}
+use Rattle.std.proofs.Common.{◌≡◌, ◌⊎◌, inl, inr, ⊎_elim, ℕ, zero, suc, ◌+◌, ◌-◌, ◌*◌, ◌^◌, ◌<◌, ◌≤◌, Bool, true, false, cond, if◌then◌else◌, true≢false, List, [], ◌∷◌}
+use Rattle.std.proofs.Common.{◌++◌, map, flat_map, sum_by, Contains, Option, None, Some, Ok, Err, IfSome, IsTrue, refl, sym, ap, ap₂, ◌∙◌, subst, arith, append-nil}
+use Rattle.std.proofs.Common.{pow-suc, lit<}
 use Rattle.std.specs.Ordering.{is_lt}
 use Rattle.std.proofs.lemmas.List.Concat.{flat_map-append}
 use Rattle.std.specs.List.{AllZip}
@@ -113,7 +115,8 @@ list_nodes goal leaf (l ∷ ls) =
     ∙ ap₂ (λ (x : List Block) (y : List Block). x ++ y) (entry_nodes goal leaf l.id l.rough) (list_nodes goal leaf ls)
 
 -- what a place gives weighs less than its block
-place_weight : (goal : Goal) (leaf : Frac) (b : Block) (found : Place) → (found ≡ place.Inner → b.level < COORDINATE_BITS) → sum_by block_weight (nodes_of (place_found goal leaf b found)) < block_weight b
+place_weight : (goal : Goal) (leaf : Frac) (b : Block) (found : Place) → (found ≡ place.Inner → b.level < COORDINATE_BITS)
+    → sum_by block_weight (nodes_of (place_found goal leaf b found)) < block_weight b
 place_weight goal leaf b place.Inner above =
     let level = above refl in
     let height : COORDINATE_BITS - b.level ≡ suc (COORDINATE_BITS - (b.level + 1)) = omega arith in
@@ -273,7 +276,8 @@ module _ (rows : PageMap → List (ℕ × Shape)) (Stands : PageMap → Type 0) 
       let (tree, place) = node_place rows Stands price t goal ceiling in_plane plane d.pool.pages b laws node in
       absurd (fails (inside root_block (tree_at d.pool.pages t) root_is_block (shaped_shallow root_block (tree_at d.pool.pages t) laws.readable.0.tree.shaped) b tree place).block))
 
-  pub found_ok : (d : DeskState) (b : Block) (gap : Frac) → Asks d b gap → (found : Place) → (IsTold d.pool → pmr.Finds (tree_at d.pool.pages t) b found) → (IsTold d.pool → HasRoughs d.pool.pages t found)
+  pub found_ok : (d : DeskState) (b : Block) (gap : Frac) → Asks d b gap → (found : Place) → (IsTold d.pool → pmr.Finds (tree_at d.pool.pages t) b found)
+      → (IsTold d.pool → HasRoughs d.pool.pages t found)
       → (old new : List (Item Block)) → FindsAlike (place_found goal gap b found) old new → IfSome (told_pages d) (λ p. FindsAlike ((m p).finds b) old new)
   found_ok d b gap asks found finds roughs old new h =
       by_told d (λ p. FindsAlike ((m p).finds b) old new) (λ told.

@@ -86,8 +86,10 @@ pub point_touched : (a : Rect) (p : Point) → IsRectInClosedPlane a → IsInClo
 point_touched a p ha hp =
     let q : Rect = record { low = p; high = p } in
     let n = square q a in
-    let gap = gap_exchanged (figure.Shape (shape.Point p)) (figure.Rect a) n 1 (point_rect_gap p a n 1 (point_rect_least p a n 1 (rects_least q a n 1 (omega arith) (omega arith) ha.x ha.y refl refl))) in
-    let zero_too = whole_zero (figure.Rect a) (figure.Shape (shape.Point p)) n (goal_gap (figure.Rect a) (figure.Shape (shape.Point p))) gap (measured.1 (figure.Rect a) (figure.Shape (shape.Point p)) ha hp) in
+    let gap = gap_exchanged (figure.Shape (shape.Point p)) (figure.Rect a) n 1
+    (point_rect_gap p a n 1 (point_rect_least p a n 1 (rects_least q a n 1 (omega arith) (omega arith) ha.x ha.y refl refl))) in
+    let zero_too = whole_zero (figure.Rect a) (figure.Shape (shape.Point p)) n (goal_gap (figure.Rect a) (figure.Shape (shape.Point p))) gap
+    (measured.1 (figure.Rect a) (figure.Shape (shape.Point p)) ha hp) in
     let zero_here = overlap_zero q a in
     (λ o. zero_too.0 (zero_here.0 o), λ e. zero_here.1 (zero_too.1 e))
 

@@ -18,7 +18,8 @@ use Rattle.best_first.specs.declared.hit.Hit.{Hit}
 use Rattle.best_first.specs.declared.item.Item.{Item}
 use Rattle.best_first.specs.declared.item.Item.TheVariants.{Node, Rough, Row}
 
--- A ranking: what must hold of the pages so that it can be read, how gaps are measured and from what goal, the ceiling, the shapes with the ids of their rows, the quadtree that indexes them, its height in pages, and what it costs to fetch a geometry.
+-- A ranking: what must hold of the pages so that it can be read, how gaps are measured and from what goal, the ceiling, the shapes with the
+-- ids of their rows, the quadtree that indexes them, its height in pages, and what it costs to fetch a geometry.
 pub record Ranking : Type 1 where
   pub IsReadable : Type 0
   pub measure : Measure

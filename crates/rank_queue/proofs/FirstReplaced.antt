@@ -14,7 +14,8 @@ module _ {X : Type 0} where
       IsPermutation-trans (added ++ old) (added ++ (first ∷ new)) (first ∷ (added ++ new)) (IsPermutation-append_right added old (first ∷ new) taken) (IsPermutation-middle added first new)
 
   -- the last one of the list is queued
-  pub one_queued : (first item : X) (start rest held more : List X) → IsPermutation start (first ∷ ((rest ++ item ∷ []) ++ held)) → IsPermutation (item ∷ held) more → IsPermutation start (first ∷ (rest ++ more))
+  pub one_queued : (first item : X) (start rest held more : List X) → IsPermutation start (first ∷ ((rest ++ item ∷ []) ++ held)) → IsPermutation (item ∷ held) more
+      → IsPermutation start (first ∷ (rest ++ more))
   one_queued first item start rest held more kept queued =
       IsPermutation-trans start (first ∷ (rest ++ (item ∷ held))) (first ∷ (rest ++ more)) (subst (λ l. IsPermutation start (first ∷ l)) (append_assoc rest (item ∷ []) held) kept)
       (IsPermutation-cons first (rest ++ (item ∷ held)) (rest ++ more) (IsPermutation-append_right rest (item ∷ held) more queued))

@@ -1,5 +1,6 @@
 -- Lists in falling order stay so where an item is put in its place or the last one is taken.
-use Rattle.std.proofs.Common.{◌≡◌, ℕ, zero, suc, ◌+◌, ◌-◌, ◌<◌, ◌≤◌, Bool, true, false, cond, List, [], ◌∷◌, ◌++◌, length, get_or, insert, take_while, Option, Some, None, MatchOption, refl, sym, ◌∙◌, subst, arith}
+use Rattle.std.proofs.Common.{◌≡◌, ℕ, zero, suc, ◌+◌, ◌-◌, ◌<◌, ◌≤◌, Bool, true, false, cond, List, [], ◌∷◌, ◌++◌, length, get_or, insert, take_while, Option, Some, None}
+use Rattle.std.proofs.Common.{MatchOption, refl, sym, ◌∙◌, subst, arith}
 use Rattle.std.specs.List.{prefix_len, HoldsAt}
 use Rattle.std.specs.Borrow.{Bor}
 use Rattle.std.specs.declared.cmp.Ordering.{Ordering}

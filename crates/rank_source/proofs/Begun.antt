@@ -53,7 +53,8 @@ module _ (pages : PageMap) (limits : Limits) (r : RelationView) (at : ℕ) (tree
 
     -- a search that has given nothing has taken nothing
     pub begun : {cmp : Block → Block → Ordering} (held : List (Item Block)) (last : Option Hit) (counts : Counts) → last ≡ None → IsCounted {N = Block} [] counts
-        → (MeetsLaws (rank_meaning (ranking_in pages r.schema r.file at tree goal ceiling)) → Stands cmp (rank_meaning (ranking_in pages r.schema r.file at tree goal ceiling)) held last []) → (p : Plan) → Ranks p column goal ceiling
+        → (MeetsLaws (rank_meaning (ranking_in pages r.schema r.file at tree goal ceiling)) → Stands cmp (rank_meaning (ranking_in pages r.schema r.file at tree goal ceiling)) held last [])
+        → (p : Plan) → Ranks p column goal ceiling
         → HasTaken cmp (ranking_in pages r.schema r.file at tree goal ceiling) held last counts d p nothing_taken
     begun held last counts none counted search p h = record {
       ranks = ranks_column p h;
@@ -66,17 +67,20 @@ module _ (pages : PageMap) (limits : Limits) (r : RelationView) (at : ℕ) (tree
     }
 
 -- a hierarchy that was made of these has the ranking of these
-pub made_ranking : (relation : RelationView) (at : ℕ) (tree : Pmr) (goal : Goal) (ceiling : Option ℕ) (made : RankTree FileShapes) → made.shapes.schema ≡ relation.schema → made.shapes.file ≡ relation.file → made.shapes.column ≡ at
+pub made_ranking : (relation : RelationView) (at : ℕ) (tree : Pmr) (goal : Goal) (ceiling : Option ℕ) (made : RankTree FileShapes) → made.shapes.schema ≡ relation.schema
+    → made.shapes.file ≡ relation.file → made.shapes.column ≡ at
     → made.pmr ≡ tree → made.goal ≡ goal → made.ceiling ≡ ceiling → (m : PageMap) → ranking_of made m ≡ ranking_in m relation.schema relation.file at tree goal ceiling
 made_ranking relation at tree goal ceiling made s f a t g c m i = ranking_in m (s i) (f i) (a i) (t i) (g i) (c i)
 
 -- the search that was made has its ceiling, and stands where nothing was taken, over all pages
 pub begun_over : (relation : RelationView) (at : ℕ) (tree : Pmr) (goal : Goal) (ceiling : Option ℕ) → IsGoalInClosedPlane goal → (made kept : RankTree FileShapes) → kept ≡ made
-    → ((m : PageMap) → ranking_of made m ≡ ranking_in m relation.schema relation.file at tree goal ceiling) → (held : List (Item Block)) (last : Option Hit) (counts : Counts) → last ≡ None → IsCounted {N = Block} [] counts
+    → ((m : PageMap) → ranking_of made m ≡ ranking_in m relation.schema relation.file at tree goal ceiling)
+    → (held : List (Item Block)) (last : Option Hit) (counts : Counts) → last ≡ None → IsCounted {N = Block} [] counts
     → ((m : PageMap) → MeetsLaws (rank_meaning (ranking_of made m)) → Stands by_code (rank_meaning (ranking_of made m)) held last [])
     → (ceiled : Type 0) → ceiled → Begins (λ m d p t. ceiled × HasTaken by_code (ranking_of kept m) held last counts d p t) relation at tree goal ceiling
 begun_over relation at tree goal ceiling plane made kept still same held last counts none counted stands ceiled has_it is m limits small h d column of p r =
-    let search : MeetsLaws (rank_meaning (ranking_in m relation.schema relation.file at tree goal ceiling)) → Stands by_code (rank_meaning (ranking_in m relation.schema relation.file at tree goal ceiling)) held last [] =
+    let search : MeetsLaws (rank_meaning (ranking_in m relation.schema relation.file at tree goal ceiling))
+    → Stands by_code (rank_meaning (ranking_in m relation.schema relation.file at tree goal ceiling)) held last [] =
     subst (λ (x : Ranking). MeetsLaws (rank_meaning x) → Stands by_code (rank_meaning x) held last []) (same m) (stands m) in (
       has_it,
       subst (λ (x : RankTree FileShapes). HasTaken by_code (ranking_of x m) held last counts d p nothing_taken) (sym still)

@@ -1,5 +1,6 @@
 -- What was taken within a reach, and all else that lies within it: so much more may still be counted there.
-use Rattle.std.proofs.Common.{◌≡◌, ◌+◌, ◌≤◌, Bool, true, false, cond, not, List, [], ◌∷◌, ◌++◌, map, length, length-append, All, Contains, filter, flat_map, ⊎_elim, refl, sym, ap, ap₂, ◌∙◌, subst, arith, append-nil, true≢false, Ordering, Less, Equal, Greater}
+use Rattle.std.proofs.Common.{◌≡◌, ◌+◌, ◌≤◌, Bool, true, false, cond, not, List, [], ◌∷◌, ◌++◌, map, length, length-append, All, Contains, filter, flat_map, ⊎_elim, refl}
+use Rattle.std.proofs.Common.{sym, ap, ap₂, ◌∙◌, subst, arith, append-nil, true≢false, Ordering, Less, Equal, Greater}
 use Rattle.std.specs.Ordering.{is_eq}
 use Rattle.std.specs.Cmp.{IsTotalOrder, tied_back}
 use Rattle.std.proofs.lemmas.List.Elements.{All-contains, All-filter, filter-append, Contains-append_left}
@@ -13,7 +14,8 @@ use Rattle.best_first.specs.Hierarchy.{Meaning, MeetsLaws, HasGap, nodes_within,
 use Rattle.best_first.specs.Order.{item_cmp, item_total}
 use Rattle.best_first.specs.Frontier.{Tracks, HasAlike, IsListed, IsOnce, pending}
 use Rattle.best_first.specs.Visits.{Reached}
-use Rattle.best_first.proofs.Bags.{here, there, cons_cases, none, All-by, All-left, in_filter, from_filter, in_flat_map, from_flat_map, filter_all, filter_both, IsPermutation-same, IsPermutation-filter}
+use Rattle.best_first.proofs.Bags.{here, there, cons_cases, none, All-by, All-left, in_filter, from_filter, in_flat_map, from_flat_map, filter_all, filter_both}
+use Rattle.best_first.proofs.Bags.{IsPermutation-same, IsPermutation-filter}
 use Rattle.best_first.proofs.Gaps.{reach_same}
 use Rattle.best_first.proofs.Alikes.{alike_cmp, alike_gaps}
 use Rattle.best_first.proofs.Trees.{node_item, rough_item, rough_among}
@@ -163,7 +165,8 @@ module _ {N : Type 0} {cmp : N → N → Ordering} (o : IsTotalOrder cmp) (m : M
     nodes = IsPermutation-same (nodes_within m test) (nodes_of filling) (sym filling_nodes);
     roughs = subst (All (HasAlike cmp (roughs_within m test))) (sym filling_roughs) (All-by (HasAlike cmp (roughs_within m test)) some_roughs (λ x at.
         alike_here cmp o (roughs_within m test) x (from_once o (roughs_within m test) x at)));
-    all_roughs = subst (λ l. All (HasAlike cmp l) (roughs_within m test)) (sym filling_roughs) (All-by (HasAlike cmp some_roughs) (roughs_within m test) (λ x at. in_once o (roughs_within m test) x at));
+    all_roughs = subst (λ l. All (HasAlike cmp l) (roughs_within m test)) (sym filling_roughs)
+        (All-by (HasAlike cmp some_roughs) (roughs_within m test) (λ x at. in_once o (roughs_within m test) x at));
     once = subst (IsOnce cmp) (sym filling_roughs) (is_once o (roughs_within m test));
   }
 
@@ -210,5 +213,6 @@ module _ {N : Type 0} {cmp : N → N → Ordering} (o : IsTotalOrder cmp) (m : M
       full = filling;
       reached = filling_reached;
       nodes = subst (λ l. length (nodes_of done) ≤ length l) (sym filling_nodes) fewer_nodes;
-      roughs = subst (λ l. length (roughs_of done) ≤ length l) (sym filling_roughs) (no_more (λ (x y : Item N). item_cmp cmp x y ≡ Equal) (roughs_of done) some_roughs (once_own o (roughs_of done) h.once) rough_in);
+      roughs = subst (λ l. length (roughs_of done) ≤ length l) (sym filling_roughs)
+          (no_more (λ (x y : Item N). item_cmp cmp x y ≡ Equal) (roughs_of done) some_roughs (once_own o (roughs_of done) h.once) rough_in);
     }

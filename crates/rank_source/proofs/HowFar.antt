@@ -52,7 +52,8 @@ few_none xs none = subst (λ l. length l ≤ 1) (sym none) (omega arith)
 
 -- the order of rows is total
 pub hits_total : IsTotalOrder hit_cmp
-hits_total = then_total (on_total (λ (hit : Hit). hit.gap) value_cmp_total) (on_total (λ (hit : Hit). (hit.left, hit.right)) (then_total (on_total (λ (ids : ℕ × ℕ). ids.0) nat_cmp_total) (on_total (λ (ids : ℕ × ℕ). ids.1) nat_cmp_total)))
+hits_total = then_total (on_total (λ (hit : Hit). hit.gap) value_cmp_total)
+    (on_total (λ (hit : Hit). (hit.left, hit.right)) (then_total (on_total (λ (ids : ℕ × ℕ). ids.0) nat_cmp_total) (on_total (λ (ids : ℕ × ℕ). ids.1) nat_cmp_total)))
 
 module _ {N : Type 0} (m : Meaning N) where
   -- up to a row of the list
@@ -110,7 +111,11 @@ module _ {N : Type 0} (m : Meaning N) where
         let same_items : all ≡ all ++ attempt = sym (append-nil all) ∙ ap (λ l. all ++ l) (sym bounds.settled) in
         subst (λ o. CallReach cmp m (reach_from m.ceiling o) (Ok (Some hit)) attempt all) (sym here)
         (record {
-          far = record { test = up_to hit.gap; goes = row_goes found hit same.0 (next_inside last hit next); near = subst (λ l. All (λ item. up_to hit.gap (gap_of item) ≡ true) l) same_items (all_up_to hit all bounds.near) };
+          far = record {
+            test = up_to hit.gap;
+            goes = row_goes found hit same.0 (next_inside last hit next);
+            near = subst (λ l. All (λ item. up_to hit.gap (gap_of item) ≡ true) l) same_items (all_up_to hit all bounds.near);
+          };
           few = few_none attempt bounds.settled;
           exact = (bounds.settled, bounds.reached);
         })
@@ -118,7 +123,11 @@ module _ {N : Type 0} (m : Meaning N) where
         let same_items : all ≡ all ++ attempt = sym (append-nil all) ∙ ap (λ l. all ++ l) (sym bounds.settled) in
         subst (λ o. CallReach {T = Option Hit} cmp m (reach_from m.ceiling o) (Ok None) attempt all) (sym (ended over))
         (record {
-          far = record { test = within m.ceiling; goes = ceiling_goes; near = subst (λ l. All (λ item. within m.ceiling (gap_of item) ≡ true) l) same_items (All-left (λ item. within m.ceiling (gap_of item) ≡ true) all held h.tracks.inside) };
+          far = record {
+            test = within m.ceiling;
+            goes = ceiling_goes;
+            near = subst (λ l. All (λ item. within m.ceiling (gap_of item) ≡ true) l) same_items (All-left (λ item. within m.ceiling (gap_of item) ≡ true) all held h.tracks.inside);
+          };
           few = few_none attempt bounds.settled;
           exact = (bounds.settled, bounds.reached);
         })

@@ -46,7 +46,8 @@ module _ (d : Database) (p : Plan) (t : Taken) (ids : Found → List ℕ) (rows 
       ap (λ b. cond b (record { rows = t.rows + 1; is_ended = false }) (record { rows = t.rows; is_ended = true })) (le-ltb t.rows (length (source plan_measure d p)) past)
 
   -- the reach of what is taken then
-  pub next_reach : is_saturated d (innermost p) (source plan_measure d p) ≡ false → (o : Option Found) → element rows t.rows ≡ o → reach plan_measure d p (next_taken d p t) ≡ reach_from (ceiling_of (innermost p)) o
+  pub next_reach : is_saturated d (innermost p) (source plan_measure d p) ≡ false → (o : Option Found) → element rows t.rows ≡ o
+      → reach plan_measure d p (next_taken d p t) ≡ reach_from (ceiling_of (innermost p)) o
   next_reach open_ (Some found) e =
       ap (reach plan_measure d p) (more_taken found e)
       ∙ ap (λ l. reach_of_last (take (t.rows + 1) l)) is

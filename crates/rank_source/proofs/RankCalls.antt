@@ -1,5 +1,6 @@
 -- A call of a ranking as a source: what it gives, what it visits, and where the source stands then.
-use Rattle.std.proofs.Common.{◌≡◌, ⊎_elim, ℕ, suc, ◌+◌, ◌-◌, ◌≤◌, min, true, false, true≢false, List, [], ◌∷◌, ◌++◌, map, length, length-append, All, Contains, Option, None, Some, option_map, Result, Ok, Err, OnOk, refl, sym, ap, ◌∙◌, subst, arith, Ordering}
+use Rattle.std.proofs.Common.{◌≡◌, ⊎_elim, ℕ, suc, ◌+◌, ◌-◌, ◌≤◌, min, true, false, true≢false, List, [], ◌∷◌, ◌++◌, map, length, length-append, All, Contains, Option}
+use Rattle.std.proofs.Common.{None, Some, option_map, Result, Ok, Err, OnOk, refl, sym, ap, ◌∙◌, subst, arith, Ordering}
 use Rattle.std.proofs.Math.Numerals.{add-one}
 use Rattle.std.specs.Cmp.{IsTotalOrder}
 use Rattle.std.proofs.lemmas.List.{map-append, length-map}
@@ -128,7 +129,8 @@ module _ {cmp : Block → Block → Ordering} (o : IsTotalOrder cmp) (r : Rankin
 
       -- it lies within the reach, with what was attempted
       reached : CallReach cmp m to result call.attempt all
-      reached = subst (λ x. CallReach cmp m x result call.attempt all) (sym to_is) (far_after m rows gives t.rows old.last h.rows result new.held new.last call.attempt all next call.makes.stands call.bounds)
+      reached = subst (λ x. CallReach cmp m x result call.attempt all) (sym to_is)
+          (far_after m rows gives t.rows old.last h.rows result new.held new.last call.attempt all next call.makes.stands call.bounds)
 
       taken_far : HowFar m to all
       taken_far = record {
@@ -228,7 +230,8 @@ module _ {cmp : Block → Block → Ordering} (o : IsTotalOrder cmp) (r : Rankin
           settled (Ok a) just = ap (map (visit_of number)) just.0
           settled (Err fault) just = tt
 
-          exactly : (answer : Result (Option Answer) PageFault) → OnOk answer ((call.attempt ≡ []) × Reached cmp m reached.far.test all) → OnOk answer (counts_by new.counts ≡ counts_taken d p (next_taken d p t))
+          exactly : (answer : Result (Option Answer) PageFault) → OnOk answer ((call.attempt ≡ []) × Reached cmp m reached.far.test all)
+              → OnOk answer (counts_by new.counts ≡ counts_taken d p (next_taken d p t))
           exactly (Ok a) just = counted_exactly just.1
           exactly (Err fault) just = tt
 

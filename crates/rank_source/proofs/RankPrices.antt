@@ -103,9 +103,11 @@ search_costs number h r knows d p t old new result answer k makes =
     none_left (Err fault) = refl
 
 -- over whatever pages the disk tells, by a search that has its ceiling
-pub costs_over : (number : ℕ) (pages : Option PageMap) (ceiled : Type 0) (tree : RankTree FileShapes) (old new : SearchState Block) (result : Result (Option Hit) PageFault) (answer : Result (Option Answer) PageFault)
+pub costs_over : (number : ℕ) (pages : Option PageMap) (ceiled : Type 0) (tree : RankTree FileShapes) (old new : SearchState Block)
+    (result : Result (Option Hit) PageFault) (answer : Result (Option Answer) PageFault)
     → IfSome pages (λ m. MakesVisits by_code (rank_meaning (ranking_of tree m)) (visit_of number) old new result)
-    → IfSome pages (λ m. (d : Database) (p : Plan) (t : Taken) → ceiled × HasTaken by_code (ranking_of tree m) old.held old.last old.counts d p t → Costs (heights_of tree) 0 0 0 d p old.desk new.desk answer)
+    → IfSome pages (λ m. (d : Database) (p : Plan) (t : Taken) → ceiled × HasTaken by_code (ranking_of tree m) old.held old.last old.counts d p t
+    → Costs (heights_of tree) 0 0 0 d p old.desk new.desk answer)
 costs_over number None ceiled tree old new result answer makes = tt
 costs_over number (Some m) ceiled tree old new result answer makes =
     λ d p t k. search_costs number (heights_of tree) (ranking_of tree m) (refl, refl) d p t old new result answer k.1 makes

@@ -1,5 +1,6 @@
 -- What a ranking visits within a reach is a place of the tree or a rough item of a leaf there, as the model tells.
-use Rattle.std.proofs.Common.{◌≡◌, ⊎_elim, ℕ, suc, Bool, true, false, cond, true≢false, List, [], ◌∷◌, ◌++◌, map, length, filter_map, All, Contains, Option, Some, option_map, refl, sym, ap, ◌∙◌, subst, arith, Ordering}
+use Rattle.std.proofs.Common.{◌≡◌, ⊎_elim, ℕ, suc, Bool, true, false, cond, true≢false, List, [], ◌∷◌, ◌++◌, map, length, filter_map, All, Contains, Option, Some}
+use Rattle.std.proofs.Common.{option_map, refl, sym, ap, ◌∙◌, subst, arith, Ordering}
 use Rattle.std.proofs.lemmas.List.Elements.{All-contains, All-head, All-tail, Contains-append_left, Contains-append_right, Contains-append_cases}
 use Rattle.exact_frac.specs.declared.frac.Frac.{Frac}
 use Rattle.sand_base.specs.Plane.{IsShapeInClosedPlane}
@@ -51,10 +52,12 @@ pub visits_counted : (number : ℕ) (items : List (Item Block)) → All IsVisit 
 visits_counted number [] h = refl
 visits_counted number (Node g b ∷ items) h =
     ap (λ (c : Counts). count_of (visit_of number (Node g b)) plus c) (visits_counted number items (All-tail IsVisit (Node g b) items h))
-    ∙ counts_one (count_of (visit_of number (Node g b)) plus record { blocks = length (nodes_of items); pairs = 0; geometries = length (roughs_of items) }) (record { blocks = suc (length (nodes_of items)); pairs = 0; geometries = length (roughs_of items) }) (omega arith) (omega arith) (omega arith)
+    ∙ counts_one (count_of (visit_of number (Node g b)) plus record { blocks = length (nodes_of items); pairs = 0; geometries = length (roughs_of items) })
+    (record { blocks = suc (length (nodes_of items)); pairs = 0; geometries = length (roughs_of items) }) (omega arith) (omega arith) (omega arith)
 visits_counted number (Rough g l s ∷ items) h =
     ap (λ (c : Counts). count_of (visit_of number (Rough g l s)) plus c) (visits_counted number items (All-tail IsVisit (Rough g l s) items h))
-    ∙ counts_one (count_of (visit_of number (Rough g l s)) plus record { blocks = length (nodes_of items); pairs = 0; geometries = length (roughs_of items) }) (record { blocks = length (nodes_of items); pairs = 0; geometries = suc (length (roughs_of items)) }) (omega arith) (omega arith) (omega arith)
+    ∙ counts_one (count_of (visit_of number (Rough g l s)) plus record { blocks = length (nodes_of items); pairs = 0; geometries = length (roughs_of items) })
+    (record { blocks = length (nodes_of items); pairs = 0; geometries = suc (length (roughs_of items)) }) (omega arith) (omega arith) (omega arith)
 visits_counted number (Row g l s ∷ items) h = absurd (All-head IsVisit (Row g l s) items h)
 
 module _ (r : Ranking) (sound : IsSound r) (gap : Measure) (is : IsMeasure gap) (to : Reach) (test : Frac → Bool) (tells : IsTestOf to test) where
@@ -159,7 +162,8 @@ module _ (r : Ranking) (sound : IsSound r) (gap : Measure) (is : IsMeasure gap) 
         ⊎_elim (λ i. Contains-append_left (nodes_of done) (pending m held) b (node_among done g b i))
         (λ i.
         Contains-append_right (nodes_of done) (pending m held) b
-        (queued_pending m laws held g b i (All-contains (HasGap m) (done ++ held) (Node g b) h.gaps at) (All-contains (λ item. within m.ceiling (gap_of item) ≡ true) (done ++ held) (Node g b) h.inside at)))
+        (queued_pending m laws held g b i (All-contains (HasGap m) (done ++ held) (Node g b) h.gaps at)
+        (All-contains (λ item. within m.ceiling (gap_of item) ≡ true) (done ++ held) (Node g b) h.inside at)))
         (Contains-append_cases done held (Node g b) at) in
         (split_node m laws (nodes_of done) (pending m held) h.split b there).0
 

@@ -32,9 +32,11 @@ module _ (gap : Measure) (goal : Goal) (shapes : List (ℕ × Shape)) where
   items_of leaf = filter_map (single_item gap goal shapes leaf.0) leaf.1
 
   -- and those of four lists of leaves
-  flat_four : (ws xs ys zs : List (Block × List ℕ)) → length (flat_map items_of (ws ++ (xs ++ (ys ++ zs)))) ≡ length (flat_map items_of ws) + (length (flat_map items_of xs) + (length (flat_map items_of ys) + length (flat_map items_of zs)))
+  flat_four : (ws xs ys zs : List (Block × List ℕ)) → length (flat_map items_of (ws ++ (xs ++ (ys ++ zs))))
+      ≡ length (flat_map items_of ws) + (length (flat_map items_of xs) + (length (flat_map items_of ys) + length (flat_map items_of zs)))
   flat_four ws xs ys zs =
-      ap length (flat_map-append items_of ws (xs ++ (ys ++ zs)) ∙ ap (λ l. flat_map items_of ws ++ l) (flat_map-append items_of xs (ys ++ zs) ∙ ap (λ l. flat_map items_of xs ++ l) (flat_map-append items_of ys zs)))
+      ap length (flat_map-append items_of ws (xs ++ (ys ++ zs))
+      ∙ ap (λ l. flat_map items_of ws ++ l) (flat_map-append items_of xs (ys ++ zs) ∙ ap (λ l. flat_map items_of xs ++ l) (flat_map-append items_of ys zs)))
       ∙ long_four (flat_map items_of ws) (flat_map items_of xs) (flat_map items_of ys) (flat_map items_of zs)
 
   -- no more items than listings

@@ -6,8 +6,8 @@ pub mod Stepped
 pub mod RowSteps
 -- texts behind texts
 pub mod Texts
--- texts of lines none of which is a refusal
-pub mod PlainTexts
+-- lines of rows, counted
+pub mod CountedLines
 -- what was printed so far
 pub mod SoFar
 -- the same where the disk tells its pages

@@ -1,5 +1,6 @@
 -- The rows that were printed so far, and the step that comes next.
-use Rattle.std.proofs.Common.{◌≡◌, inl, inr, ℕ, zero, suc, ◌+◌, ◌-◌, ◌<◌, ◌≤◌, min, true, false, true≢false, List, [], ◌∷◌, ◌++◌, Option, None, Some, Result, Ok, Err, refl, sym, ap, ◌∙◌, subst, arith, append_assoc, append-nil, length-append}
+use Rattle.std.proofs.Common.{◌≡◌, inl, inr, ℕ, zero, suc, ◌+◌, ◌-◌, ◌<◌, ◌≤◌, min, true, false, true≢false, List, [], ◌∷◌, ◌++◌, Option, None, Some, Result, Ok, Err}
+use Rattle.std.proofs.Common.{refl, sym, ap, ◌∙◌, subst, arith, append_assoc, append-nil, length-append}
 use Rattle.std.specs.Prelude.{All}
 use Rattle.std.proofs.lemmas.Bool.{lt-ltb, le-ltb}
 use Rattle.std.proofs.lemmas.List.Elements.{All-nil, All-append, All-contains}
@@ -40,7 +41,10 @@ use Rattle.row_output.specs.Printing.{MakesSteps, PrintsRows}
 use Rattle.row_output.specs.Stepping.{PrintsStep, PrintsNext}
 use Rattle.row_output.specs.declared.next.Next.TheVariants as next
 use Rattle.row_output.specs.declared.rows.Printed.TheVariants.{Rows, Refused}
-use Rattle.row_output.proofs.RowSteps.{RowSteps, is_row, gives_one, rows_length, rows_given, rows_database, rows_plan, rows_more, rows_then, rows_all, rows_last, same_last, same_row, end_no_row, none_last}
+use Rattle.row_output.proofs.RowSteps.{RowSteps, is_row, gives_one, rows_length, rows_given, rows_database, rows_plan, rows_more, rows_then, rows_all, rows_last}
+use Rattle.row_output.proofs.RowSteps.{same_last, same_row, end_no_row, none_last}
+use Rattle.sand_model.specs.PlainLines.{IsPlainRow, IsPlainLine}
+use Rattle.row_output.proofs.CountedLines.{plain_answer, plain_behind}
 use Rattle.row_output.proofs.Texts.{writes_none, writes_both, writes_prefix, writes_stay, cut_in_last}
 
 -- ---- visits
@@ -79,6 +83,7 @@ pub record SoFar (pages : PageMap) (c : Cursor) (rows : ℕ) (old now : DeskStat
   pub after : Cursor
   pub stands : Stands after
   pub steps : RowSteps rows c lines after
+  pub plain : All IsPlainLine lines
   pub writes : Writes (IsText lines) before at
   pub completed : List Visit
   pub log : now.visits ≡ old.visits ++ completed
@@ -95,6 +100,7 @@ so_far_none pages c desk before Stands stands = record {
   after = c;
   stands = stands;
   steps = (refl, refl);
+  plain = All-nil IsPlainLine;
   writes = writes_none before;
   completed = [];
   log = sym (append-nil desk.visits);
@@ -196,7 +202,8 @@ module _ (pages : PageMap) (c : Cursor) (rows : ℕ) (old mid new : DeskState) (
 
   -- ---- the next step gave a row
 
-  module _ (row : PlanRow) (answer : Result (Option Answer) PageFault) (st : CursorStep pages s.after mid new answer After) (is : step_of plan_measure s.after ≡ (line.Row row, st.after)) (none : st.visits.attempted ≡ []) where
+  module _ (row : PlanRow) (answer : Result (Option Answer) PageFault) (st : CursorStep pages s.after mid new answer After)
+      (is : step_of plan_measure s.after ≡ (line.Row row, st.after)) (none : st.visits.attempted ≡ []) where
     abbrev lines_row : List OutputLine
     lines_row = s.lines ++ line.Row row ∷ []
 
@@ -218,12 +225,13 @@ module _ (pages : PageMap) (c : Cursor) (rows : ℕ) (old mid new : DeskState) (
     bare : all_noted answer st ≡ all_completed answer st
     bare = ap (λ l. all_completed answer st ++ l) none ∙ append-nil (all_completed answer st)
 
-    more_row : Writes (IsText (line.Row row ∷ [])) at now → SoFar pages c (rows + 1) old new before now After
-    more_row w = record {
+    more_row : IsPlainRow row → Writes (IsText (line.Row row ∷ [])) at now → SoFar pages c (rows + 1) old new before now After
+    more_row k w = record {
       lines = lines_row;
       after = st.after;
       stands = st.at;
       steps = steps_row;
+      plain = plain_behind s.lines (line.Row row) s.plain k;
       writes = writes_both s.lines (line.Row row ∷ []) before at now s.writes w;
       completed = all_completed answer st;
       log = all_log answer st ∙ ap (λ l. old.visits ++ l) bare;
@@ -243,13 +251,14 @@ module _ (pages : PageMap) (c : Cursor) (rows : ℕ) (old mid new : DeskState) (
       taken = refl;
     }
 
-    broke_row : (count : ℕ) (failed : Failed) → rows < count → WritesPrefix (IsText (line.Row row ∷ [])) at now → PrintsRows pages c count old new before now (Err failed) After
-    broke_row count failed few w = record {
+    broke_row : IsPlainRow row → (count : ℕ) (failed : Failed) → rows < count → WritesPrefix (IsText (line.Row row ∷ [])) at now → PrintsRows pages c count old new before now (Err failed) After
+    broke_row k count failed few w = record {
       lines = lines_row;
       after = st.after;
       last = has_taken plan_measure c.database c.plan st.after.given false;
       at = st.at;
       gives = (rows + 1, rows + 1, false, omega (arith, few), makes_row);
+      plain = plain_behind s.lines (line.Row row) s.plain k;
       writes = writes_prefix s.lines (line.Row row ∷ []) before at now s.writes w;
       cuts = cut_in_last s.lines (line.Row row) before at now s.writes w;
       completed = all_completed answer st;
@@ -265,7 +274,8 @@ module _ (pages : PageMap) (c : Cursor) (rows : ℕ) (old mid new : DeskState) (
 
   -- ---- it gave the end
 
-  module _ (answer : Result (Option Answer) PageFault) (st : CursorStep pages s.after mid new answer After) (is : step_of plan_measure s.after ≡ (line.End, st.after)) (none : st.visits.attempted ≡ []) where
+  module _ (answer : Result (Option Answer) PageFault) (st : CursorStep pages s.after mid new answer After) (is : step_of plan_measure s.after ≡ (line.End, st.after))
+      (none : st.visits.attempted ≡ []) where
     abbrev lines_end : List OutputLine
     lines_end = s.lines ++ line.End ∷ []
 
@@ -301,6 +311,7 @@ module _ (pages : PageMap) (c : Cursor) (rows : ℕ) (old mid new : DeskState) (
       last = has_taken plan_measure c.database c.plan st.after.given true;
       at = st.at;
       gives = (omega (arith, few), sym (lt-ltb rows count few), makes_end count few);
+      plain = plain_behind s.lines line.End s.plain tt;
       writes = writes_both s.lines (line.End ∷ []) before at now s.writes w;
       cuts = tt;
       completed = all_completed answer st;
@@ -321,6 +332,7 @@ module _ (pages : PageMap) (c : Cursor) (rows : ℕ) (old mid new : DeskState) (
       last = has_taken plan_measure c.database c.plan st.after.given true;
       at = st.at;
       gives = (count, rows, true, omega arith, makes_end count few);
+      plain = plain_behind s.lines line.End s.plain tt;
       writes = writes_prefix s.lines (line.End ∷ []) before at now s.writes w;
       cuts = cut_in_last s.lines line.End before at now s.writes w;
       completed = all_completed answer st;
@@ -350,6 +362,7 @@ module _ (pages : PageMap) (c : Cursor) (rows : ℕ) (old mid new : DeskState) (
       few = few;
       taken = refl;
     };
+    plain = s.plain;
     writes = writes_stay s.lines before at now s.writes stays;
     cuts = tt;
     completed = all_completed (Err fault) st;
@@ -383,7 +396,7 @@ module _ (pages : PageMap) (c : Cursor) (rows : ℕ) (old mid new : DeskState) (
   prints_more n = go n.answer n.step n.prints
     where
       go : (answer : Result (Option Answer) PageFault) → CursorStep pages s.after mid new answer After → PrintsStep answer (Ok next.Row) at now → SoFar pages c (rows + 1) old new before now After
-      go (Ok (Some a)) st w = more_row (row_of a) (Ok (Some a)) st st.gives st.visits.settled w
+      go (Ok (Some a)) st w = more_row (row_of a) (Ok (Some a)) st st.gives st.visits.settled (plain_answer a) w
       go (Ok None) st w = absurd w
       go (Err fault) st w = absurd w
 
@@ -409,8 +422,9 @@ module _ (pages : PageMap) (c : Cursor) (rows : ℕ) (old mid new : DeskState) (
   pub prints_failed : (count : ℕ) (failed : Failed) → rows < count → PrintsNext pages s.after mid new at now (Err failed) After → PrintsRows pages c count old new before now (Err failed) After
   prints_failed count failed few n = go n.answer n.step n.prints
     where
-      go : (answer : Result (Option Answer) PageFault) → CursorStep pages s.after mid new answer After → PrintsStep answer (Err failed) at now → PrintsRows pages c count old new before now (Err failed) After
-      go (Ok (Some a)) st w = broke_row (row_of a) (Ok (Some a)) st st.gives st.visits.settled count failed few w
+      go : (answer : Result (Option Answer) PageFault) → CursorStep pages s.after mid new answer After → PrintsStep answer (Err failed) at now
+          → PrintsRows pages c count old new before now (Err failed) After
+      go (Ok (Some a)) st w = broke_row (row_of a) (Ok (Some a)) st st.gives st.visits.settled (plain_answer a) count failed few w
       go (Ok None) st w = broke_end (Ok None) st st.gives st.visits.settled count failed few w
       go (Err other) st w = absurd w
 
@@ -432,6 +446,7 @@ prints_all pages c rows count old now before at Stands same s = record {
       taken = refl;
     },
   );
+  plain = s.plain;
   writes = s.writes;
   cuts = tt;
   completed = s.completed;

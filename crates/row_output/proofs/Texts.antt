@@ -41,7 +41,8 @@ pub writes_stay : (xs : List OutputLine) (before mid now : List ℕ → Type 0) 
 writes_stay xs before mid now a stays = record { text = a.text; holds = a.holds; written = λ bytes taken. stays (bytes ++ a.text) (a.written bytes taken) }
 
 -- lines and then a prefix of one more
-pub cut_in_last : (xs : List OutputLine) (last : OutputLine) (before mid now : List ℕ → Type 0) → Writes (IsText xs) before mid → WritesPrefix (IsText (last ∷ [])) mid now → IsCutInLast (xs ++ last ∷ []) before now
+pub cut_in_last : (xs : List OutputLine) (last : OutputLine) (before mid now : List ℕ → Type 0) → Writes (IsText xs) before mid
+    → WritesPrefix (IsText (last ∷ [])) mid now → IsCutInLast (xs ++ last ∷ []) before now
 cut_in_last xs last before mid now a b = record {
   front = xs;
   last = last;

@@ -32,7 +32,8 @@ module _ {S T : Type 0} (At : S → Taking) (Stands : T → Standing) (closed : 
   pub told_none : (told : Option PageMap) (first : RowCursor S T) (desk : DeskState) (before : List ℕ → Type 0) → IfSome told (SoFarPaid first first 0 desk desk before before)
   told_none None first desk before = tt
   told_none (Some pages) first desk before =
-      λ c k. so_far_none pages c desk before (IsAtPaid At Stands closed q seen first first pages c k desk desk (left_at closed q first.operator pages)) (at_none At Stands closed q seen pages first c k desk)
+      λ c k. so_far_none pages c desk before (IsAtPaid At Stands closed q seen first first pages c k desk desk (left_at closed q first.operator pages))
+      (at_none At Stands closed q seen pages first c k desk)
 
   -- the cursor stands for the next step
   pub told_stands : (told now : Option PageMap) (first cursor : RowCursor S T) (rows : ℕ) (old mid : DeskState) (before at : List ℕ → Type 0) → now ≡ told
@@ -40,7 +41,8 @@ module _ {S T : Type 0} (At : S → Taking) (Stands : T → Standing) (closed : 
       → IfSome now (λ pages. (c : Cursor) × IsAt At Stands closed seen cursor pages c)
   told_stands told now first cursor rows old mid before at same stands so_far =
       subst (λ m. IfSome m (λ pages. (c : Cursor) × IsAt At Stands closed seen cursor pages c)) (sym same)
-      (both_told told (λ pages. (c : Cursor) × IsAt At Stands closed seen first pages c) (SoFarPaid first cursor rows old mid before at) (λ pages. (c : Cursor) × IsAt At Stands closed seen cursor pages c)
+      (both_told told (λ pages. (c : Cursor) × IsAt At Stands closed seen first pages c) (SoFarPaid first cursor rows old mid before at)
+      (λ pages. (c : Cursor) × IsAt At Stands closed seen cursor pages c)
       (λ pages k h. ((h k.0 k.1).after, (h k.0 k.1).stands.stands)) stands so_far)
 
   -- all that were asked
@@ -87,20 +89,23 @@ module _ {S T : Type 0} (At : S → Taking) (Stands : T → Standing) (closed : 
     told_more is =
         after_told (Ok next.Row) (SoFarPaid first cursor' (rows + 1) old new before then) is
         (λ pages both c k. let b = both c k in
-        prints_more pages c rows old mid new before at then (IsAtPaid At Stands closed q seen first cursor pages c k old mid (left_at closed q cursor.operator pages)) (After (Ok next.Row) pages c k) b.0 b.1)
+        prints_more pages c rows old mid new before at then (IsAtPaid At Stands closed q seen first cursor pages c k old mid (left_at closed q cursor.operator pages))
+        (After (Ok next.Row) pages c k) b.0 b.1)
 
     pub told_end : (count : ℕ) → rows < count → result ≡ Ok next.End → IfSome told (PrintsRowsPaid At Stands closed q seen first cursor' count old new before then (Ok (Rows rows true)))
     told_end count few is =
         after_told (Ok next.End) (PrintsRowsPaid At Stands closed q seen first cursor' count old new before then (Ok (Rows rows true))) is
         (λ pages both c k. let b = both c k in
-        prints_end pages c rows old mid new before at then (IsAtPaid At Stands closed q seen first cursor pages c k old mid (left_at closed q cursor.operator pages)) (After (Ok next.End) pages c k) b.0 count few b.1)
+        prints_end pages c rows old mid new before at then (IsAtPaid At Stands closed q seen first cursor pages c k old mid (left_at closed q cursor.operator pages))
+        (After (Ok next.End) pages c k) b.0 count few b.1)
 
     pub told_refused : (count : ℕ) (fault : PageFault) → rows < count → result ≡ Ok (next.Refused fault)
         → IfSome told (PrintsRowsPaid At Stands closed q seen first cursor' count old new before then (Ok (Refused rows fault)))
     told_refused count fault few is =
         after_told (Ok (next.Refused fault)) (PrintsRowsPaid At Stands closed q seen first cursor' count old new before then (Ok (Refused rows fault))) is
         (λ pages both c k. let b = both c k in
-        prints_refused pages c rows old mid new before at then (IsAtPaid At Stands closed q seen first cursor pages c k old mid (left_at closed q cursor.operator pages)) (After (Ok (next.Refused fault)) pages c k)
+        prints_refused pages c rows old mid new before at then (IsAtPaid At Stands closed q seen first cursor pages c k old mid (left_at closed q cursor.operator pages))
+        (After (Ok (next.Refused fault)) pages c k)
         b.0 count fault few b.1)
 
     pub told_failed : (count : ℕ) (failed : Failed) → rows < count → result ≡ Err failed

@@ -1,6 +1,5 @@
 -- Some steps of a cursor with their lines, written one after the other.
 use Rattle.std.specs.Prelude.{◌≡◌, ℕ, ◌+◌, ◌-◌, ◌<◌, ◌≤◌, min, Bool, true, false, cond, nat_lt, List, [], ◌∷◌, ◌++◌, length, All, Result, Ok, Err, OnOk, ⊤}
-use Rattle.std.specs.List.{list_any}
 use Rattle.sand_base.specs.Faults.{last_count}
 use Rattle.sand_base.specs.Streams.{Adds}
 use Rattle.sand_base.specs.declared.refusal.Refusal.{Refusal}
@@ -12,7 +11,8 @@ use Rattle.page_pool.specs.declared.fault.PageFault.{PageFault}
 use Rattle.sand_model.specs.Cursor as line
 use Rattle.sand_model.specs.Cursor.{Cursor, OutputLine, Steps}
 use Rattle.sand_model.specs.Operators.{PlanRow}
-use Rattle.sand_model.specs.OutputText.{IsText, is_refused}
+use Rattle.sand_model.specs.OutputText.{IsText}
+use Rattle.sand_model.specs.PlainLines.{AreLinesOfRows, IsPlainLine}
 use Rattle.sand_model.specs.Reach.{Counts, reach, reach_of_last}
 use Rattle.sand_model.specs.Taken.{Taken, has_taken, is_lazy}
 use Rattle.output_text.specs.Writing.{Writes, WritesPrefix}
@@ -30,15 +30,22 @@ use Rattle.plan_steps.specs.declared.operator.Operator.{Operator}
 use Rattle.row_output.specs.declared.rows.Printed.{Printed}
 use Rattle.row_output.specs.declared.rows.Printed.TheVariants.{Rows, Refused}
 
--- the text is that of lines none of which is a refusal
-abbrev pub IsPlainText : List ℕ → Type 0
-IsPlainText text = (lines : List OutputLine) × IsText lines text × (list_any is_refused lines ≡ false)
+-- the lines of so many rows, and the end behind them where this is said
+abbrev pub AreRowsThen : ℕ → Bool → List OutputLine → Type 0
+AreRowsThen rows false lines = AreLinesOfRows rows lines
+AreRowsThen rows true lines = (front : List OutputLine) × AreLinesOfRows rows front × (lines ≡ front ++ line.End ∷ [])
 
 -- the refusal of a page in what was printed
 abbrev pub refusal_in : Result Printed Failed → Result Unit PageFault
 refusal_in (Ok (Rows rows end)) = Ok tt
 refusal_in (Ok (Refused rows fault)) = Err fault
 refusal_in (Err failed) = Ok tt
+
+-- the lines that are printed, by what is answered, over any disk: `end` is true exactly where fewer rows are given than asked
+abbrev pub AreCountedLines : ℕ → Result Printed Failed → List OutputLine → Type 0
+AreCountedLines count (Ok (Rows rows end)) lines = (rows ≤ count) × (end ≡ nat_lt rows count) × AreRowsThen rows end lines
+AreCountedLines count (Ok (Refused rows fault)) lines = (rows < count) × AreLinesOfRows rows lines
+AreCountedLines count (Err failed) lines = (rows : ℕ) × (end : Bool) × (rows + cond end 1 0 ≤ count) × AreRowsThen rows end lines
 
 -- Up to so many steps were made with these lines, none of them refused: so many rows, and the end where this is said. The last step says how much of the source was taken.
 pub record MakesSteps (c : Cursor) (count rows : ℕ) (end : Bool) (lines : List OutputLine) (after : Cursor) (last : Taken) : Type 0 where
@@ -67,6 +74,10 @@ GivesLines c count (Err failed) lines after last =
 abbrev pub WritesLines : Result Printed Failed → List OutputLine → (List ℕ → Type 0) → (List ℕ → Type 0) → Type 0
 WritesLines (Ok printed) lines before now = Writes (IsText lines) before now
 WritesLines (Err failed) lines before now = WritesPrefix (IsText lines) before now
+
+-- over any disk, lines of rows were written, as many as is answered, or a prefix of them where the sink failed
+abbrev pub WritesCounted : ℕ → Result Printed Failed → (List ℕ → Type 0) → (List ℕ → Type 0) → Type 0
+WritesCounted count result before now = (lines : List OutputLine) × AreCountedLines count result lines × WritesLines result lines before now
 
 -- The lines before the last one were written whole, and of the last one a prefix: no row was taken before the lines of those before it were written.
 pub record IsCutInLast (lines : List OutputLine) (before now : List ℕ → Type 0) : Type 0 where
@@ -97,13 +108,16 @@ LieWithinLast pages c (Err failed) lines noted =
     is_lazy c.plan ≡ true → (front : List OutputLine) (row : PlanRow) → lines ≡ front ++ line.Row row ∷ []
     → All (LiesWithin plan_measure pages c.database c.plan (reach_of_last (row ∷ []))) noted
 
--- Some steps of the cursor of the model were made, and their lines were written. The visits were noted behind those before, those completed and after them, only where a step was refused, at most one that was attempted in vain; all lie within the reach of the last step, also of one that was refused, and the counts rise by just the completed ones.
+-- Some steps of the cursor of the model were made, and their lines were written. The visits were noted behind those before, those completed
+-- and after them, only where a step was refused, at most one that was attempted in vain; all lie within the reach of the last step, also of
+-- one that was refused, and the counts rise by just the completed ones.
 pub record PrintsRows (pages : PageMap) (c : Cursor) (count : ℕ) (old new : DeskState) (before now : List ℕ → Type 0) (result : Result Printed Failed) (At : Cursor → Type 0) : Type 0 where
   pub lines : List OutputLine
   pub after : Cursor
   pub last : Taken
   pub at : At after
   pub gives : GivesLines c count result lines after last
+  pub plain : All IsPlainLine lines
   pub writes : WritesLines result lines before now
   pub cuts : CutsLast result lines before now
   pub completed : List Visit

@@ -1,15 +1,15 @@
-ghost use Rattle.std.specs.Prelude.{◌≡◌, IfSome, OnErr, OnOk};
+ghost use Rattle.std.specs.Prelude.{◌≡◌, IfSome, Option, Result};
 ghost use Rattle.sand_base.specs.Faults.{HasCause};
-ghost use Rattle.output_text.specs.Writing.{Writes, WritesPrefix};
 ghost use Rattle.page_pool.specs.Causes.{HasPageCause};
 ghost use Rattle.page_pool.specs.Reads.{IsRead};
 ghost use Rattle.sand_model.specs.Cursor.{Cursor};
 ghost use Rattle.best_first.specs.Visits.{told_pages};
+ghost use Rattle.page_pool.specs.declared.fault.PageFault.{PageFault as Fault};
 ghost use Rattle.plan_rows.specs.Rows.{counts_of};
+ghost use Rattle.plan_rows.specs.declared.answer.Answer.{Answer};
 ghost use Rattle.plan_cursor.specs.Standing.{IsAt};
 ghost use Rattle.plan_steps.specs.Paying.{prices};
-ghost use Rattle.row_output.specs.Printing.{IsPlainText};
-ghost use Rattle.row_output.specs.Stepping.{PrintsNextPaid, refusal_of};
+ghost use Rattle.row_output.specs.Stepping.{PrintsNextPaid, PrintsStep, refusal_of};
 
 use crate::row::print_row;
 use output_text::{LineRef, write_line};
@@ -38,8 +38,7 @@ pub fn print_next<S: RowSource, T: RowStage, D: Disk, K: Sink>(
     ensures read { IsRead desk.old.pool desk.new.pool }
     ensures refused { HasPageCause desk.old.pool desk.new.pool (refusal_of result) }
     ensures cause { HasCause (K.faults out.old) (K.faults out.new) result }
-    ensures plain { OnOk result (Writes IsPlainText (K.took out.old) (K.took out.new)) }
-    ensures broken { OnErr result (WritesPrefix IsPlainText (K.took out.old) (K.took out.new)) }
+    ensures line { (answer : Result (Option Answer) Fault) × PrintsStep answer result (K.took out.old) (K.took out.new) }
     ensures step { IfSome (told_pages desk.old) (PrintsNextPaid S.At T.Stands T.closed (prices S.heights S.step_price S.owed T.price T.owed) (λ s. counts_of (S.seen s)) cursor.old cursor.new desk.old desk.new (K.took out.old) (K.took out.new) result) }
 {
     match cursor.next(alloc, desk) {

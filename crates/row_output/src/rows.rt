@@ -1,6 +1,5 @@
-ghost use Rattle.std.specs.Prelude.{◌≡◌, IfSome, OnErr, OnOk};
+ghost use Rattle.std.specs.Prelude.{◌≡◌, IfSome};
 ghost use Rattle.sand_base.specs.Faults.{HasCause};
-ghost use Rattle.output_text.specs.Writing.{Writes, WritesPrefix};
 ghost use Rattle.page_pool.specs.Causes.{HasPageCause};
 ghost use Rattle.page_pool.specs.Reads.{IsRead};
 ghost use Rattle.sand_model.specs.Cursor.{Cursor};
@@ -8,7 +7,7 @@ ghost use Rattle.best_first.specs.Visits.{told_pages};
 ghost use Rattle.plan_rows.specs.Rows.{counts_of};
 ghost use Rattle.plan_cursor.specs.Standing.{IsAt};
 ghost use Rattle.plan_steps.specs.Paying.{prices};
-ghost use Rattle.row_output.specs.Printing.{IsPlainText, PrintsRowsPaid, refusal_in};
+ghost use Rattle.row_output.specs.Printing.{PrintsRowsPaid, WritesCounted, refusal_in};
 
 use crate::next::{Next, print_next};
 use page_pool::{Desk, Disk, PageFault};
@@ -42,8 +41,7 @@ pub fn print_rows<S: RowSource, T: RowStage, D: Disk, K: Sink>(
     ensures read { IsRead desk.old.pool desk.new.pool }
     ensures refused { HasPageCause desk.old.pool desk.new.pool (refusal_in result) }
     ensures cause { HasCause (K.faults out.old) (K.faults out.new) result }
-    ensures plain { OnOk result (Writes IsPlainText (K.took out.old) (K.took out.new)) }
-    ensures broken { OnErr result (WritesPrefix IsPlainText (K.took out.old) (K.took out.new)) }
+    ensures lines { WritesCounted count result (K.took out.old) (K.took out.new) }
     ensures step { IfSome (told_pages desk.old) (PrintsRowsPaid S.At T.Stands T.closed (prices S.heights S.step_price S.owed T.price T.owed) (λ s. counts_of (S.seen s)) cursor.old cursor.new count desk.old desk.new (K.took out.old) (K.took out.new) result) }
 {
     let mut rows = 0;

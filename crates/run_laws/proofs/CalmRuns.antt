@@ -8,7 +8,7 @@ use Rattle.sand_model.specs.Checks.{first_refusal}
 use Rattle.sand_model.specs.Cursor.{State, Cursor, OutputLine, Id, Loaded, Row, End, Stats as StatsOf, Refused, Steps, new_cursor}
 use Rattle.sand_model.specs.Database.{Relation, relation_named, changed_at}
 use Rattle.sand_model.specs.Measure.{Measure}
-use Rattle.sand_model.specs.Outcome.{Rises, IsRefusedBy, Changes, PrintsLeaves, leaf_lines, replaced}
+use Rattle.sand_model.specs.Outcome.{Rises, IsRefusedBy, Changes, PrintsFirst, leaf_lines, replaced}
 use Rattle.sand_model.specs.Run.{Run}
 use Rattle.statements.specs.Statement.{Statement, Create, Insert, Delete, Load, Index as IndexOn, Rtree, OpenCursor, Next, CloseCursor, Show, Stats, Far, Blocks}
 use Rattle.sand_model.specs.ScriptLine.{ScriptLine, Blank, TooLong, BadToken, OutOfRange, Says}
@@ -62,7 +62,7 @@ one_steps gap (suc count) c one other lines again (inl (row, mid, more, stepped,
     (is ∙ ap₂ (λ x xs. x ∷ xs) first go.0 ∙ sym is', go.1)
 
 -- all leaves are printed
-all_leaves : (all lines : List OutputLine) → PrintsLeaves IsMemory all lines → HasMemory lines → lines ≡ all
+all_leaves : (all lines : List OutputLine) → PrintsFirst IsMemory all lines → HasMemory lines → lines ≡ all
 all_leaves all lines (inl is) m = is
 all_leaves all lines (inr (printed, rest, refusal, by, split, is)) m = memory_last printed refusal lines by is m
 
@@ -123,7 +123,8 @@ module _ (setting : Setting) (old one other : State) (lines again : List OutputL
         let by' : (refusal ≢ why.File) × IsRefusedBy refusal old again other = rw e at k in
         same_line (Refused refusal) (Refused refusal) old old refl refl by.1 by'.1
 
-  one_line : (line : ScriptLine) → LineIsDefined setting old line lines one ⊎ IsRefusedBy why.Memory old lines one → LineIsDefined setting old line again other ⊎ IsRefusedBy why.Memory old again other → AreOne
+  one_line : (line : ScriptLine) → LineIsDefined setting old line lines one ⊎ IsRefusedBy why.Memory old lines one
+      → LineIsDefined setting old line again other ⊎ IsRefusedBy why.Memory old again other → AreOne
   one_line line (inr h) k = memory_line old one lines h m
   one_line line h (inr k) = memory_line old other again k n
   one_line Blank (inl h) (inl k) = (h.0 ∙ sym k.0, h.1 ∙ sym k.1)
@@ -136,7 +137,8 @@ module _ (setting : Setting) (old one other : State) (lines again : List OutputL
 both_parts : (first more all : List OutputLine) → all ≡ first ++ more → HasMemory all → HasMemory first × HasMemory more
 both_parts first more all e m = neither (list_any is_of_memory first) (list_any is_of_memory more) (sym (list_any-append is_of_memory first more) ∙ ap (λ xs. list_any is_of_memory xs) (sym e) ∙ m)
 
-one_run : (setting : Setting) (old one other : State) (script : List ScriptLine) (printed again : List OutputLine) → RunsUndisturbed setting old script printed one → RunsUndisturbed setting old script again other
+one_run : (setting : Setting) (old one other : State) (script : List ScriptLine) (printed again : List OutputLine) → RunsUndisturbed setting old script printed one
+    → RunsUndisturbed setting old script again other
     → HasMemory printed → HasMemory again → (printed ≡ again) × (one ≡ other)
 one_run setting old one other [] printed again h k m n = (h.0 ∙ sym k.0, h.1 ∙ sym k.1)
 one_run setting old one other (line ∷ script) printed again (first, more, mid, goes, rest, is) (first', more', mid', goes', rest', is') m n =

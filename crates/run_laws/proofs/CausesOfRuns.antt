@@ -14,7 +14,7 @@ use Rattle.sand_model.specs.Checks.{first_refusal}
 use Rattle.sand_model.specs.Cursor.{State, Cursor, OutputLine, Accepted, Id, Loaded, Row, End, Stats, LeafOf, Steps}
 use Rattle.sand_model.specs.Database.{Database, Relation, Index, Quadtree, Attribute, column_named, index_at}
 use Rattle.sand_model.specs.Measure.{Measure}
-use Rattle.sand_model.specs.Outcome.{Rises, Outcome, IsLicensed, IsCaused, IsRefusedBy, IsCarriedOut, PrintsLeaves, leaf_lines, first_lines, far_lines}
+use Rattle.sand_model.specs.Outcome.{Rises, Outcome, IsLicensed, IsCaused, IsRefusedBy, IsCarriedOut, PrintsFirst, leaf_lines, first_lines, far_lines}
 use Rattle.sand_model.specs.Run.{LineOutcome, Run}
 use Rattle.statements.specs.Statement.{Statement, Create, Insert, Delete, Load, Index as IndexOn, Rtree, OpenCursor, Next, CloseCursor, Show, Stats as StatsOf, Far, Blocks}
 use Rattle.sand_model.specs.ScriptLine.{ScriptLine, Blank, TooLong, BadToken, OutOfRange, Says}
@@ -88,7 +88,7 @@ module _ (tells : Bool) (rises : Rises) where
     steps_cause gap (suc count) old new lines (inr (inr (refusal, h, stepped, is))) = causes_of tells rises lines _ is (causes_refusal tells rises refusal (caused refusal h))
 
     -- all of some lines, or the first of them and then a refusal
-    leaves_cause : (all lines : List OutputLine) → AreNoRefusals all → PrintsLeaves may all lines → HaveCauses tells rises lines
+    leaves_cause : (all lines : List OutputLine) → AreNoRefusals all → PrintsFirst may all lines → HaveCauses tells rises lines
     leaves_cause all lines quiet (inl is) = causes_of tells rises lines _ (is ∙ sym (append-nil all)) (causes_behind tells rises all [] quiet (causes_none tells rises))
     leaves_cause all lines quiet (inr (printed, rest, refusal, m, split, is)) =
         let first : AreNoRefusals printed = quiet_prefix printed rest (subst AreNoRefusals split quiet) in

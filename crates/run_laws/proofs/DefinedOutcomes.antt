@@ -5,7 +5,7 @@ use Rattle.sand_base.specs.declared.refusal.Refusal.TheVariants as why
 use Rattle.sand_model.specs.Checks.{first_refusal}
 use Rattle.sand_model.specs.Cursor.{State, Cursor, OutputLine, Steps}
 use Rattle.sand_model.specs.Measure.{Measure}
-use Rattle.sand_model.specs.Outcome.{Rises, Outcome, IsLicensed, IsCaused, IsRefusedBy, IsCarriedOut, PrintsLeaves, leaf_lines, far_lines}
+use Rattle.sand_model.specs.Outcome.{Rises, Outcome, IsLicensed, IsCaused, IsRefusedBy, IsCarriedOut, PrintsFirst, leaf_lines, far_lines}
 use Rattle.sand_model.specs.Run.{LineOutcome, Run}
 use Rattle.statements.specs.Statement.{Statement, Create, Insert, Delete, Load, Index as IndexOn, Rtree, OpenCursor, Next, CloseCursor, Show, Stats, Far, Blocks}
 use Rattle.sand_model.specs.ScriptLine.{ScriptLine, Blank, TooLong, BadToken, OutOfRange, Says}
@@ -22,7 +22,7 @@ module _ (may might : Refusal → Type 0) (weaker : (refusal : Refusal) → may 
   steps_under gap (suc count) old new lines (inr (inr (refusal, m, stepped, is))) = inr (inr (refusal, weaker refusal m, stepped, is))
 
   -- and so are leaves that are printed
-  leaves_under : (all lines : List OutputLine) → PrintsLeaves may all lines → PrintsLeaves might all lines
+  leaves_under : (all lines : List OutputLine) → PrintsFirst may all lines → PrintsFirst might all lines
   leaves_under all lines (inl h) = inl h
   leaves_under all lines (inr (printed, rest, refusal, m, split, is)) = inr (printed, rest, refusal, weaker refusal m, split, is)
 
@@ -74,7 +74,8 @@ module _ (setting : Setting) (rises : Rises) (tells : setting.tells ≡ true) (d
           let refused : IsCaused rises refusal × IsRefusedBy refusal old lines new = rw e at by_checks in
           rw e (not_of_file refusal refused.0, refused.1)
 
-    line_defined : (line : ScriptLine) → LineOutcome setting rises old line lines new ⊎ IsRefusedBy why.Memory old lines new → LineIsDefined setting old line lines new ⊎ IsRefusedBy why.Memory old lines new
+    line_defined : (line : ScriptLine) → LineOutcome setting rises old line lines new ⊎ IsRefusedBy why.Memory old lines new
+        → LineIsDefined setting old line lines new ⊎ IsRefusedBy why.Memory old lines new
     line_defined line (inr h) = inr h
     line_defined Blank (inl h) = inl h
     line_defined TooLong (inl h) = inl h

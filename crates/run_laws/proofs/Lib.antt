@@ -26,5 +26,4 @@ pub mod CalmRuns
 -- refused lines in the text
 pub mod LineTexts
 pub mod SeenLines
-pub mod PlainAnswers
-pub mod PlainRuns
+pub mod DecidedLines

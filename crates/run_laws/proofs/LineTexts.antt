@@ -1,14 +1,12 @@
 -- What printed lines look like: none has a line feed inside, and those of refusals alone begin with `refused`.
-use Rattle.std.proofs.Common.{◌≡◌, ◌≢◌, ℕ, zero, suc, ◌<◌, ◌≤◌, ◌/◌, ◌%◌, ◌==◌, Bool, true, false, cond, get_or, List, [], ◌∷◌, ◌++◌, length, map, Option, Some, None, codes, pos, negsuc, refl, sym, ap, subst, ◌∙◌, arith, lt-ltb, ne_eqb, true≢false}
-use Rattle.std.specs.Prelude.{All, ⊤, chars, flat_map}
+use Rattle.std.proofs.Common.{◌≡◌, ℕ, zero, suc, ◌<◌, ◌≤◌, ◌/◌, ◌%◌, ◌==◌, Bool, true, false, List, [], ◌∷◌, ◌++◌, length, map, Option, Some, None, codes, pos, negsuc}
+use Rattle.std.proofs.Common.{refl, sym, ap, subst, ◌∙◌, arith, lt-ltb, ne_eqb, true≢false}
+use Rattle.std.specs.Prelude.{⊤, flat_map}
+use Rattle.std.specs.List.{list_all}
 use Rattle.std.specs.Fmt.{digits, digits_onto, digit_glyph, decimal}
-use Rattle.std.specs.Str.{NonePass, NoCharPasses}
-use Rattle.std.proofs.lemmas.List.Elements.{All-head, All-tail}
 use Rattle.std.proofs.lemmas.Nat.{mod_below}
-use Rattle.std.proofs.lemmas.Str.{encodes-chars, NoCharPasses-byte}
 use Rattle.exact_frac.specs.Printed.{ratio_text}
 use Rattle.exact_frac.specs.declared.frac.Frac.{Frac}
-use Rattle.sand_base.specs.InRange.{is_control, IsTextInRange, IsValueInRange}
 use Rattle.sand_base.specs.Refusal.{refusal_number, refusal_word}
 use Rattle.sand_base.specs.declared.point.Point.{Point}
 use Rattle.sand_base.specs.declared.refusal.Refusal.{Refusal}
@@ -21,14 +19,10 @@ use Rattle.z_code.specs.Block.{square_of}
 use Rattle.sand_model.specs.Cursor.{OutputLine, Accepted, Id, Loaded, Row, End, Stats, LeafOf, Refused}
 use Rattle.sand_model.specs.Operators.{PlanRow}
 use Rattle.sand_model.specs.OutputText.{joined, spaced, tabbed, point_text, shape_text, value_text, PrintsGap, PrintsRow, ids_text, stats_text, detail, refused_text, PrintsLine, is_refused}
+use Rattle.sand_model.specs.PlainLines.{has_no_feed, fits_line, IsPlainRow, IsPlainLine}
 use Rattle.sand_model.specs.Reach.{Counts}
 use Rattle.script_lines.specs.Lines.{HasNoFeed}
 use Rattle.run_laws.specs.SeenRefusals.{begins_refused}
-
--- no byte is a line feed, as a test
-abbrev has_no_feed : List ℕ → Bool
-has_no_feed [] = true
-has_no_feed (b ∷ bytes) = cond (b == 10) false (has_no_feed bytes)
 
 free_word : (bytes : List ℕ) → has_no_feed bytes ≡ true → HasNoFeed bytes
 free_word [] h = tt
@@ -40,10 +34,6 @@ free_word (b ∷ bytes) h = go (b == 10) refl (free_word bytes) where
 free_both : (xs ys : List ℕ) → HasNoFeed xs → HasNoFeed ys → HasNoFeed (xs ++ ys)
 free_both [] ys h k = k
 free_both (x ∷ xs) ys h k = (h.0, free_both xs ys h.1 k)
-
-free_at : (bytes : List ℕ) → ((i : ℕ) → i < length bytes → get_or bytes i 0 ≢ 10) → HasNoFeed bytes
-free_at [] h = tt
-free_at (b ∷ bytes) h = (ne_eqb b 10 (h 0 (omega arith)), free_at bytes (λ i less. h (suc i) (omega (arith, less))))
 
 -- texts without line feeds, and those joined by one
 abbrev AreFree : List (List ℕ) → Type 0
@@ -157,39 +147,12 @@ free_shape (shape.Polygon corners) =
     (free_both (codes "(") (spaced (map point_text corners)) (free_word (codes "(") refl)
     (free_spaced (map point_text corners) (free_mapped point_text free_point corners))) (free_word (codes ")") refl)
 
-none_pass : (cs : List ℕ) → All (λ c. is_control c ≡ false) cs → NonePass is_control cs
-none_pass [] h = tt
-none_pass (c ∷ cs) h = (All-head (λ c. is_control c ≡ false) c cs h, none_pass cs (All-tail (λ c. is_control c ≡ false) c cs h))
-
-free_text : (bytes : List ℕ) → IsTextInRange bytes → HasNoFeed bytes
-free_text bytes h = free_at bytes no_feed_at where
-  plain : NoCharPasses is_control bytes
-  plain = (chars bytes, encodes-chars bytes h.spelled, none_pass (chars bytes) h.plain)
-
-  no_feed_at : (i : ℕ) → i < length bytes → get_or bytes i 0 ≢ 10
-  no_feed_at i less e =
-      let passed : is_control (get_or bytes i 0) ≡ false = NoCharPasses-byte is_control bytes i plain less (omega (arith, e)) in
-      let feed : is_control 10 ≡ false = ap is_control (sym e) ∙ passed in
-      true≢false feed
-
--- a value prints no line feed
-abbrev pub IsFreeValue : Value → Type 0
-IsFreeValue v = HasNoFeed (value_text v)
-
-pub free_value : (v : Value) → IsValueInRange v → IsFreeValue v
+-- a value that fits its line prints no line feed
+free_value : (v : Value) → fits_line v ≡ true → HasNoFeed (value_text v)
 free_value (value.Int (pos n)) h = free_decimal n
 free_value (value.Int (negsuc n)) h = (refl, free_decimal (suc n))
-free_value (value.Text bytes) h = free_text bytes h
+free_value (value.Text bytes) h = free_word bytes h
 free_value (value.Shape s) h = free_shape s
-
--- a row has an id, and values that print no line feed
-abbrev pub IsPlainRow : PlanRow → Type 0
-IsPlainRow row = (0 < length row.ids) × All IsFreeValue row.values
-
--- so has each row among lines
-abbrev pub IsPlainLine : OutputLine → Type 0
-IsPlainLine (Row row) = IsPlainRow row
-IsPlainLine _ = ⊤
 
 -- a text without a line feed, which begins with `refused` or not
 pub record IsSeen (text : List ℕ) (refused : Bool) : Type 0 where
@@ -209,9 +172,12 @@ ratio_digit n d = go (d == 1) refl where
     digit_both (decimal n ++ codes "/") (decimal d) (digit_both (decimal n) (codes "/") (digit_decimal n)),
   )
 
-free_values : (values : List Value) → All IsFreeValue values → AreFree (map value_text values)
+free_values : (values : List Value) → list_all fits_line values ≡ true → AreFree (map value_text values)
 free_values [] h = tt
-free_values (v ∷ values) h = (All-head IsFreeValue v values h, free_values values (All-tail IsFreeValue v values h))
+free_values (v ∷ values) h = go (fits_line v) refl (free_values values) where
+  go : (t : Bool) → fits_line v ≡ t → (list_all fits_line values ≡ true → AreFree (map value_text values)) → AreFree (map value_text (v ∷ values))
+  go true e behind = let rest : list_all fits_line values ≡ true = rw e at h in (free_value v e, behind rest)
+  go false e behind = let none : false ≡ true = rw e at h in absurd (true≢false (sym none))
 
 -- the parts of a row: without line feeds, and begun by a digit
 abbrev BeginWithDigit : List (List ℕ) → Type 0
@@ -241,9 +207,9 @@ seen_parts text (part ∷ parts) e h k =
 
 row_seen : (row : PlanRow) (text : List ℕ) → IsPlainRow row → PrintsRow row text → IsSeen text false
 row_seen row text h (gap, printed, e) =
-    let first = gap_part row.gap gap (map decimal row.ids) printed (free_mapped decimal free_decimal row.ids) (id_part row.ids h.0) in
+    let first = gap_part row.gap gap (map decimal row.ids) printed (free_mapped decimal free_decimal row.ids) (id_part row.ids h.numbered) in
     seen_parts text (gap ++ map decimal row.ids ++ map value_text row.values) e
-    (free_texts (gap ++ map decimal row.ids) (map value_text row.values) first.0 (free_values row.values h.1))
+    (free_texts (gap ++ map decimal row.ids) (map value_text row.values) first.0 (free_values row.values h.one_line))
     (parts_begin (gap ++ map decimal row.ids) (map value_text row.values) first.1)
 
 -- the ids of a leaf

@@ -5,10 +5,11 @@ use Rattle.std.specs.List.{count_by}
 use Rattle.std.proofs.lemmas.List.Sums.{sum_by-cons}
 use Rattle.sand_model.specs.Cursor.{OutputLine}
 use Rattle.sand_model.specs.OutputText.{IsText, is_refused}
+use Rattle.sand_model.specs.PlainLines.{IsPlainLine}
 use Rattle.script_lines.proofs.Cutting.{cut-line}
 use Rattle.script_lines.specs.Lines.{ended_lines}
 use Rattle.run_laws.specs.SeenRefusals.{begins_refused}
-use Rattle.run_laws.proofs.LineTexts.{IsPlainLine, line_seen}
+use Rattle.run_laws.proofs.LineTexts.{line_seen}
 
 -- each line is plain
 abbrev pub ArePlain : List OutputLine → Type 0

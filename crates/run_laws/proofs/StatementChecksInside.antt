@@ -18,7 +18,9 @@ use Rattle.statements.specs.Plan.{Plan, depth}
 use Rattle.statements.specs.declared.column.Column.{Column}
 use Rattle.sand_model.specs.RowSize.{row_size}
 use Rattle.statements.specs.Statement.{Statement, Create, Insert, Delete, Load, Index as IndexOn, Rtree, OpenCursor, Next, CloseCursor, Show, Stats, Far, Blocks}
-use Rattle.sand_model.specs.StatementChecks.{Setting, FileRows, AreRows, HasBad, refused_where, in_relation, in_column, in_file, is_there, is_row_of, cursor_named, check_cursor, check_length, check_ids, check_listings, check_depth, check_load, check_records, is_overfull, entered, file_rows, indexed_by, most_cursors, longest_file, early, late}
+use Rattle.sand_model.specs.StatementChecks.{Setting, FileRows, AreRows, HasBad, refused_where, in_relation, in_column, in_file, is_there, is_row_of, cursor_named}
+use Rattle.sand_model.specs.StatementChecks.{check_cursor, check_length, check_ids, check_listings, check_depth, check_load, check_records, is_overfull, entered}
+use Rattle.sand_model.specs.StatementChecks.{file_rows, indexed_by, most_cursors, longest_file, early, late}
 use Rattle.run_laws.proofs.PlanChecks.{IsInside, inside_two, inside_three, inside_four, inside_relation, inside_operators}
 
 inside_where : (b : Bool) (refusal : Refusal) → IsInside (Some refusal) → IsInside (refused_where b refusal)

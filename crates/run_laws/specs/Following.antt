@@ -133,7 +133,8 @@ NextsEndWithTheAnswer =
     → list_any is_end lines
     ≡ nat_lt (length (rows_left setting.gap cursor)) (length (rows_given name setting old script rises printed mid run) + count) && not (list_any is_refused lines)
 
--- after an `open` that was accepted the `next`s of its cursor print the first rows of the plan's answer, over the database at the opening, through every run that doesn't close it; all of them where one prints `end`
+-- after an `open` that was accepted the `next`s of its cursor print the first rows of the plan's answer, over the database at the opening,
+-- through every run that doesn't close it; all of them where one prints `end`
 abbrev pub NextsGiveTheAnswer : Type 0
 NextsGiveTheAnswer =
     (setting : Setting) (own rises : Rises) (old mid new : State) (name : List ℕ) (p : Plan) (script : List ScriptLine) (printed : List OutputLine)

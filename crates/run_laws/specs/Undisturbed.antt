@@ -4,7 +4,7 @@ use Rattle.sand_base.specs.declared.refusal.Refusal.{Refusal}
 use Rattle.sand_base.specs.declared.refusal.Refusal.TheVariants as why
 use Rattle.sand_model.specs.Checks.{first_refusal}
 use Rattle.sand_model.specs.Cursor.{State, Cursor, OutputLine, new_cursor, Steps}
-use Rattle.sand_model.specs.Outcome.{Rises, OfRelation, OfCursor, IsCarriedOut, IsRefusedBy, PrintsLeaves, leaf_lines, far_lines, replaced}
+use Rattle.sand_model.specs.Outcome.{Rises, OfRelation, OfCursor, IsCarriedOut, IsRefusedBy, PrintsFirst, leaf_lines, far_lines, replaced}
 use Rattle.sand_model.specs.Run.{LineOutcome, Run}
 use Rattle.statements.specs.Statement.{Statement, Next, Show, Far, Blocks}
 use Rattle.sand_model.specs.ScriptLine.{ScriptLine, Says}
@@ -25,9 +25,9 @@ HasEffect setting old (Next name count) lines new =
     × (new ≡ record old { cursors = replaced name after old.cursors }))
 HasEffect setting old (Show count p) lines new =
     (after : Cursor) × Steps setting.gap IsMemory count (new_cursor [] p old.database) lines after × (new ≡ old)
-HasEffect setting old (Far count column goal) lines new = PrintsLeaves IsMemory (far_lines setting.gap old.database count column goal) lines × (new ≡ old)
+HasEffect setting old (Far count column goal) lines new = PrintsFirst IsMemory (far_lines setting.gap old.database count column goal) lines × (new ≡ old)
 HasEffect setting old (Blocks column) lines new =
-    OfRelation old column.relation (λ relation. PrintsLeaves IsMemory (leaf_lines relation column.column) lines × (new ≡ old))
+    OfRelation old column.relation (λ relation. PrintsFirst IsMemory (leaf_lines relation column.column) lines × (new ≡ old))
 HasEffect setting old statement lines new = IsCarriedOut setting no_rises old statement lines new
 
 -- the first check that fails refuses the statement, though none because a file isn't there; where none fails it has its effect

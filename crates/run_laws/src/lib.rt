@@ -101,7 +101,7 @@ pub fn a_refused_line_moves_no_cursor()
     ensures next { RefusedNextsMoveByTheirRows }
 {}
 
-/// Whatever a script says, as many lines of its text begin with `refused` as were refused.
+/// Whatever a script says, and over any disk, as many lines of its text begin with `refused` as were refused.
 pub fn refused_lines_are_seen()
     ensures { RefusedLinesAreSeen }
 {}

@@ -117,7 +117,8 @@ short-number : (least most : ℕ) (t : Text) → most < 2 ^ 32 → Accepts false
 short-number least most t h a = let up = a.3 in ((a.0, omega arith), a.2, a.3)
 
 -- the matches of the words
-matched : (app : App) (rules : List Rule) (n : ℕ) → length rules ≡ suc n → IsOurs app rules → (c : Command) (is : app_of c ≡ app) (m : ArgMatches) (words : List Text) → fault_of app words ≡ [] → IsParsedFrom c m
+matched : (app : App) (rules : List Rule) (n : ℕ) → length rules ≡ suc n → IsOurs app rules → (c : Command) (is : app_of c ≡ app) (m : ArgMatches) (words : List Text)
+    → fault_of app words ≡ [] → IsParsedFrom c m
     → HasMatchesOf (app_of c) words m → IsMatchedBy app words m
 matched app rules n many ours c is m words taken p has =
     let of_ours : HasMatchesOf app words m = subst (λ (a : App). HasMatchesOf a words m) is has in
@@ -191,8 +192,10 @@ kept_ours = record {
   many = omega arith;
   frames = λ d. refl;
   workload = λ d. refl;
-  only_frames = λ j e. four (λ j. bytes_eq (get_or kept_rules j e).id (codes "frames") ≡ true → j ≡ 0) (λ s. refl) (λ s. absurd (false≢true s)) (λ s. absurd (false≢true s)) (λ s. absurd (false≢true s)) j;
-  only_workload = λ j e. four (λ j. bytes_eq (get_or kept_rules j e).id (codes "workload") ≡ true → j ≡ 2) (λ s. absurd (false≢true s)) (λ s. absurd (false≢true s)) (λ s. refl) (λ s. absurd (false≢true s)) j;
+  only_frames = λ j e. four (λ j. bytes_eq (get_or kept_rules j e).id (codes "frames") ≡ true → j ≡ 0) (λ s. refl) (λ s. absurd (false≢true s))
+      (λ s. absurd (false≢true s)) (λ s. absurd (false≢true s)) j;
+  only_workload = λ j e. four (λ j. bytes_eq (get_or kept_rules j e).id (codes "workload") ≡ true → j ≡ 2) (λ s. absurd (false≢true s)) (λ s. absurd (false≢true s))
+      (λ s. refl) (λ s. absurd (false≢true s)) j;
 }
 
 module _ (c : Command) (one : (app_of c ≡ sand_app) ⊎ (app_of c ≡ kept_app)) where

@@ -1,7 +1,9 @@
 -- The numbers and the words by which refusals are printed.
 use Rattle.std.specs.Prelude.{ℕ, List, codes}
 use Rattle.sand_base.specs.declared.refusal.Refusal.{Refusal}
-use Rattle.sand_base.specs.declared.refusal.Refusal.TheVariants.{Memory, Device, Damaged, File, LineTooLong, Syntax, Range, UnknownRelation, UnknownColumn, WrongKind, NameTaken, TooManyRelations, NoIndex, IndexThere, NoSuchId, BadRecord, FileTooLong, TupleTooLong, IdsSpent, IndexFull, UnknownCursor, CursorNameTaken, TooManyCursors, PlanTooDeep}
+use Rattle.sand_base.specs.declared.refusal.Refusal.TheVariants.{Memory, Device, Damaged, File, LineTooLong, Syntax, Range, UnknownRelation, UnknownColumn, WrongKind}
+use Rattle.sand_base.specs.declared.refusal.Refusal.TheVariants.{NameTaken, TooManyRelations, NoIndex, IndexThere, NoSuchId, BadRecord, FileTooLong, TupleTooLong}
+use Rattle.sand_base.specs.declared.refusal.Refusal.TheVariants.{IdsSpent, IndexFull, UnknownCursor, CursorNameTaken, TooManyCursors, PlanTooDeep}
 
 -- the number of a refusal
 abbrev pub refusal_number : Refusal → ℕ

@@ -42,7 +42,8 @@ unfolding IsRowsBody IsChangeOf change_value
 rows_found bytes relation rows found = found
 
 -- where there are none, the body is that of no change
-no_rows_change : (bytes : List ℕ) → ((relation : List ℕ) (rows : List (List ℕ)) → IsChange (Rows relation rows) → 2 ∷ bytes ≡ body_of (Rows relation rows) → ⊥) → (c : ChangeValue) → IsChange c → 2 ∷ bytes ≡ body_of c → ⊥
+no_rows_change : (bytes : List ℕ) → ((relation : List ℕ) (rows : List (List ℕ)) → IsChange (Rows relation rows) → 2 ∷ bytes ≡ body_of (Rows relation rows) → ⊥)
+    → (c : ChangeValue) → IsChange c → 2 ∷ bytes ≡ body_of c → ⊥
 no_rows_change bytes none (Line s) form same = let heads = same ∙ line_body_is s in omega (arith, ap (λ (l : List ℕ). get_or l 0 0) heads)
 no_rows_change bytes none (Rows relation rows) form same = none relation rows form same
 

@@ -27,14 +27,21 @@ stage_torn old new end bodies bytes result now_is_all rest told w =
     (subst (λ (file : List ℕ). Torn (end + 1) (length bytes) file image) (rest.stands.durable told from.0 from.1) from.2))
 
 -- once it is accepted and synced, the body is staged
-pub stage_done : {T E U F : Type 0} (v : T) (u : U) (old mid new : TapeView) (end : ℕ) (bodies : List (List ℕ)) (body bytes : List ℕ) → bytes ≡ framed body ++ 0 ∷ [] → IsAtRest old end bodies → IsShort body
+pub stage_done : {T E U F : Type 0} (v : T) (u : U) (old mid new : TapeView) (end : ℕ) (bodies : List (List ℕ)) (body bytes : List ℕ) → bytes ≡ framed body ++ 0 ∷ []
+    → IsAtRest old end bodies → IsShort body
     → WritesTape {T = T} {E = E} old mid (end + 1) bytes (Ok v) → SyncsTape {T = U} {E = F} mid new (Ok u) → IsStaged new end bodies body
 stage_done v u old mid new end bodies body bytes is rest short w s =
     let told_mid : IsTrue new.told → IsTrue mid.told = λ told. subst IsTrue s.passes.told told in
     let told_old : IsTrue new.told → IsTrue old.told = λ told. subst IsTrue w.passes.told (told_mid told) in
     let behind : IsTrue new.told → (gate : ℕ) × (junk : List ℕ) × (gate ≢ 1) × (new.bytes ≡ records bodies ++ gate ∷ (framed body ++ 0 ∷ junk)) =
-    λ told. let has = rest.ended (told_old told) in
-    (has.gate, drop (end + 1 + length (framed body ++ 0 ∷ [])) old.bytes, has.shut, s.kept.bytes ∙ written_behind bodies end rest.stands.place body old.bytes mid.bytes has.behind has.gate has.is (subst (λ (l : List ℕ). IsWritten old.bytes (end + 1) l mid.bytes) is (w.written (told_old told)))) in
+    λ told. let has = rest.ended (told_old told) in (
+      has.gate,
+      drop (end + 1 + length (framed body ++ 0 ∷ [])) old.bytes,
+      has.shut,
+      s.kept.bytes
+          ∙ written_behind bodies end rest.stands.place body old.bytes mid.bytes has.behind has.gate has.is
+          (subst (λ (l : List ℕ). IsWritten old.bytes (end + 1) l mid.bytes) is (w.written (told_old told))),
+    ) in
     record {
       rest = record {
         stands = record {

@@ -36,7 +36,15 @@ counted_is rows = refl
 -- the rows of a change are fewer than 2 ^ 32
 pub rows_fit : (relation : List ℕ) (rows : List (List ℕ)) → IsChange (Rows relation rows) → length rows < 2 ^ 32
 rows_fit relation rows change =
-    omega (arith, change.2, ap length (rows_body_is relation rows), length-append relation (counted_rows rows), ap length (counted_is rows), length-append (to_be_bytes w32 (length rows)) (flat_map framed_row rows), rows_length rows)
+    omega (
+      arith,
+      change.2,
+      ap length (rows_body_is relation rows),
+      length-append relation (counted_rows rows),
+      ap length (counted_is rows),
+      length-append (to_be_bytes w32 (length rows)) (flat_map framed_row rows),
+      rows_length rows,
+    )
 
 -- the body of a change is short
 pub body_short : (change : ChangeValue) → IsChange change → length (body_of change) < 2 ^ 32
@@ -53,7 +61,8 @@ one_name relation other rest more same =
     )
 
 -- counted rows are of one list
-pub one_counted : (rows others : List (List ℕ)) → AllByRecursion IsEncodingShort rows → AllByRecursion IsEncodingShort others → length rows < 2 ^ 32 → length others < 2 ^ 32 → counted_rows rows ≡ counted_rows others → rows ≡ others
+pub one_counted : (rows others : List (List ℕ)) → AllByRecursion IsEncodingShort rows → AllByRecursion IsEncodingShort others → length rows < 2 ^ 32
+    → length others < 2 ^ 32 → counted_rows rows ≡ counted_rows others → rows ≡ others
 one_counted rows others short short_others fits fits_others same =
     let counts = one_count (length rows) (length others) (flat_map framed_row rows) (flat_map framed_row others) fits fits_others (sym (counted_is rows) ∙ same ∙ counted_is others) in
     one_rows rows others short short_others counts.1
@@ -86,7 +95,8 @@ one_change reads only (Line s) (Rows relation rows) a b same =
 one_change reads only (Rows relation rows) (Line s) a b same =
     absurd (omega (arith, same_head 2 1 (length relation ∷ (relation ++ counted_rows rows)) (printed s) (sym (rows_body_is relation rows) ∙ same ∙ line_body_is s)))
 one_change reads only (Rows relation rows) (Rows other others) a b same =
-    let parts = same_tail 2 2 (length relation ∷ (relation ++ counted_rows rows)) (length other ∷ (other ++ counted_rows others)) (sym (rows_body_is relation rows) ∙ same ∙ rows_body_is other others) in
+    let parts = same_tail 2 2 (length relation ∷ (relation ++ counted_rows rows)) (length other ∷ (other ++ counted_rows others))
+    (sym (rows_body_is relation rows) ∙ same ∙ rows_body_is other others) in
     let names = one_name relation other (counted_rows rows) (counted_rows others) parts in
     let lists = one_counted rows others a.1 b.1 (rows_fit relation rows a) (rows_fit other others b) names.1 in
     ap (λ (name : List ℕ). Rows name rows) names.0 ∙ ap (λ (l : List (List ℕ)). Rows other l) lists

@@ -90,7 +90,8 @@ module _ (bodies : List (List ℕ)) (end : ℕ) (place : end ≡ length (records
       ]
 
   -- and once it is accepted, they are those and this one
-  pub written_gate : (body bytes new junk : List ℕ) (gate : ℕ) → AllByRecursion IsShort bodies → IsShort body → bytes ≡ records bodies ++ gate ∷ (framed body ++ 0 ∷ junk) → IsWritten bytes end (1 ∷ []) new
+  pub written_gate : (body bytes new junk : List ℕ) (gate : ℕ) → AllByRecursion IsShort bodies → IsShort body
+      → bytes ≡ records bodies ++ gate ∷ (framed body ++ 0 ∷ junk) → IsWritten bytes end (1 ∷ []) new
       → HasBodies (bodies ++ body ∷ []) new
   written_gate body bytes new junk gate all short is written =
       let behind : List ℕ = framed body ++ 0 ∷ junk in

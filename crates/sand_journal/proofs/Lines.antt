@@ -39,7 +39,8 @@ pub long_none : (text : List ℕ) → LONGEST_LINE < length text → IsChangeOf 
 long_none text long = no_line text (λ s change is. omega (arith, long, ap length is, printed_short s change.0 change.1))
 
 -- where the text is read and memory was there, the answer is the statement of which it is the printed form
-only_answer : ReadsOnly → (text : List ℕ) (answer : Result (Option Statement) LineFault) → answer ≢ Err Memory → Reads text answer → (s : Statement) → IsChange (Line s) → text ≡ printed s → answer ≡ Ok (Some s)
+only_answer : ReadsOnly → (text : List ℕ) (answer : Result (Option Statement) LineFault) → answer ≢ Err Memory → Reads text answer → (s : Statement) → IsChange (Line s)
+    → text ≡ printed s → answer ≡ Ok (Some s)
 only_answer only text answer memory reads s change is = only s answer change.1 (subst (λ (l : List ℕ). Reads l answer) is reads) memory
 
 -- a line that is passed over has none
@@ -62,14 +63,16 @@ answered other (Ok None) = other
 answered other (Err _) = other
 
 -- nor one whose statement isn't kept, or is printed otherwise
-pub other_none : ReadsOnly → (text : List ℕ) (s : spoken.Statement) → Reads text (Ok (Some (statement_value s))) → ((IsKept (line_value s) × (text ≡ printed (line_value s))) → ⊥) → IsChangeOf (1 ∷ text) None
+pub other_none : ReadsOnly → (text : List ℕ) (s : spoken.Statement) → Reads text (Ok (Some (statement_value s)))
+    → ((IsKept (line_value s) × (text ≡ printed (line_value s))) → ⊥) → IsChangeOf (1 ∷ text) None
 unfolding line_value answered
 other_none only text s reads other = no_line text (λ t change is.
     let one : statement_value s ≡ t = ap (answered t) (only_answer only text (Ok (Some (statement_value s))) (λ h. cc h) reads t change is) in
     other (subst IsKept (sym one) change.0, subst (λ (v : Statement). text ≡ printed v) (sym one) is))
 
 -- a statement that is kept and printed so is the change
-pub line_found : (text : List ℕ) (s : spoken.Statement) → Reads text (Ok (Some (statement_value s))) → IsKept (line_value s) × (text ≡ printed (line_value s)) → IsChangeOf (1 ∷ text) (Some (change.Line s))
+pub line_found : (text : List ℕ) (s : spoken.Statement) → Reads text (Ok (Some (statement_value s))) → IsKept (line_value s) × (text ≡ printed (line_value s))
+    → IsChangeOf (1 ∷ text) (Some (change.Line s))
 unfolding IsChangeOf change_value line_value
 line_found text s reads line = ((line.0, reads.in_range), ap (λ (l : List ℕ). 1 ∷ l) line.1 ∙ sym (line_body_is (statement_value s)))
 

@@ -40,7 +40,8 @@ pub synced : {T E : Type 0} (old mid new : TapeView) (P : List ℕ → Type 0) (
 synced old mid new P result so_far told s = goes_on old mid new P so_far s.passes told (λ image left. so_far.now image (s.kept.fewer image left))
 
 -- a call that keeps what a read gives
-pub only_read : (old new : TapeView) → ((t : ℕ) (image : List ℕ) → IsTrue old.told → t ≤ old.clock → old.leaves image → old.since t image) → TimePasses old new → KeepsBytes old new → new.started ≡ old.started → IsOnlyRead old new
+pub only_read : (old new : TapeView) → ((t : ℕ) (image : List ℕ) → IsTrue old.told → t ≤ old.clock → old.leaves image → old.since t image) → TimePasses old new
+    → KeepsBytes old new → new.started ≡ old.started → IsOnlyRead old new
 only_read old new now_counts passes kept started = record {
   told = passes.told;
   started = started;

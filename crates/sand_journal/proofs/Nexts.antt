@@ -1,5 +1,6 @@
 -- What is read at the gate behind the records that are passed.
-use Rattle.std.proofs.Common.{◌≡◌, ◌≢◌, ℕ, ◌+◌, ◌-◌, ◌^◌, ◌<◌, ◌≤◌, min, List, [], ◌∷◌, ◌++◌, length, take, drop, refl, sym, ◌∙◌, ap, subst, arith, length-append, length-take, length-drop, take-append-drop, IsTrue}
+use Rattle.std.proofs.Common.{◌≡◌, ◌≢◌, ℕ, ◌+◌, ◌-◌, ◌^◌, ◌<◌, ◌≤◌, min, List, [], ◌∷◌, ◌++◌, length, take, drop, refl, sym, ◌∙◌, ap, subst, arith, length-append}
+use Rattle.std.proofs.Common.{length-take, length-drop, take-append-drop, IsTrue}
 use Rattle.std.proofs.lemmas.List.{append_cancel_left, drop_at, drop-drop, take_min}
 use Rattle.std.proofs.lemmas.Nat.{from_be_bytes-to_be_bytes_4}
 use Rattle.std.specs.Int.{w32, to_be_bytes, from_be_bytes}
@@ -82,7 +83,8 @@ module _ (bodies : List (List ℕ)) (bytes tail : List ℕ) (is : bytes ≡ reco
     pub next_found : (end : ℕ) (body : List ℕ) → end ≡ length (records bodies) → length (records bodies) + 5 + size ≤ 2 ^ 62 → end + 5 + size < length bytes → body ≡ take size (drop (end + 5) bytes)
         → length body ≡ size → HasNext bytes bodies body
     next_found end body place near inside read long =
-        let rest : drop (end + 5) bytes ≡ drop 5 tail = sym (drop-drop 5 end bytes) ∙ ap (λ (l : List ℕ). drop 5 (drop end l)) is ∙ ap (λ (l : List ℕ). drop 5 l) (drop_at (records bodies) tail end (sym place)) in
+        let rest : drop (end + 5) bytes ≡ drop 5 tail = sym (drop-drop 5 end bytes) ∙ ap (λ (l : List ℕ). drop 5 (drop end l)) is
+        ∙ ap (λ (l : List ℕ). drop 5 l) (drop_at (records bodies) tail end (sym place)) in
         let behind : List ℕ = drop size (drop 5 tail) in
         let parts : drop 5 tail ≡ body ++ behind = sym (take-append-drop size (drop 5 tail)) ∙ ap (λ (l : List ℕ). l ++ behind) (sym (read ∙ ap (λ (l : List ℕ). take size l) rest)) in
         record {
@@ -104,7 +106,8 @@ head_read piece bytes at n five count given =
     given ∙ ap (λ (k : ℕ). take k (drop at bytes)) fewer ∙ take_min 5 (drop at bytes)
 
 -- What a tape shows behind the records that stand there, of which its head was read.
-module _ (tape : TapeView) (end : ℕ) (bodies : List (List ℕ)) (stands : StandsBehind tape end bodies) (told : IsTrue tape.told) (shown : Head) (is_head : IsHead (take 5 (drop end tape.bytes)) shown) where
+module _ (tape : TapeView) (end : ℕ) (bodies : List (List ℕ)) (stands : StandsBehind tape end bodies) (told : IsTrue tape.told) (shown : Head)
+    (is_head : IsHead (take 5 (drop end tape.bytes)) shown) where
   head_at_tail : (h : Head) → shown ≡ h → IsHead (take 5 (stands.gate told).0) h
   head_at_tail h is =
       subst (λ (l : List ℕ). IsHead (take 5 l) h) (tail_is bodies tape.bytes (stands.gate told).0 end stands.place (stands.gate told).2)
@@ -122,13 +125,15 @@ module _ (tape : TapeView) (end : ℕ) (bodies : List (List ℕ)) (stands : Stan
   pub ahead_short : (size : ℕ) → shown ≡ head.Open size → length tape.bytes ≤ end + 5 + size → IsCutBehind tape.bytes bodies
   ahead_short size is ends = short_is_bad bodies tape.bytes (stands.gate told).0 (stands.gate told).2 size (head_at_tail (head.Open size) is) (omega (arith, stands.place, ends))
 
-  pub ahead_body : (size : ℕ) (body : List ℕ) → shown ≡ head.Open size → end + 5 + size ≤ 2 ^ 62 → end + 5 + size < length tape.bytes → body ≡ take size (drop (end + 5) tape.bytes) → length body ≡ size
+  pub ahead_body : (size : ℕ) (body : List ℕ) → shown ≡ head.Open size → end + 5 + size ≤ 2 ^ 62 → end + 5 + size < length tape.bytes
+      → body ≡ take size (drop (end + 5) tape.bytes) → length body ≡ size
       → HasNext tape.bytes bodies body
   ahead_body size body is near inside read long =
       next_found bodies tape.bytes (stands.gate told).0 (stands.gate told).2 size (head_at_tail (head.Open size) is) end body stands.place (omega (arith, stands.place, near)) inside read long
 
 -- a record that is read is one that is passed
-pub passed_next : (old new : TapeView) (end to : ℕ) (bodies : List (List ℕ)) (body : List ℕ) → StandsBehind old end bodies → IsOnlyRead old new → IsShort body → (IsTrue old.told → HasNext old.bytes bodies body)
+pub passed_next : (old new : TapeView) (end to : ℕ) (bodies : List (List ℕ)) (body : List ℕ) → StandsBehind old end bodies → IsOnlyRead old new → IsShort body
+    → (IsTrue old.told → HasNext old.bytes bodies body)
     → to ≡ end + 5 + length body → StandsBehind new to (bodies ++ body ∷ [])
 passed_next old new end to bodies body stands read short next there =
     let told : IsTrue new.told → IsTrue old.told = λ is_told. subst IsTrue read.told is_told in

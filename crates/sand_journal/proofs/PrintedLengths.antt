@@ -27,7 +27,14 @@ cond_short false = omega arith
 after_short : (before : Piece) (ws : List Piece) → AllByRecursion IsShortWord ws → length (printed_after before ws) ≤ 33 * length ws
 after_short before [] all = omega arith
 after_short before (w ∷ ws) all =
-    omega (arith, length-append (gap before w) (spelling w ++ printed_after w ws), length-append (spelling w) (printed_after w ws), cond_short (hugs_after before || hugs_before w), all.0, after_short w ws all.1)
+    omega (
+      arith,
+      length-append (gap before w) (spelling w ++ printed_after w ws),
+      length-append (spelling w) (printed_after w ws),
+      cond_short (hugs_after before || hugs_before w),
+      all.0,
+      after_short w ws all.1,
+    )
 
 words_short : (ws : List Piece) → AllByRecursion IsShortWord ws → length (printed_words ws) ≤ 33 * length ws
 words_short [] all = omega arith

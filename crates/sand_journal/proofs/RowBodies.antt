@@ -39,7 +39,8 @@ pub count_behind : (bytes rest : List ℕ) (count : ℕ) (rows : List (List ℕ)
 count_behind bytes rest count rows fits is fits_rows counted = one_count count (length rows) rest (flat_map framed_row rows) fits fits_rows (sym is ∙ counted ∙ counted_is rows)
 
 -- a row behind the size that was read is in its frame
-pub row_framed : (bytes after row rest : List ℕ) (size : ℕ) → bytes ≡ to_be_bytes w16 size ++ after → row ≡ take size after → rest ≡ drop size after → length row ≡ size → bytes ≡ framed_row row ++ rest
+pub row_framed : (bytes after row rest : List ℕ) (size : ℕ) → bytes ≡ to_be_bytes w16 size ++ after → row ≡ take size after → rest ≡ drop size after → length row ≡ size
+    → bytes ≡ framed_row row ++ rest
 unfolding framed_row
 row_framed bytes after row rest size is front back long =
     is ∙ ap (λ (l : List ℕ). to_be_bytes w16 size ++ l) (sym (take-append-drop size after))
@@ -48,11 +49,13 @@ row_framed bytes after row rest size is front back long =
     ∙ ap (λ (n : ℕ). to_be_bytes w16 n ++ (row ++ rest)) (sym long)
 
 -- a frame shows its size, and its row stands behind
-framed_heads : (bytes after row rest : List ℕ) (size : ℕ) → bytes ≡ to_be_bytes w16 size ++ after → bytes ≡ framed_row row ++ rest → to_be_bytes w16 size ++ after ≡ to_be_bytes w16 (length row) ++ (row ++ rest)
+framed_heads : (bytes after row rest : List ℕ) (size : ℕ) → bytes ≡ to_be_bytes w16 size ++ after → bytes ≡ framed_row row ++ rest
+    → to_be_bytes w16 size ++ after ≡ to_be_bytes w16 (length row) ++ (row ++ rest)
 unfolding framed_row
 framed_heads bytes after row rest size is framed = sym is ∙ framed
 
-pub row_size : (bytes after row rest : List ℕ) (size : ℕ) → size < 2 ^ 16 → bytes ≡ to_be_bytes w16 size ++ after → IsEncodingShort row → bytes ≡ framed_row row ++ rest → (size ≡ length row) × (after ≡ row ++ rest)
+pub row_size : (bytes after row rest : List ℕ) (size : ℕ) → size < 2 ^ 16 → bytes ≡ to_be_bytes w16 size ++ after → IsEncodingShort row → bytes ≡ framed_row row ++ rest
+    → (size ≡ length row) × (after ≡ row ++ rest)
 row_size bytes after row rest size fits is short framed =
     let same = framed_heads bytes after row rest size is framed in
     let heads : to_be_bytes w16 size ≡ to_be_bytes w16 (length row) = ap (λ (l : List ℕ). take 2 l) same in

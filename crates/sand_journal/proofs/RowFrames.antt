@@ -35,7 +35,8 @@ frame_some : (row rest : List ℕ) → [] ≡ framed_row row ++ rest → ⊥
 frame_some row rest same = omega (arith, ap length same, length-append (framed_row row) rest, length-framed_row row)
 
 -- rows that stand at the front of others' bytes are the first of them
-pub rows_first : (rows others : List (List ℕ)) (rest : List ℕ) → AllByRecursion IsEncodingShort rows → AllByRecursion IsEncodingShort others → flat_map framed_row rows ++ rest ≡ flat_map framed_row others
+pub rows_first : (rows others : List (List ℕ)) (rest : List ℕ) → AllByRecursion IsEncodingShort rows → AllByRecursion IsEncodingShort others
+    → flat_map framed_row rows ++ rest ≡ flat_map framed_row others
     → (more : List (List ℕ)) × (others ≡ rows ++ more) × (rest ≡ flat_map framed_row more) × AllByRecursion IsEncodingShort more
 rows_first [] others rest short short_others same = (others, refl, same, short_others)
 rows_first (row ∷ rows) [] rest short short_others same =

@@ -1,5 +1,6 @@
 -- Rows taken from the front of bytes, one by one.
-use Rattle.std.proofs.Common.{◌≡◌, ◌≢◌, ◌⊎◌, inl, inr, ℕ, ◌+◌, ◌^◌, ◌<◌, List, [], ◌∷◌, ◌++◌, length, get_or, drop, Bool, true, false, ◌==◌, Option, Some, None, Result, Ok, Err, Vec, refl, sym, ap, ◌∙◌, arith, length-append}
+use Rattle.std.proofs.Common.{◌≡◌, ◌≢◌, ◌⊎◌, inl, inr, ℕ, ◌+◌, ◌^◌, ◌<◌, List, [], ◌∷◌, ◌++◌, length, get_or, drop, Bool, true, false, ◌==◌, Option, Some, None, Result}
+use Rattle.std.proofs.Common.{Ok, Err, Vec, refl, sym, ap, ◌∙◌, arith, length-append}
 use Rattle.std.specs.Prelude.{IfOk}
 use Rattle.std.proofs.lemmas.Bool.{false≢true}
 use Rattle.std.proofs.lemmas.Bool.Decides.{nat_tests}
@@ -40,11 +41,13 @@ others_more : (bytes : List ℕ) (rows : List (List ℕ)) (rest : List ℕ) (oth
 others_more bytes rows rest others split short same = rows_first rows others rest split.short short (sym split.is ∙ same)
 
 -- fewer rows with no frame behind them are not so many
-stuck_at : (rest : List ℕ) (more : List (List ℕ)) → ((row after : List ℕ) → IsEncodingShort row → rest ≡ framed_row row ++ after → ⊥) → AllByRecursion IsEncodingShort more → rest ≡ flat_map framed_row more → more ≡ []
+stuck_at : (rest : List ℕ) (more : List (List ℕ)) → ((row after : List ℕ) → IsEncodingShort row → rest ≡ framed_row row ++ after → ⊥)
+    → AllByRecursion IsEncodingShort more → rest ≡ flat_map framed_row more → more ≡ []
 stuck_at rest [] none short same = refl
 stuck_at rest (row ∷ more) none short same = absurd (none row (flat_map framed_row more) short.0 same)
 
-pub split_stuck : (bytes : List ℕ) (rows : List (List ℕ)) (rest : List ℕ) (count : ℕ) → IsSplit bytes rows rest → length rows < count → ((row after : List ℕ) → IsEncodingShort row → rest ≡ framed_row row ++ after → ⊥) → AreRows bytes count None
+pub split_stuck : (bytes : List ℕ) (rows : List (List ℕ)) (rest : List ℕ) (count : ℕ) → IsSplit bytes rows rest → length rows < count
+    → ((row after : List ℕ) → IsEncodingShort row → rest ≡ framed_row row ++ after → ⊥) → AreRows bytes count None
 unfolding AreRows
 split_stuck bytes rows rest count split fewer none = λ others short many same.
     let m = others_more bytes rows rest others split short same in
@@ -63,18 +66,23 @@ split_over bytes rows rest count split all some = λ others short many same.
     some (none_behind rest m.0 (omega (arith, all, many, ap length m.1, length-append rows m.0)) m.2)
 
 -- so many rows with nothing behind them are all
-pub split_done : (bytes rest : List ℕ) (count : ℕ) (rows : Vec (Vec ℕ Global) Global) → IsSplit bytes (row_bytes rows) rest → length (row_bytes rows) ≡ count → rest ≡ [] → AreRows bytes count (Some rows)
+pub split_done : (bytes rest : List ℕ) (count : ℕ) (rows : Vec (Vec ℕ Global) Global) → IsSplit bytes (row_bytes rows) rest → length (row_bytes rows) ≡ count → rest ≡ []
+    → AreRows bytes count (Some rows)
 unfolding AreRows
 split_done bytes rest count rows split all none =
     (split.short, all, split.is ∙ ap (λ (l : List ℕ). flat_map framed_row (row_bytes rows) ++ l) none ∙ append-nil (flat_map framed_row (row_bytes rows)))
 
 -- rows behind the count that was read
-pub counted_as : (bytes rest : List ℕ) (count : ℕ) (found : Option (Vec (Vec ℕ Global) Global)) → count < 2 ^ 32 → bytes ≡ to_be_bytes w32 count ++ rest → AreRows rest count found → AreCounted bytes found
+pub counted_as : (bytes rest : List ℕ) (count : ℕ) (found : Option (Vec (Vec ℕ Global) Global)) → count < 2 ^ 32 → bytes ≡ to_be_bytes w32 count ++ rest
+    → AreRows rest count found → AreCounted bytes found
 unfolding AreRows AreCounted
 counted_as bytes rest count None fits is none = λ rows short fits_rows counted.
     let behind = count_behind bytes rest count rows fits is fits_rows counted in none rows short (sym behind.0) behind.1
-counted_as bytes rest count (Some rows) fits is found =
-    (found.0, is ∙ ap (λ (l : List ℕ). to_be_bytes w32 count ++ l) found.2 ∙ ap (λ (n : ℕ). to_be_bytes w32 n ++ flat_map framed_row (row_bytes rows)) (sym found.1) ∙ sym (counted_is (row_bytes rows)))
+counted_as bytes rest count (Some rows) fits is found = (
+  found.0,
+  is ∙ ap (λ (l : List ℕ). to_be_bytes w32 count ++ l) found.2 ∙ ap (λ (n : ℕ). to_be_bytes w32 n ++ flat_map framed_row (row_bytes rows)) (sym found.1)
+      ∙ sym (counted_is (row_bytes rows)),
+)
 
 -- bytes with no count have no counted rows
 pub no_count : (bytes : List ℕ) → ((count : ℕ) (rest : List ℕ) → bytes ≡ to_be_bytes w32 count ++ rest → ⊥) → AreCounted bytes None

@@ -1,5 +1,6 @@
 -- What the calls of a tape in memory do to how it is seen.
-use Rattle.std.proofs.Common.{◌≡◌, ◌⊎◌, inl, inr, ℕ, zero, suc, ◌+◌, ◌<◌, ◌≤◌, Bool, List, [], ◌∷◌, ◌++◌, length, get_or, take, drop, Some, None, Ok, Err, refl, sym, ap, subst, ◌∙◌, arith, take-append-drop}
+use Rattle.std.proofs.Common.{◌≡◌, ◌⊎◌, inl, inr, ℕ, zero, suc, ◌+◌, ◌<◌, ◌≤◌, Bool, List, [], ◌∷◌, ◌++◌, length, get_or, take, drop, Some, None, Ok, Err, refl, sym, ap}
+use Rattle.std.proofs.Common.{subst, ◌∙◌, arith, take-append-drop}
 use Rattle.std.proofs.lemmas.Bool.{cases_lt}
 use Rattle.std.proofs.lemmas.List.{append-nil, length_push, map_more, take-append-le, take_all}
 use Rattle.sand_base.specs.Calls.{CallsState}
@@ -50,7 +51,8 @@ module _ (first : List ℕ) (events : List TapeEvent) (was started : Bool) (befo
     earlier moment le = take-append-le moment events (event ∷ []) le
 
     -- an image since a moment is one from before the event, or one of now
-    since_before : (t : ℕ) (image : List ℕ) → t ≤ length events → IsLeftSince first (events ++ event ∷ []) t image → IsLeftSince first events t image ⊎ IsLeft (contents_of first (events ++ event ∷ [])) image
+    since_before : (t : ℕ) (image : List ℕ) → t ≤ length events → IsLeftSince first (events ++ event ∷ []) t image
+        → IsLeftSince first events t image ⊎ IsLeft (contents_of first (events ++ event ∷ [])) image
     since_before t image le since = elim (cases_lt (length events) since.0) [
       | inl last ↦ inr (subst (λ (l : List TapeEvent). IsLeft (contents_of first l) image) (take_all since.0 (events ++ event ∷ []) (omega (arith, last, length_push events event))) since.3)
       | inr inside ↦ inl (since.0, since.1, inside, subst (λ (l : List TapeEvent). IsLeft (contents_of first l) image) (earlier since.0 inside) since.3)
@@ -63,12 +65,18 @@ module _ (first : List ℕ) (events : List TapeEvent) (was started : Bool) (befo
       later = omega (arith, length_push events event);
       time = λ _. record {
         nothing_else = since_before;
-        keeps = λ t image le since. (since.0, since.1, omega (arith, since.2, length_push events event), subst (λ (l : List TapeEvent). IsLeft (contents_of first l) image) (sym (earlier since.0 since.2)) since.3);
+        keeps = λ t image le since. (
+          since.0,
+          since.1,
+          omega (arith, since.2, length_push events event),
+          subst (λ (l : List TapeEvent). IsLeft (contents_of first l) image) (sym (earlier since.0 since.2)) since.3,
+        );
       };
     }
 
   -- a call that did nothing
-  pub not_started : {T E : Type 0} (why : E) → HasCause {T = T} before.faults calls.faults (Err why) → StartsTape {T = T} (mem_tape_view (tape_of first events was before)) (mem_tape_view (tape_of first events started calls)) (Err why)
+  pub not_started : {T E : Type 0} (why : E) → HasCause {T = T} before.faults calls.faults (Err why)
+      → StartsTape {T = T} (mem_tape_view (tape_of first events was before)) (mem_tape_view (tape_of first events started calls)) (Err why)
   not_started why cause = record { passes = stays; kept = keeps; started = tt; cause = cause }
 
   pub not_read : {E : Type 0} (at : ℕ) (piece : List ℕ) (why : E) → started ≡ was → HasCause {T = ℕ} before.faults calls.faults (Err why)
@@ -107,7 +115,8 @@ module _ (first : List ℕ) (events : List TapeEvent) (was started : Bool) (befo
       → SyncsTape {T = T} {E = E} (mem_tape_view (tape_of first events was before)) (mem_tape_view (tape_of first (events ++ None ∷ []) started calls)) (Ok done)
   synced done same cause =
       let held : TapeContents = contents_of first events in
-      let one : (image : List ℕ) → IsLeft (contents_of first (events ++ None ∷ [])) image → image ≡ read_of held = λ image left. subst (λ (now : TapeContents). IsLeft now image) (contents-push first events None) left in
+      let one : (image : List ℕ) → IsLeft (contents_of first (events ++ None ∷ [])) image → image ≡ read_of held =
+      λ image left. subst (λ (now : TapeContents). IsLeft now image) (contents-push first events None) left in
       record {
         passes = grows None;
         kept = record {

@@ -38,7 +38,8 @@ pub rows_joined : (relation : List ℕ) (rows : List (List ℕ)) (first named co
     → counted ≡ named ++ count → count ≡ to_be_bytes w32 (length rows) → body ≡ counted ++ flat_map framed_row rows → body ≡ body_of (Rows relation rows)
 rows_joined relation rows first named counted body name count begun more_name same_name more_count same_count more_rows =
     let front : named ≡ 2 ∷ (length relation ∷ relation) = more_name ∙ ap (λ (l : List ℕ). l ++ name) begun ∙ ap (λ (l : List ℕ). 2 ∷ (length relation ∷ l)) same_name in
-    let middle : counted ≡ 2 ∷ (length relation ∷ (relation ++ to_be_bytes w32 (length rows))) = more_count ∙ ap (λ (l : List ℕ). l ++ count) front ∙ ap (λ (l : List ℕ). 2 ∷ (length relation ∷ (relation ++ l))) same_count in
+    let middle : counted ≡ 2 ∷ (length relation ∷ (relation ++ to_be_bytes w32 (length rows))) = more_count ∙ ap (λ (l : List ℕ). l ++ count) front
+    ∙ ap (λ (l : List ℕ). 2 ∷ (length relation ∷ (relation ++ l))) same_count in
     more_rows ∙ ap (λ (l : List ℕ). l ++ flat_map framed_row rows) middle
     ∙ ap (λ (l : List ℕ). 2 ∷ (length relation ∷ l)) (append_assoc relation (to_be_bytes w32 (length rows)) (flat_map framed_row rows))
     ∙ ap (λ (l : List ℕ). 2 ∷ (length relation ∷ (relation ++ l))) (sym (counted_is rows)) ∙ sym (rows_body_is relation rows)

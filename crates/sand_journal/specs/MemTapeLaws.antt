@@ -11,7 +11,10 @@ pub put_is_torn : (write : TapeWrite) (bytes : List ℕ) → Torn write.0 (lengt
 put_is_torn write bytes = record {
   before = (write.1 ++ drop (write.0 + length write.1) bytes, append_assoc (take write.0 bytes) write.1 (drop (write.0 + length write.1) bytes));
   behind = elim (cases_lt (length bytes) write.0) [
-    | inl past ↦ (drop (write.0 + length write.1) (put_over write bytes), ap (λ (l : List ℕ). l ++ drop (write.0 + length write.1) (put_over write bytes)) (sym (drop_all (write.0 + length write.1) bytes (omega arith))))
+    | inl past ↦ (
+      drop (write.0 + length write.1) (put_over write bytes),
+      ap (λ (l : List ℕ). l ++ drop (write.0 + length write.1) (put_over write bytes)) (sym (drop_all (write.0 + length write.1) bytes (omega arith))),
+    )
     | inr inside ↦ (
       [],
       drop_at (take write.0 bytes ++ write.1) (drop (write.0 + length write.1) bytes) (write.0 + length write.1)
@@ -19,7 +22,13 @@ put_is_torn write bytes = record {
           ∙ sym (append-nil (drop (write.0 + length write.1) bytes)),
     )
   ];
-  no_shorter = omega (arith, length-append (take write.0 bytes ++ write.1) (drop (write.0 + length write.1) bytes), length-append (take write.0 bytes) write.1, length-take write.0 bytes, length-drop (write.0 + length write.1) bytes);
+  no_shorter = omega (
+    arith,
+    length-append (take write.0 bytes ++ write.1) (drop (write.0 + length write.1) bytes),
+    length-append (take write.0 bytes) write.1,
+    length-take write.0 bytes,
+    length-drop (write.0 + length write.1) bytes,
+  );
 }
 
 -- what a read gives is one of the images

@@ -1,1 +1,2 @@
 pub mod WorkedCases
+pub mod PlainValues

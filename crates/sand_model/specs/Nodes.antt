@@ -22,7 +22,8 @@ square_figure b = figure.Rect (square_of b)
 abbrev pub greater : Frac → Frac → Frac
 greater f g = cond (is_lt (value_cmp f g)) g f
 
--- what a leaf lists, or a pair of leaves: an id or a pair of ids (the right id of a single one is 0), whether it is rough, and its gap, for a rough one the greater of its bounding rectangles' and its leaf's
+-- what a leaf lists, or a pair of leaves: an id or a pair of ids (the right id of a single one is 0), whether it is rough, and its gap, for
+-- a rough one the greater of its bounding rectangles' and its leaf's
 pub record LeafItem : Type 0 where
   pub left : ℕ
   pub right : ℕ

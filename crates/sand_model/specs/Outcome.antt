@@ -90,8 +90,8 @@ leaf_lines relation column = at_place (column_named relation.schema column) wher
   at_place (Some at) = of_index (index_at relation at)
 
 -- all these lines are printed, or the first of them and then a refusal that `may` allows
-abbrev pub PrintsLeaves : (Refusal → Type 0) → List OutputLine → List OutputLine → Type 0
-PrintsLeaves may all lines =
+abbrev pub PrintsFirst : (Refusal → Type 0) → List OutputLine → List OutputLine → Type 0
+PrintsFirst may all lines =
     (lines ≡ all) ⊎ ((printed rest : List OutputLine) × (refusal : Refusal) × may refusal × (all ≡ printed ++ rest) × (lines ≡ printed ++ Refused refusal ∷ []))
 
 -- the lines of the first rows of a list, and `end` where it has fewer
@@ -130,9 +130,9 @@ IsCarriedOut setting rises old (Show count p) lines new =
 IsCarriedOut setting rises old (Stats name) lines new =
     OfCursor old name (λ cursor. Leaves (StatsOf cursor.counts cursor.given) old.cursors old lines new)
 IsCarriedOut setting rises old (Far count column goal) lines new =
-    PrintsLeaves (IsLicensed setting rises old (Far count column goal)) (far_lines setting.gap old.database count column goal) lines × (new ≡ old)
+    PrintsFirst (IsLicensed setting rises old (Far count column goal)) (far_lines setting.gap old.database count column goal) lines × (new ≡ old)
 IsCarriedOut setting rises old (Blocks column) lines new =
-    OfRelation old column.relation (λ relation. PrintsLeaves (IsLicensed setting rises old (Blocks column)) (leaf_lines relation column.column) lines × (new ≡ old))
+    OfRelation old column.relation (λ relation. PrintsFirst (IsLicensed setting rises old (Blocks column)) (leaf_lines relation column.column) lines × (new ≡ old))
 
 -- the outcome of a statement: its checks in order, the first that fails refuses
 abbrev pub Outcome : Setting → Rises → State → Statement → List OutputLine → State → Type 0

@@ -78,7 +78,12 @@ new_means w name schema file e =
 -- the pages of the catalog with one relation more, counted
 pages_more : (w : PageMap) (rs : List RelationView) (r : RelationView) (q : ℕ) → times q (catalog_pages w (rs ++ r ∷ [])) ≡ times q (catalog_pages w rs) + times q (relation_pages w r)
 pages_more w rs r q =
-    omega (arith, ap (λ (ps : List ℕ). times q ps) (flat_map-append (relation_pages w) rs (r ∷ [])), times-append q (catalog_pages w rs) (catalog_pages w (r ∷ [])), times-append q (relation_pages w r) [])
+    omega (
+      arith,
+      ap (λ (ps : List ℕ). times q ps) (flat_map-append (relation_pages w) rs (r ∷ [])),
+      times-append q (catalog_pages w rs) (catalog_pages w (r ∷ [])),
+      times-append q (relation_pages w r) [],
+    )
 
 -- the pages of a relation without access paths, counted
 pages_new : (w : PageMap) (name : List ℕ) (schema : List (List ℕ × Kind)) (file : TupleFile) (q : ℕ) → times q (relation_pages w (new_view name schema file)) ≡ times q (file_pages (store_of w) file)

@@ -92,7 +92,8 @@ columns_same rows [] = refl
 columns_same rows (t ∷ ts) = ap (λ (ns : List ℕ). t.0 ∷ ns) (columns_same rows ts)
 
 -- each R-tree is one
-rectangles_are : (m : PageMap) (r : RelationView) (ts : List (ℕ × RTree)) → All (λ n. IsColumnAt r.schema n true) (map (λ t. t.0) ts) → All (IsRectangles (relation_in m r)) (rectangles_of (rows_in m r) ts)
+rectangles_are : (m : PageMap) (r : RelationView) (ts : List (ℕ × RTree)) → All (λ n. IsColumnAt r.schema n true) (map (λ t. t.0) ts)
+    → All (IsRectangles (relation_in m r)) (rectangles_of (rows_in m r) ts)
 rectangles_are m r [] k = All-nil (IsRectangles (relation_in m r))
 rectangles_are m r (t ∷ ts) k = All-cons (IsRectangles (relation_in m r)) (t.0, rough_shapes t.0 (rows_in m r)) (rectangles_of (rows_in m r) ts)
     (All-head (λ (n : ℕ). IsColumnAt r.schema n true) t.0 (map (λ (x : ℕ × RTree). x.0) ts) k, refl)

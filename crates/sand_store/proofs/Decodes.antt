@@ -48,7 +48,8 @@ point_length p = omega (arith, length-append (coordinate_bytes p.x) (coordinate_
 point_back : (p : Point) (rest : List ℕ) → IsInPlane p → point_in (point_bytes p ++ rest) ≡ p
 point_back p rest h =
     let whole : point_bytes p ++ rest ≡ coordinate_bytes p.x ++ (coordinate_bytes p.y ++ rest) = append_assoc (coordinate_bytes p.x) (coordinate_bytes p.y) rest in
-    let behind : drop 4 (coordinate_bytes p.x ++ (coordinate_bytes p.y ++ rest)) ≡ coordinate_bytes p.y ++ rest = drop_at (coordinate_bytes p.x) (coordinate_bytes p.y ++ rest) 4 (length-coordinate_bytes p.x) in
+    let behind : drop 4 (coordinate_bytes p.x ++ (coordinate_bytes p.y ++ rest)) ≡ coordinate_bytes p.y ++ rest =
+    drop_at (coordinate_bytes p.x) (coordinate_bytes p.y ++ rest) 4 (length-coordinate_bytes p.x) in
     ap (λ (b : List ℕ). point_in b) whole
     ∙ ap₂ (λ (x y : ℕ). record { x = x; y = y }) (coordinate_back p.x (coordinate_bytes p.y ++ rest) (omega (arith, h.x)))
     (ap (λ (b : List ℕ). coordinate_in b) behind ∙ coordinate_back p.y rest (omega (arith, h.y)))

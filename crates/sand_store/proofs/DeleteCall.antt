@@ -87,7 +87,8 @@ remove_refused pool rs limits name id at r w first here outside = λ setting is 
     outside_refuses (IsTold pool) is_missing (early_at setting store (Delete name id)) (late_at setting store (Delete name id)) w outside (early_passes setting pool.pages rs name id at r first here)
 
 -- what was fetched is the row of the id
-pub row_fetched : (m : PageMap) (limits : Limits) (x r : RelationView) (id : ℕ) (found : Option (List Value)) → x ≡ r → RelationStands m limits r → IsRowAt x.schema (file_rows (store_of m) x.file) id found
+pub row_fetched : (m : PageMap) (limits : Limits) (x r : RelationView) (id : ℕ) (found : Option (List Value)) → x ≡ r → RelationStands m limits r
+    → IsRowAt x.schema (file_rows (store_of m) x.file) id found
     → of_id id (rows_in m r) ≡ found
 row_fetched m limits x r id found e h is =
     let P : RelationView → Type 0 = λ y. IsRowAt y.schema (file_rows (store_of m) y.file) id found in
@@ -150,7 +151,8 @@ became_read old mid new rs limits at r u id row h read l here there b told =
     subst P read.pages (b after limits (can_lose_read old mid rs limits at r id row h read l here there after))
 
 -- the relation without the row is described
-pub shrunk_described : (limits : Limits) (r : RelationView) (spans : List ℕ) (file : TupleFile) (after : List (ℕ × AccessPath)) (trees : List (ℕ × RTree)) → IsDescribed limits r → SamePlaces r.schema r.paths after
+pub shrunk_described : (limits : Limits) (r : RelationView) (spans : List ℕ) (file : TupleFile) (after : List (ℕ × AccessPath)) (trees : List (ℕ × RTree))
+    → IsDescribed limits r → SamePlaces r.schema r.paths after
     → SameColumns r.trees trees → IsDescribed limits (shrunk_view r spans file after trees)
 shrunk_described limits r spans file after trees h p t = record {
   schema = h.schema;

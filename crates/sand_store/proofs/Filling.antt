@@ -274,7 +274,8 @@ half_end m w limits schema file column a b from k e =
     let S : Rows → Type 0 = λ rows. PathStands w limits schema rows (column, b) in
     record {
       stands = subst S all k.stands;
-      means = λ gap is. sym (after_none gap (rows_at m schema file) column (index_in w b)) ∙ (ap (λ (rows : Rows). index_after gap (rows_at m schema file) column rows (index_in w b)) (sym none) ∙ k.means gap is);
+      means = λ gap is. sym (after_none gap (rows_at m schema file) column (index_in w b))
+          ∙ (ap (λ (rows : Rows). index_after gap (rows_at m schema file) column rows (index_in w b)) (sym none) ∙ k.means gap is);
       keeps = k.keeps;
     }
 
@@ -388,8 +389,10 @@ file_read s t schema file h r told =
     let P : PageMap → Type 0 = λ m. IsFile (store_of m) file in
     subst P (sym r.pages) (h (sym r.told ∙ told)).file
 
-pub row_found : (s t : PoolState) (schema : List (List ℕ × Kind)) (file : TupleFile) (from id : ℕ) (row : List Value) (first : Option ℕ) (found : Option (List Value)) → (IsTold s → TableStands s.pages schema file)
-    → IsRead s t → (IsTold s → first ≡ least_from from (file_rows (store_of s.pages) file)) → first ≡ Some id → (IsTold t → IsRowAt schema (file_rows (store_of t.pages) file) id found) → found ≡ Some row
+pub row_found : (s t : PoolState) (schema : List (List ℕ × Kind)) (file : TupleFile) (from id : ℕ) (row : List Value) (first : Option ℕ) (found : Option (List Value))
+    → (IsTold s → TableStands s.pages schema file)
+    → IsRead s t → (IsTold s → first ≡ least_from from (file_rows (store_of s.pages) file)) → first ≡ Some id
+    → (IsTold t → IsRowAt schema (file_rows (store_of t.pages) file) id found) → found ≡ Some row
     → IsTold s → Some (id, row) ≡ find (λ r. nat_le from r.0) (rows_at s.pages schema file)
 row_found s t schema file from id row first found h r least is at row_is told =
     let table = h told in
@@ -428,8 +431,10 @@ took_as m w limits schema file id row column a x b is took =
     subst P (sym is) took
 
 pub full_as : (m : PageMap) (limits : Limits) (schema : List (List ℕ × Kind)) (file : TupleFile) (id : ℕ) (row : List Value) (column : ℕ) (a x : AccessPath) → a ≡ x
-    → ((h : CanTake m limits schema file id row (column, x)) → (gap : Measure) → IsMeasure gap → is_overfull limits (column, index_after gap (rows_at m schema file) column ((id, row) ∷ h.rest) (index_in m x)) ≡ true)
-    → (h : CanTake m limits schema file id row (column, a)) → (gap : Measure) → IsMeasure gap → is_overfull limits (column, index_after gap (rows_at m schema file) column ((id, row) ∷ h.rest) (index_in m a)) ≡ true
+    → ((h : CanTake m limits schema file id row (column, x)) → (gap : Measure) → IsMeasure gap
+    → is_overfull limits (column, index_after gap (rows_at m schema file) column ((id, row) ∷ h.rest) (index_in m x)) ≡ true)
+    → (h : CanTake m limits schema file id row (column, a)) → (gap : Measure) → IsMeasure gap
+    → is_overfull limits (column, index_after gap (rows_at m schema file) column ((id, row) ∷ h.rest) (index_in m a)) ≡ true
 full_as m limits schema file id row column a x is full =
     let P : AccessPath → Type 0 = λ y. (h : CanTake m limits schema file id row (column, y)) → (gap : Measure) → IsMeasure gap
     → is_overfull limits (column, index_after gap (rows_at m schema file) column ((id, row) ∷ h.rest) (index_in m y)) ≡ true in

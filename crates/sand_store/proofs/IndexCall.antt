@@ -1,5 +1,6 @@
 -- What the call answers that makes an index: why it is refused, and what the store is after it.
-use Rattle.std.proofs.Common.{◌≡◌, ◌⊎◌, ℕ, zero, suc, ◌+◌, ◌<◌, ◌≤◌, Bool, true, false, ◌||◌, ◌&&◌, not, nat_eq, cond, List, [], ◌∷◌, ◌++◌, length, map, get_or, set, Option, Some, None, refl, sym, ◌∙◌, ap, ap₂, subst, arith, inl, inr, true≢false}
+use Rattle.std.proofs.Common.{◌≡◌, ◌⊎◌, ℕ, zero, suc, ◌+◌, ◌<◌, ◌≤◌, Bool, true, false, ◌||◌, ◌&&◌, not, nat_eq, cond, List, [], ◌∷◌, ◌++◌, length, map, get_or, set}
+use Rattle.std.proofs.Common.{Option, Some, None, refl, sym, ◌∙◌, ap, ap₂, subst, arith, inl, inr, true≢false}
 use Rattle.std.specs.Prelude.{is_some}
 use Rattle.std.specs.List.{find, position, list_any}
 use Rattle.std.specs.Option.{option_map}
@@ -82,7 +83,8 @@ early_index setting m rs column given = in_catalog (find (is_named column.relati
   tested r at c (Some a) true e f g h k = rw (named_in m rs column.relation, e, f, g, indexed_same m r column.column at f, h, k) refl
   tested r at c (Some a) false e f g h k = rw (named_in m rs column.relation, e, f, g, indexed_same m r column.column at f, h, k) refl
 
-  at_column : (r : RelationView) (at : ℕ) (o : Option (List ℕ × Kind)) → find (is_named column.relation) rs ≡ Some r → column_named r.schema column.column ≡ Some at → element r.schema at ≡ o → IsSameCheck setting m rs column given
+  at_column : (r : RelationView) (at : ℕ) (o : Option (List ℕ × Kind)) → find (is_named column.relation) rs ≡ Some r → column_named r.schema column.column ≡ Some at
+      → element r.schema at ≡ o → IsSameCheck setting m rs column given
   at_column r at None e f g = rw (named_in m rs column.relation, e, f, g) refl
   at_column r at (Some c) e f g = tested r at c (path_at r.paths at) (is_there given && not (is_spatial c.1)) e f g refl refl
 
@@ -115,7 +117,8 @@ failed r name given w e = in_schema (column_named r.schema name) refl where
   is : (x : Refusal) → index_check r name given ≡ Some x → w ≡ x
   is x k = sym (some_same x w (sym k ∙ e))
 
-  tested : (at : ℕ) (c : List ℕ × Kind) (a b : Bool) → column_named r.schema name ≡ Some at → element r.schema at ≡ Some c → is_there (path_at r.paths at) ≡ a → (is_there given && not (is_spatial c.1)) ≡ b
+  tested : (at : ℕ) (c : List ℕ × Kind) (a b : Bool) → column_named r.schema name ≡ Some at → element r.schema at ≡ Some c → is_there (path_at r.paths at) ≡ a
+      → (is_there given && not (is_spatial c.1)) ≡ b
       → IsOneOfThree w
   tested at c a true f g h k = inr (inl (is why.WrongKind (rw (f, g, k) refl)))
   tested at c true false f g h k = inr (inr (is why.IndexThere (rw (f, g, k, h) refl)))
@@ -145,13 +148,15 @@ wanted_is : (gap : Measure) (m : PageMap) (column : Column) (given : Option ℕ)
     → indexed_by gap column given (relation_in m r) ≡ with_index gap place threshold (relation_in m r)
 wanted_is gap m column given r place threshold w = rw (w.place, w.here) (ap (λ (t : Option ℕ). with_index gap place t (relation_in m r)) (sym w.asked))
 
-late_there : (setting : Setting) (limits : Limits) (m : PageMap) (rs : List RelationView) (column : Column) (given : Option ℕ) (at : ℕ) (r : RelationView) → FirstAt column.relation rs at → r ≡ get_or rs at r
+late_there : (setting : Setting) (limits : Limits) (m : PageMap) (rs : List RelationView) (column : Column) (given : Option ℕ) (at : ℕ) (r : RelationView)
+    → FirstAt column.relation rs at → r ≡ get_or rs at r
     → setting.limits ≡ limits → late setting (alone (database_in m rs)) (IndexOn column given) ≡ check_listings limits (indexed_by setting.gap column given (relation_in m r))
 late_there setting limits m rs column given at r first here l =
     rw (relation_at m column.relation rs at r first here) (ap (λ (n : Limits). check_listings n (indexed_by setting.gap column given (relation_in m r))) l)
 
 -- a refusal from outside comes where the early checks pass, and a full quadtree where the late ones say so
-stopped : (told : Type 0) (before behind : Option Refusal) (w : Refusal) → IsOutsideOrFull w → before ≡ None → (w ≡ why.IndexFull → told → behind ≡ Some why.IndexFull) → Refuses told is_full before behind w
+stopped : (told : Type 0) (before behind : Option Refusal) (w : Refusal) → IsOutsideOrFull w → before ≡ None → (w ≡ why.IndexFull → told → behind ≡ Some why.IndexFull)
+    → Refuses told is_full before behind w
 stopped told before behind why.Memory o e f = tt
 stopped told before behind why.Device o e f = e
 stopped told before behind (why.Damaged n kept read) o e f = e
@@ -203,7 +208,8 @@ once_more (p ∷ ps) at a h e =
     rw none (once_more ps at a parts.1 free.1)
 
 -- the relation with the index is described
-pub indexed_described : (limits : Limits) (r : RelationView) (name : List ℕ) (given : Option ℕ) (at : ℕ) (threshold : Option ℕ) (a : AccessPath) → IsDescribed limits r → IsWanted r name given at threshold
+pub indexed_described : (limits : Limits) (r : RelationView) (name : List ℕ) (given : Option ℕ) (at : ℕ) (threshold : Option ℕ) (a : AccessPath) → IsDescribed limits r
+    → IsWanted r name given at threshold
     → IsPathOf r.schema (at, a) → IsDescribed limits (indexed_view r at a)
 indexed_described limits r name given at threshold a d w of = record {
   schema = d.schema;
@@ -307,7 +313,8 @@ command_became old began now done limits r u at threshold a pages same ended sta
     let U : RelationView → Type 0 = λ y. Became old.pages done.pages limits r y (λ gap. with_index gap at threshold) in
     subst U (sym is) (subst D (sym ended) (index_became old.pages now.pages limits r at threshold a (stands told) (owns told) (subst B (pages told) (builds (same ∙ told)))))
 
-pub command_full : (gap : Measure) (old began : PoolState) (limits : Limits) (r : RelationView) (at : ℕ) (threshold : Option ℕ) → (IsTold old → began.pages ≡ old.pages) → began.disk.told ≡ old.disk.told
+pub command_full : (gap : Measure) (old began : PoolState) (limits : Limits) (r : RelationView) (at : ℕ) (threshold : Option ℕ) → (IsTold old → began.pages ≡ old.pages)
+    → began.disk.told ≡ old.disk.told
     → (IsTold began → is_overfull limits (at, new_index gap (rows_in began.pages r) at threshold) ≡ true) → IsTold old
     → check_listings limits (with_index gap at threshold (relation_in old.pages r)) ≡ Some why.IndexFull
 command_full gap old began limits r at threshold pages same full told =
@@ -348,7 +355,8 @@ set_same (y ∷ rs) (suc at) x u l here e = ap (λ (zs : List RelationView). y �
 
 -- so after a refusal the store is what it was
 
-pub reverted_store : (old new : PoolState) (limits : Limits) (rs us : List RelationView) → IsStore (record { relations = rs; limits = limits }) old → us ≡ rs → IsClosed new → new.disk.told ≡ old.disk.told
+pub reverted_store : (old new : PoolState) (limits : Limits) (rs us : List RelationView) → IsStore (record { relations = rs; limits = limits }) old → us ≡ rs
+    → IsClosed new → new.disk.told ≡ old.disk.told
     → (IsTold old → new.pages ≡ old.pages) → IsStore (record { relations = us; limits = limits }) new
 reverted_store old new limits rs us h same closed told pages =
     let P : List RelationView → Type 0 = λ xs. IsStore (record { relations = xs; limits = limits }) new in
@@ -369,7 +377,8 @@ reverted_unchanged old new limits rs us same told pages = record {
 
 -- The relation that has got an index, put in its place; it is x, as it was read a second time.
 
-path_described : (limits : Limits) (r u : RelationView) (name : List ℕ) (given : Option ℕ) (place : ℕ) (threshold : Option ℕ) → IsDescribed limits r → IsWanted r name given place threshold → HasPath r u place
+path_described : (limits : Limits) (r u : RelationView) (name : List ℕ) (given : Option ℕ) (place : ℕ) (threshold : Option ℕ) → IsDescribed limits r
+    → IsWanted r name given place threshold → HasPath r u place
     → IsDescribed limits u × (u.name ≡ r.name)
 path_described limits r u name given place threshold d w p =
     let P : RelationView → Type 0 = λ y. IsDescribed limits y × (y.name ≡ r.name) in
@@ -400,5 +409,6 @@ pub full_by : (pool : PoolState) (limits : Limits) (r x : RelationView) (place :
     → (w ≡ why.IndexFull → IsTold pool → (gap : Measure) → IsMeasure gap → check_listings limits (with_index gap place threshold (relation_in pool.pages x)) ≡ Some why.IndexFull)
     → w ≡ why.IndexFull → IsTold pool → (gap : Measure) → IsMeasure gap → check_listings limits (with_index gap place threshold (relation_in pool.pages r)) ≡ Some why.IndexFull
 full_by pool limits r x place threshold w same full =
-    let P : RelationView → Type 0 = λ y. w ≡ why.IndexFull → IsTold pool → (gap : Measure) → IsMeasure gap → check_listings limits (with_index gap place threshold (relation_in pool.pages y)) ≡ Some why.IndexFull in
+    let P : RelationView → Type 0 = λ y. w ≡ why.IndexFull → IsTold pool → (gap : Measure) → IsMeasure gap
+    → check_listings limits (with_index gap place threshold (relation_in pool.pages y)) ≡ Some why.IndexFull in
     subst P same full

@@ -152,7 +152,8 @@ stands_within m limits r h = ap (λ (t : Bool). refused_where t why.IndexFull) (
 -- what the new row is to the database
 pub inserted_is : (old new : PoolState) (limits : Limits) (name : List ℕ) (row : List Value) (rs us : List RelationView) (at : ℕ) (r u : RelationView)
     → IsStore (record { relations = rs; limits = limits }) old → FirstAt name rs at → at < length rs → r ≡ get_or rs at r → us ≡ set rs at u → row_check limits r row ≡ None
-    → sketch_of u ≡ with_ids 1 (sketch_of r) → (IsTold old → Became old.pages new.pages limits r u (λ gap. with_row gap row)) → Inserted (store_from rs limits old) (store_from us limits new) name row r.next
+    → sketch_of u ≡ with_ids 1 (sketch_of r) → (IsTold old → Became old.pages new.pages limits r u (λ gap. with_row gap row))
+    → Inserted (store_from rs limits old) (store_from us limits new) name row r.next
 inserted_is old new limits name row rs us at r u h first l here is passes sketch b = record {
   passes = λ setting s e. (
     early_there setting limits old.pages rs name row at r first here e ∙ passes,

@@ -204,7 +204,8 @@ loaded_store old new rs us limits name rows at r u h first l here is counts told
 -- what the rows are to the database
 pub loaded_is : (old new : PoolState) (rs us : List RelationView) (limits : Limits) (name : List ℕ) (rows : Rows) (at : ℕ) (r u : RelationView) (count : ℕ)
     → IsStore (record { relations = rs; limits = limits }) old → FirstAt name rs at → at < length rs → r ≡ get_or rs at r → us ≡ set rs at u → Counts limits r u (length rows)
-    → count ≡ u.next - r.next → plain_of limits r rows ≡ None → (IsTold old → Enters old.pages new.pages limits r u rows []) → Loaded (store_from rs limits old) (store_from us limits new) name rows count
+    → count ≡ u.next - r.next → plain_of limits r rows ≡ None → (IsTold old → Enters old.pages new.pages limits r u rows [])
+    → Loaded (store_from rs limits old) (store_from us limits new) name rows count
 loaded_is old new rs us limits name rows at r u count h first l here is counts counted passed enters =
     let found : find (is_named name) rs ≡ Some r = found_at name rs at r first here in
     let all : count ≡ length rows = omega (arith, counted, counts.next) in

@@ -91,7 +91,8 @@ rows_stay first now limits schema file id row all done rest h k =
     rows_same first.pages now.pages schema file (file_stays first.pages now.pages limits schema file id row all done rest h k)
 
 -- a step of the loop
-pub between_next : (first now next : PoolState) (limits : Limits) (schema : List (List ℕ × Kind)) (file : TupleFile) (id : ℕ) (row : List Value) (all done : Paths) (at : ℕ) (p : ℕ × AccessPath) (b : AccessPath)
+pub between_next : (first now next : PoolState) (limits : Limits) (schema : List (List ℕ × Kind)) (file : TupleFile) (id : ℕ) (row : List Value) (all done : Paths)
+    (at : ℕ) (p : ℕ × AccessPath) (b : AccessPath)
     → Between first now limits schema file id row all done at → at < length all → p ≡ slice_index_or all at p → InCommand now next → next.disk.faults ≡ now.disk.faults
     → IsPathOf schema (p.0, b) → (IsTold now → PathGrew now.pages next.pages limits schema (rows_at now.pages schema file) id p.0 p.1 b)
     → Between first next limits schema file id row all (done ++ (p.0, b) ∷ []) (at + 1)
@@ -144,7 +145,8 @@ between_apart first now limits schema file id row all done at p k l here can tol
     let v : PageMap = now.pages in
     let rest : Paths = drop (at + 1) all in
     let mid = next_first first now limits schema file id row all done at p k l here t h in
-    let a : times q (paths_pages v (done ++ p ∷ rest)) + times q (file_pages (store_of v) file) ≤ live (store_of v) q = file_apart first.pages v limits schema file id row all done (p ∷ rest) h mid q in (
+    let a : times q (paths_pages v (done ++ p ∷ rest)) + times q (file_pages (store_of v) file) ≤ live (store_of v) q =
+    file_apart first.pages v limits schema file id row all done (p ∷ rest) h mid q in (
       is_live now q (omega (arith, a, in_file, live_small (store_of v) q)),
       omega (arith, a, in_file, live_small (store_of v) q, pages_append v done (p ∷ rest) q, pages_cons v p rest q),
     )

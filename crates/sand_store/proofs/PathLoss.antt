@@ -49,7 +49,8 @@ length_union_of_four p q r s = omega (arith, length_union p (union q (union r s)
 -- a place that merged, or not, has no more listings than its children
 listings_merged : (n : ℕ) (p q r s : Tree) → listings (merged n p q r s) ≤ listings (Inner p q r s)
 listings_merged n (Leaf p) (Leaf q) (Leaf r) (Leaf s) =
-    elim (nat_lt (length (union_of_four p q r s)) n) as (λ c. listings (cond c (Leaf (union_of_four p q r s)) (Inner (Leaf p) (Leaf q) (Leaf r) (Leaf s))) ≤ listings (Inner (Leaf p) (Leaf q) (Leaf r) (Leaf s))) [
+    elim (nat_lt (length (union_of_four p q r s)) n) as
+    (λ c. listings (cond c (Leaf (union_of_four p q r s)) (Inner (Leaf p) (Leaf q) (Leaf r) (Leaf s))) ≤ listings (Inner (Leaf p) (Leaf q) (Leaf r) (Leaf s))) [
       | true ↦ omega (arith, length_union_of_four p q r s)
       | false ↦ omega arith
     ]

@@ -86,7 +86,8 @@ partway_next m v w change all done rest p b k g =
       means = λ gap is.
           let f : ℕ × Index → ℕ × Index = change.index gap in
           let split : indexes_in w now ≡ indexes_in w done ++ (p.0, index_in w b) ∷ [] = map-append (λ (x : ℕ × AccessPath). (x.0, index_in w x.1)) done ((p.0, b) ∷ []) in
-          ap₂ (λ (a c : List (ℕ × Index)). a ++ map f c) (split ∙ ap₂ (λ (a : List (ℕ × Index)) (i : ℕ × Index). a ++ i ∷ []) (indexes_stay v w done same_done) (g.means gap is)) (indexes_stay v w rest same_rest)
+          ap₂ (λ (a c : List (ℕ × Index)). a ++ map f c) (split ∙ ap₂ (λ (a : List (ℕ × Index)) (i : ℕ × Index). a ++ i ∷ []) (indexes_stay v w done same_done) (g.means gap is))
+          (indexes_stay v w rest same_rest)
           ∙ (append_assoc (indexes_in v done) (f (p.0, index_in v p.1) ∷ []) (map f (indexes_in v rest)) ∙ k.means gap is);
       keeps = keeps_then (store_of m) (store_of v) (store_of w) (paths_pages m all) (paths_pages v (done ++ p ∷ rest)) (paths_pages w (now ++ rest)) k.keeps step;
       apart = λ q.

@@ -33,7 +33,8 @@ of_kind schema column threshold (Attribute x) at is = (let P : Bool → Type 0 =
 file_stays : (m w : PageMap) (limits : Limits) (r : RelationView) (threshold : Option ℕ) (a : AccessPath) → RelationStands m limits r → Plants m w threshold a
     → SameOn m w (file_pages (store_of m) r.file)
 file_stays m w limits r threshold a h p =
-    untouched (store_of m) (store_of w) [] (path_pages w a) (file_pages (store_of m) r.file) p.keeps (λ q. (let o : times q (file_pages (store_of m) r.file) ≤ live (store_of m) q = h.table.file.owns q in omega (arith, o)))
+    untouched (store_of m) (store_of w) [] (path_pages w a) (file_pages (store_of m) r.file) p.keeps
+    (λ q. (let o : times q (file_pages (store_of m) r.file) ≤ live (store_of m) q = h.table.file.owns q in omega (arith, o)))
 
 -- so it can take all rows
 pub can_fill : (m w : PageMap) (limits : Limits) (r : RelationView) (column : ℕ) (threshold : Option ℕ) (a : AccessPath) → 1 ≤ limits.listings → RelationStands m limits r → Plants m w threshold a
@@ -78,7 +79,8 @@ built_is m w v limits r column threshold a b h p f =
 
 -- The same of a relation x that is r, as code sees its parts.
 
-pub asks_fill : (m w : PageMap) (limits : Limits) (x r : RelationView) (column : ℕ) (threshold : Option ℕ) (a : AccessPath) → x ≡ r → 1 ≤ limits.listings → RelationStands m limits r → Plants m w threshold a
+pub asks_fill : (m w : PageMap) (limits : Limits) (x r : RelationView) (column : ℕ) (threshold : Option ℕ) (a : AccessPath) → x ≡ r → 1 ≤ limits.listings
+    → RelationStands m limits r → Plants m w threshold a
     → CanFill w limits x.schema x.file (column, a)
 asks_fill m w limits x r column threshold a e some h p =
     let H : RelationView → Type 0 = λ y. RelationStands m limits y in
@@ -91,7 +93,8 @@ got_built m w v limits x r column threshold a b e h p f =
     let B : RelationView → Type 0 = λ y. Builds m v limits y.schema (rows_in m y) column threshold b in
     subst B e (built_is m w v limits x column threshold a b (subst H (sym e) h) p f)
 
-pub built_full : (gap : Measure) (m w : PageMap) (limits : Limits) (x r : RelationView) (column : ℕ) (threshold : Option ℕ) (a : AccessPath) → x ≡ r → RelationStands m limits r → Plants m w threshold a
+pub built_full : (gap : Measure) (m w : PageMap) (limits : Limits) (x r : RelationView) (column : ℕ) (threshold : Option ℕ) (a : AccessPath) → x ≡ r
+    → RelationStands m limits r → Plants m w threshold a
     → is_overfull limits (column, index_after gap (rows_at w x.schema x.file) column (rows_at w x.schema x.file) (index_in w a)) ≡ true
     → is_overfull limits (column, new_index gap (rows_in m r) column threshold) ≡ true
 built_full gap m w limits x r column threshold a e h p full =

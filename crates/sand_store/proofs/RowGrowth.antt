@@ -237,7 +237,8 @@ row_grew m w v z limits r g row after trees span h of short begun owns p a leads
 }
 
 -- Both, of a relation x that is r, as code sees its parts.
-pub tree_asks : (m w v : PageMap) (limits : Limits) (x r : RelationView) (g : TupleFile) (row : List Value) (bytes : List ℕ) (paths after : List (ℕ × AccessPath)) (trees : List (ℕ × RTree)) (span : Span)
+pub tree_asks : (m w v : PageMap) (limits : Limits) (x r : RelationView) (g : TupleFile) (row : List Value) (bytes : List ℕ) (paths after : List (ℕ × AccessPath))
+    (trees : List (ℕ × RTree)) (span : Span)
     → x ≡ r → bytes ≡ encoding row → paths ≡ x.paths → trees ≡ x.trees
     → RelationStands m limits r → IsRowFor r.schema row → row_size row ≤ longest_row → 1 ≤ r.next → OwnsOf m r → Put (store_of m) (store_of w) x.file g x.next bytes
     → AllGrew w v limits x.schema (rows_at w x.schema g) x.next paths after → Lies (store_of w) g x.next span
@@ -250,10 +251,12 @@ tree_asks m w v limits x r g row bytes paths after trees span e b ps ts h of sho
     let P : List ℕ → Type 0 = λ bs. Put (store_of m) (store_of w) x.file g x.next bs in
     let T : List (ℕ × RTree) → Type 0 = λ xs. TreesCanChange v (rows_in m x) xs × CanChange Enters x.next row (rows_in m x) in (
       rows_in m x,
-      subst T (sym ts) (grown_asks m w v limits x g row after span (subst H (sym e) h) (subst F (sym e) of) short (subst N (sym e) begun) (subst (OwnsOf m) (sym e) owns) (subst P b p) (subst A ps a) leads),
+      subst T (sym ts) (grown_asks m w v limits x g row after span (subst H (sym e) h) (subst F (sym e) of) short (subst N (sym e) begun) (subst (OwnsOf m) (sym e) owns)
+          (subst P b p) (subst A ps a) leads),
     )
 
-pub got : (m w v z : PageMap) (limits : Limits) (x r : RelationView) (g : TupleFile) (row : List Value) (bytes : List ℕ) (paths after : List (ℕ × AccessPath)) (trees now : List (ℕ × RTree)) (span : Span)
+pub got : (m w v z : PageMap) (limits : Limits) (x r : RelationView) (g : TupleFile) (row : List Value) (bytes : List ℕ) (paths after : List (ℕ × AccessPath))
+    (trees now : List (ℕ × RTree)) (span : Span)
     → x ≡ r → bytes ≡ encoding row → paths ≡ x.paths → trees ≡ x.trees
     → RelationStands m limits r → IsRowFor r.schema row → row_size row ≤ longest_row → 1 ≤ r.next → OwnsOf m r → Put (store_of m) (store_of w) x.file g x.next bytes
     → AllGrew w v limits x.schema (rows_at w x.schema g) x.next paths after → Lies (store_of w) g x.next span
@@ -275,7 +278,8 @@ got m w v z limits x r g row bytes paths after trees now span e b ps ts h of sho
     (subst T ts (changed (rows_in m x) (subst K (sym ts) can_x.0) can_x.1)) (subst C ts columns))
 
 -- And why it may be refused.
-pub too_full : (m w : PageMap) (limits : Limits) (x r : RelationView) (g : TupleFile) (row : List Value) (bytes : List ℕ) (paths : List (ℕ × AccessPath)) (gap : Measure) → x ≡ r → bytes ≡ encoding row → paths ≡ x.paths
+pub too_full : (m w : PageMap) (limits : Limits) (x r : RelationView) (g : TupleFile) (row : List Value) (bytes : List ℕ) (paths : List (ℕ × AccessPath)) (gap : Measure)
+    → x ≡ r → bytes ≡ encoding row → paths ≡ x.paths
     → RelationStands m limits r → IsRowFor r.schema row → OwnsOf m r → Put (store_of m) (store_of w) x.file g x.next bytes
     → list_any (is_overfull limits) (map (index_with gap (rows_at w x.schema g) x.next) (indexes_in w paths)) ≡ true
     → check_listings limits (with_row gap row (relation_in m r)) ≡ Some why.IndexFull

@@ -69,7 +69,8 @@ has_row : (m : PageMap) (limits : Limits) (r : RelationView) (id : ℕ) (row : L
 has_row m limits r id row h = record {
   rows = h.stands.table.rows;
   rise = rises_at m r.schema r.file h.stands.table.file;
-  small = All-weaker (λ (x : ℕ × List Value). (1 ≤ x.0) × (x.0 < r.next)) (λ (x : ℕ × List Value). (1 ≤ x.0) × (x.0 < 2 ^ 32)) (λ x b. (b.0, omega (arith, b.1, h.small))) (rows_in m r) h.stands.given_out;
+  small = All-weaker (λ (x : ℕ × List Value). (1 ≤ x.0) × (x.0 < r.next)) (λ (x : ℕ × List Value). (1 ≤ x.0) × (x.0 < 2 ^ 32))
+      (λ x b. (b.0, omega (arith, b.1, h.small))) (rows_in m r) h.stands.given_out;
   there = h.there;
 }
 

@@ -1,5 +1,6 @@
 -- Rows without the one of an id: their shapes, and what an index has of them.
-use Rattle.std.proofs.Common.{◌≡◌, ◌≢◌, ℕ, ◌+◌, ◌*◌, ◌^◌, ◌<◌, ◌≤◌, Bool, true, false, cond, nat_eq, List, [], ◌∷◌, map, refl, sym, ◌∙◌, ap, Option, Some, None, subst, arith, inl, inr, true≢false, All}
+use Rattle.std.proofs.Common.{◌≡◌, ◌≢◌, ℕ, ◌+◌, ◌*◌, ◌^◌, ◌<◌, ◌≤◌, Bool, true, false, cond, nat_eq, List, [], ◌∷◌, map, refl, sym, ◌∙◌, ap, Option, Some, None, subst}
+use Rattle.std.proofs.Common.{arith, inl, inr, true≢false, All}
 use Rattle.std.specs.Prelude.{is_some, not}
 use Rattle.std.specs.List.{find}
 use Rattle.std.specs.Option.{option_map}

@@ -1,5 +1,6 @@
 -- What the call answers that makes an R-tree: why it is refused, and what the store is after it.
-use Rattle.std.proofs.Common.{◌≡◌, ◌⊎◌, ℕ, ◌+◌, ◌<◌, ◌≤◌, Bool, true, false, not, cond, ◌||◌, nat_eq, List, [], ◌∷◌, ◌++◌, length, map, get_or, set, Option, Some, None, refl, sym, ◌∙◌, ap, ap₂, subst, arith, inl, inr, true≢false, All}
+use Rattle.std.proofs.Common.{◌≡◌, ◌⊎◌, ℕ, ◌+◌, ◌<◌, ◌≤◌, Bool, true, false, not, cond, ◌||◌, nat_eq, List, [], ◌∷◌, ◌++◌, length, map, get_or, set, Option, Some, None}
+use Rattle.std.proofs.Common.{refl, sym, ◌∙◌, ap, ap₂, subst, arith, inl, inr, true≢false, All}
 use Rattle.std.specs.Prelude.{is_some}
 use Rattle.std.specs.List.{position, find, list_any}
 use Rattle.std.specs.Option.{option_map}
@@ -179,7 +180,8 @@ treed_described limits r name at a d w =
       indexed = d.indexed;
       paths = d.paths;
       bounded = once_more r.trees at a d.bounded w.free;
-      trees = subst P (sym (map-append (λ (q : ℕ × RTree). q.0) r.trees ((at, a) ∷ []))) (All-push (λ (n : ℕ). IsColumnAt r.schema n true) (columns_of r.trees) at d.trees (w.column.0, w.column.1, w.here, w.spatial));
+      trees = subst P (sym (map-append (λ (q : ℕ × RTree). q.0) r.trees ((at, a) ∷ [])))
+          (All-push (λ (n : ℕ). IsColumnAt r.schema n true) (columns_of r.trees) at d.trees (w.column.0, w.column.1, w.here, w.spatial));
     }
 
 -- A relation has got an R-tree.
@@ -187,7 +189,8 @@ tree_became : (m w : PageMap) (limits : Limits) (r : RelationView) (at number : 
     → PlantsRows m w a number (shapes_of at (rows_in m r)) → Became m w limits r (treed_view r at a) (λ gap. with_rectangles at)
 tree_became m w limits r at number a h owns b =
     let new : List ℕ = tree_pages (store_of w) a in
-    let same : SameOn m w (relation_pages m r) = untouched (store_of m) (store_of w) [] new (relation_pages m r) b.keeps (λ q. (let o : times q (relation_pages m r) ≤ live (store_of m) q = owns q in omega (arith, o))) in
+    let same : SameOn m w (relation_pages m r) = untouched (store_of m) (store_of w) [] new (relation_pages m r) b.keeps
+    (λ q. (let o : times q (relation_pages m r) ≤ live (store_of m) q = owns q in omega (arith, o))) in
     let was = relation_stands m w limits r same h in
     let rows : rows_in w r ≡ rows_in m r = rows_stay m w r (file_left m w r same) in
     let pages : relation_pages w r ≡ relation_pages m r = relation_pages_stay m w r same in
@@ -206,7 +209,14 @@ tree_became m w limits r at number a h owns b =
       };
       means = λ gap is.
           ap (λ (ts : List Rectangles). record { name = r.name; schema = r.schema; rows = rows_in w r; next = r.next; indexes = indexes_in w r.paths; rectangles = ts }) split
-          ∙ ap₂ (λ (xs : Rows) (is : List (ℕ × Index)). record { name = r.name; schema = r.schema; rows = xs; next = r.next; indexes = is; rectangles = rectangles_of xs r.trees ++ (at, rough_shapes at xs) ∷ [] })
+          ∙ ap₂ (λ (xs : Rows) (is : List (ℕ × Index)). record {
+            name = r.name;
+            schema = r.schema;
+            rows = xs;
+            next = r.next;
+            indexes = is;
+            rectangles = rectangles_of xs r.trees ++ (at, rough_shapes at xs) ∷ [];
+          })
           rows (indexes_stay m w r.paths (paths_left m w r same));
       keeps = keeps_with (store_of m) (store_of w) [] new (relation_pages m r) (relation_pages m r) (relation_pages w u) b.keeps (λ q. omega arith)
           (λ q. omega (
@@ -255,7 +265,8 @@ treed_sketch : (r u : RelationView) (name : List ℕ) (at : ℕ) → column_name
 treed_sketch r u name at place h =
     let P : RelationView → Type 0 = λ y. sketch_of y ≡ with_treed name (sketch_of r) in
     subst P (sym h.added) (rw place (
-    ap (λ (ns : List ℕ). record { name = r.name; schema = r.schema; next = r.next; indexed = map (λ path. path.0) r.paths; treed = ns }) (map-append (λ (t : ℕ × RTree). t.0) r.trees ((at, h.tree) ∷ []))))
+    ap (λ (ns : List ℕ). record { name = r.name; schema = r.schema; next = r.next; indexed = map (λ path. path.0) r.paths; treed = ns })
+    (map-append (λ (t : ℕ × RTree). t.0) r.trees ((at, h.tree) ∷ []))))
 
 -- The relation that has got an R-tree, put in its place; it is x, as it was read a second time.
 

@@ -46,7 +46,8 @@ of_schema (c ∷ cs) (v ∷ vs) e =
 kinds_pass : (setting : Setting) (row : List Value) (relation : Relation) → IsRowOf relation.schema row
     → row_refusal setting row relation ≡ first_refusal (check_length row ∷ check_ids setting.limits relation ∷ check_listings setting.limits (with_row setting.gap row relation) ∷ [])
 kinds_pass setting row relation h =
-    ap (λ (b : Bool). first_refusal (refused_where (not b) why.WrongKind ∷ check_length row ∷ check_ids setting.limits relation ∷ check_listings setting.limits (with_row setting.gap row relation) ∷ []))
+    ap (λ (b : Bool). first_refusal (refused_where (not b) why.WrongKind ∷ check_length row ∷ check_ids setting.limits relation
+    ∷ check_listings setting.limits (with_row setting.gap row relation) ∷ []))
     (of_schema relation.schema row h)
 
 -- Rows of the schema are loaded as the model enters them.
@@ -58,5 +59,9 @@ loaded_entered setting (row ∷ rows) relation h =
     let same = kinds_pass setting row relation (All-head (IsRowOf relation.schema) row rows h) in
     let go : (o : Option Refusal) → first_refusal (check_length row ∷ check_ids setting.limits relation ∷ check_listings setting.limits grown ∷ []) ≡ o
     → loaded setting (row ∷ rows) relation ≡ entered setting (row ∷ rows) relation =
-    elim [ None ↦ λ e. (let all : row_refusal setting row relation ≡ None = same ∙ e in rw (all, e) rest) | Some w ↦ λ e. (let all : row_refusal setting row relation ≡ Some w = same ∙ e in rw (all, e) refl) ] in
+    elim [
+      | None ↦ λ e. (let all : row_refusal setting row relation ≡ None = same ∙ e in rw (all, e) rest)
+      | Some w ↦ λ e.
+          (let all : row_refusal setting row relation ≡ Some w = same ∙ e in rw (all, e) refl)
+    ] in
     go (first_refusal (check_length row ∷ check_ids setting.limits relation ∷ check_listings setting.limits grown ∷ [])) refl

@@ -57,11 +57,13 @@ pub indexed_sketch : (r u : RelationView) (name : List ℕ) (at : ℕ) → colum
 indexed_sketch r u name at place h =
     let P : RelationView → Type 0 = λ y. sketch_of y ≡ with_indexed name (sketch_of r) in
     subst P (sym h.added) (rw place (
-    ap (λ (ns : List ℕ). record { name = r.name; schema = r.schema; next = r.next; indexed = ns; treed = map (λ (t : ℕ × RTree). t.0) r.trees }) (map-append (λ (p : ℕ × AccessPath). p.0) r.paths ((at, h.path) ∷ []))))
+    ap (λ (ns : List ℕ). record { name = r.name; schema = r.schema; next = r.next; indexed = ns; treed = map (λ (t : ℕ × RTree). t.0) r.trees })
+    (map-append (λ (p : ℕ × AccessPath). p.0) r.paths ((at, h.path) ∷ []))))
 
 -- so many rows more
 pub counted_sketch : (limits : Limits) (r u : RelationView) (count : ℕ) → Counts limits r u count → sketch_of u ≡ with_ids count (sketch_of r)
 counted_sketch limits r u count c =
-    ap₂ (λ (name : List ℕ) (schema : List (List ℕ × Kind)). record { name = name; schema = schema; next = u.next; indexed = map (λ path. path.0) u.paths; treed = map (λ tree. tree.0) u.trees }) c.name c.schema
+    ap₂ (λ (name : List ℕ) (schema : List (List ℕ × Kind)).
+    record { name = name; schema = schema; next = u.next; indexed = map (λ path. path.0) u.paths; treed = map (λ tree. tree.0) u.trees }) c.name c.schema
     ∙ (ap₂ (λ (next : ℕ) (places : List ℕ). record { name = r.name; schema = r.schema; next = next; indexed = places; treed = map (λ tree. tree.0) u.trees }) c.next c.places
     ∙ ap (λ (ts : List ℕ). record { name = r.name; schema = r.schema; next = r.next + count; indexed = map (λ path. path.0) r.paths; treed = ts }) c.columns)

@@ -136,7 +136,8 @@ grown_same gap all id threshold s tree e =
     front i = elim (eqb_tells id i) [ inl y ↦ rw y.0 (sym (ap (λ (k : ℕ). shape_at all k) (sym y.1) ∙ e)) | inr y ↦ rw y.0 refl ]
 
 -- the tree that an insertion makes is that of all rows
-pub tree_same : (gap : Measure) (m : PageMap) (limits : Limits) (schema : List (List ℕ × Kind)) (file : TupleFile) (id column : ℕ) (row : List Value) (t : Pmr) (s : Shape) (threshold : ℕ) (tree : Tree)
+pub tree_same : (gap : Measure) (m : PageMap) (limits : Limits) (schema : List (List ℕ × Kind)) (file : TupleFile) (id column : ℕ) (row : List Value) (t : Pmr)
+    (s : Shape) (threshold : ℕ) (tree : Tree)
     → CanTake m limits schema file id row (column, Quadtree t) → shape_in column row ≡ Some s
     → tree_with gap ((id, s) ∷ shapes_of column (rows_at m schema file)) threshold id tree ≡ tree_with gap (shapes_of column (rows_at m schema file)) threshold id tree
 tree_same gap m limits schema file id column row t s threshold tree h e =
@@ -200,7 +201,8 @@ tree_took law m w limits schema file id column row t u s h e g few =
     }
 
 -- A quadtree that would be too full is so with all rows.
-pub tree_too_full : ChildrenMeet → GrownFits → (gap : Measure) → IsMeasure gap → (m : PageMap) (limits : Limits) (schema : List (List ℕ × Kind)) (file : TupleFile) (id column : ℕ) (row : List Value) (t : Pmr) (s : Shape)
+pub tree_too_full : ChildrenMeet → GrownFits → (gap : Measure) → IsMeasure gap
+    → (m : PageMap) (limits : Limits) (schema : List (List ℕ × Kind)) (file : TupleFile) (id column : ℕ) (row : List Value) (t : Pmr) (s : Shape)
     → (h : CanTake m limits schema file id row (column, Quadtree t)) → shape_in column row ≡ Some s
     → limits.listings < listings (tree_with gap ((id, s) ∷ shapes_of column (rows_at m schema file)) t.threshold id (tree_at m t))
     → is_overfull limits (column, index_after gap (rows_at m schema file) column ((id, row) ∷ h.rest) (index_in m (Quadtree t))) ≡ true

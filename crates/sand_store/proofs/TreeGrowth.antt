@@ -26,7 +26,8 @@ use Rattle.sand_store.specs.Contents.{rows_at, index_in}
 use Rattle.sand_store.specs.Steps.{CanGrow, PathGrew}
 use Rattle.sand_store.specs.TableLaws.{shapes_plane}
 use Rattle.sand_store.proofs.ColumnsOfShapes.{some_same}
-use Rattle.sand_store.proofs.RowLists.{Rows, Shapes, ids_of, Below, shapes_more, below_shapes, rises_shapes, add_last, ids_more, shape_before, shape_last, shape_front, known_id, all_known, all_before, known_more, not_there}
+use Rattle.sand_store.proofs.RowLists.{Rows, Shapes, ids_of, Below, shapes_more, below_shapes, rises_shapes, add_last, ids_more, shape_before, shape_last, shape_front}
+use Rattle.sand_store.proofs.RowLists.{known_id, all_known, all_before, known_more, not_there}
 
 -- shapes with the one of a new id, the greatest
 record More (old new : Shapes) (id : ℕ) (s : Shape) : Type 0 where

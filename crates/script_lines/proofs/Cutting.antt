@@ -1,5 +1,6 @@
 -- How the bytes of a script are cut while they come: into the lines given, the line in hand and the bytes ahead of it.
-use Rattle.std.proofs.Common.{◌≡◌, ℕ, suc, Bool, true, false, cond, eqb, leb, List, [], ◌∷◌, ◌++◌, length, take, drop, take-append-drop, Option, Some, None, refl, sym, ap, ◌∙◌, arith, length-append, append_assoc, append-nil}
+use Rattle.std.proofs.Common.{◌≡◌, ℕ, suc, Bool, true, false, cond, eqb, leb, List, [], ◌∷◌, ◌++◌, length, take, drop, take-append-drop, Option, Some, None, refl, sym}
+use Rattle.std.proofs.Common.{ap, ◌∙◌, arith, length-append, append_assoc, append-nil}
 use Rattle.std.proofs.lemmas.Bool.{leb-false, lt-leb}
 use Rattle.script_text.specs.declared.TheConstants.{LONGEST_LINE}
 use Rattle.script_lines.specs.Lines.{cut, onto, clipped, with_byte, lines, ended_lines, last_line, is_no_line, HasNoFeed}

@@ -105,8 +105,22 @@ gather (take c value) x flag ts h = (0, h)
 gather (alt c join f g) x flag ts h =
     elim h [
       | inl h ↦
-          let two = gather f h.right h.two h.after h.second in
-          (two.0, inl (record { left = h.left; right = h.right; one = h.one; two = h.two; here = h.here; after = h.after; split = h.split; first = h.first; second = two.1; joined = h.joined; both = h.both }))
+          let two = gather f h.right h.two h.after h.second in (
+            two.0,
+            inl (record {
+              left = h.left;
+              right = h.right;
+              one = h.one;
+              two = h.two;
+              here = h.here;
+              after = h.after;
+              split = h.split;
+              first = h.first;
+              second = two.1;
+              joined = h.joined;
+              both = h.both;
+            }),
+          )
       | inr h ↦ let two = gather g x flag ts h in (two.0, inr two.1)
     ]
 gather (seq join f g) x flag ts h =

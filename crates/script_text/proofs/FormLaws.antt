@@ -3,13 +3,15 @@
 use Rattle.std.proofs.Common.{◌≡◌, Bool, true, false, ◌&&◌, cond, List, [], ◌∷◌, ◌++◌, length, Option, Some, None, Result, Ok, Err, refl, sym, ap, subst, ◌∙◌, inl, inr, append_assoc, arith}
 use Rattle.std.specs.Prelude.{◌⊎◌, is_some, pos, nat_le}
 use Rattle.std.proofs.lemmas.Bool.{and_parts, and_from, cond-true, cond-false, false≢true, leb-true}
-use Rattle.script_text.specs.Form.{Class, a_word, a_name, a_natural, an_int, a_text, a_mark, Got, got, where_true, fits, head_fits, Rule, RuleValue, Form, nothing, take, alt, seq, checked, rule, IsOne, Parts, Spells}
+use Rattle.script_text.specs.Form.{Class, a_word, a_name, a_natural, an_int, a_text, a_mark, Got, got, where_true, fits, head_fits, Rule, RuleValue, Form, nothing, take}
+use Rattle.script_text.specs.Form.{alt, seq, checked, rule, IsOne, Parts, Spells}
 use Rattle.script_text.specs.Lexical.{Placed, ArePieces}
 use Rattle.script_text.specs.Reading.{State, at, Read, pure, bind, go_on, take_in, front, taken, note, read}
 use Rattle.script_text.specs.Number.{natural, or_zero}
 use Rattle.script_text.specs.Text.{IsInside, content}
 use Rattle.script_text.specs.Token.{Piece, name, number, text, mark, symbol_text, IsPiece}
-use Rattle.script_text.proofs.Predictive.{null_of, firsts_of, goes_of, may_end, firsts, goes, if_so, has_token, is_decided, all_apart, apart_from, Front, Stops, apart-stops, stops-parts, fits-left, fits-right, same-bytes}
+use Rattle.script_text.proofs.Predictive.{null_of, firsts_of, goes_of, may_end, firsts, goes, if_so, has_token, is_decided, all_apart, apart_from, Front, Stops}
+use Rattle.script_text.proofs.Predictive.{apart-stops, stops-parts, fits-left, fits-right, same-bytes}
 
 -- Both begin with the same token, or none is there in either.
 abbrev pub IsSameFront : List Placed → List Placed → Type 0
@@ -322,7 +324,19 @@ module _ (P Q : (r : Rule) → RuleValue r → Bool → List Placed → Type 0) 
         are = are-append one.tokens two.tokens one.are two.are;
         value = join one.value two.value;
         flag = two.flag && one.flag;
-        says = record { left = one.value; right = two.value; one = one.flag; two = two.flag; here = one.tokens; after = two.tokens; split = refl; first = one.says; second = two.says; joined = refl; both = refl };
+        says = record {
+          left = one.value;
+          right = two.value;
+          one = one.flag;
+          two = two.flag;
+          here = one.tokens;
+          after = two.tokens;
+          split = refl;
+          first = one.says;
+          second = two.says;
+          joined = refl;
+          both = refl;
+        };
       }
   example (checked test f) h =
       let one = example f h in
@@ -473,7 +487,8 @@ module _ (P Q : (r : Rule) → RuleValue r → Bool → List Placed → Type 0) 
       elim h [
         | inl one ↦
             rw (one.split, one.joined, one.both)
-            (ap (λ ps. cond (head_fits c ((ps ++ one.after) ++ more)) (both join (take_in c (λ v. v)) (read R f) (at ((ps ++ one.after) ++ more) before)) (read R g (at ((ps ++ one.after) ++ more) before))) one.first.one
+            (ap (λ ps. cond (head_fits c ((ps ++ one.after) ++ more)) (both join (take_in c (λ v. v)) (read R f) (at ((ps ++ one.after) ++ more) before))
+            (read R g (at ((ps ++ one.after) ++ more) before))) one.first.one
             ∙ cond-true (fits c one.first.token) _ _ (ap is_some one.first.is)
             ∙ ap (λ o. go_on (taken (λ v. v) o (at (one.first.token ∷ (one.after ++ more)) before) (one.after ++ more)) (λ y. bind (read R f) (λ z. pure (join y z)))) one.first.is
             ∙ ap (λ r. go_on r (λ z. pure (join one.first.raw z))) (form-reads f rest.0 one.right one.two one.after more (one.one && before) one.second stops.0)

@@ -121,7 +121,12 @@ module _ (line : List ℕ) (first : State) (begins : first ≡ start line) (lexe
 
   -- where all is in range the line is read as the statement
   pub is-read : (x : Statement) (s : State) → whole statement_form first ≡ Ok (x, s) → s.in_range ≡ true → IsReadAs line x
-  is-read x s e h = record { tokens = pieces line; lexed = is-lexed; written = is-of x s true e h; in_range = statement-in_range x (pieces line) (cut-are line (pieces line) [] is-lexed) (is-of x s true e h) }
+  is-read x s e h = record {
+    tokens = pieces line;
+    lexed = is-lexed;
+    written = is-of x s true e h;
+    in_range = statement-in_range x (pieces line) (cut-are line (pieces line) [] is-lexed) (is-of x s true e h);
+  }
 
   -- where something isn't the line is out of range
   pub is-out : (x : Statement) (s : State) → whole statement_form first ≡ Ok (x, s) → s.in_range ≡ false → IsOutOfRange line
@@ -134,7 +139,8 @@ module _ (line : List ℕ) (first : State) (begins : first ≡ start line) (lexe
       room-within line stuck.good bad [] (subst (λ ps. IsCut line ps []) stuck.split is-lexed)
 
   -- and at the first bad token
-  pub bad-token : (bad : List Placed) (room : ℕ) → whole statement_form first ≡ Err bad → room ≡ room_at bad → (column : ℕ) → IsColumn line room column → HasBadByte line column ⊎ HasBadToken line column
+  pub bad-token : (bad : List Placed) (room : ℕ) → whole statement_form first ≡ Err bad → room ≡ room_at bad → (column : ℕ) → IsColumn line room column
+      → HasBadByte line column ⊎ HasBadToken line column
   bad-token bad room e same column place = inr (record {
     tokens = pieces line;
     lexed = is-lexed;

@@ -78,11 +78,15 @@ module _ {A : Type 0} (c : Class) (more whole : Read (List A)) (rest : (s : Stat
 columns_rest : (t : State) → reading (rule more_columns) t ≡ rest_after (a_mark Comma) (reading columns_form) t
 columns_rest t = rule-body more_columns t
 
-pub columns_end : (xs : List (List ℕ × Kind)) (s t : State) (x : (List ℕ × Kind)) → reading field_form s ≡ Ok (x, t) → head_fits (a_mark Comma) t.left ≡ false → gone_on xs (reading columns_form) s ≡ Ok (xs ++ x ∷ [], t)
-columns_end xs s t x e h = list-end (reading field_form) (reading (rule more_columns)) (reading columns_form) (λ s. refl) xs s t x e (rest-none (a_mark Comma) (reading (rule more_columns)) (reading columns_form) columns_rest t h)
+pub columns_end : (xs : List (List ℕ × Kind)) (s t : State) (x : (List ℕ × Kind)) → reading field_form s ≡ Ok (x, t) → head_fits (a_mark Comma) t.left ≡ false
+    → gone_on xs (reading columns_form) s ≡ Ok (xs ++ x ∷ [], t)
+columns_end xs s t x e h = list-end (reading field_form) (reading (rule more_columns)) (reading columns_form) (λ s. refl) xs s t x e
+    (rest-none (a_mark Comma) (reading (rule more_columns)) (reading columns_form) columns_rest t h)
 
-pub columns_step : (xs : List (List ℕ × Kind)) (s t u : State) (x : (List ℕ × Kind)) → reading field_form s ≡ Ok (x, t) → IsTaken (a_mark Comma) t u → gone_on (xs ++ x ∷ []) (reading columns_form) u ≡ gone_on xs (reading columns_form) s
-columns_step xs s t u x e is = list-step (reading field_form) (reading (rule more_columns)) (reading columns_form) (λ s. refl) xs s t u x e (rest-more (a_mark Comma) (reading (rule more_columns)) (reading columns_form) columns_rest t u is)
+pub columns_step : (xs : List (List ℕ × Kind)) (s t u : State) (x : (List ℕ × Kind)) → reading field_form s ≡ Ok (x, t) → IsTaken (a_mark Comma) t u
+    → gone_on (xs ++ x ∷ []) (reading columns_form) u ≡ gone_on xs (reading columns_form) s
+columns_step xs s t u x e is = list-step (reading field_form) (reading (rule more_columns)) (reading columns_form) (λ s. refl) xs s t u x e
+    (rest-more (a_mark Comma) (reading (rule more_columns)) (reading columns_form) columns_rest t u is)
 
 pub columns_stuck : (xs : List (List ℕ × Kind)) (s : State) (bad : List Placed) → reading field_form s ≡ Err bad → gone_on xs (reading columns_form) s ≡ Err bad
 columns_stuck = list-stuck (reading field_form) (reading (rule more_columns)) (reading columns_form) (λ s. refl)
@@ -92,10 +96,13 @@ values_rest : (t : State) → reading (rule more_values) t ≡ rest_after (a_mar
 values_rest t = rule-body more_values t
 
 pub values_end : (xs : List Value) (s t : State) (x : Value) → reading value_form s ≡ Ok (x, t) → head_fits (a_mark Comma) t.left ≡ false → gone_on xs (reading values_form) s ≡ Ok (xs ++ x ∷ [], t)
-values_end xs s t x e h = list-end (reading value_form) (reading (rule more_values)) (reading values_form) (λ s. refl) xs s t x e (rest-none (a_mark Comma) (reading (rule more_values)) (reading values_form) values_rest t h)
+values_end xs s t x e h = list-end (reading value_form) (reading (rule more_values)) (reading values_form) (λ s. refl) xs s t x e
+    (rest-none (a_mark Comma) (reading (rule more_values)) (reading values_form) values_rest t h)
 
-pub values_step : (xs : List Value) (s t u : State) (x : Value) → reading value_form s ≡ Ok (x, t) → IsTaken (a_mark Comma) t u → gone_on (xs ++ x ∷ []) (reading values_form) u ≡ gone_on xs (reading values_form) s
-values_step xs s t u x e is = list-step (reading value_form) (reading (rule more_values)) (reading values_form) (λ s. refl) xs s t u x e (rest-more (a_mark Comma) (reading (rule more_values)) (reading values_form) values_rest t u is)
+pub values_step : (xs : List Value) (s t u : State) (x : Value) → reading value_form s ≡ Ok (x, t) → IsTaken (a_mark Comma) t u
+    → gone_on (xs ++ x ∷ []) (reading values_form) u ≡ gone_on xs (reading values_form) s
+values_step xs s t u x e is = list-step (reading value_form) (reading (rule more_values)) (reading values_form) (λ s. refl) xs s t u x e
+    (rest-more (a_mark Comma) (reading (rule more_values)) (reading values_form) values_rest t u is)
 
 pub values_stuck : (xs : List Value) (s : State) (bad : List Placed) → reading value_form s ≡ Err bad → gone_on xs (reading values_form) s ≡ Err bad
 values_stuck = list-stuck (reading value_form) (reading (rule more_values)) (reading values_form) (λ s. refl)
@@ -105,10 +112,13 @@ tests_rest : (t : State) → reading (rule more_tests) t ≡ rest_after (a_word 
 tests_rest t = rule-body more_tests t
 
 pub tests_end : (xs : List Test) (s t : State) (x : Test) → reading test_form s ≡ Ok (x, t) → head_fits (a_word (codes "and")) t.left ≡ false → gone_on xs (reading tests_form) s ≡ Ok (xs ++ x ∷ [], t)
-tests_end xs s t x e h = list-end (reading test_form) (reading (rule more_tests)) (reading tests_form) (λ s. refl) xs s t x e (rest-none (a_word (codes "and")) (reading (rule more_tests)) (reading tests_form) tests_rest t h)
+tests_end xs s t x e h = list-end (reading test_form) (reading (rule more_tests)) (reading tests_form) (λ s. refl) xs s t x e
+    (rest-none (a_word (codes "and")) (reading (rule more_tests)) (reading tests_form) tests_rest t h)
 
-pub tests_step : (xs : List Test) (s t u : State) (x : Test) → reading test_form s ≡ Ok (x, t) → IsTaken (a_word (codes "and")) t u → gone_on (xs ++ x ∷ []) (reading tests_form) u ≡ gone_on xs (reading tests_form) s
-tests_step xs s t u x e is = list-step (reading test_form) (reading (rule more_tests)) (reading tests_form) (λ s. refl) xs s t u x e (rest-more (a_word (codes "and")) (reading (rule more_tests)) (reading tests_form) tests_rest t u is)
+pub tests_step : (xs : List Test) (s t u : State) (x : Test) → reading test_form s ≡ Ok (x, t) → IsTaken (a_word (codes "and")) t u
+    → gone_on (xs ++ x ∷ []) (reading tests_form) u ≡ gone_on xs (reading tests_form) s
+tests_step xs s t u x e is = list-step (reading test_form) (reading (rule more_tests)) (reading tests_form) (λ s. refl) xs s t u x e
+    (rest-more (a_word (codes "and")) (reading (rule more_tests)) (reading tests_form) tests_rest t u is)
 
 pub tests_stuck : (xs : List Test) (s : State) (bad : List Placed) → reading test_form s ≡ Err bad → gone_on xs (reading tests_form) s ≡ Err bad
 tests_stuck = list-stuck (reading test_form) (reading (rule more_tests)) (reading tests_form) (λ s. refl)
@@ -118,10 +128,13 @@ places_rest : (t : State) → reading (rule more_places) t ≡ rest_after (a_mar
 places_rest t = rule-body more_places t
 
 pub places_end : (xs : List Place) (s t : State) (x : Place) → reading place_form s ≡ Ok (x, t) → head_fits (a_mark Comma) t.left ≡ false → gone_on xs (reading places_form) s ≡ Ok (xs ++ x ∷ [], t)
-places_end xs s t x e h = list-end (reading place_form) (reading (rule more_places)) (reading places_form) (λ s. refl) xs s t x e (rest-none (a_mark Comma) (reading (rule more_places)) (reading places_form) places_rest t h)
+places_end xs s t x e h = list-end (reading place_form) (reading (rule more_places)) (reading places_form) (λ s. refl) xs s t x e
+    (rest-none (a_mark Comma) (reading (rule more_places)) (reading places_form) places_rest t h)
 
-pub places_step : (xs : List Place) (s t u : State) (x : Place) → reading place_form s ≡ Ok (x, t) → IsTaken (a_mark Comma) t u → gone_on (xs ++ x ∷ []) (reading places_form) u ≡ gone_on xs (reading places_form) s
-places_step xs s t u x e is = list-step (reading place_form) (reading (rule more_places)) (reading places_form) (λ s. refl) xs s t u x e (rest-more (a_mark Comma) (reading (rule more_places)) (reading places_form) places_rest t u is)
+pub places_step : (xs : List Place) (s t u : State) (x : Place) → reading place_form s ≡ Ok (x, t) → IsTaken (a_mark Comma) t u
+    → gone_on (xs ++ x ∷ []) (reading places_form) u ≡ gone_on xs (reading places_form) s
+places_step xs s t u x e is = list-step (reading place_form) (reading (rule more_places)) (reading places_form) (λ s. refl) xs s t u x e
+    (rest-more (a_mark Comma) (reading (rule more_places)) (reading places_form) places_rest t u is)
 
 pub places_stuck : (xs : List Place) (s : State) (bad : List Placed) → reading place_form s ≡ Err bad → gone_on xs (reading places_form) s ≡ Err bad
 places_stuck = list-stuck (reading place_form) (reading (rule more_places)) (reading places_form) (λ s. refl)
@@ -148,7 +161,8 @@ pub spots_end : (xs : List Point) (s t : State) (x : Point) → reading spot_for
 spots_end xs s t x e h =
     list-end (reading spot_form) (reading (rule more_spots)) (reading spots_form) (λ s. refl) xs s t x e (spots_rest t ∙ cond-false (head_fits (a_mark Open) t.left) _ _ h)
 
-pub spots_step : (xs : List Point) (s t : State) (x : Point) → reading spot_form s ≡ Ok (x, t) → head_fits (a_mark Open) t.left ≡ true → gone_on (xs ++ x ∷ []) (reading spots_form) t ≡ gone_on xs (reading spots_form) s
+pub spots_step : (xs : List Point) (s t : State) (x : Point) → reading spot_form s ≡ Ok (x, t) → head_fits (a_mark Open) t.left ≡ true
+    → gone_on (xs ++ x ∷ []) (reading spots_form) t ≡ gone_on xs (reading spots_form) s
 spots_step xs s t x e h =
     list-step (reading spot_form) (reading (rule more_spots)) (reading spots_form) (λ s. refl) xs s t t x e (spots_rest t ∙ cond-true (head_fits (a_mark Open) t.left) _ _ h)
 

@@ -1,5 +1,6 @@
 -- A line has one reading.
-use Rattle.std.proofs.Common.{◌≡◌, ◌≢◌, ℕ, ◌+◌, ◌-◌, Bool, true, false, cond, List, [], ◌∷◌, ◌++◌, length, Option, Some, None, Result, Ok, Err, refl, sym, ap, subst, ◌∙◌, inl, inr, arith, append_assoc}
+use Rattle.std.proofs.Common.{◌≡◌, ◌≢◌, ℕ, ◌+◌, ◌-◌, Bool, true, false, cond, List, [], ◌∷◌, ◌++◌, length, Option, Some, None, Result, Ok, Err, refl, sym, ap, subst, ◌∙◌}
+use Rattle.std.proofs.Common.{inl, inr, arith, append_assoc}
 use Rattle.std.proofs.lemmas.Bool.{cond-true, cond-false}
 use Rattle.std.proofs.lemmas.List.{append-nil}
 use Rattle.script_text.specs.declared.parse.LineFault.{LineFault}
@@ -60,8 +61,10 @@ first_bad-same tokens bad rest are one two =
     let front_of = λ (good bad : List Placed) (split : tokens ≡ good ++ bad). (are-parts good bad (subst ArePieces split are)).0 in
     elim (split-cases one.good bad two.good rest (sym one.split ∙ two.split)) [
       | same k ↦ k
-      | longer t more after k l ↦ absurd (subst (GoesWrong statement_form one.good) l one.wrong (front-front one.good t more (subst ArePieces k (front_of two.good rest two.split)) (subst (IsFront statement_form) k two.front)))
-      | shorter t more after k l ↦ absurd (subst (GoesWrong statement_form two.good) l two.wrong (front-front two.good t more (subst ArePieces k (front_of one.good bad one.split)) (subst (IsFront statement_form) k one.front)))
+      | longer t more after k l ↦ absurd (subst (GoesWrong statement_form one.good) l one.wrong
+          (front-front one.good t more (subst ArePieces k (front_of two.good rest two.split)) (subst (IsFront statement_form) k two.front)))
+      | shorter t more after k l ↦ absurd (subst (GoesWrong statement_form two.good) l two.wrong
+          (front-front two.good t more (subst ArePieces k (front_of one.good bad one.split)) (subst (IsFront statement_form) k one.front)))
     ]
 
 -- a line of the grammar is a front of itself

@@ -6,7 +6,8 @@ use Rattle.std.proofs.lemmas.Slice.Eq.{bytes_eq-Decides}
 use Rattle.std.proofs.Common.{inl, inr}
 use Rattle.std.specs.Str.{bytes_eq}
 use Rattle.script_text.specs.declared.token.Symbol.TheVariants as symbol
-use Rattle.script_text.specs.Form.{Class, a_word, a_name, a_natural, an_int, a_text, a_mark, fits, got, head_fits, where_true, Rule, a_plan, more_values, more_spots, more_tests, Form, nothing, take, alt, seq, checked, rule}
+use Rattle.script_text.specs.Form.{Class, a_word, a_name, a_natural, an_int, a_text, a_mark, fits, got, head_fits, where_true, Rule, a_plan, more_values, more_spots}
+use Rattle.script_text.specs.Form.{more_tests, Form, nothing, take, alt, seq, checked, rule}
 use Rattle.script_text.specs.Lexical.{Placed}
 use Rattle.script_text.specs.Name.{is_name}
 use Rattle.script_text.specs.Token.{Piece, name, number, text, mark, symbol_text}

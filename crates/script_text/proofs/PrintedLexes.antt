@@ -133,10 +133,12 @@ step (mark Minus) ws is calm h =
 step (mark Equal) ws is calm h = one-more _ _ _ _ ws (lex-short Equal 61 (printed_after (mark Equal) ws) refl refl) h
 step (mark NotEqual) ws is calm h = one-more _ _ _ _ ws (lex-long NotEqual 33 (printed_after (mark NotEqual) ws) refl refl) h
 step (mark Less) ws is calm h =
-    one-more _ _ _ _ ws (lex-short Less 60 (printed_after (mark Less) ws) refl (cut-less (printed_after (mark Less) ws) (quiet-equal (printed_after (mark Less) ws) (after-quiet (mark Less) ws refl)))) h
+    one-more _ _ _ _ ws (lex-short Less 60 (printed_after (mark Less) ws) refl
+    (cut-less (printed_after (mark Less) ws) (quiet-equal (printed_after (mark Less) ws) (after-quiet (mark Less) ws refl)))) h
 step (mark AtMost) ws is calm h = one-more _ _ _ _ ws (lex-long AtMost 60 (printed_after (mark AtMost) ws) refl refl) h
 step (mark Greater) ws is calm h =
-    one-more _ _ _ _ ws (lex-short Greater 62 (printed_after (mark Greater) ws) refl (cut-greater (printed_after (mark Greater) ws) (quiet-equal (printed_after (mark Greater) ws) (after-quiet (mark Greater) ws refl)))) h
+    one-more _ _ _ _ ws (lex-short Greater 62 (printed_after (mark Greater) ws) refl
+    (cut-greater (printed_after (mark Greater) ws) (quiet-equal (printed_after (mark Greater) ws) (after-quiet (mark Greater) ws refl)))) h
 step (mark AtLeast) ws is calm h = one-more _ _ _ _ ws (lex-long AtLeast 62 (printed_after (mark AtLeast) ws) refl refl) h
 
 -- a space in front is passed over

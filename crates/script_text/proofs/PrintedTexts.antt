@@ -1,5 +1,6 @@
 -- A text in range, with its quotes doubled, is what may stand between quotes, and is read as itself.
-use Rattle.std.proofs.Common.{◌≡◌, ◌≢◌, ℕ, suc, ◌+◌, ◌-◌, ◌<◌, ◌≤◌, Bool, true, false, not, cond, eqb, ltb, get_or, List, [], ◌∷◌, ◌++◌, length, take, drop, refl, sym, ap, subst, ◌∙◌, arith, length-append}
+use Rattle.std.proofs.Common.{◌≡◌, ◌≢◌, ℕ, suc, ◌+◌, ◌-◌, ◌<◌, ◌≤◌, Bool, true, false, not, cond, eqb, ltb, get_or, List, [], ◌∷◌, ◌++◌, length, take, drop, refl, sym}
+use Rattle.std.proofs.Common.{ap, subst, ◌∙◌, arith, length-append}
 use Rattle.std.specs.Prelude.{IsUtf8, chars, All}
 use Rattle.std.specs.Char.{encode_utf8, len_utf8}
 use lib.Utf8.{scalar, scalars}
@@ -166,7 +167,8 @@ inside-chars (c ∷ cs) h k =
           let bytes = encode_utf8 c in
           let more = doubled (encode_utf8_all cs) in
           let same = no-doubles bytes (encode_utf8_all cs) (λ j less. no-quote c j e less) in
-          let some : 0 < length bytes = (let most = front-at-most c (bytes ++ []) (ap is_plain (take_at bytes [] (len_utf8 c) (length-encode c)) ∙ one-plain c two.0 plain) in omega (arith, most.some, most.most, length-encode c)) in
+          let some : 0 < length bytes = (let most = front-at-most c (bytes ++ []) (ap is_plain (take_at bytes [] (len_utf8 c) (length-encode c)) ∙ one-plain c two.0 plain) in
+          omega (arith, most.some, most.most, length-encode c)) in
           let run = run-past bytes more (λ j less. no-quote c j e less) (front-len c more two.0 plain) some in
           ap (run_after 0) same ∙ run ∙ ap (λ n. length bytes + n) rest ∙ sym (length-append bytes more) ∙ ap length (sym same)
     ] in

@@ -15,14 +15,20 @@ use Rattle.script_text.specs.declared.TheConstants.{MOST_ROWS, MOST_WITHIN}
 use Rattle.statements.specs.declared.column.Column.{Column}
 use Rattle.script_text.specs.declared.token.Symbol.{Symbol}
 use Rattle.script_text.specs.declared.token.Symbol.TheVariants.{Open, Close, Comma, Dot, Minus, Equal, NotEqual, Less, AtMost, Greater}
-use Rattle.script_text.specs.Form.{Class, a_word, a_name, a_natural, an_int, a_text, a_mark, Got, got, name_of, natural_of, int_of, text_of, Rule, RuleValue, a_plan, more_columns, more_values, more_spots, more_tests, more_places, Form, nothing, take, alt, seq, checked, rule, IsOne, Spells}
+use Rattle.script_text.specs.Form.{Class, a_word, a_name, a_natural, an_int, a_text, a_mark, Got, got, name_of, natural_of, int_of, text_of, Rule, RuleValue, a_plan}
+use Rattle.script_text.specs.Form.{more_columns, more_values, more_spots, more_tests, more_places, Form, nothing, take, alt, seq, checked, rule, IsOne, Spells}
 use Rattle.script_text.specs.Grammar.{IsOf, spelled, spelled_at}
-use Rattle.script_text.specs.InRange.{IsColumnInRange, IsPlaceInRange, IsPlainInRange, IsTestInRange, IsFieldInRange, IsWithinInRange, IsThresholdInRange, IsCountInRange, SomeAre, IsPlanInRange, IsInRange}
+use Rattle.script_text.specs.InRange.{IsColumnInRange, IsPlaceInRange, IsPlainInRange, IsTestInRange, IsFieldInRange, IsWithinInRange, IsThresholdInRange, IsCountInRange}
+use Rattle.script_text.specs.InRange.{SomeAre, IsPlanInRange, IsInRange}
 use Rattle.script_text.specs.Lexical.{Placed, ArePieces}
 use Rattle.script_text.specs.Name.{IsName}
 use Rattle.script_text.specs.Number.{is_between, is_natural, magnitude, natural, or_zero, is_int, int, value_of}
 use Rattle.statements.specs.Plan.{Plan}
-use Rattle.script_text.specs.Rules.{word, sign, after_word, after_sign, before_sign, case_word, case_sign, name_form, natural_form, int_form, coordinate_form, column_form, place_form, plain_form, spot_rest, spot_form, spots_form, spot_or_way, way_form, spot_end, polygon_form, shape_form, value_form, values_form, kind_form, field_form, columns_form, op_form, test_form, tests_form, places_form, within_form, inner_form, rank_rest, corner_form, rect_form, window_rest, pick_rest, join_rest, semi_rest, knn_rest, near_rest, filter_rest, match_rest, fetch_rest, first_rest, sort_rest, plan_form, body, create_rest, load_rest, index_rest, rtree_rest, far_rest, statement_form}
+use Rattle.script_text.specs.Rules.{word, sign, after_word, after_sign, before_sign, case_word, case_sign, name_form, natural_form, int_form, coordinate_form}
+use Rattle.script_text.specs.Rules.{column_form, place_form, plain_form, spot_rest, spot_form, spots_form, spot_or_way, way_form, spot_end, polygon_form, shape_form}
+use Rattle.script_text.specs.Rules.{value_form, values_form, kind_form, field_form, columns_form, op_form, test_form, tests_form, places_form, within_form, inner_form}
+use Rattle.script_text.specs.Rules.{rank_rest, corner_form, rect_form, window_rest, pick_rest, join_rest, semi_rest, knn_rest, near_rest, filter_rest, match_rest}
+use Rattle.script_text.specs.Rules.{fetch_rest, first_rest, sort_rest, plan_form, body, create_rest, load_rest, index_rest, rtree_rest, far_rest, statement_form}
 use Rattle.statements.specs.Statement.{Statement}
 use Rattle.script_text.specs.Text.{content}
 use Rattle.script_text.specs.Token.{Piece, name, number, text, mark, IsPiece}
@@ -50,7 +56,8 @@ record Keeps {A : Type 0} (P : (r : Rule) → RuleValue r → Bool → List Plac
   so : (x : A) (flag : Bool) (ts : List Placed) → Spells P f x flag ts → ArePieces ts → flag ≡ true → Q x
 
 -- one token
-one-so : {A : Type 0} (c : Class) (value : Got c → A) (Q : A → Type 0) → Gets c (λ raw. Q (value raw)) → (x : A) (flag : Bool) (ts : List Placed) → IsOne c value x flag ts → ArePieces ts → flag ≡ true → Q x
+one-so : {A : Type 0} (c : Class) (value : Got c → A) (Q : A → Type 0) → Gets c (λ raw. Q (value raw)) → (x : A) (flag : Bool) (ts : List Placed)
+    → IsOne c value x flag ts → ArePieces ts → flag ≡ true → Q x
 one-so c value Q gets x flag ts h are f =
     subst Q (sym h.gives) (gets h.token h.raw (subst ArePieces h.one are).0 (h.is ∙ ap (λ b. Some (h.raw, b)) f))
 

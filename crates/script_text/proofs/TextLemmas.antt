@@ -1,5 +1,6 @@
 -- Characters of a text, one after another, and what they write.
-use Rattle.std.proofs.Common.{◌≡◌, ℕ, zero, suc, ◌+◌, ◌-◌, ◌<◌, ◌≤◌, Bool, true, false, not, ◌&&◌, cond, eqb, leb, get_or, List, [], ◌∷◌, ◌++◌, length, take, drop, refl, sym, ap, ◌∙◌, arith, length-drop, append_assoc, drop-drop}
+use Rattle.std.proofs.Common.{◌≡◌, ℕ, zero, suc, ◌+◌, ◌-◌, ◌<◌, ◌≤◌, Bool, true, false, not, ◌&&◌, cond, eqb, leb, get_or, List, [], ◌∷◌, ◌++◌, length, take, drop, refl}
+use Rattle.std.proofs.Common.{sym, ap, ◌∙◌, arith, length-drop, append_assoc, drop-drop}
 use Rattle.std.specs.Prelude.{IsUtf8, chars, Option, Some, None, is_some, MatchOption}
 use Rattle.std.proofs.Math.Seq.{take-nil, drop-length}
 use Rattle.std.proofs.lemmas.List.{append-nil}

@@ -25,16 +25,22 @@ use Rattle.statements.specs.declared.test.Op.TheVariants as op
 use Rattle.statements.specs.declared.test.Test.{Test}
 use Rattle.script_text.specs.declared.token.Symbol.{Symbol}
 use Rattle.script_text.specs.declared.token.Symbol.TheVariants.{Open, Close, Comma, Dot, Minus, Equal, NotEqual, Less, AtMost, Greater, AtLeast}
-use Rattle.script_text.specs.Form.{Class, where_true, a_word, a_name, a_natural, an_int, a_text, a_mark, Got, got, Rule, RuleValue, a_plan, more_columns, more_values, more_spots, more_tests, more_places, Form, nothing, take, alt, seq, checked, rule, IsOne, Spells}
+use Rattle.script_text.specs.Form.{Class, where_true, a_word, a_name, a_natural, an_int, a_text, a_mark, Got, got, Rule, RuleValue, a_plan, more_columns, more_values}
+use Rattle.script_text.specs.Form.{more_spots, more_tests, more_places, Form, nothing, take, alt, seq, checked, rule, IsOne, Spells}
 use Rattle.script_text.specs.Grammar.{spelled}
-use Rattle.script_text.specs.InRange.{IsColumnInRange, IsPlaceInRange, IsPlainInRange, IsTestInRange, IsFieldInRange, IsWithinInRange, IsThresholdInRange, IsCountInRange, SomeAre, IsPlanInRange, IsInRange}
+use Rattle.script_text.specs.InRange.{IsColumnInRange, IsPlaceInRange, IsPlainInRange, IsTestInRange, IsFieldInRange, IsWithinInRange, IsThresholdInRange, IsCountInRange}
+use Rattle.script_text.specs.InRange.{SomeAre, IsPlanInRange, IsInRange}
 use Rattle.script_text.specs.Lexical.{Placed}
 use Rattle.script_text.specs.Name.{is_name, IsName}
 use Rattle.script_text.specs.Number.{or_zero}
 use Rattle.statements.specs.Plan.{Plan}
 use Rattle.statements.specs.Plan as plan
-use Rattle.script_text.specs.Printing.{each, more_words, list_words, comma, fixed, column_words, place_words, spot_words, shape_words, value_words, kind_word, field_words, op_symbol, test_words, within_words, inner_words, plan_words, header_words, threshold_words, words}
-use Rattle.script_text.specs.Rules.{word, sign, after_word, after_sign, before_sign, case_word, case_sign, told, name_form, natural_form, int_form, coordinate_form, column_form, place_form, plain_form, spot_rest, spot_form, spots_form, way_form, spot_end, shape_form, value_form, values_form, kind_form, field_form, columns_form, op_form, test_form, tests_form, places_form, within_form, inner_form, corner_form, rect_form, body, statement_form}
+use Rattle.script_text.specs.Printing.{each, more_words, list_words, comma, fixed, column_words, place_words, spot_words, shape_words, value_words, kind_word}
+use Rattle.script_text.specs.Printing.{field_words, op_symbol, test_words, within_words, inner_words, plan_words, header_words, threshold_words, words}
+use Rattle.script_text.specs.Rules.{word, sign, after_word, after_sign, before_sign, case_word, case_sign, told, name_form, natural_form, int_form, coordinate_form}
+use Rattle.script_text.specs.Rules.{column_form, place_form, plain_form, spot_rest, spot_form, spots_form, way_form, spot_end, shape_form, value_form, values_form}
+use Rattle.script_text.specs.Rules.{kind_form, field_form, columns_form, op_form, test_form, tests_form, places_form, within_form, inner_form, corner_form, rect_form}
+use Rattle.script_text.specs.Rules.{body, statement_form}
 use Rattle.statements.specs.Statement.{Statement}
 use Rattle.statements.specs.Statement as statement
 use Rattle.script_text.specs.Text.{doubled}

@@ -18,7 +18,8 @@ use Rattle.statements.specs.declared.test.Op.TheVariants as op
 use Rattle.statements.specs.declared.test.Test.{Test}
 use Rattle.script_text.specs.declared.token.Symbol.{Symbol}
 use Rattle.script_text.specs.declared.token.Symbol.TheVariants as symbol
-use Rattle.script_text.specs.Form.{Form, a_word, a_name, a_natural, an_int, a_text, a_mark, Rule, a_plan, more_columns, more_values, more_spots, more_tests, more_places, RuleValue, nothing, take, alt, seq, checked, rule}
+use Rattle.script_text.specs.Form.{Form, a_word, a_name, a_natural, an_int, a_text, a_mark, Rule, a_plan, more_columns, more_values, more_spots, more_tests, more_places}
+use Rattle.script_text.specs.Form.{RuleValue, nothing, take, alt, seq, checked, rule}
 use Rattle.statements.specs.Plan.{Plan}
 use Rattle.statements.specs.Plan as plan
 use Rattle.statements.specs.Statement.{Statement}

@@ -1,5 +1,6 @@
 -- Ids as bits of words: which ids a list of words has, none in zeros, and one more where a bit is set.
-use Rattle.std.proofs.Common.{◌≡◌, ◌≢◌, ℕ, zero, suc, ◌*◌, ◌/◌, ◌%◌, ◌<◌, ◌≤◌, ◌^◌, Bool, true, false, cond, ◌||◌, List, length, get_or, set, replicate, ⊎_elim, refl, sym, ap, ◌∙◌, subst, arith, nat_cmp}
+use Rattle.std.proofs.Common.{◌≡◌, ◌≢◌, ℕ, zero, suc, ◌*◌, ◌/◌, ◌%◌, ◌<◌, ◌≤◌, ◌^◌, Bool, true, false, cond, ◌||◌, List, length, get_or, set, replicate, ⊎_elim, refl}
+use Rattle.std.proofs.Common.{sym, ap, ◌∙◌, subst, arith, nat_cmp}
 use Rattle.std.specs.Prelude.{nat_eq}
 use mir.Val.{bits}
 use Rattle.std.specs.Int.{bit_at, w64}
@@ -54,7 +55,8 @@ unfolding ids_below
 has_below words zero id h = absurd (omega arith)
 has_below words (suc n) id h =
     ⊎_elim
-    (λ e. subst (λ k. set.contains (cond (has_bit words n) (set.insert (ids_below words n) n) (ids_below words n)) k ≡ has_bit words k) (sym e) (put_here (ids_below words n) n (has_bit words n) (none_above words n n (omega arith))))
+    (λ e. subst (λ k. set.contains (cond (has_bit words n) (set.insert (ids_below words n) n) (ids_below words n)) k ≡ has_bit words k) (sym e)
+    (put_here (ids_below words n) n (has_bit words n) (none_above words n n (omega arith))))
     (λ e. put_if (ids_below words n) n id (has_bit words n) e ∙ has_below words n id (omega arith))
     (cases_eq id n)
 
@@ -88,7 +90,8 @@ bit_elsewhere words id q word h is ne =
     (cases_eq (q / 64) (id / 64))
 
 -- where the id's bit is set, the id is there too, and no other is more or less
-pub one_more : (words : List ℕ) (id word n : ℕ) → id / 64 < length words → n ≡ length words → word ≡ get_or words (id / 64) word → ids_below (set words (id / 64) (with_bit word id)) (64 * n) ≡ set.insert (ids_below words (64 * n)) id
+pub one_more : (words : List ℕ) (id word n : ℕ) → id / 64 < length words → n ≡ length words → word ≡ get_or words (id / 64) word
+    → ids_below (set words (id / 64) (with_bit word id)) (64 * n) ≡ set.insert (ids_below words (64 * n)) id
 one_more words id word n inside len read =
     let new = set words (id / 64) (with_bit word id) in
     let is = get_or_read words (id / 64) word inside read 0 in
@@ -107,7 +110,8 @@ masked word k h =
     ap (bit_and word) (one_shl k (bits w64) h) ∙ and_pow word k
 
 -- the id is there where its bit is found
-pub found_there : (words : List ℕ) (id word n : ℕ) → id / 64 < length words → n ≡ length words → word ≡ get_or words (id / 64) word → (bit_and word (1 * 2 ^ (id % 64) % 2 ^ bits w64) ≡ 0 → ⊥) → set.contains (ids_below words (64 * n)) id ≡ true
+pub found_there : (words : List ℕ) (id word n : ℕ) → id / 64 < length words → n ≡ length words → word ≡ get_or words (id / 64) word
+    → (bit_and word (1 * 2 ^ (id % 64) % 2 ^ bits w64) ≡ 0 → ⊥) → set.contains (ids_below words (64 * n)) id ≡ true
 found_there words id word n inside len read found =
     let bit = bit_at word (id % 64) in
     let some : bit ≡ 0 → ⊥ = λ e. found (masked word (id % 64) (omega arith) ∙ ap (λ b. b * 2 ^ (id % 64)) e ∙ zero-mul (2 ^ (id % 64))) in
@@ -115,12 +119,15 @@ found_there words id word n inside len read found =
     has_below words (64 * n) id (omega arith) ∙ ap (λ w. nat_eq (bit_at w (id % 64)) 1) (sym (get_or_read words (id / 64) word inside read 0)) ∙ eq-eqb bit 1 one
 
 -- and not there where it isn't
-pub not_there : (words : List ℕ) (id word n : ℕ) → id / 64 < length words → n ≡ length words → word ≡ get_or words (id / 64) word → bit_and word (1 * 2 ^ (id % 64) % 2 ^ bits w64) ≡ 0 → set.contains (ids_below words (64 * n)) id ≡ false
+pub not_there : (words : List ℕ) (id word n : ℕ) → id / 64 < length words → n ≡ length words → word ≡ get_or words (id / 64) word
+    → bit_and word (1 * 2 ^ (id % 64) % 2 ^ bits w64) ≡ 0 → set.contains (ids_below words (64 * n)) id ≡ false
 not_there words id word n inside len read found =
     let bit = bit_at word (id % 64) in
-    let none : bit ≡ 1 → ⊥ = λ e. (let pos : 0 < 2 ^ (id % 64) = pow_pos (id % 64) in let is : 2 ^ (id % 64) ≡ 0 = sym (one-mul (2 ^ (id % 64))) ∙ ap (λ b. b * 2 ^ (id % 64)) (sym e) ∙ sym (masked word (id % 64) (omega arith)) ∙ found in let no_power : ⊥ = omega arith in no_power) in
+    let none : bit ≡ 1 → ⊥ = λ e. (let pos : 0 < 2 ^ (id % 64) = pow_pos (id % 64) in let is : 2 ^ (id % 64) ≡ 0 =
+    sym (one-mul (2 ^ (id % 64))) ∙ ap (λ b. b * 2 ^ (id % 64)) (sym e) ∙ sym (masked word (id % 64) (omega arith)) ∙ found in let no_power : ⊥ = omega arith in no_power) in
     has_below words (64 * n) id (omega arith) ∙ ap (λ w. nat_eq (bit_at w (id % 64)) 1) (sym (get_or_read words (id / 64) word inside read 0)) ∙ ne_eqb bit 1 none
 
 -- zeros, at each place
 pub zeros : (n k : ℕ) → get_or {A = ℕ} (replicate n 0) k 0 ≡ 0
-zeros n k = ⊎_elim (λ in_list. get_or-replicate n k 0 0 in_list) (λ past. get_or_past (replicate n 0) k 0 (let len : length {A = ℕ} (replicate n 0) ≡ n = length-replicate n 0 in omega arith)) (cases_lt k n)
+zeros n k = ⊎_elim (λ in_list. get_or-replicate n k 0 0 in_list)
+    (λ past. get_or_past (replicate n 0) k 0 (let len : length {A = ℕ} (replicate n 0) ≡ n = length-replicate n 0 in omega arith)) (cases_lt k n)

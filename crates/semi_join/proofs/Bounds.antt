@@ -1,5 +1,6 @@
 -- The visits of calls of a search one after another, as those of one call of the semi-join.
-use Rattle.std.proofs.Common.{◌≡◌, Bool, true, ◌&&◌, List, [], ◌++◌, length, All, Option, None, Some, Result, Ok, Err, ⊎_elim, refl, sym, ap, ◌∙◌, subst, append-nil, append_assoc, length-append, true≢false, Ordering, Less}
+use Rattle.std.proofs.Common.{◌≡◌, Bool, true, ◌&&◌, List, [], ◌++◌, length, All, Option, None, Some, Result, Ok, Err, ⊎_elim, refl, sym, ap, ◌∙◌, subst, append-nil}
+use Rattle.std.proofs.Common.{append_assoc, length-append, true≢false, Ordering, Less}
 use Rattle.std.specs.Ordering.{is_gt, is_lt}
 use Rattle.std.specs.FinSet as set
 use Rattle.std.proofs.lemmas.Bool.{and_from, and_parts}
@@ -30,7 +31,12 @@ later_test None hit = true
 later_test (Some last) hit = is_lt (hit_cmp last hit)
 
 less_test : (r : Ordering) → is_lt r ≡ true → r ≡ Less
-less_test r = elim r as (λ r. is_lt r ≡ true → r ≡ Less) [ Rattle.std.specs.declared.cmp.Ordering.TheVariants.Less ↦ λ e. refl | Rattle.std.specs.declared.cmp.Ordering.TheVariants.Equal ↦ λ e. absurd (true≢false (sym e)) | Rattle.std.specs.declared.cmp.Ordering.TheVariants.Greater ↦ λ e. absurd (true≢false (sym e)) ]
+less_test r = elim r as (λ r. is_lt r ≡ true → r ≡ Less) [
+  | Rattle.std.specs.declared.cmp.Ordering.TheVariants.Less ↦ λ e.
+      refl
+  | Rattle.std.specs.declared.cmp.Ordering.TheVariants.Equal ↦ λ e. absurd (true≢false (sym e))
+  | Rattle.std.specs.declared.cmp.Ordering.TheVariants.Greater ↦ λ e. absurd (true≢false (sym e))
+]
 
 is_later : (last : Option Hit) (hit : Hit) → later_test last hit ≡ true → IsLater last hit
 unfolding later_test
@@ -70,7 +76,8 @@ next_before m last row answer later =
     (least_of test m.rows)
 
 -- what lies before the search's next row lies before the next first pair
-before_pair : {N : Type 0} (m : Meaning N) (last : Option Hit) (lefts : LeftRows) (attempt all : List (Item N)) → AreGivenUpTo m last lefts → VisitsBefore m last attempt all → VisitsBeforePair m lefts.given attempt all
+before_pair : {N : Type 0} (m : Meaning N) (last : Option Hit) (lefts : LeftRows) (attempt all : List (Item N)) → AreGivenUpTo m last lefts
+    → VisitsBefore m last attempt all → VisitsBeforePair m lefts.given attempt all
 before_pair m last lefts attempt all upto h = record {
   few = h.few;
   near = λ hit pair.
@@ -85,22 +92,28 @@ before_pair m last lefts attempt all upto h = record {
 -- ---- calls one after another
 
 module _ {N : Type 0} {cmp : N → N → Ordering} (m : Meaning N) (note : Item N → Visit) where
-  both : (done : List (Item N)) (old mid new : SearchState N) (first : Makes cmp m note done old mid []) (attempt : List (Item N)) → Makes cmp m note (done ++ first.taken) mid new attempt → Makes cmp m note done old new attempt
+  both : (done : List (Item N)) (old mid new : SearchState N) (first : Makes cmp m note done old mid []) (attempt : List (Item N))
+      → Makes cmp m note (done ++ first.taken) mid new attempt → Makes cmp m note done old new attempt
   both done old mid new first attempt second =
       let regroup = append_assoc done first.taken second.taken in
       record {
         taken = first.taken ++ second.taken;
-        noted = subst (λ l. Noted note m.price l old.desk new.desk) (ap (λ l. l ++ (second.taken ++ attempt)) (append-nil first.taken) ∙ sym (append_assoc first.taken second.taken attempt)) (noted_both note m.price (first.taken ++ []) (second.taken ++ attempt) old.desk mid.desk new.desk first.noted second.noted);
-        rose = subst (λ n. RoseBy n old.desk new.desk) (sym (ap length (nodes-append first.taken second.taken) ∙ length-append (nodes_of first.taken) (nodes_of second.taken))) (rose_both (length (nodes_of first.taken)) (length (nodes_of second.taken)) old.desk mid.desk new.desk first.rose second.rose);
+        noted = subst (λ l. Noted note m.price l old.desk new.desk) (ap (λ l. l ++ (second.taken ++ attempt)) (append-nil first.taken)
+            ∙ sym (append_assoc first.taken second.taken attempt)) (noted_both note m.price (first.taken ++ []) (second.taken ++ attempt) old.desk mid.desk new.desk first.noted second.noted);
+        rose = subst (λ n. RoseBy n old.desk new.desk) (sym (ap length (nodes-append first.taken second.taken) ∙ length-append (nodes_of first.taken) (nodes_of second.taken)))
+            (rose_both (length (nodes_of first.taken)) (length (nodes_of second.taken)) old.desk mid.desk new.desk first.rose second.rose);
         stands = subst (Stands cmp m new.held new.last) regroup second.stands;
-        visits = subst (All IsVisit) (sym (append_assoc first.taken second.taken attempt)) (All-append IsVisit first.taken (second.taken ++ attempt) (All-left IsVisit first.taken [] first.visits) second.visits);
+        visits = subst (All IsVisit) (sym (append_assoc first.taken second.taken attempt))
+            (All-append IsVisit first.taken (second.taken ++ attempt) (All-left IsVisit first.taken [] first.visits) second.visits);
         tried = second.tried;
         nearer = second.nearer;
         counted = λ c. subst (λ d. IsCounted d new.counts) regroup (second.counted (first.counted c));
       }
 
   -- the calls before, all accepted, and a last one whose bounds are those of the semi-join
-  joined : (given : IdSet) (done : List (Item N)) (old mid new : SearchState N) (result : Result (Option Hit) PageFault) (first : Makes cmp m note done old mid []) (attempt : List (Item N)) (second : Makes cmp m note (done ++ first.taken) mid new attempt) → PairBounds cmp m given result attempt ((done ++ first.taken) ++ second.taken) → PairVisits cmp m note given done old new result
+  joined : (given : IdSet) (done : List (Item N)) (old mid new : SearchState N) (result : Result (Option Hit) PageFault) (first : Makes cmp m note done old mid [])
+      (attempt : List (Item N)) (second : Makes cmp m note (done ++ first.taken) mid new attempt)
+      → PairBounds cmp m given result attempt ((done ++ first.taken) ++ second.taken) → PairVisits cmp m note given done old new result
   unfolding both
   joined given done old mid new result first attempt second bounds = record {
     attempt = attempt;
@@ -109,7 +122,8 @@ module _ {N : Type 0} {cmp : N → N → Ordering} (m : Meaning N) (note : Item 
   }
 
   -- after a row
-  pub row_visits : (given : IdSet) (old mid new : SearchState N) (hit : Hit) → Goes cmp m note old mid → MakesVisits cmp m note mid new (Ok (Some hit)) → MakesPairVisits cmp m note given old new (Ok (Some hit))
+  pub row_visits : (given : IdSet) (old mid new : SearchState N) (hit : Hit) → Goes cmp m note old mid → MakesVisits cmp m note mid new (Ok (Some hit))
+      → MakesPairVisits cmp m note given old new (Ok (Some hit))
   row_visits given old mid new hit goes visits done h =
       let first = goes done h in
       let call = visits (done ++ first.taken) first.stands in
@@ -123,7 +137,8 @@ module _ {N : Type 0} {cmp : N → N → Ordering} (m : Meaning N) (note : Item 
       joined given done old mid new (Ok None) first call.attempt call.makes call.bounds
 
   -- after a refusal
-  pub fault_visits : (lefts : LeftRows) (old mid new : SearchState N) (fault : PageFault) → AreGivenUpTo m mid.last lefts → Goes cmp m note old mid → MakesVisits cmp m note mid new (Err fault) → MakesPairVisits cmp m note lefts.given old new (Err fault)
+  pub fault_visits : (lefts : LeftRows) (old mid new : SearchState N) (fault : PageFault) → AreGivenUpTo m mid.last lefts → Goes cmp m note old mid
+      → MakesVisits cmp m note mid new (Err fault) → MakesPairVisits cmp m note lefts.given old new (Err fault)
   fault_visits lefts old mid new fault upto goes visits done h =
       let first = goes done h in
       let call = visits (done ++ first.taken) first.stands in

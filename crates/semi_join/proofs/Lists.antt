@@ -1,5 +1,6 @@
 -- The first pairs of a list: what is left of them once more left ids were given.
-use Rattle.std.proofs.Common.{◌≡◌, ℕ, Bool, true, false, not, cond, List, [], ◌∷◌, filter, Contains, Option, None, Some, IfSome, Result, Ok, Err, ◌⊎◌, inl, inr, ⊎_elim, refl, sym, ap, ◌∙◌, subst, true≢false, Less}
+use Rattle.std.proofs.Common.{◌≡◌, ℕ, Bool, true, false, not, cond, List, [], ◌∷◌, filter, Contains, Option, None, Some, IfSome, Result, Ok, Err, ◌⊎◌, inl, inr, ⊎_elim}
+use Rattle.std.proofs.Common.{refl, sym, ap, ◌∙◌, subst, true≢false, Less}
 use Rattle.std.specs.Prelude.{nat_eq}
 use Rattle.std.specs.Ordering.{is_gt, ordering_reverse}
 use Rattle.std.specs.Cmp.{alike_right}
@@ -30,7 +31,8 @@ keep given found = not (set.contains given found.left)
 other_left : ℕ → Found → Bool
 other_left id found = not (nat_eq found.left id)
 
-step : (x : Found) (p q r : Bool) (xs ys : List Found) (given : IdSet) → (q ≡ true → r ≡ p) → (q ≡ false → r ≡ false) → filter (keep given) xs ≡ ys → p ≡ keep given x → filter (keep given) (cond q (x ∷ xs) xs) ≡ cond r (x ∷ ys) ys
+step : (x : Found) (p q r : Bool) (xs ys : List Found) (given : IdSet) → (q ≡ true → r ≡ p) → (q ≡ false → r ≡ false) → filter (keep given) xs ≡ ys → p ≡ keep given x
+    → filter (keep given) (cond q (x ∷ xs) xs) ≡ cond r (x ∷ ys) ys
 step x p true r xs ys given yes_ no_ e is = ap (λ l. cond (keep given x) (x ∷ l) l) e ∙ ap (λ b. cond b (x ∷ ys) ys) (sym is ∙ sym (yes_ refl))
 step x p false r xs ys given yes_ no_ e is = e ∙ ap (λ b. cond b (x ∷ ys) ys) (sym (no_ refl))
 
@@ -86,7 +88,8 @@ first_left given [] rises f at fresh = absurd (none f at)
 first_left given (x ∷ xs) rises f at fresh =
     let go : (b : Bool) → set.contains given x.left ≡ b → FirstLeft given (x ∷ xs) = elim [
       | true ↦ λ e.
-          let not_x = λ (other : Found) (is : x ≡ other) (open_ : set.contains given other.left ≡ false). (let no_way : ⊥ = true≢false (sym e ∙ ap (λ (y : Found). set.contains given y.left) is ∙ open_) in no_way) in
+          let not_x = λ (other : Found) (is : x ≡ other) (open_ : set.contains given other.left ≡ false).
+          (let no_way : ⊥ = true≢false (sym e ∙ ap (λ (y : Found). set.contains given y.left) is ∙ open_) in no_way) in
           let l = first_left given xs (rest_rises x xs rises) f (⊎_elim (λ is. absurd (not_x f is fresh)) (λ i. i) (cons_cases x xs f at)) fresh in
           record {
             found = l.found;
@@ -109,21 +112,29 @@ not_both : (a b : Hit) → hit_cmp b a ≡ Less → is_gt (hit_cmp a b) ≡ fals
 not_both a b less upto = true≢false (sym (ap is_gt (rows_total.antisymm a b ∙ ap ordering_reverse less)) ∙ upto)
 
 -- the next first pair is the first that is left of the list
-pair_is_first : {N : Type 0} (m : Meaning N) (given : IdSet) (hit : Hit) (answer : List Found) → ListsAnswer m answer → IsFirstPair m given hit → TakesFirst (pairs_left given answer) (pairs_left (set.insert given hit.left) answer) (Ok (Some hit))
+pair_is_first : {N : Type 0} (m : Meaning N) (given : IdSet) (hit : Hit) (answer : List Found) → ListsAnswer m answer → IsFirstPair m given hit
+    → TakesFirst (pairs_left given answer) (pairs_left (set.insert given hit.left) answer) (Ok (Some hit))
 pair_is_first m given hit answer lists pair =
     let w = lists.whole pair.row pair.answer in
     let fresh : set.contains given w.found.left ≡ false = subst (λ id. set.contains given id ≡ false) w.same.1 pair.fresh in
     let l = first_left given answer lists.rising w.found w.among fresh in
     let o = lists.only l.found l.among in
     let upto = pair.first o.row o.answer (subst (λ id. set.contains given id ≡ false) (sym o.same.1) l.fresh) in
-    let is : l.found ≡ w.found = ⊎_elim (λ e. e) (λ less. absurd (not_both pair.row o.row (rows_total.congr o.row (hit_of l.found) pair.row (rows_tied o.row (hit_of l.found) o.same) ∙ alike_right rows_total pair.row (hit_of w.found) (hit_of l.found) (rows_tied pair.row (hit_of w.found) w.same) ∙ less) upto)) (l.before w.found w.among fresh) in
+    let is : l.found ≡ w.found = ⊎_elim (λ e. e)
+    (λ less. absurd (not_both pair.row o.row (rows_total.congr o.row (hit_of l.found) pair.row (rows_tied o.row (hit_of l.found) o.same)
+    ∙ alike_right rows_total pair.row (hit_of w.found) (hit_of l.found) (rows_tied pair.row (hit_of w.found) w.same) ∙ less) upto)) (l.before w.found w.among fresh) in
     let left : l.found.left ≡ hit.left = ap (λ (f : Found). f.left) is ∙ sym w.same.1 ∙ pair.same.1 in (
       l.found,
       subst (λ id. pairs_left given answer ≡ l.found ∷ pairs_left (set.insert given id) answer) left l.is,
-      subst (λ f. IsSameRow hit (hit_of f)) (sym is) (same_trans hit.gap pair.row.gap w.found.gap (same_back pair.row.gap hit.gap pair.same.0) w.same.0, sym pair.same.1 ∙ w.same.1, sym pair.same.2 ∙ w.same.2),
+      subst (λ f. IsSameRow hit (hit_of f)) (sym is) (
+        same_trans hit.gap pair.row.gap w.found.gap (same_back pair.row.gap hit.gap pair.same.0) w.same.0,
+        sym pair.same.1 ∙ w.same.1,
+        sym pair.same.2 ∙ w.same.2,
+      ),
     )
 
-takes_first : {N : Type 0} (m : Meaning N) (old new : LeftRows) (result : Result (Option Hit) PageFault) (answer : List Found) → ListsAnswer m answer → GivesFirstPair m old.given result → GivesLeft old new result → TakesFirst (pairs_left old.given answer) (pairs_left new.given answer) result
+takes_first : {N : Type 0} (m : Meaning N) (old new : LeftRows) (result : Result (Option Hit) PageFault) (answer : List Found) → ListsAnswer m answer
+    → GivesFirstPair m old.given result → GivesLeft old new result → TakesFirst (pairs_left old.given answer) (pairs_left new.given answer) result
 takes_first m old new (Ok (Some hit)) answer lists pair left =
     subst (λ (s : LeftRows). TakesFirst (pairs_left old.given answer) (pairs_left s.given answer) (Ok (Some hit))) (sym left.1) (pair_is_first m old.given hit answer lists pair)
 takes_first m old new (Ok None) answer lists all left =
@@ -132,6 +143,8 @@ takes_first m old new (Ok None) answer lists all left =
 takes_first m old new (Err fault) answer lists pair left = ap (λ (s : LeftRows). pairs_left s.given answer) left
 
 -- over the pages that the disk tells
-pub takes_first_over : {N : Type 0} (meaning : PageMap → Meaning N) (pages : Option PageMap) (old new : LeftRows) (result : Result (Option Hit) PageFault) → IfSome pages (λ p. GivesFirstPair (meaning p) old.given result) → GivesLeft old new result → IfSome pages (λ p. (answer : List Found) → ListsAnswer (meaning p) answer → TakesFirst (pairs_left old.given answer) (pairs_left new.given answer) result)
+pub takes_first_over : {N : Type 0} (meaning : PageMap → Meaning N) (pages : Option PageMap) (old new : LeftRows) (result : Result (Option Hit) PageFault)
+    → IfSome pages (λ p. GivesFirstPair (meaning p) old.given result) → GivesLeft old new result
+    → IfSome pages (λ p. (answer : List Found) → ListsAnswer (meaning p) answer → TakesFirst (pairs_left old.given answer) (pairs_left new.given answer) result)
 takes_first_over meaning None old new result pair left = tt
 takes_first_over meaning (Some p) old new result pair left = λ answer lists. takes_first (meaning p) old new result answer lists pair left

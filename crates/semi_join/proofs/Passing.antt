@@ -55,7 +55,8 @@ module _ {N : Type 0} (m : Meaning N) (last : Option Hit) (hit : Hit) (next : Is
   -- and its left id is given from then on
   pub given_now : set.contains lefts.given hit.left ≡ false → AreGivenUpTo m (Some hit) (gives hit.left lefts)
   given_now fresh =
-      let waits : Contains upto.rest hit.left = ⊎_elim (λ given. given_or_not lefts hit.left _ (subst (λ id. set.contains lefts.given id ≡ true) next.same.1 given) fresh) (λ w. subst (Contains upto.rest) next.same.1 w) (upto.among next.row next.answer.0) in
+      let waits : Contains upto.rest hit.left = ⊎_elim (λ given. given_or_not lefts hit.left _ (subst (λ id. set.contains lefts.given id ≡ true) next.same.1 given) fresh)
+      (λ w. subst (Contains upto.rest) next.same.1 w) (upto.among next.row next.answer.0) in
       let d = dropped hit.left upto.rest waits in
       record {
         rest = d.rest;

@@ -25,18 +25,21 @@ rows_left a b e = let (far, is) = alike_row {N = ℕ} nat_cmp a.gap a.left a.rig
 
 not_after : (a b : Hit) → is_gt (hit_cmp a b) ≡ false → (hit_cmp a b ≡ Less) ⊎ (hit_cmp a b ≡ Equal)
 not_after a b n =
-    let go : (r : Ordering) → hit_cmp a b ≡ r → is_gt r ≡ false → (hit_cmp a b ≡ Less) ⊎ (hit_cmp a b ≡ Equal) = elim [ Less ↦ λ e n. inl e | Equal ↦ λ e n. inr e | Greater ↦ λ e n. absurd (true≢false n) ] in
+    let go : (r : Ordering) → hit_cmp a b ≡ r → is_gt r ≡ false → (hit_cmp a b ≡ Less) ⊎ (hit_cmp a b ≡ Equal) =
+    elim [ Less ↦ λ e n. inl e | Equal ↦ λ e n. inr e | Greater ↦ λ e n. absurd (true≢false n) ] in
     go (hit_cmp a b) refl n
 
 -- a row that comes after no other is at most as far
 pub first_near : (a b : Hit) → is_gt (hit_cmp a b) ≡ false → IsAtMost a.gap b.gap
 first_near a b n =
     let rest = Rattle.best_first.specs.OrderLaws.ids_cmp (a.left, a.right) (b.left, b.right) in
-    let go : (r : Ordering) → value_cmp a.gap b.gap ≡ r → is_gt (ordering_then r rest) ≡ false → IsAtMost a.gap b.gap = elim [ Less ↦ λ e n. below_at_most a.gap b.gap (less_is a.gap b.gap e) | Equal ↦ λ e n. equal_at_most a.gap b.gap e | Greater ↦ λ e n. absurd (true≢false n) ] in
+    let go : (r : Ordering) → value_cmp a.gap b.gap ≡ r → is_gt (ordering_then r rest) ≡ false → IsAtMost a.gap b.gap =
+    elim [ Less ↦ λ e n. below_at_most a.gap b.gap (less_is a.gap b.gap e) | Equal ↦ λ e n. equal_at_most a.gap b.gap e | Greater ↦ λ e n. absurd (true≢false n) ] in
     go (value_cmp a.gap b.gap) refl n
 
 -- a row that comes after the last one comes after the next one, or has the left id of that
-pub after_next : {N : Type 0} (m : Meaning N) (last : Option Hit) (hit : Hit) → IsNext m last hit → (other : Hit) → IsAnswer m other → IsLater last other → IsLater (Some hit) other ⊎ (other.left ≡ hit.left)
+pub after_next : {N : Type 0} (m : Meaning N) (last : Option Hit) (hit : Hit) → IsNext m last hit → (other : Hit) → IsAnswer m other → IsLater last other
+    → IsLater (Some hit) other ⊎ (other.left ≡ hit.left)
 after_next m last hit next other answer later =
     ⊎_elim
     (λ less. inl (sym (rows_total.congr next.row hit other (rows_tied next.row hit next.same)) ∙ less))
@@ -58,7 +61,8 @@ HasNone test rows = (other : Hit) → Contains rows other → test other ≡ tru
 
 not_before : (a b : Hit) → is_gt (hit_cmp a b) ≡ true → is_gt (hit_cmp b a) ≡ false
 not_before a b e =
-    let go : (r : Ordering) → hit_cmp b a ≡ r → is_gt (Rattle.std.specs.Ordering.ordering_reverse r) ≡ true → is_gt r ≡ false = elim [ Less ↦ λ f n. refl | Equal ↦ λ f n. refl | Greater ↦ λ f n. sym n ] in
+    let go : (r : Ordering) → hit_cmp b a ≡ r → is_gt (Rattle.std.specs.Ordering.ordering_reverse r) ≡ true
+    → is_gt r ≡ false = elim [ Less ↦ λ f n. refl | Equal ↦ λ f n. refl | Greater ↦ λ f n. sym n ] in
     go (hit_cmp b a) refl (ap is_gt (sym (rows_total.antisymm a b)) ∙ e)
 
 least_more : (test : Hit → Bool) (x : Hit) (xs : List Hit) → test x ≡ true → HasNone test xs ⊎ IsLeastOf test xs → IsLeastOf test (x ∷ xs)
@@ -82,7 +86,8 @@ least_more test x xs e rest =
         row = x;
         among = here x xs;
         passes = e;
-        first = λ other at t. ⊎_elim (λ is. subst (λ y. is_gt (hit_cmp x y) ≡ false) is (ap is_gt (tied_itself rows_total x))) (λ in_rest. upto rows_total x l.row other upper (l.first other in_rest t)) (cons_cases x xs other at);
+        first = λ other at t. ⊎_elim (λ is. subst (λ y. is_gt (hit_cmp x y) ≡ false) is (ap is_gt (tied_itself rows_total x)))
+            (λ in_rest. upto rows_total x l.row other upper (l.first other in_rest t)) (cons_cases x xs other at);
       }
     ] in
     go (is_gt (hit_cmp x l.row)) refl)
@@ -105,5 +110,6 @@ least_same test x xs e rest =
 pub least_of : (test : Hit → Bool) (rows : List Hit) → HasNone test rows ⊎ IsLeastOf test rows
 least_of test [] = inl (λ other at t. none other at)
 least_of test (x ∷ xs) =
-    let go : (b : Bool) → test x ≡ b → HasNone test (x ∷ xs) ⊎ IsLeastOf test (x ∷ xs) = elim [ true ↦ λ e. inr (least_more test x xs e (least_of test xs)) | false ↦ λ e. least_same test x xs e (least_of test xs) ] in
+    let go : (b : Bool) → test x ≡ b → HasNone test (x ∷ xs) ⊎ IsLeastOf test (x ∷ xs) =
+    elim [ true ↦ λ e. inr (least_more test x xs e (least_of test xs)) | false ↦ λ e. least_same test x xs e (least_of test xs) ] in
     go (test x) refl

@@ -37,7 +37,8 @@ pub record HasLefts {N : Type 0} (m : Meaning N) (lefts greatest : ℕ) : Type 0
   pub small : All (λ id. id ≤ greatest) ids
   pub among : (hit : Hit) → Contains m.rows hit → Contains ids hit.left
 
--- How far the left rows are, when a search has given all up to this row. Those that wait have these ids, which have their bits; each row of the hierarchy has a left id that was given or waits; and each row of the answer that the search has given has a left id that was given.
+-- How far the left rows are, when a search has given all up to this row. Those that wait have these ids, which have their bits; each row of
+-- the hierarchy has a left id that was given or waits; and each row of the answer that the search has given has a left id that was given.
 pub record AreGivenUpTo {N : Type 0} (m : Meaning N) (last : Option Hit) (lefts : LeftRows) : Type 0 where
   pub rest : List ℕ
   pub count : length rest ≡ lefts.waiting

@@ -40,4 +40,5 @@ ids_below words (suc n) = cond (has_bit words n) (set.insert (ids_below words n)
 
 -- left rows are stored as the triple of their parts
 abbrev pub left_rows_code : Coded LeftRows
-left_rows_code = code_by (IdSet × (ℕ × ℕ)) (coded× (set.code coded_ℕ) (coded× coded_ℕ coded_ℕ)) (λ s. (s.given, (s.below, s.waiting))) (λ p. record { given = p.0; below = p.1.0; waiting = p.1.1 }) (λ _. refl)
+left_rows_code = code_by (IdSet × (ℕ × ℕ)) (coded× (set.code coded_ℕ) (coded× coded_ℕ coded_ℕ)) (λ s. (s.given, (s.below, s.waiting)))
+    (λ p. record { given = p.0; below = p.1.0; waiting = p.1.1 }) (λ _. refl)

@@ -26,7 +26,8 @@ PairBounds cmp m given (Ok None) attempt all = VisitsAll cmp m attempt all
 PairBounds cmp m given (Err fault) attempt all = VisitsBeforePair m given attempt all
 
 -- The visits of one call of `next`, where the search had taken this before it.
-pub record PairVisits {N : Type 0} (cmp : N → N → Ordering) (m : Meaning N) (note : Item N → Visit) (given : IdSet) (done : List (Item N)) (old new : SearchState N) (result : Result (Option Hit) PageFault) : Type 0 where
+pub record PairVisits {N : Type 0} (cmp : N → N → Ordering) (m : Meaning N) (note : Item N → Visit) (given : IdSet) (done : List (Item N)) (old new : SearchState N)
+    (result : Result (Option Hit) PageFault) : Type 0 where
   pub attempt : List (Item N)
   pub makes : Makes cmp m note done old new attempt
   pub bounds : PairBounds cmp m given result attempt (done ++ makes.taken)

@@ -94,5 +94,6 @@ No-journal {T} seen None why none counted is =
 No-journal {T} seen (Some journal) why none counted is = absurd (true≢false none)
 
 -- the tape of a journal that is there counts as the run's end says
-pub Tape-there : {T : Type 0} (seen : T → TapeView) (new : Option (Journal T)) (journal : Journal T) (why : Status) (t : ℕ) → new ≡ Some journal → tape_count seen new ≡ tape_after why t → (seen journal.tape).faults ≡ tape_after why t
+pub Tape-there : {T : Type 0} (seen : T → TapeView) (new : Option (Journal T)) (journal : Journal T) (why : Status) (t : ℕ) → new ≡ Some journal
+    → tape_count seen new ≡ tape_after why t → (seen journal.tape).faults ≡ tape_after why t
 Tape-there {T} seen new journal why t is counted = subst (λ (o : Option (Journal T)). tape_count seen o ≡ tape_after why t) is counted

@@ -82,10 +82,16 @@ ends_by status.ReplayDamaged first now script left took text b o = absurd o.over
 -- an end of a text that grew is one of the text before
 ends_grown : (why : Status) (first last : Moment) (script left : Option (List ℕ)) (a b c : List ℕ → Type 0) (text more : List ℕ) → Adds a b more
     → EndsText why first last script left b c (text ++ more) → EndsText why first last script left a c text
-ends_grown status.Done first last script left a b c text more adds ends =
-    (more ++ ends.0, Adds-trans a b c more ends.0 adds ends.1, subst (λ t. HasReadAll script left (λ bytes. Prints (CarriesLines (lines bytes) first last) false t)) (append_assoc text more ends.0) ends.2)
-ends_grown status.SomeRefused first last script left a b c text more adds ends =
-    (more ++ ends.0, Adds-trans a b c more ends.0 adds ends.1, subst (λ t. HasReadAll script left (λ bytes. Prints (CarriesLines (lines bytes) first last) true t)) (append_assoc text more ends.0) ends.2)
+ends_grown status.Done first last script left a b c text more adds ends = (
+  more ++ ends.0,
+  Adds-trans a b c more ends.0 adds ends.1,
+  subst (λ t. HasReadAll script left (λ bytes. Prints (CarriesLines (lines bytes) first last) false t)) (append_assoc text more ends.0) ends.2,
+)
+ends_grown status.SomeRefused first last script left a b c text more adds ends = (
+  more ++ ends.0,
+  Adds-trans a b c more ends.0 adds ends.1,
+  subst (λ t. HasReadAll script left (λ bytes. Prints (CarriesLines (lines bytes) first last) true t)) (append_assoc text more ends.0) ends.2,
+)
 ends_grown status.ReadFault first last script left a b c text more adds ends = (
   more ++ ends.0,
   Adds-trans a b c more ends.0 adds ends.1,
@@ -116,8 +122,10 @@ ends_grown status.ReplayFault first last script left a b c text more adds ends =
 ends_grown status.ReplayDamaged first last script left a b c text more adds ends = absurd ends
 
 -- the lines are over, behind a text that grew
-pub ends_grow : (first : Moment) (script : Option (List ℕ)) (text : List ℕ) (before took : List ℕ → Type 0) (why : Status) (reader reader' : ScriptLines) (between left : Option (List ℕ)) (now : Moment) (b : Bool) (result : Status)
-    → result ≡ ended why b → Draws (Err why) reader reader' between left → Grows before took text (λ all. IsBetweenLines first script all (run_state reader between now b)) → EndsAt result now left before took first script text
+pub ends_grow : (first : Moment) (script : Option (List ℕ)) (text : List ℕ) (before took : List ℕ → Type 0) (why : Status) (reader reader' : ScriptLines)
+    (between left : Option (List ℕ)) (now : Moment) (b : Bool) (result : Status)
+    → result ≡ ended why b → Draws (Err why) reader reader' between left → Grows before took text (λ all. IsBetweenLines first script all (run_state reader between now b))
+    → EndsAt result now left before took first script text
 ends_grow first script text before took why reader reader' between left now b result is draws grown =
     let o = over why first now script between left (text ++ grown.0) reader reader' b draws grown.2 in
     let ends : EndsText result first now script left took took (text ++ grown.0) =

@@ -23,7 +23,8 @@ use Rattle.session.proofs.KeptTapes.{IfBad}
 -- ---- by the status
 
 -- a run that began to read ends behind its changes
-pub Kept-begun : (why : Status) (limits : Limits) (old new : Outside) (Starts : List ChangeValue → Type 0) (Bad : Type 0) → HasBegun why → EndsBehind why limits old new Starts → EndsKept why limits old new Starts Bad
+pub Kept-begun : (why : Status) (limits : Limits) (old new : Outside) (Starts : List ChangeValue → Type 0) (Bad : Type 0) → HasBegun why
+    → EndsBehind why limits old new Starts → EndsKept why limits old new Starts Bad
 Kept-begun status.Done limits old new Starts Bad begun ends = ends
 Kept-begun status.SomeRefused limits old new Starts Bad begun ends = ends
 Kept-begun status.ReadFault limits old new Starts Bad begun ends = ends
@@ -39,7 +40,8 @@ Kept-begun status.ReplayDamaged limits old new Starts Bad begun ends = absurd be
 
 -- ---- before the first line
 
-module _ (limits : Limits) (left : Option (List ℕ)) (reads : ℕ) (files : Option Files) (opens : ℕ) (before disk : DiskView) (took : List ℕ → Type 0) (writes : ℕ) (Starts : List ChangeValue → Type 0) (Bad : Type 0) where
+module _ (limits : Limits) (left : Option (List ℕ)) (reads : ℕ) (files : Option Files) (opens : ℕ) (before disk : DiskView) (took : List ℕ → Type 0) (writes : ℕ)
+    (Starts : List ChangeValue → Type 0) (Bad : Type 0) where
   -- what is outside before the run, and behind it
   abbrev kept_before : Outside
   kept_before = outside_of left reads files opens before took writes
@@ -67,7 +69,8 @@ module _ (limits : Limits) (left : Option (List ℕ)) (reads : ℕ) (files : Opt
   Kept-unstarted status.ReplayDamaged not = absurd not
 
   -- the replay stopped
-  pub Kept-stopped : (why : ReplayFault) (tape tape' : TapeView) (old new : PoolState) → old.disk.faults ≡ before.faults → disk ≡ new.disk → HasReplayCause {T = ⊤} tape tape' old new (Err why) → IfBad why Bad
+  pub Kept-stopped : (why : ReplayFault) (tape tape' : TapeView) (old new : PoolState) → old.disk.faults ≡ before.faults → disk ≡ new.disk
+      → HasReplayCause {T = ⊤} tape tape' old new (Err why) → IfBad why Bad
       → EndsKept (status_of_replay why) limits kept_before kept_behind Starts Bad
   Kept-stopped replayed.Memory tape tape' old new began same cause bad = Unbegun (ap (λ (d : DiskView). d.faults) same ∙ cause.1 ∙ began)
   Kept-stopped replayed.Tape tape tape' old new began same cause bad = inl (Unbegun (ap (λ (d : DiskView). d.faults) same ∙ cause.1 ∙ began))
@@ -101,8 +104,10 @@ Kept-weaker why limits old new P Q B C weaker bad = by why where
   by status.ReplayDamaged e = e
 
 -- a run behind changes is one whose disk was started with this count
-module _ (limits : Limits) (left : Option (List ℕ)) (reads : ℕ) (files : Option Files) (opens : ℕ) (before disk : DiskView) (took : List ℕ → Type 0) (writes : ℕ) (new : Outside) (Starts : List ChangeValue → Type 0) (Bad : Type 0) (counted : disk.faults ≡ before.faults) where
-  behind_counted : (why : Status) → EndsBehind why limits (outside_of left reads files opens disk took writes) new Starts → EndsBehind why limits (outside_of left reads files opens before took writes) new Starts
+module _ (limits : Limits) (left : Option (List ℕ)) (reads : ℕ) (files : Option Files) (opens : ℕ) (before disk : DiskView) (took : List ℕ → Type 0) (writes : ℕ)
+    (new : Outside) (Starts : List ChangeValue → Type 0) (Bad : Type 0) (counted : disk.faults ≡ before.faults) where
+  behind_counted : (why : Status) → EndsBehind why limits (outside_of left reads files opens disk took writes) new Starts
+      → EndsBehind why limits (outside_of left reads files opens before took writes) new Starts
   behind_counted why e = record {
     changes = e.changes;
     starts = e.starts;
@@ -111,7 +116,8 @@ module _ (limits : Limits) (left : Option (List ℕ)) (reads : ℕ) (files : Opt
     ends = From-counted limits left reads files opens before disk took writes new counted e.state why e.ends;
   }
 
-  pub Kept-counted : (why : Status) → EndsKept why limits (outside_of left reads files opens disk took writes) new Starts Bad → EndsKept why limits (outside_of left reads files opens before took writes) new Starts Bad
+  pub Kept-counted : (why : Status) → EndsKept why limits (outside_of left reads files opens disk took writes) new Starts Bad
+      → EndsKept why limits (outside_of left reads files opens before took writes) new Starts Bad
   Kept-counted status.Done e = behind_counted status.Done e
   Kept-counted status.SomeRefused e = behind_counted status.SomeRefused e
   Kept-counted status.ReadFault e = behind_counted status.ReadFault e

@@ -30,7 +30,8 @@ IfBad _ P = ⊤
 -- ---- the world of the journal's changes
 
 -- the state of a store that these changes led on from no relations
-pub World-of : (store world : StoreState) (frames : ℕ) (changes : List ChangeValue) (told : Bool) → store ≡ record { catalog = new_catalog store.catalog.limits; pool = new_pool store.pool.disk frames }
+pub World-of : (store world : StoreState) (frames : ℕ) (changes : List ChangeValue) (told : Bool)
+    → store ≡ record { catalog = new_catalog store.catalog.limits; pool = new_pool store.pool.disk frames }
     → LedBy changes store world → told ≡ store.pool.disk.told → IsWorldOf store.catalog.limits told changes (state_with [] (database world))
 World-of store world frames changes told empty led same = record {
   none_open = refl;
@@ -39,7 +40,8 @@ World-of store world frames changes told empty led same = record {
 }
 
 -- the changes of all records of an opened tape
-pub Replayed-all : {T : Type 0} (seen : T → TapeView) (journal journal' : Journal T) (store store' : StoreState) (r : IsReplayed seen journal journal' store store') → HasPassed seen journal [] → IsOnlyRead (seen journal.tape) (seen journal'.tape)
+pub Replayed-all : {T : Type 0} (seen : T → TapeView) (journal journal' : Journal T) (store store' : StoreState) (r : IsReplayed seen journal journal' store store')
+    → HasPassed seen journal [] → IsOnlyRead (seen journal.tape) (seen journal'.tape)
     → HasAll (seen journal.tape).told (seen journal.tape).bytes r.changes
 Replayed-all {T} seen journal journal' store store' r passed read = record {
   all = r.all;
@@ -65,7 +67,8 @@ Starts-opened tape opened changes opens has = record {
 }
 
 -- what stands behind the records of an opened tape stands there in the image that it began with
-pub Bad-opened : (limits : Limits) (disk : Bool) (tape opened : TapeView) → IsOpened tape opened → HasBadRecord limits disk opened.told opened.bytes → HasBadRecord limits disk tape.told (image_of tape.bytes)
+pub Bad-opened : (limits : Limits) (disk : Bool) (tape opened : TapeView) → IsOpened tape opened → HasBadRecord limits disk opened.told opened.bytes
+    → HasBadRecord limits disk tape.told (image_of tape.bytes)
 Bad-opened limits disk tape opened opens bad = record {
   changes = bad.changes;
   all = bad.all;
@@ -88,7 +91,8 @@ Bad-opened limits disk tape opened opens bad = record {
 
 -- why a replay of a store of no relations met a bad record
 pub Bad-stopped : {T : Type 0} (seen : T → TapeView) (journal journal' : Journal T) (store : StoreState) (why : ReplayFault) (disk : Bool)
-    → store ≡ record { catalog = new_catalog store.catalog.limits; pool = new_pool store.pool.disk store.pool.frames } → store.pool.disk.told ≡ disk → HasPassed seen journal [] → IsOnlyRead (seen journal.tape) (seen journal'.tape)
+    → store ≡ record { catalog = new_catalog store.catalog.limits; pool = new_pool store.pool.disk store.pool.frames } → store.pool.disk.told ≡ disk
+    → HasPassed seen journal [] → IsOnlyRead (seen journal.tape) (seen journal'.tape)
     → IsBadForCause seen journal journal' store why → IfBad why (HasBadRecord store.catalog.limits disk (seen journal.tape).told (seen journal.tape).bytes)
 Bad-stopped {T} seen journal journal' store replayed.Memory disk empty known passed read bad = tt
 Bad-stopped {T} seen journal journal' store replayed.Tape disk empty known passed read bad = tt

@@ -118,7 +118,8 @@ then_drawn old before took reader reader' between left now b is_long goes draws 
     (grown.0, grown.1, drawn first script between left (text ++ grown.0) reader reader' now b is_long draws grown.2)
 
 -- the run paused, and then resumed
-pub then_carried : (old mid new : RunState) (a b c : List ℕ → Type 0) → Leads IsBetweenLines HasLineInHand old mid a b → Leads HasLineInHand IsBetweenLines mid new b c → Leads IsBetweenLines IsBetweenLines old new a c
+pub then_carried : (old mid new : RunState) (a b c : List ℕ → Type 0) → Leads IsBetweenLines HasLineInHand old mid a b → Leads HasLineInHand IsBetweenLines mid new b c
+    → Leads IsBetweenLines IsBetweenLines old new a c
 then_carried old mid new a b c pauses resumes first script text so_far =
     grows_more a b c text (λ all. HasLineInHand first script all mid) (λ all. IsBetweenLines first script all new) (pauses first script text so_far) (λ all hand. resumes first script all hand)
 

@@ -19,6 +19,7 @@ long_line m cs At own at a b None is_long short long r written part = line_of_lo
 long_line m cs At own at a b (Some line) is_long short long r written part = absurd (true≢false (short ∙ ap not long))
 
 -- a line that isn't too long is in hand
-pub short_line : (P : Option (List ℕ) → Type 0) (line : Option (List ℕ)) (found : List ℕ) (is_long : Bool) → is_short_line line ≡ not is_long → is_long ≡ false → IfSome line (λ l. found ≡ l) → P (Some found) → P line
+pub short_line : (P : Option (List ℕ) → Type 0) (line : Option (List ℕ)) (found : List ℕ) (is_long : Bool) → is_short_line line ≡ not is_long → is_long ≡ false
+    → IfSome line (λ l. found ≡ l) → P (Some found) → P line
 short_line P None found is_long short long given h = absurd (true≢false (sym (short ∙ ap not long)))
 short_line P (Some line) found is_long short long given h = subst (λ (l : List ℕ). P (Some l)) given h

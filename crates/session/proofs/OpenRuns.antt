@@ -125,9 +125,11 @@ module _ (start : RunState) (before : List ℕ → Type 0) (at : Spot) (run : Op
         let few : run.count ≤ LONGEST_SCRIPT = few_given at.reader reader' at.left left' run.count is_long draws run.counted in
         omega (arith, few)
 
-    module _ (store' : StoreState) (files' : Option Files) (shelf' : ℕ) (items' : List (OpenCursor Source Stage)) (now : List ℕ → Type 0) (follows : Follows (moment_of at.store at.files at.shelf) (moment_of store' files' shelf')) where
+    module _ (store' : StoreState) (files' : Option Files) (shelf' : ℕ) (items' : List (OpenCursor Source Stage)) (now : List ℕ → Type 0)
+        (follows : Follows (moment_of at.store at.files at.shelf) (moment_of store' files' shelf')) where
       -- the next line was carried out
-      abbrev pub OpenRun-line : (r t : Bool) (l : LineCarried reader'.line (while_open at.store at.files at.shelf) (while_open store' files' shelf') run.cs at.took now (Ok r) (StandOver store'.pool items')) → AreHeld store'.pool.stamps items'
+      abbrev pub OpenRun-line : (r t : Bool) (l : LineCarried reader'.line (while_open at.store at.files at.shelf) (while_open store' files' shelf') run.cs at.took now
+          (Ok r) (StandOver store'.pool items')) → AreHeld store'.pool.stamps items'
           → t ≡ (at.refused || r) → OpenRun start before (spot_of reader' left' store' files' shelf' items' t now)
       OpenRun-line r t l held joined =
           let old : Moment = while_open at.store at.files at.shelf run.cs in
@@ -154,7 +156,8 @@ module _ (start : RunState) (before : List ℕ → Type 0) (at : Spot) (run : Op
           ends_state status.WriteFault new (moment_of store' files' shelf').state left' before now first script text
           (Ends-paused start (run_state reader' left' old at.refused) before at.took now status.WriteFault new left'
           (then_drawn start before at.took at.reader reader' at.left left' old at.refused is_long run.goes draws)
-          (Ends-broken (run_state reader' left' old at.refused) new at.took now l.writes (follows_open at.store store' at.files files' at.shelf shelf' run.cs l.after follows)) first script text so_far)
+          (Ends-broken (run_state reader' left' old at.refused) new at.took now l.writes
+          (follows_open at.store store' at.files files' at.shelf shelf' run.cs l.after follows)) first script text so_far)
 
       -- where nothing of the line was written and no count rose, the moment before it is the last one but for its state
       last_untold : (n m : Moment) → n.disk ≡ m.disk → n.shelf ≡ m.shelf → Follows m n → record n { state = m.state } ≡ m
@@ -166,7 +169,8 @@ module _ (start : RunState) (before : List ℕ → Type 0) (at : Spot) (run : Op
           ∙ ap (λ (k : ℕ). record m { shelf = k }) shelf
 
       -- the journal failed: what was written is the text of the lines before this one, which is in hand
-      pub Ends-untold : IsUntold at.took now (moment_of at.store at.files at.shelf) (moment_of store' files' shelf') fault.Journal → FromBetweenLines start (EndsAt status.JournalFault (moment_of store' files' shelf') left' before now)
+      pub Ends-untold : IsUntold at.took now (moment_of at.store at.files at.shelf) (moment_of store' files' shelf') fault.Journal
+          → FromBetweenLines start (EndsAt status.JournalFault (moment_of store' files' shelf') left' before now)
       Ends-untold untold first script text so_far =
           let old : Moment = while_open at.store at.files at.shelf run.cs in
           let last : Moment = moment_of store' files' shelf' in
@@ -180,14 +184,18 @@ module _ (start : RunState) (before : List ℕ → Type 0) (at : Spot) (run : Op
             others = hand.gives.others;
             first_of = hand.gives.first ∙ append_assoc hand.given (hand.gives.line ∷ []) hand.gives.others;
             printed = (at.refused, subst (λ (m : Moment). Prints (CarriesLines hand.given first m) at.refused (text ++ grown.0)) (sym same) hand.printed);
-          } in
-          (old.state, (grown.0, λ bytes taken. untold.0 (bytes ++ grown.0) (grown.1 bytes taken), (hand.bytes, hand.consumed, (hand.gives.most, stops))), follows_on first old last hand.follows follows_old)
+          } in (
+            old.state,
+            (grown.0, λ bytes taken. untold.0 (bytes ++ grown.0) (grown.1 bytes taken), (hand.bytes, hand.consumed, (hand.gives.most, stops))),
+            follows_on first old last hand.follows follows_old,
+          )
 
       -- the line ended the run
       pub Ends-hand : (why : LineFault) (result : Status) → result ≡ status_of_line why
           → LineCarried reader'.line (while_open at.store at.files at.shelf) (while_open store' files' shelf') run.cs at.took now (Err (record {})) (StandOver store'.pool items')
           → IsUntold at.took now (moment_of at.store at.files at.shelf) (moment_of store' files' shelf') why → FromBetweenLines start (EndsAt result (moment_of store' files' shelf') left' before now)
       Ends-hand why result is l untold = subst (λ (s : Status). FromBetweenLines start (EndsAt s (moment_of store' files' shelf') left' before now)) (sym is) (by why untold) where
-        by : (w : LineFault) → IsUntold at.took now (moment_of at.store at.files at.shelf) (moment_of store' files' shelf') w → FromBetweenLines start (EndsAt (status_of_line w) (moment_of store' files' shelf') left' before now)
+        by : (w : LineFault) → IsUntold at.took now (moment_of at.store at.files at.shelf) (moment_of store' files' shelf') w
+            → FromBetweenLines start (EndsAt (status_of_line w) (moment_of store' files' shelf') left' before now)
         by fault.Sink u = Ends-line (record {}) l
         by fault.Journal u = Ends-untold u

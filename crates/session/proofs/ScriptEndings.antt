@@ -35,8 +35,10 @@ last_is store limits old new state same files disk =
     ∙ ap (λ (d : DiskView). record (last_moment limits old new state) { told = d.told; disk = d.faults }) (sym disk)
 
 -- A run of the whole script on a store, whose disk is handed back.
-module _ (why : Status) (reader : ScriptLines) (begun ended : StoreState) (old new : Outside) (none : (left : Option (List ℕ)) → Reads reader left [] []) (counted : begun.pool.disk.faults ≡ old.disk.faults) (disk : new.disk ≡ ended.pool.disk)
-    (from : FromBetweenLines (run_state reader old.source.left (moment_of begun old.shelf.files old.shelf.faults) false) (EndsAt why (moment_of ended new.shelf.files new.shelf.faults) new.source.left old.sink.took new.sink.took)) where
+module _ (why : Status) (reader : ScriptLines) (begun ended : StoreState) (old new : Outside) (none : (left : Option (List ℕ)) → Reads reader left [] [])
+    (counted : begun.pool.disk.faults ≡ old.disk.faults) (disk : new.disk ≡ ended.pool.disk)
+    (from : FromBetweenLines (run_state reader old.source.left (moment_of begun old.shelf.files old.shelf.faults) false)
+    (EndsAt why (moment_of ended new.shelf.files new.shelf.faults) new.source.left old.sink.took new.sink.took)) where
   abbrev first : Moment
   first = moment_of begun old.shelf.files old.shelf.faults
 
@@ -89,7 +91,8 @@ Taken-begun status.ReplayFault limits old new begun ends = absurd begun
 Taken-begun status.ReplayDamaged limits old new begun ends = absurd begun
 
 -- a store of no relations has the empty state
-pub Empty-store : (store : StoreState) (limits : Limits) (frames : ℕ) → store ≡ record { catalog = new_catalog limits; pool = new_pool store.pool.disk frames } → state_with [] (database store) ≡ no_state
+pub Empty-store : (store : StoreState) (limits : Limits) (frames : ℕ) → store ≡ record { catalog = new_catalog limits; pool = new_pool store.pool.disk frames }
+    → state_with [] (database store) ≡ no_state
 Empty-store store limits frames empty = ap (λ (s : StoreState). state_with [] (database s)) empty
 
 -- limits of these numbers are those of a plain run
@@ -98,7 +101,8 @@ limits_are limits ids listings =
     ap (λ n. record { ids = n; listings = limits.listings }) ids ∙ ap (λ n. record { ids = 1000000; listings = n }) listings
 
 -- the promise of a run whose store was started over a disk, told by what that disk was
-module _ (limits : Limits) (left : Option (List ℕ)) (reads : ℕ) (files : Option Files) (opens : ℕ) (before disk : DiskView) (took : List ℕ → Type 0) (writes : ℕ) (new : Outside) (counted : disk.faults ≡ before.faults) where
+module _ (limits : Limits) (left : Option (List ℕ)) (reads : ℕ) (files : Option Files) (opens : ℕ) (before disk : DiskView) (took : List ℕ → Type 0) (writes : ℕ)
+    (new : Outside) (counted : disk.faults ≡ before.faults) where
   -- a run that began at this count of the disk
   abbrev begun_at : Status → ℕ → Type 0
   begun_at why n = (last : State) × EndsBetween why (record (first_moment limits (outside_of left reads files opens before took writes) new) { disk = n })
@@ -123,7 +127,9 @@ module _ (limits : Limits) (left : Option (List ℕ)) (reads : ℕ) (files : Opt
   Ends-started why asked same begun ends = subst (λ l. Ends why l (outside_of left reads files opens before took writes) new) same (started_by why begun ends)
 
   -- a run from a state that began at this count of the disk
-  pub From-counted : (start : State) (why : Status) → EndsFrom start why limits (outside_of left reads files opens disk took writes) new → EndsFrom start why limits (outside_of left reads files opens before took writes) new
+  pub From-counted : (start : State) (why : Status) → EndsFrom start why limits (outside_of left reads files opens disk took writes) new
+      → EndsFrom start why limits (outside_of left reads files opens before took writes) new
   From-counted start why ends =
       subst (λ (n : ℕ). (last : State) × EndsBetween why (record (first_moment limits (outside_of left reads files opens before took writes) new) { state = start; disk = n })
-      (last_moment limits (outside_of left reads files opens before took writes) new last) (record { left = left; faults = reads }) new.source (record { took = took; faults = writes }) new.sink) counted ends
+      (last_moment limits (outside_of left reads files opens before took writes) new last) (record { left = left; faults = reads }) new.source
+      (record { took = took; faults = writes }) new.sink) counted ends

@@ -8,9 +8,7 @@ use Rattle.run_summary.specs.RefusedLines.{refused_lines}
 use Rattle.run_summary.specs.Summary.{summary}
 use Rattle.run_summary.specs.Taken.{HasTallied}
 use Rattle.run_summary.specs.declared.tally_sink.TallySink.{TallySink}
-use Rattle.run_laws.proofs.PlainRuns.{run_seen}
-use Rattle.run_laws.proofs.Settings.{moment_setting}
-use Rattle.run_laws.proofs.ShelfRuns.{run_told}
+use Rattle.run_laws.proofs.DecidedLines.{answered_seen}
 use Rattle.sand_base.specs.Faults.{last_count}
 use Rattle.sand_model.specs.Cursor.{State}
 use Rattle.sand_model.specs.Outcome.{Rises}
@@ -79,20 +77,13 @@ module _ (n : ℕ) (limits : Limits) (script left : List ℕ) (disk disk' : Disk
   Tallies-run status.ReplayFault ends caused taken = absurd taken
   Tallies-run status.ReplayDamaged ends caused taken = absurd taken
 
--- where the disk tells its pages, as many lines of the text begin with the word of a refusal as were refused
-counted_of : (n : ℕ) (b : Bool) (limits : Limits) (old new : Outside) (last : State) (text : List ℕ) → old.shelf.files ≡ Some empty_files
-    → (p : Prints (RunsOver (workload n) (first_moment limits old new) (last_moment limits old new last)) b text)
-    → IsTrue new.disk.told → new.disk.faults < last_count → new.shelf.faults < last_count → refused_lines text ≡ min (count_by is_refused p.lines) last_count
-counted_of n b limits old new last text files p told disk shelf =
-    let first : Moment = first_moment limits old new in
-    let s = moment_setting first in
-    let rises : Rises = rises_between first (last_moment limits old new last) in
-    let ran : Run s.0 first.state p.holds.0 rises p.lines last =
-    run_told first.files s.0 empty_files first.state last p.holds.0 rises p.lines files (s.2.files empty_files files) (p.holds.4 told disk shelf s.0 s.1 s.2) in
-    ap (λ (k : ℕ). min k last_count) (run_seen s.0 s.2.is (workload n) p.holds.0 p.holds.1 rises p.lines last ran text p.told)
+-- over any disk, as many lines of the text begin with the word of a refusal as were refused
+counted_of : (n : ℕ) (b : Bool) (first last : Moment) (text : List ℕ) → (p : Prints (RunsOver (workload n) first last) b text) → refused_lines text ≡ min (count_by is_refused p.lines) last_count
+counted_of n b first last text p = ap (λ (k : ℕ). min k last_count) (answered_seen p.holds.0 first last p.lines p.holds.3 text p.told)
 
 -- What is said of a run whose text was counted, by what the sink took of its summary.
-module _ (n : ℕ) (limits : Limits) (left : Option (List ℕ)) (reads : ℕ) (files : Option Files) (opens : ℕ) (disk disk' : DiskView) (tally : TallySink) (before now : List ℕ → Type 0) (writes writes' : ℕ) where
+module _ (n : ℕ) (limits : Limits) (left : Option (List ℕ)) (reads : ℕ) (files : Option Files) (opens : ℕ) (disk disk' : DiskView) (tally : TallySink)
+    (before now : List ℕ → Type 0) (writes writes' : ℕ) where
   -- before it, and after it
   abbrev sum_before : Outside
   sum_before = outside_of left reads files opens disk before writes
@@ -102,23 +93,21 @@ module _ (n : ℕ) (limits : Limits) (left : Option (List ℕ)) (reads : ℕ) (f
 
   -- the summary was written
   written_sum : (b : Bool) (first last : Moment) (ran : HasRun n b first last tally)
-      → (IsTrue first.told → last.disk < last_count → last.shelf < last_count → refused_lines ran.text ≡ min (count_by is_refused ran.printed.lines) last_count)
       → ((text : List ℕ) → HasTallied tally text → Adds before now (summary (length (workload n)) (refused_lines text) text))
       → Writes (IsSummary n b first last) before now
-  written_sum b first last ran counted adds = record {
+  written_sum b first last ran adds = record {
     text = summary (length (workload n)) (refused_lines ran.text) ran.text;
-    holds = record { text = ran.text; printed = ran.printed; told_of = refl; counted = counted };
+    holds = record { text = ran.text; printed = ran.printed; told_of = refl; counted = counted_of n b first last ran.text ran.printed };
     written = adds ran.text ran.taken;
   }
 
   -- a prefix of it was written
   broken_sum : (b : Bool) (first last : Moment) (ran : HasRun n b first last tally)
-      → (IsTrue first.told → last.disk < last_count → last.shelf < last_count → refused_lines ran.text ≡ min (count_by is_refused ran.printed.lines) last_count)
       → ((text : List ℕ) → HasTallied tally text → AddsPrefix before now (summary (length (workload n)) (refused_lines text) text))
       → WritesPrefix (IsSummary n b first last) before now
-  broken_sum b first last ran counted adds = record {
+  broken_sum b first last ran adds = record {
     text = summary (length (workload n)) (refused_lines ran.text) ran.text;
-    holds = record { text = ran.text; printed = ran.printed; told_of = refl; counted = counted };
+    holds = record { text = ran.text; printed = ran.printed; told_of = refl; counted = counted_of n b first last ran.text ran.printed };
     prefix = adds ran.text ran.taken;
   }
 
@@ -126,8 +115,8 @@ module _ (n : ℕ) (limits : Limits) (left : Option (List ℕ)) (reads : ℕ) (f
   pub Ends-summed : (why : Status) → (why ≡ status.Done) ⊎ (why ≡ status.SomeRefused) → Tallies n why limits (without_streams disk) (without_streams disk') tally
       → ((text : List ℕ) → HasTallied tally text → Adds before now (summary (length (workload n)) (refused_lines text) text))
       → EndsWorkload n why limits sum_before sum_after
-  Ends-summed status.Done is tallied adds = (refl, refl, tallied.0, written_sum false _ _ tallied.1 (counted_of n false limits (without_streams disk) (without_streams disk') tallied.0 tallied.1.text refl tallied.1.printed) adds)
-  Ends-summed status.SomeRefused is tallied adds = (refl, refl, tallied.0, written_sum true _ _ tallied.1 (counted_of n true limits (without_streams disk) (without_streams disk') tallied.0 tallied.1.text refl tallied.1.printed) adds)
+  Ends-summed status.Done is tallied adds = (refl, refl, tallied.0, written_sum false _ _ tallied.1 adds)
+  Ends-summed status.SomeRefused is tallied adds = (refl, refl, tallied.0, written_sum true _ _ tallied.1 adds)
   Ends-summed status.Usage is tallied adds = absurd tallied
   Ends-summed status.ReadFault is tallied adds = absurd tallied
   Ends-summed status.WriteFault is tallied adds = absurd tallied
@@ -149,8 +138,8 @@ module _ (n : ℕ) (limits : Limits) (left : Option (List ℕ)) (reads : ℕ) (f
   pub Ends-unsummed : (why : Status) → (why ≡ status.Done) ⊎ (why ≡ status.SomeRefused) → Tallies n why limits (without_streams disk) (without_streams disk') tally
       → ((text : List ℕ) → HasTallied tally text → AddsPrefix before now (summary (length (workload n)) (refused_lines text) text))
       → EndsWorkload n status.WriteFault limits sum_before sum_after
-  Ends-unsummed status.Done is tallied adds = (refl, refl, tallied.0, (false, broken_sum false _ _ tallied.1 (counted_of n false limits (without_streams disk) (without_streams disk') tallied.0 tallied.1.text refl tallied.1.printed) adds))
-  Ends-unsummed status.SomeRefused is tallied adds = (refl, refl, tallied.0, (true, broken_sum true _ _ tallied.1 (counted_of n true limits (without_streams disk) (without_streams disk') tallied.0 tallied.1.text refl tallied.1.printed) adds))
+  Ends-unsummed status.Done is tallied adds = (refl, refl, tallied.0, (false, broken_sum false _ _ tallied.1 adds))
+  Ends-unsummed status.SomeRefused is tallied adds = (refl, refl, tallied.0, (true, broken_sum true _ _ tallied.1 adds))
   Ends-unsummed status.Usage is tallied adds = absurd tallied
   Ends-unsummed status.ReadFault is tallied adds = absurd tallied
   Ends-unsummed status.WriteFault is tallied adds = absurd tallied

@@ -25,7 +25,9 @@ use Rattle.session.specs.Outside.{SourceView, SinkView, Outside}
 use Rattle.session.specs.declared.status.Status.{Status}
 use Rattle.session.specs.declared.status.Status.TheVariants as status
 
--- The lines say this script. These lines of output, whose refusals from outside have their causes and which each line of the script printed as it is decided in the outline that the lines before it left, are those of a run over the shelf that led from one moment to another; the run where the disk tells its pages and no count is at its end.
+-- The lines say this script. These lines of output, whose refusals from outside have their causes and which each line of the script printed
+-- as it is decided in the outline that the lines before it left, are those of a run over the shelf that led from one moment to another; the
+-- run where the disk tells its pages and no count is at its end.
 abbrev pub RunsOver : List (List ℕ) → Moment → Moment → List OutputLine → Type 0
 RunsOver lines old new printed =
     (script : List ScriptLine) × AreLines lines script × AreCaused old new printed × AreAnswered script old new printed

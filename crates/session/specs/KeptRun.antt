@@ -73,7 +73,8 @@ pub record IsDeclinedNext (told : Bool) (image : List ℕ) (changes : List Chang
   pub read : BeginsWithAll told image (changes ++ change ∷ [])
   pub declines : Declines store change
 
--- Behind the records of some changes, which led a store of no relations on, stands an open one that is bad, or that of a change which the store doesn't take. The first mark says whether the disk tells, the second whether the tape does.
+-- Behind the records of some changes, which led a store of no relations on, stands an open one that is bad, or that of a change which the
+-- store doesn't take. The first mark says whether the disk tells, the second whether the tape does.
 pub record HasBadRecord (limits : Limits) (disk told : Bool) (image : List ℕ) : Type 0 where
   pub changes : List ChangeValue
   pub all : AllByRecursion IsChange changes
@@ -102,7 +103,8 @@ pub record EndsBehind (ended : Status) (limits : Limits) (old new : Outside) (St
 abbrev pub IsUnbegun : Outside → Outside → Type 0
 IsUnbegun old new = IsUntouched old new × (new.disk.faults ≡ old.disk.faults)
 
--- The whole promise of a run with a journal, by the status, where the first holds of the changes that it begins with, and the second where a record is bad. `JournalFault` comes before the first line is read, or behind an accepted change.
+-- The whole promise of a run with a journal, by the status, where the first holds of the changes that it begins with, and the second where
+-- a record is bad. `JournalFault` comes before the first line is read, or behind an accepted change.
 abbrev pub EndsKept : Status → Limits → Outside → Outside → (List ChangeValue → Type 0) → Type 0 → Type 0
 EndsKept status.Usage limits old new Starts Bad = IsUnbegun old new
 EndsKept status.NoMemory limits old new Starts Bad = IsUnbegun old new

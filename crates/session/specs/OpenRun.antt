@@ -45,7 +45,8 @@ spot_of reader left store files shelf items refused took =
 abbrev pub state_at : Spot → List Cursor → RunState
 state_at at cs = run_state at.reader at.left (while_open at.store at.files at.shelf cs) at.refused
 
--- The run went on from its start to this spot: cursors of the model with names of their own stand where the open ones do, each of which has a stamp of its own, and none gave more rows than the lines asked for.
+-- The run went on from its start to this spot: cursors of the model with names of their own stand where the open ones do, each of which has
+-- a stamp of its own, and none gave more rows than the lines asked for.
 pub record OpenRun (start : RunState) (before : List ℕ → Type 0) (at : Spot) : Type 0 where
   pub cs : List Cursor
   pub own : HaveOwnNames cs

@@ -63,7 +63,8 @@ abbrev pub FromLineInHand : RunState → OfRun → Type 0
 FromLineInHand old P = (first : Moment) (script : Option (List ℕ)) (text : List ℕ) → HasLineInHand first script text old → P first script text
 
 -- whatever run led to the old state, of which P holds, went on to the new one, of which Q does, and the text of what was carried out was written
-abbrev pub Leads : (Moment → Option (List ℕ) → List ℕ → RunState → Type 0) → (Moment → Option (List ℕ) → List ℕ → RunState → Type 0) → RunState → RunState → (List ℕ → Type 0) → (List ℕ → Type 0) → Type 0
+abbrev pub Leads : (Moment → Option (List ℕ) → List ℕ → RunState → Type 0) → (Moment → Option (List ℕ) → List ℕ → RunState → Type 0) → RunState → RunState
+    → (List ℕ → Type 0) → (List ℕ → Type 0) → Type 0
 Leads P Q old new before now = (first : Moment) (script : Option (List ℕ)) (text : List ℕ) → P first script text old → Grows before now text (λ all. Q first script all new)
 
 -- the text is that of a run over the first of these lines

@@ -18,12 +18,12 @@ use Rattle.session.specs.Ends.{RunsOver, Ends, first_moment, last_moment}
 use Rattle.session.specs.declared.status.Status.{Status}
 use Rattle.session.specs.declared.status.Status.TheVariants as status
 
--- These four lines tell of a run over the lines of the workload from one moment to another; the mark says whether a line was refused. Where the disk tells its pages and no count is at its end, they tell how many lines were refused.
+-- These four lines tell of a run over the lines of the workload from one moment to another; the mark says whether a line was refused. Over any disk they tell how many lines were refused.
 pub record IsSummary (n : ℕ) (some_refused : Bool) (first last : Moment) (told : List ℕ) : Type 0 where
   pub text : List ℕ
   pub printed : Prints (RunsOver (workload n) first last) some_refused text
   pub told_of : told ≡ summary (length (workload n)) (refused_lines text) text
-  pub counted : IsTrue first.told → last.disk < last_count → last.shelf < last_count → refused_lines text ≡ min (count_by is_refused printed.lines) last_count
+  pub counted : refused_lines text ≡ min (count_by is_refused printed.lines) last_count
 
 -- What a run of a workload leaves of the sink, by its status: with `Done` and `SomeRefused` the summary was written, and with
 -- `WriteFault` a prefix of it.

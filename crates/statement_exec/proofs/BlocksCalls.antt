@@ -1,8 +1,9 @@
 -- What printing the leaves of a column is of the model's outcome.
 use Rattle.std.proofs.Common.{◌≡◌, ℕ, ◌<◌, false, List, [], ◌∷◌, ◌++◌, Option, Some, None, refl, sym, ◌∙◌, ap, subst, inl, inr, true≢false}
-use Rattle.std.specs.Prelude.{Err}
+use Rattle.std.specs.Prelude.{All, Err}
 use Rattle.std.specs.List.{list_any}
 use Rattle.std.proofs.lemmas.List.{append-nil, map-append}
+use Rattle.std.proofs.lemmas.List.Elements.{All-nil, All-cons}
 use Rattle.page_pool.specs.Causes.{HasPageCause, IsDamage}
 use Rattle.page_pool.specs.Pool.{PoolState, IsTold}
 use Rattle.page_pool.specs.Reads.{IsRead}
@@ -18,6 +19,7 @@ use Rattle.z_code.specs.declared.block.Block.{Block}
 use Rattle.sand_model.specs.Cursor.{Cursor, OutputLine, LeafOf, Refused}
 use Rattle.sand_model.specs.Outcome.{Rises, IsLicensed, leaf_lines}
 use Rattle.sand_model.specs.OutputText.{is_refused}
+use Rattle.sand_model.specs.PlainLines.{IsLeafLine}
 use Rattle.statements.specs.declared.column.Column.{Column}
 use Rattle.statements.specs.Statement.{Blocks}
 use Rattle.sand_model.specs.StatementChecks.{Setting, early}
@@ -42,6 +44,11 @@ none_refused : (visited : Leaves) → list_any is_refused (lines_of visited) ≡
 none_refused [] = refl
 none_refused (leaf ∷ visited) = none_refused visited
 
+-- they are lines of leaves alone
+all_leaves : (visited : Leaves) → All IsLeafLine (lines_of visited)
+all_leaves [] = All-nil IsLeafLine
+all_leaves (leaf ∷ visited) = All-cons IsLeafLine (LeafOf leaf.0 leaf.1) (lines_of visited) tt (all_leaves visited)
+
 module _ (catalog : CatalogView) (column : Column) (old new : PoolState) (read : IsRead old new) where
   same_state : (cursors : List Cursor) → state_of catalog new.pages cursors ≡ state_of catalog old.pages cursors
   same_state cursors = ap (λ m. state_of catalog m cursors) read.pages
@@ -55,7 +62,10 @@ module _ (catalog : CatalogView) (column : Column) (old new : PoolState) (read :
   blocks_done tree visited h all = λ cursors files shelf. (
     (
       caused_plain (beside cursors catalog old files shelf) (beside cursors catalog new files shelf) (lines_of visited) (none_refused visited),
-      λ setting s. (by_passing setting (state_of catalog old.pages cursors) (Blocks column) (lines_of visited) (h.passes setting cursors) (inl (none_refused visited)), outline_in catalog new.pages old.pages cursors),
+      λ setting s. (
+        by_passing setting (state_of catalog old.pages cursors) (Blocks column) (lines_of visited) (h.passes setting cursors) (inl (all_leaves visited)),
+        outline_in catalog new.pages old.pages cursors,
+      ),
     ),
     λ told disk few setting s.
         let lines : lines_of visited ≡ leaf_lines h.relation column.column = sym (h.lines ∙ ap lines_of (all told)) in
@@ -91,7 +101,7 @@ module _ (catalog : CatalogView) (column : Column) (old new : PoolState) (read :
           (caused_refusal (beside cursors catalog old files shelf) (beside cursors catalog new files shelf) w (caused cursors files shelf)),
       λ setting s. (
         by_passing setting (state_of catalog old.pages cursors) (Blocks column) (lines_of visited ++ Refused w ∷ []) (h.passes setting cursors)
-            (inr (lines_of visited, w, none_refused visited, comes, refl)),
+            (inr (lines_of visited, w, all_leaves visited, comes, refl)),
         outline_in catalog new.pages old.pages cursors,
       ),
     ),
@@ -119,14 +129,16 @@ module _ (catalog : CatalogView) (column : Column) (old new : PoolState) (read :
     lines = lines_of k.visited;
     written = k.written;
     accepted = none_refused k.visited;
-    holds = blocks_stopped tree k.visited (refusal_of fault) (page_comes fault) (λ cursors files shelf. page_cause cursors cursors catalog catalog old new read.told files files shelf shelf {T = T} fault cause) h k.first
+    holds = blocks_stopped tree k.visited (refusal_of fault) (page_comes fault)
+        (λ cursors files shelf. page_cause cursors cursors catalog catalog old new read.told files files shelf shelf {T = T} fault cause) h k.first
         (λ cursors files shelf setting told disk. licensed {T = T} cursors files shelf setting fault cause told disk (h.passes setting cursors));
   }
 
   pub broken_off : (tree : Pmr) (a b : List ℕ → Type 0) → HasTree catalog column tree old.pages → BreaksSome (IsTold old) (leaves root_block (tree_at old.pages tree)) a b
       → WritesPrefix (PrintsSome (Reads (Blocks column) catalog old new)) a b
   broken_off tree a b h k =
-      breaks_with (Reads (Blocks column) catalog old new) a b (lines_of k.visited) why.Memory (blocks_stopped tree k.visited why.Memory tt (λ cursors files shelf. tt) h k.first (λ cursors files shelf setting told disk. tt)) k.broken
+      breaks_with (Reads (Blocks column) catalog old new) a b (lines_of k.visited) why.Memory
+      (blocks_stopped tree k.visited why.Memory tt (λ cursors files shelf. tt) h k.first (λ cursors files shelf setting told disk. tt)) k.broken
 
 -- an early check refuses
 pub up_to_check : (catalog : CatalogView) (column : Column) (old : PoolState) (a : List ℕ → Type 0) (w : Refusal) → LacksTree catalog column w old.pages → IsOfCheck w
@@ -141,7 +153,8 @@ up_to_check catalog column old a w h o = record {
       λ setting s. (by_early setting (state_of catalog old.pages cursors) (Blocks column) w (h setting cursors), refl),
     ),
     λ told disk few setting s.
-        outcome_early setting (rises_between (beside cursors catalog old files shelf) (beside cursors catalog old files shelf)) (state_of catalog old.pages cursors) (Blocks column) (Refused w ∷ []) (state_of catalog old.pages cursors)
+        outcome_early setting (rises_between (beside cursors catalog old files shelf) (beside cursors catalog old files shelf)) (state_of catalog old.pages cursors)
+        (Blocks column) (Refused w ∷ []) (state_of catalog old.pages cursors)
         w (h setting cursors) (caused (rises_between (beside cursors catalog old files shelf) (beside cursors catalog old files shelf)) w o) (refl, refl),
   );
 }

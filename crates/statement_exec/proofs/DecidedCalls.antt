@@ -15,7 +15,8 @@ use Rattle.sand_model.specs.Outcome.{uses_pages}
 use Rattle.statements.specs.declared.column.Column.{Column}
 use Rattle.statements.specs.Statement.{Statement, Create, Insert, Delete, Load, Index as IndexOn, Rtree}
 use Rattle.sand_model.specs.StatementChecks.{Setting, early, file_rows, late}
-use Rattle.sand_store.specs.Calls.{Refuses, IsRefusedBy, IsUnchanged, Created, Inserted, Deleted, Indexed, Treed, Loaded, LoadIsRefusedBy, IsRefusedPlainly, early_at, late_at, load_early, load_late, load_plain, plain_checks, is_none, is_full, is_missing, is_of_a_row}
+use Rattle.sand_store.specs.Calls.{Refuses, IsRefusedBy, IsUnchanged, Created, Inserted, Deleted, Indexed, Treed, Loaded, LoadIsRefusedBy, IsRefusedPlainly, early_at}
+use Rattle.sand_store.specs.Calls.{late_at, load_early, load_late, load_plain, plain_checks, is_none, is_full, is_missing, is_of_a_row}
 use Rattle.sand_store.specs.Catalog.{CatalogView, RelationView, StoreState}
 use Rattle.r_tree.specs.declared.tree.RTree.{RTree}
 use Rattle.sand_model.specs.Database.{Rectangles}
@@ -104,7 +105,8 @@ module _ (old new : StoreState) where
 
     -- a refusal of the call
     pub refused_decides : (statement : Statement) (is_late : Refusal → Bool) (w : Refusal) → uses_pages statement ≡ true
-        → ((setting : Setting) → (early setting (state_with cs (database old)) statement ≡ early_at setting old statement) × (late setting (state_with cs (database old)) statement ≡ late_at setting old statement)) → ((r : Refusal) → is_late r ≡ true → ComesBehind statement r)
+        → ((setting : Setting) → (early setting (state_with cs (database old)) statement ≡ early_at setting old statement)
+        × (late setting (state_with cs (database old)) statement ≡ late_at setting old statement)) → ((r : Refusal) → is_late r ≡ true → ComesBehind statement r)
         → IsUnchanged old new → IsRefusedBy is_late old statement w → IsDecided statement (while_open old files shelf cs) (while_open new files shelf cs) (Refused w ∷ [])
     refused_decides statement is_late w uses alike may same h = λ setting s. (
       found_own files setting statement (λ own. DecidesEarly own (bare (outline_of (state_with cs (database old)))) statement (Refused w ∷ [])) s.files
@@ -144,7 +146,8 @@ late_rtree column r e = absurd (true≢false (sym e))
 
 -- ---- loads
 
-module _ (old new : StoreState) (load : LoadOf) (cs : List Cursor) (files files' : Option Files) (shelf shelf' : ℕ) (rows : List (List Value)) (given : InSettings old.catalog files (λ setting state. Yields setting state load rows)) where
+module _ (old new : StoreState) (load : LoadOf) (cs : List Cursor) (files files' : Option Files) (shelf shelf' : ℕ) (rows : List (List Value))
+    (given : InSettings old.catalog files (λ setting state. Yields setting state load rows)) where
   -- the checks of the rows that need no page, as the outline has them
   rows_decide : (own : Setting) (o : Option Refusal) → own.limits ≡ old.catalog.limits → Yields own (state_with cs (database old)) load rows → load_plain old load.relation rows ≡ o
       → PrintsPassed own (bare (outline_of (state_with cs (database old)))) (Load load.relation load.file load.header) (line_of_rows o (length rows) ∷ [])
@@ -165,7 +168,8 @@ module _ (old new : StoreState) (load : LoadOf) (cs : List Cursor) (files files'
       let own : Setting = record setting { files = given.0 } in
       let y : Yields own (state_with cs (database old)) load rows = given.2 cs old.pool shelf setting s in
       let line : PrintsPassed own (bare (outline_of (state_with cs (database old)))) (Load load.relation load.file load.header) (LoadedLine count ∷ []) =
-      subst (λ (n : ℕ). PrintsPassed own (bare (outline_of (state_with cs (database old)))) (Load load.relation load.file load.header) (LoadedLine n ∷ [])) (sym h.counted) (rows_decide own None s.limits y h.plain) in (
+      subst (λ (n : ℕ). PrintsPassed own (bare (outline_of (state_with cs (database old)))) (Load load.relation load.file load.header) (LoadedLine n ∷ []))
+      (sym h.counted) (rows_decide own None s.limits y h.plain) in (
         (given.0, given.1, by_passing own (state_with cs (database old)) (Load load.relation load.file load.header) (LoadedLine count ∷ []) y.passes line),
         outline_changed old new cs (sketched_at load.relation (with_ids count)) h.sketched,
       )
@@ -193,7 +197,8 @@ module _ (old new : StoreState) (load : LoadOf) (cs : List Cursor) (files files'
             → DecidesEarly own (bare (outline_of (state_with cs (database old)))) (Load load.relation load.file load.header) (Refused r ∷ [])
         by_refusal own limits y behind why.Memory k p = by_memory own (state_with cs (database old)) (Load load.relation load.file load.header)
         by_refusal own limits y behind why.Device k p = by_behind own (state_with cs (database old)) (Load load.relation load.file load.header) why.Device y.passes refl
-        by_refusal own limits y behind (why.Damaged page kept read) k p = by_behind own (state_with cs (database old)) (Load load.relation load.file load.header) (why.Damaged page kept read) y.passes refl
+        by_refusal own limits y behind (why.Damaged page kept read) k p =
+            by_behind own (state_with cs (database old)) (Load load.relation load.file load.header) (why.Damaged page kept read) y.passes refl
         by_refusal own limits y behind why.IndexFull k p = by_behind own (state_with cs (database old)) (Load load.relation load.file load.header) why.IndexFull y.passes tt
         by_refusal own limits y behind why.WrongKind k p = by_row own limits y why.WrongKind p
         by_refusal own limits y behind why.TupleTooLong k p = by_row own limits y why.TupleTooLong p
@@ -201,7 +206,8 @@ module _ (old new : StoreState) (load : LoadOf) (cs : List Cursor) (files files'
         by_refusal own limits y behind r k p = absurd (none_other own y r k)
 
 -- an early check refuses, or the shelf fails
-pub unloaded_decides : (old : StoreState) (load : LoadOf) (cs : List Cursor) (files files' : Option Files) (shelf shelf' : ℕ) (w : Refusal) → InSettings old.catalog files (λ setting state. IsRefusedEarly setting state load w)
+pub unloaded_decides : (old : StoreState) (load : LoadOf) (cs : List Cursor) (files files' : Option Files) (shelf shelf' : ℕ) (w : Refusal)
+    → InSettings old.catalog files (λ setting state. IsRefusedEarly setting state load w)
     → IsDecided (Load load.relation load.file load.header) (while_open old files shelf cs) (while_open old files' shelf' cs) (Refused w ∷ [])
 unloaded_decides old load cs files files' shelf shelf' w given = λ setting s. (
   (given.0, given.1, by_refusal (record setting { files = given.0 }) w (given.2 cs old.pool shelf setting s)),

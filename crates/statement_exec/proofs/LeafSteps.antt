@@ -140,7 +140,13 @@ next_leaf code to visited rest leaf h k i at = elim (in_append leaf visited rest
 ] where
   here : (rest : Leaves) → Tiles code rest to → In leaf rest → (more : Leaves) × ((rest ≡ leaf ∷ more) × ((leaf.0.z ≡ code) × Tiles (code + code_count leaf.0.level) more to))
   here [] k j = absurd j
-  here (x ∷ xs) k (inl e) = (xs, (ap (λ (l : Block × List ℕ). l ∷ xs) (sym e), (ap (λ (l : Block × List ℕ). l.0.z) e ∙ k.0, subst (λ (l : Block × List ℕ). Tiles (code + code_count l.0.level) xs to) (sym e) k.1)))
+  here (x ∷ xs) k (inl e) = (
+    xs,
+    (
+      ap (λ (l : Block × List ℕ). l ∷ xs) (sym e),
+      (ap (λ (l : Block × List ℕ). l.0.z) e ∙ k.0, subst (λ (l : Block × List ℕ). Tiles (code + code_count l.0.level) xs to) (sym e) k.1),
+    ),
+  )
   here (x ∷ xs) k (inr j) =
       let begins : code + code_count x.0.level ≤ leaf.0.z = begins_within (code + code_count x.0.level) to xs leaf k.1 j in
       let some : 0 < code_count x.0.level = count_some x.0.level in

@@ -27,4 +27,6 @@ pub mod ColumnTrees
 pub mod PageCauses
 pub mod BlocksCalls
 pub mod Endings
+-- rows up to so many
+pub mod CountedRows
 pub mod Written

@@ -118,7 +118,8 @@ module _ (old new : StoreState) (load : LoadOf) (cs : List Cursor) (files files'
         (subst (λ (b : Option Refusal). Refuses (IsTold old.pool) is_of_a_row (load_early old load.relation) b w) (late_is own rows y) (h own (setting_with setting given.0 s.is) s.limits)) in
         let told' : IsTold new.pool = same.told ∙ told in
         let n : w ≡ why.File → ⊥ = λ e.
-        let k : Refuses (IsTold old.pool) is_of_a_row (early own (state_with cs (database old)) (load_statement load)) (late own (state_with cs (database old)) (load_statement load)) why.File = rw e at r in
+        let k : Refuses (IsTold old.pool) is_of_a_row (early own (state_with cs (database old)) (load_statement load)) (late own (state_with cs (database old)) (load_statement load)) why.File =
+        rw e at r in
         true≢false (sym (ap (λ (o : Option Refusal). is_some o) k) ∙ ap (λ (o : Option Refusal). is_some o) y.passes) in (
           given.0,
           given.1,
@@ -137,7 +138,8 @@ module _ (old : StoreState) (load : LoadOf) (cs : List Cursor) (files files' : O
 
   by_refusal : (setting : Setting) (w : Refusal) → IsRefusedEarly setting (state_with cs (database old)) load w → shelf' ≡ shelf_at shelf w → shelf' < last_count
       → Outcome setting reading (state_with cs (database old)) (load_statement load) (Refused w ∷ []) (state_with cs (database old))
-  by_refusal setting why.Memory h e few = outcome_outside setting reading (state_with cs (database old)) (load_statement load) (Refused why.Memory ∷ []) (state_with cs (database old)) why.Memory tt (refl, refl)
+  by_refusal setting why.Memory h e few = outcome_outside setting reading (state_with cs (database old)) (load_statement load) (Refused why.Memory ∷ [])
+      (state_with cs (database old)) why.Memory tt (refl, refl)
   by_refusal setting why.File h e few =
       outcome_outside setting reading (state_with cs (database old)) (load_statement load) (Refused why.File ∷ []) (state_with cs (database old)) why.File (h, rose shelf shelf' e few) (refl, refl)
   by_refusal setting w h e few = outcome_early setting reading (state_with cs (database old)) (load_statement load) (Refused w ∷ []) (state_with cs (database old)) w h tt (refl, refl)

@@ -62,7 +62,8 @@ setting_with setting found is = record { gap = is.gap; rows_of = is.rows_of }
 abbrev pub file_of : LoadOf → RelationView → DataFile
 file_of load r = record { name = load.file; schema = r.schema; header = load.header }
 
-module _ (files : Option Files) (catalog : CatalogView) (load : LoadOf) (r : RelationView) (named : (pages : PageMap) → relation_named (database_in pages catalog.relations) load.relation ≡ Some (relation_in pages r)) where
+module _ (files : Option Files) (catalog : CatalogView) (load : LoadOf) (r : RelationView) (named : (pages : PageMap)
+    → relation_named (database_in pages catalog.relations) load.relation ≡ Some (relation_in pages r)) where
   module _ (found : Files) (cs : List Cursor) (pool : PoolState) (shelf : ℕ) (setting : Setting) (s : IsSettingOf (beside cs catalog pool files shelf) setting) where
     -- the setting with the data files that were found
     abbrev own : Setting

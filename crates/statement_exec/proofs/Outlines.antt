@@ -11,7 +11,8 @@ use Rattle.sand_base.specs.declared.value.Value.{Value}
 use Rattle.sand_base.specs.declared.shape.Shape.TheVariants as shape
 use Rattle.sand_base.specs.Shape.{value_kind, same_kind, is_spatial}
 use Rattle.sand_base.specs.declared.kind.Kind.TheVariants as kind
-use Rattle.sand_model.specs.Checks.{first_refusal, kind_named, is_indexed, has_rectangles, check_search, check_column, place_kind, check_place, check_relation, check_tests, check_places, check_operators, can_compare, is_plain, is_plain_pair}
+use Rattle.sand_model.specs.Checks.{first_refusal, kind_named, is_indexed, has_rectangles, check_search, check_column, place_kind, check_place, check_relation}
+use Rattle.sand_model.specs.Checks.{check_tests, check_places, check_operators, can_compare, is_plain, is_plain_pair}
 use Rattle.sand_model.specs.Cursor.{State, Cursor, new_cursor}
 use Rattle.sand_model.specs.Database.{Database, Relation, Index, Attribute, Rectangles, same_name, has_name, relation_named, column_named, element}
 use Rattle.sand_model.specs.Kept.{has_twice, most_relations}
@@ -22,7 +23,8 @@ use Rattle.statements.specs.declared.column.Column.{Column}
 use Rattle.statements.specs.declared.column.Place.{Place}
 use Rattle.statements.specs.declared.test.Test.{Test}
 use Rattle.statements.specs.Statement.{Statement, Create, Insert, Delete, Load, Index as IndexOn, Rtree, OpenCursor, Next, CloseCursor, Show, Stats, Far, Blocks}
-use Rattle.sand_model.specs.StatementChecks.{Setting, FileRows, AreRows, HasBad, early, refused_where, in_relation, in_column, is_there, is_row_of, check_cursor, check_length, check_ids, check_load, check_records, check_depth, in_file, file_rows, most_cursors, longest_file}
+use Rattle.sand_model.specs.StatementChecks.{Setting, FileRows, AreRows, HasBad, early, refused_where, in_relation, in_column, is_there, is_row_of, check_cursor}
+use Rattle.sand_model.specs.StatementChecks.{check_length, check_ids, check_load, check_records, check_depth, in_file, file_rows, most_cursors, longest_file}
 use Rattle.sand_store.specs.Calls.{plain_checks, check_kinds}
 use Rattle.statement_exec.specs.Outline.{sketch_in, outline_of, bare, bare_relation}
 
@@ -42,10 +44,12 @@ Alike None None = ⊤
 Alike (Some a) (Some b) = ⊤
 Alike _ _ = ⊥
 
-index_alike : (at : ℕ) (xs : List (ℕ × Index)) → Alike (find (λ (p : ℕ × Index). nat_eq p.0 at) (map (λ n. (n, Attribute)) (map (λ (i : ℕ × Index). i.0) xs))) (find (λ (p : ℕ × Index). nat_eq p.0 at) xs)
+index_alike : (at : ℕ) (xs : List (ℕ × Index))
+    → Alike (find (λ (p : ℕ × Index). nat_eq p.0 at) (map (λ n. (n, Attribute)) (map (λ (i : ℕ × Index). i.0) xs))) (find (λ (p : ℕ × Index). nat_eq p.0 at) xs)
 index_alike at [] = tt
 index_alike at (x ∷ xs) =
-    let go : (b : Bool) → Alike (cond b (Some (x.0, Attribute)) (find (λ (p : ℕ × Index). nat_eq p.0 at) (map (λ n. (n, Attribute)) (map (λ (i : ℕ × Index). i.0) xs)))) (cond b (Some x) (find (λ (p : ℕ × Index). nat_eq p.0 at) xs)) = elim [
+    let go : (b : Bool) → Alike (cond b (Some (x.0, Attribute)) (find (λ (p : ℕ × Index). nat_eq p.0 at) (map (λ n. (n, Attribute)) (map (λ (i : ℕ × Index). i.0) xs))))
+    (cond b (Some x) (find (λ (p : ℕ × Index). nat_eq p.0 at) xs)) = elim [
       | true ↦ tt
       | false ↦ index_alike at xs
     ] in
@@ -54,7 +58,8 @@ index_alike at (x ∷ xs) =
 -- a column of a relation has an index where it has one
 indexed_shown : (r : Relation) (column : List ℕ) → is_indexed (shown r) column ≡ is_indexed r column
 indexed_shown r column = go (column_named r.schema column) refl where
-  by_index : (at : ℕ) → column_named r.schema column ≡ Some at → (i j : Option (ℕ × Index)) → find (λ (p : ℕ × Index). nat_eq p.0 at) (shown r).indexes ≡ i → find (λ (p : ℕ × Index). nat_eq p.0 at) r.indexes ≡ j → Alike i j
+  by_index : (at : ℕ) → column_named r.schema column ≡ Some at → (i j : Option (ℕ × Index)) → find (λ (p : ℕ × Index). nat_eq p.0 at) (shown r).indexes ≡ i
+      → find (λ (p : ℕ × Index). nat_eq p.0 at) r.indexes ≡ j → Alike i j
       → is_indexed (shown r) column ≡ is_indexed r column
   by_index at e None None a b h = rw (e, a, b) refl
   by_index at e (Some x) (Some y) a b h = rw (e, a, b) refl
@@ -65,7 +70,8 @@ indexed_shown r column = go (column_named r.schema column) refl where
   go None e = rw e refl
   go (Some at) e = by_index at e (find (λ (p : ℕ × Index). nat_eq p.0 at) (shown r).indexes) (find (λ (p : ℕ × Index). nat_eq p.0 at) r.indexes) refl refl (index_alike at r.indexes)
 
-listed_alike : (at : ℕ) (xs : List Rectangles) → list_any (λ (tree : Rectangles). nat_eq tree.0 at) (map (λ n. (n, [])) (map (λ (tree : Rectangles). tree.0) xs)) ≡ list_any (λ (tree : Rectangles). nat_eq tree.0 at) xs
+listed_alike : (at : ℕ) (xs : List Rectangles) → list_any (λ (tree : Rectangles). nat_eq tree.0 at) (map (λ n. (n, [])) (map (λ (tree : Rectangles). tree.0) xs))
+    ≡ list_any (λ (tree : Rectangles). nat_eq tree.0 at) xs
 listed_alike at [] = refl
 listed_alike at (x ∷ xs) = ap (λ (b : Bool). nat_eq x.0 at || b) (listed_alike at xs)
 
@@ -123,7 +129,8 @@ module _ (d : Database) where
       ] in
       go (relation_named d name) refl
 
-  column_shown : (column : Column) (check : Relation → Kind → Option Refusal) → ((r : Relation) (k : Kind) → check (shown r) k ≡ check r k) → in_column (shown_all d) column check ≡ in_column d column check
+  column_shown : (column : Column) (check : Relation → Kind → Option Refusal) → ((r : Relation) (k : Kind) → check (shown r) k ≡ check r k)
+      → in_column (shown_all d) column check ≡ in_column d column check
   column_shown column check h =
       let at : (r : Relation) → relation_named d column.relation ≡ Some r → in_column (shown_all d) column check ≡ in_column d column check = λ r e.
       let go : (o : Option Kind) → kind_named r column.column ≡ o → in_column (shown_all d) column check ≡ in_column d column check = elim [
@@ -259,7 +266,8 @@ cursors_counted cs = length-map (map (λ (c : Cursor). c.name) cs) (λ name. new
 cursor_shown : (cs : List Cursor) (name : List ℕ) → is_there (find (λ (c : Cursor). same_name c.name name) (named_only cs)) ≡ is_there (find (λ (c : Cursor). same_name c.name name) cs)
 cursor_shown [] name = refl
 cursor_shown (c ∷ cs) name =
-    let go : (b : Bool) → is_there (cond b (Some (new_cursor c.name (Scan []) [])) (find (λ (k : Cursor). same_name k.name name) (named_only cs))) ≡ is_there (cond b (Some c) (find (λ (k : Cursor). same_name k.name name) cs)) = elim [
+    let go : (b : Bool) → is_there (cond b (Some (new_cursor c.name (Scan []) [])) (find (λ (k : Cursor). same_name k.name name) (named_only cs)))
+    ≡ is_there (cond b (Some c) (find (λ (k : Cursor). same_name k.name name) cs)) = elim [
       | true ↦ refl
       | false ↦ cursor_shown cs name
     ] in
@@ -278,7 +286,8 @@ module _ (state : State) where
   -- the early checks of a statement
   pub early_shown : (setting : Setting) (statement : Statement) → early setting (bare (outline_of state)) statement ≡ early setting state statement
   early_shown setting (Create name columns) =
-      ap₂ (λ (a : Bool) (os : List (Option Refusal)). first_refusal (refused_where (a || has_twice (map (λ (column : List ℕ × Kind). column.0) columns)) why.NameTaken ∷ os)) (there_shown state.database name)
+      ap₂ (λ (a : Bool) (os : List (Option Refusal)). first_refusal (refused_where (a || has_twice (map (λ (column : List ℕ × Kind). column.0) columns)) why.NameTaken ∷ os))
+      (there_shown state.database name)
       (ap (λ (n : ℕ). refused_where (nat_le most_relations n) why.TooManyRelations ∷ [])
       (length-map (map sketch_in state.database) bare_relation ∙ length-map state.database sketch_in))
   early_shown setting (Insert name row) =
@@ -293,9 +302,11 @@ module _ (state : State) where
       ap₂ (λ (a : Option Refusal) (os : List (Option Refusal)). first_refusal (a ∷ os))
       (column_shown state.database column (λ relation kind. refused_where (is_there threshold && not (is_spatial kind)) why.WrongKind) (λ r k. refl))
       (ap (λ (a : Option Refusal). a ∷ [])
-      (column_shown state.database column (λ relation kind. refused_where (is_indexed relation column.column) why.IndexThere) (λ r k. ap (λ (b : Bool). refused_where b why.IndexThere) (indexed_shown r column.column))))
+      (column_shown state.database column (λ relation kind. refused_where (is_indexed relation column.column) why.IndexThere)
+      (λ r k. ap (λ (b : Bool). refused_where b why.IndexThere) (indexed_shown r column.column))))
   early_shown setting (Rtree column) =
-      column_shown state.database column (λ relation kind. first_refusal (refused_where (not (is_spatial kind)) why.WrongKind ∷ refused_where (has_rectangles relation column.column) why.IndexThere ∷ []))
+      column_shown state.database column (λ relation kind.
+      first_refusal (refused_where (not (is_spatial kind)) why.WrongKind ∷ refused_where (has_rectangles relation column.column) why.IndexThere ∷ []))
       (λ r k. ap (λ (b : Bool). first_refusal (refused_where (not (is_spatial k)) why.WrongKind ∷ refused_where b why.IndexThere ∷ [])) (treed_shown r column.column))
   early_shown setting (OpenCursor name p) =
       ap₂ (λ (b : Bool) (os : List (Option Refusal)). first_refusal (refused_where b why.CursorNameTaken ∷ os)) (cursor_shown state.cursors name)
@@ -306,5 +317,6 @@ module _ (state : State) where
   early_shown setting (Stats name) = open_shown name
   early_shown setting (Far count column goal) = operators_shown state.database (plan.Rank column (shape.Point goal) None)
   early_shown setting (Blocks column) =
-      column_shown state.database column (λ relation kind. first_refusal (refused_where (not (is_spatial kind)) why.WrongKind ∷ refused_where (not (is_indexed relation column.column)) why.NoIndex ∷ []))
+      column_shown state.database column (λ relation kind.
+      first_refusal (refused_where (not (is_spatial kind)) why.WrongKind ∷ refused_where (not (is_indexed relation column.column)) why.NoIndex ∷ []))
       (λ r k. ap (λ (b : Bool). first_refusal (refused_where (not (is_spatial k)) why.WrongKind ∷ refused_where (not b) why.NoIndex ∷ [])) (indexed_shown r column.column))

@@ -6,7 +6,8 @@ use Rattle.sand_base.specs.declared.kind.Kind.{Kind}
 use Rattle.sand_base.specs.declared.kind.Kind.TheVariants as kind
 use Rattle.sand_base.specs.declared.refusal.Refusal.{Refusal}
 use Rattle.sand_base.specs.declared.refusal.Refusal.TheVariants as why
-use Rattle.sand_model.specs.Checks.{check, most_operators, first_refusal, check_search, check_column, check_place, check_relation, check_tests, check_places, check_operators, kind_named, has_rectangles, is_indexed, place_kind, is_plain, is_plain_pair, can_compare}
+use Rattle.sand_model.specs.Checks.{check, most_operators, first_refusal, check_search, check_column, check_place, check_relation, check_tests, check_places}
+use Rattle.sand_model.specs.Checks.{check_operators, kind_named, has_rectangles, is_indexed, place_kind, is_plain, is_plain_pair, can_compare}
 use Rattle.sand_model.specs.Database.{Database, Relation, relation_named}
 use Rattle.sand_model.specs.Operators.{relations_of}
 use Rattle.statements.specs.Plan as plan

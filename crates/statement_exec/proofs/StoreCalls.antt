@@ -38,7 +38,8 @@ created old new name schema h = λ cs files shelf. (
   ),
   λ told disk few setting s.
       let p = h.passes setting s.is s.limits in
-      outcome_done setting (rises_between (while_open old files shelf cs) (while_open new files shelf cs)) (state_with cs (database old)) (Create name schema) (Accepted ∷ []) (state_with cs (database new))
+      outcome_done setting (rises_between (while_open old files shelf cs) (while_open new files shelf cs)) (state_with cs (database old)) (Create name schema)
+      (Accepted ∷ []) (state_with cs (database new))
       p.0 (p.1 told) (refl, ap (state_with cs) (h.becomes told setting.gap s.is.gap)),
 )
 
@@ -64,7 +65,8 @@ deleted old new name id h = λ cs files shelf. (
   ),
   λ told disk few setting s.
       let p = h.passes setting s.is s.limits in
-      outcome_done setting (rises_between (while_open old files shelf cs) (while_open new files shelf cs)) (state_with cs (database old)) (Delete name id) (Accepted ∷ []) (state_with cs (database new))
+      outcome_done setting (rises_between (while_open old files shelf cs) (while_open new files shelf cs)) (state_with cs (database old)) (Delete name id)
+      (Accepted ∷ []) (state_with cs (database new))
       p.0 (p.1 told) (refl, ap (state_with cs) (h.becomes told setting.gap s.is.gap)),
 )
 
@@ -77,7 +79,8 @@ indexed old new column threshold h = λ cs files shelf. (
   ),
   λ told disk few setting s.
       let p = h.passes setting s.is s.limits in
-      outcome_done setting (rises_between (while_open old files shelf cs) (while_open new files shelf cs)) (state_with cs (database old)) (Index column threshold) (Accepted ∷ []) (state_with cs (database new))
+      outcome_done setting (rises_between (while_open old files shelf cs) (while_open new files shelf cs)) (state_with cs (database old)) (Index column threshold)
+      (Accepted ∷ []) (state_with cs (database new))
       p.0 (p.1 told) (refl, ap (state_with cs) (h.becomes told setting.gap s.is.gap)),
 )
 
@@ -104,11 +107,13 @@ ReadsDatabase old statement = (cs : List Cursor) (setting : Setting) → (early 
 
 -- a refusal of a call is one of its statement
 pub refused_call : {T : Type 0} (old new : StoreState) (statement : Statement) (is_late : Refusal → Bool) (w : Refusal) → uses_pages statement ≡ true
-    → is_late why.File ≡ false → ReadsDatabase old statement → ((setting : Setting) → Never (early_at setting old statement)) → ((r : Refusal) → is_late r ≡ true → ComesBehind statement r) → IsUnchanged old new
+    → is_late why.File ≡ false → ReadsDatabase old statement → ((setting : Setting) → Never (early_at setting old statement))
+    → ((r : Refusal) → is_late r ≡ true → ComesBehind statement r) → IsUnchanged old new
     → IsRefusedBy is_late old statement w → HasCause {T = T} old.pool new.pool (Err w) → Changes statement old new (Err w)
 refused_call {T} old new statement is_late w uses late_file alike never may same h cause = λ cs files shelf. (
   (
-    caused_refusal (while_open old files shelf cs) (while_open new files shelf cs) w (pools_cause cs cs old.catalog new.catalog old.pool new.pool same.told files files shelf shelf {T = T} w cause (by_setting (some_setting old) (is_some_setting old) refl)),
+    caused_refusal (while_open old files shelf cs) (while_open new files shelf cs) w
+        (pools_cause cs cs old.catalog new.catalog old.pool new.pool same.told files files shelf shelf {T = T} w cause (by_setting (some_setting old) (is_some_setting old) refl)),
     refused_decides old new cs files shelf statement is_late w uses (alike cs) may same h,
   ),
   λ told disk few setting s.
@@ -167,6 +172,8 @@ never_index old column threshold setting =
 pub never_rtree : (old : StoreState) (column : Column) (setting : Setting) → Never (early_at setting old (Rtree column))
 never_rtree old column setting =
     let d : Database = database old in
-    let checks : Relation → Kind → Option Refusal = λ relation kind. first_refusal (refused_where (not (is_spatial kind)) why.WrongKind ∷ refused_where (has_rectangles relation column.column) why.IndexThere ∷ []) in
+    let checks : Relation → Kind → Option Refusal = λ relation kind.
+    first_refusal (refused_where (not (is_spatial kind)) why.WrongKind ∷ refused_where (has_rectangles relation column.column) why.IndexThere ∷ []) in
     never_column d column checks (λ r k. never_first (refused_where (not (is_spatial k)) why.WrongKind) (refused_where (has_rectangles r column.column) why.IndexThere ∷ [])
-    (never_where (not (is_spatial k)) why.WrongKind refl) (never_first (refused_where (has_rectangles r column.column) why.IndexThere) [] (never_where (has_rectangles r column.column) why.IndexThere refl) refl))
+    (never_where (not (is_spatial k)) why.WrongKind refl)
+    (never_first (refused_where (has_rectangles r column.column) why.IndexThere) [] (never_where (has_rectangles r column.column) why.IndexThere refl) refl))

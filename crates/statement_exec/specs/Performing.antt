@@ -1,4 +1,6 @@
--- What carrying a statement out does: the outcome of the model, where the disk tells its pages and no count of faults is at its end; and over any disk lines that have their causes and are decided by the checks that need no page. The shelf may be any: a load over one that doesn't tell its data files has the outcome of some files.
+-- What carrying a statement out does: the outcome of the model, where the disk tells its pages and no count of faults is at its end; and
+-- over any disk lines that have their causes and are decided by the checks that need no page. The shelf may be any: a load over one that
+-- doesn't tell its data files has the outcome of some files.
 use Rattle.std.specs.Prelude.{ℕ, ◌<◌, IsTrue, List, [], ◌∷◌, Option, Result, Ok, Err}
 use Rattle.sand_base.specs.Faults.{last_count}
 use Rattle.sand_base.specs.Shelf.{Files}

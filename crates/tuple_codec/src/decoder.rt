@@ -1,4 +1,5 @@
 ghost use Rattle.std.specs.Prelude.{◌≡◌, List, Some, IfSome, IfOk};
+ghost use Rattle.sand_base.specs.InRange.{IsValueInRange};
 ghost use Rattle.sand_base.specs.declared.value.Value.{Value as Held};
 ghost use Rattle.tuple_codec.specs.Decoding.{IsEncodingOf, IsValueIn};
 
@@ -31,7 +32,8 @@ pub fn decode_value(
     bytes: &[u8],
     column: usize,
 ) -> Result<Option<Value>, NoMemory>
-    ensures { IfOk result (λ value. IsValueIn schema.now bytes.now column value) }
+    ensures value { IfOk result (λ value. IsValueIn schema.now bytes.now column value) }
+    ensures in_range { IfOk result (λ value. IfSome value IsValueInRange) }
 {
     let columns = schema.columns();
     let Some((_, kind)) = columns.get(column) else {

@@ -117,7 +117,12 @@ parts_some g x k v (e ∷ es) a h = elim (eqb_tells e.0 k) [
 
 pub times-drop : (g : Pair → ℕ) (x k v : ℕ) (es : List Pair) → Ascending es → find_item k es ≡ Some v → times x (map g es) ≡ same x (g (k, v)) + times x (map g (drop_item k es))
 times-drop g x k v es a h =
-    omega (arith, ap (λ (ys : List ℕ). times x ys) (map-append g (items_below k es) (items_above k es)), times-append x (map g (items_below k es)) (map g (items_above k es)), parts_some g x k v es a h)
+    omega (
+      arith,
+      ap (λ (ys : List ℕ). times x ys) (map-append g (items_below k es) (items_above k es)),
+      times-append x (map g (items_below k es)) (map g (items_above k es)),
+      parts_some g x k v es a h,
+    )
 
 pub found_leads : (k v : ℕ) (es : List Pair) → find_item k es ≡ Some v → 1 ≤ times v (places es)
 found_leads k v [] h = absurd (none_some v (sym h))

@@ -28,14 +28,16 @@ decoded schema bytes tuple None e h k = λ row is.
     none_some row (sym (k row (subst P (sym e) is)))
 decoded schema bytes tuple (Some row) e h k = let P : List ℕ → Type 0 = λ b. IsEncodingOf schema row b in subst P e h
 
-row_here : (schema : List (List ℕ × Kind)) (rows : List (ℕ × List ℕ)) (id : ℕ) (tuple : List ℕ) (found : Option (List Value)) → of_id id rows ≡ Some tuple → IsDecoded schema tuple found → IsRowAt schema rows id found
+row_here : (schema : List (List ℕ × Kind)) (rows : List (ℕ × List ℕ)) (id : ℕ) (tuple : List ℕ) (found : Option (List Value)) → of_id id rows ≡ Some tuple
+    → IsDecoded schema tuple found → IsRowAt schema rows id found
 row_here schema rows id tuple None e h = λ bytes row at is.
     let P : Option (List ℕ) → Type 0 = λ o. IfSome o (λ b. IsEncodingOf schema row b) in
     h row (subst P (sym at ∙ e) is)
 row_here schema rows id tuple (Some row) e h = (tuple, (e, h))
 
 -- the bytes of the id, where the tree leads to them, and where it doesn't
-bytes_here : (m : Store) (f : TupleFile) (id v n slot : ℕ) → Some v ≡ find_item id (tree_items m f.tree) → n ≡ page_of v → slot ≡ slot_of v → of_id id (file_rows m f) ≡ Some (tuple_at (bytes_of (m n)) slot)
+bytes_here : (m : Store) (f : TupleFile) (id v n slot : ℕ) → Some v ≡ find_item id (tree_items m f.tree) → n ≡ page_of v → slot ≡ slot_of v
+    → of_id id (file_rows m f) ≡ Some (tuple_at (bytes_of (m n)) slot)
 bytes_here m f id v n slot e en es =
     tuples_find m id (tree_items m f.tree) ∙ (ap (λ (o : Option ℕ). option_map (λ k. tuple_of m k) o) (sym e) ∙ ap (λ (b : List ℕ). Some b) (tuple_here m v n slot (sym en) (sym es)))
 
@@ -55,33 +57,39 @@ least_is m f from o e = ap (λ (p : Option Pair). option_map (λ (i : Pair). i.0
 
 -- the same with what the code has: the key, the answer of the tree, and pages that stay
 pub row_found_by : (schema : List (List ℕ × Kind)) (m x : Store) (f : TupleFile) (id key v n slot : ℕ) (place : Option ℕ) (found : Option (List Value)) → key ≡ id → x ≡ m
-    → place ≡ find_item key (tree_items m f.tree) → place ≡ Some v → n ≡ page_of v → slot ≡ slot_of v → IsDecoded schema (tuple_at (bytes_of (x n)) slot) found → IsRowAt schema (file_rows m f) id found
+    → place ≡ find_item key (tree_items m f.tree) → place ≡ Some v → n ≡ page_of v → slot ≡ slot_of v → IsDecoded schema (tuple_at (bytes_of (x n)) slot) found
+    → IsRowAt schema (file_rows m f) id found
 row_found_by schema m x f id key v n slot place found ek ex e is en es h =
     let D : Store → Type 0 = λ s. IsDecoded schema (tuple_at (bytes_of (s n)) slot) found in
     row_found schema m f id v n slot found (sym is ∙ (e ∙ ap (λ (k : ℕ). find_item k (tree_items m f.tree)) ek)) en es (subst D ex h)
 
-pub row_absent_by : (schema : List (List ℕ × Kind)) (m : Store) (f : TupleFile) (id key : ℕ) (place : Option ℕ) → key ≡ id → place ≡ find_item key (tree_items m f.tree) → place ≡ None → IsRowAt schema (file_rows m f) id None
+pub row_absent_by : (schema : List (List ℕ × Kind)) (m : Store) (f : TupleFile) (id key : ℕ) (place : Option ℕ) → key ≡ id → place ≡ find_item key (tree_items m f.tree)
+    → place ≡ None → IsRowAt schema (file_rows m f) id None
 row_absent_by schema m f id key place ek e is = row_absent schema m f id (sym is ∙ (e ∙ ap (λ (k : ℕ). find_item k (tree_items m f.tree)) ek))
 
-pub least_by : (m : Store) (f : TupleFile) (from key : ℕ) (o : Option Pair) (given : Option ℕ) → key ≡ from → o ≡ ceiling_item key (tree_items m f.tree) → option_map (λ (e : Pair). e.0) o ≡ given → given ≡ least_from from (file_rows m f)
+pub least_by : (m : Store) (f : TupleFile) (from key : ℕ) (o : Option Pair) (given : Option ℕ) → key ≡ from → o ≡ ceiling_item key (tree_items m f.tree)
+    → option_map (λ (e : Pair). e.0) o ≡ given → given ≡ least_from from (file_rows m f)
 least_by m f from key o given ek e is = sym is ∙ least_is m f from o (e ∙ ap (λ (k : ℕ). ceiling_item k (tree_items m f.tree)) ek)
 
 -- the value in a column of the row of the id, and none where the id isn't there
 pub value_found_by : (schema : List (List ℕ × Kind)) (m x : Store) (f : TupleFile) (id key v n slot column : ℕ) (place : Option ℕ) (found : Option Value) → key ≡ id → x ≡ m
-    → place ≡ find_item key (tree_items m f.tree) → place ≡ Some v → n ≡ page_of v → slot ≡ slot_of v → IsValueIn schema (tuple_at (bytes_of (x n)) slot) column found → IsValueAt schema (file_rows m f) id column found
+    → place ≡ find_item key (tree_items m f.tree) → place ≡ Some v → n ≡ page_of v → slot ≡ slot_of v → IsValueIn schema (tuple_at (bytes_of (x n)) slot) column found
+    → IsValueAt schema (file_rows m f) id column found
 value_found_by schema m x f id key v n slot column place found ek ex e is en es h =
     let V : Store → Type 0 = λ s. IsValueIn schema (tuple_at (bytes_of (s n)) slot) column found in
     let P : Option (List ℕ) → Type 0 = λ o. MatchOption o (found ≡ None) (λ bytes. IsValueIn schema bytes column found) in
     subst P (sym (bytes_here m f id v n slot (sym is ∙ (e ∙ ap (λ (k : ℕ). find_item k (tree_items m f.tree)) ek)) en es)) (subst V ex h)
 
-pub value_absent_by : (schema : List (List ℕ × Kind)) (m : Store) (f : TupleFile) (id key column : ℕ) (place : Option ℕ) → key ≡ id → place ≡ find_item key (tree_items m f.tree) → place ≡ None → IsValueAt schema (file_rows m f) id column None
+pub value_absent_by : (schema : List (List ℕ × Kind)) (m : Store) (f : TupleFile) (id key column : ℕ) (place : Option ℕ) → key ≡ id
+    → place ≡ find_item key (tree_items m f.tree) → place ≡ None → IsValueAt schema (file_rows m f) id column None
 value_absent_by schema m f id key column place ek e is =
     let none : Option Value = None in
     let P : Option (List ℕ) → Type 0 = λ o. MatchOption o (none ≡ None) (λ bytes. IsValueIn schema bytes column none) in
     subst P (sym (bytes_absent m f id (sym is ∙ (e ∙ ap (λ (k : ℕ). find_item k (tree_items m f.tree)) ek)))) refl
 
 -- and of an id of which it is known where its tuple lies
-pub value_placed : (schema : List (List ℕ × Kind)) (m : Store) (f : TupleFile) (spans : List ℕ) (id column : ℕ) (span : Span) (found : Option Value) → AreKnown m f spans → 1 ≤ id → 1 ≤ get_or spans (id - 1) 0
+pub value_placed : (schema : List (List ℕ × Kind)) (m : Store) (f : TupleFile) (spans : List ℕ) (id column : ℕ) (span : Span) (found : Option Value) → AreKnown m f spans
+    → 1 ≤ id → 1 ≤ get_or spans (id - 1) 0
     → span ≡ span_of (get_or spans (id - 1) 0) → IsValueIn schema (piece span.length span.start (bytes_of (m span.page))) column found → IsValueAt schema (file_rows m f) id column found
 value_placed schema m f spans id column span found known l k e h =
     let same : id - 1 + 1 ≡ id = omega (arith, l) in

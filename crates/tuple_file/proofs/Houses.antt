@@ -78,7 +78,8 @@ led_all m f n h g v e = elim (leb_tells 1 (times n (homes (tree_items m f.tree))
   | inl x ↦ h.housed.led v (omega (arith, x.1, ap (λ (k : ℕ). times k (homes (tree_items m f.tree))) e))
   | inr x ↦
       let none : m n ≡ None = none_live m n (omega (arith, x.1, g.both)) in
-      let empty : some (tuple_of m v) ≡ 0 = ap (λ (b : List ℕ). some b) (tuple_here m v n (slot_of v) e refl ∙ (ap (λ (o : Option (List ℕ)). tuple_at (bytes_of o) (slot_of v)) none ∙ tuple_none (slot_of v))) in
+      let empty : some (tuple_of m v) ≡ 0 = ap (λ (b : List ℕ). some b) (tuple_here m v n (slot_of v) e refl
+      ∙ (ap (λ (o : Option (List ℕ)). tuple_at (bytes_of o) (slot_of v)) none ∙ tuple_none (slot_of v))) in
       omega (arith, empty, x.1, times-up v (tree_items m f.tree), ap (λ (k : ℕ). times k (homes (tree_items m f.tree))) e)
 ]
 

@@ -15,10 +15,11 @@ use Rattle.tuple_file.specs.File.{tuple_of, tuples, places}
 -- a filter on ids goes through to the pairs
 tuples-filter : (m : Store) (p : ℕ → Bool) (es : List Pair) → tuples m (filter (λ e. p e.0) es) ≡ filter (λ r. p r.0) (tuples m es)
 tuples-filter m p [] = refl
-tuples-filter m p (e ∷ es) = elim (p e.0) as (λ b. tuples m (cond b (e ∷ filter (λ e. p e.0) es) (filter (λ e. p e.0) es)) ≡ cond b ((e.0, tuple_of m e.1) ∷ filter (λ r. p r.0) (tuples m es)) (filter (λ r. p r.0) (tuples m es))) [
-  | true ↦ ap (λ (r : List (ℕ × List ℕ)). (e.0, tuple_of m e.1) ∷ r) (tuples-filter m p es)
-  | false ↦ tuples-filter m p es
-]
+tuples-filter m p (e ∷ es) = elim (p e.0) as (λ b. tuples m (cond b (e ∷ filter (λ e. p e.0) es) (filter (λ e. p e.0) es))
+    ≡ cond b ((e.0, tuple_of m e.1) ∷ filter (λ r. p r.0) (tuples m es)) (filter (λ r. p r.0) (tuples m es))) [
+      | true ↦ ap (λ (r : List (ℕ × List ℕ)). (e.0, tuple_of m e.1) ∷ r) (tuples-filter m p es)
+      | false ↦ tuples-filter m p es
+    ]
 
 below_is : (k : ℕ) (es : List Pair) → items_below k es ≡ filter (λ e. nat_lt e.0 k) es
 below_is k [] = refl
@@ -60,10 +61,11 @@ tuples_drop m k es a = ap (λ (r : List Pair). tuples m r) (drop_is k es a) ∙ 
 
 pub tuples_find : (m : Store) (k : ℕ) (es : List Pair) → of_id k (tuples m es) ≡ option_map (λ v. tuple_of m v) (find_item k es)
 tuples_find m k [] = refl
-tuples_find m k (e ∷ es) = elim (nat_eq e.0 k) as (λ b. option_map (λ (r : ℕ × List ℕ). r.1) (cond b (Some (e.0, tuple_of m e.1)) (find (λ r. nat_eq r.0 k) (tuples m es))) ≡ option_map (λ v. tuple_of m v) (cond b (Some e.1) (find_item k es))) [
-  | true ↦ refl
-  | false ↦ tuples_find m k es
-]
+tuples_find m k (e ∷ es) = elim (nat_eq e.0 k) as (λ b. option_map (λ (r : ℕ × List ℕ). r.1) (cond b (Some (e.0, tuple_of m e.1)) (find (λ r. nat_eq r.0 k) (tuples m es)))
+    ≡ option_map (λ v. tuple_of m v) (cond b (Some e.1) (find_item k es))) [
+      | true ↦ refl
+      | false ↦ tuples_find m k es
+    ]
 
 pub tuples_least : (m : Store) (k : ℕ) (es : List Pair) → least_from k (tuples m es) ≡ option_map (λ (e : Pair). e.0) (ceiling_item k es)
 tuples_least m k [] = refl

@@ -17,7 +17,8 @@ long p q at b e l h = ap (λ (x : List ℕ). length x) e ∙ (length-pasted p at
 apart : (w a : ℕ) (p q : List ℕ) (at : ℕ) (b : List ℕ) → q ≡ pasted p at b → length p ≡ 4096 → at + length b ≤ 4096 → (a + w ≤ at) ⊎ (at + length b ≤ a) → piece w a q ≡ piece w a p
 apart w a p q at b e l h s = ap (λ (x : List ℕ). piece w a x) e ∙ piece_apart w a p at b (omega arith) s
 
-half_apart : (a : ℕ) (p q : List ℕ) (at : ℕ) (b : List ℕ) → q ≡ pasted p at b → length p ≡ 4096 → at + length b ≤ 4096 → (a + 2 ≤ at) ⊎ (at + length b ≤ a) → half_of (piece 2 a q) ≡ half_of (piece 2 a p)
+half_apart : (a : ℕ) (p q : List ℕ) (at : ℕ) (b : List ℕ) → q ≡ pasted p at b → length p ≡ 4096 → at + length b ≤ 4096 → (a + 2 ≤ at) ⊎ (at + length b ≤ a)
+    → half_of (piece 2 a q) ≡ half_of (piece 2 a p)
 half_apart a p q at b e l h s = ap (λ (x : List ℕ). half_of x) (apart 2 a p q at b e l h s)
 
 within : (p q : List ℕ) (at : ℕ) (b : List ℕ) → q ≡ pasted p at b → length p ≡ 4096 → at + length b ≤ 4096 → piece (length b) at q ≡ b
@@ -136,7 +137,8 @@ added p q bytes slot place es ep room m h =
       here = tuple_in q slot (omega (arith, count)) ∙ (ap₂ (λ (w a : ℕ). piece w a q) m.length_is m.place_is ∙ m.here);
       was = tuple_out p slot (omega (arith, es));
       others = λ i n. elim (leb_tells (suc i) slot) [
-        | inl x ↦ tuple_same p q i (omega (arith, x.1)) (omega (arith, count, x.1)) (m.places i x.1) (m.lengths i x.1) (m.above (length_in p i) (place_in p i) (omega (arith, (h.within i (omega (arith, x.1))).0)))
+        | inl x ↦ tuple_same p q i (omega (arith, x.1)) (omega (arith, count, x.1)) (m.places i x.1) (m.lengths i x.1)
+            (m.above (length_in p i) (place_in p i) (omega (arith, (h.within i (omega (arith, x.1))).0)))
         | inr x ↦ let far : suc slot ≤ i = omega (arith, x.1, n) in tuple_out q i (omega (arith, count)) ∙ sym (tuple_out p i (omega arith))
       ];
       has = record { there = omega (arith, count); start_is = m.place_is; length_is = m.length_is };
@@ -154,8 +156,10 @@ cleared p q slot from l ef ep h =
     let fits : at + length b ≤ 4096 = omega (arith, n) in
     let size = long p q at b e h.size fits in
     let count : slot_count q ≡ slot_count p = ap (λ (k : ℕ). min k 1022) (half_apart 2 p q at b e h.size fits (inl (omega arith))) in
-    let places : (i : ℕ) → place_in q i ≡ place_in p i = λ i. half_apart (8 + 4 * i) p q at b e h.size fits (elim (leb_tells i slot) [ inl x ↦ inl (omega (arith, x.1)) | inr x ↦ inr (omega (arith, x.1, n)) ]) in
-    let lengths : (i : ℕ) → i ≢ slot → length_in q i ≡ length_in p i = λ i d. half_apart (10 + 4 * i) p q at b e h.size fits (elim (leb_tells i slot) [ inl x ↦ inl (omega (arith, x.1, d)) | inr x ↦ inr (omega (arith, x.1, n)) ]) in
+    let places : (i : ℕ) → place_in q i ≡ place_in p i =
+    λ i. half_apart (8 + 4 * i) p q at b e h.size fits (elim (leb_tells i slot) [ inl x ↦ inl (omega (arith, x.1)) | inr x ↦ inr (omega (arith, x.1, n)) ]) in
+    let lengths : (i : ℕ) → i ≢ slot → length_in q i ≡ length_in p i =
+    λ i d. half_apart (10 + 4 * i) p q at b e h.size fits (elim (leb_tells i slot) [ inl x ↦ inl (omega (arith, x.1, d)) | inr x ↦ inr (omega (arith, x.1, n)) ]) in
     let gone : length_in q slot ≡ 0 = half_here p q at 0 e h.size (omega arith) (omega arith) in
     let lowest : low q ≡ low p = low_same p q (slot_count p) refl count (λ i x. places i) in
     let table = h.table in

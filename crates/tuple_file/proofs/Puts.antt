@@ -131,7 +131,8 @@ put_done m x w f u id n slot start v bytes was file fresh size s ev i =
     let small : slot < 65536 = omega (arith, s.added.small) in
     let page_is : page_of v ≡ n = ap (λ (k : ℕ). page_of k) ev ∙ page_back n slot small in
     let slot_is : slot_of v ≡ slot = ap (λ (k : ℕ). slot_of k) ev ∙ slot_back n slot small in
-    let hc : (q : ℕ) → times q (homes fs) ≡ same q n + times q (homes es) = λ q. ap (λ (xs : List Pair). times q (homes xs)) items ∙ (times-put (λ e. page_of e.1) q id v es none ∙ ap (λ (k : ℕ). same q k + times q (homes es)) page_is) in
+    let hc : (q : ℕ) → times q (homes fs) ≡ same q n + times q (homes es) = λ q. ap (λ (xs : List Pair). times q (homes xs)) items
+    ∙ (times-put (λ e. page_of e.1) q id v es none ∙ ap (λ (k : ℕ). same q k + times q (homes es)) page_is) in
     let pc : (y : ℕ) → times y (places fs) ≡ same y v + times y (places es) = λ y. ap (λ (xs : List Pair). times y (places xs)) items ∙ times-put (λ e. e.1) y id v es none in
     let tp : (q : ℕ) → times q (tree_pages x f.tree) ≡ times q ts = λ q. ap (λ (ps : List ℕ). times q ps) t.pages in
     let wn : w n ≡ x n = i.keeps.others n s.is_live (tp n ∙ gr.apart) in
@@ -147,7 +148,20 @@ put_done m x w f u id n slot start v bytes was file fresh size s ev i =
       all = led_all m f n file gr;
     } in
     let moved : (q : ℕ) → live w q + times q (file_pages m f) ≡ live m q + times q (file_pages w g) = λ q. elim (same_cases q n) [
-      | inl j ↦ omega (arith, i.keeps.moved q, tp q, pages_count m f q, pages_count w g q, hc q, j.0, s.is_live, gr.both, ap (λ (k : ℕ). live x k) j.1, ap (λ (k : ℕ). live m k) j.1, ap (λ (k : ℕ). times k (homes es)) j.1)
+      | inl j ↦ omega (
+        arith,
+        i.keeps.moved q,
+        tp q,
+        pages_count m f q,
+        pages_count w g q,
+        hc q,
+        j.0,
+        s.is_live,
+        gr.both,
+        ap (λ (k : ℕ). live x k) j.1,
+        ap (λ (k : ℕ). live m k) j.1,
+        ap (λ (k : ℕ). times k (homes es)) j.1,
+      )
       | inr j ↦ omega (arith, i.keeps.moved q, tp q, pages_count m f q, pages_count w g q, hc q, j.0, live_same m x q (s.others q j.0))
     ] in
     record {
@@ -182,7 +196,8 @@ put_done m x w f u id n slot start v bytes was file fresh size s ev i =
 
 -- where the tuple lies that was put
 pub put_lies : (m x w : Store) (f : TupleFile) (u : Tree) (id n slot start count v : ℕ) (bytes : List ℕ) (was : Option ℕ) → IsFile m f → count ≡ length bytes
-    → Settled m x f.newest n slot start bytes → v ≡ n * 65536 + slot → Inserted x w f.tree u id v was → Lies w (record { tree = u; newest = Some n }) id (record { page = n; start = start; length = count })
+    → Settled m x f.newest n slot start bytes → v ≡ n * 65536 + slot → Inserted x w f.tree u id v was
+    → Lies w (record { tree = u; newest = Some n }) id (record { page = n; start = start; length = count })
 put_lies m x w f u id n slot start count v bytes was file ec s ev i =
     let gr : Ground m f n = ground m f n file s.from in
     let t = frame m x f.tree (λ q l. s.others q (tree_apart m f n q gr.apart l)) in

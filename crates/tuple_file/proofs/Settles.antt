@@ -19,5 +19,13 @@ begun m w n slot start bytes old new g a none =
       fresh = g.before;
       others = g.others;
       is_live = live_some w n new g.now;
-      added = subst P here (record { sound = a.sound; small = a.small; here = a.here; was = tuple_none slot; others = λ i d. a.others i d ∙ (none i ∙ sym (tuple_none i)); has = a.has; stays = λ i at many has. absurd (omega (arith, has.there, no_slot)) });
+      added = subst P here (record {
+        sound = a.sound;
+        small = a.small;
+        here = a.here;
+        was = tuple_none slot;
+        others = λ i d. a.others i d ∙ (none i ∙ sym (tuple_none i));
+        has = a.has;
+        stays = λ i at many has. absurd (omega (arith, has.there, no_slot));
+      });
     }

@@ -17,10 +17,11 @@ use Rattle.tuple_file.specs.Table.{encodings, AreRowsFor}
 
 encodings-filter : (p : ℕ → Bool) (table : List (ℕ × List Value)) → encodings (filter (λ r. p r.0) table) ≡ filter (λ r. p r.0) (encodings table)
 encodings-filter p [] = refl
-encodings-filter p (r ∷ rs) = elim (p r.0) as (λ b. encodings (cond b (r ∷ filter (λ r. p r.0) rs) (filter (λ r. p r.0) rs)) ≡ cond b ((r.0, encoding r.1) ∷ filter (λ r. p r.0) (encodings rs)) (filter (λ r. p r.0) (encodings rs))) [
-  | true ↦ ap (λ (t : List (ℕ × List ℕ)). (r.0, encoding r.1) ∷ t) (encodings-filter p rs)
-  | false ↦ encodings-filter p rs
-]
+encodings-filter p (r ∷ rs) = elim (p r.0) as (λ b. encodings (cond b (r ∷ filter (λ r. p r.0) rs) (filter (λ r. p r.0) rs))
+    ≡ cond b ((r.0, encoding r.1) ∷ filter (λ r. p r.0) (encodings rs)) (filter (λ r. p r.0) (encodings rs))) [
+      | true ↦ ap (λ (t : List (ℕ × List ℕ)). (r.0, encoding r.1) ∷ t) (encodings-filter p rs)
+      | false ↦ encodings-filter p rs
+    ]
 
 pub encodings-with : (id : ℕ) (row : List Value) (table : List (ℕ × List Value)) → encodings (with_id id row table) ≡ with_id id (encoding row) (encodings table)
 encodings-with id row table =
@@ -32,10 +33,12 @@ encodings-without id table = encodings-filter (λ i. not (nat_eq i id)) table
 
 encodings-find : (id : ℕ) (table : List (ℕ × List Value)) → of_id id (encodings table) ≡ option_map encoding (of_id id table)
 encodings-find id [] = refl
-encodings-find id (r ∷ rs) = elim (nat_eq r.0 id) as (λ b. option_map (λ (x : ℕ × List ℕ). x.1) (cond b (Some (r.0, encoding r.1)) (find (λ x. nat_eq x.0 id) (encodings rs))) ≡ option_map encoding (option_map (λ (x : ℕ × List Value). x.1) (cond b (Some r) (find (λ x. nat_eq x.0 id) rs)))) [
-  | true ↦ refl
-  | false ↦ encodings-find id rs
-]
+encodings-find id (r ∷ rs) = elim (nat_eq r.0 id) as
+    (λ b. option_map (λ (x : ℕ × List ℕ). x.1) (cond b (Some (r.0, encoding r.1)) (find (λ x. nat_eq x.0 id) (encodings rs)))
+    ≡ option_map encoding (option_map (λ (x : ℕ × List Value). x.1) (cond b (Some r) (find (λ x. nat_eq x.0 id) rs)))) [
+      | true ↦ refl
+      | false ↦ encodings-find id rs
+    ]
 
 All-head : {X : Type 0} (P : X → Type 0) (x : X) (xs : List X) → All P (x ∷ xs) → P x
 All-head P x xs h = h 0 x (omega arith)
@@ -49,7 +52,8 @@ row_for schema id (r ∷ rs) h = elim (nat_eq r.0 id) as (λ b. IfSome (option_m
 ]
 
 -- of two answers for one encoding
-same_answer : (schema : List (List ℕ × Kind)) (rows : List (ℕ × List ℕ)) (id : ℕ) (row found : Option (List Value)) → of_id id rows ≡ option_map encoding row → IfSome row (λ r. IsRowFor schema r) → IsRowAt schema rows id found → found ≡ row
+same_answer : (schema : List (List ℕ × Kind)) (rows : List (ℕ × List ℕ)) (id : ℕ) (row found : Option (List Value)) → of_id id rows ≡ option_map encoding row
+    → IfSome row (λ r. IsRowFor schema r) → IsRowAt schema rows id found → found ≡ row
 same_answer schema rows id None None e is h = refl
 same_answer schema rows id None (Some r) e is h = absurd (none_some h.0 (sym h.1.0 ∙ e))
 same_answer schema rows id (Some r) None e is h = absurd (h (encoding r) r e (record { fitting = is; encoded = refl }))
@@ -58,7 +62,8 @@ same_answer schema rows id (Some r) (Some s) e is h =
     let other : IsEncodingOf schema s (encoding r) = subst P (sym h.1.0 ∙ e) h.1.1 in
     ap (λ (x : List Value). Some x) (one_encoding schema (encoding r) s r other (record { fitting = is; encoded = refl }))
 
-pub fetched : (schema : List (List ℕ × Kind)) (table : List (ℕ × List Value)) (id : ℕ) (found : Option (List Value)) → AreRowsFor schema table → IsRowAt schema (encodings table) id found → found ≡ of_id id table
+pub fetched : (schema : List (List ℕ × Kind)) (table : List (ℕ × List Value)) (id : ℕ) (found : Option (List Value)) → AreRowsFor schema table
+    → IsRowAt schema (encodings table) id found → found ≡ of_id id table
 fetched schema table id found all h = same_answer schema (encodings table) id (of_id id table) found (encodings-find id table) (row_for schema id table all) h
 
 -- the value of an encoding is that of its row
@@ -67,7 +72,8 @@ value_of_row : (schema : List (List ℕ × Kind)) (row : Option (List Value)) (c
 value_of_row schema None column value is h = h
 value_of_row schema (Some r) column value is h = h r (record { fitting = is; encoded = refl })
 
-pub value_fetched : (schema : List (List ℕ × Kind)) (table : List (ℕ × List Value)) (id column : ℕ) (value : Option Value) → AreRowsFor schema table → IsValueAt schema (encodings table) id column value
+pub value_fetched : (schema : List (List ℕ × Kind)) (table : List (ℕ × List Value)) (id column : ℕ) (value : Option Value) → AreRowsFor schema table
+    → IsValueAt schema (encodings table) id column value
     → MatchOption (of_id id table) (value ≡ None) (λ row. HasValue row column value)
 value_fetched schema table id column value all h =
     let P : Option (List ℕ) → Type 0 = λ o. MatchOption o (value ≡ None) (λ bytes. IsValueIn schema bytes column value) in

@@ -175,9 +175,39 @@ take_done m x w f u id n slot v freed newest file r en es' e last =
     let moved : (q : ℕ) → live w q + times q (file_pages m f) ≡ live m q + times q (file_pages w g) = λ q. elim (same_cases q n) [
       | inl j ↦ by_test freed
           (λ k. (let l = home_left m w es fs n slot v freed file.housed p (p.left k) in
-          omega (arith, r.keeps.moved q, up q, pages_count m f q, pages_count w g q, l, home_n, (p.left k).is_live, live_same m x n xn, kn.0, ap (λ (i : ℕ). live x i) j.1, ap (λ (i : ℕ). live w i) j.1, ap (λ (i : ℕ). times i (homes es)) j.1, ap (λ (i : ℕ). times i (homes fs)) j.1)))
+          omega (
+            arith,
+            r.keeps.moved q,
+            up q,
+            pages_count m f q,
+            pages_count w g q,
+            l,
+            home_n,
+            (p.left k).is_live,
+            live_same m x n xn,
+            kn.0,
+            ap (λ (i : ℕ). live x i) j.1,
+            ap (λ (i : ℕ). live w i) j.1,
+            ap (λ (i : ℕ). times i (homes es)) j.1,
+            ap (λ (i : ℕ). times i (homes fs)) j.1,
+          )))
           (λ k. (let l = home_gone m w es fs n slot v freed file.housed p (p.gone k) in
-          omega (arith, r.keeps.moved q, up q, pages_count m f q, pages_count w g q, l, home_n, live_none w n (p.gone k).freed, live_same m x n xn, kn.0, ap (λ (i : ℕ). live x i) j.1, ap (λ (i : ℕ). live w i) j.1, ap (λ (i : ℕ). times i (homes es)) j.1, ap (λ (i : ℕ). times i (homes fs)) j.1)))
+          omega (
+            arith,
+            r.keeps.moved q,
+            up q,
+            pages_count m f q,
+            pages_count w g q,
+            l,
+            home_n,
+            live_none w n (p.gone k).freed,
+            live_same m x n xn,
+            kn.0,
+            ap (λ (i : ℕ). live x i) j.1,
+            ap (λ (i : ℕ). live w i) j.1,
+            ap (λ (i : ℕ). times i (homes es)) j.1,
+            ap (λ (i : ℕ). times i (homes fs)) j.1,
+          )))
       | inr j ↦ omega (arith, r.keeps.moved q, up q, pages_count m f q, pages_count w g q, hc q, j.0, live_same x w q (e.others q j.0))
     ] in
     let owns = owns_then m w (file_pages m f) (file_pages w g) file.owns moved in
@@ -245,7 +275,8 @@ take_none m w f u id file r =
         };
         newest = λ q e. omega (arith, file.newest q e, hc q);
       };
-      rows = tuples_same m w fs (λ v l. tuple_same m w v (home (page_of v) (omega (arith, l, pc v, times-up v es)))) ∙ (ap (λ (xs : List Pair). tuples m xs) r.items ∙ tuples_drop m id es file.tree.at.ascending);
+      rows = tuples_same m w fs (λ v l. tuple_same m w v (home (page_of v) (omega (arith, l, pc v, times-up v es))))
+          ∙ (ap (λ (xs : List Pair). tuples m xs) r.items ∙ tuples_drop m id es file.tree.at.ascending);
       found = sym (ap (λ (o : Option (List ℕ)). is_some o) (tuples_find m id es ∙ ap (λ (o : Option ℕ). option_map (λ k. tuple_of m k) o) found));
       stays = λ q k l. k;
       stay = λ i span d l.
@@ -270,7 +301,8 @@ taken_sound m x f u id n v file r en =
 kept_of : (old new : Option ℕ) (q n : ℕ) (freed : Bool) → old ≡ Some q → IfSome old (λ k. (freed ≡ true → k ≢ n) → new ≡ Some k) → (freed ≡ true → q ≢ n) → new ≡ Some q
 kept_of old new q n freed e l = let P : Option ℕ → Type 0 = λ o. IfSome o (λ k. (freed ≡ true → k ≢ n) → new ≡ Some k) in subst P e l
 
-pub newest_is : (old new : Option ℕ) (n : ℕ) (freed : Bool) → IfSome new (λ k. old ≡ Some k) → (freed ≡ true → IfSome new (λ k. k ≢ n)) → IfSome old (λ k. (freed ≡ true → k ≢ n) → new ≡ Some k) → IsNewest old new n freed
+pub newest_is : (old new : Option ℕ) (n : ℕ) (freed : Bool) → IfSome new (λ k. old ≡ Some k) → (freed ≡ true → IfSome new (λ k. k ≢ n))
+    → IfSome old (λ k. (freed ≡ true → k ≢ n) → new ≡ Some k) → IsNewest old new n freed
 newest_is old None n freed h k l = record { same_page = λ q e. absurd (none_some q (sym e)); is_left = λ q b e. absurd (none_some q (sym e)); kept = λ q e. kept_of old None q n freed e l }
 newest_is old (Some p) n freed h k l = record {
   same_page = λ q e. h ∙ e;

@@ -1,4 +1,5 @@
 ghost use Rattle.std.specs.Prelude.{◌≡◌, ◌+◌, ◌≤◌, ◌≢◌, length, true, Some, None, IfOk, IfSome, OnOk, OnErr};
+ghost use Rattle.sand_base.specs.InRange.{IsValueInRange};
 ghost use Rattle.page_pool.specs.Pool.{IsOpen, IsTold};
 ghost use Rattle.page_pool.specs.Causes.{HasPageCause};
 ghost use Rattle.page_pool.specs.Steps.{InCommand};
@@ -157,6 +158,7 @@ impl TupleFile {
     ) -> Result<Option<Value>, PageFault>
         requires { IsTold (P.shown pages.old) → IsFile (pages_in (P.shown pages.old)) self.now }
         ensures value { IfOk result (λ value. IsTold (P.shown pages.old) → IsValueAt schema.now (file_rows (pages_in (P.shown pages.old)) self.now) id column value) }
+        ensures in_range { IfOk result (λ value. IfSome value IsValueInRange) }
         ensures looks { Looks (P.shown pages.old) (P.shown pages.new) (self.now.tree.height + 1) result }
     {
         let Some(place) = self.tree.get(pages, u128::from(id))? else {
@@ -182,6 +184,7 @@ impl TupleFile {
         requires file { IsTold (P.shown pages.old) → IsFile (pages_in (P.shown pages.old)) self.now }
         requires known { IsTold (P.shown pages.old) → AreKnown (pages_in (P.shown pages.old)) self.now spans.now }
         ensures value { IfOk result (λ value. IsTold (P.shown pages.old) → IsValueAt schema.now (file_rows (pages_in (P.shown pages.old)) self.now) id column value) }
+        ensures in_range { IfOk result (λ value. IfSome value IsValueInRange) }
         ensures looks { Looks (P.shown pages.old) (P.shown pages.new) (self.now.tree.height + 1) result }
     {
         match spans.of(id) {

@@ -1,4 +1,5 @@
-ghost use Rattle.std.specs.Prelude.{IfOk};
+ghost use Rattle.std.specs.Prelude.{IfOk, IfSome};
+ghost use Rattle.sand_base.specs.InRange.{IsValueInRange};
 ghost use Rattle.page_pool.specs.Pool.{IsTold};
 ghost use Rattle.code_btree.specs.Tree.{pages_in};
 ghost use Rattle.code_btree.specs.Calls.{Looks};
@@ -41,6 +42,7 @@ pub fn value_at<P: Pages>(
     column: usize,
 ) -> Result<Option<Value>, PageFault>
     ensures value { IfOk result (λ value. IsTold (P.shown pages.old) → IsValueIn schema.now (tuple_at (bytes_of (pages_in (P.shown pages.old) n)) slot) column value) }
+    ensures in_range { IfOk result (λ value. IfSome value IsValueInRange) }
     ensures looks { Looks (P.shown pages.old) (P.shown pages.new) 1 result }
 {
     let page = pages.live_page(n)?;
@@ -59,6 +61,7 @@ pub fn value_within<P: Pages>(
     column: usize,
 ) -> Result<Option<Value>, PageFault>
     ensures value { IfOk result (λ value. IsTold (P.shown pages.old) → IsValueIn schema.now (piece span.length span.start (bytes_of (pages_in (P.shown pages.old) span.page))) column value) }
+    ensures in_range { IfOk result (λ value. IfSome value IsValueInRange) }
     ensures looks { Looks (P.shown pages.old) (P.shown pages.new) 1 result }
 {
     let page = pages.live_page(span.page)?;

@@ -35,9 +35,11 @@ beyond_zero gap far =
 
 -- ---- the beginning
 
-module _ {N : Type 0} {cmp : N → N → Ordering} (o : IsTotalOrder cmp) (m : Meaning N) (laws : MeetsLaws m) (zero : IsWithinZero m) (gap : Frac) (node : N) (root : (node ≡ m.root) × IsSameGap gap (m.gap node)) where
+module _ {N : Type 0} {cmp : N → N → Ordering} (o : IsTotalOrder cmp) (m : Meaning N) (laws : MeetsLaws m) (zero : IsWithinZero m) (gap : Frac) (node : N)
+    (root : (node ≡ m.root) × IsSameGap gap (m.gap node)) where
   -- the root is queued
-  pub begun_near : (below : ℕ) (empty new q : ZeroItems N) → gap.num ≡ 0 → empty ≡ record { nodes = []; roughs = []; rows = []; below = below } → new ≡ record empty { nodes = empty.nodes ++ node ∷ [] } → q ≡ new → Stands cmp m (items_of q) None []
+  pub begun_near : (below : ℕ) (empty new q : ZeroItems N) → gap.num ≡ 0 → empty ≡ record { nodes = []; roughs = []; rows = []; below = below }
+      → new ≡ record empty { nodes = empty.nodes ++ node ∷ [] } → q ≡ new → Stands cmp m (items_of q) None []
   begun_near below empty new q near nothing added is =
       let first : Item N = node_at_zero node in
       let inside : within m.ceiling zero_gap ≡ true = ap (λ c. within c zero_gap) zero.ceiling in

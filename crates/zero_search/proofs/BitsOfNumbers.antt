@@ -1,5 +1,6 @@
 -- Numbers as bits of words: which numbers a list of words has, and what becomes of them where a bit is set or cleared.
-use Rattle.std.proofs.Common.{◌≡◌, ◌≢◌, ℕ, zero, suc, ◌*◌, ◌/◌, ◌%◌, ◌+◌, ◌<◌, ◌≤◌, ◌^◌, min, Bool, true, false, cond, List, [], ◌∷◌, length, get_or, set, replicate, Option, None, Some, MatchOption, IsPermutation, ⊎_elim, refl, sym, ap, ap₂, ◌∙◌, subst, arith, true≢false}
+use Rattle.std.proofs.Common.{◌≡◌, ◌≢◌, ℕ, zero, suc, ◌*◌, ◌/◌, ◌%◌, ◌+◌, ◌<◌, ◌≤◌, ◌^◌, min, Bool, true, false, cond, List, [], ◌∷◌, length, get_or, set, replicate}
+use Rattle.std.proofs.Common.{Option, None, Some, MatchOption, IsPermutation, ⊎_elim, refl, sym, ap, ap₂, ◌∙◌, subst, arith, true≢false}
 use Rattle.std.specs.Prelude.{nat_eq}
 use mir.Val.{bits}
 use Rattle.std.specs.Int.{bit_at, bit_not, w64, trailing_zeros}
@@ -47,7 +48,8 @@ one_more a b x (suc n) l off on others =
     let one = ap (λ c. cond c (n ∷ ys) ys) (subst (λ k. has_bit b k ≡ true) e on) in
     let rest = same_numbers b a n (λ k m. others k (λ q. absurd (omega arith))) in
     permuted (x ∷ cond (has_bit a n) (n ∷ xs) xs) (x ∷ xs) (cond (has_bit b n) (n ∷ ys) ys) (x ∷ xs) (ap (λ l. x ∷ l) none) (one ∙ ap₂ (λ h t. h ∷ t) (sym e) rest) (IsPermutation-refl (x ∷ xs)))
-    (λ ne. subst (λ c. IsPermutation (x ∷ cond (has_bit a n) (n ∷ xs) xs) (cond c (n ∷ ys) ys)) (sym (others n (λ q. ne (sym q)))) (past_one (has_bit a n) x n xs ys (one_more a b x n (omega arith) off on others)))
+    (λ ne. subst (λ c. IsPermutation (x ∷ cond (has_bit a n) (n ∷ xs) xs) (cond c (n ∷ ys) ys)) (sym (others n (λ q. ne (sym q))))
+    (past_one (has_bit a n) x n xs ys (one_more a b x n (omega arith) off on others)))
     (cases_eq x n)
 
 -- where there is no least bit there is none of them
@@ -70,7 +72,8 @@ written words x word bit h is =
     ap (λ w. nat_eq (bit_at w (x % 64)) 1) (get_or-set_same words (x / 64) word 0 h) ∙ ap (λ b. nat_eq b 1) is
 
 -- any other bit stays, where the word written has those of the old one
-others_stay : (words : List ℕ) (x word new k : ℕ) → x / 64 < length words → word ≡ get_or words (x / 64) word → ((i : ℕ) → i < 64 → i ≢ x % 64 → bit_at new i ≡ bit_at word i) → (k ≡ x → ⊥) → has_bit (set words (x / 64) new) k ≡ has_bit words k
+others_stay : (words : List ℕ) (x word new k : ℕ) → x / 64 < length words → word ≡ get_or words (x / 64) word
+    → ((i : ℕ) → i < 64 → i ≢ x % 64 → bit_at new i ≡ bit_at word i) → (k ≡ x → ⊥) → has_bit (set words (x / 64) new) k ≡ has_bit words k
 others_stay words x word new k h read same ne =
     let is = get_or_read words (x / 64) word h read 0 in
     ⊎_elim
@@ -86,7 +89,9 @@ others_stay words x word new k h read same ne =
 pub found_clear : (words : List ℕ) (x word : ℕ) → x / 64 < length words → word ≡ get_or words (x / 64) word → bit_and word (1 * 2 ^ (x % 64) % 2 ^ bits w64) ≡ 0 → has_bit words x ≡ false
 found_clear words x word inside read found =
     let masked : bit_and word (1 * 2 ^ (x % 64) % 2 ^ bits w64) ≡ bit_at word (x % 64) * 2 ^ (x % 64) = ap (bit_and word) (one_shl (x % 64) (bits w64) (omega arith)) ∙ and_pow word (x % 64) in
-    let none : bit_at word (x % 64) ≡ 1 → ⊥ = λ e. (let pos : 0 < 2 ^ (x % 64) = pow_pos (x % 64) in let is : 2 ^ (x % 64) ≡ 0 = sym (one-mul (2 ^ (x % 64))) ∙ ap (λ b. b * 2 ^ (x % 64)) (sym e) ∙ sym masked ∙ found in let no_power : ⊥ = omega arith in no_power) in
+    let none : bit_at word (x % 64) ≡ 1 → ⊥ =
+    λ e. (let pos : 0 < 2 ^ (x % 64) = pow_pos (x % 64) in let is : 2 ^ (x % 64) ≡ 0 = sym (one-mul (2 ^ (x % 64))) ∙ ap (λ b. b * 2 ^ (x % 64)) (sym e) ∙ sym masked
+    ∙ found in let no_power : ⊥ = omega arith in no_power) in
     ap (λ w. nat_eq (bit_at w (x % 64)) 1) (sym (get_or_read words (x / 64) word inside read 0)) ∙ ne_eqb (bit_at word (x % 64)) 1 none
 
 module _ (words : List ℕ) (x word : ℕ) (inside : x / 64 < length words) (read : word ≡ get_or words (x / 64) word) where
@@ -103,14 +108,16 @@ module _ (words : List ℕ) (x word : ℕ) (inside : x / 64 < length words) (rea
   cleared_elsewhere k ne = others_stay words x word (without_bit word x) k inside read (λ i small other. bit_at_clear_other w64 word (x % 64) (omega arith) i small other) ne
 
   -- a number whose bit is set joins the others
-  pub joins : has_bit words x ≡ false → IsPermutation (x ∷ numbers_below words (64 * length words)) (numbers_below (set words (x / 64) (with_bit word x)) (64 * length (set words (x / 64) (with_bit word x))))
+  pub joins : has_bit words x ≡ false → IsPermutation (x ∷ numbers_below words (64 * length words))
+      (numbers_below (set words (x / 64) (with_bit word x)) (64 * length (set words (x / 64) (with_bit word x))))
   joins off =
       let new = set words (x / 64) (with_bit word x) in
       subst (λ n. IsPermutation (x ∷ numbers_below words (64 * length words)) (numbers_below new (64 * n))) (sym (length-set words (x / 64) (with_bit word x)))
       (one_more words new x (64 * length words) (omega arith) off set_there set_elsewhere)
 
   -- a number whose bit is cleared leaves the others
-  pub leaves : has_bit words x ≡ true → IsPermutation (numbers_below words (64 * length words)) (x ∷ numbers_below (set words (x / 64) (without_bit word x)) (64 * length (set words (x / 64) (without_bit word x))))
+  pub leaves : has_bit words x ≡ true → IsPermutation (numbers_below words (64 * length words))
+      (x ∷ numbers_below (set words (x / 64) (without_bit word x)) (64 * length (set words (x / 64) (without_bit word x))))
   leaves on =
       let new = set words (x / 64) (without_bit word x) in
       subst (λ n. IsPermutation (numbers_below words (64 * length words)) (x ∷ numbers_below new (64 * n))) (sym (length-set words (x / 64) (without_bit word x)))
@@ -118,7 +125,8 @@ module _ (words : List ℕ) (x word : ℕ) (inside : x / 64 < length words) (rea
       (one_more new words x (64 * length words) (omega arith) cleared_there on (λ k ne. sym (cleared_elsewhere k ne))))
 
   -- the least bit after one was set
-  pub least_joined : has_bit words x ≡ false → (least : Option ℕ) (n : ℕ) → MatchOption least (HasNoBit words) (IsLeastBit words) → MatchOption least (n ≡ x) (λ m. n ≡ min m x) → IsLeastBit (set words (x / 64) (with_bit word x)) n
+  pub least_joined : has_bit words x ≡ false → (least : Option ℕ) (n : ℕ) → MatchOption least (HasNoBit words) (IsLeastBit words)
+      → MatchOption least (n ≡ x) (λ m. n ≡ min m x) → IsLeastBit (set words (x / 64) (with_bit word x)) n
   least_joined off None n h e = subst (IsLeastBit (set words (x / 64) (with_bit word x))) (sym e) record {
     inside = (let same = length-set words (x / 64) (with_bit word x) in omega arith);
     set = set_there;
@@ -142,7 +150,8 @@ module _ (words : List ℕ) (x word : ℕ) (inside : x / 64 < length words) (rea
 -- ---- the search for the least bit
 
 -- no bit of a word that is 0 is set
-pub none_in_word : (words : List ℕ) (place word : ℕ) → word ≡ get_or words place 0 → word ≡ 0 → ((k : ℕ) → k < 64 * place → has_bit words k ≡ false) → (k : ℕ) → k < 64 * (place + 1) → has_bit words k ≡ false
+pub none_in_word : (words : List ℕ) (place word : ℕ) → word ≡ get_or words place 0 → word ≡ 0 → ((k : ℕ) → k < 64 * place → has_bit words k ≡ false) → (k : ℕ)
+    → k < 64 * (place + 1) → has_bit words k ≡ false
 none_in_word words place word is zeros before k l =
     ⊎_elim
     (λ low. before k low)
@@ -151,7 +160,8 @@ none_in_word words place word is zeros before k l =
     ap (λ w. nat_eq (bit_at w (k % 64)) 1) (ap (λ q. get_or words q 0) here ∙ sym is ∙ zeros) ∙ ap (λ b. nat_eq b 1) (bit_at-zero (k % 64)))
     (cases_lt k (64 * place))
 
-found_at : (words : List ℕ) (place word t : ℕ) → place < length words → word ≡ get_or words place 0 → ((k : ℕ) → k < 64 * place → has_bit words k ≡ false) → t < 64 → bit_at word t ≡ 1 → ((i : ℕ) → i < t → bit_at word i ≡ 0) → IsLeastBit words (place * 64 + t)
+found_at : (words : List ℕ) (place word t : ℕ) → place < length words → word ≡ get_or words place 0 → ((k : ℕ) → k < 64 * place → has_bit words k ≡ false) → t < 64
+    → bit_at word t ≡ 1 → ((i : ℕ) → i < t → bit_at word i ≡ 0) → IsLeastBit words (place * 64 + t)
 found_at words place word t inside is before small one zeros =
     let place_is : (place * 64 + t) / 64 ≡ place = omega arith in
     let bit_is : (place * 64 + t) % 64 ≡ t = omega arith in
@@ -167,7 +177,8 @@ found_at words place word t inside is before small one zeros =
     }
 
 -- the lowest bit of the first word that is not 0 is the least
-pub found : (words : List ℕ) (place word : ℕ) → place < length words → word ≡ get_or words place 0 → ((k : ℕ) → k < 64 * place → has_bit words k ≡ false) → 0 < word → word < 2 ^ 64 → IsLeastBit words (place * 64 + trailing_zeros w64 word)
+pub found : (words : List ℕ) (place word : ℕ) → place < length words → word ≡ get_or words place 0 → ((k : ℕ) → k < 64 * place → has_bit words k ≡ false) → 0 < word
+    → word < 2 ^ 64 → IsLeastBit words (place * 64 + trailing_zeros w64 word)
 found words place word inside is before pos fits =
     let lowest = bit_at-trailing_zeros w64 word pos fits in
     found_at words place word (trailing_zeros w64 word) inside is before lowest.0 lowest.1 lowest.2
@@ -182,7 +193,8 @@ zeros_clear n words is k =
     ∙ ap (λ b. nat_eq b 1) (bit_at-zero (k % 64))
   where
     zero_at : (n k : ℕ) → get_or {A = ℕ} (replicate n 0) k 0 ≡ 0
-    zero_at n k = ⊎_elim (λ in_list. get_or-replicate n k 0 0 in_list) (λ past. get_or_past (replicate n 0) k 0 (let len : length {A = ℕ} (replicate n 0) ≡ n = length-replicate n 0 in omega arith)) (cases_lt k n)
+    zero_at n k = ⊎_elim (λ in_list. get_or-replicate n k 0 0 in_list)
+        (λ past. get_or_past (replicate n 0) k 0 (let len : length {A = ℕ} (replicate n 0) ≡ n = length-replicate n 0 in omega arith)) (cases_lt k n)
 
 -- the words for the numbers below a bound have no bit past the numbers of 32 bits
 pub rounded_up : (count n : ℕ) → count < 4294967296 → n ≡ count / 64 + min 1 (count % 64) → 64 * n ≤ 4294967296

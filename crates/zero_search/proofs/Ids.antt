@@ -1,5 +1,6 @@
 -- Ids as bits of words: what is in the set, and what is left once the least id is taken.
-use Rattle.std.proofs.Common.{◌≡◌, ◌≢◌, ℕ, zero, suc, ◌*◌, ◌/◌, ◌%◌, ◌<◌, ◌≤◌, ◌^◌, Bool, true, false, cond, List, [], ◌∷◌, length, get_or, set, All, Contains, Option, None, Some, MatchOption, ⊎_elim, refl, sym, ap, ◌∙◌, arith, true≢false}
+use Rattle.std.proofs.Common.{◌≡◌, ◌≢◌, ℕ, zero, suc, ◌*◌, ◌/◌, ◌%◌, ◌<◌, ◌≤◌, ◌^◌, Bool, true, false, cond, List, [], ◌∷◌, length, get_or, set, All, Contains, Option}
+use Rattle.std.proofs.Common.{None, Some, MatchOption, ⊎_elim, refl, sym, ap, ◌∙◌, arith, true≢false}
 use Rattle.std.specs.Prelude.{nat_eq}
 use mir.Val.{bits}
 use Rattle.std.specs.Int.{bit_at, w64}
@@ -77,7 +78,8 @@ module _ (words : List ℕ) (id word : ℕ) (inside : id / 64 < length words) (r
       λ k d l. let a = not_less k d l in let b = others k d l in omega arith
 
 -- the least bit is that of the least id
-pub least_id : (words : List ℕ) (least : Option ℕ) → MatchOption least (HasNoBit words) (IsLeastBit words) → MatchOption least (numbers_below words (64 * length words) ≡ []) (λ id. IsLeastOf id (numbers_below words (64 * length words)))
+pub least_id : (words : List ℕ) (least : Option ℕ) → MatchOption least (HasNoBit words) (IsLeastBit words)
+    → MatchOption least (numbers_below words (64 * length words) ≡ []) (λ id. IsLeastOf id (numbers_below words (64 * length words)))
 least_id words None h = none_set words (64 * length words) h
 least_id words (Some id) h =
     let inside : id / 64 < length words = let low = h.inside in omega arith in

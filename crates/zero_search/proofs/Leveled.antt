@@ -1,12 +1,14 @@
 -- Items at the distance 0 in the form in which they are queued: under the gap 0/1, with no right id.
-use Rattle.std.proofs.Common.{◌≡◌, ℕ, ◌*◌, ◌≤◌, Bool, true, false, cond, List, [], ◌∷◌, ◌++◌, map, flat_map, All, Contains, IsPermutation, Some, ⊎_elim, refl, sym, ap, ap₂, ◌∙◌, subst, append_assoc, arith, le-leb, Equal}
+use Rattle.std.proofs.Common.{◌≡◌, ℕ, ◌*◌, ◌≤◌, Bool, true, false, cond, List, [], ◌∷◌, ◌++◌, map, flat_map, All, Contains, IsPermutation, Some, ⊎_elim, refl, sym, ap}
+use Rattle.std.proofs.Common.{ap₂, ◌∙◌, subst, append_assoc, arith, le-leb, Equal}
 use Rattle.std.specs.Prelude.{nat_eq}
 use Rattle.std.specs.List.{AllZip}
 use Rattle.std.specs.Cmp.{nat_cmp_is}
 use Rattle.std.proofs.lemmas.Bool.{eqb-true, eqb-false, lt-leb}
 use Rattle.std.proofs.lemmas.List.{map-append}
 use Rattle.std.proofs.lemmas.List.Elements.{All-head, All-tail, All-append, All-map, All-weaker, Contains-append_left, Contains-append_right}
-use Rattle.std.proofs.lemmas.List.Sorted.{IsPermutation-refl, IsPermutation-sym, IsPermutation-trans, IsPermutation-cons, IsPermutation-map, IsPermutation-append, IsPermutation-append_right, IsPermutation-middle}
+use Rattle.std.proofs.lemmas.List.Sorted.{IsPermutation-refl, IsPermutation-sym, IsPermutation-trans, IsPermutation-cons, IsPermutation-map, IsPermutation-append}
+use Rattle.std.proofs.lemmas.List.Sorted.{IsPermutation-append_right, IsPermutation-middle}
 use Rattle.exact_frac.specs.declared.frac.Frac.{Frac}
 use Rattle.best_first.specs.declared.item.Item.{Item}
 use Rattle.best_first.specs.declared.item.Item.TheVariants.{Node, Rough, Row}
@@ -34,7 +36,12 @@ zero_first gap = let least : 0 * gap.den ≤ gap.num * 1 = omega arith in least
 -- within the distance 0 are the gaps of numerator 0
 pub within_zero : (gap : Frac) → within (Some 0) gap ≡ nat_eq gap.num 0
 within_zero gap =
-    let go : (b : Bool) → nat_eq gap.num 0 ≡ b → within (Some 0) gap ≡ b = elim [ true ↦ λ e. (let is = eqb-true gap.num 0 e in le-leb gap.num (0 * 0 * gap.den) (omega arith)) | false ↦ λ e. (let apart : gap.num ≡ 0 → ⊥ = eqb-false gap.num 0 e in lt-leb gap.num (0 * 0 * gap.den) (omega arith)) ] in
+    let go : (b : Bool) → nat_eq gap.num 0 ≡ b → within (Some 0) gap ≡ b =
+    elim [
+      | true ↦ λ e. (let is = eqb-true gap.num 0 e in le-leb gap.num (0 * 0 * gap.den) (omega arith))
+      | false ↦ λ e.
+          (let apart : gap.num ≡ 0 → ⊥ = eqb-false gap.num 0 e in lt-leb gap.num (0 * 0 * gap.den) (omega arith))
+    ] in
     go (nat_eq gap.num 0) refl
 
 -- ---- items in this form
@@ -69,7 +76,8 @@ level_node (Row gap left right) = refl
 
 leveled_node : {N : Type 0} (item : Item N) → node_of (leveled item) ≡ node_of item
 leveled_node {N} item =
-    let go : (b : Bool) → is_at_zero item ≡ b → node_of (leveled item) ≡ node_of item = elim [ true ↦ λ e. ap node_of (leveled_here item e) ∙ level_node item | false ↦ λ e. ap node_of (leveled_far item e) ] in
+    let go : (b : Bool) → is_at_zero item ≡ b → node_of (leveled item) ≡ node_of item =
+    elim [ true ↦ λ e. ap node_of (leveled_here item e) ∙ level_node item | false ↦ λ e. ap node_of (leveled_far item e) ] in
     go (is_at_zero item) refl
 
 -- the nodes are the same
@@ -85,8 +93,10 @@ kept_level {N} (item ∷ items) =
     let rest = map leveled items in
     let more = kept_level items in
     let go : (b : Bool) → is_at_zero item ≡ b → kept (within (Some 0)) (map leveled (item ∷ items)) ≡ map level (at_zero (item ∷ items)) = elim [
-      | true ↦ λ e. ap (λ i. kept (within (Some 0)) (i ∷ rest)) (leveled_here item e) ∙ filter_here p (level item) rest (level_within item) ∙ ap (λ l. level item ∷ l) more ∙ sym (ap (map level) (filter_here is_at_zero item items e))
-      | false ↦ λ e. ap (λ i. kept (within (Some 0)) (i ∷ rest)) (leveled_far item e) ∙ filter_skips p item rest (within_zero (gap_of item) ∙ e) ∙ more ∙ sym (ap (map level) (filter_skips is_at_zero item items e))
+      | true ↦ λ e. ap (λ i. kept (within (Some 0)) (i ∷ rest)) (leveled_here item e) ∙ filter_here p (level item) rest (level_within item)
+          ∙ ap (λ l. level item ∷ l) more ∙ sym (ap (map level) (filter_here is_at_zero item items e))
+      | false ↦ λ e. ap (λ i. kept (within (Some 0)) (i ∷ rest)) (leveled_far item e) ∙ filter_skips p item rest (within_zero (gap_of item) ∙ e) ∙ more
+          ∙ sym (ap (map level) (filter_skips is_at_zero item items e))
     ] in
     go (is_at_zero item) refl
 
@@ -104,7 +114,8 @@ level_alike (Row g l r) (Row h k s) z one e = (same_trans zero_gap g h (zero_sam
 
 leveled_alike : {N : Type 0} (x y : Item N) → IsSingle y → IsAlike x y → IsAlike (leveled x) y
 leveled_alike {N} x y one h =
-    let go : (b : Bool) → is_at_zero x ≡ b → IsAlike (leveled x) y = elim [ true ↦ λ e. subst (λ i. IsAlike i y) (sym (leveled_here x e)) (level_alike x y e one h) | false ↦ λ e. subst (λ i. IsAlike i y) (sym (leveled_far x e)) h ] in
+    let go : (b : Bool) → is_at_zero x ≡ b → IsAlike (leveled x) y =
+    elim [ true ↦ λ e. subst (λ i. IsAlike i y) (sym (leveled_here x e)) (level_alike x y e one h) | false ↦ λ e. subst (λ i. IsAlike i y) (sym (leveled_far x e)) h ] in
     go (is_at_zero x) refl
 
 -- they stand for the same single objects
@@ -177,7 +188,9 @@ no_nodes f bare [] = refl
 no_nodes f bare (id ∷ ids) = ap₂ (λ a b. a ++ b) (bare id) (no_nodes f bare ids)
 
 -- what was put into the two sets, less what was there before
-pub thins_put : {N : Type 0} (nodes : List N) (rough_ids roughs row_ids rows : List ℕ) (new : ZeroItems N) → IsPermutation nodes new.nodes → PutIn rough_ids roughs new.roughs → PutIn row_ids rows new.rows → Thins (items_of (record { nodes = nodes; roughs = rough_ids ++ roughs; rows = row_ids ++ rows; below = new.below })) (items_of new)
+pub thins_put : {N : Type 0} (nodes : List N) (rough_ids roughs row_ids rows : List ℕ) (new : ZeroItems N) → IsPermutation nodes new.nodes
+    → PutIn rough_ids roughs new.roughs → PutIn row_ids rows new.rows
+    → Thins (items_of (record { nodes = nodes; roughs = rough_ids ++ roughs; rows = row_ids ++ rows; below = new.below })) (items_of new)
 thins_put {N} nodes rough_ids roughs row_ids rows new moved rough row =
     let a : List (Item N) = map node_at_zero new.nodes in
     let b : List (Item N) = map rough_at_zero rough.again in
@@ -196,7 +209,11 @@ thins_put {N} nodes rough_ids roughs row_ids rows new moved rough row =
           (subst (IsPermutation was_rows) (map-append row_at_zero row.again new.rows) (IsPermutation-map row_at_zero (row_ids ++ rows) (row.again ++ new.rows) row.split))))
           (gather a b c d e);
       there = All-append (Contains (a ++ (c ++ e))) b d
-          (All-map (Contains (a ++ (c ++ e))) rough_at_zero rough.again (All-weaker (Contains new.roughs) (λ id. Contains (a ++ (c ++ e)) (rough_at_zero id)) (λ id at. among (rough_at_zero id) (Contains-append_left c e (rough_at_zero id) (in_map rough_at_zero new.roughs id at))) rough.again rough.there))
-          (All-map (Contains (a ++ (c ++ e))) row_at_zero row.again (All-weaker (Contains new.rows) (λ id. Contains (a ++ (c ++ e)) (row_at_zero id)) (λ id at. among (row_at_zero id) (Contains-append_right c e (row_at_zero id) (in_map row_at_zero new.rows id at))) row.again row.there));
+          (All-map (Contains (a ++ (c ++ e))) rough_at_zero rough.again
+          (All-weaker (Contains new.roughs) (λ id. Contains (a ++ (c ++ e)) (rough_at_zero id))
+          (λ id at. among (rough_at_zero id) (Contains-append_left c e (rough_at_zero id) (in_map rough_at_zero new.roughs id at))) rough.again rough.there))
+          (All-map (Contains (a ++ (c ++ e))) row_at_zero row.again
+          (All-weaker (Contains new.rows) (λ id. Contains (a ++ (c ++ e)) (row_at_zero id))
+          (λ id at. among (row_at_zero id) (Contains-append_right c e (row_at_zero id) (in_map row_at_zero new.rows id at))) row.again row.there));
       no_nodes = nodes-append b d ∙ ap₂ (λ x y. x ++ y) (no_nodes rough_at_zero (λ id. refl) rough.again) (no_nodes row_at_zero (λ id. refl) row.again);
     }

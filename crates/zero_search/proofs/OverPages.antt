@@ -12,21 +12,25 @@ use Rattle.zero_search.specs.WithinZero.{StandsWithin}
 
 module _ {N : Type 0} (cmp : N → N → Ordering) (meaning : PageMap → Meaning N) where
   -- a search that stands within the distance 0 stands
-  pub over_within : (pages : Option PageMap) (held : List (Item N)) (last : Option Hit) → IfSome pages (λ p. StandsWithin cmp (meaning p) held last) → IfSome pages (λ p. StandsOver cmp (meaning p) held last)
+  pub over_within : (pages : Option PageMap) (held : List (Item N)) (last : Option Hit) → IfSome pages (λ p. StandsWithin cmp (meaning p) held last)
+      → IfSome pages (λ p. StandsOver cmp (meaning p) held last)
   over_within None held last stands = tt
   over_within (Some p) held last stands = stands.1
 
   -- the hierarchy stays within the distance 0
-  pub within_over : (pages : Option PageMap) (old new : List (Item N)) (last later : Option Hit) → IfSome pages (λ p. StandsWithin cmp (meaning p) old last) → IfSome pages (λ p. StandsOver cmp (meaning p) new later) → IfSome pages (λ p. StandsWithin cmp (meaning p) new later)
+  pub within_over : (pages : Option PageMap) (old new : List (Item N)) (last later : Option Hit) → IfSome pages (λ p. StandsWithin cmp (meaning p) old last)
+      → IfSome pages (λ p. StandsOver cmp (meaning p) new later) → IfSome pages (λ p. StandsWithin cmp (meaning p) new later)
   within_over None old new last later stands h = tt
   within_over (Some p) old new last later stands h = (stands.0, h)
 
   -- a search stands within the distance 0 where it went
-  pub within_goes : (note : Item N → Visit) (pages : Option PageMap) (old new : SearchState N) → IfSome pages (λ p. StandsWithin cmp (meaning p) old.held old.last) → IfSome pages (λ p. Goes cmp (meaning p) note old new) → IfSome pages (λ p. StandsWithin cmp (meaning p) new.held new.last)
+  pub within_goes : (note : Item N → Visit) (pages : Option PageMap) (old new : SearchState N) → IfSome pages (λ p. StandsWithin cmp (meaning p) old.held old.last)
+      → IfSome pages (λ p. Goes cmp (meaning p) note old new) → IfSome pages (λ p. StandsWithin cmp (meaning p) new.held new.last)
   within_goes note pages old new stands goes =
       within_over pages old.held new.held old.last new.last stands (stands_over cmp meaning note pages old new (over_within pages old.held old.last stands) goes)
 
   -- and after a refused step too
-  pub within_cut : (note : Item N → Visit) (pages : Option PageMap) (old new : SearchState N) → IfSome pages (λ p. StandsWithin cmp (meaning p) old.held old.last) → IfSome pages (λ p. Fails cmp (meaning p) note old new) → IfSome pages (λ p. StandsWithin cmp (meaning p) new.held new.last)
+  pub within_cut : (note : Item N → Visit) (pages : Option PageMap) (old new : SearchState N) → IfSome pages (λ p. StandsWithin cmp (meaning p) old.held old.last)
+      → IfSome pages (λ p. Fails cmp (meaning p) note old new) → IfSome pages (λ p. StandsWithin cmp (meaning p) new.held new.last)
   within_cut note pages old new stands fails =
       within_over pages old.held new.held old.last new.last stands (stands_cut cmp meaning note pages old new (over_within pages old.held old.last stands) fails)

@@ -1,11 +1,13 @@
 -- Ids that are put into a set, and items that join what is queued, one after another.
-use Rattle.std.proofs.Common.{◌≡◌, ℕ, ◌<◌, ◌≤◌, Bool, true, false, cond, List, [], ◌∷◌, ◌++◌, length, All, Contains, Option, None, Some, MatchOption, IfSome, IsPermutation, ⊎_elim, refl, sym, ap, ◌∙◌, subst, append_assoc, append-nil, arith}
+use Rattle.std.proofs.Common.{◌≡◌, ℕ, ◌<◌, ◌≤◌, Bool, true, false, cond, List, [], ◌∷◌, ◌++◌, length, All, Contains, Option, None, Some, MatchOption, IfSome}
+use Rattle.std.proofs.Common.{IsPermutation, ⊎_elim, refl, sym, ap, ◌∙◌, subst, append_assoc, append-nil, arith}
 use Rattle.std.specs.Prelude.{nat_eq}
 use Rattle.std.specs.Bool.{MatchBool}
 use Rattle.std.specs.List.{flat_map}
 use Rattle.std.proofs.lemmas.List.Concat.{flat_map-append}
 use Rattle.std.proofs.lemmas.List.Elements.{All-nil, All-cons, All-append, All-weaker, All-contains, Contains-append_right, Contains-append_cases, filter-append}
-use Rattle.std.proofs.lemmas.List.Sorted.{IsPermutation-refl, IsPermutation-sym, IsPermutation-trans, IsPermutation-append_left, IsPermutation-append_right, IsPermutation-append_comm, Contains-permutation}
+use Rattle.std.proofs.lemmas.List.Sorted.{IsPermutation-refl, IsPermutation-sym, IsPermutation-trans, IsPermutation-append_left, IsPermutation-append_right}
+use Rattle.std.proofs.lemmas.List.Sorted.{IsPermutation-append_comm, Contains-permutation}
 use Rattle.exact_frac.specs.declared.frac.Frac.{Frac}
 use Rattle.best_first.specs.Item.{gap_of, nodes_of, node_of}
 use Rattle.best_first.specs.declared.item.Item.{Item}
@@ -63,19 +65,23 @@ pub opens_none : {N : Type 0} (q : ZeroItems N) → Opens q.nodes [] q q
 opens_none q = record { nodes = IsPermutation-refl q.nodes; roughs = puts_none q.roughs; rows = puts_none q.rows; below = refl }
 
 -- one more item is at the distance 0, or it is left out
-one_more : {N : Type 0} {A : Type 0} (f : Item N → List A) (item : Item N) (items : List (Item N)) → flat_map f (at_zero (item ∷ items)) ≡ flat_map f (at_zero (item ∷ [])) ++ flat_map f (at_zero items)
+one_more : {N : Type 0} {A : Type 0} (f : Item N → List A) (item : Item N) (items : List (Item N))
+    → flat_map f (at_zero (item ∷ items)) ≡ flat_map f (at_zero (item ∷ [])) ++ flat_map f (at_zero items)
 one_more f item items = ap (flat_map f) (filter-append is_at_zero (item ∷ []) items) ∙ flat_map-append f (at_zero (item ∷ [])) (at_zero items)
 
 -- the items behind one joined, and then this one
-pub opens_more : {N : Type 0} (rest : List N) (item : Item N) (items : List (Item N)) (old mid new : ZeroItems N) → Opens rest items old mid → Opens mid.nodes (item ∷ []) mid new → Opens rest (item ∷ items) old new
+pub opens_more : {N : Type 0} (rest : List N) (item : Item N) (items : List (Item N)) (old mid new : ZeroItems N) → Opens rest items old mid
+    → Opens mid.nodes (item ∷ []) mid new → Opens rest (item ∷ items) old new
 opens_more rest item items old mid new first second = record {
   nodes = subst (λ l. IsPermutation (l ++ rest) new.nodes) (sym (one_more node_of item items))
       (subst (λ l. IsPermutation l new.nodes) (sym (append_assoc (nodes_of (at_zero (item ∷ []))) (nodes_of (at_zero items)) rest))
       (IsPermutation-trans (nodes_of (at_zero (item ∷ [])) ++ (nodes_of (at_zero items) ++ rest)) (nodes_of (at_zero (item ∷ [])) ++ mid.nodes) new.nodes
       (IsPermutation-append_right (nodes_of (at_zero (item ∷ []))) (nodes_of (at_zero items) ++ rest) mid.nodes first.nodes)
       second.nodes));
-  roughs = subst (λ l. PutIn l old.roughs new.roughs) (sym (one_more rough_id_in item items)) (puts_more (flat_map rough_id_in (at_zero (item ∷ []))) (flat_map rough_id_in (at_zero items)) old.roughs mid.roughs new.roughs first.roughs second.roughs);
-  rows = subst (λ l. PutIn l old.rows new.rows) (sym (one_more row_id_in item items)) (puts_more (flat_map row_id_in (at_zero (item ∷ []))) (flat_map row_id_in (at_zero items)) old.rows mid.rows new.rows first.rows second.rows);
+  roughs = subst (λ l. PutIn l old.roughs new.roughs) (sym (one_more rough_id_in item items))
+      (puts_more (flat_map rough_id_in (at_zero (item ∷ []))) (flat_map rough_id_in (at_zero items)) old.roughs mid.roughs new.roughs first.roughs second.roughs);
+  rows = subst (λ l. PutIn l old.rows new.rows) (sym (one_more row_id_in item items))
+      (puts_more (flat_map row_id_in (at_zero (item ∷ []))) (flat_map row_id_in (at_zero items)) old.rows mid.rows new.rows first.rows second.rows);
   below = second.below ∙ first.below;
 }
 
@@ -83,7 +89,8 @@ opens_more rest item items old mid new first second = record {
 brought : {N : Type 0} {A : Type 0} (f : Item N → List A) (item : Item N) → is_at_zero item ≡ true → flat_map f (at_zero (item ∷ [])) ≡ f item
 brought f item near = ap (λ b. flat_map f (cond b (item ∷ []) [])) near ∙ append-nil (f item)
 
-joins : {N : Type 0} (item : Item N) (old new : ZeroItems N) → (gap_of item).num ≡ 0 → IsPermutation (node_of item ++ old.nodes) new.nodes → PutIn (rough_id_in item) old.roughs new.roughs → PutIn (row_id_in item) old.rows new.rows → new.below ≡ old.below → Opens old.nodes (item ∷ []) old new
+joins : {N : Type 0} (item : Item N) (old new : ZeroItems N) → (gap_of item).num ≡ 0 → IsPermutation (node_of item ++ old.nodes) new.nodes
+    → PutIn (rough_id_in item) old.roughs new.roughs → PutIn (row_id_in item) old.rows new.rows → new.below ≡ old.below → Opens old.nodes (item ∷ []) old new
 joins item old new zero nodes roughs rows below =
     let near : is_at_zero item ≡ true = ap (λ n. nat_eq n 0) zero in
     record {
@@ -94,7 +101,8 @@ joins item old new zero nodes roughs rows below =
     }
 
 -- a node was found
-pub node_joins : {N : Type 0} (item : Item N) (gap : Frac) (node : N) (q : ZeroItems N) (nodes : List N) → item ≡ Node gap node → (gap_of item).num ≡ 0 → nodes ≡ q.nodes ++ node ∷ [] → Opens q.nodes (item ∷ []) q (record q { nodes = nodes })
+pub node_joins : {N : Type 0} (item : Item N) (gap : Frac) (node : N) (q : ZeroItems N) (nodes : List N) → item ≡ Node gap node → (gap_of item).num ≡ 0
+    → nodes ≡ q.nodes ++ node ∷ [] → Opens q.nodes (item ∷ []) q (record q { nodes = nodes })
 node_joins item gap node q nodes is zero adds =
     joins item q (record q { nodes = nodes }) zero
     (subst (λ i. IsPermutation (node_of i ++ q.nodes) nodes) (sym is)
@@ -103,7 +111,8 @@ node_joins item gap node q nodes is zero adds =
     (subst (λ i. PutIn (row_id_in i) q.rows q.rows) (sym is) (puts_none q.rows)) refl
 
 -- a rough object was found
-pub rough_joins : {N : Type 0} (item : Item N) (gap : Frac) (left right : ℕ) (q : ZeroItems N) (roughs : List ℕ) → item ≡ Rough gap left right → (gap_of item).num ≡ 0 → PutIn (left ∷ []) q.roughs roughs → Opens q.nodes (item ∷ []) q (record q { roughs = roughs })
+pub rough_joins : {N : Type 0} (item : Item N) (gap : Frac) (left right : ℕ) (q : ZeroItems N) (roughs : List ℕ) → item ≡ Rough gap left right → (gap_of item).num ≡ 0
+    → PutIn (left ∷ []) q.roughs roughs → Opens q.nodes (item ∷ []) q (record q { roughs = roughs })
 rough_joins item gap left right q roughs is zero puts =
     joins item q (record q { roughs = roughs }) zero
     (subst (λ i. IsPermutation (node_of i ++ q.nodes) q.nodes) (sym is) (IsPermutation-refl q.nodes))
@@ -111,7 +120,8 @@ rough_joins item gap left right q roughs is zero puts =
     (subst (λ i. PutIn (row_id_in i) q.rows q.rows) (sym is) (puts_none q.rows)) refl
 
 -- a row was found
-pub row_joins : {N : Type 0} (item : Item N) (gap : Frac) (left right : ℕ) (q : ZeroItems N) (rows : List ℕ) (below : ℕ) → item ≡ Row gap left right → (gap_of item).num ≡ 0 → below ≡ q.below → PutIn (left ∷ []) q.rows rows → Opens q.nodes (item ∷ []) q (record q { rows = rows; below = below })
+pub row_joins : {N : Type 0} (item : Item N) (gap : Frac) (left right : ℕ) (q : ZeroItems N) (rows : List ℕ) (below : ℕ) → item ≡ Row gap left right
+    → (gap_of item).num ≡ 0 → below ≡ q.below → PutIn (left ∷ []) q.rows rows → Opens q.nodes (item ∷ []) q (record q { rows = rows; below = below })
 row_joins item gap left right q rows below is zero kept puts =
     joins item q (record q { rows = rows; below = below }) zero
     (subst (λ i. IsPermutation (node_of i ++ q.nodes) q.nodes) (sym is) (IsPermutation-refl q.nodes))
@@ -130,11 +140,13 @@ puts_swapped first second old new puts = record {
 }
 
 -- some items joined, and then others
-pub opens_then : {N : Type 0} (rest : List N) (first second : List (Item N)) (old mid new : ZeroItems N) → Opens rest first old mid → Opens mid.nodes second mid new → Opens rest (first ++ second) old new
+pub opens_then : {N : Type 0} (rest : List N) (first second : List (Item N)) (old mid new : ZeroItems N) → Opens rest first old mid → Opens mid.nodes second mid new
+    → Opens rest (first ++ second) old new
 opens_then {N} rest first second old mid new before after = record {
   nodes = subst (λ l. IsPermutation (l ++ rest) new.nodes) (sym (both node_of))
       (IsPermutation-trans ((nodes_of (at_zero first) ++ nodes_of (at_zero second)) ++ rest) ((nodes_of (at_zero second) ++ nodes_of (at_zero first)) ++ rest) new.nodes
-      (IsPermutation-append_left rest (nodes_of (at_zero first) ++ nodes_of (at_zero second)) (nodes_of (at_zero second) ++ nodes_of (at_zero first)) (IsPermutation-append_comm (nodes_of (at_zero first)) (nodes_of (at_zero second))))
+      (IsPermutation-append_left rest (nodes_of (at_zero first) ++ nodes_of (at_zero second)) (nodes_of (at_zero second) ++ nodes_of (at_zero first))
+      (IsPermutation-append_comm (nodes_of (at_zero first)) (nodes_of (at_zero second))))
       (subst (λ l. IsPermutation l new.nodes) (sym (append_assoc (nodes_of (at_zero second)) (nodes_of (at_zero first)) rest))
       (IsPermutation-trans (nodes_of (at_zero second) ++ (nodes_of (at_zero first) ++ rest)) (nodes_of (at_zero second) ++ mid.nodes) new.nodes
       (IsPermutation-append_right (nodes_of (at_zero second)) (nodes_of (at_zero first) ++ rest) mid.nodes before.nodes)
@@ -147,7 +159,8 @@ opens_then {N} rest first second old mid new before after = record {
     both : {A : Type 0} (f : Item N → List A) → flat_map f (at_zero (first ++ second)) ≡ flat_map f (at_zero first) ++ flat_map f (at_zero second)
     both f = ap (flat_map f) (filter-append is_at_zero first second) ∙ flat_map-append f (at_zero first) (at_zero second)
 
-    put : (f : Item N → List ℕ) (was then now : List ℕ) → PutIn (flat_map f (at_zero first)) was then → PutIn (flat_map f (at_zero second)) then now → PutIn (flat_map f (at_zero (first ++ second))) was now
+    put : (f : Item N → List ℕ) (was then now : List ℕ) → PutIn (flat_map f (at_zero first)) was then → PutIn (flat_map f (at_zero second)) then now
+        → PutIn (flat_map f (at_zero (first ++ second))) was now
     put f was then now one other =
         subst (λ l. PutIn l was now) (sym (both f))
         (puts_swapped (flat_map f (at_zero first)) (flat_map f (at_zero second)) was now

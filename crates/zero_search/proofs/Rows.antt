@@ -64,7 +64,8 @@ given_zero {N} cmp id old new (nodes, roughs) gives =
     }
 
 -- the row of the least id is given, under a gap of the parts 0 and 1
-pub given_row : {N : Type 0} (cmp : N → N → Ordering) (id : ℕ) (gap : Frac) (old new : ZeroItems N) → gap.num ≡ 0 → gap.den ≡ 1 → AreRows old → Gives id old new → GivesRow (item_cmp cmp) (record { gap = gap; left = id; right = 0 }) (items_of old) (items_of new)
+pub given_row : {N : Type 0} (cmp : N → N → Ordering) (id : ℕ) (gap : Frac) (old new : ZeroItems N) → gap.num ≡ 0 → gap.den ≡ 1 → AreRows old → Gives id old new
+    → GivesRow (item_cmp cmp) (record { gap = gap; left = id; right = 0 }) (items_of old) (items_of new)
 given_row cmp id gap old new num den rows gives =
     subst (λ g. GivesRow (item_cmp cmp) (record { gap = g; left = id; right = 0 }) (items_of old) (items_of new)) (sym (frac_one gap zero_gap num den))
     (given_zero cmp id old new rows gives)

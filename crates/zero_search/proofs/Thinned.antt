@@ -63,16 +63,20 @@ module _ {N : Type 0} (held new : List (Item N)) (t : Thins held new) where
       let old = roughs_of done ++ roughs_of held in
       let now = roughs_of done ++ roughs_of new in
       let back = λ (r : Item N) (at : Contains (roughs_of new) r). rough_moves new held r (was_queued r) at in
-      let forth = λ (r : Item N) (at : Contains old r). ⊎_elim (Contains-append_left (roughs_of done) (roughs_of new) r) (λ q. Contains-append_right (roughs_of done) (roughs_of new) r (rough_moves held new r (still_queued r) q)) (Contains-append_cases (roughs_of done) (roughs_of held) r at) in
+      let forth = λ (r : Item N) (at : Contains old r). ⊎_elim (Contains-append_left (roughs_of done) (roughs_of new) r)
+      (λ q. Contains-append_right (roughs_of done) (roughs_of new) r (rough_moves held new r (still_queued r) q)) (Contains-append_cases (roughs_of done) (roughs_of held) r at) in
       record {
-        split = IsPermutation-trans (nodes_within m (within m.ceiling)) (nodes_of done ++ pending m held) (nodes_of done ++ pending m new) h.split (IsPermutation-append_right (nodes_of done) (pending m held) (pending m new) (pending_still m));
+        split = IsPermutation-trans (nodes_within m (within m.ceiling)) (nodes_of done ++ pending m held) (nodes_of done ++ pending m new) h.split
+            (IsPermutation-append_right (nodes_of done) (pending m held) (pending m new) (pending_still m));
         gaps = fewer_after (HasGap m) done h.gaps;
-        nearer = All-weaker (λ k. All (λ item. IsAtMost (gap_of k) (gap_of item)) held) (λ k. All (λ item. IsAtMost (gap_of k) (gap_of item)) new) (λ k all. fewer (λ item. IsAtMost (gap_of k) (gap_of item)) all) done h.nearer;
+        nearer = All-weaker (λ k. All (λ item. IsAtMost (gap_of k) (gap_of item)) held) (λ k. All (λ item. IsAtMost (gap_of k) (gap_of item)) new)
+            (λ k all. fewer (λ item. IsAtMost (gap_of k) (gap_of item)) all) done h.nearer;
         after = All-weaker (λ r. All (IsAfter cmp r) held) (λ r. All (IsAfter cmp r) new) (λ r all. fewer (IsAfter cmp r) all) (roughs_of done) h.after;
         listed = All-append (IsListed m done) (roughs_of done) (roughs_of new) (All-left (IsListed m done) (roughs_of done) (roughs_of held) h.listed)
             (All-by (IsListed m done) (roughs_of new) (λ r at. All-contains (IsListed m done) (roughs_of held) r (All-right (IsListed m done) (roughs_of done) (roughs_of held) h.listed) (back r at)));
         whole = All-weaker (λ node. All (HasAlike cmp old) (kept (within m.ceiling) (roughs_of (m.finds node)))) (λ node. All (HasAlike cmp now) (kept (within m.ceiling) (roughs_of (m.finds node))))
-            (λ node all. All-weaker (HasAlike cmp old) (HasAlike cmp now) (λ r a. record { other = a.other; listed = forth a.other a.listed; alike = a.alike }) (kept (within m.ceiling) (roughs_of (m.finds node))) all)
+            (λ node all. All-weaker (HasAlike cmp old) (HasAlike cmp now) (λ r a. record { other = a.other; listed = forth a.other a.listed; alike = a.alike })
+            (kept (within m.ceiling) (roughs_of (m.finds node))) all)
             (nodes_of done) h.whole;
         once = h.once;
         inside = fewer_after (λ item. within m.ceiling (gap_of item) ≡ true) done h.inside;
@@ -91,7 +95,8 @@ module _ {N : Type 0} (held new : List (Item N)) (t : Thins held new) where
       omega arith
 
 -- a search that went on to a frontier goes on to the thinned one
-pub thinned_goes : {N : Type 0} (cmp : N → N → Ordering) (m : Meaning N) (note : Item N → Visit) (old new : SearchState N) (held : List (Item N)) → Goes cmp m note old (record new { held = held }) → Thins held new.held → Goes cmp m note old new
+pub thinned_goes : {N : Type 0} (cmp : N → N → Ordering) (m : Meaning N) (note : Item N → Visit) (old new : SearchState N) (held : List (Item N))
+    → Goes cmp m note old (record new { held = held }) → Thins held new.held → Goes cmp m note old new
 thinned_goes {N} cmp m note old new held goes t done h =
     let makes = goes done h in
     record {

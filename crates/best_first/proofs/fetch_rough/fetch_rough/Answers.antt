@@ -20,7 +20,8 @@ returns-in_err-exact-clause-moves g c =
     err_case _ _ _ c.from_residual.ensures.0
     (refused g.met.H.Node.Ord.total meaning (g.H.Hierarchy.note c.args.hierarchy.now) pages
     (state (g.Q.Queue.held f.queue) f.last f.counts c.args.desk.now) (state (g.Q.Queue.held f.queue) f.last f.counts c.resolve.new.desk) (Rough c.args.gap c.args.left c.args.right) tt
-    c.requires.front refl refl refl c.requires.stands (tries_at pages meaning (g.H.Hierarchy.note c.args.hierarchy.now) c.args.gap c.args.left c.args.right c.args.desk.now c.resolve.new.desk c.in_err-exact.ensures.visits))
+    c.requires.front refl refl refl c.requires.stands
+    (tries_at pages meaning (g.H.Hierarchy.note c.args.hierarchy.now) c.args.gap c.args.left c.args.right c.args.desk.now c.resolve.new.desk c.in_err-exact.ensures.visits))
 
 pub returns-clause-falls : goal.returns-clause-falls
 returns-clause-falls g c =

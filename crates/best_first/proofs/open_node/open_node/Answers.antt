@@ -41,7 +41,8 @@ returns-in_err-reserve-clause-moves g c =
 pub replace_first-requires : goal.replace_first-requires
 replace_first-requires g c =
     let found = c.expand_near.new.found.items in
-    let fewer : length c.keep_within.new.found.items ≤ length found = subst (λ l. length l ≤ length found) (sym c.keep_within.ensures) (filter_short (λ item. within c.ceiling.result (gap_of item)) found) in
+    let fewer : length c.keep_within.new.found.items ≤ length found =
+    subst (λ l. length l ≤ length found) (sym c.keep_within.ensures) (filter_short (λ item. within c.ceiling.result (gap_of item)) found) in
     record { room = omega (arith, fewer, c.in_ok-reserve.ensures.spare, c.len.ensures, c.expand_near.new.found.ok.0) }
 
 pub returns-clause-falls : goal.returns-clause-falls
@@ -53,7 +54,8 @@ returns-clause-falls g c =
     let weight = g.H.Hierarchy.weight c.args.hierarchy.now in
     let x = c.in-Some._opened in
     let first = subst (IsFirst (item_cmp g.H.Node.Ord.cmp) x) c.reserve.ensures.items c.in-Some.ensures.first in
-    let same = subst (λ l. IsPermutation (inside ++ l) (x ∷ new)) c.reserve.ensures.items (subst (λ l. IsPermutation (l ++ g.Q.Queue.held c.reserve.new.self) (x ∷ new)) c.keep_within.ensures c.in-Some.ensures.items) in
+    let same = subst (λ l. IsPermutation (inside ++ l) (x ∷ new)) c.reserve.ensures.items
+    (subst (λ l. IsPermutation (l ++ g.Q.Queue.held c.reserve.new.self) (x ∷ new)) c.keep_within.ensures c.in-Some.ensures.items) in
     let replaced = replaces_first (item_total g.met.H.Node.Ord.total) x inside held new first same in
     let front = popped_node g.met.H.Node.Ord.total g.met.H.Hierarchy.exact c.args.gap c.args.node x held replaced.rest c.requires.front replaced.taken replaced.least in
     let short : length found < 2 ^ 64 = let len = c.expand_near.new.found.ok.0 in let small = c.len.type_inv in let is = c.len.ensures in omega arith in
@@ -71,7 +73,8 @@ returns-clause-moves g c =
     let pages = told_pages c.args.desk.now in
     let x = c.in-Some._opened in
     let first = subst (IsFirst (item_cmp g.H.Node.Ord.cmp) x) c.reserve.ensures.items c.in-Some.ensures.first in
-    let same = subst (λ l. IsPermutation (inside ++ l) (x ∷ new)) c.reserve.ensures.items (subst (λ l. IsPermutation (l ++ g.Q.Queue.held c.reserve.new.self) (x ∷ new)) c.keep_within.ensures c.in-Some.ensures.items) in
+    let same = subst (λ l. IsPermutation (inside ++ l) (x ∷ new)) c.reserve.ensures.items
+    (subst (λ l. IsPermutation (l ++ g.Q.Queue.held c.reserve.new.self) (x ∷ new)) c.keep_within.ensures c.in-Some.ensures.items) in
     let replaced = replaces_first (item_total g.met.H.Node.Ord.total) x inside held new first same in
     let front = popped_node g.met.H.Node.Ord.total g.met.H.Hierarchy.exact c.args.gap c.args.node x held replaced.rest c.requires.front replaced.taken replaced.least in
     opens g.met.H.Node.Ord.total meaning (g.H.Hierarchy.note c.args.hierarchy.now) pages

@@ -9,4 +9,5 @@ returns-then-is_gt g c =
 
 pub returns-then-is_within : goal.returns-then-is_within
 returns-then-is_within g c =
-    row_added c.args.ceiling c.args.rough.now c.args.hit (g.Q.Queue.held c.args.queue.now) (g.Q.Queue.held c.push.new.self) (ap is_gt (sym c.compare.ensures) ∙ sym c.is_gt.ensures ∙ c.if-is_gt.false) (sym c.is_within.ensures ∙ c.if-is_within.true) c.push.ensures.items
+    row_added c.args.ceiling c.args.rough.now c.args.hit (g.Q.Queue.held c.args.queue.now) (g.Q.Queue.held c.push.new.self)
+    (ap is_gt (sym c.compare.ensures) ∙ sym c.is_gt.ensures ∙ c.if-is_gt.false) (sym c.is_within.ensures ∙ c.if-is_within.true) c.push.ensures.items

@@ -18,7 +18,8 @@ steps-init g c =
       falls = omega arith;
       stands = c.requires;
       near = all_over (told_pages c.args.desk.now) (λ p. g.H.Hierarchy.IsNear c.args.hierarchy.now p c.nowhere-near.result) c.nowhere-near.ensures;
-      moves = stays_over g.H.Node.Ord.cmp (g.H.Hierarchy.meaning c.args.hierarchy.now) (g.H.Hierarchy.note c.args.hierarchy.now) (told_pages c.args.desk.now) (state (g.Q.Queue.held f.queue) f.last f.counts c.args.desk.now);
+      moves = stays_over g.H.Node.Ord.cmp (g.H.Hierarchy.meaning c.args.hierarchy.now) (g.H.Hierarchy.note c.args.hierarchy.now) (told_pages c.args.desk.now)
+          (state (g.Q.Queue.held f.queue) f.last f.counts c.args.desk.now);
       still = λ _. (refl, refl);
     }
 
@@ -104,7 +105,8 @@ returns-in-Ok-false-clause-last g c = c.in-Ok-false.ensures.last ∙ c.steps.inv
 pub returns-in-Ok-false-clause-falls : goal.returns-in-Ok-false-clause-falls
 returns-in-Ok-false-clause-falls g c =
     let weight = g.H.Hierarchy.weight c.args.hierarchy.now in
-    let same = subst (λ b. StepFalls (steps weight (g.Q.Queue.held c.steps.frontier.queue)) (steps weight (g.Q.Queue.held c.step.new.frontier.queue)) (Ok b)) c.in-Ok-false.field-0-test c.in-Ok-false.ensures.falls in
+    let same = subst (λ b. StepFalls (steps weight (g.Q.Queue.held c.steps.frontier.queue)) (steps weight (g.Q.Queue.held c.step.new.frontier.queue))
+    (Ok b)) c.in-Ok-false.field-0-test c.in-Ok-false.ensures.falls in
     let before = c.steps.invariant.falls in
     omega arith
 

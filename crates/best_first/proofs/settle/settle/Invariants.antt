@@ -15,7 +15,8 @@ invariant-steps g l = record {
   falls : steps (g.H.Hierarchy.weight l.hierarchy) (g.Q.Queue.held l.frontier.queue) ≤ steps (g.H.Hierarchy.weight l.hierarchy) (g.Q.Queue.held l.fn.frontier.queue);
   stands : IfSome (told_pages l.desk) (λ p. StandsOver g.H.Node.Ord.cmp (g.H.Hierarchy.meaning l.hierarchy p) (g.Q.Queue.held l.frontier.queue) l.frontier.last);
   near : IfSome (told_pages l.desk) (λ p. g.H.Hierarchy.IsNear l.hierarchy p l.near);
-  moves : IfSome (told_pages l.fn.desk) (λ p. Goes g.H.Node.Ord.cmp (g.H.Hierarchy.meaning l.hierarchy p) (g.H.Hierarchy.note l.hierarchy) (state (g.Q.Queue.held l.fn.frontier.queue) l.fn.frontier.last l.fn.frontier.counts l.fn.desk) (state (g.Q.Queue.held l.frontier.queue) l.frontier.last l.frontier.counts l.desk));
+  moves : IfSome (told_pages l.fn.desk) (λ p. Goes g.H.Node.Ord.cmp (g.H.Hierarchy.meaning l.hierarchy p) (g.H.Hierarchy.note l.hierarchy)
+      (state (g.Q.Queue.held l.fn.frontier.queue) l.fn.frontier.last l.fn.frontier.counts l.fn.desk) (state (g.Q.Queue.held l.frontier.queue) l.frontier.last l.frontier.counts l.desk));
   still : IsSettled (item_cmp g.H.Node.Ord.cmp) (g.Q.Queue.held l.fn.frontier.queue) → (l.desk ≡ l.fn.desk) × (g.Q.Queue.held l.frontier.queue ≡ g.Q.Queue.held l.fn.frontier.queue);
 }
 

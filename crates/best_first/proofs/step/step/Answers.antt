@@ -9,12 +9,14 @@ use Rattle.best_first.proofs.step.step.Goals as goal
 pub returns-in-None-clause-moves : goal.returns-in-None-clause-moves
 returns-in-None-clause-moves g c =
     let f = c.args.frontier.now in
-    stays_over g.H.Node.Ord.cmp (g.H.Hierarchy.meaning c.args.hierarchy.now) (g.H.Hierarchy.note c.args.hierarchy.now) (told_pages c.args.desk.now) (state (g.Q.Queue.held f.queue) f.last f.counts c.args.desk.now)
+    stays_over g.H.Node.Ord.cmp (g.H.Hierarchy.meaning c.args.hierarchy.now) (g.H.Hierarchy.note c.args.hierarchy.now) (told_pages c.args.desk.now)
+    (state (g.Q.Queue.held f.queue) f.last f.counts c.args.desk.now)
 
 pub returns-in-Some-Row-clause-moves : goal.returns-in-Some-Row-clause-moves
 returns-in-Some-Row-clause-moves g c =
     let f = c.args.frontier.now in
-    stays_over g.H.Node.Ord.cmp (g.H.Hierarchy.meaning c.args.hierarchy.now) (g.H.Hierarchy.note c.args.hierarchy.now) (told_pages c.args.desk.now) (state (g.Q.Queue.held f.queue) f.last f.counts c.args.desk.now)
+    stays_over g.H.Node.Ord.cmp (g.H.Hierarchy.meaning c.args.hierarchy.now) (g.H.Hierarchy.note c.args.hierarchy.now) (told_pages c.args.desk.now)
+    (state (g.Q.Queue.held f.queue) f.last f.counts c.args.desk.now)
 
 pub returns-in-Some-Row-clause-settles : goal.returns-in-Some-Row-clause-settles
 returns-in-Some-Row-clause-settles g c = (

@@ -16,6 +16,8 @@ equal-smaller g c = let shorter = length_permutation _ _ c.in-Some-pop.ensures.i
 
 pub equal-preserved : goal.equal-preserved
 equal-preserved g c = record {
-  taken = takes_more g.met.T.Ord.total c.args.front.now c.in-Some-peek.item.now c.in-Some-pop._other (g.Q.Queue.held c.args.queue.now) (g.Q.Queue.held c.equal.queue) (g.Q.Queue.held c.pop-in-Some-peek.new.self) c.equal.invariant.taken c.in-Some-peek.ensures (sym (g.met.T.Ord.matches_eq c.args.front.now c.in-Some-peek.item.now) ∙ not-false _ (sym c.ne.ensures ∙ c.if-ne.false)) c.in-Some-pop.ensures.items c.in-Some-pop.ensures.least;
+  taken = takes_more g.met.T.Ord.total c.args.front.now c.in-Some-peek.item.now c.in-Some-pop._other (g.Q.Queue.held c.args.queue.now) (g.Q.Queue.held c.equal.queue)
+      (g.Q.Queue.held c.pop-in-Some-peek.new.self) c.equal.invariant.taken c.in-Some-peek.ensures
+      (sym (g.met.T.Ord.matches_eq c.args.front.now c.in-Some-peek.item.now) ∙ not-false _ (sym c.ne.ensures ∙ c.if-ne.false)) c.in-Some-pop.ensures.items c.in-Some-pop.ensures.least;
   spare = let s = c.in-Some-pop.ensures.spare in let t = c.equal.invariant.spare in omega arith;
 }

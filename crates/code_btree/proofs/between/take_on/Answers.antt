@@ -12,7 +12,8 @@ pub leaves-init : goal.leaves-init
 leaves-init g c = record {
   bound = omega arith;
   peeks = peeks_none (g.P.Pages.shown c.args.pages.now) (c.args.tree.entries - c.args.tree.entries) tt;
-  done = λ told want is. part_begun (pages_in (g.P.Pages.shown c.args.pages.now)) c.args.tree c.args.low c.args.high c.args.first c.args.tree.entries c.args.found.now.items want (g.P.Pages.shown c.args.pages.now).gets is;
+  done = λ told want is. part_begun (pages_in (g.P.Pages.shown c.args.pages.now)) c.args.tree c.args.low c.args.high c.args.first c.args.tree.entries c.args.found.now.items want
+      (g.P.Pages.shown c.args.pages.now).gets is;
 }
 
 pub leaves-preserved : goal.leaves-preserved
@@ -29,7 +30,8 @@ leaves-preserved g c =
           (peeks_on a b d (c.args.tree.entries - c.leaves.left) 1 tt (Ok tt) inv.peeks (peeks_given b d 1 next tt (looks_peeks b d 1 (Ok next) looks)));
       done = λ told want is.
           let W : Store → Type 0 = λ x. IsTakenIn x c.leaves.leaf c.args.low c.args.high c.leaves.found.items c.take_leaf.new.found.items next in
-          part_on (pages_in a) c.args.tree c.args.low c.args.high c.leaves.leaf c.leaves.left next c.args.found.now.items want c.leaves.found.items c.take_leaf.new.found.items a.gets b.gets d.gets (c.requires told) (omega (arith, c.if-leaf-eq0.false))
+          part_on (pages_in a) c.args.tree c.args.low c.args.high c.leaves.leaf c.leaves.left next c.args.found.now.items want c.leaves.found.items c.take_leaf.new.found.items a.gets b.gets d.gets
+          (c.requires told) (omega (arith, c.if-leaf-eq0.false))
           (inv.done told want is) (subst W (same_store b a inv.peeks.read.pages) (c.in_ok-leaf.ensures.value (inv.peeks.read.told ∙ told))) looks.within;
     }
 
@@ -40,7 +42,8 @@ pub returns-then-leaf-eq0-clause-price : goal.returns-then-leaf-eq0-clause-price
 returns-then-leaf-eq0-clause-price g c = λ told want is. part_price _ _ _ _ _ _ _ _ _ _ _ (c.leaves.invariant.done told want is)
 
 pub returns-in_err-leaf-clause-price : goal.returns-in_err-leaf-clause-price
-returns-in_err-leaf-clause-price g c = λ told want is. part_failed _ _ _ _ _ _ _ _ _ _ _ _ (omega (arith, c.if-leaf-eq0.false)) (c.leaves.invariant.done told want is) c.in_err-leaf.ensures.looks.within
+returns-in_err-leaf-clause-price g c = λ told want is. part_failed _ _ _ _ _ _ _ _ _ _ _ _ (omega (arith, c.if-leaf-eq0.false))
+    (c.leaves.invariant.done told want is) c.in_err-leaf.ensures.looks.within
 
 pub returns-clause-value : goal.returns-clause-value
 returns-clause-value g c = λ told want is.

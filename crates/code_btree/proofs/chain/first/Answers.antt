@@ -26,7 +26,8 @@ returns-clause-value g c = λ told.
     let es : List Pair = items_from c.args.key (tree_items m c.args.tree) in
     let moves = seek_moves m c.args.tree c.args.key c.in_ok-given.given (c.requires told) (c.in_ok-given.ensures.value told) in
     let W : Store → Type 0 = λ x. IsGivenIn x c.in_ok-given.given.leaf c.in_ok-given.given.place c.in_ok-next.next in
-    given_on m c.args.tree es c.in_ok-given.given.leaf c.in_ok-given.given.place c.in_ok-next.next (c.requires told) (begins_given m c.args.tree es c.in_ok-given.given c.in_default.is moves) c.in_ok-next.ensures.none
+    given_on m c.args.tree es c.in_ok-given.given.leaf c.in_ok-given.given.place c.in_ok-next.next (c.requires told)
+    (begins_given m c.args.tree es c.in_ok-given.given c.in_default.is moves) c.in_ok-next.ensures.none
     (λ l. subst W same (c.in_ok-next.ensures.value l (c.in_ok-given.ensures.looks.read.told ∙ told)))
 
 pub returns-clause-looks : goal.returns-clause-looks

@@ -25,7 +25,8 @@ insert_under-requires g t c κs within = (omega arith, (within, (opened, (λ tol
         let same : m0 ≡ m = same_store c.read.new.pool c.args.pool.now c.read.ensures.same in
         let l : c.args.level ≡ suc (c.args.level - 1) = omega arith in
         let S : ℕ → Type 0 = λ x. Subtree m x c.args.n in
-        let at = at_page m (c.args.level - 1) c.args.n c.args.key c.read.new.into c.in-Some.count c.place_of-at.result (c.in_ok-read.ensures.value told) (subst S l (c.requires.tree told)) c.in-Some.ensures c.place_of-at.ensures.bound c.place_of-at.ensures.before c.place_of-at.ensures.behind in
+        let at = at_page m (c.args.level - 1) c.args.n c.args.key c.read.new.into c.in-Some.count c.place_of-at.result (c.in_ok-read.ensures.value told)
+        (subst S l (c.requires.tree told)) c.in-Some.ensures c.place_of-at.ensures.bound c.place_of-at.ensures.before c.place_of-at.ensures.behind in
         let C : ℕ → Type 0 = λ x. Subtree m (c.args.level - 1) x in
         let M : Store → Type 0 = λ x. Subtree x (c.args.level - 1) c.child_at-child.result in
         subst M (sym same) (subst C (sym c.child_at-child.ensures) at.descent.child)
@@ -38,7 +39,8 @@ returns-in-Kept-clause-value g t c = λ told.
     let same : m0 ≡ m = same_store c.read.new.pool c.args.pool.now c.read.ensures.same in
     let l : c.args.level ≡ suc (c.args.level - 1) = omega arith in
     let S : ℕ → Type 0 = λ x. Subtree m x c.args.n in
-    let at = at_page m (c.args.level - 1) c.args.n c.args.key c.read.new.into c.in-Some.count c.place_of-at.result (c.in_ok-read.ensures.value told) (subst S l (c.requires.tree told)) c.in-Some.ensures c.place_of-at.ensures.bound c.place_of-at.ensures.before c.place_of-at.ensures.behind in
+    let at = at_page m (c.args.level - 1) c.args.n c.args.key c.read.new.into c.in-Some.count c.place_of-at.result (c.in_ok-read.ensures.value told)
+    (subst S l (c.requires.tree told)) c.in-Some.ensures c.place_of-at.ensures.bound c.place_of-at.ensures.before c.place_of-at.ensures.behind in
     let G : Grown → Type 0 = λ x. InsertsUnder m0 w (c.args.level - 1) c.child_at-child.result c.args.key c.args.value c.in_ok-was.was' x in
     let C : ℕ → Type 0 = λ x. InsertsUnder m0 w (c.args.level - 1) x c.args.key c.args.value c.in_ok-was.was' Kept in
     let i = subst C c.child_at-child.ensures (subst G c.in-Kept.is (c.in_ok-was.ensures.value (c.read.ensures.within.told ∙ told))) in
@@ -47,14 +49,18 @@ returns-in-Kept-clause-value g t c = λ told.
 
 pub returns-in_default-grown-clause-value : goal.returns-in_default-grown-clause-value
 returns-in_default-grown-clause-value g t c = λ told.
-    (split_under (pages_in c.read.new.pool) (pages_in c.args.pool.now) (pages_in c.insert_under.new.pool) (pages_in c.adopt.new.pool) c.args.level c.args.n c.args.key c.args.value c.in-Some.count c.place_of-at.result c.in-Split.up c.in-Split.right c.child_at-child.result c.read.new.into c.in_ok-was.was' c.in_ok-was.below c.in_ok-grown-in-Split.grown
-    (same_store c.read.new.pool c.args.pool.now c.read.ensures.same) (omega arith) (c.in_ok-read.ensures.value told) (c.requires.tree told) c.in-Some.ensures c.place_of-at.ensures.bound c.place_of-at.ensures.before c.place_of-at.ensures.behind
+    (split_under (pages_in c.read.new.pool) (pages_in c.args.pool.now) (pages_in c.insert_under.new.pool)
+    (pages_in c.adopt.new.pool) c.args.level c.args.n c.args.key c.args.value c.in-Some.count c.place_of-at.result c.in-Split.up c.in-Split.right c.child_at-child.result c.read.new.into c.in_ok-was.was' c.in_ok-was.below c.in_ok-grown-in-Split.grown
+    (same_store c.read.new.pool c.args.pool.now c.read.ensures.same) (omega arith) (c.in_ok-read.ensures.value told)
+    (c.requires.tree told) c.in-Some.ensures c.place_of-at.ensures.bound c.place_of-at.ensures.before c.place_of-at.ensures.behind
     c.child_at-child.ensures c.in-Split.is (c.in_ok-was.ensures.value (c.read.ensures.within.told ∙ told)) c.in_ok-grown-in-Split.ensures.value).0
 
 pub returns-in_default-grown-2-clause-value : goal.returns-in_default-grown-2-clause-value
 returns-in_default-grown-2-clause-value g t c = λ told.
-    (split_under (pages_in c.read.new.pool) (pages_in c.args.pool.now) (pages_in c.insert_under.new.pool) (pages_in c.adopt.new.pool) c.args.level c.args.n c.args.key c.args.value c.in-Some.count c.place_of-at.result c.in-Split.up c.in-Split.right c.child_at-child.result c.read.new.into c.in_ok-was.was' c.in_ok-was.below c.in_ok-grown-in-Split.grown
-    (same_store c.read.new.pool c.args.pool.now c.read.ensures.same) (omega arith) (c.in_ok-read.ensures.value told) (c.requires.tree told) c.in-Some.ensures c.place_of-at.ensures.bound c.place_of-at.ensures.before c.place_of-at.ensures.behind
+    (split_under (pages_in c.read.new.pool) (pages_in c.args.pool.now) (pages_in c.insert_under.new.pool)
+    (pages_in c.adopt.new.pool) c.args.level c.args.n c.args.key c.args.value c.in-Some.count c.place_of-at.result c.in-Split.up c.in-Split.right c.child_at-child.result c.read.new.into c.in_ok-was.was' c.in_ok-was.below c.in_ok-grown-in-Split.grown
+    (same_store c.read.new.pool c.args.pool.now c.read.ensures.same) (omega arith) (c.in_ok-read.ensures.value told)
+    (c.requires.tree told) c.in-Some.ensures c.place_of-at.ensures.bound c.place_of-at.ensures.before c.place_of-at.ensures.behind
     c.child_at-child.ensures c.in-Split.is (c.in_ok-was.ensures.value (c.read.ensures.within.told ∙ told)) c.in_ok-grown-in-Split.ensures.value).0
 
 -- the page has a key more, and so may lose one to a leaf that is packed
@@ -63,19 +69,25 @@ pack-requires-clause-tree g t c = λ late. tree (sym c.read.ensures.within.told 
   where
     tree : IsTold c.args.pool.now → Subtree (pages_in c.adopt.new.pool) 1 c.args.n
     tree told =
-        let s = split_under (pages_in c.read.new.pool) (pages_in c.args.pool.now) (pages_in c.insert_under.new.pool) (pages_in c.adopt.new.pool) c.args.level c.args.n c.args.key c.args.value c.in-Some.count c.place_of-at.result c.in-Split.up c.in-Split.right c.child_at-child.result c.read.new.into c.in_ok-was.was' c.in_ok-was.below c.in_ok-grown-in-Split.grown
-        (same_store c.read.new.pool c.args.pool.now c.read.ensures.same) (omega arith) (c.in_ok-read.ensures.value told) (c.requires.tree told) c.in-Some.ensures c.place_of-at.ensures.bound c.place_of-at.ensures.before c.place_of-at.ensures.behind
+        let s = split_under (pages_in c.read.new.pool) (pages_in c.args.pool.now) (pages_in c.insert_under.new.pool)
+        (pages_in c.adopt.new.pool) c.args.level c.args.n c.args.key c.args.value c.in-Some.count c.place_of-at.result c.in-Split.up c.in-Split.right c.child_at-child.result c.read.new.into c.in_ok-was.was' c.in_ok-was.below c.in_ok-grown-in-Split.grown
+        (same_store c.read.new.pool c.args.pool.now c.read.ensures.same) (omega arith) (c.in_ok-read.ensures.value told)
+        (c.requires.tree told) c.in-Some.ensures c.place_of-at.ensures.bound c.place_of-at.ensures.before c.place_of-at.ensures.behind
         c.child_at-child.ensures c.in-Split.is (c.in_ok-was.ensures.value (c.read.ensures.within.told ∙ told)) c.in_ok-grown-in-Split.ensures.value in
         let G : Grown → Type 0 = λ x. InsertsUnder (pages_in c.args.pool.now) (pages_in c.adopt.new.pool) c.args.level c.args.n c.args.key c.args.value c.in_ok-was.was' x in
         let S : ℕ → Type 0 = λ x. Subtree (pages_in c.adopt.new.pool) x c.args.n in
-        subst S c.if-level-eq1.true (put_under (pages_in c.args.pool.now) (pages_in c.adopt.new.pool) c.args.level c.args.n c.args.key c.args.value c.in_ok-was.was' (c.requires.tree told) (subst G c.in-Kept-grown.is s.0))
+        subst S c.if-level-eq1.true (put_under (pages_in c.args.pool.now) (pages_in c.adopt.new.pool) c.args.level c.args.n c.args.key c.args.value c.in_ok-was.was'
+        (c.requires.tree told) (subst G c.in-Kept-grown.is s.0))
 
 pub returns-in_ok-pack-in-Kept-grown-clause-value : goal.returns-in_ok-pack-in-Kept-grown-clause-value
 returns-in_ok-pack-in-Kept-grown-clause-value g t c = λ told.
-    let s = split_under (pages_in c.read.new.pool) (pages_in c.args.pool.now) (pages_in c.insert_under.new.pool) (pages_in c.adopt.new.pool) c.args.level c.args.n c.args.key c.args.value c.in-Some.count c.place_of-at.result c.in-Split.up c.in-Split.right c.child_at-child.result c.read.new.into c.in_ok-was.was' c.in_ok-was.below c.in_ok-grown-in-Split.grown
-    (same_store c.read.new.pool c.args.pool.now c.read.ensures.same) (omega arith) (c.in_ok-read.ensures.value told) (c.requires.tree told) c.in-Some.ensures c.place_of-at.ensures.bound c.place_of-at.ensures.before c.place_of-at.ensures.behind
+    let s = split_under (pages_in c.read.new.pool) (pages_in c.args.pool.now) (pages_in c.insert_under.new.pool)
+    (pages_in c.adopt.new.pool) c.args.level c.args.n c.args.key c.args.value c.in-Some.count c.place_of-at.result c.in-Split.up c.in-Split.right c.child_at-child.result c.read.new.into c.in_ok-was.was' c.in_ok-was.below c.in_ok-grown-in-Split.grown
+    (same_store c.read.new.pool c.args.pool.now c.read.ensures.same) (omega arith) (c.in_ok-read.ensures.value told)
+    (c.requires.tree told) c.in-Some.ensures c.place_of-at.ensures.bound c.place_of-at.ensures.before c.place_of-at.ensures.behind
     c.child_at-child.ensures c.in-Split.is (c.in_ok-was.ensures.value (c.read.ensures.within.told ∙ told)) c.in_ok-grown-in-Split.ensures.value in
     let G : Grown → Type 0 = λ x. InsertsUnder (pages_in c.args.pool.now) (pages_in c.adopt.new.pool) c.args.level c.args.n c.args.key c.args.value c.in_ok-was.was' x in
     let P : ℕ → Type 0 = λ x. Packs (pages_in c.adopt.new.pool) (pages_in c.pack.new.pool) x c.args.n in
-    insert_packed (pages_in c.args.pool.now) (pages_in c.adopt.new.pool) (pages_in c.pack.new.pool) c.args.level c.args.n c.args.key c.args.value c.in_ok-was.was' (c.requires.tree told) (subst G c.in-Kept-grown.is s.0) (s.1 c.in-Kept-grown.is)
+    insert_packed (pages_in c.args.pool.now) (pages_in c.adopt.new.pool) (pages_in c.pack.new.pool) c.args.level c.args.n c.args.key c.args.value c.in_ok-was.was'
+    (c.requires.tree told) (subst G c.in-Kept-grown.is s.0) (s.1 c.in-Kept-grown.is)
     (subst P (sym c.if-level-eq1.true) (c.in_ok-pack-in-Kept-grown.ensures.value (c.adopt.ensures.within.told ∙ (c.insert_under.ensures.within.told ∙ (c.read.ensures.within.told ∙ told)))))

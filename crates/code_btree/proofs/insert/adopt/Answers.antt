@@ -13,5 +13,6 @@ returns-then-count-lt169-clause-value g c = λ l. (
 )
 
 pub returns-clause-value : goal.returns-clause-value
-returns-clause-value g c = λ l. inner_split_done (pages_in c.args.pool.now) (pages_in c.gain.new.pool) (pages_in c.write-2.new.pool) c.args.n c.in_ok-r.r c.cut_inner-up.result.0 c.cut_inner-up.new.page c.cut_inner-up.result.1 _ _ l
+returns-clause-value g c = λ l. inner_split_done (pages_in c.args.pool.now) (pages_in c.gain.new.pool)
+    (pages_in c.write-2.new.pool) c.args.n c.in_ok-r.r c.cut_inner-up.result.0 c.cut_inner-up.new.page c.cut_inner-up.result.1 _ _ l
     c.in_ok-r.ensures.value c.in_ok-write-2.ensures.value c.cut_inner-up.ensures.is.0 c.cut_inner-up.ensures.is.1 c.cut_inner-up.ensures.halves

@@ -14,7 +14,8 @@ returns-then-count-more-clause-halves c = λ p q. halves_inner_at _ _ _ _ _ _ _ 
     (ap (λ (o : Node). keys_of o) c.splice_inner.ensures.value)
     (ap (λ (o : Node). children_of o) c.splice_inner.ensures.value)
     (inners_low c.args.count c.args.more c.args.key c.key_at-up.result c.child_at.result _ _ _ _ c.requires.inner.counted c.requires.inner.children c.requires.right_inner.counted c.requires.right_inner.children c.if-count-more.true c.requires.many c.requires.right_inner.fits
-    (c.key_at-up.ensures ∙ sym (key_is c.args.right.now c.args.more 0 c.requires.right_inner (omega arith))) (c.child_at.ensures ∙ sym (child_is c.args.right.now c.args.more 0 c.requires.right_inner (omega arith))) p q)
+    (c.key_at-up.ensures ∙ sym (key_is c.args.right.now c.args.more 0 c.requires.right_inner (omega arith)))
+    (c.child_at.ensures ∙ sym (child_is c.args.right.now c.args.more 0 c.requires.right_inner (omega arith))) p q)
 
 pub returns-clause-halves : goal.returns-clause-halves
 returns-clause-halves c = λ p q. halves_inner_at _ _ _ _ _ _ _ _ _ _ _ _
@@ -24,4 +25,5 @@ returns-clause-halves c = λ p q. halves_inner_at _ _ _ _ _ _ _ _ _ _ _ _
     (ap (λ (o : Node). keys_of o) c.splice_inner-2.ensures.value ∙ ap (λ (x : List ℕ). x ++ keys_of (node_of c.args.right.now)) c.key_bytes.ensures)
     (ap (λ (o : Node). children_of o) c.splice_inner-2.ensures.value ∙ ap (λ (x : List ℕ). x ++ children_of (node_of c.args.right.now)) c.child_bytes.ensures)
     (inners_high c.args.count c.args.more c.args.key c.key_at-up-2.result c.child_at-2.result _ _ _ _ c.requires.inner.counted c.requires.inner.children c.requires.right_inner.counted c.requires.right_inner.children c.if-count-more.false c.requires.many c.requires.room c.requires.inner.fits
-    (c.key_at-up-2.ensures ∙ sym (key_is c.args.page.now c.args.count (c.args.count - 1) c.requires.inner (omega (arith, p)))) (c.child_at-2.ensures ∙ sym (child_is c.args.page.now c.args.count c.args.count c.requires.inner (omega arith))) p q)
+    (c.key_at-up-2.ensures ∙ sym (key_is c.args.page.now c.args.count (c.args.count - 1) c.requires.inner (omega (arith, p))))
+    (c.child_at-2.ensures ∙ sym (child_is c.args.page.now c.args.count c.args.count c.requires.inner (omega arith))) p q)

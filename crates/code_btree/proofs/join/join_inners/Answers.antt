@@ -17,6 +17,8 @@ returns c =
     let mc = ap (λ (o : Node). children_of o) c.put_child.ensures.value in
     c.splice_inner.ensures.value
     ∙ ap₂ (λ (x y : List ℕ). inner x y)
-    (ap₂ (λ (x y : List ℕ). take (n + 1) x ++ (y ++ drop (n + 1) x)) mk (c.keys_at.ensures.keys c.requires.right_inner) ∙ joined_keys n (k - 0) c.args.key ks js c.requires.inner.counted (omega (arith, c.requires.right_inner.counted)))
+    (ap₂ (λ (x y : List ℕ). take (n + 1) x ++ (y ++ drop (n + 1) x)) mk (c.keys_at.ensures.keys c.requires.right_inner)
+    ∙ joined_keys n (k - 0) c.args.key ks js c.requires.inner.counted (omega (arith, c.requires.right_inner.counted)))
     (ap₂ (λ (x y : List ℕ). take (n + 2) x ++ (y ++ drop (n + 2) x)) mc (c.children_at.ensures.children c.requires.right_inner)
-    ∙ joined_children n k c.child_at.result cs ds c.requires.inner.children c.requires.right_inner.children (c.child_at.ensures ∙ sym (child_is c.args.right.now k 0 c.requires.right_inner (omega arith))))
+    ∙ joined_children n k c.child_at.result cs ds c.requires.inner.children c.requires.right_inner.children
+    (c.child_at.ensures ∙ sym (child_is c.args.right.now k 0 c.requires.right_inner (omega arith))))

@@ -15,6 +15,8 @@ returns c =
     let es : List Pair = entries_of (node_of c.args.page.now) in
     let fs : List Pair = entries_of (node_of c.args.right.now) in
     let part = c.entries_at.ensures.entries c.requires.right_leaf in
-    let row : take c.args.count es ++ (take (c.args.more - 0) (drop 0 fs) ++ drop c.args.count es) ≡ es ++ fs = joined c.args.count (c.args.more - 0) es fs c.requires.leaf.counted (omega (arith, c.requires.right_leaf.counted)) in
+    let row : take c.args.count es ++ (take (c.args.more - 0) (drop 0 fs) ++ drop c.args.count es) ≡ es ++ fs =
+    joined c.args.count (c.args.more - 0) es fs c.requires.leaf.counted (omega (arith, c.requires.right_leaf.counted)) in
     c.set_next.ensures.value
-    ∙ ap₂ (λ (x : List Pair) (y : ℕ). leaf x y) (ap (λ (x : Node). entries_of x) c.splice_entries.ensures.value ∙ (ap (λ (x : List Pair). take c.args.count es ++ (x ++ drop c.args.count es)) part ∙ row)) (c.next_at.ensures c.requires.right_leaf.is_leaf)
+    ∙ ap₂ (λ (x : List Pair) (y : ℕ). leaf x y) (ap (λ (x : Node). entries_of x) c.splice_entries.ensures.value
+    ∙ (ap (λ (x : List Pair). take c.args.count es ++ (x ++ drop c.args.count es)) part ∙ row)) (c.next_at.ensures c.requires.right_leaf.is_leaf)

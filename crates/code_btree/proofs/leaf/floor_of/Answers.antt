@@ -11,4 +11,5 @@ pub returns-then-at-eq0 : goal.returns-then-at-eq0
 returns-then-at-eq0 c = λ is a. floor_none c.args.page.now c.args.count c.rank-at.result c.args.key is a c.rank-at.ensures.bound c.rank-at.ensures.before c.rank-at.ensures.behind c.in_default.ensures c.if-at-eq0.true
 
 pub returns : goal.returns
-returns c = λ is a. ap₂ (λ (x y : ℕ). Some (x, y)) c.entry_key_at.ensures c.entry_value_at.ensures ∙ floor_below c.args.page.now c.args.count c.rank-at.result c.args.key is a c.rank-at.ensures.bound c.rank-at.ensures.before c.rank-at.ensures.behind c.in_default.ensures (omega arith)
+returns c = λ is a. ap₂ (λ (x y : ℕ). Some (x, y)) c.entry_key_at.ensures c.entry_value_at.ensures
+    ∙ floor_below c.args.page.now c.args.count c.rank-at.result c.args.key is a c.rank-at.ensures.bound c.rank-at.ensures.before c.rank-at.ensures.behind c.in_default.ensures (omega arith)

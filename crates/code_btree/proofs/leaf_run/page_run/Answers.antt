@@ -16,4 +16,6 @@ pub invariant_of-result : goal.invariant_of-result
 invariant_of-result c = record { counted = headed c.args.page.now c.from-count.result c.half_at.result (leaf_head c.args.page.now c.requires) c.from-count.ensures c.half_at.ensures }
 
 pub returns-clause-left : goal.returns-clause-left
-returns-clause-left c = λ asc. rank_from c.args.page.now c.from-count.result c.rank-place.result c.args.from (headed c.args.page.now c.from-count.result c.half_at.result (leaf_head c.args.page.now c.requires) c.from-count.ensures c.half_at.ensures) c.rank-place.ensures.bound c.rank-place.ensures.before c.rank-place.ensures.behind asc
+returns-clause-left c = λ asc. rank_from c.args.page.now c.from-count.result c.rank-place.result c.args.from
+    (headed c.args.page.now c.from-count.result c.half_at.result
+    (leaf_head c.args.page.now c.requires) c.from-count.ensures c.half_at.ensures) c.rank-place.ensures.bound c.rank-place.ensures.before c.rank-place.ensures.behind asc

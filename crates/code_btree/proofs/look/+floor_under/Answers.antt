@@ -28,7 +28,8 @@ returns-then-level-eq0-clause-value g t c =
     let m : Store = pages_in (g.P.Pages.shown c.args.pages.now) in
     let S : ℕ → Type 0 = λ x. Subtree m x c.args.n in
     IfOk-weaker c.floor_in_leaf.result _ _
-    (λ found leaf told. floor_in m c.args.n c.args.key found (subst S c.if-level-eq0.true (c.requires told)) (leaf told) ∙ ap (λ (x : ℕ). floor_item c.args.key (items m x c.args.n)) (sym c.if-level-eq0.true))
+    (λ found leaf told. floor_in m c.args.n c.args.key found (subst S c.if-level-eq0.true (c.requires told)) (leaf told)
+    ∙ ap (λ (x : ℕ). floor_item c.args.key (items m x c.args.n)) (sym c.if-level-eq0.true))
     c.floor_in_leaf.ensures.value
 
 pub returns-clause-value : goal.returns-clause-value

@@ -18,7 +18,8 @@ returns-in_default-clause-value g c = λ told.
     let l : c.levels.left ≡ suc (c.levels.left - 1) = omega (arith, c.levels-test.true) in
     let S : ℕ → Type 0 = λ x. Subtree (pages_in a) x c.levels.place in
     let W : Store → Type 0 = λ x. LeadsTo x c.levels.place c.args.key None in
-    let leads : LeadsTo (pages_in b) c.levels.place c.args.key None = record { page = c.in_ok-page.page.now; read = c.in_ok-page.ensures.value.told (inv.peeks.read.told ∙ told); step = c.in_default.ensures } in
+    let leads : LeadsTo (pages_in b) c.levels.place c.args.key None =
+    record { page = c.in_ok-page.page.now; read = c.in_ok-page.ensures.value.told (inv.peeks.read.told ∙ told); step = c.in_default.ensures } in
     absurd (led_none (pages_in a) (c.levels.left - 1) c.levels.place c.args.key (subst S l (inv.tree told)) (subst W (same_store b a inv.peeks.read.pages) leads))
 
 pub levels-preserved : goal.levels-preserved
@@ -34,7 +35,15 @@ levels-preserved g c =
     let leads : IsTold b → LeadsTo (pages_in b) c.levels.place c.args.key (Some child) = λ told. record {
       page = c.in_ok-page.page.now;
       read = c.in_ok-page.ensures.value.told told;
-      step = record { count = c.in-Some.count; at = c.place_of-at.result; is = c.in-Some.ensures; place = c.place_of-at.ensures.bound; before = c.place_of-at.ensures.before; behind = c.place_of-at.ensures.behind; child_is = c.child_at-place.ensures };
+      step = record {
+        count = c.in-Some.count;
+        at = c.place_of-at.result;
+        is = c.in-Some.ensures;
+        place = c.place_of-at.ensures.bound;
+        before = c.place_of-at.ensures.before;
+        behind = c.place_of-at.ensures.behind;
+        child_is = c.child_at-place.ensures;
+      };
     } in
     let down : IsTold a → Led (pages_in a) (c.levels.left - 1) c.levels.place c.args.key child = λ told.
     led (pages_in a) (c.levels.left - 1) c.levels.place c.args.key child (subst S l (inv.tree told)) (subst W (same_store b a inv.peeks.read.pages) (leads (inv.peeks.read.told ∙ told))) in

@@ -12,7 +12,8 @@ invariant-levels g l = record {
   bound : l.left ≤ l.fn.level;
   peeks : Peeks {T = Unit {0}} (g.P.Pages.shown l.fn.pages) (g.P.Pages.shown l.pages) (l.fn.level - l.left) (Ok tt);
   tree : IsTold (g.P.Pages.shown l.fn.pages) → Subtree (pages_in (g.P.Pages.shown l.fn.pages)) l.left l.place;
-  same : IsTold (g.P.Pages.shown l.fn.pages) → find_item l.fn.key (items (pages_in (g.P.Pages.shown l.fn.pages)) l.left l.place) ≡ find_item l.fn.key (items (pages_in (g.P.Pages.shown l.fn.pages)) l.fn.level l.fn.n);
+  same : IsTold (g.P.Pages.shown l.fn.pages) → find_item l.fn.key (items (pages_in (g.P.Pages.shown l.fn.pages)) l.left l.place)
+      ≡ find_item l.fn.key (items (pages_in (g.P.Pages.shown l.fn.pages)) l.fn.level l.fn.n);
 }
 
 abbrev pub decreases-levels : goal.decreases-levels

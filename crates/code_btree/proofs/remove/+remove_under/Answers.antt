@@ -24,7 +24,8 @@ remove_under-requires g t c κs within = (omega arith, (within, (opened, (λ tol
         let same : pages_in c.read.new.pool ≡ m = same_store c.read.new.pool c.args.pool.now c.read.ensures.same in
         let l : c.args.level ≡ suc (c.args.level - 1) = omega arith in
         let S : ℕ → Type 0 = λ x. Subtree m x c.args.n in
-        let at = at_page m (c.args.level - 1) c.args.n c.args.key c.read.new.into c.in-Some.count c.place_of-at.result (c.in_ok-read.ensures.value told) (subst S l (c.requires.tree told)) c.in-Some.ensures c.place_of-at.ensures.bound c.place_of-at.ensures.before c.place_of-at.ensures.behind in
+        let at = at_page m (c.args.level - 1) c.args.n c.args.key c.read.new.into c.in-Some.count c.place_of-at.result (c.in_ok-read.ensures.value told)
+        (subst S l (c.requires.tree told)) c.in-Some.ensures c.place_of-at.ensures.bound c.place_of-at.ensures.before c.place_of-at.ensures.behind in
         let C : ℕ → Type 0 = λ x. Subtree m (c.args.level - 1) x in
         let M : Store → Type 0 = λ x. Subtree x (c.args.level - 1) c.child_at-child.result in
         subst M (sym same) (subst C (sym c.child_at-child.ensures) at.descent.child)
@@ -44,13 +45,15 @@ returns-then-below-clause-value g t c = λ told.
     let same : m0 ≡ m = same_store c.read.new.pool c.args.pool.now c.read.ensures.same in
     let l : c.args.level ≡ suc h = omega arith in
     let S : ℕ → Type 0 = λ x. Subtree m x c.args.n in
-    let at = at_page m h c.args.n c.args.key c.read.new.into c.in-Some.count c.place_of-at.result (c.in_ok-read.ensures.value told) (subst S l (c.requires.tree told)) c.in-Some.ensures c.place_of-at.ensures.bound c.place_of-at.ensures.before c.place_of-at.ensures.behind in
+    let at = at_page m h c.args.n c.args.key c.read.new.into c.in-Some.count c.place_of-at.result (c.in_ok-read.ensures.value told)
+    (subst S l (c.requires.tree told)) c.in-Some.ensures c.place_of-at.ensures.bound c.place_of-at.ensures.before c.place_of-at.ensures.behind in
     let C : ℕ → Type 0 = λ x. RemovesUnder m0 w h x c.args.key c.in_ok-below.below in
     let r = subst C c.child_at-child.ensures (c.in_ok-below.ensures.value (c.read.ensures.within.told ∙ told)) in
     let tk = taken m0 m w h c.args.n c.args.key c.in-Some.count c.place_of-at.result c.read.new.into c.in_ok-below.below same at r in
     let R : ℕ → Type 0 = λ x. RemovesUnder m v x c.args.n c.args.key (record { was = c.in_ok-below.below.was; least = c.passed-least.result; short = c.is_short-short.result }) in
     subst R (sym l) (removed_mended m w v h c.args.n c.args.key c.in-Some.count c.place_of-at.result c.saturating_sub.result c.in_ok-size.size c.read.new.into c.note-noted.new.page c.in_ok-below.below c.passed-least.result c.is_short-short.result at tk c.note-noted.ensures.value c.note-noted.ensures.is
-    c.saturating_sub.ensures (c.in_ok-size.ensures.value (c.in_ok-below.ensures.within.told ∙ (c.read.ensures.within.told ∙ told))) c.is_short-short.ensures c.passed-least.ensures.first c.passed-least.ensures.behind)
+    c.saturating_sub.ensures (c.in_ok-size.ensures.value (c.in_ok-below.ensures.within.told
+    ∙ (c.read.ensures.within.told ∙ told))) c.is_short-short.ensures c.passed-least.ensures.first c.passed-least.ensures.behind)
 
 pub returns-then-noted-clause-value : goal.returns-then-noted-clause-value
 returns-then-noted-clause-value g t c = λ told.
@@ -62,7 +65,8 @@ returns-then-noted-clause-value g t c = λ told.
     let same : m0 ≡ m = same_store c.read.new.pool c.args.pool.now c.read.ensures.same in
     let l : c.args.level ≡ suc h = omega arith in
     let S : ℕ → Type 0 = λ x. Subtree m x c.args.n in
-    let at = at_page m h c.args.n c.args.key c.read.new.into c.in-Some.count c.place_of-at.result (c.in_ok-read.ensures.value told) (subst S l (c.requires.tree told)) c.in-Some.ensures c.place_of-at.ensures.bound c.place_of-at.ensures.before c.place_of-at.ensures.behind in
+    let at = at_page m h c.args.n c.args.key c.read.new.into c.in-Some.count c.place_of-at.result (c.in_ok-read.ensures.value told)
+    (subst S l (c.requires.tree told)) c.in-Some.ensures c.place_of-at.ensures.bound c.place_of-at.ensures.before c.place_of-at.ensures.behind in
     let C : ℕ → Type 0 = λ x. RemovesUnder m0 w h x c.args.key c.in_ok-below.below in
     let r = subst C c.child_at-child.ensures (c.in_ok-below.ensures.value (c.read.ensures.within.told ∙ told)) in
     let tk = taken m0 m w h c.args.n c.args.key c.in-Some.count c.place_of-at.result c.read.new.into c.in_ok-below.below same at r in
@@ -79,7 +83,8 @@ returns-clause-value g t c = λ told.
     let same : m0 ≡ m = same_store c.read.new.pool c.args.pool.now c.read.ensures.same in
     let l : c.args.level ≡ suc h = omega arith in
     let S : ℕ → Type 0 = λ x. Subtree m x c.args.n in
-    let at = at_page m h c.args.n c.args.key c.read.new.into c.in-Some.count c.place_of-at.result (c.in_ok-read.ensures.value told) (subst S l (c.requires.tree told)) c.in-Some.ensures c.place_of-at.ensures.bound c.place_of-at.ensures.before c.place_of-at.ensures.behind in
+    let at = at_page m h c.args.n c.args.key c.read.new.into c.in-Some.count c.place_of-at.result (c.in_ok-read.ensures.value told)
+    (subst S l (c.requires.tree told)) c.in-Some.ensures c.place_of-at.ensures.bound c.place_of-at.ensures.before c.place_of-at.ensures.behind in
     let C : ℕ → Type 0 = λ x. RemovesUnder m0 w h x c.args.key c.in_ok-below.below in
     let r = subst C c.child_at-child.ensures (c.in_ok-below.ensures.value (c.read.ensures.within.told ∙ told)) in
     let tk = taken m0 m w h c.args.n c.args.key c.in-Some.count c.place_of-at.result c.read.new.into c.in_ok-below.below same at r in

@@ -8,4 +8,5 @@ pub returns-then-spot-clause-value : goal.returns-then-spot-clause-value
 returns-then-spot-clause-value g c = λ told.
     let m : Store = pages_in (g.P.Pages.shown c.args.pages.now) in
     let s = c.requires told in
-    given_on m c.args.spot.tree (left_at m c.args.spot) c.args.spot.leaf c.args.spot.place c.in_ok-given.given s.tree (s.place c.if-spot.true) c.in_ok-given.ensures.none (λ l. c.in_ok-given.ensures.value l told)
+    given_on m c.args.spot.tree (left_at m c.args.spot) c.args.spot.leaf c.args.spot.place c.in_ok-given.given s.tree (s.place c.if-spot.true) c.in_ok-given.ensures.none
+    (λ l. c.in_ok-given.ensures.value l told)

@@ -20,6 +20,7 @@ pub lefts-preserved : goal.lefts-preserved
 lefts-preserved c = record {
   added = one_added (row_found c.args.leaf c.args.rights.now) c.args.lefts.now c.lefts.left-index (record { id = 0; rough = rough.Point (record { x = 0; y = 0 }) })
       c.args.found.now.items c.lefts.found.items c.push_row.new.found.items c.lefts-test.true c.lefts.invariant.added c.push_row.ensures.added;
-  room = room_for_others (vec_len c.lefts.found) (vec_capacity c.lefts.found) (vec_len c.push_row.new.found) (vec_capacity c.push_row.new.found) (length c.args.lefts.now) (length c.args.rights.now) c.lefts.left-index
+  room = room_for_others (vec_len c.lefts.found) (vec_capacity c.lefts.found) (vec_len c.push_row.new.found) (vec_capacity c.push_row.new.found)
+      (length c.args.lefts.now) (length c.args.rights.now) c.lefts.left-index
       c.lefts.invariant.room c.push_row.ensures.len c.push_row.ensures.capacity;
 }

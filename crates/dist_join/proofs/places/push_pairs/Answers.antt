@@ -19,6 +19,7 @@ pub lefts-preserved : goal.lefts-preserved
 lefts-preserved c = record {
   added = one_added (squares_found c.args.rights.now) c.args.lefts.now c.lefts.left-index _
       c.args.found.now.items c.lefts.found.items c.push_with.new.found.items c.lefts-test.true c.lefts.invariant.added c.push_with.ensures.added;
-  room = room_for_others (vec_len c.lefts.found) (vec_capacity c.lefts.found) (vec_len c.push_with.new.found) (vec_capacity c.push_with.new.found) (length c.args.lefts.now) (length c.args.rights.now) c.lefts.left-index
+  room = room_for_others (vec_len c.lefts.found) (vec_capacity c.lefts.found) (vec_len c.push_with.new.found) (vec_capacity c.push_with.new.found)
+      (length c.args.lefts.now) (length c.args.rights.now) c.lefts.left-index
       c.lefts.invariant.room c.push_with.ensures.len c.push_with.ensures.capacity;
 }

@@ -14,7 +14,8 @@ returns-in-Some-quadtree-clause-found c = λ pages.
     let kind : List ℕ × Kind = slice_index_or schema at c.index-columns-at.result in
     let spatial : is_spatial kind.1 ≡ true =
     sym (c.if-not-is_spatial.ensures ∙ ap (λ (cs : List (List ℕ × Kind)). is_spatial (slice_index_or cs at c.index-columns-at.result).1) (c.columns.ensures ∙ c.schema.ensures)) in
-    has_column c.args.catalog.now column pages c.in-Some.found.now (c.in-Some.ensures.named pages) at kind (sym c.in-Some-column.ensures.place) (element_at schema at c.index-columns-at.result c.in-Some-column.ensures.inside)
+    has_column c.args.catalog.now column pages c.in-Some.found.now (c.in-Some.ensures.named pages) at kind (sym c.in-Some-column.ensures.place)
+    (element_at schema at c.index-columns-at.result c.in-Some-column.ensures.inside)
     spatial c.in-Some-quadtree.tree.now c.in-Some-quadtree.ensures.tree (c.in-Some.ensures.stands pages)
 
 pub returns-in-None-clause-lacks : goal.returns-in-None-clause-lacks
@@ -25,5 +26,6 @@ returns-in-None-clause-lacks c = λ described pages.
     let kind : List ℕ × Kind = slice_index_or schema at c.index-columns-at.result in
     let spatial : is_spatial kind.1 ≡ true =
     sym (c.if-not-is_spatial.ensures ∙ ap (λ (cs : List (List ℕ × Kind)). is_spatial (slice_index_or cs at c.index-columns-at.result).1) (c.columns.ensures ∙ c.schema.ensures)) in
-    lacks_index c.args.catalog.now column pages c.in-Some.found.now (c.in-Some.ensures.named pages) at kind (sym c.in-Some-column.ensures.place) (element_at schema at c.index-columns-at.result c.in-Some-column.ensures.inside)
+    lacks_index c.args.catalog.now column pages c.in-Some.found.now (c.in-Some.ensures.named pages) at kind (sym c.in-Some-column.ensures.place)
+    (element_at schema at c.index-columns-at.result c.in-Some-column.ensures.inside)
     spatial (c.in-Some.ensures.described described) (c.in-None.ensures.none refl)

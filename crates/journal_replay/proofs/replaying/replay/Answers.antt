@@ -35,7 +35,8 @@ changes-smaller g c =
 pub changes-preserved : goal.changes-preserved
 changes-preserved g c = record {
   reading = c.in_ok-change.ensures.reading c.changes.invariant.reading;
-  so_far = replay_goes_on g.T.Tape.seen c.args.journal.now c.changes.journal c.next.new.self c.args.store.now c.changes.store c.changes.invariant.so_far c.carry_change.new.store (change_value c.in-Some.change)
+  so_far = replay_goes_on g.T.Tape.seen c.args.journal.now c.changes.journal c.next.new.self c.args.store.now c.changes.store c.changes.invariant.so_far c.carry_change.new.store
+      (change_value c.in-Some.change)
       (rw c.in-Some.is at c.in_ok-change.ensures.form) (rw c.in-Some.is at c.in_ok-change.ensures.next) c.in_ok-carry_change.ensures.led;
   read = read_on (g.T.Tape.seen c.args.journal.now.tape) (g.T.Tape.seen c.changes.journal.tape) (g.T.Tape.seen c.next.new.self.tape) c.changes.invariant.read c.next.ensures.read;
   tape = c.in_ok-change.ensures.cause ∙ c.changes.invariant.tape;
@@ -46,8 +47,10 @@ changes-preserved g c = record {
 -- a change that the store doesn't take
 pub returns-in_err-carry_change-clause-bad : goal.returns-in_err-carry_change-clause-bad
 returns-in_err-carry_change-clause-bad g c =
-    passed_on c.from_residual-in_err-carry_change.result c.in_err-carry_change.field-0.0 (IsBadForCause g.T.Tape.seen c.args.journal.now c.next.new.self c.args.store.now) c.from_residual-in_err-carry_change.ensures.1
-    (stopped_by_change g.T.Tape.seen c.args.journal.now c.changes.journal c.next.new.self c.args.store.now c.changes.store c.changes.invariant.so_far (change_value c.in-Some.change) c.in_err-carry_change.field-0.0
+    passed_on c.from_residual-in_err-carry_change.result c.in_err-carry_change.field-0.0
+    (IsBadForCause g.T.Tape.seen c.args.journal.now c.next.new.self c.args.store.now) c.from_residual-in_err-carry_change.ensures.1
+    (stopped_by_change g.T.Tape.seen c.args.journal.now c.changes.journal c.next.new.self c.args.store.now c.changes.store c.changes.invariant.so_far
+    (change_value c.in-Some.change) c.in_err-carry_change.field-0.0
     (rw c.in-Some.is at c.in_ok-change.ensures.form) (rw c.in-Some.is at c.in_ok-change.ensures.next) c.in_err-carry_change.ensures.declined)
 
 -- the limits stay, and whether the disk tells

@@ -10,7 +10,8 @@ use Rattle.journal_replay.proofs.rows.decode_all.Goals as goal
 pub returns-in_default : goal.returns-in_default
 returns-in_default c =
     none_with c.args.schema.now c.args.encodings.now c.rows.bytes-index c.bytes-item.result c.rows-test.true c.bytes-item.is
-    (λ row encoded. none_found c.in_ok-row.field-0 row c.in_default.is (c.in_ok-row.ensures.whole row (subst (λ (b : List ℕ). IsEncodingOf c.args.schema.now row b) (sym c.deref.ensures.value) encoded)))
+    (λ row encoded. none_found c.in_ok-row.field-0 row c.in_default.is
+    (c.in_ok-row.ensures.whole row (subst (λ (b : List ℕ). IsEncodingOf c.args.schema.now row b) (sym c.deref.ensures.value) encoded)))
 
 -- the row that was read is that of the next encoding
 pub rows-preserved : goal.rows-preserved

@@ -20,7 +20,8 @@ rows-init g c =
       faults = refl;
       partners = refl;
       falls = omega arith;
-      passes = begins g.H.Node.Ord.cmp (g.H.Hierarchy.meaning first.hierarchy) (g.H.Hierarchy.note first.hierarchy) c.args.partners.now (state (g.Q.Queue.held first.frontier.queue) first.frontier.last first.frontier.counts c.args.desk.now) (told_pages c.args.desk.now) c.requires.stands;
+      passes = begins g.H.Node.Ord.cmp (g.H.Hierarchy.meaning first.hierarchy) (g.H.Hierarchy.note first.hierarchy) c.args.partners.now
+          (state (g.Q.Queue.held first.frontier.queue) first.frontier.last first.frontier.counts c.args.desk.now) (told_pages c.args.desk.now) c.requires.stands;
     }
 
 -- a row whose left row was given the most partners is passed over
@@ -39,11 +40,13 @@ rows-preserved g c =
     let old = state (g.Q.Queue.held first.frontier.queue) first.frontier.last first.frontier.counts c.args.desk.now in
     let mid = state (g.Q.Queue.held before.frontier.queue) before.frontier.last before.frontier.counts c.rows.desk in
     let new = state (g.Q.Queue.held after.frontier.queue) after.frontier.last after.frontier.counts c.next.new.desk in
-    let call = subst (λ r. IfSome pages (λ p. Calls cmp (meaning first.hierarchy p) (note first.hierarchy) mid new (Ok r))) c.in-Ok-Some.field-0-is (calls cmp meaning note c.args.desk.now c.rows.desk first.hierarchy before.hierarchy mid new (Ok c.in-Ok-Some.field-0) inv.read inv.hierarchy e.row e.stands e.visits) in
+    let call = subst (λ r. IfSome pages (λ p. Calls cmp (meaning first.hierarchy p) (note first.hierarchy) mid new (Ok r))) c.in-Ok-Some.field-0-is
+    (calls cmp meaning note c.args.desk.now c.rows.desk first.hierarchy before.hierarchy mid new (Ok c.in-Ok-Some.field-0) inv.read inv.hierarchy e.row e.stands e.visits) in
     let last : after.frontier.last ≡ Some hit = e.last ∙ ap (λ r. last_after before.frontier.last (Ok r)) c.in-Ok-Some.field-0-is in
     let why = subst (λ s. (c.give.new.self ≡ s) × ((length s.given ≤ hit.left) ⊎ (s.most ≤ given_to s hit.left))) inv.partners c.if-give.ensures in
     let weight = g.H.Hierarchy.weight in
-    let fell = subst (λ r. Falls (steps (weight before.hierarchy) (g.Q.Queue.held before.frontier.queue)) (steps (weight before.hierarchy) (g.Q.Queue.held after.frontier.queue)) (Ok r)) c.in-Ok-Some.field-0-is e.falls in
+    let fell = subst (λ r. Falls (steps (weight before.hierarchy) (g.Q.Queue.held before.frontier.queue))
+    (steps (weight before.hierarchy) (g.Q.Queue.held after.frontier.queue)) (Ok r)) c.in-Ok-Some.field-0-is e.falls in
     let less = subst (λ h. steps (weight h) (g.Q.Queue.held after.frontier.queue) < steps (weight h) (g.Q.Queue.held before.frontier.queue)) inv.hierarchy fell in
     let upto = inv.falls in
     record {
@@ -78,7 +81,8 @@ returns-then-give-clause-rest g c =
     let old = state (g.Q.Queue.held first.frontier.queue) first.frontier.last first.frontier.counts c.args.desk.now in
     let mid = state (g.Q.Queue.held before.frontier.queue) before.frontier.last before.frontier.counts c.rows.desk in
     let new = state (g.Q.Queue.held after.frontier.queue) after.frontier.last after.frontier.counts c.next.new.desk in
-    let call = subst (λ r. IfSome pages (λ p. Calls cmp (meaning first.hierarchy p) (note first.hierarchy) mid new (Ok r))) c.in-Ok-Some.field-0-is (calls cmp meaning note c.args.desk.now c.rows.desk first.hierarchy before.hierarchy mid new (Ok c.in-Ok-Some.field-0) inv.read inv.hierarchy e.row e.stands e.visits) in
+    let call = subst (λ r. IfSome pages (λ p. Calls cmp (meaning first.hierarchy p) (note first.hierarchy) mid new (Ok r))) c.in-Ok-Some.field-0-is
+    (calls cmp meaning note c.args.desk.now c.rows.desk first.hierarchy before.hierarchy mid new (Ok c.in-Ok-Some.field-0) inv.read inv.hierarchy e.row e.stands e.visits) in
     let given = subst (λ s. (given_to s hit.left < s.most) × (hit.left < length s.given) × (c.give.new.self ≡ gives_to hit.left s)) inv.partners c.if-give.ensures in
     let last : after.frontier.last ≡ Some hit = e.last ∙ ap (λ r. last_after before.frontier.last (Ok r)) c.in-Ok-Some.field-0-is in
     subst (λ s. LeavesRest (meaning first.hierarchy) pages old.last c.args.partners.now new.last s (Ok (Some hit))) (sym given.2)
@@ -99,7 +103,8 @@ returns-then-give-clause-stands g c =
     let old = state (g.Q.Queue.held first.frontier.queue) first.frontier.last first.frontier.counts c.args.desk.now in
     let mid = state (g.Q.Queue.held before.frontier.queue) before.frontier.last before.frontier.counts c.rows.desk in
     let new = state (g.Q.Queue.held after.frontier.queue) after.frontier.last after.frontier.counts c.next.new.desk in
-    let call = subst (λ r. IfSome pages (λ p. Calls cmp (meaning first.hierarchy p) (note first.hierarchy) mid new (Ok r))) c.in-Ok-Some.field-0-is (calls cmp meaning note c.args.desk.now c.rows.desk first.hierarchy before.hierarchy mid new (Ok c.in-Ok-Some.field-0) inv.read inv.hierarchy e.row e.stands e.visits) in
+    let call = subst (λ r. IfSome pages (λ p. Calls cmp (meaning first.hierarchy p) (note first.hierarchy) mid new (Ok r))) c.in-Ok-Some.field-0-is
+    (calls cmp meaning note c.args.desk.now c.rows.desk first.hierarchy before.hierarchy mid new (Ok c.in-Ok-Some.field-0) inv.read inv.hierarchy e.row e.stands e.visits) in
     let given = subst (λ s. (given_to s hit.left < s.most) × (hit.left < length s.given) × (c.give.new.self ≡ gives_to hit.left s)) inv.partners c.if-give.ensures in
     let last : after.frontier.last ≡ Some hit = e.last ∙ ap (λ r. last_after before.frontier.last (Ok r)) c.in-Ok-Some.field-0-is in
     subst (λ s. IfSome pages (λ p. KnnStands cmp (meaning first.hierarchy p) new.held new.last s)) (sym given.2)
@@ -120,7 +125,8 @@ returns-then-give-clause-visits g c =
     let old = state (g.Q.Queue.held first.frontier.queue) first.frontier.last first.frontier.counts c.args.desk.now in
     let mid = state (g.Q.Queue.held before.frontier.queue) before.frontier.last before.frontier.counts c.rows.desk in
     let new = state (g.Q.Queue.held after.frontier.queue) after.frontier.last after.frontier.counts c.next.new.desk in
-    let call = subst (λ r. IfSome pages (λ p. Calls cmp (meaning first.hierarchy p) (note first.hierarchy) mid new (Ok r))) c.in-Ok-Some.field-0-is (calls cmp meaning note c.args.desk.now c.rows.desk first.hierarchy before.hierarchy mid new (Ok c.in-Ok-Some.field-0) inv.read inv.hierarchy e.row e.stands e.visits) in
+    let call = subst (λ r. IfSome pages (λ p. Calls cmp (meaning first.hierarchy p) (note first.hierarchy) mid new (Ok r))) c.in-Ok-Some.field-0-is
+    (calls cmp meaning note c.args.desk.now c.rows.desk first.hierarchy before.hierarchy mid new (Ok c.in-Ok-Some.field-0) inv.read inv.hierarchy e.row e.stands e.visits) in
     partner_visits cmp (meaning first.hierarchy) (note first.hierarchy) c.args.partners.now old pages mid new hit inv.passes call
 
 pub returns-then-give-clause-falls : goal.returns-then-give-clause-falls
@@ -131,7 +137,8 @@ returns-then-give-clause-falls g c =
     let before = c.rows.engine in
     let after = c.next.new.self in
     let weight = g.H.Hierarchy.weight in
-    let fell = subst (λ r. Falls (steps (weight before.hierarchy) (g.Q.Queue.held before.frontier.queue)) (steps (weight before.hierarchy) (g.Q.Queue.held after.frontier.queue)) (Ok r)) c.in-Ok-Some.field-0-is e.falls in
+    let fell = subst (λ r. Falls (steps (weight before.hierarchy) (g.Q.Queue.held before.frontier.queue))
+    (steps (weight before.hierarchy) (g.Q.Queue.held after.frontier.queue)) (Ok r)) c.in-Ok-Some.field-0-is e.falls in
     let less = subst (λ h. steps (weight h) (g.Q.Queue.held after.frontier.queue) < steps (weight h) (g.Q.Queue.held before.frontier.queue)) inv.hierarchy fell in
     let upto = inv.falls in
     omega arith
@@ -151,7 +158,8 @@ returns-in-Ok-None-clause-rest g c =
     let old = state (g.Q.Queue.held first.frontier.queue) first.frontier.last first.frontier.counts c.args.desk.now in
     let mid = state (g.Q.Queue.held before.frontier.queue) before.frontier.last before.frontier.counts c.rows.desk in
     let new = state (g.Q.Queue.held after.frontier.queue) after.frontier.last after.frontier.counts c.next.new.desk in
-    let call = subst (λ r. IfSome pages (λ p. Calls cmp (meaning first.hierarchy p) (note first.hierarchy) mid new (Ok r))) c.in-Ok-None.field-0-is (calls cmp meaning note c.args.desk.now c.rows.desk first.hierarchy before.hierarchy mid new (Ok c.in-Ok-None.field-0) inv.read inv.hierarchy e.row e.stands e.visits) in
+    let call = subst (λ r. IfSome pages (λ p. Calls cmp (meaning first.hierarchy p) (note first.hierarchy) mid new (Ok r))) c.in-Ok-None.field-0-is
+    (calls cmp meaning note c.args.desk.now c.rows.desk first.hierarchy before.hierarchy mid new (Ok c.in-Ok-None.field-0) inv.read inv.hierarchy e.row e.stands e.visits) in
     let last : after.frontier.last ≡ before.frontier.last = e.last ∙ ap (λ r. last_after before.frontier.last (Ok r)) c.in-Ok-None.field-0-is in
     subst (λ s. LeavesRest (meaning first.hierarchy) pages old.last c.args.partners.now new.last s (Ok None)) (sym inv.partners)
     (end_left cmp (meaning first.hierarchy) (note first.hierarchy) c.args.partners.now old pages mid new last inv.passes call)
@@ -170,7 +178,8 @@ returns-in-Ok-None-clause-stands g c =
     let old = state (g.Q.Queue.held first.frontier.queue) first.frontier.last first.frontier.counts c.args.desk.now in
     let mid = state (g.Q.Queue.held before.frontier.queue) before.frontier.last before.frontier.counts c.rows.desk in
     let new = state (g.Q.Queue.held after.frontier.queue) after.frontier.last after.frontier.counts c.next.new.desk in
-    let call = subst (λ r. IfSome pages (λ p. Calls cmp (meaning first.hierarchy p) (note first.hierarchy) mid new (Ok r))) c.in-Ok-None.field-0-is (calls cmp meaning note c.args.desk.now c.rows.desk first.hierarchy before.hierarchy mid new (Ok c.in-Ok-None.field-0) inv.read inv.hierarchy e.row e.stands e.visits) in
+    let call = subst (λ r. IfSome pages (λ p. Calls cmp (meaning first.hierarchy p) (note first.hierarchy) mid new (Ok r))) c.in-Ok-None.field-0-is
+    (calls cmp meaning note c.args.desk.now c.rows.desk first.hierarchy before.hierarchy mid new (Ok c.in-Ok-None.field-0) inv.read inv.hierarchy e.row e.stands e.visits) in
     let last : after.frontier.last ≡ before.frontier.last = e.last ∙ ap (λ r. last_after before.frontier.last (Ok r)) c.in-Ok-None.field-0-is in
     subst (λ s. IfSome pages (λ p. KnnStands cmp (meaning first.hierarchy p) new.held new.last s)) (sym inv.partners)
     (still_stands cmp (meaning first.hierarchy) (note first.hierarchy) c.args.partners.now old pages mid new (Ok None) last inv.passes call)
@@ -189,7 +198,8 @@ returns-in-Ok-None-clause-visits g c =
     let old = state (g.Q.Queue.held first.frontier.queue) first.frontier.last first.frontier.counts c.args.desk.now in
     let mid = state (g.Q.Queue.held before.frontier.queue) before.frontier.last before.frontier.counts c.rows.desk in
     let new = state (g.Q.Queue.held after.frontier.queue) after.frontier.last after.frontier.counts c.next.new.desk in
-    let call = subst (λ r. IfSome pages (λ p. Calls cmp (meaning first.hierarchy p) (note first.hierarchy) mid new (Ok r))) c.in-Ok-None.field-0-is (calls cmp meaning note c.args.desk.now c.rows.desk first.hierarchy before.hierarchy mid new (Ok c.in-Ok-None.field-0) inv.read inv.hierarchy e.row e.stands e.visits) in
+    let call = subst (λ r. IfSome pages (λ p. Calls cmp (meaning first.hierarchy p) (note first.hierarchy) mid new (Ok r))) c.in-Ok-None.field-0-is
+    (calls cmp meaning note c.args.desk.now c.rows.desk first.hierarchy before.hierarchy mid new (Ok c.in-Ok-None.field-0) inv.read inv.hierarchy e.row e.stands e.visits) in
     end_noted cmp (meaning first.hierarchy) (note first.hierarchy) c.args.partners.now old pages mid new inv.passes call
 
 -- a refusal

@@ -14,7 +14,8 @@ invariant-rows g l = record {
   partners : l.partners ≡ l.fn.partners;
   falls : steps (g.H.Hierarchy.weight l.fn.engine.hierarchy) (g.Q.Queue.held l.engine.frontier.queue) ≤ steps (g.H.Hierarchy.weight l.fn.engine.hierarchy) (g.Q.Queue.held l.fn.engine.frontier.queue);
   passes : IfSome (told_pages l.fn.desk) (λ p. Passes g.H.Node.Ord.cmp (g.H.Hierarchy.meaning l.fn.engine.hierarchy p) (g.H.Hierarchy.note l.fn.engine.hierarchy) l.fn.partners
-      (state (g.Q.Queue.held l.fn.engine.frontier.queue) l.fn.engine.frontier.last l.fn.engine.frontier.counts l.fn.desk) (state (g.Q.Queue.held l.engine.frontier.queue) l.engine.frontier.last l.engine.frontier.counts l.desk));
+      (state (g.Q.Queue.held l.fn.engine.frontier.queue) l.fn.engine.frontier.last l.fn.engine.frontier.counts l.fn.desk)
+      (state (g.Q.Queue.held l.engine.frontier.queue) l.engine.frontier.last l.engine.frontier.counts l.desk));
 }
 
 -- each row lowers the number of steps

@@ -50,16 +50,21 @@ returns-in-Load-clause-answers g c = λ cs.
     (c.load.ensures.performs cs)
 
 pub returns-in-Create-clause-counts : goal.returns-in-Create-clause-counts
-returns-in-Create-clause-counts g c = counted_alike c.args.store.now.pool c.create.new.store.pool (g.H.Shelf.faults c.args.shelf.now) (g.H.Shelf.faults c.args.shelf.now) c.create.result c.create.ensures.cause refl
+returns-in-Create-clause-counts g c = counted_alike c.args.store.now.pool c.create.new.store.pool (g.H.Shelf.faults c.args.shelf.now)
+    (g.H.Shelf.faults c.args.shelf.now) c.create.result c.create.ensures.cause refl
 
 pub returns-in-Insert-clause-counts : goal.returns-in-Insert-clause-counts
-returns-in-Insert-clause-counts g c = counted_alike c.args.store.now.pool c.insert.new.store.pool (g.H.Shelf.faults c.args.shelf.now) (g.H.Shelf.faults c.args.shelf.now) c.insert.result c.insert.ensures.cause refl
+returns-in-Insert-clause-counts g c = counted_alike c.args.store.now.pool c.insert.new.store.pool (g.H.Shelf.faults c.args.shelf.now)
+    (g.H.Shelf.faults c.args.shelf.now) c.insert.result c.insert.ensures.cause refl
 
 pub returns-in-Delete-clause-counts : goal.returns-in-Delete-clause-counts
-returns-in-Delete-clause-counts g c = counted_alike c.args.store.now.pool c.delete.new.store.pool (g.H.Shelf.faults c.args.shelf.now) (g.H.Shelf.faults c.args.shelf.now) c.delete.result c.delete.ensures.cause refl
+returns-in-Delete-clause-counts g c = counted_alike c.args.store.now.pool c.delete.new.store.pool (g.H.Shelf.faults c.args.shelf.now)
+    (g.H.Shelf.faults c.args.shelf.now) c.delete.result c.delete.ensures.cause refl
 
 pub returns-in-Index-clause-counts : goal.returns-in-Index-clause-counts
-returns-in-Index-clause-counts g c = counted_alike c.args.store.now.pool c.index.new.store.pool (g.H.Shelf.faults c.args.shelf.now) (g.H.Shelf.faults c.args.shelf.now) c.index.result c.index.ensures.cause refl
+returns-in-Index-clause-counts g c = counted_alike c.args.store.now.pool c.index.new.store.pool (g.H.Shelf.faults c.args.shelf.now)
+    (g.H.Shelf.faults c.args.shelf.now) c.index.result c.index.ensures.cause refl
 
 pub returns-in-Rtree-clause-counts : goal.returns-in-Rtree-clause-counts
-returns-in-Rtree-clause-counts g c = counted_alike c.args.store.now.pool c.rtree.new.store.pool (g.H.Shelf.faults c.args.shelf.now) (g.H.Shelf.faults c.args.shelf.now) c.rtree.result c.rtree.ensures.cause refl
+returns-in-Rtree-clause-counts g c = counted_alike c.args.store.now.pool c.rtree.new.store.pool (g.H.Shelf.faults c.args.shelf.now)
+    (g.H.Shelf.faults c.args.shelf.now) c.rtree.result c.rtree.ensures.cause refl

@@ -16,14 +16,19 @@ returns-in-Ok-Some-clause-carried g c = c.carry_statement.ensures.carried c.args
 -- nothing is printed, and all is as it was
 pub returns-in-Ok-None-clause-carried : goal.returns-in-Ok-None-clause-carried
 returns-in-Ok-None-clause-carried g c = λ cs own counted stand.
-    line_of_nothing (while_open c.args.store (g.H.Shelf.files c.args.shelf.now) (g.H.Shelf.faults c.args.shelf.now)) cs (StandOver c.args.store.pool c.args.cursors.now.items) own stand (g.K.Sink.took c.args.out.now)
+    line_of_nothing (while_open c.args.store (g.H.Shelf.files c.args.shelf.now) (g.H.Shelf.faults c.args.shelf.now)) cs
+    (StandOver c.args.store.pool c.args.cursors.now.items) own stand (g.K.Sink.took c.args.out.now)
     c.args.line.now (rw c.in-Ok-None.field-0-is at c.in-Ok-None.ensures.says)
 
 -- the line is refused by what it says, or memory was
 pub returns-in-Err-clause-carried : goal.returns-in-Err-clause-carried
 returns-in-Err-clause-carried g c = λ cs own counted stand.
-    subst (λ (r : Result Bool Failed). LineCarried (Some c.args.line.now) (while_open c.args.store (g.H.Shelf.files c.args.shelf.now) (g.H.Shelf.faults c.args.shelf.now)) (while_open c.args.store (g.H.Shelf.files c.args.shelf.now) (g.H.Shelf.faults c.args.shelf.now)) cs (g.K.Sink.took c.args.out.now) (g.K.Sink.took c.refuse.new.out) r (StandOver c.args.store.pool c.args.cursors.now.items)) c.of_sink.ensures.written
-    (line_of_refusal (while_open c.args.store (g.H.Shelf.files c.args.shelf.now) (g.H.Shelf.faults c.args.shelf.now)) cs (StandOver c.args.store.pool c.args.cursors.now.items) own stand (g.K.Sink.took c.args.out.now) c.args.line.now (g.K.Sink.took c.refuse.new.out) c.in-Err.why c.refuse.result c.in-Err.ensures.refuses c.in-Err.ensures.inside c.refuse.ensures.written c.refuse.ensures.prefix)
+    subst (λ (r : Result Bool Failed). LineCarried (Some c.args.line.now) (while_open c.args.store (g.H.Shelf.files c.args.shelf.now) (g.H.Shelf.faults c.args.shelf.now))
+    (while_open c.args.store (g.H.Shelf.files c.args.shelf.now) (g.H.Shelf.faults c.args.shelf.now)) cs (g.K.Sink.took c.args.out.now)
+    (g.K.Sink.took c.refuse.new.out) r (StandOver c.args.store.pool c.args.cursors.now.items)) c.of_sink.ensures.written
+    (line_of_refusal (while_open c.args.store (g.H.Shelf.files c.args.shelf.now) (g.H.Shelf.faults c.args.shelf.now)) cs
+    (StandOver c.args.store.pool c.args.cursors.now.items) own stand (g.K.Sink.took c.args.out.now) c.args.line.now
+    (g.K.Sink.took c.refuse.new.out) c.in-Err.why c.refuse.result c.in-Err.ensures.refuses c.in-Err.ensures.inside c.refuse.ensures.written c.refuse.ensures.prefix)
 
 -- the journal is as it was
 
@@ -34,7 +39,9 @@ pub returns-in-Err-clause-keeps : goal.returns-in-Err-clause-keeps
 returns-in-Err-clause-keeps g c = keeps_same g.T.Tape.seen c.args.journal.now c.of_sink.result
 
 pub returns-in-Err-clause-untold : goal.returns-in-Err-clause-untold
-returns-in-Err-clause-untold g c = untold_sink (g.K.Sink.took c.args.out.now) (g.K.Sink.took c.refuse.new.out) (moment_of c.args.store (g.H.Shelf.files c.args.shelf.now) (g.H.Shelf.faults c.args.shelf.now)) (moment_of c.args.store (g.H.Shelf.files c.args.shelf.now) (g.H.Shelf.faults c.args.shelf.now)) c.of_sink.result c.of_sink.ensures.sink
+returns-in-Err-clause-untold g c = untold_sink (g.K.Sink.took c.args.out.now) (g.K.Sink.took c.refuse.new.out)
+    (moment_of c.args.store (g.H.Shelf.files c.args.shelf.now) (g.H.Shelf.faults c.args.shelf.now))
+    (moment_of c.args.store (g.H.Shelf.files c.args.shelf.now) (g.H.Shelf.faults c.args.shelf.now)) c.of_sink.result c.of_sink.ensures.sink
 
 pub returns-in-Err-clause-cause : goal.returns-in-Err-clause-cause
 returns-in-Err-clause-cause g c =

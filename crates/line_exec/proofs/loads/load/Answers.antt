@@ -14,17 +14,21 @@ returns-in-Ok-clause-performs g c = λ cs.
     over_shelf (Load c.args.name.now c.args.file.now c.args.header) c.args.store.now c.enter.new.store (g.H.Shelf.files c.args.shelf.now) (g.H.Shelf.files c.rows_to_load.new.shelf)
     (g.H.Shelf.faults c.args.shelf.now) (g.H.Shelf.faults c.rows_to_load.new.shelf) cs (line_of_answer c.enter.result.answer ∷ []) c.rows_to_load.ensures.files c.in-Ok.ensures.cause
     (c.enter.ensures.performs load refl (g.H.Shelf.files c.args.shelf.now) (g.H.Shelf.faults c.args.shelf.now) cs
-    (subst (λ (catalog : CatalogView). InSettings catalog (g.H.Shelf.files c.args.shelf.now) (λ setting state. Yields setting state load c.in-Ok.rows.items)) c.catalog.ensures.catalog c.in-Ok.ensures.yields))
+    (subst (λ (catalog : CatalogView). InSettings catalog (g.H.Shelf.files c.args.shelf.now)
+    (λ setting state. Yields setting state load c.in-Ok.rows.items)) c.catalog.ensures.catalog c.in-Ok.ensures.yields))
 
 pub returns-in-Err-clause-performs : goal.returns-in-Err-clause-performs
 returns-in-Err-clause-performs g c = λ cs.
     let load : LoadOf = record { relation = c.args.name.now; file = c.args.file.now; header = c.args.header } in
     rw c.refused.ensures
-    (refused_early c.args.store.now load cs (g.H.Shelf.files c.args.shelf.now) (g.H.Shelf.files c.rows_to_load.new.shelf) (g.H.Shelf.faults c.args.shelf.now) (g.H.Shelf.faults c.rows_to_load.new.shelf) c.in-Err.why
-    (subst (λ (catalog : CatalogView). InSettings catalog (g.H.Shelf.files c.args.shelf.now) (λ setting state. IsRefusedEarly setting state load c.in-Err.why)) c.catalog.ensures.catalog c.in-Err.ensures.refused)
+    (refused_early c.args.store.now load cs (g.H.Shelf.files c.args.shelf.now) (g.H.Shelf.files c.rows_to_load.new.shelf) (g.H.Shelf.faults c.args.shelf.now)
+    (g.H.Shelf.faults c.rows_to_load.new.shelf) c.in-Err.why
+    (subst (λ (catalog : CatalogView). InSettings catalog (g.H.Shelf.files c.args.shelf.now)
+    (λ setting state. IsRefusedEarly setting state load c.in-Err.why)) c.catalog.ensures.catalog c.in-Err.ensures.refused)
     c.in-Err.ensures.cause c.in-Err.ensures.no_page)
 
 pub returns-in-Ok-clause-follows : goal.returns-in-Ok-clause-follows
 returns-in-Ok-clause-follows g c =
-    follows_over c.args.store.now c.enter.new.store (g.H.Shelf.files c.args.shelf.now) (g.H.Shelf.files c.rows_to_load.new.shelf) (g.H.Shelf.faults c.args.shelf.now) (g.H.Shelf.faults c.rows_to_load.new.shelf)
+    follows_over c.args.store.now c.enter.new.store (g.H.Shelf.files c.args.shelf.now) (g.H.Shelf.files c.rows_to_load.new.shelf) (g.H.Shelf.faults c.args.shelf.now)
+    (g.H.Shelf.faults c.rows_to_load.new.shelf)
     c.rows_to_load.ensures.files c.in-Ok.ensures.cause (c.enter.ensures.follows (g.H.Shelf.files c.args.shelf.now) (g.H.Shelf.faults c.args.shelf.now))

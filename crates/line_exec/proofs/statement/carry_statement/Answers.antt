@@ -20,7 +20,8 @@ use Rattle.line_exec.proofs.statement.carry_statement.Goals as goal
 -- a change: the open cursors stand where they stood, over the maps that their stamps hold
 pub returns-in-Ok-clause-carried : goal.returns-in-Ok-clause-carried
 returns-in-Ok-clause-carried g c = λ line says cs own counted stand.
-    line_of_change line c.args.statement c.args.store c.change.new.store (g.H.Shelf.files c.args.shelf.now) (g.H.Shelf.files c.change.new.shelf) (g.H.Shelf.faults c.args.shelf.now) (g.H.Shelf.faults c.change.new.shelf)
+    line_of_change line c.args.statement c.args.store c.change.new.store (g.H.Shelf.files c.args.shelf.now) (g.H.Shelf.files c.change.new.shelf)
+    (g.H.Shelf.faults c.args.shelf.now) (g.H.Shelf.faults c.change.new.shelf)
     (g.K.Sink.took c.args.out.now) (g.K.Sink.took c.finish_kept.new.out) c.in-Ok.made.answer (sink_result c.finish_kept.result) c.args.cursors.now.items cs says own c.change.ensures.carries stand
     (c.in-Ok.ensures.answers cs) (ok_written _ c.finish_kept.result c.finish_kept.ensures.written) (err_written _ c.finish_kept.result c.finish_kept.ensures.prefix)
 
@@ -40,34 +41,43 @@ read_statement-read-requires-clause-stands g c = subst (λ (s : StoreState). Are
 
 pub returns-in-Err-clause-carried : goal.returns-in-Err-clause-carried
 returns-in-Err-clause-carried g c = λ line says cs own counted stand.
-    subst (λ (r : Result Bool Failed). LineCarried (Some line) (while_open c.args.store (g.H.Shelf.files c.args.shelf.now) (g.H.Shelf.faults c.args.shelf.now)) (while_open c.read_statement-read.result.0 (g.H.Shelf.files c.change.new.shelf) (g.H.Shelf.faults c.change.new.shelf)) cs
+    subst (λ (r : Result Bool Failed). LineCarried (Some line) (while_open c.args.store (g.H.Shelf.files c.args.shelf.now) (g.H.Shelf.faults c.args.shelf.now))
+    (while_open c.read_statement-read.result.0 (g.H.Shelf.files c.change.new.shelf) (g.H.Shelf.faults c.change.new.shelf)) cs
     (g.K.Sink.took c.args.out.now) (g.K.Sink.took c.read_statement-read.new.out) r (StandOver c.read_statement-read.result.0.pool c.read_statement-read.new.cursors.items)) c.of_sink.ensures.written
-    (line_of_reading line c.args.statement c.in-Err.other c.change.new.store c.read_statement-read.result.0 (while_open c.args.store (g.H.Shelf.files c.args.shelf.now) (g.H.Shelf.faults c.args.shelf.now))
+    (line_of_reading line c.args.statement c.in-Err.other c.change.new.store c.read_statement-read.result.0
+    (while_open c.args.store (g.H.Shelf.files c.args.shelf.now) (g.H.Shelf.faults c.args.shelf.now))
     (g.H.Shelf.files c.change.new.shelf) (g.H.Shelf.faults c.change.new.shelf) cs (g.K.Sink.took c.args.out.now) (g.K.Sink.took c.read_statement-read.new.out) c.read_statement-read.result.1
     (StandOver c.read_statement-read.result.0.pool c.read_statement-read.new.cursors.items) says c.in-Err.ensures.returned.0 c.read_statement-read.ensures.catalog
-    (same_moment c.args.store c.change.new.store (g.H.Shelf.files c.args.shelf.now) (g.H.Shelf.files c.change.new.shelf) (g.H.Shelf.faults c.args.shelf.now) (g.H.Shelf.faults c.change.new.shelf) cs c.in-Err.ensures.unchanged c.change.ensures.files c.in-Err.ensures.shelf)
+    (same_moment c.args.store c.change.new.store (g.H.Shelf.files c.args.shelf.now) (g.H.Shelf.files c.change.new.shelf) (g.H.Shelf.faults c.args.shelf.now)
+    (g.H.Shelf.faults c.change.new.shelf) cs c.in-Err.ensures.unchanged c.change.ensures.files c.in-Err.ensures.shelf)
     (c.read_statement-read.ensures.carried cs own counted (subst (λ (s : StoreState). StandOver s.pool c.args.cursors.now.items cs) (sym c.in-Err.ensures.unchanged) stand)))
 
 -- what is read leaves a moment that follows
 pub returns-in-Err-clause-follows : goal.returns-in-Err-clause-follows
 returns-in-Err-clause-follows g c =
-    follows_on (moment_of c.args.store (g.H.Shelf.files c.args.shelf.now) (g.H.Shelf.faults c.args.shelf.now)) (moment_of c.change.new.store (g.H.Shelf.files c.change.new.shelf) (g.H.Shelf.faults c.change.new.shelf))
+    follows_on (moment_of c.args.store (g.H.Shelf.files c.args.shelf.now) (g.H.Shelf.faults c.args.shelf.now))
+    (moment_of c.change.new.store (g.H.Shelf.files c.change.new.shelf) (g.H.Shelf.faults c.change.new.shelf))
     (moment_of c.read_statement-read.result.0 (g.H.Shelf.files c.change.new.shelf) (g.H.Shelf.faults c.change.new.shelf)) c.change.ensures.follows
-    (follows_read c.change.new.store c.read_statement-read.result.0 (g.H.Shelf.files c.change.new.shelf) (g.H.Shelf.faults c.change.new.shelf) c.read_statement-read.ensures.catalog c.read_statement-read.ensures.pages)
+    (follows_read c.change.new.store c.read_statement-read.result.0 (g.H.Shelf.files c.change.new.shelf)
+    (g.H.Shelf.faults c.change.new.shelf) c.read_statement-read.ensures.catalog c.read_statement-read.ensures.pages)
 
 -- the journal, and why the run ends
 
 pub returns-in-Ok-clause-untold : goal.returns-in-Ok-clause-untold
 returns-in-Ok-clause-untold g c =
-    untold_change (g.K.Sink.took c.args.out.now) (g.K.Sink.took c.finish_kept.new.out) c.args.store.pool c.change.new.store.pool (g.H.Shelf.faults c.args.shelf.now) (g.H.Shelf.faults c.change.new.shelf)
-    (moment_of c.args.store (g.H.Shelf.files c.args.shelf.now) (g.H.Shelf.faults c.args.shelf.now)) (moment_of c.change.new.store (g.H.Shelf.files c.change.new.shelf) (g.H.Shelf.faults c.change.new.shelf))
+    untold_change (g.K.Sink.took c.args.out.now) (g.K.Sink.took c.finish_kept.new.out) c.args.store.pool c.change.new.store.pool (g.H.Shelf.faults c.args.shelf.now)
+    (g.H.Shelf.faults c.change.new.shelf)
+    (moment_of c.args.store (g.H.Shelf.files c.args.shelf.now) (g.H.Shelf.faults c.args.shelf.now))
+    (moment_of c.change.new.store (g.H.Shelf.files c.change.new.shelf) (g.H.Shelf.faults c.change.new.shelf))
     c.in-Ok.made.answer c.finish_kept.result c.in-Ok.ensures.counts (λ e. e) (λ e. e) c.finish_kept.ensures.untold
 
 pub returns-in-Err-clause-keeps : goal.returns-in-Err-clause-keeps
 returns-in-Err-clause-keeps g c = keeps_same g.T.Tape.seen c.args.journal.now c.of_sink.result
 
 pub returns-in-Err-clause-untold : goal.returns-in-Err-clause-untold
-returns-in-Err-clause-untold g c = untold_sink (g.K.Sink.took c.args.out.now) (g.K.Sink.took c.read_statement-read.new.out) (moment_of c.args.store (g.H.Shelf.files c.args.shelf.now) (g.H.Shelf.faults c.args.shelf.now)) (moment_of c.read_statement-read.result.0 (g.H.Shelf.files c.change.new.shelf) (g.H.Shelf.faults c.change.new.shelf)) c.of_sink.result c.of_sink.ensures.sink
+returns-in-Err-clause-untold g c = untold_sink (g.K.Sink.took c.args.out.now) (g.K.Sink.took c.read_statement-read.new.out)
+    (moment_of c.args.store (g.H.Shelf.files c.args.shelf.now) (g.H.Shelf.faults c.args.shelf.now))
+    (moment_of c.read_statement-read.result.0 (g.H.Shelf.files c.change.new.shelf) (g.H.Shelf.faults c.change.new.shelf)) c.of_sink.result c.of_sink.ensures.sink
 
 pub returns-in-Err-clause-cause : goal.returns-in-Err-clause-cause
 returns-in-Err-clause-cause g c =

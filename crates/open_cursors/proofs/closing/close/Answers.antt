@@ -17,7 +17,8 @@ use Rattle.open_cursors.proofs.closing.close.Goals as goal
 
 pub returns-in_default-clause-closes : goal.returns-in_default-clause-closes
 returns-in_default-clause-closes g c = λ cs own h.
-    closes_none (AtStamp (λ r. IsAt g.S.RowSource.At g.T.RowStage.Stands g.T.RowStage.closed (λ s. counts_of (g.S.RowSource.seen s)) r)) c.args.store.now.pool.stamps c.args.cursors.now.items cs c.args.name.now
+    closes_none (AtStamp (λ r. IsAt g.S.RowSource.At g.T.RowStage.Stands g.T.RowStage.closed
+    (λ s. counts_of (g.S.RowSource.seen s)) r)) c.args.store.now.pool.stamps c.args.cursors.now.items cs c.args.name.now
     (none_shown c.deref.result.now c.args.cursors.now.items c.as_str.result.now c.args.name.now c.place_of.result c.place_of.ensures c.as_str.ensures c.deref.ensures.value c.in_default.is) h
 
 pub release-requires : goal.release-requires
@@ -31,16 +32,24 @@ release-requires g c = record {
 -- the others stand by the stamps that are left
 pub returns-clause-closes : goal.returns-clause-closes
 returns-clause-closes g c = λ cs own h.
-    closes_so (StandAll (AtStamp (λ r. IsAt g.S.RowSource.At g.T.RowStage.Stands g.T.RowStage.closed (λ s. counts_of (g.S.RowSource.seen s)) r)) c.args.store.now.pool.stamps c.remove-ended.new.self.items) (StandAll (AtStamp (λ r. IsAt g.S.RowSource.At g.T.RowStage.Stands g.T.RowStage.closed (λ s. counts_of (g.S.RowSource.seen s)) r)) c.release.new.self.pool.stamps c.remove-ended.new.self.items) (named cs c.args.name.now) cs c.args.name.now (Ok tt)
-    (stand_let_go (λ r. IsAt g.S.RowSource.At g.T.RowStage.Stands g.T.RowStage.closed (λ s. counts_of (g.S.RowSource.seen s)) r) c.args.store.now.pool c.release.new.self.pool c.args.cursors.now.items c.remove-ended.new.self.items (λ x. same_name x.name c.args.name.now) c.in-Some.at c.remove-ended.result
-    c.remove-ended.ensures.value c.remove-ended.ensures.items c.release.ensures.let_go c.requires.held (first_shown c.deref.result.now c.args.cursors.now.items c.as_str.result.now c.args.name.now c.place_of.result c.in-Some.at c.place_of.ensures c.as_str.ensures c.deref.ensures.value c.in-Some.is))
-    (closes_named (AtStamp (λ r. IsAt g.S.RowSource.At g.T.RowStage.Stands g.T.RowStage.closed (λ s. counts_of (g.S.RowSource.seen s)) r)) c.args.store.now.pool.stamps c.args.cursors.now.items c.remove-ended.new.self.items cs c.args.name.now c.in-Some.at
+    closes_so (StandAll (AtStamp (λ r. IsAt g.S.RowSource.At g.T.RowStage.Stands g.T.RowStage.closed
+    (λ s. counts_of (g.S.RowSource.seen s)) r)) c.args.store.now.pool.stamps c.remove-ended.new.self.items) (StandAll (AtStamp (λ r.
+    IsAt g.S.RowSource.At g.T.RowStage.Stands g.T.RowStage.closed
+    (λ s. counts_of (g.S.RowSource.seen s)) r)) c.release.new.self.pool.stamps c.remove-ended.new.self.items) (named cs c.args.name.now) cs c.args.name.now (Ok tt)
+    (stand_let_go (λ r. IsAt g.S.RowSource.At g.T.RowStage.Stands g.T.RowStage.closed
+    (λ s. counts_of (g.S.RowSource.seen s)) r) c.args.store.now.pool c.release.new.self.pool c.args.cursors.now.items c.remove-ended.new.self.items (λ x.
+    same_name x.name c.args.name.now) c.in-Some.at c.remove-ended.result
+    c.remove-ended.ensures.value c.remove-ended.ensures.items c.release.ensures.let_go c.requires.held
+    (first_shown c.deref.result.now c.args.cursors.now.items c.as_str.result.now c.args.name.now c.place_of.result c.in-Some.at c.place_of.ensures c.as_str.ensures c.deref.ensures.value c.in-Some.is))
+    (closes_named (AtStamp (λ r. IsAt g.S.RowSource.At g.T.RowStage.Stands g.T.RowStage.closed
+    (λ s. counts_of (g.S.RowSource.seen s)) r)) c.args.store.now.pool.stamps c.args.cursors.now.items c.remove-ended.new.self.items cs c.args.name.now c.in-Some.at
     c.remove-ended.ensures.items (first_shown c.deref.result.now c.args.cursors.now.items c.as_str.result.now c.args.name.now c.place_of.result c.in-Some.at c.place_of.ensures c.as_str.ensures c.deref.ensures.value c.in-Some.is) own h)
 
 pub returns-clause-held : goal.returns-clause-held
 returns-clause-held g c =
     held_let_go c.args.store.now.pool c.release.new.self.pool c.args.cursors.now.items c.remove-ended.new.self.items (λ x. same_name x.name c.args.name.now) c.in-Some.at c.remove-ended.result
-    c.remove-ended.ensures.value c.remove-ended.ensures.items c.release.ensures.let_go c.requires.held (first_shown c.deref.result.now c.args.cursors.now.items c.as_str.result.now c.args.name.now c.place_of.result c.in-Some.at c.place_of.ensures c.as_str.ensures c.deref.ensures.value c.in-Some.is)
+    c.remove-ended.ensures.value c.remove-ended.ensures.items c.release.ensures.let_go c.requires.held
+    (first_shown c.deref.result.now c.args.cursors.now.items c.as_str.result.now c.args.name.now c.place_of.result c.in-Some.at c.place_of.ensures c.as_str.ensures c.deref.ensures.value c.in-Some.is)
 
 pub returns-clause-others : goal.returns-clause-others
 returns-clause-others g c = record { catalog = c.release.ensures.catalog; pool = released_alone c.args.store.now.pool c.release.new.self.pool c.remove-ended.result.stamp c.release.ensures.let_go }
@@ -68,7 +77,8 @@ returns-in_default-clause-names g c = λ cs own h.
     let stamps : StampMap = map.empty in
     closes_by_names stamps c.args.cursors.now.items cs c.args.name.now (Err why.UnknownCursor)
     (closes_none Anywhere stamps c.args.cursors.now.items cs c.args.name.now
-    (none_shown c.deref.result.now c.args.cursors.now.items c.as_str.result.now c.args.name.now c.place_of.result c.place_of.ensures c.as_str.ensures c.deref.ensures.value c.in_default.is) (named_stand stamps c.args.cursors.now.items cs h))
+    (none_shown c.deref.result.now c.args.cursors.now.items c.as_str.result.now c.args.name.now c.place_of.result c.place_of.ensures c.as_str.ensures c.deref.ensures.value c.in_default.is)
+    (named_stand stamps c.args.cursors.now.items cs h))
 
 pub returns-clause-names : goal.returns-clause-names
 returns-clause-names g c = λ cs own h.

@@ -22,9 +22,12 @@ print_far-requires g c = record {
 
 pub returns-in-Ok-print_far-clause-written : goal.returns-in-Ok-print_far-clause-written
 returns-in-Ok-print_far-clause-written g c = λ cs.
-    begun_written c.args.catalog.now c.args.count (record { relation = c.as_str-relation.result.now; column = c.as_str-name.result.now }) c.args.column.now (λ i. record { relation = c.as_str-relation.ensures i; column = c.as_str-name.ensures i }) c.args.goal cs
-    c.args.desk.now.pool c.print_far.new.desk.pool c.print_far.ensures.read c.in-Ok.far.search.hierarchy c.in-Ok.far.search.frontier.queue.items c.in-Ok.far.search.frontier.last (c.in-Ok.ensures.begun c.args.desk.now.pool.pages)
-    (g.K.Sink.took c.args.out.now) (g.K.Sink.took c.print_far.new.out) (g.K.Sink.took c.end_with.new.out) c.in-Ok-print_far.end c.in-Ok-print_far.ensures.pages c.in-Ok-print_far.ensures.cause c.in-Ok-print_far.ensures.written
+    begun_written c.args.catalog.now c.args.count (record { relation = c.as_str-relation.result.now; column = c.as_str-name.result.now }) c.args.column.now
+    (λ i. record { relation = c.as_str-relation.ensures i; column = c.as_str-name.ensures i }) c.args.goal cs
+    c.args.desk.now.pool c.print_far.new.desk.pool c.print_far.ensures.read c.in-Ok.far.search.hierarchy c.in-Ok.far.search.frontier.queue.items c.in-Ok.far.search.frontier.last
+    (c.in-Ok.ensures.begun c.args.desk.now.pool.pages)
+    (g.K.Sink.took c.args.out.now) (g.K.Sink.took c.print_far.new.out)
+    (g.K.Sink.took c.end_with.new.out) c.in-Ok-print_far.end c.in-Ok-print_far.ensures.pages c.in-Ok-print_far.ensures.cause c.in-Ok-print_far.ensures.written
     c.end_with.result c.end_with.ensures.written c.end_with.ensures.prefix
 
 pub returns-in-Ok-print_far-clause-cause : goal.returns-in-Ok-print_far-clause-cause
@@ -32,6 +35,8 @@ returns-in-Ok-print_far-clause-cause g c = at_most_one Failed c.args.desk.now.po
 
 pub returns-clause-written : goal.returns-clause-written
 returns-clause-written g c = λ cs.
-    begun_broken c.args.catalog.now c.args.count (record { relation = c.as_str-relation.result.now; column = c.as_str-name.result.now }) c.args.column.now (λ i. record { relation = c.as_str-relation.ensures i; column = c.as_str-name.ensures i }) c.args.goal cs
-    c.args.desk.now.pool c.print_far.new.desk.pool c.print_far.ensures.read c.in-Ok.far.search.hierarchy c.in-Ok.far.search.frontier.queue.items c.in-Ok.far.search.frontier.last (c.in-Ok.ensures.begun c.args.desk.now.pool.pages)
+    begun_broken c.args.catalog.now c.args.count (record { relation = c.as_str-relation.result.now; column = c.as_str-name.result.now }) c.args.column.now
+    (λ i. record { relation = c.as_str-relation.ensures i; column = c.as_str-name.ensures i }) c.args.goal cs
+    c.args.desk.now.pool c.print_far.new.desk.pool c.print_far.ensures.read c.in-Ok.far.search.hierarchy c.in-Ok.far.search.frontier.queue.items c.in-Ok.far.search.frontier.last
+    (c.in-Ok.ensures.begun c.args.desk.now.pool.pages)
     (g.K.Sink.took c.args.out.now) (g.K.Sink.took c.print_far.new.out) c.in-Err-print_far.ensures.broken

@@ -1,4 +1,4 @@
-use Rattle.std.proofs.Common.{◌-◌, ◌≡◌, IfSome}
+use Rattle.std.proofs.Common.{◌-◌, ◌≡◌, ◌≤◌, IfSome}
 use Rattle.page_pool.specs.Reads.{IsRead}
 use Rattle.best_first.specs.Visits.{told_pages}
 use Rattle.far_cursor.specs.FarCursor.{FarStands}
@@ -9,6 +9,7 @@ use Rattle.open_cursors.proofs.farthest.print_far.Given as goal
 -- so many rows were printed, and neither the disk nor the sink failed
 abbrev pub invariant-rows : goal.invariant-rows
 invariant-rows g l = record {
+  few : l.rows ≤ l.count;
   count : l.count ≡ l.fn.count;
   read : IsRead l.fn.desk.pool l.desk.pool;
   faults : l.desk.pool.disk.faults ≡ l.fn.desk.pool.disk.faults;

@@ -13,8 +13,10 @@ use Rattle.open_cursors.proofs.next_rows.next_line.Goals as goal
 
 pub returns-in-Ok-clause-carried : goal.returns-in-Ok-clause-carried
 returns-in-Ok-clause-carried g c =
-    told_carried (AtStamp (λ r. IsAt g.S.RowSource.At g.T.RowStage.Stands g.T.RowStage.closed (λ s. counts_of (g.S.RowSource.seen s)) r)) (told_stamps c.args.store.pool) c.args.cursors.now.items c.print_next-store.new.cursors.items
-    c.args.store.pool c.print_next-store.result.0.pool c.print_next-store.ensures.read c.args.name.now c.args.count (g.K.Sink.took c.args.out.now) (g.K.Sink.took c.print_next-store.new.out) (g.K.Sink.took c.end_with.new.out)
+    told_carried (AtStamp (λ r. IsAt g.S.RowSource.At g.T.RowStage.Stands g.T.RowStage.closed (λ s. counts_of (g.S.RowSource.seen s)) r))
+    (told_stamps c.args.store.pool) c.args.cursors.now.items c.print_next-store.new.cursors.items
+    c.args.store.pool c.print_next-store.result.0.pool c.print_next-store.ensures.read c.args.name.now c.args.count (g.K.Sink.took c.args.out.now)
+    (g.K.Sink.took c.print_next-store.new.out) (g.K.Sink.took c.end_with.new.out)
     c.in-Ok.end (rw c.in-Ok.is at c.print_next-store.ensures.cause) c.end_with.result c.end_with.ensures.written c.end_with.ensures.prefix (rw c.in-Ok.is at c.print_next-store.ensures.steps)
 
 pub returns-in-Ok-clause-cause : goal.returns-in-Ok-clause-cause
@@ -22,7 +24,8 @@ returns-in-Ok-clause-cause g c = at_most_one Failed c.args.store.pool c.print_ne
 
 pub returns-in-Err-clause-carried : goal.returns-in-Err-clause-carried
 returns-in-Err-clause-carried g c =
-    told_broken (AtStamp (λ r. IsAt g.S.RowSource.At g.T.RowStage.Stands g.T.RowStage.closed (λ s. counts_of (g.S.RowSource.seen s)) r)) (told_stamps c.args.store.pool) c.args.cursors.now.items c.print_next-store.new.cursors.items
+    told_broken (AtStamp (λ r. IsAt g.S.RowSource.At g.T.RowStage.Stands g.T.RowStage.closed (λ s. counts_of (g.S.RowSource.seen s)) r))
+    (told_stamps c.args.store.pool) c.args.cursors.now.items c.print_next-store.new.cursors.items
     c.args.store.pool c.print_next-store.result.0.pool c.print_next-store.ensures.read c.args.name.now c.args.count (g.K.Sink.took c.args.out.now) (g.K.Sink.took c.print_next-store.new.out)
     c.in-Err.field-0 (λ r stamps m at. stays_refused g.S.RowSource.At g.T.RowStage.Stands g.T.RowStage.closed (λ s. counts_of (g.S.RowSource.seen s)) r.cursor at.0.pages m at.2 why.Memory)
     (rw c.in-Err.is at c.print_next-store.ensures.steps)
@@ -31,10 +34,12 @@ returns-in-Err-clause-carried g c =
 pub returns-in-Ok-clause-named : goal.returns-in-Ok-clause-named
 returns-in-Ok-clause-named g c = λ untold cs own all catalog.
     next_by_name catalog cs c.args.store.pool c.print_next-store.result.0.pool c.print_next-store.ensures.read c.args.name.now c.args.count untold c.args.cursors.now.items c.print_next-store.new.cursors.items own all
-    c.print_next-store.ensures.names (g.K.Sink.took c.args.out.now) (g.K.Sink.took c.print_next-store.new.out) (g.K.Sink.took c.end_with.new.out) c.in-Ok.end (rw c.in-Ok.is at c.print_next-store.ensures.cause) (rw c.in-Ok.is at c.print_next-store.ensures.unknown)
-    c.print_next-store.ensures.silent (rw c.in-Ok.is at c.print_next-store.ensures.plain) c.end_with.result c.end_with.ensures.written c.end_with.ensures.prefix
+    c.print_next-store.ensures.names (g.K.Sink.took c.args.out.now) (g.K.Sink.took c.print_next-store.new.out) (g.K.Sink.took c.end_with.new.out) c.in-Ok.end
+    (rw c.in-Ok.is at c.print_next-store.ensures.cause) (rw c.in-Ok.is at c.print_next-store.ensures.unknown)
+    c.print_next-store.ensures.silent (rw c.in-Ok.is at c.print_next-store.ensures.rows) c.end_with.result c.end_with.ensures.written c.end_with.ensures.prefix
 
 pub returns-in-Err-clause-named : goal.returns-in-Err-clause-named
 returns-in-Err-clause-named g c = λ untold cs own all catalog.
     next_broken_by_name catalog cs c.args.store.pool c.print_next-store.result.0.pool c.print_next-store.ensures.read c.args.name.now c.args.count untold c.args.cursors.now.items c.print_next-store.new.cursors.items own all
-    c.print_next-store.ensures.names (g.K.Sink.took c.args.out.now) (g.K.Sink.took c.print_next-store.new.out) c.in-Err.field-0 (rw c.in-Err.is at c.print_next-store.ensures.unknown) (rw c.in-Err.is at c.print_next-store.ensures.broken)
+    c.print_next-store.ensures.names (g.K.Sink.took c.args.out.now) (g.K.Sink.took c.print_next-store.new.out) c.in-Err.field-0
+    (rw c.in-Err.is at c.print_next-store.ensures.unknown) (rw c.in-Err.is at c.print_next-store.ensures.rows)

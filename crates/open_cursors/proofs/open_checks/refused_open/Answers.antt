@@ -22,23 +22,28 @@ returns-in-Some-clause-names g c = λ pages cs all setting.
 
 pub returns-in-Err-clause-names : goal.returns-in-Err-clause-names
 returns-in-Err-clause-names g c = λ pages cs all setting.
-    open_unchecked (database_in pages c.args.catalog.now.relations) c.args.cursors.now cs c.args.name.now (plan_value c.args.plan.now) setting all (none_shown c.args.cursors.now c.args.cursors.now c.as_str.result.now c.args.name.now c.place_of.result c.place_of.ensures c.as_str.ensures refl c.in_default.is)
+    open_unchecked (database_in pages c.args.catalog.now.relations) c.args.cursors.now cs c.args.name.now (plan_value c.args.plan.now) setting all
+    (none_shown c.args.cursors.now c.args.cursors.now c.as_str.result.now c.args.name.now c.place_of.result c.place_of.ensures c.as_str.ensures refl c.in_default.is)
     c.in-Err.why (sym (c.check_operators.ensures c.requires pages) ∙ ap result_err c.in-Err.is)
 
 pub returns-then-cursors-ge-MOST_CURSORS-clause-names : goal.returns-then-cursors-ge-MOST_CURSORS-clause-names
 returns-then-cursors-ge-MOST_CURSORS-clause-names g c = λ pages cs all setting.
-    open_many (database_in pages c.args.catalog.now.relations) c.args.cursors.now cs c.args.name.now (plan_value c.args.plan.now) setting all (none_shown c.args.cursors.now c.args.cursors.now c.as_str.result.now c.args.name.now c.place_of.result c.place_of.ensures c.as_str.ensures refl c.in_default.is)
+    open_many (database_in pages c.args.catalog.now.relations) c.args.cursors.now cs c.args.name.now (plan_value c.args.plan.now) setting all
+    (none_shown c.args.cursors.now c.args.cursors.now c.as_str.result.now c.args.name.now c.place_of.result c.place_of.ensures c.as_str.ensures refl c.in_default.is)
     (sym (c.check_operators.ensures c.requires pages) ∙ ap result_err c.in_default-check_operators.is) c.if-cursors-ge-MOST_CURSORS.true
 
 pub returns-in-Ok-clause-names : goal.returns-in-Ok-clause-names
 returns-in-Ok-clause-names g c = λ pages cs all setting.
-    open_deep (database_in pages c.args.catalog.now.relations) c.args.cursors.now cs c.args.name.now (plan_value c.args.plan.now) setting all (none_shown c.args.cursors.now c.args.cursors.now c.as_str.result.now c.args.name.now c.place_of.result c.place_of.ensures c.as_str.ensures refl c.in_default.is)
+    open_deep (database_in pages c.args.catalog.now.relations) c.args.cursors.now cs c.args.name.now (plan_value c.args.plan.now) setting all
+    (none_shown c.args.cursors.now c.args.cursors.now c.as_str.result.now c.args.name.now c.place_of.result c.place_of.ensures c.as_str.ensures refl c.in_default.is)
     (sym (c.check_operators.ensures c.requires pages) ∙ ap result_err c.in_default-check_operators.is) c.if-cursors-ge-MOST_CURSORS.false ∙ (sym c.check_depth.ensures ∙ ap result_err c.in-Ok.is)
 
 pub returns-in-Err-check_depth-clause-names : goal.returns-in-Err-check_depth-clause-names
 returns-in-Err-check_depth-clause-names g c = λ pages cs all setting.
-    open_deep (database_in pages c.args.catalog.now.relations) c.args.cursors.now cs c.args.name.now (plan_value c.args.plan.now) setting all (none_shown c.args.cursors.now c.args.cursors.now c.as_str.result.now c.args.name.now c.place_of.result c.place_of.ensures c.as_str.ensures refl c.in_default.is)
-    (sym (c.check_operators.ensures c.requires pages) ∙ ap result_err c.in_default-check_operators.is) c.if-cursors-ge-MOST_CURSORS.false ∙ (sym c.check_depth.ensures ∙ ap result_err c.in-Err-check_depth.is)
+    open_deep (database_in pages c.args.catalog.now.relations) c.args.cursors.now cs c.args.name.now (plan_value c.args.plan.now) setting all
+    (none_shown c.args.cursors.now c.args.cursors.now c.as_str.result.now c.args.name.now c.place_of.result c.place_of.ensures c.as_str.ensures refl c.in_default.is)
+    (sym (c.check_operators.ensures c.requires pages) ∙ ap result_err c.in_default-check_operators.is) c.if-cursors-ge-MOST_CURSORS.false
+    ∙ (sym c.check_depth.ensures ∙ ap result_err c.in-Err-check_depth.is)
 
 -- cursors that stand have the names
 pub returns-in-Some-clause-checks : goal.returns-in-Some-clause-checks

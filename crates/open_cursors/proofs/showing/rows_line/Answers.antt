@@ -30,10 +30,12 @@ returns-in-Err-clause-written g c =
 
 pub returns-in-Ok-clause-plain : goal.returns-in-Ok-clause-plain
 returns-in-Ok-clause-plain g c =
-    rows_written c.args.desk.now.pool c.print_steps.new.desk.pool c.print_steps.ensures.read.told (g.K.Sink.took c.args.out.now) (g.K.Sink.took c.print_steps.new.out) (g.K.Sink.took c.end_with.new.out)
-    c.in-Ok.end c.in-Ok.ensures.cause c.in-Ok.ensures.pages c.in-Ok.ensures.plain
+    rows_written c.args.count c.args.desk.now.pool c.print_steps.new.desk.pool c.print_steps.ensures.read.told (g.K.Sink.took c.args.out.now)
+    (g.K.Sink.took c.print_steps.new.out) (g.K.Sink.took c.end_with.new.out)
+    c.in-Ok.end c.in-Ok.ensures.cause c.in-Ok.ensures.pages c.in-Ok.ensures.rows
     c.end_with.result c.end_with.ensures.written c.end_with.ensures.prefix
 
 pub returns-in-Err-clause-plain : goal.returns-in-Err-clause-plain
 returns-in-Err-clause-plain g c =
-    rows_broken c.args.desk.now.pool c.print_steps.new.desk.pool c.print_steps.ensures.read.told (g.K.Sink.took c.args.out.now) (g.K.Sink.took c.print_steps.new.out) c.in-Err.ensures.broken
+    rows_broken c.args.count c.args.desk.now.pool c.print_steps.new.desk.pool c.print_steps.ensures.read.told (g.K.Sink.took c.args.out.now)
+    (g.K.Sink.took c.print_steps.new.out) c.in-Err.field-0 c.in-Err.ensures.rows

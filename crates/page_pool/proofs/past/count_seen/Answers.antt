@@ -11,6 +11,7 @@ overflow_add-count c = let few = few_among c.args.held.now c.args.images.now.ent
 -- none is left
 pub returns : goal.returns
 returns c =
-    let none : seen_among c.args.held.now c.images.past-iterator ≡ 0 = ap (seen_among c.args.held.now) (rest_all deref_pair c.images.past-iterator c.next.new.self c.next.result c.in-None.is c.next.ensures.steps) in
+    let none : seen_among c.args.held.now c.images.past-iterator ≡ 0 =
+    ap (seen_among c.args.held.now) (rest_all deref_pair c.images.past-iterator c.next.new.self c.next.result c.in-None.is c.next.ensures.steps) in
     let all = counted_seen c.args.held.now c.args.images.now c.iter-past-items.ensures.ordered in
     let inv = c.images.invariant in omega arith

@@ -13,7 +13,8 @@ use Rattle.page_pool.proofs.past.first_unseen.Goals as goal
 -- the entry is in the map, and no stamp sees it
 pub returns-then-not-sees : goal.returns-then-not-sees
 returns-then-not-sees c =
-    let turn = All-turn deref_pair (IsEntryInRange nat_cmp (Included c.args.start) Unbounded c.args.images.now) c.range-place-items.result c.images.yielded c.into_iter-place-iterator.result c.images.place-iterator c.next.new.self c.next.result
+    let turn = All-turn deref_pair (IsEntryInRange nat_cmp
+    (Included c.args.start) Unbounded c.args.images.now) c.range-place-items.result c.images.yielded c.into_iter-place-iterator.result c.images.place-iterator c.next.new.self c.next.result
     (c.in-Some.place, c.in-Some.past) (c.range-place-items.ensures.in_range tt).0 c.into_iter-place-iterator.ensures.into_iter_gives c.images.yielded_by c.in-Some.is c.next.ensures.steps in
     subst (λ o. IsSomeAnd o (λ past. IsUnseen c.args.held.now past.made past.until)) (sym (found_in c.args.images.now c.in-Some.place.now c.in-Some.past.now turn.1))
     (is_unseen c.args.held.now c.in-Some.past.now.made c.in-Some.past.now.until (sym c.sees.ensures ∙ c.if-not-sees.true))

@@ -9,7 +9,8 @@ use Rattle.page_pool.proofs.past.shown_place.Goals as goal
 -- the entry is in the map
 pub returns-then-is_shown-clause-found : goal.returns-then-is_shown-clause-found
 returns-then-is_shown-clause-found c =
-    let turn = btree_map_turn deref_pair c.images.yielded c.into_iter-place-iterator.result c.images.place-iterator c.next.new.self c.next.result (c.in-Some.place, c.in-Some.past) c.images.yielded_by c.in-Some.is c.next.ensures.steps
+    let turn = btree_map_turn deref_pair c.images.yielded c.into_iter-place-iterator.result c.images.place-iterator c.next.new.self c.next.result
+    (c.in-Some.place, c.in-Some.past) c.images.yielded_by c.in-Some.is c.next.ensures.steps
     nat_cmp_total c.args.images.now (c.into_iter-place-iterator.ensures.into_iter_gives ∙ c.iter-place-items.ensures.rest) c.iter-place-items.ensures.ordered in
     ap (is_shown c.args.n c.args.at) (found_in c.args.images.now c.in-Some.place.now c.in-Some.past.now turn.1) ∙ sym c.is_shown.ensures ∙ c.if-is_shown.true
 

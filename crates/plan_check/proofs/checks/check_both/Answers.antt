@@ -10,4 +10,5 @@ returns-in_err-check_column c = λ is_catalog pages.
 
 pub returns : goal.returns
 returns c = λ is_catalog pages.
-    second_decides c.check_column.result c.check_column-2.result c.in_ok-check_column.field-0 _ _ c.in_ok-check_column.was (c.check_column.ensures is_catalog pages) (c.check_column-2.ensures is_catalog pages)
+    second_decides c.check_column.result c.check_column-2.result c.in_ok-check_column.field-0 _ _ c.in_ok-check_column.was (c.check_column.ensures is_catalog pages)
+    (c.check_column-2.ensures is_catalog pages)

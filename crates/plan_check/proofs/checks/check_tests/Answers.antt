@@ -25,7 +25,8 @@ returns-in_err-check_place c = λ pages.
     let left = next_left c.args.tests.now c.tests.test-index c.test-item.result c.tests-test.true c.test-item.is in
     let p = err_from_is_err_and c.from_residual.result c.from_residual.ensures.1 in
     first_stops c.check_place.result c.from_residual.result p.0 c.in_err-check_place.field-0.0 _
-    (check_tests d names (drop (c.tests.test-index + 1) c.args.tests.now)) c.in_err-check_place.was p.1 p.2 (c.check_place.ensures pages ∙ ap (λ (k : Kind). check_place d names c.test-item.result.place (is_asked (asked.ComparedWith c.test-item.result.op k))) c.kind.ensures)
+    (check_tests d names (drop (c.tests.test-index + 1) c.args.tests.now)) c.in_err-check_place.was p.1 p.2
+    (c.check_place.ensures pages ∙ ap (λ (k : Kind). check_place d names c.test-item.result.place (is_asked (asked.ComparedWith c.test-item.result.op k))) c.kind.ensures)
     ∙ (sym (ap (λ (xs : List Test). check_tests d names xs) left) ∙ c.tests.invariant pages)
 
 pub tests-preserved : goal.tests-preserved
@@ -34,7 +35,9 @@ tests-preserved c = λ pages.
     let names = relations_of (plan_value c.args.plan.now) in
     let left = next_left c.args.tests.now c.tests.test-index c.test-item.result c.tests-test.true c.test-item.is in
     let behind = check_tests d names (drop (c.tests.test-index + 1) c.args.tests.now) in
-    let passed : None ≡ check_place d names c.test-item.result.place (is_asked (asked.ComparedWith c.test-item.result.op (value_kind c.test-item.result.value))) = sym (ap result_err c.in_ok-check_place.was) ∙ (c.check_place.ensures pages ∙ ap (λ (k : Kind). check_place d names c.test-item.result.place (is_asked (asked.ComparedWith c.test-item.result.op k))) c.kind.ensures) in
+    let passed : None ≡ check_place d names c.test-item.result.place (is_asked (asked.ComparedWith c.test-item.result.op (value_kind c.test-item.result.value))) =
+    sym (ap result_err c.in_ok-check_place.was)
+    ∙ (c.check_place.ensures pages ∙ ap (λ (k : Kind). check_place d names c.test-item.result.place (is_asked (asked.ComparedWith c.test-item.result.op k))) c.kind.ensures) in
     first_passes _ behind behind passed refl ∙ (sym (ap (λ (xs : List Test). check_tests d names xs) left) ∙ c.tests.invariant pages)
 
 pub returns : goal.returns

@@ -15,13 +15,16 @@ steps-init g c = record {
   faults = refl;
   falls = omega arith;
   passed =
-      told_first g.S.RowSource.At g.T.RowStage.Stands g.T.RowStage.closed (prices g.S.RowSource.heights g.S.RowSource.step_price g.S.RowSource.owed g.T.RowStage.price g.T.RowStage.owed) (λ s. counts_of (g.S.RowSource.seen s)) (told_pages c.args.desk.now) c.args.operator.now c.args.desk.now;
+      told_first g.S.RowSource.At g.T.RowStage.Stands g.T.RowStage.closed (prices g.S.RowSource.heights g.S.RowSource.step_price g.S.RowSource.owed g.T.RowStage.price g.T.RowStage.owed)
+      (λ s. counts_of (g.S.RowSource.seen s)) (told_pages c.args.desk.now) c.args.operator.now c.args.desk.now;
 }
 
 pub step-requires : goal.step-requires
 step-requires g c = record {
   stands =
-      told_stands g.S.RowSource.At g.T.RowStage.Stands g.T.RowStage.closed (prices g.S.RowSource.heights g.S.RowSource.step_price g.S.RowSource.owed g.T.RowStage.price g.T.RowStage.owed) (λ s. counts_of (g.S.RowSource.seen s)) (told_pages c.args.desk.now) (told_pages c.steps.desk)
+      told_stands g.S.RowSource.At g.T.RowStage.Stands g.T.RowStage.closed
+      (prices g.S.RowSource.heights g.S.RowSource.step_price g.S.RowSource.owed g.T.RowStage.price g.T.RowStage.owed) (λ s. counts_of (g.S.RowSource.seen s))
+      (told_pages c.args.desk.now) (told_pages c.steps.desk)
       c.args.operator.now c.steps.operator c.args.desk.now c.steps.desk (told_read c.args.desk.now c.steps.desk c.steps.invariant.read) c.requires.stands c.steps.invariant.passed;
 }
 
@@ -36,25 +39,30 @@ steps-preserved g c =
       faults = c.in-Ok-Pass.ensures.cause.counted ∙ c.steps.invariant.faults;
       falls = omega (arith, less, before);
       passed =
-          told_more g.S.RowSource.At g.T.RowStage.Stands g.T.RowStage.closed (prices g.S.RowSource.heights g.S.RowSource.step_price g.S.RowSource.owed g.T.RowStage.price g.T.RowStage.owed) (λ s. counts_of (g.S.RowSource.seen s)) (told_pages c.args.desk.now) (told_pages c.steps.desk)
+          told_more g.S.RowSource.At g.T.RowStage.Stands g.T.RowStage.closed
+          (prices g.S.RowSource.heights g.S.RowSource.step_price g.S.RowSource.owed g.T.RowStage.price g.T.RowStage.owed) (λ s. counts_of (g.S.RowSource.seen s))
+          (told_pages c.args.desk.now) (told_pages c.steps.desk)
           c.args.operator.now c.steps.operator c.step.new.self c.args.desk.now c.steps.desk c.step.new.desk c.step.result (told_read c.args.desk.now c.steps.desk c.steps.invariant.read)
           c.steps.invariant.passed c.step.ensures.step is;
     }
 
 pub returns-in-Ok-Row-clause-step : goal.returns-in-Ok-Row-clause-step
 returns-in-Ok-Row-clause-step g c =
-    told_row g.S.RowSource.At g.T.RowStage.Stands g.T.RowStage.closed (prices g.S.RowSource.heights g.S.RowSource.step_price g.S.RowSource.owed g.T.RowStage.price g.T.RowStage.owed) (λ s. counts_of (g.S.RowSource.seen s)) (told_pages c.args.desk.now) (told_pages c.steps.desk)
+    told_row g.S.RowSource.At g.T.RowStage.Stands g.T.RowStage.closed (prices g.S.RowSource.heights g.S.RowSource.step_price g.S.RowSource.owed g.T.RowStage.price g.T.RowStage.owed)
+    (λ s. counts_of (g.S.RowSource.seen s)) (told_pages c.args.desk.now) (told_pages c.steps.desk)
     c.args.operator.now c.steps.operator c.step.new.self c.args.desk.now c.steps.desk c.step.new.desk c.step.result (told_read c.args.desk.now c.steps.desk c.steps.invariant.read)
     c.steps.invariant.passed c.step.ensures.step g.met.T.RowStage.front g.met.T.RowStage.late c.in-Ok-Row.row (c.in-Ok-Row.is ∙ ap Ok c.in-Ok-Row.field-0-is)
 
 pub returns-in-Ok-End-clause-step : goal.returns-in-Ok-End-clause-step
 returns-in-Ok-End-clause-step g c =
-    told_end g.S.RowSource.At g.T.RowStage.Stands g.T.RowStage.closed (prices g.S.RowSource.heights g.S.RowSource.step_price g.S.RowSource.owed g.T.RowStage.price g.T.RowStage.owed) (λ s. counts_of (g.S.RowSource.seen s)) (told_pages c.args.desk.now) (told_pages c.steps.desk)
+    told_end g.S.RowSource.At g.T.RowStage.Stands g.T.RowStage.closed (prices g.S.RowSource.heights g.S.RowSource.step_price g.S.RowSource.owed g.T.RowStage.price g.T.RowStage.owed)
+    (λ s. counts_of (g.S.RowSource.seen s)) (told_pages c.args.desk.now) (told_pages c.steps.desk)
     c.args.operator.now c.steps.operator c.step.new.self c.args.desk.now c.steps.desk c.step.new.desk c.step.result (told_read c.args.desk.now c.steps.desk c.steps.invariant.read)
     c.steps.invariant.passed c.step.ensures.step g.met.T.RowStage.front g.met.T.RowStage.late (c.in-Ok-End.is ∙ ap Ok c.in-Ok-End.field-0-is)
 
 pub returns-in-Err-clause-step : goal.returns-in-Err-clause-step
 returns-in-Err-clause-step g c =
-    told_refusal g.S.RowSource.At g.T.RowStage.Stands g.T.RowStage.closed (prices g.S.RowSource.heights g.S.RowSource.step_price g.S.RowSource.owed g.T.RowStage.price g.T.RowStage.owed) (λ s. counts_of (g.S.RowSource.seen s)) (told_pages c.args.desk.now) (told_pages c.steps.desk)
+    told_refusal g.S.RowSource.At g.T.RowStage.Stands g.T.RowStage.closed (prices g.S.RowSource.heights g.S.RowSource.step_price g.S.RowSource.owed g.T.RowStage.price g.T.RowStage.owed)
+    (λ s. counts_of (g.S.RowSource.seen s)) (told_pages c.args.desk.now) (told_pages c.steps.desk)
     c.args.operator.now c.steps.operator c.step.new.self c.args.desk.now c.steps.desk c.step.new.desk c.step.result (told_read c.args.desk.now c.steps.desk c.steps.invariant.read)
     c.steps.invariant.passed c.step.ensures.step g.met.T.RowStage.front g.met.T.RowStage.late c.in-Err.fault c.in-Err.is

@@ -13,7 +13,9 @@ invariant-steps g l = record {
   read : IsRead l.fn.desk.pool l.desk.pool;
   faults : l.desk.pool.disk.faults ≡ l.fn.desk.pool.disk.faults;
   falls : steps_of g.S.RowSource.steps g.T.RowStage.steps l.operator ≤ steps_of g.S.RowSource.steps g.T.RowStage.steps l.fn.operator;
-  passed : IfSome (told_pages l.fn.desk) (PassedFrom g.S.RowSource.At g.T.RowStage.Stands g.T.RowStage.closed (prices g.S.RowSource.heights g.S.RowSource.step_price g.S.RowSource.owed g.T.RowStage.price g.T.RowStage.owed) (λ s. counts_of (g.S.RowSource.seen s)) l.fn.operator l.operator l.fn.desk l.desk);
+  passed : IfSome (told_pages l.fn.desk) (PassedFrom g.S.RowSource.At g.T.RowStage.Stands g.T.RowStage.closed
+      (prices g.S.RowSource.heights g.S.RowSource.step_price g.S.RowSource.owed g.T.RowStage.price g.T.RowStage.owed)
+      (λ s. counts_of (g.S.RowSource.seen s)) l.fn.operator l.operator l.fn.desk l.desk);
 }
 
 abbrev pub decreases-steps : goal.decreases-steps

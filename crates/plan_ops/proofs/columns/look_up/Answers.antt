@@ -14,4 +14,5 @@ unreachable-requires c =
     let pages : PageMap = map.empty in
     let d = database_in pages c.args.catalog.now.relations in
     not_lacking d c.args.column.now false (c.requires.checked pages)
-    (subst (λ (column : Column). LacksIndex d column false) (ap₂ names_of c.as_str-relation.ensures c.as_str.ensures) (c.named.ensures.none (c.in_ok-found.was ∙ (λ i. Ok (c.in-None.is i))) c.requires.described pages))
+    (subst (λ (column : Column). LacksIndex d column false) (ap₂ names_of c.as_str-relation.ensures c.as_str.ensures)
+    (c.named.ensures.none (c.in_ok-found.was ∙ (λ i. Ok (c.in-None.is i))) c.requires.described pages))

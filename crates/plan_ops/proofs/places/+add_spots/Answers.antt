@@ -24,6 +24,7 @@ add_spots-requires t c =
 pub returns-in_ok-add_spots-in-len1-up : goal.returns-in_ok-add_spots-in-len1-up
 returns-in_ok-add_spots-in-len1-up t c = λ pages stands.
     let xs = c.args.places.now in
-    spots_added (database_in pages c.args.catalog.now.relations) (relations_of (plan_value c.args.plan.now)) pages xs c.place-item.result (take (length xs - 1) (drop 1 xs)) c.in_ok-spot-in-len1-up.field-0
+    spots_added (database_in pages c.args.catalog.now.relations) (relations_of (plan_value c.args.plan.now)) pages xs c.place-item.result
+    (take (length xs - 1) (drop 1 xs)) c.in_ok-spot-in-len1-up.field-0
     c.args.found.now.items c.push.new.self.items c.add_spots.new.found.items (first_and_rest xs c.place-item.result c.in-len1-up.len_at_least c.place-item.is)
     c.in_ok-push-in-len1-up.ensures.items (c.in_ok-spot-in-len1-up.ensures pages stands) (c.in_ok-add_spots-in-len1-up.ensures pages stands)

@@ -4,4 +4,5 @@ use Rattle.plan_steps.proofs.take_row.take_row.Goals as goal
 
 pub returns-then-is_busy-clause-falls : goal.returns-then-is_busy-clause-falls
 returns-then-is_busy-clause-falls g c m n less =
-    lowers_both (g.T.RowStage.steps c.args.stage.now n) (g.T.RowStage.steps c.hold.new.self m) (g.T.RowStage.steps c.work.new.self m) c.work.result (c.hold.ensures.falls m n less) (c.work.ensures.falls m)
+    lowers_both (g.T.RowStage.steps c.args.stage.now n) (g.T.RowStage.steps c.hold.new.self m) (g.T.RowStage.steps c.work.new.self m) c.work.result
+    (c.hold.ensures.falls m n less) (c.work.ensures.falls m)

@@ -17,7 +17,8 @@ use Rattle.pmr_tree.proofs.change.grown.Goals as goal
 -- the reading of the block at which growth begins
 pub grow-requires-clause-ready : goal.grow-requires-clause-ready
 grow-requires-clause-ready g c =
-    let lead = leads_read (g.G.ShapeOf.rows c.args.shapes.now) c.args.shape.now (g.G.ShapeOf.Stands c.args.shapes.now) (g.G.ShapeOf.Owns c.args.shapes.now) c.args.tree.map c.args.pool.now c.start_of.new.pages None
+    let lead = leads_read (g.G.ShapeOf.rows c.args.shapes.now) c.args.shape.now (g.G.ShapeOf.Stands c.args.shapes.now)
+    (g.G.ShapeOf.Owns c.args.shapes.now) c.args.tree.map c.args.pool.now c.start_of.new.pages None
     c.in_ok-start.ensures.read (record { counted = c.in_ok-start.ensures.cause.counted; damaged = tt }) tt in
     lead.ready refl (record { opened = c.requires.opened; shape = c.requires.plane; tree = λ told. (c.requires.tree told).entries; stands = c.requires.shapes; apart = c.requires.apart })
 
@@ -28,7 +29,8 @@ grow-requires-clause-stands g c = λ later.
     let pages = c.args.pool.now.pages in
     let is = c.requires.tree told in
     subst (λ w. Stands c.in_ok-start.start (keys_at w c.args.tree)) (sym read.pages)
-    (start_stands (keys_at pages c.args.tree) c.args.shape.now (tree_at pages c.args.tree) c.in_ok-start.start (pmr_stands pages c.args.tree is).rises (pmr_reads pages c.args.tree is) (c.in_ok-start.ensures.start told))
+    (start_stands (keys_at pages c.args.tree) c.args.shape.now (tree_at pages c.args.tree) c.in_ok-start.start (pmr_stands pages c.args.tree is).rises
+    (pmr_reads pages c.args.tree is) (c.in_ok-start.ensures.start told))
 
 pub grow-requires-clause-shapes : goal.grow-requires-clause-shapes
 grow-requires-clause-shapes g c = λ later.
@@ -52,7 +54,8 @@ returns-clause-grown g c = λ told.
     let is = c.requires.tree told in
     let read = c.in_ok-start.ensures.read in
     let later = read.told ∙ told in
-    let lead = LeadsOn-onward rows c.args.shape.now (g.G.ShapeOf.Stands c.args.shapes.now) (g.G.ShapeOf.Owns c.args.shapes.now) c.args.tree.map c.args.pool.now c.args.tree.map c.start_of.new.pages c.grow.new.ground.tree c.grow.new.pages None
+    let lead = LeadsOn-onward rows c.args.shape.now (g.G.ShapeOf.Stands c.args.shapes.now)
+    (g.G.ShapeOf.Owns c.args.shapes.now) c.args.tree.map c.args.pool.now c.args.tree.map c.start_of.new.pages c.grow.new.ground.tree c.grow.new.pages None
     (leads_read rows c.args.shape.now (g.G.ShapeOf.Stands c.args.shapes.now) (g.G.ShapeOf.Owns c.args.shapes.now) c.args.tree.map c.args.pool.now c.start_of.new.pages None
     read (record { counted = c.in_ok-start.ensures.cause.counted; damaged = tt }) tt)
     c.in_ok-grow.ensures.leads.1.1.1 in
@@ -70,12 +73,14 @@ returns-clause-grown g c = λ told.
       tree = (lead.ready refl ready).tree (lead.within.told ∙ told);
       threshold = refl;
       number = refl;
-      keeps = lead.keeps refl told ready (pages_in c.args.pool.now) (tree_pages (pages_in c.args.pool.now) c.args.tree.map) (keeps_none (pages_in c.args.pool.now) (tree_pages (pages_in c.args.pool.now) c.args.tree.map));
+      keeps = lead.keeps refl told ready (pages_in c.args.pool.now) (tree_pages (pages_in c.args.pool.now) c.args.tree.map)
+          (keeps_none (pages_in c.args.pool.now) (tree_pages (pages_in c.args.pool.now) c.args.tree.map));
       becomes = λ m has tells passes one.
           (let new = firsts (tree_items (pages_in c.grow.new.pages) c.grow.new.ground.tree) in
           let Grown : PageMap → Type 0 = λ w. TellsOf ((c.args.id, c.args.shape.now) ∷ rows w) m has → Passes (id_test has) (entries_at w c.args.tree) → has c.args.id ≡ true
           → Becomes c.in_ok-start.start (grown_where m c.args.tree.threshold c.args.id c.in_ok-start.start) (keys_at w c.args.tree) new in
-          grown_from_root c.ring_laws.ensures.holder (rows pages) c.args.id c.args.shape.now m has c.requires.plane tells one c.args.tree.threshold (keys_at pages c.args.tree) new (tree_at pages c.args.tree) c.in_ok-start.start
+          grown_from_root c.ring_laws.ensures.holder (rows pages) c.args.id c.args.shape.now m has c.requires.plane tells one c.args.tree.threshold
+          (keys_at pages c.args.tree) new (tree_at pages c.args.tree) c.in_ok-start.start
           (pmr_stands pages c.args.tree is).rises (pmr_reads pages c.args.tree is) c.in_ok-start.ensures.block (c.in_ok-start.ensures.start told)
           (subst Grown read.pages (λ tells passes one. c.in_ok-grow.ensures.keys later m has tells passes one) tells passes one));
       values = λ test one w.
@@ -83,7 +88,8 @@ returns-clause-grown g c = λ told.
     }) c.ring_laws.ensures.measured.0 c.ring_laws.ensures.measured.1
 
 pub returns-clause-within : goal.returns-clause-within
-returns-clause-within g c = InCommand-trans c.args.pool.now c.start_of.new.pages c.grow.new.pages (InCommand-read c.args.pool.now c.start_of.new.pages c.in_ok-start.ensures.read) c.in_ok-grow.ensures.leads.1.1.1.within
+returns-clause-within g c = InCommand-trans c.args.pool.now c.start_of.new.pages c.grow.new.pages
+    (InCommand-read c.args.pool.now c.start_of.new.pages c.in_ok-start.ensures.read) c.in_ok-grow.ensures.leads.1.1.1.within
 
 pub returns-clause-cause : goal.returns-clause-cause
 returns-clause-cause g c = HasPageCause-before c.args.pool.now c.start_of.new.pages c.grow.new.pages (Ok (tt {0})) c.in_ok-start.ensures.cause.counted c.in_ok-grow.ensures.leads.1.1.1.cause

@@ -62,7 +62,8 @@ returns-clause-shrunk g c = λ told.
     let read = c.in_ok-start.ensures.read in
     let later = read.told ∙ told in
     let rows : PageMap → List (ℕ × Shape) = λ w. [] in
-    let lead = LeadsOn-onward rows c.args.shape.now (λ pages. ⊤) (λ pages n. ⊥) c.args.tree.map c.args.pool.now c.args.tree.map c.start_of.new.pages c.shrink_at.new.ground.tree c.shrink_at.new.pages None
+    let lead = LeadsOn-onward rows c.args.shape.now (λ pages. ⊤)
+    (λ pages n. ⊥) c.args.tree.map c.args.pool.now c.args.tree.map c.start_of.new.pages c.shrink_at.new.ground.tree c.shrink_at.new.pages None
     (leads_read rows c.args.shape.now (λ pages. ⊤) (λ pages n. ⊥) c.args.tree.map c.args.pool.now c.start_of.new.pages None
     read (record { counted = c.in_ok-start.ensures.cause.counted; damaged = tt }) tt)
     c.in_ok-shrink_at.ensures.leads.1.1.1 in
@@ -79,7 +80,8 @@ returns-clause-shrunk g c = λ told.
       tree = (lead.ready refl ready).tree (lead.within.told ∙ told);
       threshold = refl;
       number = refl;
-      keeps = lead.keeps refl told ready (pages_in c.args.pool.now) (tree_pages (pages_in c.args.pool.now) c.args.tree.map) (keeps_none (pages_in c.args.pool.now) (tree_pages (pages_in c.args.pool.now) c.args.tree.map));
+      keeps = lead.keeps refl told ready (pages_in c.args.pool.now) (tree_pages (pages_in c.args.pool.now) c.args.tree.map)
+          (keeps_none (pages_in c.args.pool.now) (tree_pages (pages_in c.args.pool.now) c.args.tree.map));
       becomes = λ m has tells one.
           (let new = firsts (tree_items (pages_in c.shrink_at.new.pages) c.shrink_at.new.ground.tree) in
           let At : PageMap → Type 0 = λ w. Becomes c.root.result (shrunk_where m c.args.tree.threshold c.args.id c.root.result) (keys_at w c.args.tree) new in
@@ -89,7 +91,8 @@ returns-clause-shrunk g c = λ told.
     }) c.ring_laws.ensures.measured
 
 pub returns-clause-within : goal.returns-clause-within
-returns-clause-within g c = InCommand-trans c.args.pool.now c.start_of.new.pages c.shrink_at.new.pages (InCommand-read c.args.pool.now c.start_of.new.pages c.in_ok-start.ensures.read) c.in_ok-shrink_at.ensures.leads.1.1.1.within
+returns-clause-within g c = InCommand-trans c.args.pool.now c.start_of.new.pages c.shrink_at.new.pages
+    (InCommand-read c.args.pool.now c.start_of.new.pages c.in_ok-start.ensures.read) c.in_ok-shrink_at.ensures.leads.1.1.1.within
 
 pub returns-clause-cause : goal.returns-clause-cause
 returns-clause-cause g c = HasPageCause-before c.args.pool.now c.start_of.new.pages c.shrink_at.new.pages (Ok (tt {0})) c.in_ok-start.ensures.cause.counted c.in_ok-shrink_at.ensures.leads.1.1.1.cause

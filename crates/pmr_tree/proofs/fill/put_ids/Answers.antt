@@ -15,7 +15,8 @@ loop-kept-preserved g c =
     let here = c.loop-kept.invariant in
     let lt : c.loop-kept.kept-index < length c.args.list.now = omega arith in record {
       leads = g.met.S.Ground.onward _ _ _ _ _ _ _ here.leads c.in_ok-put.ensures.leads;
-      keys = λ k. put_step c.args.block c.args.list.now c.loop-kept.kept-index _ lt c.key_of.result c.key_of.ensures.value _ _ (c.in_ok-put.ensures.keys (g.met.S.Ground.known _ _ _ _ here.leads k)) ∙ here.keys k;
+      keys = λ k. put_step c.args.block c.args.list.now c.loop-kept.kept-index _ lt c.key_of.result c.key_of.ensures.value _ _
+          (c.in_ok-put.ensures.keys (g.met.S.Ground.known _ _ _ _ here.leads k)) ∙ here.keys k;
       values = λ k test a w. c.in_ok-put.ensures.values (g.met.S.Ground.known _ _ _ _ here.leads k) test
           (key_passes test c.args.block _ _ c.key_of.result (omega arith) c.key_of.ensures.value (each_at (λ x. test x.id x.value ≡ true) c.args.list.now c.loop-kept.kept-index _ lt a))
           (here.values k test a w);

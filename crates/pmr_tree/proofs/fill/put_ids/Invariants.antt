@@ -8,6 +8,8 @@ use Rattle.pmr_tree.proofs.fill.put_ids.Given as goal
 abbrev pub invariant-loop-kept : goal.invariant-loop-kept
 invariant-loop-kept g l = record {
   leads : g.S.Ground.Leads l.fn.ground l.fn.pages l.ground l.pages None;
-  keys : g.S.Ground.IsKnown l.fn.ground l.fn.pages → put_all (map (key_of l.block) (ids_of (drop l.kept-index l.list))) (firsts (g.S.Ground.pairs l.ground l.pages)) ≡ put_all (map (key_of l.block) (ids_of l.list)) (firsts (g.S.Ground.pairs l.fn.ground l.fn.pages));
-  values : g.S.Ground.IsKnown l.fn.ground l.fn.pages → (test : ℕ → ℕ → Bool) → ListPasses test l.list → Passes test (g.S.Ground.pairs l.fn.ground l.fn.pages) → Passes test (g.S.Ground.pairs l.ground l.pages);
+  keys : g.S.Ground.IsKnown l.fn.ground l.fn.pages → put_all (map (key_of l.block) (ids_of (drop l.kept-index l.list))) (firsts (g.S.Ground.pairs l.ground l.pages))
+      ≡ put_all (map (key_of l.block) (ids_of l.list)) (firsts (g.S.Ground.pairs l.fn.ground l.fn.pages));
+  values : g.S.Ground.IsKnown l.fn.ground l.fn.pages → (test : ℕ → ℕ → Bool) → ListPasses test l.list → Passes test (g.S.Ground.pairs l.fn.ground l.fn.pages)
+      → Passes test (g.S.Ground.pairs l.ground l.pages);
 }

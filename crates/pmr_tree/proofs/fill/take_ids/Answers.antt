@@ -15,6 +15,7 @@ loop-kept-preserved g c =
     let here = c.loop-kept.invariant in
     let lt : c.loop-kept.kept-index < length c.args.list.now = omega arith in record {
       leads = g.met.S.Ground.onward _ _ _ _ _ _ _ here.leads c.in_ok-take.ensures.leads;
-      keys = λ k. take_step c.args.block c.args.list.now c.loop-kept.kept-index _ lt c.key_of.result c.key_of.ensures.value _ _ (c.in_ok-take.ensures.keys (g.met.S.Ground.known _ _ _ _ here.leads k)) ∙ here.keys k;
+      keys = λ k. take_step c.args.block c.args.list.now c.loop-kept.kept-index _ lt c.key_of.result c.key_of.ensures.value _ _
+          (c.in_ok-take.ensures.keys (g.met.S.Ground.known _ _ _ _ here.leads k)) ∙ here.keys k;
       values = λ k test w. c.in_ok-take.ensures.values (g.met.S.Ground.known _ _ _ _ here.leads k) test (here.values k test w);
     }

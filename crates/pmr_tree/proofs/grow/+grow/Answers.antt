@@ -50,7 +50,8 @@ pub grow_leaf-requires-clause-leaf : goal.grow_leaf-requires-clause-leaf
 grow_leaf-requires-clause-leaf g t c = λ known.
     let l0 = c.in_ok-does_meet.ensures.leads in
     let l1 = g.met.S.Ground.onward c.args.ground.now c.args.pages.now c.args.ground.now c.does_meet.new.pages c.args.ground.now c.leaf_of.new.pages None l0 c.in_ok-list.ensures.leads in
-    let k0 = g.met.S.Ground.known c.args.ground.now c.args.pages.now c.args.ground.now c.does_meet.new.pages l0 (g.met.S.Ground.knew c.args.ground.now c.args.pages.now c.args.ground.now c.leaf_of.new.pages l1 known) in
+    let k0 = g.met.S.Ground.known c.args.ground.now c.args.pages.now c.args.ground.now c.does_meet.new.pages l0
+    (g.met.S.Ground.knew c.args.ground.now c.args.pages.now c.args.ground.now c.leaf_of.new.pages l1 known) in
     leaf_later c.args.block _ _ _ _ (ap firsts (c.in_ok-list.ensures.same k0)) c.deref.ensures.value (some_found _ _ _ _ c.in-Some.is (c.in_ok-list.ensures.found k0))
 
 pub returns-in_err-grow_leaf-clause-leads : goal.returns-in_err-grow_leaf-clause-leads
@@ -98,7 +99,8 @@ returns-in-Some-clause-keys g t c = λ k m has tells all one.
     let l1 = g.met.S.Ground.onward c.args.ground.now c.args.pages.now c.args.ground.now c.does_meet.new.pages c.args.ground.now c.leaf_of.new.pages None l0 c.in_ok-list.ensures.leads in
     let same = c.in_ok-list.ensures.same (g.met.S.Ground.known c.args.ground.now c.args.pages.now c.args.ground.now c.does_meet.new.pages l0 k) ∙ c.in_ok-does_meet.ensures.same k in
     becomes_from c.args.block _ _ _ _ (ap firsts same)
-    (c.in_ok-grow_leaf.ensures.keys (g.met.S.Ground.known c.args.ground.now c.args.pages.now c.args.ground.now c.leaf_of.new.pages l1 k) m has (g.met.S.Ground.steady c.args.ground.now c.args.pages.now c.args.ground.now c.leaf_of.new.pages l1 c.requires.ready k m has tells)
+    (c.in_ok-grow_leaf.ensures.keys (g.met.S.Ground.known c.args.ground.now c.args.pages.now c.args.ground.now c.leaf_of.new.pages l1 k) m has
+    (g.met.S.Ground.steady c.args.ground.now c.args.pages.now c.args.ground.now c.leaf_of.new.pages l1 c.requires.ready k m has tells)
     (subst (Passes (id_test has)) (sym same) all) one (sym (c.in_ok-does_meet.ensures.value k m has tells one) ∙ c.if-not-branch.false))
 
 pub returns-in-Some-clause-values : goal.returns-in-Some-clause-values
@@ -138,7 +140,8 @@ grow-requires g t c κs live =
                   λ known.
                       let k = g.met.S.Ground.knew c.args.ground.now c.args.pages.now c.args.ground.now c.leaf_of.new.pages l1 known in
                       let same = c.in_ok-list.ensures.same (g.met.S.Ground.known c.args.ground.now c.args.pages.now c.args.ground.now c.does_meet.new.pages l0 k) ∙ c.in_ok-does_meet.ensures.same k in
-                      let none = ap (own c.args.block) (ap firsts (c.in_ok-list.ensures.same (g.met.S.Ground.known c.args.ground.now c.args.pages.now c.args.ground.now c.does_meet.new.pages l0 k))) ∙ none_found _ _ _ c.in_default.is (c.in_ok-list.ensures.found (g.met.S.Ground.known c.args.ground.now c.args.pages.now c.args.ground.now c.does_meet.new.pages l0 k)) in
+                      let none = ap (own c.args.block) (ap firsts (c.in_ok-list.ensures.same (g.met.S.Ground.known c.args.ground.now c.args.pages.now c.args.ground.now c.does_meet.new.pages l0 k)))
+                      ∙ none_found _ _ _ c.in_default.is (c.in_ok-list.ensures.found (g.met.S.Ground.known c.args.ground.now c.args.pages.now c.args.ground.now c.does_meet.new.pages l0 k)) in
                       let stands = subst (Stands c.args.block) (sym (ap firsts same)) (c.requires.stands k) in
                       stands_first c.args.block _ _ _ c.children.ensures.value stands none,
                   λ known.
@@ -180,12 +183,14 @@ grow-requires-2 g t c κs live =
                   λ known.
                       let k = g.met.S.Ground.knew c.args.ground.now c.args.pages.now c.grow.new.ground c.grow.new.pages l2 known in
                       let same = c.in_ok-list.ensures.same (g.met.S.Ground.known c.args.ground.now c.args.pages.now c.args.ground.now c.does_meet.new.pages l0 k) ∙ c.in_ok-does_meet.ensures.same k in
-                      let none = ap (own c.args.block) (ap firsts (c.in_ok-list.ensures.same (g.met.S.Ground.known c.args.ground.now c.args.pages.now c.args.ground.now c.does_meet.new.pages l0 k))) ∙ none_found _ _ _ c.in_default.is (c.in_ok-list.ensures.found (g.met.S.Ground.known c.args.ground.now c.args.pages.now c.args.ground.now c.does_meet.new.pages l0 k)) in
+                      let none = ap (own c.args.block) (ap firsts (c.in_ok-list.ensures.same (g.met.S.Ground.known c.args.ground.now c.args.pages.now c.args.ground.now c.does_meet.new.pages l0 k)))
+                      ∙ none_found _ _ _ c.in_default.is (c.in_ok-list.ensures.found (g.met.S.Ground.known c.args.ground.now c.args.pages.now c.args.ground.now c.does_meet.new.pages l0 k)) in
                       let stands = subst (Stands c.args.block) (sym (ap firsts same)) (c.requires.stands k) in
                       let told = c.requires.shapes k in
                       let w0 = subst (Passes (id_test told.has)) (sym same) told.listed in
                       let w1 = c.in_ok-grow.ensures.values (g.met.S.Ground.known c.args.ground.now c.args.pages.now c.args.ground.now c.leaf_of.new.pages l1 k) (id_test told.has) told.one w0 in
-                      let g0 = c.in_ok-grow.ensures.keys (g.met.S.Ground.known c.args.ground.now c.args.pages.now c.args.ground.now c.leaf_of.new.pages l1 k) told.meets told.has (g.met.S.Ground.steady c.args.ground.now c.args.pages.now c.args.ground.now c.leaf_of.new.pages l1 c.requires.ready k told.meets told.has told.told) w0 told.one in
+                      let g0 = c.in_ok-grow.ensures.keys (g.met.S.Ground.known c.args.ground.now c.args.pages.now c.args.ground.now c.leaf_of.new.pages l1 k) told.meets told.has
+                      (g.met.S.Ground.steady c.args.ground.now c.args.pages.now c.args.ground.now c.leaf_of.new.pages l1 c.requires.ready k told.meets told.has told.told) w0 told.one in
                       stands_second c.args.block _ _ _ (λ x. grown_where told.meets c.args.threshold c.args.newcomer.id x) _ _ c.children.ensures.value stands none g0,
                   λ known.
                       let k = g.met.S.Ground.knew c.args.ground.now c.args.pages.now c.grow.new.ground c.grow.new.pages l2 known in
@@ -228,15 +233,19 @@ grow-requires-3 g t c κs live =
                   λ known.
                       let k = g.met.S.Ground.knew c.args.ground.now c.args.pages.now c.grow-2.new.ground c.grow-2.new.pages l3 known in
                       let same = c.in_ok-list.ensures.same (g.met.S.Ground.known c.args.ground.now c.args.pages.now c.args.ground.now c.does_meet.new.pages l0 k) ∙ c.in_ok-does_meet.ensures.same k in
-                      let none = ap (own c.args.block) (ap firsts (c.in_ok-list.ensures.same (g.met.S.Ground.known c.args.ground.now c.args.pages.now c.args.ground.now c.does_meet.new.pages l0 k))) ∙ none_found _ _ _ c.in_default.is (c.in_ok-list.ensures.found (g.met.S.Ground.known c.args.ground.now c.args.pages.now c.args.ground.now c.does_meet.new.pages l0 k)) in
+                      let none = ap (own c.args.block) (ap firsts (c.in_ok-list.ensures.same (g.met.S.Ground.known c.args.ground.now c.args.pages.now c.args.ground.now c.does_meet.new.pages l0 k)))
+                      ∙ none_found _ _ _ c.in_default.is (c.in_ok-list.ensures.found (g.met.S.Ground.known c.args.ground.now c.args.pages.now c.args.ground.now c.does_meet.new.pages l0 k)) in
                       let stands = subst (Stands c.args.block) (sym (ap firsts same)) (c.requires.stands k) in
                       let told = c.requires.shapes k in
                       let w0 = subst (Passes (id_test told.has)) (sym same) told.listed in
                       let w1 = c.in_ok-grow.ensures.values (g.met.S.Ground.known c.args.ground.now c.args.pages.now c.args.ground.now c.leaf_of.new.pages l1 k) (id_test told.has) told.one w0 in
                       let w2 = c.in_ok-grow-2.ensures.values (g.met.S.Ground.known c.args.ground.now c.args.pages.now c.grow.new.ground c.grow.new.pages l2 k) (id_test told.has) told.one w1 in
-                      let g0 = c.in_ok-grow.ensures.keys (g.met.S.Ground.known c.args.ground.now c.args.pages.now c.args.ground.now c.leaf_of.new.pages l1 k) told.meets told.has (g.met.S.Ground.steady c.args.ground.now c.args.pages.now c.args.ground.now c.leaf_of.new.pages l1 c.requires.ready k told.meets told.has told.told) w0 told.one in
-                      let g1 = c.in_ok-grow-2.ensures.keys (g.met.S.Ground.known c.args.ground.now c.args.pages.now c.grow.new.ground c.grow.new.pages l2 k) told.meets told.has (g.met.S.Ground.steady c.args.ground.now c.args.pages.now c.grow.new.ground c.grow.new.pages l2 c.requires.ready k told.meets told.has told.told) w1 told.one in
-                      stands_third c.args.block _ _ _ _ (λ x. grown_where told.meets c.args.threshold c.args.newcomer.id x) (λ x. grown_where told.meets c.args.threshold c.args.newcomer.id x) _ _ _ c.children.ensures.value stands none g0 g1,
+                      let g0 = c.in_ok-grow.ensures.keys (g.met.S.Ground.known c.args.ground.now c.args.pages.now c.args.ground.now c.leaf_of.new.pages l1 k) told.meets told.has
+                      (g.met.S.Ground.steady c.args.ground.now c.args.pages.now c.args.ground.now c.leaf_of.new.pages l1 c.requires.ready k told.meets told.has told.told) w0 told.one in
+                      let g1 = c.in_ok-grow-2.ensures.keys (g.met.S.Ground.known c.args.ground.now c.args.pages.now c.grow.new.ground c.grow.new.pages l2 k) told.meets told.has
+                      (g.met.S.Ground.steady c.args.ground.now c.args.pages.now c.grow.new.ground c.grow.new.pages l2 c.requires.ready k told.meets told.has told.told) w1 told.one in
+                      stands_third c.args.block _ _ _ _ (λ x. grown_where told.meets c.args.threshold c.args.newcomer.id x)
+                      (λ x. grown_where told.meets c.args.threshold c.args.newcomer.id x) _ _ _ c.children.ensures.value stands none g0 g1,
                   λ known.
                       let k = g.met.S.Ground.knew c.args.ground.now c.args.pages.now c.grow-2.new.ground c.grow-2.new.pages l3 known in
                       let same = c.in_ok-list.ensures.same (g.met.S.Ground.known c.args.ground.now c.args.pages.now c.args.ground.now c.does_meet.new.pages l0 k) ∙ c.in_ok-does_meet.ensures.same k in
@@ -280,17 +289,23 @@ grow-requires-4 g t c κs live =
                   λ known.
                       let k = g.met.S.Ground.knew c.args.ground.now c.args.pages.now c.grow-3.new.ground c.grow-3.new.pages l4 known in
                       let same = c.in_ok-list.ensures.same (g.met.S.Ground.known c.args.ground.now c.args.pages.now c.args.ground.now c.does_meet.new.pages l0 k) ∙ c.in_ok-does_meet.ensures.same k in
-                      let none = ap (own c.args.block) (ap firsts (c.in_ok-list.ensures.same (g.met.S.Ground.known c.args.ground.now c.args.pages.now c.args.ground.now c.does_meet.new.pages l0 k))) ∙ none_found _ _ _ c.in_default.is (c.in_ok-list.ensures.found (g.met.S.Ground.known c.args.ground.now c.args.pages.now c.args.ground.now c.does_meet.new.pages l0 k)) in
+                      let none = ap (own c.args.block) (ap firsts (c.in_ok-list.ensures.same (g.met.S.Ground.known c.args.ground.now c.args.pages.now c.args.ground.now c.does_meet.new.pages l0 k)))
+                      ∙ none_found _ _ _ c.in_default.is (c.in_ok-list.ensures.found (g.met.S.Ground.known c.args.ground.now c.args.pages.now c.args.ground.now c.does_meet.new.pages l0 k)) in
                       let stands = subst (Stands c.args.block) (sym (ap firsts same)) (c.requires.stands k) in
                       let told = c.requires.shapes k in
                       let w0 = subst (Passes (id_test told.has)) (sym same) told.listed in
                       let w1 = c.in_ok-grow.ensures.values (g.met.S.Ground.known c.args.ground.now c.args.pages.now c.args.ground.now c.leaf_of.new.pages l1 k) (id_test told.has) told.one w0 in
                       let w2 = c.in_ok-grow-2.ensures.values (g.met.S.Ground.known c.args.ground.now c.args.pages.now c.grow.new.ground c.grow.new.pages l2 k) (id_test told.has) told.one w1 in
                       let w3 = c.in_ok-grow-3.ensures.values (g.met.S.Ground.known c.args.ground.now c.args.pages.now c.grow-2.new.ground c.grow-2.new.pages l3 k) (id_test told.has) told.one w2 in
-                      let g0 = c.in_ok-grow.ensures.keys (g.met.S.Ground.known c.args.ground.now c.args.pages.now c.args.ground.now c.leaf_of.new.pages l1 k) told.meets told.has (g.met.S.Ground.steady c.args.ground.now c.args.pages.now c.args.ground.now c.leaf_of.new.pages l1 c.requires.ready k told.meets told.has told.told) w0 told.one in
-                      let g1 = c.in_ok-grow-2.ensures.keys (g.met.S.Ground.known c.args.ground.now c.args.pages.now c.grow.new.ground c.grow.new.pages l2 k) told.meets told.has (g.met.S.Ground.steady c.args.ground.now c.args.pages.now c.grow.new.ground c.grow.new.pages l2 c.requires.ready k told.meets told.has told.told) w1 told.one in
-                      let g2 = c.in_ok-grow-3.ensures.keys (g.met.S.Ground.known c.args.ground.now c.args.pages.now c.grow-2.new.ground c.grow-2.new.pages l3 k) told.meets told.has (g.met.S.Ground.steady c.args.ground.now c.args.pages.now c.grow-2.new.ground c.grow-2.new.pages l3 c.requires.ready k told.meets told.has told.told) w2 told.one in
-                      stands_fourth c.args.block _ _ _ _ _ (λ x. grown_where told.meets c.args.threshold c.args.newcomer.id x) (λ x. grown_where told.meets c.args.threshold c.args.newcomer.id x) (λ x. grown_where told.meets c.args.threshold c.args.newcomer.id x) _ _ _ _ c.children.ensures.value stands none g0 g1 g2,
+                      let g0 = c.in_ok-grow.ensures.keys (g.met.S.Ground.known c.args.ground.now c.args.pages.now c.args.ground.now c.leaf_of.new.pages l1 k) told.meets told.has
+                      (g.met.S.Ground.steady c.args.ground.now c.args.pages.now c.args.ground.now c.leaf_of.new.pages l1 c.requires.ready k told.meets told.has told.told) w0 told.one in
+                      let g1 = c.in_ok-grow-2.ensures.keys (g.met.S.Ground.known c.args.ground.now c.args.pages.now c.grow.new.ground c.grow.new.pages l2 k) told.meets told.has
+                      (g.met.S.Ground.steady c.args.ground.now c.args.pages.now c.grow.new.ground c.grow.new.pages l2 c.requires.ready k told.meets told.has told.told) w1 told.one in
+                      let g2 = c.in_ok-grow-3.ensures.keys (g.met.S.Ground.known c.args.ground.now c.args.pages.now c.grow-2.new.ground c.grow-2.new.pages l3 k) told.meets told.has
+                      (g.met.S.Ground.steady c.args.ground.now c.args.pages.now c.grow-2.new.ground c.grow-2.new.pages l3 c.requires.ready k told.meets told.has told.told) w2 told.one in
+                      stands_fourth c.args.block _ _ _ _ _ (λ x. grown_where told.meets c.args.threshold c.args.newcomer.id x)
+                      (λ x. grown_where told.meets c.args.threshold c.args.newcomer.id x)
+                      (λ x. grown_where told.meets c.args.threshold c.args.newcomer.id x) _ _ _ _ c.children.ensures.value stands none g0 g1 g2,
                   λ known.
                       let k = g.met.S.Ground.knew c.args.ground.now c.args.pages.now c.grow-3.new.ground c.grow-3.new.pages l4 known in
                       let same = c.in_ok-list.ensures.same (g.met.S.Ground.known c.args.ground.now c.args.pages.now c.args.ground.now c.does_meet.new.pages l0 k) ∙ c.in_ok-does_meet.ensures.same k in
@@ -362,19 +377,25 @@ returns-clause-keys g t c = λ k m has tells all one.
     let l4 = g.met.S.Ground.onward c.args.ground.now c.args.pages.now c.grow-2.new.ground c.grow-2.new.pages c.grow-3.new.ground c.grow-3.new.pages None l3 c.in_ok-grow-3.ensures.leads in
     let l5 = g.met.S.Ground.onward c.args.ground.now c.args.pages.now c.grow-3.new.ground c.grow-3.new.pages c.grow-4.new.ground c.grow-4.new.pages None l4 c.in_ok-grow-4.ensures.leads in
     let same = c.in_ok-list.ensures.same (g.met.S.Ground.known c.args.ground.now c.args.pages.now c.args.ground.now c.does_meet.new.pages l0 k) ∙ c.in_ok-does_meet.ensures.same k in
-    let none = ap (own c.args.block) (ap firsts (c.in_ok-list.ensures.same (g.met.S.Ground.known c.args.ground.now c.args.pages.now c.args.ground.now c.does_meet.new.pages l0 k))) ∙ none_found _ _ _ c.in_default.is (c.in_ok-list.ensures.found (g.met.S.Ground.known c.args.ground.now c.args.pages.now c.args.ground.now c.does_meet.new.pages l0 k)) in
+    let none = ap (own c.args.block) (ap firsts (c.in_ok-list.ensures.same (g.met.S.Ground.known c.args.ground.now c.args.pages.now c.args.ground.now c.does_meet.new.pages l0 k)))
+    ∙ none_found _ _ _ c.in_default.is (c.in_ok-list.ensures.found (g.met.S.Ground.known c.args.ground.now c.args.pages.now c.args.ground.now c.does_meet.new.pages l0 k)) in
     let stands = subst (Stands c.args.block) (sym (ap firsts same)) (c.requires.stands k) in
     let w0 = subst (Passes (id_test has)) (sym same) all in
     let w1 = c.in_ok-grow.ensures.values (g.met.S.Ground.known c.args.ground.now c.args.pages.now c.args.ground.now c.leaf_of.new.pages l1 k) (id_test has) one w0 in
     let w2 = c.in_ok-grow-2.ensures.values (g.met.S.Ground.known c.args.ground.now c.args.pages.now c.grow.new.ground c.grow.new.pages l2 k) (id_test has) one w1 in
     let w3 = c.in_ok-grow-3.ensures.values (g.met.S.Ground.known c.args.ground.now c.args.pages.now c.grow-2.new.ground c.grow-2.new.pages l3 k) (id_test has) one w2 in
     let w4 = c.in_ok-grow-4.ensures.values (g.met.S.Ground.known c.args.ground.now c.args.pages.now c.grow-3.new.ground c.grow-3.new.pages l4 k) (id_test has) one w3 in
-    let g0 = c.in_ok-grow.ensures.keys (g.met.S.Ground.known c.args.ground.now c.args.pages.now c.args.ground.now c.leaf_of.new.pages l1 k) m has (g.met.S.Ground.steady c.args.ground.now c.args.pages.now c.args.ground.now c.leaf_of.new.pages l1 c.requires.ready k m has tells) w0 one in
-    let g1 = c.in_ok-grow-2.ensures.keys (g.met.S.Ground.known c.args.ground.now c.args.pages.now c.grow.new.ground c.grow.new.pages l2 k) m has (g.met.S.Ground.steady c.args.ground.now c.args.pages.now c.grow.new.ground c.grow.new.pages l2 c.requires.ready k m has tells) w1 one in
-    let g2 = c.in_ok-grow-3.ensures.keys (g.met.S.Ground.known c.args.ground.now c.args.pages.now c.grow-2.new.ground c.grow-2.new.pages l3 k) m has (g.met.S.Ground.steady c.args.ground.now c.args.pages.now c.grow-2.new.ground c.grow-2.new.pages l3 c.requires.ready k m has tells) w2 one in
-    let g3 = c.in_ok-grow-4.ensures.keys (g.met.S.Ground.known c.args.ground.now c.args.pages.now c.grow-3.new.ground c.grow-3.new.pages l4 k) m has (g.met.S.Ground.steady c.args.ground.now c.args.pages.now c.grow-3.new.ground c.grow-3.new.pages l4 c.requires.ready k m has tells) w3 one in
+    let g0 = c.in_ok-grow.ensures.keys (g.met.S.Ground.known c.args.ground.now c.args.pages.now c.args.ground.now c.leaf_of.new.pages l1 k) m has
+    (g.met.S.Ground.steady c.args.ground.now c.args.pages.now c.args.ground.now c.leaf_of.new.pages l1 c.requires.ready k m has tells) w0 one in
+    let g1 = c.in_ok-grow-2.ensures.keys (g.met.S.Ground.known c.args.ground.now c.args.pages.now c.grow.new.ground c.grow.new.pages l2 k) m has
+    (g.met.S.Ground.steady c.args.ground.now c.args.pages.now c.grow.new.ground c.grow.new.pages l2 c.requires.ready k m has tells) w1 one in
+    let g2 = c.in_ok-grow-3.ensures.keys (g.met.S.Ground.known c.args.ground.now c.args.pages.now c.grow-2.new.ground c.grow-2.new.pages l3 k) m has
+    (g.met.S.Ground.steady c.args.ground.now c.args.pages.now c.grow-2.new.ground c.grow-2.new.pages l3 c.requires.ready k m has tells) w2 one in
+    let g3 = c.in_ok-grow-4.ensures.keys (g.met.S.Ground.known c.args.ground.now c.args.pages.now c.grow-3.new.ground c.grow-3.new.pages l4 k) m has
+    (g.met.S.Ground.steady c.args.ground.now c.args.pages.now c.grow-3.new.ground c.grow-3.new.pages l4 c.requires.ready k m has tells) w3 one in
     becomes_from c.args.block _ _ _ _ (ap firsts same)
-    (grow_steps m c.args.threshold c.args.newcomer.id c.args.block _ _ _ _ _ _ _ _ _ _ stands none (sym (c.in_ok-does_meet.ensures.value k m has tells one) ∙ c.if-not-branch.false) c.children.ensures.value g0 g1 g2 g3)
+    (grow_steps m c.args.threshold c.args.newcomer.id c.args.block _ _ _ _ _ _ _ _ _ _ stands none
+    (sym (c.in_ok-does_meet.ensures.value k m has tells one) ∙ c.if-not-branch.false) c.children.ensures.value g0 g1 g2 g3)
 
 pub returns-clause-values : goal.returns-clause-values
 returns-clause-values g t c = λ k test one w.

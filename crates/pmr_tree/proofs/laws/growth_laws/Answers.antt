@@ -15,7 +15,8 @@ returns-clause-shapes c = λ gap rows others threshold id tree same.
 pub returns-clause-fit : goal.returns-clause-fit
 returns-clause-fit c = λ gap rows others ids tree same fit.
     fits_alike (meets_block gap rows) (meets_block gap others) ids
-    (λ b. each_map (λ id. shape_at rows id ≡ shape_at others id) (λ id. meets_block gap rows b id ≡ meets_block gap others b id) (λ id e. meets_alike gap rows others b id e) ids same) root_block tree fit
+    (λ b. each_map (λ id. shape_at rows id ≡ shape_at others id) (λ id. meets_block gap rows b id ≡ meets_block gap others b id)
+    (λ id e. meets_alike gap rows others b id e) ids same) root_block tree fit
 
 pub returns-clause-grown_fits : goal.returns-clause-grown_fits
 returns-clause-grown_fits c = λ gap measure rows ids threshold id tree plane rise shallow fit.

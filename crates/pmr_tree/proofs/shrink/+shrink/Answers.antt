@@ -52,7 +52,8 @@ pub leave-requires-clause-leaf : goal.leave-requires-clause-leaf
 leave-requires-clause-leaf g t c = λ known.
     let l0 = c.in_ok-does_meet.ensures.leads in
     let l1 = g.met.S.Ground.onward c.args.ground.now c.args.pages.now c.args.ground.now c.does_meet.new.pages c.args.ground.now c.leaf_of.new.pages None l0 c.in_ok-list.ensures.leads in
-    let k0 = g.met.S.Ground.known c.args.ground.now c.args.pages.now c.args.ground.now c.does_meet.new.pages l0 (g.met.S.Ground.knew c.args.ground.now c.args.pages.now c.args.ground.now c.leaf_of.new.pages l1 known) in
+    let k0 = g.met.S.Ground.known c.args.ground.now c.args.pages.now c.args.ground.now c.does_meet.new.pages l0
+    (g.met.S.Ground.knew c.args.ground.now c.args.pages.now c.args.ground.now c.leaf_of.new.pages l1 known) in
     leaf_later c.args.block _ _ _ _ (ap firsts (c.in_ok-list.ensures.same k0)) c.deref.ensures.value (some_found _ _ _ _ c.in-Some.is (c.in_ok-list.ensures.found k0))
 
 pub returns-in_err-leave-clause-leads : goal.returns-in_err-leave-clause-leads
@@ -94,7 +95,8 @@ returns-in-Some-clause-keys g t c = λ k m has tells one.
     let leaf = some_found _ _ _ _ c.in-Some.is (c.in_ok-list.ensures.found k0) in
     becomes_from c.args.block _ _ _ _ (ap firsts (c.in_ok-does_meet.ensures.same k))
     (shrunk_leaf m c.args.threshold c.args.id c.args.block _ _ _ leaf (sym (c.in_ok-does_meet.ensures.value k m has tells one) ∙ c.if-not-branch.false)
-    (becomes_from c.args.block _ _ _ _ (ap firsts (c.in_ok-list.ensures.same k0)) (c.in_ok-leave.ensures.keys (g.met.S.Ground.known c.args.ground.now c.args.pages.now c.args.ground.now c.leaf_of.new.pages l1 k))))
+    (becomes_from c.args.block _ _ _ _ (ap firsts (c.in_ok-list.ensures.same k0))
+    (c.in_ok-leave.ensures.keys (g.met.S.Ground.known c.args.ground.now c.args.pages.now c.args.ground.now c.leaf_of.new.pages l1 k))))
 
 pub returns-in-Some-clause-values : goal.returns-in-Some-clause-values
 returns-in-Some-clause-values g t c = λ k test w.
@@ -133,12 +135,14 @@ shrink-requires g t c κs live =
                   λ known.
                       let k = g.met.S.Ground.knew c.args.ground.now c.args.pages.now c.args.ground.now c.leaf_of.new.pages l1 known in
                       let same = c.in_ok-list.ensures.same (g.met.S.Ground.known c.args.ground.now c.args.pages.now c.args.ground.now c.does_meet.new.pages l0 k) ∙ c.in_ok-does_meet.ensures.same k in
-                      let none = ap (own c.args.block) (ap firsts (c.in_ok-list.ensures.same (g.met.S.Ground.known c.args.ground.now c.args.pages.now c.args.ground.now c.does_meet.new.pages l0 k))) ∙ none_found _ _ _ c.in_default.is (c.in_ok-list.ensures.found (g.met.S.Ground.known c.args.ground.now c.args.pages.now c.args.ground.now c.does_meet.new.pages l0 k)) in
+                      let none = ap (own c.args.block) (ap firsts (c.in_ok-list.ensures.same (g.met.S.Ground.known c.args.ground.now c.args.pages.now c.args.ground.now c.does_meet.new.pages l0 k)))
+                      ∙ none_found _ _ _ c.in_default.is (c.in_ok-list.ensures.found (g.met.S.Ground.known c.args.ground.now c.args.pages.now c.args.ground.now c.does_meet.new.pages l0 k)) in
                       let stands = subst (Stands c.args.block) (sym (ap firsts same)) (c.requires.stands k) in
                       stands_first c.args.block _ _ _ c.children.ensures.value stands none,
                   λ known.
                       let k = g.met.S.Ground.knew c.args.ground.now c.args.pages.now c.args.ground.now c.leaf_of.new.pages l1 known in
-                      told_later _ _ [] [] c.args.id (g.met.S.Ground.steady c.args.ground.now c.args.pages.now c.args.ground.now c.leaf_of.new.pages l1 c.requires.ready k) (λ has one w. w) (c.requires.shapes k),
+                      told_later _ _ [] [] c.args.id (g.met.S.Ground.steady c.args.ground.now c.args.pages.now c.args.ground.now c.leaf_of.new.pages l1 c.requires.ready k)
+                      (λ has one w. w) (c.requires.shapes k),
                 ),
               ),
             ),
@@ -170,14 +174,17 @@ shrink-requires-2 g t c κs live =
                   λ known.
                       let k = g.met.S.Ground.knew c.args.ground.now c.args.pages.now c.shrink.new.ground c.shrink.new.pages l2 known in
                       let same = c.in_ok-list.ensures.same (g.met.S.Ground.known c.args.ground.now c.args.pages.now c.args.ground.now c.does_meet.new.pages l0 k) ∙ c.in_ok-does_meet.ensures.same k in
-                      let none = ap (own c.args.block) (ap firsts (c.in_ok-list.ensures.same (g.met.S.Ground.known c.args.ground.now c.args.pages.now c.args.ground.now c.does_meet.new.pages l0 k))) ∙ none_found _ _ _ c.in_default.is (c.in_ok-list.ensures.found (g.met.S.Ground.known c.args.ground.now c.args.pages.now c.args.ground.now c.does_meet.new.pages l0 k)) in
+                      let none = ap (own c.args.block) (ap firsts (c.in_ok-list.ensures.same (g.met.S.Ground.known c.args.ground.now c.args.pages.now c.args.ground.now c.does_meet.new.pages l0 k)))
+                      ∙ none_found _ _ _ c.in_default.is (c.in_ok-list.ensures.found (g.met.S.Ground.known c.args.ground.now c.args.pages.now c.args.ground.now c.does_meet.new.pages l0 k)) in
                       let stands = subst (Stands c.args.block) (sym (ap firsts same)) (c.requires.stands k) in
                       let told = c.requires.shapes k in
-                      let g0 = c.in_ok-shrink.ensures.keys (g.met.S.Ground.known c.args.ground.now c.args.pages.now c.args.ground.now c.leaf_of.new.pages l1 k) told.meets told.has (g.met.S.Ground.steady c.args.ground.now c.args.pages.now c.args.ground.now c.leaf_of.new.pages l1 c.requires.ready k told.meets told.has told.told) told.one in
+                      let g0 = c.in_ok-shrink.ensures.keys (g.met.S.Ground.known c.args.ground.now c.args.pages.now c.args.ground.now c.leaf_of.new.pages l1 k) told.meets told.has
+                      (g.met.S.Ground.steady c.args.ground.now c.args.pages.now c.args.ground.now c.leaf_of.new.pages l1 c.requires.ready k told.meets told.has told.told) told.one in
                       stands_second c.args.block _ _ _ (λ x. shrunk_where told.meets c.args.threshold c.args.id x) _ _ c.children.ensures.value stands none g0,
                   λ known.
                       let k = g.met.S.Ground.knew c.args.ground.now c.args.pages.now c.shrink.new.ground c.shrink.new.pages l2 known in
-                      told_later _ _ [] [] c.args.id (g.met.S.Ground.steady c.args.ground.now c.args.pages.now c.shrink.new.ground c.shrink.new.pages l2 c.requires.ready k) (λ has one w. w) (c.requires.shapes k),
+                      told_later _ _ [] [] c.args.id (g.met.S.Ground.steady c.args.ground.now c.args.pages.now c.shrink.new.ground c.shrink.new.pages l2 c.requires.ready k)
+                      (λ has one w. w) (c.requires.shapes k),
                 ),
               ),
             ),
@@ -210,15 +217,20 @@ shrink-requires-3 g t c κs live =
                   λ known.
                       let k = g.met.S.Ground.knew c.args.ground.now c.args.pages.now c.shrink-2.new.ground c.shrink-2.new.pages l3 known in
                       let same = c.in_ok-list.ensures.same (g.met.S.Ground.known c.args.ground.now c.args.pages.now c.args.ground.now c.does_meet.new.pages l0 k) ∙ c.in_ok-does_meet.ensures.same k in
-                      let none = ap (own c.args.block) (ap firsts (c.in_ok-list.ensures.same (g.met.S.Ground.known c.args.ground.now c.args.pages.now c.args.ground.now c.does_meet.new.pages l0 k))) ∙ none_found _ _ _ c.in_default.is (c.in_ok-list.ensures.found (g.met.S.Ground.known c.args.ground.now c.args.pages.now c.args.ground.now c.does_meet.new.pages l0 k)) in
+                      let none = ap (own c.args.block) (ap firsts (c.in_ok-list.ensures.same (g.met.S.Ground.known c.args.ground.now c.args.pages.now c.args.ground.now c.does_meet.new.pages l0 k)))
+                      ∙ none_found _ _ _ c.in_default.is (c.in_ok-list.ensures.found (g.met.S.Ground.known c.args.ground.now c.args.pages.now c.args.ground.now c.does_meet.new.pages l0 k)) in
                       let stands = subst (Stands c.args.block) (sym (ap firsts same)) (c.requires.stands k) in
                       let told = c.requires.shapes k in
-                      let g0 = c.in_ok-shrink.ensures.keys (g.met.S.Ground.known c.args.ground.now c.args.pages.now c.args.ground.now c.leaf_of.new.pages l1 k) told.meets told.has (g.met.S.Ground.steady c.args.ground.now c.args.pages.now c.args.ground.now c.leaf_of.new.pages l1 c.requires.ready k told.meets told.has told.told) told.one in
-                      let g1 = c.in_ok-shrink-2.ensures.keys (g.met.S.Ground.known c.args.ground.now c.args.pages.now c.shrink.new.ground c.shrink.new.pages l2 k) told.meets told.has (g.met.S.Ground.steady c.args.ground.now c.args.pages.now c.shrink.new.ground c.shrink.new.pages l2 c.requires.ready k told.meets told.has told.told) told.one in
-                      stands_third c.args.block _ _ _ _ (λ x. shrunk_where told.meets c.args.threshold c.args.id x) (λ x. shrunk_where told.meets c.args.threshold c.args.id x) _ _ _ c.children.ensures.value stands none g0 g1,
+                      let g0 = c.in_ok-shrink.ensures.keys (g.met.S.Ground.known c.args.ground.now c.args.pages.now c.args.ground.now c.leaf_of.new.pages l1 k) told.meets told.has
+                      (g.met.S.Ground.steady c.args.ground.now c.args.pages.now c.args.ground.now c.leaf_of.new.pages l1 c.requires.ready k told.meets told.has told.told) told.one in
+                      let g1 = c.in_ok-shrink-2.ensures.keys (g.met.S.Ground.known c.args.ground.now c.args.pages.now c.shrink.new.ground c.shrink.new.pages l2 k) told.meets told.has
+                      (g.met.S.Ground.steady c.args.ground.now c.args.pages.now c.shrink.new.ground c.shrink.new.pages l2 c.requires.ready k told.meets told.has told.told) told.one in
+                      stands_third c.args.block _ _ _ _ (λ x. shrunk_where told.meets c.args.threshold c.args.id x)
+                      (λ x. shrunk_where told.meets c.args.threshold c.args.id x) _ _ _ c.children.ensures.value stands none g0 g1,
                   λ known.
                       let k = g.met.S.Ground.knew c.args.ground.now c.args.pages.now c.shrink-2.new.ground c.shrink-2.new.pages l3 known in
-                      told_later _ _ [] [] c.args.id (g.met.S.Ground.steady c.args.ground.now c.args.pages.now c.shrink-2.new.ground c.shrink-2.new.pages l3 c.requires.ready k) (λ has one w. w) (c.requires.shapes k),
+                      told_later _ _ [] [] c.args.id (g.met.S.Ground.steady c.args.ground.now c.args.pages.now c.shrink-2.new.ground c.shrink-2.new.pages l3 c.requires.ready k)
+                      (λ has one w. w) (c.requires.shapes k),
                 ),
               ),
             ),
@@ -252,16 +264,22 @@ shrink-requires-4 g t c κs live =
                   λ known.
                       let k = g.met.S.Ground.knew c.args.ground.now c.args.pages.now c.shrink-3.new.ground c.shrink-3.new.pages l4 known in
                       let same = c.in_ok-list.ensures.same (g.met.S.Ground.known c.args.ground.now c.args.pages.now c.args.ground.now c.does_meet.new.pages l0 k) ∙ c.in_ok-does_meet.ensures.same k in
-                      let none = ap (own c.args.block) (ap firsts (c.in_ok-list.ensures.same (g.met.S.Ground.known c.args.ground.now c.args.pages.now c.args.ground.now c.does_meet.new.pages l0 k))) ∙ none_found _ _ _ c.in_default.is (c.in_ok-list.ensures.found (g.met.S.Ground.known c.args.ground.now c.args.pages.now c.args.ground.now c.does_meet.new.pages l0 k)) in
+                      let none = ap (own c.args.block) (ap firsts (c.in_ok-list.ensures.same (g.met.S.Ground.known c.args.ground.now c.args.pages.now c.args.ground.now c.does_meet.new.pages l0 k)))
+                      ∙ none_found _ _ _ c.in_default.is (c.in_ok-list.ensures.found (g.met.S.Ground.known c.args.ground.now c.args.pages.now c.args.ground.now c.does_meet.new.pages l0 k)) in
                       let stands = subst (Stands c.args.block) (sym (ap firsts same)) (c.requires.stands k) in
                       let told = c.requires.shapes k in
-                      let g0 = c.in_ok-shrink.ensures.keys (g.met.S.Ground.known c.args.ground.now c.args.pages.now c.args.ground.now c.leaf_of.new.pages l1 k) told.meets told.has (g.met.S.Ground.steady c.args.ground.now c.args.pages.now c.args.ground.now c.leaf_of.new.pages l1 c.requires.ready k told.meets told.has told.told) told.one in
-                      let g1 = c.in_ok-shrink-2.ensures.keys (g.met.S.Ground.known c.args.ground.now c.args.pages.now c.shrink.new.ground c.shrink.new.pages l2 k) told.meets told.has (g.met.S.Ground.steady c.args.ground.now c.args.pages.now c.shrink.new.ground c.shrink.new.pages l2 c.requires.ready k told.meets told.has told.told) told.one in
-                      let g2 = c.in_ok-shrink-3.ensures.keys (g.met.S.Ground.known c.args.ground.now c.args.pages.now c.shrink-2.new.ground c.shrink-2.new.pages l3 k) told.meets told.has (g.met.S.Ground.steady c.args.ground.now c.args.pages.now c.shrink-2.new.ground c.shrink-2.new.pages l3 c.requires.ready k told.meets told.has told.told) told.one in
-                      stands_fourth c.args.block _ _ _ _ _ (λ x. shrunk_where told.meets c.args.threshold c.args.id x) (λ x. shrunk_where told.meets c.args.threshold c.args.id x) (λ x. shrunk_where told.meets c.args.threshold c.args.id x) _ _ _ _ c.children.ensures.value stands none g0 g1 g2,
+                      let g0 = c.in_ok-shrink.ensures.keys (g.met.S.Ground.known c.args.ground.now c.args.pages.now c.args.ground.now c.leaf_of.new.pages l1 k) told.meets told.has
+                      (g.met.S.Ground.steady c.args.ground.now c.args.pages.now c.args.ground.now c.leaf_of.new.pages l1 c.requires.ready k told.meets told.has told.told) told.one in
+                      let g1 = c.in_ok-shrink-2.ensures.keys (g.met.S.Ground.known c.args.ground.now c.args.pages.now c.shrink.new.ground c.shrink.new.pages l2 k) told.meets told.has
+                      (g.met.S.Ground.steady c.args.ground.now c.args.pages.now c.shrink.new.ground c.shrink.new.pages l2 c.requires.ready k told.meets told.has told.told) told.one in
+                      let g2 = c.in_ok-shrink-3.ensures.keys (g.met.S.Ground.known c.args.ground.now c.args.pages.now c.shrink-2.new.ground c.shrink-2.new.pages l3 k) told.meets told.has
+                      (g.met.S.Ground.steady c.args.ground.now c.args.pages.now c.shrink-2.new.ground c.shrink-2.new.pages l3 c.requires.ready k told.meets told.has told.told) told.one in
+                      stands_fourth c.args.block _ _ _ _ _ (λ x. shrunk_where told.meets c.args.threshold c.args.id x)
+                      (λ x. shrunk_where told.meets c.args.threshold c.args.id x) (λ x. shrunk_where told.meets c.args.threshold c.args.id x) _ _ _ _ c.children.ensures.value stands none g0 g1 g2,
                   λ known.
                       let k = g.met.S.Ground.knew c.args.ground.now c.args.pages.now c.shrink-3.new.ground c.shrink-3.new.pages l4 known in
-                      told_later _ _ [] [] c.args.id (g.met.S.Ground.steady c.args.ground.now c.args.pages.now c.shrink-3.new.ground c.shrink-3.new.pages l4 c.requires.ready k) (λ has one w. w) (c.requires.shapes k),
+                      told_later _ _ [] [] c.args.id (g.met.S.Ground.steady c.args.ground.now c.args.pages.now c.shrink-3.new.ground c.shrink-3.new.pages l4 c.requires.ready k)
+                      (λ has one w. w) (c.requires.shapes k),
                 ),
               ),
             ),
@@ -335,13 +353,18 @@ merge-requires-clause-stands g t c = λ known.
     let l5 = g.met.S.Ground.onward c.args.ground.now c.args.pages.now c.shrink-3.new.ground c.shrink-3.new.pages c.shrink-4.new.ground c.shrink-4.new.pages None l4 c.in_ok-shrink-4.ensures.leads in
     let k = g.met.S.Ground.knew c.args.ground.now c.args.pages.now c.shrink-4.new.ground c.shrink-4.new.pages l5 known in
     let same = c.in_ok-list.ensures.same (g.met.S.Ground.known c.args.ground.now c.args.pages.now c.args.ground.now c.does_meet.new.pages l0 k) ∙ c.in_ok-does_meet.ensures.same k in
-    let none = ap (own c.args.block) (ap firsts (c.in_ok-list.ensures.same (g.met.S.Ground.known c.args.ground.now c.args.pages.now c.args.ground.now c.does_meet.new.pages l0 k))) ∙ none_found _ _ _ c.in_default.is (c.in_ok-list.ensures.found (g.met.S.Ground.known c.args.ground.now c.args.pages.now c.args.ground.now c.does_meet.new.pages l0 k)) in
+    let none = ap (own c.args.block) (ap firsts (c.in_ok-list.ensures.same (g.met.S.Ground.known c.args.ground.now c.args.pages.now c.args.ground.now c.does_meet.new.pages l0 k)))
+    ∙ none_found _ _ _ c.in_default.is (c.in_ok-list.ensures.found (g.met.S.Ground.known c.args.ground.now c.args.pages.now c.args.ground.now c.does_meet.new.pages l0 k)) in
     let stands = subst (Stands c.args.block) (sym (ap firsts same)) (c.requires.stands k) in
     let told = c.requires.shapes k in
-    let g0 = c.in_ok-shrink.ensures.keys (g.met.S.Ground.known c.args.ground.now c.args.pages.now c.args.ground.now c.leaf_of.new.pages l1 k) told.meets told.has (g.met.S.Ground.steady c.args.ground.now c.args.pages.now c.args.ground.now c.leaf_of.new.pages l1 c.requires.ready k told.meets told.has told.told) told.one in
-    let g1 = c.in_ok-shrink-2.ensures.keys (g.met.S.Ground.known c.args.ground.now c.args.pages.now c.shrink.new.ground c.shrink.new.pages l2 k) told.meets told.has (g.met.S.Ground.steady c.args.ground.now c.args.pages.now c.shrink.new.ground c.shrink.new.pages l2 c.requires.ready k told.meets told.has told.told) told.one in
-    let g2 = c.in_ok-shrink-3.ensures.keys (g.met.S.Ground.known c.args.ground.now c.args.pages.now c.shrink-2.new.ground c.shrink-2.new.pages l3 k) told.meets told.has (g.met.S.Ground.steady c.args.ground.now c.args.pages.now c.shrink-2.new.ground c.shrink-2.new.pages l3 c.requires.ready k told.meets told.has told.told) told.one in
-    let g3 = c.in_ok-shrink-4.ensures.keys (g.met.S.Ground.known c.args.ground.now c.args.pages.now c.shrink-3.new.ground c.shrink-3.new.pages l4 k) told.meets told.has (g.met.S.Ground.steady c.args.ground.now c.args.pages.now c.shrink-3.new.ground c.shrink-3.new.pages l4 c.requires.ready k told.meets told.has told.told) told.one in
+    let g0 = c.in_ok-shrink.ensures.keys (g.met.S.Ground.known c.args.ground.now c.args.pages.now c.args.ground.now c.leaf_of.new.pages l1 k) told.meets told.has
+    (g.met.S.Ground.steady c.args.ground.now c.args.pages.now c.args.ground.now c.leaf_of.new.pages l1 c.requires.ready k told.meets told.has told.told) told.one in
+    let g1 = c.in_ok-shrink-2.ensures.keys (g.met.S.Ground.known c.args.ground.now c.args.pages.now c.shrink.new.ground c.shrink.new.pages l2 k) told.meets told.has
+    (g.met.S.Ground.steady c.args.ground.now c.args.pages.now c.shrink.new.ground c.shrink.new.pages l2 c.requires.ready k told.meets told.has told.told) told.one in
+    let g2 = c.in_ok-shrink-3.ensures.keys (g.met.S.Ground.known c.args.ground.now c.args.pages.now c.shrink-2.new.ground c.shrink-2.new.pages l3 k) told.meets told.has
+    (g.met.S.Ground.steady c.args.ground.now c.args.pages.now c.shrink-2.new.ground c.shrink-2.new.pages l3 c.requires.ready k told.meets told.has told.told) told.one in
+    let g3 = c.in_ok-shrink-4.ensures.keys (g.met.S.Ground.known c.args.ground.now c.args.pages.now c.shrink-3.new.ground c.shrink-3.new.pages l4 k) told.meets told.has
+    (g.met.S.Ground.steady c.args.ground.now c.args.pages.now c.shrink-3.new.ground c.shrink-3.new.pages l4 c.requires.ready k told.meets told.has told.told) told.one in
     stands_after c.args.block _ _ _ (shrink_steps told.meets c.args.threshold c.args.id c.args.block _ _ _ _ _ _ _ _ _ _ stands none c.children.ensures.value g0 g1 g2 g3) stands
 
 pub merge-requires-clause-inner : goal.merge-requires-clause-inner
@@ -354,14 +377,22 @@ merge-requires-clause-inner g t c = λ known.
     let l5 = g.met.S.Ground.onward c.args.ground.now c.args.pages.now c.shrink-3.new.ground c.shrink-3.new.pages c.shrink-4.new.ground c.shrink-4.new.pages None l4 c.in_ok-shrink-4.ensures.leads in
     let k = g.met.S.Ground.knew c.args.ground.now c.args.pages.now c.shrink-4.new.ground c.shrink-4.new.pages l5 known in
     let same = c.in_ok-list.ensures.same (g.met.S.Ground.known c.args.ground.now c.args.pages.now c.args.ground.now c.does_meet.new.pages l0 k) ∙ c.in_ok-does_meet.ensures.same k in
-    let none = ap (own c.args.block) (ap firsts (c.in_ok-list.ensures.same (g.met.S.Ground.known c.args.ground.now c.args.pages.now c.args.ground.now c.does_meet.new.pages l0 k))) ∙ none_found _ _ _ c.in_default.is (c.in_ok-list.ensures.found (g.met.S.Ground.known c.args.ground.now c.args.pages.now c.args.ground.now c.does_meet.new.pages l0 k)) in
+    let none = ap (own c.args.block) (ap firsts (c.in_ok-list.ensures.same (g.met.S.Ground.known c.args.ground.now c.args.pages.now c.args.ground.now c.does_meet.new.pages l0 k)))
+    ∙ none_found _ _ _ c.in_default.is (c.in_ok-list.ensures.found (g.met.S.Ground.known c.args.ground.now c.args.pages.now c.args.ground.now c.does_meet.new.pages l0 k)) in
     let stands = subst (Stands c.args.block) (sym (ap firsts same)) (c.requires.stands k) in
     let told = c.requires.shapes k in
-    let g0 = c.in_ok-shrink.ensures.keys (g.met.S.Ground.known c.args.ground.now c.args.pages.now c.args.ground.now c.leaf_of.new.pages l1 k) told.meets told.has (g.met.S.Ground.steady c.args.ground.now c.args.pages.now c.args.ground.now c.leaf_of.new.pages l1 c.requires.ready k told.meets told.has told.told) told.one in
-    let g1 = c.in_ok-shrink-2.ensures.keys (g.met.S.Ground.known c.args.ground.now c.args.pages.now c.shrink.new.ground c.shrink.new.pages l2 k) told.meets told.has (g.met.S.Ground.steady c.args.ground.now c.args.pages.now c.shrink.new.ground c.shrink.new.pages l2 c.requires.ready k told.meets told.has told.told) told.one in
-    let g2 = c.in_ok-shrink-3.ensures.keys (g.met.S.Ground.known c.args.ground.now c.args.pages.now c.shrink-2.new.ground c.shrink-2.new.pages l3 k) told.meets told.has (g.met.S.Ground.steady c.args.ground.now c.args.pages.now c.shrink-2.new.ground c.shrink-2.new.pages l3 c.requires.ready k told.meets told.has told.told) told.one in
-    let g3 = c.in_ok-shrink-4.ensures.keys (g.met.S.Ground.known c.args.ground.now c.args.pages.now c.shrink-3.new.ground c.shrink-3.new.pages l4 k) told.meets told.has (g.met.S.Ground.steady c.args.ground.now c.args.pages.now c.shrink-3.new.ground c.shrink-3.new.pages l4 c.requires.ready k told.meets told.has told.told) told.one in
-    still_inner c.args.block (below_shrunk told.meets c.args.threshold c.args.id c.args.block) (shrunk_where told.meets c.args.threshold c.args.id (child c.args.block 0)) (shrunk_where told.meets c.args.threshold c.args.id (child c.args.block 1)) (shrunk_where told.meets c.args.threshold c.args.id (child c.args.block 2)) (shrunk_where told.meets c.args.threshold c.args.id (child c.args.block 3)) _ _ (λ p q r s. refl) stands none (shrink_steps told.meets c.args.threshold c.args.id c.args.block _ _ _ _ _ _ _ _ _ _ stands none c.children.ensures.value g0 g1 g2 g3)
+    let g0 = c.in_ok-shrink.ensures.keys (g.met.S.Ground.known c.args.ground.now c.args.pages.now c.args.ground.now c.leaf_of.new.pages l1 k) told.meets told.has
+    (g.met.S.Ground.steady c.args.ground.now c.args.pages.now c.args.ground.now c.leaf_of.new.pages l1 c.requires.ready k told.meets told.has told.told) told.one in
+    let g1 = c.in_ok-shrink-2.ensures.keys (g.met.S.Ground.known c.args.ground.now c.args.pages.now c.shrink.new.ground c.shrink.new.pages l2 k) told.meets told.has
+    (g.met.S.Ground.steady c.args.ground.now c.args.pages.now c.shrink.new.ground c.shrink.new.pages l2 c.requires.ready k told.meets told.has told.told) told.one in
+    let g2 = c.in_ok-shrink-3.ensures.keys (g.met.S.Ground.known c.args.ground.now c.args.pages.now c.shrink-2.new.ground c.shrink-2.new.pages l3 k) told.meets told.has
+    (g.met.S.Ground.steady c.args.ground.now c.args.pages.now c.shrink-2.new.ground c.shrink-2.new.pages l3 c.requires.ready k told.meets told.has told.told) told.one in
+    let g3 = c.in_ok-shrink-4.ensures.keys (g.met.S.Ground.known c.args.ground.now c.args.pages.now c.shrink-3.new.ground c.shrink-3.new.pages l4 k) told.meets told.has
+    (g.met.S.Ground.steady c.args.ground.now c.args.pages.now c.shrink-3.new.ground c.shrink-3.new.pages l4 c.requires.ready k told.meets told.has told.told) told.one in
+    still_inner c.args.block (below_shrunk told.meets c.args.threshold c.args.id c.args.block) (shrunk_where told.meets c.args.threshold c.args.id (child c.args.block 0))
+    (shrunk_where told.meets c.args.threshold c.args.id (child c.args.block 1)) (shrunk_where told.meets c.args.threshold c.args.id (child c.args.block 2))
+    (shrunk_where told.meets c.args.threshold c.args.id (child c.args.block 3)) _ _ (λ p q r s. refl) stands none
+    (shrink_steps told.meets c.args.threshold c.args.id c.args.block _ _ _ _ _ _ _ _ _ _ stands none c.children.ensures.value g0 g1 g2 g3)
 
 pub returns-clause-leads : goal.returns-clause-leads
 returns-clause-leads g t c =
@@ -382,14 +413,21 @@ returns-clause-keys g t c = λ k m has tells one.
     let l4 = g.met.S.Ground.onward c.args.ground.now c.args.pages.now c.shrink-2.new.ground c.shrink-2.new.pages c.shrink-3.new.ground c.shrink-3.new.pages None l3 c.in_ok-shrink-3.ensures.leads in
     let l5 = g.met.S.Ground.onward c.args.ground.now c.args.pages.now c.shrink-3.new.ground c.shrink-3.new.pages c.shrink-4.new.ground c.shrink-4.new.pages None l4 c.in_ok-shrink-4.ensures.leads in
     let same = c.in_ok-list.ensures.same (g.met.S.Ground.known c.args.ground.now c.args.pages.now c.args.ground.now c.does_meet.new.pages l0 k) ∙ c.in_ok-does_meet.ensures.same k in
-    let none = ap (own c.args.block) (ap firsts (c.in_ok-list.ensures.same (g.met.S.Ground.known c.args.ground.now c.args.pages.now c.args.ground.now c.does_meet.new.pages l0 k))) ∙ none_found _ _ _ c.in_default.is (c.in_ok-list.ensures.found (g.met.S.Ground.known c.args.ground.now c.args.pages.now c.args.ground.now c.does_meet.new.pages l0 k)) in
+    let none = ap (own c.args.block) (ap firsts (c.in_ok-list.ensures.same (g.met.S.Ground.known c.args.ground.now c.args.pages.now c.args.ground.now c.does_meet.new.pages l0 k)))
+    ∙ none_found _ _ _ c.in_default.is (c.in_ok-list.ensures.found (g.met.S.Ground.known c.args.ground.now c.args.pages.now c.args.ground.now c.does_meet.new.pages l0 k)) in
     let stands = subst (Stands c.args.block) (sym (ap firsts same)) (c.requires.stands k) in
-    let g0 = c.in_ok-shrink.ensures.keys (g.met.S.Ground.known c.args.ground.now c.args.pages.now c.args.ground.now c.leaf_of.new.pages l1 k) m has (g.met.S.Ground.steady c.args.ground.now c.args.pages.now c.args.ground.now c.leaf_of.new.pages l1 c.requires.ready k m has tells) one in
-    let g1 = c.in_ok-shrink-2.ensures.keys (g.met.S.Ground.known c.args.ground.now c.args.pages.now c.shrink.new.ground c.shrink.new.pages l2 k) m has (g.met.S.Ground.steady c.args.ground.now c.args.pages.now c.shrink.new.ground c.shrink.new.pages l2 c.requires.ready k m has tells) one in
-    let g2 = c.in_ok-shrink-3.ensures.keys (g.met.S.Ground.known c.args.ground.now c.args.pages.now c.shrink-2.new.ground c.shrink-2.new.pages l3 k) m has (g.met.S.Ground.steady c.args.ground.now c.args.pages.now c.shrink-2.new.ground c.shrink-2.new.pages l3 c.requires.ready k m has tells) one in
-    let g3 = c.in_ok-shrink-4.ensures.keys (g.met.S.Ground.known c.args.ground.now c.args.pages.now c.shrink-3.new.ground c.shrink-3.new.pages l4 k) m has (g.met.S.Ground.steady c.args.ground.now c.args.pages.now c.shrink-3.new.ground c.shrink-3.new.pages l4 c.requires.ready k m has tells) one in
+    let g0 = c.in_ok-shrink.ensures.keys (g.met.S.Ground.known c.args.ground.now c.args.pages.now c.args.ground.now c.leaf_of.new.pages l1 k) m has
+    (g.met.S.Ground.steady c.args.ground.now c.args.pages.now c.args.ground.now c.leaf_of.new.pages l1 c.requires.ready k m has tells) one in
+    let g1 = c.in_ok-shrink-2.ensures.keys (g.met.S.Ground.known c.args.ground.now c.args.pages.now c.shrink.new.ground c.shrink.new.pages l2 k) m has
+    (g.met.S.Ground.steady c.args.ground.now c.args.pages.now c.shrink.new.ground c.shrink.new.pages l2 c.requires.ready k m has tells) one in
+    let g2 = c.in_ok-shrink-3.ensures.keys (g.met.S.Ground.known c.args.ground.now c.args.pages.now c.shrink-2.new.ground c.shrink-2.new.pages l3 k) m has
+    (g.met.S.Ground.steady c.args.ground.now c.args.pages.now c.shrink-2.new.ground c.shrink-2.new.pages l3 c.requires.ready k m has tells) one in
+    let g3 = c.in_ok-shrink-4.ensures.keys (g.met.S.Ground.known c.args.ground.now c.args.pages.now c.shrink-3.new.ground c.shrink-3.new.pages l4 k) m has
+    (g.met.S.Ground.steady c.args.ground.now c.args.pages.now c.shrink-3.new.ground c.shrink-3.new.pages l4 c.requires.ready k m has tells) one in
     becomes_from c.args.block _ _ _ _ (ap firsts same)
-    (shrunk_inner m c.args.threshold c.args.id c.args.block _ _ _ none (sym (c.in_ok-does_meet.ensures.value k m has tells one) ∙ c.if-not-branch.false) (shrink_steps m c.args.threshold c.args.id c.args.block _ _ _ _ _ _ _ _ _ _ stands none c.children.ensures.value g0 g1 g2 g3) (c.in_ok-merge.ensures.keys (g.met.S.Ground.known c.args.ground.now c.args.pages.now c.shrink-4.new.ground c.shrink-4.new.pages l5 k)))
+    (shrunk_inner m c.args.threshold c.args.id c.args.block _ _ _ none (sym (c.in_ok-does_meet.ensures.value k m has tells one) ∙ c.if-not-branch.false)
+    (shrink_steps m c.args.threshold c.args.id c.args.block _ _ _ _ _ _ _ _ _ _ stands none c.children.ensures.value g0 g1 g2 g3)
+    (c.in_ok-merge.ensures.keys (g.met.S.Ground.known c.args.ground.now c.args.pages.now c.shrink-4.new.ground c.shrink-4.new.pages l5 k)))
 
 pub returns-clause-values : goal.returns-clause-values
 returns-clause-values g t c = λ k test w.

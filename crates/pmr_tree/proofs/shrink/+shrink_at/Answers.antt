@@ -10,7 +10,8 @@ shrink_at-requires g t c κs live =
     let below = c.if-block-leaf.false in
     let child = c.block_with-child in
     let step : g.S.Ground.IsKnown c.args.ground.now c.args.pages.now → Step c.args.leaf c.args.block child.result c.args.id (firsts (g.S.Ground.pairs c.args.ground.now c.args.pages.now)) =
-    λ k. step_of c.args.leaf c.args.block child.result c.args.id (firsts (g.S.Ground.pairs c.args.ground.now c.args.pages.now)) (c.requires.place k below) below c.requires.block child.ensures.block child.ensures.level child.ensures.code in (
+    λ k. step_of c.args.leaf c.args.block child.result c.args.id (firsts (g.S.Ground.pairs c.args.ground.now c.args.pages.now))
+    (c.requires.place k below) below c.requires.block child.ensures.block child.ensures.level child.ensures.code in (
       omega (arith, below, c.requires.leaf.in_tree, child.ensures.level),
       (
         live.0,
@@ -64,7 +65,8 @@ pub returns-then-not-branch-clause-keys : goal.returns-then-not-branch-clause-ke
 returns-then-not-branch-clause-keys g t c = λ k m has tells one.
     let below = c.if-block-leaf.false in
     let child = c.block_with-child in
-    let step = step_of c.args.leaf c.args.block child.result c.args.id (firsts (g.S.Ground.pairs c.args.ground.now c.args.pages.now)) (c.requires.place k below) below c.requires.block child.ensures.block child.ensures.level child.ensures.code in
+    let step = step_of c.args.leaf c.args.block child.result c.args.id (firsts (g.S.Ground.pairs c.args.ground.now c.args.pages.now))
+    (c.requires.place k below) below c.requires.block child.ensures.block child.ensures.level child.ensures.code in
     block_kept c.args.leaf c.args.block child.result c.args.id _ step m (c.requires.alone k below m has tells one) c.args.threshold _ (c.in_ok-shrink_at.ensures.keys k m has tells one)
     (c.in_ok-shrink_at.ensures.inner c.if-not-branch.true k)
 
@@ -72,33 +74,40 @@ pub returns-then-not-branch-clause-inner : goal.returns-then-not-branch-clause-i
 returns-then-not-branch-clause-inner g t c = λ no k.
     let below = c.if-block-leaf.false in
     let child = c.block_with-child in
-    let step = step_of c.args.leaf c.args.block child.result c.args.id (firsts (g.S.Ground.pairs c.args.ground.now c.args.pages.now)) (c.requires.place k below) below c.requires.block child.ensures.block child.ensures.level child.ensures.code in
+    let step = step_of c.args.leaf c.args.block child.result c.args.id (firsts (g.S.Ground.pairs c.args.ground.now c.args.pages.now))
+    (c.requires.place k below) below c.requires.block child.ensures.block child.ensures.level child.ensures.code in
     let told = c.requires.shapes k in
-    block_inner c.args.leaf c.args.block child.result c.args.id _ step told.meets (c.requires.alone k below told.meets told.has told.told told.one) c.args.threshold _ (c.in_ok-shrink_at.ensures.keys k told.meets told.has told.told told.one)
+    block_inner c.args.leaf c.args.block child.result c.args.id _ step told.meets (c.requires.alone k below told.meets told.has told.told told.one) c.args.threshold _
+    (c.in_ok-shrink_at.ensures.keys k told.meets told.has told.told told.one)
 
 pub merge-requires-clause-stands : goal.merge-requires-clause-stands
 merge-requires-clause-stands g t c = λ known.
     let below = c.if-block-leaf.false in
     let child = c.block_with-child in
     let k = g.met.S.Ground.knew _ _ _ _ c.in_ok-shrink_at.ensures.leads known in
-    let step = step_of c.args.leaf c.args.block child.result c.args.id (firsts (g.S.Ground.pairs c.args.ground.now c.args.pages.now)) (c.requires.place k below) below c.requires.block child.ensures.block child.ensures.level child.ensures.code in
+    let step = step_of c.args.leaf c.args.block child.result c.args.id (firsts (g.S.Ground.pairs c.args.ground.now c.args.pages.now))
+    (c.requires.place k below) below c.requires.block child.ensures.block child.ensures.level child.ensures.code in
     let told = c.requires.shapes k in
-    block_stands c.args.leaf c.args.block child.result c.args.id _ step told.meets (c.requires.alone k below told.meets told.has told.told told.one) c.args.threshold _ (c.in_ok-shrink_at.ensures.keys k told.meets told.has told.told told.one)
+    block_stands c.args.leaf c.args.block child.result c.args.id _ step told.meets (c.requires.alone k below told.meets told.has told.told told.one) c.args.threshold _
+    (c.in_ok-shrink_at.ensures.keys k told.meets told.has told.told told.one)
 
 pub merge-requires-clause-inner : goal.merge-requires-clause-inner
 merge-requires-clause-inner g t c = λ known.
     let below = c.if-block-leaf.false in
     let child = c.block_with-child in
     let k = g.met.S.Ground.knew _ _ _ _ c.in_ok-shrink_at.ensures.leads known in
-    let step = step_of c.args.leaf c.args.block child.result c.args.id (firsts (g.S.Ground.pairs c.args.ground.now c.args.pages.now)) (c.requires.place k below) below c.requires.block child.ensures.block child.ensures.level child.ensures.code in
+    let step = step_of c.args.leaf c.args.block child.result c.args.id (firsts (g.S.Ground.pairs c.args.ground.now c.args.pages.now))
+    (c.requires.place k below) below c.requires.block child.ensures.block child.ensures.level child.ensures.code in
     let told = c.requires.shapes k in
-    block_inner c.args.leaf c.args.block child.result c.args.id _ step told.meets (c.requires.alone k below told.meets told.has told.told told.one) c.args.threshold _ (c.in_ok-shrink_at.ensures.keys k told.meets told.has told.told told.one)
+    block_inner c.args.leaf c.args.block child.result c.args.id _ step told.meets (c.requires.alone k below told.meets told.has told.told told.one) c.args.threshold _
+    (c.in_ok-shrink_at.ensures.keys k told.meets told.has told.told told.one)
 
 pub returns-clause-keys : goal.returns-clause-keys
 returns-clause-keys g t c = λ k m has tells one.
     let below = c.if-block-leaf.false in
     let child = c.block_with-child in
-    let step = step_of c.args.leaf c.args.block child.result c.args.id (firsts (g.S.Ground.pairs c.args.ground.now c.args.pages.now)) (c.requires.place k below) below c.requires.block child.ensures.block child.ensures.level child.ensures.code in
+    let step = step_of c.args.leaf c.args.block child.result c.args.id (firsts (g.S.Ground.pairs c.args.ground.now c.args.pages.now))
+    (c.requires.place k below) below c.requires.block child.ensures.block child.ensures.level child.ensures.code in
     block_merged c.args.leaf c.args.block child.result c.args.id _ step m (c.requires.alone k below m has tells one) c.args.threshold _ _ (c.in_ok-shrink_at.ensures.keys k m has tells one)
     (c.in_ok-merged.ensures.keys (g.met.S.Ground.known _ _ _ _ c.in_ok-shrink_at.ensures.leads k))
 

@@ -23,14 +23,16 @@ leaf_of-requires-4-clause-block g c = (fourth_block c.args.block _ _ c.children.
 pub returns-in_default-clause-found : goal.returns-in_default-clause-found
 returns-in_default-clause-found g c = λ k.
     let d : Block = record { z = 0; level = 0 } in
-    inl (at_child c.args.block c.children.result 0 d (λ x. own x (firsts (g.S.Ground.pairs c.args.ground.now c.args.pages.now)) ≡ []) c.children.ensures.value (none_found _ _ _ c.in_default.is (c.in_ok-first.ensures.found k)))
+    inl (at_child c.args.block c.children.result 0 d (λ x. own x (firsts (g.S.Ground.pairs c.args.ground.now c.args.pages.now)) ≡ []) c.children.ensures.value
+    (none_found _ _ _ c.in_default.is (c.in_ok-first.ensures.found k)))
 
 pub returns-in_default-2-clause-found : goal.returns-in_default-2-clause-found
 returns-in_default-2-clause-found g c = λ k.
     let d : Block = record { z = 0; level = 0 } in
     let l1 = c.in_ok-first.ensures.leads in
     let e1 = c.in_ok-first.ensures.same k in
-    inr (inl (at_child c.args.block c.children.result 1 d (λ x. own x (firsts (g.S.Ground.pairs c.args.ground.now c.args.pages.now)) ≡ []) c.children.ensures.value (ap (own (get_or c.children.result 1 d)) (ap firsts (sym e1)) ∙ none_found _ _ _ c.in_default-2.is (c.in_ok-second.ensures.found (g.met.S.Ground.known _ _ _ _ l1 k)))))
+    inr (inl (at_child c.args.block c.children.result 1 d (λ x. own x (firsts (g.S.Ground.pairs c.args.ground.now c.args.pages.now)) ≡ []) c.children.ensures.value
+    (ap (own (get_or c.children.result 1 d)) (ap firsts (sym e1)) ∙ none_found _ _ _ c.in_default-2.is (c.in_ok-second.ensures.found (g.met.S.Ground.known _ _ _ _ l1 k)))))
 
 pub returns-in_default-3-clause-found : goal.returns-in_default-3-clause-found
 returns-in_default-3-clause-found g c = λ k.
@@ -39,7 +41,8 @@ returns-in_default-3-clause-found g c = λ k.
     let l2 = g.met.S.Ground.onward _ _ _ _ _ _ _ l1 c.in_ok-second.ensures.leads in
     let e1 = c.in_ok-first.ensures.same k in
     let e2 = c.in_ok-second.ensures.same (g.met.S.Ground.known _ _ _ _ l1 k) ∙ e1 in
-    inr (inr (inl (at_child c.args.block c.children.result 2 d (λ x. own x (firsts (g.S.Ground.pairs c.args.ground.now c.args.pages.now)) ≡ []) c.children.ensures.value (ap (own (get_or c.children.result 2 d)) (ap firsts (sym e2)) ∙ none_found _ _ _ c.in_default-3.is (c.in_ok-third.ensures.found (g.met.S.Ground.known _ _ _ _ l2 k))))))
+    inr (inr (inl (at_child c.args.block c.children.result 2 d (λ x. own x (firsts (g.S.Ground.pairs c.args.ground.now c.args.pages.now)) ≡ []) c.children.ensures.value
+    (ap (own (get_or c.children.result 2 d)) (ap firsts (sym e2)) ∙ none_found _ _ _ c.in_default-3.is (c.in_ok-third.ensures.found (g.met.S.Ground.known _ _ _ _ l2 k))))))
 
 pub returns-in_default-4-clause-found : goal.returns-in_default-4-clause-found
 returns-in_default-4-clause-found g c = λ k.
@@ -50,7 +53,8 @@ returns-in_default-4-clause-found g c = λ k.
     let e1 = c.in_ok-first.ensures.same k in
     let e2 = c.in_ok-second.ensures.same (g.met.S.Ground.known _ _ _ _ l1 k) ∙ e1 in
     let e3 = c.in_ok-third.ensures.same (g.met.S.Ground.known _ _ _ _ l2 k) ∙ e2 in
-    inr (inr (inr ((at_child c.args.block c.children.result 3 d (λ x. own x (firsts (g.S.Ground.pairs c.args.ground.now c.args.pages.now)) ≡ []) c.children.ensures.value (ap (own (get_or c.children.result 3 d)) (ap firsts (sym e3)) ∙ none_found _ _ _ c.in_default-4.is (c.in_ok-fourth.ensures.found (g.met.S.Ground.known _ _ _ _ l3 k)))))))
+    inr (inr (inr ((at_child c.args.block c.children.result 3 d (λ x. own x (firsts (g.S.Ground.pairs c.args.ground.now c.args.pages.now)) ≡ []) c.children.ensures.value
+    (ap (own (get_or c.children.result 3 d)) (ap firsts (sym e3)) ∙ none_found _ _ _ c.in_default-4.is (c.in_ok-fourth.ensures.found (g.met.S.Ground.known _ _ _ _ l3 k)))))))
 
 pub returns-clause-found : goal.returns-clause-found
 returns-clause-found g c = λ k.
@@ -63,10 +67,17 @@ returns-clause-found g c = λ k.
     let e3 = c.in_ok-third.ensures.same (g.met.S.Ground.known _ _ _ _ l2 k) ∙ e2 in
     let ks : List ℕ = firsts (g.S.Ground.pairs c.args.ground.now c.args.pages.now) in
     record {
-      first = at_child c.args.block c.children.result 0 d (λ x. IsLeafOf x ks (ids_of c.in-Some.first.items)) c.children.ensures.value (some_found _ _ _ _ c.in-Some.is (c.in_ok-first.ensures.found k));
-      second = at_child c.args.block c.children.result 1 d (λ x. IsLeafOf x ks (ids_of c.in-Some-2.second.items)) c.children.ensures.value (subst (λ (x : List ℕ). IsLeafOf (get_or c.children.result 1 d) x (ids_of c.in-Some-2.second.items)) (ap firsts e1) (some_found _ _ _ _ c.in-Some-2.is (c.in_ok-second.ensures.found (g.met.S.Ground.known _ _ _ _ l1 k))));
-      third = at_child c.args.block c.children.result 2 d (λ x. IsLeafOf x ks (ids_of c.in-Some-3.third.items)) c.children.ensures.value (subst (λ (x : List ℕ). IsLeafOf (get_or c.children.result 2 d) x (ids_of c.in-Some-3.third.items)) (ap firsts e2) (some_found _ _ _ _ c.in-Some-3.is (c.in_ok-third.ensures.found (g.met.S.Ground.known _ _ _ _ l2 k))));
-      fourth = at_child c.args.block c.children.result 3 d (λ x. IsLeafOf x ks (ids_of c.in-Some-4.fourth.items)) c.children.ensures.value (subst (λ (x : List ℕ). IsLeafOf (get_or c.children.result 3 d) x (ids_of c.in-Some-4.fourth.items)) (ap firsts e3) (some_found _ _ _ _ c.in-Some-4.is (c.in_ok-fourth.ensures.found (g.met.S.Ground.known _ _ _ _ l3 k))));
+      first = at_child c.args.block c.children.result 0 d (λ x. IsLeafOf x ks (ids_of c.in-Some.first.items)) c.children.ensures.value
+          (some_found _ _ _ _ c.in-Some.is (c.in_ok-first.ensures.found k));
+      second = at_child c.args.block c.children.result 1 d (λ x. IsLeafOf x ks (ids_of c.in-Some-2.second.items)) c.children.ensures.value
+          (subst (λ (x : List ℕ). IsLeafOf (get_or c.children.result 1 d) x (ids_of c.in-Some-2.second.items)) (ap firsts e1)
+          (some_found _ _ _ _ c.in-Some-2.is (c.in_ok-second.ensures.found (g.met.S.Ground.known _ _ _ _ l1 k))));
+      third = at_child c.args.block c.children.result 2 d (λ x. IsLeafOf x ks (ids_of c.in-Some-3.third.items)) c.children.ensures.value
+          (subst (λ (x : List ℕ). IsLeafOf (get_or c.children.result 2 d) x (ids_of c.in-Some-3.third.items)) (ap firsts e2)
+          (some_found _ _ _ _ c.in-Some-3.is (c.in_ok-third.ensures.found (g.met.S.Ground.known _ _ _ _ l2 k))));
+      fourth = at_child c.args.block c.children.result 3 d (λ x. IsLeafOf x ks (ids_of c.in-Some-4.fourth.items)) c.children.ensures.value
+          (subst (λ (x : List ℕ). IsLeafOf (get_or c.children.result 3 d) x (ids_of c.in-Some-4.fourth.items)) (ap firsts e3)
+          (some_found _ _ _ _ c.in-Some-4.is (c.in_ok-fourth.ensures.found (g.met.S.Ground.known _ _ _ _ l3 k))));
     }
 
 pub returns-clause-values : goal.returns-clause-values

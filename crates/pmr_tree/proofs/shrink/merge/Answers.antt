@@ -52,7 +52,8 @@ returns-clause-leads g c = g.met.S.Ground.onward _ _ _ _ _ _ _ c.in_ok-parts.ens
 
 pub returns-in_default-clause-keys : goal.returns-in_default-clause-keys
 returns-in_default-clause-keys g c = λ k.
-    some_inner c.args.threshold c.args.block _ _ (c.requires.stands k) (c.requires.inner k) (none_found _ _ _ c.in_default.is (c.in_ok-parts.ensures.found k)) (ap firsts (c.in_ok-parts.ensures.same k))
+    some_inner c.args.threshold c.args.block _ _ (c.requires.stands k) (c.requires.inner k) (none_found _ _ _ c.in_default.is (c.in_ok-parts.ensures.found k))
+    (ap firsts (c.in_ok-parts.ensures.same k))
 
 pub returns-then-len-threshold-clause-keys : goal.returns-then-len-threshold-clause-keys
 returns-then-len-threshold-clause-keys g c = λ k.
@@ -60,7 +61,8 @@ returns-then-len-threshold-clause-keys g c = λ k.
     let leaves = some_found _ _ _ _ c.in-Some.is (c.in_ok-parts.ensures.found k) in
     let four : Four c.args.block ks (ids_of c.in-Some.parts.first.items) (ids_of c.in-Some.parts.second.items) (ids_of c.in-Some.parts.third.items) (ids_of c.in-Some.parts.fourth.items) =
     record { first = leaves.first; second = leaves.second; third = leaves.third; fourth = leaves.fourth } in
-    merge_enough c.args.threshold c.args.block _ _ (ids_of c.in-Some.parts.first.items) (ids_of c.in-Some.parts.second.items) (ids_of c.in-Some.parts.third.items) (ids_of c.in-Some.parts.fourth.items) (ids_of c.in_ok-all.all.items) (c.requires.stands k) (c.requires.inner k) four c.in_ok-all.ensures.ids (omega (arith, length_ids c.in_ok-all.all.items))
+    merge_enough c.args.threshold c.args.block _ _ (ids_of c.in-Some.parts.first.items) (ids_of c.in-Some.parts.second.items) (ids_of c.in-Some.parts.third.items)
+    (ids_of c.in-Some.parts.fourth.items) (ids_of c.in_ok-all.all.items) (c.requires.stands k) (c.requires.inner k) four c.in_ok-all.ensures.ids (omega (arith, length_ids c.in_ok-all.all.items))
     (ap firsts (c.in_ok-parts.ensures.same k))
 
 pub returns-clause-keys : goal.returns-clause-keys
@@ -69,11 +71,13 @@ returns-clause-keys g c = λ k.
     let leaves = some_found _ _ _ _ c.in-Some.is (c.in_ok-parts.ensures.found k) in
     let four : Four c.args.block ks (ids_of c.in-Some.parts.first.items) (ids_of c.in-Some.parts.second.items) (ids_of c.in-Some.parts.third.items) (ids_of c.in-Some.parts.fourth.items) =
     record { first = leaves.first; second = leaves.second; third = leaves.third; fourth = leaves.fourth } in
-    merge_few c.args.threshold c.args.block _ _ (ids_of c.in-Some.parts.first.items) (ids_of c.in-Some.parts.second.items) (ids_of c.in-Some.parts.third.items) (ids_of c.in-Some.parts.fourth.items) (ids_of c.in_ok-all.all.items) (c.requires.stands k) (c.requires.inner k) four c.in_ok-all.ensures.ids (omega (arith, length_ids c.in_ok-all.all.items))
+    merge_few c.args.threshold c.args.block _ _ (ids_of c.in-Some.parts.first.items) (ids_of c.in-Some.parts.second.items) (ids_of c.in-Some.parts.third.items)
+    (ids_of c.in-Some.parts.fourth.items) (ids_of c.in_ok-all.all.items) (c.requires.stands k) (c.requires.inner k) four c.in_ok-all.ensures.ids (omega (arith, length_ids c.in_ok-all.all.items))
     (c.in_ok-replace_four.ensures.keys (g.met.S.Ground.known _ _ _ _ c.in_ok-parts.ensures.leads k)
     ∙ ap₂ (λ x y. put_all (leaf_keys c.args.block (ids_of x)) (without_parts c.args.block c.in-Some.parts y)) c.deref.ensures.value (ap firsts (c.in_ok-parts.ensures.same k)))
 
 pub returns-clause-values : goal.returns-clause-values
 returns-clause-values g c = λ k test w.
     let pass = c.in_ok-all.ensures.values test (if_found _ _ _ c.in-Some.is (c.in_ok-parts.ensures.values k test w)) in
-    c.in_ok-replace_four.ensures.values (g.met.S.Ground.known _ _ _ _ c.in_ok-parts.ensures.leads k) test (subst (ListPasses test) (sym c.deref.ensures.value) pass) (subst (Passes test) (sym (c.in_ok-parts.ensures.same k)) w)
+    c.in_ok-replace_four.ensures.values (g.met.S.Ground.known _ _ _ _ c.in_ok-parts.ensures.leads k) test (subst (ListPasses test) (sym c.deref.ensures.value) pass)
+    (subst (Passes test) (sym (c.in_ok-parts.ensures.same k)) w)

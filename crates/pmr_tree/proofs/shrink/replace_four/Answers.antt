@@ -89,8 +89,10 @@ returns-clause-keys g c = λ k.
     let d : Block = record { z = 0; level = 0 } in
     take_four c.args.block c.children.result d d d d d
     (firsts (g.S.Ground.pairs c.args.ground.now c.args.pages.now)) (firsts (g.S.Ground.pairs c.clear.new.ground c.clear.new.pages)) (firsts (g.S.Ground.pairs c.clear-2.new.ground c.clear-2.new.pages))
-    (firsts (g.S.Ground.pairs c.clear-3.new.ground c.clear-3.new.pages)) (firsts (g.S.Ground.pairs c.clear-4.new.ground c.clear-4.new.pages)) (firsts (g.S.Ground.pairs c.plant.new.ground c.plant.new.pages))
-    (ids_of c.args.parts.now.first.items) (ids_of c.args.parts.now.second.items) (ids_of c.args.parts.now.third.items) (ids_of c.args.parts.now.fourth.items) (ids_of c.args.all.now) c.children.ensures.value
+    (firsts (g.S.Ground.pairs c.clear-3.new.ground c.clear-3.new.pages)) (firsts (g.S.Ground.pairs c.clear-4.new.ground c.clear-4.new.pages))
+    (firsts (g.S.Ground.pairs c.plant.new.ground c.plant.new.pages))
+    (ids_of c.args.parts.now.first.items) (ids_of c.args.parts.now.second.items) (ids_of c.args.parts.now.third.items) (ids_of c.args.parts.now.fourth.items)
+    (ids_of c.args.all.now) c.children.ensures.value
     (cleared _ _ _ _ _ c.deref.ensures.value (c.in_ok-clear.ensures.keys k))
     (cleared _ _ _ _ _ c.deref-2.ensures.value (c.in_ok-clear-2.ensures.keys (g.met.S.Ground.known _ _ _ _ l1 k)))
     (cleared _ _ _ _ _ c.deref-3.ensures.value (c.in_ok-clear-3.ensures.keys (g.met.S.Ground.known _ _ _ _ l2 k)))

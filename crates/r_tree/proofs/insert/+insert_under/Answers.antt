@@ -25,8 +25,10 @@ insert_under-requires g t c κs within = (omega arith, (within, (opened, (λ tol
         let l : c.args.level ≡ suc (c.args.level - 1) = omega arith in
         let S : ℕ → Type 0 = λ x. Subtree m x c.args.n in
         let M : Store → Type 0 = λ x. Subtree x (c.args.level - 1) c.swap_remove-child.result.child in
-        let at : c.nearest-at.result < length es = at_lent es c.deref.result.now c.nearest-at.result c.deref.ensures.value c.nearest-at.ensures (omega (arith, c.if-is_empty.ensures, c.in_ok-entries.entries.ok.0)) in
-        subst M (sym same) (child_tree m (c.args.level - 1) c.args.n c.nearest-at.result c.swap_remove-child.result es (c.in_ok-entries.ensures.value told) (subst S l (c.requires.tree told)) at c.swap_remove-child.ensures.value)
+        let at : c.nearest-at.result < length es = at_lent es c.deref.result.now c.nearest-at.result c.deref.ensures.value c.nearest-at.ensures
+        (omega (arith, c.if-is_empty.ensures, c.in_ok-entries.entries.ok.0)) in
+        subst M (sym same) (child_tree m (c.args.level - 1) c.args.n c.nearest-at.result c.swap_remove-child.result es (c.in_ok-entries.ensures.value told)
+        (subst S l (c.requires.tree told)) at c.swap_remove-child.ensures.value)
 
 pub returns-clause-value : goal.returns-clause-value
 returns-clause-value g t c = λ told.
@@ -39,6 +41,10 @@ returns-clause-value g t c = λ told.
     let es : List NodeEntry = c.in_ok-entries.entries.items in
     let S : ℕ → Type 0 = λ x. Subtree m x c.args.n in
     let R : ℕ → Type 0 = λ x. InsertsUnder m w x c.args.n (member_of c.args.entry) c.in_ok-grown-2.grown in
-    let at : c.nearest-at.result < length es = at_lent es c.deref.result.now c.nearest-at.result c.deref.ensures.value c.nearest-at.ensures (omega (arith, c.if-is_empty.ensures, c.in_ok-entries.entries.ok.0)) in
-    subst R (sym l) (inner_put_from m m0 u w (c.args.level - 1) c.args.n c.nearest-at.result c.in_ok-below.below c.in_ok-grown-2.grown (member_of c.args.entry) c.swap_remove-child.result es c.deref_mut.result.now
-    same (c.deref_mut.ensures.value ∙ (c.in_ok-raise.ensures ∙ ap (λ (x : List NodeEntry). x ++ raised c.swap_remove-child.result.child c.in_ok-below.below) c.swap_remove-child.ensures.items)) (c.in_ok-entries.ensures.value told) (subst S l (c.requires.tree told)) at c.swap_remove-child.ensures.value (c.in_ok-below.ensures.value (c.read_node.ensures.within.told ∙ told)) c.in_ok-grown-2.ensures.value c.in_ok-grown-2.ensures.full)
+    let at : c.nearest-at.result < length es = at_lent es c.deref.result.now c.nearest-at.result c.deref.ensures.value c.nearest-at.ensures
+    (omega (arith, c.if-is_empty.ensures, c.in_ok-entries.entries.ok.0)) in
+    subst R (sym l) (inner_put_from m m0 u w (c.args.level - 1) c.args.n c.nearest-at.result c.in_ok-below.below c.in_ok-grown-2.grown
+    (member_of c.args.entry) c.swap_remove-child.result es c.deref_mut.result.now
+    same (c.deref_mut.ensures.value ∙ (c.in_ok-raise.ensures ∙ ap (λ (x : List NodeEntry). x ++ raised c.swap_remove-child.result.child c.in_ok-below.below) c.swap_remove-child.ensures.items))
+    (c.in_ok-entries.ensures.value told) (subst S l (c.requires.tree told)) at c.swap_remove-child.ensures.value
+    (c.in_ok-below.ensures.value (c.read_node.ensures.within.told ∙ told)) c.in_ok-grown-2.ensures.value c.in_ok-grown-2.ensures.full)

@@ -7,5 +7,8 @@ use Rattle.r_tree.proofs.node.leaf_node.Goals as goal
 
 pub returns : goal.returns
 returns c =
-    let e : entries_of (node_of c.args.page.now) ≡ page_entries c.args.count c.args.page.now = ap (λ (v : NodeView). entries_of v) c.requires.leaf in
-    (c.requires.leaf ∙ ap (λ (x : List NodeEntry). node false x) (sym e), c.new.ensures ∙ (c.in_ok-members.ensures ∙ ap (λ (x : List NodeEntry). members_of x) (c.deref.ensures.value ∙ (c.in_ok-entries.ensures ∙ sym e))))
+    let e : entries_of (node_of c.args.page.now) ≡ page_entries c.args.count c.args.page.now = ap (λ (v : NodeView). entries_of v) c.requires.leaf in (
+      c.requires.leaf ∙ ap (λ (x : List NodeEntry). node false x) (sym e),
+      c.new.ensures
+          ∙ (c.in_ok-members.ensures ∙ ap (λ (x : List NodeEntry). members_of x) (c.deref.ensures.value ∙ (c.in_ok-entries.ensures ∙ sym e))),
+    )

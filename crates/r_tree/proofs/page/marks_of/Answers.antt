@@ -8,7 +8,8 @@ use Rattle.r_tree.proofs.page.marks_of.Goals as goal
 pub returns-in-Point : goal.returns-in-Point
 returns-in-Point c = λ child.
     let zero : Point = record { x = 0; y = 0 } in
-    entry_back 1 c.in-Point.p zero c.args.id child c.pair.result 0 c.pair-in-Point.result c.pair.ensures.value c.pair.ensures.fits refl (omega arith) c.pair-in-Point.ensures.value c.pair-in-Point.ensures.fits
+    entry_back 1 c.in-Point.p zero c.args.id child c.pair.result 0 c.pair-in-Point.result c.pair.ensures.value c.pair.ensures.fits refl
+    (omega arith) c.pair-in-Point.ensures.value c.pair-in-Point.ensures.fits
     ∙ ap (λ (r : Rough). entry_with r c.args.id child) (sym c.in-Point.is)
 
 pub returns-in-Segment : goal.returns-in-Segment

@@ -12,7 +12,8 @@ entries-init c = record { inside = omega arith; added = nothing_joined c.args.qu
 pub add_pair-requires-clause-bit : goal.add_pair-requires-clause-bit
 add_pair-requires-clause-bit c =
     subst (λ n. PairHasBit n (get_or c.pairs-pairs.result.now c.entries.at (0, 0))) (sym c.entries.invariant.added.below)
-    (bits_apart c.args.queue.now.below c.pairs-pairs.result.now (subst (HaveBits c.args.queue.now.below) (sym c.pairs-pairs.ensures) c.requires.bits) c.entries.at (0, 0) (let here = c.entries-test.true in omega arith))
+    (bits_apart c.args.queue.now.below c.pairs-pairs.result.now (subst (HaveBits c.args.queue.now.below) (sym c.pairs-pairs.ensures) c.requires.bits) c.entries.at (0, 0)
+    (let here = c.entries-test.true in omega arith))
 
 pub entries-preserved : goal.entries-preserved
 entries-preserved c = record {
@@ -27,4 +28,5 @@ returns-clause-added c =
     all_joined c.args.goal.now c.pairs-pairs.result.now c.entries.at c.args.list.now c.args.queue.now.nodes c.args.queue.now c.entries.queue end c.pairs-pairs.ensures c.entries.invariant.added
 
 pub returns-clause-few : goal.returns-clause-few
-returns-clause-few c = few_pairs c.args.goal.now c.pairs-pairs.result.now c.args.list.now (2 ^ 64) c.pairs-pairs.ensures (let end = c.entries-test.false in let fits = c.entries.auto.at-fits in omega arith)
+returns-clause-few c = few_pairs c.args.goal.now c.pairs-pairs.result.now c.args.list.now (2 ^ 64) c.pairs-pairs.ensures
+    (let end = c.entries-test.false in let fits = c.entries.auto.at-fits in omega arith)

@@ -17,5 +17,6 @@ returns-clause-opened c = record {
   found = list_found c.args.goal.now c.args.list.now;
   alike = all_alike_itself (list_found c.args.goal.now c.args.list.now);
   few = c.add_entries.ensures.few;
-  opens = λ rest ends. from_taken rest (list_found c.args.goal.now c.args.list.now) c.args.queue.now c.take_node.new.self c.add_entries.new.queue (c.take_node.ensures c.args.block rest ends) c.add_entries.ensures.added;
+  opens = λ rest ends. from_taken rest (list_found c.args.goal.now c.args.list.now) c.args.queue.now c.take_node.new.self c.add_entries.new.queue
+      (c.take_node.ensures c.args.block rest ends) c.add_entries.ensures.added;
 }

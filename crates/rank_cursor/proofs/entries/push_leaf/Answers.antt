@@ -17,13 +17,15 @@ entries-preserved c =
       | in-Some w ↦ rw w.found-is (record {
         added = one_added (pair_found c.args.goal.now c.args.leaf) c.pairs-pairs.result.now c.entries.pair-index (0, 0)
             c.args.found.now.items c.entries.found.items w.push_entry.new.found.items c.entries-test.true c.entries.invariant.added
-            (some_found c.args.goal.now c.args.leaf (get_or c.pairs-pairs.result.now c.entries.pair-index (0, 0)) w.in-Some.listed c.entries.found.items w.push_entry.new.found.items (sym (ap option_to_list w.in-Some.is) ∙ c.listed_of.ensures.listed) w.push_entry.ensures.added);
+            (some_found c.args.goal.now c.args.leaf (get_or c.pairs-pairs.result.now c.entries.pair-index (0, 0)) w.in-Some.listed c.entries.found.items w.push_entry.new.found.items
+            (sym (ap option_to_list w.in-Some.is) ∙ c.listed_of.ensures.listed) w.push_entry.ensures.added);
         room = let before = c.entries.invariant.room in let len = w.push_entry.ensures.len in let same = w.push_entry.ensures.capacity in omega arith;
       })
       | in_default w ↦ rw w.found-is (record {
         added = one_added (pair_found c.args.goal.now c.args.leaf) c.pairs-pairs.result.now c.entries.pair-index (0, 0)
             c.args.found.now.items c.entries.found.items c.entries.found.items c.entries-test.true c.entries.invariant.added
-            (none_found c.args.goal.now c.args.leaf (get_or c.pairs-pairs.result.now c.entries.pair-index (0, 0)) c.entries.found.items (sym (ap option_to_list w.in_default.is) ∙ c.listed_of.ensures.listed));
+            (none_found c.args.goal.now c.args.leaf (get_or c.pairs-pairs.result.now c.entries.pair-index (0, 0)) c.entries.found.items
+            (sym (ap option_to_list w.in_default.is) ∙ c.listed_of.ensures.listed));
         room = let before = c.entries.invariant.room in omega arith;
       })
     ]

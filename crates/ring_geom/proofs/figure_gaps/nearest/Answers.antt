@@ -40,7 +40,8 @@ returns-in-Point-Segment c =
 pub returns-in-Point-Polygon : goal.returns-in-Point-Polygon
 returns-in-Point-Polygon c =
     of_shapes _ _ _ _ _ _ c.in-Point-Polygon.is-0 c.in-Point-Polygon.is-1
-    (least_exchanged {A = IsOnRing c.in-Point-Polygon.ring} {B = IsPoint c.in-Point-Polygon.p} _ _ (of_corners {B = IsPoint c.in-Point-Polygon.p} _ _ _ _ c.corners.ensures.all c.ring_to_point.ensures))
+    (least_exchanged {A = IsOnRing c.in-Point-Polygon.ring} {B = IsPoint c.in-Point-Polygon.p} _ _
+    (of_corners {B = IsPoint c.in-Point-Polygon.p} _ _ _ _ c.corners.ensures.all c.ring_to_point.ensures))
 
 -- a segment and a point
 pub returns-in-Segment-Point : goal.returns-in-Segment-Point
@@ -58,7 +59,8 @@ returns-in-Segment-Segment c =
 pub returns-in-Segment-Polygon : goal.returns-in-Segment-Polygon
 returns-in-Segment-Polygon c =
     of_shapes _ _ _ _ _ _ c.in-Segment-Polygon.is-0 c.in-Segment-Polygon.is-1
-    (least_exchanged {A = IsOnRing c.in-Segment-Polygon.ring} {B = IsOnSegment c.in-Segment-Polygon.s} _ _ (of_corners {B = IsOnSegment c.in-Segment-Polygon.s} _ _ _ _ c.corners-in-Segment-Polygon.ensures.all c.ring_to_segment.ensures))
+    (least_exchanged {A = IsOnRing c.in-Segment-Polygon.ring} {B = IsOnSegment c.in-Segment-Polygon.s} _ _
+    (of_corners {B = IsOnSegment c.in-Segment-Polygon.s} _ _ _ _ c.corners-in-Segment-Polygon.ensures.all c.ring_to_segment.ensures))
 
 -- a ring and a point
 pub returns-in-Polygon-Point : goal.returns-in-Polygon-Point

@@ -3,8 +3,7 @@ use Rattle.page_pool.specs.Reads.{IsRead}
 use Rattle.best_first.specs.Visits.{told_pages}
 use Rattle.plan_rows.specs.Rows.{counts_of}
 use Rattle.plan_steps.specs.Paying.{prices}
-use Rattle.output_text.specs.Writing.{Writes}
-use Rattle.row_output.specs.Printing.{IsPlainText}
+use Rattle.row_output.proofs.CountedLines.{RowsSoFar}
 use Rattle.row_output.proofs.Told.{SoFarPaid}
 use Rattle.row_output.proofs.rows.print_rows.Given as goal
 
@@ -16,8 +15,10 @@ invariant-rows g l = record {
   read : IsRead l.fn.desk.pool l.desk.pool;
   faults : l.desk.pool.disk.faults ≡ l.fn.desk.pool.disk.faults;
   sink : g.K.Sink.faults l.out ≡ g.K.Sink.faults l.fn.out;
-  plain : Writes IsPlainText (g.K.Sink.took l.fn.out) (g.K.Sink.took l.out);
-  so_far : IfSome (told_pages l.fn.desk) (SoFarPaid g.S.RowSource.At g.T.RowStage.Stands g.T.RowStage.closed (prices g.S.RowSource.heights g.S.RowSource.step_price g.S.RowSource.owed g.T.RowStage.price g.T.RowStage.owed) (λ s. counts_of (g.S.RowSource.seen s)) l.fn.cursor l.cursor l.rows l.fn.desk l.desk (g.K.Sink.took l.fn.out) (g.K.Sink.took l.out));
+  plain : RowsSoFar l.rows (g.K.Sink.took l.fn.out) (g.K.Sink.took l.out);
+  so_far : IfSome (told_pages l.fn.desk) (SoFarPaid g.S.RowSource.At g.T.RowStage.Stands g.T.RowStage.closed
+      (prices g.S.RowSource.heights g.S.RowSource.step_price g.S.RowSource.owed g.T.RowStage.price g.T.RowStage.owed)
+      (λ s. counts_of (g.S.RowSource.seen s)) l.fn.cursor l.cursor l.rows l.fn.desk l.desk (g.K.Sink.took l.fn.out) (g.K.Sink.took l.out));
 }
 
 abbrev pub decreases-rows : goal.decreases-rows

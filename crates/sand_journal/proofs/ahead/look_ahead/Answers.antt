@@ -13,7 +13,8 @@ returns-in-Cut-clause-ahead g c = λ bodies stands told.
 -- the gate behind the body would stand above the last
 pub returns-then-end-from-clause-ahead : goal.returns-then-end-from-clause-ahead
 returns-then-end-from-clause-ahead g c = λ bodies stands told.
-    ahead_far (g.T.Tape.seen c.args.tape.now) c.args.end bodies stands told c.in_ok-read_head.field-0 (c.in_ok-read_head.ensures.head told) c.in-Open.size c.in-Open.is (omega (arith, c.if-end-from.true, c.from.ensures))
+    ahead_far (g.T.Tape.seen c.args.tape.now) c.args.end bodies stands told c.in_ok-read_head.field-0 (c.in_ok-read_head.ensures.head told) c.in-Open.size c.in-Open.is
+    (omega (arith, c.if-end-from.true, c.from.ensures))
 
 -- the file ends before the gate behind the body
 pub returns-in-None-clause-ahead : goal.returns-in-None-clause-ahead

@@ -22,7 +22,9 @@ returns-in-Ok-None c =
     (subst (λ (f : Option Statement). Reads c.args.text.now (answer_value (Ok f))) c.in-Ok-None.field-0-is c.in-Ok-None.ensures)
 
 pub returns-in-Err-Syntax : goal.returns-in-Err-Syntax
-returns-in-Err-Syntax c = fault_none c.printed_statements_are_read_back.ensures.only c.args.text.now c.in-Err-Syntax.field-0 (λ h. let wrong = sym c.in-Err-Syntax.field-0-is ∙ h in cc wrong) c.in-Err-Syntax.ensures
+returns-in-Err-Syntax c = fault_none c.printed_statements_are_read_back.ensures.only c.args.text.now c.in-Err-Syntax.field-0
+    (λ h. let wrong = sym c.in-Err-Syntax.field-0-is ∙ h in cc wrong) c.in-Err-Syntax.ensures
 
 pub returns-in-Err-Range : goal.returns-in-Err-Range
-returns-in-Err-Range c = fault_none c.printed_statements_are_read_back.ensures.only c.args.text.now c.in-Err-Range.field-0 (λ h. let wrong = sym c.in-Err-Range.field-0-is ∙ h in cc wrong) c.in-Err-Range.ensures
+returns-in-Err-Range c = fault_none c.printed_statements_are_read_back.ensures.only c.args.text.now c.in-Err-Range.field-0
+    (λ h. let wrong = sym c.in-Err-Range.field-0-is ∙ h in cc wrong) c.in-Err-Range.ensures

@@ -28,5 +28,6 @@ returns-clause-any_moment g c = λ bodies rest told.
 -- both were accepted, so the record is durable behind its gate
 pub returns-clause-staged : goal.returns-clause-staged
 returns-clause-staged g c = λ bodies rest.
-    stage_done c.in_ok-write_at.field-0 c.in_ok-sync.field-0 (g.T.Tape.seen c.args.tape.now) (g.T.Tape.seen c.write_at.new.self) (g.T.Tape.seen c.sync.new.self) c.args.end bodies c.args.entry.now c.as_bytes.result.now
+    stage_done c.in_ok-write_at.field-0 c.in_ok-sync.field-0 (g.T.Tape.seen c.args.tape.now) (g.T.Tape.seen c.write_at.new.self)
+    (g.T.Tape.seen c.sync.new.self) c.args.end bodies c.args.entry.now c.as_bytes.result.now
     c.as_bytes.ensures.bytes rest c.as_bytes.ensures.short c.in_ok-write_at.ensures c.in_ok-sync.ensures

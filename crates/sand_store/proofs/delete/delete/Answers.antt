@@ -47,13 +47,15 @@ returns-clause-store g c =
     let u : RelationView = shrunk_view r spans c.in-Ok-remove.roots.file c.in-Ok-remove.roots.paths.items c.in-Ok-remove.roots.trees.items in
     let f = first_at c.args.name.now rs c.in-Some.at (place_seen c.place_of.result _ c.args.name.now c.deref.result.now rs c.place_of.ensures c.deref.ensures.value c.in-Some.is) in
     let same : c.lead_to.new.self ≡ u =
-    c.lead_to.ensures.shrunk ∙ ap (λ y. shrunk_view y spans c.in-Ok-remove.roots.file c.in-Ok-remove.roots.paths.items c.in-Ok-remove.roots.trees.items) (read_twice rs c.in-Some.at r c.index_mut.result.now f.1 c.index-relation.ensures c.index_mut.ensures.value) in
+    c.lead_to.ensures.shrunk ∙ ap (λ y. shrunk_view y spans c.in-Ok-remove.roots.file c.in-Ok-remove.roots.paths.items c.in-Ok-remove.roots.trees.items)
+    (read_twice rs c.in-Some.at r c.index_mut.result.now f.1 c.index-relation.ensures c.index_mut.ensures.value) in
     let read = read_twice rs c.in-Some.at r c.index_mut.result.now f.1 c.index-relation.ensures c.index_mut.ensures.value in
     let forgot : Forgot r.spans c.args.id spans = subst (λ (y : RelationView). Forgot y.spans c.args.id spans) read c.lead_to.ensures.forgot in
     let described = described_at c.args.pool.now rs c.args.limits c.in-Some.at r c.requires.store f.1 c.index-relation.ensures in
     put_in_place c.args.pool.now c.remove.new.pool c.args.limits c.args.name.now rs (set rs c.in-Some.at c.lead_to.new.self) c.in-Some.at r u (λ gap. without_row c.args.id)
     c.requires.store f.0 f.1 c.index-relation.ensures (ap (λ y. set rs c.in-Some.at y) same) refl
-    (shrunk_described c.args.limits r spans c.in-Ok-remove.roots.file c.in-Ok-remove.roots.paths.items c.in-Ok-remove.roots.trees.items described (c.in-Ok-remove.ensures.places described.paths) c.in-Ok-remove.ensures.columns)
+    (shrunk_described c.args.limits r spans c.in-Ok-remove.roots.file c.in-Ok-remove.roots.paths.items c.in-Ok-remove.roots.trees.items described
+    (c.in-Ok-remove.ensures.places described.paths) c.in-Ok-remove.ensures.columns)
     (c.in-Ok-remove.ensures.told ∙ c.in-Ok.ensures.read.told) c.in-Ok-remove.ensures.closed
     (became_read c.args.pool.now c.found.new.pool c.remove.new.pool rs c.args.limits c.in-Some.at r u c.args.id _ c.requires.store c.in-Ok.ensures.read f.1 c.index-relation.ensures c.in-Ok.ensures.there
     (λ told bounds can. (c.in-Ok-remove.ensures.shrank told bounds can).became spans forgot))
@@ -66,12 +68,14 @@ returns-clause-deleted g c =
     let u : RelationView = shrunk_view r spans c.in-Ok-remove.roots.file c.in-Ok-remove.roots.paths.items c.in-Ok-remove.roots.trees.items in
     let f = first_at c.args.name.now rs c.in-Some.at (place_seen c.place_of.result _ c.args.name.now c.deref.result.now rs c.place_of.ensures c.deref.ensures.value c.in-Some.is) in
     let same : c.lead_to.new.self ≡ u =
-    c.lead_to.ensures.shrunk ∙ ap (λ y. shrunk_view y spans c.in-Ok-remove.roots.file c.in-Ok-remove.roots.paths.items c.in-Ok-remove.roots.trees.items) (read_twice rs c.in-Some.at r c.index_mut.result.now f.1 c.index-relation.ensures c.index_mut.ensures.value) in
+    c.lead_to.ensures.shrunk ∙ ap (λ y. shrunk_view y spans c.in-Ok-remove.roots.file c.in-Ok-remove.roots.paths.items c.in-Ok-remove.roots.trees.items)
+    (read_twice rs c.in-Some.at r c.index_mut.result.now f.1 c.index-relation.ensures c.index_mut.ensures.value) in
     let read = read_twice rs c.in-Some.at r c.index_mut.result.now f.1 c.index-relation.ensures c.index_mut.ensures.value in
     let forgot : Forgot r.spans c.args.id spans = subst (λ (y : RelationView). Forgot y.spans c.args.id spans) read c.lead_to.ensures.forgot in
     let described = described_at c.args.pool.now rs c.args.limits c.in-Some.at r c.requires.store f.1 c.index-relation.ensures in
     deleted_is c.args.pool.now c.remove.new.pool c.args.limits c.args.name.now c.args.id _ rs (set rs c.in-Some.at c.lead_to.new.self) c.in-Some.at r u
     c.requires.store f.0 f.1 c.index-relation.ensures (ap (λ y. set rs c.in-Some.at y) same)
-    (shrunk_sketch r spans c.in-Ok-remove.roots.file c.in-Ok-remove.roots.paths.items c.in-Ok-remove.roots.trees.items (c.in-Ok-remove.ensures.places described.paths) c.in-Ok-remove.ensures.columns) c.in-Ok.ensures.there
+    (shrunk_sketch r spans c.in-Ok-remove.roots.file c.in-Ok-remove.roots.paths.items c.in-Ok-remove.roots.trees.items
+    (c.in-Ok-remove.ensures.places described.paths) c.in-Ok-remove.ensures.columns) c.in-Ok.ensures.there
     (became_read c.args.pool.now c.found.new.pool c.remove.new.pool rs c.args.limits c.in-Some.at r u c.args.id _ c.requires.store c.in-Ok.ensures.read f.1 c.index-relation.ensures c.in-Ok.ensures.there
     (λ told bounds can. (c.in-Ok-remove.ensures.shrank told bounds can).became spans forgot))

@@ -14,7 +14,8 @@ pub shrunk_paths-requires-clause-can : goal.shrunk_paths-requires-clause-can
 shrunk_paths-requires-clause-can g c = λ after.
     let told = sym c.in-Ok.ensures.within.told ∙ after in (
       _,
-      loss_asks c.args.pool.now.pages c.take.new.pool.pages (c.requires.can told).0 _ c.args.relation.now c.take.new.self c.args.id c.args.row.now _ c.deref.result.now c.relation.view_is c.deref.ensures.value
+      loss_asks c.args.pool.now.pages c.take.new.pool.pages
+          (c.requires.can told).0 _ c.args.relation.now c.take.new.self c.args.id c.args.row.now _ c.deref.result.now c.relation.view_is c.deref.ensures.value
           (c.requires.can told).1 (c.in-Ok.ensures.value told),
     )
 

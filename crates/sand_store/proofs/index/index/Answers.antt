@@ -4,7 +4,8 @@ use Rattle.statements.specs.declared.column.Column.{Column}
 use Rattle.sand_store.specs.Catalog.{RelationView}
 use Rattle.sand_store.proofs.Changes.{first_at}
 use Rattle.sand_store.proofs.Found.{place_seen, read_twice}
-use Rattle.sand_store.proofs.IndexCall.{no_relation_to_index, column_refused, index_refused, wanted_column, wanted_threshold, set_same, reverted_store, reverted_unchanged, store_indexed, database_indexed, full_by}
+use Rattle.sand_store.proofs.IndexCall.{no_relation_to_index, column_refused, index_refused, wanted_column, wanted_threshold, set_same, reverted_store}
+use Rattle.sand_store.proofs.IndexCall.{reverted_unchanged, store_indexed, database_indexed, full_by}
 use Rattle.sand_store.proofs.Inserts.{described_at, stands_at, owns_at}
 use Rattle.sand_store.proofs.index.index.Goals as goal
 
@@ -52,7 +53,8 @@ returns-in-Ok-add-clause-store g c =
     let f = first_at c.args.name.now rs c.in-Some.at (place_seen c.place_of.result _ c.args.name.now c.deref.result.now rs c.place_of.ensures c.deref.ensures.value c.in-Some.is) in
     let same : c.index_mut-changed.result.now ≡ r = read_twice rs c.in-Some.at r c.index_mut-changed.result.now f.1 c.index-relation.ensures c.index_mut-changed.ensures.value in
     store_indexed c.args.pool.now c.add.new.pool c.args.limits column c.args.threshold rs (set rs c.in-Some.at c.add.new.relation) c.in-Some.at r c.index_mut-changed.result.now c.add.new.relation
-    c.in-Ok.found.0 c.in-Ok.found.1 c.requires.store f.0 f.1 c.index-relation.ensures same refl (described_at c.args.pool.now rs c.args.limits c.in-Some.at r c.requires.store f.1 c.index-relation.ensures)
+    c.in-Ok.found.0 c.in-Ok.found.1 c.requires.store f.0 f.1 c.index-relation.ensures same refl
+    (described_at c.args.pool.now rs c.args.limits c.in-Some.at r c.requires.store f.1 c.index-relation.ensures)
     c.in-Ok.ensures.found c.in-Ok-add.ensures.added c.in-Ok-add.ensures.told c.in-Ok-add.ensures.closed c.in-Ok-add.ensures.became
 
 pub returns-in-Ok-add-clause-indexed : goal.returns-in-Ok-add-clause-indexed

@@ -10,7 +10,8 @@ use Rattle.script_text.proofs.RunLemmas.{IsAscii-name_cut, IsAscii-number_cut}
 pub text_of-text-requires : goal.text_of-text-requires
 text_of-text-requires c =
     rw c.split_at.ensures.front
-    (IsAscii-name_cut c.args.bytes.now c.name_run-len.result c.in-len1-up.len_at_least (sym c.if-starts_name.ensures) (c.name_run-len.ensures.run ∙ ap (prefix_len continues_name) (take_rest c.args.bytes.now 1)))
+    (IsAscii-name_cut c.args.bytes.now c.name_run-len.result c.in-len1-up.len_at_least (sym c.if-starts_name.ensures)
+    (c.name_run-len.ensures.run ∙ ap (prefix_len continues_name) (take_rest c.args.bytes.now 1)))
 
 -- and so are digits, and a minus before them
 pub text_of-text-requires-then-begins_number : goal.text_of-text-requires-then-begins_number

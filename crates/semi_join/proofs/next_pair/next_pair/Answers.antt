@@ -19,7 +19,8 @@ rows-init g c =
       faults = refl;
       lefts = refl;
       falls = omega arith;
-      passes = begins g.H.Node.Ord.cmp (g.H.Hierarchy.meaning first.hierarchy) (g.H.Hierarchy.note first.hierarchy) c.args.lefts.now (state (g.Q.Queue.held first.frontier.queue) first.frontier.last first.frontier.counts c.args.desk.now) (told_pages c.args.desk.now) c.requires.stands;
+      passes = begins g.H.Node.Ord.cmp (g.H.Hierarchy.meaning first.hierarchy) (g.H.Hierarchy.note first.hierarchy) c.args.lefts.now
+          (state (g.Q.Queue.held first.frontier.queue) first.frontier.last first.frontier.counts c.args.desk.now) (told_pages c.args.desk.now) c.requires.stands;
     }
 
 -- a row whose left id was given is passed over
@@ -38,11 +39,13 @@ rows-preserved g c =
     let old = state (g.Q.Queue.held first.frontier.queue) first.frontier.last first.frontier.counts c.args.desk.now in
     let mid = state (g.Q.Queue.held before.frontier.queue) before.frontier.last before.frontier.counts c.rows.desk in
     let new = state (g.Q.Queue.held after.frontier.queue) after.frontier.last after.frontier.counts c.next.new.desk in
-    let call = subst (λ r. IfSome pages (λ p. Calls cmp (meaning first.hierarchy p) (note first.hierarchy) mid new (Ok r))) c.in-Ok-Some.field-0-is (calls cmp meaning note c.args.desk.now c.rows.desk first.hierarchy before.hierarchy mid new (Ok c.in-Ok-Some.field-0) inv.read inv.hierarchy e.row e.stands e.visits) in
+    let call = subst (λ r. IfSome pages (λ p. Calls cmp (meaning first.hierarchy p) (note first.hierarchy) mid new (Ok r))) c.in-Ok-Some.field-0-is
+    (calls cmp meaning note c.args.desk.now c.rows.desk first.hierarchy before.hierarchy mid new (Ok c.in-Ok-Some.field-0) inv.read inv.hierarchy e.row e.stands e.visits) in
     let why = subst (λ s. (c.give.new.self ≡ s) × ((s.below ≤ hit.left) ⊎ (set.contains s.given hit.left ≡ true))) inv.lefts c.if-give.ensures in
     let last : after.frontier.last ≡ Some hit = e.last ∙ ap (λ r. last_after before.frontier.last (Ok r)) c.in-Ok-Some.field-0-is in
     let weight = g.H.Hierarchy.weight in
-    let fell = subst (λ r. Falls (steps (weight before.hierarchy) (g.Q.Queue.held before.frontier.queue)) (steps (weight before.hierarchy) (g.Q.Queue.held after.frontier.queue)) (Ok r)) c.in-Ok-Some.field-0-is e.falls in
+    let fell = subst (λ r. Falls (steps (weight before.hierarchy) (g.Q.Queue.held before.frontier.queue))
+    (steps (weight before.hierarchy) (g.Q.Queue.held after.frontier.queue)) (Ok r)) c.in-Ok-Some.field-0-is e.falls in
     let less = subst (λ h. steps (weight h) (g.Q.Queue.held after.frontier.queue) < steps (weight h) (g.Q.Queue.held before.frontier.queue)) inv.hierarchy fell in
     let upto = inv.falls in
     record {
@@ -70,7 +73,8 @@ returns-then-give-clause-pair g c =
     let old = state (g.Q.Queue.held first.frontier.queue) first.frontier.last first.frontier.counts c.args.desk.now in
     let mid = state (g.Q.Queue.held before.frontier.queue) before.frontier.last before.frontier.counts c.rows.desk in
     let new = state (g.Q.Queue.held after.frontier.queue) after.frontier.last after.frontier.counts c.next.new.desk in
-    let call = subst (λ r. IfSome pages (λ p. Calls cmp (meaning first.hierarchy p) (note first.hierarchy) mid new (Ok r))) c.in-Ok-Some.field-0-is (calls cmp meaning note c.args.desk.now c.rows.desk first.hierarchy before.hierarchy mid new (Ok c.in-Ok-Some.field-0) inv.read inv.hierarchy e.row e.stands e.visits) in
+    let call = subst (λ r. IfSome pages (λ p. Calls cmp (meaning first.hierarchy p) (note first.hierarchy) mid new (Ok r))) c.in-Ok-Some.field-0-is
+    (calls cmp meaning note c.args.desk.now c.rows.desk first.hierarchy before.hierarchy mid new (Ok c.in-Ok-Some.field-0) inv.read inv.hierarchy e.row e.stands e.visits) in
     let given = subst (λ s. (set.contains s.given hit.left ≡ false) × (c.give.new.self ≡ gives hit.left s)) inv.lefts c.if-give.ensures in
     pair_given cmp (meaning first.hierarchy) (note first.hierarchy) c.args.lefts.now old pages mid new hit given.0 inv.passes call
 
@@ -89,7 +93,8 @@ returns-then-give-clause-stands g c =
     let old = state (g.Q.Queue.held first.frontier.queue) first.frontier.last first.frontier.counts c.args.desk.now in
     let mid = state (g.Q.Queue.held before.frontier.queue) before.frontier.last before.frontier.counts c.rows.desk in
     let new = state (g.Q.Queue.held after.frontier.queue) after.frontier.last after.frontier.counts c.next.new.desk in
-    let call = subst (λ r. IfSome pages (λ p. Calls cmp (meaning first.hierarchy p) (note first.hierarchy) mid new (Ok r))) c.in-Ok-Some.field-0-is (calls cmp meaning note c.args.desk.now c.rows.desk first.hierarchy before.hierarchy mid new (Ok c.in-Ok-Some.field-0) inv.read inv.hierarchy e.row e.stands e.visits) in
+    let call = subst (λ r. IfSome pages (λ p. Calls cmp (meaning first.hierarchy p) (note first.hierarchy) mid new (Ok r))) c.in-Ok-Some.field-0-is
+    (calls cmp meaning note c.args.desk.now c.rows.desk first.hierarchy before.hierarchy mid new (Ok c.in-Ok-Some.field-0) inv.read inv.hierarchy e.row e.stands e.visits) in
     let given = subst (λ s. (set.contains s.given hit.left ≡ false) × (c.give.new.self ≡ gives hit.left s)) inv.lefts c.if-give.ensures in
     let last : after.frontier.last ≡ Some hit = e.last ∙ ap (λ r. last_after before.frontier.last (Ok r)) c.in-Ok-Some.field-0-is in
     subst (λ s. IfSome pages (λ p. SemiStands cmp (meaning first.hierarchy p) new.held new.last s)) (sym given.1)
@@ -110,7 +115,8 @@ returns-then-give-clause-visits g c =
     let old = state (g.Q.Queue.held first.frontier.queue) first.frontier.last first.frontier.counts c.args.desk.now in
     let mid = state (g.Q.Queue.held before.frontier.queue) before.frontier.last before.frontier.counts c.rows.desk in
     let new = state (g.Q.Queue.held after.frontier.queue) after.frontier.last after.frontier.counts c.next.new.desk in
-    let call = subst (λ r. IfSome pages (λ p. Calls cmp (meaning first.hierarchy p) (note first.hierarchy) mid new (Ok r))) c.in-Ok-Some.field-0-is (calls cmp meaning note c.args.desk.now c.rows.desk first.hierarchy before.hierarchy mid new (Ok c.in-Ok-Some.field-0) inv.read inv.hierarchy e.row e.stands e.visits) in
+    let call = subst (λ r. IfSome pages (λ p. Calls cmp (meaning first.hierarchy p) (note first.hierarchy) mid new (Ok r))) c.in-Ok-Some.field-0-is
+    (calls cmp meaning note c.args.desk.now c.rows.desk first.hierarchy before.hierarchy mid new (Ok c.in-Ok-Some.field-0) inv.read inv.hierarchy e.row e.stands e.visits) in
     pair_visits cmp (meaning first.hierarchy) (note first.hierarchy) c.args.lefts.now old pages mid new hit inv.passes call
 
 pub returns-then-give-clause-falls : goal.returns-then-give-clause-falls
@@ -121,7 +127,8 @@ returns-then-give-clause-falls g c =
     let before = c.rows.engine in
     let after = c.next.new.self in
     let weight = g.H.Hierarchy.weight in
-    let fell = subst (λ r. Falls (steps (weight before.hierarchy) (g.Q.Queue.held before.frontier.queue)) (steps (weight before.hierarchy) (g.Q.Queue.held after.frontier.queue)) (Ok r)) c.in-Ok-Some.field-0-is e.falls in
+    let fell = subst (λ r. Falls (steps (weight before.hierarchy) (g.Q.Queue.held before.frontier.queue))
+    (steps (weight before.hierarchy) (g.Q.Queue.held after.frontier.queue)) (Ok r)) c.in-Ok-Some.field-0-is e.falls in
     let less = subst (λ h. steps (weight h) (g.Q.Queue.held after.frontier.queue) < steps (weight h) (g.Q.Queue.held before.frontier.queue)) inv.hierarchy fell in
     let upto = inv.falls in
     omega arith
@@ -141,7 +148,8 @@ returns-in-Ok-None-clause-pair g c =
     let old = state (g.Q.Queue.held first.frontier.queue) first.frontier.last first.frontier.counts c.args.desk.now in
     let mid = state (g.Q.Queue.held before.frontier.queue) before.frontier.last before.frontier.counts c.rows.desk in
     let new = state (g.Q.Queue.held after.frontier.queue) after.frontier.last after.frontier.counts c.next.new.desk in
-    let call = subst (λ r. IfSome pages (λ p. Calls cmp (meaning first.hierarchy p) (note first.hierarchy) mid new (Ok r))) c.in-Ok-None.field-0-is (calls cmp meaning note c.args.desk.now c.rows.desk first.hierarchy before.hierarchy mid new (Ok c.in-Ok-None.field-0) inv.read inv.hierarchy e.row e.stands e.visits) in
+    let call = subst (λ r. IfSome pages (λ p. Calls cmp (meaning first.hierarchy p) (note first.hierarchy) mid new (Ok r))) c.in-Ok-None.field-0-is
+    (calls cmp meaning note c.args.desk.now c.rows.desk first.hierarchy before.hierarchy mid new (Ok c.in-Ok-None.field-0) inv.read inv.hierarchy e.row e.stands e.visits) in
     end_given cmp (meaning first.hierarchy) (note first.hierarchy) c.args.lefts.now old pages mid new inv.passes call
 
 pub returns-in-Ok-None-clause-stands : goal.returns-in-Ok-None-clause-stands
@@ -158,7 +166,8 @@ returns-in-Ok-None-clause-stands g c =
     let old = state (g.Q.Queue.held first.frontier.queue) first.frontier.last first.frontier.counts c.args.desk.now in
     let mid = state (g.Q.Queue.held before.frontier.queue) before.frontier.last before.frontier.counts c.rows.desk in
     let new = state (g.Q.Queue.held after.frontier.queue) after.frontier.last after.frontier.counts c.next.new.desk in
-    let call = subst (λ r. IfSome pages (λ p. Calls cmp (meaning first.hierarchy p) (note first.hierarchy) mid new (Ok r))) c.in-Ok-None.field-0-is (calls cmp meaning note c.args.desk.now c.rows.desk first.hierarchy before.hierarchy mid new (Ok c.in-Ok-None.field-0) inv.read inv.hierarchy e.row e.stands e.visits) in
+    let call = subst (λ r. IfSome pages (λ p. Calls cmp (meaning first.hierarchy p) (note first.hierarchy) mid new (Ok r))) c.in-Ok-None.field-0-is
+    (calls cmp meaning note c.args.desk.now c.rows.desk first.hierarchy before.hierarchy mid new (Ok c.in-Ok-None.field-0) inv.read inv.hierarchy e.row e.stands e.visits) in
     let last : after.frontier.last ≡ before.frontier.last = e.last ∙ ap (λ r. last_after before.frontier.last (Ok r)) c.in-Ok-None.field-0-is in
     subst (λ s. IfSome pages (λ p. SemiStands cmp (meaning first.hierarchy p) new.held new.last s)) (sym inv.lefts)
     (still_stands cmp (meaning first.hierarchy) (note first.hierarchy) c.args.lefts.now old pages mid new (Ok None) last inv.passes call)
@@ -177,7 +186,8 @@ returns-in-Ok-None-clause-visits g c =
     let old = state (g.Q.Queue.held first.frontier.queue) first.frontier.last first.frontier.counts c.args.desk.now in
     let mid = state (g.Q.Queue.held before.frontier.queue) before.frontier.last before.frontier.counts c.rows.desk in
     let new = state (g.Q.Queue.held after.frontier.queue) after.frontier.last after.frontier.counts c.next.new.desk in
-    let call = subst (λ r. IfSome pages (λ p. Calls cmp (meaning first.hierarchy p) (note first.hierarchy) mid new (Ok r))) c.in-Ok-None.field-0-is (calls cmp meaning note c.args.desk.now c.rows.desk first.hierarchy before.hierarchy mid new (Ok c.in-Ok-None.field-0) inv.read inv.hierarchy e.row e.stands e.visits) in
+    let call = subst (λ r. IfSome pages (λ p. Calls cmp (meaning first.hierarchy p) (note first.hierarchy) mid new (Ok r))) c.in-Ok-None.field-0-is
+    (calls cmp meaning note c.args.desk.now c.rows.desk first.hierarchy before.hierarchy mid new (Ok c.in-Ok-None.field-0) inv.read inv.hierarchy e.row e.stands e.visits) in
     end_noted cmp (meaning first.hierarchy) (note first.hierarchy) c.args.lefts.now old pages mid new inv.passes call
 
 -- a refusal

@@ -33,15 +33,28 @@ run_on-requires-clause-near g c = c.in-Ok.ensures.near (subst (λ n. n ≤ 2 ^ 6
 pub returns-in-Ok-clause-promise : goal.returns-in-Ok-clause-promise
 returns-in-Ok-clause-promise g c =
     let starts = Replayed-all g.T.Tape.seen c.args.journal c.replay.new.journal c.args.store c.replay.new.store c.in-Ok.ensures.replayed c.requires.passed c.replay.ensures.read in
-    let ends = From-counted c.args.store.catalog.limits (g.S.Source.left c.args.script.now) (g.S.Source.faults c.args.script.now) (g.H.Shelf.files c.args.shelf.now) (g.H.Shelf.faults c.args.shelf.now) c.args.store.pool.disk c.replay.new.store.pool.disk (g.K.Sink.took c.args.out.now) (g.K.Sink.faults c.args.out.now) (outside_of (g.S.Source.left c.run_on.new.script) (g.S.Source.faults c.run_on.new.script) (g.H.Shelf.files c.run_on.new.shelf) (g.H.Shelf.faults c.run_on.new.shelf) (g.D.Disk.seen c.run_on.result.1) (g.K.Sink.took c.run_on.new.out) (g.K.Sink.faults c.run_on.new.out)) c.in-Ok.ensures.cause.1 (state_with [] (database c.replay.new.store)) c.run_on.result.0
-    (subst (λ (l : Limits). EndsFrom (state_with [] (database c.replay.new.store)) c.run_on.result.0 l (outside_of (g.S.Source.left c.args.script.now) (g.S.Source.faults c.args.script.now) (g.H.Shelf.files c.args.shelf.now) (g.H.Shelf.faults c.args.shelf.now) c.replay.new.store.pool.disk (g.K.Sink.took c.args.out.now) (g.K.Sink.faults c.args.out.now)) (outside_of (g.S.Source.left c.run_on.new.script) (g.S.Source.faults c.run_on.new.script) (g.H.Shelf.files c.run_on.new.shelf) (g.H.Shelf.faults c.run_on.new.shelf) (g.D.Disk.seen c.run_on.result.1) (g.K.Sink.took c.run_on.new.out) (g.K.Sink.faults c.run_on.new.out))) c.replay.ensures.carries.limits c.run_on.ensures.promise) in
-    Kept-begun c.run_on.result.0 c.args.store.catalog.limits (outside_of (g.S.Source.left c.args.script.now) (g.S.Source.faults c.args.script.now) (g.H.Shelf.files c.args.shelf.now) (g.H.Shelf.faults c.args.shelf.now) c.args.store.pool.disk (g.K.Sink.took c.args.out.now) (g.K.Sink.faults c.args.out.now)) (outside_of (g.S.Source.left c.run_on.new.script) (g.S.Source.faults c.run_on.new.script) (g.H.Shelf.files c.run_on.new.shelf) (g.H.Shelf.faults c.run_on.new.shelf) (g.D.Disk.seen c.run_on.result.1) (g.K.Sink.took c.run_on.new.out) (g.K.Sink.faults c.run_on.new.out))
+    let ends = From-counted c.args.store.catalog.limits (g.S.Source.left c.args.script.now) (g.S.Source.faults c.args.script.now) (g.H.Shelf.files c.args.shelf.now)
+    (g.H.Shelf.faults c.args.shelf.now) c.args.store.pool.disk c.replay.new.store.pool.disk (g.K.Sink.took c.args.out.now) (g.K.Sink.faults c.args.out.now)
+    (outside_of (g.S.Source.left c.run_on.new.script) (g.S.Source.faults c.run_on.new.script) (g.H.Shelf.files c.run_on.new.shelf)
+    (g.H.Shelf.faults c.run_on.new.shelf) (g.D.Disk.seen c.run_on.result.1) (g.K.Sink.took c.run_on.new.out)
+    (g.K.Sink.faults c.run_on.new.out)) c.in-Ok.ensures.cause.1 (state_with [] (database c.replay.new.store)) c.run_on.result.0
+    (subst (λ (l : Limits). EndsFrom (state_with [] (database c.replay.new.store)) c.run_on.result.0 l
+    (outside_of (g.S.Source.left c.args.script.now) (g.S.Source.faults c.args.script.now) (g.H.Shelf.files c.args.shelf.now)
+    (g.H.Shelf.faults c.args.shelf.now) c.replay.new.store.pool.disk (g.K.Sink.took c.args.out.now) (g.K.Sink.faults c.args.out.now)) (outside_of
+    (g.S.Source.left c.run_on.new.script) (g.S.Source.faults c.run_on.new.script) (g.H.Shelf.files c.run_on.new.shelf) (g.H.Shelf.faults c.run_on.new.shelf)
+    (g.D.Disk.seen c.run_on.result.1) (g.K.Sink.took c.run_on.new.out) (g.K.Sink.faults c.run_on.new.out))) c.replay.ensures.carries.limits c.run_on.ensures.promise) in
+    Kept-begun c.run_on.result.0 c.args.store.catalog.limits
+    (outside_of (g.S.Source.left c.args.script.now) (g.S.Source.faults c.args.script.now) (g.H.Shelf.files c.args.shelf.now)
+    (g.H.Shelf.faults c.args.shelf.now) c.args.store.pool.disk (g.K.Sink.took c.args.out.now) (g.K.Sink.faults c.args.out.now)) (outside_of
+    (g.S.Source.left c.run_on.new.script) (g.S.Source.faults c.run_on.new.script) (g.H.Shelf.files c.run_on.new.shelf) (g.H.Shelf.faults c.run_on.new.shelf)
+    (g.D.Disk.seen c.run_on.result.1) (g.K.Sink.took c.run_on.new.out) (g.K.Sink.faults c.run_on.new.out))
     (HasAll (g.T.Tape.seen c.args.journal.tape).told (g.T.Tape.seen c.args.journal.tape).bytes) _ c.run_on.ensures.begun
     (record {
       changes = c.in-Ok.ensures.replayed.changes;
       starts = starts;
       state = state_with [] (database c.replay.new.store);
-      world = World-of c.args.store c.replay.new.store c.args.store.pool.frames c.in-Ok.ensures.replayed.changes (g.D.Disk.seen c.run_on.result.1).told c.requires.empty c.in-Ok.ensures.replayed.led (c.run_on.ensures.told ∙ c.replay.ensures.carries.told);
+      world = World-of c.args.store c.replay.new.store c.args.store.pool.frames c.in-Ok.ensures.replayed.changes
+          (g.D.Disk.seen c.run_on.result.1).told c.requires.empty c.in-Ok.ensures.replayed.led (c.run_on.ensures.told ∙ c.replay.ensures.carries.told);
       ends = ends;
     })
 
@@ -55,18 +68,33 @@ returns-in-Ok-clause-taken g c = Taken-kept c.run_on.result.0 c.run_on.ensures.b
 
 pub returns-in-Err-clause-promise : goal.returns-in-Err-clause-promise
 returns-in-Err-clause-promise g c =
-    subst (λ (why : Status). EndsKept why c.args.store.catalog.limits (outside_of (g.S.Source.left c.args.script.now) (g.S.Source.faults c.args.script.now) (g.H.Shelf.files c.args.shelf.now) (g.H.Shelf.faults c.args.shelf.now) c.args.store.pool.disk (g.K.Sink.took c.args.out.now) (g.K.Sink.faults c.args.out.now)) (outside_of (g.S.Source.left c.args.script.now) (g.S.Source.faults c.args.script.now) (g.H.Shelf.files c.args.shelf.now) (g.H.Shelf.faults c.args.shelf.now) (g.D.Disk.seen c.into_disk.result) (g.K.Sink.took c.args.out.now) (g.K.Sink.faults c.args.out.now))
-    (HasAll (g.T.Tape.seen c.args.journal.tape).told (g.T.Tape.seen c.args.journal.tape).bytes) (HasBadRecord c.args.store.catalog.limits (g.D.Disk.seen c.into_disk.result).told (g.T.Tape.seen c.args.journal.tape).told (g.T.Tape.seen c.args.journal.tape).bytes)) (sym c.status_of_replay.ensures)
-    (Kept-stopped c.args.store.catalog.limits (g.S.Source.left c.args.script.now) (g.S.Source.faults c.args.script.now) (g.H.Shelf.files c.args.shelf.now) (g.H.Shelf.faults c.args.shelf.now) c.args.store.pool.disk (g.D.Disk.seen c.into_disk.result) (g.K.Sink.took c.args.out.now) (g.K.Sink.faults c.args.out.now)
-    (HasAll (g.T.Tape.seen c.args.journal.tape).told (g.T.Tape.seen c.args.journal.tape).bytes) (HasBadRecord c.args.store.catalog.limits (g.D.Disk.seen c.into_disk.result).told (g.T.Tape.seen c.args.journal.tape).told (g.T.Tape.seen c.args.journal.tape).bytes)
+    subst (λ (why : Status). EndsKept why c.args.store.catalog.limits
+    (outside_of (g.S.Source.left c.args.script.now) (g.S.Source.faults c.args.script.now) (g.H.Shelf.files c.args.shelf.now)
+    (g.H.Shelf.faults c.args.shelf.now) c.args.store.pool.disk (g.K.Sink.took c.args.out.now) (g.K.Sink.faults c.args.out.now)) (outside_of
+    (g.S.Source.left c.args.script.now) (g.S.Source.faults c.args.script.now) (g.H.Shelf.files c.args.shelf.now) (g.H.Shelf.faults c.args.shelf.now)
+    (g.D.Disk.seen c.into_disk.result) (g.K.Sink.took c.args.out.now) (g.K.Sink.faults c.args.out.now))
+    (HasAll (g.T.Tape.seen c.args.journal.tape).told (g.T.Tape.seen c.args.journal.tape).bytes)
+    (HasBadRecord c.args.store.catalog.limits (g.D.Disk.seen c.into_disk.result).told (g.T.Tape.seen c.args.journal.tape).told
+    (g.T.Tape.seen c.args.journal.tape).bytes)) (sym c.status_of_replay.ensures)
+    (Kept-stopped c.args.store.catalog.limits (g.S.Source.left c.args.script.now) (g.S.Source.faults c.args.script.now) (g.H.Shelf.files c.args.shelf.now)
+    (g.H.Shelf.faults c.args.shelf.now) c.args.store.pool.disk (g.D.Disk.seen c.into_disk.result) (g.K.Sink.took c.args.out.now) (g.K.Sink.faults c.args.out.now)
+    (HasAll (g.T.Tape.seen c.args.journal.tape).told (g.T.Tape.seen c.args.journal.tape).bytes)
+    (HasBadRecord c.args.store.catalog.limits (g.D.Disk.seen c.into_disk.result).told (g.T.Tape.seen c.args.journal.tape).told (g.T.Tape.seen c.args.journal.tape).bytes)
     c.in-Err.why (g.T.Tape.seen c.args.journal.tape) (g.T.Tape.seen c.replay.new.journal.tape) c.args.store.pool c.replay.new.store.pool refl c.into_disk.ensures c.in-Err.ensures.cause
-    (Bad-stopped g.T.Tape.seen c.args.journal c.replay.new.journal c.args.store c.in-Err.why (g.D.Disk.seen c.into_disk.result).told c.requires.empty (sym c.replay.ensures.carries.told ∙ sym (ap (λ (d : DiskView). d.told) c.into_disk.ensures)) c.requires.passed c.replay.ensures.read c.in-Err.ensures.bad))
+    (Bad-stopped g.T.Tape.seen c.args.journal c.replay.new.journal c.args.store c.in-Err.why (g.D.Disk.seen c.into_disk.result).told c.requires.empty
+    (sym c.replay.ensures.carries.told ∙ sym (ap (λ (d : DiskView). d.told) c.into_disk.ensures)) c.requires.passed c.replay.ensures.read c.in-Err.ensures.bad))
 
 pub returns-in-Err-clause-cause : goal.returns-in-Err-clause-cause
-returns-in-Err-clause-cause g c = (Stopped c.in-Err.why c.status_of_replay.result (g.T.Tape.seen c.args.journal.tape) (g.T.Tape.seen c.replay.new.journal.tape) c.args.store.pool c.replay.new.store.pool (g.S.Source.faults c.args.script.now) (g.K.Sink.faults c.args.out.now) c.status_of_replay.ensures c.in-Err.ensures.cause).1
+returns-in-Err-clause-cause g c = (Stopped c.in-Err.why c.status_of_replay.result (g.T.Tape.seen c.args.journal.tape)
+    (g.T.Tape.seen c.replay.new.journal.tape) c.args.store.pool c.replay.new.store.pool (g.S.Source.faults c.args.script.now)
+    (g.K.Sink.faults c.args.out.now) c.status_of_replay.ensures c.in-Err.ensures.cause).1
 
 pub returns-in-Err-clause-tape : goal.returns-in-Err-clause-tape
-returns-in-Err-clause-tape g c = ap (λ t. (g.T.Tape.seen t).faults) c.into_tape.ensures ∙ (Stopped c.in-Err.why c.status_of_replay.result (g.T.Tape.seen c.args.journal.tape) (g.T.Tape.seen c.replay.new.journal.tape) c.args.store.pool c.replay.new.store.pool (g.S.Source.faults c.args.script.now) (g.K.Sink.faults c.args.out.now) c.status_of_replay.ensures c.in-Err.ensures.cause).2
+returns-in-Err-clause-tape g c = ap (λ t. (g.T.Tape.seen t).faults) c.into_tape.ensures
+    ∙ (Stopped c.in-Err.why c.status_of_replay.result (g.T.Tape.seen c.args.journal.tape) (g.T.Tape.seen c.replay.new.journal.tape) c.args.store.pool c.replay.new.store.pool
+    (g.S.Source.faults c.args.script.now) (g.K.Sink.faults c.args.out.now) c.status_of_replay.ensures c.in-Err.ensures.cause).2
 
 pub returns-in-Err-clause-taken : goal.returns-in-Err-clause-taken
-returns-in-Err-clause-taken g c = (Stopped c.in-Err.why c.status_of_replay.result (g.T.Tape.seen c.args.journal.tape) (g.T.Tape.seen c.replay.new.journal.tape) c.args.store.pool c.replay.new.store.pool (g.S.Source.faults c.args.script.now) (g.K.Sink.faults c.args.out.now) c.status_of_replay.ensures c.in-Err.ensures.cause).0
+returns-in-Err-clause-taken g c = (Stopped c.in-Err.why c.status_of_replay.result (g.T.Tape.seen c.args.journal.tape)
+    (g.T.Tape.seen c.replay.new.journal.tape) c.args.store.pool c.replay.new.store.pool (g.S.Source.faults c.args.script.now)
+    (g.K.Sink.faults c.args.out.now) c.status_of_replay.ensures c.in-Err.ensures.cause).0

@@ -10,13 +10,25 @@ use Rattle.session.proofs.kept.run_journal.Goals as goal
 
 pub returns-in-Ok-clause-promise : goal.returns-in-Ok-clause-promise
 returns-in-Ok-clause-promise g c =
-    subst (λ (l : Limits). EndsWithTape c.run_opened.result.0 l (outside_of (g.S.Source.left c.args.script.now) (g.S.Source.faults c.args.script.now) (g.H.Shelf.files c.args.shelf.now) (g.H.Shelf.faults c.args.shelf.now) (g.D.Disk.seen c.args.disk) (g.K.Sink.took c.args.out.now) (g.K.Sink.faults c.args.out.now)) (outside_of (g.S.Source.left c.run_opened.new.script) (g.S.Source.faults c.run_opened.new.script) (g.H.Shelf.files c.run_opened.new.shelf) (g.H.Shelf.faults c.run_opened.new.shelf) (g.D.Disk.seen c.run_opened.result.1) (g.K.Sink.took c.run_opened.new.out) (g.K.Sink.faults c.run_opened.new.out)) (g.T.Tape.seen c.args.tape)) (ap (λ (s : StoreState). s.catalog.limits) c.in-Ok.ensures.begun)
-    (Kept-counted c.in-Ok.store.catalog.limits (g.S.Source.left c.args.script.now) (g.S.Source.faults c.args.script.now) (g.H.Shelf.files c.args.shelf.now) (g.H.Shelf.faults c.args.shelf.now) (g.D.Disk.seen c.args.disk) c.in-Ok.store.pool.disk (g.K.Sink.took c.args.out.now) (g.K.Sink.faults c.args.out.now) (outside_of (g.S.Source.left c.run_opened.new.script) (g.S.Source.faults c.run_opened.new.script) (g.H.Shelf.files c.run_opened.new.shelf) (g.H.Shelf.faults c.run_opened.new.shelf) (g.D.Disk.seen c.run_opened.result.1) (g.K.Sink.took c.run_opened.new.out) (g.K.Sink.faults c.run_opened.new.out))
-    (StartsWith (g.T.Tape.seen c.args.tape)) (HasBadRecord c.in-Ok.store.catalog.limits (g.D.Disk.seen c.run_opened.result.1).told (g.T.Tape.seen c.args.tape).told (image_of (g.T.Tape.seen c.args.tape).bytes)) c.in-Ok.ensures.counted c.run_opened.result.0 c.run_opened.ensures.promise)
+    subst (λ (l : Limits). EndsWithTape c.run_opened.result.0 l
+    (outside_of (g.S.Source.left c.args.script.now) (g.S.Source.faults c.args.script.now) (g.H.Shelf.files c.args.shelf.now) (g.H.Shelf.faults c.args.shelf.now)
+    (g.D.Disk.seen c.args.disk) (g.K.Sink.took c.args.out.now) (g.K.Sink.faults c.args.out.now)) (outside_of (g.S.Source.left c.run_opened.new.script)
+    (g.S.Source.faults c.run_opened.new.script) (g.H.Shelf.files c.run_opened.new.shelf) (g.H.Shelf.faults c.run_opened.new.shelf)
+    (g.D.Disk.seen c.run_opened.result.1) (g.K.Sink.took c.run_opened.new.out) (g.K.Sink.faults c.run_opened.new.out)) (g.T.Tape.seen c.args.tape)) (ap (λ (s : StoreState).
+    s.catalog.limits) c.in-Ok.ensures.begun)
+    (Kept-counted c.in-Ok.store.catalog.limits (g.S.Source.left c.args.script.now) (g.S.Source.faults c.args.script.now) (g.H.Shelf.files c.args.shelf.now)
+    (g.H.Shelf.faults c.args.shelf.now) (g.D.Disk.seen c.args.disk) c.in-Ok.store.pool.disk (g.K.Sink.took c.args.out.now) (g.K.Sink.faults c.args.out.now)
+    (outside_of (g.S.Source.left c.run_opened.new.script) (g.S.Source.faults c.run_opened.new.script) (g.H.Shelf.files c.run_opened.new.shelf)
+    (g.H.Shelf.faults c.run_opened.new.shelf) (g.D.Disk.seen c.run_opened.result.1) (g.K.Sink.took c.run_opened.new.out) (g.K.Sink.faults c.run_opened.new.out))
+    (StartsWith (g.T.Tape.seen c.args.tape))
+    (HasBadRecord c.in-Ok.store.catalog.limits (g.D.Disk.seen c.run_opened.result.1).told (g.T.Tape.seen c.args.tape).told
+    (image_of (g.T.Tape.seen c.args.tape).bytes)) c.in-Ok.ensures.counted c.run_opened.result.0 c.run_opened.ensures.promise)
 
 pub returns-in-Err-clause-promise : goal.returns-in-Err-clause-promise
 returns-in-Err-clause-promise g c =
-    Kept-unstarted c.args.limits (g.S.Source.left c.args.script.now) (g.S.Source.faults c.args.script.now) (g.H.Shelf.files c.args.shelf.now) (g.H.Shelf.faults c.args.shelf.now) (g.D.Disk.seen c.args.disk) (g.D.Disk.seen c.in-Err.disk) (g.K.Sink.took c.args.out.now) (g.K.Sink.faults c.args.out.now) (StartsWith (g.T.Tape.seen c.args.tape)) _ c.in-Err.status c.in-Err.ensures.refused
+    Kept-unstarted c.args.limits (g.S.Source.left c.args.script.now) (g.S.Source.faults c.args.script.now) (g.H.Shelf.files c.args.shelf.now)
+    (g.H.Shelf.faults c.args.shelf.now) (g.D.Disk.seen c.args.disk) (g.D.Disk.seen c.in-Err.disk) (g.K.Sink.took c.args.out.now) (g.K.Sink.faults c.args.out.now)
+    (StartsWith (g.T.Tape.seen c.args.tape)) _ c.in-Err.status c.in-Err.ensures.refused
 
 pub returns-in-Err-clause-cause : goal.returns-in-Err-clause-cause
 returns-in-Err-clause-cause g c = (Unstarted c.in-Err.status _ _ (g.S.Source.faults c.args.script.now) (g.K.Sink.faults c.args.out.now) (g.T.Tape.seen c.args.tape).faults c.in-Err.ensures.refused).1

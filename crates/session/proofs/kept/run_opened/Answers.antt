@@ -10,7 +10,11 @@ use Rattle.session.proofs.kept.run_opened.Goals as goal
 
 pub returns-in-Ok-clause-promise : goal.returns-in-Ok-clause-promise
 returns-in-Ok-clause-promise g c =
-    Kept-weaker c.run_behind.result.0 c.args.store.catalog.limits (outside_of (g.S.Source.left c.args.script.now) (g.S.Source.faults c.args.script.now) (g.H.Shelf.files c.args.shelf.now) (g.H.Shelf.faults c.args.shelf.now) c.args.store.pool.disk (g.K.Sink.took c.args.out.now) (g.K.Sink.faults c.args.out.now)) (outside_of (g.S.Source.left c.run_behind.new.script) (g.S.Source.faults c.run_behind.new.script) (g.H.Shelf.files c.run_behind.new.shelf) (g.H.Shelf.faults c.run_behind.new.shelf) (g.D.Disk.seen c.run_behind.result.1) (g.K.Sink.took c.run_behind.new.out) (g.K.Sink.faults c.run_behind.new.out))
+    Kept-weaker c.run_behind.result.0 c.args.store.catalog.limits
+    (outside_of (g.S.Source.left c.args.script.now) (g.S.Source.faults c.args.script.now) (g.H.Shelf.files c.args.shelf.now)
+    (g.H.Shelf.faults c.args.shelf.now) c.args.store.pool.disk (g.K.Sink.took c.args.out.now) (g.K.Sink.faults c.args.out.now)) (outside_of
+    (g.S.Source.left c.run_behind.new.script) (g.S.Source.faults c.run_behind.new.script) (g.H.Shelf.files c.run_behind.new.shelf)
+    (g.H.Shelf.faults c.run_behind.new.shelf) (g.D.Disk.seen c.run_behind.result.1) (g.K.Sink.took c.run_behind.new.out) (g.K.Sink.faults c.run_behind.new.out))
     (HasAll (g.T.Tape.seen c.in-Ok.journal.tape).told (g.T.Tape.seen c.in-Ok.journal.tape).bytes) (StartsWith (g.T.Tape.seen c.args.tape))
     (HasBadRecord c.args.store.catalog.limits (g.D.Disk.seen c.run_behind.result.1).told (g.T.Tape.seen c.in-Ok.journal.tape).told (g.T.Tape.seen c.in-Ok.journal.tape).bytes)
     (HasBadRecord c.args.store.catalog.limits (g.D.Disk.seen c.run_behind.result.1).told (g.T.Tape.seen c.args.tape).told (image_of (g.T.Tape.seen c.args.tape).bytes))
@@ -23,4 +27,8 @@ returns-in-Ok-clause-tape g c = c.run_behind.ensures.tape ∙ ap (tape_after c.r
 
 pub returns-in-Err-clause-promise : goal.returns-in-Err-clause-promise
 returns-in-Err-clause-promise g c =
-    inl (Unbegun c.args.store.catalog.limits (g.S.Source.left c.args.script.now) (g.S.Source.faults c.args.script.now) (g.H.Shelf.files c.args.shelf.now) (g.H.Shelf.faults c.args.shelf.now) c.args.store.pool.disk (g.D.Disk.seen c.into_disk.result) (g.K.Sink.took c.args.out.now) (g.K.Sink.faults c.args.out.now) (StartsWith (g.T.Tape.seen c.args.tape)) (HasBadRecord c.args.store.catalog.limits (g.D.Disk.seen c.into_disk.result).told (g.T.Tape.seen c.args.tape).told (image_of (g.T.Tape.seen c.args.tape).bytes)) (ap (λ (d : DiskView). d.faults) c.into_disk.ensures))
+    inl (Unbegun c.args.store.catalog.limits (g.S.Source.left c.args.script.now) (g.S.Source.faults c.args.script.now) (g.H.Shelf.files c.args.shelf.now)
+    (g.H.Shelf.faults c.args.shelf.now) c.args.store.pool.disk (g.D.Disk.seen c.into_disk.result) (g.K.Sink.took c.args.out.now) (g.K.Sink.faults c.args.out.now)
+    (StartsWith (g.T.Tape.seen c.args.tape))
+    (HasBadRecord c.args.store.catalog.limits (g.D.Disk.seen c.into_disk.result).told (g.T.Tape.seen c.args.tape).told (image_of (g.T.Tape.seen c.args.tape).bytes))
+    (ap (λ (d : DiskView). d.faults) c.into_disk.ensures))

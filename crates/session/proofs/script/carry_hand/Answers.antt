@@ -12,14 +12,20 @@ use Rattle.session.proofs.script.carry_hand.Goals as goal
 
 pub returns-then-is_long-clause-carried : goal.returns-then-is_long-clause-carried
 returns-then-is_long-clause-carried g c = λ cs own counted stand.
-    subst (λ (r : Result Bool Failed). LineCarried c.args.lines.now.line (while_open c.args.store (g.H.Shelf.files c.args.shelf.now) (g.H.Shelf.faults c.args.shelf.now)) (while_open c.args.store (g.H.Shelf.files c.args.shelf.now) (g.H.Shelf.faults c.args.shelf.now)) cs (g.K.Sink.took c.args.out.now) (g.K.Sink.took c.refuse.new.out) r (StandOver c.args.store.pool c.args.cursors.now.items)) c.of_sink.ensures.written
-    (long_line (while_open c.args.store (g.H.Shelf.files c.args.shelf.now) (g.H.Shelf.faults c.args.shelf.now)) cs (StandOver c.args.store.pool c.args.cursors.now.items) own stand (g.K.Sink.took c.args.out.now) (g.K.Sink.took c.refuse.new.out) c.args.lines.now.line c.args.is_long c.requires.short c.if-is_long.true c.refuse.result c.refuse.ensures.written c.refuse.ensures.prefix)
+    subst (λ (r : Result Bool Failed). LineCarried c.args.lines.now.line (while_open c.args.store (g.H.Shelf.files c.args.shelf.now) (g.H.Shelf.faults c.args.shelf.now))
+    (while_open c.args.store (g.H.Shelf.files c.args.shelf.now) (g.H.Shelf.faults c.args.shelf.now)) cs (g.K.Sink.took c.args.out.now)
+    (g.K.Sink.took c.refuse.new.out) r (StandOver c.args.store.pool c.args.cursors.now.items)) c.of_sink.ensures.written
+    (long_line (while_open c.args.store (g.H.Shelf.files c.args.shelf.now) (g.H.Shelf.faults c.args.shelf.now)) cs
+    (StandOver c.args.store.pool c.args.cursors.now.items) own stand (g.K.Sink.took c.args.out.now)
+    (g.K.Sink.took c.refuse.new.out) c.args.lines.now.line c.args.is_long c.requires.short c.if-is_long.true c.refuse.result c.refuse.ensures.written c.refuse.ensures.prefix)
 
 pub returns-then-is_long-clause-keeps : goal.returns-then-is_long-clause-keeps
 returns-then-is_long-clause-keeps g c = keeps_same g.T.Tape.seen c.args.journal.now c.of_sink.result
 
 pub returns-then-is_long-clause-untold : goal.returns-then-is_long-clause-untold
-returns-then-is_long-clause-untold g c = untold_sink (g.K.Sink.took c.args.out.now) (g.K.Sink.took c.refuse.new.out) (moment_of c.args.store (g.H.Shelf.files c.args.shelf.now) (g.H.Shelf.faults c.args.shelf.now)) (moment_of c.args.store (g.H.Shelf.files c.args.shelf.now) (g.H.Shelf.faults c.args.shelf.now)) c.of_sink.result c.of_sink.ensures.sink
+returns-then-is_long-clause-untold g c = untold_sink (g.K.Sink.took c.args.out.now) (g.K.Sink.took c.refuse.new.out)
+    (moment_of c.args.store (g.H.Shelf.files c.args.shelf.now) (g.H.Shelf.faults c.args.shelf.now))
+    (moment_of c.args.store (g.H.Shelf.files c.args.shelf.now) (g.H.Shelf.faults c.args.shelf.now)) c.of_sink.result c.of_sink.ensures.sink
 
 pub returns-then-is_long-clause-cause : goal.returns-then-is_long-clause-cause
 returns-then-is_long-clause-cause g c =
@@ -30,5 +36,6 @@ returns-then-is_long-clause-cause g c =
 pub returns-clause-carried : goal.returns-clause-carried
 returns-clause-carried g c = λ cs own counted stand.
     short_line (λ (line : Option (List ℕ)). LineCarried line (while_open c.args.store (g.H.Shelf.files c.args.shelf.now) (g.H.Shelf.faults c.args.shelf.now))
-    (while_open c.carry_line.result.0 (g.H.Shelf.files c.carry_line.new.shelf) (g.H.Shelf.faults c.carry_line.new.shelf)) cs (g.K.Sink.took c.args.out.now) (g.K.Sink.took c.carry_line.new.out) (sink_result c.carry_line.result.1)
+    (while_open c.carry_line.result.0 (g.H.Shelf.files c.carry_line.new.shelf) (g.H.Shelf.faults c.carry_line.new.shelf)) cs (g.K.Sink.took c.args.out.now)
+    (g.K.Sink.took c.carry_line.new.out) (sink_result c.carry_line.result.1)
     (StandOver c.carry_line.result.0.pool c.carry_line.new.cursors.items)) c.args.lines.now.line c.line.result.now c.args.is_long c.requires.short c.if-is_long.false c.line.ensures.value (c.carry_line.ensures.carried cs own counted stand)

@@ -16,7 +16,8 @@ use Rattle.session.proofs.script.carry_script.Goals as goal
 
 pub lines-init : goal.lines-init
 lines-init g c = (
-  OpenRun-begin c.args.lines.now (g.S.Source.left c.args.script.now) c.args.store (g.H.Shelf.files c.args.shelf.now) (g.H.Shelf.faults c.args.shelf.now) c.args.cursors.now.items (g.K.Sink.took c.args.out.now) c.requires.begun c.requires.none c.requires.held,
+  OpenRun-begin c.args.lines.now (g.S.Source.left c.args.script.now) c.args.store (g.H.Shelf.files c.args.shelf.now)
+      (g.H.Shelf.faults c.args.shelf.now) c.args.cursors.now.items (g.K.Sink.took c.args.out.now) c.requires.begun c.requires.none c.requires.held,
   record { of_source = refl; of_sink = refl },
   record { there = refl; takes = takes_more g.T.Tape.seen (2 ^ 62) (2 ^ 62 + 0 * most_kept) c.args.journal.now (omega arith) c.requires.journal; counted = refl },
 )
@@ -26,7 +27,10 @@ pub carry_hand-next-requires : goal.carry_hand-next-requires
 carry_hand-next-requires g c = record {
   short = c.in-Ok.ensures.draws.0;
   journal = takes_more g.T.Tape.seen (2 ^ 62 + c.lines.invariant.0.count * most_kept) last_end c.lines.journal
-      (room_left (run_state c.args.lines.now (g.S.Source.left c.args.script.now) (moment_of c.args.store (g.H.Shelf.files c.args.shelf.now) (g.H.Shelf.faults c.args.shelf.now)) false) (g.K.Sink.took c.args.out.now) (spot_of c.lines.lines (g.S.Source.left c.lines.script) c.lines.now (g.H.Shelf.files c.lines.shelf) (g.H.Shelf.faults c.lines.shelf) c.lines.cursors.items c.lines.refused (g.K.Sink.took c.lines.out)) c.lines.invariant.0 c.draw.new.lines (g.S.Source.left c.draw.new.script) c.in-Ok.is_long c.in-Ok.ensures.draws)
+      (room_left (run_state c.args.lines.now (g.S.Source.left c.args.script.now) (moment_of c.args.store (g.H.Shelf.files c.args.shelf.now) (g.H.Shelf.faults c.args.shelf.now)) false)
+      (g.K.Sink.took c.args.out.now) (spot_of c.lines.lines (g.S.Source.left c.lines.script) c.lines.now (g.H.Shelf.files c.lines.shelf)
+      (g.H.Shelf.faults c.lines.shelf) c.lines.cursors.items c.lines.refused
+      (g.K.Sink.took c.lines.out)) c.lines.invariant.0 c.draw.new.lines (g.S.Source.left c.draw.new.script) c.in-Ok.is_long c.in-Ok.ensures.draws)
       c.lines.invariant.2.takes;
   stands = are_standing c.lines.now.pool c.lines.cursors.items c.lines.invariant.0.cs c.lines.invariant.0.held c.lines.invariant.0.stand;
 }
@@ -34,7 +38,10 @@ carry_hand-next-requires g c = record {
 -- no more lines
 pub returns-in-Err-clause-ends : goal.returns-in-Err-clause-ends
 returns-in-Err-clause-ends g c =
-    Ends-open (run_state c.args.lines.now (g.S.Source.left c.args.script.now) (moment_of c.args.store (g.H.Shelf.files c.args.shelf.now) (g.H.Shelf.faults c.args.shelf.now)) false) (g.K.Sink.took c.args.out.now) (spot_of c.lines.lines (g.S.Source.left c.lines.script) c.lines.now (g.H.Shelf.files c.lines.shelf) (g.H.Shelf.faults c.lines.shelf) c.lines.cursors.items c.lines.refused (g.K.Sink.took c.lines.out)) c.lines.invariant.0 c.in-Err.status c.ended.result c.draw.new.lines (g.S.Source.left c.draw.new.script) c.ended.ensures c.in-Err.ensures.draws
+    Ends-open (run_state c.args.lines.now (g.S.Source.left c.args.script.now) (moment_of c.args.store (g.H.Shelf.files c.args.shelf.now) (g.H.Shelf.faults c.args.shelf.now)) false)
+    (g.K.Sink.took c.args.out.now) (spot_of c.lines.lines (g.S.Source.left c.lines.script) c.lines.now (g.H.Shelf.files c.lines.shelf)
+    (g.H.Shelf.faults c.lines.shelf) c.lines.cursors.items c.lines.refused
+    (g.K.Sink.took c.lines.out)) c.lines.invariant.0 c.in-Err.status c.ended.result c.draw.new.lines (g.S.Source.left c.draw.new.script) c.ended.ensures c.in-Err.ensures.draws
 
 pub returns-in-Err-clause-cause : goal.returns-in-Err-clause-cause
 returns-in-Err-clause-cause g c =
@@ -49,11 +56,21 @@ returns-in-Err-clause-tape g c = Tape-over c.in-Err.status c.ended.result c.line
 
 pub lines-preserved-then-refused : goal.lines-preserved-then-refused
 lines-preserved-then-refused g c = (
-  OpenRun-line (run_state c.args.lines.now (g.S.Source.left c.args.script.now) (moment_of c.args.store (g.H.Shelf.files c.args.shelf.now) (g.H.Shelf.faults c.args.shelf.now)) false) (g.K.Sink.took c.args.out.now) (spot_of c.lines.lines (g.S.Source.left c.lines.script) c.lines.now (g.H.Shelf.files c.lines.shelf) (g.H.Shelf.faults c.lines.shelf) c.lines.cursors.items c.lines.refused (g.K.Sink.took c.lines.out)) c.lines.invariant.0 c.draw.new.lines (g.S.Source.left c.draw.new.script) c.in-Ok.is_long c.in-Ok.ensures.draws
-      c.carry_hand-next.result.0 (g.H.Shelf.files c.carry_hand-next.new.shelf) (g.H.Shelf.faults c.carry_hand-next.new.shelf) c.carry_hand-next.new.cursors.items (g.K.Sink.took c.carry_hand-next.new.out) c.carry_hand-next.ensures.follows
+  OpenRun-line (run_state c.args.lines.now (g.S.Source.left c.args.script.now) (moment_of c.args.store (g.H.Shelf.files c.args.shelf.now) (g.H.Shelf.faults c.args.shelf.now)) false)
+      (g.K.Sink.took c.args.out.now) (spot_of c.lines.lines (g.S.Source.left c.lines.script) c.lines.now (g.H.Shelf.files c.lines.shelf)
+      (g.H.Shelf.faults c.lines.shelf) c.lines.cursors.items c.lines.refused
+      (g.K.Sink.took c.lines.out)) c.lines.invariant.0 c.draw.new.lines (g.S.Source.left c.draw.new.script) c.in-Ok.is_long c.in-Ok.ensures.draws
+      c.carry_hand-next.result.0 (g.H.Shelf.files c.carry_hand-next.new.shelf) (g.H.Shelf.faults c.carry_hand-next.new.shelf) c.carry_hand-next.new.cursors.items
+      (g.K.Sink.took c.carry_hand-next.new.out) c.carry_hand-next.ensures.follows
       c.in-Ok-done.refusal c.lines.refused
-      (subst (λ (r : Result Bool LineFault). LineCarried c.draw.new.lines.line (while_open c.lines.now (g.H.Shelf.files c.lines.shelf) (g.H.Shelf.faults c.lines.shelf)) (while_open c.carry_hand-next.result.0 (g.H.Shelf.files c.carry_hand-next.new.shelf) (g.H.Shelf.faults c.carry_hand-next.new.shelf))
-      c.lines.invariant.0.cs (g.K.Sink.took c.lines.out) (g.K.Sink.took c.carry_hand-next.new.out) (sink_result r) (StandOver c.carry_hand-next.result.0.pool c.carry_hand-next.new.cursors.items)) c.in-Ok-done.is (c.carry_hand-next.ensures.carried c.lines.invariant.0.cs c.lines.invariant.0.own (rows_counted (run_state c.args.lines.now (g.S.Source.left c.args.script.now) (moment_of c.args.store (g.H.Shelf.files c.args.shelf.now) (g.H.Shelf.faults c.args.shelf.now)) false) (g.K.Sink.took c.args.out.now) (spot_of c.lines.lines (g.S.Source.left c.lines.script) c.lines.now (g.H.Shelf.files c.lines.shelf) (g.H.Shelf.faults c.lines.shelf) c.lines.cursors.items c.lines.refused (g.K.Sink.took c.lines.out)) c.lines.invariant.0 c.draw.new.lines (g.S.Source.left c.draw.new.script) c.in-Ok.is_long c.in-Ok.ensures.draws) c.lines.invariant.0.stand))
+      (subst (λ (r : Result Bool LineFault). LineCarried c.draw.new.lines.line (while_open c.lines.now (g.H.Shelf.files c.lines.shelf) (g.H.Shelf.faults c.lines.shelf))
+      (while_open c.carry_hand-next.result.0 (g.H.Shelf.files c.carry_hand-next.new.shelf) (g.H.Shelf.faults c.carry_hand-next.new.shelf))
+      c.lines.invariant.0.cs (g.K.Sink.took c.lines.out) (g.K.Sink.took c.carry_hand-next.new.out) (sink_result r)
+      (StandOver c.carry_hand-next.result.0.pool c.carry_hand-next.new.cursors.items)) c.in-Ok-done.is (c.carry_hand-next.ensures.carried c.lines.invariant.0.cs c.lines.invariant.0.own
+      (rows_counted (run_state c.args.lines.now (g.S.Source.left c.args.script.now) (moment_of c.args.store (g.H.Shelf.files c.args.shelf.now) (g.H.Shelf.faults c.args.shelf.now)) false)
+      (g.K.Sink.took c.args.out.now) (spot_of c.lines.lines (g.S.Source.left c.lines.script) c.lines.now (g.H.Shelf.files c.lines.shelf)
+      (g.H.Shelf.faults c.lines.shelf) c.lines.cursors.items c.lines.refused
+      (g.K.Sink.took c.lines.out)) c.lines.invariant.0 c.draw.new.lines (g.S.Source.left c.draw.new.script) c.in-Ok.is_long c.in-Ok.ensures.draws) c.lines.invariant.0.stand))
       c.carry_hand-next.ensures.held (c.if-refused.true ∙ sym (ap (λ b. b || c.in-Ok-done.refusal) c.if-refused.true)),
   record {
     of_source = c.in-Ok.ensures.cause ∙ c.lines.invariant.1.of_source;
@@ -70,11 +87,21 @@ lines-preserved-then-refused g c = (
 
 pub lines-preserved : goal.lines-preserved
 lines-preserved g c = (
-  OpenRun-line (run_state c.args.lines.now (g.S.Source.left c.args.script.now) (moment_of c.args.store (g.H.Shelf.files c.args.shelf.now) (g.H.Shelf.faults c.args.shelf.now)) false) (g.K.Sink.took c.args.out.now) (spot_of c.lines.lines (g.S.Source.left c.lines.script) c.lines.now (g.H.Shelf.files c.lines.shelf) (g.H.Shelf.faults c.lines.shelf) c.lines.cursors.items c.lines.refused (g.K.Sink.took c.lines.out)) c.lines.invariant.0 c.draw.new.lines (g.S.Source.left c.draw.new.script) c.in-Ok.is_long c.in-Ok.ensures.draws
-      c.carry_hand-next.result.0 (g.H.Shelf.files c.carry_hand-next.new.shelf) (g.H.Shelf.faults c.carry_hand-next.new.shelf) c.carry_hand-next.new.cursors.items (g.K.Sink.took c.carry_hand-next.new.out) c.carry_hand-next.ensures.follows
+  OpenRun-line (run_state c.args.lines.now (g.S.Source.left c.args.script.now) (moment_of c.args.store (g.H.Shelf.files c.args.shelf.now) (g.H.Shelf.faults c.args.shelf.now)) false)
+      (g.K.Sink.took c.args.out.now) (spot_of c.lines.lines (g.S.Source.left c.lines.script) c.lines.now (g.H.Shelf.files c.lines.shelf)
+      (g.H.Shelf.faults c.lines.shelf) c.lines.cursors.items c.lines.refused
+      (g.K.Sink.took c.lines.out)) c.lines.invariant.0 c.draw.new.lines (g.S.Source.left c.draw.new.script) c.in-Ok.is_long c.in-Ok.ensures.draws
+      c.carry_hand-next.result.0 (g.H.Shelf.files c.carry_hand-next.new.shelf) (g.H.Shelf.faults c.carry_hand-next.new.shelf) c.carry_hand-next.new.cursors.items
+      (g.K.Sink.took c.carry_hand-next.new.out) c.carry_hand-next.ensures.follows
       c.in-Ok-done.refusal c.in-Ok-done.refusal
-      (subst (λ (r : Result Bool LineFault). LineCarried c.draw.new.lines.line (while_open c.lines.now (g.H.Shelf.files c.lines.shelf) (g.H.Shelf.faults c.lines.shelf)) (while_open c.carry_hand-next.result.0 (g.H.Shelf.files c.carry_hand-next.new.shelf) (g.H.Shelf.faults c.carry_hand-next.new.shelf))
-      c.lines.invariant.0.cs (g.K.Sink.took c.lines.out) (g.K.Sink.took c.carry_hand-next.new.out) (sink_result r) (StandOver c.carry_hand-next.result.0.pool c.carry_hand-next.new.cursors.items)) c.in-Ok-done.is (c.carry_hand-next.ensures.carried c.lines.invariant.0.cs c.lines.invariant.0.own (rows_counted (run_state c.args.lines.now (g.S.Source.left c.args.script.now) (moment_of c.args.store (g.H.Shelf.files c.args.shelf.now) (g.H.Shelf.faults c.args.shelf.now)) false) (g.K.Sink.took c.args.out.now) (spot_of c.lines.lines (g.S.Source.left c.lines.script) c.lines.now (g.H.Shelf.files c.lines.shelf) (g.H.Shelf.faults c.lines.shelf) c.lines.cursors.items c.lines.refused (g.K.Sink.took c.lines.out)) c.lines.invariant.0 c.draw.new.lines (g.S.Source.left c.draw.new.script) c.in-Ok.is_long c.in-Ok.ensures.draws) c.lines.invariant.0.stand))
+      (subst (λ (r : Result Bool LineFault). LineCarried c.draw.new.lines.line (while_open c.lines.now (g.H.Shelf.files c.lines.shelf) (g.H.Shelf.faults c.lines.shelf))
+      (while_open c.carry_hand-next.result.0 (g.H.Shelf.files c.carry_hand-next.new.shelf) (g.H.Shelf.faults c.carry_hand-next.new.shelf))
+      c.lines.invariant.0.cs (g.K.Sink.took c.lines.out) (g.K.Sink.took c.carry_hand-next.new.out) (sink_result r)
+      (StandOver c.carry_hand-next.result.0.pool c.carry_hand-next.new.cursors.items)) c.in-Ok-done.is (c.carry_hand-next.ensures.carried c.lines.invariant.0.cs c.lines.invariant.0.own
+      (rows_counted (run_state c.args.lines.now (g.S.Source.left c.args.script.now) (moment_of c.args.store (g.H.Shelf.files c.args.shelf.now) (g.H.Shelf.faults c.args.shelf.now)) false)
+      (g.K.Sink.took c.args.out.now) (spot_of c.lines.lines (g.S.Source.left c.lines.script) c.lines.now (g.H.Shelf.files c.lines.shelf)
+      (g.H.Shelf.faults c.lines.shelf) c.lines.cursors.items c.lines.refused
+      (g.K.Sink.took c.lines.out)) c.lines.invariant.0 c.draw.new.lines (g.S.Source.left c.draw.new.script) c.in-Ok.is_long c.in-Ok.ensures.draws) c.lines.invariant.0.stand))
       c.carry_hand-next.ensures.held (sym (ap (λ b. b || c.in-Ok-done.refusal) c.if-refused.false)),
   record {
     of_source = c.in-Ok.ensures.cause ∙ c.lines.invariant.1.of_source;
@@ -92,17 +119,29 @@ lines-preserved g c = (
 -- the line ended the run
 pub returns-in-Err-done-clause-ends : goal.returns-in-Err-done-clause-ends
 returns-in-Err-done-clause-ends g c =
-    Ends-hand (run_state c.args.lines.now (g.S.Source.left c.args.script.now) (moment_of c.args.store (g.H.Shelf.files c.args.shelf.now) (g.H.Shelf.faults c.args.shelf.now)) false) (g.K.Sink.took c.args.out.now) (spot_of c.lines.lines (g.S.Source.left c.lines.script) c.lines.now (g.H.Shelf.files c.lines.shelf) (g.H.Shelf.faults c.lines.shelf) c.lines.cursors.items c.lines.refused (g.K.Sink.took c.lines.out)) c.lines.invariant.0 c.draw.new.lines (g.S.Source.left c.draw.new.script) c.in-Ok.is_long c.in-Ok.ensures.draws
-    c.carry_hand-next.result.0 (g.H.Shelf.files c.carry_hand-next.new.shelf) (g.H.Shelf.faults c.carry_hand-next.new.shelf) c.carry_hand-next.new.cursors.items (g.K.Sink.took c.carry_hand-next.new.out) c.carry_hand-next.ensures.follows
+    Ends-hand (run_state c.args.lines.now (g.S.Source.left c.args.script.now) (moment_of c.args.store (g.H.Shelf.files c.args.shelf.now) (g.H.Shelf.faults c.args.shelf.now)) false)
+    (g.K.Sink.took c.args.out.now) (spot_of c.lines.lines (g.S.Source.left c.lines.script) c.lines.now (g.H.Shelf.files c.lines.shelf)
+    (g.H.Shelf.faults c.lines.shelf) c.lines.cursors.items c.lines.refused
+    (g.K.Sink.took c.lines.out)) c.lines.invariant.0 c.draw.new.lines (g.S.Source.left c.draw.new.script) c.in-Ok.is_long c.in-Ok.ensures.draws
+    c.carry_hand-next.result.0 (g.H.Shelf.files c.carry_hand-next.new.shelf) (g.H.Shelf.faults c.carry_hand-next.new.shelf) c.carry_hand-next.new.cursors.items
+    (g.K.Sink.took c.carry_hand-next.new.out) c.carry_hand-next.ensures.follows
     c.in-Err-done.why c.status_of.result c.status_of.ensures
-    (subst (λ (r : Result Bool LineFault). LineCarried c.draw.new.lines.line (while_open c.lines.now (g.H.Shelf.files c.lines.shelf) (g.H.Shelf.faults c.lines.shelf)) (while_open c.carry_hand-next.result.0 (g.H.Shelf.files c.carry_hand-next.new.shelf) (g.H.Shelf.faults c.carry_hand-next.new.shelf))
-    c.lines.invariant.0.cs (g.K.Sink.took c.lines.out) (g.K.Sink.took c.carry_hand-next.new.out) (sink_result r) (StandOver c.carry_hand-next.result.0.pool c.carry_hand-next.new.cursors.items)) c.in-Err-done.is (c.carry_hand-next.ensures.carried c.lines.invariant.0.cs c.lines.invariant.0.own (rows_counted (run_state c.args.lines.now (g.S.Source.left c.args.script.now) (moment_of c.args.store (g.H.Shelf.files c.args.shelf.now) (g.H.Shelf.faults c.args.shelf.now)) false) (g.K.Sink.took c.args.out.now) (spot_of c.lines.lines (g.S.Source.left c.lines.script) c.lines.now (g.H.Shelf.files c.lines.shelf) (g.H.Shelf.faults c.lines.shelf) c.lines.cursors.items c.lines.refused (g.K.Sink.took c.lines.out)) c.lines.invariant.0 c.draw.new.lines (g.S.Source.left c.draw.new.script) c.in-Ok.is_long c.in-Ok.ensures.draws) c.lines.invariant.0.stand))
+    (subst (λ (r : Result Bool LineFault). LineCarried c.draw.new.lines.line (while_open c.lines.now (g.H.Shelf.files c.lines.shelf) (g.H.Shelf.faults c.lines.shelf))
+    (while_open c.carry_hand-next.result.0 (g.H.Shelf.files c.carry_hand-next.new.shelf) (g.H.Shelf.faults c.carry_hand-next.new.shelf))
+    c.lines.invariant.0.cs (g.K.Sink.took c.lines.out) (g.K.Sink.took c.carry_hand-next.new.out) (sink_result r)
+    (StandOver c.carry_hand-next.result.0.pool c.carry_hand-next.new.cursors.items)) c.in-Err-done.is (c.carry_hand-next.ensures.carried c.lines.invariant.0.cs c.lines.invariant.0.own
+    (rows_counted (run_state c.args.lines.now (g.S.Source.left c.args.script.now) (moment_of c.args.store (g.H.Shelf.files c.args.shelf.now) (g.H.Shelf.faults c.args.shelf.now)) false)
+    (g.K.Sink.took c.args.out.now) (spot_of c.lines.lines (g.S.Source.left c.lines.script) c.lines.now (g.H.Shelf.files c.lines.shelf)
+    (g.H.Shelf.faults c.lines.shelf) c.lines.cursors.items c.lines.refused
+    (g.K.Sink.took c.lines.out)) c.lines.invariant.0 c.draw.new.lines (g.S.Source.left c.draw.new.script) c.in-Ok.is_long c.in-Ok.ensures.draws) c.lines.invariant.0.stand))
     (if_err (IsUntold (g.K.Sink.took c.lines.out) (g.K.Sink.took c.carry_hand-next.new.out) (moment_of c.lines.now (g.H.Shelf.files c.lines.shelf) (g.H.Shelf.faults c.lines.shelf))
-    (moment_of c.carry_hand-next.result.0 (g.H.Shelf.files c.carry_hand-next.new.shelf) (g.H.Shelf.faults c.carry_hand-next.new.shelf))) c.carry_hand-next.result.1 c.in-Err-done.why c.in-Err-done.is c.carry_hand-next.ensures.untold)
+    (moment_of c.carry_hand-next.result.0 (g.H.Shelf.files c.carry_hand-next.new.shelf)
+    (g.H.Shelf.faults c.carry_hand-next.new.shelf))) c.carry_hand-next.result.1 c.in-Err-done.why c.in-Err-done.is c.carry_hand-next.ensures.untold)
 
 pub returns-in-Err-done-clause-cause : goal.returns-in-Err-done-clause-cause
 returns-in-Err-done-clause-cause g c =
-    let caused = Caused-hand (g.S.Source.faults c.lines.script) (g.S.Source.faults c.draw.new.script) _ _ _ _ c.carry_hand-next.result.1 c.in-Err-done.why c.status_of.result c.in-Err-done.is c.status_of.ensures c.carry_hand-next.ensures.cause c.in-Ok.ensures.cause in
+    let caused = Caused-hand (g.S.Source.faults c.lines.script)
+    (g.S.Source.faults c.draw.new.script) _ _ _ _ c.carry_hand-next.result.1 c.in-Err-done.why c.status_of.result c.in-Err-done.is c.status_of.ensures c.carry_hand-next.ensures.cause c.in-Ok.ensures.cause in
     Caused-after c.status_of.result _ _ _ _ _ _ c.lines.invariant.1 caused.0
 
 pub returns-in-Err-done-clause-there : goal.returns-in-Err-done-clause-there
@@ -110,5 +149,6 @@ returns-in-Err-done-clause-there g c = c.carry_hand-next.ensures.keeps.there ∙
 
 pub returns-in-Err-done-clause-tape : goal.returns-in-Err-done-clause-tape
 returns-in-Err-done-clause-tape g c =
-    (Caused-hand (g.S.Source.faults c.lines.script) (g.S.Source.faults c.draw.new.script) _ _ _ _ c.carry_hand-next.result.1 c.in-Err-done.why c.status_of.result c.in-Err-done.is c.status_of.ensures c.carry_hand-next.ensures.cause c.in-Ok.ensures.cause).1
+    (Caused-hand (g.S.Source.faults c.lines.script)
+    (g.S.Source.faults c.draw.new.script) _ _ _ _ c.carry_hand-next.result.1 c.in-Err-done.why c.status_of.result c.in-Err-done.is c.status_of.ensures c.carry_hand-next.ensures.cause c.in-Ok.ensures.cause).1
     ∙ ap (tape_after c.status_of.result) c.lines.invariant.2.counted

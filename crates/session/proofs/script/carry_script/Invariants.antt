@@ -9,7 +9,8 @@ use Rattle.session.proofs.script.carry_script.Given as goal
 -- the run went on, no stream failed, and a journal keeps on
 abbrev pub invariant-lines : goal.invariant-lines
 invariant-lines g l =
-    (run : OpenRun (run_state l.initial.lines (g.S.Source.left l.initial.script) (moment_of l.fn.store (g.H.Shelf.files l.initial.shelf) (g.H.Shelf.faults l.initial.shelf)) false) (g.K.Sink.took l.initial.out)
+    (run : OpenRun (run_state l.initial.lines (g.S.Source.left l.initial.script) (moment_of l.fn.store (g.H.Shelf.files l.initial.shelf) (g.H.Shelf.faults l.initial.shelf)) false)
+    (g.K.Sink.took l.initial.out)
     (spot_of l.lines (g.S.Source.left l.script) l.now (g.H.Shelf.files l.shelf) (g.H.Shelf.faults l.shelf) l.cursors.items l.refused (g.K.Sink.took l.out)))
     × IsStill (g.S.Source.faults l.initial.script) (g.S.Source.faults l.script) (g.K.Sink.faults l.initial.out) (g.K.Sink.faults l.out)
     × KeepsJournal g.T.Tape.seen l.initial.journal l.journal run.count

@@ -9,7 +9,8 @@ pub returns-in-Ok-clause-promise : goal.returns-in-Ok-clause-promise
 returns-in-Ok-clause-promise g c =
     Ends-started c.in-Ok.store.catalog.limits (g.S.Source.left c.args.script.now) (g.S.Source.faults c.args.script.now) (g.H.Shelf.files c.args.shelf.now) (g.H.Shelf.faults c.args.shelf.now)
     (g.D.Disk.seen c.args.disk) c.in-Ok.store.pool.disk (g.K.Sink.took c.args.out.now) (g.K.Sink.faults c.args.out.now)
-    (outside_of (g.S.Source.left c.run_store.new.script) (g.S.Source.faults c.run_store.new.script) (g.H.Shelf.files c.run_store.new.shelf) (g.H.Shelf.faults c.run_store.new.shelf) (g.D.Disk.seen c.run_store.result.1) (g.K.Sink.took c.run_store.new.out) (g.K.Sink.faults c.run_store.new.out))
+    (outside_of (g.S.Source.left c.run_store.new.script) (g.S.Source.faults c.run_store.new.script) (g.H.Shelf.files c.run_store.new.shelf)
+    (g.H.Shelf.faults c.run_store.new.shelf) (g.D.Disk.seen c.run_store.result.1) (g.K.Sink.took c.run_store.new.out) (g.K.Sink.faults c.run_store.new.out))
     c.in-Ok.ensures.counted c.run_store.result.0 c.args.limits (ap (λ (s : StoreState). s.catalog.limits) c.in-Ok.ensures.begun) c.run_store.ensures.begun c.run_store.ensures.promise
 
 pub returns-in-Ok-clause-taken : goal.returns-in-Ok-clause-taken

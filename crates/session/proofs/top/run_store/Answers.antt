@@ -22,10 +22,14 @@ run_from-requires-clause-held g c =
 pub returns-clause-promise : goal.returns-clause-promise
 returns-clause-promise g c =
     Ends-empty c.run_from.result.0 c.args.store.catalog.limits
-    (outside_of (g.S.Source.left c.args.script.now) (g.S.Source.faults c.args.script.now) (g.H.Shelf.files c.args.shelf.now) (g.H.Shelf.faults c.args.shelf.now) c.args.store.pool.disk (g.K.Sink.took c.args.out.now) (g.K.Sink.faults c.args.out.now))
-    (outside_of (g.S.Source.left c.run_from.new.script) (g.S.Source.faults c.run_from.new.script) (g.H.Shelf.files c.run_from.new.shelf) (g.H.Shelf.faults c.run_from.new.shelf) (g.D.Disk.seen c.run_from.result.1) (g.K.Sink.took c.run_from.new.out) (g.K.Sink.faults c.run_from.new.out))
+    (outside_of (g.S.Source.left c.args.script.now) (g.S.Source.faults c.args.script.now) (g.H.Shelf.files c.args.shelf.now)
+    (g.H.Shelf.faults c.args.shelf.now) c.args.store.pool.disk (g.K.Sink.took c.args.out.now) (g.K.Sink.faults c.args.out.now))
+    (outside_of (g.S.Source.left c.run_from.new.script) (g.S.Source.faults c.run_from.new.script) (g.H.Shelf.files c.run_from.new.shelf)
+    (g.H.Shelf.faults c.run_from.new.shelf) (g.D.Disk.seen c.run_from.result.1) (g.K.Sink.took c.run_from.new.out) (g.K.Sink.faults c.run_from.new.out))
     (No-journal mem_tape_view c.run_from.new.journal c.run_from.result.0 c.run_from.ensures.there c.run_from.ensures.tape)
     (subst (λ (start : State). EndsFrom start c.run_from.result.0 c.args.store.catalog.limits
-    (outside_of (g.S.Source.left c.args.script.now) (g.S.Source.faults c.args.script.now) (g.H.Shelf.files c.args.shelf.now) (g.H.Shelf.faults c.args.shelf.now) c.args.store.pool.disk (g.K.Sink.took c.args.out.now) (g.K.Sink.faults c.args.out.now))
-    (outside_of (g.S.Source.left c.run_from.new.script) (g.S.Source.faults c.run_from.new.script) (g.H.Shelf.files c.run_from.new.shelf) (g.H.Shelf.faults c.run_from.new.shelf) (g.D.Disk.seen c.run_from.result.1) (g.K.Sink.took c.run_from.new.out) (g.K.Sink.faults c.run_from.new.out)))
+    (outside_of (g.S.Source.left c.args.script.now) (g.S.Source.faults c.args.script.now) (g.H.Shelf.files c.args.shelf.now)
+    (g.H.Shelf.faults c.args.shelf.now) c.args.store.pool.disk (g.K.Sink.took c.args.out.now) (g.K.Sink.faults c.args.out.now))
+    (outside_of (g.S.Source.left c.run_from.new.script) (g.S.Source.faults c.run_from.new.script) (g.H.Shelf.files c.run_from.new.shelf)
+    (g.H.Shelf.faults c.run_from.new.shelf) (g.D.Disk.seen c.run_from.result.1) (g.K.Sink.took c.run_from.new.out) (g.K.Sink.faults c.run_from.new.out)))
     (Empty-store c.args.store c.args.store.catalog.limits c.args.store.pool.frames c.requires.empty) c.run_from.ensures.promise)

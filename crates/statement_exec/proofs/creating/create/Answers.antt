@@ -11,5 +11,6 @@ returns-in-Ok-clause-performs g c = created c.args.store.now c.create.new.self c
 
 pub returns-in-Err-clause-performs : goal.returns-in-Err-clause-performs
 returns-in-Err-clause-performs g c =
-    refused_call c.args.store.now c.create.new.self (Create c.args.name.now c.args.columns) is_none c.in-Err.why refl refl (λ cs setting. (refl, refl)) (never_create c.args.store.now c.args.name.now c.args.columns) (late_create c.args.name.now c.args.columns)
+    refused_call c.args.store.now c.create.new.self (Create c.args.name.now c.args.columns) is_none c.in-Err.why refl refl (λ cs setting. (refl, refl))
+    (never_create c.args.store.now c.args.name.now c.args.columns) (late_create c.args.name.now c.args.columns)
     c.in-Err.ensures.unchanged (subst (λ (n : List ℕ). IsRefusedBy is_none c.args.store.now (Create n c.args.columns) c.in-Err.why) c.as_str.ensures c.in-Err.ensures.refused) c.in-Err.ensures.cause

@@ -11,5 +11,6 @@ returns-in-Ok-clause-performs g c = deleted c.args.store.now c.delete.new.self c
 
 pub returns-in-Err-clause-performs : goal.returns-in-Err-clause-performs
 returns-in-Err-clause-performs g c =
-    refused_call c.args.store.now c.delete.new.self (Delete c.args.name.now c.args.id) is_missing c.in-Err.why refl refl (λ cs setting. (refl, refl)) (never_delete c.args.store.now c.args.name.now c.args.id) (late_delete c.args.name.now c.args.id)
+    refused_call c.args.store.now c.delete.new.self (Delete c.args.name.now c.args.id) is_missing c.in-Err.why refl refl (λ cs setting. (refl, refl))
+    (never_delete c.args.store.now c.args.name.now c.args.id) (late_delete c.args.name.now c.args.id)
     c.in-Err.ensures.unchanged (subst (λ (n : List ℕ). IsRefusedBy is_missing c.args.store.now (Delete n c.args.id) c.in-Err.why) c.as_str.ensures c.in-Err.ensures.refused) c.in-Err.ensures.cause

@@ -15,6 +15,9 @@ returns-in-Ok-clause-performs g c =
 pub returns-in-Err-clause-performs : goal.returns-in-Err-clause-performs
 returns-in-Err-clause-performs g c =
     let column : Column = record { relation = c.args.relation.now; column = c.args.column.now } in
-    refused_call c.args.store.now c.index.new.self (Index column c.args.threshold) is_full c.in-Err.why refl refl (λ cs setting. (refl, refl)) (never_index c.args.store.now column c.args.threshold) (late_index column c.args.threshold)
-    c.in-Err.ensures.unchanged (subst (λ (n : List ℕ). IsRefusedBy is_full c.args.store.now (Index (record { relation = c.args.relation.now; column = n }) c.args.threshold) c.in-Err.why) c.as_str-2.ensures
-    (subst (λ (n : List ℕ). IsRefusedBy is_full c.args.store.now (Index (record { relation = n; column = c.as_str-2.result.now }) c.args.threshold) c.in-Err.why) c.as_str.ensures c.in-Err.ensures.refused)) c.in-Err.ensures.cause
+    refused_call c.args.store.now c.index.new.self (Index column c.args.threshold) is_full c.in-Err.why refl refl (λ cs setting. (refl, refl))
+    (never_index c.args.store.now column c.args.threshold) (late_index column c.args.threshold)
+    c.in-Err.ensures.unchanged (subst (λ (n : List ℕ).
+    IsRefusedBy is_full c.args.store.now (Index (record { relation = c.args.relation.now; column = n }) c.args.threshold) c.in-Err.why) c.as_str-2.ensures
+    (subst (λ (n : List ℕ). IsRefusedBy is_full c.args.store.now
+    (Index (record { relation = n; column = c.as_str-2.result.now }) c.args.threshold) c.in-Err.why) c.as_str.ensures c.in-Err.ensures.refused)) c.in-Err.ensures.cause

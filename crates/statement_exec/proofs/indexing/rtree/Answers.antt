@@ -17,4 +17,5 @@ returns-in-Err-clause-performs g c =
     let column : Column = record { relation = c.args.relation.now; column = c.args.column.now } in
     refused_call c.args.store.now c.rtree.new.self (Rtree column) is_none c.in-Err.why refl refl (λ cs setting. (refl, refl)) (never_rtree c.args.store.now column) (late_rtree column)
     c.in-Err.ensures.unchanged (subst (λ (n : List ℕ). IsRefusedBy is_none c.args.store.now (Rtree (record { relation = c.args.relation.now; column = n })) c.in-Err.why) c.as_str-2.ensures
-    (subst (λ (n : List ℕ). IsRefusedBy is_none c.args.store.now (Rtree (record { relation = n; column = c.as_str-2.result.now })) c.in-Err.why) c.as_str.ensures c.in-Err.ensures.refused)) c.in-Err.ensures.cause
+    (subst (λ (n : List ℕ). IsRefusedBy is_none c.args.store.now
+    (Rtree (record { relation = n; column = c.as_str-2.result.now })) c.in-Err.why) c.as_str.ensures c.in-Err.ensures.refused)) c.in-Err.ensures.cause

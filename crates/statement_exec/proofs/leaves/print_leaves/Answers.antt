@@ -22,13 +22,15 @@ pub returns-in-Err-clause-stops : goal.returns-in-Err-clause-stops
 returns-in-Err-clause-stops g c =
     walk_stops (IsTold c.args.desk.now.pool) (tree_at c.args.desk.now.pool.pages c.args.tree.now) (g.K.Sink.took c.args.out.now) (g.K.Sink.took c.leaves.out) (g.K.Sink.took c.print_leaf.new.out)
     c.leaves.code c.in-Err.why c.leaves.invariant.walk
-    (read_stop c.args.desk.now.pool c.leaves.desk.pool c.args.tree.now c.leaves.code (g.K.Sink.took c.leaves.out) (g.K.Sink.took c.print_leaf.new.out) c.in-Err.why c.leaves.invariant.read c.in-Err.ensures.stops)
+    (read_stop c.args.desk.now.pool c.leaves.desk.pool c.args.tree.now c.leaves.code (g.K.Sink.took c.leaves.out)
+    (g.K.Sink.took c.print_leaf.new.out) c.in-Err.why c.leaves.invariant.read c.in-Err.ensures.stops)
 
 pub leaves-preserved : goal.leaves-preserved
 leaves-preserved g c = record {
   walk = walk_next (IsTold c.args.desk.now.pool) (tree_at c.args.desk.now.pool.pages c.args.tree.now) (g.K.Sink.took c.args.out.now) (g.K.Sink.took c.leaves.out) (g.K.Sink.took c.print_leaf.new.out)
       c.leaves.code c.in-Ok.next c.leaves.invariant.walk
-      (read_leaf c.args.desk.now.pool c.leaves.desk.pool c.args.tree.now c.leaves.code c.in-Ok.next (g.K.Sink.took c.leaves.out) (g.K.Sink.took c.print_leaf.new.out) c.leaves.invariant.read c.in-Ok.ensures.written);
+      (read_leaf c.args.desk.now.pool c.leaves.desk.pool c.args.tree.now c.leaves.code c.in-Ok.next (g.K.Sink.took c.leaves.out)
+      (g.K.Sink.took c.print_leaf.new.out) c.leaves.invariant.read c.in-Ok.ensures.written);
   read = IsRead-trans c.args.desk.now.pool c.leaves.desk.pool c.print_leaf.new.desk.pool c.leaves.invariant.read c.in-Ok.ensures.read;
   disk = c.in-Ok.ensures.cause.counted ∙ c.leaves.invariant.disk;
   sink = c.in-Ok.ensures.sink.done ∙ c.leaves.invariant.sink;

@@ -6,8 +6,8 @@ use Rattle.tuple_codec.proofs.Passes.{value_before, value_in_column, at_column, 
 use Rattle.tuple_codec.proofs.decoder.decode_value.Goals as goal
 
 -- a value before it is passed over where the bytes are those of a row
-pub returns-then-not-pass_value : goal.returns-then-not-pass_value
-returns-then-not-pass_value c = λ row enc.
+pub returns-then-not-pass_value-clause-value : goal.returns-then-not-pass_value-clause-value
+returns-then-not-pass_value-clause-value c = λ row enc.
     let at = c.columns.before-index in
     let v = value_before c.columns-columns.result.now c.args.schema.now c.args.column at c.columns-item.result c.args.bytes.now c.columns-columns.ensures
     c.columns-test.true c.columns-item.is row enc in
@@ -23,8 +23,8 @@ columns-preserved c = λ row enc.
     (c.pass_value.ensures v.0 (encoding (drop (at + 1) row)) v.1.is (c.columns.invariant row enc ∙ v.1.ahead)).1
 
 -- the value in front is that of the column
-pub returns : goal.returns
-returns c = λ row enc.
+pub returns-clause-value : goal.returns-clause-value
+returns-clause-value c = λ row enc.
     let columns = c.columns-columns.result.now in
     let column = c.args.column in
     let look = c.in-Some.ensures.lookup in

@@ -27,7 +27,8 @@ returns-in_err-exact-clause-moves g c =
 
 pub returns-clause-falls : goal.returns-clause-falls
 returns-clause-falls g c =
-    fetch_falls_zero g.met.H.Node.Ord.total (g.H.Hierarchy.weight c.args.hierarchy.now) c.args.frontier.now.queue c.fetch.new.self c.args.id _ c.in_ok-exact.exact (ap (λ n. nat_eq n 0) c.num.ensures) c.requires.opened c.fetch.ensures
+    fetch_falls_zero g.met.H.Node.Ord.total (g.H.Hierarchy.weight c.args.hierarchy.now) c.args.frontier.now.queue c.fetch.new.self c.args.id _ c.in_ok-exact.exact
+    (ap (λ n. nat_eq n 0) c.num.ensures) c.requires.opened c.fetch.ensures
 
 pub returns-clause-moves : goal.returns-clause-moves
 returns-clause-moves g c =

@@ -22,7 +22,8 @@ returns-in_err-open_near-clause-moves g c =
     let (rest, ends) = c.requires.next in
     err_case _ _ _ c.from_residual.ensures.0
     (refused_zero g.met.H.Node.Ord.total (g.H.Hierarchy.meaning c.args.hierarchy.now) (g.H.Hierarchy.note c.args.hierarchy.now) (told_pages c.args.desk.now)
-    (items_of f.queue) (items_of c.open_near.new.queue) f.last f.counts c.args.desk.now c.open_near.new.desk (Node zero_gap c.args.node) tt refl (node_queued_at f.queue rest zero_gap c.args.node refl ends)
+    (items_of f.queue) (items_of c.open_near.new.queue) f.last f.counts c.args.desk.now c.open_near.new.desk (Node zero_gap c.args.node) tt refl
+    (node_queued_at f.queue rest zero_gap c.args.node refl ends)
     (ap items_of c.in_err-open_near.ensures.refused) c.in_err-open_near.ensures.visits)
 
 pub returns-clause-falls : goal.returns-clause-falls

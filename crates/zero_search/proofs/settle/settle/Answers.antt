@@ -20,7 +20,8 @@ steps-init g c =
       falls = omega arith;
       stands = c.requires;
       near = all_over (told_pages c.args.desk.now) (λ p. g.H.Hierarchy.IsNear c.args.hierarchy.now p c.nowhere-near.result) c.nowhere-near.ensures;
-      moves = stays_over g.H.Node.Ord.cmp (g.H.Hierarchy.meaning c.args.hierarchy.now) (g.H.Hierarchy.note c.args.hierarchy.now) (told_pages c.args.desk.now) (state (items_of f.queue) f.last f.counts c.args.desk.now);
+      moves = stays_over g.H.Node.Ord.cmp (g.H.Hierarchy.meaning c.args.hierarchy.now) (g.H.Hierarchy.note c.args.hierarchy.now) (told_pages c.args.desk.now)
+          (state (items_of f.queue) f.last f.counts c.args.desk.now);
       still = λ _. (refl, refl);
     }
 
@@ -100,7 +101,8 @@ returns-in-Ok-false-clause-last g c = c.in-Ok-false.ensures.last ∙ c.steps.inv
 pub returns-in-Ok-false-clause-falls : goal.returns-in-Ok-false-clause-falls
 returns-in-Ok-false-clause-falls g c =
     let weight = g.H.Hierarchy.weight c.args.hierarchy.now in
-    let same = subst (λ b. StepFalls (steps weight (items_of c.steps.frontier.queue)) (steps weight (items_of c.step.new.frontier.queue)) (Ok b)) c.in-Ok-false.field-0-test c.in-Ok-false.ensures.falls in
+    let same = subst (λ b. StepFalls (steps weight (items_of c.steps.frontier.queue)) (steps weight (items_of c.step.new.frontier.queue))
+    (Ok b)) c.in-Ok-false.field-0-test c.in-Ok-false.ensures.falls in
     let before = c.steps.invariant.falls in
     omega arith
 

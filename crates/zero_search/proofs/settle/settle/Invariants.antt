@@ -15,7 +15,8 @@ invariant-steps g l = record {
   falls : steps (g.H.Hierarchy.weight l.hierarchy) (items_of l.frontier.queue) ≤ steps (g.H.Hierarchy.weight l.hierarchy) (items_of l.fn.frontier.queue);
   stands : IfSome (told_pages l.desk) (λ p. StandsWithin g.H.Node.Ord.cmp (g.H.Hierarchy.meaning l.hierarchy p) (items_of l.frontier.queue) l.frontier.last);
   near : IfSome (told_pages l.desk) (λ p. g.H.Hierarchy.IsNear l.hierarchy p l.near);
-  moves : IfSome (told_pages l.fn.desk) (λ p. Goes g.H.Node.Ord.cmp (g.H.Hierarchy.meaning l.hierarchy p) (g.H.Hierarchy.note l.hierarchy) (state (items_of l.fn.frontier.queue) l.fn.frontier.last l.fn.frontier.counts l.fn.desk) (state (items_of l.frontier.queue) l.frontier.last l.frontier.counts l.desk));
+  moves : IfSome (told_pages l.fn.desk) (λ p. Goes g.H.Node.Ord.cmp (g.H.Hierarchy.meaning l.hierarchy p) (g.H.Hierarchy.note l.hierarchy)
+      (state (items_of l.fn.frontier.queue) l.fn.frontier.last l.fn.frontier.counts l.fn.desk) (state (items_of l.frontier.queue) l.frontier.last l.frontier.counts l.desk));
   still : AreRows l.fn.frontier.queue → (l.desk ≡ l.fn.desk) × (l.frontier.queue ≡ l.fn.frontier.queue);
 }
 

@@ -7,4 +7,5 @@ use Rattle.zero_search.proofs.step.step.Goals as goal
 pub returns-clause-moves : goal.returns-clause-moves
 returns-clause-moves g c =
     let f = c.args.frontier.now in
-    stays_over g.H.Node.Ord.cmp (g.H.Hierarchy.meaning c.args.hierarchy.now) (g.H.Hierarchy.note c.args.hierarchy.now) (told_pages c.args.desk.now) (state (items_of f.queue) f.last f.counts c.args.desk.now)
+    stays_over g.H.Node.Ord.cmp (g.H.Hierarchy.meaning c.args.hierarchy.now) (g.H.Hierarchy.note c.args.hierarchy.now) (told_pages c.args.desk.now)
+    (state (items_of f.queue) f.last f.counts c.args.desk.now)

@@ -21,7 +21,8 @@ found-preserved g c =
     let len = c.add.ensures.len in
     let capacity = c.add.ensures.capacity in
     record {
-      added = subst (λ (l : List (Item g.row.N.Denot)). Opens c.args.nodes.now.items l old new) (sym here) (opens_more c.args.nodes.now.items item (drop c.found.at found) old mid new c.found.invariant.added c.add.ensures.added);
+      added = subst (λ (l : List (Item g.row.N.Denot)). Opens c.args.nodes.now.items l old new) (sym here)
+          (opens_more c.args.nodes.now.items item (drop c.found.at found) old mid new c.found.invariant.added c.add.ensures.added);
       inside = omega arith;
       room = omega arith;
       roughs = c.add.ensures.bits.0 ∙ c.found.invariant.roughs;

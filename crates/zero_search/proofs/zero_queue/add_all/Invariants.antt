@@ -6,7 +6,8 @@ use Rattle.zero_search.proofs.zero_queue.add_all.Given as goal
 -- what was found from there on joined, there is room for the others, and the bits stay
 abbrev pub invariant-found : goal.invariant-found
 invariant-found g l = record {
-  added : Opens l.fn.nodes.items (drop l.at l.found) (record { nodes = l.fn.nodes.items; roughs = l.fn.roughs.ids; rows = l.fn.rows.ids; below = l.fn.rows.below }) (record { nodes = l.nodes.items; roughs = l.roughs.ids; rows = l.rows.ids; below = l.rows.below });
+  added : Opens l.fn.nodes.items (drop l.at l.found) (record { nodes = l.fn.nodes.items; roughs = l.fn.roughs.ids; rows = l.fn.rows.ids; below = l.fn.rows.below })
+      (record { nodes = l.nodes.items; roughs = l.roughs.ids; rows = l.rows.ids; below = l.rows.below });
   inside : l.at ≤ length l.found;
   room : vec_len l.nodes + l.at ≤ vec_capacity l.nodes;
   roughs : l.roughs.below ≡ l.fn.roughs.below;

@@ -12,8 +12,10 @@ returns-in-Ok-clause-row g c =
     let m = c.settle.new.frontier in
     let n = c.give_row.new.frontier in
     answer_row g.met.H.Node.Ord.total (g.H.Hierarchy.meaning c.args.self.now.hierarchy) (g.H.Hierarchy.note c.args.self.now.hierarchy) (told_pages c.args.desk.now)
-    (state (g.Q.Queue.held f.queue) f.last f.counts c.args.desk.now) (state (g.Q.Queue.held m.queue) m.last m.counts c.settle.new.desk) (state (g.Q.Queue.held n.queue) n.last n.counts c.settle.new.desk)
-    c.give_row.result c.in-Ok.ensures.last c.requires c.in-Ok.ensures.moves (record { counts = c.give_row.ensures.counts; last = c.give_row.ensures.last; queue = c.give_row.ensures.queue; desk = refl })
+    (state (g.Q.Queue.held f.queue) f.last f.counts c.args.desk.now) (state (g.Q.Queue.held m.queue) m.last m.counts c.settle.new.desk)
+    (state (g.Q.Queue.held n.queue) n.last n.counts c.settle.new.desk)
+    c.give_row.result c.in-Ok.ensures.last c.requires c.in-Ok.ensures.moves
+    (record { counts = c.give_row.ensures.counts; last = c.give_row.ensures.last; queue = c.give_row.ensures.queue; desk = refl })
 
 pub returns-in-Ok-clause-visits : goal.returns-in-Ok-clause-visits
 returns-in-Ok-clause-visits g c =
@@ -21,8 +23,10 @@ returns-in-Ok-clause-visits g c =
     let m = c.settle.new.frontier in
     let n = c.give_row.new.frontier in
     answer_visits g.met.H.Node.Ord.total (g.H.Hierarchy.meaning c.args.self.now.hierarchy) (g.H.Hierarchy.note c.args.self.now.hierarchy) (told_pages c.args.desk.now)
-    (state (g.Q.Queue.held f.queue) f.last f.counts c.args.desk.now) (state (g.Q.Queue.held m.queue) m.last m.counts c.settle.new.desk) (state (g.Q.Queue.held n.queue) n.last n.counts c.settle.new.desk)
-    c.give_row.result c.in-Ok.ensures.last c.requires c.in-Ok.ensures.moves (record { counts = c.give_row.ensures.counts; last = c.give_row.ensures.last; queue = c.give_row.ensures.queue; desk = refl })
+    (state (g.Q.Queue.held f.queue) f.last f.counts c.args.desk.now) (state (g.Q.Queue.held m.queue) m.last m.counts c.settle.new.desk)
+    (state (g.Q.Queue.held n.queue) n.last n.counts c.settle.new.desk)
+    c.give_row.result c.in-Ok.ensures.last c.requires c.in-Ok.ensures.moves
+    (record { counts = c.give_row.ensures.counts; last = c.give_row.ensures.last; queue = c.give_row.ensures.queue; desk = refl })
 
 pub returns-in-Ok-clause-stands : goal.returns-in-Ok-clause-stands
 returns-in-Ok-clause-stands g c =
@@ -31,10 +35,12 @@ returns-in-Ok-clause-stands g c =
     let n = c.give_row.new.frontier in
     let old = state (g.Q.Queue.held f.queue) f.last f.counts c.args.desk.now in
     let new = state (g.Q.Queue.held n.queue) n.last n.counts c.settle.new.desk in
-    stands_after g.met.H.Node.Ord.total (g.H.Hierarchy.meaning c.args.self.now.hierarchy) (g.H.Hierarchy.note c.args.self.now.hierarchy) (told_pages c.args.desk.now) old new (Ok c.give_row.result) c.requires
+    stands_after g.met.H.Node.Ord.total (g.H.Hierarchy.meaning c.args.self.now.hierarchy) (g.H.Hierarchy.note c.args.self.now.hierarchy)
+    (told_pages c.args.desk.now) old new (Ok c.give_row.result) c.requires
     (answer_visits g.met.H.Node.Ord.total (g.H.Hierarchy.meaning c.args.self.now.hierarchy) (g.H.Hierarchy.note c.args.self.now.hierarchy) (told_pages c.args.desk.now)
     old (state (g.Q.Queue.held m.queue) m.last m.counts c.settle.new.desk) new
-    c.give_row.result c.in-Ok.ensures.last c.requires c.in-Ok.ensures.moves (record { counts = c.give_row.ensures.counts; last = c.give_row.ensures.last; queue = c.give_row.ensures.queue; desk = refl }))
+    c.give_row.result c.in-Ok.ensures.last c.requires c.in-Ok.ensures.moves
+    (record { counts = c.give_row.ensures.counts; last = c.give_row.ensures.last; queue = c.give_row.ensures.queue; desk = refl }))
 
 pub returns-in-Ok-clause-falls : goal.returns-in-Ok-clause-falls
 returns-in-Ok-clause-falls g c =
@@ -58,4 +64,5 @@ returns-in-Err-clause-visits g c =
     let f = c.args.self.now.frontier in
     let n = c.settle.new.frontier in
     refusal_visits g.met.H.Node.Ord.total (g.H.Hierarchy.meaning c.args.self.now.hierarchy) (g.H.Hierarchy.note c.args.self.now.hierarchy) (told_pages c.args.desk.now)
-    (state (g.Q.Queue.held f.queue) f.last f.counts c.args.desk.now) (state (g.Q.Queue.held n.queue) n.last n.counts c.settle.new.desk) c.in-Err.fault c.in-Err.ensures.last c.requires c.in-Err.ensures.moves
+    (state (g.Q.Queue.held f.queue) f.last f.counts c.args.desk.now)
+    (state (g.Q.Queue.held n.queue) n.last n.counts c.settle.new.desk) c.in-Err.fault c.in-Err.ensures.last c.requires c.in-Err.ensures.moves

@@ -31,7 +31,8 @@ returns-in_err-take_on-clause-price g c = λ told.
     let r = c.in_ok-leaf.ensures.peeks.read in
     let s = c.in_ok-next.ensures.looks.read in
     let W : Store → Type 0 = λ x. IsTakenIn x c.in_ok-leaf.leaf c.args.low c.args.high c.new-found.result.items c.take_leaf.new.found.items c.in_ok-next.next in
-    let f = first_taken (pages_in a) c.args.self.now c.args.low c.args.high c.in_ok-leaf.leaf c.in_ok-next.next c.new-found.result.items c.take_leaf.new.found.items (c.requires.tree told) (c.in_ok-leaf.ensures.value told)
+    let f = first_taken (pages_in a) c.args.self.now c.args.low c.args.high c.in_ok-leaf.leaf c.in_ok-next.next c.new-found.result.items c.take_leaf.new.found.items
+    (c.requires.tree told) (c.in_ok-leaf.ensures.value told)
     (subst W (same_store b a r.pages) (c.in_ok-next.ensures.value (r.told ∙ told))) in
     let R : Store → Type 0 = λ x. IsRest x c.args.self.now c.args.low c.args.high c.in_ok-next.next c.args.self.now.entries f.rest in
     let p = c.in_err-take_on.ensures.price (s.told ∙ (r.told ∙ told)) f.rest (subst R (sym (same_store d b s.pages ∙ same_store b a r.pages)) f.is) in
@@ -45,7 +46,8 @@ returns-clause-value g c = λ told.
     let r = c.in_ok-leaf.ensures.peeks.read in
     let s = c.in_ok-next.ensures.looks.read in
     let W : Store → Type 0 = λ x. IsTakenIn x c.in_ok-leaf.leaf c.args.low c.args.high c.new-found.result.items c.take_leaf.new.found.items c.in_ok-next.next in
-    let f = first_taken (pages_in a) c.args.self.now c.args.low c.args.high c.in_ok-leaf.leaf c.in_ok-next.next c.new-found.result.items c.take_leaf.new.found.items (c.requires.tree told) (c.in_ok-leaf.ensures.value told)
+    let f = first_taken (pages_in a) c.args.self.now c.args.low c.args.high c.in_ok-leaf.leaf c.in_ok-next.next c.new-found.result.items c.take_leaf.new.found.items
+    (c.requires.tree told) (c.in_ok-leaf.ensures.value told)
     (subst W (same_store b a r.pages) (c.in_ok-next.ensures.value (r.told ∙ told))) in
     let R : Store → Type 0 = λ x. IsRest x c.args.self.now c.args.low c.args.high c.in_ok-next.next c.args.self.now.entries f.rest in
     let v = c.in_ok-take_on.ensures.value (s.told ∙ (r.told ∙ told)) f.rest (subst R (sym (same_store d b s.pages ∙ same_store b a r.pages)) f.is) in
@@ -60,7 +62,8 @@ returns-clause-price g c = λ told.
     let r = c.in_ok-leaf.ensures.peeks.read in
     let s = c.in_ok-next.ensures.looks.read in
     let W : Store → Type 0 = λ x. IsTakenIn x c.in_ok-leaf.leaf c.args.low c.args.high c.new-found.result.items c.take_leaf.new.found.items c.in_ok-next.next in
-    let f = first_taken (pages_in a) c.args.self.now c.args.low c.args.high c.in_ok-leaf.leaf c.in_ok-next.next c.new-found.result.items c.take_leaf.new.found.items (c.requires.tree told) (c.in_ok-leaf.ensures.value told)
+    let f = first_taken (pages_in a) c.args.self.now c.args.low c.args.high c.in_ok-leaf.leaf c.in_ok-next.next c.new-found.result.items c.take_leaf.new.found.items
+    (c.requires.tree told) (c.in_ok-leaf.ensures.value told)
     (subst W (same_store b a r.pages) (c.in_ok-next.ensures.value (r.told ∙ told))) in
     let R : Store → Type 0 = λ x. IsRest x c.args.self.now c.args.low c.args.high c.in_ok-next.next c.args.self.now.entries f.rest in
     let p = c.in_ok-take_on.ensures.price (s.told ∙ (r.told ∙ told)) f.rest (subst R (sym (same_store d b s.pages ∙ same_store b a r.pages)) f.is) in

@@ -21,6 +21,7 @@ pub returns-in-Ok-Some-clause-goes : goal.returns-in-Ok-Some-clause-goes
 returns-in-Ok-Some-clause-goes g c =
     let going = outcome_is c.args.self.now.outcome c.in-Ok.over c.in-Ok.is c.if-over.false in
     let given = given_by (g.P.Pages.shown c.args.self.now.pages.now) c.args.self.now.spot c.in-Ok-Some.field-0 c.in-Ok-Some.pair c.in-Ok-Some.spot c.in-Ok-Some.field-0-is c.in-Ok-Some.ensures.value in
-    let gave = run_gave (g.P.Pages.shown c.args.self.now.pages.now) (g.P.Pages.shown c.step.new.pages) c.args.self.now.spot c.in-Ok-Some.spot c.in-Ok-Some.pair c.args.self.now.outcome c.in-Ok-Some.field-0 going given c.in-Ok-Some.ensures.peeks c.in-Ok-Some.ensures.some in
+    let gave = run_gave (g.P.Pages.shown c.args.self.now.pages.now)
+    (g.P.Pages.shown c.step.new.pages) c.args.self.now.spot c.in-Ok-Some.spot c.in-Ok-Some.pair c.args.self.now.outcome c.in-Ok-Some.field-0 going given c.in-Ok-Some.ensures.peeks c.in-Ok-Some.ensures.some in
     let can = (gave.steps going).can in
     record { on = λ _. (can, tt, fewer_left (g.P.Pages.shown c.args.self.now.pages.now) c.args.self.now.spot c.in-Ok-Some.spot c.in-Ok-Some.pair given); keeps = can; rests = λ _. tt }

@@ -51,14 +51,17 @@ look_at_both-requires-clause-right g c =
 
 pub look_at_both-requires-clause-near : goal.look_at_both-requires-clause-near
 look_at_both-requires-clause-near g c =
-    at_desk c.args.desk.now (λ p. AreNear p c.args.self.now.left c.args.self.now.right c.args.near.now) c.pages.result.now (c.pages.ensures.pool ∙ ap (λ (d : DeskState). d.pool) c.in-Ok.ensures.noted) c.requires.near
+    at_desk c.args.desk.now (λ p. AreNear p c.args.self.now.left c.args.self.now.right c.args.near.now) c.pages.result.now
+    (c.pages.ensures.pool ∙ ap (λ (d : DeskState). d.pool) c.in-Ok.ensures.noted) c.requires.near
 
 pub returns-in-Ok-add_found-clause-found : goal.returns-in-Ok-add_found-clause-found
 returns-in-Ok-add_found-clause-found g c =
     found_ok (paged (g.G.ShapeOf.rows c.args.self.now.left_shapes) (g.G.ShapeOf.Stands c.args.self.now.left_shapes) (g.G.ShapeOf.price c.args.self.now.left_shapes) c.args.self.now.left)
     (paged (g.G.ShapeOf.rows c.args.self.now.right_shapes) (g.G.ShapeOf.Stands c.args.self.now.right_shapes) (g.G.ShapeOf.price c.args.self.now.right_shapes) c.args.self.now.right)
     c.args.self.now.ceiling (g.met.G.ShapeOf.in_plane c.args.self.now.left_shapes) (g.met.G.ShapeOf.in_plane c.args.self.now.right_shapes)
-    c.args.desk.now c.args.node c.args.gap c.requires.node c.pages.result.now (c.pages.ensures.pool ∙ ap (λ (d : DeskState). d.pool) c.in-Ok.ensures.noted) c.in-Ok-look_at_both.place c.in-Ok-look_at_both.second (λ told. (c.in-Ok-look_at_both.ensures.left told, c.in-Ok-look_at_both.ensures.right told))
+    c.args.desk.now c.args.node c.args.gap c.requires.node c.pages.result.now
+    (c.pages.ensures.pool ∙ ap (λ (d : DeskState). d.pool) c.in-Ok.ensures.noted) c.in-Ok-look_at_both.place c.in-Ok-look_at_both.second
+    (λ told. (c.in-Ok-look_at_both.ensures.left told, c.in-Ok-look_at_both.ensures.right told))
     c.args.found.now.items c.add_found.new.found.items c.in-Ok-add_found.ensures.added
 
 pub returns-in-Ok-add_found-clause-falls : goal.returns-in-Ok-add_found-clause-falls
@@ -91,12 +94,15 @@ returns-clause-visits g c =
 
 pub returns-in-Ok-add_found-clause-near : goal.returns-in-Ok-add_found-clause-near
 returns-in-Ok-add_found-clause-near g c =
-    by_desk c.args.desk.now (λ p. AreNear p c.args.self.now.left c.args.self.now.right c.look_at_both.new.near) c.pages.result.now (c.pages.ensures.pool ∙ ap (λ (d : DeskState). d.pool) c.in-Ok.ensures.noted) c.look_at_both.ensures.near
+    by_desk c.args.desk.now (λ p. AreNear p c.args.self.now.left c.args.self.now.right c.look_at_both.new.near) c.pages.result.now
+    (c.pages.ensures.pool ∙ ap (λ (d : DeskState). d.pool) c.in-Ok.ensures.noted) c.look_at_both.ensures.near
 
 pub returns-in-Ok-look_at_both-clause-near : goal.returns-in-Ok-look_at_both-clause-near
 returns-in-Ok-look_at_both-clause-near g c =
-    by_desk c.args.desk.now (λ p. AreNear p c.args.self.now.left c.args.self.now.right c.look_at_both.new.near) c.pages.result.now (c.pages.ensures.pool ∙ ap (λ (d : DeskState). d.pool) c.in-Ok.ensures.noted) c.look_at_both.ensures.near
+    by_desk c.args.desk.now (λ p. AreNear p c.args.self.now.left c.args.self.now.right c.look_at_both.new.near) c.pages.result.now
+    (c.pages.ensures.pool ∙ ap (λ (d : DeskState). d.pool) c.in-Ok.ensures.noted) c.look_at_both.ensures.near
 
 pub returns-clause-near : goal.returns-clause-near
 returns-clause-near g c =
-    by_desk c.args.desk.now (λ p. AreNear p c.args.self.now.left c.args.self.now.right c.look_at_both.new.near) c.pages.result.now (c.pages.ensures.pool ∙ ap (λ (d : DeskState). d.pool) c.in-Ok.ensures.noted) c.look_at_both.ensures.near
+    by_desk c.args.desk.now (λ p. AreNear p c.args.self.now.left c.args.self.now.right c.look_at_both.new.near) c.pages.result.now
+    (c.pages.ensures.pool ∙ ap (λ (d : DeskState). d.pool) c.in-Ok.ensures.noted) c.look_at_both.ensures.near

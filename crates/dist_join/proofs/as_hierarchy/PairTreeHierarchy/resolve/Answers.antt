@@ -10,7 +10,8 @@ returns-in-Ok-fetch_both-clause-value g c =
     fetched_row (paged (g.G.ShapeOf.rows c.args.self.now.left_shapes) (g.G.ShapeOf.Stands c.args.self.now.left_shapes) (g.G.ShapeOf.price c.args.self.now.left_shapes) c.args.self.now.left)
     (paged (g.G.ShapeOf.rows c.args.self.now.right_shapes) (g.G.ShapeOf.Stands c.args.self.now.right_shapes) (g.G.ShapeOf.price c.args.self.now.right_shapes) c.args.self.now.right)
     c.args.self.now.ceiling (g.met.G.ShapeOf.in_plane c.args.self.now.left_shapes) (g.met.G.ShapeOf.in_plane c.args.self.now.right_shapes)
-    c.args.desk.now c.args.left c.args.right c.requires c.pages.result.now (c.pages.ensures.pool ∙ ap (λ (d : DeskState). d.pool) c.in-Ok.ensures.noted) c.in-Ok-fetch_both.shape c.in-Ok-fetch_both.second c.in-Ok-fetch_both.ensures.value
+    c.args.desk.now c.args.left c.args.right c.requires c.pages.result.now
+    (c.pages.ensures.pool ∙ ap (λ (d : DeskState). d.pool) c.in-Ok.ensures.noted) c.in-Ok-fetch_both.shape c.in-Ok-fetch_both.second c.in-Ok-fetch_both.ensures.value
     c.figures_gap.result c.figures_gap.ensures
 
 pub returns-in-Err-fetch_both-clause-visits : goal.returns-in-Err-fetch_both-clause-visits

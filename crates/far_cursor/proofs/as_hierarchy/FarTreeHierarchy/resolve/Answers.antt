@@ -13,5 +13,6 @@ returns-in-Ok-shape_of-clause-value g c =
 pub returns-in-Err-shape_of-clause-visits : goal.returns-in-Err-shape_of-clause-visits
 returns-in-Err-shape_of-clause-visits g c =
     fetch_tried (g.G.ShapeOf.rows c.args.self.now.shapes) (g.G.ShapeOf.Stands c.args.self.now.shapes) (g.G.ShapeOf.price c.args.self.now.shapes) c.args.self.now.pmr c.args.self.now.goal
-    (g.met.G.ShapeOf.in_plane c.args.self.now.shapes) c.args.self.now.plane c.args.desk.now c.note.new.self (record { pool = c.shape_of.new.pages; visits = c.note.new.self.visits }) c.args.left c.args._right
+    (g.met.G.ShapeOf.in_plane c.args.self.now.shapes) c.args.self.now.plane c.args.desk.now c.note.new.self
+    (record { pool = c.shape_of.new.pages; visits = c.note.new.self.visits }) c.args.left c.args._right
     c.in-Ok.ensures.noted refl c.pages.result.now c.pages.ensures.pool c.shape_of.ensures.up c.shape_of.ensures.price

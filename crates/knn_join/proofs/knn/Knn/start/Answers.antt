@@ -14,5 +14,6 @@ pub returns-clause-stands : goal.returns-clause-stands
 returns-clause-stands g c = λ p stands sides.
     let counts = c.in_ok-partners.partners in
     let e = c.in_ok-partners.ensures in
-    stands_begun g.H.Node.Ord.cmp (g.H.Hierarchy.meaning c.args.engine.hierarchy p) (g.Q.Queue.held c.args.engine.frontier.queue) c.args.engine.frontier.last counts c.args.k c.args.lefts c.args.rights c.args.greatest
+    stands_begun g.H.Node.Ord.cmp (g.H.Hierarchy.meaning c.args.engine.hierarchy p)
+    (g.Q.Queue.held c.args.engine.frontier.queue) c.args.engine.frontier.last counts c.args.k c.args.lefts c.args.rights c.args.greatest
     c.requires.none_given e.most e.none_given e.places e.waiting stands sides

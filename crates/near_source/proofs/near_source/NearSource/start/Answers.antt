@@ -19,5 +19,6 @@ returns-clause-begun c =
       goal = over.ensures.goal;
       ceiling = over.ensures.ceiling;
     })
-    (made_laws over.result c.in_ok-shapes.shapes c.args.column.tree (figure.Shape c.args.goal) c.args.ceiling over.ensures.shapes over.ensures.tree over.ensures.goal over.ensures.ceiling over.ensures.laws)
+    (made_laws over.result c.in_ok-shapes.shapes c.args.column.tree
+    (figure.Shape c.args.goal) c.args.ceiling over.ensures.shapes over.ensures.tree over.ensures.goal over.ensures.ceiling over.ensures.laws)
     s.frontier.queue.items s.frontier.last s.frontier.counts h.none_given h.none_taken h.stands

@@ -16,11 +16,13 @@ invariant_of-self g c =
 pub returns-clause-begun : goal.returns-clause-begun
 returns-clause-begun g c =
     let disk : DiskView = g.D.Disk.seen c.self.inside.disk in
-    subst (λ old. OnOk c.advance.result (Advances old (archive_of disk c.self.inside.digests c.advance.new.self))) c.self.view_is (advanced_answer disk c.self.inside.digests c.self.inside.images c.advance.new.self c.advance.result c.advance.ensures.before
+    subst (λ old. OnOk c.advance.result (Advances old (archive_of disk c.self.inside.digests c.advance.new.self))) c.self.view_is
+    (advanced_answer disk c.self.inside.digests c.self.inside.images c.advance.new.self c.advance.result c.advance.ensures.before
     (subst (λ a. (n : ℕ) → StandsWritten a.disk.told a.pages a.kept n) (sym c.self.view_is) c.requires) c.advance.ensures.begun c.advance.ensures.unchanged c.self.invariant).1
 
 pub returns-clause-whole : goal.returns-clause-whole
 returns-clause-whole g c =
     let disk : DiskView = g.D.Disk.seen c.self.inside.disk in
-    is_archive disk c.self.inside.digests c.advance.new.self c.advance.ensures.whole (advanced_answer disk c.self.inside.digests c.self.inside.images c.advance.new.self c.advance.result c.advance.ensures.before
+    is_archive disk c.self.inside.digests c.advance.new.self c.advance.ensures.whole
+    (advanced_answer disk c.self.inside.digests c.self.inside.images c.advance.new.self c.advance.result c.advance.ensures.before
     (subst (λ a. (n : ℕ) → StandsWritten a.disk.told a.pages a.kept n) (sym c.self.view_is) c.requires) c.advance.ensures.begun c.advance.ensures.unchanged c.self.invariant).0

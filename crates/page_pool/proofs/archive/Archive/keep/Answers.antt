@@ -16,14 +16,17 @@ invariant_of-self g c =
 pub returns-clause-free : goal.returns-clause-free
 returns-clause-free g c =
     let disk : DiskView = g.D.Disk.seen c.self.inside.disk in
-    subst (λ old. IfOk c.keep.result (λ slot. map.get old.stamps slot ≡ None)) c.self.view_is (kept_answer disk c.self.inside.digests c.self.inside.images c.keep.new.self c.keep.result c.keep.ensures.before c.keep.ensures.free c.keep.ensures.kept c.keep.ensures.unchanged c.self.invariant).1.0
+    subst (λ old. IfOk c.keep.result (λ slot. map.get old.stamps slot ≡ None)) c.self.view_is
+    (kept_answer disk c.self.inside.digests c.self.inside.images c.keep.new.self c.keep.result c.keep.ensures.before c.keep.ensures.free c.keep.ensures.kept c.keep.ensures.unchanged c.self.invariant).1.0
 
 pub returns-clause-kept : goal.returns-clause-kept
 returns-clause-kept g c =
     let disk : DiskView = g.D.Disk.seen c.self.inside.disk in
-    subst (λ old. IfOk c.keep.result (λ slot. archive_of disk c.self.inside.digests c.keep.new.self ≡ record old { stamps = map.insert old.stamps slot (newest_images old) })) c.self.view_is (kept_answer disk c.self.inside.digests c.self.inside.images c.keep.new.self c.keep.result c.keep.ensures.before c.keep.ensures.free c.keep.ensures.kept c.keep.ensures.unchanged c.self.invariant).1.1
+    subst (λ old. IfOk c.keep.result (λ slot. archive_of disk c.self.inside.digests c.keep.new.self ≡ record old { stamps = map.insert old.stamps slot (newest_images old) })) c.self.view_is
+    (kept_answer disk c.self.inside.digests c.self.inside.images c.keep.new.self c.keep.result c.keep.ensures.before c.keep.ensures.free c.keep.ensures.kept c.keep.ensures.unchanged c.self.invariant).1.1
 
 pub returns-clause-whole : goal.returns-clause-whole
 returns-clause-whole g c =
     let disk : DiskView = g.D.Disk.seen c.self.inside.disk in
-    is_archive disk c.self.inside.digests c.keep.new.self c.keep.ensures.whole (kept_answer disk c.self.inside.digests c.self.inside.images c.keep.new.self c.keep.result c.keep.ensures.before c.keep.ensures.free c.keep.ensures.kept c.keep.ensures.unchanged c.self.invariant).0
+    is_archive disk c.self.inside.digests c.keep.new.self c.keep.ensures.whole
+    (kept_answer disk c.self.inside.digests c.self.inside.images c.keep.new.self c.keep.result c.keep.ensures.before c.keep.ensures.free c.keep.ensures.kept c.keep.ensures.unchanged c.self.invariant).0

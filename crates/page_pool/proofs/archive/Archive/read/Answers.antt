@@ -22,7 +22,8 @@ returns-in-Some-clause-read g c =
     let disk' : DiskView = g.D.Disk.seen c.read_image.new.disk in
     let here : newest_place c.self.inside.images c.args.n ≡ Some c.in-Some.place = sym c.newest_place.ensures.place ∙ c.in-Some.is in
     subst (λ old. ReadsImage old (archive_of disk' c.self.inside.digests c.self.inside.images) old.pages old.kept c.args.n c.read_image.result) c.self.view_is
-    (reads_image disk disk' c.self.inside.digests c.self.inside.images (newest_of (stored_at disk c.self.inside.digests) c.self.inside.images) (newest_of (map.get c.self.inside.digests) c.self.inside.images) c.args.n c.in-Some.place c.read_image.result
+    (reads_image disk disk' c.self.inside.digests c.self.inside.images (newest_of (stored_at disk c.self.inside.digests) c.self.inside.images)
+    (newest_of (map.get c.self.inside.digests) c.self.inside.images) c.args.n c.in-Some.place c.read_image.result
     (get-newest_of (map.get c.self.inside.digests) c.self.inside.images c.args.n ∙ ap (option_and_then (map.get c.self.inside.digests)) here)
     (get-newest_of (stored_at disk c.self.inside.digests) c.self.inside.images c.args.n ∙ ap (option_and_then (stored_at disk c.self.inside.digests)) here) c.read_image.ensures)
 

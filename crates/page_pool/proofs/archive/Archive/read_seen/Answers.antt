@@ -17,14 +17,16 @@ returns-in_default-clause-whole g c =
 pub read_image-requires : goal.read_image-requires
 read_image-requires g c =
     let disk : DiskView = g.D.Disk.seen c.self.inside.disk in
-    seen_stored disk c.self.inside.digests c.self.inside.images c.args.slot c.in-Some.at c.args.n c.in-Some-seen_place.place (sym c.stamp.ensures.stamp ∙ c.in-Some.is) (sym c.seen_place.ensures ∙ c.in-Some-seen_place.is)
+    seen_stored disk c.self.inside.digests c.self.inside.images c.args.slot c.in-Some.at c.args.n c.in-Some-seen_place.place (sym c.stamp.ensures.stamp ∙ c.in-Some.is)
+    (sym c.seen_place.ensures ∙ c.in-Some-seen_place.is)
     (subst (λ a. IfSome (map.get a.stamps c.args.slot) (λ f. f.at < a.begun)) (sym c.self.view_is) c.requires) c.self.invariant
 
 pub returns-in-Some-seen_place-clause-read : goal.returns-in-Some-seen_place-clause-read
 returns-in-Some-seen_place-clause-read g c =
     let disk : DiskView = g.D.Disk.seen c.self.inside.disk in
     let disk' : DiskView = g.D.Disk.seen c.read_image.new.disk in
-    subst (λ old. IfSome (map.get old.stamps c.args.slot) (λ f. ReadsImage old (archive_of disk' c.self.inside.digests c.self.inside.images) f.pages f.kept c.args.n c.read_image.result)) c.self.view_is
+    subst (λ old. IfSome (map.get old.stamps c.args.slot)
+    (λ f. ReadsImage old (archive_of disk' c.self.inside.digests c.self.inside.images) f.pages f.kept c.args.n c.read_image.result)) c.self.view_is
     (reads_seen disk disk' c.self.inside.digests c.self.inside.images c.args.slot c.in-Some.at c.args.n c.in-Some-seen_place.place c.read_image.result
     (sym c.stamp.ensures.stamp ∙ c.in-Some.is) (sym c.seen_place.ensures ∙ c.in-Some-seen_place.is) c.read_image.ensures)
 

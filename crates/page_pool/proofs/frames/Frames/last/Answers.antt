@@ -11,4 +11,5 @@ returns-in-Some-clause-found c =
 
 pub returns-in-None-clause-none : goal.returns-in-None-clause-none
 returns-in-None-clause-none c =
-    ap (λ s. s.count) (sym c.self.view_is) ∙ page_count c.self.inside.table c.self.inside.queue c.len-count.ensures.valid.0 c.self.invariant ∙ none_last c.self.inside.queue.entries (sym c.in-None.ensures)
+    ap (λ s. s.count) (sym c.self.view_is) ∙ page_count c.self.inside.table c.self.inside.queue c.len-count.ensures.valid.0 c.self.invariant
+    ∙ none_last c.self.inside.queue.entries (sym c.in-None.ensures)

@@ -22,7 +22,8 @@ invariant_of-self-in-Ok c =
 pub invariant_of-self-in-Err : goal.invariant_of-self-in-Err
 invariant_of-self-in-Err c =
     queue-kept c.self.inside.table c.take.new.self c.self.inside.queue c.put.new.self c.in-Err.ensures.err
-    (undone c.self.inside.table c.insert.new.self c.take.new.self c.args.place c.new.result (no_page c.self.inside.table c.args.place c.self.inside.queue c.in-Err.ensures.succeeds c.self.invariant) c.in_ok-insert.ensures.changed c.take.ensures.left)
+    (undone c.self.inside.table c.insert.new.self c.take.new.self c.args.place c.new.result
+    (no_page c.self.inside.table c.args.place c.self.inside.queue c.in-Err.ensures.succeeds c.self.invariant) c.in_ok-insert.ensures.changed c.take.ensures.left)
     c.self.invariant
 
 pub returns-in-Ok-clause-sound : goal.returns-in-Ok-clause-sound
@@ -37,7 +38,8 @@ returns-in-Ok-clause-added c = ap (λ m. map.get m c.args.place) c.in_ok-insert.
 
 pub returns-in-Err-clause-sound : goal.returns-in-Err-clause-sound
 returns-in-Err-clause-sound c = λ q bytes found.
-    let kept = undone c.self.inside.table c.insert.new.self c.take.new.self c.args.place c.new.result (no_page c.self.inside.table c.args.place c.self.inside.queue c.in-Err.ensures.succeeds c.self.invariant) c.in_ok-insert.ensures.changed c.take.ensures.left in
+    let kept = undone c.self.inside.table c.insert.new.self c.take.new.self c.args.place c.new.result
+    (no_page c.self.inside.table c.args.place c.self.inside.queue c.in-Err.ensures.succeeds c.self.invariant) c.in_ok-insert.ensures.changed c.take.ensures.left in
     inr (c.make_room.ensures.sound q bytes (ap (λ s. map.get s.pages q) (sym c.self.view_is) ∙ ap (λ m. map.get m q) (sym kept) ∙ found))
 
 pub returns-in-Ok-clause-count : goal.returns-in-Ok-clause-count

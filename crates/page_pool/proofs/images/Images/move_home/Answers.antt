@@ -30,13 +30,15 @@ returns-in-Ok-clause-settled c =
 pub invariant_of-self-in-Err : goal.invariant_of-self-in-Err
 invariant_of-self-in-Err c =
     let s : ImagesState = images_of c.self.inside.homes c.self.inside.past c.self.inside.held c.self.inside.begun c.self.inside.changed c.self.inside.top in
-    subst IsImages (λ i. images_of (sym c.in-Err.ensures.unchanged i) (sym (unmoved s c.self.invariant c.args.n c.args.home (ap (λ x. map.get x.homes c.args.n) c.self.view_is ∙ c.requires.old) c.replaced.result c.insert.new.self c.remove-in-Err.new.self
+    subst IsImages (λ i. images_of (sym c.in-Err.ensures.unchanged i)
+    (sym (unmoved s c.self.invariant c.args.n c.args.home (ap (λ x. map.get x.homes c.args.n) c.self.view_is ∙ c.requires.old) c.replaced.result c.insert.new.self c.remove-in-Err.new.self
     c.in_ok-insert.ensures.added c.remove-in-Err.ensures) i) c.self.inside.held c.self.inside.begun c.self.inside.changed c.self.inside.top) c.self.invariant
 
 pub returns-in-Err-clause-unchanged : goal.returns-in-Err-clause-unchanged
 returns-in-Err-clause-unchanged c =
     let s : ImagesState = images_of c.self.inside.homes c.self.inside.past c.self.inside.held c.self.inside.begun c.self.inside.changed c.self.inside.top in
-    (λ i. images_of (c.in-Err.ensures.unchanged i) ((unmoved s c.self.invariant c.args.n c.args.home (ap (λ x. map.get x.homes c.args.n) c.self.view_is ∙ c.requires.old) c.replaced.result c.insert.new.self c.remove-in-Err.new.self
+    (λ i. images_of (c.in-Err.ensures.unchanged i)
+    ((unmoved s c.self.invariant c.args.n c.args.home (ap (λ x. map.get x.homes c.args.n) c.self.view_is ∙ c.requires.old) c.replaced.result c.insert.new.self c.remove-in-Err.new.self
     c.in_ok-insert.ensures.added c.remove-in-Err.ensures) i) c.self.inside.held c.self.inside.begun c.self.inside.changed c.self.inside.top) ∙ c.self.view_is
 
 pub returns-in-Ok-clause-whole : goal.returns-in-Ok-clause-whole

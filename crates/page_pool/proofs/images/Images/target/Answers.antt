@@ -7,7 +7,8 @@ use Rattle.page_pool.proofs.images.Images.target.Goals as goal
 pub returns-clause-free : goal.returns-clause-free
 returns-clause-free c =
     let s : ImagesState = images_of c.self.inside.homes c.self.inside.past c.self.inside.held c.self.inside.begun c.self.inside.changed c.self.inside.top in
-    subst (λ x. IsFreePlace x c.args.n c.in-Some.home.now.place) c.self.view_is (own_free s c.self.invariant c.args.n c.in-Some.home.now (sym c.in-Some.ensures) (sym c.sees.ensures ∙ c.if-not-sees.true))
+    subst (λ x. IsFreePlace x c.args.n c.in-Some.home.now.place) c.self.view_is
+    (own_free s c.self.invariant c.args.n c.in-Some.home.now (sym c.in-Some.ensures) (sym c.sees.ensures ∙ c.if-not-sees.true))
 
 pub returns-in-Some-first_unseen-clause-free : goal.returns-in-Some-first_unseen-clause-free
 returns-in-Some-first_unseen-clause-free c =

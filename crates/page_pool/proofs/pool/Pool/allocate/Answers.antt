@@ -13,7 +13,8 @@ invariant_of-self-2 g c =
     let opened : c.self.inside.is_open ≡ true = open_is c.self.inside.is_open c.self.inside.archive.pages (subst (λ s. IsSome s.beginning) (sym c.self.view_is) c.requires) in
     let takes : Takes c.self.inside.numbers c.take.new.self c.in-Some.n = subst (λ o. IfSome o (Takes c.self.inside.numbers c.take.new.self)) (sym c.in-Some.ensures) c.take.ensures in
     subst (λ changes. IsWhole c.self.inside.archive changes c.self.inside.frames c.take.new.self c.self.inside.is_open) (sym c.in_ok-insert.ensures.staged)
-    (whole-taken c.self.inside.archive c.self.inside.staged.changes c.self.inside.frames c.self.inside.numbers c.take.new.self c.self.inside.is_open c.in-Some.n (Some c.in_ok-page.page) opened takes c.self.invariant)
+    (whole-taken c.self.inside.archive c.self.inside.staged.changes c.self.inside.frames c.self.inside.numbers c.take.new.self c.self.inside.is_open c.in-Some.n
+    (Some c.in_ok-page.page) opened takes c.self.invariant)
 
 pub returns-clause-allocated : goal.returns-clause-allocated
 unfolding zero_page

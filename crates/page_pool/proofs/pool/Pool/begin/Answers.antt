@@ -9,7 +9,9 @@ use Rattle.page_pool.proofs.pool.Pool.begin.Goals as goal
 -- nothing waits, so each newest image stands
 pub advance-requires : goal.advance-requires
 advance-requires g c =
-    let none : (q : ℕ) → map.get c.self.inside.staged.changes q ≡ None = nothing_staged c.self.inside.staged.changes (ap (λ s. s.dirty) c.self.view_is ∙ c.in_ok-flush.ensures.writes.accepted.dirty) (ap (λ s. s.freed) c.self.view_is ∙ c.in_ok-flush.ensures.writes.accepted.freed) in
+    let none : (q : ℕ) → map.get c.self.inside.staged.changes q ≡ None =
+    nothing_staged c.self.inside.staged.changes (ap (λ s. s.dirty) c.self.view_is ∙ c.in_ok-flush.ensures.writes.accepted.dirty)
+    (ap (λ s. s.freed) c.self.view_is ∙ c.in_ok-flush.ensures.writes.accepted.freed) in
     λ n. c.self.invariant.stands n (λ _. none n)
 
 pub invariant_of-self : goal.invariant_of-self
@@ -17,7 +19,9 @@ invariant_of-self g c = subst (λ a. IsWhole a c.self.inside.staged.changes c.se
 
 pub invariant_of-self-2 : goal.invariant_of-self-2
 invariant_of-self-2 g c =
-    let none : (q : ℕ) → map.get c.self.inside.staged.changes q ≡ None = nothing_staged c.self.inside.staged.changes (ap (λ s. s.dirty) c.self.view_is ∙ c.in_ok-flush.ensures.writes.accepted.dirty) (ap (λ s. s.freed) c.self.view_is ∙ c.in_ok-flush.ensures.writes.accepted.freed) in
+    let none : (q : ℕ) → map.get c.self.inside.staged.changes q ≡ None =
+    nothing_staged c.self.inside.staged.changes (ap (λ s. s.dirty) c.self.view_is ∙ c.in_ok-flush.ensures.writes.accepted.dirty)
+    (ap (λ s. s.freed) c.self.view_is ∙ c.in_ok-flush.ensures.writes.accepted.freed) in
     whole-opened c.self.inside.archive c.advance.new.self c.self.inside.staged.changes c.self.inside.frames c.self.inside.numbers c.settle.new.self c.self.inside.is_open none c.in_ok-advance.ensures.begun c.advance.ensures.whole
     (ap (λ s. s.top) c.settle.ensures) (ap (λ s. s.spare) c.settle.ensures) (ap (λ s. s.past_top) c.settle.ensures) (ap (λ s. s.past_spare) c.settle.ensures) c.self.invariant
 
@@ -31,7 +35,8 @@ pub returns-in_err-advance : goal.returns-in_err-advance
 returns-in_err-advance g c =
     let p = err_from_is_err_and c.from_residual-in_err-advance.result c.from_residual-in_err-advance.ensures.1 in
     let as_written : c.flush.new.self ≡ state_of c.advance.new.self c.self.inside.staged c.self.inside.frames c.self.inside.numbers c.self.inside.is_open c.self.inside.gets c.self.inside.refused =
-    sym c.self.view_is ∙ ap (λ a. state_of a c.self.inside.staged c.self.inside.frames c.self.inside.numbers c.self.inside.is_open c.self.inside.gets c.self.inside.refused) (sym c.in_err-advance.ensures.unchanged) in
+    sym c.self.view_is ∙ ap (λ a. state_of a c.self.inside.staged c.self.inside.frames c.self.inside.numbers c.self.inside.is_open c.self.inside.gets c.self.inside.refused)
+    (sym c.in_err-advance.ensures.unchanged) in
     let refused = advance_refused c.args.self.now c.flush.new.self
     (state_of c.advance.new.self c.self.inside.staged c.self.inside.frames c.self.inside.numbers c.self.inside.is_open c.self.inside.gets c.self.inside.refused) tt as_written c.in_ok-flush.ensures.writes c.flush.ensures.closed in
     rw (p.1, p.2) record { writes = refused.0; opened = tt; closed = refused.1.1 }

@@ -31,7 +31,10 @@ returns-in_err-write_one g c =
         writes = Writes-trans c.args.self.now c.waiting.self c.write_one.new.self c.waiting.invariant.writes c.write_one.ensures.writes;
         ascending = in_order_more c.args.self.now c.waiting.self c.write_one.new.self c.in-Some.n c.in-Some.ensures.least c.write_one.ensures.others c.write_one.ensures.writes.dirty c.waiting.invariant.ascending;
         accepted = tt;
-        cause = record { counted = c.in_err-write_one.ensures.cause.counted ∙ ap (λ n. faults_at n c.in_err-write_one.field-0.0) c.waiting.invariant.faults; damaged = c.in_err-write_one.ensures.cause.damaged };
+        cause = record {
+          counted = c.in_err-write_one.ensures.cause.counted ∙ ap (λ n. faults_at n c.in_err-write_one.field-0.0) c.waiting.invariant.faults;
+          damaged = c.in_err-write_one.ensures.cause.damaged;
+        };
         undamaged = c.in_err-write_one.ensures.undamaged;
       };
       closed = c.write_one.ensures.closed;

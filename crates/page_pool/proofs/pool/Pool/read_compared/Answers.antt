@@ -14,7 +14,9 @@ use Rattle.page_pool.proofs.pool.Pool.read_compared.Goals as goal
 -- an image without a staged change stands on the disk
 pub read-requires : goal.read-requires
 read-requires g c =
-    let none : map.get c.self.inside.staged.changes c.args.n ≡ None = from_unstaged c.self.inside.staged.changes c.args.n (ap (λ s. set.contains s.dirty c.args.n) c.self.view_is ∙ c.requires.0) (ap (λ s. set.contains s.freed c.args.n) c.self.view_is ∙ c.requires.1) in
+    let none : map.get c.self.inside.staged.changes c.args.n ≡ None =
+    from_unstaged c.self.inside.staged.changes c.args.n (ap (λ s. set.contains s.dirty c.args.n) c.self.view_is ∙ c.requires.0)
+    (ap (λ s. set.contains s.freed c.args.n) c.self.view_is ∙ c.requires.1) in
     c.self.invariant.stands c.args.n (λ _. none)
 
 -- nothing came into the frames
@@ -42,21 +44,30 @@ invariant_of-self-2 g c =
 -- a page that isn't live has no image
 pub returns-in_err-page-clause-missing : goal.returns-in_err-page-clause-missing
 returns-in_err-page-clause-missing g c = λ missing.
-    let none : map.get c.self.inside.staged.changes c.args.n ≡ None = from_unstaged c.self.inside.staged.changes c.args.n (ap (λ s. set.contains s.dirty c.args.n) c.self.view_is ∙ c.requires.0) (ap (λ s. set.contains s.freed c.args.n) c.self.view_is ∙ c.requires.1) in
+    let none : map.get c.self.inside.staged.changes c.args.n ≡ None =
+    from_unstaged c.self.inside.staged.changes c.args.n (ap (λ s. set.contains s.dirty c.args.n) c.self.view_is ∙ c.requires.0)
+    (ap (λ s. set.contains s.freed c.args.n) c.self.view_is ∙ c.requires.1) in
     let p = err_from_is_err_and c.from_residual.result c.from_residual.ensures.1 in
-    rw (p.1, p.2) (c.in_err-page.ensures.read.missing (sym (live_unstaged c.self.inside.archive c.self.inside.staged.changes c.self.inside.frames c.self.inside.numbers c.self.inside.is_open c.self.invariant c.args.n none) ∙ ap (λ s. map.contains_key s.pages c.args.n) c.self.view_is ∙ missing))
+    rw (p.1, p.2) (c.in_err-page.ensures.read.missing
+    (sym (live_unstaged c.self.inside.archive c.self.inside.staged.changes c.self.inside.frames c.self.inside.numbers c.self.inside.is_open c.self.invariant c.args.n none)
+    ∙ ap (λ s. map.contains_key s.pages c.args.n) c.self.view_is ∙ missing))
 
 pub returns-clause-missing : goal.returns-clause-missing
 returns-clause-missing g c = λ missing.
-    let none : map.get c.self.inside.staged.changes c.args.n ≡ None = from_unstaged c.self.inside.staged.changes c.args.n (ap (λ s. set.contains s.dirty c.args.n) c.self.view_is ∙ c.requires.0) (ap (λ s. set.contains s.freed c.args.n) c.self.view_is ∙ c.requires.1) in
-    absurd (true≢false (sym c.in_ok-page.ensures.read.there ∙ sym (live_unstaged c.self.inside.archive c.self.inside.staged.changes c.self.inside.frames c.self.inside.numbers c.self.inside.is_open c.self.invariant c.args.n none) ∙ ap (λ s. map.contains_key s.pages c.args.n) c.self.view_is ∙ missing))
+    let none : map.get c.self.inside.staged.changes c.args.n ≡ None =
+    from_unstaged c.self.inside.staged.changes c.args.n (ap (λ s. set.contains s.dirty c.args.n) c.self.view_is ∙ c.requires.0)
+    (ap (λ s. set.contains s.freed c.args.n) c.self.view_is ∙ c.requires.1) in
+    absurd (true≢false (sym c.in_ok-page.ensures.read.there
+    ∙ sym (live_unstaged c.self.inside.archive c.self.inside.staged.changes c.self.inside.frames c.self.inside.numbers c.self.inside.is_open c.self.invariant c.args.n none)
+    ∙ ap (λ s. map.contains_key s.pages c.args.n) c.self.view_is ∙ missing))
 
 -- the archive refused
 pub returns-in_err-page-clause-read : goal.returns-in_err-page-clause-read
 returns-in_err-page-clause-read g c =
     let p = err_from_is_err_and c.from_residual.result c.from_residual.ensures.1 in
     rw (p.1, p.2)
-    (subst (λ old. Compares old (state_of c.read.new.self c.self.inside.staged c.self.inside.frames c.self.inside.numbers c.self.inside.is_open c.self.inside.gets c.self.inside.refused) c.args.n (Err c.in_err-page.field-0.0)) c.self.view_is
+    (subst (λ old. Compares old (state_of c.read.new.self c.self.inside.staged c.self.inside.frames c.self.inside.numbers c.self.inside.is_open c.self.inside.gets c.self.inside.refused) c.args.n
+    (Err c.in_err-page.field-0.0)) c.self.view_is
     (compares_state c.self.inside.archive c.read.new.self c.self.inside.staged c.self.inside.frames c.self.inside.frames c.self.inside.numbers c.self.inside.is_open c.self.inside.gets c.self.inside.refused c.args.n (Err c.in_err-page.field-0.0)
     c.in_err-page.ensures.read.read refl c.in_err-page.ensures.read.counted c.in_err-page.ensures.read.damaged))
 
@@ -65,12 +76,14 @@ pub returns-in_err-put-clause-read : goal.returns-in_err-put-clause-read
 returns-in_err-put-clause-read g c =
     let p = err_from_is_err_and c.from_residual-in_err-put.result c.from_residual-in_err-put.ensures.1 in
     rw (p.1, p.2)
-    (subst (λ old. Compares old (state_of c.read.new.self c.self.inside.staged c.put.new.self c.self.inside.numbers c.self.inside.is_open c.self.inside.gets c.self.inside.refused) c.args.n (Err Memory)) c.self.view_is
+    (subst (λ old. Compares old (state_of c.read.new.self c.self.inside.staged c.put.new.self c.self.inside.numbers c.self.inside.is_open c.self.inside.gets c.self.inside.refused) c.args.n
+    (Err Memory)) c.self.view_is
     (compares_state c.self.inside.archive c.read.new.self c.self.inside.staged c.self.inside.frames c.put.new.self c.self.inside.numbers c.self.inside.is_open c.self.inside.gets c.self.inside.refused c.args.n (Err Memory)
     c.in_ok-page.ensures.read.read c.put.ensures.most c.in_ok-page.ensures.read.counted tt))
 
 pub returns-clause-read : goal.returns-clause-read
 returns-clause-read g c =
-    subst (λ old. Compares old (state_of c.read.new.self c.self.inside.staged c.put.new.self c.self.inside.numbers c.self.inside.is_open c.self.inside.gets c.self.inside.refused) c.args.n (Ok tt)) c.self.view_is
+    subst (λ old. Compares old (state_of c.read.new.self c.self.inside.staged c.put.new.self c.self.inside.numbers c.self.inside.is_open c.self.inside.gets c.self.inside.refused) c.args.n
+    (Ok tt)) c.self.view_is
     (compares_state c.self.inside.archive c.read.new.self c.self.inside.staged c.self.inside.frames c.put.new.self c.self.inside.numbers c.self.inside.is_open c.self.inside.gets c.self.inside.refused c.args.n (Ok tt)
     c.in_ok-page.ensures.read.read c.put.ensures.most c.in_ok-page.ensures.read.counted tt)

@@ -16,5 +16,6 @@ invariant_of-self-in-Err c =
 
 pub returns-in-Err-clause-unchanged : goal.returns-in-Err-clause-unchanged
 returns-in-Err-clause-unchanged c =
-    ap staged_of (undone c.self.inside.table c.insert.new.self c.take.new.self c.args.n c.args.change (sym (c.self.invariant c.args.n) ∙ c.in-Err.ensures.absent) c.in_ok-insert.ensures.changed c.take.ensures.left)
+    ap staged_of (undone c.self.inside.table c.insert.new.self c.take.new.self c.args.n c.args.change
+    (sym (c.self.invariant c.args.n) ∙ c.in-Err.ensures.absent) c.in_ok-insert.ensures.changed c.take.ensures.left)
     ∙ c.self.view_is

@@ -12,4 +12,5 @@ returns-clause-written c = λ wrote.
 
 pub returns-clause-there : goal.returns-clause-there
 returns-clause-there c = λ wrote.
-    ap is_some (ap (λ m. map.get m c.args.n) (sym c.self.view_is) ∙ get-items_in c.self.inside.places.items c.args.n ∙ sym (c.in-Some.ensures.item.4 (omega arith) None)) ∙ c.set_page.ensures.there wrote
+    ap is_some (ap (λ m. map.get m c.args.n) (sym c.self.view_is) ∙ get-items_in c.self.inside.places.items c.args.n ∙ sym (c.in-Some.ensures.item.4 (omega arith) None))
+    ∙ c.set_page.ensures.there wrote

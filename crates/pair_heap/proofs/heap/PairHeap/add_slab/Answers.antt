@@ -15,6 +15,7 @@ invariant_of-self g c =
       spares = omega (arith, c.self.invariant.spares, c.put_slab-fresh.ensures.count);
       count = c.self.invariant.count;
       fits = omega (arith, c.self.invariant.fits, c.if-self-lt-SLAB_NODES.false);
-      slots = rw c.put_slab-fresh.ensures.slots (slab_added (root_places c.self.inside.root) c.self.inside.spares.places (all_slots c.self.inside.slabs.slots) c.put_slab-fresh.result.places c.put_fresh.new.spares.places
+      slots = rw c.put_slab-fresh.ensures.slots
+          (slab_added (root_places c.self.inside.root) c.self.inside.spares.places (all_slots c.self.inside.slabs.slots) c.put_slab-fresh.result.places c.put_fresh.new.spares.places
           c.self.invariant.slots c.put_fresh.ensures);
     }

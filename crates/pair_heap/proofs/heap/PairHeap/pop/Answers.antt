@@ -20,7 +20,8 @@ invariant_of-self-2 g c =
     record {
       root = c.take_least.ensures.root;
       spares = rw c.put_spare.ensures (omega (arith, c.self.invariant.spares));
-      slots = rw c.put_spare.ensures (slot_emptied c.in-Some.slot.ptr (root_places c.self.inside.root) c.self.inside.spares.places (all_slots c.self.inside.slabs.slots) (root_places c.take_least.new.root)
+      slots = rw c.put_spare.ensures (slot_emptied c.in-Some.slot.ptr (root_places c.self.inside.root) c.self.inside.spares.places (all_slots c.self.inside.slabs.slots)
+          (root_places c.take_least.new.root)
           c.self.invariant.slots c.in-Some.ensures.slots);
       count = omega (arith, c.self.invariant.count);
       fits = omega (arith, c.self.invariant.count, c.self.invariant.fits);

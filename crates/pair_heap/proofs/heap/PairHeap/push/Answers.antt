@@ -9,7 +9,8 @@ use Rattle.pair_heap.proofs.heap.PairHeap.push.Goals as goal
 -- one spare slot fewer, one item more
 pub invariant_of-self : goal.invariant_of-self
 invariant_of-self g c =
-    let long = length_permutation _ _ (pushed c.args.item (root_items c.self.inside.root) (root_items c.meld_in.new.root) (rw (c.new.ensures.item, c.new.ensures.kids, c.end.ensures) at c.meld_in.ensures.items)) in
+    let long = length_permutation _ _ (pushed c.args.item (root_items c.self.inside.root) (root_items c.meld_in.new.root)
+    (rw (c.new.ensures.item, c.new.ensures.kids, c.end.ensures) at c.meld_in.ensures.items)) in
     record {
       root = c.meld_in.ensures.root;
       spares = omega (arith, rw c.in-Some.ensures at c.self.invariant.spares);

@@ -16,7 +16,8 @@ invariant_of-self-2 g c =
     let counted : c.len-added.result ≡ length added = omega (arith, c.len-added.ensures, c.args.items.now.ok.0) in
     let count : heap.len - 1 + c.len-added.result ≡ length new = omega (arith, c.self.invariant.count, counted, held, long, both) in
     let spares : length c.replace_least.new.spares.places ≡ heap.spare + 1 - c.len-added.result = omega (arith, c.self.invariant.spares, slots, counted) in
-    let fits : (heap.len - 1 + c.len-added.result) + (heap.spare + 1 - c.len-added.result) < 2 ^ 64 = omega (arith, c.self.invariant.count, c.self.invariant.fits, c.self.invariant.spares, slots, counted, held, long, both) in
+    let fits : (heap.len - 1 + c.len-added.result) + (heap.spare + 1 - c.len-added.result) < 2 ^ 64 =
+    omega (arith, c.self.invariant.count, c.self.invariant.fits, c.self.invariant.spares, slots, counted, held, long, both) in
     record {
       root = c.replace_least.ensures.root;
       spares = spares;

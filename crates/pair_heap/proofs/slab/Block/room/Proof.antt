@@ -37,14 +37,18 @@ use Rattle.pair_heap.proofs.slab.Block.room.Code as code
 pub room_spec : {M : Type 1} → statement M
 room_spec 𝓤 𝓛 𝓜 𝓡 wired U L =
     let H = 𝓛.H in let 𝓣 = tables 𝓤 H 𝓜 𝓡 𝓡.env in let En = ended U in let c = clauses U 𝓛 𝓜.mem 𝓡.returns in
-    let inst = layouts (a_type ∷ []) (U, tt) in let fn = inst_fn inst code.function in let Thing : RattleType = R U L in let Slabbed : RattleType = S U L in let Blocked : RattleType = block.the_row Thing in
+    let inst = layouts (a_type ∷ []) (U, tt) in let fn = inst_fn inst code.function in let Thing : RattleType = R U L in let Slabbed : RattleType = S U L in
+    let Blocked : RattleType = block.the_row Thing in
     let hs : Stays En.signature.params En.kept = (stay_dropped (plain (λ _. Blocked)) no, (stay_dropped (plain (λ _. global.the_row)) yes, tt)) in
-    proved_at 𝓛 En hs c 𝓜 𝓡 (Goes-blank 𝓛 1 (plain (λ _. Blocked)) no (λ κs x f. tt), (Goes-dropped 𝓛 1 (plain (λ _. global.the_row)) yes (λ κs x f. refl), tt)) (#self inst) fn (code.unfolded 𝓤 H 𝓜 𝓡 wired (U, tt)) (λ z are.
+    proved_at 𝓛 En hs c 𝓜 𝓡 (Goes-blank 𝓛 1 (plain (λ _. Blocked)) no (λ κs x f. tt), (Goes-dropped 𝓛 1 (plain (λ _. global.the_row)) yes (λ κs x f. refl), tt))
+    (#self inst) fn (code.unfolded 𝓤 H 𝓜 𝓡 wired (U, tt)) (λ z are.
     let κs = z.0.0 in let qs = z.0.1 in let Post : Val → SProp 𝓤 = (walk_of 𝓛 En hs c).post z in let Run : List Val → SProp 𝓤 = λ ws. WpFn 𝓤 H 𝓣.C 𝓣.Λ fn ws Post in
     let me = z.0.3.0 in let alloc = z.0.3.1.0 in let is_me = word_told me.ptr z.0.4.0 are.0.0 in
     let toks = ‵ (flft κs.0 qs.0) ⊛ ‵ ftrue in
     qed 𝓛 ((toks ⊛ ‵ (owns (types_at En.signature.params κs) z.0.3 z.0.4)) ∷ raw ((c κs z.0.3).requires z.1) ∷ []) ∵ split ! $ move ! (1 ∷ []) $ fsplit3 ! $
-    fsplit ! $ drop ! $ move ! (1 ∷ []) $ handle_tells al ! alloc z.0.4.1.0 (λ hv is_alloc fits. move ! (1 ∷ []) $ in_a_block ! me.ptr (block_owns Thing) (fst∗ 𝓤 (never 𝓤) (sem 𝓛 (ghosts.dealloc_token heap (bare (layout Slabbed)) null_ptr))) (λ b o at_block. fsplit ! $
+    fsplit ! $ drop ! $ move ! (1 ∷ []) $ handle_tells al ! alloc z.0.4.1.0
+    (λ hv is_alloc fits. move ! (1 ∷ []) $ in_a_block ! me.ptr (block_owns Thing) (fst∗ 𝓤 (never 𝓤) (sem 𝓛 (ghosts.dealloc_token heap (bare (layout Slabbed)) null_ptr)))
+    (λ b o at_block. fsplit ! $
     -- [room for a slab; the token; the handle; nothing; the lifetimes; the bound]
     regoal ! (λ (us : List Val). prop (Run us)) (λ i. (is_me ∙ ap (λ p. word p ∷ []) at_block) i ++ (is_alloc i ++ [])) refl $
     enter ! 𝓣.C 𝓣.Λ fn (word (block_ptr b o) ∷ hv ∷ []) Post $ alloc_all ! (λ l. pass_all ! refl (word_typed (block_ptr b o), (fits, tt)) $

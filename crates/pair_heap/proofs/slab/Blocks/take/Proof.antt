@@ -43,7 +43,8 @@ use Rattle.pair_heap.proofs.slab.Blocks.take.Code as code
 pub take_spec : {M : Type 1} → statement M
 take_spec 𝓤 𝓛 𝓜 𝓡 wired U L =
     let H = 𝓛.H in let 𝓣 = tables 𝓤 H 𝓜 𝓡 𝓡.env in let En = ended U in let c = clauses U 𝓛 𝓜.mem 𝓡.returns in
-    let inst = layouts (a_type ∷ []) (U, tt) in let fn = inst_fn inst code.function in let Thing : RattleType = R U L in let Blocked : RattleType = block.the_row Thing in let Spared : RattleType = blocks_row.the_row Thing in
+    let inst = layouts (a_type ∷ []) (U, tt) in let fn = inst_fn inst code.function in let Thing : RattleType = R U L in
+    let Blocked : RattleType = block.the_row Thing in let Spared : RattleType = blocks_row.the_row Thing in
     let Two : RattleType = Tuple (Blocked ∷ Spared ∷ []) in
     let hs : Stays En.signature.params En.kept = (stay_dropped (plain (λ _. Spared)) no, tt) in
     proved_at 𝓛 En hs c 𝓜 𝓡
@@ -64,7 +65,8 @@ take_spec 𝓤 𝓛 𝓜 𝓡 wired U L =
     sets ! (bin ! (get ! refl) (lit ! tt) tt) refl (tt, tt) $ first ! $ branches ! (get ! refl)
     (λ _. sets ! (agg ! (and_then ! (lit ! tt) (no_more !))) refl (tt, (record { fits = lit< tt }, tt)) $
     returns_within ! Post refl (look_at ! 0 refl) $ free_all ! refl $
-    use0 𝓛 (‵ (Out.own_val None (live 0 vnil ∷ []))) (none_of 𝓛 Two) $ use0 𝓛 (raw (fact 𝓤 (Unit {0}))) (fact_i 𝓤 (Unit {0}) (emp 𝓤) tt) $ use0 𝓛 (raw (fact 𝓤 (me.count ≡ zero))) (fact_i 𝓤 (me.count ≡ zero) (emp 𝓤) none) $ join ! $
+    use0 𝓛 (‵ (Out.own_val None (live 0 vnil ∷ []))) (none_of 𝓛 Two) $ use0 𝓛 (raw (fact 𝓤 (Unit {0}))) (fact_i 𝓤 (Unit {0}) (emp 𝓤) tt) $ use0 𝓛
+    (raw (fact 𝓤 (me.count ≡ zero))) (fact_i 𝓤 (me.count ≡ zero) (emp 𝓤) none) $ join ! $
     nothing ! $ nothing ! $ fjoin ! $
     -- [nothing of the parameters; the facts; None; nothing; nothing; the lifetimes; the bound]
     keep ! (5 ∷ 0 ∷ 2 ∷ 1 ∷ []) $ by ! (leaves 𝓛 En hs c z (live 0 vnil) None (tt, tt) (tt, tt)))

@@ -48,10 +48,12 @@ use Rattle.pair_heap.proofs.slab.Slabs.put.Code as code
 pub put_spec : {M : Type 1} → statement M
 put_spec 𝓤 𝓛 𝓜 𝓡 wired U L =
     let H = 𝓛.H in let 𝓣 = tables 𝓤 H 𝓜 𝓡 𝓡.env in let En = ended U in let c = clauses U 𝓛 𝓜.mem 𝓡.returns in
-    let inst = layouts (a_type ∷ []) (U, tt) in let fn = inst_fn inst code.function in let Thing : RattleType = R U L in let Node : RattleType = N U L in let Slabbed : RattleType = S U L in let Roomed : RattleType = Room U L in let Slabbeds : RattleType = slabs.the_row Thing in let Freshed : RattleType = fresh.the_row Thing in
+    let inst = layouts (a_type ∷ []) (U, tt) in let fn = inst_fn inst code.function in let Thing : RattleType = R U L in let Node : RattleType = N U L in
+    let Slabbed : RattleType = S U L in let Roomed : RattleType = Room U L in let Slabbeds : RattleType = slabs.the_row Thing in let Freshed : RattleType = fresh.the_row Thing in
     let Two : RattleType = Tuple (Slabbeds ∷ Freshed ∷ []) in
     let hs : Stays En.signature.params En.kept = (stay_dropped (plain (λ _. Slabbeds)) no, (stay_dropped (plain (λ _. Roomed)) no, tt)) in
-    proved_at 𝓛 En hs c 𝓜 𝓡 (Goes-blank 𝓛 1 (plain (λ _. Slabbeds)) no (λ κs x f. tt), (Goes-blank 𝓛 1 (plain (λ _. Roomed)) no (λ κs x f. tt), tt)) (#self inst) fn (code.unfolded 𝓤 H 𝓜 𝓡 wired (U, tt)) (λ z are.
+    proved_at 𝓛 En hs c 𝓜 𝓡 (Goes-blank 𝓛 1 (plain (λ _. Slabbeds)) no (λ κs x f. tt), (Goes-blank 𝓛 1 (plain (λ _. Roomed)) no (λ κs x f. tt), tt)) (#self inst) fn
+    (code.unfolded 𝓤 H 𝓜 𝓡 wired (U, tt)) (λ z are.
     let κs = z.0.0 in let qs = z.0.1 in let Post : Val → SProp 𝓤 = (walk_of 𝓛 En hs c).post z in let Run : List Val → SProp 𝓤 = λ ws. WpFn 𝓤 H 𝓣.C 𝓣.Λ fn ws Post in
     let me = z.0.3.0 in let room = z.0.3.1.0 in let is_me = word_told me.ptr z.0.4.0 are.0.0 in
     let toks = ‵ (flft κs.0 qs.0) ⊛ ‵ ftrue in
@@ -76,7 +78,8 @@ put_spec 𝓤 𝓛 𝓜 𝓡 wired U L =
     sets_last ! (agg ! (and_then ! (get ! refl) (and_then ! (get ! refl) (no_more !)))) refl whole_typed $
     exec ! 𝓣.C 𝓣.Λ Ev (after 3 fn.body) (at_ret Ev Post) $ sets ! (of_opd ! (get ! refl)) refl whole_typed $
     returns ! (look_at ! 0 refl) $ free_all ! refl $ move ! (2 ∷ 3 ∷ []) $ fjoin ! $ move ! (1 ∷ 0 ∷ []) $ fjoin ! $
-    fpack ! (SlabFits Thing) (λ _. fsep (fat full_share ty_ptr b (o + 0) (ptr_val me.ptr)) (fsep (slab_whole U L b o) (ghosts.dealloc_token heap (bare (layout Slabbed)) (block_ptr b o)))) (omega (arith, size-raw (layout Slabbed), small)) $
+    fpack ! (SlabFits Thing) (λ _. fsep (fat full_share ty_ptr b (o + 0) (ptr_val me.ptr)) (fsep (slab_whole U L b o) (ghosts.dealloc_token heap (bare (layout Slabbed)) (block_ptr b o))))
+    (omega (arith, size-raw (layout Slabbed), small)) $
     -- [the slab; its slots; the handle; the chain; nothing; the lifetimes]
     move ! (0 ∷ 3 ∷ []) $ fjoin ! $ fpack ! Ptr (λ q. fsep (slab_at Thing ps (block_ptr b o) q) (slabs_own Thing me.slots q)) me.ptr $
     worded U L ! (block_ptr b o) (slabs_own Thing (ps ∷ me.slots) (block_ptr b o)) $ move ! (1 ∷ []) $ rewrite ! 0 (λ (k : ℕ). ‵ (fresh_own Thing ps (block_ptr b k))) there refl $

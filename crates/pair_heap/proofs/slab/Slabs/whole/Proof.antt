@@ -38,7 +38,8 @@ use Rattle.pair_heap.proofs.slab.Slabs.whole.Code as code
 pub whole_spec : {M : Type 1} → statement M
 whole_spec 𝓤 𝓛 𝓜 𝓡 wired U L =
     let H = 𝓛.H in let 𝓣 = tables 𝓤 H 𝓜 𝓡 𝓡.env in let En = ended U in let c = clauses U 𝓛 𝓜.mem 𝓡.returns in
-    let inst = layouts (a_type ∷ []) (U, tt) in let fn = inst_fn inst code.function in let Thing : RattleType = R U L in let Slabbeds : RattleType = slabs.the_row Thing in let Chained : RattleType = chain.the_row Thing in let Spared : RattleType = spare.the_row Thing in
+    let inst = layouts (a_type ∷ []) (U, tt) in let fn = inst_fn inst code.function in let Thing : RattleType = R U L in
+    let Slabbeds : RattleType = slabs.the_row Thing in let Chained : RattleType = chain.the_row Thing in let Spared : RattleType = spare.the_row Thing in
     let hs : Stays En.signature.params En.kept = (stay_dropped (plain (λ _. Slabbeds)) no, (stay_dropped (plain (λ _. Chained)) no, (stay_dropped (plain (λ _. Spared)) no, tt))) in
     proved_at 𝓛 En hs c 𝓜 𝓡
     (Goes-blank 𝓛 1 (plain (λ _. Slabbeds)) no (λ κs x f. tt), (Goes-blank 𝓛 1 (plain (λ _. Chained)) no (λ κs x f. tt), (Goes-blank 𝓛 1 (plain (λ _. Spared)) no (λ κs x f. tt), tt)))
@@ -47,7 +48,8 @@ whole_spec 𝓤 𝓛 𝓜 𝓡 wired U L =
     let me = z.0.3.0 in let trees = z.0.3.1.0 in let spares = z.0.3.1.1.0 in
     let is_me = word_told me.ptr z.0.4.0 are.0.0 in let is_trees = word_told trees.ptr z.0.4.1.0 are.1.0.0 in let is_spares = word_told spares.ptr z.0.4.1.1.0 are.1.1.0.0 in
     let toks = ‵ (flft κs.0 qs.0) ⊛ ‵ ftrue in
-    qed 𝓛 ((toks ⊛ ‵ (owns (types_at En.signature.params κs) z.0.3 z.0.4)) ∷ (given (κs.0 ⊑ U.lives) (‵ ftrue) ⊛ given (IsPermutation (places trees.chain ++ spares.places) (all_slots me.slots)) (‵ ftrue)) ∷ []) ∵
+    qed 𝓛 ((toks ⊛ ‵ (owns (types_at En.signature.params κs) z.0.3 z.0.4))
+    ∷ (given (κs.0 ⊑ U.lives) (‵ ftrue) ⊛ given (IsPermutation (places trees.chain ++ spares.places) (all_slots me.slots)) (‵ ftrue)) ∷ []) ∵
     move ! (1 ∷ []) $ split ! $ drop ! $ learn ! (λ asked. drop ! $ split ! $ move ! (1 ∷ []) $ fsplit3 ! $
     fsplit ! $ drop ! $ move ! (1 ∷ []) $ fsplit ! $ drop ! $ move ! (2 ∷ []) $ fsplit ! $ fsplit ! $ drop ! $
     -- [the spare slots; nothing; the trees; the slabs; the lifetimes]

@@ -41,7 +41,8 @@ use Rattle.pair_heap.proofs.slot.Fresh.first.Code as code
 pub first_spec : {M : Type 1} → statement M
 first_spec 𝓤 𝓛 𝓜 𝓡 wired U L =
     let H = 𝓛.H in let 𝓣 = tables 𝓤 H 𝓜 𝓡 𝓡.env in let En = ended U in let c = clauses U 𝓛 𝓜.mem 𝓡.returns in
-    let inst = layouts (a_type ∷ []) (U, tt) in let fn = inst_fn inst code.function in let Thing : RattleType = R U L in let Node : RattleType = N U L in let Slotted : RattleType = SlotOf U L in let Freshed : RattleType = fresh.the_row Thing in
+    let inst = layouts (a_type ∷ []) (U, tt) in let fn = inst_fn inst code.function in let Thing : RattleType = R U L in let Node : RattleType = N U L in
+    let Slotted : RattleType = SlotOf U L in let Freshed : RattleType = fresh.the_row Thing in
     let Two : RattleType = Tuple (Slotted ∷ Freshed ∷ []) in
     let hs : Stays En.signature.params En.kept = (stay_dropped (plain (λ _. Freshed)) no, tt) in
     proved_at 𝓛 En hs c 𝓜 𝓡 (Goes-blank 𝓛 1 (plain (λ _. Freshed)) no (λ κs x f. tt), tt) (#self inst) fn (code.unfolded 𝓤 H 𝓜 𝓡 wired (U, tt)) (λ z are.
@@ -53,7 +54,8 @@ first_spec 𝓤 𝓛 𝓜 𝓡 wired U L =
     -- [the slots; nothing; the lifetimes]
     by_list me.places
     (λ none. let wrong : 0 < 0 = subst (λ xs. 0 < length xs) none asked in absurd (omega arith))
-    (λ q qs listed. rewrite ! 0 (λ k. ‵ (fresh_own Thing k me.ptr)) listed refl $ fpick ! (λ first_at. fsplit ! $ fpick ! (λ may. in_a_block ! q (room_for (bare (layout Node))) (id⊢ 𝓤 _) (λ b o at_block.
+    (λ q qs listed. rewrite ! 0 (λ k. ‵ (fresh_own Thing k me.ptr)) listed refl $ fpick !
+    (λ first_at. fsplit ! $ fpick ! (λ may. in_a_block ! q (room_for (bare (layout Node))) (id⊢ 𝓤 _) (λ b o at_block.
     let test : Testable (block_ptr b o) = subst Testable at_block may in let here : me.ptr ≡ block_ptr b o = sym first_at.0 ∙ at_block in
     let s : ℕ = size (layout Node) in let raw_size : size (bare (layout Node)) ≡ s = size-raw (layout Node) in
     let tiny : s < 2 ^ 64 = omega (arith, raw_size, first_at.1) in let small : 1 * s < 2 ^ 64 = omega arith in

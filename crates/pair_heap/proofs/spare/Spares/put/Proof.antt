@@ -36,7 +36,8 @@ use Rattle.pair_heap.proofs.spare.Spares.put.Code as code
 pub put_spec : {M : Type 1} → statement M
 put_spec 𝓤 𝓛 𝓜 𝓡 wired U L =
     let H = 𝓛.H in let 𝓣 = tables 𝓤 H 𝓜 𝓡 𝓡.env in let En = ended U in let c = clauses U 𝓛 𝓜.mem 𝓡.returns in
-    let inst = layouts (a_type ∷ []) (U, tt) in let fn = inst_fn inst code.function in let Thing : RattleType = R U L in let Slotted : RattleType = SlotOf U L in let Spared : RattleType = spares.the_row Thing in
+    let inst = layouts (a_type ∷ []) (U, tt) in let fn = inst_fn inst code.function in let Thing : RattleType = R U L in let Slotted : RattleType = SlotOf U L in
+    let Spared : RattleType = spares.the_row Thing in
     let hs : Stays En.signature.params En.kept = (stay_dropped (plain (λ _. Spared)) no, (stay_dropped (plain (λ _. Slotted)) no, tt)) in
     proved_at 𝓛 En hs c 𝓜 𝓡
     (Goes-blank 𝓛 1 (plain (λ _. Spared)) no (λ κs x f. tt), (Goes-blank 𝓛 1 (plain (λ _. Slotted)) no (λ κs x f. tt), tt))

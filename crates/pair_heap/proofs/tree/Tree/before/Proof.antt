@@ -36,7 +36,8 @@ use Rattle.pair_heap.proofs.tree.Tree.before.Code as code
 pub before_spec : {M : Type 1} → statement M
 before_spec 𝓤 𝓛 𝓜 𝓡 wired U L =
     let H = 𝓛.H in let 𝓣 = tables 𝓤 H 𝓜 𝓡 𝓡.env in let En = ended U in let c = clauses U 𝓛 𝓜.mem 𝓡.returns in
-    let inst = layouts (a_type ∷ []) (U, tt) in let fn = inst_fn inst code.function in let Item : RattleType = R U L in let Node : RattleType = N U L in let Treed : RattleType = TreeOf U L in let Chained : RattleType = trees.the_row Item in
+    let inst = layouts (a_type ∷ []) (U, tt) in let fn = inst_fn inst code.function in let Item : RattleType = R U L in let Node : RattleType = N U L in
+    let Treed : RattleType = TreeOf U L in let Chained : RattleType = trees.the_row Item in
     let hs : Stays En.signature.params En.kept = (stay_dropped (plain (λ _. Treed)) no, (stay_dropped (plain (λ _. Chained)) no, tt)) in
     proved_at 𝓛 En hs c 𝓜 𝓡
     (Goes-blank 𝓛 1 (plain (λ _. Treed)) no (λ κs x f. tt), (Goes-blank 𝓛 1 (plain (λ _. Chained)) no (λ κs x f. tt), tt))

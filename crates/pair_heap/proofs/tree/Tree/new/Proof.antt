@@ -35,7 +35,8 @@ use Rattle.pair_heap.proofs.tree.Tree.new.Code as code
 pub new_spec : {M : Type 1} → statement M
 new_spec 𝓤 𝓛 𝓜 𝓡 wired U L =
     let H = 𝓛.H in let 𝓣 = tables 𝓤 H 𝓜 𝓡 𝓡.env in let En = ended U in let c = clauses U 𝓛 𝓜.mem 𝓡.returns in
-    let inst = layouts (a_type ∷ []) (U, tt) in let fn = inst_fn inst code.function in let Item : RattleType = R U L in let Node : RattleType = N U L in let Slotted : RattleType = SlotOf U L in let Chained : RattleType = trees.the_row Item in
+    let inst = layouts (a_type ∷ []) (U, tt) in let fn = inst_fn inst code.function in let Item : RattleType = R U L in let Node : RattleType = N U L in
+    let Slotted : RattleType = SlotOf U L in let Chained : RattleType = trees.the_row Item in
     let hs : Stays En.signature.params En.kept = (stay_dropped (plain (λ _. Slotted)) no, (stay_dropped (plain (λ _. Item)) no, (stay_dropped (plain (λ _. Chained)) no, tt))) in
     proved_at 𝓛 En hs c 𝓜 𝓡
     (Goes-blank 𝓛 1 (plain (λ _. Slotted)) no (λ κs x f. tt), (Goes-dropped 𝓛 1 (plain (λ _. Item)) no (λ κs x f. refl), (Goes-blank 𝓛 1 (plain (λ _. Chained)) no (λ κs x f. tt), tt)))

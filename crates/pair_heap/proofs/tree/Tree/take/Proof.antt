@@ -36,7 +36,8 @@ use Rattle.pair_heap.proofs.tree.Tree.take.Code as code
 pub take_spec : {M : Type 1} → statement M
 take_spec 𝓤 𝓛 𝓜 𝓡 wired U L =
     let H = 𝓛.H in let 𝓣 = tables 𝓤 H 𝓜 𝓡 𝓡.env in let En = ended U in let c = clauses U 𝓛 𝓜.mem 𝓡.returns in
-    let inst = layouts (a_type ∷ []) (U, tt) in let fn = inst_fn inst code.function in let Item : RattleType = R U L in let Slotted : RattleType = SlotOf U L in let Treed : RattleType = TreeOf U L in let Chained : RattleType = trees.the_row Item in
+    let inst = layouts (a_type ∷ []) (U, tt) in let fn = inst_fn inst code.function in let Item : RattleType = R U L in let Slotted : RattleType = SlotOf U L in
+    let Treed : RattleType = TreeOf U L in let Chained : RattleType = trees.the_row Item in
     let Three : RattleType = Tuple (Item ∷ Slotted ∷ Chained ∷ []) in
     let hs : Stays En.signature.params En.kept = (stay_dropped (plain (λ _. Treed)) no, tt) in
     proved_at 𝓛 En hs c 𝓜 𝓡
@@ -50,7 +51,8 @@ take_spec 𝓤 𝓛 𝓜 𝓡 wired U L =
     -- [the node's cell; the item; the children; nothing; the lifetimes; the bound]
     regoal ! (λ (us : List Val). prop (Run us)) (λ i. (is_me ∙ ap (λ p. word p ∷ []) at_block) i ++ []) refl $
     let taken : Val = three_val v (word (block_ptr b o)) (word child) in
-    let typed : Good (layout Three) taken = as_fields (layout Item ∷ layout Slotted ∷ layout Chained ∷ []) (v ∷ word (block_ptr b o) ∷ word child ∷ []) (good, (word_typed (block_ptr b o), (word_typed child, tt))) in
+    let typed : Good (layout Three) taken = as_fields (layout Item ∷ layout Slotted ∷ layout Chained ∷ []) (v ∷ word (block_ptr b o) ∷ word child ∷ [])
+    (good, (word_typed (block_ptr b o), (word_typed child, tt))) in
     let d : Three.Denot = (me.item, record { ptr = block_ptr b o }, record { ptr = child; chain = me.kids }) in
     enter ! 𝓣.C 𝓣.Λ fn (word (block_ptr b o) ∷ []) Post $ alloc_all ! (λ l. pass_all ! refl (word_typed (block_ptr b o), tt) $ let Ev = env fn.locals l in
     sets ! (of_opd ! (get_in ! (fld ! refl (stop !)) (sub ! 0 refl (whole !)))) refl (tt, tt) $ first ! $ blocks ! $

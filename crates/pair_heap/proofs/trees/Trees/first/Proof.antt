@@ -43,7 +43,8 @@ use Rattle.pair_heap.proofs.trees.Trees.first.Code as code
 pub first_spec : {M : Type 1} → statement M
 first_spec 𝓤 𝓛 𝓜 𝓡 wired U L =
     let H = 𝓛.H in let 𝓣 = tables 𝓤 H 𝓜 𝓡 𝓡.env in let En = ended U in let c = clauses U 𝓛 𝓜.mem 𝓡.returns in
-    let inst = layouts (a_type ∷ []) (U, tt) in let fn = inst_fn inst code.function in let Thing : RattleType = R U L in let Node : RattleType = N U L in let Treed : RattleType = TreeOf U L in let Chained : RattleType = trees.the_row Thing in
+    let inst = layouts (a_type ∷ []) (U, tt) in let fn = inst_fn inst code.function in let Thing : RattleType = R U L in let Node : RattleType = N U L in
+    let Treed : RattleType = TreeOf U L in let Chained : RattleType = trees.the_row Thing in
     let Two : RattleType = Tuple (Treed ∷ Chained ∷ []) in
     let hs : Stays En.signature.params En.kept = (stay_dropped (plain (λ _. Chained)) no, tt) in
     proved_at 𝓛 En hs c 𝓜 𝓡
@@ -70,7 +71,8 @@ first_spec 𝓤 𝓛 𝓜 𝓡 wired U L =
     keep ! (5 ∷ 0 ∷ 2 ∷ 1 ∷ []) $ by ! (leaves 𝓛 En hs c z (live 0 vnil) None (tt, tt) (tt, tt)))
     (λ wrong. absurd wrong))))
     (λ q x kids rest linked. rewrite ! 0 (λ k. ‵ (chain_owns Thing k me.ptr)) linked refl $ fpick ! (λ same. fpick ! (λ s. fsplit ! $ fpick ! (λ may.
-    in_a_block ! me.ptr (λ p. lies_at Node full_share p (node_with U L s.0 s.1 x)) (id⊢ 𝓤 _) (λ b o at_block. let test : Testable (block_ptr b o) = subst Testable at_block may in node_out U L ! (node_with U L s.0 s.1 x) b o (λ v good.
+    in_a_block ! me.ptr (λ p. lies_at Node full_share p (node_with U L s.0 s.1 x)) (id⊢ 𝓤 _) (λ b o at_block. let test : Testable (block_ptr b o) =
+    subst Testable at_block may in node_out U L ! (node_with U L s.0 s.1 x) b o (λ v good.
     -- [the node's cell; the item; the two chains; nothing; the lifetimes; the bound]
     regoal ! (λ (us : List Val). prop (Run us)) (λ i. (is_me ∙ ap (λ p. word p ∷ []) at_block) i ++ []) refl $
     enter ! 𝓣.C 𝓣.Λ fn (word (block_ptr b o) ∷ []) Post $ alloc_all ! (λ l. pass_all ! refl (word_typed (block_ptr b o), tt) $ let Ev = env fn.locals l in

@@ -37,7 +37,8 @@ returns-in-Ok-Some-clause-step g c =
     (rw c.in-Ok-Some.field-0-is at c.in-Ok-Some.ensures.partners)
     (rw c.in-Ok-Some.field-0-is at c.in-Ok-Some.ensures.rest) c.in-Ok-Some.ensures.stands
     (rw c.in-Ok-Some.field-0-is at c.in-Ok-Some.ensures.visits)
-    (λ w. let over = (rw c.in-Ok-Some.field-0-is at c.in-Ok-Some.ensures.ended) w in (over.0, λ i. let n = over.1 i in state n.engine.frontier.queue.items n.engine.frontier.last n.engine.frontier.counts (over.2 i)))
+    (λ w. let over = (rw c.in-Ok-Some.field-0-is at c.in-Ok-Some.ensures.ended) w in
+    (over.0, λ i. let n = over.1 i in state n.engine.frontier.queue.items n.engine.frontier.last n.engine.frontier.counts (over.2 i)))
 
 -- the end
 pub returns-in-Ok-None-clause-step : goal.returns-in-Ok-None-clause-step
@@ -54,7 +55,8 @@ returns-in-Ok-None-clause-step g c =
     (rw c.in-Ok-None.field-0-is at c.in-Ok-None.ensures.partners)
     (rw c.in-Ok-None.field-0-is at c.in-Ok-None.ensures.rest) c.in-Ok-None.ensures.stands
     (rw c.in-Ok-None.field-0-is at c.in-Ok-None.ensures.visits)
-    (λ w. let over = (rw c.in-Ok-None.field-0-is at c.in-Ok-None.ensures.ended) w in (over.0, λ i. let n = over.1 i in state n.engine.frontier.queue.items n.engine.frontier.last n.engine.frontier.counts (over.2 i)))
+    (λ w. let over = (rw c.in-Ok-None.field-0-is at c.in-Ok-None.ensures.ended) w in
+    (over.0, λ i. let n = over.1 i in state n.engine.frontier.queue.items n.engine.frontier.last n.engine.frontier.counts (over.2 i)))
 
 -- a refusal
 pub returns-in-Err-clause-step : goal.returns-in-Err-clause-step
@@ -88,7 +90,8 @@ returns-in-Ok-Some-clause-costs g c =
     (join_of s.engine.hierarchy) s.partners
     (state s.engine.frontier.queue.items s.engine.frontier.last s.engine.frontier.counts c.args.desk.now)
     (state n.engine.frontier.queue.items n.engine.frontier.last n.engine.frontier.counts c.next.new.desk) _ _ (rw c.in-Ok-Some.field-0-is at c.in-Ok-Some.ensures.visits)
-    (λ w. let over = (rw c.in-Ok-Some.field-0-is at c.in-Ok-Some.ensures.ended) w in (λ i. let n = over.1 i in state n.engine.frontier.queue.items n.engine.frontier.last n.engine.frontier.counts (over.2 i)))
+    (λ w. let over = (rw c.in-Ok-Some.field-0-is at c.in-Ok-Some.ensures.ended) w in
+    (λ i. let n = over.1 i in state n.engine.frontier.queue.items n.engine.frontier.last n.engine.frontier.counts (over.2 i)))
 
 pub returns-in-Ok-Some-clause-heights : goal.returns-in-Ok-Some-clause-heights
 returns-in-Ok-Some-clause-heights g c =
@@ -102,7 +105,8 @@ returns-in-Ok-None-clause-costs g c =
     (join_of s.engine.hierarchy) s.partners
     (state s.engine.frontier.queue.items s.engine.frontier.last s.engine.frontier.counts c.args.desk.now)
     (state n.engine.frontier.queue.items n.engine.frontier.last n.engine.frontier.counts c.next.new.desk) _ _ (rw c.in-Ok-None.field-0-is at c.in-Ok-None.ensures.visits)
-    (λ w. let over = (rw c.in-Ok-None.field-0-is at c.in-Ok-None.ensures.ended) w in (λ i. let n = over.1 i in state n.engine.frontier.queue.items n.engine.frontier.last n.engine.frontier.counts (over.2 i)))
+    (λ w. let over = (rw c.in-Ok-None.field-0-is at c.in-Ok-None.ensures.ended) w in
+    (λ i. let n = over.1 i in state n.engine.frontier.queue.items n.engine.frontier.last n.engine.frontier.counts (over.2 i)))
 
 pub returns-in-Ok-None-clause-heights : goal.returns-in-Ok-None-clause-heights
 returns-in-Ok-None-clause-heights g c =

@@ -6,4 +6,5 @@ use Rattle.plain_source.proofs.pick_equal.PickEqual.start.Goals as goal
 
 pub returns-clause-begun : goal.returns-clause-begun
 returns-clause-begun c = λ pages h.
-    pick_begun pages c.in-Some.look_up (database_in pages c.args.catalog.now.relations) (names_of c.args.relation.now c.args.column.now) c.args.value ((rw c.in-Some.is at c.in_ok-look_up.ensures.found) pages h)
+    pick_begun pages c.in-Some.look_up (database_in pages c.args.catalog.now.relations) (names_of c.args.relation.now c.args.column.now) c.args.value
+    ((rw c.in-Some.is at c.in_ok-look_up.ensures.found) pages h)

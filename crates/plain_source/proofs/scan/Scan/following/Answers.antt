@@ -20,4 +20,5 @@ scan-requires g c = λ told.
 
 pub returns-in-Ok-clause-value : goal.returns-in-Ok-clause-value
 returns-in-Ok-clause-value g c = λ told.
-    next_found (g.P.Pages.shown c.args.pages.now).pages c.args.self.now.relation.value c.file.result.now c.args.self.now.last c.in-Ok.found (c.requires told) (c.file.ensures ∙ ap (λ (r : RelationView). r.file) c.deref-2.ensures) (c.in-Ok.ensures.value told)
+    next_found (g.P.Pages.shown c.args.pages.now).pages c.args.self.now.relation.value c.file.result.now c.args.self.now.last c.in-Ok.found (c.requires told)
+    (c.file.ensures ∙ ap (λ (r : RelationView). r.file) c.deref-2.ensures) (c.in-Ok.ensures.value told)

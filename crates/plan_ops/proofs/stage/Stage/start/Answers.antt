@@ -29,7 +29,8 @@ look_up-requires-clause-checked c =
 
 pub add_spots-requires : goal.add_spots-requires
 add_spots-requires c = λ pages.
-    subst (λ (places : List Place). check_places (database_in pages c.args.catalog.now.relations) (relations_of (plan_value c.deref-in-Fetch.result.now)) places ≡ None) (sym c.as_slice-in-Fetch.ensures)
+    subst (λ (places : List Place). check_places (database_in pages c.args.catalog.now.relations) (relations_of (plan_value c.deref-in-Fetch.result.now)) places ≡ None)
+    (sym c.as_slice-in-Fetch.ensures)
     (subst (λ (p : Plan). check_places (database_in pages c.args.catalog.now.relations) (relations_of (plan_value p)) c.in-Fetch.places ≡ None) (sym c.deref-in-Fetch.ensures)
     (fetch_checked c.args.catalog.now c.args.plan.now c.in-Fetch.plan c.requires.openable c.in-Fetch.places c.in-Fetch.is pages))
 
@@ -51,4 +52,5 @@ returns-in_ok-add_tests-in-Filter-clause-begun c = λ pages stands.
 pub returns-in_ok-add_spots-in-Fetch-clause-begun : goal.returns-in_ok-add_spots-in-Fetch-clause-begun
 returns-in_ok-add_spots-in-Fetch-clause-begun c = λ pages stands.
     fetch_begun pages (database_in pages c.args.catalog.now.relations) c.in-Fetch.plan c.args.plan.now c.deref-in-Fetch.result.now c.deref-in-Fetch.ensures c.new-in-Fetch.result c.in-Fetch.places c.as_slice-in-Fetch.result.now
-    c.new-found-in-Fetch.result.items c.add_spots.new.found.items c.in-Fetch.is c.as_slice-in-Fetch.ensures c.new-found-in-Fetch.ensures.items (c.in_ok-add_spots-in-Fetch.ensures pages stands) c.new-in-Fetch.ensures
+    c.new-found-in-Fetch.result.items c.add_spots.new.found.items c.in-Fetch.is c.as_slice-in-Fetch.ensures c.new-found-in-Fetch.ensures.items
+    (c.in_ok-add_spots-in-Fetch.ensures pages stands) c.new-in-Fetch.ensures

@@ -45,11 +45,13 @@ returns-in-SortBy-clause-stands c =
 
 pub returns-in-SortNear-clause-falls : goal.returns-in-SortNear-clause-falls
 returns-in-SortNear-clause-falls c =
-    of_kind (FinishesFalling (stage.SortNear c.finish-in-SortNear.new.self) c.finish-in-SortNear.result) c.args.self.now (stage.SortNear c.in-SortNear.stage) c.in-SortNear.is c.finish-in-SortNear.ensures.falls
+    of_kind (FinishesFalling (stage.SortNear c.finish-in-SortNear.new.self) c.finish-in-SortNear.result) c.args.self.now
+    (stage.SortNear c.in-SortNear.stage) c.in-SortNear.is c.finish-in-SortNear.ensures.falls
 
 pub returns-in-SortNear-clause-stands : goal.returns-in-SortNear-clause-stands
 returns-in-SortNear-clause-stands c =
-    of_kind (Finished (stage.SortNear c.finish-in-SortNear.new.self) c.finish-in-SortNear.result) c.args.self.now (stage.SortNear c.in-SortNear.stage) c.in-SortNear.is c.finish-in-SortNear.ensures.stands
+    of_kind (Finished (stage.SortNear c.finish-in-SortNear.new.self) c.finish-in-SortNear.result) c.args.self.now
+    (stage.SortNear c.in-SortNear.stage) c.in-SortNear.is c.finish-in-SortNear.ensures.stands
 
 -- ---- what it costs
 
@@ -84,7 +86,9 @@ pub returns-in-SortBy-clause-owes : goal.returns-in-SortBy-clause-owes
 returns-in-SortBy-clause-owes c = of_kind (FinishesOwing (stage.SortBy c.finish-in-SortBy.new.self)) c.args.self.now (stage.SortBy c.in-SortBy.stage) c.in-SortBy.is c.finish-in-SortBy.ensures.owes
 
 pub returns-in-SortNear-clause-price : goal.returns-in-SortNear-clause-price
-returns-in-SortNear-clause-price c = of_kind (HasPrice (stage.SortNear c.finish-in-SortNear.new.self)) c.args.self.now (stage.SortNear c.in-SortNear.stage) c.in-SortNear.is c.finish-in-SortNear.ensures.price
+returns-in-SortNear-clause-price c = of_kind (HasPrice (stage.SortNear c.finish-in-SortNear.new.self)) c.args.self.now
+    (stage.SortNear c.in-SortNear.stage) c.in-SortNear.is c.finish-in-SortNear.ensures.price
 
 pub returns-in-SortNear-clause-owes : goal.returns-in-SortNear-clause-owes
-returns-in-SortNear-clause-owes c = of_kind (FinishesOwing (stage.SortNear c.finish-in-SortNear.new.self)) c.args.self.now (stage.SortNear c.in-SortNear.stage) c.in-SortNear.is c.finish-in-SortNear.ensures.owes
+returns-in-SortNear-clause-owes c = of_kind (FinishesOwing (stage.SortNear c.finish-in-SortNear.new.self)) c.args.self.now
+    (stage.SortNear c.in-SortNear.stage) c.in-SortNear.is c.finish-in-SortNear.ensures.owes

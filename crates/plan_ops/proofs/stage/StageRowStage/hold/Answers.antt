@@ -68,7 +68,9 @@ pub returns-in-SortBy-clause-owes : goal.returns-in-SortBy-clause-owes
 returns-in-SortBy-clause-owes c = of_kind (HoldsOwing (stage.SortBy c.hold-in-SortBy.new.self) c.args.row) c.args.self.now (stage.SortBy c.in-SortBy.stage) c.in-SortBy.is c.hold-in-SortBy.ensures.owes
 
 pub returns-in-SortNear-clause-price : goal.returns-in-SortNear-clause-price
-returns-in-SortNear-clause-price c = of_kind (HasPrice (stage.SortNear c.hold-in-SortNear.new.self)) c.args.self.now (stage.SortNear c.in-SortNear.stage) c.in-SortNear.is c.hold-in-SortNear.ensures.price
+returns-in-SortNear-clause-price c = of_kind (HasPrice (stage.SortNear c.hold-in-SortNear.new.self)) c.args.self.now
+    (stage.SortNear c.in-SortNear.stage) c.in-SortNear.is c.hold-in-SortNear.ensures.price
 
 pub returns-in-SortNear-clause-owes : goal.returns-in-SortNear-clause-owes
-returns-in-SortNear-clause-owes c = of_kind (HoldsOwing (stage.SortNear c.hold-in-SortNear.new.self) c.args.row) c.args.self.now (stage.SortNear c.in-SortNear.stage) c.in-SortNear.is c.hold-in-SortNear.ensures.owes
+returns-in-SortNear-clause-owes c = of_kind (HoldsOwing (stage.SortNear c.hold-in-SortNear.new.self) c.args.row) c.args.self.now
+    (stage.SortNear c.in-SortNear.stage) c.in-SortNear.is c.hold-in-SortNear.ensures.owes

@@ -67,7 +67,8 @@ returns-in-SortNear-clause-falls g c =
 
 pub returns-in-SortNear-clause-step : goal.returns-in-SortNear-clause-step
 returns-in-SortNear-clause-step g c =
-    of_kind (Worked c.args.desk.now (stage.SortNear c.work-in-SortNear.new.self) c.work-in-SortNear.result) c.args.self.now (stage.SortNear c.in-SortNear.stage) c.in-SortNear.is c.work-in-SortNear.ensures.step
+    of_kind (Worked c.args.desk.now (stage.SortNear c.work-in-SortNear.new.self) c.work-in-SortNear.result) c.args.self.now
+    (stage.SortNear c.in-SortNear.stage) c.in-SortNear.is c.work-in-SortNear.ensures.step
 
 -- ---- what it costs
 
@@ -75,34 +76,41 @@ pub returns-in-First-clause-price : goal.returns-in-First-clause-price
 returns-in-First-clause-price g c = of_kind (HasPrice (stage.First c.work.new.self)) c.args.self.now (stage.First c.in-First.stage) c.in-First.is c.work.ensures.price
 
 pub returns-in-First-clause-costs : goal.returns-in-First-clause-costs
-returns-in-First-clause-costs g c = of_kind (WorksPaying c.args.desk.now c.work.new._desk (stage.First c.work.new.self) c.work.result) c.args.self.now (stage.First c.in-First.stage) c.in-First.is c.work.ensures.costs
+returns-in-First-clause-costs g c = of_kind (WorksPaying c.args.desk.now c.work.new._desk (stage.First c.work.new.self) c.work.result) c.args.self.now
+    (stage.First c.in-First.stage) c.in-First.is c.work.ensures.costs
 
 pub returns-in-Filter-clause-price : goal.returns-in-Filter-clause-price
 returns-in-Filter-clause-price g c = of_kind (HasPrice (stage.Filter c.work-in-Filter.new.self)) c.args.self.now (stage.Filter c.in-Filter.stage) c.in-Filter.is c.work-in-Filter.ensures.price
 
 pub returns-in-Filter-clause-costs : goal.returns-in-Filter-clause-costs
-returns-in-Filter-clause-costs g c = of_kind (WorksPaying c.args.desk.now c.work-in-Filter.new.desk (stage.Filter c.work-in-Filter.new.self) c.work-in-Filter.result) c.args.self.now (stage.Filter c.in-Filter.stage) c.in-Filter.is c.work-in-Filter.ensures.costs
+returns-in-Filter-clause-costs g c = of_kind (WorksPaying c.args.desk.now c.work-in-Filter.new.desk (stage.Filter c.work-in-Filter.new.self) c.work-in-Filter.result) c.args.self.now
+    (stage.Filter c.in-Filter.stage) c.in-Filter.is c.work-in-Filter.ensures.costs
 
 pub returns-in-Fetch-clause-price : goal.returns-in-Fetch-clause-price
 returns-in-Fetch-clause-price g c = of_kind (HasPrice (stage.Fetch c.work-in-Fetch.new.self)) c.args.self.now (stage.Fetch c.in-Fetch.stage) c.in-Fetch.is c.work-in-Fetch.ensures.price
 
 pub returns-in-Fetch-clause-costs : goal.returns-in-Fetch-clause-costs
-returns-in-Fetch-clause-costs g c = of_kind (WorksPaying c.args.desk.now c.work-in-Fetch.new.desk (stage.Fetch c.work-in-Fetch.new.self) c.work-in-Fetch.result) c.args.self.now (stage.Fetch c.in-Fetch.stage) c.in-Fetch.is c.work-in-Fetch.ensures.costs
+returns-in-Fetch-clause-costs g c = of_kind (WorksPaying c.args.desk.now c.work-in-Fetch.new.desk (stage.Fetch c.work-in-Fetch.new.self) c.work-in-Fetch.result) c.args.self.now
+    (stage.Fetch c.in-Fetch.stage) c.in-Fetch.is c.work-in-Fetch.ensures.costs
 
 pub returns-in-Match-clause-price : goal.returns-in-Match-clause-price
 returns-in-Match-clause-price g c = of_kind (HasPrice (stage.Match c.work-in-Match.new.self)) c.args.self.now (stage.Match c.in-Match.stage) c.in-Match.is c.work-in-Match.ensures.price
 
 pub returns-in-Match-clause-costs : goal.returns-in-Match-clause-costs
-returns-in-Match-clause-costs g c = of_kind (WorksPaying c.args.desk.now c.work-in-Match.new.desk (stage.Match c.work-in-Match.new.self) c.work-in-Match.result) c.args.self.now (stage.Match c.in-Match.stage) c.in-Match.is c.work-in-Match.ensures.costs
+returns-in-Match-clause-costs g c = of_kind (WorksPaying c.args.desk.now c.work-in-Match.new.desk (stage.Match c.work-in-Match.new.self) c.work-in-Match.result) c.args.self.now
+    (stage.Match c.in-Match.stage) c.in-Match.is c.work-in-Match.ensures.costs
 
 pub returns-in-SortBy-clause-price : goal.returns-in-SortBy-clause-price
 returns-in-SortBy-clause-price g c = of_kind (HasPrice (stage.SortBy c.work-in-SortBy.new.self)) c.args.self.now (stage.SortBy c.in-SortBy.stage) c.in-SortBy.is c.work-in-SortBy.ensures.price
 
 pub returns-in-SortBy-clause-costs : goal.returns-in-SortBy-clause-costs
-returns-in-SortBy-clause-costs g c = of_kind (WorksPaying c.args.desk.now c.work-in-SortBy.new.desk (stage.SortBy c.work-in-SortBy.new.self) c.work-in-SortBy.result) c.args.self.now (stage.SortBy c.in-SortBy.stage) c.in-SortBy.is c.work-in-SortBy.ensures.costs
+returns-in-SortBy-clause-costs g c = of_kind (WorksPaying c.args.desk.now c.work-in-SortBy.new.desk (stage.SortBy c.work-in-SortBy.new.self) c.work-in-SortBy.result) c.args.self.now
+    (stage.SortBy c.in-SortBy.stage) c.in-SortBy.is c.work-in-SortBy.ensures.costs
 
 pub returns-in-SortNear-clause-price : goal.returns-in-SortNear-clause-price
-returns-in-SortNear-clause-price g c = of_kind (HasPrice (stage.SortNear c.work-in-SortNear.new.self)) c.args.self.now (stage.SortNear c.in-SortNear.stage) c.in-SortNear.is c.work-in-SortNear.ensures.price
+returns-in-SortNear-clause-price g c = of_kind (HasPrice (stage.SortNear c.work-in-SortNear.new.self)) c.args.self.now
+    (stage.SortNear c.in-SortNear.stage) c.in-SortNear.is c.work-in-SortNear.ensures.price
 
 pub returns-in-SortNear-clause-costs : goal.returns-in-SortNear-clause-costs
-returns-in-SortNear-clause-costs g c = of_kind (WorksPaying c.args.desk.now c.work-in-SortNear.new.desk (stage.SortNear c.work-in-SortNear.new.self) c.work-in-SortNear.result) c.args.self.now (stage.SortNear c.in-SortNear.stage) c.in-SortNear.is c.work-in-SortNear.ensures.costs
+returns-in-SortNear-clause-costs g c = of_kind (WorksPaying c.args.desk.now c.work-in-SortNear.new.desk (stage.SortNear c.work-in-SortNear.new.self) c.work-in-SortNear.result) c.args.self.now
+    (stage.SortNear c.in-SortNear.stage) c.in-SortNear.is c.work-in-SortNear.ensures.costs

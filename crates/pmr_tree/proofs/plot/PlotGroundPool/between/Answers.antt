@@ -11,7 +11,8 @@ returns-clause-leads g c = (
     refl,
     (
       refl,
-      leads_read (g.G.ShapeOf.rows c.args.self.now.shapes.now) c.args.self.now.shape.now (g.G.ShapeOf.Stands c.args.self.now.shapes.now) (g.G.ShapeOf.Owns c.args.self.now.shapes.now) c.args.self.now.tree c.args.pages.now c.entries_between.new.pages None
+      leads_read (g.G.ShapeOf.rows c.args.self.now.shapes.now) c.args.self.now.shape.now (g.G.ShapeOf.Stands c.args.self.now.shapes.now)
+          (g.G.ShapeOf.Owns c.args.self.now.shapes.now) c.args.self.now.tree c.args.pages.now c.entries_between.new.pages None
           c.in_ok-found.ensures.read (record { counted = c.in_ok-found.ensures.cause.counted; damaged = tt }) tt,
     ),
   ),

@@ -14,7 +14,8 @@ returns-clause-leads g c =
         refl,
         (
           refl,
-          leads_changed (g.G.ShapeOf.rows s) c.args.self.now.shape.now (g.G.ShapeOf.Stands s) (g.G.ShapeOf.Owns s) (g.met.G.ShapeOf.own_stands s) (g.met.G.ShapeOf.own_rows s) (g.met.G.ShapeOf.own_pages s)
+          leads_changed (g.G.ShapeOf.rows s) c.args.self.now.shape.now (g.G.ShapeOf.Stands s) (g.G.ShapeOf.Owns s) (g.met.G.ShapeOf.own_stands s)
+              (g.met.G.ShapeOf.own_rows s) (g.met.G.ShapeOf.own_pages s)
               c.args.self.now.tree c.args.pages.now _ _ None c.remove.ensures.within (record { counted = c.in_ok-remove.ensures.cause.counted; damaged = tt }) tt
               (λ e told ready. (let i = c.in_ok-remove.ensures.value told in (i.tree, i.keeps))),
         ),

@@ -6,4 +6,5 @@ use Rattle.pmr_tree.proofs.quadtree.Pmr.plant.Goals as goal
 pub returns-clause-planted : goal.returns-clause-planted
 returns-clause-planted g c = λ told.
     let i = c.in_ok-insert.ensures.value (c.in_ok-map.ensures.within.told ∙ told) in
-    plants c.args.pool.now.pages c.plant.new.pool.pages c.insert.new.pool.pages (record { map = c.in_ok-map.map; threshold = c.args.threshold; number = c.args.number }) _ (c.in_ok-map.ensures.value told) i.items i.tree i.keeps
+    plants c.args.pool.now.pages c.plant.new.pool.pages c.insert.new.pool.pages (record { map = c.in_ok-map.map; threshold = c.args.threshold; number = c.args.number }) _
+    (c.in_ok-map.ensures.value told) i.items i.tree i.keeps

@@ -22,5 +22,6 @@ returns-clause-value g c = λ told.
     let E : List NodeEntry → Type 0 = λ x. GainsNode u w c.in_ok-root.root (nat_lt 0 l) x in
     let level : c.in-Some.height - 1 ≡ l = omega (arith, c.in-Some.ensures) in
     plants_of m w _ c.args.number c.args.list.now (omega (arith, c.in-Some.ensures)) refl
-    (subst R (sym level) (built m u w l c.in_ok-root.root c.bound_of-bound.result es c.args.list.now c.in_ok-top.ensures.fits (c.bound_of-bound.ensures ∙ ap (λ (x : List NodeEntry). bound_of x) c.deref.ensures.value) (c.requires.once told) c.in_ok-top.ensures.value
+    (subst R (sym level) (built m u w l c.in_ok-root.root c.bound_of-bound.result es c.args.list.now c.in_ok-top.ensures.fits
+    (c.bound_of-bound.ensures ∙ ap (λ (x : List NodeEntry). bound_of x) c.deref.ensures.value) (c.requires.once told) c.in_ok-top.ensures.value
     (subst B (is_inner_test l) (subst E c.deref-2.ensures.value c.in_ok-root.ensures.value))))

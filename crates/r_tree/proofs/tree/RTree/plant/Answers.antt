@@ -6,4 +6,5 @@ use Rattle.r_tree.proofs.Wholes.{plants_of}
 use Rattle.r_tree.proofs.tree.RTree.plant.Goals as goal
 
 pub returns-clause-value : goal.returns-clause-value
-returns-clause-value g c = λ told. plants_of (pages_in c.args.pool.now) (pages_in c.gain_node.new.pool) _ c.args.number [] (omega arith) refl (planted (pages_in c.args.pool.now) (pages_in c.gain_node.new.pool) c.in_ok-root.root c.in_ok-root.ensures.value)
+returns-clause-value g c = λ told. plants_of (pages_in c.args.pool.now) (pages_in c.gain_node.new.pool) _ c.args.number [] (omega arith) refl
+    (planted (pages_in c.args.pool.now) (pages_in c.gain_node.new.pool) c.in_ok-root.root c.in_ok-root.ensures.value)

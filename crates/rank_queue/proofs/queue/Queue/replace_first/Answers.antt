@@ -17,7 +17,8 @@ items-init g c =
 pub items-preserved : goal.items-preserved
 items-preserved g c = record {
   first = c.items.invariant.first;
-  kept = one_queued c.in_ok-first.first c.in-Some.item (c.args.items.now.items ++ g.Self.Queue.held c.args.self.now) c.pop-in-items.new.self.items (g.Self.Queue.held c.items.self) (g.Self.Queue.held c.push.new.self)
+  kept = one_queued c.in_ok-first.first c.in-Some.item (c.args.items.now.items ++ g.Self.Queue.held c.args.self.now) c.pop-in-items.new.self.items
+      (g.Self.Queue.held c.items.self) (g.Self.Queue.held c.push.new.self)
       (rw c.in-Some.ensures.items at c.items.invariant.kept) c.push.ensures.items;
   room = omega (arith, c.push.ensures.spare, c.in-Some.ensures.len, c.items.invariant.room);
 }

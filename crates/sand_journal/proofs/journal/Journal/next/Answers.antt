@@ -21,7 +21,10 @@ returns-in_default-clause-why g c = λ bodies passed told.
     let ahead = rw c.in-Body.is at c.in_ok-look_ahead.ensures.ahead in
     let none = subst (λ (l : List ℕ). IsChangeOf l c.in_ok-change.field-0) c.deref.ensures.value c.in_ok-change.ensures in
     let none_here = rw c.in_default.is at none in
-    subst (λ (why : JournalFault). IsWhy why bytes bodies) (sym c.bad-in_default.ensures) (omega (arith, passed.count), form_bad bytes bodies c.in-Body.body.items (ahead bodies passed.stands told) none_here)
+    subst (λ (why : JournalFault). IsWhy why bytes bodies) (sym c.bad-in_default.ensures) (
+      omega (arith, passed.count),
+      form_bad bytes bodies c.in-Body.body.items (ahead bodies passed.stands told) none_here,
+    )
 
 -- the body is that of the change
 pub returns-clause-form : goal.returns-clause-form
@@ -38,7 +41,8 @@ returns-clause-next g c = λ bodies passed.
     let is_body = sym c.deref.ensures.value ∙ (change_found c.deref.result.now c.in-Some.change found).1 in
     record {
       stands = subst (λ (l : List ℕ). StandsBehind (g.T.Tape.seen c.look_ahead.new.tape) (c.args.self.now.end + (5 + c.len.result)) (bodies ++ l ∷ [])) is_body
-          (passed_next (g.T.Tape.seen c.args.self.now.tape) (g.T.Tape.seen c.look_ahead.new.tape) c.args.self.now.end (c.args.self.now.end + (5 + c.len.result)) bodies c.in-Body.body.items passed.stands
+          (passed_next (g.T.Tape.seen c.args.self.now.tape) (g.T.Tape.seen c.look_ahead.new.tape) c.args.self.now.end
+          (c.args.self.now.end + (5 + c.len.result)) bodies c.in-Body.body.items passed.stands
           c.look_ahead.ensures.read near.0 (ahead bodies passed.stands) (omega (arith, c.len.ensures, c.in-Body.body.ok.0)));
       count = omega (arith, passed.count, length_push bodies (body_of (change_value c.in-Some.change)), c.saturating_add-self.ensures);
     }

@@ -12,7 +12,8 @@ pub returns-in-Err : goal.returns-in-Err
 returns-in-Err c =
     let first : List ℕ = c.self.inside.first.items in
     let events : List TapeEvent = events_of c.self.inside.made.items in
-    subst (λ (s : MemTapeState). SyncsTape {T = Unit {0}} {E = Failed} (mem_tape_view s) (mem_tape_view (tape_of first events c.self.inside.started c.begin.new.self)) (Err c.in-Err.why)) c.self.view_is
+    subst (λ (s : MemTapeState). SyncsTape {T = Unit {0}} {E = Failed} (mem_tape_view s) (mem_tape_view (tape_of first events c.self.inside.started c.begin.new.self))
+    (Err c.in-Err.why)) c.self.view_is
     (not_synced first events c.self.inside.started c.self.inside.started c.self.inside.calls c.begin.new.self c.in-Err.why refl c.in-Err.ensures.cause)
 
 -- a sync changes nothing of what a read gives
@@ -27,8 +28,10 @@ returns-in-Ok-keep_sync c =
     let first : List ℕ = c.self.inside.first.items in
     let events : List TapeEvent = events_of c.self.inside.made.items in
     let done = synced first events c.self.inside.started c.self.inside.started c.self.inside.calls c.begin.new.self {T = Unit {0}} {E = Failed} tt refl c.in-Ok.ensures.cause in
-    subst (λ (l : List TapeEvent). SyncsTape {T = Unit {0}} {E = Failed} (mem_tape_view c.args.self.now) (mem_tape_view (tape_of first l c.self.inside.started c.begin.new.self)) (Ok tt)) (sym c.in-Ok-keep_sync.ensures.kept)
-    (subst (λ (s : MemTapeState). SyncsTape {T = Unit {0}} {E = Failed} (mem_tape_view s) (mem_tape_view (tape_of first (events ++ None ∷ []) c.self.inside.started c.begin.new.self)) (Ok tt)) c.self.view_is done)
+    subst (λ (l : List TapeEvent). SyncsTape {T = Unit {0}} {E = Failed} (mem_tape_view c.args.self.now) (mem_tape_view (tape_of first l c.self.inside.started c.begin.new.self)) (Ok tt))
+    (sym c.in-Ok-keep_sync.ensures.kept)
+    (subst (λ (s : MemTapeState). SyncsTape {T = Unit {0}} {E = Failed} (mem_tape_view s)
+    (mem_tape_view (tape_of first (events ++ None ∷ []) c.self.inside.started c.begin.new.self)) (Ok tt)) c.self.view_is done)
 
 -- want of memory is a counted fault, and nothing was done
 pub returns-in-Err-keep_sync : goal.returns-in-Err-keep_sync
@@ -43,4 +46,5 @@ returns-in-Err-keep_sync c =
     let failed = not_synced first events c.self.inside.started c.self.inside.started c.self.inside.calls c.fault.new.self {T = Unit {0}} c.fault.result refl cause in
     subst (λ (l : List TapeEvent). SyncsTape {T = Unit {0}} {E = Failed} (mem_tape_view c.args.self.now) (mem_tape_view (tape_of first l c.self.inside.started c.fault.new.self)) (Err c.fault.result))
     (sym (ap events_of c.in-Err-keep_sync.ensures.calls_stay))
-    (subst (λ (s : MemTapeState). SyncsTape {T = Unit {0}} {E = Failed} (mem_tape_view s) (mem_tape_view (tape_of first events c.self.inside.started c.fault.new.self)) (Err c.fault.result)) c.self.view_is failed)
+    (subst (λ (s : MemTapeState). SyncsTape {T = Unit {0}} {E = Failed} (mem_tape_view s) (mem_tape_view (tape_of first events c.self.inside.started c.fault.new.self))
+    (Err c.fault.result)) c.self.view_is failed)

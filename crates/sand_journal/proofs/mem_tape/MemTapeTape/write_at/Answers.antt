@@ -12,7 +12,8 @@ pub returns-in-Err : goal.returns-in-Err
 returns-in-Err c =
     let first : List ℕ = c.self.inside.first.items in
     let events : List TapeEvent = events_of c.self.inside.made.items in
-    subst (λ (s : MemTapeState). WritesTape {T = Unit {0}} {E = Failed} (mem_tape_view s) (mem_tape_view (tape_of first events c.self.inside.started c.begin.new.self)) c.args.at c.args.bytes.now (Err c.in-Err.why)) c.self.view_is
+    subst (λ (s : MemTapeState). WritesTape {T = Unit {0}} {E = Failed} (mem_tape_view s)
+    (mem_tape_view (tape_of first events c.self.inside.started c.begin.new.self)) c.args.at c.args.bytes.now (Err c.in-Err.why)) c.self.view_is
     (not_written first events c.self.inside.started c.self.inside.started c.self.inside.calls c.begin.new.self c.args.at c.args.bytes.now c.in-Err.why refl c.in-Err.ensures.cause)
 
 -- the bytes that were written are those after one event more
@@ -28,9 +29,12 @@ pub returns-in-Ok-write : goal.returns-in-Ok-write
 returns-in-Ok-write c =
     let first : List ℕ = c.self.inside.first.items in
     let events : List TapeEvent = events_of c.self.inside.made.items in
-    let done = written first events c.self.inside.started c.self.inside.started c.self.inside.calls c.begin.new.self {T = Unit {0}} {E = Failed} c.args.at c.args.bytes.now tt refl c.in-Ok.ensures.cause in
-    subst (λ (l : List TapeEvent). WritesTape {T = Unit {0}} {E = Failed} (mem_tape_view c.args.self.now) (mem_tape_view (tape_of first l c.self.inside.started c.begin.new.self)) c.args.at c.args.bytes.now (Ok tt)) (sym c.in-Ok-write.ensures.kept)
-    (subst (λ (s : MemTapeState). WritesTape {T = Unit {0}} {E = Failed} (mem_tape_view s) (mem_tape_view (tape_of first (events ++ Some (c.args.at, c.args.bytes.now) ∷ []) c.self.inside.started c.begin.new.self)) c.args.at c.args.bytes.now (Ok tt)) c.self.view_is done)
+    let done = written first events c.self.inside.started c.self.inside.started c.self.inside.calls c.begin.new.self {T = Unit {0}} {E =
+    Failed} c.args.at c.args.bytes.now tt refl c.in-Ok.ensures.cause in
+    subst (λ (l : List TapeEvent). WritesTape {T = Unit {0}} {E = Failed} (mem_tape_view c.args.self.now)
+    (mem_tape_view (tape_of first l c.self.inside.started c.begin.new.self)) c.args.at c.args.bytes.now (Ok tt)) (sym c.in-Ok-write.ensures.kept)
+    (subst (λ (s : MemTapeState). WritesTape {T = Unit {0}} {E = Failed} (mem_tape_view s)
+    (mem_tape_view (tape_of first (events ++ Some (c.args.at, c.args.bytes.now) ∷ []) c.self.inside.started c.begin.new.self)) c.args.at c.args.bytes.now (Ok tt)) c.self.view_is done)
 
 -- want of memory is a counted fault, and nothing was done
 pub returns-in-Err-write : goal.returns-in-Err-write
@@ -43,6 +47,8 @@ returns-in-Err-write c =
       failed = ap (λ s. s.faults) c.fault.ensures.counted ∙ ap next_count c.in-Ok.ensures.cause.done;
     } in
     let failed = not_written first events c.self.inside.started c.self.inside.started c.self.inside.calls c.fault.new.self {T = Unit {0}} c.args.at c.args.bytes.now c.fault.result refl cause in
-    subst (λ (l : List TapeEvent). WritesTape {T = Unit {0}} {E = Failed} (mem_tape_view c.args.self.now) (mem_tape_view (tape_of first l c.self.inside.started c.fault.new.self)) c.args.at c.args.bytes.now (Err c.fault.result))
+    subst (λ (l : List TapeEvent). WritesTape {T = Unit {0}} {E = Failed} (mem_tape_view c.args.self.now)
+    (mem_tape_view (tape_of first l c.self.inside.started c.fault.new.self)) c.args.at c.args.bytes.now (Err c.fault.result))
     (sym (ap events_of c.in-Err-write.ensures.calls_stay))
-    (subst (λ (s : MemTapeState). WritesTape {T = Unit {0}} {E = Failed} (mem_tape_view s) (mem_tape_view (tape_of first events c.self.inside.started c.fault.new.self)) c.args.at c.args.bytes.now (Err c.fault.result)) c.self.view_is failed)
+    (subst (λ (s : MemTapeState). WritesTape {T = Unit {0}} {E = Failed} (mem_tape_view s)
+    (mem_tape_view (tape_of first events c.self.inside.started c.fault.new.self)) c.args.at c.args.bytes.now (Err c.fault.result)) c.self.view_is failed)

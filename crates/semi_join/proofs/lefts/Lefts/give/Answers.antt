@@ -22,5 +22,6 @@ returns c =
     let inside : c.args.id / 64 < length words.items = let len = words.ok.0 in let under = c.if-len-place.false in let is = c.len.ensures in omega arith in
     let there = one_more words.items c.args.id c.index_mut.result.now (vec_len words) inside words.ok.0 c.index_mut.ensures.value in
     let after = λ (ids : IdSet). (let rows : LeftRows = record { given = ids; below = 64 * vec_len words; waiting = c.self.inside.waiting - 1 } in rows) in
-    subst (λ (v : LeftRows). (set.contains v.given c.args.id ≡ false) × (after (ids_below (set words.items (c.args.id / 64) (with_bit c.index_mut.result.now c.args.id)) (64 * vec_len words)) ≡ gives c.args.id v)) c.self.view_is
+    subst (λ (v : LeftRows). (set.contains v.given c.args.id ≡ false)
+    × (after (ids_below (set words.items (c.args.id / 64) (with_bit c.index_mut.result.now c.args.id)) (64 * vec_len words)) ≡ gives c.args.id v)) c.self.view_is
     (not_there words.items c.args.id c.index.result.now (vec_len words) inside words.ok.0 c.index.ensures c.if-index-bit-ne0.false, ap after there)

@@ -12,7 +12,8 @@ returns-then-waiting-eq0-clause-pair g c =
     let f = semi.engine.frontier in
     let none = c.if-waiting-eq0.true in
     let is = c.waiting.ensures in
-    ended g.H.Node.Ord.cmp (g.H.Hierarchy.meaning semi.engine.hierarchy) (g.H.Hierarchy.note semi.engine.hierarchy) semi.lefts (state (g.Q.Queue.held f.queue) f.last f.counts c.args.desk.now) (told_pages c.args.desk.now) (sym is ∙ none) c.requires
+    ended g.H.Node.Ord.cmp (g.H.Hierarchy.meaning semi.engine.hierarchy) (g.H.Hierarchy.note semi.engine.hierarchy) semi.lefts
+    (state (g.Q.Queue.held f.queue) f.last f.counts c.args.desk.now) (told_pages c.args.desk.now) (sym is ∙ none) c.requires
 
 pub returns-then-waiting-eq0-clause-rest : goal.returns-then-waiting-eq0-clause-rest
 returns-then-waiting-eq0-clause-rest g c =
@@ -27,4 +28,5 @@ returns-then-waiting-eq0-clause-rest g c =
 
 pub returns-clause-rest : goal.returns-clause-rest
 returns-clause-rest g c =
-    takes_first_over (g.H.Hierarchy.meaning c.args.self.now.engine.hierarchy) (told_pages c.args.desk.now) c.args.self.now.lefts c.next_pair.new.lefts c.next_pair.result c.next_pair.ensures.pair c.next_pair.ensures.lefts
+    takes_first_over (g.H.Hierarchy.meaning c.args.self.now.engine.hierarchy)
+    (told_pages c.args.desk.now) c.args.self.now.lefts c.next_pair.new.lefts c.next_pair.result c.next_pair.ensures.pair c.next_pair.ensures.lefts

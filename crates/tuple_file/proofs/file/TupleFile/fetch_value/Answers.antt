@@ -14,7 +14,8 @@ returns-in_default-clause-value g c = λ told.
 pub returns-clause-value : goal.returns-clause-value
 returns-clause-value g c = IfOk-weaker c.value_at.result _ _
     (λ value is told.
-    value_found_by c.args.schema.now (pages_in (g.P.Pages.shown c.args.pages.now)) (pages_in (g.P.Pages.shown c.get.new.pages)) c.args.self.now c.args.id c.from.result c.in-Some.place c.in-Some-spot_of.page c.in-Some-spot_of.slot c.args.column c.in_ok-place.field-0 value
+    value_found_by c.args.schema.now (pages_in (g.P.Pages.shown c.args.pages.now))
+    (pages_in (g.P.Pages.shown c.get.new.pages)) c.args.self.now c.args.id c.from.result c.in-Some.place c.in-Some-spot_of.page c.in-Some-spot_of.slot c.args.column c.in_ok-place.field-0 value
     c.from.ensures (same_store (g.P.Pages.shown c.get.new.pages) (g.P.Pages.shown c.args.pages.now) c.in_ok-place.ensures.looks.read.pages) (c.in_ok-place.ensures.value told) c.in-Some.is
     c.in-Some-spot_of.ensures.page c.in-Some-spot_of.ensures.slot (is (c.in_ok-place.ensures.looks.read.told ∙ told)))
     c.value_at.ensures.value

@@ -14,13 +14,16 @@ insert-requires-clause-tree g c = λ h.
 pub returns-clause-value : goal.returns-clause-value
 returns-clause-value g c = λ told.
     let I : ℕ → Type 0 = λ k. Inserted (pages_in c.settle.new.pool) (pages_in c.insert.new.pool) c.args.self.now.tree c.insert.new.self k c.place_of.result c.in_ok-_was._was in
-    put_done (pages_in c.args.pool.now) (pages_in c.settle.new.pool) (pages_in c.insert.new.pool) c.args.self.now c.insert.new.self c.args.id c.in_ok-spot.spot.page c.in_ok-spot.spot.slot c.in_ok-spot.spot.start
+    put_done (pages_in c.args.pool.now) (pages_in c.settle.new.pool)
+    (pages_in c.insert.new.pool) c.args.self.now c.insert.new.self c.args.id c.in_ok-spot.spot.page c.in_ok-spot.spot.slot c.in_ok-spot.spot.start
     c.place_of.result c.args.bytes.now c.in_ok-_was._was
-    (c.requires.file told) (c.requires.fresh told) c.requires.some (c.in_ok-spot.ensures.value told) c.place_of.ensures (subst I c.from.ensures (c.in_ok-_was.ensures.value (c.in_ok-spot.ensures.within.told ∙ told)))
+    (c.requires.file told) (c.requires.fresh told) c.requires.some (c.in_ok-spot.ensures.value told) c.place_of.ensures
+    (subst I c.from.ensures (c.in_ok-_was.ensures.value (c.in_ok-spot.ensures.within.told ∙ told)))
 
 pub returns-clause-placed : goal.returns-clause-placed
 returns-clause-placed g c = λ told.
     let I : ℕ → Type 0 = λ k. Inserted (pages_in c.settle.new.pool) (pages_in c.insert.new.pool) c.args.self.now.tree c.insert.new.self k c.place_of.result c.in_ok-_was._was in
-    put_lies (pages_in c.args.pool.now) (pages_in c.settle.new.pool) (pages_in c.insert.new.pool) c.args.self.now c.insert.new.self c.args.id c.in_ok-spot.spot.page c.in_ok-spot.spot.slot c.in_ok-spot.spot.start _
+    put_lies (pages_in c.args.pool.now) (pages_in c.settle.new.pool)
+    (pages_in c.insert.new.pool) c.args.self.now c.insert.new.self c.args.id c.in_ok-spot.spot.page c.in_ok-spot.spot.slot c.in_ok-spot.spot.start _
     c.place_of.result c.args.bytes.now c.in_ok-_was._was
     (c.requires.file told) refl (c.in_ok-spot.ensures.value told) c.place_of.ensures (subst I c.from.ensures (c.in_ok-_was.ensures.value (c.in_ok-spot.ensures.within.told ∙ told)))

@@ -18,7 +18,8 @@ returns-then-is_near g c =
       nodes = ap (λ q. q.nodes) c.self.view_is;
       roughs = subst (λ q. TakesLeast c.args.id q.roughs c.take_least-taken.new.self.ids) c.self.view_is took.0;
       rows = subst (λ q. PutIn (row_if c.args.is_near c.args.id) q.rows c.insert.new.self.ids) c.self.view_is
-          (subst (λ b. PutIn (row_if b c.args.id) c.self.inside.rows.ids c.insert.new.self.ids) (sym c.if-is_near.true) (puts_one c.insert.result c.args.id c.self.inside.rows.ids c.insert.new.self.ids c.insert.ensures.ids));
+          (subst (λ b. PutIn (row_if b c.args.id) c.self.inside.rows.ids c.insert.new.self.ids) (sym c.if-is_near.true)
+          (puts_one c.insert.result c.args.id c.self.inside.rows.ids c.insert.new.self.ids c.insert.ensures.ids));
     }
 
 pub returns-else-is_near : goal.returns-else-is_near
