@@ -2,11 +2,12 @@
 //!
 //! It prints what some runs wrote and how each ended. Then it makes each call of the disk, the script, the answers and the data
 //! file fail in turn, one run for each call, cuts a data file after each of its bytes, gives lines that are refused, and counts
-//! what the disk is called for. It prints a line for each table, with the number of runs, or the first difference. Above:
+//! what the disk is called for and what the script is asked for. It prints a line for each table, with the number of runs, or the first difference. Above:
 //! nothing. Below: `session`, whose `run_within` all runs go through. Read `src/harness.rt`, then `src/outcomes.rt` and
 //! `src/scripts.rt`.
 #![tactic(auto)]
 
+mod asks;
 mod cuts;
 mod disk;
 mod draws;
@@ -163,5 +164,6 @@ fn main(rt: HostRuntime) -> io::Result<()> {
     let shows = env::args(&rt)?.skip(1).next().is_some();
     outcomes::told(&rt)?;
     tables(&rt)?;
-    disk_tables(&rt, shows)
+    disk_tables(&rt, shows)?;
+    asks::told(&rt)
 }

@@ -1,6 +1,6 @@
 ghost use Rattle.std.specs.Prelude.{◌≡◌, [], false, is_err, IsTrue, IsErr, IfOk, OnOk};
-ghost use Rattle.std.specs.Io.{WritesAtMost};
-ghost use Rattle.std.specs.Io.KnownBytes.{Keeps, WriteAppends};
+ghost use Rattle.std.specs.Io.{ReadsAtMost, WritesAtMost};
+ghost use Rattle.std.specs.Io.KnownBytes.{Keeps, ReadConsumes, WriteAppends};
 ghost use Rattle.std.specs.Io.Buffered.{writer_buffer, writer_contents, writer_inner};
 
 use sand_base::{Failed, NoMemory};
@@ -95,10 +95,28 @@ impl<'o, W: Write + Drop> Write for OutboxWriter<'o, W> {
 }
 
 /// Reads once all that an outbox has gathered is handed on, so that who is asked for more has what came before. Where
-/// that fails the read goes on, and the next write fails.
+/// that fails nothing more is read: the read fails, and so does each later one.
 pub struct PromptReader<'o, R: Read + Drop, W: Write + Drop> {
     input: R,
     outbox: &'o RefCell<Outbox<W>>,
+}
+
+// What the input gives next, once all that is gathered is handed on.
+fn read_behind<R: Read + Drop, W: Write + Drop>(
+    outbox: &mut Outbox<W>,
+    input: &mut R,
+    piece: &mut [u8],
+) -> IoResult<usize>
+    ensures broken { IsTrue outbox.new.is_broken → IsErr result × (input.new ≡ input.old) }
+    ensures stays { IsTrue outbox.old.is_broken → IsTrue outbox.new.is_broken }
+    ensures empty { IfOk result (λ n. writer_buffer outbox.new.gathered ≡ []) }
+    ensures bound { ReadsAtMost result piece.new }
+    ensures bytes { ReadConsumes (R.remaining input.old) (R.remaining input.new) result piece.new }
+{
+    match outbox.hand_on() {
+        Ok(()) => input.read(piece),
+        Err(Failed {}) => Err(Error::from(ErrorKind::BrokenPipe)),
+    }
 }
 
 impl<'o, R: Read + Drop, W: Write + Drop> PromptReader<'o, R, W> {
@@ -123,9 +141,9 @@ impl<'o, R: Read + Drop, W: Write + Drop> Read for PromptReader<'o, R, W> {
     ghost remaining = { λ r. R.remaining r.input };
 
     fn read(&mut self, piece: &mut [u8]) -> IoResult<usize> {
-        if let Ok(mut outbox) = self.outbox.try_borrow_mut() {
-            let _ = outbox.hand_on();
+        match self.outbox.try_borrow_mut() {
+            Ok(mut outbox) => read_behind(&mut outbox, &mut self.input, piece),
+            Err(_) => Err(Error::from(ErrorKind::Other)),
         }
-        self.input.read(piece)
     }
 }
