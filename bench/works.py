@@ -178,4 +178,5 @@ def main() -> None:
             print(f"{work:<11}{least[0]:>9.3f}{least[1]:>13.3f}{len(full[3]) - len(base[3]):>11,}{visits:>10}{full[2]:>10.1f}", flush=True)
 
 
-main()
+if __name__ == "__main__":
+    main()

@@ -10,6 +10,8 @@ use Rattle.code_btree.proofs.Pieces.{length-pasted, piece_apart, piece_within, p
 use Rattle.code_btree.proofs.Numbers.{half_back, length-half_bytes, word_back, length-word_bytes}
 use Rattle.code_btree.proofs.Cells.{length-cells, cells-add, cells_apart}
 use Rattle.r_tree.specs.declared.entry.NodeEntry.{NodeEntry}
+use Rattle.r_tree.specs.Entry.{box_of, member_of, members_of}
+use Rattle.r_tree.specs.Nodes.{branches_of}
 use Rattle.r_tree.specs.Page.{node, rough_of, point_of, entry_from, entry_of, entry_count, page_entries, node_of}
 
 abbrev point : ℕ → ℕ → Point
@@ -92,6 +94,16 @@ entry_read p at a b c d h ea eb ec ed =
 -- one entry more, read
 pub entries_read_more : (p : List ℕ) (i : ℕ) → page_entries (i + 1) p ≡ page_entries i p ++ entry_of (piece 32 (32 + 32 * i) p) ∷ []
 entries_read_more p i = ap (λ (cs : List (List ℕ)). map entry_of cs) (cells-add 32 32 i 1 p) ∙ map-append entry_of (cells 32 32 i p) (cells 32 (32 + 32 * i) 1 p)
+
+-- one member more, read
+pub members_read_more : (p : List ℕ) (i : ℕ) → members_of (page_entries (i + 1) p) ≡ members_of (page_entries i p) ++ member_of (entry_of (piece 32 (32 + 32 * i) p)) ∷ []
+members_read_more p i = ap (λ (es : List NodeEntry). members_of es) (entries_read_more p i) ∙ map-append member_of (page_entries i p) (entry_of (piece 32 (32 + 32 * i) p) ∷ [])
+
+-- one branch more, read
+pub branches_read_more : (p : List ℕ) (i : ℕ) → branches_of (page_entries (i + 1) p)
+    ≡ branches_of (page_entries i p) ++ (box_of (entry_of (piece 32 (32 + 32 * i) p)).rough, (entry_of (piece 32 (32 + 32 * i) p)).child) ∷ []
+branches_read_more p i = ap (λ (es : List NodeEntry). branches_of es) (entries_read_more p i)
+    ∙ map-append (λ (e : NodeEntry). (box_of e.rough, e.child)) (page_entries i p) (entry_of (piece 32 (32 + 32 * i) p) ∷ [])
 
 -- one entry more, written
 pub record Written (p z : List ℕ) (es : List NodeEntry) (i : ℕ) : Type 0 where

@@ -37,20 +37,21 @@ fn leaf_entries(alloc: Global, list: &[(u32, Rough)]) -> Result<Vec<NodeEntry>, 
     Ok(entries)
 }
 
-// Where a part of more than 126 entries is cut in two: a whole number of nodes of 100 entries lies before the place, but
-// for the last few nodes of a level.
+// Where a part of 100 entries or more is cut in two: a whole number of nodes of 64 entries lies before the place, but for
+// the last few nodes of a level. A search measures every entry of a node that it opens, so half filled nodes cost it
+// less than full ones, and they leave room for what is entered later.
 fn tile_place(count: usize) -> usize
-    requires { 127 ≤ count }
+    requires { 100 ≤ count }
     ensures left { 50 ≤ result }
     ensures right { result + 50 ≤ count }
 {
-    if count < 300 {
+    if count < 128 {
         return count / 2;
     }
-    count / 200 * 100
+    count / 128 * 64
 }
 
-// Lays entries into new nodes, and adds the entries that lead to these. A part that is too large for a node is cut in
+// Lays entries into new nodes, and adds the entries that lead to these. A part of which two nodes can be made is cut in
 // two, across the longer side of its rectangle.
 fn tile<D: Disk>(
     pool: &mut Pool<D>,
@@ -64,7 +65,7 @@ fn tile<D: Disk>(
     ensures gets { pool.new.gets ≡ pool.old.gets }
     ensures cause { HasPageCause pool.old pool.new result }
 {
-    if entries.len() <= 126 {
+    if entries.len() < 100 {
         let Some(bound) = bound_of(entries) else {
             return Err(PageFault::Memory);
         };

@@ -7,8 +7,8 @@ ghost use Rattle.r_tree.specs.Page.{node, page_entries, node_of};
 ghost use Rattle.r_tree.specs.Tree.{node_at};
 ghost use Rattle.r_tree.specs.Nodes.{branches_of, Shows, IsNodeOf};
 
-use crate::entry::{NodeEntry, box_of};
-use crate::page::{Page, entries_of, node_count};
+use crate::entry::box_of;
+use crate::page::{Page, entry_at, node_count};
 use crate::tree::RTree;
 use page_pool::{PageFault, Pages};
 use sand_base::{NoMemory, Rect, Rough};
@@ -84,23 +84,27 @@ pub enum TreeNode {
     Leaf(Members),
 }
 
-// The branches of an inner node's entries.
-fn branches_of(alloc: Global, entries: &[NodeEntry]) -> Result<Vec<(Rect, u64)>, NoMemory>
-    ensures { IfOk result (λ list. list.items ≡ branches_of entries.now) }
+// The branches of an inner node's page that has so many.
+fn branches_of(alloc: Global, page: &Page, count: usize) -> Result<Vec<(Rect, u64)>, NoMemory>
+    requires { count ≤ 126 }
+    ensures { IfOk result (λ list. list.items ≡ branches_of (page_entries count page.now)) }
 {
-    let mut list = Vec::with_capacity(alloc, entries.len())?;
-    'entries: for entry in entries {
+    let mut list = Vec::with_capacity(alloc, count)?;
+    'cells: for i in 0..count {
+        let entry = entry_at(page, i);
         list.push_reserved((box_of(entry.rough), entry.child));
     }
     Ok(list)
 }
 
-// The members of a leaf's entries.
-fn members_of(alloc: Global, entries: &[NodeEntry]) -> Result<Vec<(u32, Rough)>, NoMemory>
-    ensures { IfOk result (λ list. list.items ≡ members_of entries.now) }
+// The members of a leaf's page that has so many.
+fn members_of(alloc: Global, page: &Page, count: usize) -> Result<Vec<(u32, Rough)>, NoMemory>
+    requires { count ≤ 126 }
+    ensures { IfOk result (λ list. list.items ≡ members_of (page_entries count page.now)) }
 {
-    let mut list = Vec::with_capacity(alloc, entries.len())?;
-    'entries: for entry in entries {
+    let mut list = Vec::with_capacity(alloc, count)?;
+    'cells: for i in 0..count {
+        let entry = entry_at(page, i);
         list.push_reserved((entry.id, entry.rough));
     }
     Ok(list)
@@ -112,8 +116,7 @@ fn inner_node(alloc: Global, page: &Page, count: usize) -> Result<TreeNode, NoMe
     requires inner { node_of page.now ≡ node true (page_entries count page.now) }
     ensures { IfOk result (λ found. Shows (node_of page.now) found) }
 {
-    let entries = entries_of(alloc, page, count)?;
-    let branches = branches_of(alloc, &entries)?;
+    let branches = branches_of(alloc, page, count)?;
     Ok(TreeNode::Inner(Branches::new(branches)))
 }
 
@@ -123,8 +126,7 @@ fn leaf_node(alloc: Global, page: &Page, count: usize) -> Result<TreeNode, NoMem
     requires leaf { node_of page.now ≡ node false (page_entries count page.now) }
     ensures { IfOk result (λ found. Shows (node_of page.now) found) }
 {
-    let entries = entries_of(alloc, page, count)?;
-    let members = members_of(alloc, &entries)?;
+    let members = members_of(alloc, page, count)?;
     Ok(TreeNode::Leaf(Members::new(members)))
 }
 

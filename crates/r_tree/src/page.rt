@@ -139,8 +139,8 @@ fn entry_bytes(entry: NodeEntry) -> [u8; 32]
     cell_of(p, q, mark, entry.child)
 }
 
-// Entry `i` of a page.
-fn entry_at(page: &Page, i: usize) -> NodeEntry
+/// Entry `i` of a page.
+pub fn entry_at(page: &Page, i: usize) -> NodeEntry
     requires { i < 127 }
     ensures { result ≡ entry_of (piece 32 (32 + 32 * i) page.now) }
 {

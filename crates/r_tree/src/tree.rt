@@ -69,7 +69,7 @@ impl RTree {
         })
     }
 
-    /// The tree of a list of ids with their rough shapes, on new pages, most of them nodes of 100 entries: no page get. After
+    /// The tree of a list of ids with their rough shapes, on new pages, most of them nodes of 64 entries: no page get. After
     /// a refusal the command is to be aborted.
     pub fn build<D: Disk>(
         alloc: Global,

@@ -29,7 +29,7 @@ static GROWN: [(&str, Kind); 5] = [
 ];
 
 // The lengths of lists from which trees are built: about where one node more, or one level more, is wanted.
-const LENGTHS: [u32; 10] = [1, 126, 127, 199, 299, 300, 501, 12_600, 12_700, 13_000];
+const LENGTHS: [u32; 10] = [1, 126, 127, 191, 192, 321, 501, 8_064, 8_128, 13_000];
 
 // The course of so many rows that are built, come and leave.
 fn course(kind: Kind, built: u32, inserts: u32, removes: u32, every: u32) -> Course {

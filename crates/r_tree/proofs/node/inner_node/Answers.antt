@@ -10,5 +10,5 @@ returns c =
     let e : entries_of (node_of c.args.page.now) ≡ page_entries c.args.count c.args.page.now = ap (λ (v : NodeView). entries_of v) c.requires.inner in (
       c.requires.inner ∙ ap (λ (x : List NodeEntry). node true x) (sym e),
       c.new.ensures
-          ∙ (c.in_ok-branches.ensures ∙ ap (λ (x : List NodeEntry). branches_of x) (c.deref.ensures.value ∙ (c.in_ok-entries.ensures ∙ sym e))),
+          ∙ (c.in_ok-branches.ensures ∙ ap (λ (x : List NodeEntry). branches_of x) (sym e)),
     )

@@ -10,5 +10,5 @@ returns c =
     let e : entries_of (node_of c.args.page.now) ≡ page_entries c.args.count c.args.page.now = ap (λ (v : NodeView). entries_of v) c.requires.leaf in (
       c.requires.leaf ∙ ap (λ (x : List NodeEntry). node false x) (sym e),
       c.new.ensures
-          ∙ (c.in_ok-members.ensures ∙ ap (λ (x : List NodeEntry). members_of x) (c.deref.ensures.value ∙ (c.in_ok-entries.ensures ∙ sym e))),
+          ∙ (c.in_ok-members.ensures ∙ ap (λ (x : List NodeEntry). members_of x) (sym e)),
     )
