@@ -1,6 +1,6 @@
 -- A ranking over an R-tree as a hierarchy: its nodes are those of the tree, under the gaps of their rectangles from a
 -- goal. After N. Roussopoulos and others, Nearest neighbor queries (1995), and G. R. Hjaltason and H. Samet (1999).
-use Rattle.std.specs.Prelude.{ℕ, zero, suc, ◌-◌, ◌^◌, ◌&&◌, nat_le, Bool, cond, List, [], ◌∷◌, map, Option, None, Some, IsPermutation}
+use Rattle.std.specs.Prelude.{ℕ, zero, suc, ◌-◌, ◌^◌, ◌&&◌, nat_le, Bool, cond, List, [], ◌∷◌, map, Option, None, Some}
 use Rattle.exact_frac.specs.declared.frac.Frac.{Frac}
 use Rattle.sand_base.specs.declared.TheConstants.{COORDINATE_BITS}
 use Rattle.sand_base.specs.declared.goal.Goal.{Goal}
@@ -18,10 +18,9 @@ use Rattle.r_tree.specs.declared.entry.NodeEntry.{NodeEntry}
 use Rattle.r_tree.specs.declared.node.TreeNode.{TreeNode}
 use Rattle.r_tree.specs.declared.node.TreeNode.TheVariants as node
 use Rattle.r_tree.specs.declared.tree.RTree.{RTree}
-use Rattle.r_tree.specs.Entry.{Member, members_of}
+use Rattle.r_tree.specs.Entry.{members_of}
 use Rattle.r_tree.specs.Nodes.{branches_of}
-use Rattle.r_tree.specs.Tree.{IsRTree, entries_at, tree_members}
-use Rattle.pmr_tree.specs.Entries.{figure_of}
+use Rattle.r_tree.specs.Tree.{entries_at}
 use Rattle.pmr_tree.specs.Quadtree.{store_of}
 use Rattle.rtree_rows.specs.Listing.{ListsRows}
 use Rattle.best_first.specs.Hierarchy.{Meaning}

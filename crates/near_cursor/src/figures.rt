@@ -1,14 +1,16 @@
 ghost use Rattle.std.specs.Prelude.{◌≡◌, ◌↔◌, IsTrue};
-ghost use Rattle.sand_base.specs.Plane.{IsGoalInClosedPlane, IsInClosedPlane, IsRectInClosedPlane, IsShapeInClosedPlane};
+ghost use Rattle.sand_base.specs.Plane.{IsGoalInClosedPlane, IsInClosedPlane, IsRectInClosedPlane, IsSegmentInClosedPlane, IsShapeInClosedPlane};
 ghost use Rattle.sand_base.specs.declared.goal.Goal.TheVariants as figure;
+ghost use Rattle.sand_base.specs.declared.shape.Shape.TheVariants as shape;
 ghost use Rattle.pmr_tree.specs.Entries.{figure_of};
 ghost use Rattle.best_first.specs.Reach.{IsSameGap};
 ghost use Rattle.rank_cursor.specs.Cursor.{goal_gap};
 ghost use Rattle.near_cursor.specs.NearRanking.{is_rect_in_plane, bound_gap};
 
 use exact_frac::Frac;
-use ring_geom::{gap_goal, gap_goal_rect};
-use sand_base::{COORDINATE_BITS, Goal, Point, Rect, Rough, Shape};
+use plane_geom::gap_point_segment;
+use ring_geom::{gap_goal, gap_goal_rect, gap_shapes};
+use sand_base::{COORDINATE_BITS, Goal, Point, Rect, Rough, Segment, Shape};
 
 // The length of a side of the plane.
 const SIDE: u32 = 1 << COORDINATE_BITS;
@@ -29,6 +31,30 @@ pub fn shape_gap(goal: &Goal, shape: &Shape) -> Frac
     ensures { IsSameGap result (goal_gap goal.now (figure.Shape shape.now)) }
 {
     gap_goal(goal, shape)
+}
+
+// The gap of a segment from a shape. From a point, the most usual goal, no inside is to be looked at.
+fn segment_gap_from(from: &Shape, s: Segment) -> Frac
+    requires from { IsShapeInClosedPlane from.now }
+    requires segment { IsSegmentInClosedPlane s }
+    ensures { IsSameGap result (goal_gap (figure.Shape from.now) (figure.Shape (shape.Segment s))) }
+{
+    if let Shape::Point(p) = from {
+        return gap_point_segment(*p, s);
+    }
+    gap_shapes(from, &Shape::Segment(s))
+}
+
+// The gap of a segment from the goal.
+pub fn segment_gap(goal: &Goal, s: Segment) -> Frac
+    requires goal { IsGoalInClosedPlane goal.now }
+    requires segment { IsSegmentInClosedPlane s }
+    ensures { IsSameGap result (goal_gap goal.now (figure.Shape (shape.Segment s))) }
+{
+    match goal {
+        Goal::Shape(from) => segment_gap_from(from, s),
+        Goal::Rect(_) => shape_gap(goal, &Shape::Segment(s)),
+    }
 }
 
 // Whether a point lies in the closed square round the plane.

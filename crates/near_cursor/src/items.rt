@@ -6,7 +6,7 @@ ghost use Rattle.best_first.specs.Item.{IsAlike};
 ghost use Rattle.best_first.specs.Steps.{AddsLess};
 ghost use Rattle.near_cursor.specs.NearRanking.{member_found, branch_found, node_found, near_weight};
 
-use crate::figures::{is_rect_in_plane, is_rough_in_plane, rect_gap, shape_gap};
+use crate::figures::{is_rect_in_plane, is_rough_in_plane, rect_gap, segment_gap, shape_gap};
 use best_first::Item;
 use r_tree::TreeNode;
 use sand_base::{Goal, NoMemory, Rect, Rough, Shape};
@@ -48,7 +48,7 @@ fn member_item(goal: &Goal, id: u32, rough: Rough) -> Item<(u64, u32)>
             right: 0,
         },
         Rough::Segment(s) => Item::Row {
-            gap: shape_gap(goal, &Shape::Segment(s)),
+            gap: segment_gap(goal, s),
             left: id,
             right: 0,
         },
