@@ -8,3 +8,5 @@ pub mod NearOverPages
 pub mod NearBegun
 -- what a call costs
 pub mod NearPrices
+-- no node is read twice
+pub mod NodesOnce

@@ -1,11 +1,20 @@
-ghost use Rattle.std.specs.Prelude.{◌≡◌, [], ◌∷◌, Some, IfOk};
+ghost use Rattle.std.specs.Prelude.{◌≡◌, [], ◌∷◌, Some, IfSome, IfOk};
 ghost use Rattle.sand_base.specs.InRange.{IsCeilingInRange};
 ghost use Rattle.sand_base.specs.Plane.{IsShapeInClosedPlane};
+ghost use Rattle.page_pool.specs.Causes.{HasPageCause};
+ghost use Rattle.page_pool.specs.Disk.{PageMap};
+ghost use Rattle.page_pool.specs.Reads.{IsRead};
+ghost use Rattle.sand_model.specs.Database.{Database};
 ghost use Rattle.sand_model.specs.Reach.{no_counts};
+ghost use Rattle.sand_model.specs.Taken.{Taken};
+ghost use Rattle.statements.specs.Plan.{Plan};
 ghost use Rattle.best_first.specs.Steps.{steps};
+ghost use Rattle.best_first.specs.Visits.{told_pages};
 ghost use Rattle.near_cursor.specs.NearRanking.{near_weight};
 ghost use Rattle.plan_rows.specs.Rows.{counts_of};
-ghost use Rattle.near_source.specs.NearPlans.{HasTakenNear, BeginsNear, near_heights, geometries_seen};
+ghost use Rattle.plan_rows.specs.SourceSteps.{Falls};
+ghost use Rattle.near_source.specs.NearPlans.{BeginsNear, near_heights, geometries_seen};
+ghost use Rattle.near_source.specs.NearSteps.{IsNearAt, HasReadSoFar, StepsNear, no_step_price, CostsNear, ReadsNoNodeTwice};
 
 use crate::RtreeColumn;
 use best_first::{BestFirst, Hit, Item};
@@ -34,6 +43,7 @@ impl NearSource {
         requires plane { IsShapeInClosedPlane goal }
         requires small { IsCeilingInRange ceiling }
         ensures counts { IfOk result (λ s. counts_of (⟦<NearSource as RowSource>⟧.seen s) ≡ no_counts) }
+        ensures none_read { IfOk result (λ s. (pages : PageMap) (d : Database) (p : Plan) (t : Taken) → IsNearAt s pages d p t → HasReadSoFar s pages []) }
         ensures begun { IfOk result (λ s. BeginsNear (⟦<NearSource as RowSource>⟧.At s) column.entry.relation.now column.entry.column column.entry.tree goal ceiling) }
     {
         let shapes = column.shapes(alloc)?;
@@ -57,23 +67,34 @@ fn answer_of(alloc: Global, hit: Hit) -> Answer
 }
 
 impl RowSource for NearSource {
-    ghost At = { λ s pages d p t. HasTakenNear s.search.hierarchy pages s.search.frontier.queue.items s.search.frontier.last s.search.frontier.counts d p t };
+    ghost At = { IsNearAt };
 
     ghost seen = { λ s. geometries_seen s.search.frontier.counts };
 
     ghost heights = { λ s. near_heights s.search.hierarchy };
 
-    ghost step_price = { λ s. 0 };
+    ghost step_price = { no_step_price };
 
     ghost owed = { λ s pages. 0 };
 
     ghost steps = { λ s. steps near_weight s.search.frontier.queue.items };
 
+    // The clauses of the trait, and one more: no node of the R-tree is read twice.
     fn next<D: Disk>(
         &mut self,
         alloc: Global,
         desk: &mut Desk<D>,
-    ) -> Result<Option<Answer>, PageFault> {
+    ) -> Result<Option<Answer>, PageFault>
+        requires stands { IfSome (told_pages desk.old) (λ pages. (d : Database) × ((p : Plan) × ((t : Taken) × IsNearAt self.old pages d p t))) }
+        ensures read { IsRead desk.old.pool desk.new.pool }
+        ensures cause { HasPageCause desk.old.pool desk.new.pool result }
+        ensures falls { Falls (steps near_weight self.old.search.frontier.queue.items) (steps near_weight self.new.search.frontier.queue.items) result }
+        ensures step { IfSome (told_pages desk.old) (StepsNear self.old self.new desk.old desk.new result) }
+        ensures heights { near_heights self.new.search.hierarchy ≡ near_heights self.old.search.hierarchy }
+        ensures step_price { no_step_price self.new ≡ no_step_price self.old }
+        ensures costs { IfSome (told_pages desk.old) (CostsNear self.old self.new desk.old desk.new result) }
+        ensures once { IfSome (told_pages desk.old) (ReadsNoNodeTwice self.old self.new desk.old desk.new result) }
+    {
         match self.search.next(desk) {
             Ok(Some(hit)) => return Ok(Some(answer_of(alloc, hit))),
             Ok(None) => return Ok(None),

@@ -3,6 +3,7 @@ use Rattle.std.proofs.Common.{ap, ◌∙◌}
 use Rattle.sand_base.specs.declared.goal.Goal.TheVariants as figure
 use Rattle.sand_store.specs.declared.column.FileShapes.{FileShapes}
 use Rattle.near_source.proofs.NearBegun.{made_laws, begun}
+use Rattle.near_source.proofs.NodesOnce.{none_read}
 use Rattle.near_source.proofs.near_source.NearSource.start.Goals as goal
 
 pub returns-clause-begun : goal.returns-clause-begun
@@ -22,3 +23,10 @@ returns-clause-begun c =
     (made_laws over.result c.in_ok-shapes.shapes c.args.column.tree
     (figure.Shape c.args.goal) c.args.ceiling over.ensures.shapes over.ensures.tree over.ensures.goal over.ensures.ceiling over.ensures.laws)
     s.frontier.queue.items s.frontier.last s.frontier.counts h.none_given h.none_taken h.stands
+
+-- and has read no node
+pub returns-clause-none_read : goal.returns-clause-none_read
+returns-clause-none_read c =
+    let s = c.in_ok-search.search in
+    let h = c.in_ok-search.ensures in
+    none_read c.over-hierarchy.result s.hierarchy h.hierarchy s.frontier.queue.items s.frontier.last s.frontier.counts h.stands

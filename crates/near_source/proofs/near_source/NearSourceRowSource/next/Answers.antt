@@ -1,9 +1,10 @@
 -- Each answer of the search is one of the source: its row, the end, or a refusal.
-use Rattle.std.proofs.Common.{ap}
+use Rattle.std.proofs.Common.{refl, ap, Some, None, Ok, Err}
 use Rattle.best_first.specs.Visits.{state, told_pages}
 use Rattle.near_source.specs.NearPlans.{near_heights}
 use Rattle.near_source.proofs.NearPrices.{costs_over}
 use Rattle.near_source.proofs.NearOverPages.{asked, row_over, end_over, fault_over}
+use Rattle.near_source.proofs.NodesOnce.{once_over}
 use Rattle.near_source.proofs.near_source.NearSourceRowSource.next.Goals as goal
 
 -- where something was taken the search stands
@@ -74,3 +75,29 @@ returns-in-Err-clause-costs g c =
 
 pub returns-in-Err-clause-heights : goal.returns-in-Err-clause-heights
 returns-in-Err-clause-heights g c = ap near_heights c.next.ensures.hierarchy
+
+-- ---- no node is read twice
+
+pub returns-in-Ok-Some-clause-once : goal.returns-in-Ok-Some-clause-once
+returns-in-Ok-Some-clause-once g c =
+    let s = c.args.self.now.search in
+    let n = c.next.new.self in
+    once_over s.hierarchy.tree.number (told_pages c.args.desk.now) s.hierarchy n.hierarchy (state s.frontier.queue.items s.frontier.last s.frontier.counts c.args.desk.now)
+    (state n.frontier.queue.items n.frontier.last n.frontier.counts c.next.new.desk) (Ok (Some c.in-Ok-Some.hit)) _
+    c.next.ensures.hierarchy refl (rw c.in-Ok-Some.field-0-is at c.in-Ok-Some.ensures.visits)
+
+pub returns-in-Ok-None-clause-once : goal.returns-in-Ok-None-clause-once
+returns-in-Ok-None-clause-once g c =
+    let s = c.args.self.now.search in
+    let n = c.next.new.self in
+    once_over s.hierarchy.tree.number (told_pages c.args.desk.now) s.hierarchy n.hierarchy (state s.frontier.queue.items s.frontier.last s.frontier.counts c.args.desk.now)
+    (state n.frontier.queue.items n.frontier.last n.frontier.counts c.next.new.desk) (Ok None) _
+    c.next.ensures.hierarchy refl (rw c.in-Ok-None.field-0-is at c.in-Ok-None.ensures.visits)
+
+pub returns-in-Err-clause-once : goal.returns-in-Err-clause-once
+returns-in-Err-clause-once g c =
+    let s = c.args.self.now.search in
+    let n = c.next.new.self in
+    once_over s.hierarchy.tree.number (told_pages c.args.desk.now) s.hierarchy n.hierarchy (state s.frontier.queue.items s.frontier.last s.frontier.counts c.args.desk.now)
+    (state n.frontier.queue.items n.frontier.last n.frontier.counts c.next.new.desk) (Err c.in-Err.fault) _
+    c.next.ensures.hierarchy tt c.in-Err.ensures.visits
