@@ -1,5 +1,5 @@
 -- Lines of rows up to so many: what may stand behind them, and what they are caused by.
-use Rattle.std.proofs.Common.{◌≡◌, ℕ, zero, suc, ◌+◌, ◌<◌, ◌≤◌, Bool, true, false, List, [], ◌∷◌, ◌++◌, length, Option, Some, None, refl, sym, ◌∙◌, ap, subst, inl, inr, arith}
+use Rattle.std.proofs.Common.{◌≡◌, ℕ, zero, suc, ◌<◌, false, List, [], ◌∷◌, ◌++◌, refl, sym, ap, subst, inl, inr, arith}
 use Rattle.std.specs.Prelude.{All}
 use Rattle.std.specs.List.{list_any}
 use Rattle.std.proofs.lemmas.List.Elements.{All-nil, All-cons, All-head, All-tail}
@@ -11,8 +11,7 @@ use Rattle.sand_model.specs.OutputText.{is_refused}
 use Rattle.sand_model.specs.PlainLines.{AreLinesOfRows, IsPlainRow, IsPlainLine, IsRowLine}
 use Rattle.statement_exec.proofs.CausedLines.{HasItsCause, caused_plain, caused_refusal, caused_behind}
 use Rattle.statement_exec.specs.Causes.{AreCaused}
-use Rattle.statement_exec.specs.Deciding.{EndsRows, PrintsFewer, PrintsRowsUpTo}
-use Rattle.statement_exec.specs.Ending.{refused_line}
+use Rattle.statement_exec.specs.Deciding.{EndsRows, PrintsRowsUpTo}
 use Rattle.statement_exec.specs.Moment.{Moment}
 
 -- lines of rows are no refusals

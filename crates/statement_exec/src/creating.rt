@@ -1,6 +1,7 @@
+ghost use Rattle.std.specs.Prelude.{OnErr, OnOk};
 ghost use Rattle.sand_base.specs.InRange.{IsSchemaInRange};
 ghost use Rattle.statements.specs.Statement.{Create};
-ghost use Rattle.sand_store.specs.Calls.{Carries, HasCause};
+ghost use Rattle.sand_store.specs.Calls.{Carries, Created, HasCause, IsUnchanged};
 ghost use Rattle.statement_exec.specs.Performing.{Changes};
 
 use crate::Reply;
@@ -16,6 +17,8 @@ pub fn create<D: Disk>(
 ) -> Result<Reply, Refusal>
     requires { IsSchemaInRange columns }
     ensures performs { Changes (Create name.now columns) store.old store.new result }
+    ensures created { OnOk result (Created store.old store.new name.now columns) }
+    ensures unchanged { OnErr result (IsUnchanged store.old store.new) }
     ensures carries { Carries store.old store.new }
     ensures cause { HasCause store.old.pool store.new.pool result }
 {

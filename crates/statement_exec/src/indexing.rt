@@ -1,6 +1,6 @@
-ghost use Rattle.std.specs.Prelude.{◌≤◌, IfSome};
+ghost use Rattle.std.specs.Prelude.{◌≤◌, IfSome, OnErr, OnOk};
 ghost use Rattle.statements.specs.Statement.{Index, Rtree};
-ghost use Rattle.sand_store.specs.Calls.{Carries, HasCause};
+ghost use Rattle.sand_store.specs.Calls.{Carries, HasCause, Indexed, IsUnchanged, Treed};
 ghost use Rattle.statement_exec.specs.Performing.{Changes};
 
 use crate::Reply;
@@ -17,6 +17,8 @@ pub fn index<D: Disk>(
 ) -> Result<Reply, Refusal>
     requires { IfSome threshold (λ t. (1 ≤ t) × (t ≤ 64)) }
     ensures performs { Changes (Index (record { relation = relation.now; column = column.now }) threshold) store.old store.new result }
+    ensures indexed { OnOk result (Indexed store.old store.new (record { relation = relation.now; column = column.now }) threshold) }
+    ensures unchanged { OnErr result (IsUnchanged store.old store.new) }
     ensures carries { Carries store.old store.new }
     ensures cause { HasCause store.old.pool store.new.pool result }
 {
@@ -33,6 +35,8 @@ pub fn rtree<D: Disk>(
     column: &Label,
 ) -> Result<Reply, Refusal>
     ensures performs { Changes (Rtree (record { relation = relation.now; column = column.now })) store.old store.new result }
+    ensures treed { OnOk result (Treed store.old store.new (record { relation = relation.now; column = column.now })) }
+    ensures unchanged { OnErr result (IsUnchanged store.old store.new) }
     ensures carries { Carries store.old store.new }
     ensures cause { HasCause store.old.pool store.new.pool result }
 {

@@ -1,6 +1,7 @@
+ghost use Rattle.std.specs.Prelude.{ℕ, OnErr, OnOk};
 ghost use Rattle.sand_base.specs.InRange.{IsRowInRange};
 ghost use Rattle.statements.specs.Statement.{Insert};
-ghost use Rattle.sand_store.specs.Calls.{Carries, HasCause};
+ghost use Rattle.sand_store.specs.Calls.{Carries, HasCause, Inserted, IsUnchanged};
 ghost use Rattle.statement_exec.specs.Performing.{Changes};
 
 use crate::Reply;
@@ -12,6 +13,8 @@ use sand_store::Store;
 pub fn insert<D: Disk>(store: &mut Store<D>, name: &Label, values: Row) -> Result<Reply, Refusal>
     requires { IsRowInRange values }
     ensures performs { Changes (Insert name.now values) store.old store.new result }
+    ensures inserted { OnOk result ((id : ℕ) × Inserted store.old store.new name.now values id) }
+    ensures unchanged { OnErr result (IsUnchanged store.old store.new) }
     ensures carries { Carries store.old store.new }
     ensures cause { HasCause store.old.pool store.new.pool result }
 {

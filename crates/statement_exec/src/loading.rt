@@ -1,6 +1,6 @@
-ghost use Rattle.std.specs.Prelude.{◌≡◌, ℕ, All, IfOk, IfErr};
+ghost use Rattle.std.specs.Prelude.{◌≡◌, ℕ, All, IfOk, IfErr, OnErr, OnOk};
 ghost use Rattle.sand_base.specs.InRange.{IsRowInRange};
-ghost use Rattle.sand_store.specs.Calls.{Carries, HasCause};
+ghost use Rattle.sand_store.specs.Calls.{Carries, HasCause, IsUnchanged, Loaded};
 ghost use Rattle.sand_store.specs.Catalog.{IsCatalog};
 ghost use Rattle.statement_exec.specs.Entering.{EntersRows};
 ghost use Rattle.statement_exec.specs.Loading.{InSettings, IsOfNoPage, IsRefusedEarly, LoadOf, Yields, shelf_after};
@@ -46,6 +46,8 @@ pub fn enter_rows<D: Disk>(
 ) -> Result<Reply, Refusal>
     requires { All IsRowInRange rows.items }
     ensures performs { (load : LoadOf) → load.relation ≡ name.now → EntersRows load store.old store.new rows.items result }
+    ensures loaded { OnOk result ((count : ℕ) × Loaded store.old store.new name.now rows.items count) }
+    ensures unchanged { OnErr result (IsUnchanged store.old store.new) }
     ensures carries { Carries store.old store.new }
     ensures cause { HasCause store.old.pool store.new.pool result }
     ensures of_no_file { (n : ℕ) → shelf_after n result ≡ n }

@@ -14,3 +14,6 @@ returns-in-Err-clause-performs g c =
     refused_call c.args.store.now c.create.new.self (Create c.args.name.now c.args.columns) is_none c.in-Err.why refl refl (λ cs setting. (refl, refl))
     (never_create c.args.store.now c.args.name.now c.args.columns) (late_create c.args.name.now c.args.columns)
     c.in-Err.ensures.unchanged (subst (λ (n : List ℕ). IsRefusedBy is_none c.args.store.now (Create n c.args.columns) c.in-Err.why) c.as_str.ensures c.in-Err.ensures.refused) c.in-Err.ensures.cause
+
+pub returns-in-Ok-clause-created : goal.returns-in-Ok-clause-created
+returns-in-Ok-clause-created g c = rw c.as_str.ensures at c.in-Ok.ensures.created

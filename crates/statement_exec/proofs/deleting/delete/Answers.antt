@@ -14,3 +14,6 @@ returns-in-Err-clause-performs g c =
     refused_call c.args.store.now c.delete.new.self (Delete c.args.name.now c.args.id) is_missing c.in-Err.why refl refl (λ cs setting. (refl, refl))
     (never_delete c.args.store.now c.args.name.now c.args.id) (late_delete c.args.name.now c.args.id)
     c.in-Err.ensures.unchanged (subst (λ (n : List ℕ). IsRefusedBy is_missing c.args.store.now (Delete n c.args.id) c.in-Err.why) c.as_str.ensures c.in-Err.ensures.refused) c.in-Err.ensures.cause
+
+pub returns-in-Ok-clause-deleted : goal.returns-in-Ok-clause-deleted
+returns-in-Ok-clause-deleted g c = rw c.as_str.ensures at c.in-Ok.ensures.deleted

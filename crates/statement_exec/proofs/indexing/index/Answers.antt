@@ -21,3 +21,6 @@ returns-in-Err-clause-performs g c =
     IsRefusedBy is_full c.args.store.now (Index (record { relation = c.args.relation.now; column = n }) c.args.threshold) c.in-Err.why) c.as_str-2.ensures
     (subst (λ (n : List ℕ). IsRefusedBy is_full c.args.store.now
     (Index (record { relation = n; column = c.as_str-2.result.now }) c.args.threshold) c.in-Err.why) c.as_str.ensures c.in-Err.ensures.refused)) c.in-Err.ensures.cause
+
+pub returns-in-Ok-clause-indexed : goal.returns-in-Ok-clause-indexed
+returns-in-Ok-clause-indexed g c = rw (c.as_str.ensures, c.as_str-2.ensures) at c.in-Ok.ensures.indexed

@@ -19,3 +19,6 @@ returns-in-Err-clause-performs g c =
     c.in-Err.ensures.unchanged (subst (λ (n : List ℕ). IsRefusedBy is_none c.args.store.now (Rtree (record { relation = c.args.relation.now; column = n })) c.in-Err.why) c.as_str-2.ensures
     (subst (λ (n : List ℕ). IsRefusedBy is_none c.args.store.now
     (Rtree (record { relation = n; column = c.as_str-2.result.now })) c.in-Err.why) c.as_str.ensures c.in-Err.ensures.refused)) c.in-Err.ensures.cause
+
+pub returns-in-Ok-clause-treed : goal.returns-in-Ok-clause-treed
+returns-in-Ok-clause-treed g c = rw (c.as_str.ensures, c.as_str-2.ensures) at c.in-Ok.ensures.treed

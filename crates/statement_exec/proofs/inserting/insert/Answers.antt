@@ -15,3 +15,6 @@ returns-in-Err-clause-performs g c =
     refused_call c.args.store.now c.insert.new.self (Insert c.args.name.now c.args.values) is_full c.in-Err.why refl refl (λ cs setting. (refl, refl))
     (never_insert c.args.store.now c.args.name.now c.args.values) (late_insert c.args.name.now c.args.values)
     c.in-Err.ensures.unchanged (subst (λ (n : List ℕ). IsRefusedBy is_full c.args.store.now (Insert n c.args.values) c.in-Err.why) c.as_str.ensures c.in-Err.ensures.refused) c.in-Err.ensures.cause
+
+pub returns-in-Ok-clause-inserted : goal.returns-in-Ok-clause-inserted
+returns-in-Ok-clause-inserted g c = (c.in-Ok.id, rw c.as_str.ensures at c.in-Ok.ensures.inserted)

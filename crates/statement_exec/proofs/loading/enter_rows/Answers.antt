@@ -19,3 +19,7 @@ returns-in-Err-clause-performs g c = λ load named files shelf cs given.
 pub returns-in-Err-clause-of_no_file : goal.returns-in-Err-clause-of_no_file
 returns-in-Err-clause-of_no_file g c = λ n.
     sym (shelf_stays n c.in-Err.why (not_of_file c.args.store.now c.as_str.result.now c.args.rows.items c.in-Err.why c.in-Err.ensures.refused))
+
+pub returns-in-Ok-clause-loaded : goal.returns-in-Ok-clause-loaded
+returns-in-Ok-clause-loaded g c =
+    (c.in-Ok.count, subst (λ (n : List ℕ). Loaded c.args.store.now c.load_rows.new.self n c.args.rows.items c.in-Ok.count) c.as_str.ensures c.in-Ok.ensures.loaded)
