@@ -10,3 +10,11 @@ pub mod LineSteps
 pub mod Lent
 -- what a line does to a journal
 pub mod Kept
+-- the records that a call appends
+pub mod Appended
+-- where a change leads a store
+pub mod Led
+-- what is to be kept of a statement
+pub mod ToKeep
+-- what a line keeps
+pub mod LineKept

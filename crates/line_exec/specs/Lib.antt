@@ -2,3 +2,5 @@
 pub mod LineCarried
 -- What it does to a journal.
 pub mod Keeping
+-- The changes that are kept.
+pub mod KeptChanges

@@ -1,7 +1,9 @@
 // Statements that change relations.
-ghost use Rattle.std.specs.Prelude.{◌≡◌, ◌∷◌, [], IfErr, IfOk, List, OnErr, OnOk};
+ghost use Rattle.std.specs.Prelude.{◌≡◌, ◌∷◌, [], true, IfErr, IfOk, List, OnErr, OnOk};
+ghost use Rattle.journal_replay.specs.KeptBody.{IsKeptOf};
 ghost use Rattle.line_meaning.specs.Carrying.{Follows};
 ghost use Rattle.open_cursors.specs.Carried.{IsChange};
+ghost use Rattle.sand_journal.specs.ChangeBody.{line_value};
 ghost use Rattle.sand_model.specs.Cursor.{Cursor};
 ghost use Rattle.sand_store.specs.Calls.{Carries};
 ghost use Rattle.script_text.specs.InRange.{IsInRange};
@@ -9,6 +11,7 @@ ghost use Rattle.statements.specs.Statement.{statement_value};
 ghost use Rattle.statement_exec.specs.Moment.{moment_of, while_open};
 ghost use Rattle.statement_exec.specs.Performing.{Performs, line_of_answer};
 ghost use Rattle.line_exec.specs.Keeping.{IsCountedAlike};
+ghost use Rattle.line_exec.specs.KeptChanges.{IsToKeep};
 
 use crate::changed::Changed;
 use crate::loads::load;
@@ -30,6 +33,7 @@ fn record_for(
     keeps: bool,
 ) -> Result<Option<Record>, NoMemory>
     requires { IsInRange (statement_value statement.now) }
+    ensures { IfOk result (λ made. keeps ≡ true → IsKeptOf catalog.now (line_value statement.now) made) }
 {
     if keeps {
         return record_of(alloc, catalog, statement);
@@ -47,7 +51,9 @@ fn change_behind<D: Disk, H: Shelf>(
     keeps: bool,
 ) -> Result<Changed, Statement>
     requires in_range { IsInRange (statement_value statement) }
+    requires kept { keeps ≡ true → IsKeptOf store.old.catalog (line_value statement) kept }
     ensures answers { IfOk result (λ made. (cs : List Cursor) → Performs (statement_value statement) (while_open store.old (H.files shelf.old) (H.faults shelf.old) cs) (while_open store.new (H.files shelf.new) (H.faults shelf.new) cs) (line_of_answer made.answer ∷ [])) }
+    ensures kept { IfOk result (λ made. IsToKeep keeps made.answer made.kept store.old store.new) }
     ensures returned { IfErr result (λ other. (statement_value other ≡ statement_value statement) × (IsChange (statement_value statement) → ⊥)) }
     ensures unchanged { OnErr result (store.new ≡ store.old) }
     ensures carries { Carries store.old store.new }
@@ -97,6 +103,7 @@ pub(crate) fn change<D: Disk, H: Shelf>(
 ) -> Result<Changed, Statement>
     requires in_range { IsInRange (statement_value statement) }
     ensures answers { IfOk result (λ made. (cs : List Cursor) → Performs (statement_value statement) (while_open store.old (H.files shelf.old) (H.faults shelf.old) cs) (while_open store.new (H.files shelf.new) (H.faults shelf.new) cs) (line_of_answer made.answer ∷ [])) }
+    ensures kept { IfOk result (λ made. IsToKeep keeps made.answer made.kept store.old store.new) }
     ensures returned { IfErr result (λ other. (statement_value other ≡ statement_value statement) × (IsChange (statement_value statement) → ⊥)) }
     ensures unchanged { OnErr result (store.new ≡ store.old) }
     ensures carries { Carries store.old store.new }

@@ -6,6 +6,7 @@ ghost use Rattle.sand_base.specs.Streams.{Stays};
 ghost use Rattle.sand_journal.specs.Journal.{IsReady};
 ghost use Rattle.sand_model.specs.OutputText.{IsText};
 ghost use Rattle.statement_exec.specs.Performing.{line_of_answer};
+ghost use Rattle.line_exec.specs.KeptChanges.{Appends, AppendsIfAny, UnlessJournal, bodies_kept};
 ghost use Rattle.line_exec.specs.Keeping.{HasLineCause, KeepsOn, TakesUpTo, last_end, most_kept, sink_result, tape_count};
 ghost use Rattle.line_exec.specs.declared.fault.LineFault.TheVariants as fault;
 
@@ -21,6 +22,7 @@ fn append<T: Tape>(journal: &mut Journal<T>, one: &Record) -> Result<(), Failed>
     requires room { journal.old.end ≤ last_end }
     ensures ready { OnOk result (IsReady T.seen journal.new) }
     ensures end { OnOk result (journal.new.end ≤ journal.old.end + most_kept) }
+    ensures appends { Appends T.seen journal.old journal.new (one.now ∷ []) (OnOk result) }
     ensures cause { HasCause (T.seen journal.old.tape).faults (T.seen journal.new.tape).faults result }
 {
     // For the proof alone: a record is short.
@@ -36,6 +38,7 @@ fn keep<T: Tape>(journal: &mut Option<Journal<T>>, changed: &Changed) -> Result<
     requires { TakesUpTo T.seen last_end journal.old }
     ensures there { is_some journal.new ≡ is_some journal.old }
     ensures takes { (bound : ℕ) → TakesUpTo T.seen bound journal.old → OnOk result (TakesUpTo T.seen (bound + most_kept) journal.new) }
+    ensures appends { AppendsIfAny T.seen journal.old journal.new (bodies_kept changed.now.answer changed.now.kept) (OnOk result) }
     ensures accepted { OnErr result (IsOk changed.now.answer) }
     ensures cause { HasCause (tape_count T.seen journal.old) (tape_count T.seen journal.new) result }
 {
@@ -70,6 +73,7 @@ pub(crate) fn finish_kept<T: Tape, K: Sink>(
 ) -> Result<bool, LineFault>
     requires { TakesUpTo T.seen last_end journal.old }
     ensures keeps { KeepsOn T.seen journal.old journal.new result }
+    ensures appends { AppendsIfAny T.seen journal.old journal.new (bodies_kept changed.now.answer changed.now.kept) (UnlessJournal result) }
     ensures written { IfOk result (λ refused. (refused ≡ is_err changed.now.answer) × Writes (IsText (line_of_answer changed.now.answer ∷ [])) (K.took out.old) (K.took out.new)) }
     ensures prefix { OnErr result (WritesPrefix (IsText (line_of_answer changed.now.answer ∷ [])) (K.took out.old) (K.took out.new)) }
     ensures untold { IfErr result (λ why. why ≡ fault.Journal → IsOk changed.now.answer × Stays (K.took out.old) (K.took out.new)) }

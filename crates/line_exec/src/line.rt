@@ -1,12 +1,14 @@
-ghost use Rattle.std.specs.Prelude.{◌≤◌, List, Some, IfErr, length};
+ghost use Rattle.std.specs.Prelude.{◌≤◌, [], List, Some, IfErr, length};
 ghost use Rattle.line_meaning.specs.Carrying.{Follows};
 ghost use Rattle.open_cursors.specs.Carried.{AreCounted};
 ghost use Rattle.open_cursors.specs.OpenCursors.{AreHeld, HaveOwnNames};
 ghost use Rattle.open_cursors.specs.OverPages.{AreStanding, StandOver};
 ghost use Rattle.sand_model.specs.Cursor.{Cursor};
+ghost use Rattle.sand_store.specs.Contents.{database};
 ghost use Rattle.script_text.specs.declared.TheConstants.{LONGEST_LINE};
-ghost use Rattle.statement_exec.specs.Moment.{moment_of, while_open};
+ghost use Rattle.statement_exec.specs.Moment.{moment_of, state_with, while_open};
 ghost use Rattle.line_exec.specs.Keeping.{HasLineCause, IsUntold, KeepsOn, TakesUpTo, last_end, sink_result, tape_count};
+ghost use Rattle.line_exec.specs.KeptChanges.{KeepsIfAny};
 ghost use Rattle.line_exec.specs.LineCarried.{LineCarried};
 
 use crate::LineFault;
@@ -44,6 +46,7 @@ pub fn carry_line<D: Disk, H: Shelf, K: Sink, T: Tape>(
     ensures held { AreHeld result.0.pool.stamps cursors.new.items }
     ensures follows { Follows (moment_of store (H.files shelf.old) (H.faults shelf.old)) (moment_of result.0 (H.files shelf.new) (H.faults shelf.new)) }
     ensures keeps { KeepsOn T.seen journal.old journal.new result.1 }
+    ensures kept { KeepsIfAny T.seen journal.old journal.new (moment_of store (H.files shelf.old) (H.faults shelf.old)) (state_with [] (database result.0)) result.1 }
     ensures untold { IfErr result.1 (IsUntold (K.took out.old) (K.took out.new) (moment_of store (H.files shelf.old) (H.faults shelf.old)) (moment_of result.0 (H.files shelf.new) (H.faults shelf.new))) }
     ensures cause { HasLineCause (K.faults out.old) (K.faults out.new) (tape_count T.seen journal.old) (tape_count T.seen journal.new) result.1 }
 {

@@ -1,5 +1,6 @@
 // A load: its rows are read, then their record is made, and then they enter their relation.
-ghost use Rattle.std.specs.Prelude.{◌≡◌, ◌∷◌, [], ℕ, List, All, OnOk, Option};
+ghost use Rattle.std.specs.Prelude.{◌≡◌, ◌∷◌, [], ℕ, true, List, All, IfOk, OnOk, Option};
+ghost use Rattle.journal_replay.specs.KeptBody.{IsKeptOfRows};
 ghost use Rattle.line_meaning.specs.Carrying.{Follows};
 ghost use Rattle.sand_base.specs.InRange.{IsRowInRange};
 ghost use Rattle.sand_base.specs.Shelf.{Files};
@@ -11,6 +12,7 @@ ghost use Rattle.statement_exec.specs.Loading.{InSettings, LoadOf, Yields};
 ghost use Rattle.statement_exec.specs.Moment.{moment_of, while_open};
 ghost use Rattle.statement_exec.specs.Performing.{Performs, line_of_answer};
 ghost use Rattle.line_exec.specs.Keeping.{IsCountedAlike};
+ghost use Rattle.line_exec.specs.KeptChanges.{IsToKeep};
 
 use crate::changed::Changed;
 use journal_replay::record_of_rows;
@@ -31,6 +33,7 @@ fn record_for_rows(
 ) -> Result<Option<Record>, NoMemory>
     requires named { IsName name.now }
     requires in_range { All IsRowInRange rows.now }
+    ensures { IfOk result (λ made. keeps ≡ true → IsKeptOfRows catalog.now name.now rows.now made) }
 {
     if keeps {
         return record_of_rows(alloc, catalog, name, rows);
@@ -51,6 +54,7 @@ fn enter<D: Disk>(
     ensures performs { (load : LoadOf) → load.relation ≡ name.now → (files : Option Files) (shelf : ℕ) (cs : List Cursor) → InSettings store.old.catalog files (λ setting state. Yields setting state load rows.items)
         → Performs (Load load.relation load.file load.header) (while_open store.old files shelf cs) (while_open store.new files shelf cs) (line_of_answer result.answer ∷ []) }
     ensures carries { Carries store.old store.new }
+    ensures kept { IsToKeep keeps result.answer result.kept store.old store.new }
     ensures counts { (shelf : ℕ) → OnOk result.answer (IsCountedAlike store.old.pool store.new.pool shelf shelf) }
     ensures follows { (files : Option Files) (shelf : ℕ) → Follows (moment_of store.old files shelf) (moment_of store.new files shelf) }
 {
@@ -76,6 +80,7 @@ pub(crate) fn load<D: Disk, H: Shelf>(
     requires { IsName name.now }
     ensures performs { (cs : List Cursor) → Performs (Load name.now file.now header) (while_open store.old (H.files shelf.old) (H.faults shelf.old) cs) (while_open store.new (H.files shelf.new) (H.faults shelf.new) cs) (line_of_answer result.answer ∷ []) }
     ensures carries { Carries store.old store.new }
+    ensures kept { IsToKeep keeps result.answer result.kept store.old store.new }
     ensures files { H.files shelf.new ≡ H.files shelf.old }
     ensures counts { OnOk result.answer (IsCountedAlike store.old.pool store.new.pool (H.faults shelf.old) (H.faults shelf.new)) }
     ensures follows { Follows (moment_of store.old (H.files shelf.old) (H.faults shelf.old)) (moment_of store.new (H.files shelf.new) (H.faults shelf.new)) }

@@ -1,11 +1,11 @@
-mod Frames
+pub mod Frames
 mod Crash
 pub mod Moments
 mod Appends
 mod Nexts
 mod Tapes
-mod Bodies
-mod OneList
+pub mod Bodies
+pub mod OneList
 mod PrintedLengths
 mod RowFrames
 mod Answered

@@ -7,6 +7,8 @@ use Rattle.line_exec.proofs.Kept.{cause_of_sink, keeps_same, untold_sink}
 use Rattle.line_exec.specs.LineCarried.{LineCarried}
 use Rattle.line_exec.proofs.LineSteps.{line_of_nothing, line_of_refusal}
 use Rattle.statement_exec.specs.Moment.{moment_of, while_open}
+use Rattle.line_exec.proofs.Led.{unchanged_itself}
+use Rattle.line_exec.proofs.LineKept.{keeps_none}
 use Rattle.line_exec.proofs.line.carry_line.Goals as goal
 
 -- what its statement does
@@ -47,3 +49,13 @@ pub returns-in-Err-clause-cause : goal.returns-in-Err-clause-cause
 returns-in-Err-clause-cause g c =
     cause_of_sink (g.K.Sink.faults c.args.out.now) (g.K.Sink.faults c.refuse.new.out) _ _ c.of_sink.result c.of_sink.ensures.sink
     (subst (λ (r : Result Bool Failed). HasCause (g.K.Sink.faults c.args.out.now) (g.K.Sink.faults c.refuse.new.out) r) c.of_sink.ensures.written c.refuse.ensures.cause) refl
+
+pub returns-in-Ok-None-clause-kept : goal.returns-in-Ok-None-clause-kept
+returns-in-Ok-None-clause-kept g c =
+    keeps_none g.T.Tape.seen c.args.store c.args.store (g.H.Shelf.files c.args.shelf.now) (g.H.Shelf.faults c.args.shelf.now) (g.met.T.Tape.now_is_all) c.args.journal.now _
+    (unchanged_itself c.args.store)
+
+pub returns-in-Err-clause-kept : goal.returns-in-Err-clause-kept
+returns-in-Err-clause-kept g c =
+    keeps_none g.T.Tape.seen c.args.store c.args.store (g.H.Shelf.files c.args.shelf.now) (g.H.Shelf.faults c.args.shelf.now) (g.met.T.Tape.now_is_all) c.args.journal.now c.of_sink.result
+    (unchanged_itself c.args.store)

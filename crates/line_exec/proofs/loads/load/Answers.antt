@@ -6,6 +6,7 @@ use Rattle.statement_exec.specs.Loading.{LoadOf, InSettings, Yields, IsRefusedEa
 use Rattle.statement_exec.specs.Performing.{line_of_answer}
 use Rattle.statement_exec.proofs.LoadCalls.{refused_early}
 use Rattle.line_exec.proofs.ShelfChanges.{follows_over, over_shelf}
+use Rattle.line_exec.proofs.Led.{unchanged_itself}
 use Rattle.line_exec.proofs.loads.load.Goals as goal
 
 pub returns-in-Ok-clause-performs : goal.returns-in-Ok-clause-performs
@@ -32,3 +33,7 @@ returns-in-Ok-clause-follows g c =
     follows_over c.args.store.now c.enter.new.store (g.H.Shelf.files c.args.shelf.now) (g.H.Shelf.files c.rows_to_load.new.shelf) (g.H.Shelf.faults c.args.shelf.now)
     (g.H.Shelf.faults c.rows_to_load.new.shelf)
     c.rows_to_load.ensures.files c.in-Ok.ensures.cause (c.enter.ensures.follows (g.H.Shelf.files c.args.shelf.now) (g.H.Shelf.faults c.args.shelf.now))
+
+-- before any page nothing was done
+pub returns-in-Err-clause-kept : goal.returns-in-Err-clause-kept
+returns-in-Err-clause-kept g c = rw c.refused.ensures (unchanged_itself c.args.store.now)

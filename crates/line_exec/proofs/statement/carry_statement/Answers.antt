@@ -15,6 +15,8 @@ use Rattle.line_exec.specs.Keeping.{sink_result}
 use Rattle.line_exec.specs.LineCarried.{LineCarried}
 use Rattle.line_exec.proofs.LineSteps.{line_of_change, line_of_reading}
 use Rattle.line_exec.proofs.Moments.{follows_read, same_moment}
+use Rattle.line_exec.proofs.Led.{unchanged_read}
+use Rattle.line_exec.proofs.LineKept.{keeps_change, keeps_none, refused_by}
 use Rattle.line_exec.proofs.statement.carry_statement.Goals as goal
 
 -- a change: the open cursors stand where they stood, over the maps that their stamps hold
@@ -83,3 +85,16 @@ pub returns-in-Err-clause-cause : goal.returns-in-Err-clause-cause
 returns-in-Err-clause-cause g c =
     cause_of_sink (g.K.Sink.faults c.args.out.now) (g.K.Sink.faults c.read_statement-read.new.out) _ _ c.of_sink.result c.of_sink.ensures.sink
     (subst (λ (r : Result Bool Failed). HasCause (g.K.Sink.faults c.args.out.now) (g.K.Sink.faults c.read_statement-read.new.out) r) c.of_sink.ensures.written c.read_statement-read.ensures.sink) refl
+
+-- what is kept of the change, and that nothing is of what only reads
+
+pub returns-in-Ok-clause-kept : goal.returns-in-Ok-clause-kept
+returns-in-Ok-clause-kept g c =
+    keeps_change g.T.Tape.seen c.args.store c.change.new.store (g.H.Shelf.files c.args.shelf.now) (g.H.Shelf.faults c.args.shelf.now) c.args.journal.now c.finish_kept.new.journal
+    c.in-Ok.made.answer c.in-Ok.made.kept c.finish_kept.result (rw c.is_some-keeps.ensures at c.in-Ok.ensures.kept) c.finish_kept.ensures.appends
+    (refused_by _ c.in-Ok.made.answer c.finish_kept.result c.finish_kept.ensures.written)
+
+pub returns-in-Err-clause-kept : goal.returns-in-Err-clause-kept
+returns-in-Err-clause-kept g c =
+    keeps_none g.T.Tape.seen c.args.store c.read_statement-read.result.0 (g.H.Shelf.files c.args.shelf.now) (g.H.Shelf.faults c.args.shelf.now) (g.met.T.Tape.now_is_all) c.args.journal.now c.of_sink.result
+    (unchanged_read c.args.store c.change.new.store c.read_statement-read.result.0 c.in-Err.ensures.unchanged c.read_statement-read.ensures.catalog c.read_statement-read.ensures.pages)
