@@ -130,7 +130,7 @@ ends_grow first script text before took why reader reader' between left now b re
     let o = over why first now script between left (text ++ grown.0) reader reader' b draws grown.2 in
     let ends : EndsText result first now script left took took (text ++ grown.0) =
     subst (λ s. EndsText s first now script left took took (text ++ grown.0)) (sym is) (ends_by why first now script left took (text ++ grown.0) b o) in
-    (now.state, ends_grown result first now script left before took took text grown.0 grown.1 ends, grown.2.follows)
+    (ends_grown result first now script left before took took text grown.0 grown.1 ends, grown.2.follows)
 
 -- the lines are over
 pub Ends-over : (old : RunState) (before took : List ℕ → Type 0) (why : Status) (reader reader' : ScriptLines) (between left : Option (List ℕ)) (now : Moment) (b : Bool) (result : Status)
@@ -151,13 +151,13 @@ Ends-broken at new before now own follows first script text hand =
       first_of = hand.gives.first;
       printed = (at.refused || own.holds.0, so_far.printed);
     } in
-    (new.state, (own.text, own.prefix, (hand.bytes, hand.consumed, (hand.gives.most, breaks))), so_far.follows)
+    ((own.text, own.prefix, (hand.bytes, hand.consumed, (hand.gives.most, breaks))), so_far.follows)
 
 -- an end behind a text that grew
 pub ends_past : (first : Moment) (script : Option (List ℕ)) (text : List ℕ) (a b c : List ℕ → Type 0) (why : Status) (last : Moment) (left : Option (List ℕ)) (more : List ℕ) → Adds a b more
     → EndsAt why last left b c first script (text ++ more) → EndsAt why last left a c first script text
 ends_past first script text a b c why last left more adds end =
-    (end.0, ends_grown why first (record last { state = end.0 }) script left a b c text more adds end.1, end.2)
+    (ends_grown why first last script left a b c text more adds end.0, end.1)
 
 -- the run paused, and then ended
 pub Ends-paused : (old mid : RunState) (a b c : List ℕ → Type 0) (why : Status) (last : Moment) (left : Option (List ℕ)) → Leads IsBetweenLines HasLineInHand old mid a b
@@ -242,4 +242,4 @@ pub Begun-script : (why : Status) (reader : ScriptLines) (first last : Moment) (
     → FromBetweenLines (run_state reader script first false) (EndsAt why last left before now) → HasBegun why
 Begun-script why reader first last script left before now none from =
     let end = from first script [] (begun_between reader first script none) in
-    begun_of why first (record last { state = end.0 }) script left before now [] end.1
+    begun_of why first last script left before now [] end.0

@@ -12,36 +12,37 @@ use Rattle.sand_base.specs.Shelf.{Files}
 use Rattle.sand_base.specs.declared.limits.Limits.{Limits}
 use Rattle.sand_journal.specs.ChangeBody.{ChangeValue}
 use Rattle.sand_journal.specs.Tape.{TapeView}
+use Rattle.sand_model.specs.Cursor.{State}
 use Rattle.session.specs.Outside.{Outside, outside_of}
 use Rattle.session.specs.Ends.{HasBegun, IsNotStarted}
 use Rattle.session.specs.KeptRun.{EndsBehind, EndsKept, IsUnbegun, status_of_replay}
 use Rattle.session.specs.declared.status.Status.{Status}
 use Rattle.session.specs.declared.status.Status.TheVariants as status
-use Rattle.session.proofs.ScriptEndings.{From-counted}
+use Rattle.session.proofs.ScriptEndings.{To-counted}
 use Rattle.session.proofs.KeptTapes.{IfBad}
 
 -- ---- by the status
 
 -- a run that began to read ends behind its changes
-pub Kept-begun : (why : Status) (limits : Limits) (old new : Outside) (Starts : List ChangeValue → Type 0) (Bad : Type 0) → HasBegun why
-    → EndsBehind why limits old new Starts → EndsKept why limits old new Starts Bad
-Kept-begun status.Done limits old new Starts Bad begun ends = ends
-Kept-begun status.SomeRefused limits old new Starts Bad begun ends = ends
-Kept-begun status.ReadFault limits old new Starts Bad begun ends = ends
-Kept-begun status.WriteFault limits old new Starts Bad begun ends = ends
-Kept-begun status.ScriptTooLong limits old new Starts Bad begun ends = ends
-Kept-begun status.Usage limits old new Starts Bad begun ends = absurd begun
-Kept-begun status.NoMemory limits old new Starts Bad begun ends = absurd begun
-Kept-begun status.DiskNotStarted limits old new Starts Bad begun ends = absurd begun
-Kept-begun status.JournalFault limits old new Starts Bad begun ends = inr ends
-Kept-begun status.JournalBad limits old new Starts Bad begun ends = absurd begun
-Kept-begun status.ReplayFault limits old new Starts Bad begun ends = absurd begun
-Kept-begun status.ReplayDamaged limits old new Starts Bad begun ends = absurd begun
+pub Kept-begun : (why : Status) (limits : Limits) (old new : Outside) (Starts : List ChangeValue → Type 0) (Keeps : List ChangeValue → State → Type 0) (Bad : Type 0) → HasBegun why
+    → EndsBehind why limits old new Starts Keeps → EndsKept why limits old new Starts Keeps Bad
+Kept-begun status.Done limits old new Starts Keeps Bad begun ends = ends
+Kept-begun status.SomeRefused limits old new Starts Keeps Bad begun ends = ends
+Kept-begun status.ReadFault limits old new Starts Keeps Bad begun ends = ends
+Kept-begun status.WriteFault limits old new Starts Keeps Bad begun ends = ends
+Kept-begun status.ScriptTooLong limits old new Starts Keeps Bad begun ends = ends
+Kept-begun status.Usage limits old new Starts Keeps Bad begun ends = absurd begun
+Kept-begun status.NoMemory limits old new Starts Keeps Bad begun ends = absurd begun
+Kept-begun status.DiskNotStarted limits old new Starts Keeps Bad begun ends = absurd begun
+Kept-begun status.JournalFault limits old new Starts Keeps Bad begun ends = inr ends
+Kept-begun status.JournalBad limits old new Starts Keeps Bad begun ends = absurd begun
+Kept-begun status.ReplayFault limits old new Starts Keeps Bad begun ends = absurd begun
+Kept-begun status.ReplayDamaged limits old new Starts Keeps Bad begun ends = absurd begun
 
 -- ---- before the first line
 
 module _ (limits : Limits) (left : Option (List ℕ)) (reads : ℕ) (files : Option Files) (opens : ℕ) (before disk : DiskView) (took : List ℕ → Type 0) (writes : ℕ)
-    (Starts : List ChangeValue → Type 0) (Bad : Type 0) where
+    (Starts : List ChangeValue → Type 0) (Keeps : List ChangeValue → State → Type 0) (Bad : Type 0) where
   -- what is outside before the run, and behind it
   abbrev kept_before : Outside
   kept_before = outside_of left reads files opens before took writes
@@ -54,7 +55,7 @@ module _ (limits : Limits) (left : Option (List ℕ)) (reads : ℕ) (files : Opt
   Unbegun same = (record { source = refl; files = refl; shelf = refl; sink = λ text h. h }, same)
 
   -- the store wasn't started
-  pub Kept-unstarted : (why : Status) → IsNotStarted why before.faults disk.faults → EndsKept why limits kept_before kept_behind Starts Bad
+  pub Kept-unstarted : (why : Status) → IsNotStarted why before.faults disk.faults → EndsKept why limits kept_before kept_behind Starts Keeps Bad
   Kept-unstarted status.NoMemory not = Unbegun not
   Kept-unstarted status.DiskNotStarted not = (record { source = refl; files = refl; shelf = refl; sink = λ text h. h }, not)
   Kept-unstarted status.Done not = absurd not
@@ -71,7 +72,7 @@ module _ (limits : Limits) (left : Option (List ℕ)) (reads : ℕ) (files : Opt
   -- the replay stopped
   pub Kept-stopped : (why : ReplayFault) (tape tape' : TapeView) (old new : PoolState) → old.disk.faults ≡ before.faults → disk ≡ new.disk
       → HasReplayCause {T = ⊤} tape tape' old new (Err why) → IfBad why Bad
-      → EndsKept (status_of_replay why) limits kept_before kept_behind Starts Bad
+      → EndsKept (status_of_replay why) limits kept_before kept_behind Starts Keeps Bad
   Kept-stopped replayed.Memory tape tape' old new began same cause bad = Unbegun (ap (λ (d : DiskView). d.faults) same ∙ cause.1 ∙ began)
   Kept-stopped replayed.Tape tape tape' old new began same cause bad = inl (Unbegun (ap (λ (d : DiskView). d.faults) same ∙ cause.1 ∙ began))
   Kept-stopped replayed.Bad tape tape' old new began same cause bad = (Unbegun (ap (λ (d : DiskView). d.faults) same ∙ cause.1 ∙ began), bad)
@@ -82,13 +83,22 @@ module _ (limits : Limits) (left : Option (List ℕ)) (reads : ℕ) (files : Opt
       (Unbegun (ap (λ (d : DiskView). d.faults) same ∙ cause.1 ∙ began), λ told. true≢false (sym told ∙ ap (λ (d : DiskView). d.told) same ∙ damage.untold))
 
 -- what holds of the changes holds where less is asked of them
-pub Kept-weaker : (why : Status) (limits : Limits) (old new : Outside) (P Q : List ChangeValue → Type 0) (B C : Type 0) → ((changes : List ChangeValue) → P changes → Q changes) → (B → C)
-    → EndsKept why limits old new P B → EndsKept why limits old new Q C
-Kept-weaker why limits old new P Q B C weaker bad = by why where
-  behind : (s : Status) → EndsBehind s limits old new P → EndsBehind s limits old new Q
-  behind s e = record { changes = e.changes; starts = weaker e.changes e.starts; state = e.state; world = e.world; ends = e.ends }
+pub Kept-weaker : (why : Status) (limits : Limits) (old new : Outside) (P Q : List ChangeValue → Type 0) (K L : List ChangeValue → State → Type 0) (B C : Type 0)
+    → ((changes : List ChangeValue) → P changes → Q changes) → ((changes : List ChangeValue) (last : State) → K changes last → L changes last) → (B → C)
+    → EndsKept why limits old new P K B → EndsKept why limits old new Q L C
+Kept-weaker why limits old new P Q K L B C weaker keeps bad = by why where
+  behind : (s : Status) → EndsBehind s limits old new P K → EndsBehind s limits old new Q L
+  behind s e = record {
+    changes = e.changes;
+    starts = weaker e.changes e.starts;
+    state = e.state;
+    world = e.world;
+    last = e.last;
+    ends = e.ends;
+    keeps = keeps e.changes e.last e.keeps;
+  }
 
-  by : (s : Status) → EndsKept s limits old new P B → EndsKept s limits old new Q C
+  by : (s : Status) → EndsKept s limits old new P K B → EndsKept s limits old new Q L C
   by status.Done e = behind status.Done e
   by status.SomeRefused e = behind status.SomeRefused e
   by status.ReadFault e = behind status.ReadFault e
@@ -105,19 +115,21 @@ Kept-weaker why limits old new P Q B C weaker bad = by why where
 
 -- a run behind changes is one whose disk was started with this count
 module _ (limits : Limits) (left : Option (List ℕ)) (reads : ℕ) (files : Option Files) (opens : ℕ) (before disk : DiskView) (took : List ℕ → Type 0) (writes : ℕ)
-    (new : Outside) (Starts : List ChangeValue → Type 0) (Bad : Type 0) (counted : disk.faults ≡ before.faults) where
-  behind_counted : (why : Status) → EndsBehind why limits (outside_of left reads files opens disk took writes) new Starts
-      → EndsBehind why limits (outside_of left reads files opens before took writes) new Starts
+    (new : Outside) (Starts : List ChangeValue → Type 0) (Keeps : List ChangeValue → State → Type 0) (Bad : Type 0) (counted : disk.faults ≡ before.faults) where
+  behind_counted : (why : Status) → EndsBehind why limits (outside_of left reads files opens disk took writes) new Starts Keeps
+      → EndsBehind why limits (outside_of left reads files opens before took writes) new Starts Keeps
   behind_counted why e = record {
     changes = e.changes;
     starts = e.starts;
     state = e.state;
     world = e.world;
-    ends = From-counted limits left reads files opens before disk took writes new counted e.state why e.ends;
+    last = e.last;
+    ends = To-counted limits left reads files opens before disk took writes new counted e.state e.last why e.ends;
+    keeps = e.keeps;
   }
 
-  pub Kept-counted : (why : Status) → EndsKept why limits (outside_of left reads files opens disk took writes) new Starts Bad
-      → EndsKept why limits (outside_of left reads files opens before took writes) new Starts Bad
+  pub Kept-counted : (why : Status) → EndsKept why limits (outside_of left reads files opens disk took writes) new Starts Keeps Bad
+      → EndsKept why limits (outside_of left reads files opens before took writes) new Starts Keeps Bad
   Kept-counted status.Done e = behind_counted status.Done e
   Kept-counted status.SomeRefused e = behind_counted status.SomeRefused e
   Kept-counted status.ReadFault e = behind_counted status.ReadFault e

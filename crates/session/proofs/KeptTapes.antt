@@ -1,7 +1,7 @@
 -- With which world a run begins behind a journal, and which record is bad.
-use Rattle.std.proofs.Common.{◌≡◌, ◌⊎◌, ℕ, Bool, List, [], ◌∷◌, ◌++◌, map, Result, refl, sym, ap, ◌∙◌, subst, inl, inr}
+use Rattle.std.proofs.Common.{◌≡◌, ◌⊎◌, ℕ, ◌^◌, ◌≤◌, Bool, List, [], ◌∷◌, ◌++◌, map, Result, refl, sym, ap, ◌∙◌, subst, inl, inr, ⊎_elim, arith}
 use Rattle.std.specs.Prelude.{IsTrue, ⊤}
-use Rattle.journal_replay.specs.ChangedDatabase.{world_after}
+use Rattle.journal_replay.specs.ChangedDatabase.{TakesAll, world_after}
 use Rattle.journal_replay.specs.LedBy.{LedBy, sketches_after}
 use Rattle.journal_replay.specs.Replayed.{EndsBadly, EndsDeclined, IsBadForCause, IsReplayed}
 use Rattle.journal_replay.specs.declared.fault.ReplayFault.{ReplayFault}
@@ -20,7 +20,8 @@ use Rattle.sand_store.specs.Contents.{database}
 use Rattle.sand_store.specs.Sketches.{Sketch, sketches}
 use Rattle.statement_exec.proofs.DecidedCalls.{sketched_in}
 use Rattle.statement_exec.specs.Moment.{state_with}
-use Rattle.session.specs.KeptRun.{HasAll, HasBadRecord, IsDeclinedNext, IsOpened, image_of, IsWorldOf, StartsWith}
+use Rattle.session.specs.KeptRun.{HasAll, HasBadRecord, IsDeclinedNext, IsWorldOf, StartsWith}
+use Rattle.session.specs.KeptTape.{IsOpened, image_of}
 
 -- this holds where a replay met a bad record
 abbrev pub IfBad : ReplayFault → Type 0 → Type 0
@@ -35,22 +36,36 @@ pub World-of : (store world : StoreState) (frames : ℕ) (changes : List ChangeV
     → LedBy changes store world → told ≡ store.pool.disk.told → IsWorldOf store.catalog.limits told changes (state_with [] (database world))
 World-of store world frames changes told empty led same = record {
   none_open = refl;
-  world = λ is setting s own. led.becomes (sym same ∙ is) setting s own ∙ ap (λ (d : Database). world_after setting changes d) (ap (λ (s : StoreState). database s) empty);
-  outlined = sketched_in world.pool.pages world.catalog.relations ∙ led.sketched ∙ ap (λ (d : List Sketch). sketches_after changes d) (ap (λ (s : StoreState). sketches s) empty);
+  takes = λ is setting s own. subst (λ (d : Database). TakesAll setting changes d) (ap (λ (s : StoreState). database s) empty) (led.takes (sym same ∙ is) setting s own);
+  has = record {
+    world = λ is setting s own. led.becomes (sym same ∙ is) setting s own ∙ ap (λ (d : Database). world_after setting changes d) (ap (λ (s : StoreState). database s) empty);
+    outlined = sketched_in world.pool.pages world.catalog.relations ∙ led.sketched ∙ ap (λ (d : List Sketch). sketches_after changes d) (ap (λ (s : StoreState). sketches s) empty);
+  };
 }
 
 -- the changes of all records of an opened tape
 pub Replayed-all : {T : Type 0} (seen : T → TapeView) (journal journal' : Journal T) (store store' : StoreState) (r : IsReplayed seen journal journal' store store')
-    → HasPassed seen journal [] → IsOnlyRead (seen journal.tape) (seen journal'.tape)
+    → HasPassed seen journal [] → journal'.end ≤ 2 ^ 62 → IsOnlyRead (seen journal.tape) (seen journal'.tape)
     → HasAll (seen journal.tape).told (seen journal.tape).bytes r.changes
-Replayed-all {T} seen journal journal' store store' r passed read = record {
+Replayed-all {T} seen journal journal' store store' r passed near read = record {
+  near = λ told. subst (λ (n : ℕ). n ≤ 2 ^ 62) (r.ended [] passed).rest.stands.place near;
   all = r.all;
   read = λ told. record { all = r.all; bodies = subst (λ (bytes : List ℕ). HasBodies (map body_of r.changes) bytes) read.bytes ((r.ended [] passed).rest.ended (read.told ∙ told)) };
 }
 
 -- a tape that was started, and then opened as a journal
-pub Opened-tape : {U E : Type 0} (tape started opened : TapeView) (result : Result U E) → StartsTape tape started result → HasOpened started opened → IsOpened tape opened
-Opened-tape {U} {E} tape started opened result starts has = record { told = told; image = λ is. by is tape.bytes refl } where
+pub Opened-tape : {U E : Type 0} (tape started opened : TapeView) (result : Result U E)
+    → ((t : ℕ) (image : List ℕ) → IsTrue tape.told → t ≤ tape.clock → tape.leaves image → tape.since t image)
+    → StartsTape tape started result → HasOpened started opened → IsOpened tape opened
+Opened-tape {U} {E} tape started opened result now_counts starts has = record {
+  told = told;
+  image = λ is. by is tape.bytes refl;
+  durable = λ is. has.durable (starts.passes.told ∙ is);
+  earlier = λ is some t image le since.
+      let read = has.opened.read (starts.passes.told ∙ is) (λ empty. some (sym starts.kept.bytes ∙ empty)) in
+      let was : started.since t image = read.earlier (starts.passes.told ∙ is) t image (omega (arith, le, starts.passes.later)) since in
+      ⊎_elim (λ before. before) (λ now. now_counts t image is le (starts.kept.fewer image now)) ((starts.passes.time is).nothing_else t image le was);
+} where
   told : opened.told ≡ tape.told
   told = has.opened.told ∙ starts.passes.told
 
@@ -63,6 +78,7 @@ Opened-tape {U} {E} tape started opened result starts has = record { told = told
 pub Starts-opened : (tape opened : TapeView) (changes : List ChangeValue) → IsOpened tape opened → HasAll opened.told opened.bytes changes → StartsWith tape changes
 Starts-opened tape opened changes opens has = record {
   all = has.all;
+  near = λ told. has.near (opens.told ∙ told);
   read = λ told. subst (λ (bytes : List ℕ). HasChanges changes bytes) (opens.image told) (has.read (opens.told ∙ told));
 }
 

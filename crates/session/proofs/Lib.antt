@@ -20,3 +20,9 @@ pub mod KeptStatuses
 pub mod KeptTapes
 -- How a run that keeps its changes ends.
 pub mod KeptEndings
+-- A run that began met no bad record.
+pub mod GoodRecords
+-- The changes of a run, line by line.
+pub mod KeptChanges
+-- What a run behind the changes of its journal leaves on its tape.
+pub mod KeptBehind

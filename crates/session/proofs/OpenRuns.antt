@@ -24,7 +24,9 @@ use Rattle.script_lines.specs.Lines.{cut, onto, lines, last_line}
 use Rattle.script_lines.specs.Reading.{Reads}
 use Rattle.script_lines.specs.declared.TheConstants.{LONGEST_SCRIPT}
 use Rattle.script_lines.specs.declared.script_lines.ScriptLines.{ScriptLines}
-use Rattle.statement_exec.specs.Moment.{Moment, moment_of, while_open}
+use Rattle.sand_store.specs.Contents.{database}
+use Rattle.statement_exec.specs.Moment.{Moment, moment_of, state_with, while_open}
+use Rattle.session.proofs.KeptChanges.{IsLastOf}
 use Rattle.session.specs.OpenRun.{HasGiven, OpenRun, Spot, spot_of}
 use Rattle.statement_exec.specs.Printing.{Prints}
 use Rattle.session.specs.RunStates.{Draws, EndsAt, FromBetweenLines, IsBeforeHand, RunState, ended, run_state, status_of_line}
@@ -85,10 +87,6 @@ module _ (reader reader' : ScriptLines) (between left : Option (List ℕ)) (coun
 follows_state : (first last : Moment) (state : State) → Follows first last → Follows first (record last { state = state })
 follows_state first last state f = record { limits = f.limits; told = f.told; files = f.files; disk = f.disk; shelf = f.shelf }
 
-ends_state : (why : Status) (last : Moment) (state : State) (left : Option (List ℕ)) (before now : List ℕ → Type 0) (first : Moment) (script : Option (List ℕ)) (text : List ℕ)
-    → EndsAt why last left before now first script text → EndsAt why (record last { state = state }) left before now first script text
-ends_state why last state left before now first script text end = (end.0, end.1, follows_state first last state end.2)
-
 -- before the first line
 abbrev pub OpenRun-begin : (reader : ScriptLines) (left : Option (List ℕ)) (store : StoreState) (files : Option Files) (shelf : ℕ) (items : List (OpenCursor Source Stage)) (took : List ℕ → Type 0)
     → ((left : Option (List ℕ)) → Reads reader left [] []) → items ≡ [] → AreHeld store.pool.stamps items
@@ -107,10 +105,9 @@ OpenRun-begin reader left store files shelf items took begun none held = record 
 module _ (start : RunState) (before : List ℕ → Type 0) (at : Spot) (run : OpenRun start before at) where
   -- no more lines
   pub Ends-open : (why result : Status) (reader' : ScriptLines) (left : Option (List ℕ)) → result ≡ ended why at.refused → Draws (Err why) at.reader reader' at.left left
-      → FromBetweenLines start (EndsAt result (moment_of at.store at.files at.shelf) left before at.took)
-  Ends-open why result reader' left is draws first script text so_far =
-      ends_state result (while_open at.store at.files at.shelf run.cs) (moment_of at.store at.files at.shelf).state left before at.took first script text
-      (Ends-over start before at.took why at.reader reader' at.left left (while_open at.store at.files at.shelf run.cs) at.refused result is run.goes draws first script text so_far)
+      → FromBetweenLines start (EndsAt result (while_open at.store at.files at.shelf run.cs) left before at.took)
+  Ends-open why result reader' left is draws =
+      Ends-over start before at.took why at.reader reader' at.left left (while_open at.store at.files at.shelf run.cs) at.refused result is run.goes draws
 
   module _ (reader' : ScriptLines) (left' : Option (List ℕ)) (is_long : Bool) (draws : Draws (Ok is_long) at.reader reader' at.left left') where
     -- no cursor gave more rows than are counted
@@ -149,15 +146,14 @@ module _ (start : RunState) (before : List ℕ → Type 0) (at : Spot) (run : Op
 
       -- the sink failed
       pub Ends-line : (e : Failed) (l : LineCarried reader'.line (while_open at.store at.files at.shelf) (while_open store' files' shelf') run.cs at.took now (Err e) (StandOver store'.pool items'))
-          → FromBetweenLines start (EndsAt status.WriteFault (moment_of store' files' shelf') left' before now)
+          → FromBetweenLines start (EndsAt status.WriteFault (while_open store' files' shelf' l.after) left' before now)
       Ends-line e l first script text so_far =
           let old : Moment = while_open at.store at.files at.shelf run.cs in
           let new : Moment = while_open store' files' shelf' l.after in
-          ends_state status.WriteFault new (moment_of store' files' shelf').state left' before now first script text
-          (Ends-paused start (run_state reader' left' old at.refused) before at.took now status.WriteFault new left'
+          Ends-paused start (run_state reader' left' old at.refused) before at.took now status.WriteFault new left'
           (then_drawn start before at.took at.reader reader' at.left left' old at.refused is_long run.goes draws)
           (Ends-broken (run_state reader' left' old at.refused) new at.took now l.writes
-          (follows_open at.store store' at.files files' at.shelf shelf' run.cs l.after follows)) first script text so_far)
+          (follows_open at.store store' at.files files' at.shelf shelf' run.cs l.after follows)) first script text so_far
 
       -- where nothing of the line was written and no count rose, the moment before it is the last one but for its state
       last_untold : (n m : Moment) → n.disk ≡ m.disk → n.shelf ≡ m.shelf → Follows m n → record n { state = m.state } ≡ m
@@ -170,7 +166,7 @@ module _ (start : RunState) (before : List ℕ → Type 0) (at : Spot) (run : Op
 
       -- the journal failed: what was written is the text of the lines before this one, which is in hand
       pub Ends-untold : IsUntold at.took now (moment_of at.store at.files at.shelf) (moment_of store' files' shelf') fault.Journal
-          → FromBetweenLines start (EndsAt status.JournalFault (moment_of store' files' shelf') left' before now)
+          → FromBetweenLines start (EndsAt status.JournalFault (record (moment_of store' files' shelf') { state = (while_open at.store at.files at.shelf run.cs).state }) left' before now)
       Ends-untold untold first script text so_far =
           let old : Moment = while_open at.store at.files at.shelf run.cs in
           let last : Moment = moment_of store' files' shelf' in
@@ -185,17 +181,19 @@ module _ (start : RunState) (before : List ℕ → Type 0) (at : Spot) (run : Op
             first_of = hand.gives.first ∙ append_assoc hand.given (hand.gives.line ∷ []) hand.gives.others;
             printed = (at.refused, subst (λ (m : Moment). Prints (CarriesLines hand.given first m) at.refused (text ++ grown.0)) (sym same) hand.printed);
           } in (
-            old.state,
             (grown.0, λ bytes taken. untold.0 (bytes ++ grown.0) (grown.1 bytes taken), (hand.bytes, hand.consumed, (hand.gives.most, stops))),
-            follows_on first old last hand.follows follows_old,
+            follows_state first last old.state (follows_on first old last hand.follows follows_old),
           )
 
-      -- the line ended the run
+      -- the line ended the run: in a state behind it where the sink failed, and before it where the journal did
+      abbrev pub HandEnds : LineFault → Status → Type 0
+      HandEnds why result = (last : State) × IsLastOf why (database at.store) (database store') last
+          × FromBetweenLines start (EndsAt result (record (moment_of store' files' shelf') { state = last }) left' before now)
+
       pub Ends-hand : (why : LineFault) (result : Status) → result ≡ status_of_line why
           → LineCarried reader'.line (while_open at.store at.files at.shelf) (while_open store' files' shelf') run.cs at.took now (Err (record {})) (StandOver store'.pool items')
-          → IsUntold at.took now (moment_of at.store at.files at.shelf) (moment_of store' files' shelf') why → FromBetweenLines start (EndsAt result (moment_of store' files' shelf') left' before now)
-      Ends-hand why result is l untold = subst (λ (s : Status). FromBetweenLines start (EndsAt s (moment_of store' files' shelf') left' before now)) (sym is) (by why untold) where
-        by : (w : LineFault) → IsUntold at.took now (moment_of at.store at.files at.shelf) (moment_of store' files' shelf') w
-            → FromBetweenLines start (EndsAt (status_of_line w) (moment_of store' files' shelf') left' before now)
-        by fault.Sink u = Ends-line (record {}) l
-        by fault.Journal u = Ends-untold u
+          → IsUntold at.took now (moment_of at.store at.files at.shelf) (moment_of store' files' shelf') why → HandEnds why result
+      Ends-hand why result is l untold = subst (λ (s : Status). HandEnds why s) (sym is) (by why untold) where
+        by : (w : LineFault) → IsUntold at.took now (moment_of at.store at.files at.shelf) (moment_of store' files' shelf') w → HandEnds w (status_of_line w)
+        by fault.Sink u = (state_with l.after (database store'), refl, Ends-line (record {}) l)
+        by fault.Journal u = (state_with run.cs (database at.store), refl, Ends-untold u)

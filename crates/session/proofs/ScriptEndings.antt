@@ -12,7 +12,7 @@ use Rattle.script_lines.specs.Reading.{Reads}
 use Rattle.script_lines.specs.declared.script_lines.ScriptLines.{ScriptLines}
 use Rattle.statement_exec.specs.Moment.{Moment, moment_of, state_with}
 use Rattle.session.specs.Outside.{Outside, outside_of}
-use Rattle.session.specs.Ends.{HasBegun, EndsBetween, Ends, EndsFrom, IsTaken, first_moment, last_moment, standard_limits}
+use Rattle.session.specs.Ends.{HasBegun, EndsBetween, Ends, EndsFrom, EndsTo, IsTaken, first_moment, last_moment, standard_limits}
 use Rattle.session.specs.RunStates.{run_state, FromBetweenLines, EndsAt}
 use Rattle.session.specs.declared.status.Status.{Status}
 use Rattle.session.specs.declared.status.Status.TheVariants as status
@@ -37,28 +37,26 @@ last_is store limits old new state same files disk =
 -- A run of the whole script on a store, whose disk is handed back.
 module _ (why : Status) (reader : ScriptLines) (begun ended : StoreState) (old new : Outside) (none : (left : Option (List ℕ)) → Reads reader left [] [])
     (counted : begun.pool.disk.faults ≡ old.disk.faults) (disk : new.disk ≡ ended.pool.disk)
-    (from : FromBetweenLines (run_state reader old.source.left (moment_of begun old.shelf.files old.shelf.faults) false)
-    (EndsAt why (moment_of ended new.shelf.files new.shelf.faults) new.source.left old.sink.took new.sink.took)) where
+    (last : State) (from : FromBetweenLines (run_state reader old.source.left (moment_of begun old.shelf.files old.shelf.faults) false)
+    (EndsAt why (record (moment_of ended new.shelf.files new.shelf.faults) { state = last }) new.source.left old.sink.took new.sink.took)) where
   abbrev first : Moment
   first = moment_of begun old.shelf.files old.shelf.faults
 
-  end : EndsAt why (moment_of ended new.shelf.files new.shelf.faults) new.source.left old.sink.took new.sink.took first old.source.left []
+  end : EndsAt why (record (moment_of ended new.shelf.files new.shelf.faults) { state = last }) new.source.left old.sink.took new.sink.took first old.source.left []
   end = from first old.source.left [] (begun_between reader first old.source.left none)
 
   -- whether the disk tells stays as it is
   pub Told-script : new.disk.told ≡ begun.pool.disk.told
-  Told-script = ap (λ (d : DiskView). d.told) disk ∙ end.2.told
+  Told-script = ap (λ (d : DiskView). d.told) disk ∙ end.1.told
 
   -- its promise
-  pub Ends-script : EndsFrom (state_with [] (database begun)) why begun.catalog.limits old new
+  pub Ends-script : EndsTo (state_with [] (database begun)) last why begun.catalog.limits old new
   Ends-script =
-      let last : Moment = record (moment_of ended new.shelf.files new.shelf.faults) { state = end.0 } in
-      let between : EndsBetween why first last old.source new.source old.sink new.sink = between_of why first last old.source new.source old.sink new.sink end.1 in
-      let begin : Moment = record (first_moment begun.catalog.limits old new) { state = state_with [] (database begun) } in (
-        end.0,
-        subst (λ (m : Moment). EndsBetween why begin m old.source new.source old.sink new.sink) (last_is ended begun.catalog.limits old new end.0 end.2.limits end.2.files disk)
-            (subst (λ (m : Moment). EndsBetween why m last old.source new.source old.sink new.sink) (first_is begun old new (sym Told-script) counted) between),
-      )
+      let at : Moment = record (moment_of ended new.shelf.files new.shelf.faults) { state = last } in
+      let between : EndsBetween why first at old.source new.source old.sink new.sink = between_of why first at old.source new.source old.sink new.sink end.0 in
+      let begin : Moment = record (first_moment begun.catalog.limits old new) { state = state_with [] (database begun) } in
+      subst (λ (m : Moment). EndsBetween why begin m old.source new.source old.sink new.sink) (last_is ended begun.catalog.limits old new last end.1.limits end.1.files disk)
+      (subst (λ (m : Moment). EndsBetween why m at old.source new.source old.sink new.sink) (first_is begun old new (sym Told-script) counted) between)
 
 -- the promise of a run that began to read over no relations, and that no journal ended
 pub Ends-empty : (why : Status) (limits : Limits) (old new : Outside) → (why ≡ status.JournalFault → ⊥) → EndsFrom no_state why limits old new → Ends why limits old new
@@ -127,9 +125,9 @@ module _ (limits : Limits) (left : Option (List ℕ)) (reads : ℕ) (files : Opt
   Ends-started why asked same begun ends = subst (λ l. Ends why l (outside_of left reads files opens before took writes) new) same (started_by why begun ends)
 
   -- a run from a state that began at this count of the disk
-  pub From-counted : (start : State) (why : Status) → EndsFrom start why limits (outside_of left reads files opens disk took writes) new
-      → EndsFrom start why limits (outside_of left reads files opens before took writes) new
-  From-counted start why ends =
-      subst (λ (n : ℕ). (last : State) × EndsBetween why (record (first_moment limits (outside_of left reads files opens before took writes) new) { state = start; disk = n })
+  pub To-counted : (start last : State) (why : Status) → EndsTo start last why limits (outside_of left reads files opens disk took writes) new
+      → EndsTo start last why limits (outside_of left reads files opens before took writes) new
+  To-counted start last why ends =
+      subst (λ (n : ℕ). EndsBetween why (record (first_moment limits (outside_of left reads files opens before took writes) new) { state = start; disk = n })
       (last_moment limits (outside_of left reads files opens before took writes) new last) (record { left = left; faults = reads }) new.source
       (record { took = took; faults = writes }) new.sink) counted ends

@@ -111,10 +111,14 @@ pub record IsUntouched (old new : Outside) : Type 0 where
   pub shelf : new.shelf.faults ≡ old.shelf.faults
   pub sink : Stays old.sink.took new.sink.took
 
+-- the promise of a run that began to read in one state and ended in another
+abbrev pub EndsTo : State → State → Status → Limits → Outside → Outside → Type 0
+EndsTo start last ended limits old new =
+    EndsBetween ended (record (first_moment limits old new) { state = start }) (last_moment limits old new last) old.source new.source old.sink new.sink
+
 -- the promise of a run that began to read in this state
 abbrev pub EndsFrom : State → Status → Limits → Outside → Outside → Type 0
-EndsFrom start ended limits old new =
-    (last : State) × EndsBetween ended (record (first_moment limits old new) { state = start }) (last_moment limits old new last) old.source new.source old.sink new.sink
+EndsFrom start ended limits old new = (last : State) × EndsTo start last ended limits old new
 
 -- the whole promise, by the status, over what is outside before and after the run
 abbrev pub Ends : Status → Limits → Outside → Outside → Type 0

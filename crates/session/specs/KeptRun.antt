@@ -1,5 +1,5 @@
 -- How a run that keeps its changes in a journal may end: it begins with the world of the journal's changes.
-use Rattle.std.specs.Prelude.{◌≡◌, ◌≢◌, ◌⊎◌, ⊤, ℕ, Bool, IsTrue, List, [], ◌∷◌, ◌++◌, Option, codes, map, option_map}
+use Rattle.std.specs.Prelude.{◌≡◌, ◌≢◌, ◌⊎◌, ⊤, ℕ, ◌^◌, ◌≤◌, length, Bool, IsTrue, List, [], ◌∷◌, ◌++◌, Option, codes, map, option_map}
 use Rattle.std.specs.List.{AllByRecursion}
 use Rattle.clap.specs.Words.{Text, fault_of}
 use Rattle.run_words.specs.Asked.{number, value_in}
@@ -15,15 +15,15 @@ use Rattle.sand_journal.specs.Journal.{IsBadBehind}
 use Rattle.sand_journal.specs.Tape.{BeginsWith, TapeView}
 use Rattle.sand_model.specs.Cursor.{State}
 use Rattle.sand_model.specs.StatementChecks.{Setting, IsSetting}
-use Rattle.journal_replay.specs.ChangedDatabase.{world_after}
 use Rattle.journal_replay.specs.Declined.{Declines}
-use Rattle.journal_replay.specs.LedBy.{LedBy, sketches_after}
+use Rattle.journal_replay.specs.ChangedDatabase.{TakesAll}
+use Rattle.journal_replay.specs.LedBy.{LedBy}
 use Rattle.sand_store.specs.Catalog.{StoreState, new_catalog}
 use Rattle.journal_replay.specs.declared.fault.ReplayFault.{ReplayFault}
 use Rattle.journal_replay.specs.declared.fault.ReplayFault.TheVariants as replayed
-use Rattle.statement_exec.specs.Outline.{outline_of}
 use Rattle.session.specs.Outside.{Outside}
-use Rattle.session.specs.Ends.{EndsFrom, IsUntouched}
+use Rattle.session.specs.Ends.{EndsTo, IsUntouched}
+use Rattle.session.specs.KeptTape.{HasWorldOf, KeepsTape, image_of}
 use Rattle.session.specs.declared.status.Status.{Status}
 use Rattle.session.specs.declared.status.Status.TheVariants as status
 
@@ -43,20 +43,11 @@ kept_workload words = option_map number (value_in kept_app (codes "workload") wo
 abbrev pub journal_of : List Text → Option Text
 journal_of words = journal_beside (kept_workload words) (value_in kept_app (codes "journal") words)
 
--- what a read gives of a file whose journal was opened: an empty one has one shut gate
-abbrev pub image_of : List ℕ → List ℕ
-image_of [] = 0 ∷ []
-image_of (byte ∷ bytes) = byte ∷ bytes
-
--- The tape was opened as a journal.
-pub record IsOpened (old new : TapeView) : Type 0 where
-  pub told : new.told ≡ old.told
-  pub image : IsTrue old.told → new.bytes ≡ image_of old.bytes
-
--- Where the tape tells, these are all changes of this image of it.
+-- Where the tape tells, these are all changes of this image of it, and the gate behind their records stands at byte 2 ^ 62 or below.
 pub record HasAll (told : Bool) (image : List ℕ) (changes : List ChangeValue) : Type 0 where
   pub all : AllByRecursion IsChange changes
   pub read : IsTrue told → HasChanges changes image
+  pub near : IsTrue told → length (records (map body_of changes)) ≤ 2 ^ 62
 
 -- where the tape tells, these are all changes of the image that it reads once it is opened
 abbrev pub StartsWith : TapeView → List ChangeValue → Type 0
@@ -85,40 +76,44 @@ pub record HasBadRecord (limits : Limits) (disk told : Bool) (image : List ℕ) 
   pub led : LedBy changes begun reached
   pub next : (IsTrue told → IsBadBehind image (map body_of changes)) ⊎ IsDeclinedNext told image changes reached
 
--- No cursor is open in the state. Where the disk tells its pages it has the world of these changes, and over any disk the relations that they sketch.
+-- No cursor is open in the state, and it has the world of these changes. Where the disk tells, a database of no relations takes them all, one
+-- after the other.
 pub record IsWorldOf (limits : Limits) (told : Bool) (changes : List ChangeValue) (state : State) : Type 0 where
   pub none_open : state.cursors ≡ []
-  pub world : IsTrue told → (setting : Setting) → IsSetting setting → setting.limits ≡ limits → state.database ≡ world_after setting changes []
-  pub outlined : (outline_of state).relations ≡ sketches_after changes []
+  pub takes : IsTrue told → (setting : Setting) → IsSetting setting → setting.limits ≡ limits → TakesAll setting changes []
+  pub has : HasWorldOf limits told changes state
 
--- The run began to read with the world of some changes, of which this holds.
-pub record EndsBehind (ended : Status) (limits : Limits) (old new : Outside) (Starts : List ChangeValue → Type 0) : Type 0 where
+-- The run began to read with the world of some changes, of which the first holds, and the second holds of them and of its last state.
+pub record EndsBehind (ended : Status) (limits : Limits) (old new : Outside) (Starts : List ChangeValue → Type 0) (Keeps : List ChangeValue → State → Type 0) : Type 0 where
   pub changes : List ChangeValue
   pub starts : Starts changes
   pub state : State
   pub world : IsWorldOf limits new.disk.told changes state
-  pub ends : EndsFrom state ended limits old new
+  pub last : State
+  pub ends : EndsTo state last ended limits old new
+  pub keeps : Keeps changes last
 
 -- nothing was read or written, and the disk's count stays
 abbrev pub IsUnbegun : Outside → Outside → Type 0
 IsUnbegun old new = IsUntouched old new × (new.disk.faults ≡ old.disk.faults)
 
--- The whole promise of a run with a journal, by the status, where the first holds of the changes that it begins with, and the second where
--- a record is bad. `JournalFault` comes before the first line is read, or behind an accepted change.
-abbrev pub EndsKept : Status → Limits → Outside → Outside → (List ChangeValue → Type 0) → Type 0 → Type 0
-EndsKept status.Usage limits old new Starts Bad = IsUnbegun old new
-EndsKept status.NoMemory limits old new Starts Bad = IsUnbegun old new
-EndsKept status.DiskNotStarted limits old new Starts Bad = IsUntouched old new × (new.disk.faults ≡ next_count old.disk.faults)
-EndsKept status.JournalFault limits old new Starts Bad = IsUnbegun old new ⊎ EndsBehind status.JournalFault limits old new Starts
-EndsKept status.JournalBad limits old new Starts Bad = IsUnbegun old new × Bad
-EndsKept status.ReplayFault limits old new Starts Bad = IsUntouched old new × (new.disk.faults ≡ next_count old.disk.faults)
-EndsKept status.ReplayDamaged limits old new Starts Bad = IsUnbegun old new × (IsTrue new.disk.told → ⊥)
-EndsKept ended limits old new Starts Bad = EndsBehind ended limits old new Starts
+-- The whole promise of a run with a journal, by the status, where the first holds of the changes that it begins with, the second of them and
+-- of its last state, and the third where a record is bad. `JournalFault` comes before the first line is read, or behind an accepted change.
+abbrev pub EndsKept : Status → Limits → Outside → Outside → (List ChangeValue → Type 0) → (List ChangeValue → State → Type 0) → Type 0 → Type 0
+EndsKept status.Usage limits old new Starts Keeps Bad = IsUnbegun old new
+EndsKept status.NoMemory limits old new Starts Keeps Bad = IsUnbegun old new
+EndsKept status.DiskNotStarted limits old new Starts Keeps Bad = IsUntouched old new × (new.disk.faults ≡ next_count old.disk.faults)
+EndsKept status.JournalFault limits old new Starts Keeps Bad = IsUnbegun old new ⊎ EndsBehind status.JournalFault limits old new Starts Keeps
+EndsKept status.JournalBad limits old new Starts Keeps Bad = IsUnbegun old new × Bad
+EndsKept status.ReplayFault limits old new Starts Keeps Bad = IsUntouched old new × (new.disk.faults ≡ next_count old.disk.faults)
+EndsKept status.ReplayDamaged limits old new Starts Keeps Bad = IsUnbegun old new × (IsTrue new.disk.told → ⊥)
+EndsKept ended limits old new Starts Keeps Bad = EndsBehind ended limits old new Starts Keeps
 
--- the whole promise of a run with a journal on this tape, by the status
-abbrev pub EndsWithTape : Status → Limits → Outside → Outside → TapeView → Type 0
-EndsWithTape ended limits old new tape =
-    EndsKept ended limits old new (StartsWith tape) (HasBadRecord limits new.disk.told tape.told (image_of tape.bytes))
+-- the whole promise of a run with a journal on this tape, which is handed back as the other, by the status
+abbrev pub EndsWithTape : {T : Type 0} → (T → TapeView) → Status → Limits → Outside → Outside → T → T → Type 0
+EndsWithTape seen ended limits old new before after =
+    EndsKept ended limits old new (StartsWith (seen before)) (KeepsTape seen limits new.disk.told ended before after)
+    (HasBadRecord limits new.disk.told (seen before).told (image_of (seen before).bytes))
 
 -- the command that may name a journal took the words
 abbrev pub IsTakenKept : Status → Type 0

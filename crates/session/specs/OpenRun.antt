@@ -1,7 +1,9 @@
 -- A run between two of its lines, with the cursors that are open, for the proofs alone.
-use Rattle.std.specs.Prelude.{◌≡◌, ℕ, ◌+◌, ◌*◌, ◌^◌, Bool, List, Option, is_some, length}
+use Rattle.std.specs.Prelude.{◌≡◌, ⊤, ℕ, ◌+◌, ◌*◌, ◌^◌, Bool, List, Option, Some, None, is_some, length}
 use Rattle.line_exec.specs.Keeping.{TakesUpTo, most_kept, tape_count}
+use Rattle.line_exec.specs.KeptChanges.{KeepsAll}
 use Rattle.line_exec.specs.LineCarried.{most_rows}
+use Rattle.line_meaning.specs.Carrying.{Follows}
 use Rattle.open_cursors.specs.Carried.{GaveAtMost}
 use Rattle.open_cursors.specs.OpenCursors.{AreHeld, HaveOwnNames}
 use Rattle.open_cursors.specs.OverPages.{StandOver}
@@ -9,13 +11,14 @@ use Rattle.open_cursors.specs.declared.open_cursor.OpenCursor.{OpenCursor}
 use Rattle.plan_ops.specs.declared.source.Source.{Source}
 use Rattle.plan_ops.specs.declared.stage.Stage.{Stage}
 use Rattle.sand_base.specs.Shelf.{Files}
+use Rattle.sand_journal.specs.ChangeBody.{ChangeValue}
 use Rattle.sand_journal.specs.Tape.{TapeView}
 use Rattle.sand_journal.specs.declared.journal.Journal.{Journal}
-use Rattle.sand_model.specs.Cursor.{Cursor}
+use Rattle.sand_model.specs.Cursor.{Cursor, State}
 use Rattle.sand_store.specs.Catalog.{StoreState}
 use Rattle.script_lines.specs.Reading.{Reads}
 use Rattle.script_lines.specs.declared.script_lines.ScriptLines.{ScriptLines}
-use Rattle.statement_exec.specs.Moment.{while_open}
+use Rattle.statement_exec.specs.Moment.{Moment, while_open}
 use Rattle.session.specs.RunStates.{Leads, IsBetweenLines, RunState, run_state}
 
 -- the reader has read some of its script, and has given so many lines of it
@@ -62,3 +65,14 @@ pub record KeepsJournal {T : Type 0} (seen : T → TapeView) (old new : Option (
   pub there : is_some new ≡ is_some old
   pub takes : TakesUpTo seen (2 ^ 62 + count * most_kept) new
   pub counted : tape_count seen new ≡ tape_count seen old
+
+-- The changes of the lines so far lead from the first moment to this state, and their records were appended to the journal, where there is one.
+abbrev pub HasKeptIfAny : {T : Type 0} → (T → TapeView) → Option (Journal T) → Option (Journal T) → Moment → State → Type 0
+HasKeptIfAny seen None new first state = ⊤
+HasKeptIfAny seen (Some old) None first state = ⊥
+HasKeptIfAny seen (Some old) (Some new) first state = (changes : List ChangeValue) × KeepsAll seen old new changes first state (λ P. P)
+
+-- The moment follows the first, and what the lines so far changed is kept.
+pub record HasKept {T : Type 0} (seen : T → TapeView) (old new : Option (Journal T)) (first now : Moment) : Type 0 where
+  pub follows : Follows first now
+  pub keeps : HasKeptIfAny seen old new first now.state

@@ -3,7 +3,6 @@ use Rattle.std.specs.Prelude.{◌≡◌, ℕ, ◌+◌, ◌<◌, ◌≤◌, Bool,
 use Rattle.std.specs.Io.KnownBytes.{Consumes, IsAtEnd}
 use Rattle.output_text.specs.Writing.{AddsPrefix}
 use Rattle.sand_base.specs.Streams.{Adds}
-use Rattle.sand_model.specs.Cursor.{State}
 use Rattle.script_lines.specs.Lines.{lines, ended_lines, is_short_line}
 use Rattle.script_lines.specs.Reading.{Reads, GivesLine, to_come}
 use Rattle.script_lines.specs.declared.TheConstants.{LONGEST_SCRIPT}
@@ -101,10 +100,9 @@ EndsText status.JournalFault first last script left before now text =
     Grows before now text (λ all. HasRead script left (λ bytes. (length bytes ≤ LONGEST_SCRIPT + 1) × IsBeforeHand (lines bytes) first last all))
 EndsText _ first last script left before now text = ⊥
 
--- the same up to a moment that is this one but for its state (cursors may be open at the end), and the last moment follows the first
+-- the same up to this moment, and it follows the first
 abbrev pub EndsAt : Status → Moment → Option (List ℕ) → (List ℕ → Type 0) → (List ℕ → Type 0) → Moment → Option (List ℕ) → List ℕ → Type 0
-EndsAt why last left before now first script text =
-    (state : State) × EndsText why first (record last { state = state }) script left before now text × Follows first last
+EndsAt why last left before now first script text = EndsText why first last script left before now text × Follows first last
 
 -- what the end of the lines says of all bytes read and of the lines given, by the status of the run
 abbrev pub IsOver : Status → Option (List ℕ) → List ℕ → List (List ℕ) → Type 0

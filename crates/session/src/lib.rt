@@ -18,6 +18,7 @@
 
 mod drawing;
 mod kept;
+mod laws;
 mod script;
 mod start;
 mod status;
@@ -26,5 +27,6 @@ mod workload;
 mod workspace;
 
 pub use kept::run_kept;
+pub use laws::no_run_begins_behind_a_bad_record;
 pub use status::Status;
 pub use top::{run, run_within};

@@ -1,16 +1,19 @@
 // The lines of the script, drawn and carried out one by one.
 ghost use Rattle.std.specs.Prelude.{◌≡◌, [], ℕ, List, Option, IfErr, false, is_some, not, ◌^◌};
+ghost use Rattle.line_exec.specs.KeptChanges.{KeepsIfAny};
 ghost use Rattle.line_exec.specs.Keeping.{HasLineCause, IsUntold, KeepsOn, TakesUpTo, last_end, sink_result, tape_count};
 ghost use Rattle.line_exec.specs.LineCarried.{LineCarried};
 ghost use Rattle.line_meaning.specs.Carrying.{Follows};
 ghost use Rattle.open_cursors.specs.Carried.{AreCounted};
 ghost use Rattle.open_cursors.specs.OpenCursors.{AreHeld, HaveOwnNames};
 ghost use Rattle.open_cursors.specs.OverPages.{AreStanding, StandOver};
-ghost use Rattle.sand_model.specs.Cursor.{Cursor};
+ghost use Rattle.sand_model.specs.Cursor.{Cursor, State};
+ghost use Rattle.sand_store.specs.Contents.{database};
 ghost use Rattle.script_lines.specs.Lines.{is_short_line};
 ghost use Rattle.script_lines.specs.Reading.{Reads};
-ghost use Rattle.statement_exec.specs.Moment.{moment_of, while_open};
+ghost use Rattle.statement_exec.specs.Moment.{moment_of, state_with, while_open};
 ghost use Rattle.session.specs.Ends.{IsCaused, tape_after};
+ghost use Rattle.session.specs.KeptTape.{ShowsIfAny};
 ghost use Rattle.session.specs.RunStates.{EndsAt, FromBetweenLines, run_state, status_of_line};
 
 use crate::Status;
@@ -45,6 +48,7 @@ fn carry_hand<D: Disk, H: Shelf, K: Sink, T: Tape>(
     ensures held { AreHeld result.0.pool.stamps cursors.new.items }
     ensures follows { Follows (moment_of store (H.files shelf.old) (H.faults shelf.old)) (moment_of result.0 (H.files shelf.new) (H.faults shelf.new)) }
     ensures keeps { KeepsOn T.seen journal.old journal.new result.1 }
+    ensures kept { KeepsIfAny T.seen journal.old journal.new (moment_of store (H.files shelf.old) (H.faults shelf.old)) (state_with [] (database result.0)) result.1 }
     ensures untold { IfErr result.1 (IsUntold (K.took out.old) (K.took out.new) (moment_of store (H.files shelf.old) (H.faults shelf.old)) (moment_of result.0 (H.files shelf.new) (H.faults shelf.new))) }
     ensures cause { HasLineCause (K.faults out.old) (K.faults out.new) (tape_count T.seen journal.old) (tape_count T.seen journal.new) result.1 }
 {
@@ -79,7 +83,8 @@ pub(crate) fn carry_script<S: Source, H: Shelf, D: Disk, K: Sink, T: Tape>(
     requires held { AreHeld store.pool.stamps cursors.old.items }
     requires begun { (left : Option (List ℕ)) → Reads lines.old left [] [] }
     requires journal { TakesUpTo T.seen (2 ^ 62) journal.old }
-    ensures ends { FromBetweenLines (run_state lines.old (S.left script.old) (moment_of store (H.files shelf.old) (H.faults shelf.old)) false) (EndsAt result.1 (moment_of result.0 (H.files shelf.new) (H.faults shelf.new)) (S.left script.new) (K.took out.old) (K.took out.new)) }
+    ensures ends { (last : State) × FromBetweenLines (run_state lines.old (S.left script.old) (moment_of store (H.files shelf.old) (H.faults shelf.old)) false) (EndsAt result.1 (record (moment_of result.0 (H.files shelf.new) (H.faults shelf.new)) { state = last }) (S.left script.new) (K.took out.old) (K.took out.new))
+        × ShowsIfAny T.seen journal.old journal.new result.1 (moment_of store (H.files shelf.old) (H.faults shelf.old)) last }
     ensures cause { IsCaused result.1 (S.faults script.old) (S.faults script.new) (K.faults out.old) (K.faults out.new) }
     ensures there { is_some journal.new ≡ is_some journal.old }
     ensures tape { tape_count T.seen journal.new ≡ tape_after result.1 (tape_count T.seen journal.old) }

@@ -1,5 +1,5 @@
 // Which words are taken, by hand.
-use run_words::{WordFault, read_words};
+use run_words::{WordFault, read_kept_words, read_words};
 use sand_base::{Label, NoMemory};
 use std::alloc::Global;
 use std::process::Abort;
@@ -18,6 +18,13 @@ fn ask(alloc: Global, words: &[&str]) -> Result<(u32, Option<usize>, Option<u32>
     let asked = read_words(alloc, &labels)?;
     let length = asked.store.as_ref().map(|name| name.as_str().len());
     Ok((asked.frames, length, asked.workload))
+}
+
+// The length of the name of a script's journal.
+fn ask_for_journal(alloc: Global, words: &[&str]) -> Result<Option<usize>, WordFault> {
+    let labels = labels_of(alloc, words)?;
+    let asked = read_kept_words(alloc, &labels)?;
+    Ok(asked.journal_of_script().map(|name| name.len()))
 }
 
 static TAKEN: [(&[&str], u32, Option<usize>, Option<u32>); 10] = [
@@ -81,4 +88,24 @@ fn the_command_decides_which_words_are_taken(rt: HostRuntime) {
     let alloc = rt.alloc();
     are_taken(&rt, alloc, &TAKEN);
     are_refused(&rt, alloc, &REFUSED);
+}
+
+#[test]
+fn a_journal_is_named_beside_a_script_alone(rt: HostRuntime) {
+    let alloc = rt.alloc();
+    let both: &[&str] = &["--workload", "1", "--journal", "a.sandj"];
+    assert_eq!(rt;
+        ask_for_journal(alloc, &["--journal", "a.sandj"]),
+        Ok(Some(7))
+    );
+    assert_eq!(rt; ask_for_journal(alloc, &["--frames", "64"]), Ok(None));
+    assert_eq!(rt; ask_for_journal(alloc, both), Ok(None));
+    assert_eq!(rt;
+        ask_for_journal(alloc, &["--journal"]),
+        Err(WordFault::Usage)
+    );
+    assert_eq!(rt;
+        ask(alloc, &["--journal", "a.sandj"]),
+        Err(WordFault::Usage)
+    );
 }

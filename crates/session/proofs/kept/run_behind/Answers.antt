@@ -10,15 +10,17 @@ use Rattle.page_pool.specs.Disk.{DiskView}
 use Rattle.sand_base.specs.declared.limits.Limits.{Limits}
 use Rattle.sand_store.specs.Catalog.{StoreState}
 use Rattle.sand_store.specs.Contents.{database}
-use Rattle.statement_exec.specs.Moment.{state_with}
-use Rattle.session.specs.Ends.{EndsFrom, tape_after}
+use Rattle.statement_exec.specs.Moment.{moment_of, state_with}
+use Rattle.session.specs.Ends.{EndsTo, tape_after}
 use Rattle.session.specs.KeptRun.{EndsKept, HasAll, HasBadRecord}
+use Rattle.session.specs.KeptTape.{KeepsBehind}
 use Rattle.session.specs.Outside.{outside_of}
 use Rattle.session.specs.declared.status.Status.{Status}
+use Rattle.session.proofs.KeptBehind.{Keeps-behind}
 use Rattle.session.proofs.KeptEndings.{Kept-begun, Kept-stopped}
 use Rattle.session.proofs.KeptStatuses.{Stopped, Taken-kept}
 use Rattle.session.proofs.KeptTapes.{Bad-stopped, Replayed-all, World-of}
-use Rattle.session.proofs.ScriptEndings.{From-counted}
+use Rattle.session.proofs.ScriptEndings.{To-counted}
 use Rattle.session.proofs.kept.run_behind.Goals as goal
 
 pub run_on-requires-clause-held : goal.run_on-requires-clause-held
@@ -32,30 +34,35 @@ run_on-requires-clause-near g c = c.in-Ok.ensures.near (subst (λ n. n ≤ 2 ^ 6
 
 pub returns-in-Ok-clause-promise : goal.returns-in-Ok-clause-promise
 returns-in-Ok-clause-promise g c =
-    let starts = Replayed-all g.T.Tape.seen c.args.journal c.replay.new.journal c.args.store c.replay.new.store c.in-Ok.ensures.replayed c.requires.passed c.replay.ensures.read in
-    let ends = From-counted c.args.store.catalog.limits (g.S.Source.left c.args.script.now) (g.S.Source.faults c.args.script.now) (g.H.Shelf.files c.args.shelf.now)
+    let promise = c.run_on.ensures.promise in
+    let near = c.in-Ok.ensures.near (subst (λ n. n ≤ 2 ^ 62) (sym c.requires.passed.stands.place) (omega arith)) in
+    let starts = Replayed-all g.T.Tape.seen c.args.journal c.replay.new.journal c.args.store c.replay.new.store c.in-Ok.ensures.replayed c.requires.passed near c.replay.ensures.read in
+    let told = c.run_on.ensures.told ∙ c.replay.ensures.carries.told in
+    let world = World-of c.args.store c.replay.new.store c.args.store.pool.frames c.in-Ok.ensures.replayed.changes
+    (g.D.Disk.seen c.run_on.result.1).told c.requires.empty c.in-Ok.ensures.replayed.led told in
+    let ends = To-counted c.args.store.catalog.limits (g.S.Source.left c.args.script.now) (g.S.Source.faults c.args.script.now) (g.H.Shelf.files c.args.shelf.now)
     (g.H.Shelf.faults c.args.shelf.now) c.args.store.pool.disk c.replay.new.store.pool.disk (g.K.Sink.took c.args.out.now) (g.K.Sink.faults c.args.out.now)
     (outside_of (g.S.Source.left c.run_on.new.script) (g.S.Source.faults c.run_on.new.script) (g.H.Shelf.files c.run_on.new.shelf)
-    (g.H.Shelf.faults c.run_on.new.shelf) (g.D.Disk.seen c.run_on.result.1) (g.K.Sink.took c.run_on.new.out)
-    (g.K.Sink.faults c.run_on.new.out)) c.in-Ok.ensures.cause.1 (state_with [] (database c.replay.new.store)) c.run_on.result.0
-    (subst (λ (l : Limits). EndsFrom (state_with [] (database c.replay.new.store)) c.run_on.result.0 l
+    (g.H.Shelf.faults c.run_on.new.shelf) (g.D.Disk.seen c.run_on.result.1) (g.K.Sink.took c.run_on.new.out) (g.K.Sink.faults c.run_on.new.out)) c.in-Ok.ensures.cause.1 (state_with [] (database c.replay.new.store)) promise.0 c.run_on.result.0
+    (subst (λ (l : Limits). EndsTo (state_with [] (database c.replay.new.store)) promise.0 c.run_on.result.0 l
     (outside_of (g.S.Source.left c.args.script.now) (g.S.Source.faults c.args.script.now) (g.H.Shelf.files c.args.shelf.now)
-    (g.H.Shelf.faults c.args.shelf.now) c.replay.new.store.pool.disk (g.K.Sink.took c.args.out.now) (g.K.Sink.faults c.args.out.now)) (outside_of
-    (g.S.Source.left c.run_on.new.script) (g.S.Source.faults c.run_on.new.script) (g.H.Shelf.files c.run_on.new.shelf) (g.H.Shelf.faults c.run_on.new.shelf)
-    (g.D.Disk.seen c.run_on.result.1) (g.K.Sink.took c.run_on.new.out) (g.K.Sink.faults c.run_on.new.out))) c.replay.ensures.carries.limits c.run_on.ensures.promise) in
+    (g.H.Shelf.faults c.args.shelf.now) c.replay.new.store.pool.disk (g.K.Sink.took c.args.out.now) (g.K.Sink.faults c.args.out.now)) (outside_of (g.S.Source.left c.run_on.new.script) (g.S.Source.faults c.run_on.new.script) (g.H.Shelf.files c.run_on.new.shelf)
+    (g.H.Shelf.faults c.run_on.new.shelf) (g.D.Disk.seen c.run_on.result.1) (g.K.Sink.took c.run_on.new.out) (g.K.Sink.faults c.run_on.new.out))) c.replay.ensures.carries.limits promise.1) in
     Kept-begun c.run_on.result.0 c.args.store.catalog.limits
     (outside_of (g.S.Source.left c.args.script.now) (g.S.Source.faults c.args.script.now) (g.H.Shelf.files c.args.shelf.now)
-    (g.H.Shelf.faults c.args.shelf.now) c.args.store.pool.disk (g.K.Sink.took c.args.out.now) (g.K.Sink.faults c.args.out.now)) (outside_of
-    (g.S.Source.left c.run_on.new.script) (g.S.Source.faults c.run_on.new.script) (g.H.Shelf.files c.run_on.new.shelf) (g.H.Shelf.faults c.run_on.new.shelf)
-    (g.D.Disk.seen c.run_on.result.1) (g.K.Sink.took c.run_on.new.out) (g.K.Sink.faults c.run_on.new.out))
-    (HasAll (g.T.Tape.seen c.args.journal.tape).told (g.T.Tape.seen c.args.journal.tape).bytes) _ c.run_on.ensures.begun
+    (g.H.Shelf.faults c.args.shelf.now) c.args.store.pool.disk (g.K.Sink.took c.args.out.now) (g.K.Sink.faults c.args.out.now)) (outside_of (g.S.Source.left c.run_on.new.script) (g.S.Source.faults c.run_on.new.script) (g.H.Shelf.files c.run_on.new.shelf)
+    (g.H.Shelf.faults c.run_on.new.shelf) (g.D.Disk.seen c.run_on.result.1) (g.K.Sink.took c.run_on.new.out) (g.K.Sink.faults c.run_on.new.out))
+    (HasAll (g.T.Tape.seen c.args.journal.tape).told (g.T.Tape.seen c.args.journal.tape).bytes) _ _ c.run_on.ensures.begun
     (record {
       changes = c.in-Ok.ensures.replayed.changes;
       starts = starts;
       state = state_with [] (database c.replay.new.store);
-      world = World-of c.args.store c.replay.new.store c.args.store.pool.frames c.in-Ok.ensures.replayed.changes
-          (g.D.Disk.seen c.run_on.result.1).told c.requires.empty c.in-Ok.ensures.replayed.led (c.run_on.ensures.told ∙ c.replay.ensures.carries.told);
+      world = world;
+      last = promise.0;
       ends = ends;
+      keeps = Keeps-behind g.T.Tape.seen c.args.journal c.replay.new.journal c.run_on.result.2 c.args.store c.replay.new.store c.in-Ok.ensures.replayed c.requires.passed c.replay.ensures.read
+          (g.met.T.Tape.now_is_all c.args.journal.tape) c.args.store.catalog.limits (g.D.Disk.seen c.run_on.result.1).told c.run_on.result.0
+          (moment_of c.replay.new.store (g.H.Shelf.files c.args.shelf.now) (g.H.Shelf.faults c.args.shelf.now)) promise.0 c.run_on.ensures.told c.replay.ensures.carries.limits world.has promise.2;
     })
 
 pub returns-in-Ok-clause-tape : goal.returns-in-Ok-clause-tape
@@ -74,11 +81,12 @@ returns-in-Err-clause-promise g c =
     (g.S.Source.left c.args.script.now) (g.S.Source.faults c.args.script.now) (g.H.Shelf.files c.args.shelf.now) (g.H.Shelf.faults c.args.shelf.now)
     (g.D.Disk.seen c.into_disk.result) (g.K.Sink.took c.args.out.now) (g.K.Sink.faults c.args.out.now))
     (HasAll (g.T.Tape.seen c.args.journal.tape).told (g.T.Tape.seen c.args.journal.tape).bytes)
+    (KeepsBehind g.T.Tape.seen c.args.store.catalog.limits (g.D.Disk.seen c.into_disk.result).told why c.args.journal.tape c.into_tape.result)
     (HasBadRecord c.args.store.catalog.limits (g.D.Disk.seen c.into_disk.result).told (g.T.Tape.seen c.args.journal.tape).told
     (g.T.Tape.seen c.args.journal.tape).bytes)) (sym c.status_of_replay.ensures)
     (Kept-stopped c.args.store.catalog.limits (g.S.Source.left c.args.script.now) (g.S.Source.faults c.args.script.now) (g.H.Shelf.files c.args.shelf.now)
     (g.H.Shelf.faults c.args.shelf.now) c.args.store.pool.disk (g.D.Disk.seen c.into_disk.result) (g.K.Sink.took c.args.out.now) (g.K.Sink.faults c.args.out.now)
-    (HasAll (g.T.Tape.seen c.args.journal.tape).told (g.T.Tape.seen c.args.journal.tape).bytes)
+    (HasAll (g.T.Tape.seen c.args.journal.tape).told (g.T.Tape.seen c.args.journal.tape).bytes) _
     (HasBadRecord c.args.store.catalog.limits (g.D.Disk.seen c.into_disk.result).told (g.T.Tape.seen c.args.journal.tape).told (g.T.Tape.seen c.args.journal.tape).bytes)
     c.in-Err.why (g.T.Tape.seen c.args.journal.tape) (g.T.Tape.seen c.replay.new.journal.tape) c.args.store.pool c.replay.new.store.pool refl c.into_disk.ensures c.in-Err.ensures.cause
     (Bad-stopped g.T.Tape.seen c.args.journal c.replay.new.journal c.args.store c.in-Err.why (g.D.Disk.seen c.into_disk.result).told c.requires.empty

@@ -3,6 +3,8 @@ use Rattle.std.proofs.Common.{ℕ, Bool, List, Option, Result, refl, subst}
 use Rattle.sand_base.specs.Faults.{HasCause}
 use Rattle.sand_base.specs.declared.source.Failed.{Failed}
 use Rattle.line_exec.proofs.Kept.{cause_of_sink, keeps_same, untold_sink}
+use Rattle.line_exec.proofs.Led.{unchanged_itself}
+use Rattle.line_exec.proofs.LineKept.{keeps_none}
 use Rattle.line_exec.specs.Keeping.{sink_result}
 use Rattle.line_exec.specs.LineCarried.{LineCarried}
 use Rattle.open_cursors.specs.OverPages.{StandOver}
@@ -31,6 +33,11 @@ pub returns-then-is_long-clause-cause : goal.returns-then-is_long-clause-cause
 returns-then-is_long-clause-cause g c =
     cause_of_sink (g.K.Sink.faults c.args.out.now) (g.K.Sink.faults c.refuse.new.out) _ _ c.of_sink.result c.of_sink.ensures.sink
     (subst (λ (r : Result Bool Failed). HasCause (g.K.Sink.faults c.args.out.now) (g.K.Sink.faults c.refuse.new.out) r) c.of_sink.ensures.written c.refuse.ensures.cause) refl
+
+pub returns-then-is_long-clause-kept : goal.returns-then-is_long-clause-kept
+returns-then-is_long-clause-kept g c =
+    keeps_none g.T.Tape.seen c.args.store c.args.store (g.H.Shelf.files c.args.shelf.now) (g.H.Shelf.faults c.args.shelf.now) (g.met.T.Tape.now_is_all) c.args.journal.now c.of_sink.result
+    (unchanged_itself c.args.store)
 
 -- the line in hand is carried out
 pub returns-clause-carried : goal.returns-clause-carried

@@ -1,16 +1,20 @@
 -- before the first line, after one more line, and the ways in which the lines end
-use Rattle.std.proofs.Common.{◌+◌, ◌*◌, ◌^◌, ◌||◌, Bool, false, Result, refl, sym, ap, ◌∙◌, subst, arith}
+use Rattle.std.proofs.Common.{◌+◌, ◌*◌, ◌^◌, ◌||◌, Bool, false, [], Result, refl, sym, ap, ◌∙◌, subst, arith}
+use Rattle.line_exec.proofs.Appended.{appends_none}
 use Rattle.line_exec.proofs.Kept.{takes_more}
 use Rattle.line_exec.proofs.Moments.{are_standing}
 use Rattle.line_exec.specs.Keeping.{IsUntold, TakesUpTo, last_end, most_kept, sink_result}
 use Rattle.line_exec.specs.LineCarried.{LineCarried}
 use Rattle.line_exec.specs.declared.fault.LineFault.{LineFault}
+use Rattle.line_meaning.proofs.Runs.{follows_itself, follows_on}
 use Rattle.open_cursors.specs.OverPages.{StandOver}
-use Rattle.statement_exec.specs.Moment.{moment_of, while_open}
+use Rattle.sand_store.specs.Contents.{database}
+use Rattle.statement_exec.specs.Moment.{moment_of, state_with, while_open}
 use Rattle.session.specs.Ends.{source_after, tape_after}
 use Rattle.session.specs.OpenRun.{spot_of}
 use Rattle.session.specs.RunStates.{run_state}
 use Rattle.session.proofs.Answered.{if_err, on_ok, Caused-after, Caused-hand, Caused-line, Caused-over, Tape-over}
+use Rattle.session.proofs.KeptChanges.{kept_line, kept_none, shown_hand, shown_over}
 use Rattle.session.proofs.OpenRuns.{Ends-hand, Ends-open, OpenRun-begin, OpenRun-line, room_left, rows_counted}
 use Rattle.session.proofs.script.carry_script.Goals as goal
 
@@ -20,6 +24,11 @@ lines-init g c = (
       (g.H.Shelf.faults c.args.shelf.now) c.args.cursors.now.items (g.K.Sink.took c.args.out.now) c.requires.begun c.requires.none c.requires.held,
   record { of_source = refl; of_sink = refl },
   record { there = refl; takes = takes_more g.T.Tape.seen (2 ^ 62) (2 ^ 62 + 0 * most_kept) c.args.journal.now (omega arith) c.requires.journal; counted = refl },
+  record {
+    follows = follows_itself (moment_of c.args.store (g.H.Shelf.files c.args.shelf.now) (g.H.Shelf.faults c.args.shelf.now));
+    keeps = kept_none g.T.Tape.seen (λ journal. appends_none g.T.Tape.seen g.met.T.Tape.now_is_all journal (λ P. P) (λ P h. h)) c.args.journal.now
+        (moment_of c.args.store (g.H.Shelf.files c.args.shelf.now) (g.H.Shelf.faults c.args.shelf.now));
+  },
 )
 
 -- the cursors of the run stand, and the journal has room
@@ -37,11 +46,15 @@ carry_hand-next-requires g c = record {
 
 -- no more lines
 pub returns-in-Err-clause-ends : goal.returns-in-Err-clause-ends
-returns-in-Err-clause-ends g c =
-    Ends-open (run_state c.args.lines.now (g.S.Source.left c.args.script.now) (moment_of c.args.store (g.H.Shelf.files c.args.shelf.now) (g.H.Shelf.faults c.args.shelf.now)) false)
-    (g.K.Sink.took c.args.out.now) (spot_of c.lines.lines (g.S.Source.left c.lines.script) c.lines.now (g.H.Shelf.files c.lines.shelf)
-    (g.H.Shelf.faults c.lines.shelf) c.lines.cursors.items c.lines.refused
-    (g.K.Sink.took c.lines.out)) c.lines.invariant.0 c.in-Err.status c.ended.result c.draw.new.lines (g.S.Source.left c.draw.new.script) c.ended.ensures c.in-Err.ensures.draws
+returns-in-Err-clause-ends g c = (
+  state_with c.lines.invariant.0.cs (database c.lines.now),
+  Ends-open (run_state c.args.lines.now (g.S.Source.left c.args.script.now) (moment_of c.args.store (g.H.Shelf.files c.args.shelf.now) (g.H.Shelf.faults c.args.shelf.now)) false)
+      (g.K.Sink.took c.args.out.now) (spot_of c.lines.lines (g.S.Source.left c.lines.script) c.lines.now (g.H.Shelf.files c.lines.shelf)
+      (g.H.Shelf.faults c.lines.shelf) c.lines.cursors.items c.lines.refused
+      (g.K.Sink.took c.lines.out)) c.lines.invariant.0 c.in-Err.status c.ended.result c.draw.new.lines (g.S.Source.left c.draw.new.script) c.ended.ensures c.in-Err.ensures.draws,
+  shown_over g.T.Tape.seen c.args.journal.now c.lines.journal c.ended.result (moment_of c.args.store (g.H.Shelf.files c.args.shelf.now) (g.H.Shelf.faults c.args.shelf.now))
+      (state_with [] (database c.lines.now)) (state_with c.lines.invariant.0.cs (database c.lines.now)) refl c.lines.invariant.3.keeps,
+)
 
 pub returns-in-Err-clause-cause : goal.returns-in-Err-clause-cause
 returns-in-Err-clause-cause g c =
@@ -83,6 +96,16 @@ lines-preserved-then-refused g c = (
         (c.carry_hand-next.ensures.keeps.takes (2 ^ 62 + c.lines.invariant.0.count * most_kept) c.lines.invariant.2.takes));
     counted = (Caused-line _ _ _ _ c.carry_hand-next.result.1 c.in-Ok-done.refusal c.in-Ok-done.is c.carry_hand-next.ensures.cause).1 ∙ c.lines.invariant.2.counted;
   },
+  record {
+    follows = follows_on (moment_of c.args.store (g.H.Shelf.files c.args.shelf.now) (g.H.Shelf.faults c.args.shelf.now))
+        (moment_of c.lines.now (g.H.Shelf.files c.lines.shelf) (g.H.Shelf.faults c.lines.shelf))
+        (moment_of c.carry_hand-next.result.0 (g.H.Shelf.files c.carry_hand-next.new.shelf) (g.H.Shelf.faults c.carry_hand-next.new.shelf))
+        c.lines.invariant.3.follows c.carry_hand-next.ensures.follows;
+    keeps = kept_line g.T.Tape.seen c.args.journal.now c.lines.journal c.carry_hand-next.new.journal
+        (moment_of c.args.store (g.H.Shelf.files c.args.shelf.now) (g.H.Shelf.faults c.args.shelf.now))
+        (moment_of c.lines.now (g.H.Shelf.files c.lines.shelf) (g.H.Shelf.faults c.lines.shelf)) (state_with [] (database c.carry_hand-next.result.0))
+        c.carry_hand-next.result.1 c.in-Ok-done.refusal c.in-Ok-done.is c.lines.invariant.3.keeps c.lines.invariant.3.follows c.carry_hand-next.ensures.kept;
+  },
 )
 
 pub lines-preserved : goal.lines-preserved
@@ -114,11 +137,22 @@ lines-preserved g c = (
         (c.carry_hand-next.ensures.keeps.takes (2 ^ 62 + c.lines.invariant.0.count * most_kept) c.lines.invariant.2.takes));
     counted = (Caused-line _ _ _ _ c.carry_hand-next.result.1 c.in-Ok-done.refusal c.in-Ok-done.is c.carry_hand-next.ensures.cause).1 ∙ c.lines.invariant.2.counted;
   },
+  record {
+    follows = follows_on (moment_of c.args.store (g.H.Shelf.files c.args.shelf.now) (g.H.Shelf.faults c.args.shelf.now))
+        (moment_of c.lines.now (g.H.Shelf.files c.lines.shelf) (g.H.Shelf.faults c.lines.shelf))
+        (moment_of c.carry_hand-next.result.0 (g.H.Shelf.files c.carry_hand-next.new.shelf) (g.H.Shelf.faults c.carry_hand-next.new.shelf))
+        c.lines.invariant.3.follows c.carry_hand-next.ensures.follows;
+    keeps = kept_line g.T.Tape.seen c.args.journal.now c.lines.journal c.carry_hand-next.new.journal
+        (moment_of c.args.store (g.H.Shelf.files c.args.shelf.now) (g.H.Shelf.faults c.args.shelf.now))
+        (moment_of c.lines.now (g.H.Shelf.files c.lines.shelf) (g.H.Shelf.faults c.lines.shelf)) (state_with [] (database c.carry_hand-next.result.0))
+        c.carry_hand-next.result.1 c.in-Ok-done.refusal c.in-Ok-done.is c.lines.invariant.3.keeps c.lines.invariant.3.follows c.carry_hand-next.ensures.kept;
+  },
 )
 
 -- the line ended the run
 pub returns-in-Err-done-clause-ends : goal.returns-in-Err-done-clause-ends
 returns-in-Err-done-clause-ends g c =
+    let ends =
     Ends-hand (run_state c.args.lines.now (g.S.Source.left c.args.script.now) (moment_of c.args.store (g.H.Shelf.files c.args.shelf.now) (g.H.Shelf.faults c.args.shelf.now)) false)
     (g.K.Sink.took c.args.out.now) (spot_of c.lines.lines (g.S.Source.left c.lines.script) c.lines.now (g.H.Shelf.files c.lines.shelf)
     (g.H.Shelf.faults c.lines.shelf) c.lines.cursors.items c.lines.refused
@@ -136,7 +170,15 @@ returns-in-Err-done-clause-ends g c =
     (g.K.Sink.took c.lines.out)) c.lines.invariant.0 c.draw.new.lines (g.S.Source.left c.draw.new.script) c.in-Ok.is_long c.in-Ok.ensures.draws) c.lines.invariant.0.stand))
     (if_err (IsUntold (g.K.Sink.took c.lines.out) (g.K.Sink.took c.carry_hand-next.new.out) (moment_of c.lines.now (g.H.Shelf.files c.lines.shelf) (g.H.Shelf.faults c.lines.shelf))
     (moment_of c.carry_hand-next.result.0 (g.H.Shelf.files c.carry_hand-next.new.shelf)
-    (g.H.Shelf.faults c.carry_hand-next.new.shelf))) c.carry_hand-next.result.1 c.in-Err-done.why c.in-Err-done.is c.carry_hand-next.ensures.untold)
+    (g.H.Shelf.faults c.carry_hand-next.new.shelf))) c.carry_hand-next.result.1 c.in-Err-done.why c.in-Err-done.is c.carry_hand-next.ensures.untold) in (
+      ends.0,
+      ends.2,
+      shown_hand g.T.Tape.seen c.args.journal.now c.lines.journal c.carry_hand-next.new.journal
+          (moment_of c.args.store (g.H.Shelf.files c.args.shelf.now) (g.H.Shelf.faults c.args.shelf.now))
+          (moment_of c.lines.now (g.H.Shelf.files c.lines.shelf) (g.H.Shelf.faults c.lines.shelf)) (state_with [] (database c.carry_hand-next.result.0)) ends.0
+          c.carry_hand-next.result.1 c.in-Err-done.why c.status_of.result c.in-Err-done.is c.status_of.ensures c.lines.invariant.3.keeps c.lines.invariant.3.follows
+          c.carry_hand-next.ensures.kept ends.1,
+    )
 
 pub returns-in-Err-done-clause-cause : goal.returns-in-Err-done-clause-cause
 returns-in-Err-done-clause-cause g c =

@@ -32,4 +32,4 @@ returns-clause-promise g c =
     (g.H.Shelf.faults c.args.shelf.now) c.args.store.pool.disk (g.K.Sink.took c.args.out.now) (g.K.Sink.faults c.args.out.now))
     (outside_of (g.S.Source.left c.run_from.new.script) (g.S.Source.faults c.run_from.new.script) (g.H.Shelf.files c.run_from.new.shelf)
     (g.H.Shelf.faults c.run_from.new.shelf) (g.D.Disk.seen c.run_from.result.1) (g.K.Sink.took c.run_from.new.out) (g.K.Sink.faults c.run_from.new.out)))
-    (Empty-store c.args.store c.args.store.catalog.limits c.args.store.pool.frames c.requires.empty) c.run_from.ensures.promise)
+    (Empty-store c.args.store c.args.store.catalog.limits c.args.store.pool.frames c.requires.empty) (c.run_from.ensures.promise.0, c.run_from.ensures.promise.1))
