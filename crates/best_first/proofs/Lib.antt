@@ -19,3 +19,7 @@ pub mod Passing
 pub mod Answering
 pub mod Beginning
 pub mod ForLayers
+pub mod WantedItems
+pub mod WantedRows
+pub mod WantedMoves
+pub mod WantedCalls

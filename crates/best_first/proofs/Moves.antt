@@ -17,7 +17,7 @@ use Rattle.best_first.specs.Reach.{IsSameGap, IsAtMost, within}
 use Rattle.best_first.specs.Hierarchy.{Meaning, MeetsLaws, HasGap, HasRow, IsNode, IsRoughListed, kept}
 use Rattle.best_first.specs.Answer.{IsNext}
 use Rattle.best_first.specs.Order.{item_cmp}
-use Rattle.best_first.specs.Frontier.{Stands, IsAfter, IsListed, pending}
+use Rattle.best_first.specs.Frontier.{Stands, Tracks, IsAfter, IsListed, pending}
 use Rattle.best_first.specs.Visits.{SearchState, Noted, Attempts, RoseBy, IsCounted, IsVisit, Goes, Fails, MakesVisits}
 use Rattle.best_first.specs.Inside.{Adds}
 use Rattle.best_first.proofs.Bags.{All-by, All-left, All-right, All-one}
@@ -35,24 +35,32 @@ module _ {N : Type 0} {cmp : N → N → Ordering} (o : IsTotalOrder cmp) (m : M
   -- ---- what a queued item is
 
   -- a queued node is a node of the tree, under its gap
+  pub tracked_node : (held done : List (Item N)) (gap : Frac) (node : N) → Tracks cmp m held done → Contains held (Node gap node) → IsNode m node × IsSameGap gap (m.gap node)
+  tracked_node held done gap node t at =
+      let is = All-contains (HasGap m) held (Node gap node) (All-right (HasGap m) done held t.gaps) at in
+      let inside = All-contains (λ item. within m.ceiling (gap_of item) ≡ true) held (Node gap node) (All-right (λ item. within m.ceiling (gap_of item) ≡ true) done held t.inside) at in
+      ((split_node m laws (nodes_of done) (pending m held) t.split node (Contains-append_right (nodes_of done) (pending m held) node (queued_pending m laws held gap node at is inside))).0, is)
+
+  -- and so where the search stands
   pub queued_node : (held done : List (Item N)) (last : Option Hit) (gap : Frac) (node : N) → Stands cmp m held last done → Contains held (Node gap node) → IsNode m node × IsSameGap gap (m.gap node)
-  queued_node held done last gap node h at =
-      let is = All-contains (HasGap m) held (Node gap node) (All-right (HasGap m) done held h.tracks.gaps) at in
-      let inside = All-contains (λ item. within m.ceiling (gap_of item) ≡ true) held (Node gap node) (All-right (λ item. within m.ceiling (gap_of item) ≡ true) done held h.tracks.inside) at in
-      ((split_node m laws (nodes_of done) (pending m held) h.tracks.split node (Contains-append_right (nodes_of done) (pending m held) node (queued_pending m laws held gap node at is inside))).0, is)
+  queued_node held done last gap node h at = tracked_node held done gap node h.tracks at
 
   -- a queued rough object is listed by a leaf of the tree
-  pub queued_rough : (held done : List (Item N)) (last : Option Hit) (gap : Frac) (left right : ℕ) → Stands cmp m held last done → Contains held (Rough gap left right) → IsRoughListed m left right
-  queued_rough held done last gap left right h at =
-      let from = All-contains (IsListed m done) (roughs_of done ++ roughs_of held) (Rough gap left right) h.tracks.listed
+  pub tracked_rough : (held done : List (Item N)) (gap : Frac) (left right : ℕ) → Tracks cmp m held done → Contains held (Rough gap left right) → IsRoughListed m left right
+  tracked_rough held done gap left right t at =
+      let from = All-contains (IsListed m done) (roughs_of done ++ roughs_of held) (Rough gap left right) t.listed
       (Contains-append_right (roughs_of done) (roughs_of held) (Rough gap left right) (rough_among held gap left right at)) in
       let rough = alike_rough cmp gap left right from.other (alike_cmp o (Rough gap left right) from.other from.alike) in
       record {
         leaf = from.leaf;
-        node = (split_node m laws (nodes_of done) (pending m held) h.tracks.split from.leaf (Contains-append_left (nodes_of done) (pending m held) from.leaf from.opened)).0;
+        node = (split_node m laws (nodes_of done) (pending m held) t.split from.leaf (Contains-append_left (nodes_of done) (pending m held) from.leaf from.opened)).0;
         gap = rough.0;
         listed = subst (Contains (m.finds from.leaf)) rough.1 from.listed;
       }
+
+  -- and so where the search stands
+  pub queued_rough : (held done : List (Item N)) (last : Option Hit) (gap : Frac) (left right : ℕ) → Stands cmp m held last done → Contains held (Rough gap left right) → IsRoughListed m left right
+  queued_rough held done last gap left right h at = tracked_rough held done gap left right h.tracks at
 
   -- ---- steps
 

@@ -1,5 +1,5 @@
 -- What calls leave to the next one: the pages, the causes of refusals, and where a search stands.
-use Rattle.std.proofs.Common.{◌≡◌, List, ◌++◌, Bool, false, Contains, Option, None, Some, IfSome, if◌then◌else◌, Err, ⊎_elim, refl, sym, ap, ap₂, ◌∙◌, subst, Ordering, Equal}
+use Rattle.std.proofs.Common.{◌≡◌, List, ◌++◌, Bool, false, Contains, Option, None, Some, IfSome, if◌then◌else◌, Err, ⊎_elim, sym, ap, ap₂, ◌∙◌, subst, Ordering, Equal}
 use Rattle.std.specs.Cmp.{IsTotalOrder}
 use Rattle.sand_base.specs.declared.visit.Visit.{Visit}
 use Rattle.page_pool.specs.Disk.{PageMap}

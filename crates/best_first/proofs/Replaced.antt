@@ -19,7 +19,7 @@ use Rattle.best_first.proofs.Pending.{nodes-append, roughs-append, pending-appen
 use Rattle.best_first.proofs.Ranks.{after_far, alike_rough, alike_row, not_itself}
 use Rattle.best_first.proofs.Tracked.{alike_more, alike_here, listed_more, rough_moves, once_push}
 
-nodes_none : {N : Type 0} (items : List (Item N)) → All (λ item. node_of item ≡ []) items → nodes_of items ≡ []
+pub nodes_none : {N : Type 0} (items : List (Item N)) → All (λ item. node_of item ≡ []) items → nodes_of items ≡ []
 nodes_none [] h = refl
 nodes_none (item ∷ items) h =
     ap (λ l. l ++ nodes_of items) (All-head (λ i. node_of i ≡ []) item items h) ∙ nodes_none items (All-tail (λ i. node_of i ≡ []) item items h)

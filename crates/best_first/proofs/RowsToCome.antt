@@ -59,7 +59,7 @@ module _ {N : Type 0} {cmp : N → N → Ordering} (o : IsTotalOrder cmp) (m : M
 
   -- ---- an expansion
 
-  opened_leads : (a : N) (items : List (Item N)) → IsFoundAt m a items → (hit : Hit) → IsAnswer m hit → IsListedUnder m a hit → IsPending m (kept (within m.ceiling) items) hit
+  pub opened_leads : (a : N) (items : List (Item N)) → IsFoundAt m a items → (hit : Hit) → IsAnswer m hit → IsListedUnder m a hit → IsPending m (kept (within m.ceiling) items) hit
   opened_leads a items found hit answer h =
       ⊎_elim
       (λ e.

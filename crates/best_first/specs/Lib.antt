@@ -9,3 +9,4 @@ pub mod Rows
 pub mod Order
 pub mod OrderLaws
 pub mod Inside
+pub mod Wanted

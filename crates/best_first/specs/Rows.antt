@@ -1,5 +1,5 @@
 -- The steps of the lazy iterator over the rows to come, and its outcome.
-use Rattle.std.specs.Prelude.{◌≡◌, ◌⊎◌, Bool, true, false, List, Option, None, Some, Result, Ok, Err, IfOk, ⊤}
+use Rattle.std.specs.Prelude.{◌≡◌, ◌⊎◌, Bool, true, false, Option, None, Some, Result, Ok, Err, IfOk, ⊤}
 use Rattle.std.specs.declared.cmp.Ordering.{Ordering}
 use Rattle.page_pool.specs.Causes.{HasPageCause}
 use Rattle.page_pool.specs.Desk.{DeskState}
@@ -11,7 +11,7 @@ use Rattle.best_first.specs.declared.item.Item.{Item}
 use Rattle.best_first.specs.Hierarchy.{Meaning}
 use Rattle.best_first.specs.Answer.{IsNext, IsExhausted}
 use Rattle.best_first.specs.Frontier.{StandsOver}
-use Rattle.best_first.specs.Visits.{SearchState, MakesVisits, last_after}
+use Rattle.best_first.specs.Visits.{SearchState, MakesVisits}
 
 -- A row comes only while no step has given None, and leaves that so; the first step that gives None leaves the end, or the fault, and each later one leaves that as it is.
 abbrev pub StepsOutcome : Result Bool PageFault → Option Hit → Result Bool PageFault → Type 0

@@ -7,11 +7,13 @@ ghost use Rattle.best_first.specs.Hierarchy.{MeetsLaws};
 ghost use Rattle.best_first.specs.Frontier.{Stands, StandsOver};
 ghost use Rattle.best_first.specs.Visits.{told_pages, state, IsCounted, GivesNext, last_after, MakesVisits};
 ghost use Rattle.best_first.specs.Steps.{steps, Falls, IsSettled};
+ghost use Rattle.best_first.specs.Wanted.{StandsOverFor, GivesWanted, IsWantedRow, MakesWantedVisits, wants_after};
 
 use crate::give_row::give_row;
 use crate::push_within::push_root;
 use crate::settle::settle;
-use crate::{Counts, Frontier, Hierarchy, Hit, Item, Rows};
+use crate::settle_wanted::settle_wanted;
+use crate::{Counts, Frontier, Hierarchy, Hit, Item, Rows, Wanted};
 use page_pool::{Desk, Disk, PageFault};
 use rank_queue::Queue;
 use sand_base::NoMemory;
@@ -84,6 +86,38 @@ impl<H: Hierarchy, Q: Queue<Item<H::Node>>> BestFirst<H, Q> {
         ) {
             Ok(()) => return Ok(give_row(&mut self.frontier)),
             Err(fault) => return Err(fault),
+        }
+    }
+
+    /// The first row of the answer whose left id is wanted, by gap, left id and right id, or None exactly where there is
+    /// none. Left ids that were not wanted before are not from then on, nor is that of the row which this call gives: rows
+    /// of such ids are not queued, and those that are queued are passed over. The visits are those of the hierarchy, and
+    /// nothing is visited that is farther than the row. After a refusal it may be called again.
+    pub fn next_wanted<W: Wanted, D: Disk>(
+        &mut self,
+        wanted: &W,
+        desk: &mut Desk<D>,
+    ) -> Result<Option<Hit>, PageFault>
+        requires { IfSome (told_pages desk.old) (λ p. StandsOverFor H.Node.cmp (H.meaning self.old.hierarchy p) (W.lefts wanted.now) (Q.held self.old.frontier.queue)) }
+        ensures hierarchy { self.new.hierarchy ≡ self.old.hierarchy }
+        ensures read { IsRead desk.old.pool desk.new.pool }
+        ensures cause { HasPageCause desk.old.pool desk.new.pool result }
+        ensures row { IfSome (told_pages desk.old) (λ p. GivesWanted (H.meaning self.old.hierarchy p) (W.lefts wanted.now) result) }
+        ensures wanted { IsWantedRow (W.lefts wanted.now) result }
+        ensures stands { IfSome (told_pages desk.old) (λ p. StandsOverFor H.Node.cmp (H.meaning self.old.hierarchy p) (wants_after (W.lefts wanted.now) result) (Q.held self.new.frontier.queue)) }
+        ensures visits { IfSome (told_pages desk.old) (λ p. MakesWantedVisits H.Node.cmp (H.meaning self.old.hierarchy p) (H.note self.old.hierarchy) (W.lefts wanted.now) (state (Q.held self.old.frontier.queue) self.old.frontier.last self.old.frontier.counts desk.old) (state (Q.held self.new.frontier.queue) self.new.frontier.last self.new.frontier.counts desk.new) result) }
+        ensures falls { Falls (steps (H.weight self.old.hierarchy) (Q.held self.old.frontier.queue)) (steps (H.weight self.old.hierarchy) (Q.held self.new.frontier.queue)) result }
+    {
+        match settle_wanted(
+            self.alloc,
+            &self.hierarchy,
+            wanted,
+            &mut self.frontier,
+            &mut self.found,
+            desk,
+        ) {
+            Ok(()) => Ok(give_row(&mut self.frontier)),
+            Err(fault) => Err(fault),
         }
     }
 

@@ -51,11 +51,11 @@ begun_alone : (wanted : JoinedColumns) (kept : JoinView) → kept ≡ join_view 
     → ((m : PageMap) → MeetsLaws (join_meaning (joining_in (join_view wanted) m)) → Stands pair_cmp (join_meaning (joining_in (join_view wanted) m)) held last [])
     → (lefts : LeftRows) (count greatest : ℕ) → lefts.given ≡ set.empty → lefts.waiting ≡ count → HasRowCount wanted.left.relation count → HasIdsUpTo wanted.left.relation greatest
     → ((m : PageMap) → StandsOver pair_cmp (join_meaning (joining_in kept m)) held last → HasLefts (join_meaning (joining_in kept m)) count greatest
-    → SemiStands pair_cmp (join_meaning (joining_in kept m)) held last lefts)
-    → BeginsFirsts (λ m d p t. HasTakenFirsts pair_cmp (joining_in kept m) held last counts lefts d p t) wanted
+    → SemiStands pair_cmp (join_meaning (joining_in kept m)) held lefts)
+    → BeginsFirsts (λ m d p t. HasTakenFirsts pair_cmp (joining_in kept m) held counts lefts d p t) wanted
 begun_alone wanted kept same held last counts none counted stands lefts count greatest empty all counts_rows bounds_ids semi =
     subst (λ (x : JoinView). ((m : PageMap) → StandsOver pair_cmp (join_meaning (joining_in x m)) held last → HasLefts (join_meaning (joining_in x m)) count greatest
-    → SemiStands pair_cmp (join_meaning (joining_in x m)) held last lefts) → BeginsFirsts (λ m d p t. HasTakenFirsts pair_cmp (joining_in x m) held last counts lefts d p t) wanted) (sym same)
+    → SemiStands pair_cmp (join_meaning (joining_in x m)) held lefts) → BeginsFirsts (λ m d p t. HasTakenFirsts pair_cmp (joining_in x m) held counts lefts d p t) wanted) (sym same)
     (λ standing trees column m d left right of.
     let j = joining_in (join_view wanted) m in
     let sound = is_sound wanted trees m d left right of in
@@ -66,7 +66,8 @@ begun_alone wanted kept same held last counts none counted stands lefts count gr
     let long : length j.left.shapes ≡ count = shapes_long wanted.left.relation.schema wanted.left.at column rows of.left_stands.table.rows ∙ sym (counts_rows m of.limits of.left_stands) in
     let small = shapes_small wanted.left.at greatest rows (bounds_ids m of.limits of.left_stands) in
     let with_lefts = subst (λ n. HasLefts (join_meaning j) n greatest) long (has_lefts j sound greatest small) in
-    let upto = (standing m (join_laws j sound, (found.done, found.stands)) with_lefts).1 in
+    let semi_stands = standing m (join_laws j sound, (found.done, found.stands)) with_lefts in
+    let at_first : Stands pair_cmp (join_meaning j) held None found.done = subst (λ l. Stands pair_cmp (join_meaning j) held l found.done) none found.stands in
     let nothing = nothing_counted plan_measure j.left j.right in
     record {
       left = left;
@@ -74,8 +75,13 @@ begun_alone wanted kept same held last counts none counted stands lefts count gr
       is = refl;
       left_side = side;
       right_side = side_too;
-      searched = found;
-      given = upto;
+      searched = record {
+        sound = found.sound;
+        done = found.done;
+        stands = record { sound = at_first.covers.sound; whole = λ hit answer _. at_first.covers.whole hit answer tt; tracks = at_first.tracks };
+        counted = found.counted;
+      };
+      given = semi_stands.1;
       rows = none_given lefts.given empty (pairs_in j);
       few = omega arith;
       waiting = omega (arith, all, long);
@@ -96,11 +102,11 @@ pub begun_over : (wanted : JoinedColumns) (made kept : SearchParts) → kept ≡
     → ((m : PageMap) → MeetsLaws (join_meaning (joining_in (join_view wanted) m)) → Stands pair_cmp (join_meaning (joining_in (join_view wanted) m)) made.held made.last [])
     → (lefts : LeftRows) (count greatest : ℕ) → lefts.given ≡ set.empty → lefts.waiting ≡ count → HasRowCount wanted.left.relation count → HasIdsUpTo wanted.left.relation greatest
     → ((m : PageMap) → StandsOver pair_cmp (join_meaning (joining_in made.view m)) made.held made.last → HasLefts (join_meaning (joining_in made.view m)) count greatest
-    → SemiStands pair_cmp (join_meaning (joining_in made.view m)) kept.held kept.last lefts)
-    → BeginsFirsts (λ m d p t. HasTakenFirsts pair_cmp (joining_in kept.view m) kept.held kept.last kept.counts lefts d p t) wanted
+    → SemiStands pair_cmp (join_meaning (joining_in made.view m)) kept.held lefts)
+    → BeginsFirsts (λ m d p t. HasTakenFirsts pair_cmp (joining_in kept.view m) kept.held kept.counts lefts d p t) wanted
 begun_over wanted made kept same is none counted stands lefts count greatest empty all counts_rows bounds_ids semi =
     subst (λ (x : SearchParts). ((m : PageMap) → StandsOver pair_cmp (join_meaning (joining_in made.view m)) made.held made.last → HasLefts (join_meaning (joining_in made.view m)) count greatest
-    → SemiStands pair_cmp (join_meaning (joining_in made.view m)) x.held x.last lefts)
-    → BeginsFirsts (λ m d p t. HasTakenFirsts pair_cmp (joining_in x.view m) x.held x.last x.counts lefts d p t) wanted) (sym same)
+    → SemiStands pair_cmp (join_meaning (joining_in made.view m)) x.held lefts)
+    → BeginsFirsts (λ m d p t. HasTakenFirsts pair_cmp (joining_in x.view m) x.held x.counts lefts d p t) wanted) (sym same)
     (λ standing. begun_alone wanted made.view is made.held made.last made.counts none counted stands lefts count greatest empty all counts_rows bounds_ids standing)
     semi

@@ -12,7 +12,7 @@ use Rattle.sand_model.specs.Sources.{Found, first_of_each}
 use Rattle.best_first.specs.declared.hit.Hit.{Hit}
 use Rattle.best_first.specs.declared.item.Item.{Item}
 use Rattle.best_first.specs.Answer.{IsAnswer}
-use Rattle.best_first.specs.Frontier.{Stands}
+use Rattle.best_first.specs.Wanted.{StandsFor}
 use Rattle.best_first.specs.Hierarchy.{Meaning}
 use Rattle.best_first.specs.Item.{gap_of}
 use Rattle.best_first.specs.Reach.{IsAtMost, within, up_to}
@@ -138,10 +138,10 @@ module _ {N : Type 0} (m : Meaning N) (answer : List Found) (lists : ListsAnswer
       (first_or_none m lefts.given)
 
   -- after a call
-  pub far_after : PageMap → {cmp : N → N → Ordering} (result : Result (Option Hit) PageFault) (held : List (Item N)) (after : Option Hit) (attempt all : List (Item N))
+  pub far_after : PageMap → {cmp : N → N → Ordering} (result : Result (Option Hit) PageFault) (wants : ℕ → Bool) (held attempt all : List (Item N))
       → GivesFirstPair m lefts.given result
-      → Stands cmp m held after all → PairBounds cmp m lefts.given result attempt all → CallReach cmp m to_next result attempt all
-  far_after pages {cmp} (Ok (Some hit)) held after attempt all pair h bounds =
+      → StandsFor cmp m wants held all → PairBounds cmp m lefts.given result attempt all → CallReach cmp m to_next result attempt all
+  far_after pages {cmp} (Ok (Some hit)) wants held attempt all pair h bounds =
       let (found, here, more, same) = given_next (gives hit.left lefts).given hit (taken_of pages hit pair) in
       let same_items : all ≡ all ++ attempt = sym (append-nil all) ∙ ap (λ l. all ++ l) (sym bounds.settled) in
       subst (λ o. CallReach cmp m (reach_from m.ceiling o) (Ok (Some hit)) attempt all) (sym here)
@@ -154,7 +154,7 @@ module _ {N : Type 0} (m : Meaning N) (answer : List Found) (lists : ListsAnswer
         few = few_none attempt bounds.settled;
         exact = (bounds.settled, bounds.reached);
       })
-  far_after pages {cmp} (Ok None) held after attempt all over h bounds =
+  far_after pages {cmp} (Ok None) wants held attempt all over h bounds =
       let same_items : all ≡ all ++ attempt = sym (append-nil all) ∙ ap (λ l. all ++ l) (sym bounds.settled) in
       subst (λ o. CallReach cmp m (reach_from m.ceiling o) ended attempt all) (sym (all_given pages over))
       (record {
@@ -166,4 +166,4 @@ module _ {N : Type 0} (m : Meaning N) (answer : List Found) (lists : ListsAnswer
         few = few_none attempt bounds.settled;
         exact = (bounds.settled, bounds.reached);
       })
-  far_after pages (Err fault) held after attempt all next h bounds = record { far = before_next pages (all ++ attempt) bounds.near bounds.inside; few = bounds.few; exact = tt }
+  far_after pages (Err fault) wants held attempt all next h bounds = record { far = before_next pages (all ++ attempt) bounds.near bounds.inside; few = bounds.few; exact = tt }

@@ -30,7 +30,7 @@ use Rattle.plan_rows.specs.declared.answer.Answer.{Answer}
 use Rattle.pair_source.specs.Joins.{IsSideOf, pairs_in, counts_by, IsSearched, HasTaken}
 use Rattle.rank_source.proofs.HowFar.{reach_from, CallReach, far_after}
 use Rattle.rank_source.proofs.NextReach.{more_taken, none_taken, next_reach}
-use Rattle.pair_source.proofs.PairCalls.{TellsPair, lowest_row, pair_is, visits}
+use Rattle.pair_source.proofs.PairCalls.{TellsPair, lowest_row, pair_is, taken_of_all, visits}
 use Rattle.pair_source.proofs.PairPlans.{IsTold, join_told}
 use Rattle.rank_source.proofs.Shorter.{element_past, element_map}
 use Rattle.pair_source.proofs.Unasked.{no_visits}
@@ -104,7 +104,7 @@ module _ {cmp : Block × Block → Block × Block → Ordering} (o : IsTotalOrde
         record {
           row = ap (λ l. element l t.rows) told.rows_are ∙ element_map pair_row rows t.rows ∙ ap (option_map pair_row) here ∙ ap (λ x. Some x) (pair_is a found hit tells gap same.1 same.2);
           at = subst (Standing new) (sym (more_taken d p t ids_of rows told.rows_are found here)) (stands_at new (Ok (Some hit)) next call (record { rows = t.rows + 1; is_ended = false }) rows_given);
-          visits = visits o j h.sound side.few side_too.few left right pages d p t rows told old new h.done h.stands h.counted call.attempt call.makes (Ok (Some hit)) far (Ok (Some a)) far.exact;
+          visits = visits o j h.sound side.few side_too.few left right pages d p t rows told old new h.done h.stands.tracks h.counted call.attempt (taken_of_all call.makes) (Ok (Some hit)) far (Ok (Some a)) far.exact;
         }
 
     pub end_step : (new : SearchState (Block × Block)) → GivesNext m old.last (Ok None) → new.last ≡ old.last → MakesVisits cmp m (visit_of left right) old new (Ok None) → Step old new (Ok None)
@@ -116,7 +116,7 @@ module _ {cmp : Block × Block → Block × Block → Ordering} (o : IsTotalOrde
           row = ap (λ l. element l t.rows) told.rows_are ∙ element_map pair_row rows t.rows ∙ ap (option_map pair_row) none;
           at = subst (Standing new) (sym (none_taken d p t ids_of rows told.rows_are none))
               (stands_at new (Ok None) over call (record { rows = t.rows; is_ended = true }) (subst (AreGiven rows t.rows) (sym last) given));
-          visits = visits o j h.sound side.few side_too.few left right pages d p t rows told old new h.done h.stands h.counted call.attempt call.makes (Ok None) far (Ok None) far.exact;
+          visits = visits o j h.sound side.few side_too.few left right pages d p t rows told old new h.done h.stands.tracks h.counted call.attempt (taken_of_all call.makes) (Ok None) far (Ok None) far.exact;
         }
 
     pub fault_step : (new : SearchState (Block × Block)) (fault : PageFault) → new.last ≡ old.last → MakesVisits cmp m (visit_of left right) old new (Err fault) → Step old new (Err fault)
@@ -125,7 +125,7 @@ module _ {cmp : Block × Block → Block × Block → Ordering} (o : IsTotalOrde
         let far = reached new (Err fault) tt call in record {
           row = tt;
           at = stands_at new (Err fault) tt call t (subst (AreGiven rows t.rows) (sym last) given);
-          visits = visits o j h.sound side.few side_too.few left right pages d p t rows told old new h.done h.stands h.counted call.attempt call.makes (Err fault) far (Err fault) tt;
+          visits = visits o j h.sound side.few side_too.few left right pages d p t rows told old new h.done h.stands.tracks h.counted call.attempt (taken_of_all call.makes) (Err fault) far (Err fault) tt;
         }
 
     -- the search wasn't asked

@@ -50,7 +50,7 @@ use Rattle.rank_source.proofs.HowFar.{reach_from, CallReach}
 use Rattle.rank_source.proofs.NextReach.{more_taken, none_taken, next_reach, last_reach, found_row}
 use Rattle.pair_source.proofs.PartnersLeft.{given_next, none_next, far_after}
 use Rattle.pair_source.proofs.JoinCalls.{ids_of}
-use Rattle.pair_source.proofs.PairCalls.{TellsPair, lowest_row, pair_is, visits}
+use Rattle.pair_source.proofs.PairCalls.{TellsPair, lowest_row, pair_is, taken_of_all, visits}
 use Rattle.pair_source.proofs.PairPlans.{IsTold, knn_told}
 use Rattle.rank_source.proofs.Shorter.{past_all, element_map}
 use Rattle.pair_source.proofs.Unasked.{no_visits}
@@ -150,7 +150,7 @@ module _ {cmp : Block × Block → Block × Block → Ordering} (o : IsTotalOrde
         source_visits : (answer : Result (Option Answer) PageFault) → OnOk answer ((call.attempt ≡ []) × Rattle.best_first.specs.Visits.Reached cmp m reached.far.test all)
             → SourceVisits pages d p t (counts_by old.counts) (counts_by new.counts) old.desk new.desk answer
         source_visits answer just =
-            visits o j h.searched.sound side.few side_too.few left right pages d p t rows told old new done h.searched.stands h.searched.counted call.attempt call.makes result reached answer just
+            visits o j h.searched.sound side.few side_too.few left right pages d p t rows told old new done h.searched.stands.tracks h.searched.counted call.attempt (taken_of_all call.makes) result reached answer just
 
         searched : IsSearched cmp j new.held new.last new.counts
         searched = record { sound = h.searched.sound; done = all; stands = call.makes.stands; counted = call.makes.counted h.searched.counted }

@@ -1,5 +1,5 @@
 -- A call of a search over a join, as the call of a source: what it visits, and what is counted.
-use Rattle.std.proofs.Common.{◌≡◌, ⊎_elim, ℕ, true, ◌+◌, ◌-◌, ◌≤◌, min, List, [], ◌∷◌, ◌++◌, map, flat_map, length, length-append, All, Contains, Option, Some}
+use Rattle.std.proofs.Common.{◌≡◌, ⊎_elim, ℕ, Bool, true, ◌+◌, ◌-◌, ◌≤◌, min, List, [], ◌∷◌, ◌++◌, map, flat_map, length, length-append, All, Contains, Option, Some}
 use Rattle.std.proofs.Common.{option_map, Result, Ok, Err, OnOk, refl, sym, ap, ◌∙◌, subst, arith, Ordering}
 use Rattle.std.specs.Cmp.{IsTotalOrder}
 use Rattle.std.proofs.lemmas.List.{map-append, length-map}
@@ -7,6 +7,7 @@ use Rattle.std.proofs.lemmas.List.Elements.{All-contains, Contains-append_left, 
 use Rattle.sand_base.specs.Faults.{last_count}
 use Rattle.sand_base.specs.declared.goal.Goal.TheVariants as figure
 use Rattle.sand_base.specs.declared.shape.Shape.{Shape}
+use Rattle.sand_base.specs.declared.visit.Visit.{Visit}
 use Rattle.z_code.specs.declared.block.Block.{Block}
 use Rattle.page_pool.specs.declared.fault.PageFault.{PageFault}
 use Rattle.page_pool.specs.Disk.{PageMap}
@@ -17,11 +18,12 @@ use Rattle.statements.specs.Plan.{Plan}
 use Rattle.sand_model.specs.Reach.{Reach, Counts, reach}
 use Rattle.sand_model.specs.Sources.{Found, found_cmp, sorted, is_within}
 use Rattle.sand_model.specs.Taken.{Taken}
-use Rattle.best_first.specs.Frontier.{Stands}
+use Rattle.best_first.specs.Frontier.{Tracks}
 use Rattle.best_first.specs.Hierarchy.{Meaning}
 use Rattle.best_first.specs.Item.{gap_of, nodes_of, roughs_of}
 use Rattle.best_first.specs.Reach.{IsSameGap}
-use Rattle.best_first.specs.Visits.{SearchState, IsVisit, IsCounted, Makes, Reached}
+use Rattle.best_first.specs.Visits.{SearchState, Noted, RoseBy, IsVisit, IsCounted, Makes, Reached}
+use Rattle.best_first.specs.Wanted.{MakesFor}
 use Rattle.best_first.specs.declared.counts.Counts.{Counts as Numbers}
 use Rattle.best_first.specs.declared.hit.Hit.{Hit}
 use Rattle.best_first.specs.declared.item.Item.{Item}
@@ -82,6 +84,42 @@ pair_is a found hit tells gap left right =
 
 -- ---- calls
 
+-- What a call took and attempted, whatever rows the search stands for behind it.
+pub record CallTakes {N : Type 0} (cmp : N → N → Ordering) (m : Meaning N) (note : Item N → Visit) (done : List (Item N)) (old new : SearchState N) (attempt : List (Item N)) : Type 0 where
+  pub taken : List (Item N)
+  pub noted : Noted note m.price (taken ++ attempt) old.desk new.desk
+  pub rose : RoseBy (length (nodes_of taken)) old.desk new.desk
+  pub tracks : Tracks cmp m new.held (done ++ taken)
+  pub visits : All IsVisit (taken ++ attempt)
+  pub tried : All (Contains new.held) attempt
+  pub counted : IsCounted done old.counts → IsCounted (done ++ taken) new.counts
+
+-- a call of a search for all rows
+abbrev pub taken_of_all : {N : Type 0} {cmp : N → N → Ordering} {m : Meaning N} {note : Item N → Visit} {done : List (Item N)} {old new : SearchState N} {attempt : List (Item N)}
+    → Makes cmp m note done old new attempt → CallTakes cmp m note done old new attempt
+taken_of_all makes = record {
+  taken = makes.taken;
+  noted = makes.noted;
+  rose = makes.rose;
+  tracks = makes.stands.tracks;
+  visits = makes.visits;
+  tried = makes.tried;
+  counted = makes.counted;
+}
+
+-- and one of a search for the rows of some left ids
+abbrev pub taken_of_some : {N : Type 0} {cmp : N → N → Ordering} {m : Meaning N} {note : Item N → Visit} {wants : ℕ → Bool} {done : List (Item N)} {old new : SearchState N}
+    {attempt : List (Item N)} → MakesFor cmp m note wants done old new attempt → CallTakes cmp m note done old new attempt
+taken_of_some makes = record {
+  taken = makes.taken;
+  noted = makes.noted;
+  rose = makes.rose;
+  tracks = makes.stands.tracks;
+  visits = makes.visits;
+  tried = makes.tried;
+  counted = makes.counted;
+}
+
 module _ {cmp : Block × Block → Block × Block → Ordering} (o : IsTotalOrder cmp) (j : Joining) (sound : IsSound j) (few : listings j.left.tree ≤ most_listings)
     (few_too : listings j.right.tree ≤ most_listings)
     (left right : ℕ) (pages : PageMap) (d : Database) (p : Plan) (t : Taken) (rows : List Found) (told : IsTold d p rows j) where
@@ -95,13 +133,13 @@ module _ {cmp : Block × Block → Block × Block → Ordering} (o : IsTotalOrde
   next_counts : counts_taken d p (next_taken d p t) ≡ counts_of_join j to
   next_counts = told.counts to
 
-  numbers : (held done : List (Item (Block × Block))) (n : Numbers) (last : Option Hit) → Stands cmp m held last done → IsCounted done n
+  numbers : (held done : List (Item (Block × Block))) (n : Numbers) → Tracks cmp m held done → IsCounted done n
       → (n.visited ≡ length (nodes_of done)) × (n.fetched ≡ length (roughs_of done))
-  numbers held done n last stands counted = counted_is j sound plan_measure plan_measure_is o few few_too held done stands.tracks n counted
+  numbers held done n tracks counted = counted_is j sound plan_measure plan_measure_is o few few_too held done tracks n counted
 
   -- the search before the call, what the call took and attempted, and how far that is
-  module _ (old new : SearchState (Block × Block)) (done : List (Item (Block × Block))) (before : Stands cmp m old.held old.last done) (counted : IsCounted done old.counts)
-      (attempt : List (Item (Block × Block))) (makes : Makes cmp m (visit_of left right) done old new attempt) (result : Result (Option Hit) PageFault)
+  module _ (old new : SearchState (Block × Block)) (done : List (Item (Block × Block))) (before : Tracks cmp m old.held done) (counted : IsCounted done old.counts)
+      (attempt : List (Item (Block × Block))) (makes : CallTakes cmp m (visit_of left right) done old new attempt) (result : Result (Option Hit) PageFault)
       (reached : CallReach cmp m to result attempt (done ++ makes.taken)) where
     abbrev all : List (Item (Block × Block))
     all = done ++ makes.taken
@@ -124,7 +162,7 @@ module _ {cmp : Block × Block → Block × Block → Ordering} (o : IsTotalOrde
         ⊎_elim (λ i. Contains-append_left all attempt item (Contains-append_right done makes.taken item i))
         (λ i. Contains-append_right all attempt item i) both in
         told.visits pages to (visit_of left right item)
-        (lies_within j sound plan_measure plan_measure_is to reached.far.test reached.far.goes.tells new.held all makes.stands.tracks left right item visited queued
+        (lies_within j sound plan_measure plan_measure_is to reached.far.test reached.far.goes.tells new.held all makes.tracks left right item visited queued
         (All-contains (λ item. reached.far.test (gap_of item) ≡ true) (all ++ attempt) item reached.far.near there))
 
     near_all : All (LiesWithin plan_measure pages d p to) (map (visit_of left right) (makes.taken ++ attempt))
@@ -140,9 +178,9 @@ module _ {cmp : Block × Block → Block × Block → Ordering} (o : IsTotalOrde
 
     between : AreBetween (counts_by old.counts) (counts_taken d p (next_taken d p t)) (counts_by new.counts)
     between =
-        let (pairs, geometries) = no_more_taken j sound plan_measure plan_measure_is o to reached.far.test reached.far.goes new.held all makes.stands.tracks taken_near in
-        let (visited, fetched) = numbers old.held done old.counts old.last before counted in
-        let (visits, fetches) = numbers new.held all new.counts new.last makes.stands now_counted in
+        let (pairs, geometries) = no_more_taken j sound plan_measure plan_measure_is o to reached.far.test reached.far.goes new.held all makes.tracks taken_near in
+        let (visited, fetched) = numbers old.held done old.counts before counted in
+        let (visits, fetches) = numbers new.held all new.counts makes.tracks now_counted in
         subst (λ (high : Counts). AreBetween (counts_by old.counts) high (counts_by new.counts)) (sym next_counts)
         (record {
           blocks = (omega arith, omega arith);
@@ -152,16 +190,16 @@ module _ {cmp : Block × Block → Block × Block → Ordering} (o : IsTotalOrde
 
     rose : min (old.desk.pool.gets + (node_count (counts_by new.counts) - node_count (counts_by old.counts))) last_count ≤ new.desk.pool.gets
     rose =
-        let (visited, fetched) = numbers old.held done old.counts old.last before counted in
-        let (visits, fetches) = numbers new.held all new.counts new.last makes.stands now_counted in
+        let (visited, fetched) = numbers old.held done old.counts before counted in
+        let (visits, fetches) = numbers new.held all new.counts makes.tracks now_counted in
         let some : node_count (counts_by new.counts) - node_count (counts_by old.counts) ≡ length (nodes_of makes.taken) = omega (arith, visited, visits, more_nodes) in
         subst (λ n. min (old.desk.pool.gets + n) last_count ≤ new.desk.pool.gets) (sym some) makes.rose
 
     -- the counts rose by what was taken
     counted_taken : counts_by new.counts ≡ counts_by old.counts plus visit_counts (map (visit_of left right) makes.taken)
     counted_taken =
-        let (visited, fetched) = numbers old.held done old.counts old.last before counted in
-        let (visits, fetches) = numbers new.held all new.counts new.last makes.stands now_counted in
+        let (visited, fetched) = numbers old.held done old.counts before counted in
+        let (visits, fetches) = numbers new.held all new.counts makes.tracks now_counted in
         let counts = visits_counted left right makes.taken (All-left IsVisit makes.taken attempt makes.visits) in
         counts_one (counts_by new.counts) (counts_by old.counts plus record { blocks = 0; pairs = length (nodes_of makes.taken); geometries = length (roughs_of makes.taken) })
         refl (omega (arith, visited, visits, more_nodes)) (omega (arith, fetched, fetches, more_roughs))
@@ -170,7 +208,7 @@ module _ {cmp : Block × Block → Block × Block → Ordering} (o : IsTotalOrde
     -- the counts when what was taken is just what lies within the reach
     counted_exactly : Reached cmp m reached.far.test all → counts_by new.counts ≡ counts_taken d p (next_taken d p t)
     counted_exactly just =
-        let (visits, fetches) = numbers new.held all new.counts new.last makes.stands now_counted in
+        let (visits, fetches) = numbers new.held all new.counts makes.tracks now_counted in
         let counted = counts_as j sound plan_measure plan_measure_is cmp o to reached.far.test reached.far.goes.tells all just in
         (λ i. record { blocks = 0; pairs = (visits ∙ counted.pairs) i; geometries = (fetches ∙ counted.geometries) i }) ∙ sym next_counts
 

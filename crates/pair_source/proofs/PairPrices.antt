@@ -15,7 +15,7 @@ use Rattle.sand_model.specs.Price.{block_price}
 use Rattle.sand_model.specs.Reach.{quadtree_of}
 use Rattle.sand_model.specs.Taken.{Taken}
 use Rattle.sand_model.specs.Tree.{Tree}
-use Rattle.best_first.specs.Visits.{SearchState, MakesVisits, Makes}
+use Rattle.best_first.specs.Visits.{SearchState, MakesVisits, Noted}
 use Rattle.best_first.specs.declared.hit.Hit.{Hit}
 use Rattle.best_first.specs.declared.item.Item.{Item}
 use Rattle.best_first.specs.declared.item.Item.TheVariants.{Node, Rough, Row}
@@ -65,16 +65,15 @@ module _ (v : JoinView) (m : PageMap) (one other : ℕ) where
         omega (arith, cost, is, rest, mine, theirs)
 
     -- the call of the source, by that of the search
-    search_costs : (done : List (Item (Block × Block))) (old new : SearchState (Block × Block)) (attempt : List (Item (Block × Block))) (answer : Result (Option Answer) PageFault)
-        → Makes pair_cmp (join_meaning j) (visit_of one other) done old new attempt → Costs h 0 0 0 d p old.desk new.desk answer
-    search_costs done old new attempt answer makes =
-        let items = makes.taken ++ attempt in
-        let most = makes.noted.most in
+    search_costs : (items : List (Item (Block × Block))) (old new : DeskState) (answer : Result (Option Answer) PageFault)
+        → Noted (visit_of one other) (visit_price j) items old new → Costs h 0 0 0 d p old new answer
+    search_costs items old new answer paid =
+        let most = paid.most in
         let price = items_price items in
         let nothing = none_left answer in
         record {
           noted = map (visit_of one other) items;
-          log = makes.noted.log;
+          log = paid.log;
           most = omega (arith, most, price, nothing);
         }
       where
@@ -117,7 +116,7 @@ pub join_costs : (one other : ℕ) (pages : Option PageMap) (v : JoinView) (old 
 join_costs one other None v old new result answer makes = tt
 join_costs one other (Some m) v old new result answer makes = λ d p t k.
     let call = makes k.searched.done k.searched.stands in
-    search_costs v m one other d p (join_pays v m one other d p k.left k.right k.is k.left_side k.right_side) k.searched.done old new call.attempt answer call.makes
+    search_costs v m one other d p (join_pays v m one other d p k.left k.right k.is k.left_side k.right_side) (call.makes.taken ++ call.attempt) old.desk new.desk answer call.makes.noted
 
 pub join_still : (pages : Option PageMap) (v : JoinView) (s : SearchState (Block × Block)) (answer : Result (Option Answer) PageFault) → IfSome pages (JoinCosts v s s answer)
 join_still None v s answer = tt
@@ -126,7 +125,7 @@ join_still (Some m) v s answer = λ d p t k. still v m 0 0 d p (join_pays v m 0 
 -- what a call of a semi-join costs
 abbrev pub SemiCosts : JoinView → LeftRows → SearchState (Block × Block) → SearchState (Block × Block) → Result (Option Answer) PageFault → PageMap → Type 0
 SemiCosts v lefts old new answer m =
-    (d : Database) (p : Plan) (t : Taken) → HasTakenFirsts pair_cmp (joining_in v m) old.held old.last old.counts lefts d p t → Costs (heights_of v) 0 0 0 d p old.desk new.desk answer
+    (d : Database) (p : Plan) (t : Taken) → HasTakenFirsts pair_cmp (joining_in v m) old.held old.counts lefts d p t → Costs (heights_of v) 0 0 0 d p old.desk new.desk answer
 
 pub semi_still : (pages : Option PageMap) (v : JoinView) (lefts : LeftRows) (s : SearchState (Block × Block)) (answer : Result (Option Answer) PageFault) → IfSome pages (SemiCosts v lefts s s answer)
 semi_still None v lefts s answer = tt
@@ -134,7 +133,7 @@ semi_still (Some m) v lefts s answer = λ d p t k. still v m 0 0 d p (semi_pays 
 
 pub semi_costs : (one other : ℕ) (pages : Option PageMap) (v : JoinView) (lefts : LeftRows) (old new : SearchState (Block × Block))
     (result : Result (Option Hit) PageFault) (answer : Result (Option Answer) PageFault)
-    → (0 < lefts.waiting → IfSome pages (λ m. MakesPairVisits pair_cmp (join_meaning (joining_in v m)) (visit_of one other) lefts.given old new result)) → (lefts.waiting ≡ 0 → new ≡ old)
+    → (0 < lefts.waiting → IfSome pages (λ m. MakesPairVisits pair_cmp (join_meaning (joining_in v m)) (visit_of one other) lefts old new result)) → (lefts.waiting ≡ 0 → new ≡ old)
     → IfSome pages (SemiCosts v lefts old new answer)
 semi_costs one other None v lefts old new result answer makes over = tt
 semi_costs one other (Some m) v lefts old new result answer makes over = λ d p t k.
@@ -142,7 +141,7 @@ semi_costs one other (Some m) v lefts old new result answer makes over = λ d p 
     ⊎_elim (λ e. subst (λ (s : SearchState (Block × Block)). Costs (heights_of v) 0 0 0 d p old.desk s.desk answer) (sym (over e)) (still v m one other d p pays old.desk answer))
     (λ w.
     let call = makes w k.searched.done k.searched.stands in
-    search_costs v m one other d p pays k.searched.done old new call.attempt answer call.makes)
+    search_costs v m one other d p pays (call.makes.taken ++ call.attempt) old.desk new.desk answer call.makes.noted)
     (some_or_none lefts.waiting)
 
 -- what a call of a join of k partners costs
@@ -165,5 +164,5 @@ knn_costs one other (Some m) v counts old new result answer makes over = λ d p 
     ⊎_elim (λ e. subst (λ (s : SearchState (Block × Block)). Costs (heights_of v) 0 0 0 d p old.desk s.desk answer) (sym (over e)) (still v m one other d p pays old.desk answer))
     (λ w.
     let call = makes w k.searched.done k.searched.stands in
-    search_costs v m one other d p pays k.searched.done old new call.attempt answer call.makes)
+    search_costs v m one other d p pays (call.makes.taken ++ call.attempt) old.desk new.desk answer call.makes.noted)
     (some_or_none counts.waiting)

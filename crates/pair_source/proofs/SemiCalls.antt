@@ -20,18 +20,19 @@ use Rattle.sand_model.specs.Reach.{Reach, Counts, Ceiling, reach, reach_of_last,
 use Rattle.sand_model.specs.Sources.{Found, first_of_each, column_shapes}
 use Rattle.sand_model.specs.Taken.{Taken}
 use Rattle.best_first.specs.Hierarchy.{Meaning}
-use Rattle.best_first.specs.Visits.{SearchState, MakesVisits as SearchVisits}
+use Rattle.best_first.specs.Visits.{SearchState}
 use Rattle.best_first.specs.declared.hit.Hit.{Hit}
 use Rattle.best_first.specs.declared.item.Item.{Item}
 use Rattle.best_first.proofs.Bags.{here, there, cons_cases, none, All-by, from_filter}
 use Rattle.best_first.proofs.Gaps.{same_back}
-use Rattle.best_first.proofs.Journeys.{stays}
+use Rattle.best_first.specs.Wanted.{wants_after}
+use Rattle.best_first.proofs.WantedRows.{stands_fewer}
 use Rattle.rank_cursor.proofs.SortedRows.{at_is, at_below}
-use Rattle.semi_join.specs.FirstPairs.{GivesFirstPair, AreAllGiven, AreGivenUpTo}
-use Rattle.semi_join.specs.LeftRows.{LeftRows, GivesLeft}
+use Rattle.semi_join.specs.FirstPairs.{GivesFirstPair, AreAllGiven, AreWaiting}
+use Rattle.semi_join.specs.LeftRows.{LeftRows, GivesLeft, is_waiting}
 use Rattle.semi_join.specs.Listed.{ListsAnswer, pairs_left, TakesFirst}
 use Rattle.semi_join.specs.Visits.{PairVisits, MakesPairVisits}
-use Rattle.semi_join.proofs.Bounds.{fault_visits}
+use Rattle.semi_join.proofs.Waiting.{one_less}
 use Rattle.dist_join.specs.Joining.{Joining, join_meaning}
 use Rattle.dist_join.specs.OverPages.{visit_of}
 use Rattle.dist_join.proofs.JoinLaws.{join_laws}
@@ -42,15 +43,15 @@ use Rattle.plan_rows.specs.Rows.{plan_measure}
 use Rattle.plan_rows.specs.SourceSteps.{next_taken, counts_taken, SourceStep, MakesVisits as SourceVisits}
 use Rattle.plan_rows.specs.Visited.{LiesWithin}
 use Rattle.plan_rows.specs.declared.answer.Answer.{Answer}
-use Rattle.pair_source.specs.Joins.{IsSideOf, pairs_in, counts_by, IsSearched, HasTakenFirsts}
+use Rattle.pair_source.specs.Joins.{IsSideOf, pairs_in, counts_by, IsSearchedFor, HasTakenFirsts}
 use Rattle.rank_source.proofs.HowFar.{reach_from, CallReach}
 use Rattle.rank_source.proofs.NextReach.{more_taken, none_taken, next_reach, last_reach, found_row}
 use Rattle.pair_source.proofs.FirstsLeft.{given_next, none_next, far_after, all_given}
 use Rattle.pair_source.proofs.JoinCalls.{ids_of}
-use Rattle.pair_source.proofs.PairCalls.{TellsPair, lowest_row, pair_is, visits}
+use Rattle.pair_source.proofs.PairCalls.{TellsPair, lowest_row, pair_is, taken_of_some, visits}
 use Rattle.pair_source.proofs.PairPlans.{IsTold, semi_told}
 use Rattle.rank_source.proofs.Shorter.{past_all, element_map}
-use Rattle.pair_source.proofs.Unasked.{no_visits}
+use Rattle.pair_source.proofs.Unasked.{no_pair_visits}
 
 -- what stands among the first pairs of a list stands in it
 from_firsts : (rows : List Found) (found : Found) → Contains (first_of_each rows) found → Contains rows found
@@ -113,7 +114,7 @@ module _ {cmp : Block × Block → Block × Block → Ordering} (o : IsTotalOrde
 
   -- the source as a search has it, when so much was taken
   abbrev Standing : SearchState (Block × Block) → LeftRows → Taken → Type 0
-  Standing s lefts u = HasTakenFirsts cmp j s.held s.last s.counts lefts d p u
+  Standing s lefts u = HasTakenFirsts cmp j s.held s.counts lefts d p u
 
   abbrev Step : SearchState (Block × Block) → SearchState (Block × Block) → LeftRows → Result (Option Answer) PageFault → Type 0
   Step old new lefts answer = SourceStep pages d p t (counts_by old.counts) (counts_by new.counts) old.desk new.desk answer (Standing new lefts)
@@ -132,26 +133,31 @@ module _ {cmp : Block × Block → Block × Block → Ordering} (o : IsTotalOrde
       below = let all = h.waiting in omega (arith, all, waits)
 
       module _ (new : SearchState (Block × Block)) (result : Result (Option Hit) PageFault) (pair : GivesFirstPair m lefts.given result)
-          (call : PairVisits cmp m (visit_of left right) lefts.given done old new result) where
+          (call : PairVisits cmp m (visit_of left right) lefts done old new result) where
         abbrev all : List (Item (Block × Block))
         all = done ++ call.makes.taken
 
         reached : CallReach cmp m to result call.attempt all
         reached = subst (λ x. CallReach cmp m x result call.attempt all) (sym (to_is below))
-            (far_after m (pairs_in j) lists lefts t.rows h.rows pages result new.held new.last call.attempt all pair call.makes.stands call.bounds)
+            (far_after m (pairs_in j) lists lefts t.rows h.rows pages result (wants_after (is_waiting lefts) result) new.held call.attempt all pair call.makes.stands call.bounds)
 
         source_visits : (answer : Result (Option Answer) PageFault) → OnOk answer ((call.attempt ≡ []) × Rattle.best_first.specs.Visits.Reached cmp m reached.far.test all)
             → SourceVisits pages d p t (counts_by old.counts) (counts_by new.counts) old.desk new.desk answer
         source_visits answer just =
-            visits o j h.searched.sound side.few side_too.few left right pages d p t rows told old new done h.searched.stands h.searched.counted call.attempt call.makes result reached answer just
+            visits o j h.searched.sound side.few side_too.few left right pages d p t rows told old new done h.searched.stands.tracks h.searched.counted call.attempt (taken_of_some call.makes) result reached answer just
 
-        searched : IsSearched cmp j new.held new.last new.counts
-        searched = record { sound = h.searched.sound; done = all; stands = call.makes.stands; counted = call.makes.counted h.searched.counted }
+        searched : (after : LeftRows) → ((id : ℕ) → is_waiting after id ≡ true → wants_after (is_waiting lefts) result id ≡ true) → IsSearchedFor cmp j (is_waiting after) new.held new.counts
+        searched after less = record {
+          sound = h.searched.sound;
+          done = all;
+          stands = stands_fewer m (wants_after (is_waiting lefts) result) (is_waiting after) new.held all less call.makes.stands;
+          counted = call.makes.counted h.searched.counted;
+        }
 
       pub row_step : (new : SearchState (Block × Block)) (after : LeftRows) (hit : Hit) (a : Answer) → TellsPair a hit → GivesFirstPair m lefts.given (Ok (Some hit))
           → GivesLeft lefts after (Ok (Some hit))
-          → AreGivenUpTo m new.last after → TakesFirst (pairs_left lefts.given (pairs_in j)) (pairs_left after.given (pairs_in j)) (Ok (Some hit))
-          → MakesPairVisits cmp m (visit_of left right) lefts.given old new (Ok (Some hit)) → Step old new after (Ok (Some a))
+          → AreWaiting m after → TakesFirst (pairs_left lefts.given (pairs_in j)) (pairs_left after.given (pairs_in j)) (Ok (Some hit))
+          → MakesPairVisits cmp m (visit_of left right) lefts old new (Ok (Some hit)) → Step old new after (Ok (Some a))
       row_step new after hit a tells pair left_row upto takes makes =
           let call = makes done h.searched.stands in
           let (found, at, more, same) = given_next m (pairs_in j) lists lefts t.rows h.rows after.given hit takes in
@@ -173,7 +179,8 @@ module _ {cmp : Block × Block → Block × Block → Ordering} (o : IsTotalOrde
               is = refl;
               left_side = side;
               right_side = side_too;
-              searched = searched new (Ok (Some hit)) pair call;
+              searched = searched new (Ok (Some hit)) pair call after
+                  (λ id e. one_less lefts hit.left id (subst (λ (l : LeftRows). is_waiting l id ≡ true) left_row.1 e));
               given = upto;
               rows = more ∙ ap (λ n. drop n rows) (sym (add-one t.rows));
               few = let under = at_below rows t.rows found at in omega (arith, under);
@@ -184,7 +191,7 @@ module _ {cmp : Block × Block → Block × Block → Ordering} (o : IsTotalOrde
           }
 
       -- the source when nothing more was given
-      stays_at : (new : SearchState (Block × Block)) (after : LeftRows) → after ≡ lefts → IsSearched cmp j new.held new.last new.counts → AreGivenUpTo m new.last after
+      stays_at : (new : SearchState (Block × Block)) (after : LeftRows) → after ≡ lefts → IsSearchedFor cmp j (is_waiting after) new.held new.counts → AreWaiting m after
           → (u : Taken) → u.rows ≡ t.rows → Standing new after u
       stays_at new after same found upto u rows_same =
           let waiting_same : after.waiting ≡ lefts.waiting = ap (λ (l : LeftRows). l.waiting) same in
@@ -203,9 +210,9 @@ module _ {cmp : Block × Block → Block × Block → Ordering} (o : IsTotalOrde
             spent = λ e. absurd (omega (arith, e, waiting_same, waits));
           }
 
-      pub end_step : (new : SearchState (Block × Block)) (after : LeftRows) → GivesFirstPair m lefts.given (Ok None) → after ≡ lefts → AreGivenUpTo m new.last after
+      pub end_step : (new : SearchState (Block × Block)) (after : LeftRows) → GivesFirstPair m lefts.given (Ok None) → after ≡ lefts → AreWaiting m after
           → TakesFirst (pairs_left lefts.given (pairs_in j)) (pairs_left after.given (pairs_in j)) (Ok None)
-          → MakesPairVisits cmp m (visit_of left right) lefts.given old new (Ok None) → Step old new after (Ok None)
+          → MakesPairVisits cmp m (visit_of left right) lefts old new (Ok None) → Step old new after (Ok None)
       end_step new after over same upto takes makes =
           let call = makes done h.searched.stands in
           let nothing = none_next m (pairs_in j) lists lefts t.rows h.rows takes.0 in
@@ -213,17 +220,17 @@ module _ {cmp : Block × Block → Block × Block → Ordering} (o : IsTotalOrde
           record {
             row = ap (λ l. element l t.rows) told.rows_are ∙ element_map pair_row rows t.rows ∙ ap (option_map pair_row) nothing;
             at = subst (Standing new after) (sym (none_taken d p t ids_of rows told.rows_are nothing))
-                (stays_at new after same (searched new (Ok None) over call) upto (record { rows = t.rows; is_ended = true }) refl);
+                (stays_at new after same (searched new (Ok None) over call after (λ id e. subst (λ (l : LeftRows). is_waiting l id ≡ true) same e)) upto (record { rows = t.rows; is_ended = true }) refl);
             visits = source_visits new (Ok None) over call (Ok None) far.exact;
           }
 
-      pub fault_step : (new : SearchState (Block × Block)) (after : LeftRows) (fault : PageFault) → after ≡ lefts → AreGivenUpTo m new.last after
-          → MakesPairVisits cmp m (visit_of left right) lefts.given old new (Err fault) → Step old new after (Err fault)
+      pub fault_step : (new : SearchState (Block × Block)) (after : LeftRows) (fault : PageFault) → after ≡ lefts → AreWaiting m after
+          → MakesPairVisits cmp m (visit_of left right) lefts old new (Err fault) → Step old new after (Err fault)
       fault_step new after fault same upto makes =
           let call = makes done h.searched.stands in
           record {
             row = tt;
-            at = stays_at new after same (searched new (Err fault) tt call) upto t refl;
+            at = stays_at new after same (searched new (Err fault) tt call after (λ id e. subst (λ (l : LeftRows). is_waiting l id ≡ true) same e)) upto t refl;
             visits = source_visits new (Err fault) tt call (Err fault) tt;
           }
 
@@ -232,7 +239,7 @@ module _ {cmp : Block × Block → Block × Block → Ordering} (o : IsTotalOrde
       unasked fault =
           let note = visit_of left right in
           fault_step old lefts fault refl h.given
-          (fault_visits m note lefts old old old fault h.given (stays {cmp = cmp} m note old) (no_visits o m (join_laws j h.searched.sound) note old fault))
+          (no_pair_visits o m (join_laws j h.searched.sound) note lefts h.given old fault)
 
     -- ---- a call where each left row was given: nothing is asked
 

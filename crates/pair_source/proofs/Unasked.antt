@@ -13,6 +13,12 @@ use Rattle.best_first.specs.declared.item.Item.{Item}
 use Rattle.best_first.proofs.Bags.{All-by, All-left, All-right}
 use Rattle.best_first.proofs.Journeys.{stays}
 use Rattle.best_first.proofs.RowsToCome.{within_row}
+use Rattle.best_first.proofs.WantedMoves.{stays_for}
+use Rattle.best_first.proofs.WantedRows.{within_wanted}
+use Rattle.semi_join.specs.FirstPairs.{AreWaiting}
+use Rattle.semi_join.specs.LeftRows.{LeftRows, is_waiting}
+use Rattle.semi_join.specs.Visits.{MakesPairVisits}
+use Rattle.semi_join.proofs.Waiting.{is_wanted_first}
 
 module _ {N : Type 0} {cmp : N → N → Ordering} (o : IsTotalOrder cmp) (m : Meaning N) (laws : MeetsLaws m) (note : Item N → Visit) (old : SearchState N) (fault : PageFault) where
   before : (done : List (Item N)) → Stands cmp m old.held old.last done → VisitsBefore m old.last [] done
@@ -32,3 +38,22 @@ module _ {N : Type 0} {cmp : N → N → Ordering} (o : IsTotalOrder cmp) (m : M
         makes = none;
         bounds = before (done ++ none.taken) none.stands;
       }
+
+-- and of one of a semi-join
+pub no_pair_visits : {N : Type 0} {cmp : N → N → Ordering} (o : IsTotalOrder cmp) (m : Meaning N) → MeetsLaws m → (note : Item N → Visit) (lefts : LeftRows) → AreWaiting m lefts
+    → (old : SearchState N) (fault : PageFault) → MakesPairVisits cmp m note lefts old old (Err fault)
+no_pair_visits {N} {cmp} o m laws note lefts wait old fault done h =
+    let none = stays_for {cmp = cmp} m note (is_waiting lefts) old done h in
+    let all = done ++ none.taken in
+    let inside = All-left (λ item. within m.ceiling (gap_of item) ≡ true) all old.held none.stands.tracks.inside in
+    record {
+      attempt = [];
+      makes = none;
+      bounds = record {
+        few = omega arith;
+        near = λ hit pair. subst (All (λ item. IsAtMost (gap_of item) hit.gap)) (sym (append-nil all)) (All-by (λ item. IsAtMost (gap_of item) hit.gap) all (λ item at.
+            within_wanted o m laws (is_waiting lefts) old.held all hit (gap_of item) (is_wanted_first m lefts wait hit pair)
+            (All-contains (λ taken. All (λ item. IsAtMost (gap_of taken) (gap_of item)) old.held) all item none.stands.tracks.nearer at) none.stands));
+        inside = subst (All (λ item. within m.ceiling (gap_of item) ≡ true)) (sym (append-nil all)) inside;
+      };
+    }

@@ -1,5 +1,5 @@
 -- The sources of plans that join two columns: where they stand when so much of them was taken.
-use Rattle.std.specs.Prelude.{◌≡◌, ℕ, ◌+◌, ◌*◌, ◌≤◌, min, List, length, take, drop, true, Option}
+use Rattle.std.specs.Prelude.{◌≡◌, ℕ, Bool, ◌+◌, ◌*◌, ◌≤◌, min, List, length, take, drop, true, Option}
 use Rattle.std.specs.declared.cmp.Ordering.{Ordering}
 use Rattle.z_code.specs.declared.block.Block.{Block}
 use Rattle.sand_model.specs.Answer.{source}
@@ -23,12 +23,13 @@ use Rattle.sand_store.specs.Paths.{IsTreeOf}
 use Rattle.sand_store.specs.Standing.{TableStands, RelationStands}
 use Rattle.best_first.specs.Frontier.{Stands}
 use Rattle.best_first.specs.Visits.{IsCounted}
+use Rattle.best_first.specs.Wanted.{StandsFor}
 use Rattle.best_first.specs.declared.counts.Counts.{Counts as Numbers}
 use Rattle.best_first.specs.declared.hit.Hit.{Hit}
 use Rattle.best_first.specs.declared.item.Item.{Item}
 use Rattle.rank_cursor.specs.Answers.{AreGiven}
-use Rattle.semi_join.specs.FirstPairs.{AreGivenUpTo}
-use Rattle.semi_join.specs.LeftRows.{LeftRows}
+use Rattle.semi_join.specs.FirstPairs.{AreWaiting}
+use Rattle.semi_join.specs.LeftRows.{LeftRows, is_waiting}
 use Rattle.semi_join.specs.Listed.{ListsAnswer, pairs_left}
 use Rattle.knn_join.specs.Listed.{partners_left}
 use Rattle.knn_join.specs.PartnerCounts.{PartnerCounts}
@@ -131,6 +132,13 @@ pub record IsSearched (cmp : Block × Block → Block × Block → Ordering) (j 
   pub stands : Stands cmp (join_meaning j) held last done
   pub counted : IsCounted done counts
 
+-- A search over a join that is asked for the rows of some left ids alone stands where it has taken all that its counts count.
+pub record IsSearchedFor (cmp : Block × Block → Block × Block → Ordering) (j : Joining) (wants : ℕ → Bool) (held : List (Item (Block × Block))) (counts : Numbers) : Type 0 where
+  pub sound : IsSound j
+  pub done : List (Item (Block × Block))
+  pub stands : StandsFor cmp (join_meaning j) wants held done
+  pub counted : IsCounted done counts
+
 -- ---- where a source stands
 
 -- So much was taken of a join: it is that of two columns, the search stands, and its rows are the first of the joined ones.
@@ -144,17 +152,16 @@ pub record HasTaken (cmp : Block × Block → Block × Block → Ordering) (j : 
   pub searched : IsSearched cmp j held last counts
   pub rows : AreGiven (pairs_in j) t.rows last
 
--- So much was taken of a semi-join: it is that of two columns, the search stands, the rows were the first of the first pairs, as many left
--- rows as are not given wait, and where none waits the counts are those of the last row.
-pub record HasTakenFirsts (cmp : Block × Block → Block × Block → Ordering) (j : Joining) (held : List (Item (Block × Block))) (last : Option Hit) (counts : Numbers)
-    (lefts : LeftRows) (d : Database) (p : Plan) (t : Taken) : Type 0 where
+-- So much was taken of a semi-join: it is that of two columns, the search stands for the left rows that wait, the rows were the first of the
+-- first pairs, as many left rows as are not given wait, and where none waits the counts are those of the last row.
+pub record HasTakenFirsts (cmp : Block × Block → Block × Block → Ordering) (j : Joining) (held : List (Item (Block × Block))) (counts : Numbers) (lefts : LeftRows) (d : Database) (p : Plan) (t : Taken) : Type 0 where
   pub left : Column
   pub right : Column
   pub is : p ≡ plan.Semi left right j.ceiling
   pub left_side : IsSideOf j.left d left
   pub right_side : IsSideOf j.right d right
-  pub searched : IsSearched cmp j held last counts
-  pub given : AreGivenUpTo (join_meaning j) last lefts
+  pub searched : IsSearchedFor cmp j (is_waiting lefts) held counts
+  pub given : AreWaiting (join_meaning j) lefts
   pub rows : pairs_left lefts.given (pairs_in j) ≡ drop t.rows (first_of_each (pairs_in j))
   pub few : t.rows ≤ length (first_of_each (pairs_in j))
   pub waiting : t.rows + lefts.waiting ≡ length j.left.shapes

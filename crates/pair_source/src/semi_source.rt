@@ -51,7 +51,7 @@ impl SemiSource {
 }
 
 impl RowSource for SemiSource {
-    ghost At = { λ s pages d p t. HasTakenFirsts ⟦<(Block, Block) as Ord>⟧.cmp (joining_in (join_of s.semi.engine.hierarchy) pages) s.semi.engine.frontier.queue.items s.semi.engine.frontier.last s.semi.engine.frontier.counts s.semi.lefts d p t };
+    ghost At = { λ s pages d p t. HasTakenFirsts ⟦<(Block, Block) as Ord>⟧.cmp (joining_in (join_of s.semi.engine.hierarchy) pages) s.semi.engine.frontier.queue.items s.semi.engine.frontier.counts s.semi.lefts d p t };
 
     ghost seen = { λ s. record { blocks = 0; pairs = s.semi.engine.frontier.counts.visited; geometries = s.semi.engine.frontier.counts.fetched } };
 

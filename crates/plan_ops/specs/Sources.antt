@@ -44,7 +44,7 @@ semi_at s pages d p t =
     let h = s.semi.engine.hierarchy in
     HasTakenFirsts by_codes
     (joining_in (join_of h) pages)
-    s.semi.engine.frontier.queue.items s.semi.engine.frontier.last s.semi.engine.frontier.counts s.semi.lefts d p t
+    s.semi.engine.frontier.queue.items s.semi.engine.frontier.counts s.semi.lefts d p t
 
 -- so much was taken of a join of k partners
 abbrev pub knn_at : KnnSource → Taking

@@ -1,5 +1,5 @@
 -- Ids as bits of words: which ids a list of words has, none in zeros, and one more where a bit is set.
-use Rattle.std.proofs.Common.{◌≡◌, ◌≢◌, ℕ, zero, suc, ◌*◌, ◌/◌, ◌%◌, ◌<◌, ◌≤◌, ◌^◌, Bool, true, false, cond, ◌||◌, List, length, get_or, set, replicate, ⊎_elim, refl}
+use Rattle.std.proofs.Common.{◌≡◌, ◌≢◌, ℕ, zero, suc, ◌*◌, ◌/◌, ◌%◌, ◌<◌, ◌≤◌, ◌^◌, Bool, true, false, cond, not, ◌&&◌, ◌||◌, nat_lt, List, length, get_or, set, replicate, ⊎_elim, refl}
 use Rattle.std.proofs.Common.{sym, ap, ◌∙◌, subst, arith, nat_cmp}
 use Rattle.std.specs.Prelude.{nat_eq}
 use mir.Val.{bits}
@@ -10,7 +10,7 @@ use Rattle.std.specs.Ordering.{eq_by_cmp}
 use Rattle.std.specs.Cmp.{nat_cmp_total, unsigned_tied}
 use Rattle.std.specs.FinSet as set
 use Rattle.std.specs.FinMap.{nat_cmp-IsAntisymmetric}
-use Rattle.std.proofs.lemmas.Bool.{cases_eq, cases_lt, eq-eqb, ne_eqb, or_left, or_from}
+use Rattle.std.proofs.lemmas.Bool.{cases_eq, cases_lt, eq-eqb, ne_eqb, lt-ltb, and_from, and_left, or_left, or_from}
 use Rattle.std.proofs.lemmas.List.{get_or-set_same, get_or-set_other, get_or_read, get_or_past, get_or-replicate, length-replicate}
 use Rattle.std.proofs.lemmas.Nat.{one_shl, pow_pos}
 use Rattle.std.proofs.Math.Nat.{one-mul, zero-mul}
@@ -126,6 +126,17 @@ not_there words id word n inside len read found =
     let none : bit ≡ 1 → ⊥ = λ e. (let pos : 0 < 2 ^ (id % 64) = pow_pos (id % 64) in let is : 2 ^ (id % 64) ≡ 0 =
     sym (one-mul (2 ^ (id % 64))) ∙ ap (λ b. b * 2 ^ (id % 64)) (sym e) ∙ sym (masked word (id % 64) (omega arith)) ∙ found in let no_power : ⊥ = omega arith in no_power) in
     has_below words (64 * n) id (omega arith) ∙ ap (λ w. nat_eq (bit_at w (id % 64)) 1) (sym (get_or_read words (id / 64) word inside read 0)) ∙ ne_eqb bit 1 none
+
+-- the bit tells whether a left row waits: it has one, and it isn't set
+pub bit_tells : (words : List ℕ) (id word n : ℕ) → id / 64 < length words → n ≡ length words → word ≡ get_or words (id / 64) word
+    → nat_eq (bit_and word (1 * 2 ^ (id % 64) % 2 ^ bits w64)) 0 ≡ (not (set.contains (ids_below words (64 * n)) id) && nat_lt id (64 * n))
+bit_tells words id word n inside len read =
+    let found = bit_and word (1 * 2 ^ (id % 64) % 2 ^ bits w64) in
+    let there = set.contains (ids_below words (64 * n)) id in
+    ⊎_elim
+    (λ e. eq-eqb found 0 e ∙ sym (and_from (not there) (nat_lt id (64 * n)) (ap not (not_there words id word n inside len read e)) (lt-ltb id (64 * n) (omega arith))))
+    (λ ne. ne_eqb found 0 ne ∙ sym (and_left (not there) (nat_lt id (64 * n)) (ap not (found_there words id word n inside len read ne))))
+    (cases_eq found 0)
 
 -- zeros, at each place
 pub zeros : (n k : ℕ) → get_or {A = ℕ} (replicate n 0) k 0 ≡ 0

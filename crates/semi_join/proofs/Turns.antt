@@ -1,6 +1,5 @@
--- The turns of the loop over the rows of a search, over the pages that the disk tells.
-use Rattle.std.proofs.Common.{◌≡◌, ◌≤◌, true, false, Option, None, Some, IfSome, Result, Ok, Err, ◌⊎◌, sym, subst, Ordering}
-use Rattle.std.specs.FinSet as set
+-- A call of the semi-join, by that of its search, over the pages that the disk tells.
+use Rattle.std.proofs.Common.{◌≡◌, ℕ, ◌<◌, List, ◌++◌, Option, None, Some, IfSome, Result, Ok, Err, refl, subst, Ordering}
 use Rattle.sand_base.specs.declared.visit.Visit.{Visit}
 use Rattle.page_pool.specs.Disk.{PageMap}
 use Rattle.page_pool.specs.Desk.{DeskState}
@@ -9,22 +8,15 @@ use Rattle.page_pool.specs.declared.fault.PageFault.{PageFault}
 use Rattle.best_first.specs.declared.hit.Hit.{Hit}
 use Rattle.best_first.specs.declared.item.Item.{Item}
 use Rattle.best_first.specs.Hierarchy.{Meaning}
-use Rattle.best_first.specs.Frontier.{StandsOver}
-use Rattle.best_first.specs.Visits.{told_pages, SearchState, Goes, GivesNext, MakesVisits}
+use Rattle.best_first.specs.Frontier.{Stands, StandsOver}
+use Rattle.best_first.specs.Visits.{told_pages, SearchState, GivesNext, MakesVisits}
+use Rattle.best_first.specs.Wanted.{StandsOverFor, GivesWanted, WantedBounds, IsWantedRow, MakesWantedVisits, wants_after}
 use Rattle.best_first.proofs.Passing.{told_read}
-use Rattle.best_first.proofs.Journeys.{stays, goes_both}
-use Rattle.best_first.proofs.ForLayers.{goes_from_ok}
-use Rattle.semi_join.specs.LeftRows.{LeftRows, gives}
-use Rattle.semi_join.specs.FirstPairs.{AreGivenUpTo, SemiStands, GivesFirstPair}
-use Rattle.semi_join.specs.Visits.{MakesPairVisits}
-use Rattle.semi_join.proofs.Passing.{was_given, passed_over, is_first_pair, given_now, all_given, none_waits}
-use Rattle.semi_join.proofs.Bounds.{row_visits, end_visits, fault_visits}
-
--- Since the beginning of the call only rows whose left ids were given have come.
-pub record Passes {N : Type 0} (cmp : N → N → Ordering) (m : Meaning N) (note : Item N → Visit) (lefts : LeftRows) (old now : SearchState N) : Type 0 where
-  pub stands : StandsOver cmp m now.held now.last
-  pub upto : AreGivenUpTo m now.last lefts
-  pub goes : Goes cmp m note old now
+use Rattle.best_first.proofs.WantedRows.{stands_fewer}
+use Rattle.semi_join.specs.LeftRows.{LeftRows, GivesLeft, gives, is_waiting}
+use Rattle.semi_join.specs.FirstPairs.{AreWaiting, HasLefts, SemiStands, GivesFirstPair}
+use Rattle.semi_join.specs.Visits.{PairBounds, MakesPairVisits}
+use Rattle.semi_join.proofs.Waiting.{not_given, one_less, is_first_pair, is_wanted_first, all_given, none_waits, given_now, begun}
 
 -- What one call of the search did.
 pub record Calls {N : Type 0} (cmp : N → N → Ordering) (m : Meaning N) (note : Item N → Visit) (mid new : SearchState N) (result : Result (Option Hit) PageFault) : Type 0 where
@@ -56,68 +48,63 @@ calls cmp meaning note old_desk mid_desk old_hierarchy mid_hierarchy mid new res
     (λ p. MakesVisits cmp (meaning mid_hierarchy p) (note mid_hierarchy) mid new result) (λ p. Calls cmp (meaning mid_hierarchy p) (note mid_hierarchy) mid new result)
     (λ p r s v. record { row = r; stands = s; visits = v }) row stands visits)
 
+-- a row with a left id that is wanted has one that was not given
+pub gives_left : (lefts : LeftRows) (hit : Hit) → IsWantedRow (is_waiting lefts) (Ok (Some hit)) → GivesLeft lefts (gives hit.left lefts) (Ok (Some hit))
+gives_left lefts hit wanted = (not_given lefts hit.left wanted, refl)
+
+-- a search that has given nothing stands for all left rows that wait
+pub starts : {N : Type 0} {cmp : N → N → Ordering} (m : Meaning N) (lefts : LeftRows) (held : List (Item N)) (last : Option Hit) (count greatest : ℕ) → last ≡ None
+    → StandsOver cmp m held last → HasLefts m count greatest → greatest < lefts.below → lefts.waiting ≡ count → SemiStands cmp m held lefts
+starts {N} {cmp} m lefts held last count greatest none (laws, (done, h)) has below waits =
+    let at_first : Stands cmp m held None done = subst (λ l. Stands cmp m held l done) none h in
+    ((laws, (done, record { sound = at_first.covers.sound; whole = λ hit answer e. at_first.covers.whole hit answer tt; tracks = at_first.tracks })), begun m count greatest lefts has below waits)
+
 module _ {N : Type 0} (cmp : N → N → Ordering) (meaning : PageMap → Meaning N) (note : Item N → Visit) (lefts : LeftRows) (old : SearchState N) where
-  -- at the beginning nothing was passed over
-  pub begins : (pages : Option PageMap) → IfSome pages (λ p. SemiStands cmp (meaning p) old.held old.last lefts) → IfSome pages (λ p. Passes cmp (meaning p) note lefts old old)
-  begins None h = tt
-  begins (Some p) h = record { stands = h.0; upto = h.1; goes = stays (meaning p) note old }
+  -- what the search stands for
+  pub asks : (pages : Option PageMap) → IfSome pages (λ p. SemiStands cmp (meaning p) old.held lefts) → IfSome pages (λ p. StandsOverFor cmp (meaning p) (is_waiting lefts) old.held)
+  asks None h = tt
+  asks (Some p) h = h.0
 
-  -- a row that was refused its bit is passed over
-  pub passes : (pages : Option PageMap) (mid new : SearchState N) (hit : Hit) → new.last ≡ Some hit → (lefts.below ≤ hit.left) ⊎ (set.contains lefts.given hit.left ≡ true)
-      → IfSome pages (λ p. Passes cmp (meaning p) note lefts old mid) → IfSome pages (λ p. Calls cmp (meaning p) note mid new (Ok (Some hit)))
-      → IfSome pages (λ p. Passes cmp (meaning p) note lefts old new)
-  passes None mid new hit last why h call = tt
-  passes (Some p) mid new hit last why h call = record {
-    stands = call.stands;
-    upto = subst (λ l. AreGivenUpTo (meaning p) l lefts) (sym last) (passed_over (meaning p) mid.last hit call.row lefts h.upto (was_given (meaning p) mid.last hit call.row lefts h.upto why));
-    goes = goes_both (meaning p) note old mid new h.goes (goes_from_ok cmp (meaning p) note mid new (Some hit) call.visits);
-  }
+  -- the answer is the next first pair, or none is left
+  pub pair_given : (pages : Option PageMap) (result : Result (Option Hit) PageFault) → IfSome pages (λ p. SemiStands cmp (meaning p) old.held lefts)
+      → IfSome pages (λ p. GivesWanted (meaning p) (is_waiting lefts) result) → IfSome pages (λ p. GivesFirstPair (meaning p) lefts.given result)
+  pair_given None result h row = tt
+  pair_given (Some p) (Ok (Some hit)) h row = is_first_pair (meaning p) lefts h.1 hit row
+  pair_given (Some p) (Ok None) h row = all_given (meaning p) lefts h.1 row
+  pair_given (Some p) (Err fault) h row = tt
 
-  -- a row whose left id was not given is the next first pair
-  pub pair_given : (pages : Option PageMap) (mid new : SearchState N) (hit : Hit) → set.contains lefts.given hit.left ≡ false
-      → IfSome pages (λ p. Passes cmp (meaning p) note lefts old mid) → IfSome pages (λ p. Calls cmp (meaning p) note mid new (Ok (Some hit)))
-      → IfSome pages (λ p. GivesFirstPair (meaning p) lefts.given (Ok (Some hit)))
-  pair_given None mid new hit fresh h call = tt
-  pair_given (Some p) mid new hit fresh h call = is_first_pair (meaning p) mid.last hit call.row lefts h.upto fresh
+  -- after a row the search stands for one left row less
+  pub pair_stands : (pages : Option PageMap) (new : SearchState N) (hit : Hit) → IfSome pages (λ p. SemiStands cmp (meaning p) old.held lefts)
+      → IfSome pages (λ p. GivesWanted (meaning p) (is_waiting lefts) (Ok (Some hit)))
+      → IfSome pages (λ p. StandsOverFor cmp (meaning p) (wants_after (is_waiting lefts) (Ok (Some hit))) new.held) → IfSome pages (λ p. SemiStands cmp (meaning p) new.held (gives hit.left lefts))
+  pair_stands None new hit h row stands = tt
+  pair_stands (Some p) new hit h row (laws, (done, s)) = (
+    (laws, (done, stands_fewer (meaning p) (wants_after (is_waiting lefts) (Ok (Some hit))) (is_waiting (gives hit.left lefts)) new.held done (λ id e. one_less lefts hit.left id e) s)),
+    given_now (meaning p) lefts h.1 hit row,
+  )
 
-  pub pair_stands : (pages : Option PageMap) (mid new : SearchState N) (hit : Hit) → new.last ≡ Some hit → set.contains lefts.given hit.left ≡ false
-      → IfSome pages (λ p. Passes cmp (meaning p) note lefts old mid) → IfSome pages (λ p. Calls cmp (meaning p) note mid new (Ok (Some hit)))
-      → IfSome pages (λ p. SemiStands cmp (meaning p) new.held new.last (gives hit.left lefts))
-  pair_stands None mid new hit last fresh h call = tt
-  pair_stands (Some p) mid new hit last fresh h call =
-      (call.stands, subst (λ l. AreGivenUpTo (meaning p) l (gives hit.left lefts)) (sym last) (given_now (meaning p) mid.last hit call.row lefts h.upto fresh))
+  -- after the end or a refusal for as many as before
+  pub still_stands : (pages : Option PageMap) (new : SearchState N) → IfSome pages (λ p. SemiStands cmp (meaning p) old.held lefts)
+      → IfSome pages (λ p. StandsOverFor cmp (meaning p) (is_waiting lefts) new.held) → IfSome pages (λ p. SemiStands cmp (meaning p) new.held lefts)
+  still_stands None new h stands = tt
+  still_stands (Some p) new h stands = (stands, h.1)
 
-  pub pair_visits : (pages : Option PageMap) (mid new : SearchState N) (hit : Hit) → IfSome pages (λ p. Passes cmp (meaning p) note lefts old mid)
-      → IfSome pages (λ p. Calls cmp (meaning p) note mid new (Ok (Some hit))) → IfSome pages (λ p. MakesPairVisits cmp (meaning p) note lefts.given old new (Ok (Some hit)))
-  pair_visits None mid new hit h call = tt
-  pair_visits (Some p) mid new hit h call = row_visits (meaning p) note lefts.given old mid new hit h.goes call.visits
+  -- how far the visits go, in terms of the pairs
+  bounds : (m : Meaning N) → AreWaiting m lefts → (result : Result (Option Hit) PageFault) (attempt all : List (Item N)) → WantedBounds cmp m (is_waiting lefts) result attempt all
+      → PairBounds cmp m lefts.given result attempt all
+  bounds m wait (Ok (Some hit)) attempt all b = b
+  bounds m wait (Ok None) attempt all b = b
+  bounds m wait (Err fault) attempt all b = record { few = b.few; near = λ hit pair. b.near hit (is_wanted_first m lefts wait hit pair); inside = b.inside }
 
-  -- the end of the search
-  pub end_given : (pages : Option PageMap) (mid new : SearchState N) → IfSome pages (λ p. Passes cmp (meaning p) note lefts old mid)
-      → IfSome pages (λ p. Calls cmp (meaning p) note mid new (Ok None)) → IfSome pages (λ p. GivesFirstPair (meaning p) lefts.given (Ok None))
-  end_given None mid new h call = tt
-  end_given (Some p) mid new h call = all_given (meaning p) mid.last lefts h.upto call.row
-
-  pub end_noted : (pages : Option PageMap) (mid new : SearchState N) → IfSome pages (λ p. Passes cmp (meaning p) note lefts old mid)
-      → IfSome pages (λ p. Calls cmp (meaning p) note mid new (Ok None)) → IfSome pages (λ p. MakesPairVisits cmp (meaning p) note lefts.given old new (Ok None))
-  end_noted None mid new h call = tt
-  end_noted (Some p) mid new h call = end_visits (meaning p) note lefts.given old mid new h.goes call.visits
-
-  -- a refusal
-  pub fault_noted : (pages : Option PageMap) (mid new : SearchState N) (fault : PageFault) → IfSome pages (λ p. Passes cmp (meaning p) note lefts old mid)
-      → IfSome pages (λ p. Calls cmp (meaning p) note mid new (Err fault)) → IfSome pages (λ p. MakesPairVisits cmp (meaning p) note lefts.given old new (Err fault))
-  fault_noted None mid new fault h call = tt
-  fault_noted (Some p) mid new fault h call = fault_visits (meaning p) note lefts old mid new fault h.upto h.goes call.visits
-
-  -- the search stands after the end or a refusal, and no left row was given
-  pub still_stands : (pages : Option PageMap) (mid new : SearchState N) (result : Result (Option Hit) PageFault) → new.last ≡ mid.last
-      → IfSome pages (λ p. Passes cmp (meaning p) note lefts old mid) → IfSome pages (λ p. Calls cmp (meaning p) note mid new result)
-      → IfSome pages (λ p. SemiStands cmp (meaning p) new.held new.last lefts)
-  still_stands None mid new result last h call = tt
-  still_stands (Some p) mid new result last h call = (call.stands, subst (λ l. AreGivenUpTo (meaning p) l lefts) (sym last) h.upto)
+  -- the visits of the call
+  pub pair_visits : (pages : Option PageMap) (new : SearchState N) (result : Result (Option Hit) PageFault) → IfSome pages (λ p. SemiStands cmp (meaning p) old.held lefts)
+      → IfSome pages (λ p. MakesWantedVisits cmp (meaning p) note (is_waiting lefts) old new result) → IfSome pages (λ p. MakesPairVisits cmp (meaning p) note lefts old new result)
+  pair_visits None new result h visits = tt
+  pair_visits (Some p) new result h visits =
+      λ done s. let call = visits done s in record { attempt = call.attempt; makes = call.makes; bounds = bounds (meaning p) h.1 result call.attempt (done ++ call.makes.taken) call.bounds }
 
   -- where no left row waits, none is left
-  pub ended : (pages : Option PageMap) → lefts.waiting ≡ 0 → IfSome pages (λ p. SemiStands cmp (meaning p) old.held old.last lefts)
+  pub ended : (pages : Option PageMap) → lefts.waiting ≡ 0 → IfSome pages (λ p. SemiStands cmp (meaning p) old.held lefts)
       → IfSome pages (λ p. GivesFirstPair (meaning p) lefts.given (Ok None))
   ended None none h = tt
-  ended (Some p) none h = none_waits (meaning p) old.last lefts h.1 none
+  ended (Some p) none h = none_waits (meaning p) lefts h.1 none

@@ -8,9 +8,9 @@ use Rattle.best_first.specs.declared.hit.Hit.{Hit}
 use Rattle.best_first.specs.declared.item.Item.{Item}
 use Rattle.best_first.specs.Item.{IsSameRow}
 use Rattle.best_first.specs.Hierarchy.{Meaning}
-use Rattle.best_first.specs.Answer.{hit_cmp, IsAnswer, IsLater}
-use Rattle.best_first.specs.Frontier.{StandsOver}
-use Rattle.semi_join.specs.LeftRows.{IdSet, LeftRows}
+use Rattle.best_first.specs.Answer.{hit_cmp, IsAnswer}
+use Rattle.best_first.specs.Wanted.{StandsOverFor}
+use Rattle.semi_join.specs.LeftRows.{IdSet, LeftRows, is_waiting}
 
 -- The row is the first of the answer whose left id was not given before, with its ids and the value of its gap.
 pub record IsFirstPair {N : Type 0} (m : Meaning N) (given : IdSet) (hit : Hit) : Type 0 where
@@ -37,15 +37,13 @@ pub record HasLefts {N : Type 0} (m : Meaning N) (lefts greatest : ℕ) : Type 0
   pub small : All (λ id. id ≤ greatest) ids
   pub among : (hit : Hit) → Contains m.rows hit → Contains ids hit.left
 
--- How far the left rows are, when a search has given all up to this row. Those that wait have these ids, which have their bits; each row of
--- the hierarchy has a left id that was given or waits; and each row of the answer that the search has given has a left id that was given.
-pub record AreGivenUpTo {N : Type 0} (m : Meaning N) (last : Option Hit) (lefts : LeftRows) : Type 0 where
+-- How far the left rows are. Those that wait have these ids, which have their bits, and each row of the hierarchy has a left id that was given or waits.
+pub record AreWaiting {N : Type 0} (m : Meaning N) (lefts : LeftRows) : Type 0 where
   pub rest : List ℕ
   pub count : length rest ≡ lefts.waiting
   pub small : All (λ id. id < lefts.below) rest
   pub among : (hit : Hit) → Contains m.rows hit → (set.contains lefts.given hit.left ≡ true) ⊎ Contains rest hit.left
-  pub passed : (hit : Hit) → IsAnswer m hit → IsLater last hit ⊎ (set.contains lefts.given hit.left ≡ true)
 
--- the search stands over the meaning, and the left rows are as far as it is
-abbrev pub SemiStands : {N : Type 0} → (N → N → Ordering) → Meaning N → List (Item N) → Option Hit → LeftRows → Type 0
-SemiStands cmp m held last lefts = StandsOver cmp m held last × AreGivenUpTo m last lefts
+-- the search stands over the meaning for the left rows that wait, and these are all that were not given
+abbrev pub SemiStands : {N : Type 0} → (N → N → Ordering) → Meaning N → List (Item N) → LeftRows → Type 0
+SemiStands cmp m held lefts = StandsOverFor cmp m (is_waiting lefts) held × AreWaiting m lefts

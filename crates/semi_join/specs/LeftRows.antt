@@ -1,5 +1,5 @@
 -- The left rows of a semi-join: one bit for each id that has had its first pair, and how many rows have had none.
-use Rattle.std.specs.Prelude.{◌≡◌, ℕ, zero, suc, ◌-◌, ◌/◌, ◌%◌, Bool, false, cond, List, nat_eq, slice_index, Option, None, Some, Result, Ok, Err, refl}
+use Rattle.std.specs.Prelude.{◌≡◌, ℕ, zero, suc, ◌-◌, ◌/◌, ◌%◌, Bool, false, cond, not, ◌&&◌, List, nat_eq, nat_lt, slice_index, Option, None, Some, Result, Ok, Err, refl}
 use Rattle.std.specs.Int.{bit_at}
 use Rattle.std.specs.Ordering.{nat_cmp}
 use Rattle.std.specs.FinSet as set
@@ -20,6 +20,10 @@ pub record LeftRows : Type 0 where
 -- this left row was given too, and one less waits
 abbrev pub gives : ℕ → LeftRows → LeftRows
 gives id lefts = record lefts { given = set.insert lefts.given id; waiting = lefts.waiting - 1 }
+
+-- whether the left row of this id waits: it has a bit, and was not given
+abbrev pub is_waiting : LeftRows → ℕ → Bool
+is_waiting lefts id = not (set.contains lefts.given id) && nat_lt id lefts.below
 
 -- A row is given with a left id that was not given before, and this id is given from then on; any other answer leaves all left rows as they were.
 abbrev pub GivesLeft : LeftRows → LeftRows → Result (Option Hit) PageFault → Type 0

@@ -1,8 +1,8 @@
-ghost use Rattle.std.specs.Prelude.{◌≡◌, ◌≤◌, ◌<◌, ◌⊎◌, true, false, IfOk};
-ghost use Rattle.std.specs.Bool.{MatchBool};
+ghost use Rattle.std.specs.Prelude.{◌≡◌, ◌<◌, true, IfOk};
 ghost use Rattle.std.specs.FinSet as set;
-ghost use Rattle.semi_join.specs.LeftRows.{gives};
+ghost use Rattle.semi_join.specs.LeftRows.{gives, is_waiting};
 
+use best_first::Wanted;
 use sand_base::NoMemory;
 use std::alloc::Global;
 use std::marker::Model;
@@ -49,22 +49,28 @@ impl Lefts {
         self.waiting
     }
 
-    // The left row of this id is given, and true answered, where it has a bit and was not given before. Else all
-    // stays as it is.
-    pub fn give(&mut self, id: u32) -> bool
-        requires { 0 < self.old.waiting }
-        ensures { MatchBool result ((set.contains self.old.given id ≡ false) × (self.new ≡ gives id self.old)) ((self.new ≡ self.old) × ((self.old.below ≤ id) ⊎ (set.contains self.old.given id ≡ true))) }
+    // The left row of this id, which waits, is given.
+    pub fn give(&mut self, id: u32)
+        requires some { 0 < self.old.waiting }
+        requires waits { is_waiting self.old id ≡ true }
+        ensures { self.new ≡ gives id self.old }
     {
         let place = (id / WORD) as usize;
+        self.words[place] |= 1u64 << (id % WORD);
+        self.waiting -= 1;
+    }
+}
+
+// Rows are wanted of the left rows that wait.
+impl Wanted for Lefts {
+    ghost lefts = { λ s. is_waiting s };
+
+    fn wants(&self, left: u32) -> bool {
+        let place = (left / WORD) as usize;
         if self.words.len() <= place {
             return false;
         }
-        let bit = 1u64 << (id % WORD);
-        if self.words[place] & bit != 0 {
-            return false;
-        }
-        self.words[place] |= bit;
-        self.waiting -= 1;
-        true
+        let bit = 1u64 << (left % WORD);
+        self.words[place] & bit == 0
     }
 }

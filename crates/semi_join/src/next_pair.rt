@@ -12,32 +12,29 @@ use best_first::{BestFirst, Hierarchy, Hit, Item};
 use page_pool::{Desk, Disk, PageFault};
 use rank_queue::Queue;
 
-// The next row of the search whose left row waits, which is then given. Rows before it are passed over.
+// The first row of the search whose left row waits, which is then given.
 pub fn next_pair<H: Hierarchy, Q: Queue<Item<H::Node>>, D: Disk>(
     engine: &mut BestFirst<H, Q>,
     lefts: &mut Lefts,
     desk: &mut Desk<D>,
 ) -> Result<Option<Hit>, PageFault>
     requires waits { 0 < lefts.old.waiting }
-    requires stands { IfSome (told_pages desk.old) (λ p. SemiStands H.Node.cmp (H.meaning engine.old.hierarchy p) (Q.held engine.old.frontier.queue) engine.old.frontier.last lefts.old) }
+    requires stands { IfSome (told_pages desk.old) (λ p. SemiStands H.Node.cmp (H.meaning engine.old.hierarchy p) (Q.held engine.old.frontier.queue) lefts.old) }
     ensures hierarchy { engine.new.hierarchy ≡ engine.old.hierarchy }
     ensures read { IsRead desk.old.pool desk.new.pool }
     ensures cause { HasPageCause desk.old.pool desk.new.pool result }
     ensures pair { IfSome (told_pages desk.old) (λ p. GivesFirstPair (H.meaning engine.old.hierarchy p) lefts.old.given result) }
     ensures lefts { GivesLeft lefts.old lefts.new result }
-    ensures stands { IfSome (told_pages desk.old) (λ p. SemiStands H.Node.cmp (H.meaning engine.old.hierarchy p) (Q.held engine.new.frontier.queue) engine.new.frontier.last lefts.new) }
-    ensures visits { IfSome (told_pages desk.old) (λ p. MakesPairVisits H.Node.cmp (H.meaning engine.old.hierarchy p) (H.note engine.old.hierarchy) lefts.old.given (state (Q.held engine.old.frontier.queue) engine.old.frontier.last engine.old.frontier.counts desk.old) (state (Q.held engine.new.frontier.queue) engine.new.frontier.last engine.new.frontier.counts desk.new) result) }
+    ensures stands { IfSome (told_pages desk.old) (λ p. SemiStands H.Node.cmp (H.meaning engine.old.hierarchy p) (Q.held engine.new.frontier.queue) lefts.new) }
+    ensures visits { IfSome (told_pages desk.old) (λ p. MakesPairVisits H.Node.cmp (H.meaning engine.old.hierarchy p) (H.note engine.old.hierarchy) lefts.old (state (Q.held engine.old.frontier.queue) engine.old.frontier.last engine.old.frontier.counts desk.old) (state (Q.held engine.new.frontier.queue) engine.new.frontier.last engine.new.frontier.counts desk.new) result) }
     ensures falls { Falls (steps (H.weight engine.old.hierarchy) (Q.held engine.old.frontier.queue)) (steps (H.weight engine.old.hierarchy) (Q.held engine.new.frontier.queue)) result }
 {
-    'rows: loop {
-        match engine.next(desk) {
-            Ok(Some(hit)) => {
-                if lefts.give(hit.left) {
-                    return Ok(Some(hit));
-                }
-            }
-            Ok(None) => return Ok(None),
-            Err(fault) => return Err(fault),
+    match engine.next_wanted(&*lefts, desk) {
+        Ok(Some(hit)) => {
+            lefts.give(hit.left);
+            Ok(Some(hit))
         }
+        Ok(None) => Ok(None),
+        Err(fault) => Err(fault),
     }
 }

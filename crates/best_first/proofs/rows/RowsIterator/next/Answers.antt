@@ -1,5 +1,5 @@
 -- A row lowers the number of steps, and the search stands after it.
-use Rattle.std.proofs.Common.{◌≡◌, ◌<◌, Bool, false, inl, Option, None, Some, Result, Ok, IfSome, refl, sym, subst}
+use Rattle.std.proofs.Common.{◌≡◌, ◌<◌, Bool, false, inl, Option, Result, Ok, IfSome, refl, sym, subst}
 use Rattle.page_pool.specs.Causes.{HasPageCause}
 use Rattle.page_pool.specs.declared.fault.PageFault.{PageFault}
 use Rattle.best_first.specs.declared.hit.Hit.{Hit}

@@ -1,0 +1,22 @@
+use Rattle.std.proofs.Common.{◌≡◌, ◌≤◌, IfSome}
+use Rattle.page_pool.specs.Reads.{IsRead}
+use Rattle.best_first.specs.Visits.{told_pages, state}
+use Rattle.best_first.specs.Steps.{steps}
+use Rattle.best_first.specs.Wanted.{StandsOverFor, GoesFor}
+use Rattle.best_first.proofs.settle_wanted.settle_wanted.Given as goal
+
+-- the search stands for the wanted left ids, the next expansion may be given what is left, and more was taken since the beginning
+abbrev pub invariant-steps : goal.invariant-steps
+invariant-steps g l = record {
+  read : IsRead l.fn.desk.pool l.desk.pool;
+  faults : l.desk.pool.disk.faults ≡ l.fn.desk.pool.disk.faults;
+  last : l.frontier.last ≡ l.fn.frontier.last;
+  falls : steps (g.H.Hierarchy.weight l.hierarchy) (g.Q.Queue.held l.frontier.queue) ≤ steps (g.H.Hierarchy.weight l.hierarchy) (g.Q.Queue.held l.fn.frontier.queue);
+  stands : IfSome (told_pages l.desk) (λ p. StandsOverFor g.H.Node.Ord.cmp (g.H.Hierarchy.meaning l.hierarchy p) (g.W.Wanted.lefts l.wanted) (g.Q.Queue.held l.frontier.queue));
+  near : IfSome (told_pages l.desk) (λ p. g.H.Hierarchy.IsNear l.hierarchy p l.near);
+  moves : IfSome (told_pages l.fn.desk) (λ p. GoesFor g.H.Node.Ord.cmp (g.H.Hierarchy.meaning l.hierarchy p) (g.H.Hierarchy.note l.hierarchy) (g.W.Wanted.lefts l.wanted)
+      (state (g.Q.Queue.held l.fn.frontier.queue) l.fn.frontier.last l.fn.frontier.counts l.fn.desk) (state (g.Q.Queue.held l.frontier.queue) l.frontier.last l.frontier.counts l.desk));
+}
+
+abbrev pub decreases-steps : goal.decreases-steps
+decreases-steps g l = steps (g.H.Hierarchy.weight l.hierarchy) (g.Q.Queue.held l.frontier.queue)
