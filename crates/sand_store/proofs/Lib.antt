@@ -19,6 +19,7 @@ pub mod Databases
 pub mod PathSteps
 pub mod TreeSteps
 pub mod TreeTurns
+pub mod WholeTree
 pub mod RelationTrees
 pub mod Midway
 pub mod RowGrowth

@@ -26,6 +26,7 @@ ghost use Rattle.sand_store.specs.Steps.{store_from, Became, IsOutside, IsOutsid
 use crate::refusal::{refusal_of, refusal_of_tree};
 use crate::relation::place_of;
 use crate::shapes::{RowShapes, is_shape_in_plane, shape_at, value_at};
+use crate::whole_tree::quadtree_of;
 use crate::{AccessPath, Relation};
 use attr_index::AttrIndex;
 use page_pool::{Disk, Pool};
@@ -283,8 +284,8 @@ fn filled<D: Disk>(
     }
 }
 
-// An index of a column with all rows of the relation, in an open command.
-fn built<D: Disk>(
+// An index of a column to which all rows of the relation come one after another, in an open command.
+fn filled_index<D: Disk>(
     alloc: Global,
     pool: &mut Pool<D>,
     relation: &Relation,
@@ -317,6 +318,42 @@ fn built<D: Disk>(
     match filled(alloc, pool, path, &shapes, limits) {
         Ok(path) => Ok(path),
         Err(why) => Err(why),
+    }
+}
+
+// An index of a column with all rows of the relation, in an open command.
+fn built<D: Disk>(
+    alloc: Global,
+    pool: &mut Pool<D>,
+    relation: &Relation,
+    column: usize,
+    threshold: Option<u8>,
+    number: u32,
+    limits: Limits,
+) -> Result<AccessPath, Refusal>
+    requires opened { IsOpen pool.old }
+    requires threshold { IsThreshold threshold }
+    requires column { IsColumnAt relation.now.schema column (is_there threshold) }
+    requires some { 1 ≤ limits.listings }
+    requires stands { IsTold pool.old → RelationStands pool.old.pages limits relation.now }
+    ensures builds { IfOk result (λ path. IsTold pool.old → Builds pool.old.pages pool.new.pages limits relation.now.schema (rows_in pool.old.pages relation.now) column threshold path) }
+    ensures of { IfOk result (λ path. IsPathOf relation.now.schema (column, path)) }
+    ensures full { IfErr result (λ e. e ≡ why.IndexFull → IsTold pool.old → (gap : Measure) → IsMeasure gap → is_overfull limits (column, new_index gap (rows_in pool.old.pages relation.now) column threshold) ≡ true) }
+    ensures outside { IfErr result IsOutsideOrFull }
+    ensures within { InCommand pool.old pool.new }
+    ensures cause { HasCause pool.old pool.new result }
+{
+    match threshold {
+        Some(threshold) => {
+            match quadtree_of(alloc, pool, relation, column, threshold, number, limits) {
+                Ok(tree) => Ok(AccessPath::Quadtree(tree)),
+                Err(why) => Err(why),
+            }
+        }
+        None => match filled_index(alloc, pool, relation, column, None, number, limits) {
+            Ok(path) => Ok(path),
+            Err(why) => Err(why),
+        },
     }
 }
 

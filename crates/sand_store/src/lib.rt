@@ -29,6 +29,7 @@ mod shapes;
 mod shrink;
 mod store;
 mod trees;
+mod whole_tree;
 
 pub use catalog::Catalog;
 pub use column::FileShapes;

@@ -46,8 +46,8 @@ fn wanted(relation: &Relation, name: &str) -> Result<usize, Refusal>
     Ok(at)
 }
 
-// The ids of a file's rows with the rough shapes that they have in a column, by ascending id.
-fn members<D: Disk>(
+/// The ids of a file's rows with the rough shapes that they have in a column, by ascending id.
+pub fn members<D: Disk>(
     alloc: Global,
     pool: &mut Pool<D>,
     shapes: &RowShapes,

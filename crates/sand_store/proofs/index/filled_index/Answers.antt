@@ -1,7 +1,7 @@
 -- the planted index can take all rows, and has them, or would be too full
 use Rattle.std.proofs.Common.{sym, ◌∙◌}
 use Rattle.sand_store.proofs.Planting.{asks_fill, got_built, built_full, built_of}
-use Rattle.sand_store.proofs.index.built.Goals as goal
+use Rattle.sand_store.proofs.index.filled_index.Goals as goal
 
 pub filled-requires-clause-can : goal.filled-requires-clause-can
 filled-requires-clause-can g c = λ after.
