@@ -3,7 +3,8 @@ ghost use Rattle.sand_store.specs.Catalog.{IsLimits};
 
 use page_pool::MemDisk;
 use sand_base::{Label, Limits, MemShelf, MemSink, MemSource, NoMemory};
-use session::{Status, run_within};
+use sand_journal::MemTape;
+use session::{Status, run_kept, run_within};
 use std::alloc::Global;
 
 /// The bytes that the source gives at a time.
@@ -206,4 +207,51 @@ pub fn answer_within(
 /// What comes of a run within the limits of a plain one, with this fault.
 pub fn answer_of(alloc: Global, case: &Case, fault: Fault) -> Result<Answer, NoMemory> {
     answer_within(alloc, Limits::standard(), case, fault)
+}
+
+// A tape of these bytes, whose call of this number fails.
+fn tape(alloc: Global, bytes: &[u8], call: u64) -> Result<MemTape, NoMemory> {
+    let fails = listed(alloc, Some(call))?;
+    Ok(MemTape::new(alloc, bytes.to_vec(alloc)?, fails))
+}
+
+// What comes of a run over these streams and this tape, and the tape then.
+fn ran_kept(alloc: Global, words: &[Label], streams: Streams, tape: MemTape) -> (Answer, MemTape) {
+    let Streams {
+        mut source,
+        mut shelf,
+        disk,
+        mut sink,
+    } = streams;
+    let (status, disk, tape) = run_kept(
+        alloc,
+        Limits::standard(),
+        words,
+        &mut source,
+        &mut shelf,
+        disk,
+        tape,
+        &mut sink,
+    );
+    let answer = Answer {
+        sink,
+        status,
+        calls: disk.calls(),
+    };
+    (answer, tape)
+}
+
+/// What comes of a run over a tape of these bytes, whose call of this number fails, and the tape then.
+pub fn answer_kept(
+    alloc: Global,
+    case: &Case,
+    bytes: &[u8],
+    call: u64,
+) -> Result<(Answer, MemTape), NoMemory> {
+    let words = labels(alloc, case.words)?;
+    let (streams, tape) = both(
+        streams_of(alloc, case, Fault::Nothing),
+        tape(alloc, bytes, call),
+    )?;
+    Ok(ran_kept(alloc, words.as_slice(), streams, tape))
 }

@@ -17,6 +17,7 @@ mod reads;
 mod refusals;
 mod scripts;
 mod streams;
+mod tapes;
 mod trouble;
 
 use disk::Taking;
@@ -104,15 +105,17 @@ enum Table {
     Reads,
     Writes,
     Files,
+    Tapes,
 }
 
 /// Each with its name.
-static TABLES: [(&str, Table); 5] = [
+static TABLES: [(&str, Table); 6] = [
     ("lines that are refused", Table::Refusals),
     ("fronts of a data file", Table::Fronts),
     ("reads of the script that fail", Table::Reads),
     ("writes that fail", Table::Writes),
     ("calls of a data file that fail", Table::Files),
+    ("calls of a journal's tape that fail", Table::Tapes),
 ];
 
 // The number of runs of a table.
@@ -123,6 +126,7 @@ fn counted(alloc: Global, table: Table) -> Result<u64, Trouble> {
         Table::Reads => turns(alloc, Stream::Source),
         Table::Writes => turns(alloc, Stream::Sink),
         Table::Files => loads(alloc),
+        Table::Tapes => tapes::tried(alloc),
     }
 }
 

@@ -1,9 +1,9 @@
 -- The records that a call appends to a journal.
 use Rattle.std.proofs.Common.{◌≡◌, ℕ, Bool, true, false, List, [], ◌∷◌, ◌++◌, Option, Some, None, refl, sym, ap, subst, append-nil}
-use Rattle.std.specs.Prelude.{IsTrue, Result, Ok, Err, IfErr, OnOk, is_err}
+use Rattle.std.specs.Prelude.{IsTrue, Result, Ok, Err, is_err}
 use Rattle.sand_base.specs.declared.refusal.Refusal.{Refusal}
 use Rattle.sand_journal.proofs.Moments.{started}
-use Rattle.sand_journal.specs.Images.{HasBodies, LeavesOnly, LiesBetween}
+use Rattle.sand_journal.specs.Images.{HasBodies, LiesBetween}
 use Rattle.sand_journal.specs.Journal.{IsAtEnd}
 use Rattle.sand_journal.specs.Tape.{TapeView}
 use Rattle.sand_journal.specs.declared.journal.Journal.{Journal}

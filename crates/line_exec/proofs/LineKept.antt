@@ -1,9 +1,8 @@
 -- What a line keeps, from what its statement does and what was appended.
-use Rattle.std.proofs.Common.{◌≡◌, ℕ, ◌≤◌, Bool, true, false, List, [], ◌∷◌, Option, Some, None, map, refl, sym, ap, subst, arith, true≢false, ◌∙◌}
+use Rattle.std.proofs.Common.{◌≡◌, ℕ, Bool, true, false, List, [], ◌∷◌, Option, Some, None, refl, sym, ap, subst, arith, true≢false, ◌∙◌}
 use Rattle.std.specs.Prelude.{IsTrue, Result, Ok, Err, IfOk, is_err, is_some}
 use Rattle.sand_base.specs.Shelf.{Files}
 use Rattle.sand_base.specs.declared.refusal.Refusal.{Refusal}
-use Rattle.sand_journal.specs.ChangeBody.{ChangeValue, body_of}
 use Rattle.sand_journal.specs.Tape.{TapeView}
 use Rattle.sand_journal.specs.declared.journal.Journal.{Journal}
 use Rattle.sand_store.specs.Calls.{IsUnchanged}

@@ -1,7 +1,7 @@
 -- What is to be kept of a statement, by its kind.
 use Rattle.std.proofs.Common.{◌≡◌, ◌∙◌, ℕ, suc, ◌+◌, ◌≤◌, Bool, true, false, not, nat_lt, List, [], ◌∷◌, Option, Some, None, refl, sym, ap, subst, arith, inl, inr, true≢false}
 use Rattle.std.proofs.lemmas.Bool.Decides.{leb_tells}
-use Rattle.std.specs.List.{AllByRecursion, find}
+use Rattle.std.specs.List.{AllByRecursion}
 use Rattle.std.specs.Prelude.{Result, Ok, Err, IfOk, OnOk, OnErr}
 use Rattle.journal_replay.proofs.Entered.{found_relation, led_by_rows}
 use Rattle.journal_replay.proofs.RowChanges.{led_by_row}
@@ -20,8 +20,8 @@ use Rattle.sand_model.specs.RowSize.{row_size}
 use Rattle.sand_model.specs.StatementChecks.{refused_where, is_row_of, check_length, check_ids, in_relation}
 use Rattle.sand_store.proofs.RowKinds.{row_of}
 use Rattle.sand_store.specs.Calls.{Carries, Inserted, IsUnchanged, Loaded, check_kinds, plain_checks}
-use Rattle.sand_store.specs.Catalog.{RelationView, StoreState, is_named}
-use Rattle.sand_store.specs.Contents.{database, relation_in}
+use Rattle.sand_store.specs.Catalog.{StoreState}
+use Rattle.sand_store.specs.Contents.{database}
 use Rattle.statement_exec.proofs.SomeSetting.{some_setting, is_some_setting}
 use Rattle.statement_exec.specs.declared.reply.Reply.{Reply}
 use Rattle.statements.specs.Statement.{Statement}

@@ -1,8 +1,8 @@
 -- A search by an R-tree reads no node twice: what it has opened are nodes of the tree, each once, and no page is that of two nodes.
-use Rattle.std.proofs.Common.{◌≡◌, ℕ, ◌+◌, ◌≤◌, Bool, true, false, true≢false, cond, List, [], ◌∷◌, ◌++◌, map, filter, length, Option, None, Some, refl, sym, ap, ap₂, ◌∙◌, subst, arith}
+use Rattle.std.proofs.Common.{◌≡◌, ℕ, ◌+◌, ◌≤◌, Bool, true, false, true≢false, cond, List, [], ◌∷◌, ◌++◌, map, filter, length, Option}
+use Rattle.std.proofs.Common.{None, Some, refl, sym, ap, ap₂, ◌∙◌, subst, arith}
 use Rattle.std.proofs.Common.{Result, Ok, Err, IfSome, OnOk, IsOk}
 use Rattle.std.proofs.lemmas.List.{map-append, length-map}
-use Rattle.std.proofs.lemmas.List.Concat.{flat_map-append}
 use Rattle.std.proofs.lemmas.List.Sorted.{IsPermutation-map}
 use Rattle.page_pool.specs.Disk.{PageMap}
 use Rattle.page_pool.specs.declared.fault.PageFault.{PageFault}
@@ -30,7 +30,7 @@ use Rattle.near_cursor.specs.NearRanking.{near_visit}
 use Rattle.near_cursor.specs.TreeNodes.{PageNode}
 use Rattle.plan_rows.specs.declared.answer.Answer.{Answer}
 use Rattle.near_source.specs.NearPlans.{HasTakenNear, nearing, by_page}
-use Rattle.near_source.specs.NodesRead.{page_read, pages_read, HasReadNodes, ReadsNodesOnce}
+use Rattle.near_source.specs.NodesRead.{pages_read, HasReadNodes, ReadsNodesOnce}
 
 -- the pages of nodes
 abbrev pages_of : List PageNode → List ℕ
@@ -79,7 +79,8 @@ module _ (tree : NearTree FileShapes) (pages : PageMap) (once : HasPagesOnce (ne
     one_tried (Err fault) attempt all b = b.few
 
     -- and none behind a row or at the end
-    none_tried : (result : Result (Option Hit) PageFault) → IsOk result → (attempt all : List (Item PageNode)) → Bounds by_page (nearing tree pages) old.last result attempt all → attempt ≡ []
+    none_tried : (result : Result (Option Hit) PageFault) → IsOk result
+        → (attempt all : List (Item PageNode)) → Bounds by_page (nearing tree pages) old.last result attempt all → attempt ≡ []
     none_tried (Ok (Some hit)) ok attempt all b = b.settled
     none_tried (Ok None) ok attempt all b = b.settled
     none_tried (Err fault) ok attempt all b = absurd (true≢false (sym ok))

@@ -1,5 +1,5 @@
 -- The changes of a run, line by line: where they lead, and what their records leave on the tape.
-use Rattle.std.proofs.Common.{◌≡◌, ℕ, ◌≤◌, Bool, true, List, [], ◌∷◌, ◌++◌, length, map, Option, Some, None, refl, sym, ap, subst, ◌∙◌, append_assoc, append-nil, arith}
+use Rattle.std.proofs.Common.{◌≡◌, ℕ, Bool, List, [], ◌∷◌, ◌++◌, map, Option, Some, None, refl, sym, ap, subst, ◌∙◌, append_assoc, append-nil, arith}
 use Rattle.std.proofs.lemmas.List.{map-append}
 use Rattle.std.specs.List.{AllByRecursion}
 use Rattle.std.specs.Prelude.{IsTrue, Result, Ok, Err}
@@ -9,8 +9,6 @@ use Rattle.line_exec.specs.KeptChanges.{Appends, KeepsAll, KeepsChange, KeepsIfA
 use Rattle.line_exec.specs.declared.fault.LineFault.{LineFault}
 use Rattle.line_exec.specs.declared.fault.LineFault.TheVariants as fault
 use Rattle.line_meaning.specs.Carrying.{Follows}
-use Rattle.line_meaning.proofs.Runs.{follows_on}
-use Rattle.sand_base.specs.declared.limits.Limits.{Limits}
 use Rattle.sand_journal.proofs.Moments.{joined, weaker}
 use Rattle.sand_journal.specs.ChangeBody.{ChangeValue, IsChange, body_of}
 use Rattle.sand_journal.specs.Images.{HasBodies, LeavesOnly, LiesBetween}
@@ -24,7 +22,7 @@ use Rattle.sand_store.specs.Sketches.{Sketch}
 use Rattle.statement_exec.specs.Moment.{Moment}
 use Rattle.statement_exec.specs.Outline.{outline_of, sketch_in}
 use Rattle.session.specs.KeptTape.{AreUntold, KeepsShown, ShowsIfAny}
-use Rattle.session.specs.OpenRun.{HasKept, HasKeptIfAny}
+use Rattle.session.specs.OpenRun.{HasKeptIfAny}
 use Rattle.session.specs.RunStates.{status_of_line}
 use Rattle.session.specs.declared.status.Status.{Status}
 use Rattle.session.specs.declared.status.Status.TheVariants as status
