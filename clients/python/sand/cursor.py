@@ -22,6 +22,29 @@ class Stats(NamedTuple):
     rows: int
 
 
+class RowReader:
+    """Reads the rows of a plan off the lines that the program printed."""
+
+    def __init__(self, database: Sand, plan: str) -> None:
+        self._database = database
+        self._plan = plan
+        self._form = row_form(plan)
+        self._readers: list[Callable[[str], Value]] | None = None
+
+    def read(self, line: str) -> Row:
+        if self._readers is None:
+            kinds = map(self._database.kind_of, self._form.places)
+            self._readers = [{"int": int, "text": str}.get(kind, read_shape) for kind in kinds]
+        fields = line.split("\t")
+        ids_end = len(fields) - len(self._readers)
+        ids_start = ids_end - len(self._form.relations)
+        if ids_start not in (0, 1):
+            raise ValueError(f"the row {line!r} isn't of the form that its plan tells: {self._plan}")
+        gap = read_gap(fields[0]) if ids_start else None
+        ids = map(int, fields[ids_start:ids_end])
+        return Row(gap, ids, [read(text) for read, text in zip(self._readers, fields[ids_end:])])
+
+
 class Cursor(Iterator[Row]):
     """The rows of a plan over the relations as they stood at the opening.
 
@@ -38,8 +61,7 @@ class Cursor(Iterator[Row]):
         self._most = most
         self._batch = 1
         self._waiting: deque[str] = deque()
-        self._form = row_form(plan)
-        self._readers: list[Callable[[str], Value]] | None = None
+        self._reader = RowReader(database, plan)
         self._refusal: Refused | None = None
         self._is_open = False
         database.tell(f"open {name} = {plan}")
@@ -50,7 +72,7 @@ class Cursor(Iterator[Row]):
             self._pull()
         if not self._waiting:
             raise StopIteration
-        return self._read(self._waiting.popleft())
+        return self._reader.read(self._waiting.popleft())
 
     def _pull(self) -> None:
         if self._refusal:
@@ -70,19 +92,6 @@ class Cursor(Iterator[Row]):
             self.close()
         self._batch = min(2 * self._batch, self._most)
         self._waiting.extend(lines)
-
-    def _read(self, line: str) -> Row:
-        if self._readers is None:
-            kinds = map(self._database.kind_of, self._form.places)
-            self._readers = [{"int": int, "text": str}.get(kind, read_shape) for kind in kinds]
-        fields = line.split("\t")
-        ids_end = len(fields) - len(self._readers)
-        ids_start = ids_end - len(self._form.relations)
-        if ids_start not in (0, 1):
-            raise ValueError(f"the row {line!r} isn't of the form that its plan tells: {self.plan}")
-        gap = read_gap(fields[0]) if ids_start else None
-        ids = map(int, fields[ids_start:ids_end])
-        return Row(gap, ids, [read(text) for read, text in zip(self._readers, fields[ids_end:])])
 
     def take(self, count: int) -> list[Row]:
         """The next rows, so many at most."""

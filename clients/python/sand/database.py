@@ -7,11 +7,11 @@ import tempfile
 from collections import deque
 from typing import Any, Iterable, Iterator, Sequence
 
-from .cursor import MOST_AT_ONCE, Cursor
+from .cursor import MOST_AT_ONCE, Cursor, RowReader
 from .plan_text import Place
 from .program import Program, find_program
 from .refusal import Refused, is_refusal
-from .values import Value, field, literal
+from .values import Row, Value, field, literal
 
 # a plan with more operators than any may have is refused behind its checks, so nothing of it is carried out
 TOO_DEEP = 40
@@ -23,12 +23,13 @@ class Sand:
     `program` is its file (else `SAND` of the environment, the repository's program or the one on the path) and `folder`
     the one from which it is started and names data files. Every other word is an option of its command line:
     `Sand(frames=64)` starts it with `--frames 64`. `store="FILE"` EMPTIES that file: it is scratch space and no database.
+    The descriptors of `kept_open` stay open in the program until it ends.
     """
 
     def __init__(self, *words: str, program: str | os.PathLike[str] | None = None,
-                 folder: str | os.PathLike[str] | None = None, **options: Any) -> None:
+                 folder: str | os.PathLike[str] | None = None, kept_open: Sequence[int] = (), **options: Any) -> None:
         named = [word for name, value in options.items() for word in (f"--{name.replace('_', '-')}", str(value))]
-        self._program = Program([find_program(program), *words, *named], folder)
+        self._program = Program([find_program(program), *words, *named], folder, kept_open)
         self._kinds: dict[Place, str] = {}
         self._cursors = 0
         self._abandoned: deque[str] = deque()
@@ -42,6 +43,11 @@ class Sand:
     def close(self) -> int | None:
         """Ends the run; the program's status. A second time does nothing."""
         return self._program.close()
+
+    @property
+    def sent(self) -> int:
+        """The bytes of statements so far, of which a run takes 16,777,216."""
+        return self._program.sent
 
     def answer(self, line: str) -> list[str]:
         """The lines that a statement prints, a refusal as the last of them; it raises none."""
@@ -85,6 +91,12 @@ class Sand:
         """The rows of a plan, pulled as they are asked for, up to `most` ahead of who asks."""
         self._cursors += 1
         return Cursor(self, f"_py_{self._cursors}", plan, most)
+
+    def first(self, count: int, plan: str) -> list[Row]:
+        """The first rows of a plan, so many at most, by one statement and without a cursor."""
+        reader = RowReader(self, plan)
+        lines = self.ask(f"show {count} {plan}")
+        return [reader.read(line) for line in lines[:len(lines) - (lines[-1] == "end")]]
 
     def kind_of(self, place: Place) -> str:
         """`int`, `text` or `shape`: the kind of a column, which the checks of a plan tell without carrying it out."""

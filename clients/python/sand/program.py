@@ -12,6 +12,7 @@ import shutil
 import subprocess
 import threading
 from pathlib import Path
+from typing import Sequence
 
 from .refusal import is_refusal
 
@@ -27,7 +28,9 @@ STATUSES = {
     0: "the script was read to its end", 1: "the script was read to its end, and a line was refused",
     2: "the words of its command line aren't accepted", 3: "standard input failed", 4: "standard output failed",
     5: "the script has more than 16,777,216 bytes", 6: "memory was refused before the first line",
-    7: "the disk failed before the first line",
+    7: "the disk failed before the first line", 8: "the journal failed", 9: "the journal is bad",
+    10: "the disk failed while the kept changes were carried out again",
+    11: "a page that was read while the kept changes were carried out again isn't the one that was written",
 }
 
 
@@ -78,17 +81,23 @@ def find_program(program: str | os.PathLike[str] | None = None) -> str:
 
 
 class Program:
-    """The program and its two streams. One statement is asked at a time, by whichever thread."""
+    """The program and its two streams. One statement is asked at a time, by whichever thread.
 
-    def __init__(self, words: list[str], folder: str | os.PathLike[str] | None = None) -> None:
+    The descriptors of `kept_open` stay open in the program as long as it runs: so a lock of a file is held until it has ended.
+    """
+
+    def __init__(self, words: list[str], folder: str | os.PathLike[str] | None = None, kept_open: Sequence[int] = ()) -> None:
         # a session of its own, so that an interrupt at the terminal is this side's alone
         self._process = subprocess.Popen(
-            words, stdin=subprocess.PIPE, stdout=subprocess.PIPE, stderr=subprocess.PIPE, cwd=folder, start_new_session=True)
+            words, stdin=subprocess.PIPE, stdout=subprocess.PIPE, stderr=subprocess.PIPE, cwd=folder, start_new_session=True,
+            pass_fds=kept_open)
         assert self._process.stdin and self._process.stdout
         self._input, self._output = self._process.stdin, self._process.stdout
         self._mark = f"nobody_{secrets.token_hex(8)}"
         self._lock = threading.RLock()
         self._ended: ProgramEnded | None = None
+        # bytes of the script so far, of which a run takes 16,777,216
+        self.sent = 0
 
     @property
     def has_ended(self) -> bool:
@@ -144,7 +153,9 @@ class Program:
         return lines
 
     def _send(self, line: str) -> None:
-        self._input.write(line.encode() + b"\n")
+        text = line.encode() + b"\n"
+        self.sent += len(text)
+        self._input.write(text)
         self._input.flush()
 
     def _read(self) -> str:

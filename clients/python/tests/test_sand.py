@@ -129,6 +129,14 @@ class Rows(unittest.TestCase):
             self.assertEqual([row.ids for row in db.rows("join cafe.at way.way")], [(1, 1), (2, 1), (3, 1)])
             self.assertIsNone(next(db.rows("pick cafe.seats from 0 to 9")).gap if db.tell("index cafe.seats") else None)
 
+    def test_first_rows_come_by_one_statement(self) -> None:
+        with cafes() as db:
+            plan = "fetch (rank cafe.at from (12 10)) 1.name"
+            self.assertEqual(db.first(2, plan), db.rows(plan).take(2))
+            self.assertEqual([row.values for row in db.first(9, plan)], [("Alba",), ('the "Brin", a café',), ("",)])
+            self.assertEqual(db.first(1, "rank cafe.at from (12 10) within 1"), [])
+            self.assertRaises(Refused, db.first, 0, plan)
+
     def test_rows_are_pulled_as_they_are_asked_for(self) -> None:
         with Sand() as db:
             db.tell("create p (at point)")
