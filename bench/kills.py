@@ -5,7 +5,7 @@
 
 Each round starts the program over the journal that the rounds before left, sends it changes drawn at random (rows inserted
 and deleted, relations created, files loaded, indexes made), and kills it with SIGKILL at a random moment. A second run then
-shows all rows. They have to be those after some number of the changes sent, at least as many as were answered: answers
+shows all rows, and the next id of each relation by a row more. They have to be those after some number of the changes sent, at least as many as were answered: answers
 are gathered before they are written, so changes may be kept whose answers nobody saw. It ends with 0 where all rounds agree.
 """
 import argparse
@@ -41,10 +41,11 @@ class Rows:
         found = []
         for name in names:
             if name not in self.rows:
-                found += ["refused 8 UnknownRelation", "refused 8 UnknownRelation", "refused 21 UnknownCursor"]
+                found += ["refused 8 UnknownRelation", "refused 8 UnknownRelation", "refused 21 UnknownCursor", "refused 8 UnknownRelation"]
                 continue
             found += [f"{id}\t{row}" for id, row in sorted(self.rows[name].items())] + ["end"]
             found += ["ok", "ok"] if name in self.indexed else ["refused 13 NoIndex", "refused 21 UnknownCursor"]
+            found.append(f"id {self.next[name]}")
         return found
 
     def insert(self, name: str, row: str) -> None:
@@ -141,9 +142,9 @@ def killed(program: str, journal: str, statements: list[str], wait: float) -> li
 
 
 def found(program: str, journal: str, names: list[str]) -> list[str]:
-    """What a new run prints, asked for these relations: all rows of each, and whether it has an index."""
+    """What a new run prints, asked for these relations: all rows of each, whether it has an index, and the id of one row more, which it inserts."""
     show, look = "show 1000000 fetch (scan {0}) 1.at, 1.n\n", "open c = rank {0}.at from (0 0)\nclose c\n"
-    script = "".join((show + look).format(name) for name in names)
+    script = "".join((show + look + "insert {0} (0 0), 0\n").format(name) for name in names)
     run = subprocess.run([program, "--journal", journal], input=script.encode(), stdout=subprocess.PIPE)
     if run.returncode not in (0, 1):
         sys.exit(f"kills: a start ended with {run.returncode}")
@@ -180,6 +181,9 @@ def main() -> None:
                 rows.carry(sent[done][1])
                 done += 1
             kept += done
+            for name in names:
+                if name in rows.rows:
+                    rows.insert(name, "(0 0)\t0")
     print(f"{asked.rounds} rounds, {kept:,} changes kept, {answers:,} of them answered")
 
 

@@ -3,8 +3,8 @@
 
   bench/shapes.py [--size N] [--frames N] [--turns N] [--program FILE] [points|roads|buildings ..]
 
-Of each set N rows of its own making are loaded. The two trees take turns, and what is printed is the median over the turns, in seconds of
-the processor, and the median of the ratios:
+Of each set N rows of its own making are loaded. The two trees take turns, and what is printed is the least over the turns, in seconds of
+the processor, and the ratio of both:
 
   index    the quadtree, and the R-tree, of rows that are there
   10, 100  20,000 rankings of 10 rows by `rank` and by `near` from the same points, or 4,000 of 100 rows
@@ -17,7 +17,6 @@ neighbours are joined by a segment, so that segments join and don't cross. Build
 import argparse
 import os
 import random
-import statistics
 import tempfile
 
 from works import LAST, PROGRAM, clamp, run
@@ -101,8 +100,20 @@ class Set:
         return [it for shape, id in zip(self.inserts, self.deletes) for it in (f"insert s {shape}", f"delete s {id}")]
 
 
-def turn(words: list[str], folder: str, before: list[str], measured: list[str]) -> float:
-    return run(words, folder, before + measured)[1] - run(words, folder, before)[1]
+def scripts(data: Set, load: list[str], made: str, plan: str) -> dict[str, list[str]]:
+    """What is run in a turn, by what is measured with it."""
+    return {
+        "load": load,
+        "index": load + [made],
+        "10": load + [made] + data.queries(10, plan) * 10,
+        "100": load + [made] + data.queries(100, plan) * 2,
+        "update": load + [made] + data.updates(),
+    }
+
+
+def seconds(least: dict[str, float]) -> dict[str, float]:
+    """What each work took beside the script without it."""
+    return {work: took - least["load" if work == "index" else "index"] for work, took in least.items() if work != "load"}
 
 
 def main() -> None:
@@ -114,25 +125,21 @@ def main() -> None:
     asked.add_argument("sets", nargs="*", default=list(SETS))
     asked = asked.parse_args()
     words = [os.path.abspath(asked.program), "--frames", str(asked.frames)]
-    print(f"{asked.size:,} rows, {asked.frames} frames, medians of {asked.turns} turns")
+    print(f"{asked.size:,} rows, {asked.frames} frames, least of {asked.turns} turns")
     print(f"{'set':<11}{'work':<9}{'quadtree s':>12}{'R-tree s':>10}{'ratio':>8}")
     with tempfile.TemporaryDirectory() as folder:
         for kind in asked.sets:
             data = Set(kind, asked.size)
             load = data.load(folder)
-            works = {
-                "index": lambda made, plan: (load, [made]),
-                "10": lambda made, plan: (load + [made], data.queries(10, plan) * 10),
-                "100": lambda made, plan: (load + [made], data.queries(100, plan) * 2),
-                "update": lambda made, plan: (load + [made], data.updates()),
-            }
-            for work, lines in works.items():
-                turns = []
-                for _ in range(asked.turns):
-                    turns.append([turn(words, folder, *lines(made, plan)) for made, plan in (("index s.at", "rank"), ("rtree s.at", "near"))])
-                one, other = (statistics.median(it[at] for it in turns) for at in (0, 1))
-                ratio = statistics.median(it[1] / it[0] for it in turns)
-                print(f"{kind:<11}{work:<9}{one:>12.3f}{other:>10.3f}{ratio:>8.2f}", flush=True)
+            trees = [scripts(data, load, made, plan) for made, plan in (("index s.at", "rank"), ("rtree s.at", "near"))]
+            least = [{work: float("inf") for work in tree} for tree in trees]
+            for _ in range(asked.turns):
+                for tree, best in zip(trees, least):
+                    for work, lines in tree.items():
+                        best[work] = min(best[work], run(words, folder, lines)[1])
+            quadtree, rtree = seconds(least[0]), seconds(least[1])
+            for work, took in quadtree.items():
+                print(f"{kind:<11}{work:<9}{took:>12.3f}{rtree[work]:>10.3f}{rtree[work] / took:>8.2f}", flush=True)
 
 
 if __name__ == "__main__":
