@@ -1,21 +1,21 @@
 #!/usr/bin/env python3
 """Times a map in pages beside one in memory: inserts, look-ups and the steps of a run, by processor time. It gives no verdict.
 
-  bench/btree.py [LOTS]     (after `rt run` in crates/page_bench, which builds it; a lot is 50,000 keys and one command, and 4 is the default)
+  bench/btree.py [LOTS]     (after `rt run` in crates/benches, which builds it; a lot is 50,000 keys and one command, and 4 is the default)
 """
 import os
 import subprocess
 import sys
 
-PROGRAM = os.path.join(os.path.dirname(os.path.abspath(__file__)), "..", "crates", "page_bench", "out", "page_bench")
+PROGRAM = os.path.join(os.path.dirname(os.path.abspath(__file__)), "..", "crates", "benches", "out", "benches")
 if not os.access(PROGRAM, os.X_OK):
-    sys.exit("bench: build the program first (rt run in crates/page_bench)")
+    sys.exit("bench: build the program first (rt run in crates/benches)")
 lots = sys.argv[1] if len(sys.argv) > 1 else "4"
 
 
 def seconds(place: str, part: str) -> tuple[float, int]:
     """The processor time of one run, and the calls that it counted."""
-    program = subprocess.Popen([PROGRAM, place, part, lots], stdout=subprocess.PIPE, text=True)
+    program = subprocess.Popen([PROGRAM, "map", place, part, lots], stdout=subprocess.PIPE, text=True)
     said = program.stdout.read()
     _, status, used = os.wait4(program.pid, 0)
     if status != 0:

@@ -1,7 +1,7 @@
 #!/usr/bin/env python3
 """Times appends to a journal, the same writes and syncs by hand, and reading, by user time. It gives no verdict.
 
-  bench/journal.py     (after `rt run` in crates/journal_bench, which builds it)
+  bench/journal.py     (after `rt run` in crates/benches, which builds it)
 
 Appends go over and over to a new tape of 500 records, so that no time goes to new pages of memory; a run over as many empty
 tapes is taken off, and from reading that of its appends. There are eleven turns, in each of which every run has its turn; a
@@ -12,7 +12,7 @@ import statistics
 import subprocess
 import sys
 
-PROGRAM = os.path.join(os.path.dirname(os.path.abspath(__file__)), "..", "crates", "journal_bench", "out", "journal_bench")
+PROGRAM = os.path.join(os.path.dirname(os.path.abspath(__file__)), "..", "crates", "benches", "out", "benches")
 TURNS = 11
 BODY_BYTES = 109
 RECORDS, TAPES = 500, 20_000
@@ -23,11 +23,11 @@ READS, RUNS = 100_000, 10
 def used(word, *numbers):
     """The user time of one run in seconds."""
     words = [word] + [str(number) for number in numbers]
-    program = subprocess.Popen([PROGRAM] + words, stdout=subprocess.PIPE, text=True)
+    program = subprocess.Popen([PROGRAM, "journal"] + words, stdout=subprocess.PIPE, text=True)
     said = program.stdout.read()
     _, status, took = os.wait4(program.pid, 0)
     if status != 0 or not said.startswith(f"{numbers[0]} records"):
-        sys.exit(f"bench: journal_bench {words} ended with {status}: {said}")
+        sys.exit(f"bench: benches {words} ended with {status}: {said}")
     return took.ru_utime
 
 
@@ -38,7 +38,7 @@ def spread(values, digits):
 
 
 if not os.access(PROGRAM, os.X_OK):
-    sys.exit("bench: build the program first (rt run in crates/journal_bench)")
+    sys.exit("bench: build the program first (rt run in crates/benches)")
 hand, journal, ratios, rates = [], [], [], []
 for turn in range(TURNS):
     order = ["hand", "journal"] if turn % 2 == 0 else ["journal", "hand"]

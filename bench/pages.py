@@ -1,21 +1,21 @@
 #!/usr/bin/env python3
 """Times quadtrees, files and searches in pages, and a pool of 10,000 pages, by processor time. It gives no verdict.
 
-  bench/pages.py [ROWS]     (after `rt run` in crates/page_bench, which builds it; 100,000 rows are the default)
+  bench/pages.py [ROWS]     (after `rt run` in crates/benches, which builds it; 100,000 rows are the default)
   bench/pages.py pool       (the pool alone)
 """
 import os
 import subprocess
 import sys
 
-PROGRAM = os.path.join(os.path.dirname(os.path.abspath(__file__)), "..", "crates", "page_bench", "out", "page_bench")
+PROGRAM = os.path.join(os.path.dirname(os.path.abspath(__file__)), "..", "crates", "benches", "out", "benches")
 if not os.access(PROGRAM, os.X_OK):
-    sys.exit("bench: build the program first (rt run in crates/page_bench)")
+    sys.exit("bench: build the program first (rt run in crates/benches)")
 
 
 def run(part: str, count: int) -> tuple[float, list[int], int]:
     """The processor time of one run, the numbers that it printed, and the most memory that it held, in KiB."""
-    program = subprocess.Popen([PROGRAM, part, str(count)], stdout=subprocess.PIPE, text=True)
+    program = subprocess.Popen([PROGRAM, "pages", part, str(count)], stdout=subprocess.PIPE, text=True)
     said = program.stdout.read()
     _, status, used = os.wait4(program.pid, 0)
     numbers = [int(word) for word in said.split() if word.isdigit()]

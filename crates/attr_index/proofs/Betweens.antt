@@ -12,8 +12,8 @@ use Rattle.code_btree.specs.Tree.{Store, tree_items}
 use Rattle.code_btree.proofs.Orders.{lt_not}
 use Rattle.attr_index.specs.declared.index.AttrIndex.{AttrIndex}
 use Rattle.attr_index.specs.Key.{offset, int_from, int_of, IsIntKey}
-use Rattle.attr_index.specs.Entries.{Entry, IntEntry, int_entries, is_within, is_after, between_entry}
-use Rattle.attr_index.specs.Index.{IsIntIndex, entry_of, entries, entries_at}
+use Rattle.attr_index.specs.Entries.{Entry, IntEntry, int_entries, is_int_within, is_after, between_entry}
+use Rattle.attr_index.specs.Index.{IsIntIndex, index_entry, entries, index_entries}
 use Rattle.attr_index.specs.Steps.{least_place}
 use Rattle.attr_index.proofs.Ints.{int_key_number, int_back, key_back, offset_lt, offset_le, lt_by_offset, le_by_offset, int_lt_not, int_le_is, int_le_not}
 use Rattle.attr_index.proofs.Pairs.{find-map, Each-pairs}
@@ -22,7 +22,7 @@ use Rattle.attr_index.proofs.Equals.{and_false}
 
 -- the test of a place
 abbrev wanted : ℤ → ℤ → Option IntEntry → ℕ → Bool
-wanted low high after k = is_within low high (int_of (k / 2 ^ 32)) && is_after after (int_of (k / 2 ^ 32), k % 2 ^ 32)
+wanted low high after k = is_int_within low high (int_of (k / 2 ^ 32)) && is_after after (int_of (k / 2 ^ 32), k % 2 ^ 32)
 
 -- a key that is an int's
 abbrev Kept : ℕ → Type 0
@@ -44,10 +44,10 @@ at_int k p =
     (p.0, record { range = r; whole = p.1.1 ∙ int_key_number p.0 r; int = ap int_of p.1.1 ∙ key_back p.0 r })
 
 -- an int below the bounds, or above them, is not wanted
-too_low : (low high v : ℤ) (b : Bool) → v <ℤ low → (is_within low high v && b) ≡ false
+too_low : (low high v : ℤ) (b : Bool) → v <ℤ low → (is_int_within low high v && b) ≡ false
 too_low low high v b h = ap (λ (c : Bool). (c && int_le v high) && b) (int_le_not low v h)
 
-too_high : (low high v : ℤ) (b : Bool) → high <ℤ v → (is_within low high v && b) ≡ false
+too_high : (low high v : ℤ) (b : Bool) → high <ℤ v → (is_int_within low high v && b) ≡ false
 too_high low high v b h = ap (λ (c : Bool). (int_le low v && c) && b) (int_le_not v high h) ∙ ap (λ (c : Bool). c && b) (and_false (int_le low v))
 
 -- an entry up to another one doesn't come after it
@@ -59,18 +59,18 @@ not_after a v k r small at h =
     (λ l. ap (λ (c : Bool). int_le a.0 v && c) (lt_not a.1 (k % 2 ^ 32) (omega (arith, at.whole, h, small, offset_le a.0 v l))) ∙ and_false (int_le a.0 v))
 
 -- a place below the first one is not wanted
-lesser_at : (low high v : ℤ) (after : Option IntEntry) (k : ℕ) → IsFitEntry after → IsAt k v → k < least_place low after → (is_within low high v && is_after after (v, k % 2 ^ 32)) ≡ false
+lesser_at : (low high v : ℤ) (after : Option IntEntry) (k : ℕ) → IsFitEntry after → IsAt k v → k < least_place low after → (is_int_within low high v && is_after after (v, k % 2 ^ 32)) ≡ false
 lesser_at low high v None k fit at l = too_low low high v true (lt_by_offset v low (omega (arith, at.whole, l)))
 lesser_at low high v (Some a) k fit at l = elim (leb_tells (offset low * 2 ^ 64) k) [
   | inl x ↦
       let upto : k ≤ offset a.0 * 2 ^ 64 + a.1 = omega (arith, x.1, l) in
-      ap (λ (c : Bool). is_within low high v && c) (not_after a v k fit.0 fit.1 at upto) ∙ and_false (is_within low high v)
+      ap (λ (c : Bool). is_int_within low high v && c) (not_after a v k fit.0 fit.1 at upto) ∙ and_false (is_int_within low high v)
   | inr x ↦ too_low low high v (is_after (Some a) (v, k % 2 ^ 32)) (lt_by_offset v low (omega (arith, at.whole, x.1)))
 ]
 
 -- the test of the place of an int
-wanted_at : (low high v : ℤ) (after : Option IntEntry) (k : ℕ) → IsAt k v → wanted low high after k ≡ (is_within low high v && is_after after (v, k % 2 ^ 32))
-wanted_at low high v after k at = ap (λ (n : ℤ). is_within low high n && is_after after (n, k % 2 ^ 32)) at.int
+wanted_at : (low high v : ℤ) (after : Option IntEntry) (k : ℕ) → IsAt k v → wanted low high after k ≡ (is_int_within low high v && is_after after (v, k % 2 ^ 32))
+wanted_at low high v after k at = ap (λ (n : ℤ). is_int_within low high n && is_after after (n, k % 2 ^ 32)) at.int
 
 searched : (low high : ℤ) (after : Option IntEntry) (from : ℕ) → IsFitEntry after → from ≡ least_place low after → IsSearch Kept (wanted low high after) from
 searched low high after from fit ef = record {
@@ -92,21 +92,21 @@ greater_at low high after at k r q h p l =
 
 -- the entry that the pair found stands for
 entry_is : (low high : ℤ) (after : Option IntEntry) (es : List Pair) (o : Option Pair) → find (λ e. wanted low high after e.0) es ≡ o
-    → between_entry low high after (int_entries (entries es)) ≡ option_map (λ (d : Entry). (int_of d.0, d.1)) (option_map (λ (e : Pair). entry_of e.0) o)
+    → between_entry low high after (int_entries (entries es)) ≡ option_map (λ (d : Entry). (int_of d.0, d.1)) (option_map (λ (e : Pair). index_entry e.0) o)
 entry_is low high after es o h =
-    let f : Pair → Entry = λ e. entry_of e.0 in
+    let f : Pair → Entry = λ e. index_entry e.0 in
     let g : Entry → IntEntry = λ d. (int_of d.0, d.1) in
-    let q : IntEntry → Bool = λ i. is_within low high i.0 && is_after after i in
+    let q : IntEntry → Bool = λ i. is_int_within low high i.0 && is_after after i in
     find-map g q (entries es) ∙ ap (λ (p : Option Entry). option_map g p) (find-map f (λ d. q (g d)) es ∙ ap (λ (p : Option Pair). option_map f p) h)
 
 pub between_none : (m : Store) (x : AttrIndex) (low high : ℤ) (after : Option IntEntry) (from : ℕ) (o : Option Pair) → IsIntIndex m x → IsFitEntry after → from ≡ least_place low after
-    → o ≡ ceiling_item from (tree_items m x.tree) → o ≡ None → None ≡ between_entry low high after (int_entries (entries_at m x))
+    → o ≡ ceiling_item from (tree_items m x.tree) → o ≡ None → None ≡ between_entry low high after (int_entries (index_entries m x))
 between_none m x low high after from o i fit ef e is =
     let es : List Pair = tree_items m x.tree in
     sym (entry_is low high after es None (none_left Kept (wanted low high after) from es (searched low high after from fit ef) (Each-pairs (λ d. IsIntKey d.0) es i.ints) (sym e ∙ is)))
 
 pub between_behind : (m : Store) (x : AttrIndex) (low high : ℤ) (after : Option IntEntry) (from : ℕ) (o : Option Pair) (d : Pair) → IsIntIndex m x → IsFitEntry after → from ≡ least_place low after
-    → o ≡ ceiling_item from (tree_items m x.tree) → o ≡ Some d → IsIntInRange high → high <ℤ int_from (d.0 / 2 ^ 64) → None ≡ between_entry low high after (int_entries (entries_at m x))
+    → o ≡ ceiling_item from (tree_items m x.tree) → o ≡ Some d → IsIntInRange high → high <ℤ int_from (d.0 / 2 ^ 64) → None ≡ between_entry low high after (int_entries (index_entries m x))
 between_behind m x low high after from o d i fit ef e is r over =
     let es : List Pair = tree_items m x.tree in
     let kept : Each (λ c. Kept c.0) es = Each-pairs (λ c. IsIntKey c.0) es i.ints in
@@ -117,14 +117,14 @@ between_behind m x low high after from o d i fit ef e is r over =
 pub between_found : (m : Store) (x : AttrIndex) (low high : ℤ) (after : Option IntEntry) (from : ℕ) (o : Option Pair) (d : Pair) (entry : IntEntry) → IsIntIndex m x
     → IsFitEntry after → from ≡ least_place low after
     → o ≡ ceiling_item from (tree_items m x.tree) → o ≡ Some d → entry.0 ≡ int_from (d.0 / 2 ^ 64) → entry.1 ≡ d.0 % 2 ^ 32 → low ≤ℤ entry.0 → entry.0 ≤ℤ high → is_after after entry ≡ true
-    → Some entry ≡ between_entry low high after (int_entries (entries_at m x))
+    → Some entry ≡ between_entry low high after (int_entries (index_entries m x))
 between_found m x low high after from o d entry i fit ef e is number id least most behind =
     let es : List Pair = tree_items m x.tree in
     let halves : d.0 / 2 ^ 64 ≡ d.0 / 2 ^ 32 / 2 ^ 32 = omega arith in
     let same : entry ≡ (int_of (d.0 / 2 ^ 32), d.0 % 2 ^ 32) = ap₂ (λ (n : ℤ) (j : ℕ). (n, j)) (number ∙ ap int_from halves) id in
-    let test : (is_within low high entry.0 && is_after after entry) ≡ true =
+    let test : (is_int_within low high entry.0 && is_after after entry) ≡ true =
     ap₂ (λ (b c : Bool). (b && c) && is_after after entry) (int_le_is low entry.0 least) (int_le_is entry.0 high most) ∙ behind in
-    let passes : wanted low high after d.0 ≡ true = ap (λ (j : IntEntry). is_within low high j.0 && is_after after j) (sym same) ∙ test in
+    let passes : wanted low high after d.0 ≡ true = ap (λ (j : IntEntry). is_int_within low high j.0 && is_after after j) (sym same) ∙ test in
     ap (λ (j : IntEntry). Some j) same
     ∙ sym (entry_is low high after es (Some d) (one_found Kept (wanted low high after) from d es (searched low high after from fit ef) (Each-pairs (λ c. IsIntKey c.0) es i.ints) (sym e ∙ is) passes))
 

@@ -10,7 +10,7 @@ use Rattle.code_btree.proofs.Orders.{lt_is, lt_not, eq_is, eq_not}
 use Rattle.attr_index.specs.declared.index.AttrIndex.{AttrIndex}
 use Rattle.attr_index.specs.Key.{IsKey}
 use Rattle.attr_index.specs.Entries.{Entry, entry_number, equal_id}
-use Rattle.attr_index.specs.Index.{IsAttrIndex, entry_of, entries, entries_at}
+use Rattle.attr_index.specs.Index.{IsAttrIndex, index_entry, entries, index_entries}
 use Rattle.attr_index.proofs.Pairs.{find-map, Each-pairs}
 use Rattle.attr_index.proofs.Searches.{IsSearch, none_left, one_found, all_behind, none_passes, ceiling_reached}
 
@@ -38,20 +38,20 @@ searched key after from ef = record { lesser = λ k p l. has_not key after k (om
 
 -- the id that the pair found stands for
 id_is : (key after : ℕ) (es : List Pair) (o : Option Pair) → find (λ e. has key after e.0) es ≡ o
-    → equal_id key after (entries es) ≡ option_map (λ (d : Entry). d.1) (option_map (λ (e : Pair). entry_of e.0) o)
+    → equal_id key after (entries es) ≡ option_map (λ (d : Entry). d.1) (option_map (λ (e : Pair). index_entry e.0) o)
 id_is key after es o h =
-    let f : Pair → Entry = λ e. entry_of e.0 in
+    let f : Pair → Entry = λ e. index_entry e.0 in
     let q : Entry → Bool = λ d. nat_eq d.0 key && nat_lt after d.1 in
     ap (λ (p : Option Entry). option_map (λ (d : Entry). d.1) p) (find-map f q es ∙ ap (λ (p : Option Pair). option_map f p) h)
 
 pub equal_none : (m : Store) (x : AttrIndex) (key after from : ℕ) (o : Option Pair) → IsAttrIndex m x → from ≡ entry_number (key, after) + 1
-    → o ≡ ceiling_item from (tree_items m x.tree) → o ≡ None → None ≡ equal_id key after (entries_at m x)
+    → o ≡ ceiling_item from (tree_items m x.tree) → o ≡ None → None ≡ equal_id key after (index_entries m x)
 equal_none m x key after from o i ef e is =
     sym (id_is key after (tree_items m x.tree) None
     (none_left Kept (has key after) from (tree_items m x.tree) (searched key after from ef) (Each-pairs (λ d. IsKey d.0) (tree_items m x.tree) i.keys) (sym e ∙ is)))
 
 pub equal_behind : (m : Store) (x : AttrIndex) (key after from : ℕ) (o : Option Pair) (d : Pair) → IsAttrIndex m x → from ≡ entry_number (key, after) + 1
-    → o ≡ ceiling_item from (tree_items m x.tree) → o ≡ Some d → d.0 / 2 ^ 32 ≢ key → None ≡ equal_id key after (entries_at m x)
+    → o ≡ ceiling_item from (tree_items m x.tree) → o ≡ Some d → d.0 / 2 ^ 32 ≢ key → None ≡ equal_id key after (index_entries m x)
 equal_behind m x key after from o d i ef e is other =
     let es : List Pair = tree_items m x.tree in
     let reached : from ≤ d.0 = ceiling_reached from d es (sym e ∙ is) in
@@ -60,7 +60,7 @@ equal_behind m x key after from o d i ef e is other =
     (Each-pairs (λ c. IsKey c.0) es i.keys) i.tree.at.ascending (sym e ∙ is)))
 
 pub equal_found : (m : Store) (x : AttrIndex) (key after from : ℕ) (o : Option Pair) (d : Pair) → IsAttrIndex m x → from ≡ entry_number (key, after) + 1
-    → o ≡ ceiling_item from (tree_items m x.tree) → o ≡ Some d → d.0 / 2 ^ 32 ≡ key → after < d.0 % 2 ^ 32 → Some (d.0 % 2 ^ 32) ≡ equal_id key after (entries_at m x)
+    → o ≡ ceiling_item from (tree_items m x.tree) → o ≡ Some d → d.0 / 2 ^ 32 ≡ key → after < d.0 % 2 ^ 32 → Some (d.0 % 2 ^ 32) ≡ equal_id key after (index_entries m x)
 equal_found m x key after from o d i ef e is same above =
     let es : List Pair = tree_items m x.tree in
     let passes : has key after d.0 ≡ true = rw (eq_is (d.0 / 2 ^ 32) key same) (lt_is after (d.0 % 2 ^ 32) above) in
@@ -71,7 +71,7 @@ and_false true = refl
 and_false false = refl
 
 -- no id is above the greatest
-pub equal_spent : (m : Store) (x : AttrIndex) (key after : ℕ) → 2 ^ 32 ≤ after + 1 → None ≡ equal_id key after (entries_at m x)
+pub equal_spent : (m : Store) (x : AttrIndex) (key after : ℕ) → 2 ^ 32 ≤ after + 1 → None ≡ equal_id key after (index_entries m x)
 equal_spent m x key after h =
     let es : List Pair = tree_items m x.tree in
     sym (id_is key after es None

@@ -7,7 +7,7 @@ use Rattle.std.proofs.lemmas.Int.{ints, by_lt_z, to_z-of_z}
 use Rattle.sand_base.specs.declared.value.Value.TheVariants as value
 use Rattle.sand_base.specs.InRange.{IsIntInRange}
 use Rattle.code_btree.proofs.Orders.{lt_is, lt_not}
-use Rattle.attr_index.specs.Key.{offset, int_from, int_key_bytes, key_number, key_of, int_of}
+use Rattle.attr_index.specs.Key.{offset, int_from, int_key_bytes, key_number, value_key, int_of}
 
 -- 64 bits
 pub offset_fits : (v : ℤ) → IsIntInRange v → offset v < 2 ^ 64
@@ -15,7 +15,7 @@ offset_fits (pos n) h = let high : pos n ≤ℤ pos (2 ^ 63 - 1) = h.high in ome
 offset_fits (negsuc n) h = omega arith
 
 -- the bytes are those of v + 2^63, and zeros
-pub int_key_number : (v : ℤ) → IsIntInRange v → key_of (value.Int v) ≡ offset v * 2 ^ 32
+pub int_key_number : (v : ℤ) → IsIntInRange v → value_key (value.Int v) ≡ offset v * 2 ^ 32
 unfolding int_key_bytes key_number
 int_key_number v h =
     let high : from_be_bytes w64 (take 8 (to_be_bytes w64 (offset v) ++ replicate 4 0)) ≡ offset v = from_be_bytes-to_be_bytes_8 (offset v) (offset_fits v h) in
@@ -49,15 +49,15 @@ lt_by_offset v u l = by_lt_z v u (λ h. h) (λ h. absurd (omega (arith, l, offse
 pub le_by_offset : (v u : ℤ) → IsIntInRange u → offset v ≤ offset u → v ≤ℤ u
 le_by_offset v u r l = by_lt_z u v (λ h. absurd (omega (arith, l, offset_lt u v r h))) (λ h. h)
 
-pub lt_by_key : (v u : ℤ) → IsIntInRange v → IsIntInRange u → key_of (value.Int v) < key_of (value.Int u) → v <ℤ u
+pub lt_by_key : (v u : ℤ) → IsIntInRange v → IsIntInRange u → value_key (value.Int v) < value_key (value.Int u) → v <ℤ u
 lt_by_key v u h k l = lt_by_offset v u (omega (arith, l, int_key_number v h, int_key_number u k))
 
-pub key_lt : (v u : ℤ) → IsIntInRange v → IsIntInRange u → v <ℤ u → key_of (value.Int v) < key_of (value.Int u)
+pub key_lt : (v u : ℤ) → IsIntInRange v → IsIntInRange u → v <ℤ u → value_key (value.Int v) < value_key (value.Int u)
 key_lt v u h k l = omega (arith, offset_lt v u h l, int_key_number v h, int_key_number u k)
 
-pub key_back : (v : ℤ) → IsIntInRange v → int_of (key_of (value.Int v)) ≡ v
+pub key_back : (v : ℤ) → IsIntInRange v → int_of (value_key (value.Int v)) ≡ v
 key_back v h =
-    let whole : key_of (value.Int v) / 2 ^ 32 ≡ offset v = omega (arith, int_key_number v h) in
+    let whole : value_key (value.Int v) / 2 ^ 32 ≡ offset v = omega (arith, int_key_number v h) in
     ap int_from whole ∙ int_back v h
 
 -- tests of ints

@@ -9,13 +9,13 @@ use Rattle.code_btree.specs.Items.{Each, Above, Ascending, items_below, items_ab
 use Rattle.code_btree.proofs.Lists.{Each-map}
 use Rattle.code_btree.proofs.Orders.{lt_is, lt_not, eq_not, below-Above, above-Above}
 use Rattle.attr_index.specs.Entries.{Entry, entry_number, IsInOrder, with_entry, without_entry}
-use Rattle.attr_index.specs.Index.{entry_of, entries}
+use Rattle.attr_index.specs.Index.{index_entry, entries}
 
 -- there and back
-number_back : (k : ℕ) → entry_number (entry_of k) ≡ k
+number_back : (k : ℕ) → entry_number (index_entry k) ≡ k
 number_back k = omega arith
 
-pub entry_back : (key id : ℕ) → id < 2 ^ 32 → entry_of (entry_number (key, id)) ≡ (key, id)
+pub entry_back : (key id : ℕ) → id < 2 ^ 32 → index_entry (entry_number (key, id)) ≡ (key, id)
 entry_back key id h =
     let a : (key * 2 ^ 32 + id) / 2 ^ 32 ≡ key = omega arith in
     let b : (key * 2 ^ 32 + id) % 2 ^ 32 ≡ id = omega arith in
@@ -26,11 +26,11 @@ entries-filter : (p : ℕ → Bool) (es : List Pair) → entries (filter (λ e. 
 entries-filter p [] = refl
 entries-filter p (e ∷ es) =
     (elim (p e.0) as (λ b. entries (cond b (e ∷ filter (λ i. p i.0) es) (filter (λ i. p i.0) es))
-    ≡ cond b (entry_of e.0 ∷ filter (λ d. p (entry_number d)) (entries es)) (filter (λ d. p (entry_number d)) (entries es))) [
-      | true ↦ ap (λ (r : List Entry). entry_of e.0 ∷ r) (entries-filter p es)
+    ≡ cond b (index_entry e.0 ∷ filter (λ d. p (entry_number d)) (entries es)) (filter (λ d. p (entry_number d)) (entries es))) [
+      | true ↦ ap (λ (r : List Entry). index_entry e.0 ∷ r) (entries-filter p es)
       | false ↦ entries-filter p es
     ])
-    ∙ ap (λ (k : ℕ). cond (p k) (entry_of e.0 ∷ filter (λ d. p (entry_number d)) (entries es)) (filter (λ d. p (entry_number d)) (entries es))) (sym (number_back e.0))
+    ∙ ap (λ (k : ℕ). cond (p k) (index_entry e.0 ∷ filter (λ d. p (entry_number d)) (entries es)) (filter (λ d. p (entry_number d)) (entries es))) (sym (number_back e.0))
 
 pub find-map : {A B : Type 0} (f : A → B) (q : B → Bool) (xs : List A) → find q (map f xs) ≡ option_map f (find (λ x. q (f x)) xs)
 find-map f q [] = refl
@@ -71,9 +71,9 @@ drop_is k (e ∷ es) a = elim (eqb_tells e.0 k) [
 pub entries_put : (key id kept : ℕ) (es : List Pair) → id < 2 ^ 32 → entries (put_item (entry_number (key, id)) kept es) ≡ with_entry (key, id) (entries es)
 entries_put key id kept es h =
     let k : ℕ = entry_number (key, id) in
-    let f : Pair → Entry = λ e. entry_of e.0 in
+    let f : Pair → Entry = λ e. index_entry e.0 in
     map-append f (items_below k es) ((k, kept) ∷ items_above k es)
-    ∙ (ap₂ (λ (a b : List Entry). a ++ (entry_of k ∷ b))
+    ∙ (ap₂ (λ (a b : List Entry). a ++ (index_entry k ∷ b))
     (ap (λ (r : List Pair). entries r) (below_is k es) ∙ entries-filter (λ i. nat_lt i k) es)
     (ap (λ (r : List Pair). entries r) (above_is k es) ∙ entries-filter (λ i. nat_lt k i) es)
     ∙ ap (λ (x : Entry). filter (λ d. nat_lt (entry_number d) k) (entries es) ++ (x ∷ filter (λ d. nat_lt k (entry_number d)) (entries es))) (entry_back key id h))
@@ -88,12 +88,12 @@ pub Each-filter : {A : Type 0} (P : A → Type 0) (q : A → Bool) (xs : List A)
 Each-filter P q [] h = h
 Each-filter P q (x ∷ xs) h = elim (q x) as (λ b. Each P (cond b (x ∷ filter q xs) (filter q xs))) [ true ↦ (h.0, Each-filter P q xs h.1) | false ↦ Each-filter P q xs h.1 ]
 
-pub Each-pairs : (P : Entry → Type 0) (es : List Pair) → Each P (entries es) → Each (λ e. P (entry_of e.0)) es
+pub Each-pairs : (P : Entry → Type 0) (es : List Pair) → Each P (entries es) → Each (λ e. P (index_entry e.0)) es
 Each-pairs P [] h = h
 Each-pairs P (e ∷ es) h = (h.0, Each-pairs P es h.1)
 
 -- the entries are in the order of the pairs
-above_entries : (k : ℕ) (es : List Pair) → Above k es → Each (λ d. entry_number (entry_of k) < entry_number d) (entries es)
+above_entries : (k : ℕ) (es : List Pair) → Above k es → Each (λ d. entry_number (index_entry k) < entry_number d) (entries es)
 above_entries k [] h = h
 above_entries k (e ∷ es) h =
     let l : k < e.0 = h.0 in

@@ -38,8 +38,8 @@ abbrev pub int_entries : List Entry → List IntEntry
 int_entries es = map (λ e. (int_of e.0, e.1)) es
 
 -- the int is within these bounds, both included
-abbrev pub is_within : ℤ → ℤ → ℤ → Bool
-is_within low high v = int_le low v && int_le v high
+abbrev pub is_int_within : ℤ → ℤ → ℤ → Bool
+is_int_within low high v = int_le low v && int_le v high
 
 -- the entry comes after another one, if there is one: it has a greater int, or the same and a greater id
 abbrev pub is_after : Option IntEntry → IntEntry → Bool
@@ -48,4 +48,4 @@ is_after (Some a) e = int_lt a.0 e.0 || (int_le a.0 e.0 && nat_lt a.1 e.1)
 
 -- the least entry after another one within the bounds
 abbrev pub between_entry : ℤ → ℤ → Option IntEntry → List IntEntry → Option IntEntry
-between_entry low high after es = find (λ e. is_within low high e.0 && is_after after e) es
+between_entry low high after es = find (λ e. is_int_within low high e.0 && is_after after e) es

@@ -33,8 +33,8 @@ unfoldable pub key_number : List ℕ → ℕ
 key_number bytes = from_be_bytes w64 (take 8 bytes) * 2 ^ 32 + from_be_bytes w32 (drop 8 bytes)
 
 -- the key of a value as a number
-abbrev pub key_of : Value → ℕ
-key_of v = key_number (key_bytes v)
+abbrev pub value_key : Value → ℕ
+value_key v = key_number (key_bytes v)
 
 -- the int of which this is the key
 abbrev pub int_of : ℕ → ℤ
@@ -60,8 +60,8 @@ IsFit (value.Shape s) = ⊤
 
 -- the number is the key of an int or a text
 abbrev pub IsKey : ℕ → Type 0
-IsKey key = (v : Value) × (IsAttribute v × (key ≡ key_of v))
+IsKey key = (v : Value) × (IsAttribute v × (key ≡ value_key v))
 
 -- the number is the key of an int
 abbrev pub IsIntKey : ℕ → Type 0
-IsIntKey key = (v : ℤ) × (IsIntInRange v × (key ≡ key_of (value.Int v)))
+IsIntKey key = (v : ℤ) × (IsIntInRange v × (key ≡ value_key (value.Int v)))

@@ -6,8 +6,8 @@ ghost use Rattle.code_btree.specs.Tree.{pages_in};
 ghost use Rattle.code_btree.specs.Calls.{Peeks};
 ghost use Rattle.attr_index.specs.Key.{key_number, IsAttribute};
 ghost use Rattle.attr_index.specs.Entries.{equal_id, int_entries, is_after, between_entry};
-ghost use Rattle.attr_index.specs.Index.{IsAttrIndex, IsIntIndex, entries_at};
-ghost use Rattle.attr_index.specs.Calls.{Planted, Added, Dropped};
+ghost use Rattle.attr_index.specs.Index.{IsAttrIndex, IsIntIndex, index_entries};
+ghost use Rattle.attr_index.specs.Calls.{IndexPlanted, EntryAdded, Dropped};
 
 use crate::key::{AttrKey, key_of, length_of, number_of};
 use crate::place::{IDS, comes_after, first_place, int_entry, place_of};
@@ -25,7 +25,7 @@ impl AttrIndex {
     /// The empty list.
     pub fn plant<D: Disk>(pool: &mut Pool<D>) -> Result<AttrIndex, PageFault>
         requires { IsOpen pool.old }
-        ensures value { IfOk result (λ index. IsTold pool.old → Planted (pages_in pool.old) (pages_in pool.new) index) }
+        ensures value { IfOk result (λ index. IsTold pool.old → IndexPlanted (pages_in pool.old) (pages_in pool.new) index) }
         ensures within { InCommand pool.old pool.new }
         ensures cause { HasPageCause pool.old pool.new result }
     {
@@ -44,7 +44,7 @@ impl AttrIndex {
         requires opened { IsOpen pool.old }
         requires attribute { IsAttribute value.now }
         requires index { IsTold pool.old → IsAttrIndex (pages_in pool.old) self.old }
-        ensures value { OnOk result (IsTold pool.old → Added (pages_in pool.old) (pages_in pool.new) self.old self.new value.now id) }
+        ensures value { OnOk result (IsTold pool.old → EntryAdded (pages_in pool.old) (pages_in pool.new) self.old self.new value.now id) }
         ensures unchanged { OnErr result (self.new ≡ self.old) }
         ensures within { InCommand pool.old pool.new }
         ensures cause { HasPageCause pool.old pool.new result }
@@ -86,7 +86,7 @@ impl AttrIndex {
         after: u32,
     ) -> Result<Option<u32>, PageFault>
         requires { IsTold (P.shown pages.old) → IsAttrIndex (pages_in (P.shown pages.old)) self.now }
-        ensures value { IfOk result (λ id. IsTold (P.shown pages.old) → id ≡ equal_id (key_number key.0) after (entries_at (pages_in (P.shown pages.old)) self.now)) }
+        ensures value { IfOk result (λ id. IsTold (P.shown pages.old) → id ≡ equal_id (key_number key.0) after (index_entries (pages_in (P.shown pages.old)) self.now)) }
         ensures rises { IfOk result (λ id. IfSome id (λ id. after < id)) }
         ensures peeks { Peeks (P.shown pages.old) (P.shown pages.new) (self.now.tree.height + 1) result }
     {
@@ -116,7 +116,7 @@ impl AttrIndex {
         after: Option<(i64, u32)>,
     ) -> Result<Option<(i64, u32)>, PageFault>
         requires { IsTold (P.shown pages.old) → IsIntIndex (pages_in (P.shown pages.old)) self.now }
-        ensures value { IfOk result (λ entry. IsTold (P.shown pages.old) → entry ≡ between_entry low high after (int_entries (entries_at (pages_in (P.shown pages.old)) self.now))) }
+        ensures value { IfOk result (λ entry. IsTold (P.shown pages.old) → entry ≡ between_entry low high after (int_entries (index_entries (pages_in (P.shown pages.old)) self.now))) }
         ensures bounded { IfOk result (λ entry. IfSome entry (λ entry. (low ≤ℤ entry.0) × (entry.0 ≤ℤ high))) }
         ensures rises { IfOk result (λ entry. IfSome entry (λ entry. IsTrue (is_after after entry))) }
         ensures peeks { Peeks (P.shown pages.old) (P.shown pages.new) (self.now.tree.height + 1) result }

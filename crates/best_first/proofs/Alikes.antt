@@ -7,7 +7,7 @@ use Rattle.std.proofs.lemmas.List.Elements.{All-contains}
 use Rattle.best_first.specs.declared.hit.Hit.{Hit}
 use Rattle.best_first.specs.declared.item.Item.{Item}
 use Rattle.best_first.specs.declared.item.Item.TheVariants.{Node, Rough, Row}
-use Rattle.best_first.specs.Item.{gap_of, node_of, nodes_of, IsAlike, IsSameRow}
+use Rattle.best_first.specs.Item.{gap_of, node_if_any, nodes_of, IsAlike, IsSameRow}
 use Rattle.best_first.specs.Reach.{IsSameGap, IsAtMost}
 use Rattle.best_first.specs.Hierarchy.{Meaning, MeetsLaws, HasGap, IsHonest, Shows}
 use Rattle.best_first.specs.Answer.{hit_cmp}
@@ -27,7 +27,7 @@ alike_gaps (Row g l r) (Node h b) e = absurd e
 alike_gaps (Row g l r) (Rough h k s) e = absurd e
 alike_gaps (Row g l r) (Row h k s) e = e.0
 
-pub alike_node_of : {N : Type 0} (x y : Item N) → IsAlike x y → node_of x ≡ node_of y
+pub alike_node_of : {N : Type 0} (x y : Item N) → IsAlike x y → node_if_any x ≡ node_if_any y
 alike_node_of (Node g a) (Node h b) e = ap (λ n. n ∷ []) e.1
 alike_node_of (Node g a) (Rough h k s) e = absurd e
 alike_node_of (Node g a) (Row h k s) e = absurd e

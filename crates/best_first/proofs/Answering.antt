@@ -7,7 +7,7 @@ use Rattle.page_pool.specs.declared.fault.PageFault.{PageFault}
 use Rattle.std.proofs.lemmas.List.Elements.{All-contains}
 use Rattle.best_first.specs.declared.hit.Hit.{Hit}
 use Rattle.best_first.specs.declared.item.Item.{Item}
-use Rattle.best_first.specs.Item.{gap_of, row_of}
+use Rattle.best_first.specs.Item.{gap_of, row_item}
 use Rattle.best_first.specs.Reach.{within}
 use Rattle.best_first.specs.Hierarchy.{Meaning, MeetsLaws, HasGap}
 use Rattle.best_first.specs.Order.{item_cmp}
@@ -44,7 +44,7 @@ module _ {N : Type 0} {cmp : N → N → Ordering} (o : IsTotalOrder cmp) (m : M
   one_row done last mid new None e h gives = is_exhausted o m laws mid.held last gives.queue.0 (subst (λ l. Rattle.best_first.specs.Frontier.Covers cmp m mid.held l) e h.covers)
   one_row done last mid new (Some hit) e h gives =
       is_next o m laws mid.held last hit gives.queue.front.queued gives.queue.front.least (All-right (HasGap m) done mid.held h.tracks.gaps)
-      (All-contains (λ item. within m.ceiling (gap_of item) ≡ true) mid.held (row_of hit)
+      (All-contains (λ item. within m.ceiling (gap_of item) ≡ true) mid.held (row_item hit)
       (All-right (λ item. within m.ceiling (gap_of item) ≡ true) done mid.held h.tracks.inside) gives.queue.front.queued)
       (subst (λ l. Rattle.best_first.specs.Frontier.Covers cmp m mid.held l) e h.covers)
 

@@ -8,7 +8,7 @@ use Rattle.exact_frac.specs.declared.frac.Frac.{Frac}
 use Rattle.best_first.specs.declared.hit.Hit.{Hit}
 use Rattle.best_first.specs.declared.item.Item.{Item}
 use Rattle.best_first.specs.declared.item.Item.TheVariants.{Node, Rough, Row}
-use Rattle.best_first.specs.Item.{row_of, nodes_of}
+use Rattle.best_first.specs.Item.{row_item, nodes_of}
 use Rattle.best_first.specs.Reach.{IsAtMost, within}
 use Rattle.best_first.specs.Order.{item_cmp}
 use Rattle.best_first.specs.Steps.{item_steps, steps, AddsLess}
@@ -75,20 +75,20 @@ fetch_falls cmp weight old mid new ceiling gap left right hit taken adds =
     let after : sum_by f new ≡ sum_by f (adds.added ++ mid) = sum_by-IsPermutation f (adds.added ++ mid) new adds.put in
     let joined = sum_by-append f adds.added mid in
     let each : All (λ item. f item ≤ 1) adds.added =
-    All-weaker (λ item. (item ≡ row_of hit) × IsAtMost gap hit.gap × (within ceiling hit.gap ≡ true)) (λ item. f item ≤ 1)
+    All-weaker (λ item. (item ≡ row_item hit) × IsAtMost gap hit.gap × (within ceiling hit.gap ≡ true)) (λ item. f item ≤ 1)
     (λ item says. let e = ap f says.0 in omega arith) adds.added adds.adds.only in
     let most = sum_by-le f 1 adds.added each in
     let few = adds.few in
     omega arith
 
 -- a row that is given lowers the number
-pub give_falls : {N : Type 0} (cmp : N → N → Ordering) (weight : N → ℕ) (old new : List (Item N)) (hit : Hit) → TakesEqual (item_cmp cmp) (row_of hit) old new → steps weight new < steps weight old
+pub give_falls : {N : Type 0} (cmp : N → N → Ordering) (weight : N → ℕ) (old new : List (Item N)) (hit : Hit) → TakesEqual (item_cmp cmp) (row_item hit) old new → steps weight new < steps weight old
 give_falls cmp weight old new hit taken =
     let f = item_steps weight in
     let gone = taken.first ∷ taken.more in
     let before : sum_by f (gone ++ new) ≡ sum_by f old = sum_by-IsPermutation f old (gone ++ new) taken.split in
     let split = sum_by-append f gone new in
     let heads = sum_by-cons f taken.first taken.more in
-    let (far, is) = alike_row cmp hit.gap hit.left hit.right taken.first (All-head (λ item. item_cmp cmp (row_of hit) item ≡ Equal) taken.first taken.more taken.equal) in
+    let (far, is) = alike_row cmp hit.gap hit.left hit.right taken.first (All-head (λ item. item_cmp cmp (row_item hit) item ≡ Equal) taken.first taken.more taken.equal) in
     let front : f taken.first ≡ 1 = ap f is in
     omega arith

@@ -23,3 +23,13 @@ pub mod WantedItems
 pub mod WantedRows
 pub mod WantedMoves
 pub mod WantedCalls
+pub mod BitsOfNumbers
+pub mod FracParts
+pub mod Ids
+pub mod Queued
+pub mod Thinned
+pub mod Leveled
+pub mod ZeroSteps
+pub mod ZeroRows
+pub mod Begun
+pub mod OverPages

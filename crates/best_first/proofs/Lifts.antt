@@ -11,7 +11,7 @@ use Rattle.sand_base.specs.Faults.{last_count}
 use Rattle.sand_base.specs.declared.visit.Visit.{Visit}
 use Rattle.page_pool.specs.Disk.{PageMap}
 use Rattle.page_pool.specs.Desk.{DeskState}
-use Rattle.rank_queue.specs.Least.{IsFirst, IsLeast}
+use Rattle.rank_queue.specs.Least.{IsFirst, IsLeastItem}
 use Rattle.best_first.specs.declared.hit.Hit.{Hit}
 use Rattle.best_first.specs.declared.item.Item.{Item}
 use Rattle.best_first.specs.declared.item.Item.TheVariants.{Node, Rough}
@@ -29,7 +29,7 @@ use Rattle.best_first.proofs.Moves.{queued_node, queued_rough, opened, fetched, 
 
 -- a popped item that is one with a node is the node, under some gap
 pub popped_node : {N : Type 0} {cmp : N → N → Ordering} → IsTotalOrder cmp → IsExact cmp → (gap : Frac) (node : N) (x : Item N) (old new : List (Item N))
-    → IsFirst (item_cmp cmp) (Node gap node) old → IsPermutation old (x ∷ new) → IsLeast (item_cmp cmp) x new → (far : Frac) × (x ≡ Node far node)
+    → IsFirst (item_cmp cmp) (Node gap node) old → IsPermutation old (x ∷ new) → IsLeastItem (item_cmp cmp) x new → (far : Frac) × (x ≡ Node far node)
 popped_node {N} {cmp} o exact gap node x old new first taken least =
     let (far, (other, is, tied)) = alike_node cmp gap node x (popped_first (item_total o) (Node gap node) x old new first taken least) in
     (far, subst (λ n. x ≡ Node far n) (sym (exact node other tied)) is)
@@ -80,7 +80,7 @@ module _ {N : Type 0} {cmp : N → N → Ordering} (o : IsTotalOrder cmp) (meani
 
   -- a node was opened
   pub opens : (pages : Option PageMap) (old new : SearchState N) (x : Item N) (rest found : List (Item N)) (ceiling : Option ℕ) (gap far : Frac) (node : N)
-      → IsFirst (item_cmp cmp) (Node gap node) old.held → x ≡ Node far node → IsPermutation old.held (x ∷ rest) → IsLeast (item_cmp cmp) x rest
+      → IsFirst (item_cmp cmp) (Node gap node) old.held → x ≡ Node far node → IsPermutation old.held (x ∷ rest) → IsLeastItem (item_cmp cmp) x rest
       → IsPermutation (kept (within ceiling) found ++ rest) new.held → ((p : PageMap) → ceiling ≡ (meaning p).ceiling) → new.last ≡ old.last
       → new.counts.visited ≡ min (old.counts.visited + 1) last_count → new.counts.fetched ≡ old.counts.fetched
       → IfSome pages (λ p. StandsOver cmp (meaning p) old.held old.last) → IfSome pages (λ p. FindsAlike ((meaning p).finds node) [] found)
@@ -108,7 +108,7 @@ module _ {N : Type 0} {cmp : N → N → Ordering} (o : IsTotalOrder cmp) (meani
   fetches None old new mid ceiling gap hit first taken adds caps last visited counts stands listed noted = tt
   fetches (Some p) old new mid ceiling gap hit first taken adds caps last visited counts (laws, (done, h)) listed noted =
       fetched o (meaning p) laws note old new (taken.first ∷ taken.more) mid adds.added gap hit listed first.queued taken.equal
-      (subst (λ c. Rattle.best_first.specs.Inside.Adds c gap hit adds.added) (caps p) adds.adds) taken.split adds.put taken.after last (noted gap)
+      (subst (λ c. Rattle.best_first.specs.Inside.AddsFetched c gap hit adds.added) (caps p) adds.adds) taken.split adds.put taken.after last (noted gap)
       (let up = (noted gap).up in omega arith) visited counts
 
 -- what is tried of a rough object, at the gap under which it stood

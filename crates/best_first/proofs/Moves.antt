@@ -12,14 +12,14 @@ use Rattle.page_pool.specs.declared.fault.PageFault.{PageFault}
 use Rattle.best_first.specs.declared.hit.Hit.{Hit}
 use Rattle.best_first.specs.declared.item.Item.{Item}
 use Rattle.best_first.specs.declared.item.Item.TheVariants.{Node, Rough}
-use Rattle.best_first.specs.Item.{gap_of, row_of, nodes_of, roughs_of, IsAlike}
+use Rattle.best_first.specs.Item.{gap_of, row_item, nodes_of, roughs_of, IsAlike}
 use Rattle.best_first.specs.Reach.{IsSameGap, IsAtMost, within}
 use Rattle.best_first.specs.Hierarchy.{Meaning, MeetsLaws, HasGap, HasRow, IsNode, IsRoughListed, kept}
 use Rattle.best_first.specs.Answer.{IsNext}
 use Rattle.best_first.specs.Order.{item_cmp}
 use Rattle.best_first.specs.Frontier.{Stands, Tracks, IsAfter, IsListed, pending}
 use Rattle.best_first.specs.Visits.{SearchState, Noted, Attempts, RoseBy, IsCounted, IsVisit, Goes, Fails, MakesVisits}
-use Rattle.best_first.specs.Inside.{Adds}
+use Rattle.best_first.specs.Inside.{AddsFetched}
 use Rattle.best_first.proofs.Bags.{All-by, All-left, All-right, All-one}
 use Rattle.best_first.proofs.Trees.{rough_among}
 use Rattle.best_first.proofs.Pending.{queued_pending, split_node}
@@ -88,14 +88,14 @@ module _ {N : Type 0} {cmp : N → N → Ordering} (o : IsTotalOrder cmp) (m : M
 
   -- a rough object is fetched
   pub fetched : (old new : SearchState N) (gone rest added : List (Item N)) (gap : Frac) (hit : Hit) → HasRow m hit → Contains old.held (Rough gap hit.left hit.right)
-      → All (λ item. item_cmp cmp (Rough gap hit.left hit.right) item ≡ Equal) gone → Adds m.ceiling gap hit added → IsPermutation old.held (gone ++ rest)
+      → All (λ item. item_cmp cmp (Rough gap hit.left hit.right) item ≡ Equal) gone → AddsFetched m.ceiling gap hit added → IsPermutation old.held (gone ++ rest)
       → IsPermutation (added ++ rest) new.held → All (IsAfter cmp (Rough gap hit.left hit.right)) rest → new.last ≡ old.last
       → Noted note m.price (Rough gap hit.left hit.right ∷ []) old.desk new.desk → RoseBy 0 old.desk new.desk → new.counts.visited ≡ old.counts.visited
       → new.counts.fetched ≡ min (old.counts.fetched + 1) last_count → Goes cmp m note old new
   fetched old new gone rest added gap hit listed at alike adds taken put after last noted rose visited counts done h =
       let front : Item N = Rough gap hit.left hit.right in
-      let says = λ (item : Item N) (i : Contains added item). (let s : (item ≡ row_of hit) × IsAtMost gap hit.gap × (within m.ceiling hit.gap ≡ true) =
-      All-contains (λ x. (x ≡ row_of hit) × IsAtMost gap hit.gap × (within m.ceiling hit.gap ≡ true)) added item adds.only i in s) in
+      let says = λ (item : Item N) (i : Contains added item). (let s : (item ≡ row_item hit) × IsAtMost gap hit.gap × (within m.ceiling hit.gap ≡ true) =
+      All-contains (λ x. (x ≡ row_item hit) × IsAtMost gap hit.gap × (within m.ceiling hit.gap ≡ true)) added item adds.only i in s) in
       record {
         taken = front ∷ [];
         noted = noted;
@@ -106,7 +106,7 @@ module _ {N : Type 0} {cmp : N → N → Ordering} (o : IsTotalOrder cmp) (m : M
           tracks = replaced o m old.held gone rest added new.held done front refl at alike taken put
               (All-append (IsAfter cmp front) added rest
               (All-by (IsAfter cmp front) added (λ item i.
-              subst (IsAfter cmp front) (sym (says item i).0) (Rattle.best_first.proofs.Ranks.tie_after cmp front (row_of hit) (says item i).1 refl))) after)
+              subst (IsAfter cmp front) (sym (says item i).0) (Rattle.best_first.proofs.Ranks.tie_after cmp front (row_item hit) (says item i).1 refl))) after)
               (All-by (IsRowWithin m.ceiling) added (λ item i. subst (IsRowWithin m.ceiling) (sym (says item i).0) (record { no_node = refl; no_rough = refl; inside = (says item i).2 })))
               h.tracks;
         };
@@ -143,16 +143,16 @@ module _ {N : Type 0} {cmp : N → N → Ordering} (o : IsTotalOrder cmp) (m : M
   -- ---- the answers of a call
 
   -- the row at the front is given, after more was taken
-  pub gives_row : (old mid new : SearchState N) (gone : List (Item N)) (hit : Hit) → Goes cmp m note old mid → Contains mid.held (row_of hit)
-      → All (λ item. is_gt (item_cmp cmp (row_of hit) item) ≡ false) mid.held → All (λ item. item_cmp cmp (row_of hit) item ≡ Equal) gone
-      → All (IsAfter cmp (row_of hit)) new.held → IsPermutation mid.held (gone ++ new.held) → new.last ≡ Some hit → new.counts ≡ mid.counts → new.desk ≡ mid.desk
+  pub gives_row : (old mid new : SearchState N) (gone : List (Item N)) (hit : Hit) → Goes cmp m note old mid → Contains mid.held (row_item hit)
+      → All (λ item. is_gt (item_cmp cmp (row_item hit) item) ≡ false) mid.held → All (λ item. item_cmp cmp (row_item hit) item ≡ Equal) gone
+      → All (IsAfter cmp (row_item hit)) new.held → IsPermutation mid.held (gone ++ new.held) → new.last ≡ Some hit → new.counts ≡ mid.counts → new.desk ≡ mid.desk
       → MakesVisits cmp m note old new (Ok (Some hit))
   gives_row old mid new gone hit goes at least alike after taken last counts desk done h =
       let makes = goes done h in
       let all = done ++ makes.taken in
       let covers = given_covers o m laws mid.held gone new.held mid.last hit at alike after taken makes.stands.covers in
       let tracks = subst (Rattle.best_first.specs.Frontier.Tracks cmp m new.held) (append-nil all)
-      (replaced o m mid.held gone new.held [] new.held all (row_of hit) refl at alike taken (Rattle.std.proofs.lemmas.List.Sorted.IsPermutation-refl new.held) after
+      (replaced o m mid.held gone new.held [] new.held all (row_item hit) refl at alike taken (Rattle.std.proofs.lemmas.List.Sorted.IsPermutation-refl new.held) after
       (All-nil (IsRowWithin m.ceiling)) makes.stands.tracks) in
       record {
         attempt = [];
@@ -169,7 +169,7 @@ module _ {N : Type 0} {cmp : N → N → Ordering} (o : IsTotalOrder cmp) (m : M
         bounds = record {
           settled = refl;
           near = All-by (λ item. IsAtMost (gap_of item) hit.gap) all
-              (λ k i. All-contains (λ item. IsAtMost (gap_of k) (gap_of item)) mid.held (row_of hit)
+              (λ k i. All-contains (λ item. IsAtMost (gap_of k) (gap_of item)) mid.held (row_item hit)
               (All-contains (λ k. All (λ item. IsAtMost (gap_of k) (gap_of item)) mid.held) all k makes.stands.tracks.nearer i) at);
           reached = reached_row o m laws mid.held all hit at least makes.stands.tracks;
         };

@@ -14,7 +14,7 @@ use Rattle.rank_queue.specs.Least.{IsFirst}
 use Rattle.best_first.specs.declared.hit.Hit.{Hit}
 use Rattle.best_first.specs.declared.item.Item.{Item}
 use Rattle.best_first.specs.declared.item.Item.TheVariants.{Node, Rough, Row}
-use Rattle.best_first.specs.Item.{row_of}
+use Rattle.best_first.specs.Item.{row_item}
 use Rattle.best_first.specs.Hierarchy.{Meaning}
 use Rattle.best_first.specs.Order.{item_cmp, item_total}
 use Rattle.best_first.specs.OrderLaws.{kind_cmp}
@@ -45,7 +45,7 @@ pub all_over : (pages : Option PageMap) (C : PageMap → Type 0) → ((p : PageM
 all_over None C f = tt
 all_over (Some p) C f = f p
 
-visit_kind : {N : Type 0} (cmp : N → N → Ordering) (front : Item N) (hit : Hit) → IsVisit front → kind_cmp cmp front (row_of hit) ≡ Equal → ⊥
+visit_kind : {N : Type 0} (cmp : N → N → Ordering) (front : Item N) (hit : Hit) → IsVisit front → kind_cmp cmp front (row_item hit) ≡ Equal → ⊥
 visit_kind cmp (Node gap node) hit v e = cc
 visit_kind cmp (Rough gap l r) hit v e = cc
 visit_kind cmp (Row gap l r) hit v e = v
@@ -56,10 +56,10 @@ pub not_settled : {N : Type 0} {cmp : N → N → Ordering} → IsTotalOrder cmp
 not_settled {N} {cmp} o front held visit first settled =
     ⊎_elim
     (λ empty. none front (subst (λ l. Contains l front) empty first.queued))
-    (λ (hit, row). visit_kind cmp front hit visit (alike_kind cmp front (row_of hit)
-    (both_first (item_total o) front (row_of hit)
-    (Rattle.std.proofs.lemmas.List.Elements.All-contains (λ y. Rattle.std.specs.Ordering.is_gt (item_cmp cmp front y) ≡ false) held (row_of hit) first.least row.queued)
-    (Rattle.std.proofs.lemmas.List.Elements.All-contains (λ y. Rattle.std.specs.Ordering.is_gt (item_cmp cmp (row_of hit) y) ≡ false) held front row.least first.queued))))
+    (λ (hit, row). visit_kind cmp front hit visit (alike_kind cmp front (row_item hit)
+    (both_first (item_total o) front (row_item hit)
+    (Rattle.std.proofs.lemmas.List.Elements.All-contains (λ y. Rattle.std.specs.Ordering.is_gt (item_cmp cmp front y) ≡ false) held (row_item hit) first.least row.queued)
+    (Rattle.std.proofs.lemmas.List.Elements.All-contains (λ y. Rattle.std.specs.Ordering.is_gt (item_cmp cmp (row_item hit) y) ≡ false) held front row.least first.queued))))
     settled
 
 module _ {N : Type 0} (cmp : N → N → Ordering) (meaning : PageMap → Meaning N) (note : Item N → Visit) where

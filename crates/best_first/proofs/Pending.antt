@@ -6,7 +6,7 @@ use Rattle.std.proofs.lemmas.List.Sorted.{IsPermutation-sym, Contains-permutatio
 use Rattle.exact_frac.specs.declared.frac.Frac.{Frac}
 use Rattle.best_first.specs.declared.item.Item.{Item}
 use Rattle.best_first.specs.declared.item.Item.TheVariants.{Node, Rough, Row}
-use Rattle.best_first.specs.Item.{gap_of, node_of, rough_of, nodes_of, roughs_of}
+use Rattle.best_first.specs.Item.{gap_of, node_if_any, rough_of, nodes_of, roughs_of}
 use Rattle.best_first.specs.Reach.{IsSameGap, within, IsReach}
 use Rattle.best_first.specs.Hierarchy.{Meaning, MeetsLaws, HasGap, IsNode, near, kept, nodes_within}
 use Rattle.best_first.specs.Frontier.{pending}
@@ -15,7 +15,7 @@ use Rattle.best_first.proofs.Gaps.{within_reach, beyond_reach, reach_same}
 use Rattle.best_first.proofs.Trees.{node_among, under_here, under_far}
 
 pub nodes-append : {N : Type 0} (xs ys : List (Item N)) → nodes_of (xs ++ ys) ≡ nodes_of xs ++ nodes_of ys
-nodes-append xs ys = flat_map-append node_of xs ys
+nodes-append xs ys = flat_map-append node_if_any xs ys
 
 pub roughs-append : {N : Type 0} (xs ys : List (Item N)) → roughs_of (xs ++ ys) ≡ roughs_of xs ++ roughs_of ys
 roughs-append xs ys = flat_map-append rough_of xs ys
@@ -27,7 +27,7 @@ pending-append {N} m xs ys =
 
 pub pending_moves : {N : Type 0} (m : Meaning N) (xs ys : List (Item N)) → IsPermutation xs ys → IsPermutation (pending m xs) (pending m ys)
 pending_moves m xs ys h =
-    IsPermutation-flat_map (λ node. near m (within m.ceiling) (m.under node)) (nodes_of xs) (nodes_of ys) (IsPermutation-flat_map node_of xs ys h)
+    IsPermutation-flat_map (λ node. near m (within m.ceiling) (m.under node)) (nodes_of xs) (nodes_of ys) (IsPermutation-flat_map node_if_any xs ys h)
 
 module _ {N : Type 0} (m : Meaning N) (laws : MeetsLaws m) where
   -- nothing at or below a node beyond the reach is within it
@@ -36,7 +36,7 @@ module _ {N : Type 0} (m : Meaning N) (laws : MeetsLaws m) where
       filter_none (λ node. reach (m.gap node)) (m.under a)
       (All-by (λ node. reach (m.gap node) ≡ false) (m.under a) (λ c at. beyond_reach reach is (m.gap a) (m.gap c) (under_far m laws a c at) out))
 
-  skipped : (item : Item N) → HasGap m item → within m.ceiling (gap_of item) ≡ false → flat_map (λ node. near m (within m.ceiling) (m.under node)) (node_of item) ≡ []
+  skipped : (item : Item N) → HasGap m item → within m.ceiling (gap_of item) ≡ false → flat_map (λ node. near m (within m.ceiling) (m.under node)) (node_if_any item) ≡ []
   skipped (Node gap node) is out =
       ap (λ l. l ++ []) (beyond (within m.ceiling) (within_reach m.ceiling) node (reach_same (within m.ceiling) (within_reach m.ceiling) gap (m.gap node) is false out))
   skipped (Rough gap l r) is out = refl
@@ -52,7 +52,7 @@ module _ {N : Type 0} (m : Meaning N) (laws : MeetsLaws m) where
   pending_kept_by item items is rest false e =
       ap (pending m) (filter_skips (λ i. within m.ceiling (gap_of i)) item items e)
       ∙ rest
-      ∙ ap (λ l. l ++ pending m items) (sym (ap (flat_map (λ node. near m (within m.ceiling) (m.under node))) (append-nil (node_of item)) ∙ skipped item is e))
+      ∙ ap (λ l. l ++ pending m items) (sym (ap (flat_map (λ node. near m (within m.ceiling) (m.under node))) (append-nil (node_if_any item)) ∙ skipped item is e))
       ∙ sym (pending-append m (item ∷ []) items)
 
   -- what the ceiling leaves out leads to nothing

@@ -7,10 +7,10 @@ use Rattle.std.proofs.lemmas.List.Elements.{All-contains, All-tail, All-append, 
 use Rattle.std.proofs.lemmas.List.Sorted.{IsPermutation-refl, IsPermutation-sym, IsPermutation-trans, IsPermutation-append_right, All-permutation, Contains-permutation}
 use Rattle.exact_frac.specs.declared.frac.Frac.{Frac}
 use Rattle.exact_frac.specs.Frac.{value_cmp}
-use Rattle.rank_queue.specs.Least.{IsFirst, IsLeast}
+use Rattle.rank_queue.specs.Least.{IsFirst, IsLeastItem}
 use Rattle.best_first.specs.declared.item.Item.{Item}
 use Rattle.best_first.specs.declared.hit.Hit.{Hit}
-use Rattle.best_first.specs.Item.{row_of}
+use Rattle.best_first.specs.Item.{row_item}
 use Rattle.best_first.specs.Reach.{IsAtMost, within}
 use Rattle.best_first.specs.Inside.{TakesSome, TakesEqual, AddsRow}
 use Rattle.best_first.proofs.Gaps.{not_greater, at_most_not_greater}
@@ -26,17 +26,17 @@ module _ {T : Type 0} {cmp : T → T → Ordering} (o : IsTotalOrder cmp) where
       go (cmp x y) refl p
 
   -- the first item of a queue and an item that was popped are one
-  pub popped_first : (front x : T) (old new : List T) → IsFirst cmp front old → IsPermutation old (x ∷ new) → IsLeast cmp x new → cmp front x ≡ Equal
+  pub popped_first : (front x : T) (old new : List T) → IsFirst cmp front old → IsPermutation old (x ∷ new) → IsLeastItem cmp x new → cmp front x ≡ Equal
   popped_first front x old new first taken least =
       both_first front x
       (All-contains (λ y. is_gt (cmp front y) ≡ false) old x first.least (Contains-permutation (x ∷ new) old x (IsPermutation-sym old (x ∷ new) taken) (here x new)))
       (⊎_elim (λ e. subst (λ y. is_gt (cmp x y) ≡ false) e (ap is_gt (tied_itself o x))) (λ t. All-contains (λ y. is_gt (cmp x y) ≡ false) new front least t)
       (cons_cases x new front (Contains-permutation old (x ∷ new) front taken first.queued)))
 
-  pub least_rest : (front x : T) (old new : List T) → IsLeast cmp front old → IsPermutation old (x ∷ new) → IsLeast cmp front new
+  pub least_rest : (front x : T) (old new : List T) → IsLeastItem cmp front old → IsPermutation old (x ∷ new) → IsLeastItem cmp front new
   least_rest front x old new least taken = All-tail (λ y. is_gt (cmp front y) ≡ false) x new (All-permutation (λ y. is_gt (cmp front y) ≡ false) old (x ∷ new) taken least)
 
-  pub takes_first : (front x : T) (old new : List T) → IsFirst cmp front old → IsPermutation old (x ∷ new) → IsLeast cmp x new → TakesSome cmp front old new
+  pub takes_first : (front x : T) (old new : List T) → IsFirst cmp front old → IsPermutation old (x ∷ new) → IsLeastItem cmp x new → TakesSome cmp front old new
   takes_first front x old new first taken least = record {
     first = x;
     more = [];
@@ -51,7 +51,7 @@ module _ {T : Type 0} {cmp : T → T → Ordering} (o : IsTotalOrder cmp) where
   is_equal Greater e = absurd (true≢false (sym e))
 
   pub takes_more : (front item x : T) (old held new : List T) → TakesSome cmp front old held → IsFirst cmp item held → is_eq (cmp front item) ≡ true
-      → IsPermutation held (x ∷ new) → IsLeast cmp x new → TakesSome cmp front old new
+      → IsPermutation held (x ∷ new) → IsLeastItem cmp x new → TakesSome cmp front old new
   takes_more front item x old held new some first same taken least =
       let one = o.congr front item x (is_equal (cmp front item) same) ∙ popped_first item x held new first taken least in
       record {
@@ -96,12 +96,12 @@ module _ {T : Type 0} {cmp : T → T → Ordering} (o : IsTotalOrder cmp) where
 -- ---- queueing a row that was fetched
 
 pub row_added : {N : Type 0} (ceiling : Option ℕ) (rough : Frac) (hit : Hit) (old new : List (Item N)) → is_gt (value_cmp rough hit.gap) ≡ false
-    → within ceiling hit.gap ≡ true → IsPermutation (row_of hit ∷ old) new → AddsRow ceiling rough hit old new
+    → within ceiling hit.gap ≡ true → IsPermutation (row_item hit ∷ old) new → AddsRow ceiling rough hit old new
 row_added ceiling rough hit old new near inside put = record {
-  added = row_of hit ∷ [];
+  added = row_item hit ∷ [];
   adds = record {
-    only = All-one (λ item. (item ≡ row_of hit) × IsAtMost rough hit.gap × (within ceiling hit.gap ≡ true)) (row_of hit) (refl, not_greater rough hit.gap near, inside);
-    whole = λ _ _. here (row_of hit) [];
+    only = All-one (λ item. (item ≡ row_item hit) × IsAtMost rough hit.gap × (within ceiling hit.gap ≡ true)) (row_item hit) (refl, not_greater rough hit.gap near, inside);
+    whole = λ _ _. here (row_item hit) [];
   };
   put = put;
   few = omega arith;
@@ -111,7 +111,7 @@ pub row_nearer : {N : Type 0} (ceiling : Option ℕ) (rough : Frac) (hit : Hit) 
 row_nearer ceiling rough hit old e = record {
   added = [];
   adds = record {
-    only = All-nil (λ item. (item ≡ row_of hit) × IsAtMost rough hit.gap × (within ceiling hit.gap ≡ true));
+    only = All-nil (λ item. (item ≡ row_item hit) × IsAtMost rough hit.gap × (within ceiling hit.gap ≡ true));
     whole = λ near _. absurd (true≢false (sym e ∙ at_most_not_greater rough hit.gap near));
   };
   put = IsPermutation-refl old;
@@ -121,7 +121,7 @@ row_nearer ceiling rough hit old e = record {
 pub row_farther : {N : Type 0} (ceiling : Option ℕ) (rough : Frac) (hit : Hit) (old : List (Item N)) → within ceiling hit.gap ≡ false → AddsRow ceiling rough hit old old
 row_farther ceiling rough hit old e = record {
   added = [];
-  adds = record { only = All-nil (λ item. (item ≡ row_of hit) × IsAtMost rough hit.gap × (within ceiling hit.gap ≡ true)); whole = λ _ inside. absurd (true≢false (sym inside ∙ e)) };
+  adds = record { only = All-nil (λ item. (item ≡ row_item hit) × IsAtMost rough hit.gap × (within ceiling hit.gap ≡ true)); whole = λ _ inside. absurd (true≢false (sym inside ∙ e)) };
   put = IsPermutation-refl old;
   few = omega arith;
 }

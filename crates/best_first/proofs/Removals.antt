@@ -6,7 +6,7 @@ use Rattle.std.proofs.lemmas.List.{get_or-set_same, length-set}
 use Rattle.std.proofs.lemmas.List.Edits.{swap_is}
 use Rattle.std.proofs.lemmas.List.Sorted.{IsPermutation-refl, IsPermutation-sym, IsPermutation-trans, IsPermutation-cons, IsPermutation-middle}
 use Rattle.std.proofs.lemmas.List.Sorted.{IsPermutation-append_right, IsPermutation-swap, IsPermutation-keeps}
-use Rattle.rank_queue.specs.Least.{IsFirst, IsLeast}
+use Rattle.rank_queue.specs.Least.{IsFirst, IsLeastItem}
 use Rattle.best_first.proofs.Queues.{least_rest}
 
 -- the list without the item at this place
@@ -123,7 +123,7 @@ module _ {X : Type 0} where
 pub record Replaces {X : Type 0} (cmp : X → X → Ordering) (x : X) (added old new : List X) : Type 0 where
   pub rest : List X
   pub taken : IsPermutation old (x ∷ rest)
-  pub least : IsLeast cmp x rest
+  pub least : IsLeastItem cmp x rest
   pub put : IsPermutation (added ++ rest) new
 
 -- so it is where the first item leaves

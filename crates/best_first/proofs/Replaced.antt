@@ -7,7 +7,7 @@ use Rattle.std.proofs.lemmas.List.Sorted.{IsPermutation-sym, IsPermutation-trans
 use Rattle.exact_frac.specs.declared.frac.Frac.{Frac}
 use Rattle.best_first.specs.declared.item.Item.{Item}
 use Rattle.best_first.specs.declared.item.Item.TheVariants.{Node, Rough, Row}
-use Rattle.best_first.specs.Item.{gap_of, node_of, rough_of, nodes_of, roughs_of}
+use Rattle.best_first.specs.Item.{gap_of, node_if_any, rough_of, nodes_of, roughs_of}
 use Rattle.best_first.specs.Reach.{IsAtMost, within}
 use Rattle.best_first.specs.Hierarchy.{Meaning, MeetsLaws, HasGap, kept, nodes_within}
 use Rattle.best_first.specs.Order.{item_cmp, item_total}
@@ -19,10 +19,10 @@ use Rattle.best_first.proofs.Pending.{nodes-append, roughs-append, pending-appen
 use Rattle.best_first.proofs.Ranks.{after_far, alike_rough, alike_row, not_itself}
 use Rattle.best_first.proofs.Tracked.{alike_more, alike_here, listed_more, rough_moves, once_push}
 
-pub nodes_none : {N : Type 0} (items : List (Item N)) → All (λ item. node_of item ≡ []) items → nodes_of items ≡ []
+pub nodes_none : {N : Type 0} (items : List (Item N)) → All (λ item. node_if_any item ≡ []) items → nodes_of items ≡ []
 nodes_none [] h = refl
 nodes_none (item ∷ items) h =
-    ap (λ l. l ++ nodes_of items) (All-head (λ i. node_of i ≡ []) item items h) ∙ nodes_none items (All-tail (λ i. node_of i ≡ []) item items h)
+    ap (λ l. l ++ nodes_of items) (All-head (λ i. node_if_any i ≡ []) item items h) ∙ nodes_none items (All-tail (λ i. node_if_any i ≡ []) item items h)
 
 roughs_none : {N : Type 0} (items : List (Item N)) → All (λ item. rough_of item ≡ []) items → roughs_of items ≡ []
 roughs_none [] h = refl
@@ -44,13 +44,13 @@ of_rough (Node gap node) other h = absurd (none other h)
 of_rough (Rough gap l r) other h = sym (only (Rough gap l r) other h)
 of_rough (Row gap l r) other h = absurd (none other h)
 
-alike_no_node : {N : Type 0} (cmp : N → N → Ordering) (front item : Item N) → node_of front ≡ [] → item_cmp cmp front item ≡ Equal → node_of item ≡ []
+alike_no_node : {N : Type 0} (cmp : N → N → Ordering) (front item : Item N) → node_if_any front ≡ [] → item_cmp cmp front item ≡ Equal → node_if_any item ≡ []
 alike_no_node cmp (Node gap node) item e h = absurd (cc)
-alike_no_node cmp (Rough gap l r) item e h = let (far, is) = alike_rough cmp gap l r item h in ap node_of is
-alike_no_node cmp (Row gap l r) item e h = let (far, is) = alike_row cmp gap l r item h in ap node_of is
+alike_no_node cmp (Rough gap l r) item e h = let (far, is) = alike_rough cmp gap l r item h in ap node_if_any is
+alike_no_node cmp (Row gap l r) item e h = let (far, is) = alike_row cmp gap l r item h in ap node_if_any is
 
 -- what is one with a rough object is that object
-alike_among : {N : Type 0} (cmp : N → N → Ordering) (front : Item N) (gap : Frac) (l r : ℕ) → node_of front ≡ [] → item_cmp cmp front (Rough gap l r) ≡ Equal → Contains (rough_of front) front
+alike_among : {N : Type 0} (cmp : N → N → Ordering) (front : Item N) (gap : Frac) (l r : ℕ) → node_if_any front ≡ [] → item_cmp cmp front (Rough gap l r) ≡ Equal → Contains (rough_of front) front
 alike_among cmp (Node g node) gap l r e h = absurd (cc)
 alike_among cmp (Rough g k s) gap l r e h = here (Rough g k s) []
 alike_among cmp (Row g k s) gap l r e h = let (far, is) = alike_row cmp g k s (Rough gap l r) h in absurd (cc)
@@ -63,17 +63,17 @@ once_of cmp items (Row gap l r) apart h = subst (IsOnce cmp) (sym (append-nil it
 
 -- a row, within the ceiling
 pub record IsRowWithin {N : Type 0} (ceiling : Rattle.std.proofs.Common.Option ℕ) (item : Item N) : Type 0 where
-  pub no_node : node_of item ≡ []
+  pub no_node : node_if_any item ≡ []
   pub no_rough : rough_of item ≡ []
   pub inside : within ceiling (gap_of item) ≡ true
 
-no_node_gap : {N : Type 0} (m : Meaning N) (item : Item N) → node_of item ≡ [] → HasGap m item
+no_node_gap : {N : Type 0} (m : Meaning N) (item : Item N) → node_if_any item ≡ [] → HasGap m item
 no_node_gap m (Node gap node) e = absurd (cc)
 no_node_gap m (Rough gap l r) e = tt
 no_node_gap m (Row gap l r) e = tt
 
 module _ {N : Type 0} {cmp : N → N → Ordering} (o : IsTotalOrder cmp) (m : Meaning N) (held gone rest added new done : List (Item N)) (front : Item N)
-    (no_node : node_of front ≡ []) (at : Contains held front) (alike : All (λ item. item_cmp cmp front item ≡ Equal) gone) (taken : IsPermutation held (gone ++ rest))
+    (no_node : node_if_any front ≡ []) (at : Contains held front) (alike : All (λ item. item_cmp cmp front item ≡ Equal) gone) (taken : IsPermutation held (gone ++ rest))
     (put : IsPermutation (added ++ rest) new) (later : All (IsAfter cmp front) (added ++ rest)) (rows : All (IsRowWithin m.ceiling) added) (h : Tracks cmp m held done) where
   new_of : (P : Item N → Type 0) → All P (added ++ rest) → All P new
   new_of P all = All-permutation P (added ++ rest) new put all
@@ -104,11 +104,11 @@ module _ {N : Type 0} {cmp : N → N → Ordering} (o : IsTotalOrder cmp) (m : M
   gone_pending : pending m (gone ++ rest) ≡ pending m rest
   unfolding below
   gone_pending = pending-append m gone rest
-      ∙ ap (λ l. below l ++ pending m rest) (nodes_none gone (All-weaker (λ i. item_cmp cmp front i ≡ Equal) (λ i. node_of i ≡ []) (λ i e. alike_no_node cmp front i no_node e) gone alike))
+      ∙ ap (λ l. below l ++ pending m rest) (nodes_none gone (All-weaker (λ i. item_cmp cmp front i ≡ Equal) (λ i. node_if_any i ≡ []) (λ i e. alike_no_node cmp front i no_node e) gone alike))
 
   added_pending : pending m (added ++ rest) ≡ pending m rest
   unfolding below
-  added_pending = pending-append m added rest ∙ ap (λ l. below l ++ pending m rest) (nodes_none added (All-weaker (IsRowWithin m.ceiling) (λ i. node_of i ≡ []) (λ i row. row.no_node) added rows))
+  added_pending = pending-append m added rest ∙ ap (λ l. below l ++ pending m rest) (nodes_none added (All-weaker (IsRowWithin m.ceiling) (λ i. node_if_any i ≡ []) (λ i row. row.no_node) added rows))
 
   split : IsPermutation (nodes_within m (within m.ceiling)) (nodes_of now ++ pending m new)
   split =

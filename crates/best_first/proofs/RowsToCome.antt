@@ -8,13 +8,13 @@ use Rattle.exact_frac.specs.declared.frac.Frac.{Frac}
 use Rattle.best_first.specs.declared.hit.Hit.{Hit}
 use Rattle.best_first.specs.declared.item.Item.{Item}
 use Rattle.best_first.specs.declared.item.Item.TheVariants.{Node, Rough, Row}
-use Rattle.best_first.specs.Item.{gap_of, row_of}
+use Rattle.best_first.specs.Item.{gap_of, row_item}
 use Rattle.best_first.specs.Reach.{IsSameGap, IsAtMost, within}
 use Rattle.best_first.specs.Hierarchy.{Meaning, MeetsLaws, HasGap, HasRow, IsHonest, IsListedUnder, Shows, kept}
 use Rattle.best_first.specs.Answer.{hit_cmp, IsAnswer, IsLater, IsNext, IsExhausted}
 use Rattle.best_first.specs.Order.{item_cmp, item_total}
-use Rattle.best_first.specs.Frontier.{Covers, IsAfter, IsPast, IsPending, LeadsTo}
-use Rattle.best_first.specs.Inside.{Adds}
+use Rattle.best_first.specs.Frontier.{Covers, IsAfter, IsPast, IsPending, LeadsToRow}
+use Rattle.best_first.specs.Inside.{AddsFetched}
 use Rattle.best_first.proofs.Bags.{here, cons_cases, none, All-by, in_filter, from_filter}
 use Rattle.best_first.proofs.Gaps.{at_most_trans, below_trans, equal_at_most, same_back, same_trans, within_reach, reach_same}
 use Rattle.best_first.proofs.Alikes.{IsFoundAt, alike_to, alike_shows, alike_cmp, rows_tied}
@@ -26,14 +26,14 @@ shows_far hit (Node gap node) h = absurd h
 shows_far hit (Rough gap l r) h = h.2
 shows_far hit (Row gap l r) h = equal_at_most gap hit.gap h.0
 
-pub shows_leads : {N : Type 0} (m : Meaning N) (hit : Hit) (item : Item N) → Shows hit item → LeadsTo m hit item
+pub shows_leads : {N : Type 0} (m : Meaning N) (hit : Hit) (item : Item N) → Shows hit item → LeadsToRow m hit item
 shows_leads m hit (Node gap node) h = absurd h
 shows_leads m hit (Rough gap l r) h = h
 shows_leads m hit (Row gap l r) h = h
 
 module _ {N : Type 0} {cmp : N → N → Ordering} (o : IsTotalOrder cmp) (m : Meaning N) (laws : MeetsLaws m) where
   -- what leads to a row is no farther than the row
-  pub leads_far : (hit : Hit) (item : Item N) → HasGap m item → LeadsTo m hit item → IsAtMost (gap_of item) hit.gap
+  pub leads_far : (hit : Hit) (item : Item N) → HasGap m item → LeadsToRow m hit item → IsAtMost (gap_of item) hit.gap
   leads_far hit (Node gap node) is h =
       at_most_trans gap (gap_of h.item) hit.gap
       (at_most_trans gap (m.gap h.leaf) (gap_of h.item)
@@ -44,16 +44,16 @@ module _ {N : Type 0} {cmp : N → N → Ordering} (o : IsTotalOrder cmp) (m : M
   leads_far hit (Row gap l r) is h = shows_far {N = N} hit (Row gap l r) h
 
   -- what leads to a row doesn't come after the row
-  pub leads_first : (hit : Hit) (item : Item N) → HasGap m item → LeadsTo m hit item → is_gt (item_cmp cmp item (row_of hit)) ≡ false
-  leads_first hit (Node gap node) is h = ap is_gt (tie_after cmp (Node gap node) (row_of hit) (leads_far hit (Node gap node) is h) refl)
-  leads_first hit (Rough gap l r) is h = ap is_gt (tie_after cmp (Rough gap l r) (row_of hit) (leads_far hit (Rough gap l r) is h) refl)
-  leads_first hit (Row gap l r) is h = ap is_gt (alike_cmp o (Row gap l r) (row_of hit) h)
+  pub leads_first : (hit : Hit) (item : Item N) → HasGap m item → LeadsToRow m hit item → is_gt (item_cmp cmp item (row_item hit)) ≡ false
+  leads_first hit (Node gap node) is h = ap is_gt (tie_after cmp (Node gap node) (row_item hit) (leads_far hit (Node gap node) is h) refl)
+  leads_first hit (Rough gap l r) is h = ap is_gt (tie_after cmp (Rough gap l r) (row_item hit) (leads_far hit (Rough gap l r) is h) refl)
+  leads_first hit (Row gap l r) is h = ap is_gt (alike_cmp o (Row gap l r) (row_item hit) h)
 
   -- what leads to a row of the answer is within the ceiling
-  pub leads_within : (hit : Hit) (item : Item N) → HasGap m item → LeadsTo m hit item → IsAnswer m hit → within m.ceiling (gap_of item) ≡ true
+  pub leads_within : (hit : Hit) (item : Item N) → HasGap m item → LeadsToRow m hit item → IsAnswer m hit → within m.ceiling (gap_of item) ≡ true
   leads_within hit item is h answer = within_reach m.ceiling (gap_of item) hit.gap (leads_far hit item is h) answer.1
 
-  past_far : (last : Option Hit) (before item : Item N) → ((h : Hit) → IsAfter cmp (row_of h) before → IsAfter cmp (row_of h) item) → IsPast cmp last before → IsPast cmp last item
+  past_far : (last : Option Hit) (before item : Item N) → ((h : Hit) → IsAfter cmp (row_item h) before → IsAfter cmp (row_item h) item) → IsPast cmp last before → IsPast cmp last item
   past_far None before item step h = tt
   past_far (Some last) before item step h = step last h
 
@@ -89,14 +89,14 @@ module _ {N : Type 0} {cmp : N → N → Ordering} (o : IsTotalOrder cmp) (m : M
             (All-append (IsPast cmp last) found rest
             (All-by (IsPast cmp last) found (λ item at.
             past_far last (Node gap a) item (λ k p.
-            far_after cmp (row_of k) item (below_trans k.gap gap (gap_of item) (after_strict cmp (row_of k) (Node gap a) refl p)
+            far_after cmp (row_item k) item (below_trans k.gap gap (gap_of item) (after_strict cmp (row_item k) (Node gap a) refl p)
             (at_most_trans gap (m.gap a) (gap_of item) (equal_at_most gap (m.gap a) is)
             (All-contains (λ i. IsAtMost (m.gap a) (gap_of i)) items item says.bound
             (from_filter (λ i. within m.ceiling (gap_of i)) items item at).0)))) before)) (All-tail (IsPast cmp last) (Node gap a) rest past));
         whole = λ hit answer later.
             let p = h.whole hit answer later in
             ⊎_elim
-            (λ e. let q = opened_leads a items says hit answer (subst (LeadsTo m hit) (sym e) p.leads) in
+            (λ e. let q = opened_leads a items says hit answer (subst (LeadsToRow m hit) (sym e) p.leads) in
             record { item = q.item; queued = Contains-permutation (found ++ rest) new q.item put (Contains-append_left found rest q.item q.queued); leads = q.leads })
             (λ t. record { item = p.item; queued = Contains-permutation (found ++ rest) new p.item put (Contains-append_right found rest p.item t); leads = p.leads })
             (cons_cases (Node gap a) rest p.item (Contains-permutation held (Node gap a ∷ rest) p.item taken p.queued));
@@ -105,7 +105,7 @@ module _ {N : Type 0} {cmp : N → N → Ordering} (o : IsTotalOrder cmp) (m : M
   -- ---- a fetch
 
   pub fetched_covers : (held gone rest added new : List (Item N)) (last : Option Hit) (gap : Frac) (hit : Hit) → HasRow m hit
-      → Contains held (Rough gap hit.left hit.right) → All (λ item. item_cmp cmp (Rough gap hit.left hit.right) item ≡ Equal) gone → Adds m.ceiling gap hit added
+      → Contains held (Rough gap hit.left hit.right) → All (λ item. item_cmp cmp (Rough gap hit.left hit.right) item ≡ Equal) gone → AddsFetched m.ceiling gap hit added
       → IsPermutation held (gone ++ rest) → IsPermutation (added ++ rest) new → Covers cmp m held last → Covers cmp m new last
   fetched_covers held gone rest added new last gap hit listed at alike adds taken put h =
       let front : Item N = Rough gap hit.left hit.right in
@@ -114,13 +114,13 @@ module _ {N : Type 0} {cmp : N → N → Ordering} (o : IsTotalOrder cmp) (m : M
       record {
         sound = All-permutation (IsHonest m) (added ++ rest) new put
             (All-append (IsHonest m) added rest (All-by (IsHonest m) added
-            (λ item i. subst (IsHonest m) (sym (All-contains (λ x. (x ≡ row_of hit) × IsAtMost gap hit.gap × (within m.ceiling hit.gap ≡ true)) added item adds.only i).0) listed)) (right
+            (λ item i. subst (IsHonest m) (sym (All-contains (λ x. (x ≡ row_item hit) × IsAtMost gap hit.gap × (within m.ceiling hit.gap ≡ true)) added item adds.only i).0) listed)) (right
             (IsHonest m) h.sound));
         past = All-permutation (IsPast cmp last) (added ++ rest) new put
             (All-append (IsPast cmp last) added rest
-            (All-by (IsPast cmp last) added (λ item i. let says = All-contains (λ x. (x ≡ row_of hit) × IsAtMost gap hit.gap × (within m.ceiling hit.gap ≡ true)) added item adds.only i in
-            subst (IsPast cmp last) (sym says.0) (past_far last front (row_of hit)
-            (λ k p. far_after cmp (row_of k) (row_of hit) (below_trans k.gap gap hit.gap (after_strict cmp (row_of k) front refl p) says.1))
+            (All-by (IsPast cmp last) added (λ item i. let says = All-contains (λ x. (x ≡ row_item hit) × IsAtMost gap hit.gap × (within m.ceiling hit.gap ≡ true)) added item adds.only i in
+            subst (IsPast cmp last) (sym says.0) (past_far last front (row_item hit)
+            (λ k p. far_after cmp (row_item k) (row_item hit) (below_trans k.gap gap hit.gap (after_strict cmp (row_item k) front refl p) says.1))
             (All-contains (IsPast cmp last) held front h.past at)))) (right (IsPast cmp last) h.past));
         whole = λ other answer later.
             let p = h.whole other answer later in
@@ -128,15 +128,15 @@ module _ {N : Type 0} {cmp : N → N → Ordering} (o : IsTotalOrder cmp) (m : M
             (λ g.
             let same = All-contains (λ item. item_cmp cmp front item ≡ Equal) gone p.item alike g in
             let (far, is) = alike_rough cmp gap hit.left hit.right p.item same in
-            let shows : Shows {N = N} other (Rough far hit.left hit.right) = subst (LeadsTo m other) is p.leads in
+            let shows : Shows {N = N} other (Rough far hit.left hit.right) = subst (LeadsToRow m other) is p.leads in
             let one : IsSameGap other.gap hit.gap =
             same_trans other.gap listed.row.gap hit.gap (laws.once other listed.row answer.0 listed.among (sym shows.0 ∙ sym listed.same.1) (sym shows.1 ∙ sym listed.same.2)) listed.same.0 in
             let level : IsAtMost gap far = equal_at_most gap far (alike_gap cmp front (Rough far hit.left hit.right) (subst (λ x. item_cmp cmp front x ≡ Equal) is same)) in
             let near : IsAtMost gap hit.gap = at_most_trans gap other.gap hit.gap (at_most_trans gap far other.gap level shows.2) (equal_at_most other.gap hit.gap one) in
             let inside : within m.ceiling hit.gap ≡ true = reach_same (within m.ceiling) (within_reach m.ceiling) other.gap hit.gap one true answer.1 in
             record {
-              item = row_of hit;
-              queued = Contains-permutation (added ++ rest) new (row_of hit) put (Contains-append_left added rest (row_of hit) (adds.whole near inside));
+              item = row_item hit;
+              queued = Contains-permutation (added ++ rest) new (row_item hit) put (Contains-append_left added rest (row_item hit) (adds.whole near inside));
               leads = (same_back other.gap hit.gap one, shows.0, shows.1);
             })
             (λ t. record { item = p.item; queued = Contains-permutation (added ++ rest) new p.item put (Contains-append_right added rest p.item t); leads = p.leads })
@@ -145,53 +145,54 @@ module _ {N : Type 0} {cmp : N → N → Ordering} (o : IsTotalOrder cmp) (m : M
 
   -- ---- a row given
 
-  still_later : (last : Option Hit) (hit other : Hit) → IsPast cmp last (row_of hit) → hit_cmp hit other ≡ Less → IsLater last other
+  still_later : (last : Option Hit) (hit other : Hit) → IsPast cmp last (row_item hit) → hit_cmp hit other ≡ Less → IsLater last other
   still_later None hit other p q = tt
-  still_later (Some k) hit other p q = (item_total o).trans (row_of k) (row_of hit) (row_of other) p q
+  still_later (Some k) hit other p q = (item_total o).trans (row_item k) (row_item hit) (row_item other) p q
 
-  pub given_covers : (held gone rest : List (Item N)) (last : Option Hit) (hit : Hit) → Contains held (row_of hit)
-      → All (λ item. item_cmp cmp (row_of hit) item ≡ Equal) gone → All (IsAfter cmp (row_of hit)) rest → IsPermutation held (gone ++ rest) → Covers cmp m held last → Covers cmp m rest (Some hit)
+  pub given_covers : (held gone rest : List (Item N)) (last : Option Hit) (hit : Hit) → Contains held (row_item hit)
+      → All (λ item. item_cmp cmp (row_item hit) item ≡ Equal) gone → All (IsAfter cmp (row_item hit)) rest → IsPermutation held (gone ++ rest) → Covers cmp m held last → Covers cmp m rest (Some hit)
   given_covers held gone rest last hit at alike after taken h = record {
     sound = All-by (IsHonest m) rest (λ item i. All-contains (IsHonest m) (gone ++ rest) item (All-permutation (IsHonest m) held (gone ++ rest) taken h.sound)
         (Contains-append_right gone rest item i));
     past = after;
     whole = λ other answer later.
-        let p = h.whole other answer (still_later last hit other (All-contains (IsPast cmp last) held (row_of hit) h.past at) later) in
+        let p = h.whole other answer (still_later last hit other (All-contains (IsPast cmp last) held (row_item hit) h.past at) later) in
         ⊎_elim
         (λ g.
-        let same = All-contains (λ item. item_cmp cmp (row_of hit) item ≡ Equal) gone p.item alike g in
+        let same = All-contains (λ item. item_cmp cmp (row_item hit) item ≡ Equal) gone p.item alike g in
         let (far, is) = alike_row cmp hit.gap hit.left hit.right p.item same in
-        let shows : Shows {N = N} other (Row far hit.left hit.right) = subst (LeadsTo m other) is p.leads in
-        let level : item_cmp cmp (row_of hit) (Row far hit.left hit.right) ≡ Equal = subst (λ x. item_cmp cmp (row_of hit) x ≡ Equal) is same in
-        let tied : hit_cmp hit other ≡ Equal = (item_total o).congr (row_of hit) (Row far hit.left hit.right) (row_of other) level ∙ alike_cmp o (Row far hit.left hit.right) (row_of other) shows in
+        let shows : Shows {N = N} other (Row far hit.left hit.right) = subst (LeadsToRow m other) is p.leads in
+        let level : item_cmp cmp (row_item hit) (Row far hit.left hit.right) ≡ Equal = subst (λ x. item_cmp cmp (row_item hit) x ≡ Equal) is same in
+        let tied : hit_cmp hit other ≡ Equal = (item_total o).congr (row_item hit) (Row far hit.left hit.right) (row_item other) level
+        ∙ alike_cmp o (Row far hit.left hit.right) (row_item other) shows in
         absurd (let e : Equal ≡ Less = sym tied ∙ later in cc))
         (λ t. record { item = p.item; queued = t; leads = p.leads })
         (Contains-append_cases gone rest p.item (Contains-permutation held (gone ++ rest) p.item taken p.queued));
   }
 
   -- the row at the front is the next row of the answer
-  pub is_next : (held : List (Item N)) (last : Option Hit) (hit : Hit) → Contains held (row_of hit) → All (λ item. is_gt (item_cmp cmp (row_of hit) item) ≡ false) held
+  pub is_next : (held : List (Item N)) (last : Option Hit) (hit : Hit) → Contains held (row_item hit) → All (λ item. is_gt (item_cmp cmp (row_item hit) item) ≡ false) held
       → All (HasGap m) held → within m.ceiling hit.gap ≡ true → Covers cmp m held last → IsNext m last hit
   is_next held last hit at least gaps inside h =
-      let past : IsPast cmp last (row_of hit) = All-contains (IsPast cmp last) held (row_of hit) h.past at in
-      let has : HasRow m hit = All-contains (IsHonest m) held (row_of hit) h.sound at in
+      let past : IsPast cmp last (row_item hit) = All-contains (IsPast cmp last) held (row_item hit) h.past at in
+      let has : HasRow m hit = All-contains (IsHonest m) held (row_item hit) h.sound at in
       let back : hit_cmp has.row hit ≡ Equal = rows_tied has.row hit has.same in
-      let tied : hit_cmp hit has.row ≡ Equal = tied_back (item_total o) (row_of has.row) (row_of hit) back in
+      let tied : hit_cmp hit has.row ≡ Equal = tied_back (item_total o) (row_item has.row) (row_item hit) back in
       record {
         row = has.row;
         same = has.same;
         answer = (has.among, reach_same (within m.ceiling) (within_reach m.ceiling) hit.gap has.row.gap (same_back has.row.gap hit.gap has.same.0) true inside);
-        later = elim last as (λ l. IsPast cmp l (row_of hit) → IsLater l has.row) [
+        later = elim last as (λ l. IsPast cmp l (row_item hit) → IsLater l has.row) [
           | None ↦ λ p. tt
           | Some k ↦ λ p.
-              sym (alike_right (item_total o) (row_of hit) (row_of has.row) (row_of k) tied) ∙ p
+              sym (alike_right (item_total o) (row_item hit) (row_item has.row) (row_item k) tied) ∙ p
         ] past;
         first = λ other answer later.
             let p = h.whole other answer later in
             let first : is_gt (hit_cmp hit other) ≡ false =
-            upto (item_total o) (row_of hit) p.item (row_of other) (All-contains (λ item. is_gt (item_cmp cmp (row_of hit) item) ≡ false) held p.item least p.queued)
+            upto (item_total o) (row_item hit) p.item (row_item other) (All-contains (λ item. is_gt (item_cmp cmp (row_item hit) item) ≡ false) held p.item least p.queued)
             (leads_first other p.item (All-contains (HasGap m) held p.item gaps p.queued) p.leads) in
-            ap is_gt ((item_total o).congr (row_of has.row) (row_of hit) (row_of other) back) ∙ first;
+            ap is_gt ((item_total o).congr (row_item has.row) (row_item hit) (row_item other) back) ∙ first;
       }
 
   -- where nothing is queued, all rows are given

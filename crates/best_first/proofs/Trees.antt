@@ -4,7 +4,7 @@ use Rattle.std.proofs.lemmas.List.Elements.{All-contains}
 use Rattle.exact_frac.specs.declared.frac.Frac.{Frac}
 use Rattle.best_first.specs.declared.item.Item.{Item}
 use Rattle.best_first.specs.declared.item.Item.TheVariants.{Node, Rough, Row}
-use Rattle.best_first.specs.Item.{gap_of, node_of, rough_of, nodes_of, roughs_of}
+use Rattle.best_first.specs.Item.{gap_of, node_if_any, rough_of, nodes_of, roughs_of}
 use Rattle.best_first.specs.Reach.{IsAtMost}
 use Rattle.best_first.specs.Hierarchy.{Meaning, MeetsLaws, HasGap}
 use Rattle.best_first.proofs.Bags.{here, there, cons_cases, none, only, in_flat_map, from_flat_map}
@@ -15,8 +15,8 @@ use Rattle.best_first.proofs.Gaps.{at_most_itself, at_most_trans, equal_at_most}
 -- the item that stands for a node
 pub node_item : {N : Type 0} (items : List (Item N)) (node : N) → Contains (nodes_of items) node → (gap : Frac) × Contains items (Node gap node)
 node_item {N} items node h =
-    let (item, at, is) = from_flat_map node_of items node h in
-    elim item as (λ i. Contains items i → Contains (node_of i) node → (gap : Frac)
+    let (item, at, is) = from_flat_map node_if_any items node h in
+    elim item as (λ i. Contains items i → Contains (node_if_any i) node → (gap : Frac)
     × Contains items (Node gap node)) [
       | Node gap other ↦ λ there same. (gap, subst (λ n. Contains items (Node gap n)) (only other node same) there)
       | Rough gap l r ↦ λ there same.
@@ -25,7 +25,7 @@ node_item {N} items node h =
     ] at is
 
 pub node_among : {N : Type 0} (items : List (Item N)) (gap : Frac) (node : N) → Contains items (Node gap node) → Contains (nodes_of items) node
-node_among items gap node h = in_flat_map node_of items (Node gap node) node h (here node [])
+node_among items gap node h = in_flat_map node_if_any items (Node gap node) node h (here node [])
 
 -- an item among the rough ones is rough, and stands in the list
 pub rough_item : {N : Type 0} (items : List (Item N)) (item : Item N) → Contains (roughs_of items) item

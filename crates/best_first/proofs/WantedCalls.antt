@@ -12,11 +12,11 @@ use Rattle.sand_base.specs.Faults.{last_count}
 use Rattle.sand_base.specs.declared.visit.Visit.{Visit}
 use Rattle.page_pool.specs.Disk.{PageMap}
 use Rattle.page_pool.specs.declared.fault.PageFault.{PageFault}
-use Rattle.rank_queue.specs.Least.{IsFirst, IsLeast}
+use Rattle.rank_queue.specs.Least.{IsFirst, IsLeastItem}
 use Rattle.best_first.specs.declared.hit.Hit.{Hit}
 use Rattle.best_first.specs.declared.item.Item.{Item}
 use Rattle.best_first.specs.declared.item.Item.TheVariants.{Node, Rough, Row}
-use Rattle.best_first.specs.Item.{gap_of, row_of, IsAlike}
+use Rattle.best_first.specs.Item.{gap_of, row_item, IsAlike}
 use Rattle.best_first.specs.Reach.{IsSameGap, IsAtMost, within}
 use Rattle.best_first.specs.Hierarchy.{Meaning, MeetsLaws, FindsAlike, HasGap, HasRow, IsNode, IsRoughListed, kept}
 use Rattle.best_first.specs.Order.{item_cmp, item_total}
@@ -39,12 +39,12 @@ pub row_is_wanted : {N : Type 0} {cmp : N → N → Ordering} → IsTotalOrder c
     → GivesRow (item_cmp cmp) hit held new → wants hit.left ≡ true
 row_is_wanted {N} {cmp} o wants held new hit settled gives =
     ⊎_elim
-    (λ empty. absurd (none (row_of hit) (subst (λ l. Contains l (row_of hit)) empty gives.front.queued)))
+    (λ empty. absurd (none (row_item hit) (subst (λ l. Contains l (row_item hit)) empty gives.front.queued)))
     (λ (row, (first, is)).
-    let one = both_first (item_total o) (row_of hit) (row_of row)
-    (All-contains (λ y. is_gt (item_cmp cmp (row_of hit) y) ≡ false) held (row_of row) gives.front.least first.queued)
-    (All-contains (λ y. is_gt (item_cmp cmp (row_of row) y) ≡ false) held (row_of hit) first.least gives.front.queued) in
-    let (far, same) = alike_row cmp hit.gap hit.left hit.right (row_of row) one in
+    let one = both_first (item_total o) (row_item hit) (row_item row)
+    (All-contains (λ y. is_gt (item_cmp cmp (row_item hit) y) ≡ false) held (row_item row) gives.front.least first.queued)
+    (All-contains (λ y. is_gt (item_cmp cmp (row_item row) y) ≡ false) held (row_item hit) first.least gives.front.queued) in
+    let (far, same) = alike_row cmp hit.gap hit.left hit.right (row_item row) one in
     let left : row.left ≡ hit.left = cc in
     subst (λ id. wants id ≡ true) left is)
     settled
@@ -69,7 +69,7 @@ fetch_falls_for cmp wants weight old mid new ceiling gap left right hit taken ad
     let after : sum_by f new ≡ sum_by f (adds.added ++ mid) = sum_by-IsPermutation f (adds.added ++ mid) new adds.put in
     let joined = sum_by-append f adds.added mid in
     let each : All (λ item. f item ≤ 1) adds.added =
-    All-weaker (λ item. (item ≡ row_of hit) × IsAtMost gap hit.gap × (within ceiling hit.gap ≡ true)) (λ item. f item ≤ 1)
+    All-weaker (λ item. (item ≡ row_item hit) × IsAtMost gap hit.gap × (within ceiling hit.gap ≡ true)) (λ item. f item ≤ 1)
     (λ item says. let e = ap f says.0 in omega arith) adds.added adds.only in
     let most = sum_by-le f 1 adds.added each in
     let few = adds.few in
@@ -87,7 +87,7 @@ leave_falls weight old new x gap left right is taken =
 
 -- the item that is popped where a row is first is that row, under some gap
 pub popped_row : {N : Type 0} {cmp : N → N → Ordering} → IsTotalOrder cmp → (gap : Frac) (left right : ℕ) (x : Item N) (old new : List (Item N))
-    → IsFirst (item_cmp cmp) (Row gap left right) old → IsPermutation old (x ∷ new) → IsLeast (item_cmp cmp) x new → (far : Frac) × (x ≡ Row far left right)
+    → IsFirst (item_cmp cmp) (Row gap left right) old → IsPermutation old (x ∷ new) → IsLeastItem (item_cmp cmp) x new → (far : Frac) × (x ≡ Row far left right)
 popped_row {N} {cmp} o gap left right x old new first taken least =
     alike_row cmp gap left right x (popped_first (item_total o) (Row gap left right) x old new first taken least)
 
@@ -131,7 +131,7 @@ module _ {N : Type 0} {cmp : N → N → Ordering} (o : IsTotalOrder cmp) (meani
 
   -- a node was opened
   pub opens_for : (pages : Option PageMap) (old new : SearchState N) (x : Item N) (rest found : List (Item N)) (ceiling : Option ℕ) (gap far : Frac) (node : N)
-      → IsFirst (item_cmp cmp) (Node gap node) old.held → x ≡ Node far node → IsPermutation old.held (x ∷ rest) → IsLeast (item_cmp cmp) x rest
+      → IsFirst (item_cmp cmp) (Node gap node) old.held → x ≡ Node far node → IsPermutation old.held (x ∷ rest) → IsLeastItem (item_cmp cmp) x rest
       → IsPermutation (kept (within ceiling) found ++ rest) new.held → ((p : PageMap) → ceiling ≡ (meaning p).ceiling)
       → new.counts.visited ≡ min (old.counts.visited + 1) last_count → new.counts.fetched ≡ old.counts.fetched
       → IfSome pages (Standing old.held) → IfSome pages (λ p. FindsAlike (wanted_of wants ((meaning p).finds node)) [] found)

@@ -6,7 +6,7 @@ use Rattle.best_first.specs.declared.item.Item.{Item}
 use Rattle.best_first.specs.declared.item.Item.TheVariants.{Node, Rough, Row}
 use Rattle.best_first.specs.Item.{nodes_of, roughs_of, IsAlike}
 use Rattle.best_first.specs.Hierarchy.{Meaning, FindsAlike}
-use Rattle.best_first.specs.Frontier.{LeadsTo}
+use Rattle.best_first.specs.Frontier.{LeadsToRow}
 use Rattle.best_first.specs.Steps.{AddsLess}
 use Rattle.best_first.specs.Wanted.{is_wanted, wanted_of}
 use Rattle.best_first.proofs.Bags.{filter_here, filter_skips}
@@ -70,7 +70,7 @@ roughs_wanted {N} wants (Row gap l r ∷ items) =
     go (wants l)
 
 -- what leads to a row with a wanted left id is of use
-pub leads_wanted : {N : Type 0} (m : Meaning N) (wants : ℕ → Bool) (hit : Hit) (item : Item N) → LeadsTo m hit item → wants hit.left ≡ true → is_wanted wants item ≡ true
+pub leads_wanted : {N : Type 0} (m : Meaning N) (wants : ℕ → Bool) (hit : Hit) (item : Item N) → LeadsToRow m hit item → wants hit.left ≡ true → is_wanted wants item ≡ true
 leads_wanted m wants hit (Node gap node) h e = refl
 leads_wanted m wants hit (Rough gap l r) h e = refl
 leads_wanted m wants hit (Row gap l r) h e = ap wants h.1 ∙ e

@@ -14,7 +14,7 @@ use Rattle.page_pool.specs.declared.fault.PageFault.{PageFault}
 use Rattle.best_first.specs.declared.hit.Hit.{Hit}
 use Rattle.best_first.specs.declared.item.Item.{Item}
 use Rattle.best_first.specs.declared.item.Item.TheVariants.{Node, Rough, Row}
-use Rattle.best_first.specs.Item.{gap_of, row_of, nodes_of, IsAlike}
+use Rattle.best_first.specs.Item.{gap_of, row_item, nodes_of, IsAlike}
 use Rattle.best_first.specs.Reach.{IsSameGap, IsAtMost, within}
 use Rattle.best_first.specs.Hierarchy.{Meaning, MeetsLaws, HasRow, kept}
 use Rattle.best_first.specs.Order.{item_cmp}
@@ -149,8 +149,8 @@ module _ {N : Type 0} {cmp : N → N → Ordering} (o : IsTotalOrder cmp) (m : M
   -- ---- the answers of a call
 
   -- the row at the front is given, after more was taken
-  pub row_given_for : (old mid new : SearchState N) (gone : List (Item N)) (hit : Hit) → GoesFor cmp m note wants old mid → Contains mid.held (row_of hit)
-      → All (λ item. is_gt (item_cmp cmp (row_of hit) item) ≡ false) mid.held → All (λ item. item_cmp cmp (row_of hit) item ≡ Equal) gone
+  pub row_given_for : (old mid new : SearchState N) (gone : List (Item N)) (hit : Hit) → GoesFor cmp m note wants old mid → Contains mid.held (row_item hit)
+      → All (λ item. is_gt (item_cmp cmp (row_item hit) item) ≡ false) mid.held → All (λ item. item_cmp cmp (row_item hit) item ≡ Equal) gone
       → IsPermutation mid.held (gone ++ new.held) → new.counts ≡ mid.counts → new.desk ≡ mid.desk → MakesWantedVisits cmp m note wants old new (Ok (Some hit))
   row_given_for old mid new gone hit goes at least alike taken counts desk done h =
       let makes = goes done h in
@@ -159,7 +159,7 @@ module _ {N : Type 0} {cmp : N → N → Ordering} (o : IsTotalOrder cmp) (m : M
       let tracks = makes.stands.tracks in
       let out : less hit.left ≡ false = ap (λ b. not b && wants hit.left) (eq-eqb hit.left hit.left refl) in
       let stands = left_for o m laws wants mid.held gone new.held all less taken
-      (λ item i. let (far, is) = alike_row cmp hit.gap hit.left hit.right item (All-contains (λ x. item_cmp cmp (row_of hit) x ≡ Equal) gone item alike i) in
+      (λ item i. let (far, is) = alike_row cmp hit.gap hit.left hit.right item (All-contains (λ x. item_cmp cmp (row_item hit) x ≡ Equal) gone item alike i) in
       (far, hit.left, hit.right, (is, out))) (λ id e. (and_parts (not (nat_eq id hit.left)) (wants id) e).1) makes.stands in
       record {
         attempt = [];
@@ -176,7 +176,7 @@ module _ {N : Type 0} {cmp : N → N → Ordering} (o : IsTotalOrder cmp) (m : M
         bounds = record {
           settled = refl;
           near = All-by (λ item. IsAtMost (gap_of item) hit.gap) all
-              (λ k i. All-contains (λ item. IsAtMost (gap_of k) (gap_of item)) mid.held (row_of hit)
+              (λ k i. All-contains (λ item. IsAtMost (gap_of k) (gap_of item)) mid.held (row_item hit)
               (All-contains (λ k. All (λ item. IsAtMost (gap_of k) (gap_of item)) mid.held) all k tracks.nearer i) at);
           reached = reached_row o m laws mid.held all hit at least tracks;
         };

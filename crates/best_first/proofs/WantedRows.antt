@@ -10,12 +10,12 @@ use Rattle.exact_frac.specs.declared.frac.Frac.{Frac}
 use Rattle.best_first.specs.declared.hit.Hit.{Hit}
 use Rattle.best_first.specs.declared.item.Item.{Item}
 use Rattle.best_first.specs.declared.item.Item.TheVariants.{Node, Rough, Row}
-use Rattle.best_first.specs.Item.{gap_of, node_of, row_of, nodes_of, roughs_of, IsAlike}
+use Rattle.best_first.specs.Item.{gap_of, node_if_any, row_item, nodes_of, roughs_of, IsAlike}
 use Rattle.best_first.specs.Reach.{IsSameGap, IsAtMost, within}
 use Rattle.best_first.specs.Hierarchy.{Meaning, MeetsLaws, HasGap, HasRow, IsHonest, Shows, kept, near, nodes_within}
 use Rattle.best_first.specs.Answer.{hit_cmp}
 use Rattle.best_first.specs.Order.{item_cmp, item_total}
-use Rattle.best_first.specs.Frontier.{Tracks, IsListed, HasAlike, IsAfter, LeadsTo, pending}
+use Rattle.best_first.specs.Frontier.{Tracks, IsListed, HasAlike, IsAfter, LeadsToRow, pending}
 use Rattle.best_first.specs.Wanted.{is_wanted, wanted_of, StandsFor, IsFirstWanted, HasNoneWanted, AddsFor}
 use Rattle.best_first.proofs.Bags.{cons_cases, none, All-by, All-left, All-right, in_filter, from_filter, IsPermutation-flat_map, IsPermutation-same}
 use Rattle.best_first.proofs.Gaps.{at_most_trans, equal_at_most, same_back, same_trans, within_reach, reach_same}
@@ -33,7 +33,8 @@ pub tracks_less : {N : Type 0} {cmp : N → N → Ordering} (o : IsTotalOrder cm
     → ((item : Item N) → Contains rest item → Contains held item) → ((r : Item N) → Contains (roughs_of held) r → Contains (roughs_of rest) r) → Tracks cmp m held done → Tracks cmp m rest done
 tracks_less {N} {cmp} o m held rest done nodes few roughs h =
     let fewer = λ (P : Item N → Type 0) (all : All P held). (let each : All P rest = All-by P rest (λ item at. All-contains P held item all (few item at)) in each) in
-    let both = λ (P : Item N → Type 0) (all : All P (done ++ held)). (let each : All P (done ++ rest) = All-append P done rest (All-left P done held all) (fewer P (All-right P done held all)) in each) in
+    let both = λ (P : Item N → Type 0) (all : All P (done ++ held)). (let each : All P (done ++ rest) =
+    All-append P done rest (All-left P done held all) (fewer P (All-right P done held all)) in each) in
     let below = λ (node : N). near m (within m.ceiling) (m.under node) in
     record {
       split = IsPermutation-trans (nodes_within m (within m.ceiling)) (nodes_of done ++ pending m held) (nodes_of done ++ pending m rest) h.split
@@ -92,7 +93,7 @@ module _ {N : Type 0} {cmp : N → N → Ordering} (o : IsTotalOrder cmp) (m : M
             let p = h.whole hit answer e in
             ⊎_elim
             (λ same.
-            let l = opened_leads o m laws a full says hit answer (subst (LeadsTo m hit) (sym same) p.leads) in
+            let l = opened_leads o m laws a full says hit answer (subst (LeadsToRow m hit) (sym same) p.leads) in
             let queued : Contains found l.item = subst (λ ys. Contains ys l.item) kept_is
             (in_filter (is_wanted wants) (filter q full) l.item l.queued (leads_wanted m wants hit l.item l.leads e)) in
             record { item = l.item; queued = Contains-permutation (found ++ rest) new l.item put (Contains-append_left found rest l.item queued); leads = l.leads })
@@ -100,7 +101,7 @@ module _ {N : Type 0} {cmp : N → N → Ordering} (o : IsTotalOrder cmp) (m : M
             (cons_cases (Node near_gap a) rest p.item (Contains-permutation held (Node near_gap a ∷ rest) p.item taken p.queued));
         tracks = tracks_less o m all new (done ++ Node gap a ∷ [])
             (IsPermutation-trans (nodes_of all) (nodes_of (found ++ rest)) (nodes_of new) (IsPermutation-same (nodes_of all) (nodes_of (found ++ rest)) nodes)
-            (IsPermutation-flat_map node_of (found ++ rest) new put))
+            (IsPermutation-flat_map node_if_any (found ++ rest) new put))
             (λ item at. ⊎_elim (λ f. Contains-append_left (kept (within m.ceiling) full) rest item (among item f)) (λ t. Contains-append_right (kept (within m.ceiling) full) rest item t)
             (Contains-append_cases found rest item (came item at)))
             (λ r at. rough_moves (found ++ rest) new r (λ t. Contains-permutation (found ++ rest) new r put t) (subst (λ l. Contains l r) roughs at))
@@ -117,34 +118,35 @@ module _ {N : Type 0} {cmp : N → N → Ordering} (o : IsTotalOrder cmp) (m : M
       let front : Item N = Rough gap hit.left hit.right in
       let added = adds.added in
       let put = adds.put in
-      let says = λ (item : Item N) (i : Contains added item). (let s : (item ≡ row_of hit) × IsAtMost gap hit.gap × (within m.ceiling hit.gap ≡ true) =
-      All-contains (λ x. (x ≡ row_of hit) × IsAtMost gap hit.gap × (within m.ceiling hit.gap ≡ true)) added item adds.only i in s) in
+      let says = λ (item : Item N) (i : Contains added item). (let s : (item ≡ row_item hit) × IsAtMost gap hit.gap × (within m.ceiling hit.gap ≡ true) =
+      All-contains (λ x. (x ≡ row_item hit) × IsAtMost gap hit.gap × (within m.ceiling hit.gap ≡ true)) added item adds.only i in s) in
       record {
         sound = All-permutation (IsHonest m) (added ++ rest) new put
             (All-append (IsHonest m) added rest (All-by (IsHonest m) added (λ item i. subst (IsHonest m) (sym (says item i).0) listed))
-            (All-by (IsHonest m) rest (λ item i. All-contains (IsHonest m) (gone ++ rest) item (All-permutation (IsHonest m) held (gone ++ rest) taken h.sound) (Contains-append_right gone rest item i))));
+            (All-by (IsHonest m) rest (λ item i. All-contains (IsHonest m) (gone ++ rest) item (All-permutation (IsHonest m) held (gone ++ rest) taken h.sound)
+            (Contains-append_right gone rest item i))));
         whole = λ other answer e.
             let p = h.whole other answer e in
             ⊎_elim
             (λ g.
             let same = All-contains (λ item. item_cmp cmp front item ≡ Equal) gone p.item alike g in
             let (far, is) = alike_rough cmp gap hit.left hit.right p.item same in
-            let shows : Shows {N = N} other (Rough far hit.left hit.right) = subst (LeadsTo m other) is p.leads in
+            let shows : Shows {N = N} other (Rough far hit.left hit.right) = subst (LeadsToRow m other) is p.leads in
             let one : IsSameGap other.gap hit.gap =
             same_trans other.gap listed.row.gap hit.gap (laws.once other listed.row answer.0 listed.among (sym shows.0 ∙ sym listed.same.1) (sym shows.1 ∙ sym listed.same.2)) listed.same.0 in
             let level : IsAtMost gap far = equal_at_most gap far (alike_gap cmp front (Rough far hit.left hit.right) (subst (λ x. item_cmp cmp front x ≡ Equal) is same)) in
             let near : IsAtMost gap hit.gap = at_most_trans gap other.gap hit.gap (at_most_trans gap far other.gap level shows.2) (equal_at_most other.gap hit.gap one) in
             let inside : within m.ceiling hit.gap ≡ true = reach_same (within m.ceiling) (within_reach m.ceiling) other.gap hit.gap one true answer.1 in
             record {
-              item = row_of hit;
-              queued = Contains-permutation (added ++ rest) new (row_of hit) put (Contains-append_left added rest (row_of hit) (adds.whole (ap wants shows.0 ∙ e) near inside));
+              item = row_item hit;
+              queued = Contains-permutation (added ++ rest) new (row_item hit) put (Contains-append_left added rest (row_item hit) (adds.whole (ap wants shows.0 ∙ e) near inside));
               leads = (same_back other.gap hit.gap one, shows.0, shows.1);
             })
             (λ t. record { item = p.item; queued = Contains-permutation (added ++ rest) new p.item put (Contains-append_right added rest p.item t); leads = p.leads })
             (Contains-append_cases gone rest p.item (Contains-permutation held (gone ++ rest) p.item taken p.queued));
         tracks = replaced o m held gone rest added new done front refl at alike taken put
             (All-append (IsAfter cmp front) added rest
-            (All-by (IsAfter cmp front) added (λ item i. subst (IsAfter cmp front) (sym (says item i).0) (tie_after cmp front (row_of hit) (says item i).1 refl))) after)
+            (All-by (IsAfter cmp front) added (λ item i. subst (IsAfter cmp front) (sym (says item i).0) (tie_after cmp front (row_item hit) (says item i).1 refl))) after)
             (All-by (IsRowWithin m.ceiling) added (λ item i. subst (IsRowWithin m.ceiling) (sym (says item i).0) (record { no_node = refl; no_rough = refl; inside = (says item i).2 })))
             h.tracks;
       }
@@ -159,7 +161,7 @@ module _ {N : Type 0} {cmp : N → N → Ordering} (o : IsTotalOrder cmp) (m : M
       let was : (item : Item N) → Contains rest item → Contains held item = λ item at.
       Contains-permutation (gone ++ rest) held item (IsPermutation-sym held (gone ++ rest) taken) (Contains-append_right gone rest item at) in
       let no_node : nodes_of (gone ++ rest) ≡ nodes_of rest = nodes-append gone rest ∙ ap (λ l. l ++ nodes_of rest)
-      (nodes_none gone (All-by (λ item. node_of item ≡ []) gone (λ item at. let (g, l, r, (e, f)) = rows item at in ap node_of e))) in
+      (nodes_none gone (All-by (λ item. node_if_any item ≡ []) gone (λ item at. let (g, l, r, (e, f)) = rows item at in ap node_if_any e))) in
       record {
         sound = All-by (IsHonest m) rest (λ item at. All-contains (IsHonest m) held item h.sound (was item at));
         whole = λ hit answer e.
@@ -167,12 +169,12 @@ module _ {N : Type 0} {cmp : N → N → Ordering} (o : IsTotalOrder cmp) (m : M
             ⊎_elim
             (λ g.
             let (far, l, r, (is, out)) = rows p.item g in
-            let shows : Shows {N = N} hit (Row far l r) = subst (LeadsTo m hit) is p.leads in
+            let shows : Shows {N = N} hit (Row far l r) = subst (LeadsToRow m hit) is p.leads in
             absurd (true≢false (sym e ∙ ap less (sym shows.1) ∙ out)))
             (λ t. record { item = p.item; queued = t; leads = p.leads })
             (Contains-append_cases gone rest p.item (Contains-permutation held (gone ++ rest) p.item taken p.queued));
         tracks = tracks_less o m held rest done
-            (IsPermutation-trans (nodes_of held) (nodes_of (gone ++ rest)) (nodes_of rest) (IsPermutation-flat_map node_of held (gone ++ rest) taken)
+            (IsPermutation-trans (nodes_of held) (nodes_of (gone ++ rest)) (nodes_of rest) (IsPermutation-flat_map node_if_any held (gone ++ rest) taken)
             (IsPermutation-same (nodes_of (gone ++ rest)) (nodes_of rest) no_node))
             was
             (λ r at.
@@ -187,11 +189,11 @@ module _ {N : Type 0} {cmp : N → N → Ordering} (o : IsTotalOrder cmp) (m : M
   -- ---- the answer
 
   -- the wanted row at the front is the first one of the answer
-  pub is_first_wanted : (held done : List (Item N)) (hit : Hit) → Contains held (row_of hit) → All (λ item. is_gt (item_cmp cmp (row_of hit) item) ≡ false) held
+  pub is_first_wanted : (held done : List (Item N)) (hit : Hit) → Contains held (row_item hit) → All (λ item. is_gt (item_cmp cmp (row_item hit) item) ≡ false) held
       → wants hit.left ≡ true → StandsFor cmp m wants held done → IsFirstWanted m wants hit
   is_first_wanted held done hit at least wanted h =
-      let has : HasRow m hit = All-contains (IsHonest m) held (row_of hit) h.sound at in
-      let inside = All-contains (λ item. within m.ceiling (gap_of item) ≡ true) held (row_of hit) (All-right (λ item. within m.ceiling (gap_of item) ≡ true) done held h.tracks.inside) at in
+      let has : HasRow m hit = All-contains (IsHonest m) held (row_item hit) h.sound at in
+      let inside = All-contains (λ item. within m.ceiling (gap_of item) ≡ true) held (row_item hit) (All-right (λ item. within m.ceiling (gap_of item) ≡ true) done held h.tracks.inside) at in
       let back : hit_cmp has.row hit ≡ Equal = rows_tied has.row hit has.same in
       let gaps = All-right (HasGap m) done held h.tracks.gaps in
       record {
@@ -202,9 +204,9 @@ module _ {N : Type 0} {cmp : N → N → Ordering} (o : IsTotalOrder cmp) (m : M
         first = λ other answer e.
             let p = h.whole other answer e in
             let first : is_gt (hit_cmp hit other) ≡ false =
-            upto (item_total o) (row_of hit) p.item (row_of other) (All-contains (λ item. is_gt (item_cmp cmp (row_of hit) item) ≡ false) held p.item least p.queued)
+            upto (item_total o) (row_item hit) p.item (row_item other) (All-contains (λ item. is_gt (item_cmp cmp (row_item hit) item) ≡ false) held p.item least p.queued)
             (leads_first o m laws other p.item (All-contains (HasGap m) held p.item gaps p.queued) p.leads) in
-            ap is_gt ((item_total o).congr (row_of has.row) (row_of hit) (row_of other) back) ∙ first;
+            ap is_gt ((item_total o).congr (row_item has.row) (row_item hit) (row_item other) back) ∙ first;
       }
 
   -- where nothing is queued, no wanted row is left

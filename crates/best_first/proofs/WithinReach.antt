@@ -8,9 +8,9 @@ use Rattle.exact_frac.specs.declared.frac.Frac.{Frac}
 use Rattle.best_first.specs.declared.hit.Hit.{Hit}
 use Rattle.best_first.specs.declared.item.Item.{Item}
 use Rattle.best_first.specs.declared.item.Item.TheVariants.{Node, Rough}
-use Rattle.best_first.specs.Item.{gap_of, row_of, nodes_of, roughs_of}
+use Rattle.best_first.specs.Item.{gap_of, row_item, nodes_of, roughs_of}
 use Rattle.best_first.specs.Reach.{IsAtMost, IsBelow, IsReach, within, up_to}
-use Rattle.best_first.specs.Hierarchy.{Meaning, MeetsLaws, HasGap, near, kept, nodes_within, roughs_within}
+use Rattle.best_first.specs.Hierarchy.{Meaning, MeetsLaws, HasGap, near, kept, nodes_within, listed_roughs_within}
 use Rattle.best_first.specs.Order.{item_cmp}
 use Rattle.best_first.specs.Frontier.{Tracks, HasAlike, IsListed, pending}
 use Rattle.best_first.specs.Visits.{Reached}
@@ -54,8 +54,8 @@ module _ {N : Type 0} {cmp : N → N → Ordering} (o : IsTotalOrder cmp) (m : M
       ∙ append-nil (nodes_of done))
       (IsPermutation-filter p (nodes_within m (within m.ceiling)) (nodes_of done ++ pending m held) h.split))
 
-  roughs : All (HasAlike cmp (roughs_within m reach)) (roughs_of done)
-  roughs = All-by (HasAlike cmp (roughs_within m reach)) (roughs_of done) (λ r i.
+  roughs : All (HasAlike cmp (listed_roughs_within m reach)) (roughs_of done)
+  roughs = All-by (HasAlike cmp (listed_roughs_within m reach)) (roughs_of done) (λ r i.
       let (at, (gap, l, s, e)) = rough_item done r i in
       let from = All-contains (IsListed m done) (roughs_of done ++ roughs_of held) r h.listed (Contains-append_left (roughs_of done) (roughs_of held) r i) in
       let node = split_node m laws (nodes_of done) (pending m held) h.split from.leaf (Contains-append_left (nodes_of done) (pending m held) from.leaf from.opened) in
@@ -70,8 +70,8 @@ module _ {N : Type 0} {cmp : N → N → Ordering} (o : IsTotalOrder cmp) (m : M
         alike = same;
       })
 
-  all_roughs : All (HasAlike cmp (roughs_of done)) (roughs_within m reach)
-  all_roughs = All-by (HasAlike cmp (roughs_of done)) (roughs_within m reach) (λ r i.
+  all_roughs : All (HasAlike cmp (roughs_of done)) (listed_roughs_within m reach)
+  all_roughs = All-by (HasAlike cmp (roughs_of done)) (listed_roughs_within m reach) (λ r i.
       let (listed, inside) = from_filter (λ item. reach (gap_of item)) (flat_map (λ n. roughs_of (m.finds n)) (m.under m.root)) r i in
       let (leaf, node, among) = from_flat_map (λ n. roughs_of (m.finds n)) (m.under m.root) r listed in
       let bound = All-contains (λ item. IsAtMost (m.gap leaf) (gap_of item)) (m.finds leaf) r (laws.bound leaf) (rough_item (m.finds leaf) r among).0 in
@@ -95,23 +95,23 @@ module _ {N : Type 0} {cmp : N → N → Ordering} (o : IsTotalOrder cmp) (m : M
 
 -- at a row that no queued item comes before, what was taken is what lies within its gap
 pub reached_row : {N : Type 0} {cmp : N → N → Ordering} (o : IsTotalOrder cmp) (m : Meaning N) (laws : MeetsLaws m) (held done : List (Item N)) (hit : Hit)
-    → Contains held (row_of hit) → All (λ item. is_gt (item_cmp cmp (row_of hit) item) ≡ false) held → Tracks cmp m held done → Reached cmp m (up_to hit.gap) done
+    → Contains held (row_item hit) → All (λ item. is_gt (item_cmp cmp (row_item hit) item) ≡ false) held → Tracks cmp m held done → Reached cmp m (up_to hit.gap) done
 reached_row {N} {cmp} o m laws held done hit at least h =
     let out = λ (item : Item N) (i : Contains held item) (below : IsBelow hit.gap (gap_of item)). (let go : (b : Bool) → up_to hit.gap (gap_of item) ≡ b
     → b ≡ false = elim [ true ↦ λ e. absurd (not_below hit.gap (gap_of item) below (up_to_is hit.gap (gap_of item) e)) | false ↦ λ e. refl ] in
     let says : up_to hit.gap (gap_of item) ≡ false = go (up_to hit.gap (gap_of item)) refl in says) in
     reached o m laws (up_to hit.gap) (up_to_reach hit.gap)
     (λ gap e. within_reach m.ceiling gap hit.gap (up_to_is hit.gap gap e)
-    (All-contains (λ item. within m.ceiling (gap_of item) ≡ true) held (row_of hit) (All-right (λ item. within m.ceiling (gap_of item) ≡ true) done held h.inside) at))
+    (All-contains (λ item. within m.ceiling (gap_of item) ≡ true) held (row_item hit) (All-right (λ item. within m.ceiling (gap_of item) ≡ true) done held h.inside) at))
     held done h
     (All-by (λ item. up_to hit.gap (gap_of item) ≡ true) done
-    (λ k i. is_up_to hit.gap (gap_of k) (All-contains (λ item. IsAtMost (gap_of k) (gap_of item)) held (row_of hit)
+    (λ k i. is_up_to hit.gap (gap_of k) (All-contains (λ item. IsAtMost (gap_of k) (gap_of item)) held (row_item hit)
     (All-contains (λ k. All (λ item. IsAtMost (gap_of k) (gap_of item)) held) done k h.nearer i) at)))
     (record {
       nodes = λ gap node i. out (Node gap node) i
-          (upto_strict cmp (row_of hit) (Node gap node) refl (All-contains (λ item. is_gt (item_cmp cmp (row_of hit) item) ≡ false) held (Node gap node) least i));
+          (upto_strict cmp (row_item hit) (Node gap node) refl (All-contains (λ item. is_gt (item_cmp cmp (row_item hit) item) ≡ false) held (Node gap node) least i));
       roughs = λ gap l r i. out (Rough gap l r) i
-          (upto_strict cmp (row_of hit) (Rough gap l r) refl (All-contains (λ item. is_gt (item_cmp cmp (row_of hit) item) ≡ false) held (Rough gap l r) least i));
+          (upto_strict cmp (row_item hit) (Rough gap l r) refl (All-contains (λ item. is_gt (item_cmp cmp (row_item hit) item) ≡ false) held (Rough gap l r) least i));
     })
 
 -- where nothing is queued, what was taken is what lies within the ceiling

@@ -5,23 +5,23 @@ use Rattle.std.specs.declared.cmp.Ordering.TheVariants.{Less, Equal}
 use Rattle.best_first.specs.declared.hit.Hit.{Hit}
 use Rattle.best_first.specs.declared.item.Item.{Item}
 use Rattle.best_first.specs.declared.item.Item.TheVariants.{Node, Rough, Row}
-use Rattle.best_first.specs.Item.{gap_of, row_of, nodes_of, roughs_of, IsAlike}
+use Rattle.best_first.specs.Item.{gap_of, row_item, nodes_of, roughs_of, IsAlike}
 use Rattle.best_first.specs.Order.{item_cmp}
 use Rattle.best_first.specs.Reach.{IsAtMost, within}
 use Rattle.best_first.specs.Hierarchy.{Meaning, MeetsLaws, IsListedUnder, Shows, HasGap, IsHonest, near, kept, nodes_within}
 use Rattle.best_first.specs.Answer.{IsAnswer, IsLater}
 
 -- the item leads to the row: it shows it, or a leaf at or below the node does
-abbrev pub LeadsTo : {N : Type 0} → Meaning N → Hit → Item N → Type 0
-LeadsTo m hit (Node gap node) = IsListedUnder m node hit
-LeadsTo m hit (Rough gap left right) = Shows {N = ℕ} hit (Rough gap left right)
-LeadsTo m hit (Row gap left right) = Shows {N = ℕ} hit (Row gap left right)
+abbrev pub LeadsToRow : {N : Type 0} → Meaning N → Hit → Item N → Type 0
+LeadsToRow m hit (Node gap node) = IsListedUnder m node hit
+LeadsToRow m hit (Rough gap left right) = Shows {N = ℕ} hit (Rough gap left right)
+LeadsToRow m hit (Row gap left right) = Shows {N = ℕ} hit (Row gap left right)
 
 -- some queued item leads to the row
 pub record IsPending {N : Type 0} (m : Meaning N) (held : List (Item N)) (hit : Hit) : Type 0 where
   pub item : Item N
   pub queued : Contains held item
-  pub leads : LeadsTo m hit item
+  pub leads : LeadsToRow m hit item
 
 -- the item comes strictly after this one in the frontier's order
 abbrev pub IsAfter : {N : Type 0} → (N → N → Ordering) → Item N → Item N → Type 0
@@ -30,7 +30,7 @@ IsAfter cmp before item = item_cmp cmp before item ≡ Less
 -- the item comes strictly after the last row given, if any was
 abbrev pub IsPast : {N : Type 0} → (N → N → Ordering) → Option Hit → Item N → Type 0
 IsPast cmp None item = ⊤
-IsPast cmp (Some last) item = IsAfter cmp (row_of last) item
+IsPast cmp (Some last) item = IsAfter cmp (row_item last) item
 
 -- The rows to come are all pending: a queued row is one of the rows, no queued item is before the last row given, and each row of the answer after it is led to.
 pub record Covers {N : Type 0} (cmp : N → N → Ordering) (m : Meaning N) (held : List (Item N)) (last : Option Hit) : Type 0 where

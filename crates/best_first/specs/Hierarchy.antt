@@ -101,5 +101,5 @@ abbrev pub nodes_within : {N : Type 0} → Meaning N → (Frac → Bool) → Lis
 nodes_within m reach = near m reach (m.under m.root)
 
 -- the rough objects that the leaves list within the reach, once for each leaf
-abbrev pub roughs_within : {N : Type 0} → Meaning N → (Frac → Bool) → List (Item N)
-roughs_within m reach = kept reach (flat_map (λ node. roughs_of (m.finds node)) (m.under m.root))
+abbrev pub listed_roughs_within : {N : Type 0} → Meaning N → (Frac → Bool) → List (Item N)
+listed_roughs_within m reach = kept reach (flat_map (λ node. roughs_of (m.finds node)) (m.under m.root))

@@ -5,10 +5,10 @@ use Rattle.std.specs.declared.cmp.Ordering.TheVariants.{Less, Equal}
 use Rattle.exact_frac.specs.declared.frac.Frac.{Frac}
 use Rattle.sand_base.specs.declared.visit.Visit.{Visit}
 use Rattle.page_pool.specs.declared.fault.PageFault.{PageFault}
-use Rattle.rank_queue.specs.Least.{IsFirst, IsLeast}
+use Rattle.rank_queue.specs.Least.{IsFirst, IsLeastItem}
 use Rattle.best_first.specs.declared.hit.Hit.{Hit}
 use Rattle.best_first.specs.declared.item.Item.{Item}
-use Rattle.best_first.specs.Item.{row_of}
+use Rattle.best_first.specs.Item.{row_item}
 use Rattle.best_first.specs.Reach.{IsAtMost, within}
 use Rattle.best_first.specs.Hierarchy.{Meaning}
 use Rattle.best_first.specs.Visits.{SearchState, Goes, Fails}
@@ -23,21 +23,21 @@ pub record TakesEqual {T : Type 0} (cmp : T → T → Ordering) (front : T) (old
   pub after : All (λ item. cmp front item ≡ Less) new
 
 -- What a fetch adds: the row, where its gap is at least the rough one and within the ceiling, and nothing else.
-pub record Adds {N : Type 0} (ceiling : Option ℕ) (rough : Frac) (hit : Hit) (added : List (Item N)) : Type 0 where
-  pub only : All (λ item. (item ≡ row_of hit) × IsAtMost rough hit.gap × (within ceiling hit.gap ≡ true)) added
-  pub whole : IsAtMost rough hit.gap → within ceiling hit.gap ≡ true → Contains added (row_of hit)
+pub record AddsFetched {N : Type 0} (ceiling : Option ℕ) (rough : Frac) (hit : Hit) (added : List (Item N)) : Type 0 where
+  pub only : All (λ item. (item ≡ row_item hit) × IsAtMost rough hit.gap × (within ceiling hit.gap ≡ true)) added
+  pub whole : IsAtMost rough hit.gap → within ceiling hit.gap ≡ true → Contains added (row_item hit)
 
 -- The row was queued, where it belongs.
 pub record AddsRow {N : Type 0} (ceiling : Option ℕ) (rough : Frac) (hit : Hit) (old new : List (Item N)) : Type 0 where
   pub added : List (Item N)
-  pub adds : Adds ceiling rough hit added
+  pub adds : AddsFetched ceiling rough hit added
   pub put : IsPermutation (added ++ old) new
   pub few : length added ≤ 1
 
 -- The row that no queued item comes before is given, and all that is one with it leaves.
 pub record GivesRow {N : Type 0} (cmp : Item N → Item N → Ordering) (hit : Hit) (old new : List (Item N)) : Type 0 where
-  pub front : IsFirst cmp (row_of hit) old
-  pub taken : TakesEqual cmp (row_of hit) old new
+  pub front : IsFirst cmp (row_item hit) old
+  pub taken : TakesEqual cmp (row_item hit) old new
 
 -- a step went on, found the front settled, or was refused
 abbrev pub StepMoves : {N : Type 0} → (N → N → Ordering) → Meaning N → (Item N → Visit) → SearchState N → SearchState N → Result Bool PageFault → Type 0
@@ -56,7 +56,7 @@ pub record TakesSome {T : Type 0} (cmp : T → T → Ordering) (front : T) (old 
   pub more : List T
   pub split : IsPermutation old ((first ∷ more) ++ held)
   pub equal : All (λ item. cmp front item ≡ Equal) (first ∷ more)
-  pub least : IsLeast cmp front held
+  pub least : IsLeastItem cmp front held
 
 -- a step that found nothing to do leaves all as it is, since the front is settled; where the front was settled, a step finds nothing to do
 abbrev pub StepSettles : {N : Type 0} → (Item N → Item N → Ordering) → SearchState N → SearchState N → Result Bool PageFault → Type 0

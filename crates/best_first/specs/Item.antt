@@ -13,14 +13,14 @@ gap_of (Rough gap left right) = gap
 gap_of (Row gap left right) = gap
 
 -- a row of the answer, as the frontier holds it
-abbrev pub row_of : {N : Type 0} → Hit → Item N
-row_of hit = Row hit.gap hit.left hit.right
+abbrev pub row_item : {N : Type 0} → Hit → Item N
+row_item hit = Row hit.gap hit.left hit.right
 
 -- the item's node, if it is one
-abbrev pub node_of : {N : Type 0} → Item N → List N
-node_of (Node gap node) = node ∷ []
-node_of (Rough gap left right) = []
-node_of (Row gap left right) = []
+abbrev pub node_if_any : {N : Type 0} → Item N → List N
+node_if_any (Node gap node) = node ∷ []
+node_if_any (Rough gap left right) = []
+node_if_any (Row gap left right) = []
 
 -- the item itself, if it is a rough object
 abbrev pub rough_of : {N : Type 0} → Item N → List (Item N)
@@ -30,7 +30,7 @@ rough_of (Row gap left right) = []
 
 -- the nodes among the items
 abbrev pub nodes_of : {N : Type 0} → List (Item N) → List N
-nodes_of items = flat_map node_of items
+nodes_of items = flat_map node_if_any items
 
 -- the rough objects among the items
 abbrev pub roughs_of : {N : Type 0} → List (Item N) → List (Item N)

@@ -6,7 +6,7 @@ use Rattle.page_pool.specs.declared.fault.PageFault.{PageFault}
 use Rattle.best_first.specs.declared.hit.Hit.{Hit}
 use Rattle.best_first.specs.declared.item.Item.{Item}
 use Rattle.best_first.specs.declared.item.Item.TheVariants.{Node, Rough, Row}
-use Rattle.best_first.specs.Item.{row_of, nodes_of}
+use Rattle.best_first.specs.Item.{row_item, nodes_of}
 use Rattle.best_first.specs.Hierarchy.{FindsAlike}
 
 -- how many steps an item may still cause: a node's weight counts more than the items that one expansion can find, which are fewer than 2^64 and cause at most two steps each
@@ -27,7 +27,7 @@ Falls old new (Err fault) = new ≤ old
 
 -- Nothing has to be read for the next answer: nothing is queued, or a row is queued that no item comes before.
 abbrev pub IsSettled : {N : Type 0} → (Item N → Item N → Ordering) → List (Item N) → Type 0
-IsSettled cmp held = (held ≡ []) ⊎ ((hit : Hit) × IsFirst cmp (row_of hit) held)
+IsSettled cmp held = (held ≡ []) ⊎ ((hit : Hit) × IsFirst cmp (row_item hit) held)
 
 -- An accepted expansion adds what its node finds at the end of the list, where the pages tell it, and a refused one adds nothing.
 abbrev pub Finds : {N T : Type 0} → List (Item N) → List (Item N) → List (Item N) → Result T PageFault → Type 0

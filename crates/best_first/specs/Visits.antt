@@ -14,7 +14,7 @@ use Rattle.best_first.specs.declared.item.Item.{Item}
 use Rattle.best_first.specs.declared.item.Item.TheVariants.{Node, Rough, Row}
 use Rattle.best_first.specs.Item.{gap_of, nodes_of, roughs_of}
 use Rattle.best_first.specs.Reach.{IsAtMost, within, up_to}
-use Rattle.best_first.specs.Hierarchy.{Meaning, nodes_within, roughs_within}
+use Rattle.best_first.specs.Hierarchy.{Meaning, nodes_within, listed_roughs_within}
 use Rattle.best_first.specs.Answer.{IsNext, IsExhausted}
 use Rattle.best_first.specs.Frontier.{HasAlike, IsOnce, Stands}
 
@@ -60,8 +60,8 @@ VisitsOne note price item old new result = MatchResult result (λ _. Noted note 
 -- What was taken is exactly what lies within the reach: each node of the tree within it was opened once, and of the rough objects that its leaves list within it each was fetched once.
 pub record Reached {N : Type 0} (cmp : N → N → Ordering) (m : Meaning N) (reach : Frac → Bool) (done : List (Item N)) : Type 0 where
   pub nodes : IsPermutation (nodes_within m reach) (nodes_of done)
-  pub roughs : All (HasAlike cmp (roughs_within m reach)) (roughs_of done)
-  pub all_roughs : All (HasAlike cmp (roughs_of done)) (roughs_within m reach)
+  pub roughs : All (HasAlike cmp (listed_roughs_within m reach)) (roughs_of done)
+  pub all_roughs : All (HasAlike cmp (roughs_of done)) (listed_roughs_within m reach)
   pub once : IsOnce cmp (roughs_of done)
 
 -- the counts are those of the nodes and of the rough objects that were taken, and stay at the counter's greatest value

@@ -9,7 +9,7 @@ use Rattle.rank_queue.specs.Least.{IsFirst}
 use Rattle.best_first.specs.declared.hit.Hit.{Hit}
 use Rattle.best_first.specs.declared.item.Item.{Item}
 use Rattle.best_first.specs.declared.item.Item.TheVariants.{Node, Rough, Row}
-use Rattle.best_first.specs.Item.{gap_of, row_of, nodes_of, IsSameRow}
+use Rattle.best_first.specs.Item.{gap_of, row_item, nodes_of, IsSameRow}
 use Rattle.best_first.specs.Reach.{IsAtMost, within}
 use Rattle.best_first.specs.Hierarchy.{Meaning, MeetsLaws, IsHonest}
 use Rattle.best_first.specs.Answer.{hit_cmp, IsAnswer}
@@ -41,7 +41,7 @@ StandsOverFor {N} cmp m wants held = MeetsLaws m × ((done : List (Item N)) × S
 
 -- Nothing has to be read for the next wanted row: nothing is queued, or a wanted row is queued that no item comes before.
 abbrev pub IsSettledFor : {N : Type 0} → (Item N → Item N → Ordering) → (ℕ → Bool) → List (Item N) → Type 0
-IsSettledFor cmp wants held = (held ≡ []) ⊎ ((hit : Hit) × (IsFirst cmp (row_of hit) held × (wants hit.left ≡ true)))
+IsSettledFor cmp wants held = (held ≡ []) ⊎ ((hit : Hit) × (IsFirst cmp (row_item hit) held × (wants hit.left ≡ true)))
 
 -- ---- the answer
 
@@ -117,8 +117,8 @@ MakesWantedVisits {N} cmp m note wants old new result = (done : List (Item N)) �
 -- What a fetch adds for the wanted left ids: the row, where its left id is wanted, its gap is at least the rough one and within the ceiling, and nothing else.
 pub record AddsFor {N : Type 0} (wants : ℕ → Bool) (ceiling : Option ℕ) (rough : Frac) (hit : Hit) (old new : List (Item N)) : Type 0 where
   pub added : List (Item N)
-  pub only : All (λ item. (item ≡ row_of hit) × IsAtMost rough hit.gap × (within ceiling hit.gap ≡ true)) added
-  pub whole : wants hit.left ≡ true → IsAtMost rough hit.gap → within ceiling hit.gap ≡ true → Contains added (row_of hit)
+  pub only : All (λ item. (item ≡ row_item hit) × IsAtMost rough hit.gap × (within ceiling hit.gap ≡ true)) added
+  pub whole : wants hit.left ≡ true → IsAtMost rough hit.gap → within ceiling hit.gap ≡ true → Contains added (row_item hit)
   pub put : IsPermutation (added ++ old) new
   pub few : length added ≤ 1
 

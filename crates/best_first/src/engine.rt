@@ -73,7 +73,9 @@ impl<H: Hierarchy, Q: Queue<Item<H::Node>>> BestFirst<H, Q> {
         ensures row { IfSome (told_pages desk.old) (λ p. GivesNext (H.meaning self.old.hierarchy p) self.old.frontier.last result) }
         ensures last { self.new.frontier.last ≡ last_after self.old.frontier.last result }
         ensures stands { IfSome (told_pages desk.old) (λ p. StandsOver H.Node.cmp (H.meaning self.old.hierarchy p) (Q.held self.new.frontier.queue) self.new.frontier.last) }
-        ensures visits { IfSome (told_pages desk.old) (λ p. MakesVisits H.Node.cmp (H.meaning self.old.hierarchy p) (H.note self.old.hierarchy) (state (Q.held self.old.frontier.queue) self.old.frontier.last self.old.frontier.counts desk.old) (state (Q.held self.new.frontier.queue) self.new.frontier.last self.new.frontier.counts desk.new) result) }
+        ensures visits { IfSome (told_pages desk.old) (λ p. MakesVisits H.Node.cmp (H.meaning self.old.hierarchy p) (H.note self.old.hierarchy)
+            (state (Q.held self.old.frontier.queue) self.old.frontier.last self.old.frontier.counts desk.old)
+            (state (Q.held self.new.frontier.queue) self.new.frontier.last self.new.frontier.counts desk.new) result) }
         ensures falls { Falls (steps (H.weight self.old.hierarchy) (Q.held self.old.frontier.queue)) (steps (H.weight self.old.hierarchy) (Q.held self.new.frontier.queue)) result }
         ensures still { IsSettled (item_cmp H.Node.cmp) (Q.held self.old.frontier.queue) → (desk.new ≡ desk.old) × IsOk result }
     {
@@ -105,7 +107,9 @@ impl<H: Hierarchy, Q: Queue<Item<H::Node>>> BestFirst<H, Q> {
         ensures row { IfSome (told_pages desk.old) (λ p. GivesWanted (H.meaning self.old.hierarchy p) (W.lefts wanted.now) result) }
         ensures wanted { IsWantedRow (W.lefts wanted.now) result }
         ensures stands { IfSome (told_pages desk.old) (λ p. StandsOverFor H.Node.cmp (H.meaning self.old.hierarchy p) (wants_after (W.lefts wanted.now) result) (Q.held self.new.frontier.queue)) }
-        ensures visits { IfSome (told_pages desk.old) (λ p. MakesWantedVisits H.Node.cmp (H.meaning self.old.hierarchy p) (H.note self.old.hierarchy) (W.lefts wanted.now) (state (Q.held self.old.frontier.queue) self.old.frontier.last self.old.frontier.counts desk.old) (state (Q.held self.new.frontier.queue) self.new.frontier.last self.new.frontier.counts desk.new) result) }
+        ensures visits { IfSome (told_pages desk.old) (λ p. MakesWantedVisits H.Node.cmp (H.meaning self.old.hierarchy p) (H.note self.old.hierarchy) (W.lefts wanted.now)
+            (state (Q.held self.old.frontier.queue) self.old.frontier.last self.old.frontier.counts desk.old)
+            (state (Q.held self.new.frontier.queue) self.new.frontier.last self.new.frontier.counts desk.new) result) }
         ensures falls { Falls (steps (H.weight self.old.hierarchy) (Q.held self.old.frontier.queue)) (steps (H.weight self.old.hierarchy) (Q.held self.new.frontier.queue)) result }
     {
         match settle_wanted(

@@ -13,7 +13,8 @@ pub fn give_row<N: Ord + Copy, Q: Queue<Item<N>>>(frontier: &mut Frontier<Q>) ->
     requires { IsSettled (item_cmp N.cmp) (Q.held frontier.old.queue) }
     ensures counts { frontier.new.counts ≡ frontier.old.counts }
     ensures last { MatchOption result (frontier.new.last ≡ frontier.old.last) (λ hit. frontier.new.last ≡ Some hit) }
-    ensures queue { MatchOption result ((Q.held frontier.old.queue ≡ []) × (Q.held frontier.new.queue ≡ [])) (λ hit. GivesRow (item_cmp N.cmp) hit (Q.held frontier.old.queue) (Q.held frontier.new.queue)) }
+    ensures queue { MatchOption result ((Q.held frontier.old.queue ≡ []) × (Q.held frontier.new.queue ≡ []))
+        (λ hit. GivesRow (item_cmp N.cmp) hit (Q.held frontier.old.queue) (Q.held frontier.new.queue)) }
 {
     let Hit { gap, left, right } = match frontier.queue.peek() {
         Some(Item::Row { gap, left, right }) => Hit {

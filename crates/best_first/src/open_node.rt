@@ -33,8 +33,13 @@ pub fn open_node<H: Hierarchy, Q: Queue<Item<H::Node>>, D: Disk>(
     ensures read { IsRead desk.old.pool desk.new.pool }
     ensures cause { HasPageCause desk.old.pool desk.new.pool result }
     ensures last { frontier.new.last ≡ frontier.old.last }
-    ensures falls { MatchResult result (λ _. steps (H.weight hierarchy.now) (Q.held frontier.new.queue) < steps (H.weight hierarchy.now) (Q.held frontier.old.queue)) (λ _. Q.held frontier.new.queue ≡ Q.held frontier.old.queue) }
-    ensures moves { MatchResult result (λ _. IfSome (told_pages desk.old) (λ p. Goes H.Node.cmp (H.meaning hierarchy.now p) (H.note hierarchy.now) (state (Q.held frontier.old.queue) frontier.old.last frontier.old.counts desk.old) (state (Q.held frontier.new.queue) frontier.new.last frontier.new.counts desk.new))) (λ _. IfSome (told_pages desk.old) (λ p. Fails H.Node.cmp (H.meaning hierarchy.now p) (H.note hierarchy.now) (state (Q.held frontier.old.queue) frontier.old.last frontier.old.counts desk.old) (state (Q.held frontier.new.queue) frontier.new.last frontier.new.counts desk.new))) }
+    ensures falls { MatchResult result (λ _. steps (H.weight hierarchy.now) (Q.held frontier.new.queue) < steps (H.weight hierarchy.now) (Q.held frontier.old.queue))
+        (λ _. Q.held frontier.new.queue ≡ Q.held frontier.old.queue) }
+    ensures moves { MatchResult result (λ _. IfSome (told_pages desk.old)
+        (λ p. Goes H.Node.cmp (H.meaning hierarchy.now p) (H.note hierarchy.now) (state (Q.held frontier.old.queue) frontier.old.last frontier.old.counts desk.old)
+        (state (Q.held frontier.new.queue) frontier.new.last frontier.new.counts desk.new))) (λ _. IfSome (told_pages desk.old) (λ p.
+        Fails H.Node.cmp (H.meaning hierarchy.now p) (H.note hierarchy.now) (state (Q.held frontier.old.queue) frontier.old.last frontier.old.counts desk.old)
+        (state (Q.held frontier.new.queue) frontier.new.last frontier.new.counts desk.new))) }
     ensures near { IfSome (told_pages desk.old) (λ p. H.IsNear hierarchy.now p near.new) }
 {
     found.clear();

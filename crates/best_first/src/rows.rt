@@ -42,7 +42,14 @@ impl<'c, 'd, H: Hierarchy, Q: Queue<Item<H::Node>>, D: Disk> Iterator for Rows<'
 
     ghost can_next = { λ r. IfSome (told_pages r.desk.now) (λ p. StandsOver H.Node.cmp (H.meaning r.cursor.now.hierarchy p) (Q.held r.cursor.now.frontier.queue) r.cursor.now.frontier.last) };
 
-    ghost next_gives = { λ r row s. StepsOutcome r.outcome row s.outcome × (r.outcome ≡ Ok false → StepsDesk r.desk.now s.desk.now s.outcome) × (r.outcome ≡ Ok false → IfSome (told_pages r.desk.now) (λ p. GivesRowsNext (H.meaning r.cursor.now.hierarchy p) r.cursor.now.frontier.last row s.outcome)) × (r.outcome ≡ Ok false → (s.cursor.now.hierarchy ≡ r.cursor.now.hierarchy) × (s.cursor.now.frontier.last ≡ last_after r.cursor.now.frontier.last (search_answer row s.outcome))) × (r.outcome ≡ Ok false → IfSome (told_pages r.desk.now) (λ p. StepsSearch H.Node.cmp (H.meaning r.cursor.now.hierarchy p) (H.note r.cursor.now.hierarchy) (state (Q.held r.cursor.now.frontier.queue) r.cursor.now.frontier.last r.cursor.now.frontier.counts r.desk.now) (state (Q.held s.cursor.now.frontier.queue) s.cursor.now.frontier.last s.cursor.now.frontier.counts s.desk.now) (search_answer row s.outcome))) × (r.outcome ≢ Ok false → (s.cursor.now ≡ r.cursor.now) × (s.desk.now ≡ r.desk.now)) };
+    ghost next_gives = { λ r row s. StepsOutcome r.outcome row s.outcome × (r.outcome ≡ Ok false → StepsDesk r.desk.now s.desk.now s.outcome)
+        × (r.outcome ≡ Ok false → IfSome (told_pages r.desk.now) (λ p. GivesRowsNext (H.meaning r.cursor.now.hierarchy p) r.cursor.now.frontier.last row s.outcome))
+        × (r.outcome ≡ Ok false → (s.cursor.now.hierarchy ≡ r.cursor.now.hierarchy) × (s.cursor.now.frontier.last ≡ last_after r.cursor.now.frontier.last (search_answer row s.outcome)))
+        × (r.outcome ≡ Ok false → IfSome (told_pages r.desk.now)
+        (λ p. StepsSearch H.Node.cmp (H.meaning r.cursor.now.hierarchy p) (H.note r.cursor.now.hierarchy)
+        (state (Q.held r.cursor.now.frontier.queue) r.cursor.now.frontier.last r.cursor.now.frontier.counts r.desk.now)
+        (state (Q.held s.cursor.now.frontier.queue) s.cursor.now.frontier.last s.cursor.now.frontier.counts s.desk.now)
+        (search_answer row s.outcome))) × (r.outcome ≢ Ok false → (s.cursor.now ≡ r.cursor.now) × (s.desk.now ≡ r.desk.now)) };
 
     ghost remaining = { λ r. at_most (steps (H.weight r.cursor.now.hierarchy) (Q.held r.cursor.now.frontier.queue)) };
 

@@ -26,7 +26,11 @@ pub fn settle<H: Hierarchy, Q: Queue<Item<H::Node>>, D: Disk>(
     ensures cause { HasPageCause desk.old.pool desk.new.pool result }
     ensures last { frontier.new.last ≡ frontier.old.last }
     ensures falls { steps (H.weight hierarchy.now) (Q.held frontier.new.queue) ≤ steps (H.weight hierarchy.now) (Q.held frontier.old.queue) }
-    ensures moves { MatchResult result (λ _. IfSome (told_pages desk.old) (λ p. Goes H.Node.cmp (H.meaning hierarchy.now p) (H.note hierarchy.now) (state (Q.held frontier.old.queue) frontier.old.last frontier.old.counts desk.old) (state (Q.held frontier.new.queue) frontier.new.last frontier.new.counts desk.new))) (λ _. IfSome (told_pages desk.old) (λ p. Fails H.Node.cmp (H.meaning hierarchy.now p) (H.note hierarchy.now) (state (Q.held frontier.old.queue) frontier.old.last frontier.old.counts desk.old) (state (Q.held frontier.new.queue) frontier.new.last frontier.new.counts desk.new))) }
+    ensures moves { MatchResult result (λ _. IfSome (told_pages desk.old)
+        (λ p. Goes H.Node.cmp (H.meaning hierarchy.now p) (H.note hierarchy.now) (state (Q.held frontier.old.queue) frontier.old.last frontier.old.counts desk.old)
+        (state (Q.held frontier.new.queue) frontier.new.last frontier.new.counts desk.new))) (λ _. IfSome (told_pages desk.old) (λ p.
+        Fails H.Node.cmp (H.meaning hierarchy.now p) (H.note hierarchy.now) (state (Q.held frontier.old.queue) frontier.old.last frontier.old.counts desk.old)
+        (state (Q.held frontier.new.queue) frontier.new.last frontier.new.counts desk.new))) }
     ensures settled { OnOk result (IsSettled (item_cmp H.Node.cmp) (Q.held frontier.new.queue)) }
     ensures still { IsSettled (item_cmp H.Node.cmp) (Q.held frontier.old.queue) → (desk.new ≡ desk.old) × IsOk result }
 {

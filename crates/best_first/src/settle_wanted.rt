@@ -26,7 +26,12 @@ pub fn settle_wanted<H: Hierarchy, Q: Queue<Item<H::Node>>, W: Wanted, D: Disk>(
     ensures cause { HasPageCause desk.old.pool desk.new.pool result }
     ensures last { frontier.new.last ≡ frontier.old.last }
     ensures falls { steps (H.weight hierarchy.now) (Q.held frontier.new.queue) ≤ steps (H.weight hierarchy.now) (Q.held frontier.old.queue) }
-    ensures moves { MatchResult result (λ _. IfSome (told_pages desk.old) (λ p. GoesFor H.Node.cmp (H.meaning hierarchy.now p) (H.note hierarchy.now) (W.lefts wanted.now) (state (Q.held frontier.old.queue) frontier.old.last frontier.old.counts desk.old) (state (Q.held frontier.new.queue) frontier.new.last frontier.new.counts desk.new))) (λ _. IfSome (told_pages desk.old) (λ p. FailsFor H.Node.cmp (H.meaning hierarchy.now p) (H.note hierarchy.now) (W.lefts wanted.now) (state (Q.held frontier.old.queue) frontier.old.last frontier.old.counts desk.old) (state (Q.held frontier.new.queue) frontier.new.last frontier.new.counts desk.new))) }
+    ensures moves { MatchResult result (λ _. IfSome (told_pages desk.old)
+        (λ p. GoesFor H.Node.cmp (H.meaning hierarchy.now p) (H.note hierarchy.now) (W.lefts wanted.now)
+        (state (Q.held frontier.old.queue) frontier.old.last frontier.old.counts desk.old)
+        (state (Q.held frontier.new.queue) frontier.new.last frontier.new.counts desk.new))) (λ _. IfSome (told_pages desk.old) (λ p.
+        FailsFor H.Node.cmp (H.meaning hierarchy.now p) (H.note hierarchy.now) (W.lefts wanted.now)
+        (state (Q.held frontier.old.queue) frontier.old.last frontier.old.counts desk.old) (state (Q.held frontier.new.queue) frontier.new.last frontier.new.counts desk.new))) }
     ensures settled { OnOk result (IsSettledFor (item_cmp H.Node.cmp) (W.lefts wanted.now) (Q.held frontier.new.queue)) }
 {
     let mut near = hierarchy.nowhere();

@@ -31,7 +31,8 @@ pub fn step_wanted<H: Hierarchy, Q: Queue<Item<H::Node>>, W: Wanted, D: Disk>(
     ensures cause { HasPageCause desk.old.pool desk.new.pool result }
     ensures last { frontier.new.last ≡ frontier.old.last }
     ensures falls { StepFalls (steps (H.weight hierarchy.now) (Q.held frontier.old.queue)) (steps (H.weight hierarchy.now) (Q.held frontier.new.queue)) result }
-    ensures moves { IfSome (told_pages desk.old) (λ p. StepMovesFor H.Node.cmp (H.meaning hierarchy.now p) (H.note hierarchy.now) (W.lefts wanted.now) (state (Q.held frontier.old.queue) frontier.old.last frontier.old.counts desk.old) (state (Q.held frontier.new.queue) frontier.new.last frontier.new.counts desk.new) result) }
+    ensures moves { IfSome (told_pages desk.old) (λ p. StepMovesFor H.Node.cmp (H.meaning hierarchy.now p) (H.note hierarchy.now) (W.lefts wanted.now)
+        (state (Q.held frontier.old.queue) frontier.old.last frontier.old.counts desk.old) (state (Q.held frontier.new.queue) frontier.new.last frontier.new.counts desk.new) result) }
     ensures settles { StepSettlesFor (item_cmp H.Node.cmp) (W.lefts wanted.now) (Q.held frontier.new.queue) result }
     ensures near { IfSome (told_pages desk.old) (λ p. H.IsNear hierarchy.now p near.new) }
 {

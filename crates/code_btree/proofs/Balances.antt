@@ -2,7 +2,7 @@
 use Rattle.std.proofs.Common.{◌≡◌, ℕ, zero, suc, ◌+◌, ◌≤◌, List, [], ◌∷◌, ◌++◌, length, drop, map, sym, ◌∙◌, ap, ap₂, subst, inl, inr, arith, append-nil, length-append}
 use Rattle.std.specs.Prelude.{Option, None, Some}
 use Rattle.std.proofs.lemmas.List.{map-append, length-map}
-use Rattle.code_btree.specs.Node.{Pair, Node, leaf, inner, node_of, entries_of, next_of, keys_of, children_of, size_of}
+use Rattle.code_btree.specs.Node.{Pair, Node, leaf, inner, node_of, entries_of, next_of, keys_of, child_pages, size_of}
 use Rattle.code_btree.specs.Items.{Each}
 use Rattle.code_btree.specs.Tree.{Store, node_in, node, pages, all_items, first_key, least, same, times, live, Owns, Path, TopOk, few, Sound, Filled}
 use Rattle.code_btree.specs.Steps.{Change, Wrote, Freed, HalvesLeaf, HalvesInner}
@@ -117,14 +117,14 @@ leaves_merged m w a b nb s l =
 
 -- keys and children of two inner neighbours, with the key between them
 record Both (m : Store) (h a b key : ℕ) : Type 0 where
-  pub seps : keys_of (node m a) ++ (key ∷ keys_of (node m b)) ≡ drop 1 (map (λ c. least m h c) (children_of (node m a) ++ children_of (node m b)))
-  pub filled : Each (λ c. Filled m h c) (children_of (node m a) ++ children_of (node m b))
-  pub kids : all_kids m (a ∷ (b ∷ [])) ≡ children_of (node m a) ++ children_of (node m b)
+  pub seps : keys_of (node m a) ++ (key ∷ keys_of (node m b)) ≡ drop 1 (map (λ c. least m h c) (child_pages (node m a) ++ child_pages (node m b)))
+  pub filled : Each (λ c. Filled m h c) (child_pages (node m a) ++ child_pages (node m b))
+  pub kids : all_kids m (a ∷ (b ∷ [])) ≡ child_pages (node m a) ++ child_pages (node m b)
 
 both : (m : Store) (h a b key : ℕ) → Neighbours m (suc h) a b → key ≡ least m (suc h) b → Both m h a b key
 both m h a b key nb e =
-    let ca : List ℕ = children_of (node m a) in
-    let cb : List ℕ = children_of (node m b) in
+    let ca : List ℕ = child_pages (node m a) in
+    let cb : List ℕ = child_pages (node m b) in
     let fa : List ℕ = map (λ c. least m h c) ca in
     let fb : List ℕ = map (λ c. least m h c) cb in
     let ta : TopOk (λ c. least m h c) (node m a) = nb.sound.0 in
@@ -161,14 +161,14 @@ tops_changed m w h a b cs news o filled km kw others moved =
 
 -- two inner pages shared out anew
 pub inners_shared : (m w : Store) (h a b key k : ℕ) (lk lc rk rc : List ℕ) → Neighbours m (suc h) a b → key ≡ least m (suc h) b → Shares m w a b (inner lk lc) (inner rk rc)
-    → HalvesInner lk lc k rk rc (keys_of (node m a) ++ (key ∷ keys_of (node m b))) (children_of (node m a) ++ children_of (node m b)) → Balances m w (suc h) a b (Some k)
+    → HalvesInner lk lc k rk rc (keys_of (node m a) ++ (key ∷ keys_of (node m b))) (child_pages (node m a) ++ child_pages (node m b)) → Balances m w (suc h) a b (Some k)
 inners_shared m w h a b key k lk lc rk rc nb e s hv =
-    let cs : List ℕ = children_of (node m a) ++ children_of (node m b) in
+    let cs : List ℕ = child_pages (node m a) ++ child_pages (node m b) in
     let bo = both m h a b key nb e in
     let news : List ℕ = a ∷ (b ∷ []) in
-    let ka : children_of (node w a) ≡ lc = ap (λ (x : Node). children_of x) s.node in
-    let kb : children_of (node w b) ≡ rc = ap (λ (x : Node). children_of x) s.right_node in
-    let kw : all_kids w news ≡ cs = ap₂ (λ (x y : List ℕ). x ++ y) ka (append-nil (children_of (node w b)) ∙ kb) ∙ hv.children in
+    let ka : child_pages (node w a) ≡ lc = ap (λ (x : Node). child_pages x) s.node in
+    let kb : child_pages (node w b) ≡ rc = ap (λ (x : Node). child_pages x) s.right_node in
+    let kw : all_kids w news ≡ cs = ap₂ (λ (x y : List ℕ). x ++ y) ka (append-nil (child_pages (node w b)) ∙ kb) ∙ hv.children in
     let t = tops_changed m w h a b cs news nb.owns bo.filled bo.kids kw s.others (λ q. omega (arith, shares_moved m w a b (inner lk lc) (inner rk rc) s q)) in
     let sp = seps_split (λ c. least m h c) lk lc k rk rc (keys_of (node m a) ++ (key ∷ keys_of (node m b))) cs bo.seps hv in
     let F : List ℕ → Type 0 = λ x. Each (λ c. few h ≤ size_of (node m c)) x in
@@ -191,21 +191,21 @@ inners_shared m w h a b key k lk lc rk rc nb e s hv =
 
 -- two inner pages that became one
 pub inners_merged : (m w : Store) (h a b key : ℕ) → Neighbours m (suc h) a b → key ≡ least m (suc h) b
-    → Merges m w a b (inner (keys_of (node m a) ++ (key ∷ keys_of (node m b))) (children_of (node m a) ++ children_of (node m b)))
+    → Merges m w a b (inner (keys_of (node m a) ++ (key ∷ keys_of (node m b))) (child_pages (node m a) ++ child_pages (node m b)))
     → size_of (node m a) + size_of (node m b) ≤ 168 → Balances m w (suc h) a b None
 inners_merged m w h a b key nb e s l =
     let ks : List ℕ = keys_of (node m a) ++ (key ∷ keys_of (node m b)) in
-    let cs : List ℕ = children_of (node m a) ++ children_of (node m b) in
+    let cs : List ℕ = child_pages (node m a) ++ child_pages (node m b) in
     let bo = both m h a b key nb e in
     let news : List ℕ = a ∷ [] in
-    let kw : all_kids w news ≡ cs = one_kids w a ∙ ap (λ (x : Node). children_of x) s.node in
+    let kw : all_kids w news ≡ cs = one_kids w a ∙ ap (λ (x : Node). child_pages x) s.node in
     let t = tops_changed m w h a b cs news nb.owns bo.filled bo.kids kw s.others (λ q. omega (arith, merges_moved m w a b (inner ks cs) (apart m (suc h) a b nb.owns) s q)) in
     let F : List ℕ → Type 0 = λ x. Each (λ c. few h ≤ size_of (node m c)) x in
     let za = top_sizes (λ c. least m h c) (node m a) nb.sound.0 in
     let zb = top_sizes (λ c. least m h c) (node m b) nb.right_sound.0 in
     let sa : size_of (node m a) ≡ length (keys_of (node m a)) = ap (λ (x : Node). size_of x) nb.sound.0.is_inner in
     let sb : size_of (node m b) ≡ length (keys_of (node m b)) = ap (λ (x : Node). size_of x) nb.right_sound.0.is_inner in
-    let lc : length cs ≡ length (children_of (node m a)) + length (children_of (node m b)) = length-append (children_of (node m a)) (children_of (node m b)) in
+    let lc : length cs ≡ length (child_pages (node m a)) + length (child_pages (node m b)) = length-append (child_pages (node m a)) (child_pages (node m b)) in
     record {
       change = lift m m w h (a ∷ (b ∷ [])) news t (top_made (λ c. least m h c) (node w a) ks cs s.node bo.seps (omega arith) (omega arith), tt) (subst F (sym kw) (kids_full m h cs bo.filled));
       items = lift-items m m w h (a ∷ (b ∷ [])) news t ∙ (ap (λ (x : List ℕ). all_items m h x) (kw ∙ sym bo.kids) ∙ sym (items_up m h (a ∷ (b ∷ []))));

@@ -1,148 +1,30 @@
 -- The chain of leaves: a tree's pairs in the order of its leaves, and where a run goes from a leaf.
-use Rattle.std.proofs.Common.{◌≡◌, ℕ, zero, suc, ◌+◌, ◌-◌, ◌<◌, ◌≤◌, true, cond, List, [], ◌∷◌, ◌++◌, length, get_or, take, drop, refl, sym, ◌∙◌, ap, ap₂, subst, inl}
-use Rattle.std.proofs.Common.{inr, arith, append_assoc, append-nil, length-append}
+use Rattle.std.proofs.Common.{◌≡◌, ℕ, suc, ◌+◌, ◌-◌, ◌<◌, ◌≤◌, true, cond, List, [], ◌∷◌, ◌++◌, length, get_or, take, drop, refl, sym, ◌∙◌, ap, ap₂, subst, inl}
+use Rattle.std.proofs.Common.{inr, arith, append_assoc, append-nil}
 use Rattle.std.specs.Prelude.{Option, None, Some, MatchOption}
-use Rattle.std.proofs.lemmas.List.{drop_all, drop_more}
+use Rattle.std.proofs.lemmas.List.{drop_more}
 use Rattle.std.proofs.lemmas.List.Concat.{flat_map-append}
 use Rattle.std.proofs.lemmas.Bool.Decides.{leb_tells}
 use Rattle.code_btree.specs.declared.chain.Given.{Given}
 use Rattle.code_btree.specs.declared.map.Tree.{Tree}
 use Rattle.code_btree.specs.declared.steps.Spot.{Spot}
-use Rattle.code_btree.specs.Node.{Pair, Node, leaf, inner, blank, node_of, entries_of, next_of, children_of, size_of, IsLeafOf, entry_key, entry_value, child_in}
-use Rattle.code_btree.specs.Items.{Each, Above, Below, Ascending, items_from}
-use Rattle.code_btree.specs.Tree.{Store, node, items, links, all_items, all_links, Path, Sound, Filled, IsTree, tree_items}
+use Rattle.code_btree.specs.Node.{Pair, Node, leaf, inner, blank, node_of, entries_of, next_of, child_pages, IsLeafOf, entry_key, entry_value, child_in}
+use Rattle.code_btree.specs.Items.{Above, Below, Ascending, items_from}
+use Rattle.code_btree.specs.Tree.{Store, node, items, links, all_items, all_links, IsTree, tree_items}
 use Rattle.code_btree.specs.Steps.{Subtree, LeadsTo, InnerStep}
-use Rattle.code_btree.specs.Run.{chained, BeginsAt, StandsAt, left_at, least_left}
-use Rattle.code_btree.specs.Chain.{Gives, IsGivenIn, IsGivenFrom, Seeks, Follows, IsFirstOf}
-use Rattle.code_btree.proofs.Lists.{Each-append, Each-right, Each-map, Path-split}
+use Rattle.code_btree.specs.Run.{chained, BeginsAt, StandsAt, pairs_to_come, least_left}
+use Rattle.code_btree.specs.Chain.{GivesEntry, IsGivenIn, IsGivenFrom, Seeks, FollowsPair, IsFirstOf}
+use Rattle.code_btree.proofs.Lists.{Each-map}
 use Rattle.code_btree.proofs.Orders.{items_from-append, from-Below, from-AtLeast, Above-AtLeast, lt_is, lt_not}
 use Rattle.code_btree.proofs.Looks.{entry_is}
 use Rattle.code_btree.proofs.Leaves.{here, leaf_sound}
 use Rattle.code_btree.proofs.Inserts.{at_page}
 use Rattle.code_btree.proofs.PageRuns.{rank_from}
-
-pub chained-append : (m : Store) (xs ys : List (ℕ × ℕ)) → chained m (xs ++ ys) ≡ chained m xs ++ chained m ys
-chained-append m xs ys = flat_map-append (λ l. entries_of (node m l.0)) xs ys
-
-pub row_chained : (m : Store) (h : ℕ) (each : (c : ℕ) → items m h c ≡ chained m (links m h c)) (cs : List ℕ) → all_items m h cs ≡ chained m (all_links m h cs)
-row_chained m h each [] = refl
-row_chained m h each (c ∷ cs) = ap₂ (λ (x y : List Pair). x ++ y) (each c) (row_chained m h each cs) ∙ sym (chained-append m (links m h c) (all_links m h cs))
-
--- the pairs under a page are those of its leaves
-pub items_chained : (m : Store) (h n : ℕ) → items m h n ≡ chained m (links m h n)
-items_chained m zero n = sym (append-nil (entries_of (node m n)))
-items_chained m (suc h) n = row_chained m h (λ c. items_chained m h c) (children_of (node m n))
-
--- each leaf leads to the one that it names
-abbrev pub Leads : Store → ℕ × ℕ → Type 0
-Leads m l = l.1 ≡ next_of (node m l.0)
-
-row_leads : (m : Store) (h : ℕ) (each : (c : ℕ) → Each (Leads m) (links m h c)) (cs : List ℕ) → Each (Leads m) (all_links m h cs)
-row_leads m h each [] = tt
-row_leads m h each (c ∷ cs) = Each-append (Leads m) (links m h c) (all_links m h cs) (each c) (row_leads m h each cs)
-
-links_lead : (m : Store) (h n : ℕ) → Each (Leads m) (links m h n)
-links_lead m zero n = (refl, tt)
-links_lead m (suc h) n = row_leads m h (λ c. links_lead m h c) (children_of (node m n))
-
-pub next_is : (m : Store) (h n lf nx : ℕ) (before behind : List (ℕ × ℕ)) → links m h n ≡ before ++ ((lf, nx) ∷ behind) → nx ≡ next_of (node m lf)
-next_is m h n lf nx before behind e =
-    let P : List (ℕ × ℕ) → Type 0 = λ ls. Each (Leads m) ls in
-    (Each-right (Leads m) before ((lf, nx) ∷ behind) (subst P e (links_lead m h n))).0
-
--- leaves other than a lone root are filled
-abbrev pub IsFilledLeaf : Store → ℕ × ℕ → Type 0
-IsFilledLeaf m l = 63 ≤ length (entries_of (node m l.0))
-
-row_filled : (m : Store) (h : ℕ) (each : (c : ℕ) → Filled m h c → Each (IsFilledLeaf m) (links m h c)) (cs : List ℕ) → Each (λ c. Filled m h c) cs → Each (IsFilledLeaf m) (all_links m h cs)
-row_filled m h each [] e = tt
-row_filled m h each (c ∷ cs) e = Each-append (IsFilledLeaf m) (links m h c) (all_links m h cs) (each c e.0) (row_filled m h each cs e.1)
-
-filled_links : (m : Store) (h n : ℕ) → Filled m h n → Each (IsFilledLeaf m) (links m h n)
-filled_links m zero n f = (omega (arith, ap (λ (o : Node). size_of o) f.0.is_leaf, f.1), tt)
-filled_links m (suc h) n f = row_filled m h (λ c. filled_links m h c) (children_of (node m n)) f.0.1
-
-pub next_filled : (m : Store) (h n : ℕ) (before : List (ℕ × ℕ)) (l r : ℕ × ℕ) (behind : List (ℕ × ℕ)) → Sound m h n → links m h n ≡ before ++ (l ∷ (r ∷ behind)) → 63 ≤ length (entries_of (node m r.0))
-next_filled m zero n before l r behind s e = absurd (omega (arith, ap (λ (ls : List (ℕ × ℕ)). length ls) e, length-append before (l ∷ (r ∷ behind))))
-next_filled m (suc h) n before l r behind s e =
-    let P : List (ℕ × ℕ) → Type 0 = λ ls. Each (IsFilledLeaf m) ls in
-    (Each-right (IsFilledLeaf m) before (l ∷ (r ∷ behind)) (subst P e (row_filled m h (λ c. filled_links m h c) (children_of (node m n)) s.1))).1.0
-
-begins_same : (m : Store) (t : Tree) (lf lf' pl pl' : ℕ) (es es' : List Pair) → lf' ≡ lf → pl' ≡ pl → es' ≡ es → BeginsAt m t lf pl es → BeginsAt m t lf' pl' es'
-begins_same m t lf lf' pl pl' es es' a b c h =
-    let A : ℕ → Type 0 = λ x. BeginsAt m t x pl es in
-    let B : ℕ → Type 0 = λ x. BeginsAt m t lf' x es in
-    let C : List Pair → Type 0 = λ x. BeginsAt m t lf' pl' x in
-    subst C (sym c) (subst B (sym b) (subst A (sym a) h))
-
--- the path from a leaf of the chain on
-pub path_from : (m : Store) (t : Tree) (lf nx : ℕ) (before behind : List (ℕ × ℕ)) → IsTree m t → links m (t.height - 1) t.root ≡ before ++ ((lf, nx) ∷ behind) → (1 ≤ lf) × Path nx behind 0
-path_from m t lf nx before behind tree e =
-    let P : List (ℕ × ℕ) → Type 0 = λ ls. Path tree.at.chain.0 ls 0 in
-    let r = Path-split tree.at.chain.0 0 before ((lf, nx) ∷ behind) (subst P e tree.at.chain.1) in
-    (omega (arith, r.1.1.0, r.1.1.1.0), r.1.1.1.1)
-
-begins_next : (m : Store) (t : Tree) (lf nx : ℕ) (before behind : List (ℕ × ℕ)) → IsTree m t → links m (t.height - 1) t.root ≡ before ++ ((lf, nx) ∷ behind)
-    → Path nx behind 0 → BeginsAt m t nx 0 (chained m behind)
-begins_next m t lf nx before [] tree e p = record { none = λ z. refl; here = λ l. absurd (omega (arith, p)) }
-begins_next m t lf nx before (r ∷ rest) tree e p =
-    let full : 63 ≤ length (entries_of (node m r.0)) = next_filled m (t.height - 1) t.root before (lf, nx) r rest tree.at.sound e in
-    let moved : before ++ ((lf, nx) ∷ ((r.0, r.1) ∷ rest)) ≡ (before ++ ((lf, nx) ∷ [])) ++ ((nx, r.1) ∷ rest) =
-    sym (append_assoc before ((lf, nx) ∷ []) ((r.0, r.1) ∷ rest)) ∙ ap (λ (x : ℕ). (before ++ ((lf, nx) ∷ [])) ++ ((x, r.1) ∷ rest)) (sym p.0) in
-    record {
-      none = λ z. absurd (omega (arith, p.1.0));
-      here = λ l. record {
-        before = before ++ ((lf, nx) ∷ []);
-        behind = rest;
-        next = r.1;
-        chain = e ∙ moved;
-        within = omega (arith, full, ap (λ (x : ℕ). length (entries_of (node m x))) p.0);
-        pairs = ap (λ (x : ℕ). entries_of (node m x) ++ chained m rest) (sym p.0);
-      };
-    }
-
--- what a leaf of the chain gave is the first of the pairs that begin there, or they begin at the next leaf
-abbrev pub MovesOn : Store → Tree → List Pair → Given → Type 0
-MovesOn m t es g = MatchOption g.pair (BeginsAt m t g.leaf g.place es) (λ e. Follows m t es e g.leaf g.place)
-
-pub moves_on : (m : Store) (t : Tree) (es : List Pair) (lf nx at : ℕ) (before behind : List (ℕ × ℕ)) (g : Given) → IsTree m t → links m (t.height - 1) t.root ≡ before ++ ((lf, nx) ∷ behind)
-    → es ≡ drop at (entries_of (node m lf)) ++ chained m behind → Gives (entries_of (node m lf)) nx lf at g → MovesOn m t es g
-moves_on m t es lf nx at before behind g tree e from gives = go g.pair gives.pair
-  where
-    E : List Pair
-    E = entries_of (node m lf)
-
-    next : BeginsAt m t nx 0 (chained m behind)
-    next = begins_next m t lf nx before behind tree e (path_from m t lf nx before behind tree e).1
-
-    go : (o : Option Pair) → MatchOption o (length E ≤ at) (λ x. (at < length E) × (drop at E ≡ x ∷ drop (at + 1) E))
-        → MatchOption o (BeginsAt m t g.leaf g.place es) (λ x. Follows m t es x g.leaf g.place)
-    go None l = elim gives.spot [
-      | inl s ↦ absurd (omega (arith, s.2, l))
-      | inr s ↦ begins_same m t nx g.leaf 0 g.place (chained m behind) es s.0 s.1 (from ∙ ap (λ (x : List Pair). x ++ chained m behind) (drop_all at E l)) next
-    ]
-    go (Some x) h =
-        let rest : List Pair = drop (at + 1) E ++ chained m behind in
-        let first : es ≡ x ∷ rest = from ∙ ap (λ (y : List Pair). y ++ chained m behind) h.1 in
-        elim gives.spot [
-          | inl s ↦ record {
-            rest = rest;
-            first = first;
-            begins = begins_same m t lf g.leaf (at + 1) g.place rest rest s.0 s.1 refl (record {
-              none = λ z. absurd (omega (arith, (path_from m t lf nx before behind tree e).0));
-              here = λ l. record { before = before; behind = behind; next = nx; chain = e; within = s.2; pairs = refl };
-            });
-          }
-          | inr s ↦ record {
-            rest = rest;
-            first = first;
-            begins = begins_same m t nx g.leaf 0 g.place (chained m behind) rest s.0 s.1 (ap (λ (y : List Pair). y ++ chained m behind) (drop_all (at + 1) E s.2)) next;
-          }
-        ]
+use Rattle.code_btree.proofs.LeafChain.{chained-append, row_chained, items_chained, next_is, MovesOn, moves_on}
 
 -- what a leaf gives at a place, in the code's words
 pub gives_none : (p : List ℕ) (n nx count at : ℕ) → IsLeafOf p count → nx ≡ next_of (node_of p) → count ≤ at
-    → Gives (entries_of (node_of p)) (next_of (node_of p)) n at (record { pair = None; leaf = nx; place = 0 })
+    → GivesEntry (entries_of (node_of p)) (next_of (node_of p)) n at (record { pair = None; leaf = nx; place = 0 })
 gives_none p n nx count at is e l = record { pair = omega (arith, is.counted); spot = inr (e, refl, omega (arith, is.counted)) }
 
 given_pair : (p : List ℕ) (count at : ℕ) → IsLeafOf p count → at < count → (at < length (entries_of (node_of p)))
@@ -153,13 +35,13 @@ given_pair p count at is l =
     (i, drop_more es at (0, 0) i ∙ ap (λ (x : Pair). x ∷ drop (at + 1) es) (entry_is p count at (0, 0) is l))
 
 pub gives_inside : (p : List ℕ) (n count at k v : ℕ) → IsLeafOf p count → at + 1 < count → k ≡ entry_key p at → v ≡ entry_value p at
-    → Gives (entries_of (node_of p)) (next_of (node_of p)) n at (record { pair = Some (k, v); leaf = n; place = at + 1 })
+    → GivesEntry (entries_of (node_of p)) (next_of (node_of p)) n at (record { pair = Some (k, v); leaf = n; place = at + 1 })
 gives_inside p n count at k v is l ek ev =
     let h = given_pair p count at is (omega arith) in
     record { pair = (h.0, h.1 ∙ ap₂ (λ (x y : ℕ). (x, y) ∷ drop (at + 1) (entries_of (node_of p))) (sym ek) (sym ev)); spot = inl (refl, refl, omega (arith, is.counted)) }
 
 pub gives_last : (p : List ℕ) (n nx count at k v : ℕ) → IsLeafOf p count → nx ≡ next_of (node_of p) → at < count → count ≤ at + 1 → k ≡ entry_key p at → v ≡ entry_value p at
-    → Gives (entries_of (node_of p)) (next_of (node_of p)) n at (record { pair = Some (k, v); leaf = nx; place = 0 })
+    → GivesEntry (entries_of (node_of p)) (next_of (node_of p)) n at (record { pair = Some (k, v); leaf = nx; place = 0 })
 gives_last p n nx count at k v is e l u ek ev =
     let h = given_pair p count at is l in
     record { pair = (h.0, h.1 ∙ ap₂ (λ (x y : ℕ). (x, y) ∷ drop (at + 1) (entries_of (node_of p))) (sym ek) (sym ev)); spot = inr (e, refl, omega (arith, is.counted)) }
@@ -176,7 +58,7 @@ seeks_leaf m n k g s f =
     let hh : node m n ≡ node_of f.page = here m n f.page f.read in
     let L : Node → Type 0 = λ o. o ≡ leaf (entries_of o) (next_of o) in
     let r = f.step (subst L hh s.sound.is_leaf) in
-    let G : Node → Type 0 = λ o. Gives (entries_of o) (next_of o) n r.at g in
+    let G : Node → Type 0 = λ o. GivesEntry (entries_of o) (next_of o) n r.at g in
     record {
       before = [];
       behind = [];
@@ -191,7 +73,7 @@ seeks_leaf m n k g s f =
     }
 
 -- and one level higher
-seeks_up : (m : Store) (h n k c : ℕ) (xs ys : List ℕ) (g : Given) → children_of (node m n) ≡ xs ++ (c ∷ ys) → Below k (all_items m h xs) → Above k (all_items m h ys)
+seeks_up : (m : Store) (h n k c : ℕ) (xs ys : List ℕ) (g : Given) → child_pages (node m n) ≡ xs ++ (c ∷ ys) → Below k (all_items m h xs) → Above k (all_items m h ys)
     → Seeks m h c k g → Seeks m (suc h) n k g
 seeks_up m h n k c xs ys g e below above s =
     let X : List (ℕ × ℕ) = all_links m h xs in
@@ -229,8 +111,8 @@ seek_led m h n k c s l =
       child = subst S (sym st.child_is) t.descent.child;
       up = λ g z.
           let Z : ℕ → Type 0 = λ x. Seeks m h x k g in
-          seeks_up m h n k (child_in l.page st.at) (take st.at (children_of (node_of l.page)))
-          (drop (st.at + 1) (children_of (node_of l.page))) g t.split t.descent.below t.descent.above (subst Z st.child_is z);
+          seeks_up m h n k (child_in l.page st.at) (take st.at (child_pages (node_of l.page)))
+          (drop (st.at + 1) (child_pages (node_of l.page))) g t.split t.descent.below t.descent.above (subst Z st.child_is z);
     }
 
 pub seek_moves : (m : Store) (t : Tree) (k : ℕ) (g : Given) → IsTree m t → Seeks m (t.height - 1) t.root k g → MovesOn m t (items_from k (tree_items m t)) g
@@ -240,7 +122,7 @@ seek_moves m t k g tree s = moves_on m t (items_from k (tree_items m t)) s.leaf 
 pub first_given : (m : Store) (t : Tree) (es : List Pair) (g : Given) (e : Pair) → g.pair ≡ Some e → MovesOn m t es g → IsFirstOf m t es g
 first_given m t es g e i h = go g.pair i h
   where
-    go : (o : Option Pair) → o ≡ Some e → MatchOption o (BeginsAt m t g.leaf g.place es) (λ x. Follows m t es x g.leaf g.place) → MatchOption o (es ≡ []) (λ x. Follows m t es x g.leaf g.place)
+    go : (o : Option Pair) → o ≡ Some e → MatchOption o (BeginsAt m t g.leaf g.place es) (λ x. FollowsPair m t es x g.leaf g.place) → MatchOption o (es ≡ []) (λ x. FollowsPair m t es x g.leaf g.place)
     go None i h = absurd (cc)
     go (Some x) i h = h
 
@@ -248,7 +130,7 @@ first_given m t es g e i h = go g.pair i h
 pub begins_given : (m : Store) (t : Tree) (es : List Pair) (g : Given) → g.pair ≡ None → MovesOn m t es g → BeginsAt m t g.leaf g.place es
 begins_given m t es g i h = go g.pair i h
   where
-    go : (o : Option Pair) → o ≡ None → MatchOption o (BeginsAt m t g.leaf g.place es) (λ x. Follows m t es x g.leaf g.place) → BeginsAt m t g.leaf g.place es
+    go : (o : Option Pair) → o ≡ None → MatchOption o (BeginsAt m t g.leaf g.place es) (λ x. FollowsPair m t es x g.leaf g.place) → BeginsAt m t g.leaf g.place es
     go None i h = h
     go (Some x) i h = absurd (cc)
 
@@ -262,19 +144,19 @@ given_on m t es lf pl g tree b none some = elim (leb_tells 1 lf) [
       let hh : node m lf ≡ node_of i.page = here m lf i.page i.read in
       let L : Node → Type 0 = λ o. o ≡ leaf (entries_of o) (next_of o) in
       let gives = i.step (subst L hh (leaf_by (node m lf) (omega (arith, w.within)))) in
-      let G : Node → Type 0 = λ o. Gives (entries_of o) (next_of o) lf pl g in
-      let N : ℕ → Type 0 = λ x. Gives (entries_of (node m lf)) x lf pl g in
-      let gv : Gives (entries_of (node m lf)) w.next lf pl g = subst N (sym (next_is m (t.height - 1) t.root lf w.next w.before w.behind w.chain)) (subst G (sym hh) gives) in
+      let G : Node → Type 0 = λ o. GivesEntry (entries_of o) (next_of o) lf pl g in
+      let N : ℕ → Type 0 = λ x. GivesEntry (entries_of (node m lf)) x lf pl g in
+      let gv : GivesEntry (entries_of (node m lf)) w.next lf pl g = subst N (sym (next_is m (t.height - 1) t.root lf w.next w.before w.behind w.chain)) (subst G (sym hh) gives) in
       inside g.pair gv.pair w.within (moves_on m t es lf w.next pl w.before w.behind g tree w.chain w.pairs gv)
 ]
   where
-    empty : (o : Option Pair) → o ≡ None → es ≡ [] → MatchOption o (es ≡ []) (λ x. Follows m t es x g.leaf g.place)
+    empty : (o : Option Pair) → o ≡ None → es ≡ [] → MatchOption o (es ≡ []) (λ x. FollowsPair m t es x g.leaf g.place)
     empty None i h = h
     empty (Some x) i h = absurd (cc)
 
     inside : (o : Option Pair) → MatchOption o (length (entries_of (node m lf)) ≤ pl) (λ x. (pl < length (entries_of (node m lf)))
         × (drop pl (entries_of (node m lf)) ≡ x ∷ drop (pl + 1) (entries_of (node m lf)))) → pl < length (entries_of (node m lf))
-        → MatchOption o (BeginsAt m t g.leaf g.place es) (λ x. Follows m t es x g.leaf g.place) → MatchOption o (es ≡ []) (λ x. Follows m t es x g.leaf g.place)
+        → MatchOption o (BeginsAt m t g.leaf g.place es) (λ x. FollowsPair m t es x g.leaf g.place) → MatchOption o (es ≡ []) (λ x. FollowsPair m t es x g.leaf g.place)
     inside None l i h = absurd (omega arith)
     inside (Some x) l i h = h
 
@@ -298,23 +180,23 @@ next_from k (x ∷ xs) e rest a h = elim (leb_tells (suc x.0) k) [
       (omega (arith, le, key), rw (lt_is x.0 (e.0 + 1) (omega (arith, key))) (high ∙ (sym low ∙ same_rest)))
 ]
 
-first_at : (m : Store) (t : Tree) (es : List Pair) (g : Given) (e : Pair) → g.pair ≡ Some e → IsFirstOf m t es g → Follows m t es e g.leaf g.place
+first_at : (m : Store) (t : Tree) (es : List Pair) (g : Given) (e : Pair) → g.pair ≡ Some e → IsFirstOf m t es g → FollowsPair m t es e g.leaf g.place
 first_at m t es g e i h = go g.pair i h
   where
-    go : (o : Option Pair) → o ≡ Some e → MatchOption o (es ≡ []) (λ x. Follows m t es x g.leaf g.place) → Follows m t es e g.leaf g.place
+    go : (o : Option Pair) → o ≡ Some e → MatchOption o (es ≡ []) (λ x. FollowsPair m t es x g.leaf g.place) → FollowsPair m t es e g.leaf g.place
     go None i h = absurd (cc)
-    go (Some x) i h = let F : Option Pair → Type 0 = λ o. MatchOption o (es ≡ []) (λ y. Follows m t es y g.leaf g.place) in subst F i h
+    go (Some x) i h = let F : Option Pair → Type 0 = λ o. MatchOption o (es ≡ []) (λ y. FollowsPair m t es y g.leaf g.place) in subst F i h
 
 -- a step that gave a pair
 pub record Stepping (m : Store) (s after : Spot) (e : Pair) : Type 0 where
   pub least : least_left s ≤ e.0
-  pub first : left_at m s ≡ e ∷ left_at m after
+  pub first : pairs_to_come m s ≡ e ∷ pairs_to_come m after
   pub stands : StandsAt m after
 
-pub stepping : (m : Store) (s : Spot) (g : Given) (e : Pair) → StandsAt m s → g.pair ≡ Some e → IsFirstOf m s.tree (left_at m s) g
+pub stepping : (m : Store) (s : Spot) (g : Given) (e : Pair) → StandsAt m s → g.pair ≡ Some e → IsFirstOf m s.tree (pairs_to_come m s) g
     → Stepping m s (record { tree = s.tree; from = e.0; begun = true; leaf = g.leaf; place = g.place }) e
 stepping m s g e st i f =
-    let h = first_at m s.tree (left_at m s) g e i f in
+    let h = first_at m s.tree (pairs_to_come m s) g e i f in
     let r = next_from (least_left s) (tree_items m s.tree) e h.rest st.tree.at.ascending h.first in
     let B : List Pair → Type 0 = λ x. BeginsAt m s.tree g.leaf g.place x in
     record {

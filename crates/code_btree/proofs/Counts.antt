@@ -4,15 +4,15 @@ use Rattle.std.specs.Prelude.{Option, None, Some}
 use Rattle.std.proofs.Math.Nat.{pow-succ'}
 use Rattle.std.proofs.lemmas.List.{length-map}
 use Rattle.std.proofs.lemmas.Bool.Decides.{leb_tells, eqb_tells}
-use Rattle.code_btree.specs.Node.{Pair, Node, children_of, size_of}
+use Rattle.code_btree.specs.Node.{Pair, Node, child_pages, size_of}
 use Rattle.code_btree.specs.Items.{Each, Above, Ascending, find_item}
 use Rattle.code_btree.specs.Tree.{Store, node, items, all_items, least, TopOk, Sound, Filled, IsTreeAt}
 use Rattle.code_btree.specs.Steps.{alter, count_after}
 use Rattle.code_btree.proofs.Lists.{Each-map}
 use Rattle.code_btree.proofs.Orders.{below-Above, above-Above, find-Above, lt_is, lt_not, eq_not}
 
-pub top_sizes : (f : ℕ → ℕ) (o : Node) → TopOk f o → length (children_of o) ≡ size_of o + 1
-top_sizes f o t = omega (arith, ap (λ (x : Node). size_of x) t.is_inner, ap (λ (x : List ℕ). length x) t.separators, length-drop 1 (map f (children_of o)), length-map (children_of o) f, t.some)
+pub top_sizes : (f : ℕ → ℕ) (o : Node) → TopOk f o → length (child_pages o) ≡ size_of o + 1
+top_sizes f o t = omega (arith, ap (λ (x : Node). size_of x) t.is_inner, ap (λ (x : List ℕ). length x) t.separators, length-drop 1 (map f (child_pages o)), length-map (child_pages o) f, t.some)
 
 row_count : (m : Store) (h x : ℕ) (each : (c : ℕ) → Filled m h c → x ≤ length (items m h c)) (cs : List ℕ) → Each (λ c. Filled m h c) cs → length cs * x ≤ length (all_items m h cs)
 row_count m h x each [] e = omega arith
@@ -21,13 +21,13 @@ row_count m h x each (c ∷ cs) e = omega (arith, each c e.0, row_count m h x ea
 pub filled_count : (m : Store) (h c : ℕ) → Filled m h c → 63 * 85 ^ h ≤ length (items m h c)
 filled_count m zero c f = omega (arith, ap (λ (x : Node). size_of x) f.0.is_leaf, f.1)
 filled_count m (suc h) c f =
-    let cs : List ℕ = children_of (node m c) in
+    let cs : List ℕ = child_pages (node m c) in
     let l : 85 ≤ length cs = omega (arith, top_sizes (λ d. least m h d) (node m c) f.0.0, f.1) in
     omega (arith, row_count m h (63 * 85 ^ h) (λ d. filled_count m h d) cs f.0.1, mul-le-mul_right (63 * 85 ^ h) l, pow-succ' 85 h)
 
 pub top_count : (m : Store) (h n : ℕ) → Sound m (suc h) n → 1 ≤ size_of (node m n) → 126 * 85 ^ h ≤ length (items m (suc h) n)
 top_count m h n s top =
-    let cs : List ℕ = children_of (node m n) in
+    let cs : List ℕ = child_pages (node m n) in
     let l : 2 ≤ length cs = omega (arith, top_sizes (λ d. least m h d) (node m n) s.0) in
     omega (arith, row_count m h (63 * 85 ^ h) (λ d. filled_count m h d) cs s.1, mul-le-mul_right (63 * 85 ^ h) l)
 

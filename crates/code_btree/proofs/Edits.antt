@@ -3,7 +3,7 @@ use Rattle.std.proofs.Common.{◌≡◌, ℕ, suc, ◌+◌, ◌-◌, ◌*◌, �
 use Rattle.std.proofs.Common.{ap₂, inl, inr, arith, length-append, length-take, length-drop, take_all}
 use Rattle.std.proofs.lemmas.List.{length-map, map-append, take-map, drop-map, length-replicate}
 use Rattle.code_btree.specs.Bytes.{piece, cells, pasted, spliced, half_of, half_bytes, word_of, word_bytes, number_of, number_bytes}
-use Rattle.code_btree.specs.Node.{Pair, Node, leaf, inner, entry_of, count_of, node_of, entries_of, next_of, keys_of, children_of, IsLeafOf, IsInnerOf, entries_in, keys_in, children_in}
+use Rattle.code_btree.specs.Node.{Pair, Node, leaf, inner, entry_of, count_in_page, node_of, entries_of, next_of, keys_of, child_pages, IsLeafOf, IsInnerOf, entries_in, keys_in, children_in}
 use Rattle.code_btree.proofs.Pieces.{length-piece, length-pasted, piece_apart, piece_within, pasted-before, pasted-within}
 use Rattle.code_btree.proofs.Numbers.{half_back, word_back, number_back, length-half_bytes, length-word_bytes, length-number_bytes}
 use Rattle.code_btree.proofs.Cells.{length-cells, cells_apart, cells-take, cells-drop, cells_piece, cells_spliced, length-spliced, piece_unspliced, cells_unspliced}
@@ -18,9 +18,9 @@ leaf_is r es x n m l f = record {
 
 pub inner_is : (r : List ℕ) (ks cs : List ℕ) (n : ℕ) → node_of r ≡ inner ks cs → length ks ≡ n → length cs ≡ n + 1 → n ≤ 169 → IsInnerOf r n
 inner_is r ks cs n m l k f = record {
-  is_inner = m ∙ sym (ap (λ (o : Node). inner (keys_of o) (children_of o)) m);
+  is_inner = m ∙ sym (ap (λ (o : Node). inner (keys_of o) (child_pages o)) m);
   counted = ap (λ (o : Node). length (keys_of o)) m ∙ l;
-  children = ap (λ (o : Node). length (children_of o)) m ∙ k;
+  children = ap (λ (o : Node). length (child_pages o)) m ∙ k;
   fits = f;
 }
 
@@ -57,7 +57,7 @@ keys_part p n a b ab bn size h =
     ∙ ap (λ (x : List ℕ). take (b - a) (drop a x)) (sym (inner_bytes p n h).keys))
 
 pub children_part : (p : List ℕ) (n a b : ℕ) → a ≤ b → b ≤ n + 1 → length p ≡ 4096 → IsInnerOf p n
-    → children_in (piece ((2736 + 8 * b) - (2736 + 8 * a)) (2736 + 8 * a) p) ≡ take (b - a) (drop a (children_of (node_of p)))
+    → children_in (piece ((2736 + 8 * b) - (2736 + 8 * a)) (2736 + 8 * a) p) ≡ take (b - a) (drop a (child_pages (node_of p)))
 children_part p n a b ab bn size h =
     let f : n ≤ 169 = h.fits in
     let l : length (piece ((2736 + 8 * b) - (2736 + 8 * a)) (2736 + 8 * a) p) / 8 ≡ b - a = omega (arith, length-piece ((2736 + 8 * b) - (2736 + 8 * a)) (2736 + 8 * a) p (omega arith)) in
@@ -127,7 +127,7 @@ leaf_linked p r n x er size fits h =
     let q = pasted p 8 (word_bytes x) in
     let lb : length (word_bytes x) ≡ 8 = length-word_bytes x in
     let kind : get_or q 0 0 ≡ 1 = pasted-before p 8 (word_bytes x) 0 0 (omega arith) (omega arith) ∙ d.kind in
-    let count : count_of q ≡ n = ap (λ (c : List ℕ). half_of c) (piece_apart 2 2 p 8 (word_bytes x) (omega arith) (inl (omega arith))) ∙ d.count in
+    let count : count_in_page q ≡ n = ap (λ (c : List ℕ). half_of c) (piece_apart 2 2 p 8 (word_bytes x) (omega arith) (inl (omega arith))) ∙ d.count in
     let row : cells 32 32 n q ≡ cells 32 32 n p = cells_apart 32 32 n p 8 (word_bytes x) (omega arith) (inr (omega arith)) in
     let next : word_of (piece 8 8 q) ≡ x = ap (λ (c : List ℕ). word_of c) (piece_within 8 0 p 8 (word_bytes x) (omega arith) (omega arith) ∙ take_all 8 (word_bytes x) (omega arith))
     ∙ word_back x fits in
@@ -139,7 +139,7 @@ pub inner_edit : (p kb cb q s r : List ℕ) (n i j a b : ℕ) → q ≡ spliced 
     → r ≡ pasted s 2 (half_bytes (i + (length kb / 16 + (n - j)))) → length p ≡ 4096
     → IsInnerOf p n → i ≤ j → j ≤ n → a ≤ b → b ≤ n + 1 → length kb % 16 ≡ 0 → length cb % 8 ≡ 0 → i + (length kb / 16 + (n - j)) ≤ 169
     → a + (length cb / 8 + ((n + 1) - b)) ≡ i + (length kb / 16 + (n - j)) + 1
-    → node_of r ≡ inner (take i (keys_of (node_of p)) ++ (keys_in kb ++ drop j (keys_of (node_of p)))) (take a (children_of (node_of p)) ++ (children_in cb ++ drop b (children_of (node_of p))))
+    → node_of r ≡ inner (take i (keys_of (node_of p)) ++ (keys_in kb ++ drop j (keys_of (node_of p)))) (take a (child_pages (node_of p)) ++ (children_in cb ++ drop b (child_pages (node_of p))))
 inner_edit p kb cb q s r n i j a b eq es er size is ij jn ab bn kl cl fits one =
     let h = inner_bytes p n is in
     let f : n ≤ 169 = h.fits in
@@ -158,7 +158,7 @@ inner_edit p kb cb q s r n i j a b eq es er size is ij jn ab bn kl cl fits one =
     let kind_s : piece 1 0 s' ≡ piece 1 0 q' = piece_unspliced 1 0 q' (2736 + 8 * a) (2736 + 8 * b) (2744 + 8 * n) cb (omega arith) (omega arith) (omega arith) (omega arith) (inl (omega arith)) in
     let kind_r : piece 1 0 r' ≡ piece 1 0 s' = piece_apart 1 0 s' 2 (half_bytes t) (omega arith) (inl (omega arith)) in
     let kind : get_or r' 0 0 ≡ 2 = first_byte r' p (kind_r ∙ (kind_s ∙ kind_q)) ∙ h.kind in
-    let count : count_of r' ≡ t = ap (λ (c : List ℕ). half_of c) (piece_within 2 0 s' 2 (half_bytes t) (omega arith) (omega arith) ∙ take_all 2 (half_bytes t) (omega arith))
+    let count : count_in_page r' ≡ t = ap (λ (c : List ℕ). half_of c) (piece_within 2 0 s' 2 (half_bytes t) (omega arith) (omega arith) ∙ take_all 2 (half_bytes t) (omega arith))
     ∙ half_back t (omega arith) in
     let kend : 32 + 16 * n ≡ (32 + 16 * j) + 16 * k = omega arith in
     let keys_row : cells 16 32 t r' ≡ cells 16 32 i p ++ (cells 16 0 m kb ++ cells 16 (32 + 16 * j) k p) =
@@ -185,10 +185,10 @@ inner_edit p kb cb q s r n i j a b eq es er size is ij jn ab bn kl cl fits one =
     let kt : map number_of (cells 16 (32 + 16 * j) k p) ≡ drop j (keys_of (node_of p)) =
     sym (ap (λ (x : List ℕ). drop j x) (h.keys ∙ ap (λ (x : ℕ). map number_of (cells 16 32 x p)) (sym jj))
     ∙ (drop-map number_of j (cells 16 32 (j + (n - j)) p) ∙ ap (λ (x : List (List ℕ)). map number_of x) (cells-drop 16 32 j (n - j) p))) in
-    let ch : map word_of (cells 8 2736 a p) ≡ take a (children_of (node_of p)) =
+    let ch : map word_of (cells 8 2736 a p) ≡ take a (child_pages (node_of p)) =
     sym (ap (λ (x : List ℕ). take a x) (h.children ∙ ap (λ (x : ℕ). map word_of (cells 8 2736 x p)) (sym aa))
     ∙ (take-map word_of a (cells 8 2736 (a + (suc n - a)) p) ∙ ap (λ (x : List (List ℕ)). map word_of x) (cells-take 8 2736 a (suc n - a) p))) in
-    let ct : map word_of (cells 8 (2736 + 8 * b) v p) ≡ drop b (children_of (node_of p)) =
+    let ct : map word_of (cells 8 (2736 + 8 * b) v p) ≡ drop b (child_pages (node_of p)) =
     sym (ap (λ (x : List ℕ). drop b x) (h.children ∙ ap (λ (x : ℕ). map word_of (cells 8 2736 x p)) (sym bb))
     ∙ (drop-map word_of b (cells 8 2736 (b + (suc n - b)) p) ∙ ap (λ (x : List (List ℕ)). map word_of x) (cells-drop 8 2736 b (suc n - b) p))) in
     let rr : r ≡ r' = er ∙ ap (λ (x : List ℕ). pasted x 2 (half_bytes t)) (es ∙ ap (λ (x : List ℕ). spliced x (2736 + 8 * a) (2736 + 8 * b) (2744 + 8 * n) cb) eq) in
@@ -208,11 +208,11 @@ inner_edit p kb cb q s r n i j a b eq es er size is ij jn ab bn kl cl fits one =
 
 pub inner_edit_is : (p kb cb r : List ℕ) (n i j a b : ℕ) → IsInnerOf p n → i ≤ j → j ≤ n → a ≤ b → b ≤ n + 1 → i + (length kb / 16 + (n - j)) ≤ 169
     → a + (length cb / 8 + ((n + 1) - b)) ≡ i + (length kb / 16 + (n - j)) + 1
-    → node_of r ≡ inner (take i (keys_of (node_of p)) ++ (keys_in kb ++ drop j (keys_of (node_of p)))) (take a (children_of (node_of p)) ++ (children_in cb ++ drop b (children_of (node_of p))))
+    → node_of r ≡ inner (take i (keys_of (node_of p)) ++ (keys_in kb ++ drop j (keys_of (node_of p)))) (take a (child_pages (node_of p)) ++ (children_in cb ++ drop b (child_pages (node_of p))))
     → IsInnerOf r (i + (length kb / 16 + (n - j)))
 inner_edit_is p kb cb r n i j a b h ij jn ab bn fits one m =
     let ks : List ℕ = keys_of (node_of p) in
-    let cs : List ℕ = children_of (node_of p) in
+    let cs : List ℕ = child_pages (node_of p) in
     let kc : length ks ≡ n = h.counted in
     let cc' : length cs ≡ n + 1 = h.children in
     let l1 : length (take i ks) ≡ i = omega (arith, length-take i ks) in
@@ -240,7 +240,7 @@ inner_new r x e fits =
     let lb : length (word_bytes x) ≡ 8 = length-word_bytes x in
     let q : List ℕ = pasted z 2736 (word_bytes x) in
     let kind : get_or q 0 0 ≡ 2 = pasted-before z 2736 (word_bytes x) 0 0 (omega arith) (omega arith) ∙ pasted-within (replicate 4096 0) 0 (2 ∷ []) 0 0 (omega arith) (omega arith) in
-    let count : count_of q ≡ 0 = ap (λ (c : List ℕ). half_of c) (piece_apart 2 2 z 2736 (word_bytes x) (omega arith) (inl (omega arith))) ∙ zero_count in
+    let count : count_in_page q ≡ 0 = ap (λ (c : List ℕ). half_of c) (piece_apart 2 2 z 2736 (word_bytes x) (omega arith) (inl (omega arith))) ∙ zero_count in
     let child : word_of (piece 8 2736 q) ≡ x = ap (λ (c : List ℕ). word_of c) (piece_within 8 0 z 2736 (word_bytes x) (omega arith) (omega arith) ∙ take_all 8 (word_bytes x) (omega arith))
     ∙ word_back x fits in
     ap (λ (y : List ℕ). node_of y) e ∙ (inner_made q 0 kind count (omega arith) ∙ ap (λ (y : ℕ). inner [] (y ∷ [])) child)

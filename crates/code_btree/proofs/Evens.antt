@@ -1,7 +1,7 @@
 -- Two neighbours read and written, in the code's words.
 use Rattle.std.proofs.Common.{◌≡◌, ℕ, suc, ◌+◌, ◌≤◌, List, [], ◌∷◌, ◌++◌, length, get_or, refl, sym, ◌∙◌, ap, ap₂, subst, arith, length-append}
 use Rattle.std.specs.Prelude.{None, Some}
-use Rattle.code_btree.specs.Node.{Pair, Node, leaf, inner, node_of, entries_of, next_of, keys_of, children_of, size_of, IsLeafOf, IsInnerOf, entry_key}
+use Rattle.code_btree.specs.Node.{Pair, Node, leaf, inner, node_of, entries_of, next_of, keys_of, child_pages, size_of, IsLeafOf, IsInnerOf, entry_key}
 use Rattle.code_btree.specs.Tree.{Store, node, first_key, least}
 use Rattle.code_btree.specs.Steps.{Wrote, Freed, HalvesLeaf, HalvesInner}
 use Rattle.code_btree.specs.Removals.{Neighbours, Balances}
@@ -79,28 +79,28 @@ leaves_joined m m1 m2 u v a b n k pl pr ql e1 e2 e f is js l eql wa fb nb =
 
 -- one child was moved between two inner pages
 pub inners_evened : (m m1 m2 u v : Store) (h a b n k key up : ℕ) (pl pr ql qr : List ℕ) → m1 ≡ m → m2 ≡ m → m a ≡ Some pl → m1 b ≡ Some pr → IsInnerOf pl n → IsInnerOf pr k
-    → (83 ≤ n → 83 ≤ k → HalvesInner (keys_of (node_of ql)) (children_of (node_of ql)) up (keys_of (node_of qr)) (children_of (node_of qr))
-    (keys_of (node_of pl) ++ (key ∷ keys_of (node_of pr))) (children_of (node_of pl) ++ children_of (node_of pr)))
-    → node_of ql ≡ inner (keys_of (node_of ql)) (children_of (node_of ql)) → node_of qr ≡ inner (keys_of (node_of qr)) (children_of (node_of qr)) → Wrote m2 u a ql
+    → (83 ≤ n → 83 ≤ k → HalvesInner (keys_of (node_of ql)) (child_pages (node_of ql)) up (keys_of (node_of qr)) (child_pages (node_of qr))
+    (keys_of (node_of pl) ++ (key ∷ keys_of (node_of pr))) (child_pages (node_of pl) ++ child_pages (node_of pr)))
+    → node_of ql ≡ inner (keys_of (node_of ql)) (child_pages (node_of ql)) → node_of qr ≡ inner (keys_of (node_of qr)) (child_pages (node_of qr)) → Wrote m2 u a ql
     → Wrote u v b qr → key ≡ least m (suc h) b → Neighbours m (suc h) a b → Balances m v (suc h) a b (Some up)
 inners_evened m m1 m2 u v h a b n k key up pl pr ql qr e1 e2 e f is js halves eql eqr wa wb ek nb =
     let r = inners_read m m1 a b pl pr n k e1 e f is js in
     let hv0 = halves (omega (arith, nb.size, r.size)) (omega (arith, nb.right_size, r.right_size)) in
-    let H : List ℕ → List ℕ → Type 0 = λ x y. HalvesInner (keys_of (node_of ql)) (children_of (node_of ql)) up (keys_of (node_of qr)) (children_of (node_of qr)) x y in
-    let K : List ℕ → Type 0 = λ x. H x (children_of (node_of pl) ++ children_of (node_of pr)) in
+    let H : List ℕ → List ℕ → Type 0 = λ x y. HalvesInner (keys_of (node_of ql)) (child_pages (node_of ql)) up (keys_of (node_of qr)) (child_pages (node_of qr)) x y in
+    let K : List ℕ → Type 0 = λ x. H x (child_pages (node_of pl) ++ child_pages (node_of pr)) in
     let C : List ℕ → Type 0 = λ y. H (keys_of (node m a) ++ (key ∷ keys_of (node m b))) y in
-    let hv = subst C (sym (ap₂ (λ (x y : Node). children_of x ++ children_of y) r.left r.right)) (subst K (sym (ap₂ (λ (x y : Node). keys_of x ++ (key ∷ keys_of y)) r.left r.right)) hv0) in
+    let hv = subst C (sym (ap₂ (λ (x y : Node). child_pages x ++ child_pages y) r.left r.right)) (subst K (sym (ap₂ (λ (x y : Node). keys_of x ++ (key ∷ keys_of y)) r.left r.right)) hv0) in
     let W : Store → Type 0 = λ x. Wrote x u a ql in
-    inners_shared m v h a b key up (keys_of (node_of ql)) (children_of (node_of ql)) (keys_of (node_of qr)) (children_of (node_of qr)) nb ek
+    inners_shared m v h a b key up (keys_of (node_of ql)) (child_pages (node_of ql)) (keys_of (node_of qr)) (child_pages (node_of qr)) nb ek
     (shares_of m u v a b ql qr _ _ (apart m (suc h) a b nb.owns) (subst W e2 wa) wb eql eqr) hv
 
 -- two inner pages became one
 pub inners_joined : (m m1 m2 u v : Store) (h a b n k key : ℕ) (pl pr ql : List ℕ) → m1 ≡ m → m2 ≡ m → m a ≡ Some pl → m1 b ≡ Some pr → IsInnerOf pl n → IsInnerOf pr k → n + k ≤ 168
-    → node_of ql ≡ inner (keys_of (node_of pl) ++ (key ∷ keys_of (node_of pr))) (children_of (node_of pl) ++ children_of (node_of pr)) → Wrote m2 u a ql → Freed u v b
+    → node_of ql ≡ inner (keys_of (node_of pl) ++ (key ∷ keys_of (node_of pr))) (child_pages (node_of pl) ++ child_pages (node_of pr)) → Wrote m2 u a ql → Freed u v b
     → key ≡ least m (suc h) b → Neighbours m (suc h) a b → Balances m v (suc h) a b None
 inners_joined m m1 m2 u v h a b n k key pl pr ql e1 e2 e f is js l eql wa fb ek nb =
     let r = inners_read m m1 a b pl pr n k e1 e f is js in
     let W : Store → Type 0 = λ x. Wrote x u a ql in
     let s = merges_of m u v a b ql _ (apart m (suc h) a b nb.owns) (subst W e2 wa) fb
-    (eql ∙ ap₂ (λ (x y : Node). inner (keys_of x ++ (key ∷ keys_of y)) (children_of x ++ children_of y)) (sym r.left) (sym r.right)) in
+    (eql ∙ ap₂ (λ (x y : Node). inner (keys_of x ++ (key ∷ keys_of y)) (child_pages x ++ child_pages y)) (sym r.left) (sym r.right)) in
     inners_merged m v h a b key nb ek s (omega (arith, l, r.size, r.right_size))

@@ -5,7 +5,7 @@ use Rattle.std.specs.Prelude.{Option, None, Some}
 use Rattle.std.proofs.lemmas.Bool.Decides.{leb_tells, eqb_tells}
 use Rattle.code_btree.specs.declared.map.Tree.{Tree}
 use Rattle.code_btree.specs.declared.remove.Shrunk.{Shrunk}
-use Rattle.code_btree.specs.Node.{Pair, Node, inner, node_of, keys_of, children_of, size_of, IsInnerOf, child_in}
+use Rattle.code_btree.specs.Node.{Pair, Node, inner, node_of, keys_of, child_pages, size_of, IsInnerOf, child_in}
 use Rattle.code_btree.specs.Items.{Each, Above, Ascending, find_item}
 use Rattle.code_btree.specs.Tree.{Store, node_in, node, items, pages, links, all_items, all_pages, all_links, same, times, live, Owns, Path, few, Sound, Filled, IsTreeAt}
 use Rattle.code_btree.specs.Tree.{IsTree, tree_items, tree_pages}
@@ -20,7 +20,7 @@ use Rattle.code_btree.proofs.Rises.{one_items}
 use Rattle.code_btree.proofs.Leaves.{here}
 use Rattle.code_btree.proofs.Counts.{many}
 use Rattle.code_btree.proofs.Roots.{keeps_of, one_pages, one_links}
-use Rattle.code_btree.proofs.Removes.{few_some}
+use Rattle.code_btree.proofs.Mends.{few_some}
 
 suc_before : (n : ℕ) (o : Option ℕ) → suc (count_before n o) ≡ count_before (suc n) o
 suc_before n None = refl
@@ -93,7 +93,7 @@ record Lower (w x : Store) (h n c : ℕ) : Type 0 where
 
 lower : (w x : Store) (h n c : ℕ) → Sound w (suc h) n → Owns w (suc h) (n ∷ []) → node w n ≡ inner [] (c ∷ []) → Freed w x n → Lower w x h n c
 lower w x h n c s o e f =
-    let kids : children_of (node w n) ≡ c ∷ [] = ap (λ (y : Node). children_of y) e in
+    let kids : child_pages (node w n) ≡ c ∷ [] = ap (λ (y : Node). child_pages y) e in
     let F : List ℕ → Type 0 = λ cs. Each (λ d. Filled w h d) cs in
     let pgs : (q : ℕ) → times q (pages w (suc h) n) ≡ same q n + times q (pages w h c) = λ q. ap (λ (cs : List ℕ). same q n + times q (all_pages w h cs)) kids
     ∙ ap (λ (ps : List ℕ). same q n + times q ps) (append-nil (pages w h c)) in
@@ -156,7 +156,7 @@ root_falls m w x t k entries height c s tree r0 e lone_node f eh tall =
 -- the only child of a page with no key, as it is read
 pub lone : (p : List ℕ) → IsInnerOf p 0 → node_of p ≡ inner [] (child_in p 0 ∷ [])
 lone p is = is.is_inner ∙ ap₂ (λ (x y : List ℕ). inner x y) (no_key (keys_of (node_of p)) is.counted)
-    (one_child (children_of (node_of p)) (child_in p 0) (omega (arith, is.children)) (child_is p 0 0 is (omega arith)))
+    (one_child (child_pages (node_of p)) (child_in p 0) (omega (arith, is.children)) (child_is p 0 0 is (omega arith)))
   where
     no_key : (ks : List ℕ) → length ks ≡ 0 → ks ≡ []
     no_key [] e = refl

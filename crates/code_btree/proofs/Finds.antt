@@ -1,7 +1,7 @@
 -- A key looked up, one level after the other.
 use Rattle.std.proofs.Common.{◌≡◌, ◌≢◌, ℕ, suc, ◌+◌, ◌-◌, ◌<◌, ◌≤◌, List, [], ◌∷◌, length, get_or, take, drop, sym, ◌∙◌, ap, subst, arith}
 use Rattle.std.specs.Prelude.{Option, None, Some, MatchOption}
-use Rattle.code_btree.specs.Node.{Pair, Node, leaf, inner, node_of, entries_of, next_of, keys_of, children_of, IsLeafOf, entry_key, entry_value, child_in}
+use Rattle.code_btree.specs.Node.{Pair, Node, leaf, inner, node_of, entries_of, next_of, keys_of, child_pages, IsLeafOf, entry_key, entry_value, child_in}
 use Rattle.code_btree.specs.Items.{Ascending, find_item}
 use Rattle.code_btree.specs.Tree.{Store, node, items, all_items}
 use Rattle.code_btree.specs.Steps.{Subtree, LeadsTo, InnerStep, IsFoundIn}
@@ -14,8 +14,8 @@ use Rattle.code_btree.proofs.Inserts.{At, at_page}
 
 pub find_down : (m : Store) (h n k : ℕ) (p : List ℕ) (count at : ℕ) → At m h n k p count at → find_item k (items m (suc h) n) ≡ find_item k (items m h (child_in p at))
 find_down m h n k p count at t =
-    let xs : List ℕ = take at (children_of (node_of p)) in
-    let ys : List ℕ = drop (at + 1) (children_of (node_of p)) in
+    let xs : List ℕ = take at (child_pages (node_of p)) in
+    let ys : List ℕ = drop (at + 1) (child_pages (node_of p)) in
     let c : ℕ = child_in p at in
     ap (λ (cs : List ℕ). find_item k (all_items m h cs)) t.split
     ∙ (ap (λ (es : List Pair). find_item k es) (items-three m h xs (c ∷ []) ys)
@@ -39,7 +39,7 @@ led m h n k c s l =
 pub led_none : (m : Store) (h n k : ℕ) → Subtree m (suc h) n → LeadsTo m n k None → ⊥
 led_none m h n k s l =
     let hh : node m n ≡ node_of l.page = here m n l.page l.read in
-    let P : Node → Type 0 = λ o. o ≡ inner (keys_of o) (children_of o) in
+    let P : Node → Type 0 = λ o. o ≡ inner (keys_of o) (child_pages o) in
     l.step (subst P hh s.sound.0.is_inner)
 
 -- in the code's words

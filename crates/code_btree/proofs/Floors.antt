@@ -2,7 +2,7 @@
 use Rattle.std.proofs.Common.{◌≡◌, ◌≢◌, ℕ, suc, ◌+◌, ◌-◌, ◌<◌, ◌≤◌, List, [], ◌∷◌, ◌++◌, length, get_or, take, drop, refl, sym, ◌∙◌, ap, ap₂, subst, arith, append-nil, take-append-drop}
 use Rattle.std.specs.Prelude.{Option, None, Some}
 use Rattle.std.proofs.lemmas.List.{drop_more, take_more}
-use Rattle.code_btree.specs.Node.{Pair, Node, leaf, node_of, entries_of, next_of, children_of, IsLeafOf, entry_key, entry_value, child_in}
+use Rattle.code_btree.specs.Node.{Pair, Node, leaf, node_of, entries_of, next_of, child_pages, IsLeafOf, entry_key, entry_value, child_in}
 use Rattle.code_btree.specs.Items.{Above, Below, Ascending, items_upto, last_item, floor_item}
 use Rattle.code_btree.specs.Tree.{Store, node, items, all_items, first_key}
 use Rattle.code_btree.specs.Steps.{Subtree, LeadsTo, InnerStep, IsFloorIn}
@@ -37,8 +37,8 @@ kids_some m h (x ∷ xs) l = omega arith
 
 pub floor_down : (m : Store) (h n k : ℕ) (p : List ℕ) (count at : ℕ) → At m h n k p count at → floor_item k (items m (suc h) n) ≡ floor_item k (items m h (child_in p at))
 floor_down m h n k p count at t =
-    let xs : List ℕ = take at (children_of (node_of p)) in
-    let ys : List ℕ = drop (at + 1) (children_of (node_of p)) in
+    let xs : List ℕ = take at (child_pages (node_of p)) in
+    let ys : List ℕ = drop (at + 1) (child_pages (node_of p)) in
     let c : ℕ = child_in p at in
     let a : List Pair = all_items m h xs in
     let b : List Pair = items m h c in

@@ -4,7 +4,7 @@ use Rattle.std.proofs.Common.{length-append, length-take, length-drop, take-appe
 use Rattle.std.specs.Prelude.{Option, Some}
 use Rattle.std.proofs.lemmas.List.{map-append, length-map, drop_more}
 use Rattle.std.proofs.lemmas.Bool.Decides.{leb_tells}
-use Rattle.code_btree.specs.Node.{Pair, Node, inner, node_of, keys_of, children_of, size_of, IsInnerOf, key_in, child_in}
+use Rattle.code_btree.specs.Node.{Pair, Node, inner, node_of, keys_of, child_pages, size_of, IsInnerOf, key_in, child_in}
 use Rattle.code_btree.specs.Items.{Each, Above, Ascending}
 use Rattle.code_btree.specs.Tree.{Store, node_in, node, items, all_items, first_key, least, live, few, Sound, Filled}
 use Rattle.code_btree.specs.Steps.{Alters, alter, Subtree, HalvesInner, InsertsUnder, Adopts, put_at}
@@ -38,20 +38,20 @@ pub record At (m : Store) (h n k : ℕ) (p : List ℕ) (count at : ℕ) : Type 0
   pub place : at ≤ count
   pub read : m n ≡ Some p
   pub tree : Subtree m (suc h) n
-  pub split : children_of (node m n) ≡ take at (children_of (node_of p)) ++ (child_in p at ∷ drop (at + 1) (children_of (node_of p)))
-  pub front : length (take at (children_of (node_of p))) ≡ at
-  pub descent : Descent m h k (take at (children_of (node_of p))) (child_in p at) (drop (at + 1) (children_of (node_of p)))
+  pub split : child_pages (node m n) ≡ take at (child_pages (node_of p)) ++ (child_in p at ∷ drop (at + 1) (child_pages (node_of p)))
+  pub front : length (take at (child_pages (node_of p))) ≡ at
+  pub descent : Descent m h k (take at (child_pages (node_of p))) (child_in p at) (drop (at + 1) (child_pages (node_of p)))
 
 pub at_page : (m : Store) (h n k : ℕ) (p : List ℕ) (count at : ℕ) → m n ≡ Some p → Subtree m (suc h) n → IsInnerOf p count → at ≤ count
     → (1 ≤ at → key_in p (at - 1) ≤ k) → (at < count → k < key_in p at) → At m h n k p count at
 at_page m h n k p count at e s is l f g =
-    let cs : List ℕ = children_of (node_of p) in
+    let cs : List ℕ = child_pages (node_of p) in
     let hh : node m n ≡ node_of p = here m n p e in
     let lc : length cs ≡ count + 1 = is.children in
     let lx : length (take at cs) ≡ at = omega (arith, length-take at cs) in
     let ly : length (drop (at + 1) cs) ≡ (count + 1) - (at + 1) = omega (arith, length-drop (at + 1) cs) in
-    let sp : children_of (node m n) ≡ take at cs ++ (child_in p at ∷ drop (at + 1) cs) =
-    ap (λ (o : Node). children_of o) hh ∙ (sym (take-append-drop at cs)
+    let sp : child_pages (node m n) ≡ take at cs ++ (child_in p at ∷ drop (at + 1) cs) =
+    ap (λ (o : Node). child_pages o) hh ∙ (sym (take-append-drop at cs)
     ∙ ap (λ (r : List ℕ). take at cs ++ r) (drop_more cs at 0 (omega arith) ∙ ap (λ (x : ℕ). x ∷ drop (at + 1) cs) (child_is p count at is (omega arith)))) in
     let kk : keys_of (node m n) ≡ keys_of (node_of p) = ap (λ (o : Node). keys_of o) hh in
     record {
@@ -77,8 +77,8 @@ pub insert_quiet : (m0 m w : Store) (h n k v count at : ℕ) (p : List ℕ) (was
     → InsertsUnder m0 w h (child_in p at) k v was Kept → InsertsUnder m w (suc h) n k v was Kept
 insert_quiet m0 m w h n k v count at p was e0 t i0 =
     let i : InsertsUnder m w h (child_in p at) k v was Kept = (let P : Store → Type 0 = λ x. InsertsUnder x w h (child_in p at) k v was Kept in subst P e0 i0) in
-    let xs : List ℕ = take at (children_of (node_of p)) in
-    let ys : List ℕ = drop (at + 1) (children_of (node_of p)) in
+    let xs : List ℕ = take at (child_pages (node_of p)) in
+    let ys : List ℕ = drop (at + 1) (child_pages (node_of p)) in
     let c : ℕ = child_in p at in
     let d = t.descent in
     let a = rowed m w h k xs c ys (c ∷ []) ((k, v) ∷ []) was d i.alters in
@@ -132,8 +132,8 @@ first_least w h (c ∷ rc) l e = first_key-append (items w h c) (all_items w h r
 adopter_live : (m0 m w : Store) (h n k val count at up r : ℕ) (p : List ℕ) (was : Option ℕ) → m0 ≡ m → At m h n k p count at → InsertsUnder m0 w h (child_in p at) k val was (Split up r) → live w n ≡ 1
 adopter_live m0 m w h n k val count at up r p was e0 t i0 =
     let i : InsertsUnder m w h (child_in p at) k val was (Split up r) = (let P : Store → Type 0 = λ x. InsertsUnder x w h (child_in p at) k val was (Split up r) in subst P e0 i0) in
-    let xs : List ℕ = take at (children_of (node_of p)) in
-    let ys : List ℕ = drop (at + 1) (children_of (node_of p)) in
+    let xs : List ℕ = take at (child_pages (node_of p)) in
+    let ys : List ℕ = drop (at + 1) (child_pages (node_of p)) in
     let c : ℕ = child_in p at in
     let a = rowed m w h k xs c ys (c ∷ (r ∷ [])) ((k, val) ∷ []) was t.descent i.alters in
     let st : w n ≡ m n = top_stays m w h n (xs ++ (c ∷ ys)) (xs ++ (c ∷ (r ∷ ys))) t.tree t.split a.change in
@@ -141,7 +141,7 @@ adopter_live m0 m w h n k val count at up r p was e0 t i0 =
 
 -- a page that took a child in has a key more
 pub adopted_more : (m0 m w v : Store) (h n k val count at up r : ℕ) (p : List ℕ) (was : Option ℕ) → m0 ≡ m → At m h n k p count at → InsertsUnder m0 w h (child_in p at) k val was (Split up r)
-    → (live w n ≡ 1 → Adopts w v n (put_at at up (keys_of (node_of p))) (put_at (at + 1) r (children_of (node_of p))) Kept) → size_of (node m n) + 1 ≤ size_of (node v n)
+    → (live w n ≡ 1 → Adopts w v n (put_at at up (keys_of (node_of p))) (put_at (at + 1) r (child_pages (node_of p))) Kept) → size_of (node m n) + 1 ≤ size_of (node v n)
 adopted_more m0 m w v h n k val count at up r p was e0 t i0 ad =
     let wr = ad (adopter_live m0 m w h n k val count at up r p was e0 t i0) in
     omega (
@@ -154,10 +154,10 @@ adopted_more m0 m w v h n k val count at up r p was e0 t i0 ad =
 -- the child was split: this page takes the new one in
 pub insert_adopted : (m0 m w v : Store) (h n k val count at up r : ℕ) (p : List ℕ) (was : Option ℕ) (grown : Grown) → m0 ≡ m → At m h n k p count at
     → InsertsUnder m0 w h (child_in p at) k val was (Split up r)
-    → (live w n ≡ 1 → Adopts w v n (put_at at up (keys_of (node_of p))) (put_at (at + 1) r (children_of (node_of p))) grown) → InsertsUnder m v (suc h) n k val was grown
+    → (live w n ≡ 1 → Adopts w v n (put_at at up (keys_of (node_of p))) (put_at (at + 1) r (child_pages (node_of p))) grown) → InsertsUnder m v (suc h) n k val was grown
 insert_adopted m0 m w v h n k val count at up r p was grown e0 t i0 ad =
     let i : InsertsUnder m w h (child_in p at) k val was (Split up r) = (let P : Store → Type 0 = λ x. InsertsUnder x w h (child_in p at) k val was (Split up r) in subst P e0 i0) in
-    let cs : List ℕ = children_of (node_of p) in
+    let cs : List ℕ = child_pages (node_of p) in
     let xs : List ℕ = take at cs in
     let ys : List ℕ = drop (at + 1) cs in
     let c : ℕ = child_in p at in
@@ -184,7 +184,7 @@ insert_adopted m0 m w v h n k val count at up r p was grown e0 t i0 ad =
     ap₂ (λ (j : ℕ) (x : List ℕ). put_at j up x) (sym lf) keys
     ∙ (seps_insert fs gs (least m h c) (least w h c) up (λ x. same_least (omega (arith, length-map xs (λ y. least m h y))))
     ∙ (ap (λ (x : ℕ). drop 1 (fs ++ (least w h c ∷ (x ∷ gs)))) i.grows.1.1 ∙ ap (λ (x : List ℕ). drop 1 x) (sym mapped))) in
-    let whole : cs ≡ xs ++ (c ∷ ys) = ap (λ (x : Node). children_of x) (sym hh) ∙ t.split in
+    let whole : cs ≡ xs ++ (c ∷ ys) = ap (λ (x : Node). child_pages x) (sym hh) ∙ t.split in
     let kids : put_at (at + 1) r cs ≡ new =
     ap (λ (x : List ℕ). put_at (at + 1) r x) whole ∙ put_right at 1 r xs (c ∷ ys) t.front in
     let full : Each (λ x. few h ≤ size_of (node w x)) new =
@@ -192,19 +192,19 @@ insert_adopted m0 m w v h n k val count at up r p was grown e0 t i0 ad =
     let lw : live w n ≡ 1 = adopter_live m0 m w h n k val count at up r p was e0 t i0 in
     go grown (let A : List ℕ → Type 0 = λ x. Adopts w v n ks x grown in subst A kids (ad lw)) a seps full
   where
-    go : (grown : Grown) → Adopts w v n (put_at at up (keys_of (node_of p))) (take at (children_of (node_of p)) ++ (child_in p at ∷ (r ∷ drop (at + 1) (children_of (node_of p))))) grown
-        → Alters m w h (take at (children_of (node_of p)) ++ (child_in p at ∷ drop (at + 1) (children_of (node_of p))))
-        (take at (children_of (node_of p)) ++ (child_in p at ∷ (r ∷ drop (at + 1) (children_of (node_of p))))) k ((k, val) ∷ []) was
-        → put_at at up (keys_of (node_of p)) ≡ drop 1 (map (λ x. least w h x) (take at (children_of (node_of p)) ++ (child_in p at ∷ (r ∷ drop (at + 1) (children_of (node_of p))))))
-        → Each (λ x. few h ≤ size_of (node w x)) (take at (children_of (node_of p)) ++ (child_in p at ∷ (r ∷ drop (at + 1) (children_of (node_of p)))))
+    go : (grown : Grown) → Adopts w v n (put_at at up (keys_of (node_of p))) (take at (child_pages (node_of p)) ++ (child_in p at ∷ (r ∷ drop (at + 1) (child_pages (node_of p))))) grown
+        → Alters m w h (take at (child_pages (node_of p)) ++ (child_in p at ∷ drop (at + 1) (child_pages (node_of p))))
+        (take at (child_pages (node_of p)) ++ (child_in p at ∷ (r ∷ drop (at + 1) (child_pages (node_of p))))) k ((k, val) ∷ []) was
+        → put_at at up (keys_of (node_of p)) ≡ drop 1 (map (λ x. least w h x) (take at (child_pages (node_of p)) ++ (child_in p at ∷ (r ∷ drop (at + 1) (child_pages (node_of p))))))
+        → Each (λ x. few h ≤ size_of (node w x)) (take at (child_pages (node_of p)) ++ (child_in p at ∷ (r ∷ drop (at + 1) (child_pages (node_of p)))))
         → InsertsUnder m v (suc h) n k val was grown
     go Kept wr a seps full =
-        let new : List ℕ = take at (children_of (node_of p)) ++ (child_in p at ∷ (r ∷ drop (at + 1) (children_of (node_of p)))) in
+        let new : List ℕ = take at (child_pages (node_of p)) ++ (child_in p at ∷ (r ∷ drop (at + 1) (child_pages (node_of p)))) in
         let ks : List ℕ = keys_of (node_of p) in
         record {
-          alters = up_written m w v h n k (take at (children_of (node_of p)) ++ (child_in p at ∷ drop (at + 1) (children_of (node_of p)))) new (put_at at up ks)
+          alters = up_written m w v h n k (take at (child_pages (node_of p)) ++ (child_in p at ∷ drop (at + 1) (child_pages (node_of p)))) new (put_at at up ks)
               ((k, val) ∷ []) was t.tree t.split a wr.0 seps
-              (omega (arith, length-append (take at (children_of (node_of p))) (child_in p at ∷ (r ∷ drop (at + 1) (children_of (node_of p)))))) wr.1 full;
+              (omega (arith, length-append (take at (child_pages (node_of p))) (child_in p at ∷ (r ∷ drop (at + 1) (child_pages (node_of p)))))) wr.1 full;
           grows = omega (
             arith,
             ap (λ (x : Node). size_of x) (here m n p t.read ∙ t.is.is_inner),
@@ -213,12 +213,12 @@ insert_adopted m0 m w v h n k val count at up r p was grown e0 t i0 ad =
           );
         }
     go (Split up2 r2) sp a seps full =
-        let new : List ℕ = take at (children_of (node_of p)) ++ (child_in p at ∷ (r ∷ drop (at + 1) (children_of (node_of p)))) in
-        let cs0 : List ℕ = take at (children_of (node_of p)) ++ (child_in p at ∷ drop (at + 1) (children_of (node_of p))) in
+        let new : List ℕ = take at (child_pages (node_of p)) ++ (child_in p at ∷ (r ∷ drop (at + 1) (child_pages (node_of p)))) in
+        let cs0 : List ℕ = take at (child_pages (node_of p)) ++ (child_in p at ∷ drop (at + 1) (child_pages (node_of p))) in
         let hv = sp.halves in
         let s = seps_split (λ x. least w h x) sp.lk sp.lc up2 sp.rk sp.rc (put_at at up (keys_of (node_of p))) new seps hv in
-        let kn : children_of (node v n) ≡ sp.lc = ap (λ (x : Node). children_of x) sp.cuts.node in
-        let kr : children_of (node v r2) ≡ sp.rc = ap (λ (x : Node). children_of x) sp.cuts.right_node in
+        let kn : child_pages (node v n) ≡ sp.lc = ap (λ (x : Node). child_pages x) sp.cuts.node in
+        let kr : child_pages (node v r2) ≡ sp.rc = ap (λ (x : Node). child_pages x) sp.cuts.right_node in
         let tp = topped m w v h n cs0 new (n ∷ (r2 ∷ [])) t.tree t.split (ap₂ (λ (x y : List ℕ). x ++ y) kn (one_kids v r2 ∙ kr) ∙ hv.children) a.change
         (λ q x y. sp.cuts.others q x (omega arith)) (cut_moved w v n r2 (inner sp.lk sp.lc) (inner sp.rk sp.rc) sp.cuts) in
         let filled : Each (λ x. Filled w h x) (sp.lc ++ sp.rc) =
@@ -227,7 +227,7 @@ insert_adopted m0 m w v h n k val count at up r p was grown e0 t i0 ad =
         let right_filled : Each (λ x. Filled w h x) sp.rc = Each-right (λ x. Filled w h x) sp.lc sp.rc filled in
         let stay : Each (λ x. Stays w v h x) sp.rc =
         (let P : List ℕ → Type 0 = λ x. Each (λ y. Stays w v h y) x in
-        subst P (one_kids v r2 ∙ kr) (Each-right (λ x. Stays w v h x) (children_of (node v n)) (all_kids v (r2 ∷ [])) (kids_stay m w v h (n ∷ []) (n ∷ (r2 ∷ [])) tp))) in
+        subst P (one_kids v r2 ∙ kr) (Each-right (λ x. Stays w v h x) (child_pages (node v n)) (all_kids v (r2 ∷ [])) (kids_stay m w v h (n ∷ []) (n ∷ (r2 ∷ [])) tp))) in
         let lst : least v (suc h) r2 ≡ up2 =
         ap (λ (x : List ℕ). first_key (all_items v h x)) kr
         ∙ (ap (λ (x : List Pair). first_key x) (row_items w v h sp.rc stay) ∙ (first_least w h sp.rc (omega (arith, hv.right)) right_filled ∙ sym s.1.0)) in

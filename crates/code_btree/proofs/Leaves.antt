@@ -2,7 +2,7 @@
 use Rattle.std.proofs.Common.{◌≡◌, ◌≢◌, ℕ, ◌+◌, ◌-◌, ◌<◌, ◌≤◌, List, [], ◌∷◌, ◌++◌, length, get_or, take, drop, refl, sym, ◌∙◌, ap, ap₂, subst, inl, inr, arith}
 use Rattle.std.proofs.Common.{length-append, length-take, length-drop}
 use Rattle.std.specs.Prelude.{Option, None, Some}
-use Rattle.code_btree.specs.Node.{Pair, Node, leaf, inner, node_of, entries_of, next_of, keys_of, children_of, size_of, IsLeafOf, entry_key, entry_value}
+use Rattle.code_btree.specs.Node.{Pair, Node, leaf, inner, node_of, entries_of, next_of, keys_of, child_pages, size_of, IsLeafOf, entry_key, entry_value}
 use Rattle.code_btree.specs.Items.{Ascending, find_item}
 use Rattle.code_btree.specs.Tree.{Store, node_in, node, all_items, first_key, same, live, Path, LeafOk}
 use Rattle.code_btree.specs.Steps.{Alters, alter, Subtree, Wrote, Gained, Writes, Cuts, SplitsLeaf, SplitsInner, HalvesLeaf, HalvesInner, InsertsUnder, put_at}
@@ -52,14 +52,14 @@ leaf_split_done m u v n r up nx pl pr p1 es l g wr e is nxt halves ue = record {
 }
 
 pub inner_split_done : (m u v : Store) (n r up : ℕ) (pl pr : List ℕ) (ks cs : List ℕ) → live m n ≡ 1 → Gained m u r pr → Wrote u v n pl
-    → node_of pl ≡ inner (keys_of (node_of pl)) (children_of (node_of pl))
-    → node_of pr ≡ inner (keys_of (node_of pr)) (children_of (node_of pr))
-    → HalvesInner (keys_of (node_of pl)) (children_of (node_of pl)) up (keys_of (node_of pr)) (children_of (node_of pr)) ks cs → SplitsInner m v n r up ks cs
+    → node_of pl ≡ inner (keys_of (node_of pl)) (child_pages (node_of pl))
+    → node_of pr ≡ inner (keys_of (node_of pr)) (child_pages (node_of pr))
+    → HalvesInner (keys_of (node_of pl)) (child_pages (node_of pl)) up (keys_of (node_of pr)) (child_pages (node_of pr)) ks cs → SplitsInner m v n r up ks cs
 inner_split_done m u v n r up pl pr ks cs l g wr e f halves = record {
   lk = keys_of (node_of pl);
-  lc = children_of (node_of pl);
+  lc = child_pages (node_of pl);
   rk = keys_of (node_of pr);
-  rc = children_of (node_of pr);
+  rc = child_pages (node_of pr);
   cuts = cuts_of m u v n r pl pr _ _ l g wr e f;
   halves = halves;
 }

@@ -2,7 +2,7 @@
 use Rattle.std.proofs.Common.{◌≡◌, ℕ, suc, ◌+◌, ◌*◌, ◌<◌, List, [], get_or, take, drop, ◌∙◌, ap, ap₂, arith, take-take, drop-drop}
 use Rattle.std.proofs.lemmas.List.{get_or-map, drop-take}
 use Rattle.code_btree.specs.Bytes.{piece, cells, number_of, word_of}
-use Rattle.code_btree.specs.Node.{Pair, node_of, entry_of, entries_of, keys_of, children_of, IsLeafOf, IsInnerOf, entry_key, entry_value, key_in, child_in}
+use Rattle.code_btree.specs.Node.{Pair, node_of, entry_of, entries_of, keys_of, child_pages, IsLeafOf, IsInnerOf, entry_key, entry_value, key_in, child_in}
 use Rattle.code_btree.proofs.Cells.{length-cells, get-cells}
 use Rattle.code_btree.proofs.Nodes.{leaf_bytes, inner_bytes}
 
@@ -11,7 +11,7 @@ key_is p n i h l =
     ap (λ (r : List ℕ). get_or r i 0) (inner_bytes p n h).keys
     ∙ (get_or-map number_of (cells 16 32 n p) i [] 0 (omega (arith, length-cells 16 32 n p)) ∙ ap (λ (b : List ℕ). number_of b) (get-cells 16 32 n p i [] l))
 
-pub child_is : (p : List ℕ) (n i : ℕ) → IsInnerOf p n → i < n + 1 → get_or (children_of (node_of p)) i 0 ≡ child_in p i
+pub child_is : (p : List ℕ) (n i : ℕ) → IsInnerOf p n → i < n + 1 → get_or (child_pages (node_of p)) i 0 ≡ child_in p i
 child_is p n i h l =
     ap (λ (r : List ℕ). get_or r i 0) (inner_bytes p n h).children
     ∙ (get_or-map word_of (cells 8 2736 (suc n) p) i [] 0 (omega (arith, length-cells 8 2736 (suc n) p)) ∙ ap (λ (b : List ℕ). word_of b) (get-cells 8 2736 (suc n) p i [] (omega arith)))

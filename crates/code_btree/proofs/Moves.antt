@@ -4,7 +4,7 @@ use Rattle.std.specs.Prelude.{Option}
 use Rattle.std.specs.List.{flat_map}
 use Rattle.std.proofs.lemmas.List.Concat.{flat_map-append}
 use Rattle.std.proofs.lemmas.Bool.Decides.{leb_tells}
-use Rattle.code_btree.specs.Node.{Pair, Node, inner, entries_of, next_of, keys_of, children_of, size_of}
+use Rattle.code_btree.specs.Node.{Pair, Node, inner, entries_of, next_of, keys_of, child_pages, size_of}
 use Rattle.code_btree.specs.Items.{Each}
 use Rattle.code_btree.specs.Tree.{Store, node_in, node, items, pages, links, all_items, all_pages, all_links, first_key, least, same, times, live, Owns, Path, LeafOk, TopOk, few, Sound, Filled}
 use Rattle.code_btree.specs.Steps.{Change}
@@ -19,9 +19,9 @@ pub record Stays (m w : Store) (h n : ℕ) : Type 0 where
   pub node : Rattle.code_btree.specs.Tree.node w n ≡ Rattle.code_btree.specs.Tree.node m n
   pub sound : Sound m h n → Sound w h n
 
-top_same : (f g : ℕ → ℕ) (o p : Node) → p ≡ o → map g (children_of o) ≡ map f (children_of o) → TopOk f o → TopOk g p
+top_same : (f g : ℕ → ℕ) (o p : Node) → p ≡ o → map g (child_pages o) ≡ map f (child_pages o) → TopOk f o → TopOk g p
 top_same f g o p e s t =
-    let c : children_of p ≡ children_of o = ap (λ (x : Node). children_of x) e in
+    let c : child_pages p ≡ child_pages o = ap (λ (x : Node). child_pages x) e in
     let k : keys_of p ≡ keys_of o = ap (λ (x : Node). keys_of x) e in
     record {
       is_inner = e ∙ (t.is_inner ∙ sym (ap₂ (λ (x y : List ℕ). inner x y) k c));
@@ -78,16 +78,16 @@ tree_stays m w zero n f =
     }
 tree_stays m w (suc h) n f =
     let e : node w n ≡ node m n = ap (λ (o : Option (List ℕ)). node_in o) (f n (omega (arith, same_self n))) in
-    let c : children_of (node w n) ≡ children_of (node m n) = ap (λ (o : Node). children_of o) e in
-    let row : Each (λ d. Stays m w h d) (children_of (node m n)) = row_by m w h (λ d. tree_stays m w h d) (children_of (node m n)) (λ q l. f q (omega arith)) in
+    let c : child_pages (node w n) ≡ child_pages (node m n) = ap (λ (o : Node). child_pages o) e in
+    let row : Each (λ d. Stays m w h d) (child_pages (node m n)) = row_by m w h (λ d. tree_stays m w h d) (child_pages (node m n)) (λ q l. f q (omega arith)) in
     record {
-      items = ap (λ (cs : List ℕ). all_items w h cs) c ∙ row_items m w h (children_of (node m n)) row;
-      pages = ap (λ (ps : List ℕ). n ∷ ps) (ap (λ (cs : List ℕ). all_pages w h cs) c ∙ row_pages m w h (children_of (node m n)) row);
-      links = ap (λ (cs : List ℕ). all_links w h cs) c ∙ row_links m w h (children_of (node m n)) row;
+      items = ap (λ (cs : List ℕ). all_items w h cs) c ∙ row_items m w h (child_pages (node m n)) row;
+      pages = ap (λ (ps : List ℕ). n ∷ ps) (ap (λ (cs : List ℕ). all_pages w h cs) c ∙ row_pages m w h (child_pages (node m n)) row);
+      links = ap (λ (cs : List ℕ). all_links w h cs) c ∙ row_links m w h (child_pages (node m n)) row;
       node = e;
       sound = λ s. (
-        top_same (λ d. least m h d) (λ d. least w h d) (node m n) (node w n) e (row_least m w h (children_of (node m n)) row) s.0,
-        (let P : List ℕ → Type 0 = λ cs. Each (λ d. Filled w h d) cs in subst P (sym c) (row_filled m w h (children_of (node m n)) row s.1)),
+        top_same (λ d. least m h d) (λ d. least w h d) (node m n) (node w n) e (row_least m w h (child_pages (node m n)) row) s.0,
+        (let P : List ℕ → Type 0 = λ cs. Each (λ d. Filled w h d) cs in subst P (sym c) (row_filled m w h (child_pages (node m n)) row s.1)),
       );
     }
 
@@ -162,17 +162,17 @@ widen-items m w h xs old ys new c o =
 
 -- the children of a row of inner pages
 abbrev pub all_kids : Store → List ℕ → List ℕ
-all_kids m ns = flat_map (λ n. children_of (node m n)) ns
+all_kids m ns = flat_map (λ n. child_pages (node m n)) ns
 
 pub pages_up : (m : Store) (h q : ℕ) (ns : List ℕ) → times q (all_pages m (suc h) ns) ≡ times q ns + times q (all_pages m h (all_kids m ns))
-pages_up m h q ns = times-heads q (λ n. all_pages m h (children_of (node m n))) ns
-    ∙ ap (λ (ps : List ℕ). times q ns + times q ps) (sym (flat_map-flat (λ c. pages m h c) (λ n. children_of (node m n)) ns))
+pages_up m h q ns = times-heads q (λ n. all_pages m h (child_pages (node m n))) ns
+    ∙ ap (λ (ps : List ℕ). times q ns + times q ps) (sym (flat_map-flat (λ c. pages m h c) (λ n. child_pages (node m n)) ns))
 
 pub items_up : (m : Store) (h : ℕ) (ns : List ℕ) → all_items m (suc h) ns ≡ all_items m h (all_kids m ns)
-items_up m h ns = sym (flat_map-flat (λ c. items m h c) (λ n. children_of (node m n)) ns)
+items_up m h ns = sym (flat_map-flat (λ c. items m h c) (λ n. child_pages (node m n)) ns)
 
 pub links_up : (m : Store) (h : ℕ) (ns : List ℕ) → all_links m (suc h) ns ≡ all_links m h (all_kids m ns)
-links_up m h ns = sym (flat_map-flat (λ c. links m h c) (λ n. children_of (node m n)) ns)
+links_up m h ns = sym (flat_map-flat (λ c. links m h c) (λ n. child_pages (node m n)) ns)
 
 -- the children of a row of tops changed, and then the tops themselves were written, gained or freed
 pub record Topped (m w v : Store) (h : ℕ) (olds news : List ℕ) : Type 0 where
@@ -193,13 +193,13 @@ kids_stay m w v h olds news t = row_stays w v h (all_kids v news) (λ q l.
     (omega (arith, t.owns q, pages_up m h q olds)) (live_small m q) (live_small v q) (t.kids.moved q) (λ a b. live_same m w q (t.kids.frame q a b)) (t.moved q) l in
     t.tops q x.0 x.1)
 
-sounds_up : (w v : Store) (h : ℕ) (ns : List ℕ) → Each (λ n. TopOk (λ c. least w h c) (node v n)) ns → Each (λ n. Each (λ c. Stays w v h c) (children_of (node v n))) ns
-    → Each (λ n. Each (λ c. Filled w h c) (children_of (node v n))) ns → Each (λ n. Sound v (suc h) n) ns
+sounds_up : (w v : Store) (h : ℕ) (ns : List ℕ) → Each (λ n. TopOk (λ c. least w h c) (node v n)) ns → Each (λ n. Each (λ c. Stays w v h c) (child_pages (node v n))) ns
+    → Each (λ n. Each (λ c. Filled w h c) (child_pages (node v n))) ns → Each (λ n. Sound v (suc h) n) ns
 sounds_up w v h [] a b c = tt
 sounds_up w v h (n ∷ ns) a b c = (
   (
-    top_same (λ d. least w h d) (λ d. least v h d) (node v n) (node v n) refl (row_least w v h (children_of (node v n)) b.0) a.0,
-    row_filled w v h (children_of (node v n)) b.0 c.0,
+    top_same (λ d. least w h d) (λ d. least v h d) (node v n) (node v n) refl (row_least w v h (child_pages (node v n)) b.0) a.0,
+    row_filled w v h (child_pages (node v n)) b.0 c.0,
   ),
   sounds_up w v h ns a.1 b.1 c.1,
 )
@@ -211,7 +211,7 @@ lift m w v h olds news t tops full =
     let filled : Each (λ c. Filled w h c) (all_kids v news) = Each-zip (λ c. Sound w h c) (λ c. few h ≤ size_of (node w c)) (λ c. Filled w h c) (λ c x y. (x, y)) (all_kids v news) t.kids.sound full in
     let ps : all_pages v h (all_kids v news) ≡ all_pages w h (all_kids v news) = row_pages w v h (all_kids v news) stay in
     record {
-      sound = sounds_up w v h news tops (Each-flat (λ c. Stays w v h c) (λ n. children_of (node v n)) news stay) (Each-flat (λ c. Filled w h c) (λ n. children_of (node v n)) news filled);
+      sound = sounds_up w v h news tops (Each-flat (λ c. Stays w v h c) (λ n. child_pages (node v n)) news stay) (Each-flat (λ c. Filled w h c) (λ n. child_pages (node v n)) news filled);
       frame = λ q a b.
           let z : times q olds ≡ 0 = omega (arith, pages_up m h q olds, b) in
           let k : times q (all_pages m h (all_kids m olds)) ≡ 0 = omega (arith, pages_up m h q olds, b) in

@@ -2,7 +2,7 @@
 use Rattle.std.proofs.Common.{◌≡◌, ℕ, suc, ◌+◌, ◌-◌, ◌<◌, ◌≤◌, List, [], ◌∷◌, ◌++◌, length, get_or, take, drop, map, refl, sym, ◌∙◌, ap, subst, arith, length-take, take-append-drop}
 use Rattle.std.specs.Prelude.{Option, Some}
 use Rattle.std.proofs.lemmas.List.{drop_more}
-use Rattle.code_btree.specs.Node.{Pair, Node, inner, node_of, keys_of, children_of, size_of, IsInnerOf, key_in, child_in}
+use Rattle.code_btree.specs.Node.{Pair, Node, inner, node_of, keys_of, child_pages, size_of, IsInnerOf, key_in, child_in}
 use Rattle.code_btree.specs.Items.{Each, Ascending}
 use Rattle.code_btree.specs.Tree.{Store, node, items, all_pages, least, times, live, Owns, few, Sound, Filled}
 use Rattle.code_btree.specs.Steps.{alter, put_at, Subtree, InsertsUnder, Adopts, Packs, Writes}
@@ -15,7 +15,8 @@ use Rattle.code_btree.proofs.Orders.{Ascending-put}
 use Rattle.code_btree.proofs.Moves.{change_none, change_next, owns_after, pages_up}
 use Rattle.code_btree.proofs.Rises.{fulls, one_items, one_kids, items_beneath, raise_written}
 use Rattle.code_btree.proofs.Inserts.{At, at_page, insert_adopted, adopted_more}
-use Rattle.code_btree.proofs.Removes.{Beside, mended, mended_length, top_size}
+use Rattle.code_btree.proofs.Mends.{Beside, mended}
+use Rattle.code_btree.proofs.Removes.{mended_length, top_size}
 
 -- nothing changed
 pub kept_apart : (m w : Store) (h n : ℕ) → w ≡ m → Subtree m h n → Packs m w h n
@@ -51,13 +52,13 @@ row_beside m h j cs f l =
 
 -- neighbours were balanced and their page was written
 pub packed : (m0 m v : Store) (h n j count size : ℕ) (p : List ℕ) → m0 ≡ m → m n ≡ Some p → Subtree m (suc h) n → IsInnerOf p count
-    → Mends m0 v h n j (keys_of (node_of p)) (children_of (node_of p)) size → Packs m v (suc h) n
+    → Mends m0 v h n j (keys_of (node_of p)) (child_pages (node_of p)) size → Packs m v (suc h) n
 packed m0 m v h n j count size p e0 e s is me0 =
     let ks : List ℕ = keys_of (node_of p) in
-    let cs : List ℕ = children_of (node_of p) in
+    let cs : List ℕ = child_pages (node_of p) in
     let me : Mends m v h n j ks cs size = (let P : Store → Type 0 = λ x. Mends x v h n j ks cs size in subst P e0 me0) in
     let hh : node m n ≡ node_of p = here m n p e in
-    let kids : children_of (node m n) ≡ cs = ap (λ (x : Node). children_of x) hh in
+    let kids : child_pages (node m n) ≡ cs = ap (λ (x : Node). child_pages x) hh in
     let row : Each (λ c. Filled m h c) cs = (let R : List ℕ → Type 0 = λ x. Each (λ c. Filled m h c) x in subst R kids s.sound.1) in
     let owns : Owns m h cs = λ q. omega (arith, s.owns q, pages_up m h q (n ∷ []), ap (λ (r : List ℕ). times q (all_pages m h r)) (one_kids m n ∙ kids)) in
     let seps : ks ≡ drop 1 (map (λ x. least m h x) cs) = ap (λ (x : Node). keys_of x) (sym hh) ∙ (s.sound.0.separators ∙ ap (λ (x : List ℕ). drop 1 (map (λ y. least m h y) x)) kids) in
@@ -88,7 +89,7 @@ put_under m w h n k val was s i =
 pub split_under : (m0 m w v : Store) (level n k val count at up r child : ℕ) (p : List ℕ) (was : Option ℕ) (below grown : Grown) → m0 ≡ m → 1 ≤ level → m n ≡ Some p → Subtree m level n
     → IsInnerOf p count → at ≤ count → (1 ≤ at → key_in p (at - 1) ≤ k) → (at < count → k < key_in p at) → child ≡ child_in p at → below ≡ Split up r
     → InsertsUnder m0 w (level - 1) child k val was below
-    → (live w n ≡ 1 → Adopts w v n (put_at at up (keys_of (node_of p))) (put_at (at + 1) r (children_of (node_of p))) grown)
+    → (live w n ≡ 1 → Adopts w v n (put_at at up (keys_of (node_of p))) (put_at (at + 1) r (child_pages (node_of p))) grown)
     → InsertsUnder m v level n k val was grown × (grown ≡ Kept → size_of (node m n) + 1 ≤ size_of (node v n))
 split_under m0 m w v level n k val count at up r child p was below grown e0 some e s is place before behind ce be i0 ad =
     let h : ℕ = level - 1 in
@@ -99,7 +100,7 @@ split_under m0 m w v level n k val count at up r child p was below grown e0 some
     let C : ℕ → Type 0 = λ x. InsertsUnder m0 w h x k val was (Split up r) in
     let i : InsertsUnder m0 w h (child_in p at) k val was (Split up r) = subst C ce (subst G be i0) in
     let R : ℕ → Type 0 = λ x. InsertsUnder m v x n k val was grown in
-    let A : Grown → Type 0 = λ x. live w n ≡ 1 → Adopts w v n (put_at at up (keys_of (node_of p))) (put_at (at + 1) r (children_of (node_of p))) x in (
+    let A : Grown → Type 0 = λ x. live w n ≡ 1 → Adopts w v n (put_at at up (keys_of (node_of p))) (put_at (at + 1) r (child_pages (node_of p))) x in (
       subst R (sym l) (insert_adopted m0 m w v h n k val count at up r p was grown e0 a i ad),
       λ kept. adopted_more m0 m w v h n k val count at up r p was e0 a i (subst A kept ad),
     )

@@ -3,7 +3,7 @@ use Rattle.std.proofs.Common.{◌≡◌, ℕ, zero, suc, ◌+◌, ◌-◌, ◌<�
 use Rattle.std.specs.Prelude.{Option}
 use Rattle.std.proofs.lemmas.List.{map-append, length-map}
 use Rattle.std.proofs.lemmas.List.Concat.{flat_map-append}
-use Rattle.code_btree.specs.Node.{Pair, Node, inner, keys_of, children_of, size_of}
+use Rattle.code_btree.specs.Node.{Pair, Node, inner, keys_of, child_pages, size_of}
 use Rattle.code_btree.specs.Items.{Each, Above, Below, Ascending, find_item}
 use Rattle.code_btree.specs.Tree.{Store, node_in, node, items, all_items, all_pages, first_key, least, same, times, live, Owns, TopOk, few, Sound, Filled}
 use Rattle.code_btree.specs.Steps.{Change, Alters, alter, Subtree, Writes, Cuts}
@@ -19,7 +19,7 @@ row_some m h some (c ∷ cs) l e = omega (arith, some c e.0, length-append (item
 -- a filled tree has a pair
 pub filled_some : (m : Store) (h n : ℕ) → Filled m h n → 1 ≤ length (items m h n)
 filled_some m zero n f = omega (arith, ap (λ (o : Node). size_of o) f.0.is_leaf, f.1)
-filled_some m (suc h) n f = row_some m h (λ d. filled_some m h d) (children_of (node m n)) f.0.0.some f.0.1
+filled_some m (suc h) n f = row_some m h (λ d. filled_some m h d) (child_pages (node m n)) f.0.0.some f.0.1
 
 pub first_key-append : (xs ys : List Pair) → 1 ≤ length xs → first_key (xs ++ ys) ≡ first_key xs
 first_key-append [] ys h = absurd (omega arith)
@@ -28,8 +28,8 @@ first_key-append (x ∷ xs) ys h = refl
 pub one_items : (m : Store) (h c : ℕ) → all_items m h (c ∷ []) ≡ items m h c
 one_items m h c = append-nil (items m h c)
 
-pub one_kids : (m : Store) (n : ℕ) → all_kids m (n ∷ []) ≡ children_of (node m n)
-one_kids m n = append-nil (children_of (node m n))
+pub one_kids : (m : Store) (n : ℕ) → all_kids m (n ∷ []) ≡ child_pages (node m n)
+one_kids m n = append-nil (child_pages (node m n))
 
 -- The child c under which the key belongs, between those of xs and those of ys.
 pub record Descent (m : Store) (h k : ℕ) (xs : List ℕ) (c : ℕ) (ys : List ℕ) : Type 0 where
@@ -51,7 +51,7 @@ above_by m h k [] e a g = tt
 above_by m h k (y ∷ ys) e a g =
     Above-from k (all_items m h (y ∷ ys)) a (λ l. let i : k < least m h y = g y ys refl in omega (arith, i, first_key-append (items m h y) (all_items m h ys) (filled_some m h y e.0)))
 
-pub descend : (m : Store) (h n k : ℕ) (xs : List ℕ) (c : ℕ) (ys : List ℕ) → Subtree m (suc h) n → children_of (node m n) ≡ xs ++ (c ∷ ys)
+pub descend : (m : Store) (h n k : ℕ) (xs : List ℕ) (c : ℕ) (ys : List ℕ) → Subtree m (suc h) n → child_pages (node m n) ≡ xs ++ (c ∷ ys)
     → (1 ≤ length xs → get_or (keys_of (node m n)) (length xs - 1) 0 ≤ k) → (1 ≤ length ys → k < get_or (keys_of (node m n)) (length xs) 0) → Descent m h k xs c ys
 descend m h n k xs c ys s e f g =
     let P : List ℕ → Type 0 = λ cs. Each (λ d. Filled m h d) cs in
@@ -120,7 +120,7 @@ pub row_right : (m w : Store) (h k : ℕ) (xs : List ℕ) (c : ℕ) (ys news : L
 row_right m w h k xs c ys news o was d a = right_stays m w h xs (c ∷ []) ys news a.change d.owns_row
 
 -- the page above a row stays while the row changes
-pub top_stays : (m w : Store) (h n : ℕ) (cs new : List ℕ) → Subtree m (suc h) n → children_of (node m n) ≡ cs → Change m w h cs new → w n ≡ m n
+pub top_stays : (m w : Store) (h n : ℕ) (cs new : List ℕ) → Subtree m (suc h) n → child_pages (node m n) ≡ cs → Change m w h cs new → w n ≡ m n
 top_stays m w h n cs new s e c =
     let k : times n (all_pages m h cs) ≡ times n (all_pages m h (all_kids m (n ∷ []))) = ap (λ (r : List ℕ). times n (all_pages m h r)) (sym (one_kids m n ∙ e)) in
     c.frame n (omega (arith, s.owns n, pages_up m h n (n ∷ []), same_self n, live_small m n)) (omega (arith, s.owns n, pages_up m h n (n ∷ []), same_self n, live_small m n, k))
@@ -128,7 +128,7 @@ top_stays m w h n cs new s e c =
 pub top_live : (m : Store) (h n : ℕ) → Subtree m (suc h) n → live m n ≡ 1
 top_live m h n s = omega (arith, s.owns n, pages_up m h n (n ∷ []), same_self n, live_small m n)
 
-pub topped : (m w v : Store) (h n : ℕ) (cs new news : List ℕ) → Subtree m (suc h) n → children_of (node m n) ≡ cs → all_kids v news ≡ new → Change m w h cs new
+pub topped : (m w v : Store) (h n : ℕ) (cs new news : List ℕ) → Subtree m (suc h) n → child_pages (node m n) ≡ cs → all_kids v news ≡ new → Change m w h cs new
     → ((q : ℕ) → same q n ≡ 0 → times q news ≡ 0 → v q ≡ w q) → ((q : ℕ) → live v q + same q n ≡ live w q + times q news) → Topped m w v h (n ∷ []) news
 topped m w v h n cs new news s e f a tops moved =
     let P : List ℕ → Type 0 = λ r. Change m w h r new in
@@ -141,7 +141,7 @@ topped m w v h n cs new news s e f a tops moved =
     }
 
 -- a row that changed, under tops that were written for it
-raise : (m w v : Store) (h n : ℕ) (cs new news : List ℕ) → Subtree m (suc h) n → children_of (node m n) ≡ cs → all_kids v news ≡ new → Change m w h cs new
+raise : (m w v : Store) (h n : ℕ) (cs new news : List ℕ) → Subtree m (suc h) n → child_pages (node m n) ≡ cs → all_kids v news ≡ new → Change m w h cs new
     → ((q : ℕ) → same q n ≡ 0 → times q news ≡ 0 → v q ≡ w q) → ((q : ℕ) → live v q + same q n ≡ live w q + times q news)
     → Each (λ t. TopOk (λ c. least w h c) (node v t)) news → Each (λ c. few h ≤ size_of (node w c)) new → Change m v (suc h) (n ∷ []) news × (all_items v (suc h) news ≡ all_items w h new)
 raise m w v h n cs new news s e f a tops moved ok full =
@@ -150,11 +150,11 @@ raise m w v h n cs new news s e f a tops moved ok full =
     (lift m w v h (n ∷ []) news t ok (subst F (sym f) full), lift-items m w v h (n ∷ []) news t ∙ ap (λ (r : List ℕ). all_items w h r) f)
 
 -- the pairs under a page are those of its row
-pub items_beneath : (m : Store) (h n : ℕ) (cs : List ℕ) → children_of (node m n) ≡ cs → all_items m (suc h) (n ∷ []) ≡ all_items m h cs
+pub items_beneath : (m : Store) (h n : ℕ) (cs : List ℕ) → child_pages (node m n) ≡ cs → all_items m (suc h) (n ∷ []) ≡ all_items m h cs
 items_beneath m h n cs e = items_up m h (n ∷ []) ∙ ap (λ (r : List ℕ). all_items m h r) (one_kids m n ∙ e)
 
 -- what the row's pairs became is what those under the top became
-altered : (m w v : Store) (h n k : ℕ) (cs new news : List ℕ) (o : List Pair) (was : Option ℕ) → children_of (node m n) ≡ cs → Alters m w h cs new k o was
+altered : (m w v : Store) (h n k : ℕ) (cs new news : List ℕ) (o : List Pair) (was : Option ℕ) → child_pages (node m n) ≡ cs → Alters m w h cs new k o was
     → Change m v (suc h) (n ∷ []) news × (all_items v (suc h) news ≡ all_items w h new) → Alters m v (suc h) (n ∷ []) news k o was
 altered m w v h n k cs new news o was e a r =
     let old : all_items m (suc h) (n ∷ []) ≡ all_items m h cs = items_beneath m h n cs e in
@@ -164,7 +164,7 @@ altered m w v h n k cs new news o was e a r =
       found = a.found ∙ ap (λ (es : List Pair). find_item k es) (sym old);
     }
 
-pub up : (m w v : Store) (h n k : ℕ) (cs new news : List ℕ) (o : List Pair) (was : Option ℕ) → Subtree m (suc h) n → children_of (node m n) ≡ cs → all_kids v news ≡ new → Alters m w h cs new k o was
+pub up : (m w v : Store) (h n k : ℕ) (cs new news : List ℕ) (o : List Pair) (was : Option ℕ) → Subtree m (suc h) n → child_pages (node m n) ≡ cs → all_kids v news ≡ new → Alters m w h cs new k o was
     → ((q : ℕ) → same q n ≡ 0 → times q news ≡ 0 → v q ≡ w q) → ((q : ℕ) → live v q + same q n ≡ live w q + times q news)
     → Each (λ t. TopOk (λ c. least w h c) (node v t)) news → Each (λ c. few h ≤ size_of (node w c)) new → Alters m v (suc h) (n ∷ []) news k o was
 up m w v h n k cs new news o was s e f a tops moved ok full = altered m w v h n k cs new news o was e a (raise m w v h n cs new news s e f a.change tops moved ok full)
@@ -172,7 +172,7 @@ up m w v h n k cs new news o was s e f a tops moved ok full = altered m w v h n 
 pub top_made : (f : ℕ → ℕ) (o : Node) (ks cs : List ℕ) → o ≡ inner ks cs → ks ≡ drop 1 (map f cs) → 1 ≤ length cs → length cs ≤ 170 → TopOk f o
 top_made f o ks cs e s l u =
     let kk : keys_of o ≡ ks = ap (λ (x : Node). keys_of x) e in
-    let cc : children_of o ≡ cs = ap (λ (x : Node). children_of x) e in
+    let cc : child_pages o ≡ cs = ap (λ (x : Node). child_pages x) e in
     record {
       is_inner = e ∙ sym (ap₂ (λ (x y : List ℕ). inner x y) kk cc);
       some = omega (arith, ap (λ (x : List ℕ). length x) cc);
@@ -181,13 +181,13 @@ top_made f o ks cs e s l u =
     }
 
 -- the top isn't written: its children are the same, and so are the keys between them
-pub up_quiet : (m w : Store) (h n k : ℕ) (cs : List ℕ) (o : List Pair) (was : Option ℕ) → Subtree m (suc h) n → children_of (node m n) ≡ cs → Alters m w h cs cs k o was
+pub up_quiet : (m w : Store) (h n k : ℕ) (cs : List ℕ) (o : List Pair) (was : Option ℕ) → Subtree m (suc h) n → child_pages (node m n) ≡ cs → Alters m w h cs cs k o was
     → drop 1 (map (λ c. least m h c) cs) ≡ drop 1 (map (λ c. least w h c) cs) → Each (λ c. few h ≤ size_of (node w c)) cs → Alters m w (suc h) (n ∷ []) (n ∷ []) k o was
 up_quiet m w h n k cs o was s e a seps full =
     let st : w n ≡ m n = top_stays m w h n cs cs s e a.change in
     let no : node w n ≡ node m n = ap (λ (x : Option (List ℕ)). node_in x) st in
     let t : TopOk (λ c. least m h c) (node m n) = s.sound.0 in
-    let kids : children_of (node w n) ≡ cs = ap (λ (x : Node). children_of x) no ∙ e in
+    let kids : child_pages (node w n) ≡ cs = ap (λ (x : Node). child_pages x) no ∙ e in
     up m w w h n k cs cs (n ∷ []) o was s e (one_kids w n ∙ kids) a (λ q x y. refl) (λ q. omega arith) (
       top_made (λ c. least w h c) (node w n) (keys_of (node m n)) cs (no ∙ (t.is_inner ∙ ap (λ (x : List ℕ). inner (keys_of (node m n)) x) e))
           (t.separators ∙ (ap (λ (x : List ℕ). drop 1 (map (λ c. least m h c) x)) e ∙ seps)) (omega (arith, t.some, ap (λ (x : List ℕ). length x) e))
@@ -197,11 +197,11 @@ up_quiet m w h n k cs o was s e a seps full =
     full
 
 -- the top is written
-pub raise_written : (m w v : Store) (h n : ℕ) (cs new ks : List ℕ) → Subtree m (suc h) n → children_of (node m n) ≡ cs → Change m w h cs new
+pub raise_written : (m w v : Store) (h n : ℕ) (cs new ks : List ℕ) → Subtree m (suc h) n → child_pages (node m n) ≡ cs → Change m w h cs new
     → Writes w v n (inner ks new) → ks ≡ drop 1 (map (λ c. least w h c) new)
     → 1 ≤ length new → length new ≤ 170 → Each (λ c. few h ≤ size_of (node w c)) new → Change m v (suc h) (n ∷ []) (n ∷ []) × (all_items v (suc h) (n ∷ []) ≡ all_items w h new)
 raise_written m w v h n cs new ks s e a wr seps l u full =
-    let kids : children_of (node v n) ≡ new = ap (λ (x : Node). children_of x) wr.node in
+    let kids : child_pages (node v n) ≡ new = ap (λ (x : Node). child_pages x) wr.node in
     raise m w v h n cs new (n ∷ []) s e (one_kids v n ∙ kids) a (λ q x y. wr.others q x)
     (λ q. elim (same_cases q n) [
       | inl i ↦ omega (arith, wr.before, wr.now, ap (λ (x : ℕ). live v x) i.1, ap (λ (x : ℕ). live w x) i.1)
@@ -210,7 +210,7 @@ raise_written m w v h n cs new ks s e a wr seps l u full =
     (top_made (λ c. least w h c) (node v n) ks new wr.node seps l u, tt)
     full
 
-pub up_written : (m w v : Store) (h n k : ℕ) (cs new ks : List ℕ) (o : List Pair) (was : Option ℕ) → Subtree m (suc h) n → children_of (node m n) ≡ cs → Alters m w h cs new k o was
+pub up_written : (m w v : Store) (h n k : ℕ) (cs new ks : List ℕ) (o : List Pair) (was : Option ℕ) → Subtree m (suc h) n → child_pages (node m n) ≡ cs → Alters m w h cs new k o was
     → Writes w v n (inner ks new) → ks ≡ drop 1 (map (λ c. least w h c) new) → 1 ≤ length new → length new ≤ 170 → Each (λ c. few h ≤ size_of (node w c)) new
     → Alters m v (suc h) (n ∷ []) (n ∷ []) k o was
 up_written m w v h n k cs new ks o was s e a wr seps l u full = altered m w v h n k cs new (n ∷ []) o was e a (raise_written m w v h n cs new ks s e a.change wr seps l u full)
@@ -228,12 +228,12 @@ cut_moved w v n r o p cut q = elim (same_cases q n) [
 ]
 
 -- the top is cut in two
-pub up_cut : (m w v : Store) (h n r k : ℕ) (cs new lk lc rk rc : List ℕ) (o : List Pair) (was : Option ℕ) → Subtree m (suc h) n → children_of (node m n) ≡ cs → Alters m w h cs new k o was
+pub up_cut : (m w v : Store) (h n r k : ℕ) (cs new lk lc rk rc : List ℕ) (o : List Pair) (was : Option ℕ) → Subtree m (suc h) n → child_pages (node m n) ≡ cs → Alters m w h cs new k o was
     → Cuts w v n r (inner lk lc) (inner rk rc) → lc ++ rc ≡ new → lk ≡ drop 1 (map (λ c. least w h c) lc) → rk ≡ drop 1 (map (λ c. least w h c) rc)
     → 1 ≤ length lc → length lc ≤ 170 → 1 ≤ length rc → length rc ≤ 170 → Each (λ c. few h ≤ size_of (node w c)) new → Alters m v (suc h) (n ∷ []) (n ∷ (r ∷ [])) k o was
 up_cut m w v h n r k cs new lk lc rk rc o was s e a cut joined sl sr l1 u1 l2 u2 full =
-    let kn : children_of (node v n) ≡ lc = ap (λ (x : Node). children_of x) cut.node in
-    let kr : children_of (node v r) ≡ rc = ap (λ (x : Node). children_of x) cut.right_node in
+    let kn : child_pages (node v n) ≡ lc = ap (λ (x : Node). child_pages x) cut.node in
+    let kr : child_pages (node v r) ≡ rc = ap (λ (x : Node). child_pages x) cut.right_node in
     let kids : all_kids v (n ∷ (r ∷ [])) ≡ new = ap₂ (λ (x y : List ℕ). x ++ y) kn (one_kids v r ∙ kr) ∙ joined in
     up m w v h n k cs new (n ∷ (r ∷ [])) o was s e kids a (λ q x y. cut.others q x (omega arith))
     (cut_moved w v n r (inner lk lc) (inner rk rc) cut)

@@ -3,7 +3,7 @@ use Rattle.std.proofs.Common.{◌≡◌, ℕ, suc, ◌+◌, ◌-◌, ◌*◌, �
 use Rattle.std.specs.Prelude.{Option}
 use Rattle.code_btree.specs.declared.map.Tree.{Tree}
 use Rattle.code_btree.specs.declared.insert.Grown.TheVariants.{Kept, Split}
-use Rattle.code_btree.specs.Node.{Pair, Node, leaf, inner, node_of, entries_of, next_of, children_of, size_of}
+use Rattle.code_btree.specs.Node.{Pair, Node, leaf, inner, node_of, entries_of, next_of, child_pages, size_of}
 use Rattle.code_btree.specs.Items.{Each, Ascending, find_item}
 use Rattle.code_btree.specs.Tree.{Store, node_in, node, items, pages, links, all_items, all_pages, all_links, least, same, times, live, Owns, Path, Filled, IsTreeAt, IsTree}
 use Rattle.code_btree.specs.Calls.{Keeps, Planted, Inserted}
@@ -107,7 +107,7 @@ root_grown m w x t k v entries height up r p was page tree i e eh g en =
     let a = i.alters in
     let row : List ℕ = n ∷ (r ∷ []) in
     let no : node x p ≡ inner (up ∷ []) row = ap (λ (y : Option (List ℕ)). node_in y) g.now ∙ en in
-    let kids : children_of (node x p) ≡ row = ap (λ (y : Node). children_of y) no in
+    let kids : child_pages (node x p) ≡ row = ap (λ (y : Node). child_pages y) no in
     let owned : Owns w h row = owns_after m w h (n ∷ []) row a.change tree.at.owns in
     let lw : live w p ≡ 0 = live_none w p g.before in
     let lx : live x p ≡ 1 = live_some x p page g.now in

@@ -10,7 +10,7 @@ use Rattle.code_btree.specs.declared.steps.Spot.{Spot}
 use Rattle.code_btree.specs.Node.{Pair}
 use Rattle.code_btree.specs.Tree.{Store, pages_in}
 use Rattle.code_btree.specs.Calls.{Peeks}
-use Rattle.code_btree.specs.Run.{left_at, least_left, StandsAt, RunsOn, step_gets, keys_left}
+use Rattle.code_btree.specs.Run.{pairs_to_come, least_left, StandsAt, RunsOn, step_gets, keys_left}
 use Rattle.code_btree.specs.Chain.{IsGiven, IsStep}
 use Rattle.code_btree.proofs.Stores.{same_store}
 
@@ -30,7 +30,7 @@ run_gave old new s after e o x ok h p some =
     let S : Store → Type 0 = λ m. StandsAt m after in
     record {
       steps = λ z. record {
-        given = λ told. (h.told told).0 ∙ ap (λ (m : Store). e ∷ left_at m after) (sym same);
+        given = λ told. (h.told told).0 ∙ ap (λ (m : Store). e ∷ pairs_to_come m after) (sym same);
         rises = (h.least, least_begun after e.0 h.begun h.from);
         goes_on = (ok, h.begun);
         ended = λ n. absurd (cc);

@@ -16,7 +16,7 @@ AtLeast key = Each (λ e. key ≤ e.0)
 
 -- A leaf of these entries, which leads to `next`, gave those of the range. It leads nowhere only where it is the last one or has an entry
 -- at the end of the range or behind it; where it leads on, it leads to the next one, and has no such entry if none is below the range.
-pub record Takes (es : List Pair) (next low high : ℕ) (old new : List Pair) (on : ℕ) : Type 0 where
+pub record TakesEntry (es : List Pair) (next low high : ℕ) (old new : List Pair) (on : ℕ) : Type 0 where
   pub taken : new ≡ old ++ items_between low high es
   pub ends : on ≡ 0 → (next ≡ 0) ⊎ (1 ≤ length (items_from high es))
   pub goes : 1 ≤ on → (on ≡ next) × (AtLeast low es → Below high es)
@@ -26,7 +26,7 @@ pub record IsTakenIn (m : Store) (n low high : ℕ) (old new : List Pair) (on : 
   pub page : List ℕ
   pub read : m n ≡ Some page
   pub step : node_of page ≡ leaf (entries_of (node_of page)) (next_of (node_of page)) → Ascending (entries_of (node_of page))
-      → Takes (entries_of (node_of page)) (next_of (node_of page)) low high old new on
+      → TakesEntry (entries_of (node_of page)) (next_of (node_of page)) low high old new on
 
 -- the leaf under page n to which a key belongs: all pairs of the leaves before it are below the key, and of those behind it none is
 pub record IsLeafFor (m : Store) (level n key lf : ℕ) : Type 0 where

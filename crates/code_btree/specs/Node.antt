@@ -17,22 +17,22 @@ unfoldable pub entry_of : List ℕ → Pair
 entry_of cell = (number_of (take 16 cell), number_of (take 16 (drop 16 cell)))
 
 -- bytes 2 and 3 are the count, of entries or of keys
-abbrev pub count_of : List ℕ → ℕ
-count_of page = half_of (piece 2 2 page)
+abbrev pub count_in_page : List ℕ → ℕ
+count_in_page page = half_of (piece 2 2 page)
 
 -- bytes 8 to 15 are the next leaf; entry i stands at 32 + 32 * i
 unfoldable pub leaf_of : List ℕ → Node
-leaf_of page = leaf (map entry_of (cells 32 32 (count_of page) page)) (word_of (piece 8 8 page))
+leaf_of page = leaf (map entry_of (cells 32 32 (count_in_page page) page)) (word_of (piece 8 8 page))
 
 -- key i stands at 32 + 16 * i, and child i at 2736 + 8 * i; there is one more child
 unfoldable pub inner_of : List ℕ → Node
-inner_of page = inner (map number_of (cells 16 32 (count_of page) page)) (map word_of (cells 8 2736 (suc (count_of page)) page))
+inner_of page = inner (map number_of (cells 16 32 (count_in_page page) page)) (map word_of (cells 8 2736 (suc (count_in_page page)) page))
 
 -- byte 0 is 1 for a leaf, of at most 127 entries, and 2 for an inner page, of at most 169 keys
 unfoldable pub node_of : List ℕ → Node
 node_of page =
-    cond (slice_index page 0 == 1 && nat_le (count_of page) 127) (leaf_of page)
-    (cond (slice_index page 0 == 2 && nat_le (count_of page) 169) (inner_of page) blank)
+    cond (slice_index page 0 == 1 && nat_le (count_in_page page) 127) (leaf_of page)
+    (cond (slice_index page 0 == 2 && nat_le (count_in_page page) 169) (inner_of page) blank)
 
 -- a leaf's entries
 abbrev pub entries_of : Node → List Pair
@@ -53,10 +53,10 @@ keys_of (inner keys children) = keys
 keys_of blank = []
 
 -- an inner page's children
-abbrev pub children_of : Node → List ℕ
-children_of (leaf entries next) = []
-children_of (inner keys children) = children
-children_of blank = []
+abbrev pub child_pages : Node → List ℕ
+child_pages (leaf entries next) = []
+child_pages (inner keys children) = children
+child_pages blank = []
 
 -- how much a page holds: a leaf's entries, an inner page's keys
 abbrev pub size_of : Node → ℕ
@@ -80,9 +80,9 @@ pub record IsLeafOf (page : List ℕ) (count : ℕ) : Type 0 where
 
 -- a page that is read as an inner page of so many keys and one child more
 pub record IsInnerOf (page : List ℕ) (count : ℕ) : Type 0 where
-  pub is_inner : node_of page ≡ inner (keys_of (node_of page)) (children_of (node_of page))
+  pub is_inner : node_of page ≡ inner (keys_of (node_of page)) (child_pages (node_of page))
   pub counted : length (keys_of (node_of page)) ≡ count
-  pub children : length (children_of (node_of page)) ≡ count + 1
+  pub children : length (child_pages (node_of page)) ≡ count + 1
   pub fits : count ≤ 169
 
 -- the entries, keys and children that stand in bytes

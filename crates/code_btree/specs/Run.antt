@@ -22,8 +22,8 @@ abbrev pub least_left : Spot → ℕ
 least_left s = cond s.begun (s.from + 1) s.from
 
 -- the pairs of the tree that are still to come
-abbrev pub left_at : Store → Spot → List Pair
-left_at m s = items_from (least_left s) (tree_items m s.tree)
+abbrev pub pairs_to_come : Store → Spot → List Pair
+pairs_to_come m s = items_from (least_left s) (tree_items m s.tree)
 
 -- the entries of these leaves
 abbrev pub chained : Store → List (ℕ × ℕ) → List Pair
@@ -46,7 +46,7 @@ pub record BeginsAt (m : Store) (t : Tree) (leaf place : ℕ) (es : List Pair) :
 -- A run stands over a tree; where it was begun, it knows the place of its next pair.
 pub record StandsAt (m : Store) (s : Spot) : Type 0 where
   pub tree : IsTree m s.tree
-  pub place : s.begun ≡ true → BeginsAt m s.tree s.leaf s.place (left_at m s)
+  pub place : s.begun ≡ true → BeginsAt m s.tree s.leaf s.place (pairs_to_come m s)
 
 -- A run as contracts see it: the pages that it reads, where it stands, and its outcome.
 pub record RunView : Type 0 where
@@ -60,7 +60,7 @@ run_view shown r = record { pool = shown r.pages.now; spot = r.spot; outcome = r
 
 -- the pairs that a run has still to give
 abbrev pub run_left : RunView → List Pair
-run_left r = left_at (pages_in r.pool) r.spot
+run_left r = pairs_to_come (pages_in r.pool) r.spot
 
 -- where the disk tells, a run that hasn't ended stands over its tree
 abbrev pub CanRun : RunView → Type 0

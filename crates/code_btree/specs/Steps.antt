@@ -2,7 +2,7 @@
 use Rattle.std.specs.Prelude.{◌≡◌, ℕ, ◌+◌, ◌-◌, ◌≤◌, ◌<◌, List, [], ◌∷◌, ◌++◌, take, drop, length, Option, None, Some, MatchOption, ◌≢◌}
 use Rattle.code_btree.specs.declared.insert.Grown.{Grown}
 use Rattle.code_btree.specs.declared.insert.Grown.TheVariants.{Kept, Split}
-use Rattle.code_btree.specs.Node.{Pair, Node, leaf, inner, node_of, entries_of, next_of, keys_of, children_of, size_of, IsInnerOf, key_in, child_in}
+use Rattle.code_btree.specs.Node.{Pair, Node, leaf, inner, node_of, entries_of, next_of, keys_of, child_pages, size_of, IsInnerOf, key_in, child_in}
 use Rattle.code_btree.specs.Items.{Each, Ascending, items_below, items_above, find_item, floor_item}
 use Rattle.code_btree.specs.Tree.{Store, items, pages, links, all_items, all_pages, all_links, first_key, least, same, times, live, Owns, Path, few, Sound}
 
@@ -117,9 +117,9 @@ gained_by Kept = []
 gained_by (Split up r) = r ∷ []
 
 -- a page that grew holds no less, or it was split in two that are filled, the second with this least key
-abbrev pub Grows : Store → Store → ℕ → ℕ → Grown → Type 0
-Grows m w level n Kept = size_of (Rattle.code_btree.specs.Tree.node m n) ≤ size_of (Rattle.code_btree.specs.Tree.node w n)
-Grows m w level n (Split up r) = (few level ≤ size_of (Rattle.code_btree.specs.Tree.node w n)) × ((few level ≤ size_of (Rattle.code_btree.specs.Tree.node w r)) × (up ≡ least w level r))
+abbrev pub GrowsPage : Store → Store → ℕ → ℕ → Grown → Type 0
+GrowsPage m w level n Kept = size_of (Rattle.code_btree.specs.Tree.node m n) ≤ size_of (Rattle.code_btree.specs.Tree.node w n)
+GrowsPage m w level n (Split up r) = (few level ≤ size_of (Rattle.code_btree.specs.Tree.node w n)) × ((few level ≤ size_of (Rattle.code_btree.specs.Tree.node w r)) × (up ≡ least w level r))
 
 -- a sound tree of ascending pairs, on live pages of its own
 pub record Subtree (m : Store) (level n : ℕ) : Type 0 where
@@ -130,7 +130,7 @@ pub record Subtree (m : Store) (level n : ℕ) : Type 0 where
 -- a pair put into the tree under page n
 pub record InsertsUnder (m w : Store) (level n key value : ℕ) (was : Option ℕ) (grown : Grown) : Type 0 where
   pub alters : Alters m w level (n ∷ []) (n ∷ gained_by grown) key ((key, value) ∷ []) was
-  pub grows : Grows m w level n grown
+  pub grows : GrowsPage m w level n grown
 
 -- the number of entries after a pair was put, by the value that its key had
 abbrev pub count_after : ℕ → Option ℕ → ℕ
@@ -151,7 +151,7 @@ pub record InnerStep (page : List ℕ) (key child : ℕ) : Type 0 where
 pub record LeadsTo (m : Store) (n key : ℕ) (child : Option ℕ) : Type 0 where
   pub page : List ℕ
   pub read : m n ≡ Some page
-  pub step : MatchOption child (node_of page ≢ inner (keys_of (node_of page)) (children_of (node_of page))) (λ c. InnerStep page key c)
+  pub step : MatchOption child (node_of page ≢ inner (keys_of (node_of page)) (child_pages (node_of page))) (λ c. InnerStep page key c)
 
 -- the leaf at this number has this value, or it is no leaf
 pub record IsFoundIn (m : Store) (n key : ℕ) (found : Option ℕ) : Type 0 where

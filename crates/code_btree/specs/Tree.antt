@@ -4,7 +4,7 @@ use Rattle.std.specs.List.{flat_map}
 use Rattle.std.specs.FinMap as fin
 use Rattle.page_pool.specs.Pool.{PoolState}
 use Rattle.code_btree.specs.declared.map.Tree.{Tree}
-use Rattle.code_btree.specs.Node.{Pair, Node, leaf, inner, blank, node_of, entries_of, next_of, keys_of, children_of, size_of}
+use Rattle.code_btree.specs.Node.{Pair, Node, leaf, inner, blank, node_of, entries_of, next_of, keys_of, child_pages, size_of}
 use Rattle.code_btree.specs.Items.{Each, Ascending}
 
 -- the live pages by their numbers
@@ -27,17 +27,17 @@ node m n = node_in (m n)
 -- the entries under page n, which stands so many levels above the leaves, from left to right
 abbrev pub items : Store → ℕ → ℕ → List Pair
 items m zero n = entries_of (node m n)
-items m (suc level) n = flat_map (λ c. items m level c) (children_of (node m n))
+items m (suc level) n = flat_map (λ c. items m level c) (child_pages (node m n))
 
 -- page n and the pages under it
 abbrev pub pages : Store → ℕ → ℕ → List ℕ
 pages m zero n = n ∷ []
-pages m (suc level) n = n ∷ flat_map (λ c. pages m level c) (children_of (node m n))
+pages m (suc level) n = n ∷ flat_map (λ c. pages m level c) (child_pages (node m n))
 
 -- the leaves under page n from left to right, each with the leaf that follows it
 abbrev pub links : Store → ℕ → ℕ → List (ℕ × ℕ)
 links m zero n = (n, next_of (node m n)) ∷ []
-links m (suc level) n = flat_map (λ c. links m level c) (children_of (node m n))
+links m (suc level) n = flat_map (λ c. links m level c) (child_pages (node m n))
 
 -- the same of a row of pages of one level
 abbrev pub all_items : Store → ℕ → List ℕ → List Pair
@@ -89,10 +89,10 @@ pub record LeafOk (o : Node) : Type 0 where
 
 -- an inner page of at most 170 children, whose key i is the least key under child i + 1
 pub record TopOk (least_of : ℕ → ℕ) (o : Node) : Type 0 where
-  pub is_inner : o ≡ inner (keys_of o) (children_of o)
-  pub some : 1 ≤ length (children_of o)
-  pub fits : length (children_of o) ≤ 170
-  pub separators : keys_of o ≡ drop 1 (map least_of (children_of o))
+  pub is_inner : o ≡ inner (keys_of o) (child_pages o)
+  pub some : 1 ≤ length (child_pages o)
+  pub fits : length (child_pages o) ≤ 170
+  pub separators : keys_of o ≡ drop 1 (map least_of (child_pages o))
 
 -- what a page other than the root holds at least: 63 entries, or 84 keys
 abbrev pub few : ℕ → ℕ
@@ -102,7 +102,7 @@ few (suc level) = 84
 -- Page n is the top of a tree of leaves of one depth, and every page under it is filled. (Of how full page n itself is nothing is said.)
 abbrev pub Sound : Store → ℕ → ℕ → Type 0
 Sound m zero n = LeafOk (node m n)
-Sound m (suc level) n = TopOk (λ c. least m level c) (node m n) × Each (λ c. Sound m level c × (few level ≤ size_of (node m c))) (children_of (node m n))
+Sound m (suc level) n = TopOk (λ c. least m level c) (node m n) × Each (λ c. Sound m level c × (few level ≤ size_of (node m c))) (child_pages (node m n))
 
 -- the same of a page other than the root
 abbrev pub Filled : Store → ℕ → ℕ → Type 0

@@ -3,7 +3,7 @@ ghost use Rattle.page_pool.specs.Pool.{IsTold};
 ghost use Rattle.code_btree.specs.Node.{Pair, IsLeafOf, node_of, entries_of, next_of};
 ghost use Rattle.code_btree.specs.Items.{Ascending};
 ghost use Rattle.code_btree.specs.Tree.{IsTree, pages_in, tree_items};
-ghost use Rattle.code_btree.specs.Between.{items_between, Takes, IsTakenIn, IsRest};
+ghost use Rattle.code_btree.specs.Between.{items_between, TakesEntry, IsTakenIn, IsRest};
 ghost use Rattle.code_btree.specs.Near.{IsNear};
 ghost use Rattle.code_btree.specs.Calls.{Looks, Peeks};
 
@@ -38,7 +38,7 @@ fn take_page(
     place: &mut usize,
 ) -> Result<u64, NoMemory>
     requires { IsLeafOf page.now count }
-    ensures { IfOk result (λ next. Ascending (entries_of (node_of page.now)) → Takes (entries_of (node_of page.now)) (next_of (node_of page.now)) low high found.old.items found.new.items next) }
+    ensures { IfOk result (λ next. Ascending (entries_of (node_of page.now)) → TakesEntry (entries_of (node_of page.now)) (next_of (node_of page.now)) low high found.old.items found.new.items next) }
 {
     let from = rank_from(page, count, *place, low);
     let mut at = from;
@@ -87,9 +87,11 @@ fn take_on<P: Pages>(
     found: &mut Vec<(u128, u128)>,
 ) -> Result<(), PageFault>
     requires { IsTold (P.shown pages.old) → IsTree (pages_in (P.shown pages.old)) tree }
-    ensures value { OnOk result (IsTold (P.shown pages.old) → (want : List Pair) → IsRest (pages_in (P.shown pages.old)) tree low high first tree.entries want → found.new.items ≡ found.old.items ++ want) }
+    ensures value { OnOk result (IsTold (P.shown pages.old) → (want : List Pair) → IsRest (pages_in (P.shown pages.old)) tree low high first tree.entries want
+        → found.new.items ≡ found.old.items ++ want) }
     ensures peeks { Peeks (P.shown pages.old) (P.shown pages.new) tree.entries result }
-    ensures price { IsTold (P.shown pages.old) → (want : List Pair) → IsRest (pages_in (P.shown pages.old)) tree low high first tree.entries want → (P.shown pages.new).gets ≤ (P.shown pages.old).gets + (1 + length want / 63) }
+    ensures price { IsTold (P.shown pages.old) → (want : List Pair) → IsRest (pages_in (P.shown pages.old)) tree low high first tree.entries want
+        → (P.shown pages.new).gets ≤ (P.shown pages.old).gets + (1 + length want / 63) }
 {
     let mut leaf = first;
     let mut left = tree.entries;
@@ -117,7 +119,8 @@ impl Tree {
         requires { IsTold (P.shown pages.old) → IsTree (pages_in (P.shown pages.old)) self.now }
         ensures value { IfOk result (λ found. IsTold (P.shown pages.old) → found.items ≡ items_between low high (tree_items (pages_in (P.shown pages.old)) self.now)) }
         ensures looks { Looks (P.shown pages.old) (P.shown pages.new) (self.now.height + self.now.entries) result }
-        ensures price { IsTold (P.shown pages.old) → (P.shown pages.new).gets ≤ (P.shown pages.old).gets + (self.now.height + 1 + length (items_between low high (tree_items (pages_in (P.shown pages.old)) self.now)) / 63) }
+        ensures price { IsTold (P.shown pages.old) → (P.shown pages.new).gets ≤ (P.shown pages.old).gets +
+            (self.now.height + 1 + length (items_between low high (tree_items (pages_in (P.shown pages.old)) self.now)) / 63) }
     {
         let mut near = Near::nowhere();
         self.between_near(alloc, pages, low, high, &mut near)
@@ -138,7 +141,8 @@ impl Tree {
         ensures value { IfOk result (λ found. IsTold (P.shown pages.old) → found.items ≡ items_between low high (tree_items (pages_in (P.shown pages.old)) self.now)) }
         ensures near { IsTold (P.shown pages.old) → IsNear (pages_in (P.shown pages.old)) self.now near.new }
         ensures looks { Looks (P.shown pages.old) (P.shown pages.new) (self.now.height + self.now.entries) result }
-        ensures price { IsTold (P.shown pages.old) → (P.shown pages.new).gets ≤ (P.shown pages.old).gets + (self.now.height + 1 + length (items_between low high (tree_items (pages_in (P.shown pages.old)) self.now)) / 63) }
+        ensures price { IsTold (P.shown pages.old) → (P.shown pages.new).gets ≤ (P.shown pages.old).gets +
+            (self.now.height + 1 + length (items_between low high (tree_items (pages_in (P.shown pages.old)) self.now)) / 63) }
     {
         if self.height == 0 {
             return Err(PageFault::Memory);

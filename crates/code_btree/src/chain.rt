@@ -4,7 +4,7 @@ ghost use Rattle.code_btree.specs.Node.{IsLeafOf, node_of, entries_of, next_of};
 ghost use Rattle.code_btree.specs.Items.{items_from};
 ghost use Rattle.code_btree.specs.Tree.{pages_in, IsTree, tree_items};
 ghost use Rattle.code_btree.specs.Steps.{Subtree};
-ghost use Rattle.code_btree.specs.Chain.{Gives, IsGivenIn, IsGivenFrom, Seeks, IsFirstOf};
+ghost use Rattle.code_btree.specs.Chain.{GivesEntry, IsGivenIn, IsGivenFrom, Seeks, IsFirstOf};
 ghost use Rattle.code_btree.specs.Calls.{Looks, Peeks};
 
 use crate::Tree;
@@ -25,7 +25,7 @@ pub struct Given {
 // What leaf `n` gives at a place.
 fn give(page: &Page, n: u64, count: usize, at: usize) -> Given
     requires { count ≤ 127 }
-    ensures { IsLeafOf page.now count → Gives (entries_of (node_of page.now)) (next_of (node_of page.now)) n at result }
+    ensures { IsLeafOf page.now count → GivesEntry (entries_of (node_of page.now)) (next_of (node_of page.now)) n at result }
 {
     let next = next_at(page);
     if at >= count {

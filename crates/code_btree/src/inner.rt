@@ -1,6 +1,6 @@
 ghost use Rattle.std.specs.Prelude.{◌≡◌, ◌+◌, ◌-◌, ◌*◌, ◌/◌, ◌%◌, ◌<◌, ◌≤◌, ◌≢◌, ◌∷◌, ◌++◌, [], true, false, length, take, drop, IfSome, MatchOption};
 ghost use Rattle.code_btree.specs.Bytes.{piece, word_of};
-ghost use Rattle.code_btree.specs.Node.{IsInnerOf, key_in, child_in, keys_in, children_in, keys_of, children_of, node_of};
+ghost use Rattle.code_btree.specs.Node.{IsInnerOf, key_in, child_in, keys_in, children_in, keys_of, child_pages, node_of};
 ghost use Rattle.code_btree.specs.Node.Node.{inner};
 ghost use Rattle.code_btree.specs.Search.{IsInnerSearch};
 
@@ -12,7 +12,7 @@ use std::cmp::min;
 // The number of an inner page's keys; other bytes are no inner page.
 #[inline]
 pub fn inner_count(page: &Page) -> Option<usize>
-    ensures { MatchOption result (node_of page.now ≢ inner (keys_of (node_of page.now)) (children_of (node_of page.now))) (λ count. IsInnerOf page.now count) }
+    ensures { MatchOption result (node_of page.now ≢ inner (keys_of (node_of page.now)) (child_pages (node_of page.now))) (λ count. IsInnerOf page.now count) }
 {
     let count = usize::from(half_at(page, 2));
     if page[0] != 2 {
@@ -200,7 +200,7 @@ pub fn children_at(page: &Page, count: usize, from: usize, to: usize) -> &[u8]
     requires within { to ≤ count + 1 }
     requires fits { count ≤ 169 }
     ensures size { length result.now ≡ 8 * (to - from) }
-    ensures children { IsInnerOf page.now count → children_in result.now ≡ take (to - from) (drop from (children_of (node_of page.now))) }
+    ensures children { IsInnerOf page.now count → children_in result.now ≡ take (to - from) (drop from (child_pages (node_of page.now))) }
 {
     &page[2736 + 8 * from..2736 + 8 * to]
 }
@@ -225,7 +225,8 @@ pub fn splice_inner(
     requires children_whole { length children.now % 8 ≡ 0 }
     requires room { from + (length keys.now / 16 + (count - to)) ≤ 169 }
     requires one_more { first + (length children.now / 8 + ((count + 1) - last)) ≡ from + (length keys.now / 16 + (count - to)) + 1 }
-    ensures value { node_of page.new ≡ inner (take from (keys_of (node_of page.old)) ++ (keys_in keys.now ++ drop to (keys_of (node_of page.old)))) (take first (children_of (node_of page.old)) ++ (children_in children.now ++ drop last (children_of (node_of page.old)))) }
+    ensures value { node_of page.new ≡ inner (take from (keys_of (node_of page.old)) ++ (keys_in keys.now ++ drop to (keys_of (node_of page.old))))
+        (take first (child_pages (node_of page.old)) ++ (children_in children.now ++ drop last (child_pages (node_of page.old)))) }
     ensures is { IsInnerOf page.new (from + (length keys.now / 16 + (count - to))) }
 {
     splice(page, 32 + 16 * from, 32 + 16 * to, 32 + 16 * count, keys);

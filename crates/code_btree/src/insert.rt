@@ -2,7 +2,7 @@ ghost use Rattle.std.specs.Prelude.{◌≡◌, ◌≤◌, ◌<◌, ◌+◌, IfOk
 ghost use Rattle.page_pool.specs.Pool.{IsOpen, IsTold};
 ghost use Rattle.page_pool.specs.Causes.{HasPageCause};
 ghost use Rattle.page_pool.specs.Steps.{InCommand};
-ghost use Rattle.code_btree.specs.Node.{IsLeafOf, IsInnerOf, node_of, entries_of, next_of, keys_of, children_of};
+ghost use Rattle.code_btree.specs.Node.{IsLeafOf, IsInnerOf, node_of, entries_of, next_of, keys_of, child_pages};
 ghost use Rattle.code_btree.specs.Tree.{live, pages_in};
 ghost use Rattle.code_btree.specs.Steps.{put_at, Subtree, InsertsUnder, SplitsLeaf, Adopts, Packs, count_after};
 
@@ -37,7 +37,8 @@ fn split_leaf<D: Disk>(
     requires opened { IsOpen pool.old }
     requires leaf { IsLeafOf page.old 127 }
     requires place { at ≤ 127 }
-    ensures value { IfOk result (λ r. live (pages_in pool.old) n ≡ 1 → SplitsLeaf (pages_in pool.old) (pages_in pool.new) n r.1 r.0 (put_at at (key, value) (entries_of (node_of page.old))) (next_of (node_of page.old))) }
+    ensures value { IfOk result (λ r. live (pages_in pool.old) n ≡ 1
+        → SplitsLeaf (pages_in pool.old) (pages_in pool.new) n r.1 r.0 (put_at at (key, value) (entries_of (node_of page.old))) (next_of (node_of page.old))) }
     ensures within { InCommand pool.old pool.new }
     ensures cause { HasPageCause pool.old pool.new result }
 {
@@ -94,7 +95,8 @@ fn adopt<D: Disk>(
     requires opened { IsOpen pool.old }
     requires inner { IsInnerOf page.old count }
     requires place { at ≤ count }
-    ensures value { IfOk result (λ grown. live (pages_in pool.old) n ≡ 1 → Adopts (pages_in pool.old) (pages_in pool.new) n (put_at at key (keys_of (node_of page.old))) (put_at (at + 1) child (children_of (node_of page.old))) grown) }
+    ensures value { IfOk result (λ grown. live (pages_in pool.old) n ≡ 1
+        → Adopts (pages_in pool.old) (pages_in pool.new) n (put_at at key (keys_of (node_of page.old))) (put_at (at + 1) child (child_pages (node_of page.old))) grown) }
     ensures within { InCommand pool.old pool.new }
     ensures cause { HasPageCause pool.old pool.new result }
 {

@@ -2,7 +2,7 @@ ghost use Rattle.std.specs.Prelude.{◌≡◌, ◌+◌, ◌≤◌, ◌<◌, ◌+
 ghost use Rattle.page_pool.specs.Pool.{IsOpen, IsTold};
 ghost use Rattle.page_pool.specs.Causes.{HasPageCause};
 ghost use Rattle.page_pool.specs.Steps.{InCommand};
-ghost use Rattle.code_btree.specs.Node.{IsLeaf, IsLeafOf, IsInnerOf, node_of, entries_of, next_of, keys_of, children_of};
+ghost use Rattle.code_btree.specs.Node.{IsLeaf, IsLeafOf, IsInnerOf, node_of, entries_of, next_of, keys_of, child_pages};
 ghost use Rattle.code_btree.specs.Node.Node.{leaf, inner};
 ghost use Rattle.code_btree.specs.Tree.{pages_in, least};
 ghost use Rattle.code_btree.specs.Steps.{HalvesLeaf, HalvesInner};
@@ -66,7 +66,7 @@ fn join_inners(page: &mut Page, count: usize, key: u128, right: &Page, more: usi
     requires inner { IsInnerOf page.old count }
     requires right_inner { IsInnerOf right.now more }
     requires room { count + more ≤ 168 }
-    ensures { node_of page.new ≡ inner (keys_of (node_of page.old) ++ (key ∷ keys_of (node_of right.now))) (children_of (node_of page.old) ++ children_of (node_of right.now)) }
+    ensures { node_of page.new ≡ inner (keys_of (node_of page.old) ++ (key ∷ keys_of (node_of right.now))) (child_pages (node_of page.old) ++ child_pages (node_of right.now)) }
 {
     put_child(page, count, count, key, child_at(right, 0));
     splice_inner(
@@ -88,9 +88,10 @@ fn even_inners(page: &mut Page, count: usize, key: u128, right: &mut Page, more:
     requires right_inner { IsInnerOf right.old more }
     requires many { 169 ≤ count + more }
     requires room { count + more ≤ 337 }
-    ensures halves { 83 ≤ count → 83 ≤ more → HalvesInner (keys_of (node_of page.new)) (children_of (node_of page.new)) result (keys_of (node_of right.new)) (children_of (node_of right.new)) (keys_of (node_of page.old) ++ (key ∷ keys_of (node_of right.old))) (children_of (node_of page.old) ++ children_of (node_of right.old)) }
-    ensures inner { node_of page.new ≡ inner (keys_of (node_of page.new)) (children_of (node_of page.new)) }
-    ensures right_inner { node_of right.new ≡ inner (keys_of (node_of right.new)) (children_of (node_of right.new)) }
+    ensures halves { 83 ≤ count → 83 ≤ more → HalvesInner (keys_of (node_of page.new)) (child_pages (node_of page.new)) result (keys_of (node_of right.new))
+        (child_pages (node_of right.new)) (keys_of (node_of page.old) ++ (key ∷ keys_of (node_of right.old))) (child_pages (node_of page.old) ++ child_pages (node_of right.old)) }
+    ensures inner { node_of page.new ≡ inner (keys_of (node_of page.new)) (child_pages (node_of page.new)) }
+    ensures right_inner { node_of right.new ≡ inner (keys_of (node_of right.new)) (child_pages (node_of right.new)) }
 {
     if count < more {
         let up = key_at(right, 0);
@@ -153,7 +154,8 @@ fn balance_inners<D: Disk>(
     b: u64,
 ) -> Result<Option<u128>, PageFault>
     requires { IsOpen pool.old }
-    ensures value { IfOk result (λ up. IsTold pool.old → (h : ℕ) → key ≡ least (pages_in pool.old) (suc h) b → Neighbours (pages_in pool.old) (suc h) a b → Balances (pages_in pool.old) (pages_in pool.new) (suc h) a b up) }
+    ensures value { IfOk result (λ up. IsTold pool.old → (h : ℕ) → key ≡ least (pages_in pool.old) (suc h) b → Neighbours (pages_in pool.old) (suc h) a b
+        → Balances (pages_in pool.old) (pages_in pool.new) (suc h) a b up) }
     ensures within { InCommand pool.old pool.new }
     ensures cause { HasPageCause pool.old pool.new result }
 {
@@ -192,7 +194,8 @@ pub fn balance<D: Disk>(
     b: u64,
 ) -> Result<Option<u128>, PageFault>
     requires { IsOpen pool.old }
-    ensures value { IfOk result (λ up. IsTold pool.old → key ≡ least (pages_in pool.old) level b → Neighbours (pages_in pool.old) level a b → Balances (pages_in pool.old) (pages_in pool.new) level a b up) }
+    ensures value { IfOk result (λ up. IsTold pool.old → key ≡ least (pages_in pool.old) level b → Neighbours (pages_in pool.old) level a b
+        → Balances (pages_in pool.old) (pages_in pool.new) level a b up) }
     ensures within { InCommand pool.old pool.new }
     ensures cause { HasPageCause pool.old pool.new result }
 {

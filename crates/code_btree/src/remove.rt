@@ -2,7 +2,7 @@ ghost use Rattle.std.specs.Prelude.{◌≡◌, ◌≤◌, ◌+◌, ◌++◌, ◌
 ghost use Rattle.page_pool.specs.Pool.{IsOpen, IsTold};
 ghost use Rattle.page_pool.specs.Causes.{HasPageCause};
 ghost use Rattle.page_pool.specs.Steps.{InCommand};
-ghost use Rattle.code_btree.specs.Node.{IsLeafOf, IsInnerOf, node_of, entries_of, keys_of, children_of};
+ghost use Rattle.code_btree.specs.Node.{IsLeafOf, IsInnerOf, node_of, entries_of, keys_of, child_pages};
 ghost use Rattle.code_btree.specs.Node.Node.{inner};
 ghost use Rattle.code_btree.specs.Tree.{pages_in, first_key};
 ghost use Rattle.code_btree.specs.Steps.{Subtree};
@@ -85,7 +85,7 @@ fn remove_leaf<D: Disk>(pool: &mut Pool<D>, n: u64, key: u128) -> Result<Shrunk,
 fn set_key(page: &mut Page, count: usize, at: usize, key: u128)
     requires inner { IsInnerOf page.old count }
     requires place { at + 1 ≤ count }
-    ensures value { node_of page.new ≡ inner (take at (keys_of (node_of page.old)) ++ ((key ∷ []) ++ drop (at + 1) (keys_of (node_of page.old)))) (children_of (node_of page.old)) }
+    ensures value { node_of page.new ≡ inner (take at (keys_of (node_of page.old)) ++ ((key ∷ []) ++ drop (at + 1) (keys_of (node_of page.old)))) (child_pages (node_of page.old)) }
     ensures is { IsInnerOf page.new count }
 {
     splice_inner(page, count, at, at + 1, &key_bytes(key), 0, 0, &[]);
@@ -96,7 +96,7 @@ fn set_key(page: &mut Page, count: usize, at: usize, key: u128)
 fn note(page: &mut Page, count: usize, at: usize, least: Option<u128>) -> bool
     requires inner { IsInnerOf page.old count }
     requires place { at ≤ count }
-    ensures value { node_of page.new ≡ inner (noted_keys at least (keys_of (node_of page.old))) (children_of (node_of page.old)) }
+    ensures value { node_of page.new ≡ inner (noted_keys at least (keys_of (node_of page.old))) (child_pages (node_of page.old)) }
     ensures is { IsInnerOf page.new count }
     ensures same { result ≡ false → page.new ≡ page.old }
 {
@@ -132,7 +132,7 @@ pub fn mend<D: Disk>(
 ) -> Result<usize, PageFault>
     requires opened { IsOpen pool.old }
     requires inner { IsInnerOf page.old count }
-    ensures value { IfOk result (λ size. IsTold pool.old → Mends (pages_in pool.old) (pages_in pool.new) level n j (keys_of (node_of page.old)) (children_of (node_of page.old)) size) }
+    ensures value { IfOk result (λ size. IsTold pool.old → Mends (pages_in pool.old) (pages_in pool.new) level n j (keys_of (node_of page.old)) (child_pages (node_of page.old)) size) }
     ensures within { InCommand pool.old pool.new }
     ensures cause { HasPageCause pool.old pool.new result }
 {

@@ -1,5 +1,5 @@
 ghost use Rattle.std.specs.Prelude.{◌≡◌, ◌+◌, ◌-◌, ◌≤◌, ◌<◌, ◌++◌, ◌∷◌, []};
-ghost use Rattle.code_btree.specs.Node.{IsLeafOf, IsInnerOf, node_of, entries_of, next_of, keys_of, children_of};
+ghost use Rattle.code_btree.specs.Node.{IsLeafOf, IsInnerOf, node_of, entries_of, next_of, keys_of, child_pages};
 ghost use Rattle.code_btree.specs.Node.Node.{leaf, inner};
 ghost use Rattle.code_btree.specs.Steps.{put_at, HalvesLeaf, HalvesInner};
 
@@ -46,7 +46,7 @@ pub fn put_child(page: &mut Page, count: usize, at: usize, key: u128, child: u64
     requires inner { IsInnerOf page.old count }
     requires place { at ≤ count }
     requires room { count < 169 }
-    ensures value { node_of page.new ≡ inner (put_at at key (keys_of (node_of page.old))) (put_at (at + 1) child (children_of (node_of page.old))) }
+    ensures value { node_of page.new ≡ inner (put_at at key (keys_of (node_of page.old))) (put_at (at + 1) child (child_pages (node_of page.old))) }
     ensures is { IsInnerOf page.new (count + 1) }
 {
     splice_inner(
@@ -66,8 +66,9 @@ pub fn put_child(page: &mut Page, count: usize, at: usize, key: u128, child: u64
 pub fn cut_inner(page: &mut Page, at: usize, key: u128, child: u64) -> (u128, Page)
     requires inner { IsInnerOf page.old 169 }
     requires place { at ≤ 169 }
-    ensures halves { HalvesInner (keys_of (node_of page.new)) (children_of (node_of page.new)) result.0 (keys_of (node_of result.1)) (children_of (node_of result.1)) (put_at at key (keys_of (node_of page.old))) (put_at (at + 1) child (children_of (node_of page.old))) }
-    ensures is { (node_of page.new ≡ inner (keys_of (node_of page.new)) (children_of (node_of page.new))) × (node_of result.1 ≡ inner (keys_of (node_of result.1)) (children_of (node_of result.1))) }
+    ensures halves { HalvesInner (keys_of (node_of page.new)) (child_pages (node_of page.new)) result.0 (keys_of (node_of result.1)) (child_pages (node_of result.1))
+        (put_at at key (keys_of (node_of page.old))) (put_at (at + 1) child (child_pages (node_of page.old))) }
+    ensures is { (node_of page.new ≡ inner (keys_of (node_of page.new)) (child_pages (node_of page.new))) × (node_of result.1 ≡ inner (keys_of (node_of result.1)) (child_pages (node_of result.1))) }
 {
     let up = key_at(page, 84);
     let mut right = *page;

@@ -3,7 +3,7 @@ ghost use Rattle.std.specs.Iterator.{at_most};
 ghost use Rattle.sand_base.specs.Faults.{next_count};
 ghost use Rattle.page_pool.specs.Pool.{IsTold};
 ghost use Rattle.code_btree.specs.Tree.{IsTree, pages_in};
-ghost use Rattle.code_btree.specs.Run.{CanRun, RunsOn, StandsAt, first_spot, keys_left, least_left, left_at, run_view, step_gets};
+ghost use Rattle.code_btree.specs.Run.{CanRun, RunsOn, StandsAt, first_spot, keys_left, least_left, pairs_to_come, run_view, step_gets};
 ghost use Rattle.code_btree.specs.Chain.{IsFirstOf, IsStep};
 ghost use Rattle.code_btree.specs.Calls.{Peeks};
 
@@ -56,7 +56,7 @@ impl Tree {
 // What stands at the run's next place.
 fn given_at<P: Pages>(pages: &mut P, spot: Spot) -> Result<Given, PageFault>
     requires { IsTold (P.shown pages.old) → StandsAt (pages_in (P.shown pages.old)) spot }
-    ensures value { IfOk result (λ given. IsTold (P.shown pages.old) → IsFirstOf (pages_in (P.shown pages.old)) spot.tree (left_at (pages_in (P.shown pages.old)) spot) given) }
+    ensures value { IfOk result (λ given. IsTold (P.shown pages.old) → IsFirstOf (pages_in (P.shown pages.old)) spot.tree (pairs_to_come (pages_in (P.shown pages.old)) spot) given) }
     ensures peeks { Peeks (P.shown pages.old) (P.shown pages.new) (step_gets spot) result }
     ensures some { spot.begun ≡ false → OnOk result (next_count (P.shown pages.old).gets ≤ (P.shown pages.new).gets) }
 {

@@ -21,8 +21,8 @@ use Rattle.script_text.specs.Field.{IsShapeField, IsFieldOf, ReadsField, is_shap
 use Rattle.script_text.specs.Grammar.{IsOf, whole}
 use Rattle.script_text.specs.Lexical.{Placed}
 use Rattle.script_text.specs.Lexing.{pieces, unread}
-use Rattle.script_text.specs.Number.{is_int, value_of}
-use Rattle.script_text.specs.Reading.{State, start}
+use Rattle.script_text.specs.Number.{is_int, number_value}
+use Rattle.script_text.specs.Reading.{TokenState, start}
 use Rattle.script_text.specs.Rules.{shape_form}
 use Rattle.script_text.specs.Token.{is_number}
 use Rattle.script_text.proofs.CutLaws.{cut-pieces, cut-are}
@@ -104,11 +104,11 @@ fits-text field h =
 -- a field of an int column, and one of a text column
 int-reads : (field : List ℕ) → ReadsField kind.Int field (int_value field)
 int-reads field =
-    let go : (a b : Bool) → is_number field ≡ a → is_int field ≡ b → ReadsField kind.Int field (cond (a && b) (Some (value.Int (value_of field))) None) =
+    let go : (a b : Bool) → is_number field ≡ a → is_int field ≡ b → ReadsField kind.Int field (cond (a && b) (Some (value.Int (number_value field))) None) =
     elim [
       | true ↦ elim [
         | true ↦ λ n i. (refl, n, i, refl)
-        | false ↦ λ n i. no-int field (sym (cond-false (is_int field) (Some (value_of field)) None i))
+        | false ↦ λ n i. no-int field (sym (cond-false (is_int field) (Some (number_value field)) None i))
       ]
       | false ↦ λ b n i. no-number field n
     ] in
@@ -154,7 +154,7 @@ kind-other s k h e = false≢true (sym h ∙ ap (same_kind (kind_of s)) (sym e) 
 -- a field of a column of shapes
 module _ (k : Kind) (spatial : is_spatial k ≡ true) (field : List ℕ) where
   -- by what is read of it, where it is all tokens
-  read-reads : list_all is_shape_byte field ≡ true → unread field ≡ [] → (r : Result (Shape × State) (List Placed)) → whole shape_form (start field) ≡ r → ReadsField k field (shape_read k r)
+  read-reads : list_all is_shape_byte field ≡ true → unread field ≡ [] → (r : Result (Shape × TokenState) (List Placed)) → whole shape_form (start field) ≡ r → ReadsField k field (shape_read k r)
   read-reads plain all (Err bad) e = no-shape k field spatial (stuck-none k field (start field) refl all bad e)
   read-reads plain all (Ok (s, after)) e =
       let go : (a b : Bool) → after.in_range ≡ a → same_kind (kind_of s) k ≡ b → ReadsField k field (cond (a && b) (Some (value.Shape s)) None) =
@@ -197,7 +197,7 @@ neg-range : (m : ℕ) → m ≤ 2 ^ 63 → IsIntInRange (neg_ℤ (pos m))
 neg-range zero h = record { low = omega arith; high = omega arith }
 neg-range (suc m) h = record { low = record { le = subst T (sym (le-leb m (2 ^ 63 - 1) (omega (arith, h)))) tt }; high = omega arith }
 
-int-range : (b : List ℕ) → is_int b ≡ true → IsIntInRange (value_of b)
+int-range : (b : List ℕ) → is_int b ≡ true → IsIntInRange (number_value b)
 int-range [] h = record { low = omega arith; high = omega arith }
 int-range (b ∷ bytes) h =
     let go : (t : Bool) → leb (cond t (digits_value 10 bytes) (digits_value 10 (b ∷ bytes))) (cond t (2 ^ 63) (2 ^ 63 - 1)) ≡ true

@@ -4,7 +4,7 @@ use Rattle.std.specs.Io.KnownBytes.{Consumes, IsAtEnd}
 use Rattle.std.proofs.lemmas.List.{append-nil, drop_at}
 use Rattle.sand_base.specs.Shelf.{Files, Opens}
 use Rattle.sand_model.specs.StatementChecks.{longest_file}
-use Rattle.csv_load.specs.FileBytes.{IsWhole, IsTooLong, IsOfTheOutside, IsTakenTo, Takes, TakesFew, TakesOn}
+use Rattle.csv_load.specs.FileBytes.{IsWholeFile, IsTooLong, IsOfTheOutside, IsTakenTo, TakesBytes, TakesFew, TakesOn}
 use Rattle.csv_load.specs.declared.fault.LoadFault.{LoadFault}
 use Rattle.csv_load.specs.declared.fault.LoadFault.TheVariants as fault
 
@@ -44,7 +44,7 @@ take-more files name old new bytes taken h c = go new (rw h.left_is at c) where
   }
 
 pub more-read : (first : Option Files) (name : List ℕ) (old new : Option (List ℕ)) (bytes now : List ℕ) (count : ℕ) → HasRead first name old bytes
-    → Takes old new bytes now count → HasRead first name new now
+    → TakesBytes old new bytes now count → HasRead first name new now
 more-read first name old new bytes now count h t told e = rw t.behind (take-more told name old new bytes t.taken (h told e) t.consumed)
 
 -- at the end it is the whole file
@@ -54,13 +54,13 @@ end-read files name left bytes h end =
     h.there ∙ ap (λ (r : List ℕ). Some (bytes ++ r)) none ∙ ap (λ (r : List ℕ). Some r) (append-nil bytes)
 
 pub whole-read : (first : Option Files) (name : List ℕ) (old new : Option (List ℕ)) (bytes now : List ℕ) (count : ℕ) → HasRead first name old bytes
-    → Takes old new bytes now count → count ≡ 0 → IsWhole first name now
+    → TakesBytes old new bytes now count → count ≡ 0 → IsWholeFile first name now
 whole-read first name old new bytes now count h t none told e =
     end-read told name new now (more-read first name old new bytes now count h t told e) (t.end none)
 
 -- with a byte too many it is too long
 pub long-read : (first : Option Files) (name : List ℕ) (old new : Option (List ℕ)) (bytes now : List ℕ) (count : ℕ) → HasRead first name old bytes
-    → Takes old new bytes now count → longest_file < length now → IsTooLong first name new
+    → TakesBytes old new bytes now count → longest_file < length now → IsTooLong first name new
 long-read first name old new bytes now count h t long told e =
     let read = more-read first name old new bytes now count h t told e in
     let few = t.few in

@@ -8,8 +8,8 @@ use Rattle.csv.proofs.ReadFacts.{rows-more, rows-end}
 use Rattle.sand_base.specs.declared.kind.Kind.{Kind}
 use Rattle.sand_base.specs.declared.value.Value.{Value}
 use Rattle.sand_model.specs.StatementChecks.{AreRows, HasBad}
-use Rattle.csv_load.specs.FileRows.{record_row, rows_from, first_row, file_rows, TellsColumn, TellsBad}
-use Rattle.csv_load.specs.Progress.{HasGiven}
+use Rattle.csv_load.specs.FileRows.{record_row, rows_from, first_row, rows_of_file, TellsColumn, TellsBad}
+use Rattle.csv_load.specs.Progress.{HasGivenRecords}
 use Rattle.csv_load.specs.declared.fault.LoadFault.{LoadFault}
 use Rattle.csv_load.specs.declared.fault.LoadFault.TheVariants as fault
 use Rattle.csv_load.proofs.RecordCount.{reached-bound, reached-records, none-left, strip-within}
@@ -20,19 +20,19 @@ abbrev left_of : Bor (List ℕ) → Option (List ℕ)
 left_of s = Some s.now
 
 -- one record more was given
-pub next-given : (bytes : List ℕ) (given : List (List (List ℕ))) (a b : ByteRecordsIntoIter (Bor (List ℕ))) (fields : List (List ℕ)) → HasGiven bytes given a
-    → ReadRecord left_of a.rdr b.rdr true fields → b.rdr.first ≡ true → 0 < b.left → HasGiven bytes (given ++ fields ∷ []) b
+pub next-given : (bytes : List ℕ) (given : List (List (List ℕ))) (a b : ByteRecordsIntoIter (Bor (List ℕ))) (fields : List (List ℕ)) → HasGivenRecords bytes given a
+    → ReadRecord left_of a.rdr b.rdr true fields → b.rdr.first ≡ true → 0 < b.left → HasGivenRecords bytes (given ++ fields ∷ []) b
 next-given bytes given a b fields h r first left =
     let more = rows-more left_of a.rdr b.rdr fields default_config st.StartRecord (strip_bom bytes) h.left given h.config h.source h.reached r in
     record { plain = r.3 ∙ h.plain; ready = inl first; goes_on = left; config = r.2 ∙ h.config; left = more.0; source = more.1; reached = more.2 }
 
 -- there are no more records than bytes, and one
-pub given-within : (bytes : List ℕ) (given : List (List (List ℕ))) (a : ByteRecordsIntoIter (Bor (List ℕ))) → HasGiven bytes given a → length given ≤ length bytes + 1
+pub given-within : (bytes : List ℕ) (given : List (List (List ℕ))) (a : ByteRecordsIntoIter (Bor (List ℕ))) → HasGivenRecords bytes given a → length given ≤ length bytes + 1
 given-within bytes given a h =
     omega (arith, strip-within bytes, reached-bound default_config st.StartRecord (strip_bom bytes) given a.rdr.state h.left h.reached)
 
 -- the records given are the first ones
-pub given-first : (bytes : List ℕ) (given : List (List (List ℕ))) (a : ByteRecordsIntoIter (Bor (List ℕ))) → HasGiven bytes given a
+pub given-first : (bytes : List ℕ) (given : List (List (List ℕ))) (a : ByteRecordsIntoIter (Bor (List ℕ))) → HasGivenRecords bytes given a
     → (left : List (List (List ℕ))) × (records default_config (strip_bom bytes) ≡ given ++ left)
 given-first bytes given a h = (
   records_from default_config (length (strip_bom bytes) + 1 - length given) a.rdr.state h.left,
@@ -41,7 +41,7 @@ given-first bytes given a h = (
 )
 
 -- at the end they are all
-pub given-all : (bytes : List ℕ) (given : List (List (List ℕ))) (a b : ByteRecordsIntoIter (Bor (List ℕ))) → HasGiven bytes given a
+pub given-all : (bytes : List ℕ) (given : List (List (List ℕ))) (a b : ByteRecordsIntoIter (Bor (List ℕ))) → HasGivenRecords bytes given a
     → ReadRecord left_of a.rdr b.rdr false [] → records default_config (strip_bom bytes) ≡ given
 given-all bytes given a b h r =
     let end = rows-end left_of a.rdr b.rdr [] default_config h.left h.config h.source r in
@@ -53,7 +53,7 @@ given-all bytes given a b h r =
 -- Records were given, so many, and those from the first on were entered as the rows.
 pub record HasEntered (bytes : List ℕ) (schema : List (List ℕ × Kind)) (first number : ℕ) (rows : List (List Value)) (it : ByteRecordsIntoIter (Bor (List ℕ))) : Type 0 where
   pub given : List (List (List ℕ))
-  pub state : HasGiven bytes given it
+  pub state : HasGivenRecords bytes given it
   pub counted : number ≡ length given
   pub read : rows_from first schema (drop (first - 1) given) ≡ AreRows rows
 
@@ -62,7 +62,7 @@ none-dropped zero = refl
 none-dropped (suc n) = refl
 
 -- none was given yet
-pub none-entered : (bytes : List ℕ) (schema : List (List ℕ × Kind)) (first : ℕ) (it : ByteRecordsIntoIter (Bor (List ℕ))) → HasGiven bytes [] it → HasEntered bytes schema first 0 [] it
+pub none-entered : (bytes : List ℕ) (schema : List (List ℕ × Kind)) (first : ℕ) (it : ByteRecordsIntoIter (Bor (List ℕ))) → HasGivenRecords bytes [] it → HasEntered bytes schema first 0 [] it
 none-entered bytes schema first it h = record { given = []; state = h; counted = refl; read = ap (rows_from first schema) (none-dropped (first - 1)) }
 
 -- a record too few for the first row was given
@@ -89,8 +89,8 @@ row-entered bytes schema first number rows a b fields row h r begun left many is
 
 -- all were given
 pub all-entered : (bytes : List ℕ) (schema : List (List ℕ × Kind)) (header : Bool) (first number : ℕ) (rows : List (List Value)) (a b : ByteRecordsIntoIter (Bor (List ℕ)))
-    → first ≡ first_row header → HasEntered bytes schema first number rows a → ReadRecord left_of a.rdr b.rdr false [] → file_rows bytes schema header ≡ AreRows rows
-unfolding file_rows
+    → first ≡ first_row header → HasEntered bytes schema first number rows a → ReadRecord left_of a.rdr b.rdr false [] → rows_of_file bytes schema header ≡ AreRows rows
+unfolding rows_of_file
 all-entered bytes schema header first number rows a b is h r =
     ap (λ (rs : List (List (List ℕ))). rows_from (first_row header) schema (drop (first_row header - 1) rs)) (given-all bytes h.given a b h.state r)
     ∙ ap (λ n. rows_from n schema (drop (n - 1) h.given)) (sym is)
@@ -105,8 +105,8 @@ first-some false = omega arith
 bad-given : (bytes : List ℕ) (schema : List (List ℕ × Kind)) (header : Bool) (first number : ℕ) (rows : List (List Value)) (a b : ByteRecordsIntoIter (Bor (List ℕ)))
     (fields : List (List ℕ)) (column : ℕ)
     → first ≡ first_row header → HasEntered bytes schema first number rows a → ReadRecord left_of a.rdr b.rdr true fields → b.rdr.first ≡ true → 0 < b.left → first ≤ number + 1
-    → record_row 1 schema fields ≡ Err column → file_rows bytes schema header ≡ HasBad (number + 1) column
-unfolding file_rows
+    → record_row 1 schema fields ≡ Err column → rows_of_file bytes schema header ≡ HasBad (number + 1) column
+unfolding rows_of_file
 bad-given bytes schema header first number rows a b fields column is h r begun left many bad =
     let front = given-first bytes (h.given ++ fields ∷ []) b (next-given bytes h.given a b fields h.state r begun left) in
     let all : records default_config (strip_bom bytes) ≡ h.given ++ fields ∷ front.0 = front.1 ∙ append_assoc h.given (fields ∷ []) front.0 in
@@ -121,7 +121,7 @@ bad-given bytes schema header first number rows a b fields column is h r begun l
 pub bad-told : (bytes : List ℕ) (schema : List (List ℕ × Kind)) (header : Bool) (first number : ℕ) (rows : List (List Value)) (a b : ByteRecordsIntoIter (Bor (List ℕ)))
     (fields : List (List ℕ)) (why : LoadFault)
     → first ≡ first_row header → HasEntered bytes schema first number rows a → ReadRecord left_of a.rdr b.rdr true fields → b.rdr.first ≡ true → 0 < b.left → first ≤ number + 1
-    → TellsColumn (number + 1) (record_row 1 schema fields) why → TellsBad (file_rows bytes schema header) why
+    → TellsColumn (number + 1) (record_row 1 schema fields) why → TellsBad (rows_of_file bytes schema header) why
 bad-told bytes schema header first number rows a b fields fault.Memory is h r begun left many tells = tells
 bad-told bytes schema header first number rows a b fields fault.File is h r begun left many tells = tells
 bad-told bytes schema header first number rows a b fields fault.FileTooLong is h r begun left many tells = tells

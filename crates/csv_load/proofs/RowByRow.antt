@@ -12,8 +12,8 @@ use Rattle.sand_base.specs.Shape.{value_kind}
 use Rattle.sand_base.specs.declared.kind.Kind.{Kind}
 use Rattle.sand_base.specs.declared.value.Value.{Value}
 use Rattle.sand_model.specs.StatementChecks.{FileRows, AreRows, HasBad}
-use Rattle.csv_load.specs.FieldValue.{field_value, value_in}
-use Rattle.csv_load.specs.FileRows.{put_value, record_row, put_row, rows_from, first_row, file_rows}
+use Rattle.csv_load.specs.FieldValue.{field_value, field_value_in}
+use Rattle.csv_load.specs.FileRows.{put_value, record_row, put_row, rows_from, first_row, rows_of_file}
 use Rattle.csv_load.proofs.FieldValues.{value-fits}
 
 -- one element more
@@ -66,7 +66,7 @@ no-field (f ∷ fs) (suc i) e = no-field fs i e
 -- what the columns from a place on give
 step : (columns : List (List ℕ × Kind)) (fields : List (List ℕ)) (values : List Value) (column : List ℕ × Kind) → length values < length columns → column ≡ get_or columns (length values) column
     → (found : Option (List ℕ)) → field_at fields (length values) ≡ found
-    → (v : Option Value) → value_in column.1 found ≡ v
+    → (v : Option Value) → field_value_in column.1 found ≡ v
     → record_row (1 + length values) (drop (length values) columns) (drop (length values) fields)
     ≡ put_value (1 + length values) v (record_row (1 + suc (length values)) (drop (suc (length values)) columns) (drop (suc (length values)) fields))
 step columns fields values column h e None at v is =
@@ -86,7 +86,7 @@ at-place columns column i n at e = e ∙ ap (λ k. get_or columns k column) at
 
 -- one column more was read
 pub more-read : (columns : List (List ℕ × Kind)) (fields : List (List ℕ)) (values : List Value) (i : ℕ) (column : List ℕ × Kind) (v : Value) → i ≡ length values → i < length columns
-    → column ≡ get_or columns i column → HasRead columns fields values → Some v ≡ value_in column.1 (field_at fields (length values)) → HasRead columns fields (values ++ v ∷ [])
+    → column ≡ get_or columns i column → HasRead columns fields values → Some v ≡ field_value_in column.1 (field_at fields (length values)) → HasRead columns fields (values ++ v ∷ [])
 more-read columns fields values i column v at h e so_far is =
     let here : length values < length columns = omega arith in
     let size : length (values ++ v ∷ []) ≡ suc (length values) = length-push values v in
@@ -101,7 +101,7 @@ more-read columns fields values i column v at h e so_far is =
 
 -- the leftmost bad column
 pub bad-column : (columns : List (List ℕ × Kind)) (fields : List (List ℕ)) (values : List Value) (i : ℕ) (column : List ℕ × Kind) → i ≡ length values → i < length columns
-    → column ≡ get_or columns i column → HasRead columns fields values → None ≡ value_in column.1 (field_at fields (length values)) → record_row 1 columns fields ≡ Err (length values + 1)
+    → column ≡ get_or columns i column → HasRead columns fields values → None ≡ field_value_in column.1 (field_at fields (length values)) → record_row 1 columns fields ≡ Err (length values + 1)
 bad-column columns fields values i column at h e so_far is =
     let here : length values < length columns = omega arith in
     let one = step columns fields values column here (at-place columns column i (length values) at e) (field_at fields (length values)) refl None (sym is) in
@@ -214,9 +214,9 @@ rows-fit number schema (fields ∷ given) rows e = go (record_row 1 schema field
       (All-cons (λ row. IsRowOf schema row × IsRowInRange row) first parts.0 (record-fits 1 schema fields first is) (more parts.0 parts.1))
   go (Err column) is e more = absurd cc
 
-pub file-rows-fit : (bytes : List ℕ) (schema : List (List ℕ × Kind)) (header : Bool) (rows : List (List Value)) → file_rows bytes schema header ≡ AreRows rows
+pub file-rows-fit : (bytes : List ℕ) (schema : List (List ℕ × Kind)) (header : Bool) (rows : List (List Value)) → rows_of_file bytes schema header ≡ AreRows rows
     → All (λ row. IsRowOf schema row × IsRowInRange row) rows
-unfolding file_rows
+unfolding rows_of_file
 file-rows-fit bytes schema header rows e = rows-fit (first_row header) schema _ rows e
 
 -- behind a header or not, one record more: it is left out, it is a row, or it is the first bad one

@@ -13,14 +13,14 @@ use Rattle.script_text.specs.Field.{is_shape_byte}
 use Rattle.script_text.specs.Grammar.{whole}
 use Rattle.script_text.specs.Lexical.{Placed}
 use Rattle.script_text.specs.Lexing.{unread}
-use Rattle.script_text.specs.Number.{is_int, value_of}
-use Rattle.script_text.specs.Reading.{State, start}
+use Rattle.script_text.specs.Number.{is_int, number_value}
+use Rattle.script_text.specs.Reading.{TokenState, start}
 use Rattle.script_text.specs.Rules.{shape_form}
 use Rattle.script_text.specs.Token.{is_number}
 
 -- the int that a field writes, where 64 bits hold it
 abbrev pub int_value : List ℕ → Option Value
-int_value field = cond (is_number field && is_int field) (Some (value.Int (value_of field))) None
+int_value field = cond (is_number field && is_int field) (Some (value.Int (number_value field))) None
 
 -- at most 255 bytes, well-formed, without a control character
 abbrev pub is_text : List ℕ → Bool
@@ -31,7 +31,7 @@ abbrev pub text_value : List ℕ → Option Value
 text_value field = cond (is_text field) (Some (value.Text field)) None
 
 -- the shape that was read, where it is in range and of the kind
-abbrev pub shape_read : Kind → Result (Shape × State) (List Placed) → Option Value
+abbrev pub shape_read : Kind → Result (Shape × TokenState) (List Placed) → Option Value
 shape_read k (Ok (s, after)) = cond (after.in_range && same_kind (kind_of s) k) (Some (value.Shape s)) None
 shape_read k (Err bad) = None
 
@@ -46,6 +46,6 @@ field_value kind.Text field = text_value field
 field_value k field = shape_value k field
 
 -- the value of a field that may be missing
-abbrev pub value_in : Kind → Option (List ℕ) → Option Value
-value_in k None = None
-value_in k (Some field) = field_value k field
+abbrev pub field_value_in : Kind → Option (List ℕ) → Option Value
+field_value_in k None = None
+field_value_in k (Some field) = field_value k field

@@ -8,8 +8,8 @@ use Rattle.csv_load.specs.declared.fault.LoadFault.{LoadFault}
 use Rattle.csv_load.specs.declared.fault.LoadFault.TheVariants as fault
 
 -- where the shelf tells its files, the one of the name has these bytes
-abbrev pub IsWhole : Option Files → List ℕ → List ℕ → Type 0
-IsWhole files name bytes = (told : Files) → files ≡ Some told → told name ≡ Some bytes
+abbrev pub IsWholeFile : Option Files → List ℕ → List ℕ → Type 0
+IsWholeFile files name bytes = (told : Files) → files ≡ Some told → told name ≡ Some bytes
 
 -- the file of the name has more bytes than a data file may have, and all but one too many are left
 pub record IsLongFile (files : Files) (name : List ℕ) (left : Option (List ℕ)) : Type 0 where
@@ -36,12 +36,12 @@ TakesFew files name left = (told : Files) → files ≡ Some told → IsTakenTo 
 
 -- A fault of the shelf comes exactly where its count rose, by one. Otherwise the count stayed, and a fault is one of
 -- memory or of a file that is too long.
-abbrev pub IsCaused : {A : Type 0} → ℕ → ℕ → Result A LoadFault → Type 0
-IsCaused before now (Ok a) = now ≡ before
-IsCaused before now (Err fault.Memory) = now ≡ before
-IsCaused before now (Err fault.File) = now ≡ next_count before
-IsCaused before now (Err fault.FileTooLong) = now ≡ before
-IsCaused before now (Err (fault.BadRecord row column)) = ⊥
+abbrev pub IsLoadCaused : {A : Type 0} → ℕ → ℕ → Result A LoadFault → Type 0
+IsLoadCaused before now (Ok a) = now ≡ before
+IsLoadCaused before now (Err fault.Memory) = now ≡ before
+IsLoadCaused before now (Err fault.File) = now ≡ next_count before
+IsLoadCaused before now (Err fault.FileTooLong) = now ≡ before
+IsLoadCaused before now (Err (fault.BadRecord row column)) = ⊥
 
 -- the fault is of memory or of the shelf
 abbrev pub IsOfTheOutside : LoadFault → Type 0
@@ -57,7 +57,7 @@ pub record TakesOn (old new : Option (List ℕ)) (before : List ℕ) : Type 0 wh
   pub few : length before + length taken ≤ longest_file + 1
 
 -- so many bytes were taken from those that were left, behind the others; none only at the file's end
-pub record Takes (old new : Option (List ℕ)) (before now : List ℕ) (count : ℕ) : Type 0 where
+pub record TakesBytes (old new : Option (List ℕ)) (before now : List ℕ) (count : ℕ) : Type 0 where
   pub taken : List ℕ
   pub counted : length taken ≡ count
   pub behind : now ≡ before ++ taken

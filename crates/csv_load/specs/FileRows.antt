@@ -40,8 +40,8 @@ first_row false = 1
 
 -- The rows of a file of these bytes, or its first bad record with the leftmost bad column. A byte-order mark at the start is
 -- no part of the text.
-unfoldable pub file_rows : List ℕ → List (List ℕ × Kind) → Bool → FileRows
-file_rows bytes schema header = rows_from (first_row header) schema (drop (first_row header - 1) (records default_config (strip_bom bytes)))
+unfoldable pub rows_of_file : List ℕ → List (List ℕ × Kind) → Bool → FileRows
+rows_of_file bytes schema header = rows_from (first_row header) schema (drop (first_row header - 1) (records default_config (strip_bom bytes)))
 
 -- what a fault tells of a record: its leftmost bad column, or that memory was refused
 abbrev pub TellsColumn : ℕ → Result (List Value) ℕ → LoadFault → Type 0

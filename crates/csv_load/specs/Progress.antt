@@ -7,7 +7,7 @@ use Rattle.csv.specs.declared.parser.State.TheVariants as st
 use Rattle.csv.specs.declared.reader.Trim.TheVariants as trim
 
 -- the iterator gave these records of the bytes, and goes on behind them with what is left
-pub record HasGiven (bytes : List ℕ) (given : List (List (List ℕ))) (it : ByteRecordsIntoIter (Bor (List ℕ))) : Type 0 where
+pub record HasGivenRecords (bytes : List ℕ) (given : List (List (List ℕ))) (it : ByteRecordsIntoIter (Bor (List ℕ))) : Type 0 where
   pub plain : it.rdr.trim ≡ trim.None
   pub ready : Ready it.rdr
   pub goes_on : 0 < it.left

@@ -3,7 +3,7 @@ ghost use Rattle.std.specs.Io.KnownBytes.{ReadConsumes};
 ghost use Rattle.sand_base.specs.Faults.{HasCause};
 ghost use Rattle.sand_model.specs.StatementChecks.{longest_file};
 ghost use Rattle.csv_load.specs.declared.fault.LoadFault.TheVariants as fault;
-ghost use Rattle.csv_load.specs.FileBytes.{IsCaused, IsOfTheOutside, IsTooLong, IsWhole, Takes, TakesFew, TakesOn};
+ghost use Rattle.csv_load.specs.FileBytes.{IsLoadCaused, IsOfTheOutside, IsTooLong, IsWholeFile, TakesBytes, TakesFew, TakesOn};
 
 use crate::{LONGEST_FILE, LoadFault};
 use sand_base::{Failed, Shelf};
@@ -33,10 +33,10 @@ fn read_more<H: Shelf>(shelf: &mut H, bytes: &mut Vec<u8>) -> Result<usize, Load
     requires short { length bytes.old.items ≤ longest_file }
     ensures files { H.files shelf.new ≡ H.files shelf.old }
     ensures chosen { H.chosen shelf.new }
-    ensures takes { IfOk result (λ n. Takes (H.left shelf.old) (H.left shelf.new) bytes.old.items bytes.new.items n) }
+    ensures takes { IfOk result (λ n. TakesBytes (H.left shelf.old) (H.left shelf.new) bytes.old.items bytes.new.items n) }
     ensures few { TakesOn (H.left shelf.old) (H.left shelf.new) bytes.old.items }
     ensures outside { IfErr result IsOfTheOutside }
-    ensures cause { IsCaused (H.faults shelf.old) (H.faults shelf.new) result }
+    ensures cause { IsLoadCaused (H.faults shelf.old) (H.faults shelf.new) result }
 {
     let mut piece = [0; PIECE];
     let want = PIECE.min(LONGEST_FILE + 1 - bytes.len());
@@ -50,10 +50,10 @@ fn read_more<H: Shelf>(shelf: &mut H, bytes: &mut Vec<u8>) -> Result<usize, Load
 pub fn read_file<H: Shelf>(alloc: Global, shelf: &mut H, name: &str) -> Result<Vec<u8>, LoadFault>
     ensures files { H.files shelf.new ≡ H.files shelf.old }
     ensures short { IfOk result (λ bytes. length bytes.items ≤ longest_file) }
-    ensures whole { IfOk result (λ bytes. IsWhole (H.files shelf.old) name.now bytes.items) }
+    ensures whole { IfOk result (λ bytes. IsWholeFile (H.files shelf.old) name.now bytes.items) }
     ensures long { result ≡ Err fault.FileTooLong → IsTooLong (H.files shelf.old) name.now (H.left shelf.new) }
     ensures few { H.chosen shelf.new → TakesFew (H.files shelf.old) name.now (H.left shelf.new) }
-    ensures cause { IsCaused (H.faults shelf.old) (H.faults shelf.new) result }
+    ensures cause { IsLoadCaused (H.faults shelf.old) (H.faults shelf.new) result }
 {
     shelf.choose(name)?;
     let mut bytes = Vec::new(alloc);

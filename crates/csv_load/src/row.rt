@@ -2,7 +2,7 @@
 ghost use Rattle.std.specs.Prelude.{◌≡◌, ◌+◌, ◌≤◌, Ok, IfOk, IfErr, length};
 ghost use Rattle.csv.specs.Records.{fields_of, field_at};
 ghost use Rattle.csv_load.specs.declared.fault.LoadFault.TheVariants as fault;
-ghost use Rattle.csv_load.specs.FieldValue.{value_in};
+ghost use Rattle.csv_load.specs.FieldValue.{field_value_in};
 ghost use Rattle.csv_load.specs.FileRows.{record_row, TellsColumn};
 
 use crate::LoadFault;
@@ -18,7 +18,7 @@ fn value_at(
     at: usize,
     kind: Kind,
 ) -> Result<Option<Value>, NoMemory>
-    ensures { IfOk result (λ found. found ≡ value_in kind (field_at (fields_of fields.now) at)) }
+    ensures { IfOk result (λ found. found ≡ field_value_in kind (field_at (fields_of fields.now) at)) }
 {
     match fields.get(at) {
         Some(field) => read_field(alloc, field, kind),

@@ -1,7 +1,7 @@
 ghost use Rattle.std.specs.Prelude.{◌≡◌, ◌≤◌, IfOk, IfErr, length};
 ghost use Rattle.sand_base.specs.InRange.{IsSchemaInRange};
 ghost use Rattle.sand_model.specs.StatementChecks.{AreRows, longest_file};
-ghost use Rattle.csv_load.specs.FileRows.{file_rows, first_row, TellsBad};
+ghost use Rattle.csv_load.specs.FileRows.{rows_of_file, first_row, TellsBad};
 
 use crate::LoadFault;
 use crate::records::records_of;
@@ -27,8 +27,8 @@ pub fn rows_of(
 ) -> Result<Vec<Row>, LoadFault>
     requires short { length bytes.now ≤ longest_file }
     requires schema { IsSchemaInRange schema.now }
-    ensures rows { IfOk result (λ rows. file_rows bytes.now schema.now header ≡ AreRows rows.items) }
-    ensures bad { IfErr result (TellsBad (file_rows bytes.now schema.now header)) }
+    ensures rows { IfOk result (λ rows. rows_of_file bytes.now schema.now header ≡ AreRows rows.items) }
+    ensures bad { IfErr result (TellsBad (rows_of_file bytes.now schema.now header)) }
 {
     let first = first_row(header);
     let mut number = 0;

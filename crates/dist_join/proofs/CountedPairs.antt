@@ -19,7 +19,7 @@ use Rattle.sand_model.specs.Reach.{Reach, Nothing, reaches, distinct}
 use Rattle.sand_model.specs.Tree.{Tree, places, root_block}
 use Rattle.ring_geom.proofs.BlockLemmas.{root_is_block}
 use Rattle.ring_geom.proofs.RoughLemmas.{rough_in_closed_plane}
-use Rattle.best_first.specs.Hierarchy.{Meaning, nodes_within, roughs_within}
+use Rattle.best_first.specs.Hierarchy.{Meaning, nodes_within, listed_roughs_within}
 use Rattle.best_first.specs.Item.{gap_of, roughs_of}
 use Rattle.best_first.specs.Reach.{IsSameGap}
 use Rattle.best_first.specs.Visits.{Reached}
@@ -29,15 +29,16 @@ use Rattle.best_first.proofs.Bags.{here, there, All-by, filter_none, in_filter, 
 use Rattle.best_first.proofs.ForLayers.{visited_count}
 use Rattle.best_first.proofs.Trees.{rough_item, rough_among}
 use Rattle.rank_cursor.specs.Answers.{IsTestOf}
-use Rattle.rank_cursor.proofs.Counted.{same_greater}
+use Rattle.rank_cursor.proofs.CountedItems.{same_greater}
 use Rattle.rank_cursor.proofs.Elements.{in_map, from_map, in_filter_map, from_filter_map}
 use Rattle.rank_cursor.proofs.Places.{inside, is_place, both_true, true_both}
 use Rattle.rank_cursor.proofs.RankedRows.{same_measures}
-use Rattle.rank_cursor.proofs.RankingLaws.{shape_is, is_shape}
-use Rattle.dist_join.specs.Joining.{Side, Joining, IsSound, node_at, blocks_of, squares_gap, blocks_item, divided, leaf_item, shown, found_at, join_meaning}
-use Rattle.dist_join.specs.Answers.{all_pairs, CountsAs}
+use Rattle.rank_cursor.proofs.RankedItems.{shape_is, is_shape}
+use Rattle.dist_join.specs.Joining.{Side, Joining, IsSoundJoin, pair_node_at, blocks_of, squares_gap, blocks_item, divided, leaf_pair_item, pairs_shown, pairs_found_at, join_meaning}
+use Rattle.dist_join.specs.Answers.{all_pairs, CountsAsJoin}
 use Rattle.dist_join.proofs.Counterparts.{IsCounterpart, is_counted, count_roughs}
-use Rattle.dist_join.proofs.JoinLaws.{one_item, pair_given, shown_is, plane_left, plane_right, under_root, both_is}
+use Rattle.dist_join.proofs.JoinPlaces.{one_item, pair_given, shown_is, both_is}
+use Rattle.dist_join.proofs.JoinLaws.{plane_left, plane_right, under_root}
 use Rattle.dist_join.proofs.PairPlaces.{pair_stands}
 
 -- ---- nothing
@@ -46,7 +47,7 @@ none_reached : (k : Bool) → (k && false) ≡ false
 none_reached true = refl
 none_reached false = refl
 
-pub nothing_counted : (gap : Measure) (left right : Side) → CountsAs gap left right Nothing []
+pub nothing_counted : (gap : Measure) (left right : Side) → CountsAsJoin gap left right Nothing []
 nothing_counted gap left right =
     let nodes = all_pairs left right in
     let items = join_items gap left.shapes right.shapes nodes in
@@ -74,7 +75,7 @@ count_mapped f p q (x ∷ xs) h =
 -- ---- items as the frontier holds them
 
 -- a rough item of the frontier is that of a rough item
-pub leaf_is : (x : LeafItem) (g : Frac) (l s : ℕ) → leaf_item x ≡ Rough g l s → (x.is_rough ≡ true) × (x.gap ≡ g) × (x.left ≡ l) × (x.right ≡ s)
+pub leaf_is : (x : LeafItem) (g : Frac) (l s : ℕ) → leaf_pair_item x ≡ Rough g l s → (x.is_rough ≡ true) × (x.gap ≡ g) × (x.left ≡ l) × (x.right ≡ s)
 leaf_is x g l s =
     let item : Item (Block × Block) = Rough g l s in
     let go : (k : Bool) → cond k (Rough x.gap x.left x.right) (Row x.gap x.left x.right) ≡ item → (k ≡ true) × (x.gap ≡ g) × (x.left ≡ l) × (x.right ≡ s) =
@@ -99,7 +100,7 @@ leaf_is x g l s =
     is_rough_item (Rough g l s) = true
     is_rough_item (Row g l s) = false
 
-rough_leaf : (x : LeafItem) → x.is_rough ≡ true → leaf_item x ≡ Rough x.gap x.left x.right
+rough_leaf : (x : LeafItem) → x.is_rough ≡ true → leaf_pair_item x ≡ Rough x.gap x.left x.right
 rough_leaf x e =
     let item : Item (Block × Block) = Rough x.gap x.left x.right in
     let go : (k : Bool) → k ≡ true → cond k (Rough x.gap x.left x.right) (Row x.gap x.left x.right) ≡ item =
@@ -121,7 +122,7 @@ no_rough j pairs g l s h = let (pair, among, same) = from_map (blocks_item j) pa
     is_node (Rough g l s) = false
     is_node (Row g l s) = false
 
-module _ (j : Joining) (sound : IsSound j) (gap : Measure) (is : IsMeasure gap) (to : Reach) (test : Frac → Bool) (tells : IsTestOf to test) where
+module _ (j : Joining) (sound : IsSoundJoin j) (gap : Measure) (is : IsMeasure gap) (to : Reach) (test : Frac → Bool) (tells : IsTestOf to test) where
   abbrev m : Meaning (Block × Block)
   m = join_meaning j
 
@@ -177,14 +178,14 @@ module _ (j : Joining) (sound : IsSound j) (gap : Measure) (is : IsMeasure gap) 
       go (is_rough s || is_rough t)
 
   -- a rough item that two leaves show has a counterpart
-  shown_counterpart : (node : PairNode) → Contains nodes node → (g : Frac) (l s : ℕ) → Contains (map leaf_item (shown j (blocks_of node) node.ids)) (Rough g l s)
+  shown_counterpart : (node : PairNode) → Contains nodes node → (g : Frac) (l s : ℕ) → Contains (map leaf_pair_item (pairs_shown j (blocks_of node) node.ids)) (Rough g l s)
       → test g ≡ true → (a : LeafItem) × Contains (filter (is_counted to) model_items) a × IsCounterpart {N = Block × Block} (Rough g l s) a
   shown_counterpart node at g l s found near =
       let pair = blocks_of node in
       let k = pair_stands root_block j.left.tree root_block j.right.tree node at in
-      let (item, among, same) = from_map leaf_item (shown j pair node.ids) (Rough g l s) found in
+      let (item, among, same) = from_map leaf_pair_item (pairs_shown j pair node.ids) (Rough g l s) found in
       let h = shown_is j pair node.ids item among in
-      let (rough, gaps, left, right) = leaf_is (one_item j pair h.one h.shape h.other) g l s (ap leaf_item h.is ∙ same) in
+      let (rough, gaps, left, right) = leaf_is (one_item j pair h.one h.shape h.other) g l s (ap leaf_pair_item h.is ∙ same) in
       let a = one_item other_joining pair h.one h.shape h.other in
       let alike : IsSameGap g a.gap =
       subst (λ (f : Frac). IsSameGap f a.gap) gaps
@@ -202,28 +203,28 @@ module _ (j : Joining) (sound : IsSound j) (gap : Measure) (is : IsMeasure gap) 
 
   -- what a pair of places finds
   finds_there : (node : PairNode) → Contains nodes node → (t u : Tree)
-      × (m.finds (blocks_of node) ≡ map (blocks_item j) (divided node.left t node.right u) ++ map leaf_item (shown j (blocks_of node) node.ids))
+      × (m.finds (blocks_of node) ≡ map (blocks_item j) (divided node.left t node.right u) ++ map leaf_pair_item (pairs_shown j (blocks_of node) node.ids))
   finds_there node at =
       let k = pair_stands root_block j.left.tree root_block j.right.tree node at in (
         k.place,
         k.other,
-        ap₂ (λ o q. found_at j (blocks_of node) o q) (is_place j.left.tree sound.left.shallow node.left k.place k.at_left)
+        ap₂ (λ o q. pairs_found_at j (blocks_of node) o q) (is_place j.left.tree sound.left.shallow node.left k.place k.at_left)
             (is_place j.right.tree sound.right.shallow node.right k.other k.at_right)
-            ∙ ap (λ (ids : List (ℕ × ℕ)). map (blocks_item j) (divided node.left k.place node.right k.other) ++ map leaf_item (shown j (blocks_of node) ids)) (sym k.lists),
+            ∙ ap (λ (ids : List (ℕ × ℕ)). map (blocks_item j) (divided node.left k.place node.right k.other) ++ map leaf_pair_item (pairs_shown j (blocks_of node) ids)) (sym k.lists),
       )
 
   model_at : (node : PairNode) → Contains nodes node → (g : Frac) (l s : ℕ) → Contains (m.finds (blocks_of node)) (Rough g l s) → test g ≡ true
       → (a : LeafItem) × Contains (filter (is_counted to) model_items) a × IsCounterpart {N = Block × Block} (Rough g l s) a
   model_at node at g l s found near =
       let (t, u, finds) = finds_there node at in
-      let items = map leaf_item (shown j (blocks_of node) node.ids) in
+      let items = map leaf_pair_item (pairs_shown j (blocks_of node) node.ids) in
       let pairs = divided node.left t node.right u in
       let there_is : Contains (map (blocks_item j) pairs ++ items) (Rough g l s) = subst (λ (i : List (Item (Block × Block))). Contains i (Rough g l s)) finds found in
       let in_items : Contains items (Rough g l s) =
       ⊎_elim (λ n. absurd (no_rough j pairs g l s n)) (λ i. i) (Contains-append_cases (map (blocks_item j) pairs) items (Rough g l s) there_is) in
       shown_counterpart node at g l s in_items near
 
-  model_of : (x : Item (Block × Block)) → Contains (roughs_within m test) x → (a : LeafItem) × Contains (filter (is_counted to) model_items) a × IsCounterpart x a
+  model_of : (x : Item (Block × Block)) → Contains (listed_roughs_within m test) x → (a : LeafItem) × Contains (filter (is_counted to) model_items) a × IsCounterpart x a
   model_of x h =
       let (listed, near) = from_filter (λ item. test (gap_of item)) (flat_map (λ pair. roughs_of (m.finds pair)) (m.under m.root)) x h in
       let (pair, below, among) = from_flat_map (λ pair. roughs_of (m.finds pair)) (m.under m.root) x listed in
@@ -234,7 +235,7 @@ module _ (j : Joining) (sound : IsSound j) (gap : Measure) (is : IsMeasure gap) 
       (model_at node at g l s (subst (Contains (m.finds (blocks_of node))) same found) (ap (λ (y : Item (Block × Block)). test (gap_of y)) (sym same) ∙ near))
 
   -- and an item of the model is the counterpart of one
-  item_of : (a : LeafItem) → Contains (filter (is_counted to) model_items) a → (x : Item (Block × Block)) × Contains (roughs_within m test) x × IsCounterpart x a
+  item_of : (a : LeafItem) → Contains (filter (is_counted to) model_items) a → (x : Item (Block × Block)) × Contains (listed_roughs_within m test) x × IsCounterpart x a
   item_of a h =
       let (listed, passes) = from_filter (is_counted to) model_items a h in
       let (rough, near) = both_true a.is_rough (reaches to a.gap) passes in
@@ -250,11 +251,11 @@ module _ (j : Joining) (sound : IsSound j) (gap : Measure) (is : IsMeasure gap) 
       subst (λ (b : LeafItem). IsSameGap item.gap b.gap) same
       (same_item_gap node.left node.right one s t (left_block node.left k.place k.at_left) (right_block node.right k.other k.at_right)
       (plane_left j sound one.0 s (shape_is j.left.shapes one.0 s found)) (plane_right j sound one.1 t (shape_is j.right.shapes one.1 t found_too))) in
-      let ours = pair_item j.measure j.left.shapes j.right.shapes (node_at pair node.ids) in
-      let items = map leaf_item (shown j pair node.ids) in
+      let ours = pair_item j.measure j.left.shapes j.right.shapes (pair_node_at pair node.ids) in
+      let items = map leaf_pair_item (pairs_shown j pair node.ids) in
       let shown_there : Contains items (Rough item.gap one.0 one.1) =
       subst (Contains items) (rough_leaf item is_polygon)
-      (in_map leaf_item (shown j pair node.ids) item
+      (in_map leaf_pair_item (pairs_shown j pair node.ids) item
       (in_filter (is_queued (squares_gap j pair)) (filter_map ours node.ids) item
       (in_filter_map ours node.ids one item there_is (pair_given j pair node.ids one s t found found_too)) (rough_queued (squares_gap j pair) item is_polygon))) in
       let is_found : Contains (m.finds pair) (Rough item.gap one.0 one.1) =
@@ -269,8 +270,8 @@ module _ (j : Joining) (sound : IsSound j) (gap : Measure) (is : IsMeasure gap) 
         (alike, ap (λ (b : LeafItem). b.left) same, ap (λ (b : LeafItem). b.right) same),
       )
 
-pub counts_as : (j : Joining) → IsSound j → (gap : Measure) → IsMeasure gap → (cmp : Block × Block → Block × Block → Ordering) → IsTotalOrder cmp → (to : Reach)
-    (test : Frac → Bool) → IsTestOf to test → (done : List (Item (Block × Block))) → Reached cmp (join_meaning j) test done → CountsAs gap j.left j.right to done
+pub counts_as : (j : Joining) → IsSoundJoin j → (gap : Measure) → IsMeasure gap → (cmp : Block × Block → Block × Block → Ordering) → IsTotalOrder cmp → (to : Reach)
+    (test : Frac → Bool) → IsTestOf to test → (done : List (Item (Block × Block))) → Reached cmp (join_meaning j) test done → CountsAsJoin gap j.left j.right to done
 counts_as j sound gap is cmp o to test tells done reached = record {
   pairs = visited_count cmp (join_meaning j) test done reached ∙ count_pairs j sound gap is to test tells;
   geometries =

@@ -12,7 +12,7 @@ use Rattle.sand_model.specs.Nodes.{LeafItem}
 use Rattle.sand_model.specs.Reach.{Reach, reaches, same_item, distinct}
 use Rattle.sand_model.specs.Reach as model
 use Rattle.best_first.specs.Frontier.{IsOnce, HasAlike}
-use Rattle.best_first.specs.Hierarchy.{Meaning, roughs_within}
+use Rattle.best_first.specs.Hierarchy.{Meaning, listed_roughs_within}
 use Rattle.best_first.specs.Item.{gap_of, roughs_of, IsAlike}
 use Rattle.best_first.specs.Order.{item_cmp, item_total}
 use Rattle.best_first.specs.Reach.{IsSameGap}
@@ -134,8 +134,8 @@ is_counted to item = item.is_rough && reaches to item.gap
 -- Rough items that were taken within a reach are as many as the model's, where each item of the tree within it has a counterpart among those of the model, and each of these is one.
 pub count_roughs : {N : Type 0} {cmp : N → N → Ordering} → IsTotalOrder cmp → (m : Meaning N) (test : Frac → Bool) (done : List (Item N)) → Reached cmp m test done
     → (to : Reach) (items : List LeafItem)
-    → ((x : Item N) → Contains (roughs_within m test) x → (a : LeafItem) × Contains (filter (is_counted to) items) a × IsCounterpart x a)
-    → ((a : LeafItem) → Contains (filter (is_counted to) items) a → (x : Item N) × Contains (roughs_within m test) x × IsCounterpart x a)
+    → ((x : Item N) → Contains (listed_roughs_within m test) x → (a : LeafItem) × Contains (filter (is_counted to) items) a × IsCounterpart x a)
+    → ((a : LeafItem) → Contains (filter (is_counted to) items) a → (x : Item N) × Contains (listed_roughs_within m test) x × IsCounterpart x a)
     → length (roughs_of done) ≡ length (model.roughs_within to items)
 count_roughs {N} {cmp} o m test done reached to items model_of item_of =
     le_antisymm
@@ -144,7 +144,7 @@ count_roughs {N} {cmp} o m test done reached to items model_of item_of =
   where
     taken_counterpart : (x : Item N) → Contains (roughs_of done) x → (a : LeafItem) × Contains (model.roughs_within to items) a × IsCounterpart x a
     taken_counterpart x at =
-        let alike = All-contains (HasAlike cmp (roughs_within m test)) (roughs_of done) x reached.roughs at in
+        let alike = All-contains (HasAlike cmp (listed_roughs_within m test)) (roughs_of done) x reached.roughs at in
         let (a, among, counter) = model_of alike.other alike.listed in
         let (b, there_is, one) = in_distinct (filter (is_counted to) items) a among in
         (b, there_is, counterpart_too x a b one (alike_counterpart cmp alike.other x a (tied_back (item_total o) x alike.other alike.alike) counter))
@@ -152,5 +152,5 @@ count_roughs {N} {cmp} o m test done reached to items model_of item_of =
     counterpart_taken : (a : LeafItem) → Contains (model.roughs_within to items) a → (x : Item N) × Contains (roughs_of done) x × IsCounterpart x a
     counterpart_taken a at =
         let (x, among, counter) = item_of a (from_distinct (filter (is_counted to) items) a at) in
-        let alike = All-contains (HasAlike cmp (roughs_of done)) (roughs_within m test) x reached.all_roughs among in
+        let alike = All-contains (HasAlike cmp (roughs_of done)) (listed_roughs_within m test) x reached.all_roughs among in
         (alike.other, alike.listed, alike_counterpart cmp x alike.other a alike.alike counter)

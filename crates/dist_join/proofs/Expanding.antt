@@ -36,7 +36,7 @@ use Rattle.pmr_tree.specs.declared.listed.Listed.{Listed}
 use Rattle.pmr_tree.specs.declared.listed.Node.{Node as Place}
 use Rattle.pmr_tree.specs.declared.listed.Node.TheVariants as place
 use Rattle.best_first.specs.Hierarchy.{Meaning, MeetsLaws, IsNode, FindsAlike, HasRow, IsRoughListed}
-use Rattle.best_first.specs.Item.{node_of, nodes_of, IsAlike}
+use Rattle.best_first.specs.Item.{node_if_any, nodes_of, IsAlike}
 use Rattle.best_first.specs.Reach.{IsSameGap}
 use Rattle.best_first.specs.Steps.{AddsLess}
 use Rattle.best_first.specs.Visits.{told_pages, Noted, Attempts}
@@ -53,14 +53,16 @@ use Rattle.rank_cursor.proofs.Elements.{in_map, from_map}
 use Rattle.rank_cursor.proofs.Fitted.{sound_over}
 use Rattle.rank_cursor.proofs.LeafEntries.{IsEntryOf}
 use Rattle.rank_cursor.proofs.Places.{inside, is_place, leaf_fits}
-use Rattle.rank_cursor.proofs.RankingLaws.{shape_is, is_shape}
-use Rattle.rank_cursor.proofs.Searching.{by_told, at_told}
-use Rattle.dist_join.specs.Joining.{Joining, IsSoundSide, IsSound, blocks_of, squares_gap, blocks_item, divided, ids_of_both, leaf_item, shown, found_at, row_of_pair, visit_price, join_meaning}
+use Rattle.rank_cursor.proofs.RankedItems.{shape_is, is_shape}
+use Rattle.rank_cursor.proofs.SearchPages.{by_told, at_told}
+use Rattle.dist_join.specs.Joining.{Joining, IsSoundSide, IsSoundJoin, blocks_of, squares_gap, blocks_item, divided, ids_of_both, leaf_pair_item, pairs_shown}
+use Rattle.dist_join.specs.Joining.{pairs_found_at, row_of_pair, pair_visit_price, join_meaning}
 use Rattle.dist_join.specs.Looks.{CanLook, Sees, IsWithinPairPrice}
-use Rattle.dist_join.specs.OverPages.{PageSide, side_at, IsFitted, joining_over, visit_of, pair_weight, exact_found, entry_found, row_found, places_found, is_bound, by_figures}
+use Rattle.dist_join.specs.OverPages.{PageSide, side_at, IsFitted, joining_over, pair_visit_of, pair_weight, exact_pair_found, pair_found, row_found, places_found, is_bound, by_figures}
 use Rattle.dist_join.proofs.CountedPairs.{leaf_is, no_rough}
 use Rattle.dist_join.proofs.FoundPairs.{leaves_alike}
-use Rattle.dist_join.proofs.JoinLaws.{under_root, shown_is, one_item, row_among}
+use Rattle.dist_join.proofs.JoinPlaces.{shown_is, one_item, row_among}
+use Rattle.dist_join.proofs.JoinLaws.{under_root}
 use Rattle.dist_join.proofs.PairPlaces.{pair_stands}
 
 -- ---- the pages of a desk, lent
@@ -83,14 +85,14 @@ pow_pos : (n : ℕ) → 0 < 17 ^ n
 pow_pos zero = lit< tt
 pow_pos (suc n) = let some = pow_pos n in let e : 17 ^ suc n ≡ 17 ^ n * 17 = pow-suc 17 n in omega arith
 
-exact_nodes : (leaf : Frac) (a b : ℕ) (g : Frac) → nodes_of (exact_found leaf a b g) ≡ []
+exact_nodes : (leaf : Frac) (a b : ℕ) (g : Frac) → nodes_of (exact_pair_found leaf a b g) ≡ []
 exact_nodes leaf a b g = go (is_lt (value_cmp g leaf))
   where
     go : (k : Bool) → nodes_of {N = Block × Block} (cond k [] (item.Row g a b ∷ [])) ≡ []
     go true = refl
     go false = refl
 
-entry_nodes : (leaf : Frac) (l r : Listed) → nodes_of (entry_found leaf l r) ≡ []
+entry_nodes : (leaf : Frac) (l r : Listed) → nodes_of (pair_found leaf l r) ≡ []
 entry_nodes leaf l r = go (is_bound l.rough || is_bound r.rough)
   where
     go : (k : Bool) → nodes_of (by_figures leaf l.id r.id (figure_of l.rough) (figure_of r.rough) k) ≡ []
@@ -100,13 +102,13 @@ entry_nodes leaf l r = go (is_bound l.rough || is_bound r.rough)
 no_nodes : {X N : Type 0} (f : X → List (Item N)) → ((x : X) → nodes_of (f x) ≡ []) → (xs : List X) → nodes_of (flat_map f xs) ≡ []
 no_nodes f each [] = refl
 no_nodes {X} {N} f each (x ∷ xs) =
-    flat_map-append node_of (f x) (flat_map f xs) ∙ ap₂ (λ (a : List N) (b : List N). a ++ b) (each x) (no_nodes f each xs)
+    flat_map-append node_if_any (f x) (flat_map f xs) ∙ ap₂ (λ (a : List N) (b : List N). a ++ b) (each x) (no_nodes f each xs)
 
 -- what a pair of places gives weighs less than their blocks
 places_weight : (leaf : Frac) (b c : Block) (found other : Place) → (found ≡ place.Inner → b.level < COORDINATE_BITS) → (other ≡ place.Inner → c.level < COORDINATE_BITS)
     → sum_by pair_weight (nodes_of (places_found leaf (b, c) found other)) < pair_weight (b, c)
 places_weight leaf b c (place.Leaf lefts) (place.Leaf rights) above above' =
-    subst (λ ns. sum_by pair_weight ns < pair_weight (b, c)) (sym (no_nodes (row_found leaf rights) (λ l. no_nodes (entry_found leaf l) (entry_nodes leaf l) rights) lefts))
+    subst (λ ns. sum_by pair_weight ns < pair_weight (b, c)) (sym (no_nodes (row_found leaf rights) (λ l. no_nodes (pair_found leaf l) (entry_nodes leaf l) rights) lefts))
     (pow_pos ((COORDINATE_BITS - b.level) + (COORDINATE_BITS - c.level)))
 places_weight leaf b c (place.Leaf lefts) place.Inner above above' =
     let level = above' refl in
@@ -205,9 +207,9 @@ module _ (left right : PageSide) (ceiling : Option ℕ) (left_plane : (p : PageM
   m p = join_meaning (over p)
 
   abbrev note : Item (Block × Block) → Visit
-  note = visit_of left.pmr.number right.pmr.number
+  note = pair_visit_of left.pmr.number right.pmr.number
 
-  pub sound : (p : PageMap) → IsFitted left p → IsFitted right p → IsSound (over p)
+  pub sound : (p : PageMap) → IsFitted left p → IsFitted right p → IsSoundJoin (over p)
   sound p fitted fitted' = record {
     readable = (fitted, fitted');
     measure = measured.1;
@@ -215,7 +217,7 @@ module _ (left right : PageSide) (ceiling : Option ℕ) (left_plane : (p : PageM
     right = side_sound right right_plane p fitted';
   }
 
-  sound_of : (p : PageMap) → MeetsLaws (m p) → IsSound (over p)
+  sound_of : (p : PageMap) → MeetsLaws (m p) → IsSoundJoin (over p)
   sound_of p laws = sound p laws.readable.0 laws.readable.1
 
   -- A node is a pair of places.
@@ -232,22 +234,22 @@ module _ (left right : PageSide) (ceiling : Option ℕ) (left_plane : (p : PageM
       let k = pair_stands root_block (tree_at p left.pmr) root_block (tree_at p right.pmr) node at in
       subst (StandsThere p) same (record { here = k.place; there = k.other; at_left = k.at_left; at_right = k.at_right })
 
-  finds_is : (p : PageMap) (pair : Block × Block) (laws : MeetsLaws (m p)) (k : StandsThere p pair) → (m p).finds pair ≡ found_at (over p) pair (Some k.here) (Some k.there)
+  finds_is : (p : PageMap) (pair : Block × Block) (laws : MeetsLaws (m p)) (k : StandsThere p pair) → (m p).finds pair ≡ pairs_found_at (over p) pair (Some k.here) (Some k.there)
   finds_is p pair laws k =
-      ap₂ (λ o q. found_at (over p) pair o q) (is_place (tree_at p left.pmr) (sound_of p laws).left.shallow pair.0 k.here k.at_left)
+      ap₂ (λ o q. pairs_found_at (over p) pair o q) (is_place (tree_at p left.pmr) (sound_of p laws).left.shallow pair.0 k.here k.at_left)
       (is_place (tree_at p right.pmr) (sound_of p laws).right.shallow pair.1 k.there k.at_right)
 
   -- what the code finds at a pair of places stands for what the join finds there
   at_places : (p : PageMap) → MeetsLaws (m p) → (b c : Block) (gap : Frac) → IsSameGap gap (squares_gap (over p) (b, c)) → (t u : Tree)
       → Contains (places root_block (tree_at p left.pmr)) (b, t) → Contains (places root_block (tree_at p right.pmr)) (c, u) → (found other : Place)
       → IsNodeOf t found → IsNodeOf u other → HasRoughs p left.pmr found → HasRoughs p right.pmr other
-      → AllZip IsAlike (places_found gap (b, c) found other) (found_at (over p) (b, c) (Some t) (Some u))
+      → AllZip IsAlike (places_found gap (b, c) found other) (pairs_found_at (over p) (b, c) (Some t) (Some u))
   at_places p laws b c gap near (Leaf ids) (Leaf others) at too (place.Leaf list) (place.Leaf list') is is' roughs roughs' =
       let found = flat_map (row_found gap list') list in
       let h = side_entries left left_plane p laws.readable.0 b ids at list is roughs in
       let k = side_entries right right_plane p laws.readable.1 c others too list' is' roughs' in
-      subst (λ (xs : List ℕ). AllZip IsAlike found (map leaf_item (shown (over p) (b, c) (pairs_of xs others)))) is
-      (subst (λ (ys : List ℕ). AllZip IsAlike found (map leaf_item (shown (over p) (b, c) (pairs_of (map (λ (l : Listed). l.id) list) ys)))) is'
+      subst (λ (xs : List ℕ). AllZip IsAlike found (map leaf_pair_item (pairs_shown (over p) (b, c) (pairs_of xs others)))) is
+      (subst (λ (ys : List ℕ). AllZip IsAlike found (map leaf_pair_item (pairs_shown (over p) (b, c) (pairs_of (map (λ (l : Listed). l.id) list) ys)))) is'
       (leaves_alike left right ceiling p (b, c) gap near list list' h k))
   at_places p laws b c gap near (Leaf ids) (Leaf others) at too (place.Leaf list) place.Inner is is' roughs roughs' = absurd is'
   at_places p laws b c gap near (Leaf ids) (Leaf others) at too place.Inner (place.Leaf list') is is' roughs roughs' = absurd is
@@ -279,12 +281,12 @@ module _ (left right : PageSide) (ceiling : Option ℕ) (left_plane : (p : PageM
 
   -- ---- prices
 
-  count_is : (tree : Tree) → ranking.id_count (Some tree) ≡ entries.id_count tree
+  count_is : (tree : Tree) → ranking.listed_count (Some tree) ≡ entries.id_count tree
   count_is (Leaf ids) = refl
   count_is (Inner q s u v) = refl
 
-  side_count : (tree : Tree) (b : Block) (t : Tree) → place_at tree b ≡ Some t → ranking.id_count (place_at tree b) ≡ entries.id_count t
-  side_count tree b t e = ap ranking.id_count e ∙ count_is t
+  side_count : (tree : Tree) (b : Block) (t : Tree) → place_at tree b ≡ Some t → ranking.listed_count (place_at tree b) ≡ entries.id_count t
+  side_count tree b t e = ap ranking.listed_count e ∙ count_is t
 
   noted_pair : (p : PageMap) → MeetsLaws (m p) → (pair : Block × Block) (gap : Frac) → IsNode (m p) pair → (old new : DeskState)
       → new.visits ≡ old.visits ++ note (item.Node gap pair) ∷ [] → old.pool.gets ≤ new.pool.gets → IsWithinPairPrice p left.pmr pair.0 right.pmr pair.1 old.pool new.pool
@@ -292,14 +294,14 @@ module _ (left right : PageSide) (ceiling : Option ℕ) (left_plane : (p : PageM
   noted_pair p laws pair gap node old new log up within =
       let k = node_stands p pair laws node in
       let s = sound_of p laws in
-      let same : visit_price (over p) (item.Node gap pair) ≡ pair_price left.pmr.map.height (entries.id_count k.here) right.pmr.map.height (entries.id_count k.there) =
+      let same : pair_visit_price (over p) (item.Node gap pair) ≡ pair_price left.pmr.map.height (entries.id_count k.here) right.pmr.map.height (entries.id_count k.there) =
       ap₂ (λ a b. pair_price left.pmr.map.height a right.pmr.map.height b)
       (side_count (tree_at p left.pmr) pair.0 k.here (is_place (tree_at p left.pmr) s.left.shallow pair.0 k.here k.at_left))
       (side_count (tree_at p right.pmr) pair.1 k.there (is_place (tree_at p right.pmr) s.right.shallow pair.1 k.there k.at_right)) in
       record {
         log = log;
         up = up;
-        most = summed (visit_price (over p) (item.Node gap pair))
+        most = summed (pair_visit_price (over p) (item.Node gap pair))
             (pair_price left.pmr.map.height (entries.id_count k.here) right.pmr.map.height (entries.id_count k.there)) old.pool.gets new.pool.gets same
             (within k.here k.there k.at_left k.at_right);
       }
@@ -398,14 +400,14 @@ module _ (left right : PageSide) (ceiling : Option ℕ) (left_plane : (p : PageM
       let k = node_stands p h.leaf laws h.node in
       let pairs = divided h.leaf.0 k.here h.leaf.1 k.there in
       let ids = ids_of_both k.here k.there in
-      let items = map leaf_item (shown j h.leaf ids) in
+      let items = map leaf_pair_item (pairs_shown j h.leaf ids) in
       let there_is : Contains (map (blocks_item j) pairs ++ items) (item.Rough h.gap a b) =
       subst (λ (l : List (Item (Block × Block))). Contains l (item.Rough h.gap a b)) (finds_is p h.leaf laws k) h.listed in
       let in_items : Contains items (item.Rough h.gap a b) =
       ⊎_elim (λ n. absurd (no_rough j pairs h.gap a b n)) (λ i. i) (Contains-append_cases (map (blocks_item j) pairs) items (item.Rough h.gap a b) there_is) in
-      let (i, among, same) = from_map leaf_item (shown j h.leaf ids) (item.Rough h.gap a b) in_items in
+      let (i, among, same) = from_map leaf_pair_item (pairs_shown j h.leaf ids) (item.Rough h.gap a b) in_items in
       let r = shown_is j h.leaf ids i among in
-      let (is_polygon, gaps, lefts, rights) = leaf_is (one_item j h.leaf r.one r.shape r.other) h.gap a b (ap leaf_item r.is ∙ same) in
+      let (is_polygon, gaps, lefts, rights) = leaf_is (one_item j h.leaf r.one r.shape r.other) h.gap a b (ap leaf_pair_item r.is ∙ same) in
       record {
         shape = r.shape;
         other = r.other;

@@ -29,11 +29,11 @@ use Rattle.best_first.proofs.Bags.{here, there}
 use Rattle.best_first.proofs.Gaps.{same_itself}
 use Rattle.rank_cursor.specs.Cursor.{the_measure}
 use Rattle.rank_cursor.proofs.AlikeLists.{all_alike_append}
-use Rattle.rank_cursor.proofs.Counted.{same_greater}
+use Rattle.rank_cursor.proofs.CountedItems.{same_greater}
 use Rattle.rank_cursor.proofs.LeafEntries.{IsEntryOf}
-use Rattle.dist_join.specs.Joining.{Joining, node_at, squares_gap, leaf_item, shown}
-use Rattle.dist_join.specs.OverPages.{PageSide, joining_over, blocks_found, exact_found, is_bound, by_figures, entry_found, row_found}
-use Rattle.dist_join.proofs.JoinLaws.{flat_twice, one_item, pair_given}
+use Rattle.dist_join.specs.Joining.{Joining, pair_node_at, squares_gap, leaf_pair_item, pairs_shown}
+use Rattle.dist_join.specs.OverPages.{PageSide, joining_over, blocks_found, exact_pair_found, is_bound, by_figures, pair_found, row_found}
+use Rattle.dist_join.proofs.JoinPlaces.{flat_twice, one_item, pair_given}
 
 -- ---- rough shapes
 
@@ -81,10 +81,10 @@ flat_alike f g (x ∷ xs) each =
 
 -- ---- items at gaps of one value
 
-pub exact_same : (leaf : Frac) (a b : ℕ) (g h : Frac) → IsSameGap g h → (items : List (Item (Block × Block))) → items ≡ exact_found leaf a b g → AllZip IsAlike items (exact_found leaf a b h)
+pub exact_same : (leaf : Frac) (a b : ℕ) (g h : Frac) → IsSameGap g h → (items : List (Item (Block × Block))) → items ≡ exact_pair_found leaf a b g → AllZip IsAlike items (exact_pair_found leaf a b h)
 exact_same leaf a b g h same items is =
-    subst (λ xs. AllZip IsAlike xs (exact_found leaf a b h)) (sym is)
-    (subst (λ c. AllZip IsAlike (exact_found leaf a b g) (cond c [] (item.Row h a b ∷ []))) (ap is_lt (value_cmp_total.congr g h leaf same)) (go (is_lt (value_cmp g leaf))))
+    subst (λ xs. AllZip IsAlike xs (exact_pair_found leaf a b h)) (sym is)
+    (subst (λ c. AllZip IsAlike (exact_pair_found leaf a b g) (cond c [] (item.Row h a b ∷ []))) (ap is_lt (value_cmp_total.congr g h leaf same)) (go (is_lt (value_cmp g leaf))))
   where
     go : (k : Bool) → AllZip (IsAlike {N = Block × Block}) (cond k [] (item.Row g a b ∷ [])) (cond k [] (item.Row h a b ∷ []))
     go true = tt
@@ -100,14 +100,14 @@ bound_same leaf a b g h same i is =
 
 -- one item of two leaves, as the frontier holds it, unless it is nearer than they
 abbrev one_shown : Frac → LeafItem → List (Item (Block × Block))
-one_shown leaf i = map leaf_item (cond (is_queued leaf i) (i ∷ []) [])
+one_shown leaf i = map leaf_pair_item (cond (is_queued leaf i) (i ∷ []) [])
 
 module _ (left right : PageSide) (ceiling : Option ℕ) (p : PageMap) (pair : Block × Block) (leaf : Frac) (near : IsSameGap leaf (squares_gap (joining_over left right ceiling p) pair)) where
   abbrev j : Joining
   j = joining_over left right ceiling p
 
   exact_alike : (a b : ℕ) (g : Frac) (k : Bool) → is_lt (value_cmp g (squares_gap j pair)) ≡ k
-      → AllZip IsAlike (cond k [] (item.Row g a b ∷ [])) (map leaf_item (cond (not k) (record { left = a; right = b; is_rough = false; gap = g } ∷ []) []))
+      → AllZip IsAlike (cond k [] (item.Row g a b ∷ [])) (map leaf_pair_item (cond (not k) (record { left = a; right = b; is_rough = false; gap = g } ∷ []) []))
   exact_alike a b g true e = tt
   exact_alike a b g false e = ((same_itself g, refl, refl), tt)
 
@@ -119,7 +119,7 @@ module _ (left right : PageSide) (ceiling : Option ℕ) (p : PageMap) (pair : Bl
   entry_alike a b s t true e =
       let g = the_measure (rough_figure s) (rough_figure t) in
       let exact = the_measure (figure.Shape s) (figure.Shape t) in
-      let whole : AllZip IsAlike (item.Rough (greater g leaf) a b ∷ []) (map leaf_item (record { left = a; right = b; is_rough = true; gap = greater g (squares_gap j pair) } ∷ [])) =
+      let whole : AllZip IsAlike (item.Rough (greater g leaf) a b ∷ []) (map leaf_pair_item (record { left = a; right = b; is_rough = true; gap = greater g (squares_gap j pair) } ∷ [])) =
       ((same_greater g leaf g (squares_gap j pair) (same_itself g) near, refl, refl), tt) in
       subst (λ c. AllZip IsAlike (item.Rough (greater g leaf) a b ∷ [])
       (one_shown (squares_gap j pair) (record { left = a; right = b; is_rough = c; gap = cond c (greater g (squares_gap j pair)) exact })))
@@ -131,17 +131,17 @@ module _ (left right : PageSide) (ceiling : Option ℕ) (p : PageMap) (pair : Bl
       let one : AllZip IsAlike (cond (is_lt (value_cmp exact leaf)) [] (item.Row exact a b ∷ [])) (one_shown (squares_gap j pair) (record { left = a; right = b; is_rough = false; gap = exact })) =
       subst (λ c. AllZip IsAlike (cond c [] (item.Row exact a b ∷ [])) (one_shown (squares_gap j pair) (record { left = a; right = b; is_rough = false; gap = exact }))) (sym (same_order exact))
       (exact_alike a b exact (is_lt (value_cmp exact (squares_gap j pair))) refl) in
-      subst (λ f. AllZip IsAlike (exact_found leaf a b f) (one_shown (squares_gap j pair) (one_item j pair (a, b) s t)))
+      subst (λ f. AllZip IsAlike (exact_pair_found leaf a b f) (one_shown (squares_gap j pair) (one_item j pair (a, b) s t)))
       (sym (ap₂ (λ f h. the_measure f h) (exact_figure s no_left) (exact_figure t no_right)))
-      (subst (λ c. AllZip IsAlike (exact_found leaf a b exact)
+      (subst (λ c. AllZip IsAlike (exact_pair_found leaf a b exact)
       (one_shown (squares_gap j pair) (record { left = a; right = b; is_rough = c; gap = cond c (greater g (squares_gap j pair)) exact }))) (sym e) one)
 
   one_entry : (l r : Listed) (h : IsEntryOf j.left.shapes l) (k : IsEntryOf j.right.shapes r)
-      → AllZip IsAlike (entry_found leaf l r) (one_shown (squares_gap j pair) (one_item j pair (l.id, r.id) h.shape k.shape))
+      → AllZip IsAlike (pair_found leaf l r) (one_shown (squares_gap j pair) (one_item j pair (l.id, r.id) h.shape k.shape))
   one_entry l r h k =
       let kind : (is_bound l.rough || is_bound r.rough) ≡ (is_rough h.shape || is_rough k.shape) =
       ap₂ (λ a b. a || b) (same_kind j.left.shapes l h) (same_kind j.right.shapes r k) in
-      let written : entry_found leaf l r ≡ by_figures leaf l.id r.id (rough_figure h.shape) (rough_figure k.shape) (is_rough h.shape || is_rough k.shape) =
+      let written : pair_found leaf l r ≡ by_figures leaf l.id r.id (rough_figure h.shape) (rough_figure k.shape) (is_rough h.shape || is_rough k.shape) =
       ap₂ (λ f g. by_figures leaf l.id r.id f g (is_bound l.rough || is_bound r.rough)) h.rough k.rough
       ∙ ap (by_figures leaf l.id r.id (rough_figure h.shape) (rough_figure k.shape)) kind in
       subst (λ xs. AllZip IsAlike xs (one_shown (squares_gap j pair) (one_item j pair (l.id, r.id) h.shape k.shape))) (sym written)
@@ -149,16 +149,16 @@ module _ (left right : PageSide) (ceiling : Option ℕ) (p : PageMap) (pair : Bl
 
   -- what a list of pairs of ids shows, pair by pair
   abbrev gives : List (ℕ × ℕ) → ℕ × ℕ → Option LeafItem
-  gives ids = pair_item j.measure j.left.shapes j.right.shapes (node_at pair ids)
+  gives ids = pair_item j.measure j.left.shapes j.right.shapes (pair_node_at pair ids)
 
   abbrev queued : LeafItem → Bool
   queued = is_queued (squares_gap j pair)
 
   abbrev each_shown : List (ℕ × ℕ) → ℕ × ℕ → List (Item (Block × Block))
-  each_shown ids one = map leaf_item (filter queued (option_to_list (gives ids one)))
+  each_shown ids one = map leaf_pair_item (filter queued (option_to_list (gives ids one)))
 
-  shown_first : (i : LeafItem) (rest : List LeafItem) (k : Bool) → map leaf_item (cond k (i ∷ filter queued rest) (filter queued rest))
-      ≡ map leaf_item (cond k (i ∷ []) []) ++ map leaf_item (filter queued rest)
+  shown_first : (i : LeafItem) (rest : List LeafItem) (k : Bool) → map leaf_pair_item (cond k (i ∷ filter queued rest) (filter queued rest))
+      ≡ map leaf_pair_item (cond k (i ∷ []) []) ++ map leaf_pair_item (filter queued rest)
   shown_first i rest true = refl
   shown_first i rest false = refl
 
@@ -166,11 +166,12 @@ module _ (left right : PageSide) (ceiling : Option ℕ) (p : PageMap) (pair : Bl
   with_first None xs = xs
   with_first (Some x) xs = x ∷ xs
 
-  shown_next : (o : Option LeafItem) (rest : List LeafItem) → map leaf_item (filter queued (with_first o rest)) ≡ map leaf_item (filter queued (option_to_list o)) ++ map leaf_item (filter queued rest)
+  shown_next : (o : Option LeafItem) (rest : List LeafItem) → map leaf_pair_item (filter queued (with_first o rest))
+      ≡ map leaf_pair_item (filter queued (option_to_list o)) ++ map leaf_pair_item (filter queued rest)
   shown_next None rest = refl
   shown_next (Some i) rest = shown_first i rest (queued i)
 
-  shown_all : (node ids : List (ℕ × ℕ)) → map leaf_item (filter queued (filter_map (gives node) ids)) ≡ flat_map (each_shown node) ids
+  shown_all : (node ids : List (ℕ × ℕ)) → map leaf_pair_item (filter queued (filter_map (gives node) ids)) ≡ flat_map (each_shown node) ids
   shown_all node [] = refl
   shown_all node (one ∷ ids) =
       shown_next (gives node one) (filter_map (gives node) ids) ∙ ap (λ l. each_shown node one ++ l) (shown_all node ids)
@@ -179,7 +180,7 @@ module _ (left right : PageSide) (ceiling : Option ℕ) (p : PageMap) (pair : Bl
   ids_in list = map (λ (l : Listed). l.id) list
 
   shown_pairs : (node : List (ℕ × ℕ)) (lefts rights : List Listed)
-      → map leaf_item (filter queued (filter_map (gives node) (pairs_of (ids_in lefts) (ids_in rights))))
+      → map leaf_pair_item (filter queued (filter_map (gives node) (pairs_of (ids_in lefts) (ids_in rights))))
       ≡ flat_map (λ (l : Listed). flat_map (λ (r : Listed). each_shown node (l.id, r.id)) rights) lefts
   shown_pairs node lefts rights =
       shown_all node (pairs_of (ids_in lefts) (ids_in rights))
@@ -192,19 +193,19 @@ module _ (left right : PageSide) (ceiling : Option ℕ) (p : PageMap) (pair : Bl
       flat_same f g same [] = refl
       flat_same f g same (l ∷ ls) = ap₂ (λ a b. a ++ b) (same l) (flat_same f g same ls)
 
-  one_alike : (node : List (ℕ × ℕ)) (l r : Listed) → IsEntryOf j.left.shapes l → IsEntryOf j.right.shapes r → AllZip IsAlike (entry_found leaf l r) (each_shown node (l.id, r.id))
+  one_alike : (node : List (ℕ × ℕ)) (l r : Listed) → IsEntryOf j.left.shapes l → IsEntryOf j.right.shapes r → AllZip IsAlike (pair_found leaf l r) (each_shown node (l.id, r.id))
   one_alike node l r h k =
-      subst (λ o. AllZip IsAlike (entry_found leaf l r) (map leaf_item (filter queued (option_to_list o))))
+      subst (λ o. AllZip IsAlike (pair_found leaf l r) (map leaf_pair_item (filter queued (option_to_list o))))
       (sym (pair_given j pair node (l.id, r.id) h.shape k.shape h.row k.row)) (one_entry l r h k)
 
   -- what two leaves give
   pub leaves_alike : (lefts rights : List Listed) → All (IsEntryOf j.left.shapes) lefts → All (IsEntryOf j.right.shapes) rights
-      → AllZip IsAlike (flat_map (row_found leaf rights) lefts) (map leaf_item (shown j pair (pairs_of (ids_in lefts) (ids_in rights))))
+      → AllZip IsAlike (flat_map (row_found leaf rights) lefts) (map leaf_pair_item (pairs_shown j pair (pairs_of (ids_in lefts) (ids_in rights))))
   leaves_alike lefts rights h k =
       let node = pairs_of (ids_in lefts) (ids_in rights) in
       subst (AllZip IsAlike (flat_map (row_found leaf rights) lefts)) (sym (shown_pairs node lefts rights))
       (flat_alike (row_found leaf rights) (λ (l : Listed). flat_map (λ (r : Listed). each_shown node (l.id, r.id)) rights) lefts
-      (λ l at. flat_alike (entry_found leaf l) (λ (r : Listed). each_shown node (l.id, r.id)) rights
+      (λ l at. flat_alike (pair_found leaf l) (λ (r : Listed). each_shown node (l.id, r.id)) rights
       (λ r at_too. one_alike node l r (All-contains (IsEntryOf j.left.shapes) lefts l h at) (All-contains (IsEntryOf j.right.shapes) rights r k at_too))))
 
 -- ---- entries
@@ -215,13 +216,13 @@ module _ (leaf : Frac) (l r : Listed) (f g : Goal) (gap : Frac) (left_is : f ≡
       subst (λ x. IsSameGap gap (the_measure x (figure_of r.rough))) left_is (subst (λ y. IsSameGap gap (the_measure f y)) right_is near)
 
   pub entry_rough : (i : Item (Block × Block)) (k : Bool) → k ≡ (is_bound l.rough || is_bound r.rough) → k ≡ true → i ≡ item.Rough (greater gap leaf) l.id r.id
-      → AllZip IsAlike (i ∷ []) (entry_found leaf l r)
+      → AllZip IsAlike (i ∷ []) (pair_found leaf l r)
   entry_rough i k is holds rough =
       subst (λ c. AllZip IsAlike (i ∷ []) (by_figures leaf l.id r.id (figure_of l.rough) (figure_of r.rough) c)) (sym (sym is ∙ holds))
       (bound_same leaf l.id r.id gap (the_measure (figure_of l.rough) (figure_of r.rough)) figures_near i rough)
 
-  pub entry_exact : (items : List (Item (Block × Block))) (k : Bool) → k ≡ (is_bound l.rough || is_bound r.rough) → k ≡ false → items ≡ exact_found leaf l.id r.id gap
-      → AllZip IsAlike items (entry_found leaf l r)
+  pub entry_exact : (items : List (Item (Block × Block))) (k : Bool) → k ≡ (is_bound l.rough || is_bound r.rough) → k ≡ false → items ≡ exact_pair_found leaf l.id r.id gap
+      → AllZip IsAlike items (pair_found leaf l r)
   entry_exact items k is fails exact =
       subst (λ c. AllZip IsAlike items (by_figures leaf l.id r.id (figure_of l.rough) (figure_of r.rough) c)) (sym (sym is ∙ fails))
       (exact_same leaf l.id r.id gap (the_measure (figure_of l.rough) (figure_of r.rough)) figures_near items exact)

@@ -1,263 +1,45 @@
 -- A sound join meets the laws of a hierarchy.
-use Rattle.std.proofs.Common.{◌≡◌, ⊎_elim, ℕ, ◌+◌, ◌<◌, ◌≤◌, Bool, true, false, cond, not, ◌||◌, true≢false, List, [], ◌∷◌, ◌++◌, map, filter_map, flat_map, All}
-use Rattle.std.proofs.Common.{Contains, Option, None, Some, refl, sym, ap, ap₂, ◌∙◌, subst, arith, Ordering, Less, Equal, Greater, append-nil}
+use Rattle.std.proofs.Common.{◌≡◌, ℕ, ◌<◌, Bool, true, false, cond, not, ◌||◌, List, ◌∷◌, map, filter_map, flat_map, All}
+use Rattle.std.proofs.Common.{Contains, Option, None, Some, refl, sym, ap, ap₂, ◌∙◌, subst, arith}
 use Rattle.std.specs.Ordering.{is_lt}
-use Rattle.std.proofs.lemmas.Bool.{ltb-true}
-use Rattle.std.proofs.lemmas.List.Concat.{flat_map-append}
 use Rattle.std.proofs.lemmas.List.Elements.{All-nil, All-append, All-contains}
 use Rattle.exact_frac.specs.Frac.{value_cmp}
 use Rattle.exact_frac.specs.declared.frac.Frac.{Frac}
 use Rattle.sand_base.specs.Plane.{IsShapeInClosedPlane}
-use Rattle.sand_base.specs.declared.TheConstants.{COORDINATE_BITS}
 use Rattle.sand_base.specs.declared.goal.Goal.TheVariants as figure
 use Rattle.sand_base.specs.declared.shape.Shape.{Shape}
-use Rattle.z_code.specs.Block.{IsBlock, child, children_of, square_of}
+use Rattle.z_code.specs.Block.{child, children_of, square_of}
 use Rattle.z_code.specs.declared.block.Block.{Block}
 use Rattle.z_code.proofs.Blocks.{square_in_closed_plane}
-use Rattle.z_code.proofs.Children.{child_block}
-use Rattle.sand_model.specs.Database.{shape_at, meets_block}
-use Rattle.sand_model.specs.Measure.{Measure, meets}
+use Rattle.sand_model.specs.Measure.{meets}
 use Rattle.sand_model.specs.Nodes.{LeafItem, pairs_of, leaf_pairs, under_children, pair_nodes, pair_item, is_queued, is_rough, greater, rough_figure, square_figure}
 use Rattle.sand_model.specs.Rings.{SomeOf}
-use Rattle.sand_model.specs.Tree.{Tree, Leaf, Inner, places, leaves, root_block, IsShallow}
-use Rattle.ring_geom.specs.Bounding.{IsPartOf}
-use Rattle.ring_geom.proofs.BlockLemmas.{root_is_block, child_part}
+use Rattle.sand_model.specs.Tree.{Tree, Leaf, Inner, places, leaves, root_block}
+use Rattle.ring_geom.proofs.BlockLemmas.{root_is_block}
 use Rattle.ring_geom.proofs.Farther.{part_held, pair_no_farther}
 use Rattle.ring_geom.proofs.RoughLemmas.{roughs_no_farther}
 use Rattle.ring_geom.proofs.TreeLaws.{leaf_pairs_cover}
 use Rattle.best_first.specs.Hierarchy.{Meaning, MeetsLaws, HasGap, IsHonest, HasRow, IsListedUnder, Shows}
-use Rattle.best_first.specs.Item.{gap_of, node_of, nodes_of}
+use Rattle.best_first.specs.Item.{gap_of, nodes_of}
 use Rattle.best_first.specs.Reach.{IsSameGap, IsAtMost}
 use Rattle.best_first.specs.declared.hit.Hit.{Hit}
 use Rattle.best_first.specs.declared.item.Item.{Item}
 use Rattle.best_first.specs.declared.item.Item.TheVariants.{Rough, Row}
-use Rattle.best_first.proofs.Bags.{cons_cases, none, only, All-by, in_filter, from_filter, in_flat_map, from_flat_map}
-use Rattle.best_first.proofs.Gaps.{equal_at_least, greater_is, less_is, below_at_most, not_below, same_itself}
+use Rattle.best_first.proofs.Bags.{All-by, in_filter, from_flat_map}
+use Rattle.best_first.proofs.Gaps.{same_itself}
 use Rattle.rank_cursor.specs.Ranking.{place_at}
-use Rattle.rank_cursor.proofs.Elements.{in_map, from_map, map_append, in_filter_map, from_filter_map, some_is, some_term}
-use Rattle.rank_cursor.proofs.Places.{pick, place_below, place_here, place_more, inside, is_place, place_is, leaf_place, leaf_fits}
-use Rattle.rank_cursor.proofs.RankingLaws.{greater_second, greater_least, shape_is, is_shape}
-use Rattle.dist_join.specs.Joining.{Side, Joining, IsSoundSide, IsSound, node_at, blocks_of, squares_gap, blocks_item, ids_of_both, divided, leaf_item, shown, found_at}
+use Rattle.rank_cursor.proofs.Elements.{in_map, from_map, in_filter_map, some_term}
+use Rattle.rank_cursor.proofs.Places.{pick, place_here, inside, is_place, place_is, leaf_place}
+use Rattle.rank_cursor.proofs.RankedItems.{greater_least, is_shape}
+use Rattle.dist_join.specs.Joining.{Joining, IsSoundJoin, pair_node_at, blocks_of, squares_gap, blocks_item, ids_of_both, divided, leaf_pair_item, pairs_shown, pairs_found_at}
 use Rattle.dist_join.specs.Joining.{pairs_under, row_of_pair, join_meaning}
 use Rattle.dist_join.proofs.PairPlaces.{leaf_node, leaf_pair}
-
--- ---- gaps in order
-
-not_less : (f g : Frac) → is_lt (value_cmp f g) ≡ false → IsAtMost g f
-not_less f g e =
-    let go : (a : Ordering) → value_cmp f g ≡ a → is_lt a ≡ false → IsAtMost g f =
-    elim [ Less ↦ λ h k. absurd (true≢false k) | Equal ↦ λ h k. equal_at_least f g h | Greater ↦ λ h k. below_at_most g f (greater_is f g h) ] in
-    go (value_cmp f g) refl e
-
--- what is no less is not told to be less
-at_least_not_less : (f g : Frac) → IsAtMost g f → is_lt (value_cmp f g) ≡ false
-at_least_not_less f g h =
-    let go : (a : Ordering) → value_cmp f g ≡ a → is_lt a ≡ false = elim [ Less ↦ λ e. absurd (not_below f g (less_is f g e) h) | Equal ↦ λ e. refl | Greater ↦ λ e. refl ] in
-    go (value_cmp f g) refl
-
--- ---- lists
-
-pub flat_twice : {X Y Z : Type 0} (f : Y → List Z) (g : X → List Y) (xs : List X) → flat_map f (flat_map g xs) ≡ flat_map (λ x. flat_map f (g x)) xs
-flat_twice f g [] = refl
-flat_twice f g (x ∷ xs) = flat_map-append f (g x) (flat_map g xs) ∙ ap (λ l. flat_map f (g x) ++ l) (flat_twice f g xs)
-
-four_maps : {X Y : Type 0} (f : X → Y) (xs ys zs ws : List X) → map f (xs ++ (ys ++ (zs ++ ws))) ≡ map f xs ++ (map f ys ++ (map f zs ++ (map f ws ++ [])))
-four_maps f xs ys zs ws =
-    map_append f xs (ys ++ (zs ++ ws)) ∙ ap (λ l. map f xs ++ l) (map_append f ys (zs ++ ws)
-    ∙ ap (λ l. map f ys ++ l) (map_append f zs ws ∙ ap (λ l. map f zs ++ l) (sym (append-nil (map f ws)))))
-
-four_same : {X : Type 0} (a b c d w x y z : List X) → a ≡ w → b ≡ x → c ≡ y → d ≡ z → a ++ (b ++ (c ++ (d ++ []))) ≡ w ++ (x ++ (y ++ (z ++ [])))
-four_same a b c d w x y z e f g h = ap₂ (λ l m. l ++ m) e (ap₂ (λ l m. l ++ m) f (ap₂ (λ l m. l ++ m) g (ap (λ l. l ++ []) h)))
-
-pub in_pairs : (lefts rights : List ℕ) (l r : ℕ) → Contains lefts l → Contains rights r → Contains (pairs_of lefts rights) (l, r)
-in_pairs lefts rights l r h k = in_flat_map (λ (l : ℕ). map (λ (r : ℕ). (l, r)) rights) lefts l (l, r) h (in_map (λ (r : ℕ). (l, r)) rights r k)
-
--- ---- the items of two leaves
-
--- a pair of ids in two leaves, with the shapes of their rows
-abbrev pub one_item : Joining → Block × Block → ℕ × ℕ → Shape → Shape → LeafItem
-one_item j pair ids s t = record {
-  left = ids.0;
-  right = ids.1;
-  is_rough = is_rough s || is_rough t;
-  gap =
-      cond (is_rough s || is_rough t) (greater (j.measure (rough_figure s) (rough_figure t)) (squares_gap j pair))
-      (j.measure (figure.Shape s) (figure.Shape t));
-}
-
--- what two options give together
-abbrev both_some : {A B C : Type 0} → (A → B → C) → Option A → Option B → Option C
-both_some f (Some s) (Some t) = Some (f s t)
-both_some f _ _ = None
-
-pub both_is : {A B C : Type 0} (f : A → B → C) (o : Option A) (q : Option B) (y : C) → both_some f o q ≡ Some y
-    → (s : A) × (t : B) × (o ≡ Some s) × (q ≡ Some t) × (f s t ≡ y)
-both_is {A} {B} {C} f None q y e = absurd (true≢false (ap (λ (o : Option C). elim o as (λ _. Bool) [ None ↦ true | Some z ↦ false ]) e))
-both_is {A} {B} {C} f (Some s) None y e = absurd (true≢false (ap (λ (o : Option C). elim o as (λ _. Bool) [ None ↦ true | Some z ↦ false ]) e))
-both_is f (Some s) (Some t) y e = (s, t, refl, refl, some_is (f s t) y e)
-
--- a pair of rows has its item
-pub pair_given : (j : Joining) (pair : Block × Block) (ids : List (ℕ × ℕ)) (one : ℕ × ℕ) (s t : Shape) → shape_at j.left.shapes one.0 ≡ Some s
-    → shape_at j.right.shapes one.1 ≡ Some t → pair_item j.measure j.left.shapes j.right.shapes (node_at pair ids) one ≡ Some (one_item j pair one s t)
-pair_given j pair ids one s t e f = ap₂ (λ o q. both_some (one_item j pair one) o q) e f
-
--- What two leaves show is the item of a pair of rows that is not nearer than the leaves, or rough.
-pub record IsShown (j : Joining) (pair : Block × Block) (ids : List (ℕ × ℕ)) (item : LeafItem) : Type 0 where
-  pub one : ℕ × ℕ
-  pub shape : Shape
-  pub other : Shape
-  pub listed : Contains ids one
-  pub row : Contains j.left.shapes (one.0, shape)
-  pub other_row : Contains j.right.shapes (one.1, other)
-  pub is : one_item j pair one shape other ≡ item
-  pub queued : is_queued (squares_gap j pair) item ≡ true
-
-pub shown_is : (j : Joining) (pair : Block × Block) (ids : List (ℕ × ℕ)) (item : LeafItem) → Contains (shown j pair ids) item → IsShown j pair ids item
-shown_is j pair ids item h =
-    let gives = pair_item j.measure j.left.shapes j.right.shapes (node_at pair ids) in
-    let (among, queued) = from_filter (is_queued (squares_gap j pair)) (filter_map gives ids) item h in
-    let (one, at, is_given) = from_filter_map gives ids item among in
-    let (s, t, found, too, is) = both_is (one_item j pair one) (shape_at j.left.shapes one.0) (shape_at j.right.shapes one.1) item is_given in
-    record {
-      one = one;
-      shape = s;
-      other = t;
-      listed = at;
-      row = shape_is j.left.shapes one.0 s found;
-      other_row = shape_is j.right.shapes one.1 t too;
-      is = is;
-      queued = queued;
-    }
-
-leaf_item_gap : (item : LeafItem) → gap_of (leaf_item item) ≡ item.gap
-leaf_item_gap item =
-    let go : (b : Bool) → gap_of {N = Block × Block} (cond b (Rough item.gap item.left item.right) (Row item.gap item.left item.right)) ≡ item.gap = elim [ true ↦ refl | false ↦ refl ] in
-    go item.is_rough
-
-leaf_item_node : (item : LeafItem) → node_of (leaf_item item) ≡ []
-leaf_item_node item =
-    let go : (b : Bool) → node_of {N = Block × Block} (cond b (Rough item.gap item.left item.right) (Row item.gap item.left item.right)) ≡ [] = elim [ true ↦ refl | false ↦ refl ] in
-    go item.is_rough
-
-leaf_nodes : (items : List LeafItem) → nodes_of (map leaf_item items) ≡ []
-leaf_nodes [] = refl
-leaf_nodes (item ∷ items) = ap₂ (λ (xs : List (Block × Block)) (ys : List (Block × Block)). xs ++ ys) (leaf_item_node item) (leaf_nodes items)
-
-block_nodes : (j : Joining) (pairs : List (Block × Block)) → nodes_of (map (blocks_item j) pairs) ≡ pairs
-block_nodes j [] = refl
-block_nodes j (pair ∷ pairs) = ap (λ (l : List (Block × Block)). pair ∷ l) (block_nodes j pairs)
-
--- the nodes that are found are the pairs into which a pair of places is divided
-pub found_nodes : (j : Joining) (pairs : List (Block × Block)) (items : List LeafItem) → nodes_of (map (blocks_item j) pairs ++ map leaf_item items) ≡ pairs
-found_nodes j pairs items =
-    flat_map-append node_of (map (blocks_item j) pairs) (map leaf_item items)
-    ∙ ap₂ (λ (xs : List (Block × Block)) (ys : List (Block × Block)). xs ++ ys) (block_nodes j pairs) (leaf_nodes items) ∙ append-nil pairs
-
--- an item that two leaves show is no nearer than they
-shown_far : (j : Joining) (pair : Block × Block) (ids : List (ℕ × ℕ)) (item : LeafItem) → IsShown j pair ids item → IsAtMost (squares_gap j pair) item.gap
-shown_far j pair ids item h =
-    subst (λ (x : LeafItem). is_queued (squares_gap j pair) x ≡ true → IsAtMost (squares_gap j pair) x.gap) h.is (far (is_rough h.shape || is_rough h.other)) h.queued
-  where
-    near : Frac
-    near = j.measure (rough_figure h.shape) (rough_figure h.other)
-
-    exact : Frac
-    exact = j.measure (figure.Shape h.shape) (figure.Shape h.other)
-
-    far : (k : Bool) → (k || not (is_lt (value_cmp (cond k (greater near (squares_gap j pair)) exact) (squares_gap j pair)))) ≡ true
-        → IsAtMost (squares_gap j pair) (cond k (greater near (squares_gap j pair)) exact)
-    far true e = greater_second near (squares_gap j pair)
-    far false e = not_less exact (squares_gap j pair) (not_true (is_lt (value_cmp exact (squares_gap j pair))) e)
-      where
-        not_true : (c : Bool) → not c ≡ true → c ≡ false
-        not_true true e = absurd (true≢false (sym e))
-        not_true false e = refl
-
--- ---- squares in squares
-
--- The other block lies in the block.
-record LiesIn (b other : Block) : Type 0 where
-  pub block : IsBlock other
-  pub part : IsPartOf (square_of other) (square_of b)
-
-lies_itself : (b : Block) → IsBlock b → LiesIn b b
-lies_itself b h = record {
-  block = h;
-  part = record {
-    low = record { left = le_itself _; right = le_more _ _; bottom = le_itself _; top = le_more _ _ };
-    high = record { left = le_more _ _; right = le_itself _; bottom = le_more _ _; top = le_itself _ };
-  };
-}
-  where
-    le_itself : (n : ℕ) → n ≤ n
-    le_itself n = omega arith
-
-    le_more : (n s : ℕ) → n ≤ n + s
-    le_more n s = omega arith
-
-lies_child : (b other : Block) → IsBlock b → b.level < COORDINATE_BITS → Contains (children_of b) other → LiesIn b other
-lies_child b other h above at =
-    ⊎_elim (λ e. subst (LiesIn b) e (one 0 (omega arith)))
-    (λ more. ⊎_elim (λ e. subst (LiesIn b) e (one 1 (omega arith)))
-    (λ less. ⊎_elim (λ e. subst (LiesIn b) e (one 2 (omega arith))) (λ last. subst (LiesIn b) (only (child b 3) other last) (one 3 (omega arith)))
-    (cons_cases (child b 2) (child b 3 ∷ []) other less)) (cons_cases (child b 1) (child b 2 ∷ child b 3 ∷ []) other more))
-    (cons_cases (child b 0) (child b 1 ∷ child b 2 ∷ child b 3 ∷ []) other at)
-  where
-    one : (i : ℕ) → i < 4 → LiesIn b (child b i)
-    one i small = record { block = child_block b h above i small; part = child_part b h above i small }
-
--- the pairs into which a pair of places is divided lie in it
-divided_lies : (b : Block) (t : Tree) (c : Block) (u : Tree) → IsBlock b → IsShallow b t → IsBlock c → IsShallow c u → (x : Block × Block)
-    → Contains (divided b t c u) x → LiesIn b x.0 × LiesIn c x.1
-divided_lies b (Leaf lefts) c (Leaf rights) hb sb hc sc x h = absurd (none x h)
-divided_lies b (Leaf lefts) c (Inner p q r s) hb sb hc sc x h =
-    let (d, among, same) = from_map (λ (d : Block). (b, d)) (children_of c) x h in
-    subst (λ (y : Block × Block). LiesIn b y.0 × LiesIn c y.1) same (lies_itself b hb, lies_child c d hc (ltb-true c.level COORDINATE_BITS sc.0) among)
-divided_lies b (Inner p q r s) c (Leaf rights) hb sb hc sc x h =
-    let (d, among, same) = from_map (λ (d : Block). (d, c)) (children_of b) x h in
-    subst (λ (y : Block × Block). LiesIn b y.0 × LiesIn c y.1) same (lies_child b d hb (ltb-true b.level COORDINATE_BITS sb.0) among, lies_itself c hc)
-divided_lies b (Inner p q r s) c (Inner t u v w) hb sb hc sc x h =
-    let (d, among, more) = from_flat_map (λ (d : Block). map (λ (e : Block). (d, e)) (children_of c)) (children_of b) x h in
-    let (e, under, same) = from_map (λ (e : Block). (d, e)) (children_of c) x more in
-    subst (λ (y : Block × Block). LiesIn b y.0 × LiesIn c y.1) same
-    (lies_child b d hb (ltb-true b.level COORDINATE_BITS sb.0) among, lies_child c e hc (ltb-true c.level COORDINATE_BITS sc.0) under)
-
--- ---- a side
-
--- a child of an inner place is a place
-child_place : (gap : Measure) (side : Side) → IsSoundSide gap side → (b : Block) (p q s t : Tree) → place_at side.tree b ≡ Some (Inner p q s t)
-    → (i : ℕ) → i < 4 → place_at side.tree (child b i) ≡ Some (pick p q s t i)
-child_place gap side sound b p q s t e i small =
-    is_place side.tree sound.shallow (child b i) (pick p q s t i)
-    (place_more root_block side.tree b (Inner p q s t) (child b i, pick p q s t i) (place_is side.tree b (Inner p q s t) e)
-    (place_below b p q s t (child b i, pick p q s t i) i small (place_here (child b i) (pick p q s t i))))
-
--- a leaf whose square a shape meets lists its row
-listed_there : (gap : Measure) (side : Side) → IsSoundSide gap side → (c : Block) (ids : List ℕ) → Contains (places root_block side.tree) (c, Leaf ids)
-    → (id : ℕ) (s : Shape) → Contains side.shapes (id, s) → meets gap s (square_of c) ≡ true → Contains ids id
-listed_there gap side sound c ids place id s at met =
-    let all = map (λ (row : ℕ × Shape). row.0) side.shapes in
-    subst (λ (l : List ℕ). Contains l id) (sym (leaf_fits (meets_block gap side.shapes) all root_block side.tree sound.fits c ids place))
-    (in_filter (meets_block gap side.shapes c) all id (in_map (λ (row : ℕ × Shape). row.0) side.shapes (id, s) at)
-    (ap (met_at) (is_shape side.shapes sound.apart id s at) ∙ met))
-  where
-    met_at : Option Shape → Bool
-    met_at (Some t) = meets gap t (square_of c)
-    met_at None = false
-
--- an id is that of one shape
-pub own_shape : (gap : Measure) (side : Side) → IsSoundSide gap side → (id : ℕ) (s t : Shape) → Contains side.shapes (id, s) → Contains side.shapes (id, t) → s ≡ t
-own_shape gap side sound id s t h k = some_is s t (sym (is_shape side.shapes sound.apart id s h) ∙ is_shape side.shapes sound.apart id t k)
-
--- a pair of rows is a row
-pub row_among : (j : Joining) (row other : ℕ × Shape) → Contains j.left.shapes row → Contains j.right.shapes other → Contains (join_meaning j).rows (row_of_pair j row other)
-row_among j row other at too =
-    in_flat_map (λ (row : ℕ × Shape). map (row_of_pair j row) j.right.shapes) j.left.shapes row (row_of_pair j row other) at
-    (in_map (row_of_pair j row) j.right.shapes other too)
+use Rattle.dist_join.proofs.JoinPlaces.{at_least_not_less, flat_twice, four_maps, four_same, in_pairs, one_item, pair_given, IsShown, shown_is, leaf_item_gap}
+use Rattle.dist_join.proofs.JoinPlaces.{found_nodes, shown_far, divided_lies, child_place, listed_there, own_shape, row_among}
 
 -- ---- the laws
 
-module _ (j : Joining) (sound : IsSound j) where
+module _ (j : Joining) (sound : IsSoundJoin j) where
   abbrev m : Meaning (Block × Block)
   m = join_meaning j
 
@@ -303,32 +85,33 @@ module _ (j : Joining) (sound : IsSound j) where
       ∙ sym (flat_twice m.under (λ (d : Block). map (λ (e : Block). (d, e)) (children_of c)) (children_of b)))
 
   unfolds_at : (pair : Block × Block) (o q : Option Tree) → place_at j.left.tree pair.0 ≡ o → place_at j.right.tree pair.1 ≡ q
-      → pairs_under pair o q ≡ pair ∷ flat_map m.under (nodes_of (found_at j pair o q))
+      → pairs_under pair o q ≡ pair ∷ flat_map m.under (nodes_of (pairs_found_at j pair o q))
   unfolds_at pair None q e f = refl
   unfolds_at pair (Some t) None e f = refl
   unfolds_at pair (Some t) (Some u) e f =
       below_divided pair.0 t pair.1 u e f
-      ∙ ap (λ (l : List (Block × Block)). pair ∷ flat_map m.under l) (sym (found_nodes j (divided pair.0 t pair.1 u) (shown j pair (ids_of_both t u))))
+      ∙ ap (λ (l : List (Block × Block)). pair ∷ flat_map m.under l) (sym (found_nodes j (divided pair.0 t pair.1 u) (pairs_shown j pair (ids_of_both t u))))
 
   -- what holds of all that a pair of places finds
   all_found : (P : Item (Block × Block) → Type 0) (pair : Block × Block) (o q : Option Tree) → place_at j.left.tree pair.0 ≡ o → place_at j.right.tree pair.1 ≡ q
       → ((t u : Tree) → place_at j.left.tree pair.0 ≡ Some t → place_at j.right.tree pair.1 ≡ Some u → (x : Block × Block) → Contains (divided pair.0 t pair.1 u) x → P (blocks_item j x))
-      → ((ids : List (ℕ × ℕ)) (item : LeafItem) → IsShown j pair ids item → P (leaf_item item)) → All P (found_at j pair o q)
+      → ((ids : List (ℕ × ℕ)) (item : LeafItem) → IsShown j pair ids item → P (leaf_pair_item item)) → All P (pairs_found_at j pair o q)
   all_found P pair None q e f nodes items = All-nil P
   all_found P pair (Some t) None e f nodes items = All-nil P
   all_found P pair (Some t) (Some u) e f nodes items =
       let pairs = divided pair.0 t pair.1 u in
       let ids = ids_of_both t u in
-      All-append P (map (blocks_item j) pairs) (map leaf_item (shown j pair ids))
+      All-append P (map (blocks_item j) pairs) (map leaf_pair_item (pairs_shown j pair ids))
       (All-by P (map (blocks_item j) pairs) (λ y at. let (x, among, is) = from_map (blocks_item j) pairs y at in subst P is (nodes t u e f x among)))
-      (All-by P (map leaf_item (shown j pair ids)) (λ y at. let (item, among, is) = from_map leaf_item (shown j pair ids) y at in subst P is (items ids item (shown_is j pair ids item among))))
+      (All-by P (map leaf_pair_item (pairs_shown j pair ids)) (λ y at. let (item, among, is) = from_map leaf_pair_item (pairs_shown j pair ids) y at in
+      subst P is (items ids item (shown_is j pair ids item among))))
 
   at_all : (P : Item (Block × Block) → Type 0) (pair : Block × Block)
       → ((t u : Tree) → place_at j.left.tree pair.0 ≡ Some t → place_at j.right.tree pair.1 ≡ Some u → (x : Block × Block) → Contains (divided pair.0 t pair.1 u) x → P (blocks_item j x))
-      → ((ids : List (ℕ × ℕ)) (item : LeafItem) → IsShown j pair ids item → P (leaf_item item)) → All P (m.finds pair)
+      → ((ids : List (ℕ × ℕ)) (item : LeafItem) → IsShown j pair ids item → P (leaf_pair_item item)) → All P (m.finds pair)
   at_all P pair nodes items = all_found P pair (place_at j.left.tree pair.0) (place_at j.right.tree pair.1) refl refl nodes items
 
-  leaf_has_gap : (item : LeafItem) → HasGap m (leaf_item item)
+  leaf_has_gap : (item : LeafItem) → HasGap m (leaf_pair_item item)
   leaf_has_gap item =
       let go : (b : Bool) → HasGap m (cond b (Rough item.gap item.left item.right) (Row item.gap item.left item.right)) = elim [ true ↦ tt | false ↦ tt ] in
       go item.is_rough
@@ -355,7 +138,7 @@ module _ (j : Joining) (sound : IsSound j) where
   }
 
   item_honest : (pair : Block × Block) (one : ℕ × ℕ) (s t : Shape) → Contains j.left.shapes (one.0, s) → Contains j.right.shapes (one.1, t)
-      → IsHonest m (leaf_item (one_item j pair one s t))
+      → IsHonest m (leaf_pair_item (one_item j pair one s t))
   item_honest pair one s t at too =
       let rough = greater (j.measure (rough_figure s) (rough_figure t)) (squares_gap j pair) in
       let exact = j.measure (figure.Shape s) (figure.Shape t) in
@@ -382,7 +165,7 @@ module _ (j : Joining) (sound : IsSound j) where
 
   shows_row : (pair : Block × Block) (row other : ℕ × Shape) → IsShapeInClosedPlane row.1 → IsShapeInClosedPlane other.1
       → IsAtMost (squares_gap j pair) (j.measure (figure.Shape row.1) (figure.Shape other.1))
-      → Shows (row_of_pair j row other) (leaf_item (one_item j pair (row.0, other.0) row.1 other.1))
+      → Shows (row_of_pair j row other) (leaf_pair_item (one_item j pair (row.0, other.0) row.1 other.1))
   shows_row pair row other in_left in_right near =
       let rough = j.measure (rough_figure row.1) (rough_figure other.1) in
       let exact = j.measure (figure.Shape row.1) (figure.Shape other.1) in
@@ -396,9 +179,9 @@ module _ (j : Joining) (sound : IsSound j) where
 
   -- what two leaves find
   pub leaves_find : (c d : Block) (lefts rights : List ℕ) → Contains (places root_block j.left.tree) (c, Leaf lefts) → Contains (places root_block j.right.tree) (d, Leaf rights)
-      → m.finds (c, d) ≡ map leaf_item (shown j (c, d) (pairs_of lefts rights))
+      → m.finds (c, d) ≡ map leaf_pair_item (pairs_shown j (c, d) (pairs_of lefts rights))
   leaves_find c d lefts rights at too =
-      ap₂ (λ o q. found_at j (c, d) o q) (is_place j.left.tree sound.left.shallow c (Leaf lefts) at) (is_place j.right.tree sound.right.shallow d (Leaf rights) too)
+      ap₂ (λ o q. pairs_found_at j (c, d) o q) (is_place j.left.tree sound.left.shallow c (Leaf lefts) at) (is_place j.right.tree sound.right.shallow d (Leaf rights) too)
 
   -- two shapes meet these leaves, which are no farther apart than they
   abbrev AreReached : Shape → Shape → Block × List ℕ → Block × List ℕ → Type 0
@@ -408,11 +191,11 @@ module _ (j : Joining) (sound : IsSound j) where
 
   -- two leaves show the item of two rows that they list and that are no nearer than they
   shown_there : (pair : Block × Block) (ids : List (ℕ × ℕ)) (row other : ℕ × Shape) → Contains ids (row.0, other.0) → Contains j.left.shapes row → Contains j.right.shapes other
-      → IsAtMost (squares_gap j pair) (j.measure (figure.Shape row.1) (figure.Shape other.1)) → Contains (shown j pair ids) (one_item j pair (row.0, other.0) row.1 other.1)
+      → IsAtMost (squares_gap j pair) (j.measure (figure.Shape row.1) (figure.Shape other.1)) → Contains (pairs_shown j pair ids) (one_item j pair (row.0, other.0) row.1 other.1)
   shown_there pair ids row other listed at too near =
       let one : ℕ × ℕ = (row.0, other.0) in
       let item = one_item j pair one row.1 other.1 in
-      let gives = pair_item j.measure j.left.shapes j.right.shapes (node_at pair ids) in
+      let gives = pair_item j.measure j.left.shapes j.right.shapes (pair_node_at pair ids) in
       in_filter (is_queued (squares_gap j pair)) (filter_map gives ids) item
       (in_filter_map gives ids one item listed
       (pair_given j pair ids one row.1 other.1 (is_shape j.left.shapes sound.left.apart row.0 row.1 at) (is_shape j.right.shapes sound.right.apart other.0 other.1 too)))
@@ -434,9 +217,9 @@ module _ (j : Joining) (sound : IsSound j) where
         below = subst (λ (l : List (Block × Block)). Contains l pair) (sym under_root)
             (in_map blocks_of (pair_nodes root_block j.left.tree root_block j.right.tree) (leaf_node leaf second)
             (leaf_pair root_block j.left.tree root_block j.right.tree leaf second among among_too));
-        item = leaf_item item;
-        listed = subst (λ (l : List (Item (Block × Block))). Contains l (leaf_item item)) (sym (leaves_find leaf.0 second.0 leaf.1 second.1 place place_too))
-            (in_map leaf_item (shown j pair ids) item (shown_there pair ids row other listed at too met.2));
+        item = leaf_pair_item item;
+        listed = subst (λ (l : List (Item (Block × Block))). Contains l (leaf_pair_item item)) (sym (leaves_find leaf.0 second.0 leaf.1 second.1 place place_too))
+            (in_map leaf_pair_item (pairs_shown j pair ids) item (shown_there pair ids row other listed at too met.2));
         shows = shows_row pair row other (plane_left row.0 row.1 at) (plane_right other.0 other.1 too) met.2;
       }
 
@@ -481,7 +264,7 @@ module _ (j : Joining) (sound : IsSound j) where
     bound = λ pair. at_all (λ item. IsAtMost (squares_gap j pair) (gap_of item)) pair (λ t u e f x at. divided_far pair.0 t pair.1 u e f x at)
         (λ ids item h. subst (IsAtMost (squares_gap j pair)) (sym (leaf_item_gap item)) (shown_far j pair ids item h));
     honest = λ pair. at_all (IsHonest m) pair (λ t u e f x at. tt)
-        (λ ids item h. subst (λ (x : LeafItem). IsHonest m (leaf_item x)) h.is (item_honest pair h.one h.shape h.other h.row h.other_row));
+        (λ ids item h. subst (λ (x : LeafItem). IsHonest m (leaf_pair_item x)) h.is (item_honest pair h.one h.shape h.other h.row h.other_row));
     covers = covers_hit;
     once = one_gap;
   }

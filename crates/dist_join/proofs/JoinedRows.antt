@@ -24,7 +24,7 @@ use Rattle.rank_cursor.proofs.RankedRows.{HasJust, gives_list, same_measures}
 use Rattle.rank_cursor.proofs.SortedRows.{Rises, AreApart, from_sorted, in_sorted, filter_rises, sorted_rises}
 use Rattle.semi_join.specs.FirstPairs.{HasLefts}
 use Rattle.semi_join.specs.Listed.{IsInList, IsOfAnswer, ListsAnswer}
-use Rattle.dist_join.specs.Joining.{Joining, IsSound, row_of_pair, join_meaning}
+use Rattle.dist_join.specs.Joining.{Joining, IsSoundJoin, row_of_pair, join_meaning}
 use Rattle.dist_join.proofs.JoinLaws.{plane_left, plane_right, row_is}
 
 -- ---- the order of rows
@@ -83,7 +83,7 @@ lists_answer {N} m rows just = record {
 -- ---- a join
 
 -- the left rows are those of the left side
-pub has_lefts : (j : Joining) → IsSound j → (greatest : ℕ) → All (λ (row : ℕ × Shape). row.0 ≤ greatest) j.left.shapes → HasLefts (join_meaning j) (length j.left.shapes) greatest
+pub has_lefts : (j : Joining) → IsSoundJoin j → (greatest : ℕ) → All (λ (row : ℕ × Shape). row.0 ≤ greatest) j.left.shapes → HasLefts (join_meaning j) (length j.left.shapes) greatest
 has_lefts j sound greatest small = record {
   ids = map (λ (row : ℕ × Shape). row.0) j.left.shapes;
   count = length-map j.left.shapes (λ (row : ℕ × Shape). row.0);
@@ -95,7 +95,7 @@ has_lefts j sound greatest small = record {
       subst (Contains (map (λ (row : ℕ × Shape). row.0) j.left.shapes)) (ap (λ (h : Hit). h.left) is) (in_map (λ (row : ℕ × Shape). row.0) j.left.shapes row among);
 }
 
-module _ (j : Joining) (sound : IsSound j) (gap : Measure) (is : IsMeasure gap) where
+module _ (j : Joining) (sound : IsSoundJoin j) (gap : Measure) (is : IsMeasure gap) where
   -- two rows as the model's list has them
   abbrev found_of_pair : ℕ × Shape → ℕ × Shape → Found
   found_of_pair row other = record { gap = gap (figure.Shape row.1) (figure.Shape other.1); left = row.0; right = other.0 }

@@ -1,5 +1,7 @@
 -- the pairs of places, and the laws
 pub mod PairPlaces
+-- the items of two leaves, squares in squares, and a side of a join
+pub mod JoinPlaces
 pub mod JoinLaws
 -- the rows
 pub mod JoinedRows

@@ -14,6 +14,6 @@ abbrev pub all_pairs : Side → Side → List PairNode
 all_pairs left right = pair_nodes root_block left.tree root_block right.tree
 
 -- What was taken counts as the model says at this reach: the pairs of places within it, and the rough pairs of objects with each of their gaps.
-pub record CountsAs (gap : Measure) (left right : Side) (to : Reach) (done : List (Item (Block × Block))) : Type 0 where
+pub record CountsAsJoin (gap : Measure) (left right : Side) (to : Reach) (done : List (Item (Block × Block))) : Type 0 where
   pub pairs : length (nodes_of done) ≡ length (filter (λ node. reaches to (pair_gap gap node)) (all_pairs left right))
   pub geometries : length (roughs_of done) ≡ length (roughs_within to (join_items gap left.shapes right.shapes (all_pairs left right)))

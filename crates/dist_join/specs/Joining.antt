@@ -16,7 +16,7 @@ use Rattle.best_first.specs.Hierarchy.{Meaning}
 use Rattle.best_first.specs.declared.hit.Hit.{Hit}
 use Rattle.best_first.specs.declared.item.Item.{Item}
 use Rattle.best_first.specs.declared.item.Item.TheVariants.{Node, Rough, Row}
-use Rattle.rank_cursor.specs.Ranking.{place_at, id_count, HaveOwnIds}
+use Rattle.rank_cursor.specs.Ranking.{place_at, listed_count, HaveOwnIds}
 
 -- One side of a join: the shapes with the ids of their rows, the quadtree that indexes them, and its height in pages.
 pub record Side : Type 0 where
@@ -37,8 +37,8 @@ pub record Joining : Type 1 where
 -- ---- pairs of places
 
 -- two blocks with the pairs of ids that are listed there
-abbrev pub node_at : Block × Block → List (ℕ × ℕ) → PairNode
-node_at pair ids = record { left = pair.0; right = pair.1; ids = ids }
+abbrev pub pair_node_at : Block × Block → List (ℕ × ℕ) → PairNode
+pair_node_at pair ids = record { left = pair.0; right = pair.1; ids = ids }
 
 -- the blocks of a pair of places
 abbrev pub blocks_of : PairNode → Block × Block
@@ -46,7 +46,7 @@ blocks_of node = (node.left, node.right)
 
 -- the gap of the squares of two blocks
 abbrev pub squares_gap : Joining → Block × Block → Frac
-squares_gap j pair = pair_gap j.measure (node_at pair [])
+squares_gap j pair = pair_gap j.measure (pair_node_at pair [])
 
 -- two blocks as the frontier holds them
 abbrev pub blocks_item : Joining → Block × Block → Item (Block × Block)
@@ -69,20 +69,20 @@ divided b (Inner p q r s) c (Inner t u v w) = flat_map (λ d. map (λ e. (d, e))
 -- ---- what a pair of places finds
 
 -- what a pair of leaves lists, as the frontier holds it
-abbrev pub leaf_item : LeafItem → Item (Block × Block)
-leaf_item item = cond item.is_rough (Rough item.gap item.left item.right) (Row item.gap item.left item.right)
+abbrev pub leaf_pair_item : LeafItem → Item (Block × Block)
+leaf_pair_item item = cond item.is_rough (Rough item.gap item.left item.right) (Row item.gap item.left item.right)
 
 -- what a pair of leaves shows to a search: its items, but for exact ones that are nearer than the leaves
-abbrev pub shown : Joining → Block × Block → List (ℕ × ℕ) → List LeafItem
-shown j pair ids =
-    filter (is_queued (squares_gap j pair)) (filter_map (pair_item j.measure j.left.shapes j.right.shapes (node_at pair ids)) ids)
+abbrev pub pairs_shown : Joining → Block × Block → List (ℕ × ℕ) → List LeafItem
+pairs_shown j pair ids =
+    filter (is_queued (squares_gap j pair)) (filter_map (pair_item j.measure j.left.shapes j.right.shapes (pair_node_at pair ids)) ids)
 
 -- what a pair of places finds: the pairs into which it is divided, or the items of the two leaves
-abbrev pub found_at : Joining → Block × Block → Option Tree → Option Tree → List (Item (Block × Block))
-found_at j pair None place = []
-found_at j pair (Some place) None = []
-found_at j pair (Some place) (Some other) =
-    map (blocks_item j) (divided pair.0 place pair.1 other) ++ map leaf_item (shown j pair (ids_of_both place other))
+abbrev pub pairs_found_at : Joining → Block × Block → Option Tree → Option Tree → List (Item (Block × Block))
+pairs_found_at j pair None place = []
+pairs_found_at j pair (Some place) None = []
+pairs_found_at j pair (Some place) (Some other) =
+    map (blocks_item j) (divided pair.0 place pair.1 other) ++ map leaf_pair_item (pairs_shown j pair (ids_of_both place other))
 
 -- the pairs of blocks at and below a pair of places; two blocks that aren't both places stand alone
 abbrev pub pairs_under : Block × Block → Option Tree → Option Tree → List (Block × Block)
@@ -91,11 +91,11 @@ pairs_under pair (Some place) None = pair ∷ []
 pairs_under pair (Some place) (Some other) = map blocks_of (pair_nodes pair.0 place pair.1 other)
 
 -- what a visit may cost in page gets
-abbrev pub visit_price : Joining → Item (Block × Block) → ℕ
-visit_price j (Node gap pair) =
-    pair_price j.left.height (id_count (place_at j.left.tree pair.0)) j.right.height (id_count (place_at j.right.tree pair.1))
-visit_price j (Rough gap left right) = j.fetch_price
-visit_price j (Row gap left right) = 0
+abbrev pub pair_visit_price : Joining → Item (Block × Block) → ℕ
+pair_visit_price j (Node gap pair) =
+    pair_price j.left.height (listed_count (place_at j.left.tree pair.0)) j.right.height (listed_count (place_at j.right.tree pair.1))
+pair_visit_price j (Rough gap left right) = j.fetch_price
+pair_visit_price j (Row gap left right) = 0
 
 -- ---- the hierarchy
 
@@ -113,11 +113,11 @@ join_meaning j = record {
   IsReadable = j.IsReadable;
   root = (root_block, root_block);
   gap = squares_gap j;
-  finds = λ pair. found_at j pair (place_at j.left.tree pair.0) (place_at j.right.tree pair.1);
+  finds = λ pair. pairs_found_at j pair (place_at j.left.tree pair.0) (place_at j.right.tree pair.1);
   under = λ pair. pairs_under pair (place_at j.left.tree pair.0) (place_at j.right.tree pair.1);
   rows = flat_map (λ row. map (row_of_pair j row) j.right.shapes) j.left.shapes;
   ceiling = j.ceiling;
-  price = visit_price j;
+  price = pair_visit_price j;
 }
 
 -- ---- what makes a join sound
@@ -130,7 +130,7 @@ pub record IsSoundSide (gap : Measure) (side : Side) : Type 0 where
   pub shallow : IsShallow root_block side.tree
 
 -- It can be read, the measure gives gaps, and both sides are sound.
-pub record IsSound (j : Joining) : Type 0 where
+pub record IsSoundJoin (j : Joining) : Type 0 where
   pub readable : j.IsReadable
   pub measure : IsMeasure j.measure
   pub left : IsSoundSide j.measure j.left

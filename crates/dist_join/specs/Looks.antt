@@ -6,7 +6,7 @@ use Rattle.sand_model.specs.Tree.{Tree, IsPlace}
 use Rattle.code_btree.specs.declared.near.Near.{Near}
 use Rattle.page_pool.specs.Disk.{PageMap}
 use Rattle.page_pool.specs.Pool.{PoolState}
-use Rattle.pmr_tree.specs.Calls.{Finds, HasRoughs}
+use Rattle.pmr_tree.specs.Calls.{FindsPlace, HasRoughs}
 use Rattle.pmr_tree.specs.Entries.{id_count}
 use Rattle.pmr_tree.specs.Quadtree.{tree_at, IsPmr, HasPlace, IsNearIn}
 use Rattle.pmr_tree.specs.declared.listed.Node.{Node}
@@ -18,7 +18,7 @@ CanLook pages t b = IsPmr pages t × HasPlace (tree_at pages t) b
 
 -- what was found is the place of the block, with the rough shapes of its ids
 abbrev pub Sees : PageMap → Pmr → Block → Node → Type 0
-Sees pages t b found = Finds (tree_at pages t) b found × HasRoughs pages t found
+Sees pages t b found = FindsPlace (tree_at pages t) b found × HasRoughs pages t found
 
 -- over the pages a look at each of the two quadtrees may begin there
 abbrev pub AreNear : PageMap → Pmr → Pmr → Near × Near → Type 0

@@ -24,7 +24,7 @@ use Rattle.best_first.specs.declared.item.Item.{Item}
 use Rattle.best_first.specs.declared.item.Item.TheVariants as item
 use Rattle.rank_cursor.specs.Cursor.{the_measure}
 use Rattle.dist_join.specs.Joining.{Side, Joining}
-use Rattle.dist_join.specs.Laws.{IsLawful}
+use Rattle.dist_join.specs.Laws.{IsLawfulJoin}
 
 -- ---- the join
 
@@ -59,14 +59,14 @@ joining_over left right ceiling pages = record {
 }
 
 -- over pages where both sides are fitted the join is lawful
-abbrev pub IsLawfulOver : PageSide → PageSide → Option ℕ → Type 0
-IsLawfulOver left right ceiling = (pages : PageMap) → IsFitted left pages → IsFitted right pages → IsLawful (joining_over left right ceiling pages)
+abbrev pub IsLawfulJoinOver : PageSide → PageSide → Option ℕ → Type 0
+IsLawfulJoinOver left right ceiling = (pages : PageMap) → IsFitted left pages → IsFitted right pages → IsLawfulJoin (joining_over left right ceiling pages)
 
 -- the visit of a pair of blocks of the quadtrees of these numbers, or of the geometries of two rows
-abbrev pub visit_of : ℕ → ℕ → Item (Block × Block) → Visit
-visit_of left right (item.Node gap pair) = visit.Pair (left, pair.0.z, pair.0.level) (right, pair.1.z, pair.1.level)
-visit_of left right (item.Rough gap id other) = visit.GeometryPair id other
-visit_of left right (item.Row gap id other) = visit.GeometryPair id other
+abbrev pub pair_visit_of : ℕ → ℕ → Item (Block × Block) → Visit
+pair_visit_of left right (item.Node gap pair) = visit.Pair (left, pair.0.z, pair.0.level) (right, pair.1.z, pair.1.level)
+pair_visit_of left right (item.Rough gap id other) = visit.GeometryPair id other
+pair_visit_of left right (item.Row gap id other) = visit.GeometryPair id other
 
 -- more than the weights of the 16 pairs of children together, and than those of four pairs of a child with the other block
 abbrev pub pair_weight : Block × Block → ℕ
@@ -83,8 +83,8 @@ abbrev pub blocks_found : Block × Block → Item (Block × Block)
 blocks_found pair = item.Node (blocks_gap pair) pair
 
 -- an exact item at this gap, unless it is nearer than its leaves
-abbrev pub exact_found : Frac → ℕ → ℕ → Frac → List (Item (Block × Block))
-exact_found leaf left right gap = cond (is_lt (value_cmp gap leaf)) [] (item.Row gap left right ∷ [])
+abbrev pub exact_pair_found : Frac → ℕ → ℕ → Frac → List (Item (Block × Block))
+exact_pair_found leaf left right gap = cond (is_lt (value_cmp gap leaf)) [] (item.Row gap left right ∷ [])
 
 -- the rough shape is a bounding rectangle
 abbrev pub is_bound : Rough → Bool
@@ -95,15 +95,15 @@ is_bound (rough.Bound r) = true
 -- what two ids with these rough shapes give: a rough item at the greater of two gaps, where one is a bounding rectangle, or an exact one
 abbrev pub by_figures : Frac → ℕ → ℕ → Goal → Goal → Bool → List (Item (Block × Block))
 by_figures leaf left right a b is_rough =
-    cond is_rough (item.Rough (greater (the_measure a b) leaf) left right ∷ []) (exact_found leaf left right (the_measure a b))
+    cond is_rough (item.Rough (greater (the_measure a b) leaf) left right ∷ []) (exact_pair_found leaf left right (the_measure a b))
 
 -- what two entries of two leaves give
-abbrev pub entry_found : Frac → Listed → Listed → List (Item (Block × Block))
-entry_found leaf l r = by_figures leaf l.id r.id (figure_of l.rough) (figure_of r.rough) (is_bound l.rough || is_bound r.rough)
+abbrev pub pair_found : Frac → Listed → Listed → List (Item (Block × Block))
+pair_found leaf l r = by_figures leaf l.id r.id (figure_of l.rough) (figure_of r.rough) (is_bound l.rough || is_bound r.rough)
 
 -- what an entry of a leaf gives with those of the other
 abbrev pub row_found : Frac → List Listed → Listed → List (Item (Block × Block))
-row_found leaf rights l = flat_map (entry_found leaf l) rights
+row_found leaf rights l = flat_map (pair_found leaf l) rights
 
 -- the blocks into which a place is divided: its children, or itself where it is a leaf
 abbrev pub parts_of : Block → place.Node → List Block

@@ -1,7 +1,7 @@
 ghost use Rattle.dist_join.specs.Exact.{pair_exact};
 ghost use Rattle.dist_join.specs.Joining.{join_meaning};
 ghost use Rattle.dist_join.specs.Looks.{AreNear};
-ghost use Rattle.dist_join.specs.OverPages.{paged, joining_over, visit_of, pair_weight};
+ghost use Rattle.dist_join.specs.OverPages.{paged, joining_over, pair_visit_of, pair_weight};
 
 use crate::PairTree;
 use crate::blocks::are_blocks;
@@ -21,9 +21,10 @@ impl<G: ShapeOf + Drop> Hierarchy for PairTree<G> {
 
     type Near = (Near, Near);
 
-    ghost meaning = { λ t pages. join_meaning (joining_over (paged (G.rows t.left_shapes) (G.Stands t.left_shapes) (G.price t.left_shapes) t.left) (paged (G.rows t.right_shapes) (G.Stands t.right_shapes) (G.price t.right_shapes) t.right) t.ceiling pages) };
+    ghost meaning = { λ t pages. join_meaning (joining_over (paged (G.rows t.left_shapes) (G.Stands t.left_shapes) (G.price t.left_shapes) t.left)
+        (paged (G.rows t.right_shapes) (G.Stands t.right_shapes) (G.price t.right_shapes) t.right) t.ceiling pages) };
 
-    ghost note = { λ t item. visit_of t.left.number t.right.number item };
+    ghost note = { λ t item. pair_visit_of t.left.number t.right.number item };
 
     ghost weight = { λ t pair. pair_weight pair };
 

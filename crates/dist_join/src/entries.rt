@@ -5,7 +5,7 @@ ghost use Rattle.pmr_tree.specs.Entries.{IsRoughInPlane};
 ghost use Rattle.best_first.specs.declared.item.Item.{Item};
 ghost use Rattle.best_first.specs.Hierarchy.{FindsAlike};
 ghost use Rattle.best_first.specs.Item.{IsAlike};
-ghost use Rattle.dist_join.specs.OverPages.{is_bound as bounds, exact_found, entry_found, row_found};
+ghost use Rattle.dist_join.specs.OverPages.{is_bound as bounds, exact_pair_found, pair_found, row_found};
 
 use crate::figures::{figure, figures_gap, is_bound};
 use crate::room::reserve_pairs;
@@ -18,7 +18,7 @@ use z_code::Block;
 
 // An exact item, unless it is nearer than its leaves: then it was given already.
 fn exact_item(leaf: Frac, left: u32, right: u32, gap: Frac) -> Option<Item<(Block, Block)>>
-    ensures { option_to_list result ≡ exact_found leaf left right gap }
+    ensures { option_to_list result ≡ exact_pair_found leaf left right gap }
 {
     if gap < leaf {
         return None;
@@ -45,7 +45,7 @@ fn is_rough(left: Listed, right: Listed) -> bool
 fn entry_item(leaf: Frac, left: Listed, right: Listed) -> Option<Item<(Block, Block)>>
     requires left { IsRoughInPlane left.rough }
     requires right { IsRoughInPlane right.rough }
-    ensures { AllZip IsAlike (option_to_list result) (entry_found leaf left right) }
+    ensures { AllZip IsAlike (option_to_list result) (pair_found leaf left right) }
 {
     let gap = figures_gap(&figure(left.rough), &figure(right.rough));
     if is_rough(left, right) {
@@ -59,7 +59,7 @@ fn push_entry(leaf: Frac, left: Listed, right: Listed, found: &mut Vec<Item<(Blo
     requires left { IsRoughInPlane left.rough }
     requires right { IsRoughInPlane right.rough }
     requires room { vec_len found.old < vec_capacity found.old }
-    ensures added { FindsAlike (entry_found leaf left right) found.old.items found.new.items }
+    ensures added { FindsAlike (pair_found leaf left right) found.old.items found.new.items }
     ensures len { vec_len found.new ≤ vec_len found.old + 1 }
     ensures capacity { vec_capacity found.new ≡ vec_capacity found.old }
 {

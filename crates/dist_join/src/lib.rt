@@ -2,7 +2,7 @@
 //!
 //! One idea: two places are no farther apart than what lies in them, so the gaps of pairs of squares are lower
 //! bounds, and each pair of rows is listed in some pair of leaves that is no farther apart than they. Above:
-//! `pair_source`. Below: `best_first` for the search, `rank_cursor` for the places of one
+//! `plan_sources`. Below: `best_first` for the search, `rank_cursor` for the places of one
 //! quadtree, `ring_geom` for exact distances and their laws, `sand_model` for what a join is.
 //! Contracts see the join that two trees stand for over pages; read `specs/Joining.antt` first, then
 //! `specs/Answers.antt`, `specs/Laws.antt` and `specs/OverPages.antt`.

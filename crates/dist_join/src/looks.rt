@@ -65,7 +65,8 @@ pub fn fetch_both<G: ShapeOf, P: Pages>(
 ) -> Result<(Shape, Shape), PageFault>
     requires left { IsTold (P.shown pages.old) → G.Stands left_shapes.now (P.shown pages.old).pages }
     requires right { IsTold (P.shown pages.old) → G.Stands right_shapes.now (P.shown pages.old).pages }
-    ensures value { IfOk result (λ found. IsTold (P.shown pages.old) → (s t : Shape) → shape_at (G.rows left_shapes.now (P.shown pages.old).pages) left ≡ Some s → shape_at (G.rows right_shapes.now (P.shown pages.old).pages) right ≡ Some t → (found.0 ≡ s) × (found.1 ≡ t)) }
+    ensures value { IfOk result (λ found. IsTold (P.shown pages.old) → (s t : Shape) → shape_at (G.rows left_shapes.now (P.shown pages.old).pages) left ≡ Some s
+        → shape_at (G.rows right_shapes.now (P.shown pages.old).pages) right ≡ Some t → (found.0 ≡ s) × (found.1 ≡ t)) }
     ensures plane { IfOk result (λ found. IsShapeInPlane found.0 × IsShapeInPlane found.1) }
     ensures read { IsRead (P.shown pages.old) (P.shown pages.new) }
     ensures cause { HasPageCause (P.shown pages.old) (P.shown pages.new) result }

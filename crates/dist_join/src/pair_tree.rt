@@ -17,7 +17,7 @@ pub struct PairTree<G> {
 }
 
 impl<G: ShapeOf> PairTree<G> {
-    ghost use Rattle.dist_join.specs.OverPages.{paged, IsLawfulOver};
+    ghost use Rattle.dist_join.specs.OverPages.{paged, IsLawfulJoinOver};
 
     /// The join of both sides, with a greatest distance where there is a ceiling. No page is read.
     pub fn over(
@@ -33,7 +33,8 @@ impl<G: ShapeOf> PairTree<G> {
         ensures right { result.right ≡ right }
         ensures right_shapes { result.right_shapes ≡ right_shapes }
         ensures ceiling { result.ceiling ≡ ceiling }
-        ensures laws { IsLawfulOver (paged (G.rows left_shapes) (G.Stands left_shapes) (G.price left_shapes) left) (paged (G.rows right_shapes) (G.Stands right_shapes) (G.price right_shapes) right) ceiling }
+        ensures laws { IsLawfulJoinOver (paged (G.rows left_shapes) (G.Stands left_shapes) (G.price left_shapes) left)
+            (paged (G.rows right_shapes) (G.Stands right_shapes) (G.price right_shapes) right) ceiling }
     {
         let tree = PairTree {
             left,
@@ -49,6 +50,7 @@ impl<G: ShapeOf> PairTree<G> {
     /// The laws of this join, for proofs of callers: over all pages where both quadtrees fit their rows it is a
     /// hierarchy, gives the joined rows and counts as it should. A call does nothing when it runs.
     pub fn laws(&self)
-        ensures { IsLawfulOver (paged (G.rows self.now.left_shapes) (G.Stands self.now.left_shapes) (G.price self.now.left_shapes) self.now.left) (paged (G.rows self.now.right_shapes) (G.Stands self.now.right_shapes) (G.price self.now.right_shapes) self.now.right) self.now.ceiling }
+        ensures { IsLawfulJoinOver (paged (G.rows self.now.left_shapes) (G.Stands self.now.left_shapes) (G.price self.now.left_shapes) self.now.left)
+            (paged (G.rows self.now.right_shapes) (G.Stands self.now.right_shapes) (G.price self.now.right_shapes) self.now.right) self.now.ceiling }
     {}
 }

@@ -9,9 +9,9 @@ use Rattle.sand_base.specs.declared.rect.Rect.{Rect}
 use Rattle.sand_model.specs.Points.{RationalPoint, IsWithin, IsInRect}
 use Rattle.sand_model.specs.Gap.{square, scaled_distance, common_square}
 use Rattle.sand_model.specs.Rings.{grid}
-use Rattle.int_ring.specs.Expr.{var, at, ◌⊕◌, ◌⊗◌}
-use Rattle.int_ring.proofs.Ring.{ring}
-use Rattle.int_ring.proofs.Squares.{square_le_abs}
+use Rattle.plane_geom.specs.Expr.{var, at, ◌⊕◌, ◌⊗◌}
+use Rattle.plane_geom.proofs.Ring.{ring}
+use Rattle.plane_geom.proofs.Squares.{square_le_abs}
 use Rattle.ring_geom.specs.Bounding.{IsPartOf}
 use Rattle.ring_geom.proofs.Region.{in_order}
 use Rattle.far_cursor.specs.Farthest.{end_gap, farthest}

@@ -24,7 +24,7 @@ use Rattle.best_first.specs.declared.item.Item.{Item}
 use Rattle.best_first.specs.declared.item.Item.TheVariants.{Node, Rough, Row}
 use Rattle.best_first.proofs.Bags.{here, there, cons_cases, none, All-by, All-left}
 use Rattle.best_first.proofs.Gaps.{at_most_trans, equal_at_least, same_back, same_trans}
-use Rattle.rank_cursor.specs.Ranking.{row_at, rank_meaning}
+use Rattle.rank_cursor.specs.Ranking.{hit_at, rank_meaning}
 use Rattle.rank_cursor.proofs.Elements.{from_map, some_is}
 use Rattle.rank_cursor.proofs.SortedRows.{at_is}
 use Rattle.far_cursor.specs.Farthest.{key_of_gap}
@@ -70,7 +70,7 @@ module _ (rows : PageMap → List (ℕ × Shape)) (Stands_on : PageMap → Type 
   -- the key of a next row is no greater than the diagonal
   next_short : (last : Option Hit) (key : Hit) → IsNext m last key → IsShort key.gap
   next_short last key next =
-      let (row, among, is) = from_map (row_at (far_ranking rows Stands_on price t goal pages)) (rows pages) next.row next.answer.0 in
+      let (row, among, is) = from_map (hit_at (far_ranking rows Stands_on price t goal pages)) (rows pages) next.row next.answer.0 in
       short_same next.row.gap key.gap next.same.0
       (subst (λ (h : Hit). IsShort h.gap) is (key_short (Rattle.rank_cursor.specs.Cursor.the_measure (spot_figure goal) (Rattle.sand_base.specs.declared.goal.Goal.TheVariants.Shape row.1))))
 

@@ -41,9 +41,9 @@ use Rattle.best_first.proofs.Gaps.{same_itself}
 use Rattle.rank_cursor.specs.Cursor.{the_measure}
 use Rattle.rank_cursor.specs.Ranking.{Ranking, block_gap, leaf_item, shown}
 use Rattle.rank_cursor.proofs.AlikeLists.{all_alike_append, none_added}
-use Rattle.rank_cursor.proofs.Counted.{same_greater}
+use Rattle.rank_cursor.proofs.CountedItems.{same_greater}
 use Rattle.rank_cursor.proofs.LeafEntries.{IsEntryOf}
-use Rattle.rank_cursor.proofs.RankingLaws.{one_item}
+use Rattle.rank_cursor.proofs.RankedItems.{one_item}
 use Rattle.far_cursor.specs.Farthest.{diagonal, farthest, key_of_gap, key_of_rect}
 use Rattle.far_cursor.specs.FarRanking.{key_from, far_ranking, far_block, far_exact, far_entry}
 use Rattle.far_cursor.proofs.KeyOrder.{parts_same, key_same}

@@ -8,7 +8,7 @@ use Rattle.page_pool.specs.Disk.{PageMap}
 use Rattle.pmr_tree.specs.Laws.{AreInPlane}
 use Rattle.pmr_tree.specs.Quadtree.{FitsRows}
 use Rattle.pmr_tree.specs.declared.quadtree.Pmr.{Pmr}
-use Rattle.rank_cursor.proofs.Searching.{sound}
+use Rattle.rank_cursor.proofs.SearchPages.{sound}
 use Rattle.far_cursor.specs.FarRanking.{far_ranking}
 use Rattle.far_cursor.proofs.FarSound.{child_key, rough_key, leaf_key}
 use Rattle.far_cursor.proofs.KeyedLaws.{IsKeyed}

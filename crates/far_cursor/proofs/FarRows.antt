@@ -19,7 +19,7 @@ use Rattle.best_first.specs.declared.hit.Hit.{Hit}
 use Rattle.best_first.proofs.Bags.{All-by}
 use Rattle.rank_cursor.specs.Answers.{IsFoundRow, GivesList}
 use Rattle.rank_cursor.specs.Cursor.{the_measure}
-use Rattle.rank_cursor.specs.Ranking.{Ranking, row_at, rank_meaning, HaveOwnIds}
+use Rattle.rank_cursor.specs.Ranking.{Ranking, hit_at, rank_meaning, HaveOwnIds}
 use Rattle.rank_cursor.proofs.Elements.{in_map, from_map}
 use Rattle.rank_cursor.proofs.RankedRows.{gives_list, same_measures}
 use Rattle.rank_cursor.proofs.SortedRows.{Rises, AreApart, from_sorted, in_sorted, sorted_rises}
@@ -76,7 +76,7 @@ module _ (rows : PageMap → List (ℕ × Shape)) (Stands : PageMap → Type 0) 
   in_plane : (row : ℕ × Shape) → Contains (rows pages) row → IsShapeInClosedPlane row.1
   in_plane row at = All-contains (λ (row : ℕ × Shape). IsShapeInClosedPlane row.1) (rows pages) row keys.plane at
 
-  same_row : (row : ℕ × Shape) → Contains (rows pages) row → IsFoundRow (keyed (found_at row)) (row_at r row)
+  same_row : (row : ℕ × Shape) → Contains (rows pages) row → IsFoundRow (keyed (found_at row)) (hit_at r row)
   same_row row at = (
     key_same (gap (spot_figure goal) (figure.Shape row.1)) (the_measure (spot_figure goal) (figure.Shape row.1))
         (same_measures gap the_measure is measured.1 (spot_figure goal) (figure.Shape row.1) plane (in_plane row at)),
@@ -102,7 +102,7 @@ module _ (rows : PageMap → List (ℕ × Shape)) (Stands : PageMap → Type 0) 
 
   has_row : (hit : Hit) → IsAnswer (rank_meaning r) hit → (found : Found) × Contains (map keyed list) found × IsFoundRow found hit
   has_row hit answer =
-      let (row, among, same) = from_map (row_at r) (rows pages) hit answer.0 in (
+      let (row, among, same) = from_map (hit_at r) (rows pages) hit answer.0 in (
         keyed (found_at row),
         in_map keyed list (found_at row) (in_sorted far_cmp (map found_at (rows pages)) (found_at row) (in_map found_at (rows pages) row among)),
         subst (IsFoundRow (keyed (found_at row))) same (same_row row among),
@@ -112,9 +112,9 @@ module _ (rows : PageMap → List (ℕ × Shape)) (Stands : PageMap → Type 0) 
   only_row found at =
       let (f, there, is_keyed) = from_map keyed list found at in
       let (row, among, same) = from_map found_at (rows pages) f (from_sorted far_cmp (map found_at (rows pages)) f there) in (
-        row_at r row,
-        (in_map (row_at r) (rows pages) row among, refl),
-        subst (λ (g : Found). IsFoundRow g (row_at r row)) is_keyed (subst (λ (g : Found). IsFoundRow (keyed g) (row_at r row)) same (same_row row among)),
+        hit_at r row,
+        (in_map (hit_at r) (rows pages) row among, refl),
+        subst (λ (g : Found). IsFoundRow g (hit_at r row)) is_keyed (subst (λ (g : Found). IsFoundRow (keyed g) (hit_at r row)) same (same_row row among)),
       )
 
   pub gives_far : GivesList (rank_meaning r) (map keyed list)

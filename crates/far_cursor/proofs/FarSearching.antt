@@ -41,15 +41,15 @@ use Rattle.best_first.proofs.Bags.{cons_cases, none, All-by, from_filter}
 use Rattle.best_first.proofs.Gaps.{same_back}
 use Rattle.rank_cursor.specs.Cursor.{the_measure, visit_of}
 use Rattle.rank_cursor.specs.Ranking as ranking
-use Rattle.rank_cursor.specs.Ranking.{Ranking, place_at, block_gap, found_at, leaf_item, shown, row_at, rank_meaning, IsSound, visit_price}
+use Rattle.rank_cursor.specs.Ranking.{Ranking, place_at, block_gap, found_at, leaf_item, shown, hit_at, rank_meaning, IsSound, block_visit_price}
 use Rattle.rank_cursor.proofs.AlikeLists.{all_alike_itself, found_elsewhere}
 use Rattle.rank_cursor.proofs.Elements.{in_map, from_map}
 use Rattle.rank_cursor.proofs.Counted.{leaf_is}
 use Rattle.rank_cursor.proofs.Fitted.{shaped_shallow}
 use Rattle.rank_cursor.proofs.LeafEntries.{IsEntryOf}
 use Rattle.rank_cursor.proofs.Places.{inside, is_place, place_here, leaf_fits}
-use Rattle.rank_cursor.proofs.RankingLaws.{shape_is, is_shape, shown_is, one_item}
-use Rattle.rank_cursor.proofs.Searching.{by_told, at_told, not_tried}
+use Rattle.rank_cursor.proofs.RankedItems.{shape_is, is_shape, shown_is, one_item}
+use Rattle.rank_cursor.proofs.SearchPages.{by_told, at_told, not_tried}
 use Rattle.far_cursor.specs.FarRanking.{key_from, far_ranking, far_block, far_place}
 use Rattle.far_cursor.proofs.FarEntries.{leaf_alike}
 use Rattle.far_cursor.proofs.FarLaws.{keyed_over}
@@ -115,7 +115,7 @@ module _ (rows : PageMap → List (ℕ × Shape)) (Stands : PageMap → Type 0) 
   at_place p laws b gap near (Inner q s u v) spot place.Inner is roughs = all_alike_itself (map (far_block goal) (children_of b))
 
   pub finds_alike : (p : PageMap) → MeetsLaws (rank_meaning (over p)) → (b : Block) (gap : Frac) → IsNode (rank_meaning (over p)) b → IsSameGap gap (block_gap (over p) b) → (found : Place)
-      → pmr.Finds (tree_at p t) b found → HasRoughs p t found → (old new : List (Item Block)) → FindsAlike (far_place goal gap b found) old new
+      → pmr.FindsPlace (tree_at p t) b found → HasRoughs p t found → (old new : List (Item Block)) → FindsAlike (far_place goal gap b found) old new
       → FindsAlike ((rank_meaning (over p)).finds b) old new
   finds_alike p laws b gap node near found finds roughs old new h =
       let (tree, place) = node_place p b laws node in
@@ -125,7 +125,7 @@ module _ (rows : PageMap → List (ℕ × Shape)) (Stands : PageMap → Type 0) 
 
   -- ---- visits
 
-  count_is : (tree : Tree) → ranking.id_count (Some tree) ≡ entries.id_count tree
+  count_is : (tree : Tree) → ranking.listed_count (Some tree) ≡ entries.id_count tree
   count_is (Leaf ids) = refl
   count_is (Inner q s u v) = refl
 
@@ -135,9 +135,9 @@ module _ (rows : PageMap → List (ℕ × Shape)) (Stands : PageMap → Type 0) 
   within_price p laws b gap node old new within =
       let (tree, place) = node_place p b laws node in
       let most = within tree place in
-      let same : visit_price (over p) (item.Node gap b) ≡ block_price t.map.height (entries.id_count tree) =
-      ap (λ (o : Option Tree). block_price t.map.height (ranking.id_count o)) (is_place (tree_at p t) (sound_of p laws).shallow b tree place) ∙ ap (block_price t.map.height) (count_is tree) in
-      summed (visit_price (over p) (item.Node gap b)) (block_price t.map.height (entries.id_count tree)) old.gets new.gets same most
+      let same : block_visit_price (over p) (item.Node gap b) ≡ block_price t.map.height (entries.id_count tree) =
+      ap (λ (o : Option Tree). block_price t.map.height (ranking.listed_count o)) (is_place (tree_at p t) (sound_of p laws).shallow b tree place) ∙ ap (block_price t.map.height) (count_is tree) in
+      summed (block_visit_price (over p) (item.Node gap b)) (block_price t.map.height (entries.id_count tree)) old.gets new.gets same most
     where
       summed : (a c m n : ℕ) → a ≡ c → n ≤ m + c → n ≤ m + (0 + a)
       summed a c m n e h = omega arith
@@ -183,7 +183,7 @@ module _ (rows : PageMap → List (ℕ × Shape)) (Stands : PageMap → Type 0) 
       let (tree, place) = node_place rows Stands price t goal in_plane plane d.pool.pages b laws node in
       absurd (fails (inside root_block (tree_at d.pool.pages t) root_is_block (shaped_shallow root_block (tree_at d.pool.pages t) laws.readable.0.tree.shaped) b tree place).block))
 
-  pub found_ok : (d : DeskState) (b : Block) (gap : Frac) → Asks d b gap → (found : Place) → (IsTold d.pool → pmr.Finds (tree_at d.pool.pages t) b found)
+  pub found_ok : (d : DeskState) (b : Block) (gap : Frac) → Asks d b gap → (found : Place) → (IsTold d.pool → pmr.FindsPlace (tree_at d.pool.pages t) b found)
       → (IsTold d.pool → HasRoughs d.pool.pages t found)
       → (old new : List (Item Block)) → FindsAlike (far_place goal gap b found) old new → IfSome (told_pages d) (λ p. FindsAlike ((m p).finds b) old new)
   found_ok d b gap asks found finds roughs old new h =
@@ -255,8 +255,8 @@ module _ (rows : PageMap → List (ℕ × Shape)) (Stands : PageMap → Type 0) 
       let (s, row, none_right) = rough_row p laws left right listed in
       let is_it : found ≡ s = subst (λ (q : PoolState). IsTold q → (s : Shape) → shape_at (rows q.pages) left ≡ Some s → found ≡ s) same value told s row in
       record {
-        row = row_at r (left, s);
-        among = in_map (row_at r) (rows p) (left, s) (shape_is (rows p) left s row);
+        row = hit_at r (left, s);
+        among = in_map (hit_at r) (rows p) (left, s) (shape_is (rows p) left s row);
         same = (
           subst (λ (f : Shape). IsSameGap (key_from goal (figure.Shape f)) gap) is_it (same_back gap (key_from goal (figure.Shape found)) is),
           refl,

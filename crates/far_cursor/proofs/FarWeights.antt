@@ -15,7 +15,7 @@ use Rattle.pmr_tree.specs.declared.listed.Listed.{Listed}
 use Rattle.pmr_tree.specs.declared.listed.Node.{Node as Place}
 use Rattle.pmr_tree.specs.declared.listed.Node.TheVariants as place
 use Rattle.best_first.specs.Hierarchy.{FindsAlike}
-use Rattle.best_first.specs.Item.{node_of, nodes_of}
+use Rattle.best_first.specs.Item.{node_if_any, nodes_of}
 use Rattle.best_first.specs.Steps.{AddsLess}
 use Rattle.best_first.specs.declared.item.Item.{Item}
 use Rattle.best_first.specs.declared.item.Item.TheVariants as item
@@ -45,7 +45,7 @@ entry_nodes goal leaf id (rough.Segment s) = exact_nodes leaf id (key_from goal 
 list_nodes : (goal : Point) (leaf : Frac) (list : List Listed) → nodes_of (flat_map (λ l. far_entry goal leaf l.id l.rough) list) ≡ []
 list_nodes goal leaf [] = refl
 list_nodes goal leaf (l ∷ ls) =
-    flat_map-append node_of (far_entry goal leaf l.id l.rough) (flat_map (λ l. far_entry goal leaf l.id l.rough) ls)
+    flat_map-append node_if_any (far_entry goal leaf l.id l.rough) (flat_map (λ l. far_entry goal leaf l.id l.rough) ls)
     ∙ ap₂ (λ (x : List Block) (y : List Block). x ++ y) (entry_nodes goal leaf l.id l.rough) (list_nodes goal leaf ls)
 
 -- what a place gives weighs less than its block

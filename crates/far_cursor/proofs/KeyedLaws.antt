@@ -27,10 +27,10 @@ use Rattle.best_first.specs.declared.item.Item.TheVariants.{Rough, Row}
 use Rattle.best_first.proofs.Bags.{cons_cases, none, only, All-by, in_filter}
 use Rattle.best_first.proofs.Gaps.{equal_at_least, greater_is, less_is, below_at_most, not_below, same_itself}
 use Rattle.rank_cursor.specs.Cursor.{the_measure}
-use Rattle.rank_cursor.specs.Ranking.{Ranking, place_at, blocks_under, block_gap, block_item, leaf_item, shown, found_at, row_at, rank_meaning, HaveOwnIds}
+use Rattle.rank_cursor.specs.Ranking.{Ranking, place_at, blocks_under, block_gap, block_item, leaf_item, shown, found_at, hit_at, rank_meaning, HaveOwnIds}
 use Rattle.rank_cursor.proofs.Elements.{in_map, from_map, map_append, in_filter_map, some_term}
 use Rattle.rank_cursor.proofs.Places.{pick, place_below, place_here, place_more, inside, is_place, place_is, leaf_place, leaf_fits}
-use Rattle.rank_cursor.proofs.RankingLaws.{greater_second, greater_least, is_shape, one_item, IsShown, shown_is, leaf_nodes}
+use Rattle.rank_cursor.proofs.RankedItems.{greater_second, greater_least, is_shape, one_item, IsShown, shown_is, leaf_nodes}
 
 -- What keys must meet. The pages can be read, each row has an id of its own, and the tree fits the rows. A block's key is
 -- at most its children's, a rough shape's at most its shape's, and some leaf that a shape meets has a key at most the
@@ -162,8 +162,8 @@ module _ (r : Ranking) (keys : IsKeyed r) where
   -- the row of an exact item
   exact_row : (id : ℕ) (s : Shape) → Contains r.shapes (id, s) → HasRow m (record { gap = r.measure r.goal (figure.Shape s); left = id; right = 0 })
   exact_row id s at = record {
-    row = row_at r (id, s);
-    among = in_map (row_at r) r.shapes (id, s) at;
+    row = hit_at r (id, s);
+    among = in_map (hit_at r) r.shapes (id, s) at;
     same = (same_itself (r.measure r.goal (figure.Shape s)), refl, refl);
   }
 
@@ -205,18 +205,18 @@ module _ (r : Ranking) (keys : IsKeyed r) where
       go (is_rough s)
 
   shows_row : (c : Block) (id : ℕ) (s : Shape) → Contains r.shapes (id, s) → IsAtMost (block_gap r c) (r.measure r.goal (figure.Shape s))
-      → Shows (row_at r (id, s)) (leaf_item (one_item r c id s))
+      → Shows (hit_at r (id, s)) (leaf_item (one_item r c id s))
   shows_row c id s at near =
       let rough = r.measure r.goal (rough_figure s) in
       let exact = r.measure r.goal (figure.Shape s) in
-      let go : (k : Bool) → Shows {N = Block} (row_at r (id, s)) (cond k (Rough (cond k (greater rough (block_gap r c)) exact) id 0) (Row (cond k (greater rough (block_gap r c)) exact) id 0)) =
+      let go : (k : Bool) → Shows {N = Block} (hit_at r (id, s)) (cond k (Rough (cond k (greater rough (block_gap r c)) exact) id 0) (Row (cond k (greater rough (block_gap r c)) exact) id 0)) =
       elim [
         | true ↦ (refl, refl, greater_least rough (block_gap r c) exact (keys.rough s (All-contains (λ (row : ℕ × Shape). IsShapeInClosedPlane row.1) r.shapes (id, s) keys.plane at)) near)
         | false ↦ (same_itself exact, refl, refl)
       ] in
       go (is_rough s)
 
-  covers_row : (id : ℕ) (s : Shape) → Contains r.shapes (id, s) → IsListedUnder m root_block (row_at r (id, s))
+  covers_row : (id : ℕ) (s : Shape) → Contains r.shapes (id, s) → IsListedUnder m root_block (hit_at r (id, s))
   covers_row id s at =
       let plane = All-contains (λ (row : ℕ × Shape). IsShapeInClosedPlane row.1) r.shapes (id, s) keys.plane at in
       let (leaf, among, met) = some_term (λ (leaf : Block × List ℕ). (meets the_measure s (square_of leaf.0) ≡ true)
@@ -242,15 +242,15 @@ module _ (r : Ranking) (keys : IsKeyed r) where
 
   covers_hit : (hit : Hit) → Contains m.rows hit → IsListedUnder m root_block hit
   covers_hit hit at =
-      let (row, among, is) = from_map (row_at r) r.shapes hit at in
+      let (row, among, is) = from_map (hit_at r) r.shapes hit at in
       subst (IsListedUnder m root_block) is (covers_row row.0 row.1 among)
 
   -- ---- one gap for each row
 
   one_gap : (hit other : Hit) → Contains m.rows hit → Contains m.rows other → hit.left ≡ other.left → IsSameGap hit.gap other.gap
   one_gap hit other at there e =
-      let (row, among, is) = from_map (row_at r) r.shapes hit at in
-      let (second, too, same) = from_map (row_at r) r.shapes other there in
+      let (row, among, is) = from_map (hit_at r) r.shapes hit at in
+      let (second, too, same) = from_map (hit_at r) r.shapes other there in
       let ids : row.0 ≡ second.0 = ap (λ (h : Hit). h.left) is ∙ e ∙ sym (ap (λ (h : Hit). h.left) same) in
       let shape : row.1 ≡ second.1 = own_shape r.shapes keys.apart second.0 row.1 second.1 (subst (λ (n : ℕ). Contains r.shapes (n, row.1)) ids among) too in
       subst (λ (g : Frac). IsSameGap hit.gap g)

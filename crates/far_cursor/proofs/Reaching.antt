@@ -11,9 +11,9 @@ use Rattle.sand_model.specs.FigureGap.{IsGapOf, IsMeeting}
 use Rattle.sand_model.specs.Figures.{IsPointOf, Holds, HoldsInside, vertices_of}
 use Rattle.sand_model.specs.Gap.{scaled_distance, common_square}
 use Rattle.sand_model.specs.Rings.{SomeOf, grid, edges}
-use Rattle.int_ring.specs.Expr.{var, at, ◌⊗◌}
-use Rattle.int_ring.proofs.Ring.{ring}
-use Rattle.int_ring.proofs.Order.{chain_le, le_from_mul, le_pos, mul_le}
+use Rattle.plane_geom.specs.Expr.{var, at, ◌⊗◌}
+use Rattle.plane_geom.proofs.Ring.{ring}
+use Rattle.plane_geom.proofs.Order.{chain_le, le_from_mul, le_pos, mul_le}
 use Rattle.plane_geom.specs.Rectangles.{IsCovered}
 use Rattle.plane_geom.proofs.GapOfPoints.{spot_is}
 use Rattle.plane_geom.proofs.Signs.{natural}

@@ -21,7 +21,7 @@ use Rattle.best_first.specs.Item.{nodes_of}
 use Rattle.best_first.specs.Visits.{SearchState, Makes}
 use Rattle.best_first.specs.declared.hit.Hit.{Hit}
 use Rattle.best_first.specs.declared.item.Item.{Item}
-use Rattle.rank_cursor.specs.Answers.{StandsAt, AreGiven}
+use Rattle.rank_cursor.specs.Answers.{RowStandsAt, AreGiven}
 use Rattle.far_cursor.specs.Farthest.{spot_gap, diagonal, key_of_gap}
 
 -- ---- rows
@@ -43,7 +43,7 @@ AreGivenFar rows n last = AreGiven (map keyed rows) n last
 
 -- Where so many rows were given, a row that is given is the next one of the list; nothing is left exactly where all were given; after a refusal as many were given.
 abbrev pub GivesFar : List Found → ℕ → Option Hit → Result (Option Hit) PageFault → Type 0
-GivesFar rows n new (Ok (Some hit)) = StandsAt rows n hit × AreGivenFar rows (suc n) new
+GivesFar rows n new (Ok (Some hit)) = RowStandsAt rows n hit × AreGivenFar rows (suc n) new
 GivesFar rows n new (Ok None) = (n ≡ length rows) × AreGivenFar rows n new
 GivesFar rows n new (Err fault) = AreGivenFar rows n new
 

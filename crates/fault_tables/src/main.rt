@@ -1,23 +1,47 @@
-//! Whole runs over streams, data files and a disk in memory: what they write, and what they do where a call of the outside fails.
+//! Whole runs, pools, R-trees and journals over streams, files, disks and tapes in memory: what becomes of them where a call of the outside fails.
 //!
-//! It prints what some runs wrote and how each ended. Then it makes each call of the disk, the script, the answers and the data
-//! file fail in turn, one run for each call, cuts a data file after each of its bytes, gives lines that are refused, and counts
-//! what the disk is called for and what the script is asked for. It prints a line for each table, with the number of runs, or the first difference. Above:
-//! nothing. Below: `session`, whose `run_within` all runs go through. Read `src/harness.rt`, then `src/outcomes.rt` and
-//! `src/scripts.rt`.
+//! It prints what some runs wrote and how each ended. Then it makes each call of the disk, the script, the answers, the data file and the
+//! journal's tape fail in turn, one run for each call, cuts a data file after each of its bytes, gives lines that are refused, and counts
+//! what the disk is called for and what the script is asked for. Pools with stamps, R-trees beside plain lists, and journals stand behind them by
+//! themselves. It prints a line for each table, with the number of runs, or the first difference. Above:
+//! nothing. Below: `session`, whose `run_within` all runs go through; `page_pool`, `r_tree` and `sand_journal`. Read `src/harness.rt`, then
+//! `src/outcomes.rt` and `src/scripts.rt`; `src/pools.rt`, `src/rtrees.rt` and `src/journals.rt`.
 #![tactic(auto)]
 
 mod asks;
+mod byte_draws;
 mod cuts;
 mod disk;
 mod draws;
 mod harness;
+mod journal_crashes;
+mod journal_drawn;
+mod journal_files;
+mod journal_fronts;
+mod journal_reading;
+mod journals;
 mod outcomes;
+mod page_draws;
+mod pool_faults;
+mod pool_filled;
+mod pool_kept;
+mod pool_maps;
+mod pool_rounds;
+mod pool_trial;
+mod pool_trouble;
+mod pools;
 mod reads;
 mod refusals;
+mod rtrees;
 mod scripts;
 mod streams;
 mod tapes;
+mod tree_courses;
+mod tree_disk;
+mod tree_draws;
+mod tree_nodes;
+mod tree_pool;
+mod tree_trial;
 mod trouble;
 
 use disk::Taking;
@@ -169,5 +193,8 @@ fn main(rt: HostRuntime) -> io::Result<()> {
     outcomes::told(&rt)?;
     tables(&rt)?;
     disk_tables(&rt, shows)?;
-    asks::told(&rt)
+    asks::told(&rt)?;
+    pools::tell_all(&rt)?;
+    rtrees::tell_all(&rt)?;
+    journals::tell_all(&rt)
 }

@@ -2,6 +2,6 @@
 use Rattle.std.specs.Prelude.{◌≡◌, ℕ, List, Option, Some, None}
 
 -- these are the bytes that the writer tells it holds; one that tells nothing holds no bytes that could be named
-abbrev pub AreHeld : Option (List ℕ) → List ℕ → Type 0
-AreHeld None bytes = ⊥
-AreHeld (Some held) bytes = bytes ≡ held
+abbrev pub HoldsBytes : Option (List ℕ) → List ℕ → Type 0
+HoldsBytes None bytes = ⊥
+HoldsBytes (Some held) bytes = bytes ≡ held

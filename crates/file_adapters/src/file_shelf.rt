@@ -1,6 +1,6 @@
 ghost use Rattle.std.specs.Prelude.{◌≡◌, ◌≤◌, None, IsSome};
 ghost use Rattle.sand_base.specs.Faults.{next_count};
-ghost use Rattle.file_adapters.specs.Chosen.{left_of};
+ghost use Rattle.file_adapters.specs.Chosen.{bytes_left_of};
 
 use sand_base::{Failed, Shelf};
 use std::fs::{File, Files, OpenFile};
@@ -52,7 +52,7 @@ impl<R: Files> FileShelf<R> {
 impl<R: Files> Shelf for FileShelf<R> {
     ghost files = { λ _. None };
 
-    ghost left = { λ s. left_of R.File.Read.remaining s.chosen };
+    ghost left = { λ s. bytes_left_of R.File.Read.remaining s.chosen };
 
     ghost chosen = { λ s. IsSome s.chosen };
 

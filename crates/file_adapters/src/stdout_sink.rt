@@ -1,5 +1,5 @@
 ghost use Rattle.std.specs.Prelude.{◌≡◌};
-ghost use Rattle.file_adapters.specs.Written.{AreHeld};
+ghost use Rattle.file_adapters.specs.Written.{HoldsBytes};
 
 use sand_base::{Failed, Sink};
 use std::io::Write;
@@ -23,7 +23,7 @@ impl<W: Write + Drop> StdoutSink<W> {
 }
 
 impl<W: Write + Drop> Sink for StdoutSink<W> {
-    ghost took = { λ s. AreHeld (W.contents s.output) };
+    ghost took = { λ s. HoldsBytes (W.contents s.output) };
 
     ghost faults = { λ s. s.faults };
 

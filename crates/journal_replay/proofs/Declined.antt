@@ -10,13 +10,13 @@ use Rattle.sand_model.specs.Checks.{first_refusal}
 use Rattle.sand_model.specs.Database.{Relation, relation_named, with_row}
 use Rattle.statements.specs.Statement.{Statement, Insert}
 use Rattle.sand_model.specs.StatementChecks.{Setting, check_length, check_ids, check_listings}
-use Rattle.sand_store.specs.Calls.{Refuses, IsRefusedBy, LoadIsRefusedBy, IsRefusedPlainly, is_full, is_of_a_row, check_kinds, loaded, load_early, load_late, early_at, late_at}
+use Rattle.sand_store.specs.Calls.{Refuses, IsStatementRefused, LoadIsRefusedBy, IsRefusedPlainly, is_index_full, is_of_a_row, check_kinds, loaded, load_early, load_late, early_at, late_at}
 use Rattle.sand_store.specs.Catalog.{CatalogView, StoreState}
 use Rattle.sand_store.specs.Contents.{database}
 use Rattle.statements.specs.declared.statement.Statement as script
-use Rattle.journal_replay.specs.ChangedDatabase.{PassesChecks, Takes, rows_of, with_encoded}
+use Rattle.journal_replay.specs.ChangedDatabase.{PassesChecks, TakesChange, rows_of, with_encoded}
 use Rattle.journal_replay.specs.EncodedRows.{AreEncodingsOf, HasRowsFor, LacksRowsFor}
-use Rattle.journal_replay.specs.Declined.{fault_of, Declines, OfCheck, RefusesChange}
+use Rattle.journal_replay.specs.Declined.{replay_fault, Declines, OfCheck, RefusesChange}
 use Rattle.journal_replay.specs.Replayed.{IsDeclined, IsLacking}
 use Rattle.journal_replay.specs.declared.fault.ReplayFault.{ReplayFault}
 use Rattle.journal_replay.specs.declared.fault.ReplayFault.TheVariants as fault
@@ -24,7 +24,7 @@ use Rattle.journal_replay.proofs.Entered.{some_same, relation, named, entered_is
 
 -- where no check refuses, none does
 no_check : (told : Type 0) → told → (is_late : Refusal → Bool) (before behind : Option Refusal) → before ≡ None → behind ≡ None → (w : Refusal)
-    → Refuses told is_late before behind w → fault_of w ≡ fault.Bad → ⊥
+    → Refuses told is_late before behind w → replay_fault w ≡ fault.Bad → ⊥
 no_check told is is_late before behind first last why.Memory h bad = let clash : ⊥ = cc in clash
 no_check told is is_late before behind first last why.Device h bad = let clash : ⊥ = cc in clash
 no_check told is is_late before behind first last (why.Damaged n kept read) h bad = let clash : ⊥ = cc in clash
@@ -48,9 +48,10 @@ passed_on (Err e) f P is h = subst P (sym is) h
 
 -- a statement that the store refuses
 pub line_declined : (store : StoreState) (s : script.Statement) (v : Statement) (statement : Statement) (is_late : Refusal → Bool) (w : Refusal) → line_value s ≡ v
-    → ((setting : Setting) → Takes setting (Line v) (database store) → PassesChecks setting (database store) statement) → (OfCheck (IsRefusedBy is_late store statement) → RefusesChange store (Line v))
-    → IsRefusedBy is_late store statement w → IsDeclined store (Line (line_value s)) (fault_of w)
-line_declined store s v statement is_late w same passes refuses h = at_bad store (Line (line_value s)) (fault_of w) (λ bad.
+    → ((setting : Setting) → TakesChange setting (Line v) (database store) → PassesChecks setting (database store) statement)
+    → (OfCheck (IsStatementRefused is_late store statement) → RefusesChange store (Line v))
+    → IsStatementRefused is_late store statement w → IsDeclined store (Line (line_value s)) (replay_fault w)
+line_declined store s v statement is_late w same passes refuses h = at_bad store (Line (line_value s)) (replay_fault w) (λ bad.
     subst (λ (x : Statement). Declines store (Line x)) (sym same) (record {
       refused = refuses (w, bad, h);
       not_taken = λ told setting is limits takes.
@@ -60,8 +61,8 @@ line_declined store s v statement is_late w same passes refuses h = at_bad store
 
 -- a load that the store refuses
 pub rows_declined : (store : StoreState) (name : List ℕ) (encodings : List (List ℕ)) (rows : List (List Value)) (has : HasRowsFor store.catalog name encodings rows) (w : Refusal)
-    → LoadIsRefusedBy store name rows w → IsRefusedPlainly store name rows w → IsDeclined store (Rows name encodings) (fault_of w)
-rows_declined store name encodings rows has w h plain = at_bad store (Rows name encodings) (fault_of w) (λ bad. record {
+    → LoadIsRefusedBy store name rows w → IsRefusedPlainly store name rows w → IsDeclined store (Rows name encodings) (replay_fault w)
+rows_declined store name encodings rows has w h plain = at_bad store (Rows name encodings) (replay_fault w) (λ bad. record {
   refused = inr (rows, has, (w, bad, inl (h, plain)));
   not_taken = λ told setting is limits takes.
       let same : relation store name encodings rows has ≡ takes.relation =
@@ -93,8 +94,8 @@ alone_passes setting row r e =
 
 -- a row that the store refuses to insert
 pub row_declined : (store : StoreState) (name : List ℕ) (encodings : List (List ℕ)) (row : List Value) (has : HasRowsFor store.catalog name encodings (row ∷ [])) (w : Refusal)
-    → IsRefusedBy is_full store (Insert name row) w → IsDeclined store (Rows name encodings) (fault_of w)
-row_declined store name encodings row has w h = at_bad store (Rows name encodings) (fault_of w) (λ bad. record {
+    → IsStatementRefused is_index_full store (Insert name row) w → IsDeclined store (Rows name encodings) (replay_fault w)
+row_declined store name encodings row has w h = at_bad store (Rows name encodings) (replay_fault w) (λ bad. record {
   refused = inr (row ∷ [], has, (w, bad, inr (row, refl, h)));
   not_taken = λ told setting is limits takes.
       let r : Relation = relation store name encodings (row ∷ []) has in
@@ -106,7 +107,7 @@ row_declined store name encodings row has w h = at_bad store (Rows name encoding
       let named_so : relation_named (database store) name ≡ Some r = named store name encodings (row ∷ []) has in
       let before : early_at setting store (Insert name row) ≡ None = rw (named_so, four.0, four.1, four.2) refl in
       let behind : late_at setting store (Insert name row) ≡ None = rw named_so four.3 in
-      no_check (IsTold store.pool) told is_full (early_at setting store (Insert name row)) (late_at setting store (Insert name row)) before behind w (h setting is limits) bad;
+      no_check (IsTold store.pool) told is_index_full (early_at setting store (Insert name row)) (late_at setting store (Insert name row)) before behind w (h setting is limits) bad;
 })
 
 -- encodings of which the relation has no rows

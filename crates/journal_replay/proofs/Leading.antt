@@ -11,7 +11,7 @@ use Rattle.sand_store.specs.Contents.{database}
 use Rattle.sand_store.specs.Sketches.{Sketch, sketches}
 use Rattle.statements.specs.Statement.{Create, Delete, Index, Rtree}
 use Rattle.statements.specs.declared.column.Column.{Column}
-use Rattle.journal_replay.specs.ChangedDatabase.{changed_by, world_after, Takes, TakesAll}
+use Rattle.journal_replay.specs.ChangedDatabase.{changed_by, world_after, TakesChange, TakesAll}
 use Rattle.journal_replay.specs.LedBy.{LedBy, LedByOne, sketched_by, sketches_after}
 
 -- nothing is carried further by nothing
@@ -36,7 +36,7 @@ pub world_push : (setting : Setting) (changes : List ChangeValue) (change : Chan
 world_push setting [] change d = refl
 world_push setting (c ∷ cs) change d = world_push setting cs change (changed_by setting c d)
 
-takes_push : (setting : Setting) (changes : List ChangeValue) (change : ChangeValue) (d : Database) → TakesAll setting changes d → Takes setting change (world_after setting changes d)
+takes_push : (setting : Setting) (changes : List ChangeValue) (change : ChangeValue) (d : Database) → TakesAll setting changes d → TakesChange setting change (world_after setting changes d)
     → TakesAll setting (changes ++ change ∷ []) d
 takes_push setting [] change d all one = (one, tt)
 takes_push setting (c ∷ cs) change d all one = (all.0, takes_push setting cs change (changed_by setting c d) all.1 one)
@@ -47,7 +47,7 @@ led_push changes change a b c h k = record {
   carries = carries_both a b c h.carries k.carries;
   sketched = k.sketched ∙ ap (λ (ss : List Sketch). sketched_by change ss) h.sketched ∙ sym (sketches_push changes change (sketches a));
   takes = λ told setting is limits. takes_push setting changes change (database a) (h.takes told setting is limits)
-      (subst (λ (d : Database). Takes setting change d) (h.becomes told setting is limits) (k.takes (h.carries.told ∙ told) setting is (limits ∙ sym h.carries.limits)));
+      (subst (λ (d : Database). TakesChange setting change d) (h.becomes told setting is limits) (k.takes (h.carries.told ∙ told) setting is (limits ∙ sym h.carries.limits)));
   becomes = λ told setting is limits. k.becomes (h.carries.told ∙ told) setting is (limits ∙ sym h.carries.limits)
       ∙ ap (λ (d : Database). changed_by setting change d) (h.becomes told setting is limits) ∙ sym (world_push setting changes change (database a));
 }

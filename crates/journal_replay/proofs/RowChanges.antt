@@ -7,8 +7,8 @@ use Rattle.sand_model.specs.Checks.{first_refusal}
 use Rattle.sand_model.specs.Database.{Database, Relation, relation_named, changed_at, with_row}
 use Rattle.statements.specs.Statement.{Insert}
 use Rattle.sand_model.specs.StatementChecks.{Setting, IsSetting, entered, in_relation, check_length, check_ids, check_listings}
-use Rattle.journal_replay.specs.ChangedDatabase.{PassesChecks, Takes, changed_by, with_encoded}
-use Rattle.sand_store.specs.Calls.{Carries, Inserted}
+use Rattle.journal_replay.specs.ChangedDatabase.{PassesChecks, TakesChange, changed_by, with_encoded}
+use Rattle.sand_store.specs.Calls.{Carries, RowInserted}
 use Rattle.sand_store.specs.Catalog.{StoreState}
 use Rattle.sand_store.specs.Contents.{database}
 use Rattle.sand_store.specs.Sketches.{sketches, sketched_at, with_ids}
@@ -32,7 +32,7 @@ module _ (setting : Setting) (d : Database) (name : List ℕ) (relation : Relati
 
   -- rows that enter are a change
   pub loaded_change : (rows : List (List Value)) (encodings : List (List ℕ)) → AreEncodingsOf relation.schema rows encodings → (entered setting rows relation).0 ≡ None
-      → Takes setting (Rows name encodings) d × (changed_by setting (Rows name encodings) d ≡ changed_at name (λ r. (entered setting rows r).1) d)
+      → TakesChange setting (Rows name encodings) d × (changed_by setting (Rows name encodings) d ≡ changed_at name (λ r. (entered setting rows r).1) d)
   loaded_change rows encodings all passes = (
     record {
       relation = relation;
@@ -56,7 +56,7 @@ module _ (setting : Setting) (d : Database) (name : List ℕ) (relation : Relati
 
   -- so a row that was inserted is a change
   pub inserted_change : (row : List Value) (encodings : List (List ℕ)) → AreEncodingsOf relation.schema (row ∷ []) encodings → PassesChecks setting d (Insert name row)
-      → Takes setting (Rows name encodings) d × (changed_by setting (Rows name encodings) d ≡ changed_at name (with_row setting.gap row) d)
+      → TakesChange setting (Rows name encodings) d × (changed_by setting (Rows name encodings) d ≡ changed_at name (with_row setting.gap row) d)
   inserted_change row encodings all passes =
       let enters = one_enters row passes in
       let change = loaded_change (row ∷ []) encodings all (ap (λ (p : Option Refusal × Relation). p.0) enters) in (
@@ -66,7 +66,7 @@ module _ (setting : Setting) (d : Database) (name : List ℕ) (relation : Relati
 
 -- a row that the store inserted is a change
 pub led_by_row : (old : StoreState) (name : List ℕ) (encodings : List (List ℕ)) (row : List Value) (has : HasRowsFor old.catalog name encodings (row ∷ []))
-    → (new : StoreState) (id : ℕ) → Inserted old new name row id → Carries old new → LedByOne (Rows name encodings) old new
+    → (new : StoreState) (id : ℕ) → RowInserted old new name row id → Carries old new → LedByOne (Rows name encodings) old new
 led_by_row old name encodings row has new id h carries = record {
   carries = carries;
   sketched = h.sketched ∙ ap (λ (n : ℕ). sketched_at name (with_ids n) (sketches old)) (as_many has.relation.schema (row ∷ []) encodings has.encoded);
@@ -74,7 +74,7 @@ led_by_row old name encodings row has new id h carries = record {
   becomes = λ told setting is limits. h.becomes told setting.gap is.gap ∙ sym (change told setting is limits).1;
 } where
   change : IsTold old.pool → (setting : Setting) → IsSetting setting → setting.limits ≡ old.catalog.limits
-      → Takes setting (Rows name encodings) (database old) × (changed_by setting (Rows name encodings) (database old) ≡ changed_at name (with_row setting.gap row) (database old))
+      → TakesChange setting (Rows name encodings) (database old) × (changed_by setting (Rows name encodings) (database old) ≡ changed_at name (with_row setting.gap row) (database old))
   change told setting is limits =
       inserted_change setting (database old) name (relation old name encodings (row ∷ []) has) (named old name encodings (row ∷ []) has) row encodings has.encoded
       (record { before = (h.passes setting is limits).0; behind = (h.passes setting is limits).1 told })

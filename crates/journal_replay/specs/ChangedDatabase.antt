@@ -49,17 +49,17 @@ pub record TakesEncoded (setting : Setting) (database : Database) (name : List �
   pub passes : (with_encoded setting encodings relation).0 ≡ None
 
 -- the database takes the change: no check refuses it, and its rows are encodings of rows
-abbrev pub Takes : Setting → ChangeValue → Database → Type 0
-Takes setting (Line (Create relation columns)) database = PassesChecks setting database (model.Create relation columns)
-Takes setting (Line (Delete relation id)) database = PassesChecks setting database (model.Delete relation id)
-Takes setting (Line (Index column threshold)) database =
+abbrev pub TakesChange : Setting → ChangeValue → Database → Type 0
+TakesChange setting (Line (Create relation columns)) database = PassesChecks setting database (model.Create relation columns)
+TakesChange setting (Line (Delete relation id)) database = PassesChecks setting database (model.Delete relation id)
+TakesChange setting (Line (Index column threshold)) database =
     PassesChecks setting database (model.Index (record { relation = column.relation; column = column.column }) threshold)
-Takes setting (Line (Rtree column)) database =
+TakesChange setting (Line (Rtree column)) database =
     PassesChecks setting database (model.Rtree (record { relation = column.relation; column = column.column }))
-Takes setting (Line _) database = ⊥
-Takes setting (Rows relation encodings) database = TakesEncoded setting database relation encodings
+TakesChange setting (Line _) database = ⊥
+TakesChange setting (Rows relation encodings) database = TakesEncoded setting database relation encodings
 
 -- the database takes changes, one after the other
 abbrev pub TakesAll : Setting → List ChangeValue → Database → Type 0
 TakesAll setting [] database = ⊤
-TakesAll setting (change ∷ changes) database = Takes setting change database × TakesAll setting changes (changed_by setting change database)
+TakesAll setting (change ∷ changes) database = TakesChange setting change database × TakesAll setting changes (changed_by setting change database)

@@ -7,7 +7,7 @@ use Rattle.sand_store.specs.Catalog.{StoreState}
 use Rattle.sand_store.specs.Contents.{database}
 use Rattle.sand_store.specs.Sketches.{Sketch, sketches, new_sketch, with_ids, with_indexed, with_treed, sketched_at}
 use Rattle.statements.specs.Statement.{Create, Index, Rtree}
-use Rattle.journal_replay.specs.ChangedDatabase.{changed_by, world_after, Takes, TakesAll}
+use Rattle.journal_replay.specs.ChangedDatabase.{changed_by, world_after, TakesChange, TakesAll}
 
 -- the sketches of relations after a change
 abbrev pub sketched_by : ChangeValue → List Sketch → List Sketch
@@ -26,7 +26,7 @@ sketches_after (change ∷ changes) old = sketches_after changes (sketched_by ch
 pub record LedByOne (change : ChangeValue) (old new : StoreState) : Type 0 where
   pub carries : Carries old new
   pub sketched : sketches new ≡ sketched_by change (sketches old)
-  pub takes : IsTold old.pool → Within old (λ setting. Takes setting change (database old))
+  pub takes : IsTold old.pool → Within old (λ setting. TakesChange setting change (database old))
   pub becomes : IsTold old.pool → Within old (λ setting. database new ≡ changed_by setting change (database old))
 
 -- Changes led a store from one state to another: its sketches changed so, and where the disk tells, its database took them all.

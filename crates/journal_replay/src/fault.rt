@@ -1,5 +1,5 @@
 ghost use Rattle.std.specs.Prelude.{◌≡◌};
-ghost use Rattle.journal_replay.specs.Declined.{fault_of};
+ghost use Rattle.journal_replay.specs.Declined.{replay_fault};
 ghost use Rattle.journal_replay.specs.Replayed.{fault_of_journal};
 ghost use Rattle.journal_replay.specs.declared.fault.ReplayFault.TheVariants.{Memory};
 
@@ -22,7 +22,7 @@ pub enum ReplayFault {
 }
 
 impl From<Refusal> for ReplayFault {
-    ghost from_gives = { λ refusal why. why ≡ fault_of refusal };
+    ghost from_gives = { λ refusal why. why ≡ replay_fault refusal };
 
     fn from(why: Refusal) -> Self {
         match why {

@@ -50,7 +50,8 @@ module _ {T : Type 0} (seen : T → TapeView) where
     pub appends_none : (journal : Journal T) (Done : Type 0 → Type 0) → ((P : Type 0) → P → Done P) → Appends seen journal journal [] Done
     appends_none journal Done done = record {
       told = refl;
-      at_end = done ((bodies : List (List ℕ)) → IsAtEnd seen journal bodies → IsAtEnd seen journal (bodies ++ [])) (λ bodies at. subst (λ (bs : List (List ℕ)). IsAtEnd seen journal bs) (sym (append-nil bodies)) at);
+      at_end = done ((bodies : List (List ℕ)) → IsAtEnd seen journal bodies → IsAtEnd seen journal (bodies ++ []))
+          (λ bodies at. subst (λ (bs : List (List ℕ)). IsAtEnd seen journal bs) (sym (append-nil bodies)) at);
       any_moment = λ bodies at told.
           started (seen journal.tape) (LiesBetween bodies (bodies ++ [])) (λ image. now_is_all journal.tape image told)
           (λ image left. lies_same bodies image (subst (HasBodies bodies) (sym (at.rest.stands.durable told image left)) (at.rest.ended told)));

@@ -3,7 +3,7 @@ use Rattle.std.proofs.Common.{◌≡◌, ℕ, ◌+◌, ◌≤◌, arith, Bool, t
 use Rattle.std.specs.Prelude.{Result, Ok, IfOk, OnErr, is_err}
 use Rattle.line_meaning.proofs.LineCalls.{of_statement, passed_over, too_long, unread}
 use Rattle.line_meaning.specs.Carrying.{CarriesLine}
-use Rattle.line_meaning.specs.Reading.{Says, Refuses}
+use Rattle.line_meaning.specs.Reading.{Says, RefusesLine}
 use Rattle.open_cursors.proofs.Given.{most_more}
 use Rattle.open_cursors.specs.Carried.{CarriesBeside, GaveAtMost, rows_by}
 use Rattle.open_cursors.specs.OpenCursors.{HaveOwnNames}
@@ -113,7 +113,7 @@ module _ (m : List Cursor → Moment) (cs : List Cursor) (At : List Cursor → T
       })
 
   -- a line that can't be read
-  pub line_of_refusal : (line : List ℕ) (b : List ℕ → Type 0) (w : Refusal) (r : Result Bool Failed) → Refuses line w → BlamesNone w
+  pub line_of_refusal : (line : List ℕ) (b : List ℕ → Type 0) (w : Refusal) (r : Result Bool Failed) → RefusesLine line w → BlamesNone w
       → IfOk r (λ refused. (refused ≡ true) × Writes (IsText (refused_line (Some w))) a b) → OnErr r (WritesPrefix (IsText (refused_line (Some w))) a b) → LineCarried (Some line) m m cs a b r At
   line_of_refusal line b w r refuses inside written part =
       unmoved (Some line) b r (one_written (CarriesLine (Some line) (m cs) (m cs)) a b (Refused w) true refl (unread line (m cs) w refuses inside) r written part)

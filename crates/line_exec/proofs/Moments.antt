@@ -1,7 +1,7 @@
 -- Moments that follow one another, and cursors none of which is open.
 use Rattle.std.proofs.Common.{◌≡◌, ℕ, ◌<◌, ◌≤◌, ◌∙◌, List, [], Option, None, Some, refl, sym, ap, subst, inl, inr, arith}
 use Rattle.std.specs.Prelude.{IfSome}
-use Rattle.line_meaning.specs.Carrying.{Follows}
+use Rattle.line_meaning.specs.Carrying.{FollowsMoment}
 use Rattle.open_cursors.specs.OpenCursors.{StandAll}
 use Rattle.open_cursors.proofs.HeldStamps.{stand_settled}
 use Rattle.open_cursors.proofs.ToldStamps.{are_told, never_told, not_told, when_told}
@@ -27,7 +27,7 @@ rises before now (inr e) few = omega (arith, e, few)
 
 -- what is read over a store leaves a moment that follows
 pub follows_read : (old new : StoreState) (files : Option Files) (shelf : ℕ) → new.catalog ≡ old.catalog → LeavesPages old.pool new.pool
-    → Follows (moment_of old files shelf) (moment_of new files shelf)
+    → FollowsMoment (moment_of old files shelf) (moment_of new files shelf)
 follows_read old new files shelf same left = record {
   limits = ap (λ (k : CatalogView). k.limits) same;
   told = left.told;
@@ -37,8 +37,8 @@ follows_read old new files shelf same left = record {
 }
 
 -- which cursors are open is nothing of what follows
-pub follows_open : (old new : StoreState) (files files' : Option Files) (shelf shelf' : ℕ) (cs cs' : List Cursor) → Follows (moment_of old files shelf) (moment_of new files' shelf')
-    → Follows (while_open old files shelf cs) (while_open new files' shelf' cs')
+pub follows_open : (old new : StoreState) (files files' : Option Files) (shelf shelf' : ℕ) (cs cs' : List Cursor) → FollowsMoment (moment_of old files shelf) (moment_of new files' shelf')
+    → FollowsMoment (while_open old files shelf cs) (while_open new files' shelf' cs')
 follows_open old new files files' shelf shelf' cs cs' f = record { limits = f.limits; told = f.told; files = f.files; disk = f.disk; shelf = f.shelf }
 
 -- a store and a shelf that didn't change have one moment

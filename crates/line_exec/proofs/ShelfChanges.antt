@@ -5,10 +5,10 @@ use Rattle.page_pool.specs.Pool.{PoolState}
 use Rattle.sand_base.specs.Shelf.{Files}
 use Rattle.sand_base.specs.declared.refusal.Refusal.{Refusal}
 use Rattle.sand_model.specs.Cursor.{Cursor, OutputLine}
-use Rattle.sand_store.specs.Calls.{HasCause}
+use Rattle.sand_store.specs.Calls.{HasStoreCause}
 use Rattle.sand_store.specs.Catalog.{StoreState}
 use Rattle.statements.specs.Statement.{Statement}
-use Rattle.line_meaning.specs.Carrying.{Follows}
+use Rattle.line_meaning.specs.Carrying.{FollowsMoment}
 use Rattle.statement_exec.specs.Moment.{moment_of, while_open}
 use Rattle.statement_exec.specs.Performing.{Performs}
 use Rattle.statement_exec.specs.declared.reply.Reply.{Reply}
@@ -22,13 +22,13 @@ over_shelf statement old new files files' shelf shelf' cs lines told count h =
     (subst (λ (n : ℕ). Performs statement (while_open old files shelf cs) (while_open new files n cs) lines) (sym count) h)
 
 -- a call of the store that was accepted leaves the counts
-pub counted_alike : (old new : PoolState) (shelf shelf' : ℕ) (answer : Result Reply Refusal) → HasCause old new answer → shelf' ≡ shelf → OnOk answer (IsCountedAlike old new shelf shelf')
+pub counted_alike : (old new : PoolState) (shelf shelf' : ℕ) (answer : Result Reply Refusal) → HasStoreCause old new answer → shelf' ≡ shelf → OnOk answer (IsCountedAlike old new shelf shelf')
 counted_alike old new shelf shelf' (Ok reply) cause count = record { disk = cause.counted; shelf = count }
 counted_alike old new shelf shelf' (Err why) cause count = tt
 
 -- what follows over a shelf follows over one that tells the same and counted the same
 pub follows_over : (old new : StoreState) (files files' : Option Files) (shelf shelf' : ℕ) → files' ≡ files → shelf' ≡ shelf
-    → Follows (moment_of old files shelf) (moment_of new files shelf) → Follows (moment_of old files shelf) (moment_of new files' shelf')
+    → FollowsMoment (moment_of old files shelf) (moment_of new files shelf) → FollowsMoment (moment_of old files shelf) (moment_of new files' shelf')
 follows_over old new files files' shelf shelf' told count h =
-    subst (λ (f : Option Files). Follows (moment_of old files shelf) (moment_of new f shelf')) (sym told)
-    (subst (λ (n : ℕ). Follows (moment_of old files shelf) (moment_of new files n)) (sym count) h)
+    subst (λ (f : Option Files). FollowsMoment (moment_of old files shelf) (moment_of new f shelf')) (sym told)
+    (subst (λ (n : ℕ). FollowsMoment (moment_of old files shelf) (moment_of new files n)) (sym count) h)

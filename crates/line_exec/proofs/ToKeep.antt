@@ -19,7 +19,7 @@ use Rattle.sand_model.specs.Kept.{longest_row}
 use Rattle.sand_model.specs.RowSize.{row_size}
 use Rattle.sand_model.specs.StatementChecks.{refused_where, is_row_of, check_length, check_ids, in_relation}
 use Rattle.sand_store.proofs.RowKinds.{row_of}
-use Rattle.sand_store.specs.Calls.{Carries, Inserted, IsUnchanged, Loaded, check_kinds, plain_checks}
+use Rattle.sand_store.specs.Calls.{Carries, RowInserted, IsUnchanged, Loaded, check_kinds, plain_checks}
 use Rattle.sand_store.specs.Catalog.{StoreState}
 use Rattle.sand_store.specs.Contents.{database}
 use Rattle.statement_exec.proofs.SomeSetting.{some_setting, is_some_setting}
@@ -105,9 +105,9 @@ module _ (keeps : Bool) (body : Option (List ℕ)) (old new : StoreState) (name 
 
   -- a row that was inserted
   pub keep_row : (answer : Result Reply Refusal) (row : List Value) → (keeps ≡ true → IsKeptOfRows old.catalog name (row ∷ []) body)
-      → OnOk answer ((id : ℕ) × Inserted old new name row id) → OnErr answer (IsUnchanged old new) → Carries old new → IsToKeep keeps answer body old new
+      → OnOk answer ((id : ℕ) × RowInserted old new name row id) → OnErr answer (IsUnchanged old new) → Carries old new → IsToKeep keeps answer body old new
   keep_row answer row made done same carries = by keeps answer body made done same where
-    fits : (id : ℕ) → Inserted old new name row id → (r : Relation) → relation_named (database old) name ≡ Some r → FitsSchema r.schema row
+    fits : (id : ℕ) → RowInserted old new name row id → (r : Relation) → relation_named (database old) name ≡ Some r → FitsSchema r.schema row
     fits id h r named =
         let passes = (h.passes (some_setting old) (is_some_setting old) refl).0 in
         let kinds : Relation → Option Refusal = λ relation. refused_where (not (is_row_of relation.schema row)) why.WrongKind in
@@ -117,7 +117,7 @@ module _ (keeps : Bool) (body : Option (List ℕ)) (old new : StoreState) (name 
         row_fits r.schema row (sym same ∙ a.0) b.0
 
     by : (k : Bool) (a : Result Reply Refusal) (o : Option (List ℕ)) → (k ≡ true → IsKeptOfRows old.catalog name (row ∷ []) o)
-        → OnOk a ((id : ℕ) × Inserted old new name row id) → OnErr a (IsUnchanged old new) → IsToKeep k a o old new
+        → OnOk a ((id : ℕ) × RowInserted old new name row id) → OnErr a (IsUnchanged old new) → IsToKeep k a o old new
     by k (Err why) o made done same = same
     by false (Ok given) o made done same = tt
     by true (Ok given) None made done same =

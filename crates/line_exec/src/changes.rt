@@ -1,8 +1,8 @@
 // Statements that change relations.
 ghost use Rattle.std.specs.Prelude.{◌≡◌, ◌∷◌, [], true, IfErr, IfOk, List, OnErr, OnOk};
 ghost use Rattle.journal_replay.specs.KeptBody.{IsKeptOf};
-ghost use Rattle.line_meaning.specs.Carrying.{Follows};
-ghost use Rattle.open_cursors.specs.Carried.{IsChange};
+ghost use Rattle.line_meaning.specs.Carrying.{FollowsMoment};
+ghost use Rattle.open_cursors.specs.Carried.{ChangesRelations};
 ghost use Rattle.sand_journal.specs.ChangeBody.{line_value};
 ghost use Rattle.sand_model.specs.Cursor.{Cursor};
 ghost use Rattle.sand_store.specs.Calls.{Carries};
@@ -52,15 +52,17 @@ fn change_behind<D: Disk, H: Shelf>(
 ) -> Result<Changed, Statement>
     requires in_range { IsInRange (statement_value statement) }
     requires kept { keeps ≡ true → IsKeptOf store.old.catalog (line_value statement) kept }
-    ensures answers { IfOk result (λ made. (cs : List Cursor) → Performs (statement_value statement) (while_open store.old (H.files shelf.old) (H.faults shelf.old) cs) (while_open store.new (H.files shelf.new) (H.faults shelf.new) cs) (line_of_answer made.answer ∷ [])) }
+    ensures answers { IfOk result (λ made. (cs : List Cursor)
+        → Performs (statement_value statement) (while_open store.old (H.files shelf.old) (H.faults shelf.old) cs)
+        (while_open store.new (H.files shelf.new) (H.faults shelf.new) cs) (line_of_answer made.answer ∷ [])) }
     ensures kept { IfOk result (λ made. IsToKeep keeps made.answer made.kept store.old store.new) }
-    ensures returned { IfErr result (λ other. (statement_value other ≡ statement_value statement) × (IsChange (statement_value statement) → ⊥)) }
+    ensures returned { IfErr result (λ other. (statement_value other ≡ statement_value statement) × (ChangesRelations (statement_value statement) → ⊥)) }
     ensures unchanged { OnErr result (store.new ≡ store.old) }
     ensures carries { Carries store.old store.new }
     ensures files { H.files shelf.new ≡ H.files shelf.old }
     ensures shelf { OnErr result (H.faults shelf.new ≡ H.faults shelf.old) }
     ensures counts { IfOk result (λ made. OnOk made.answer (IsCountedAlike store.old.pool store.new.pool (H.faults shelf.old) (H.faults shelf.new))) }
-    ensures follows { Follows (moment_of store.old (H.files shelf.old) (H.faults shelf.old)) (moment_of store.new (H.files shelf.new) (H.faults shelf.new)) }
+    ensures follows { FollowsMoment (moment_of store.old (H.files shelf.old) (H.faults shelf.old)) (moment_of store.new (H.files shelf.new) (H.faults shelf.new)) }
 {
     match statement {
         Statement::Create { relation, columns } => Ok(Changed {
@@ -102,15 +104,17 @@ pub(crate) fn change<D: Disk, H: Shelf>(
     keeps: bool,
 ) -> Result<Changed, Statement>
     requires in_range { IsInRange (statement_value statement) }
-    ensures answers { IfOk result (λ made. (cs : List Cursor) → Performs (statement_value statement) (while_open store.old (H.files shelf.old) (H.faults shelf.old) cs) (while_open store.new (H.files shelf.new) (H.faults shelf.new) cs) (line_of_answer made.answer ∷ [])) }
+    ensures answers { IfOk result (λ made. (cs : List Cursor)
+        → Performs (statement_value statement) (while_open store.old (H.files shelf.old) (H.faults shelf.old) cs)
+        (while_open store.new (H.files shelf.new) (H.faults shelf.new) cs) (line_of_answer made.answer ∷ [])) }
     ensures kept { IfOk result (λ made. IsToKeep keeps made.answer made.kept store.old store.new) }
-    ensures returned { IfErr result (λ other. (statement_value other ≡ statement_value statement) × (IsChange (statement_value statement) → ⊥)) }
+    ensures returned { IfErr result (λ other. (statement_value other ≡ statement_value statement) × (ChangesRelations (statement_value statement) → ⊥)) }
     ensures unchanged { OnErr result (store.new ≡ store.old) }
     ensures carries { Carries store.old store.new }
     ensures files { H.files shelf.new ≡ H.files shelf.old }
     ensures shelf { OnErr result (H.faults shelf.new ≡ H.faults shelf.old) }
     ensures counts { IfOk result (λ made. OnOk made.answer (IsCountedAlike store.old.pool store.new.pool (H.faults shelf.old) (H.faults shelf.new))) }
-    ensures follows { Follows (moment_of store.old (H.files shelf.old) (H.faults shelf.old)) (moment_of store.new (H.files shelf.new) (H.faults shelf.new)) }
+    ensures follows { FollowsMoment (moment_of store.old (H.files shelf.old) (H.faults shelf.old)) (moment_of store.new (H.files shelf.new) (H.faults shelf.new)) }
 {
     match record_for(alloc, store.catalog(), &statement, keeps) {
         Ok(kept) => change_behind(alloc, store, shelf, statement, kept, keeps),

@@ -1,6 +1,6 @@
 // A statement, carried out on a store and beside the cursors that are open.
 ghost use Rattle.std.specs.Prelude.{[], ℕ, List, Some, IfErr};
-ghost use Rattle.line_meaning.specs.Carrying.{Follows};
+ghost use Rattle.line_meaning.specs.Carrying.{FollowsMoment};
 ghost use Rattle.line_meaning.specs.Reading.{Says};
 ghost use Rattle.open_cursors.specs.Carried.{AreCounted};
 ghost use Rattle.open_cursors.specs.OpenCursors.{AreHeld, HaveOwnNames};
@@ -41,12 +41,14 @@ pub(crate) fn carry_statement<D: Disk, H: Shelf, K: Sink, T: Tape>(
     requires journal { TakesUpTo T.seen last_end journal.old }
     requires stands { AreStanding store.pool cursors.old.items }
     ensures carried { (line : List ℕ) → Says line (Some statement) → (cs : List Cursor) → HaveOwnNames cs → AreCounted cs → StandOver store.pool cursors.old.items cs
-        → LineCarried (Some line) (while_open store (H.files shelf.old) (H.faults shelf.old)) (while_open result.0 (H.files shelf.new) (H.faults shelf.new)) cs (K.took out.old) (K.took out.new) (sink_result result.1) (StandOver result.0.pool cursors.new.items) }
+        → LineCarried (Some line) (while_open store (H.files shelf.old) (H.faults shelf.old)) (while_open result.0 (H.files shelf.new) (H.faults shelf.new)) cs
+        (K.took out.old) (K.took out.new) (sink_result result.1) (StandOver result.0.pool cursors.new.items) }
     ensures held { AreHeld result.0.pool.stamps cursors.new.items }
-    ensures follows { Follows (moment_of store (H.files shelf.old) (H.faults shelf.old)) (moment_of result.0 (H.files shelf.new) (H.faults shelf.new)) }
+    ensures follows { FollowsMoment (moment_of store (H.files shelf.old) (H.faults shelf.old)) (moment_of result.0 (H.files shelf.new) (H.faults shelf.new)) }
     ensures keeps { KeepsOn T.seen journal.old journal.new result.1 }
     ensures kept { KeepsIfAny T.seen journal.old journal.new (moment_of store (H.files shelf.old) (H.faults shelf.old)) (state_with [] (database result.0)) result.1 }
-    ensures untold { IfErr result.1 (IsUntold (K.took out.old) (K.took out.new) (moment_of store (H.files shelf.old) (H.faults shelf.old)) (moment_of result.0 (H.files shelf.new) (H.faults shelf.new))) }
+    ensures untold { IfErr result.1 (IsUntold (K.took out.old) (K.took out.new) (moment_of store (H.files shelf.old) (H.faults shelf.old))
+        (moment_of result.0 (H.files shelf.new) (H.faults shelf.new))) }
     ensures cause { HasLineCause (K.faults out.old) (K.faults out.new) (tape_count T.seen journal.old) (tape_count T.seen journal.new) result.1 }
 {
     let mut changed = store;

@@ -22,19 +22,19 @@ use Rattle.statement_exec.proofs.CausedLines.{caused_inside, caused_none}
 use Rattle.statement_exec.proofs.Decided.{found_own, after_refusal, by_memory}
 use Rattle.line_meaning.specs.Said.{IsAnswered}
 use Rattle.line_meaning.specs.Carrying.{CarriesLine}
-use Rattle.line_meaning.specs.Reading.{Says, Refuses, IsRefusedSo}
-use Rattle.line_meaning.specs.ShelfRun.{Finds}
+use Rattle.line_meaning.specs.Reading.{Says, RefusesLine, IsRefusedSo}
+use Rattle.line_meaning.specs.ShelfRun.{FindsFiles}
 use Rattle.line_meaning.specs.Spoken.{IsLine, Tells}
 
 -- where the shelf tells its files they are the setting's, so any line may be carried out in it
-pub finds_own : (files : Option Files) (setting : Setting) (line : ScriptLine) → AreTold files setting.files → Finds files setting line setting
+pub finds_own : (files : Option Files) (setting : Setting) (line : ScriptLine) → AreTold files setting.files → FindsFiles files setting line setting
 finds_own files setting (SaysOf (Load relation file header)) told = (setting.files, told, refl)
 finds_own files setting _ told = refl
 
 -- an outcome over a shelf is one in the setting that the statement finds
 outcome_found : (files : Option Files) (setting : Setting) (rises : Rises) (old : State) (statement : Spoken) (lines : List OutputLine) (new : State)
     → ShelfOutcome files setting rises old statement lines new
-    → (own : Setting) × Finds files setting (SaysOf statement) own × Outcome own rises old statement lines new
+    → (own : Setting) × FindsFiles files setting (SaysOf statement) own × Outcome own rises old statement lines new
 outcome_found files setting rises old (Load relation file header) lines new (found, told, h) = (record setting { files = found }, (found, told, refl), h)
 outcome_found files setting rises old _ lines new h = (setting, refl, h)
 
@@ -46,7 +46,7 @@ is_too_long _ = false
 -- what a line does in the setting that it finds, or that it is refused as out of memory
 abbrev Goes : Moment → Moment → List OutputLine → Setting → ScriptLine → Type 0
 Goes old new lines setting told =
-    (own : Setting) × Finds old.files setting told own × (LineOutcome own (rises_between old new) old.state told lines new.state ⊎ IsRefusedBy why.Memory old.state lines new.state)
+    (own : Setting) × FindsFiles old.files setting told own × (LineOutcome own (rises_between old new) old.state told lines new.state ⊎ IsRefusedBy why.Memory old.state lines new.state)
 
 -- what is decided of a statement is what its line says
 pub said_decided : (line : List ℕ) (statement : declared.Statement) (told : ScriptLine) (old new : Moment) (lines : List OutputLine) → Says line (Some statement) → IsLine (Some line) told
@@ -102,7 +102,7 @@ refused_said m OutOfRange w k = λ setting s. (inl (ap (λ (r : Refusal). Refuse
 refused_said m (SaysOf s) w k = absurd k
 
 -- a line that can't be read
-pub unread : (line : List ℕ) (m : Moment) (w : Refusal) → Refuses line w → BlamesNone w → CarriesLine (Some line) m m (Refused w ∷ [])
+pub unread : (line : List ℕ) (m : Moment) (w : Refusal) → RefusesLine line w → BlamesNone w → CarriesLine (Some line) m m (Refused w ∷ [])
 unread line m w (inl e) none = (
   caused_inside m m w none,
   λ told is. (

@@ -9,7 +9,7 @@ use Rattle.statements.specs.declared.statement.Statement as declared
 use Rattle.sand_base.specs.declared.refusal.Refusal.TheVariants as why
 use Rattle.script_text.specs.declared.parse.LineFault.{LineFault}
 use Rattle.script_text.specs.declared.parse.LineFault.TheVariants as fault
-use Rattle.line_meaning.specs.Reading.{Says, Refuses, IsRefusedSo}
+use Rattle.line_meaning.specs.Reading.{Says, RefusesLine, IsRefusedSo}
 use Rattle.line_meaning.specs.Spoken.{Tells, IsLine}
 
 abbrev Answer : Type 0
@@ -43,10 +43,10 @@ says one line None read = λ told is. told_by one line (Ok None) told read (λ e
 says one line (Some statement) read =
     (read.in_range, λ told is. told_by one line (Ok (Some (statement_value statement))) told read (λ e. true≢false (sym (ap is_memory e))) is)
 
-pub bad_token : OneReading → (line : List ℕ) (column : ℕ) → Reads (chopped line) (Err (fault.Syntax column)) → Refuses line (why.Syntax column)
+pub bad_token : OneReading → (line : List ℕ) (column : ℕ) → Reads (chopped line) (Err (fault.Syntax column)) → RefusesLine line (why.Syntax column)
 bad_token one line column read =
     inr (λ told is. subst (λ (t : ScriptLine). IsRefusedSo t (why.Syntax column)) (sym (told_by one line (Err (fault.Syntax column)) told read (λ e. true≢false (sym (ap is_memory e))) is)) refl)
 
-pub out_of_range : OneReading → (line : List ℕ) → Reads (chopped line) (Err fault.Range) → Refuses line why.Range
+pub out_of_range : OneReading → (line : List ℕ) → Reads (chopped line) (Err fault.Range) → RefusesLine line why.Range
 out_of_range one line read =
     inr (λ told is. subst (λ (t : ScriptLine). IsRefusedSo t why.Range) (sym (told_by one line (Err fault.Range) told read (λ e. true≢false (sym (ap is_memory e))) is)) refl)

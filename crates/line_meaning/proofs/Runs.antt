@@ -18,8 +18,8 @@ use Rattle.statement_exec.specs.Causes.{AreCaused, IsCausedDamage, is_of_device,
 use Rattle.statement_exec.specs.Moment.{Moment, rises_between, IsSettingOf}
 use Rattle.statement_exec.specs.Outline.{Outline, outline_of}
 use Rattle.line_meaning.specs.Said.{AnswersSaid, AnswerInOrder}
-use Rattle.line_meaning.specs.Carrying.{CarriesLine, CarriesLines, Follows}
-use Rattle.line_meaning.specs.ShelfRun.{Finds, ShelfRun}
+use Rattle.line_meaning.specs.Carrying.{CarriesLine, CarriesLines, FollowsMoment}
+use Rattle.line_meaning.specs.ShelfRun.{FindsFiles, ShelfRun}
 use Rattle.line_meaning.specs.Spoken.{IsLine, AreLines}
 
 -- a line of a run, or its want of memory
@@ -35,7 +35,7 @@ no_rises = record { disk = 0; shelf = 0 }
 
 pub run_append : (files : Option Files) (setting : Setting) (old mid new : State) (script : List ScriptLine) (line : ScriptLine) (before own all : Rises)
     (printed more : List OutputLine) (found : Setting)
-    → ShelfRun files setting old script before printed mid → Finds files setting line found → Goes found own mid line more new → FitIn before own all
+    → ShelfRun files setting old script before printed mid → FindsFiles files setting line found → Goes found own mid line more new → FitIn before own all
     → ShelfRun files setting old (script ++ line ∷ []) all (printed ++ more) new
 unfolding no_rises
 run_append files setting old mid new [] line before own all printed more found ran finds goes fit = (
@@ -101,14 +101,15 @@ split_lines (x ∷ lines) line (told ∷ script) h =
     (told ∷ s.0, (s.1.0, (ap (λ (xs : List ScriptLine). told ∷ xs) s.1.1.0, ((h.0, s.1.1.1.0), s.1.1.1.1))))
 
 -- a setting of a moment is one of each that follows
-pub setting_later : (old new : Moment) (setting : Setting) → Follows old new → IsSettingOf old setting → IsSettingOf new setting
+pub setting_later : (old new : Moment) (setting : Setting) → FollowsMoment old new → IsSettingOf old setting → IsSettingOf new setting
 setting_later old new setting f s = record { is = s.is; limits = s.limits ∙ sym f.limits; files = λ told e. s.files told (sym f.files ∙ e); rows_of = s.rows_of; tells = s.tells ∙ sym f.told }
 
 count_append : (p : OutputLine → Bool) (xs ys : List OutputLine) → count_by p (xs ++ ys) ≡ count_by p xs + count_by p ys
 count_append p xs ys = sum_by-append _ xs ys
 
 -- lines and lines behind them have their causes, where no count falls
-caused_append : (old mid new : Moment) (first more : List OutputLine) → Follows old mid → Follows mid new → AreCaused old mid first → AreCaused mid new more → AreCaused old new (first ++ more)
+caused_append : (old mid new : Moment) (first more : List OutputLine) → FollowsMoment old mid → FollowsMoment mid new → AreCaused old mid first → AreCaused mid new more
+    → AreCaused old new (first ++ more)
 caused_append old mid new first more f g h k = record {
   device = λ few.
       let up : mid.disk ≤ new.disk = g.disk few in
@@ -122,7 +123,7 @@ caused_append old mid new first more f g h k = record {
 }
 
 -- one more line was carried out
-pub lines_append : (old mid new : Moment) (lines : List (List ℕ)) (line : List ℕ) (printed more : List OutputLine) → Follows old mid → Follows mid new
+pub lines_append : (old mid new : Moment) (lines : List (List ℕ)) (line : List ℕ) (printed more : List OutputLine) → FollowsMoment old mid → FollowsMoment mid new
     → CarriesLines lines old mid printed → CarriesLine (clipped line) mid new more → CarriesLines (lines ++ line ∷ []) old new (printed ++ more)
 lines_append old mid new lines line printed more f g ran own = (
   caused_append old mid new printed more f g ran.0 own.0,
@@ -144,7 +145,7 @@ lines_append old mid new lines line printed more f g ran own = (
             let shelf' : mid.shelf < last_count = omega (arith, shelf, shelf_up) in
             let told' : IsTrue mid.told = f.told ∙ told in
             let goes = one.1 told' disk shelf setting gap (setting_later old mid setting f s) in
-            let finds : Finds old.files setting last goes.0 = subst (λ (x : Option Files). Finds x setting last goes.0) f.files goes.1 in
+            let finds : FindsFiles old.files setting last goes.0 = subst (λ (x : Option Files). FindsFiles x setting last goes.0) f.files goes.1 in
             let all : ShelfRun old.files setting old.state before (rises_between old mid) printed mid.state = others.1 told disk' shelf' setting gap s in
             let fit : FitIn (rises_between old mid) (rises_between mid new) (rises_between old new) =
             record { disk = omega (arith, f.disk disk', disk_up); shelf = omega (arith, f.shelf shelf', shelf_up) } in
@@ -154,7 +155,7 @@ lines_append old mid new lines line printed more f g ran own = (
 )
 
 -- what follows a moment that follows another follows that one
-pub follows_on : (old mid new : Moment) → Follows old mid → Follows mid new → Follows old new
+pub follows_on : (old mid new : Moment) → FollowsMoment old mid → FollowsMoment mid new → FollowsMoment old new
 follows_on old mid new f g = record {
   limits = g.limits ∙ f.limits;
   told = g.told ∙ f.told;
@@ -163,5 +164,5 @@ follows_on old mid new f g = record {
   shelf = λ few. let up : mid.shelf ≤ new.shelf = g.shelf few in let before : old.shelf ≤ mid.shelf = f.shelf (omega (arith, up, few)) in omega (arith, up, before);
 }
 
-pub follows_itself : (m : Moment) → Follows m m
+pub follows_itself : (m : Moment) → FollowsMoment m m
 follows_itself m = record { limits = refl; told = refl; files = refl; disk = λ few. omega arith; shelf = λ few. omega arith }

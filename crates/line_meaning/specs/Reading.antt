@@ -21,5 +21,5 @@ IsRefusedSo OutOfRange refusal = refusal ≡ why.Range
 IsRefusedSo _ refusal = ⊥
 
 -- the line is refused by what it says, or memory was
-abbrev pub Refuses : List ℕ → Refusal → Type 0
-Refuses line refusal = (refusal ≡ why.Memory) ⊎ ((told : ScriptLine) → IsLine (Some line) told → IsRefusedSo told refusal)
+abbrev pub RefusesLine : List ℕ → Refusal → Type 0
+RefusesLine line refusal = (refusal ≡ why.Memory) ⊎ ((told : ScriptLine) → IsLine (Some line) told → IsRefusedSo told refusal)

@@ -2,7 +2,7 @@ ghost use Rattle.std.specs.Prelude.{◌≡◌, ◌≤◌, length, IfOk, IfErr};
 ghost use Rattle.script_text.specs.declared.TheConstants.{LONGEST_LINE};
 ghost use Rattle.script_lines.specs.Lines.{chopped};
 ghost use Rattle.statement_exec.specs.Causes.{BlamesNone};
-ghost use Rattle.line_meaning.specs.Reading.{Says, Refuses};
+ghost use Rattle.line_meaning.specs.Reading.{Says, RefusesLine};
 
 use sand_base::Refusal;
 use script_text::{LineFault, Statement, a_line_has_one_reading, parse_line};
@@ -25,7 +25,7 @@ fn without_return(line: &[u8]) -> &[u8]
 pub fn read_line(alloc: Global, line: &[u8]) -> Result<Option<Statement>, Refusal>
     requires { length line.now ≤ LONGEST_LINE }
     ensures says { IfOk result (Says line.now) }
-    ensures refuses { IfErr result (Refuses line.now) }
+    ensures refuses { IfErr result (RefusesLine line.now) }
     ensures inside { IfErr result BlamesNone }
 {
     // For the proof alone: a line says one thing.

@@ -16,7 +16,7 @@ use Rattle.ring_geom.proofs.Measured.{measured}
 use Rattle.code_btree.specs.Tree.{Store}
 use Rattle.r_tree.specs.declared.entry.NodeEntry.{NodeEntry}
 use Rattle.r_tree.specs.Entry.{Member, box_of, rect_union, union_of, member_of, bound_of}
-use Rattle.r_tree.specs.Tree.{entries_at, members_in, members_under, Encloses, IsNodeAt, StandsUnder, StandsAt}
+use Rattle.r_tree.specs.Tree.{entries_at, members_in, members_under, Encloses, IsNodeAt, StandsUnder, NodeStandsAt}
 use Rattle.r_tree.proofs.Hulls.{Inside, hull_each}
 use Rattle.pmr_tree.specs.Entries.{figure_of}
 use Rattle.best_first.specs.Reach.{IsAtMost}
@@ -24,7 +24,7 @@ use Rattle.best_first.proofs.Bags.{here, there, in_flat_map}
 use Rattle.rank_cursor.proofs.Elements.{in_map, some_is}
 use Rattle.rank_cursor.proofs.Places.{true_both, both_true}
 use Rattle.rank_cursor.specs.Cursor.{the_measure, goal_gap}
-use Rattle.zero_search.specs.RowsAtZero.{zero_gap}
+use Rattle.best_first.specs.RowsAtZero.{zero_gap}
 use Rattle.near_cursor.specs.NearRanking.{is_rect_in_plane, bound_gap}
 use Rattle.near_cursor.proofs.NodeLemmas.{each_of}
 
@@ -84,7 +84,7 @@ bound_in_plane (e ∷ es) each r h = go (λ b k. bound_in_plane es (λ x at. eac
         subst IsRectInClosedPlane (some_is (rect_union (box_of e.rough) b) r g) (union_in_plane (box_of e.rough) b box (rest b k))
 
 -- where all members under a node lie in the closed square, so do the entries of the node
-pub entries_in_plane : (m : Store) (l n : ℕ) → StandsAt m l n → ((i : Member) → Contains (members_under m l n) i → IsGoalInClosedPlane (figure_of i.1))
+pub entries_in_plane : (m : Store) (l n : ℕ) → NodeStandsAt m l n → ((i : Member) → Contains (members_under m l n) i → IsGoalInClosedPlane (figure_of i.1))
     → (e : NodeEntry) → Contains (entries_at m n) e → IsGoalInClosedPlane (figure_of e.rough)
 entries_in_plane m zero n s each e at = each (member_of e) (in_map member_of (entries_at m n) e at)
 entries_in_plane m (suc l) n s each e at =

@@ -14,7 +14,7 @@ use Rattle.pmr_tree.specs.Quadtree.{store_of}
 use Rattle.best_first.specs.Hierarchy.{Meaning}
 use Rattle.near_cursor.specs.TreeNodes.{PageNode, root_node}
 use Rattle.near_cursor.specs.NearLaws.{IsBoundGap, HasBoundGaps}
-use Rattle.rtree_rows.specs.Listing.{ListsRows}
+use Rattle.r_tree.specs.Listing.{ListsRows}
 use Rattle.near_cursor.specs.NearRanking.{bound_gap, near_meaning}
 use Rattle.near_cursor.proofs.InPlane.{bound_in_plane, bound_gap_is}
 use Rattle.near_cursor.proofs.NearHierarchy.{root_is, at_node, under_at, entry_closed}

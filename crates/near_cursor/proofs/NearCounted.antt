@@ -51,7 +51,7 @@ use Rattle.rank_cursor.proofs.Places.{both_true, true_both}
 use Rattle.rank_cursor.proofs.RankedRows.{same_measures}
 use Rattle.near_cursor.specs.TreeNodes.{PageNode, root_node, nodes_under}
 use Rattle.near_cursor.specs.NearLaws.{FindsPolygons}
-use Rattle.rtree_rows.specs.Listing.{ListsRows}
+use Rattle.r_tree.specs.Listing.{ListsRows}
 use Rattle.near_cursor.specs.NearRanking.{member_found, near_meaning}
 use Rattle.near_cursor.proofs.NearHierarchy.{root_is, under_at, finds_level, rough_listed}
 use Rattle.near_cursor.proofs.NodeLemmas.{leaf_of, is_node}
@@ -157,7 +157,7 @@ module _ (rows : PageMap → List (ℕ × Shape)) (Stands : PageMap → Type 0) 
       (is_node m t (root_node t) (root_is rows Stands price t goal ceiling reach pages fits stands plane))
 
   -- a rough item within the reach is of a polygon within it
-  row_of : (x : Item PageNode) → Contains (tree_of.roughs_within meaning test) x → (row : ℕ × Shape) × Contains polygons row × IsOf x row
+  row_of : (x : Item PageNode) → Contains (tree_of.listed_roughs_within meaning test) x → (row : ℕ × Shape) × Contains polygons row × IsOf x row
   row_of x h =
       let (listed, near) = from_filter (λ i. test (gap_of i)) (flat_map (λ n. roughs_of (meaning.finds n)) (meaning.under meaning.root)) x h in
       let (n, below, among) = from_flat_map (λ n. roughs_of (meaning.finds n)) (meaning.under meaning.root) x listed in
@@ -183,7 +183,7 @@ module _ (rows : PageMap → List (ℕ × Shape)) (Stands : PageMap → Type 0) 
       (row.1, subst (λ (id : ℕ). Contains (rows pages) (id, row.1)) (sym of_row.1) at, polygon, of_row.0)
 
   -- and a polygon within the reach has a rough item
-  item_of : (row : ℕ × Shape) → Contains polygons row → (x : Item PageNode) × Contains (tree_of.roughs_within meaning test) x × IsOf x row
+  item_of : (row : ℕ × Shape) → Contains polygons row → (x : Item PageNode) × Contains (tree_of.listed_roughs_within meaning test) x × IsOf x row
   item_of row h =
       let (at, passes) = from_filter counted (rows pages) row h in
       let (polygon, inside) = both_true (is_rough row.1) (reaches to (gap goal (rough_figure row.1))) passes in
@@ -253,7 +253,7 @@ module _ (rows : PageMap → List (ℕ × Shape)) (Stands : PageMap → Type 0) 
     -- what was taken is of a polygon that counts
     taken_row : (x : Item PageNode) → Contains (roughs_of done) x → (row : ℕ × Shape) × Contains polygons row × IsOf x row
     taken_row x at =
-        let alike = All-contains (HasAlike cmp (tree_of.roughs_within meaning test)) (roughs_of done) x reached.roughs at in
+        let alike = All-contains (HasAlike cmp (tree_of.listed_roughs_within meaning test)) (roughs_of done) x reached.roughs at in
         let (row, among, of_row) = row_of alike.other alike.listed in
         (row, among, alike_of alike.other x row (tied_back (item_total o) x alike.other alike.alike) of_row)
 
@@ -261,7 +261,7 @@ module _ (rows : PageMap → List (ℕ × Shape)) (Stands : PageMap → Type 0) 
     row_taken : (row : ℕ × Shape) → Contains polygons row → (x : Item PageNode) × Contains (roughs_of done) x × IsOf x row
     row_taken row at =
         let (x, among, of_row) = item_of row at in
-        let alike = All-contains (HasAlike cmp (roughs_of done)) (tree_of.roughs_within meaning test) x reached.all_roughs among in
+        let alike = All-contains (HasAlike cmp (roughs_of done)) (tree_of.listed_roughs_within meaning test) x reached.all_roughs among in
         (alike.other, alike.listed, alike_of x alike.other row alike.alike of_row)
 
     -- so as many were taken as count

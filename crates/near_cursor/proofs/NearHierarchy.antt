@@ -18,7 +18,7 @@ use Rattle.r_tree.specs.declared.entry.NodeEntry.{NodeEntry}
 use Rattle.r_tree.specs.declared.tree.RTree.{RTree}
 use Rattle.r_tree.specs.Entry.{Member, box_of, member_of, members_of}
 use Rattle.r_tree.specs.Nodes.{branches_of}
-use Rattle.r_tree.specs.Tree.{entries_at, members_under, StandsAt, IsRootAt, tree_members}
+use Rattle.r_tree.specs.Tree.{entries_at, members_under, NodeStandsAt, IsRootAt, tree_members}
 use Rattle.pmr_tree.specs.Entries.{figure_of}
 use Rattle.pmr_tree.specs.Laws.{AreInPlane}
 use Rattle.pmr_tree.specs.Quadtree.{store_of}
@@ -35,7 +35,7 @@ use Rattle.rank_cursor.proofs.Elements.{in_map, from_map}
 use Rattle.rank_cursor.proofs.RankingLaws.{rank_laws}
 use Rattle.near_cursor.specs.TreeNodes.{PageNode, nodes_below, nodes_under, root_node, tree_nodes, is_tree_node, node_bound}
 use Rattle.near_cursor.specs.NearLaws.{HasPagesOnce}
-use Rattle.rtree_rows.specs.Listing.{ListsRows}
+use Rattle.r_tree.specs.Listing.{ListsRows}
 use Rattle.near_cursor.specs.NearRanking.{near_row, bound_gap, member_found, branch_found, entries_found, near_finds, near_under, near_meaning}
 use Rattle.near_cursor.proofs.InPlane.{box_in_plane, entries_in_plane, bound_gap_is, node_no_farther}
 use Rattle.near_cursor.proofs.NodeLemmas.{nodes_once, NodeStands, node_stands, child_node, leaf_of, is_node, node_is, node_bound_is, child_leads}
@@ -186,7 +186,7 @@ module _ (rows : PageMap → List (ℕ × Shape)) (Stands : PageMap → Type 0) 
   branch_has_gap : (node : PageNode) (f : NodeStands m (t.height - 1) t.root node) (e : NodeEntry) → Contains (entries_at m node.0) e → (j : ℕ) → f.above ≡ suc j
       → HasGap meaning (branch_found goal (suc j) (box_of e.rough, e.child))
   branch_has_gap node f e at j h =
-      let leads = child_leads m j node.0 e (subst (λ (k : ℕ). StandsAt m k node.0) h f.stands) at in
+      let leads = child_leads m j node.0 e (subst (λ (k : ℕ). NodeStandsAt m k node.0) h f.stands) at in
       let box = box_in_plane e.rough (entry_closed node f e at) in
       let is : bound_gap goal (node_bound m t (e.child, suc j)) ≡ goal_gap goal (figure.Rect (box_of e.rough)) =
       ap (bound_gap goal) (node_bound_is m t root (e.child, suc j) ∙ leads.least) ∙ bound_gap_is goal (box_of e.rough) box in

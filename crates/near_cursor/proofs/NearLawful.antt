@@ -14,7 +14,7 @@ use Rattle.rank_cursor.specs.Answers.{GivesList}
 use Rattle.rank_cursor.specs.Ranking.{rank_meaning}
 use Rattle.rank_cursor.proofs.RankedRows.{gives_ranked}
 use Rattle.near_cursor.specs.NearLaws.{IsLawfulNearOver}
-use Rattle.rtree_rows.specs.Listing.{ListsRows}
+use Rattle.r_tree.specs.Listing.{ListsRows}
 use Rattle.near_cursor.specs.NearRanking.{near_meaning}
 use Rattle.near_cursor.proofs.NearBounds.{bound_gaps}
 use Rattle.near_cursor.proofs.NearCounted.{polygon_found, polygons_counted, nothing_within}

@@ -22,8 +22,8 @@ use Rattle.r_tree.specs.declared.node.TreeNode.{TreeNode}
 use Rattle.r_tree.specs.declared.node.TreeNode.TheVariants as of_tree
 use Rattle.r_tree.specs.declared.tree.RTree.{RTree}
 use Rattle.r_tree.specs.Entry.{Member}
-use Rattle.r_tree.specs.Nodes.{Shows, IsNodeOf}
-use Rattle.r_tree.specs.Page.{NodeView, entries_of}
+use Rattle.r_tree.specs.Nodes.{ShowsNode, IsTreeNode}
+use Rattle.r_tree.specs.Page.{NodeView, node_entries}
 use Rattle.r_tree.specs.Page as view
 use Rattle.r_tree.specs.Tree.{node_at, entries_at, is_inner}
 use Rattle.pmr_tree.specs.Laws.{AreInPlane}
@@ -39,8 +39,8 @@ use Rattle.best_first.proofs.Alikes.{alike_nodes}
 use Rattle.best_first.proofs.Gaps.{same_back}
 use Rattle.rank_cursor.specs.Cursor.{the_measure}
 use Rattle.rank_cursor.proofs.Elements.{in_map}
-use Rattle.rank_cursor.proofs.RankingLaws.{is_shape}
-use Rattle.rank_cursor.proofs.Searching.{by_told, at_told}
+use Rattle.rank_cursor.proofs.RankedItems.{is_shape}
+use Rattle.rank_cursor.proofs.SearchPages.{by_told, at_told}
 use Rattle.near_cursor.specs.TreeNodes.{PageNode, root_node, is_tree_node}
 use Rattle.near_cursor.specs.NearRanking.{near_row, member_found, branch_found, entries_found, node_found, near_finds, near_meaning, near_visit, near_weight}
 use Rattle.near_cursor.proofs.NearHierarchy.{member_nodes, less_one, at_node, root_is, under_at, finds_at, rough_listed}
@@ -108,8 +108,8 @@ inner_view (view.node inner es) = inner
 inner_view view.no_node = false
 
 -- what is read of a node that stands at a level gives what its entries give there
-found_level : (goal : Goal) (v : NodeView) (k : ℕ) → v ≡ view.node (is_inner k) (entries_of v) → (found : TreeNode) → Shows v found
-    → node_found goal (suc k) found ≡ entries_found goal k (entries_of v)
+found_level : (goal : Goal) (v : NodeView) (k : ℕ) → v ≡ view.node (is_inner k) (node_entries v) → (found : TreeNode) → ShowsNode v found
+    → node_found goal (suc k) found ≡ entries_found goal k (node_entries v)
 found_level goal v zero is (of_tree.Leaf members) h = ap (map (λ (i : Member). member_found goal i.0 i.1)) h.1
 found_level goal v zero is (of_tree.Inner branches) h = absurd (true≢false (ap inner_view (sym h.0 ∙ is)))
 found_level goal v (suc k) is (of_tree.Leaf members) h = absurd (true≢false (ap inner_view (sym is ∙ h.0)))
@@ -169,13 +169,13 @@ module _ (rows : PageMap → List (ℕ × Shape)) (Stands : PageMap → Type 0) 
   asked d node gap asks told = at_told d (λ p. MeetsLaws (m p) × IsNode (m p) node × IsSameGap gap ((m p).gap node)) asks told
 
   -- the page is one of the tree's
-  pub asked_node : (d : DeskState) (node : PageNode) (gap : Frac) → Asks d node gap → IsTold d.pool → IsNodeOf (pages_in d.pool) t node.0
+  pub asked_node : (d : DeskState) (node : PageNode) (gap : Frac) → Asks d node gap → IsTold d.pool → IsTreeNode (pages_in d.pool) t node.0
   asked_node d node gap asks told =
       let (laws, at, near) = asked d node gap asks told in
       record { tree = laws.readable.0.tree; own = (stands_at d.pool.pages laws node at).page }
 
   -- what the node gives as it is read is what the ranking finds
-  found_is : (p : PageMap) (laws : MeetsLaws (m p)) (node : PageNode) → IsNode (m p) node → (found : TreeNode) → Shows (node_at (store_of p) node.0) found
+  found_is : (p : PageMap) (laws : MeetsLaws (m p)) (node : PageNode) → IsNode (m p) node → (found : TreeNode) → ShowsNode (node_at (store_of p) node.0) found
       → node_found goal node.1 found ≡ near_finds (store_of p) t goal node
   found_is p laws node at found shows =
       let f = stands_at p laws node at in
@@ -183,7 +183,7 @@ module _ (rows : PageMap → List (ℕ × Shape)) (Stands : PageMap → Type 0) 
       ∙ (found_level goal (node_at (store_of p) node.0) f.above f.stands.0.is found shows ∙ sym (finds_there p laws node at))
 
   -- so an accepted expansion finds it
-  pub found_ok : (d : DeskState) (node : PageNode) (gap : Frac) → Asks d node gap → (found : TreeNode) → (IsTold d.pool → Shows (node_at (pages_in d.pool) node.0) found)
+  pub found_ok : (d : DeskState) (node : PageNode) (gap : Frac) → Asks d node gap → (found : TreeNode) → (IsTold d.pool → ShowsNode (node_at (pages_in d.pool) node.0) found)
       → (old new : List (Item PageNode)) → FindsAlike (node_found goal node.1 found) old new → IfSome (told_pages d) (λ p. FindsAlike ((m p).finds node) old new)
   found_ok d node gap asks found shows old new h =
       by_told d (λ p. FindsAlike ((m p).finds node) old new) (λ told.

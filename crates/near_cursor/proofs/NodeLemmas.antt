@@ -10,7 +10,7 @@ use Rattle.code_btree.proofs.Lists.{times-append, same_self, live_small}
 use Rattle.r_tree.specs.declared.entry.NodeEntry.{NodeEntry}
 use Rattle.r_tree.specs.declared.tree.RTree.{RTree}
 use Rattle.r_tree.specs.Entry.{Member, members_of, bound_of}
-use Rattle.r_tree.specs.Tree.{entries_at, members_in, members_under, pages_below, pages_under, Encloses, IsNodeAt, StandsUnder, StandsAt, IsRootAt}
+use Rattle.r_tree.specs.Tree.{entries_at, members_in, members_under, pages_below, pages_under, Encloses, IsNodeAt, StandsUnder, NodeStandsAt, IsRootAt}
 use Rattle.best_first.proofs.Bags.{here, there, cons_cases, none, only, in_flat_map, from_flat_map}
 use Rattle.rank_cursor.proofs.Elements.{map_append}
 use Rattle.rank_cursor.proofs.Places.{both_true, true_both, found_is, some_found}
@@ -29,7 +29,7 @@ each_of P (y ∷ ys) x h at = ⊎_elim (λ e. subst P e h.0) (λ t. each_of P ys
 pub record NodeStands (m : Store) (level n : ℕ) (node : PageNode) : Type 0 where
   pub above : ℕ
   pub height : node.1 ≡ suc above
-  pub stands : StandsAt m above node.0
+  pub stands : NodeStandsAt m above node.0
   pub nodes : (x : PageNode) → Contains (nodes_under m above node.0) x → Contains (nodes_under m level n) x
   pub members : (i : Member) → Contains (members_under m above node.0) i → Contains (members_under m level n) i
   pub page : 1 ≤ times node.0 (pages_under m level n)
@@ -38,13 +38,13 @@ pub record NodeStands (m : Store) (level n : ℕ) (node : PageNode) : Type 0 whe
 record StandsBelow (m : Store) (level : ℕ) (es : List NodeEntry) (node : PageNode) : Type 0 where
   pub above : ℕ
   pub height : node.1 ≡ suc above
-  pub stands : StandsAt m above node.0
+  pub stands : NodeStandsAt m above node.0
   pub nodes : (x : PageNode) → Contains (nodes_under m above node.0) x → Contains (nodes_below m (suc level) es) x
   pub members : (i : Member) → Contains (members_under m above node.0) i → Contains (members_in m (suc level) es) i
   pub page : 1 ≤ times node.0 (pages_below m (suc level) es)
 
 -- the whole tree stands at its top
-top_stands : (m : Store) (l n : ℕ) → StandsAt m l n → NodeStands m l n (n, suc l)
+top_stands : (m : Store) (l n : ℕ) → NodeStandsAt m l n → NodeStands m l n (n, suc l)
 top_stands m l n s = record {
   above = l;
   height = refl;
@@ -55,7 +55,7 @@ top_stands m l n s = record {
 }
 
 -- at each node under the entries of a node stands a tree
-row_stands : (m : Store) (l : ℕ) (below : (c : ℕ) (x : PageNode) → StandsAt m l c → Contains (nodes_under m l c) x → NodeStands m l c x) (es : List NodeEntry) → StandsUnder m (suc l) es
+row_stands : (m : Store) (l : ℕ) (below : (c : ℕ) (x : PageNode) → NodeStandsAt m l c → Contains (nodes_under m l c) x → NodeStands m l c x) (es : List NodeEntry) → StandsUnder m (suc l) es
     → (node : PageNode) → Contains (nodes_below m (suc l) es) node → StandsBelow m l es node
 row_stands m l below [] s node h = absurd (none node h)
 row_stands m l below (e ∷ es) s node h =
@@ -79,7 +79,7 @@ row_stands m l below (e ∷ es) s node h =
     (Contains-append_cases (nodes_under m l e.child) (nodes_below m (suc l) es) node h)
 
 -- at each node of a tree stands a tree
-pub node_stands : (m : Store) (l n : ℕ) (node : PageNode) → StandsAt m l n → Contains (nodes_under m l n) node → NodeStands m l n node
+pub node_stands : (m : Store) (l n : ℕ) (node : PageNode) → NodeStandsAt m l n → Contains (nodes_under m l n) node → NodeStands m l n node
 node_stands m zero n node s h = subst (NodeStands m zero n) (only (n, suc zero) node h) (top_stands m zero n s)
 node_stands m (suc l) n node s h =
     ⊎_elim (λ e. subst (NodeStands m (suc l) n) e (top_stands m (suc l) n s))
@@ -101,7 +101,7 @@ child_node m l n e at =
     (here (e.child, suc l) (nodes_below m l (entries_at m e.child))))
 
 -- an entry of an inner node is the least rectangle round its child
-pub child_leads : (m : Store) (l n : ℕ) (e : NodeEntry) → StandsAt m (suc l) n → Contains (entries_at m n) e → Encloses m e
+pub child_leads : (m : Store) (l n : ℕ) (e : NodeEntry) → NodeStandsAt m (suc l) n → Contains (entries_at m n) e → Encloses m e
 child_leads m l n e s at =
     (each_of (λ (x : NodeEntry). Encloses m x × ((50 ≤ length (entries_at m x.child)) × (IsNodeAt m l x.child × StandsUnder m l (entries_at m x.child)))) (entries_at m n) e s.1 at).0
 

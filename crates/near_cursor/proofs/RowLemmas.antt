@@ -37,7 +37,7 @@ use Rattle.rank_cursor.specs.Ranking.{Ranking, HaveOwnIds, IsSound}
 use Rattle.rank_cursor.proofs.Elements.{in_map, from_map}
 use Rattle.rank_cursor.proofs.Fitted.{closed_shape}
 use Rattle.near_cursor.specs.TreeNodes.{PageNode}
-use Rattle.rtree_rows.specs.Listing.{member_figure, ListsRows}
+use Rattle.r_tree.specs.Listing.{member_figure, ListsRows}
 use Rattle.near_cursor.specs.NearRanking.{near_row, member_found}
 
 -- ---- rows in the plane

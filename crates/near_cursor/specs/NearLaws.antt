@@ -24,11 +24,11 @@ use Rattle.best_first.specs.Visits.{Reached}
 use Rattle.best_first.specs.declared.item.Item.{Item}
 use Rattle.best_first.specs.declared.item.Item.TheVariants as item
 use Rattle.best_first.specs.Reach.{IsSameGap}
-use Rattle.zero_search.specs.RowsAtZero.{zero_gap}
+use Rattle.best_first.specs.RowsAtZero.{zero_gap}
 use Rattle.rank_cursor.specs.Answers.{GivesList, IsTestOf}
 use Rattle.rank_cursor.specs.Cursor.{goal_gap}
 use Rattle.near_cursor.specs.TreeNodes.{PageNode}
-use Rattle.rtree_rows.specs.Listing.{ListsRows}
+use Rattle.r_tree.specs.Listing.{ListsRows}
 use Rattle.near_cursor.specs.NearRanking.{near_meaning}
 
 -- A search that has taken just what lies within a reach has fetched as many geometries as polygons have rectangles within it.

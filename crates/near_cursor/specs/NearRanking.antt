@@ -22,12 +22,12 @@ use Rattle.r_tree.specs.Entry.{members_of}
 use Rattle.r_tree.specs.Nodes.{branches_of}
 use Rattle.r_tree.specs.Tree.{entries_at}
 use Rattle.pmr_tree.specs.Quadtree.{store_of}
-use Rattle.rtree_rows.specs.Listing.{ListsRows}
+use Rattle.r_tree.specs.Listing.{ListsRows}
 use Rattle.best_first.specs.Hierarchy.{Meaning}
 use Rattle.best_first.specs.declared.hit.Hit.{Hit}
 use Rattle.best_first.specs.declared.item.Item.{Item}
 use Rattle.best_first.specs.declared.item.Item.TheVariants as item
-use Rattle.zero_search.specs.RowsAtZero.{zero_gap}
+use Rattle.best_first.specs.RowsAtZero.{zero_gap}
 use Rattle.rank_cursor.specs.Cursor.{goal_gap}
 use Rattle.near_cursor.specs.TreeNodes.{PageNode, nodes_under, root_node, is_tree_node, node_bound}
 

@@ -4,7 +4,7 @@ ghost use Rattle.page_pool.specs.Causes.{HasPageCause};
 ghost use Rattle.page_pool.specs.Pool.{IsTold};
 ghost use Rattle.page_pool.specs.Reads.{IsRead};
 ghost use Rattle.code_btree.specs.Tree.{pages_in};
-ghost use Rattle.r_tree.specs.Nodes.{Shows, IsNodeOf};
+ghost use Rattle.r_tree.specs.Nodes.{ShowsNode, IsTreeNode};
 ghost use Rattle.r_tree.specs.Tree.{node_at};
 ghost use Rattle.pmr_tree.specs.Calls.{GetsSome, NotesVisit};
 
@@ -21,9 +21,9 @@ pub fn visit_node<D: Disk>(
     desk: &mut Desk<D>,
     page: u64,
 ) -> Result<TreeNode, PageFault>
-    requires { IsTold desk.old.pool → IsNodeOf (pages_in desk.old.pool) tree.now page }
+    requires { IsTold desk.old.pool → IsTreeNode (pages_in desk.old.pool) tree.now page }
     ensures noted { NotesVisit (visit.Tree tree.now.number page) desk.old desk.new result }
-    ensures shows { IfOk result (λ found. IsTold desk.old.pool → Shows (node_at (pages_in desk.old.pool) page) found) }
+    ensures shows { IfOk result (λ found. IsTold desk.old.pool → ShowsNode (node_at (pages_in desk.old.pool) page) found) }
     ensures read { IsRead desk.old.pool desk.new.pool }
     ensures cause { HasPageCause desk.old.pool desk.new.pool result }
     ensures up { desk.old.pool.gets ≤ desk.new.pool.gets }

@@ -5,8 +5,8 @@ use Rattle.output_text.specs.Writing.{Writes, WritesPrefix}
 use Rattle.page_pool.specs.Pool.{StampMap}
 use Rattle.page_pool.specs.Pool.{PoolState}
 use Rattle.page_pool.specs.Reads.{IsRead}
-use Rattle.plan_cursor.specs.declared.cursor.RowCursor.{RowCursor}
-use Rattle.plan_rows.specs.Rows.{plan_measure}
+use Rattle.plan_iterator.specs.declared.cursor.RowCursor.{RowCursor}
+use Rattle.plan_iterator.specs.Rows.{plan_measure}
 use Rattle.row_output.proofs.StepsAllowed.{steps_allowed}
 use Rattle.sand_base.specs.declared.refusal.Refusal.{Refusal}
 use Rattle.sand_base.specs.declared.refusal.Refusal.TheVariants as why
@@ -26,7 +26,7 @@ use Rattle.sand_base.specs.Streams.{Stays}
 use Rattle.statement_exec.proofs.Texts.{breaks_with, writes_none, writes_then_stays}
 use Rattle.statement_exec.specs.Deciding.{ComesBehind}
 use Rattle.statement_exec.specs.Ending.{PagesHaveCause, WritesUpTo, is_refusal, refused_line}
-use Rattle.statement_exec.specs.LeafLines.{state_of}
+use Rattle.statement_exec.specs.LeafLines.{state_beside}
 use Rattle.statement_exec.specs.Moment.{beside, rises_between}
 use Rattle.statement_exec.specs.Printing.{PrintsSome, WritesOf}
 use Rattle.statement_exec.specs.declared.reply.Reply.TheVariants as reply
@@ -73,10 +73,10 @@ module _ (catalog : CatalogView) (cs : List Cursor) (old new : PoolState) (read 
       early_decides catalog cs cs old new files files shelf shelf (Next name count) refl why.UnknownCursor (λ setting. rw is refl),
     ),
     λ told disk few setting gap s.
-        let fails : early setting (state_of catalog old.pages cs) (Next name count) ≡ Some why.UnknownCursor = rw is refl in
-        outcome_early setting (rises_between (beside cs catalog old files shelf) (beside cs catalog new files shelf)) (state_of catalog old.pages cs) (Next name count)
-        (Refused why.UnknownCursor ∷ []) (state_of catalog new.pages cs)
-        why.UnknownCursor fails tt (refl, ap (λ m. state_of catalog m cs) read.pages),
+        let fails : early setting (state_beside catalog old.pages cs) (Next name count) ≡ Some why.UnknownCursor = rw is refl in
+        outcome_early setting (rises_between (beside cs catalog old files shelf) (beside cs catalog new files shelf)) (state_beside catalog old.pages cs) (Next name count)
+        (Refused why.UnknownCursor ∷ []) (state_beside catalog new.pages cs)
+        why.UnknownCursor fails tt (refl, ap (λ m. state_beside catalog m cs) read.pages),
   )
 
   -- steps of the cursor of the name, behind which memory may be refused
@@ -91,13 +91,14 @@ module _ (catalog : CatalogView) (cs : List Cursor) (old new : PoolState) (read 
     ),
     λ told disk few setting gap s.
         let cs' : List Cursor = replaced name after cs in
-        let passes : early setting (state_of catalog old.pages cs) (Next name count) ≡ None = rw is refl in
-        let may : Refusal → Type 0 = IsLicensed setting (rises_between (beside cs catalog old files shelf) (beside cs' catalog new files shelf)) (state_of catalog old.pages cs) (Next name count) in
+        let passes : early setting (state_beside catalog old.pages cs) (Next name count) ≡ None = rw is refl in
+        let may : Refusal → Type 0 = IsLicensed setting (rises_between (beside cs catalog old files shelf) (beside cs' catalog new files shelf))
+        (state_beside catalog old.pages cs) (Next name count) in
         let made : Steps plan_measure may count c lines after = steps_allowed plan_measure IsMemory may (λ r k. subst may (sym k) tt) count c lines after steps in
         let measured : Steps setting.gap may count c lines after = subst (λ (g : Measure). Steps g may count c lines after) (sym gap) made in
-        outcome_done setting (rises_between (beside cs catalog old files shelf) (beside cs' catalog new files shelf)) (state_of catalog old.pages cs)
-        (Next name count) lines (state_of catalog new.pages cs')
-        passes refl (c, is, (after, measured, ap (λ m. state_of catalog m cs') read.pages)),
+        outcome_done setting (rises_between (beside cs catalog old files shelf) (beside cs' catalog new files shelf)) (state_beside catalog old.pages cs)
+        (Next name count) lines (state_beside catalog new.pages cs')
+        passes refl (c, is, (after, measured, ap (λ m. state_beside catalog m cs') read.pages)),
   )
 
   -- a prefix of the lines of some steps is one of an outcome

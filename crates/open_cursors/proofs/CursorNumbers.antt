@@ -1,8 +1,8 @@
 -- The numbers of the cursor of a name.
 use Rattle.std.proofs.Common.{◌≡◌, ℕ, List, get_or, Option, Some, None, refl, sym, subst}
 use Rattle.page_pool.specs.Pool.{StampMap}
-use Rattle.plan_cursor.specs.Standing.{AreStats}
-use Rattle.plan_rows.specs.declared.stats.Stats.{Stats}
+use Rattle.plan_iterator.specs.Standing.{AreStats}
+use Rattle.plan_iterator.specs.declared.stats.Stats.{Stats}
 use Rattle.sand_model.specs.Cursor.{Cursor}
 use Rattle.sand_model.specs.Database.{same_name}
 use Rattle.open_cursors.specs.OpenCursors.{Places, StandAll, HaveOwnNames, NumbersOf, named}

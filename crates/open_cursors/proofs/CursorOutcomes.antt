@@ -3,7 +3,7 @@ use Rattle.std.proofs.Common.{◌≡◌, ℕ, ◌<◌, List, [], ◌∷◌, ◌+
 use Rattle.std.specs.Prelude.{Ok, Err, ⊤, is_some}
 use Rattle.page_pool.specs.Pool.{PoolState, IsTold}
 use Rattle.page_pool.specs.Reads.{IsRead}
-use Rattle.plan_rows.specs.Rows.{plan_measure}
+use Rattle.plan_iterator.specs.Rows.{plan_measure}
 use Rattle.row_output.proofs.StepsAllowed.{steps_allowed}
 use Rattle.sand_base.specs.Faults.{last_count}
 use Rattle.sand_base.specs.Shelf.{Files}
@@ -23,7 +23,7 @@ use Rattle.statement_exec.proofs.Outcomes.{outcome_done, outcome_early}
 use Rattle.statement_exec.proofs.Refusals.{caused, rose}
 use Rattle.statement_exec.specs.Deciding.{ComesBehind}
 use Rattle.statement_exec.specs.Ending.{IsCausedByPages, PagesHaveCause}
-use Rattle.statement_exec.specs.LeafLines.{state_of}
+use Rattle.statement_exec.specs.LeafLines.{state_beside}
 use Rattle.statement_exec.specs.Moment.{beside, rises_between}
 use Rattle.open_cursors.proofs.DecidedCursors.{pages_come, early_decides, passing_decides, close_decides, open_decides}
 use Rattle.statement_exec.proofs.CountedRows.{steps_up_to}
@@ -36,8 +36,8 @@ use Rattle.open_cursors.specs.Steps.{GivesSteps, IsOfPages}
 module _ (catalog : CatalogView) (cs : List Cursor) (old new : PoolState) (read : IsRead old new) (name : List ℕ) (count : ℕ) where
   -- the refusal of a page is licensed
   licensed : (setting : Setting) (files : Option Files) (shelf : ℕ) (cs' : List Cursor) (w : Refusal) → IsOfPages (Some w) → IsCausedByPages old new w → IsTold old → new.disk.faults < last_count
-      → early setting (state_of catalog old.pages cs) (Next name count) ≡ None
-      → IsLicensed setting (rises_between (beside cs catalog old files shelf) (beside cs' catalog new files shelf)) (state_of catalog old.pages cs) (Next name count) w
+      → early setting (state_beside catalog old.pages cs) (Next name count) ≡ None
+      → IsLicensed setting (rises_between (beside cs catalog old files shelf) (beside cs' catalog new files shelf)) (state_beside catalog old.pages cs) (Next name count) w
   licensed setting files shelf cs' why.Memory o c t l e = tt
   licensed setting files shelf cs' why.Device o c t l e = ((refl, e), rose old.disk.faults new.disk.faults c.counted l)
   licensed setting files shelf cs' (why.Damaged n kept read') o c t l e = absurd (true≢false (sym (read.told ∙ t) ∙ c.damaged.untold))
@@ -51,11 +51,11 @@ module _ (catalog : CatalogView) (cs : List Cursor) (old new : PoolState) (read 
 
   of_end : (setting : Setting) (files : Option Files) (shelf : ℕ) (cs' : List Cursor) (end : Option Refusal) → IsOfPages end
       → PagesHaveCause {E = Failed} old new (Ok end) → IsTold old → new.disk.faults < last_count
-      → early setting (state_of catalog old.pages cs) (Next name count) ≡ None → (r : Refusal) → end ≡ Some r
-      → IsLicensed setting (rises_between (beside cs catalog old files shelf) (beside cs' catalog new files shelf)) (state_of catalog old.pages cs) (Next name count) r
+      → early setting (state_beside catalog old.pages cs) (Next name count) ≡ None → (r : Refusal) → end ≡ Some r
+      → IsLicensed setting (rises_between (beside cs catalog old files shelf) (beside cs' catalog new files shelf)) (state_beside catalog old.pages cs) (Next name count) r
   of_end setting files shelf cs' None o c t l e r k = absurd (true≢false (sym (ap (λ (x : Option Refusal). is_some x) k)))
   of_end setting files shelf cs' (Some w) o c t l e r k =
-      subst (λ (x : Refusal). IsLicensed setting (rises_between (beside cs catalog old files shelf) (beside cs' catalog new files shelf)) (state_of catalog old.pages cs) (Next name count) x)
+      subst (λ (x : Refusal). IsLicensed setting (rises_between (beside cs catalog old files shelf) (beside cs' catalog new files shelf)) (state_beside catalog old.pages cs) (Next name count) x)
       (some_is w r k)
       (licensed setting files shelf cs' w o c t l e)
 
@@ -77,14 +77,15 @@ module _ (catalog : CatalogView) (cs : List Cursor) (old new : PoolState) (read 
     ),
     λ told disk few setting gap s.
         let cs' : List Cursor = replaced name after cs in
-        let passes : early setting (state_of catalog old.pages cs) (Next name count) ≡ None = rw is refl in
-        let may : Refusal → Type 0 = IsLicensed setting (rises_between (beside cs catalog old files shelf) (beside cs' catalog new files shelf)) (state_of catalog old.pages cs) (Next name count) in
+        let passes : early setting (state_beside catalog old.pages cs) (Next name count) ≡ None = rw is refl in
+        let may : Refusal → Type 0 = IsLicensed setting (rises_between (beside cs catalog old files shelf) (beside cs' catalog new files shelf))
+        (state_beside catalog old.pages cs) (Next name count) in
         let made : Steps plan_measure may count c lines after =
         steps_allowed plan_measure (λ r. end ≡ Some r) may (of_end setting files shelf cs' end o cause told disk passes) count c lines after steps.0 in
         let measured : Steps setting.gap may count c lines after = subst (λ (g : Measure). Steps g may count c lines after) (sym gap) made in
-        outcome_done setting (rises_between (beside cs catalog old files shelf) (beside cs' catalog new files shelf)) (state_of catalog old.pages cs)
-        (Next name count) lines (state_of catalog new.pages cs')
-        passes refl (c, is, (after, measured, ap (λ m. state_of catalog m cs') read.pages)),
+        outcome_done setting (rises_between (beside cs catalog old files shelf) (beside cs' catalog new files shelf)) (state_beside catalog old.pages cs)
+        (Next name count) lines (state_beside catalog new.pages cs')
+        passes refl (c, is, (after, measured, ap (λ m. state_beside catalog m cs') read.pages)),
   )
 
   -- no cursor has the name
@@ -95,9 +96,9 @@ module _ (catalog : CatalogView) (cs : List Cursor) (old new : PoolState) (read 
       early_decides catalog cs cs old old files files shelf shelf (Next name count) refl why.UnknownCursor (λ setting. rw is refl),
     ),
     λ told disk few setting gap s.
-        let fails : early setting (state_of catalog old.pages cs) (Next name count) ≡ Some why.UnknownCursor = rw is refl in
-        outcome_early setting (rises_between (beside cs catalog old files shelf) (beside cs catalog old files shelf)) (state_of catalog old.pages cs) (Next name count)
-        (Refused why.UnknownCursor ∷ []) (state_of catalog old.pages cs)
+        let fails : early setting (state_beside catalog old.pages cs) (Next name count) ≡ Some why.UnknownCursor = rw is refl in
+        outcome_early setting (rises_between (beside cs catalog old files shelf) (beside cs catalog old files shelf)) (state_beside catalog old.pages cs) (Next name count)
+        (Refused why.UnknownCursor ∷ []) (state_beside catalog old.pages cs)
         why.UnknownCursor fails tt (refl, refl),
   )
 
@@ -111,9 +112,10 @@ module _ (catalog : CatalogView) (cs : List Cursor) (pool : PoolState) (name : L
       close_decides catalog cs pool name files shelf (λ setting. rw is refl),
     ),
     λ told disk few setting gap s.
-        let passes : early setting (state_of catalog pool.pages cs) (CloseCursor name) ≡ None = rw is refl in
-        outcome_done setting (rises_between (beside cs catalog pool files shelf) (beside (closed name cs) catalog pool files shelf)) (state_of catalog pool.pages cs) (CloseCursor name) (Accepted ∷ [])
-        (state_of catalog pool.pages (closed name cs)) passes refl (refl, refl),
+        let passes : early setting (state_beside catalog pool.pages cs) (CloseCursor name) ≡ None = rw is refl in
+        outcome_done setting (rises_between (beside cs catalog pool files shelf) (beside (closed name cs) catalog pool files shelf)) (state_beside catalog pool.pages cs)
+        (CloseCursor name) (Accepted ∷ [])
+        (state_beside catalog pool.pages (closed name cs)) passes refl (refl, refl),
   )
 
   pub close_unknown : named cs name ≡ None → PerformsBeside (CloseCursor name) catalog pool pool cs cs (Refused why.UnknownCursor ∷ [])
@@ -123,14 +125,14 @@ module _ (catalog : CatalogView) (cs : List Cursor) (pool : PoolState) (name : L
       early_decides catalog cs cs pool pool files files shelf shelf (CloseCursor name) refl why.UnknownCursor (λ setting. rw is refl),
     ),
     λ told disk few setting gap s.
-        let fails : early setting (state_of catalog pool.pages cs) (CloseCursor name) ≡ Some why.UnknownCursor = rw is refl in
-        outcome_early setting (rises_between (beside cs catalog pool files shelf) (beside cs catalog pool files shelf)) (state_of catalog pool.pages cs)
-        (CloseCursor name) (Refused why.UnknownCursor ∷ []) (state_of catalog pool.pages cs)
+        let fails : early setting (state_beside catalog pool.pages cs) (CloseCursor name) ≡ Some why.UnknownCursor = rw is refl in
+        outcome_early setting (rises_between (beside cs catalog pool files shelf) (beside cs catalog pool files shelf)) (state_beside catalog pool.pages cs)
+        (CloseCursor name) (Refused why.UnknownCursor ∷ []) (state_beside catalog pool.pages cs)
         why.UnknownCursor fails tt (refl, refl),
   )
 
   -- a cursor is opened behind the others
-  pub open_performs : (p : Plan) → ((setting : Setting) → early setting (state_of catalog pool.pages cs) (Opens name p) ≡ None)
+  pub open_performs : (p : Plan) → ((setting : Setting) → early setting (state_beside catalog pool.pages cs) (Opens name p) ≡ None)
       → PerformsBeside (Opens name p) catalog pool pool cs (cs ++ new_cursor name p (database_in pool.pages catalog.relations) ∷ []) (Accepted ∷ [])
   open_performs p passes = λ files shelf. (
     (
@@ -139,7 +141,7 @@ module _ (catalog : CatalogView) (cs : List Cursor) (pool : PoolState) (name : L
     ),
     λ told disk few setting gap s.
         let all : List Cursor = cs ++ new_cursor name p (database_in pool.pages catalog.relations) ∷ [] in
-        outcome_done setting (rises_between (beside cs catalog pool files shelf) (beside all catalog pool files shelf)) (state_of catalog pool.pages cs) (Opens name p)
-        (Accepted ∷ []) (state_of catalog pool.pages all)
+        outcome_done setting (rises_between (beside cs catalog pool files shelf) (beside all catalog pool files shelf)) (state_beside catalog pool.pages cs) (Opens name p)
+        (Accepted ∷ []) (state_beside catalog pool.pages all)
         (passes setting) refl (refl, refl),
   )

@@ -36,8 +36,8 @@ use Rattle.sand_store.specs.declared.column.FileShapes.{FileShapes}
 use Rattle.z_code.specs.declared.block.Block.{Block}
 use Rattle.best_first.specs.declared.hit.Hit.{Hit}
 use Rattle.best_first.specs.declared.item.Item.{Item}
-use Rattle.rank_source.specs.Rankings.{by_code}
-use Rattle.plan_rows.specs.Rows.{plan_measure}
+use Rattle.plan_sources.specs.Rankings.{by_code}
+use Rattle.plan_iterator.specs.Rows.{plan_measure}
 use Rattle.statement_exec.proofs.CausedLines.{caused_behind, caused_inside, caused_plain, caused_refusal, caused_up_to, check_blames_none}
 use Rattle.statement_exec.proofs.Outcomes.{outcome_done, outcome_early}
 use Rattle.statement_exec.proofs.PlanChecks.{show_refuses}
@@ -49,7 +49,7 @@ use Rattle.statement_exec.proofs.CountedRows.{rows_so}
 use Rattle.statement_exec.specs.Causes.{AreCausedIn}
 use Rattle.statement_exec.specs.Deciding.{ComesBehind, PrintsRowsUpTo}
 use Rattle.statement_exec.specs.Ending.{IsCausedByPages, PagesHaveCause, WritesUpTo, is_refusal, refused_line}
-use Rattle.statement_exec.specs.LeafLines.{IsOfCheck, state_of}
+use Rattle.statement_exec.specs.LeafLines.{IsOfCheck, state_beside}
 use Rattle.statement_exec.specs.Moment.{beside, rises_between}
 use Rattle.statement_exec.specs.Printing.{PrintsSome, WritesOf}
 use Rattle.open_cursors.proofs.CausedSteps.{pages_no_file}
@@ -64,7 +64,7 @@ module _ (catalog : CatalogView) (count : ℕ) (column : Column) (goal : Point) 
   of_check : (setting : Setting) (pages : PageMap) (w : Refusal) → check_column (database_in pages catalog.relations) column is_spatial ≡ Some w → IsOfCheck w
   of_check setting pages w fails =
       let ranking : Plan = plan.Rank column (shape.Point goal) None in
-      show_refuses setting (state_of catalog pages cs) count ranking w (ap (λ (o : Option Refusal). first_refusal (o ∷ check_depth ranking ∷ [])) fails)
+      show_refuses setting (state_beside catalog pages cs) count ranking w (ap (λ (o : Option Refusal). first_refusal (o ∷ check_depth ranking ∷ [])) fails)
 
   module _ (old new : PoolState) (read : IsRead old new) where
     -- some setting of the catalog over these pages
@@ -72,7 +72,7 @@ module _ (catalog : CatalogView) (count : ℕ) (column : Column) (goal : Point) 
     any_setting = some_setting (record { catalog = catalog; pool = old })
 
     abbrev May : Option Files → ℕ → Setting → Refusal → Type 0
-    May files shelf setting = IsLicensed setting (rises_between (beside cs catalog old files shelf) (beside cs catalog new files shelf)) (state_of catalog old.pages cs) (Far count column goal)
+    May files shelf setting = IsLicensed setting (rises_between (beside cs catalog old files shelf) (beside cs catalog new files shelf)) (state_beside catalog old.pages cs) (Far count column goal)
 
     -- a check refuses
     far_refused : (w : Refusal) → check_column (database_in old.pages catalog.relations) column is_spatial ≡ Some w → PerformsBeside (Far count column goal) catalog old new cs cs (Refused w ∷ [])
@@ -82,10 +82,10 @@ module _ (catalog : CatalogView) (count : ℕ) (column : Column) (goal : Point) 
         early_decides catalog cs cs old new files files shelf shelf (Far count column goal) refl w (λ setting. fails),
       ),
       λ told disk few setting gap s.
-          outcome_early setting (rises_between (beside cs catalog old files shelf) (beside cs catalog new files shelf)) (state_of catalog old.pages cs)
-          (Far count column goal) (Refused w ∷ []) (state_of catalog new.pages cs)
+          outcome_early setting (rises_between (beside cs catalog old files shelf) (beside cs catalog new files shelf)) (state_beside catalog old.pages cs)
+          (Far count column goal) (Refused w ∷ []) (state_beside catalog new.pages cs)
           w fails (caused (rises_between (beside cs catalog old files shelf) (beside cs catalog new files shelf)) w (of_check setting old.pages w fails))
-          (refl, ap (λ m. state_of catalog m cs) read.pages),
+          (refl, ap (λ m. state_beside catalog m cs) read.pages),
     )
 
     module _ (passes : check_column (database_in old.pages catalog.relations) column is_spatial ≡ None) where
@@ -106,9 +106,9 @@ module _ (catalog : CatalogView) (count : ℕ) (column : Column) (goal : Point) 
             let measured : PrintsFirst (May files shelf setting) (far_lines setting.gap (database_in old.pages catalog.relations) count column goal) lines =
             subst (λ (g : Measure). PrintsFirst (May files shelf setting) (far_lines g (database_in old.pages catalog.relations) count column goal) lines) (sym gap)
             (prints files shelf told disk setting) in
-            outcome_done setting (rises_between (beside cs catalog old files shelf) (beside cs catalog new files shelf)) (state_of catalog old.pages cs)
-            (Far count column goal) lines (state_of catalog new.pages cs)
-            passes refl (measured, ap (λ m. state_of catalog m cs) read.pages),
+            outcome_done setting (rises_between (beside cs catalog old files shelf) (beside cs catalog new files shelf)) (state_beside catalog old.pages cs)
+            (Far count column goal) lines (state_beside catalog new.pages cs)
+            passes refl (measured, ap (λ m. state_beside catalog m cs) read.pages),
       )
 
       -- a fault of a page is licensed

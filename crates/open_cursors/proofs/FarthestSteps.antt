@@ -34,14 +34,14 @@ use Rattle.far_cursor.specs.FarCursor.{shapes_in, FarStands, GivesFarthest}
 use Rattle.far_cursor.specs.declared.far_tree.FarTree.{FarTree}
 use Rattle.rank_cursor.proofs.Elements.{from_map}
 use Rattle.rank_cursor.proofs.SortedRows.{from_sorted, at_is}
-use Rattle.rank_cursor.specs.Answers.{StandsAt}
-use Rattle.rank_source.specs.Rankings.{by_code}
-use Rattle.rank_source.proofs.Shorter.{element_map}
+use Rattle.rank_cursor.specs.Answers.{RowStandsAt}
+use Rattle.plan_sources.specs.Rankings.{by_code}
+use Rattle.plan_sources.proofs.Shorter.{element_map}
 use Rattle.ring_geom.proofs.Measured.{measured}
-use Rattle.plan_rows.proofs.LowestFractions.{lowest_same, lowest_one}
-use Rattle.plan_rows.proofs.PlanMeasure.{plan_measure_is}
-use Rattle.plan_rows.specs.Lowest.{lowest_of}
-use Rattle.plan_rows.specs.Rows.{plan_measure, row_of}
+use Rattle.plan_iterator.proofs.LowestFractions.{lowest_same, lowest_one}
+use Rattle.plan_iterator.proofs.PlanMeasure.{plan_measure_is}
+use Rattle.plan_iterator.specs.Lowest.{lowest_of}
+use Rattle.plan_iterator.specs.Rows.{plan_measure, row_of}
 use Rattle.row_output.proofs.CountedLines.{row_behind}
 use Rattle.sand_model.specs.PlainLines.{AreLinesOfRows, IsRowLine}
 use Rattle.statement_exec.proofs.CountedRows.{accepted_behind, behind_rows, rows_accepted}
@@ -86,7 +86,7 @@ lowest_far p shapes found at hit same =
     sym gap ∙ lowest_one g hit.gap (same_trans g (lowest_of g) hit.gap (same_back (lowest_of g) g (lowest_same g)) (subst (λ x. IsSameGap x hit.gap) (sym gap) same))
 
 -- the row that is given stands in the list as it is printed
-row_stands : (tree : FarTree FileShapes) (pages : PageMap) (n : ℕ) (hit : Hit) → StandsAt (far_found tree pages) n hit
+row_stands : (tree : FarTree FileShapes) (pages : PageMap) (n : ℕ) (hit : Hit) → RowStandsAt (far_found tree pages) n hit
     → element (map single_row (far_found tree pages)) n ≡ Some (row_of (answer_of hit))
 row_stands tree pages n hit (found, here, same) =
     let gap : found.gap ≡ lowest_of hit.gap = lowest_far tree.goal (shapes_in tree.shapes pages) found (at_is (far_found tree pages) n found here) hit same.0 in
@@ -136,7 +136,8 @@ module _ (told : Bool) (pages : PageMap) (tree : FarTree FileShapes) (count n : 
   rest k = first_lines (count - k) (drop k (map single_row (far_found tree pages)))
 
   -- the row that is given is the next one
-  next_row : (hit : Hit) → n < count → IsTrue told → StandsAt (far_found tree pages) n hit → first_found count (far_found tree pages) ≡ (so.lines ++ Row (row_of (answer_of hit)) ∷ []) ++ rest (suc n)
+  next_row : (hit : Hit) → n < count → IsTrue told → RowStandsAt (far_found tree pages) n hit
+      → first_found count (far_found tree pages) ≡ (so.lines ++ Row (row_of (answer_of hit)) ∷ []) ++ rest (suc n)
   next_row hit less t stands =
       let one : count - n ≡ suc (count - suc n) = omega (arith, less) in
       let here : rest n ≡ Row (row_of (answer_of hit)) ∷ rest (suc n) =
@@ -159,7 +160,7 @@ module _ (told : Bool) (pages : PageMap) (tree : FarTree FileShapes) (count n : 
     go : (answer : Result (Option Hit) PageFault) → IfSome (if told then Some pages else None) (GivesFarthest tree old new answer)
         → PrintsStep (plan_answer answer) (Ok GaveRow) b c → SoFar told pages tree count (suc n) new a c
     go (Ok (Some hit)) gives prints =
-        let at : IsTrue told → StandsAt (far_found tree pages) n hit × AreGivenFar (far_found tree pages) (suc n) new =
+        let at : IsTrue told → RowStandsAt (far_found tree pages) n hit × AreGivenFar (far_found tree pages) (suc n) new =
         λ t. told_is told pages (GivesFarthest tree old new (Ok (Some hit))) gives t plan_measure plan_measure_is n (so.given t) in
         record {
           lines = so.lines ++ Row (row_of (answer_of hit)) ∷ [];
@@ -203,7 +204,7 @@ module _ (told : Bool) (pages : PageMap) (tree : FarTree FileShapes) (count n : 
     go (Ok None) prints = absurd prints
 
   -- with one row more they are all, or memory may be refused behind them
-  row_counted : (hit : Hit) → n < count → (IsTrue told → StandsAt (far_found tree pages) n hit)
+  row_counted : (hit : Hit) → n < count → (IsTrue told → RowStandsAt (far_found tree pages) n hit)
       → AreWholeOrRefused (IsTrue told) count (first_found count (far_found tree pages)) (so.lines ++ Row (row_of (answer_of hit)) ∷ [])
   row_counted hit less stands = by_count (cases_lt (suc n) count) where
     of_rows : AreLinesOfRows (suc n) (so.lines ++ Row (row_of (answer_of hit)) ∷ [])

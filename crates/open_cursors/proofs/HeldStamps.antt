@@ -7,7 +7,7 @@ use Rattle.page_pool.specs.Commands.{SettlesStamps}
 use Rattle.page_pool.specs.Disk.{PageMap}
 use Rattle.page_pool.specs.Pool.{IsTold, PoolState, Shown, StampMap, shown_of}
 use Rattle.page_pool.specs.Stamps.{KeepsMap, LetsMapGo}
-use Rattle.plan_cursor.specs.declared.cursor.RowCursor.{RowCursor}
+use Rattle.plan_iterator.specs.declared.cursor.RowCursor.{RowCursor}
 use Rattle.sand_model.specs.Cursor.{Cursor}
 use Rattle.open_cursors.proofs.NamedCursors.{FirstAt}
 use Rattle.open_cursors.specs.OpenCursors.{AreHeld, AtStamp, HasNone, HaveStamps, IsHeld, OverPages, StandAll}

@@ -1,14 +1,14 @@
 -- Steps of a cursor: what they keep, and that memory may be refused behind them.
 use Rattle.std.proofs.Common.{◌≡◌, ◌⊎◌, ℕ, zero, suc, ◌+◌, ◌≤◌, Bool, List, [], ◌∷◌, ◌++◌, Option, None, Some, refl, sym, ◌∙◌, ap, subst, inl, inr, arith}
 use Rattle.page_pool.specs.Disk.{PageMap}
-use Rattle.plan_cursor.specs.Standing.{IsAt}
-use Rattle.plan_cursor.specs.declared.cursor.RowCursor.{RowCursor}
-use Rattle.plan_cursor.proofs.Counting.{row_given, end_given}
-use Rattle.plan_rows.proofs.CountedVisits.{at_most_itself}
-use Rattle.plan_rows.proofs.CursorSteps.{gives_none}
-use Rattle.plan_rows.specs.Rows.{plan_measure}
-use Rattle.plan_steps.specs.Following.{Taking}
-use Rattle.plan_steps.specs.Stages.{Standing}
+use Rattle.plan_iterator.specs.Standing.{IsAt}
+use Rattle.plan_iterator.specs.declared.cursor.RowCursor.{RowCursor}
+use Rattle.plan_iterator.proofs.Counting.{row_given, end_given}
+use Rattle.plan_iterator.proofs.CountedVisits.{at_most_itself}
+use Rattle.plan_iterator.proofs.CursorSteps.{gives_none}
+use Rattle.plan_iterator.specs.Rows.{plan_measure}
+use Rattle.plan_iterator.specs.Following.{Taking}
+use Rattle.plan_iterator.specs.Stages.{Standing}
 use Rattle.sand_base.specs.declared.refusal.Refusal.{Refusal}
 use Rattle.sand_base.specs.declared.refusal.Refusal.TheVariants as why
 use Rattle.sand_model.specs.Answer.{answer}

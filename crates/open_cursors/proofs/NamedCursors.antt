@@ -2,7 +2,7 @@
 use Rattle.std.proofs.Common.{◌≡◌, ℕ, zero, suc, ◌+◌, ◌<◌, ◌≤◌, Bool, true, false, not, cond, ltb, ◌||◌, List, [], ◌∷◌, ◌++◌, length, map, get_or, set, Option, Some}
 use Rattle.std.proofs.Common.{None, refl, sym, ◌∙◌, ap, subst, inl, inr, arith, true≢false}
 use Rattle.std.specs.Prelude.{is_some, Result, Ok, Err, IfSome}
-use Rattle.plan_rows.specs.Rows.{plan_measure}
+use Rattle.plan_iterator.specs.Rows.{plan_measure}
 use Rattle.sand_base.specs.declared.refusal.Refusal.{Refusal}
 use Rattle.sand_base.specs.declared.refusal.Refusal.TheVariants as why
 use Rattle.sand_base.specs.declared.source.Failed.{Failed}
@@ -18,7 +18,7 @@ use Rattle.sand_model.specs.Cursor.{Cursor, OutputLine, Steps, step_of}
 use Rattle.sand_model.specs.Database.{same_name, element}
 use Rattle.sand_model.specs.Kept.{has_same, has_twice}
 use Rattle.sand_model.specs.Outcome.{replaced}
-use Rattle.plan_cursor.specs.declared.cursor.RowCursor.{RowCursor}
+use Rattle.plan_iterator.specs.declared.cursor.RowCursor.{RowCursor}
 use Rattle.open_cursors.specs.OpenCursors.{Places, StandAll, HaveOwnNames, NextOf, named}
 use Rattle.open_cursors.specs.declared.open_cursor.OpenCursor.{OpenCursor}
 

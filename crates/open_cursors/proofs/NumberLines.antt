@@ -3,8 +3,8 @@ use Rattle.std.proofs.Common.{◌≡◌, ◌≤◌, ℕ, Bool, true, false, min,
 use Rattle.std.specs.Prelude.{Result, Err, IfOk, OnErr, is_some}
 use Rattle.output_text.specs.Writing.{Writes, WritesPrefix}
 use Rattle.page_pool.specs.Pool.{PoolState}
-use Rattle.plan_cursor.specs.Standing.{AreStats, counts_among}
-use Rattle.plan_rows.specs.declared.stats.Stats.{Stats}
+use Rattle.plan_iterator.specs.Standing.{AreStats, counts_among}
+use Rattle.plan_iterator.specs.declared.stats.Stats.{Stats}
 use Rattle.sand_base.specs.Faults.{last_count}
 use Rattle.sand_base.specs.declared.refusal.Refusal.TheVariants as why
 use Rattle.sand_base.specs.declared.source.Failed.{Failed}
@@ -17,7 +17,7 @@ use Rattle.sand_store.specs.Catalog.{CatalogView}
 use Rattle.statement_exec.proofs.CausedLines.{caused_inside, caused_plain}
 use Rattle.statement_exec.proofs.Outcomes.{outcome_done, outcome_early}
 use Rattle.sand_base.specs.Shelf.{Files}
-use Rattle.statement_exec.specs.LeafLines.{state_of}
+use Rattle.statement_exec.specs.LeafLines.{state_beside}
 use Rattle.statement_exec.specs.Moment.{beside, rises_between}
 use Rattle.statement_exec.specs.Performing.{IsDecided}
 use Rattle.open_cursors.proofs.DecidedCursors.{early_decides, passing_decides}
@@ -38,7 +38,7 @@ line_is c numbers are few =
 
 -- the line of some numbers, where no check refuses
 numbers_decide : (catalog : CatalogView) (cs : List Cursor) (pool : PoolState) (name : List ℕ) (files : Option Files) (shelf : ℕ)
-    → ((setting : Setting) → early setting (state_of catalog pool.pages cs) (StatsOf name) ≡ None)
+    → ((setting : Setting) → early setting (state_beside catalog pool.pages cs) (StatsOf name) ≡ None)
     → (line : OutputLine) (seen : Counts) (given : ℕ) → line ≡ StatsLine seen given → IsDecided (StatsOf name) (beside cs catalog pool files shelf) (beside cs catalog pool files shelf) (line ∷ [])
 numbers_decide catalog cs pool name files shelf passes line seen given is =
     passing_decides catalog cs cs pool pool files files shelf shelf (StatsOf name) refl (line ∷ []) passes (λ setting. (seen, given, ap (λ (l : OutputLine). l ∷ []) is)) refl
@@ -52,9 +52,10 @@ module _ (catalog : CatalogView) (cs : List Cursor) (pool : PoolState) (name : L
       numbers_decide catalog cs pool name files shelf (λ setting. rw is refl) (StatsLine c.counts c.given) c.counts c.given refl,
     ),
     λ told disk few setting gap s.
-        let passes : early setting (state_of catalog pool.pages cs) (StatsOf name) ≡ None = rw is refl in
-        outcome_done setting (rises_between (beside cs catalog pool files shelf) (beside cs catalog pool files shelf)) (state_of catalog pool.pages cs) (StatsOf name) (StatsLine c.counts c.given ∷ [])
-        (state_of catalog pool.pages cs) passes refl (c, is, (refl, refl)),
+        let passes : early setting (state_beside catalog pool.pages cs) (StatsOf name) ≡ None = rw is refl in
+        outcome_done setting (rises_between (beside cs catalog pool files shelf) (beside cs catalog pool files shelf)) (state_beside catalog pool.pages cs)
+        (StatsOf name) (StatsLine c.counts c.given ∷ [])
+        (state_beside catalog pool.pages cs) passes refl (c, is, (refl, refl)),
   )
 
   pub stats_unknown : named cs name ≡ None → PerformsBeside (StatsOf name) catalog pool pool cs cs (Refused why.UnknownCursor ∷ [])
@@ -64,9 +65,9 @@ module _ (catalog : CatalogView) (cs : List Cursor) (pool : PoolState) (name : L
       early_decides catalog cs cs pool pool files files shelf shelf (StatsOf name) refl why.UnknownCursor (λ setting. rw is refl),
     ),
     λ told disk few setting gap s.
-        let fails : early setting (state_of catalog pool.pages cs) (StatsOf name) ≡ Some why.UnknownCursor = rw is refl in
-        outcome_early setting (rises_between (beside cs catalog pool files shelf) (beside cs catalog pool files shelf)) (state_of catalog pool.pages cs) (StatsOf name)
-        (Refused why.UnknownCursor ∷ []) (state_of catalog pool.pages cs)
+        let fails : early setting (state_beside catalog pool.pages cs) (StatsOf name) ≡ Some why.UnknownCursor = rw is refl in
+        outcome_early setting (rises_between (beside cs catalog pool files shelf) (beside cs catalog pool files shelf)) (state_beside catalog pool.pages cs) (StatsOf name)
+        (Refused why.UnknownCursor ∷ []) (state_beside catalog pool.pages cs)
         why.UnknownCursor fails tt (refl, refl),
   )
 

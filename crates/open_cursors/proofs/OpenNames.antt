@@ -4,7 +4,7 @@ use Rattle.std.proofs.lemmas.List.{length-map}
 use Rattle.std.specs.List.{list_any}
 use Rattle.std.specs.Prelude.{remove, Result, Ok, ⊤}
 use Rattle.page_pool.specs.Pool.{StampMap}
-use Rattle.plan_cursor.specs.declared.cursor.RowCursor.{RowCursor}
+use Rattle.plan_iterator.specs.declared.cursor.RowCursor.{RowCursor}
 use Rattle.sand_base.specs.Streams.{Stays}
 use Rattle.sand_base.specs.declared.refusal.Refusal.{Refusal}
 use Rattle.sand_base.specs.declared.refusal.Refusal.TheVariants as why
@@ -13,7 +13,7 @@ use Rattle.sand_model.specs.Cursor.{Cursor}
 use Rattle.sand_model.specs.Database.{same_name}
 use Rattle.sand_model.specs.Outcome.{closed}
 use Rattle.sand_model.specs.StatementChecks.{is_there}
-use Rattle.open_cursors.specs.OpenCursors.{Places, StandAll, AreNamed, AnswersNext, ClosesOf, is_open, named, without}
+use Rattle.open_cursors.specs.OpenCursors.{Places, StandAll, AreNamed, AnswersNext, ClosesOf, is_open, named, cursors_without}
 use Rattle.open_cursors.specs.Steps.{AnswersPages}
 use Rattle.open_cursors.specs.declared.open_cursor.OpenCursor.{OpenCursor}
 use Rattle.open_cursors.proofs.NamedCursors.{FirstAt, NonePasses}
@@ -30,16 +30,16 @@ module _ {S T : Type 0} (name : List ℕ) where
   open_none (x ∷ xs) n = ap (λ (b : Bool). b || is_open xs name) n.0 ∙ open_none xs n.1
 
   -- without the first of the name
-  pub without_at : (xs : List (OpenCursor S T)) (at : ℕ) → FirstAt (λ x. same_name x.name name) xs at → remove xs at ≡ without name xs
+  pub without_at : (xs : List (OpenCursor S T)) (at : ℕ) → FirstAt (λ x. same_name x.name name) xs at → remove xs at ≡ cursors_without name xs
   without_at [] at f = absurd f
-  without_at (x ∷ xs) zero f = sym (ap (λ (b : Bool). cond b xs (x ∷ without name xs)) f)
+  without_at (x ∷ xs) zero f = sym (ap (λ (b : Bool). cond b xs (x ∷ cursors_without name xs)) f)
   without_at (x ∷ xs) (suc at) f =
-      ap (λ (ys : List (OpenCursor S T)). x ∷ ys) (without_at xs at f.1) ∙ sym (ap (λ (b : Bool). cond b xs (x ∷ without name xs)) f.0)
+      ap (λ (ys : List (OpenCursor S T)). x ∷ ys) (without_at xs at f.1) ∙ sym (ap (λ (b : Bool). cond b xs (x ∷ cursors_without name xs)) f.0)
 
-  pub without_none : (xs : List (OpenCursor S T)) → NonePasses (λ x. same_name x.name name) xs → xs ≡ without name xs
+  pub without_none : (xs : List (OpenCursor S T)) → NonePasses (λ x. same_name x.name name) xs → xs ≡ cursors_without name xs
   without_none [] n = refl
   without_none (x ∷ xs) n =
-      ap (λ (ys : List (OpenCursor S T)). x ∷ ys) (without_none xs n.1) ∙ sym (ap (λ (b : Bool). cond b xs (x ∷ without name xs)) n.0)
+      ap (λ (ys : List (OpenCursor S T)). x ∷ ys) (without_none xs n.1) ∙ sym (ap (λ (b : Bool). cond b xs (x ∷ cursors_without name xs)) n.0)
 
   -- another cursor under the name of the one at the place
   names_set : (xs : List (OpenCursor S T)) (at : ℕ) (d y : OpenCursor S T) → y.name ≡ (get_or xs at d).name → FirstAt (λ x. same_name x.name name) xs at
@@ -49,13 +49,13 @@ module _ {S T : Type 0} (name : List ℕ) where
   names_set (x ∷ xs) (suc at) d y e f = ap (λ (ns : List (List ℕ)). x.name ∷ ns) (names_set xs at d y e f.1)
 
   others_set : (xs : List (OpenCursor S T)) (at : ℕ) (d y : OpenCursor S T) → y.name ≡ (get_or xs at d).name → FirstAt (λ x. same_name x.name name) xs at
-      → without name (set xs at y) ≡ without name xs
+      → cursors_without name (set xs at y) ≡ cursors_without name xs
   others_set [] at d y e f = absurd f
   others_set (x ∷ xs) zero d y e f =
-      ap (λ (b : Bool). cond b xs (y ∷ without name xs)) (ap (λ (n : List ℕ). same_name n name) e ∙ f) ∙ sym (ap (λ (b : Bool). cond b xs (x ∷ without name xs)) f)
+      ap (λ (b : Bool). cond b xs (y ∷ cursors_without name xs)) (ap (λ (n : List ℕ). same_name n name) e ∙ f) ∙ sym (ap (λ (b : Bool). cond b xs (x ∷ cursors_without name xs)) f)
   others_set (x ∷ xs) (suc at) d y e f =
-      ap (λ (b : Bool). cond b (set xs at y) (x ∷ without name (set xs at y))) f.0
-      ∙ (ap (λ (ys : List (OpenCursor S T)). x ∷ ys) (others_set xs at d y e f.1) ∙ sym (ap (λ (b : Bool). cond b xs (x ∷ without name xs)) f.0))
+      ap (λ (b : Bool). cond b (set xs at y) (x ∷ cursors_without name (set xs at y))) f.0
+      ∙ (ap (λ (ys : List (OpenCursor S T)). x ∷ ys) (others_set xs at d y e f.1) ∙ sym (ap (λ (b : Bool). cond b xs (x ∷ cursors_without name xs)) f.0))
 
   -- the same, where the cursor at the place is in hand
   pub names_in_hand : (xs : List (OpenCursor S T)) (at : ℕ) (d r : OpenCursor S T) → r.name ≡ d.name → d ≡ get_or xs at d → FirstAt (λ x. same_name x.name name) xs at
@@ -63,7 +63,7 @@ module _ {S T : Type 0} (name : List ℕ) where
   names_in_hand xs at d r same here f = names_set xs at d r (same ∙ ap (λ (x : OpenCursor S T). x.name) here) f
 
   pub others_in_hand : (xs : List (OpenCursor S T)) (at : ℕ) (d r : OpenCursor S T) → r.name ≡ d.name → d ≡ get_or xs at d → FirstAt (λ x. same_name x.name name) xs at
-      → without name (set xs at r) ≡ without name xs
+      → cursors_without name (set xs at r) ≡ cursors_without name xs
   others_in_hand xs at d r same here f = others_set xs at d r (same ∙ ap (λ (x : OpenCursor S T). x.name) here) f
 
   -- how `next` is refused

@@ -3,7 +3,7 @@ use Rattle.std.proofs.Common.{◌≡◌, ◌<◌, ℕ, List, [], ◌∷◌, Opti
 use Rattle.std.specs.Prelude.{All, Ok, Err, ⊤, is_some}
 use Rattle.page_pool.specs.Pool.{PoolState, IsTold}
 use Rattle.page_pool.specs.Reads.{IsRead}
-use Rattle.plan_rows.specs.Rows.{plan_measure}
+use Rattle.plan_iterator.specs.Rows.{plan_measure}
 use Rattle.row_output.proofs.StepsAllowed.{steps_allowed}
 use Rattle.sand_base.specs.Faults.{last_count}
 use Rattle.sand_base.specs.Shelf.{Files}
@@ -26,7 +26,7 @@ use Rattle.statement_exec.proofs.Refusals.{caused, rose}
 use Rattle.statement_exec.proofs.SomeSetting.{some_setting}
 use Rattle.statement_exec.specs.Deciding.{ComesBehind}
 use Rattle.statement_exec.specs.Ending.{IsCausedByPages, PagesHaveCause}
-use Rattle.statement_exec.specs.LeafLines.{state_of}
+use Rattle.statement_exec.specs.LeafLines.{state_beside}
 use Rattle.statement_exec.specs.Moment.{beside, rises_between}
 use Rattle.open_cursors.proofs.CausedSteps.{cause_of_end, pages_no_file, steps_caused}
 use Rattle.open_cursors.proofs.DecidedCursors.{early_decides, memory_decides, pages_come, passing_decides}
@@ -48,49 +48,49 @@ module _ (catalog : CatalogView) (cs : List Cursor) (old new : PoolState) (read 
       memory_decides catalog cs cs old new files files shelf shelf statement refl,
     ),
     λ told disk few setting gap s.
-        outcome_outside setting (rises_between (beside cs catalog old files shelf) (beside cs catalog new files shelf)) (state_of catalog old.pages cs) statement
-        (Refused why.Memory ∷ []) (state_of catalog new.pages cs)
-        why.Memory tt (refl, ap (λ m. state_of catalog m cs) read.pages),
+        outcome_outside setting (rises_between (beside cs catalog old files shelf) (beside cs catalog new files shelf)) (state_beside catalog old.pages cs) statement
+        (Refused why.Memory ∷ []) (state_beside catalog new.pages cs)
+        why.Memory tt (refl, ap (λ m. state_beside catalog m cs) read.pages),
   )
 
   -- a check refuses
 
-  pub open_refused : (name : List ℕ) (p : Plan) (w : Refusal) → ((setting : Setting) → early setting (state_of catalog old.pages cs) (Opens name p) ≡ Some w)
+  pub open_refused : (name : List ℕ) (p : Plan) (w : Refusal) → ((setting : Setting) → early setting (state_beside catalog old.pages cs) (Opens name p) ≡ Some w)
       → PerformsBeside (Opens name p) catalog old new cs cs (Refused w ∷ [])
   open_refused name p w fails = λ files shelf. (
     (
       caused_inside (beside cs catalog old files shelf) (beside cs catalog new files shelf) w
-          (check_blames_none w (open_refuses any_setting (state_of catalog old.pages cs) name p w (fails any_setting))),
+          (check_blames_none w (open_refuses any_setting (state_beside catalog old.pages cs) name p w (fails any_setting))),
       early_decides catalog cs cs old new files files shelf shelf (Opens name p) refl w fails,
     ),
     λ told disk few setting gap s.
-        outcome_early setting (rises_between (beside cs catalog old files shelf) (beside cs catalog new files shelf)) (state_of catalog old.pages cs) (Opens name p)
-        (Refused w ∷ []) (state_of catalog new.pages cs)
+        outcome_early setting (rises_between (beside cs catalog old files shelf) (beside cs catalog new files shelf)) (state_beside catalog old.pages cs) (Opens name p)
+        (Refused w ∷ []) (state_beside catalog new.pages cs)
         w (fails setting) (caused (rises_between (beside cs catalog old files shelf) (beside cs catalog new files shelf)) w
-        (open_refuses setting (state_of catalog old.pages cs) name p w (fails setting)))
-        (refl, ap (λ m. state_of catalog m cs) read.pages),
+        (open_refuses setting (state_beside catalog old.pages cs) name p w (fails setting)))
+        (refl, ap (λ m. state_beside catalog m cs) read.pages),
   )
 
   module _ (count : ℕ) (p : Plan) where
-    pub show_refused : (w : Refusal) → ((setting : Setting) → early setting (state_of catalog old.pages cs) (Show count p) ≡ Some w)
+    pub show_refused : (w : Refusal) → ((setting : Setting) → early setting (state_beside catalog old.pages cs) (Show count p) ≡ Some w)
         → PerformsBeside (Show count p) catalog old new cs cs (Refused w ∷ [])
     show_refused w fails = λ files shelf. (
       (
         caused_inside (beside cs catalog old files shelf) (beside cs catalog new files shelf) w
-            (check_blames_none w (show_refuses any_setting (state_of catalog old.pages cs) count p w (fails any_setting))),
+            (check_blames_none w (show_refuses any_setting (state_beside catalog old.pages cs) count p w (fails any_setting))),
         early_decides catalog cs cs old new files files shelf shelf (Show count p) refl w fails,
       ),
       λ told disk few setting gap s.
-          outcome_early setting (rises_between (beside cs catalog old files shelf) (beside cs catalog new files shelf)) (state_of catalog old.pages cs) (Show count p)
-          (Refused w ∷ []) (state_of catalog new.pages cs)
+          outcome_early setting (rises_between (beside cs catalog old files shelf) (beside cs catalog new files shelf)) (state_beside catalog old.pages cs) (Show count p)
+          (Refused w ∷ []) (state_beside catalog new.pages cs)
           w (fails setting) (caused (rises_between (beside cs catalog old files shelf) (beside cs catalog new files shelf)) w
-          (show_refuses setting (state_of catalog old.pages cs) count p w (fails setting)))
-          (refl, ap (λ m. state_of catalog m cs) read.pages),
+          (show_refuses setting (state_beside catalog old.pages cs) count p w (fails setting)))
+          (refl, ap (λ m. state_beside catalog m cs) read.pages),
     )
 
-    module _ (passes : (setting : Setting) → early setting (state_of catalog old.pages cs) (Show count p) ≡ None) where
+    module _ (passes : (setting : Setting) → early setting (state_beside catalog old.pages cs) (Show count p) ≡ None) where
       abbrev May : Option Files → ℕ → Setting → Refusal → Type 0
-      May files shelf setting = IsLicensed setting (rises_between (beside cs catalog old files shelf) (beside cs catalog new files shelf)) (state_of catalog old.pages cs) (Show count p)
+      May files shelf setting = IsLicensed setting (rises_between (beside cs catalog old files shelf) (beside cs catalog new files shelf)) (state_beside catalog old.pages cs) (Show count p)
 
       -- steps of a new cursor, refused as the setting allows
       performs : (may : Refusal → Type 0) (after : Cursor) (lines : List OutputLine) → ((w : Refusal) → may w → ComesBehind (Show count p) w)
@@ -109,9 +109,9 @@ module _ (catalog : CatalogView) (cs : List Cursor) (old new : PoolState) (read 
             steps_allowed plan_measure may (May files shelf setting) (allowed files shelf told disk setting) count (new_cursor [] p (database_in old.pages catalog.relations)) lines after steps in
             let measured : Steps setting.gap (May files shelf setting) count (new_cursor [] p (database_in old.pages catalog.relations)) lines after =
             subst (λ (g : Measure). Steps g (May files shelf setting) count (new_cursor [] p (database_in old.pages catalog.relations)) lines after) (sym gap) made in
-            outcome_done setting (rises_between (beside cs catalog old files shelf) (beside cs catalog new files shelf)) (state_of catalog old.pages cs)
-            (Show count p) lines (state_of catalog new.pages cs)
-            (passes setting) refl (after, measured, ap (λ m. state_of catalog m cs) read.pages),
+            outcome_done setting (rises_between (beside cs catalog old files shelf) (beside cs catalog new files shelf)) (state_beside catalog old.pages cs)
+            (Show count p) lines (state_beside catalog new.pages cs)
+            (passes setting) refl (after, measured, ap (λ m. state_beside catalog m cs) read.pages),
       )
 
       licensed : (files : Option Files) (shelf : ℕ) (setting : Setting) (w : Refusal) → IsOfPages (Some w) → IsCausedByPages old new w → IsTold old

@@ -7,12 +7,12 @@ use Rattle.std.proofs.lemmas.List.Elements.{All-nil, All-cons, All-append}
 use Rattle.page_pool.specs.Desk.{DeskState}
 use Rattle.page_pool.specs.declared.fault.PageFault.{PageFault}
 use Rattle.page_pool.specs.declared.fault.PageFault.TheVariants as page
-use Rattle.plan_rows.specs.Rows.{plan_measure}
-use Rattle.plan_steps.specs.Following.{Taking}
-use Rattle.plan_steps.specs.Paying.{Prices}
-use Rattle.plan_steps.specs.Stages.{Standing}
-use Rattle.plan_cursor.specs.Standing.{IsAt}
-use Rattle.plan_cursor.specs.declared.cursor.RowCursor.{RowCursor}
+use Rattle.plan_iterator.specs.Rows.{plan_measure}
+use Rattle.plan_iterator.specs.Following.{Taking}
+use Rattle.plan_iterator.specs.Paying.{Prices}
+use Rattle.plan_iterator.specs.Stages.{Standing}
+use Rattle.plan_iterator.specs.Standing.{IsAt}
+use Rattle.plan_iterator.specs.declared.cursor.RowCursor.{RowCursor}
 use Rattle.sand_base.specs.declared.refusal.Refusal.{Refusal}
 use Rattle.sand_base.specs.declared.source.Failed.{Failed}
 use Rattle.sand_model.specs.Cursor.{Cursor, OutputLine, Row, Refused, Steps}

@@ -5,8 +5,8 @@ use Rattle.output_text.specs.Writing.{Writes, WritesPrefix}
 use Rattle.page_pool.specs.Pool.{StampMap}
 use Rattle.page_pool.specs.Pool.{PoolState}
 use Rattle.page_pool.specs.Reads.{IsRead}
-use Rattle.plan_cursor.specs.declared.cursor.RowCursor.{RowCursor}
-use Rattle.plan_rows.specs.Rows.{plan_measure}
+use Rattle.plan_iterator.specs.declared.cursor.RowCursor.{RowCursor}
+use Rattle.plan_iterator.specs.Rows.{plan_measure}
 use Rattle.sand_base.specs.declared.refusal.Refusal.{Refusal}
 use Rattle.sand_base.specs.declared.refusal.Refusal.TheVariants as why
 use Rattle.sand_base.specs.declared.source.Failed.{Failed}

@@ -12,7 +12,7 @@ use Rattle.statements.specs.Statement.{Blocks}
 use Rattle.sand_store.specs.Catalog.{CatalogView}
 use Rattle.open_cursors.specs.Outcomes.{PerformsBeside}
 use Rattle.sand_model.specs.OutputText.{IsText}
-use Rattle.statement_exec.specs.Ending.{PagesHaveCause, Reads, is_refusal, refused_line}
+use Rattle.statement_exec.specs.Ending.{PagesHaveCause, ReadsStatement, is_refusal, refused_line}
 use Rattle.statement_exec.specs.Moment.{beside}
 use Rattle.statement_exec.proofs.CausedLines.{HasItsCause, caused_up_to}
 use Rattle.statement_exec.proofs.CountedRows.{rows_caused, rows_so}
@@ -51,7 +51,7 @@ module _ (count : ℕ) (old new : PoolState) (told : new.disk.told ≡ old.disk.
 
 -- the leaves of a column were written, beside these cursors
 pub leaves_written : (column : Column) (catalog : CatalogView) (old new : PoolState) (cs : List Cursor) (a b : List ℕ → Type 0) (r : Result Bool Failed)
-    → WritesOf (Reads (Blocks column) catalog old new) a b r → WritesOf (PerformsBeside (Blocks column) catalog old new cs cs) a b r
+    → WritesOf (ReadsStatement (Blocks column) catalog old new) a b r → WritesOf (PerformsBeside (Blocks column) catalog old new cs cs) a b r
 leaves_written column catalog old new cs a b =
-    writes_so (Reads (Blocks column) catalog old new) (PerformsBeside (Blocks column) catalog old new cs cs) a b
+    writes_so (ReadsStatement (Blocks column) catalog old new) (PerformsBeside (Blocks column) catalog old new cs cs) a b
     (λ lines reads files shelf. ((reads cs files shelf).0, λ told disk few setting gap s. (reads cs files shelf).1 told disk few setting s))

@@ -1,9 +1,9 @@
 -- A statement that was carried out beside open cursors, with all that it prints.
 use Rattle.std.specs.Prelude.{◌≡◌, ◌⊎◌, ⊤, ℕ, ◌+◌, ◌≤◌, All, Bool, List, [], ◌∷◌, Option, Some, Result, Ok}
 use Rattle.page_pool.specs.Pool.{PoolState}
-use Rattle.plan_cursor.specs.Standing.{counts_among}
-use Rattle.plan_rows.specs.Rows.{plan_measure}
-use Rattle.plan_rows.specs.declared.stats.Stats.{Stats as Numbers}
+use Rattle.plan_iterator.specs.Standing.{counts_among}
+use Rattle.plan_iterator.specs.Rows.{plan_measure}
+use Rattle.plan_iterator.specs.declared.stats.Stats.{Stats as Numbers}
 use Rattle.sand_base.specs.Faults.{last_count}
 use Rattle.sand_base.specs.declared.refusal.Refusal.{Refusal}
 use Rattle.sand_base.specs.declared.refusal.Refusal.TheVariants as why
@@ -22,14 +22,14 @@ use Rattle.open_cursors.specs.Outcomes.{PerformsBeside}
 use Rattle.open_cursors.specs.Steps.{GivesSteps, IsOfPages}
 
 -- the statement changes relations
-abbrev pub IsChange : Statement → Type 0
-IsChange (statement.Create relation columns) = ⊤
-IsChange (statement.Insert relation values) = ⊤
-IsChange (statement.Delete relation id) = ⊤
-IsChange (statement.Load relation file header) = ⊤
-IsChange (statement.Index column threshold) = ⊤
-IsChange (statement.Rtree column) = ⊤
-IsChange _ = ⊥
+abbrev pub ChangesRelations : Statement → Type 0
+ChangesRelations (statement.Create relation columns) = ⊤
+ChangesRelations (statement.Insert relation values) = ⊤
+ChangesRelations (statement.Delete relation id) = ⊤
+ChangesRelations (statement.Load relation file header) = ⊤
+ChangesRelations (statement.Index column threshold) = ⊤
+ChangesRelations (statement.Rtree column) = ⊤
+ChangesRelations _ = ⊥
 
 -- no cursor has given more rows than so many
 abbrev pub GaveAtMost : ℕ → List Cursor → Type 0

@@ -18,8 +18,8 @@ use Rattle.sand_store.specs.declared.column.FileShapes.{FileShapes}
 use Rattle.best_first.specs.declared.hit.Hit.{Hit}
 use Rattle.far_cursor.specs.FarCursor.{shapes_in, GivesFarthest}
 use Rattle.far_cursor.specs.declared.far_tree.FarTree.{FarTree}
-use Rattle.plan_rows.specs.Rows.{plan_measure}
-use Rattle.plan_rows.specs.declared.answer.Answer.{Answer}
+use Rattle.plan_iterator.specs.Rows.{plan_measure}
+use Rattle.plan_iterator.specs.declared.answer.Answer.{Answer}
 use Rattle.row_output.specs.Stepping.{PrintsStep}
 use Rattle.row_output.specs.declared.next.Next.{Next}
 use Rattle.statement_exec.specs.Deciding.{PrintsRowsUpTo}

@@ -4,9 +4,9 @@ use Rattle.std.specs.FinMap as map
 use Rattle.std.specs.List.{list_any}
 use Rattle.page_pool.specs.Disk.{PageMap}
 use Rattle.page_pool.specs.Pool.{Shown, StampMap}
-use Rattle.plan_cursor.specs.Standing.{AreStats}
-use Rattle.plan_cursor.specs.declared.cursor.RowCursor.{RowCursor}
-use Rattle.plan_rows.specs.declared.stats.Stats.{Stats}
+use Rattle.plan_iterator.specs.Standing.{AreStats}
+use Rattle.plan_iterator.specs.declared.cursor.RowCursor.{RowCursor}
+use Rattle.plan_iterator.specs.declared.stats.Stats.{Stats}
 use Rattle.sand_base.specs.Streams.{Stays}
 use Rattle.sand_base.specs.declared.refusal.Refusal.{Refusal}
 use Rattle.sand_base.specs.declared.refusal.Refusal.TheVariants as why
@@ -64,9 +64,9 @@ abbrev pub is_open : {S T : Type 0} → List (OpenCursor S T) → List ℕ → B
 is_open items name = list_any (λ x. same_name x.name name) items
 
 -- the open cursors without the first one of the name
-abbrev pub without : {S T : Type 0} → List ℕ → List (OpenCursor S T) → List (OpenCursor S T)
-without name [] = []
-without name (x ∷ xs) = cond (same_name x.name name) xs (x ∷ without name xs)
+abbrev pub cursors_without : {S T : Type 0} → List ℕ → List (OpenCursor S T) → List (OpenCursor S T)
+cursors_without name [] = []
+cursors_without name (x ∷ xs) = cond (same_name x.name name) xs (x ∷ cursors_without name xs)
 
 -- how `next` is refused: as unknown where no open cursor has the name, and else by want of memory or by a page alone
 abbrev pub AnswersNext : Bool → Result (Option Refusal) Failed → Type 0

@@ -1,7 +1,7 @@
 -- What a statement does beside open cursors, as the outcome of the model, in the settings in which gaps are in lowest terms.
 use Rattle.std.specs.Prelude.{◌≡◌, ℕ, ◌<◌, IsTrue, List, Option}
 use Rattle.page_pool.specs.Pool.{PoolState}
-use Rattle.plan_rows.specs.Rows.{plan_measure}
+use Rattle.plan_iterator.specs.Rows.{plan_measure}
 use Rattle.sand_base.specs.Faults.{last_count}
 use Rattle.sand_base.specs.Shelf.{Files}
 use Rattle.sand_model.specs.Cursor.{Cursor, OutputLine}

@@ -1,12 +1,12 @@
 -- Cursors over plans: where they stand, and what becomes of the open ones where one more is opened.
 use Rattle.std.specs.Prelude.{◌≡◌, ◌⊎◌, ℕ, List, [], ◌∷◌, ◌++◌, Option, Some, None, Result, Ok, Err}
 use Rattle.page_pool.specs.Disk.{PageMap}
-use Rattle.plan_cursor.specs.Standing.{IsAt}
+use Rattle.plan_iterator.specs.Standing.{IsAt}
 use Rattle.plan_ops.specs.Sources.{source_at, source_seen}
 use Rattle.plan_ops.specs.Stages.{StageStands, is_closed}
 use Rattle.plan_ops.specs.declared.source.Source.{Source}
 use Rattle.plan_ops.specs.declared.stage.Stage.{Stage}
-use Rattle.plan_rows.specs.Rows.{counts_of}
+use Rattle.plan_iterator.specs.Rows.{counts_of}
 use Rattle.sand_base.specs.declared.refusal.Refusal.{Refusal}
 use Rattle.sand_base.specs.declared.refusal.Refusal.TheVariants as why
 use Rattle.sand_model.specs.Cursor.{Cursor, new_cursor}
@@ -15,7 +15,7 @@ use Rattle.statements.specs.Statement.{OpenCursor as Opens}
 use Rattle.sand_model.specs.StatementChecks.{Setting, early}
 use Rattle.sand_store.specs.Catalog.{CatalogView}
 use Rattle.sand_store.specs.Contents.{database_in}
-use Rattle.statement_exec.specs.LeafLines.{state_of}
+use Rattle.statement_exec.specs.LeafLines.{state_beside}
 use Rattle.open_cursors.specs.OpenCursors.{AtStamp, OverPages, Places}
 
 -- where a cursor over a plan stands over pages, as one of the model
@@ -29,7 +29,7 @@ PlanAt = AtStamp PlanOver
 -- whatever the setting, the first check of an opening that fails gives this; None where none fails
 abbrev pub ChecksGive : CatalogView → PageMap → List Cursor → List ℕ → Plan → Option Refusal → Type 0
 ChecksGive catalog pages cs name p end =
-    (setting : Setting) → early setting (state_of catalog pages cs) (Opens name p) ≡ end
+    (setting : Setting) → early setting (state_beside catalog pages cs) (Opens name p) ≡ end
 
 -- no check of an opening fails; or one does, or memory
 abbrev pub ChecksOf : {T : Type 0} → CatalogView → PageMap → List Cursor → List ℕ → Plan → Result T Refusal → Type 0

@@ -1,7 +1,7 @@
 -- The next rows of a cursor, printed up to a refusal whose line is still to be printed.
 use Rattle.std.specs.Prelude.{◌≡◌, ℕ, ◌≤◌, List, Option, Some, Result, Ok, Err, ⊤, None, All}
 use Rattle.output_text.specs.Writing.{WritesPrefix}
-use Rattle.plan_rows.specs.Rows.{plan_measure}
+use Rattle.plan_iterator.specs.Rows.{plan_measure}
 use Rattle.sand_base.specs.declared.refusal.Refusal.{Refusal}
 use Rattle.sand_base.specs.declared.refusal.Refusal.TheVariants as why
 use Rattle.sand_base.specs.declared.source.Failed.{Failed}

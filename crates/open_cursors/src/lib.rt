@@ -4,7 +4,7 @@
 //! and is closed; the first rows of a plan are shown; a quadtree's leaves are printed. All that a statement prints is
 //! written, the line of a refusal among it. A cursor owns what it reads by and is found by its name; it holds a stamp
 //! of the pool, so that it reads the pages of its opening whatever was written since. Above: `line_exec`, which carries
-//! out any line. Below: `plan_check` and `plan_ops` for plans, `far_cursor` for rows farthest first, `row_output` for
+//! out any line. Below: `plan_names` and `plan_ops` for plans, `far_cursor` for rows farthest first, `row_output` for
 //! rows, `statement_exec` for the lines with which statements end and for leaves, `sand_store` for the catalog.
 //! Contracts see the cursors of the model that the open ones stand for; read `specs/OpenCursors.antt`, then
 //! `specs/Steps.antt`, `specs/Carried.antt` and `specs/OverPages.antt`.

@@ -2,22 +2,21 @@ ghost use Rattle.std.specs.Prelude.{◌≡◌, List, IfSome, None};
 ghost use Rattle.page_pool.specs.Disk.{PageMap};
 ghost use Rattle.page_pool.specs.Pool.{StampMap};
 ghost use Rattle.statements.specs.Plan.{plan_value};
-ghost use Rattle.plan_cursor.specs.Standing.{IsAt};
-ghost use Rattle.plan_rows.specs.Rows.{counts_of};
+ghost use Rattle.plan_iterator.specs.Standing.{IsAt};
+ghost use Rattle.plan_iterator.specs.Rows.{counts_of};
 ghost use Rattle.sand_model.specs.Checks.{check_operators};
 ghost use Rattle.sand_model.specs.Cursor.{Cursor};
 ghost use Rattle.statements.specs.Statement.{OpenCursor as Opens};
 ghost use Rattle.sand_model.specs.StatementChecks.{Setting, early};
 ghost use Rattle.sand_store.specs.Catalog.{IsCatalog};
 ghost use Rattle.sand_store.specs.Contents.{database_in};
-ghost use Rattle.statement_exec.specs.LeafLines.{IsOfCheck, state_of};
+ghost use Rattle.statement_exec.specs.LeafLines.{IsOfCheck, state_beside};
 ghost use Rattle.open_cursors.specs.OpenCursors.{AreNamed, AtStamp, StandAll};
 
 use crate::OpenCursor;
 use crate::next_rows::place_of;
-use plan_check::{check_depth, check_operators};
-use plan_rows::RowSource;
-use plan_steps::RowStage;
+use plan_iterator::{RowSource, RowStage};
+use plan_names::{check_depth, check_operators};
 use sand_base::{Label, Refusal};
 use sand_store::Catalog;
 use script_text::Plan;
@@ -34,8 +33,9 @@ pub(crate) fn refused_open<S: RowSource, T: RowStage>(
 ) -> Option<Refusal>
     requires { IsCatalog catalog.now }
     ensures checks { (stamps : StampMap) (pages : PageMap) (cs : List Cursor) → StandAll (AtStamp (λ r. IsAt S.At T.Stands T.closed (λ s. counts_of (S.seen s)) r)) stamps cursors.now cs
-        → (setting : Setting) → early setting (state_of catalog.now pages cs) (Opens name.now (plan_value plan.now)) ≡ result }
-    ensures names { (pages : PageMap) (cs : List Cursor) → AreNamed cursors.now cs → (setting : Setting) → early setting (state_of catalog.now pages cs) (Opens name.now (plan_value plan.now)) ≡ result }
+        → (setting : Setting) → early setting (state_beside catalog.now pages cs) (Opens name.now (plan_value plan.now)) ≡ result }
+    ensures names { (pages : PageMap) (cs : List Cursor) → AreNamed cursors.now cs → (setting : Setting)
+        → early setting (state_beside catalog.now pages cs) (Opens name.now (plan_value plan.now)) ≡ result }
     ensures of_check { IfSome result IsOfCheck }
     ensures openable { (result ≡ None) → (pages : PageMap) → check_operators (database_in pages catalog.now.relations) (plan_value plan.now) ≡ None }
 {

@@ -1,5 +1,5 @@
 use page_pool::Stamp;
-use plan_cursor::RowCursor;
+use plan_iterator::RowCursor;
 use sand_base::Label;
 
 /// A cursor that is open under a name. Its stamp holds the pages as they were at its opening.

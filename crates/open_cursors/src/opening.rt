@@ -16,7 +16,7 @@ ghost use Rattle.open_cursors.specs.PlanCursors.{ChecksOf, OpensOf, PlanAt, Plan
 use crate::OpenCursor;
 use crate::open_checks::refused_open;
 use page_pool::Disk;
-use plan_cursor::RowCursor;
+use plan_iterator::RowCursor;
 use plan_ops::{Running, Source, Stage};
 use sand_base::{Failed, Label, NoMemory, Refusal, Sink};
 use sand_store::Store;
@@ -110,9 +110,11 @@ pub(crate) fn open_line<D: Disk, K: Sink>(
 ) -> Result<bool, Failed>
     requires in_range { IsPlanInRange (plan_value plan.now) }
     requires held { AreHeld store.old.pool.stamps cursors.old.items }
-    ensures named { (cs : List Cursor) → HaveOwnNames cs → AreNamed cursors.old.items cs → (pool : PoolState) → CarriesBeside (Opens name.now (plan_value plan.now)) store.old.catalog pool pool cs (K.took out.old) (K.took out.new) result (AreNamed cursors.new.items) }
+    ensures named { (cs : List Cursor) → HaveOwnNames cs → AreNamed cursors.old.items cs → (pool : PoolState)
+        → CarriesBeside (Opens name.now (plan_value plan.now)) store.old.catalog pool pool cs (K.took out.old) (K.took out.new) result (AreNamed cursors.new.items) }
     ensures carried { IsTrue store.old.pool.disk.told → (cs : List Cursor) → HaveOwnNames cs → StandAll PlanAt store.old.pool.stamps cursors.old.items cs
-        → CarriesBeside (Opens name.now (plan_value plan.now)) store.old.catalog store.old.pool store.old.pool cs (K.took out.old) (K.took out.new) result (StandAll PlanAt store.new.pool.stamps cursors.new.items) }
+        → CarriesBeside (Opens name.now (plan_value plan.now)) store.old.catalog store.old.pool store.old.pool cs (K.took out.old) (K.took out.new) result
+        (StandAll PlanAt store.new.pool.stamps cursors.new.items) }
     ensures held { AreHeld store.new.pool.stamps cursors.new.items }
     ensures others { HoldsOthers store.old store.new }
     ensures sink { HasCause (K.faults out.old) (K.faults out.new) result }

@@ -12,7 +12,7 @@ ghost use Rattle.statement_exec.specs.Printing.{WritesOf};
 ghost use Rattle.script_text.specs.InRange.{IsInRange};
 ghost use Rattle.statement_exec.specs.Ending.{RisesByOne};
 ghost use Rattle.open_cursors.specs.OpenCursors.{AreHeld, HaveOwnNames};
-ghost use Rattle.open_cursors.specs.Carried.{AreCounted, CarriesBeside, IsChange};
+ghost use Rattle.open_cursors.specs.Carried.{AreCounted, CarriesBeside, ChangesRelations};
 ghost use Rattle.open_cursors.specs.OverPages.{AreStanding, LeavesPages, StandOver};
 
 use crate::OpenCursor;
@@ -58,7 +58,8 @@ fn blocks<D: Disk, K: Sink>(
     column: &Label,
     out: &mut K,
 ) -> (Store<D>, Result<bool, Failed>)
-    ensures written { (cs : List Cursor) → WritesOf (PerformsBeside (Blocks (record { relation = relation.now; column = column.now })) store.catalog store.pool result.0.pool cs cs) (K.took out.old) (K.took out.new) result.1 }
+    ensures written { (cs : List Cursor) → WritesOf (PerformsBeside (Blocks (record { relation = relation.now; column = column.now })) store.catalog store.pool result.0.pool cs cs)
+        (K.took out.old) (K.took out.new) result.1 }
     ensures catalog { result.0.catalog ≡ store.catalog }
     ensures read { IsRead store.pool result.0.pool }
     ensures cause { RisesByOne store.pool.disk.faults result.0.pool.disk.faults }
@@ -100,7 +101,7 @@ pub fn read_statement<D: Disk, K: Sink>(
     out: &mut K,
 ) -> (Store<D>, Result<bool, Failed>)
     requires in_range { IsInRange (statement_value statement.now) }
-    requires reads { IsChange (statement_value statement.now) → ⊥ }
+    requires reads { ChangesRelations (statement_value statement.now) → ⊥ }
     requires stands { AreStanding store.pool cursors.old.items }
     ensures carried { (cs : List Cursor) → HaveOwnNames cs → AreCounted cs → StandOver store.pool cursors.old.items cs
         → CarriesBeside (statement_value statement.now) store.catalog store.pool result.0.pool cs (K.took out.old) (K.took out.new) result.1 (StandOver result.0.pool cursors.new.items) }

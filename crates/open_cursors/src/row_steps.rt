@@ -2,8 +2,8 @@
 ghost use Rattle.std.specs.Prelude.{◌≡◌, IfOk, IfSome};
 ghost use Rattle.best_first.specs.Visits.{told_pages};
 ghost use Rattle.page_pool.specs.Reads.{IsRead};
-ghost use Rattle.plan_cursor.specs.Standing.{IsAt};
-ghost use Rattle.plan_rows.specs.Rows.{counts_of};
+ghost use Rattle.plan_iterator.specs.Standing.{IsAt};
+ghost use Rattle.plan_iterator.specs.Rows.{counts_of};
 ghost use Rattle.sand_base.specs.Faults.{HasCause};
 ghost use Rattle.sand_model.specs.Cursor.{Cursor};
 ghost use Rattle.sand_store.specs.Calls.{refusal_of};
@@ -12,9 +12,7 @@ ghost use Rattle.statement_exec.specs.Ending.{PagesHaveCause};
 ghost use Rattle.open_cursors.specs.Steps.{AnswersPages, StepsOn, WritesRows};
 
 use page_pool::{Desk, Disk, PageFault};
-use plan_cursor::RowCursor;
-use plan_rows::RowSource;
-use plan_steps::RowStage;
+use plan_iterator::{RowCursor, RowSource, RowStage};
 use row_output::{Printed, print_rows};
 use sand_base::{Failed, Refusal, Sink};
 use std::alloc::Global;
@@ -46,7 +44,8 @@ pub(crate) fn print_steps<S: RowSource, T: RowStage, D: Disk, K: Sink>(
     ensures pages { AnswersPages result }
     ensures sink { HasCause (K.faults out.old) (K.faults out.new) result }
     ensures rows { WritesRows count (K.took out.old) (K.took out.new) result }
-    ensures steps { IfSome (told_pages desk.old) (λ pages. (c : Cursor) → IsAt S.At T.Stands T.closed (λ s. counts_of (S.seen s)) cursor.old pages c → StepsOn c count (K.took out.old) (K.took out.new) result (IsAt S.At T.Stands T.closed (λ s. counts_of (S.seen s)) cursor.new pages)) }
+    ensures steps { IfSome (told_pages desk.old) (λ pages. (c : Cursor) → IsAt S.At T.Stands T.closed (λ s. counts_of (S.seen s)) cursor.old pages c
+        → StepsOn c count (K.took out.old) (K.took out.new) result (IsAt S.At T.Stands T.closed (λ s. counts_of (S.seen s)) cursor.new pages)) }
 {
     match print_rows(cursor, alloc, desk, count, out) {
         Ok(Printed::Rows { .. }) => Ok(None),

@@ -1,8 +1,8 @@
 ghost use Rattle.std.specs.Prelude.{◌≡◌, IfSome, List};
 ghost use Rattle.best_first.specs.Visits.{told_pages};
 ghost use Rattle.page_pool.specs.Reads.{IsRead};
-ghost use Rattle.plan_cursor.specs.Standing.{IsAt};
-ghost use Rattle.plan_rows.specs.Rows.{counts_of};
+ghost use Rattle.plan_iterator.specs.Standing.{IsAt};
+ghost use Rattle.plan_iterator.specs.Rows.{counts_of};
 ghost use Rattle.sand_base.specs.Faults.{HasCause};
 ghost use Rattle.sand_model.specs.Cursor.{Cursor};
 ghost use Rattle.statement_exec.specs.Ending.{RisesByOne};
@@ -17,9 +17,7 @@ ghost use Rattle.open_cursors.specs.Outcomes.{PerformsBeside};
 use crate::row_steps::print_steps;
 use crate::starting::started;
 use page_pool::{Desk, Disk};
-use plan_cursor::RowCursor;
-use plan_rows::RowSource;
-use plan_steps::RowStage;
+use plan_iterator::{RowCursor, RowSource, RowStage};
 use sand_base::{Failed, Sink};
 use sand_store::Catalog;
 use script_text::Plan;
@@ -37,7 +35,8 @@ fn rows_line<S: RowSource, T: RowStage, D: Disk, K: Sink>(
 ) -> Result<bool, Failed>
     requires stands { IfSome (told_pages desk.old) (λ pages. (c : Cursor) × IsAt S.At T.Stands T.closed (λ s. counts_of (S.seen s)) cursor.old pages c) }
     ensures plain { WritesOf (AreRowLines count desk.old.pool desk.new.pool) (K.took out.old) (K.took out.new) result }
-    ensures written { IfSome (told_pages desk.old) (λ pages. (c : Cursor) → IsAt S.At T.Stands T.closed (λ s. counts_of (S.seen s)) cursor.old pages c → WritesOf (RowsOf c count desk.old.pool desk.new.pool) (K.took out.old) (K.took out.new) result) }
+    ensures written { IfSome (told_pages desk.old) (λ pages. (c : Cursor) → IsAt S.At T.Stands T.closed (λ s. counts_of (S.seen s)) cursor.old pages c
+        → WritesOf (RowsOf c count desk.old.pool desk.new.pool) (K.took out.old) (K.took out.new) result) }
     ensures read { IsRead desk.old.pool desk.new.pool }
     ensures cause { RisesByOne desk.old.pool.disk.faults desk.new.pool.disk.faults }
     ensures sink { HasCause (K.faults out.old) (K.faults out.new) result }

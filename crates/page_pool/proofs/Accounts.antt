@@ -6,7 +6,7 @@ use Rattle.std.specs.Cmp.{nat_cmp_total}
 use Rattle.std.specs.FinMap as map
 use Rattle.std.specs.FinSet as set
 use Rattle.page_pool.specs.Disk.{DigestMap, NumberSet}
-use Rattle.page_pool.specs.Inside.{ChangeMap, NumbersState, Takes, IsAccount, is_used}
+use Rattle.page_pool.specs.Inside.{ChangeMap, NumbersState, TakesNumber, IsAccount, is_used}
 use Rattle.page_pool.proofs.Maps.{get-insert, tie_itself, tied}
 
 -- a test of two parts
@@ -55,7 +55,7 @@ used-again changes kept n change used q = used-insert changes kept n change q
     ]) refl
 
 -- the number that is taken was not in use
-pub taken_free : (f : ℕ → Bool) (old new : NumbersState) (n : ℕ) → IsAccount f old.top old.spare → Takes old new n → f n ≡ false
+pub taken_free : (f : ℕ → Bool) (old new : NumbersState) (n : ℕ) → IsAccount f old.top old.spare → TakesNumber old new n → f n ≡ false
 taken_free f old new n a takes = (elim (f n) as (λ b. f n ≡ b → b ≡ false) [
   | true ↦ λ used. absurd (elim takes.again [
     | inl above ↦ let small : n ≤ old.top = a.given n used in let big : n ≡ old.top + 1 = above.0 in omega arith
@@ -64,7 +64,7 @@ taken_free f old new n a takes = (elim (f n) as (λ b. f n ≡ b → b ≡ false
   | false ↦ λ _. refl
 ]) refl
 
-pub taken_positive : (f : ℕ → Bool) (old new : NumbersState) (n : ℕ) → IsAccount f old.top old.spare → Takes old new n → 1 ≤ n
+pub taken_positive : (f : ℕ → Bool) (old new : NumbersState) (n : ℕ) → IsAccount f old.top old.spare → TakesNumber old new n → 1 ≤ n
 taken_positive f old new n a takes = elim takes.again [
   | inl above ↦ let big : n ≡ old.top + 1 = above.0 in omega arith
   | inr again ↦ a.spare_positive n again.0
@@ -132,7 +132,7 @@ again f g top spare n is waits a = record {
 
 -- a number is taken, and is in use from then on
 pub account-taken : (f g : ℕ → Bool) (old new : NumbersState) (n : ℕ) → ((q : ℕ) → g q ≡ (eq_by_cmp nat_cmp q n || f q)) → IsAccount f old.top old.spare
-    → Takes old new n → IsAccount g new.top new.spare
+    → TakesNumber old new n → IsAccount g new.top new.spare
 account-taken f g old new n is a takes = elim takes.again [
   | inl next ↦ subst (λ top. IsAccount g top new.spare) (sym (next.1 ∙ next.0))
       (above f g old.top old.spare new.spare (λ q. is q ∙ ap (λ k. eq_by_cmp nat_cmp q k || f q) next.0) next.2 next.3 a)

@@ -12,7 +12,7 @@ use Rattle.page_pool.specs.Disk.{PageMap, DigestMap, DiskView, WritesPage}
 use Rattle.page_pool.specs.Causes.{faults_after, IsNoDamage}
 use Rattle.page_pool.specs.Images.{ImagesState, IsImages, IsFreePlace, SettlesImage, LeavesImage, newest_place, seen_place}
 use Rattle.page_pool.specs.Archive.{ChangesPage, WritesImage, LeavesPage, StandsWritten, IsReadArchive, ReadsImage, IsImageDamage, IsArchive}
-use Rattle.page_pool.specs.InsideArchive.{newest_of, seen_of, stored_at, images_at, stamps_of, archive_of, StandsAt, StandsStored, ReadsPlace, IsPlaceDamage, IsArchived, Spoils, StoresAt}
+use Rattle.page_pool.specs.InsideArchive.{newest_of, seen_of, stored_at, images_at, stamps_of, archive_of, ImageStandsAt, StandsStored, ReadsPlace, IsPlaceDamage, IsArchived, Spoils, StoresAt}
 use Rattle.page_pool.proofs.Maps.{same, get-insert_same, get-insert_other, get-remove_same}
 use Rattle.page_pool.proofs.Archives.{get-newest_of, get-seen_of, get-stamps_of, stored_told}
 use Rattle.page_pool.proofs.ArchiveChanges.{is_archive, KeepsSight, sight_same, sight_settled, sight_left, place_settled, stored_rest, changes_page}
@@ -63,7 +63,7 @@ archived_spoiled disk disk' kept kept' s n place free spoils good = record {
       stands_still p other (good.stands slot at q p held early is);
 }
   where
-    stands_still : (p : ℕ) → p ≢ place → StandsAt disk kept p → StandsAt disk' kept' p
+    stands_still : (p : ℕ) → p ≢ place → ImageStandsAt disk kept p → ImageStandsAt disk' kept' p
     stands_still p other (digest, (has, page)) = (
       digest,
       (
@@ -178,7 +178,7 @@ module _ (disk disk' : DiskView) (kept : DigestMap) (s : ImagesState) (told : di
     stands = λ slot at n p held early is. still p (good.stands slot at n p held early is);
   }
     where
-      still : (p : ℕ) → StandsAt disk kept p → StandsAt disk' kept p
+      still : (p : ℕ) → ImageStandsAt disk kept p → ImageStandsAt disk' kept p
       still p (digest, (has, page)) = (digest, (has, λ t. let is = page (sym told ∙ t) in (is.0, (ap (λ m. map.get m p) pages ∙ is.1.0, is.1.1))))
 
 -- page n of these images lies at this place and was read there

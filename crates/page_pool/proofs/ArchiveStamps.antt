@@ -11,7 +11,7 @@ use Rattle.page_pool.specs.declared.past.Past.{Past}
 use Rattle.page_pool.specs.Disk.{DigestMap, DiskView}
 use Rattle.page_pool.specs.Images.{HeldMap, ImagesState, images_of, IsImages, was_newest, is_seen, is_past_seen, is_home_seen, newest_place, seen_place, past_seen, seen_homes}
 use Rattle.page_pool.specs.Archive.{newest_images, StandsWritten, Advances, Releases}
-use Rattle.page_pool.specs.InsideArchive.{newest_of, seen_of, stored_at, images_at, stamps_of, archive_of, StandsAt, IsArchived}
+use Rattle.page_pool.specs.InsideArchive.{newest_of, seen_of, stored_at, images_at, stamps_of, archive_of, ImageStandsAt, IsArchived}
 use Rattle.page_pool.proofs.Maps.{same, get-insert, get-remove, get-insert_other, found-insert, found-remove}
 use Rattle.page_pool.proofs.Choices.{same_numbers}
 use Rattle.page_pool.proofs.Sights.{within_life, seer, seen_by}
@@ -103,7 +103,7 @@ module _ (s : ImagesState) (whole : IsImages s) (slot : ℕ) (free : map.get s.h
       stands = λ id at n p held early is. old id at n p early is (found-insert s.held slot s.begun id at held);
     }
       where
-        old : (id at n p : ℕ) → at < s.begun → seen_place at s n ≡ Some p → ((id ≡ slot) × (at ≡ s.begun)) ⊎ (map.get s.held id ≡ Some at) → StandsAt disk kept p
+        old : (id at n p : ℕ) → at < s.begun → seen_place at s n ≡ Some p → ((id ≡ slot) × (at ≡ s.begun)) ⊎ (map.get s.held id ≡ Some at) → ImageStandsAt disk kept p
         old id at n p early is (inl (_, now)) = absurd (omega arith)
         old id at n p early is (inr before) = good.stands id at n p before early is
 
@@ -212,10 +212,10 @@ module _ (s : ImagesState) where
     stands = λ slot at n p held early is. by_time slot at n p held is (cases_eq at s.begun) early;
   }
     where
-      at_now : (n p : ℕ) → newest_place s n ≡ Some p → IsTrue (map.contains_key kept p) → StandsAt disk kept p
+      at_now : (n p : ℕ) → newest_place s n ≡ Some p → IsTrue (map.contains_key kept p) → ImageStandsAt disk kept p
       at_now n p here has = by_digest (map.get kept p) refl has
         where
-          by_digest : (o : Option (List ℕ)) → map.get kept p ≡ o → is_some o ≡ true → StandsAt disk kept p
+          by_digest : (o : Option (List ℕ)) → map.get kept p ≡ o → is_some o ≡ true → ImageStandsAt disk kept p
           by_digest None is h = absurd (false≢true h)
           by_digest (Some digest) is h = (
             digest,
@@ -233,7 +233,7 @@ module _ (s : ImagesState) where
             ),
           )
 
-      by_time : (slot at n p : ℕ) → map.get s.held slot ≡ Some at → seen_place at s n ≡ Some p → (at ≡ s.begun) ⊎ (at ≡ s.begun → ⊥) → at < s.begun + 1 → StandsAt disk kept p
+      by_time : (slot at n p : ℕ) → map.get s.held slot ≡ Some at → seen_place at s n ≡ Some p → (at ≡ s.begun) ⊎ (at ≡ s.begun → ⊥) → at < s.begun + 1 → ImageStandsAt disk kept p
       by_time slot at n p held is (inl now) early = let last = whole.changed in
           let here : newest_place s n ≡ Some p = sym (now_newest s whole at n (omega arith)) ∙ is in at_now n p here (good.digested n p here)
       by_time slot at n p held is (inr before) early = good.stands slot at n p held (omega arith) is

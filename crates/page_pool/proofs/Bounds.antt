@@ -44,7 +44,8 @@ shared_same shared changes n c has = same_set _ _ (λ q.
     by_tie : (q : ℕ) → (set.contains shared q && (eq_by_cmp nat_cmp q n || map.contains_key changes q)) ≡ (set.contains shared q && map.contains_key changes q)
     by_tie q = (elim (eq_by_cmp nat_cmp q n) as (λ b. eq_by_cmp nat_cmp q n ≡ b
         → (set.contains shared q && (b || map.contains_key changes q)) ≡ (set.contains shared q && map.contains_key changes q)) [
-          | true ↦ λ tie. ap (λ k. set.contains shared k && true) (tied q n tie) ∙ by_seen (set.contains shared n) has ∙ sym (ap (λ k. set.contains shared k && map.contains_key changes k) (tied q n tie))
+          | true ↦ λ tie. ap (λ k. set.contains shared k && true) (tied q n tie) ∙ by_seen (set.contains shared n) has
+              ∙ sym (ap (λ k. set.contains shared k && map.contains_key changes k) (tied q n tie))
           | false ↦ λ _. refl
         ]) refl
 

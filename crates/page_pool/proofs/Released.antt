@@ -7,7 +7,7 @@ use Rattle.std.specs.FinMap as map
 use Rattle.std.specs.FinSet as set
 use Rattle.page_pool.specs.Archive.{ArchiveState, IsArchive, ChangesPage, ReplacesImage, newest_images}
 use Rattle.page_pool.specs.Inside.{ChangeMap, StagedState, CacheState, NumbersState, IsAccount, IsWhole, is_used, state_of, overlaid, dirty_of, freed_of, staged_shared}
-use Rattle.page_pool.specs.Commands.{Settles, Writes}
+use Rattle.page_pool.specs.Commands.{Settles, WritesPages}
 use Rattle.page_pool.proofs.Maps.{same, get-remove_same, get-remove_other, tie_itself, tie_apart}
 use Rattle.page_pool.proofs.Overlay.{same_set, is_page, is_gone, get-overlaid, contains-dirty, contains-freed}
 use Rattle.page_pool.proofs.Accounts.{account-freed}
@@ -89,7 +89,7 @@ module _ (a b : ArchiveState) (changes changes' : ChangeMap) (frames frames' : C
       (λ q live clean. change.kept q (λ one. true≢false (sym live ∙ ap (map.contains_key (overlaid changes a.pages)) one ∙ ap is_some not_live)))
 
   pub writes_released : (count count' gets refused : ℕ) → IsArchive a → frames'.most ≡ frames.most → ReplacesImage a b n
-      → Writes (state_of a record { changes = changes; count = count } frames numbers is_open gets refused)
+      → WritesPages (state_of a record { changes = changes; count = count } frames numbers is_open gets refused)
       (state_of b record { changes = changes'; count = count' } frames' numbers' is_open gets refused)
   writes_released count count' gets refused old most replaces =
       let fewer : b.seen + set.len (staged_shared b.shared changes') ≤ a.seen + set.len (staged_shared a.shared changes) =
@@ -128,6 +128,6 @@ whole-forgot a changes frames frames' numbers is_open n closed forgot same_past 
 }
 
 pub writes_nothing : (a : ArchiveState) (staged : StagedState) (frames frames' : CacheState) (numbers : NumbersState) (is_open : Bool) (gets refused : ℕ) → frames'.most ≡ frames.most
-    → Writes (state_of a staged frames numbers is_open gets refused) (state_of a staged frames' numbers is_open gets refused)
+    → WritesPages (state_of a staged frames numbers is_open gets refused) (state_of a staged frames' numbers is_open gets refused)
 writes_nothing a staged frames frames' numbers is_open gets refused most = writes_from (state_of a staged frames numbers is_open gets refused) (state_of a staged frames' numbers is_open gets refused)
     (Settles-refl a.disk.told _) refl refl refl most refl refl (stamps_same _ _ refl) refl (omega arith)

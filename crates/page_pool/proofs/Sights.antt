@@ -8,7 +8,7 @@ use Rattle.std.proofs.lemmas.Bool.{lt-leb, true≢false, false≢true, and_parts
 use Rattle.std.proofs.lemmas.Option.{same_Some}
 use Rattle.page_pool.specs.declared.home.Home.{Home}
 use Rattle.page_pool.specs.declared.past.Past.{Past}
-use Rattle.page_pool.specs.Images.{HeldMap, IsHeld, PastMap, ImagesState, IsImages, was_newest, is_seen, is_seen_by, IsUnseen, is_shown, past_place, home_or, seen_place}
+use Rattle.page_pool.specs.Images.{HeldMap, AreSixteenSlots, PastMap, ImagesState, IsImages, was_newest, is_seen, is_seen_by, IsUnseen, is_shown, past_place, home_or, seen_place}
 use Rattle.page_pool.proofs.Maps.{tied, found-insert}
 use Rattle.page_pool.proofs.Choices.{is_in, key_in, first_found, first_none}
 
@@ -77,11 +77,11 @@ seen_in_slot held made until id is = by_stamp (map.get held id) refl is
     by_stamp (Some at) there h = seen_by held made until id at there h
 
 -- none of the slots has a stamp that sees it
-pub seen_in_none : (held : HeldMap) (made until : ℕ) → IsHeld held → ((id : ℕ) → id < 16 → is_seen_by made until (map.get held id) ≡ false) → is_seen held made until ≡ false
+pub seen_in_none : (held : HeldMap) (made until : ℕ) → AreSixteenSlots held → ((id : ℕ) → id < 16 → is_seen_by made until (map.get held id) ≡ false) → is_seen held made until ≡ false
 seen_in_none held made until few none = not_seen held made until (λ id at is. sym (ap (is_seen_by made until) is) ∙ none id (few id at is))
 
 -- the slots are few after one more stamp
-pub kept_few : (held new : HeldMap) (slot at : ℕ) → IsHeld held → slot < 16 → new ≡ map.insert held slot at → IsHeld new
+pub kept_few : (held new : HeldMap) (slot at : ℕ) → AreSixteenSlots held → slot < 16 → new ≡ map.insert held slot at → AreSixteenSlots new
 kept_few held new slot at few low is = λ id other there. by_insert id other (found-insert held slot at id other (ap (λ m. map.get m id) (sym is) ∙ there))
   where
     by_insert : (id other : ℕ) → ((id ≡ slot) × (other ≡ at)) ⊎ (map.get held id ≡ Some other) → id < 16

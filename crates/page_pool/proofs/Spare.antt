@@ -9,7 +9,7 @@ use Rattle.std.specs.FinSet.{nat_cmp-IsAntisymmetric}
 use Rattle.std.proofs.Math.Seq.{take-suc, get_or-append_seam}
 use Rattle.std.proofs.lemmas.Option.{slice_get-get_or}
 use Rattle.page_pool.specs.Disk.{NumberSet}
-use Rattle.page_pool.specs.Inside.{NumbersState, Takes, next_number}
+use Rattle.page_pool.specs.Inside.{NumbersState, TakesNumber, next_number}
 use Rattle.page_pool.proofs.Maps.{tie_itself}
 use Rattle.page_pool.proofs.Overlay.{same_set}
 
@@ -86,7 +86,7 @@ numbers_of front items top past_top = record { next = next_number front top; top
 
 -- the last of the front was taken
 pub takes_last : (items : List ℕ) (left top past_top : ℕ) → 0 < left → left ≤ length items → IsDistinct nat_eq items →
-    IfSome (next_number (take left items) top) (Takes (numbers_of (take left items) items top past_top) (numbers_of (take (left - 1) items) items top past_top))
+    IfSome (next_number (take left items) top) (TakesNumber (numbers_of (take left items) items top past_top) (numbers_of (take (left - 1) items) items top past_top))
 takes_last items left top past_top some within d =
     let before : left ≡ suc (left - 1) = omega arith in
     let inside : left - 1 < length items = omega arith in
@@ -94,6 +94,6 @@ takes_last items left top past_top some within d =
     let m : ℕ = get_or items (left - 1) 0 in
     let split : take left items ≡ front ++ m ∷ [] = ap (λ n. take n items) before ∙ take-suc items (left - 1) 0 inside in
     let facts = taken_last front m (subst (IsDistinct nat_eq) split (distinct_take left items d)) in
-    subst (λ f. IfSome (next_number f top) (Takes (numbers_of f items top past_top) (numbers_of front items top past_top))) (sym split)
-    (subst (λ o. IfSome o (Takes (numbers_of (front ++ m ∷ []) items top past_top) (numbers_of front items top past_top))) (sym (next_last front m top))
+    subst (λ f. IfSome (next_number f top) (TakesNumber (numbers_of f items top past_top) (numbers_of front items top past_top))) (sym split)
+    (subst (λ o. IfSome o (TakesNumber (numbers_of (front ++ m ∷ []) items top past_top) (numbers_of front items top past_top))) (sym (next_last front m top))
     record { past_top = refl; past_spare = refl; again = inr (facts.0, facts.1, refl) })

@@ -6,7 +6,7 @@ use Rattle.std.specs.FinMap as map
 use Rattle.std.specs.FinSet as set
 use Rattle.page_pool.specs.Disk.{DigestMap}
 use Rattle.page_pool.specs.Archive.{ImageMap, ArchiveState, IsArchive, IsReadArchive}
-use Rattle.page_pool.specs.Inside.{ChangeMap, StagedState, CacheState, NumbersState, Takes, IsWhole, is_used, state_of, overlaid, dirty_of, freed_of, place_count, shown_images, shown_stamps}
+use Rattle.page_pool.specs.Inside.{ChangeMap, StagedState, CacheState, NumbersState, TakesNumber, IsWhole, is_used, state_of, overlaid, dirty_of, freed_of, place_count, shown_images, shown_stamps}
 use Rattle.page_pool.specs.Pool.{zero_page}
 use Rattle.page_pool.specs.Commands.{Puts, Allocates, Frees, Aborts}
 use Rattle.page_pool.specs.Reads.{IsRead}
@@ -89,7 +89,7 @@ unimaged a n archive none = (
 
 -- a page of zeros under a number that was taken
 pub allocates_state : (a : ArchiveState) (staged staged' : StagedState) (frames : CacheState) (numbers taken : NumbersState) (is_open : Bool) (gets refused : ℕ) (n : ℕ) → is_open ≡ true
-    → staged'.changes ≡ map.insert staged.changes n (Some zero_page) → Takes numbers taken n → IsWhole a staged.changes frames numbers is_open
+    → staged'.changes ≡ map.insert staged.changes n (Some zero_page) → TakesNumber numbers taken n → IsWhole a staged.changes frames numbers is_open
     → Allocates (state_of a staged frames numbers is_open gets refused) (state_of a staged' frames taken is_open gets refused) n
 allocates_state a staged staged' frames numbers taken is_open gets refused n opened is takes whole =
     let free = taken_free (is_used staged.changes a.kept) numbers taken n whole.numbers_now takes in

@@ -6,7 +6,7 @@ use Rattle.std.specs.Option.{unwrap_or}
 use Rattle.std.specs.FinMap as map
 use Rattle.std.specs.FinSet as set
 use Rattle.page_pool.specs.Archive.{ImageMap, ArchiveState, IsImageMap, IsArchive, StandsWritten, new_archive, newest_images}
-use Rattle.page_pool.specs.Inside.{ChangeMap, CacheState, NumbersState, Takes, IsAccount, IsWhole, is_used, overlaid}
+use Rattle.page_pool.specs.Inside.{ChangeMap, CacheState, NumbersState, TakesNumber, IsAccount, IsWhole, is_used, overlaid}
 use Rattle.page_pool.proofs.Overlay.{is_gone, get-overlaid}
 use Rattle.page_pool.proofs.Accounts.{account-same, account-taken, account-none, used-again, used-insert}
 
@@ -97,7 +97,7 @@ whole-changed a changes frames numbers is_open n change opened used w = record {
 
 -- one more page under a number that is taken
 pub whole-taken : (a : ArchiveState) (changes : ChangeMap) (frames : CacheState) (numbers taken : NumbersState) (is_open : Bool) (n : ℕ) (change : Option (List ℕ))
-    → is_open ≡ true → Takes numbers taken n
+    → is_open ≡ true → TakesNumber numbers taken n
     → IsWhole a changes frames numbers is_open → IsWhole a (map.insert changes n change) frames taken is_open
 whole-taken a changes frames numbers taken is_open n change opened takes w = record {
   archived = w.archived;

@@ -14,7 +14,7 @@ use Rattle.page_pool.specs.Pool.{PoolState}
 use Rattle.page_pool.specs.declared.fault.PageFault.{PageFault}
 use Rattle.page_pool.specs.declared.fault.PageFault.TheVariants.{Memory}
 use Rattle.page_pool.specs.Causes.{HasPageCause, faults_after}
-use Rattle.page_pool.specs.Commands.{Writes, WritesOne, WritesAll, WritesInOrder}
+use Rattle.page_pool.specs.Commands.{WritesPages, WritesOne, WritesAll, WritesInOrder}
 use Rattle.page_pool.specs.Inside.{ChangeMap, StagedState, CacheState, NumbersState, IsAccount, IsImageOf, IsWhole, is_used, state_of, overlaid, dirty_of, freed_of, staged_shared, shown_images}
 use Rattle.page_pool.proofs.Maps.{same}
 use Rattle.page_pool.proofs.Overlay.{same_set, is_page, is_gone, get-overlaid, contains-dirty, contains-freed}
@@ -30,7 +30,7 @@ fewer_both : (a b c : ℕ) → b ≤ a → c ≤ b → c ≤ a
 fewer_both a b c h k = omega arith
 
 -- no writing at all
-pub Writes-refl : (s : PoolState) → IsNone s.live → Writes s s
+pub Writes-refl : (s : PoolState) → IsNone s.live → WritesPages s s
 Writes-refl s shown = record {
   lives = λ q. refl;
   pages = λ _. refl;
@@ -50,7 +50,7 @@ Writes-refl s shown = record {
 }
 
 -- two writings are one
-pub Writes-trans : (a b c : PoolState) → Writes a b → Writes b c → Writes a c
+pub Writes-trans : (a b c : PoolState) → WritesPages a b → WritesPages b c → WritesPages a c
 Writes-trans a b c h k = record {
   lives = λ q. k.lives q ∙ h.lives q;
   pages = λ told. k.pages (h.told ∙ told) ∙ h.pages told;
@@ -152,7 +152,7 @@ none_shared shared changes none = ap set.len
 -- a pool that opened after an accepted writing
 pub writes_opened : (old : PoolState) (a b : ArchiveState) (staged : StagedState) (frames : CacheState) (numbers numbers' : NumbersState) (is_open : Bool) (gets refused : ℕ)
     → ((q : ℕ) → map.get staged.changes q ≡ None) → Advances a b → numbers'.top ≡ numbers.top
-    → Writes old (state_of a staged frames numbers is_open gets refused) → Writes old (state_of b staged frames numbers' true gets refused)
+    → WritesPages old (state_of a staged frames numbers is_open gets refused) → WritesPages old (state_of b staged frames numbers' true gets refused)
 writes_opened old a b staged frames numbers numbers' is_open gets refused none advances top w =
     Writes-trans old (state_of a staged frames numbers is_open gets refused) (state_of b staged frames numbers' true gets refused) w
     (writes_from (state_of a staged frames numbers is_open gets refused) (state_of b staged frames numbers' true gets refused)
@@ -197,7 +197,8 @@ none_there None h = refl
 none_there (Some x) h = absurd (true≢false h)
 
 -- the writings so far, and one more
-pub writes_more : {T : Type 0} (a b c : PoolState) (n : ℕ) (result : Result T PageFault) → Writes a b → b.disk.faults ≡ a.disk.faults → WritesOne b c n result → Writes a c × HasPageCause a c result
+pub writes_more : {T : Type 0} (a b c : PoolState) (n : ℕ) (result : Result T PageFault) → WritesPages a b → b.disk.faults ≡ a.disk.faults → WritesOne b c n result
+    → WritesPages a c × HasPageCause a c result
 writes_more a b c n result before same one = (Writes-trans a b c before one.writes, record { counted = one.cause.counted ∙ ap (λ n. faults_after n result) same; damaged = one.cause.damaged })
 
 -- no writing is in order

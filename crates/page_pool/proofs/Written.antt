@@ -11,7 +11,7 @@ use Rattle.sha2.specs.Sha256.{sha256}
 use Rattle.page_pool.specs.Disk.{PageMap, NumberSet}
 use Rattle.page_pool.specs.Archive.{ArchiveState, IsArchive, ChangesPage, ReplacesImage, HasImage, newest_images}
 use Rattle.page_pool.specs.Inside.{ChangeMap, StagedState, CacheState, NumbersState, IsAccount, IsImageOf, IsWhole, is_used, state_of, overlaid, dirty_of, freed_of, staged_shared}
-use Rattle.page_pool.specs.Commands.{Settles, SettlesStamps, Writes}
+use Rattle.page_pool.specs.Commands.{Settles, SettlesStamps, WritesPages}
 use Rattle.page_pool.specs.Pool.{PoolState, shown_of}
 use Rattle.page_pool.proofs.Maps.{same, get-remove_same, get-remove_other, tie_itself, tie_apart}
 use Rattle.page_pool.proofs.Overlay.{same_set, is_page, is_gone, get-overlaid, contains-dirty, contains-freed}
@@ -69,7 +69,7 @@ freed_is changes n freed = by_change (map.get changes n) refl (sym (contains-fre
 -- a writing, by what it does to the live map and to those of the stamps
 pub writes_from : (old new : PoolState) → Settles old.disk.told (shown_of old) (shown_of new) → new.disk.told ≡ old.disk.told → new.disk.given ≡ old.disk.given
     → new.top ≡ old.top → new.frames ≡ old.frames → new.gets ≡ old.gets → new.refused ≡ old.refused
-    → SettlesStamps old new → IsNone new.live → new.places ≤ old.places → Writes old new
+    → SettlesStamps old new → IsNone new.live → new.places ≤ old.places → WritesPages old new
 writes_from old new live told given top frames gets refused stamps shown places = record {
   lives = live.lives;
   pages = live.pages;
@@ -159,9 +159,10 @@ module _ (a b : ArchiveState) (changes : ChangeMap) (frames frames' : CacheState
   -- all pages are as they were
   pub writes_spoiled : (staged : StagedState) (gets refused : ℕ) → staged.changes ≡ changes → IsArchive a → frames'.most ≡ frames.most → numbers'.top ≡ numbers.top
       → b.seen + set.len (staged_shared b.shared changes) ≤ a.seen + set.len (staged_shared a.shared changes)
-      → Writes (state_of a staged frames numbers is_open gets refused) (state_of b staged frames' numbers' is_open gets refused)
+      → WritesPages (state_of a staged frames numbers is_open gets refused) (state_of b staged frames' numbers' is_open gets refused)
   writes_spoiled staged gets refused is old most top fewer =
-      subst (λ c. Writes (state_of a (record staged { changes = c }) frames numbers is_open gets refused) (state_of b (record staged { changes = c }) frames' numbers' is_open gets refused)) (sym is)
+      subst (λ c. WritesPages (state_of a (record staged { changes = c }) frames numbers is_open gets refused) (state_of b (record staged { changes = c }) frames' numbers' is_open gets refused))
+      (sym is)
       (writes_from (state_of a (record staged { changes = changes }) frames numbers is_open gets refused) (state_of b (record staged { changes = changes }) frames' numbers' is_open gets refused)
       settles_spoiled change.told change.given top most refl refl
       record { held = held_still a b n change changes changes; settles = stamp_settled a b n change a.disk.told changes changes old archive settles_spoiled }
@@ -262,7 +263,7 @@ module _ (a b : ArchiveState) (changes changes' : ChangeMap) (frames forgotten f
   }
 
   pub writes_settled : (count count' gets refused : ℕ) → IsArchive a → frames'.most ≡ frames.most → ReplacesImage a b n
-      → Writes (state_of a record { changes = changes; count = count } frames numbers is_open gets refused)
+      → WritesPages (state_of a record { changes = changes; count = count } frames numbers is_open gets refused)
       (state_of b record { changes = changes'; count = count' } frames' numbers is_open gets refused)
   writes_settled count count' gets refused old most replaces =
       let fewer : b.seen + set.len (staged_shared b.shared changes') ≤ a.seen + set.len (staged_shared a.shared changes) =

@@ -19,7 +19,7 @@ pub record KeepsDisk (old new : PoolState) : Type 0 where
   pub live : new.live ≡ old.live
 
 -- The open command changed the live pages to these, with these of them dirty, and did nothing else. The images that are kept become more by at most one for each page that became dirty.
-pub record Changes (old new : PoolState) (live : PageMap) (unwritten : NumberSet) : Type 0 where
+pub record ChangesLive (old new : PoolState) (live : PageMap) (unwritten : NumberSet) : Type 0 where
   pub pages : new.pages ≡ live
   pub dirty : new.dirty ≡ unwritten
   pub beginning : new.beginning ≡ old.beginning
@@ -28,7 +28,7 @@ pub record Changes (old new : PoolState) (live : PageMap) (unwritten : NumberSet
 
 -- page n has these bytes, and all else is as it was
 pub record Puts (old new : PoolState) (n : ℕ) (bytes : List ℕ) : Type 0 where
-  pub changes : Changes old new (map.insert old.pages n bytes) (set.insert old.dirty n)
+  pub changes : ChangesLive old new (map.insert old.pages n bytes) (set.insert old.dirty n)
   pub freed : new.freed ≡ old.freed
   pub top : new.top ≡ old.top
   pub spare : new.spare ≡ old.spare
@@ -38,13 +38,13 @@ pub record Allocates (old new : PoolState) (n : ℕ) : Type 0 where
   pub positive : 1 ≤ n
   pub fresh : map.get old.pages n ≡ None
   pub unknown : IfSome old.beginning (λ m. map.get m n ≡ None)
-  pub changes : Changes old new (map.insert old.pages n zero_page) (set.insert old.dirty n)
+  pub changes : ChangesLive old new (map.insert old.pages n zero_page) (set.insert old.dirty n)
   pub freed : new.freed ≡ old.freed
   pub again : ((n ≡ old.top + 1) × (new.top ≡ n) × (old.spare ≡ set.empty) × (new.spare ≡ set.empty)) ⊎ (IsTrue (set.contains old.spare n) × (new.spare ≡ set.remove old.spare n) × (new.top ≡ old.top))
 
 -- page n is no more, and its number waits for the next writing
 pub record Frees (old new : PoolState) (n : ℕ) : Type 0 where
-  pub changes : Changes old new (map.remove old.pages n) (set.remove old.dirty n)
+  pub changes : ChangesLive old new (map.remove old.pages n) (set.remove old.dirty n)
   pub freed : new.freed ≡ set.insert old.freed n
   pub top : new.top ≡ old.top
   pub spare : new.spare ≡ old.spare
@@ -79,7 +79,7 @@ pub record SettlesStamps (old new : PoolState) : Type 0 where
 
 -- The writing of dirty pages, whatever its answer. The same pages are live, with the same bytes where the disk tells.
 -- A page that is dirty no more was written and has the digest of its bytes; each other live page keeps its digest.
-pub record Writes (old new : PoolState) : Type 0 where
+pub record WritesPages (old new : PoolState) : Type 0 where
   pub lives : (n : ℕ) → map.contains_key new.pages n ≡ map.contains_key old.pages n
   pub pages : IsTold old → new.pages ≡ old.pages
   pub dirty : (n : ℕ) → IsDirty new n → IsDirty old n
@@ -107,7 +107,7 @@ pub record IsWritten (s : PoolState) : Type 0 where
 
 -- The writing that opens a command, or only writes, in ascending order: no damage is found by it, and a refusal leaves the pool closed.
 pub record WritesAll {T : Type 0} (old new : PoolState) (result : Result T PageFault) : Type 0 where
-  pub writes : Writes old new
+  pub writes : WritesPages old new
   pub ascending : WritesInOrder old new
   pub accepted : OnOk result (IsWritten new)
   pub cause : HasPageCause old new result
@@ -119,7 +119,7 @@ waiting_count s = set.len s.dirty + set.len s.freed
 
 -- Waiting page n was written, or the freed number n let go: where that was accepted, fewer wait, and each other page that was dirty still is.
 pub record WritesOne {T : Type 0} (old new : PoolState) (n : ℕ) (result : Result T PageFault) : Type 0 where
-  pub writes : Writes old new
+  pub writes : WritesPages old new
   pub others : (q : ℕ) → q ≢ n → IsDirty old q → IsDirty new q
   pub closed : new.beginning ≡ None
   pub cause : HasPageCause old new result

@@ -37,9 +37,9 @@ faults_after before (Ok _) = before
 faults_after before (Err why) = faults_at before why
 
 -- the page last given after a reading into this page: that page at Ok, and else the one before
-abbrev pub given_after : {T : Type 0} → List ℕ → List ℕ → Result T DiskFault → List ℕ
-given_after before page (Ok _) = page
-given_after before page (Err _) = before
+abbrev pub page_given_after : {T : Type 0} → List ℕ → List ℕ → Result T DiskFault → List ℕ
+page_given_after before page (Ok _) = page
+page_given_after before page (Err _) = before
 
 -- A start settles whether the disk tells. Where it tells and Ok came, no page is there.
 pub record Starts {T : Type 0} (old new : DiskView) (result : Result T DiskFault) : Type 0 where
@@ -49,7 +49,7 @@ pub record Starts {T : Type 0} (old new : DiskView) (result : Result T DiskFault
 -- A reading of page n into this page: where the disk tells and Ok came, it is the map's. Nothing that is seen changes but the page last given and the count.
 pub record ReadsPage {T : Type 0} (old new : DiskView) (n : ℕ) (page : List ℕ) (result : Result T DiskFault) : Type 0 where
   pub value : OnOk result (IsTrue old.told → map.get old.pages n ≡ Some page)
-  pub after : new ≡ record old { given = given_after old.given page result; faults = faults_after old.faults result }
+  pub after : new ≡ record old { given = page_given_after old.given page result; faults = faults_after old.faults result }
 
 -- A writing of page n, where the disk tells: Ok puts the page in its place, and no other page changes, whatever the answer. Whether it tells and the page last given stay.
 pub record WritesPage {T : Type 0} (old new : DiskView) (n : ℕ) (page : List ℕ) (result : Result T DiskFault) : Type 0 where

@@ -28,8 +28,8 @@ abbrev pub HeldMap : Type 0
 HeldMap = map.FinMap nat_cmp ℕ
 
 -- the slots of held stamps are the first sixteen
-abbrev pub IsHeld : HeldMap → Type 0
-IsHeld held = (id at : ℕ) → map.get held id ≡ Some at → id < 16
+abbrev pub AreSixteenSlots : HeldMap → Type 0
+AreSixteenSlots held = (id at : ℕ) → map.get held id ≡ Some at → id < 16
 
 -- The newest written images, the replaced ones, the held stamps. How many commands began so far.
 -- How many had begun at the last change, and the greatest place so far.

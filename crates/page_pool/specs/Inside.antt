@@ -119,7 +119,7 @@ abbrev pub next_number : List ℕ → ℕ → Option ℕ
 next_number spare top = cond (nat_eq (length spare) 0) (cond (nat_lt (top + 1) (2 ^ 64)) (Some (top + 1)) None) (slice_get spare (length spare - 1))
 
 -- Number n was taken: the next one above all where no freed one waits, and else a freed one.
-pub record Takes (old new : NumbersState) (n : ℕ) : Type 0 where
+pub record TakesNumber (old new : NumbersState) (n : ℕ) : Type 0 where
   pub past_top : new.past_top ≡ old.past_top
   pub past_spare : new.past_spare ≡ old.past_spare
   pub again : ((n ≡ old.top + 1) × (new.top ≡ n) × (old.spare ≡ set.empty) × (new.spare ≡ set.empty)) ⊎ (IsTrue (set.contains old.spare n) × (new.spare ≡ set.remove old.spare n) × (new.top ≡ old.top))

@@ -66,14 +66,14 @@ archive_of disk kept s = record {
 }
 
 -- the image at this place stands on the disk with its digest
-abbrev pub StandsAt : DiskView → DigestMap → ℕ → Type 0
-StandsAt disk kept place = (digest : List ℕ) × ((map.get kept place ≡ Some digest)
+abbrev pub ImageStandsAt : DiskView → DigestMap → ℕ → Type 0
+ImageStandsAt disk kept place = (digest : List ℕ) × ((map.get kept place ≡ Some digest)
     × (IsTrue disk.told → (page : List ℕ) × ((map.get disk.pages place ≡ Some page) × (digest ≡ sha256 page))))
 
 -- What holds of an archive's parts. Each newest image has a digest, and each image that a stamp of an earlier command sees stands on the disk with its own.
 pub record IsArchived (disk : DiskView) (kept : DigestMap) (s : ImagesState) : Type 0 where
   pub digested : (n place : ℕ) → newest_place s n ≡ Some place → IsTrue (map.contains_key kept place)
-  pub stands : (slot at n place : ℕ) → map.get s.held slot ≡ Some at → at < s.begun → seen_place at s n ≡ Some place → StandsAt disk kept place
+  pub stands : (slot at n place : ℕ) → map.get s.held slot ≡ Some at → at < s.begun → seen_place at s n ≡ Some place → ImageStandsAt disk kept place
 
 -- the image at this place, where it has a digest and the disk tells, stands with it
 abbrev pub StandsStored : DiskView → DigestMap → ℕ → Type 0

@@ -8,7 +8,7 @@ use Rattle.page_pool.specs.Disk.{PageMap, NumberSet}
 use Rattle.page_pool.specs.Pool.{PoolState, Shown, IsClosed, live_again, back}
 use Rattle.page_pool.specs.Causes.{HasPageCause, faults_after}
 use Rattle.page_pool.specs.Reads.{IsRead}
-use Rattle.page_pool.specs.Commands.{Changes}
+use Rattle.page_pool.specs.Commands.{ChangesLive}
 
 -- What neither reading nor changing pages in an open command changes: the command's beginning, the kept digests, whether the disk tells and its pages,
 -- the frames, the maps of the held stamps, and which map is shown.
@@ -78,7 +78,7 @@ pub InCommand-read : (a b : PoolState) → IsRead a b → InCommand a b
 InCommand-read a b h = record { beginning = h.beginning; kept = h.kept; told = h.told; stored = h.stored; frames = h.frames; stamps = h.stamps; live = h.live }
 
 -- so is a change
-pub InCommand-changes : (a b : PoolState) (live : PageMap) (unwritten : NumberSet) → Changes a b live unwritten → InCommand a b
+pub InCommand-changes : (a b : PoolState) (live : PageMap) (unwritten : NumberSet) → ChangesLive a b live unwritten → InCommand a b
 InCommand-changes a b live unwritten h = record {
   beginning = h.beginning;
   kept = h.keeps.kept;

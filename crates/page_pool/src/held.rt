@@ -18,7 +18,7 @@ pub(crate) struct Held {
 }
 
 impl Model for Held {
-    ghost use Rattle.page_pool.specs.Images.{HeldMap, IsHeld};
+    ghost use Rattle.page_pool.specs.Images.{HeldMap, AreSixteenSlots};
     ghost use Rattle.page_pool.specs.Codes.{held_map_code};
 
     ghost Value = { HeldMap };
@@ -27,7 +27,7 @@ impl Model for Held {
 
     ghost view = { λ a. a.stamps };
 
-    ghost invariant = { λ a. IsHeld a.stamps };
+    ghost invariant = { λ a. AreSixteenSlots a.stamps };
 }
 
 impl Held {

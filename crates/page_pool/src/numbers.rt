@@ -1,6 +1,6 @@
 ghost use Rattle.std.specs.Prelude.{◌≡◌, Some, false, IfSome, OnOk, OnErr};
 ghost use Rattle.std.specs.FinSet as set;
-ghost use Rattle.page_pool.specs.Inside.{Takes};
+ghost use Rattle.page_pool.specs.Inside.{TakesNumber};
 
 use sand_base::NoMemory;
 use std::alloc::Global;
@@ -67,7 +67,7 @@ impl Numbers {
 
     // Takes the number that `next` gives.
     pub(crate) fn take(&mut self)
-        ensures { IfSome self.old.next (Takes self.old self.new) }
+        ensures { IfSome self.old.next (TakesNumber self.old self.new) }
     {
         if self.left > 0 {
             self.left -= 1;

@@ -21,7 +21,7 @@ use Rattle.core.specs.List.{swap}
 use Rattle.core.specs.List.Sorted.{apply_swaps, SwapsInRange}
 use Rattle.std.proofs.lemmas.List.Sorted.{length_permutation}
 use Rattle.std.specs.contracts.impls.GlobalAllocator.TheImpl.{ghosts}
-use Rattle.pair_heap.specs.Chain.{Chain, end, link, places}
+use Rattle.pair_heap.specs.Chain.{Chain, end, link, chain_places}
 use Rattle.pair_heap.specs.Ownership.{heap, chain_owns}
 use Rattle.pair_heap.specs.Slab.{SlabFits, all_slots, slab_at, slabs_own, block_at, blocks_own}
 use Rattle.pair_heap.specs.Slot.{slot_owns, slots_own, fresh_own}
@@ -178,7 +178,7 @@ module _ (U : RattleType) (L : Laws U) where
         (together ps qs) $ move ! (1 ∷ 0 ∷ []) $ fjoin ! $ done !
 
     -- a chain of trees is its nodes' slots, once their items are let go
-    pub cleared : (c : Chain (R U L).Denot) (p : Ptr) → ent 𝓤 (sem 𝓛 (chain_owns (R U L) c p)) (slots_at (places c))
+    pub cleared : (c : Chain (R U L).Denot) (p : Ptr) → ent 𝓤 (sem 𝓛 (chain_owns (R U L) c p)) (slots_at (chain_places c))
     cleared end p = qed 𝓛 (‵ (chain_owns (R U L) end p) ∷ []) ∵ drop ! $ nothing ! $ done !
     cleared (link q x kids rest) p =
         qed 𝓛 (‵ (chain_owns (R U L) (link q x kids rest) p) ∷ []) ∵ fpick ! (λ same. fpick ! (λ links. fsplit ! $ fpick ! (λ may.
@@ -187,8 +187,9 @@ module _ (U : RattleType) (L : Laws U) where
         emptied U L ! b o (node_val U L links.0 links.1 v) $ fpack ! (Testable (block_ptr b o)) (λ _. froom node b o) (subst Testable at_block may) $ move ! (1 ∷ []) $ drop ! $
         rewrite ! 0 (λ r. ‵ (slot_owns (R U L) r)) (sym (same ∙ at_block)) refl $
         -- [the slot; the chains]
-        move ! (1 ∷ []) $ fsplit ! $ use1 𝓛 (‵ (slots_own (R U L) (places kids))) (cleared kids links.0) $ move ! (1 ∷ []) $ use1 𝓛 (‵ (slots_own (R U L) (places rest))) (cleared rest links.1) $
-        move ! (1 ∷ 0 ∷ []) $ use2 𝓛 (‵ (slots_own (R U L) (places kids ++ places rest))) (together (places kids) (places rest)) $ move ! (1 ∷ 0 ∷ []) $ fjoin ! $ done !)))))
+        move ! (1 ∷ []) $ fsplit ! $ use1 𝓛 (‵ (slots_own (R U L) (chain_places kids))) (cleared kids links.0) $ move ! (1 ∷ []) $ use1 𝓛
+        (‵ (slots_own (R U L) (chain_places rest))) (cleared rest links.1) $
+        move ! (1 ∷ 0 ∷ []) $ use2 𝓛 (‵ (slots_own (R U L) (chain_places kids ++ chain_places rest))) (together (chain_places kids) (chain_places rest)) $ move ! (1 ∷ 0 ∷ []) $ fjoin ! $ done !)))))
 
     -- a slab with all of its slots is a whole block
     filled : (ps : List Ptr) (b o : ℕ) → ent 𝓤 (sep 𝓤 (slots_at ps) (sem 𝓛 (fwand (fsep (froom ty_ptr b (o + 0)) (slots_own (R U L) ps)) (froom slab b o)))) (sem 𝓛 (slab_back b o))

@@ -15,14 +15,14 @@ items end = []
 items (link p x kids rest) = x ∷ (items kids ++ items rest)
 
 -- the places of a chain's nodes, in the order of their items
-abbrev pub places : {X : Type 0} → Chain X → List Ptr
-places end = []
-places (link p x kids rest) = p ∷ (places kids ++ places rest)
+abbrev pub chain_places : {X : Type 0} → Chain X → List Ptr
+chain_places end = []
+chain_places (link p x kids rest) = p ∷ (chain_places kids ++ chain_places rest)
 
 -- A chain as a list of marks before the others: what stands below and behind a node comes first, and None is an end.
-abbrev pub written : {X : Type 0} → Chain X → List (Option (Ptr × X)) → List (Option (Ptr × X))
-written end marks = None ∷ marks
-written (link p x kids rest) marks = written kids (written rest (Some (p, x) ∷ marks))
+abbrev pub chain_written : {X : Type 0} → Chain X → List (Option (Ptr × X)) → List (Option (Ptr × X))
+chain_written end marks = None ∷ marks
+chain_written (link p x kids rest) marks = chain_written kids (chain_written rest (Some (p, x) ∷ marks))
 
 -- The chain on top of a stack.
 abbrev pub top : {X : Type 0} → List (Chain X) → Chain X
@@ -38,10 +38,10 @@ run (Some n ∷ marks) (rest ∷ []) = []
 run (Some n ∷ marks) (rest ∷ (kids ∷ stack)) = run marks (link n.0 n.1 kids rest ∷ stack)
 
 -- a chain that is written out is read back
-pub run_written : {X : Type 0} (c : Chain X) (marks : List (Option (Ptr × X))) (stack : List (Chain X)) → run (written c marks) stack ≡ run marks (c ∷ stack)
+pub run_written : {X : Type 0} (c : Chain X) (marks : List (Option (Ptr × X))) (stack : List (Chain X)) → run (chain_written c marks) stack ≡ run marks (c ∷ stack)
 run_written end marks stack = refl
-run_written (link p x kids rest) marks stack = run_written kids (written rest (Some (p, x) ∷ marks)) stack ∙ run_written rest (Some (p, x) ∷ marks) (kids ∷ stack)
+run_written (link p x kids rest) marks stack = run_written kids (chain_written rest (Some (p, x) ∷ marks)) stack ∙ run_written rest (Some (p, x) ∷ marks) (kids ∷ stack)
 
 -- a chain is stored as its marks
 abbrev pub chain_code : {X : Type 0} → Coded X → Coded (Chain X)
-chain_code {X} x = code_by (List (Option (Ptr × X))) (coded_list (coded_option (coded× coded_ptr x))) (λ c. written c []) (λ marks. top (run marks [])) (λ c. ap top (run_written c [] []))
+chain_code {X} x = code_by (List (Option (Ptr × X))) (coded_list (coded_option (coded× coded_ptr x))) (λ c. chain_written c []) (λ marks. top (run marks [])) (λ c. ap top (run_written c [] []))

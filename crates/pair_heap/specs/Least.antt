@@ -8,10 +8,10 @@ abbrev pub AtMost : {X : Type 0} → (X → X → Ordering) → X → X → Type
 AtMost cmp x y = is_gt (cmp x y) ≡ false
 
 -- no item of the list comes before x
-abbrev pub IsLeast : {X : Type 0} → (X → X → Ordering) → X → List X → Type 0
-IsLeast cmp x xs = All (AtMost cmp x) xs
+abbrev pub IsLeastItem : {X : Type 0} → (X → X → Ordering) → X → List X → Type 0
+IsLeastItem cmp x xs = All (AtMost cmp x) xs
 
 -- x is an item of the list that no other comes before
 pub record IsFirst {X : Type 0} (cmp : X → X → Ordering) (x : X) (xs : List X) : Type 0 where
   pub queued : Contains xs x
-  pub least : IsLeast cmp x xs
+  pub least : IsLeastItem cmp x xs

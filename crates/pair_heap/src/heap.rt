@@ -1,5 +1,5 @@
 ghost use Rattle.std.specs.Prelude.{◌≡◌, ◌+◌, ◌<◌, ◌≤◌, [], ◌∷◌, ◌++◌, length, OnOk, MatchOption, IsPermutation};
-ghost use Rattle.pair_heap.specs.Least.{IsFirst, IsLeast};
+ghost use Rattle.pair_heap.specs.Least.{IsFirst, IsLeastItem};
 
 use crate::release::{release, release_slabs};
 use crate::root::{as_trees, meld_in, replace_least, take_least};
@@ -29,11 +29,11 @@ impl<T: Ord> Model for PairHeap<T> {
     ghost Value = { Queued T };
 
     ghost use Rattle.pair_heap.specs.Tree.{root_items};
-    ghost use Rattle.pair_heap.specs.Sound.{IsSound};
+    ghost use Rattle.pair_heap.specs.Sound.{IsSoundHeap};
 
     ghost view = { λ h. record { items = root_items h.root; spare = h.spare } };
 
-    ghost invariant = { IsSound T.cmp };
+    ghost invariant = { IsSoundHeap T.cmp };
 }
 
 impl<T: Ord + Drop> PairHeap<T> {
@@ -109,7 +109,7 @@ impl<T: Ord + Drop> PairHeap<T> {
     /// Takes an item that no other comes before, whose slot is spare from then on; None exactly where there is none.
     pub fn pop(&mut self) -> Option<T>
         ensures items { MatchOption result ((self.old.items ≡ []) × (self.new.items ≡ [])) (λ x. IsPermutation self.old.items (x ∷ self.new.items)) }
-        ensures least { MatchOption result (self.old.items ≡ []) (λ x. IsLeast T.cmp x self.new.items) }
+        ensures least { MatchOption result (self.old.items ≡ []) (λ x. IsLeastItem T.cmp x self.new.items) }
         ensures spare { MatchOption result (self.new.spare ≡ self.old.spare) (λ _. self.new.spare ≡ self.old.spare + 1) }
     {
         let Some((item, slot)) = take_least(&mut self.root) else {

@@ -1,8 +1,8 @@
 ghost use Rattle.std.specs.Prelude.{◌≡◌, ◌+◌, ◌≤◌, [], ◌∷◌, ◌++◌, length, MatchOption, IsPermutation};
-ghost use Rattle.pair_heap.specs.Chain.{items, places};
+ghost use Rattle.pair_heap.specs.Chain.{items, chain_places};
 ghost use Rattle.pair_heap.specs.Heap.{IsHeap};
-ghost use Rattle.pair_heap.specs.Least.{IsFirst, IsLeast};
-ghost use Rattle.pair_heap.specs.Tree.{IsTree, IsRoot, tree_items, tree_places, root_items, root_places};
+ghost use Rattle.pair_heap.specs.Least.{IsFirst, IsLeastItem};
+ghost use Rattle.pair_heap.specs.Tree.{IsHeapTree, IsRoot, heap_items, tree_places, root_items, root_places};
 
 use crate::meld::{join, meld};
 use crate::slot::Slot;
@@ -14,9 +14,9 @@ use std::mem::replace;
 // Melds the tree into the one that is there.
 pub(crate) fn meld_in<T: Ord + Drop>(root: &mut Option<Tree<T>>, tree: Tree<T>)
     requires root { IsRoot T.cmp root.old }
-    requires tree { IsTree T.cmp tree }
+    requires tree { IsHeapTree T.cmp tree }
     ensures root { IsRoot T.cmp root.new }
-    ensures items { IsPermutation (root_items root.old ++ tree_items tree) (root_items root.new) }
+    ensures items { IsPermutation (root_items root.old ++ heap_items tree) (root_items root.new) }
     ensures slots { IsPermutation (root_places root.old ++ tree_places tree) (root_places root.new) }
 {
     let whole = match replace(root, None) {
@@ -32,7 +32,7 @@ pub(crate) fn take_least<T: Ord + Drop>(root: &mut Option<Tree<T>>) -> Option<(T
     ensures root { IsRoot T.cmp root.new }
     ensures items { MatchOption result ((root.old ≡ None) × (root.new ≡ None)) (λ r. IsPermutation (root_items root.old) (r.0 ∷ root_items root.new)) }
     ensures slots { MatchOption result (root.old ≡ None) (λ r. IsPermutation (root_places root.old) (r.1.ptr ∷ root_places root.new)) }
-    ensures least { MatchOption result (root.old ≡ None) (λ r. IsLeast T.cmp r.0 (root_items root.new)) }
+    ensures least { MatchOption result (root.old ≡ None) (λ r. IsLeastItem T.cmp r.0 (root_items root.new)) }
 {
     let Some(tree) = replace(root, None) else {
         return None;
@@ -78,7 +78,7 @@ fn with_items<T: Ord + Drop>(
     ensures heap { IsHeap T.cmp result.chain }
     ensures items { IsPermutation (added.old.items ++ items trees.chain) (items result.chain) }
     ensures added { added.new.items ≡ [] }
-    ensures slots { IsPermutation (places trees.chain ++ spares.old.places) (places result.chain ++ spares.new.places) }
+    ensures slots { IsPermutation (chain_places trees.chain ++ spares.old.places) (chain_places result.chain ++ spares.new.places) }
     ensures spares { length spares.new.places + length added.old.items ≡ length spares.old.places }
 {
     let mut all = trees;
@@ -93,7 +93,7 @@ fn with_items<T: Ord + Drop>(
 
 // The only tree as a chain.
 pub(crate) fn as_trees<T>(root: Option<Tree<T>>) -> Trees<T>
-    ensures { places result.chain ≡ root_places root }
+    ensures { chain_places result.chain ≡ root_places root }
 {
     match root {
         None => Trees::end(),

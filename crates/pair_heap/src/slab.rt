@@ -1,7 +1,7 @@
 ghost use Rattle.std.specs.Prelude.{◌≡◌, ℕ, zero, suc, List, [], ◌∷◌, ◌++◌, length, IfSome, MatchOption, IsPermutation};
 ghost use Rattle.std.specs.Coded.{coded_list};
 ghost use denote.RawPtr.{Ptr, coded_ptr};
-ghost use Rattle.pair_heap.specs.Chain.{places};
+ghost use Rattle.pair_heap.specs.Chain.{chain_places};
 ghost use Rattle.pair_heap.specs.Slab.{SlabFits, all_slots};
 
 use crate::node::Node;
@@ -60,7 +60,7 @@ impl<T> Slabs<T> {
     // The slabs as whole blocks again, since each of their slots is a node of the trees or is spare. Items are let go
     // where they stand.
     pub(crate) fn whole(self, trees: Trees<T>, spares: Spares<T>) -> Blocks<T>
-        requires { IsPermutation (places trees.chain ++ spares.places) (all_slots self.slots) }
+        requires { IsPermutation (chain_places trees.chain ++ spares.places) (all_slots self.slots) }
         ensures { result.count ≡ length self.slots }
     {
         let Slabs { ptr } = self;

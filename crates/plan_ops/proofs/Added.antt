@@ -5,8 +5,8 @@ use Rattle.page_pool.specs.Disk.{PageMap}
 use Rattle.statements.specs.declared.column.Place.{Place}
 use Rattle.statements.specs.declared.test.Test.{Test}
 use Rattle.sand_model.specs.Database.{Database}
-use Rattle.plan_places.specs.Spots.{IsSpot}
-use Rattle.plan_places.specs.declared.spot.Spot.{Spot}
+use Rattle.plan_names.specs.Spots.{IsSpot}
+use Rattle.plan_names.specs.declared.spot.Spot.{Spot}
 use Rattle.plan_stages.specs.Fetches.{AreSpots}
 use Rattle.plan_stages.specs.Tests.{IsTest, AreTests}
 use Rattle.plan_stages.specs.declared.tests.SpotTest.{SpotTest}

@@ -9,7 +9,7 @@ use Rattle.sand_model.specs.Database.{Database}
 use Rattle.sand_model.specs.Operators.{relations_of}
 use Rattle.statements.specs.Plan as model
 use Rattle.statements.specs.Plan.{plan_value}
-use Rattle.plan_places.specs.declared.spot.Spot.{Spot}
+use Rattle.plan_names.specs.declared.spot.Spot.{Spot}
 use Rattle.plan_stages.specs.Fetches.{AreSpots, FetchStands}
 use Rattle.plan_stages.specs.Filters.{FilterStands}
 use Rattle.plan_stages.specs.Tests.{AreTests}

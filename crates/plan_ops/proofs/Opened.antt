@@ -10,10 +10,10 @@ use Rattle.statements.specs.declared.test.Test.{Test}
 use Rattle.sand_model.specs.Checks.{check_operators}
 use Rattle.sand_store.specs.Catalog.{CatalogView}
 use Rattle.sand_store.specs.Contents.{database_in}
-use Rattle.plan_check.specs.OperatorCheck.{check_operator}
+use Rattle.plan_names.specs.OperatorCheck.{check_operator}
 use Rattle.statements.specs.Plan.{plan_value, depth}
-use Rattle.plan_check.proofs.Operators.{over_inner}
-use Rattle.plan_check.proofs.Passed.{first_passed}
+use Rattle.plan_names.proofs.Operators.{over_inner}
+use Rattle.plan_names.proofs.Passed.{first_passed}
 use Rattle.plan_ops.specs.Openable.{IsOpenable}
 
 -- the plan is an operator over the inner one

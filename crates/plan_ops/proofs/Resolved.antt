@@ -2,7 +2,7 @@
 use Rattle.std.proofs.Common.{◌≡◌, ℕ, Bool, true, false, List, Option, Some, None, refl, sym, ◌∙◌, ap, subst, true≢false, Bor}
 use Rattle.std.specs.Prelude.{is_some, nat_eq, IfSome, option_map}
 use Rattle.std.specs.List.{list_any}
-use Rattle.plain_source.specs.Plain.{LacksInts}
+use Rattle.plan_sources.specs.Plain.{LacksInts}
 use Rattle.sand_base.specs.declared.kind.Kind.{Kind}
 use Rattle.sand_base.specs.declared.kind.Kind.TheVariants as kind
 use Rattle.sand_base.specs.Shape.{is_spatial, same_kind}
@@ -14,10 +14,10 @@ use Rattle.statements.specs.declared.column.Place.{Place}
 use Rattle.sand_store.specs.Catalog.{CatalogView, IsCatalog, IsDescribed, IsColumnAt}
 use Rattle.sand_store.specs.declared.relation.Relation.{Relation as StoredRelation}
 use Rattle.sand_store.specs.Standing.{kind_at as stored_kind}
-use Rattle.plan_check.proofs.Columns.{column_of_kind, index_by_place}
-use Rattle.plan_check.proofs.Passed.{IsSearchable, IsUsable, column_searchable, column_usable, relation_there, IsPlaced, place_there}
-use Rattle.plan_places.specs.Indexed.{LacksIndex}
-use Rattle.plan_places.specs.Spots.{HasNoColumn, names_of}
+use Rattle.plan_names.proofs.Columns.{column_of_kind, index_by_place}
+use Rattle.plan_names.proofs.Passed.{IsSearchable, IsUsable, column_searchable, column_usable, relation_there, IsPlaced, place_there}
+use Rattle.plan_names.specs.Indexed.{LacksIndex}
+use Rattle.plan_names.specs.Spots.{HasNoColumn, names_of}
 use Rattle.plan_ops.specs.Checked.{IsChecked, IsNearChecked, IsPlaceChecked}
 
 -- what is there is not missing

@@ -6,10 +6,10 @@ use Rattle.sand_model.specs.Database.{Database}
 use Rattle.statements.specs.Plan.{Plan}
 use Rattle.sand_model.specs.Taken.{Taken}
 use Rattle.best_first.specs.Visits.{told_pages}
-use Rattle.plan_rows.specs.Rows.{counts_of}
-use Rattle.plan_rows.specs.Prices.{Costs}
-use Rattle.plan_rows.specs.SourceSteps.{SourceStep}
-use Rattle.plan_rows.specs.declared.answer.Answer.{Answer}
+use Rattle.plan_iterator.specs.Rows.{counts_of}
+use Rattle.plan_iterator.specs.Prices.{Costs}
+use Rattle.plan_iterator.specs.SourceSteps.{SourceStep}
+use Rattle.plan_iterator.specs.declared.answer.Answer.{Answer}
 use Rattle.plan_ops.specs.Sources.{source_at, source_seen, source_heights, source_step_price, source_owed}
 use Rattle.plan_ops.specs.declared.source.Source.{Source}
 

@@ -8,15 +8,15 @@ use Rattle.sand_model.specs.Operators.{PlanRow}
 use Rattle.statements.specs.Plan.{Plan}
 use Rattle.sand_model.specs.Taken.{is_lazy}
 use Rattle.best_first.specs.Visits.{told_pages}
-use Rattle.plan_rows.specs.Prices.{unless_refused}
-use Rattle.plan_rows.specs.Rows.{row_of}
-use Rattle.plan_rows.specs.declared.answer.Answer.{Answer}
-use Rattle.plan_steps.specs.Outermost.{beneath}
-use Rattle.plan_steps.specs.Sifts.{IfDone, LooksPaid}
-use Rattle.plan_steps.specs.Stages.{Works, Finishes, IsDry}
-use Rattle.plan_steps.specs.Steps.{Lowers}
-use Rattle.plan_steps.specs.declared.sifted.Sifted.{Sifted}
-use Rattle.plan_steps.specs.declared.step.Step.{Step}
+use Rattle.plan_iterator.specs.Prices.{unless_refused}
+use Rattle.plan_iterator.specs.Rows.{row_of}
+use Rattle.plan_iterator.specs.declared.answer.Answer.{Answer}
+use Rattle.plan_iterator.specs.Outermost.{beneath}
+use Rattle.plan_iterator.specs.Sifts.{IfDone, LooksPaid}
+use Rattle.plan_iterator.specs.Stages.{Works, Finishes, IsDry}
+use Rattle.plan_iterator.specs.Steps.{Lowers}
+use Rattle.plan_iterator.specs.declared.sifted.Sifted.{Sifted}
+use Rattle.plan_iterator.specs.declared.step.Step.{Step}
 use Rattle.plan_ops.specs.Stages.{StageStands, is_closed, stage_steps, stage_price, stage_owed}
 use Rattle.plan_ops.specs.declared.stage.Stage.{Stage}
 

@@ -16,7 +16,7 @@ use Rattle.sand_model.specs.Operators.{relations_of}
 use Rattle.sand_store.specs.Catalog.{CatalogView}
 use Rattle.sand_store.specs.Contents.{database_in}
 use Rattle.statements.specs.Plan.{plan_value}
-use Rattle.plan_check.proofs.Passed.{first_passed, second_passed, three_passed}
+use Rattle.plan_names.proofs.Passed.{first_passed, second_passed, three_passed}
 use Rattle.plan_ops.specs.Checked.{IsChecked, IsPlaceChecked}
 use Rattle.plan_ops.specs.Openable.{IsOpenable}
 

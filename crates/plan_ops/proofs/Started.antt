@@ -3,7 +3,7 @@ use Rattle.std.proofs.Common.{◌≡◌, ℕ, ℤ, Bool, true, false, ◌&&◌, 
 use Rattle.page_pool.specs.Disk.{PageMap}
 use Rattle.pmr_tree.specs.declared.quadtree.Pmr.{Pmr}
 use Rattle.r_tree.specs.declared.tree.RTree.{RTree}
-use Rattle.near_source.specs.NearPlans.{IsRtreeOf, BeginsNear}
+use Rattle.plan_sources.specs.NearPlans.{IsRtreeOf, BeginsNear}
 use Rattle.sand_base.specs.declared.goal.Goal.{Goal}
 use Rattle.sand_base.specs.declared.goal.Goal.TheVariants as figure
 use Rattle.sand_base.specs.declared.kind.Kind.{Kind}
@@ -23,11 +23,11 @@ use Rattle.sand_store.specs.Contents.{database_in}
 use Rattle.sand_store.specs.Paths.{IsTreeOf}
 use Rattle.sand_store.specs.Standing.{CatalogStands, RelationStands}
 use Rattle.statements.specs.Plan.{plan_value}
-use Rattle.plan_check.proofs.Passed.{first_passed, second_passed}
-use Rattle.plan_rows.specs.SourceSteps.{nothing_taken}
-use Rattle.plan_steps.specs.Following.{Taking}
-use Rattle.rank_source.specs.Rankings.{IsColumnOf, Ranks, Begins}
-use Rattle.pair_source.specs.Joins.{JoinedColumns, Begins as BeginsPairs, BeginsFirsts, BeginsPartners}
+use Rattle.plan_names.proofs.Passed.{first_passed, second_passed}
+use Rattle.plan_iterator.specs.SourceSteps.{nothing_taken}
+use Rattle.plan_iterator.specs.Following.{Taking}
+use Rattle.plan_sources.specs.Rankings.{IsColumnOf, Ranks, BeginsRanking}
+use Rattle.plan_sources.specs.Joins.{JoinedColumns, Begins as BeginsPairs, BeginsFirsts, BeginsPartners}
 use Rattle.plan_ops.specs.Checked.{IsChecked, IsNearChecked}
 use Rattle.plan_ops.specs.Openable.{IsOpenable}
 
@@ -113,7 +113,7 @@ abbrev Untaken : Taking → CatalogView → model.Plan → Type 0
 Untaken At catalog p = (pages : PageMap) → CatalogStands pages catalog → At pages (base_of catalog pages) p nothing_taken
 
 pub rank_untaken : (At : Taking) (catalog : CatalogView) (column : Column) (relation : RelationView) (at : ℕ) (tree : Pmr) (goal : Goal) (ceiling : Option ℕ) (p : Plan) → IsOpenable catalog p
-    → IsFound catalog column relation at tree → Begins At relation at tree goal ceiling → Ranks (plan_value p) column goal ceiling → Untaken At catalog (plan_value p)
+    → IsFound catalog column relation at tree → BeginsRanking At relation at tree goal ceiling → Ranks (plan_value p) column goal ceiling → Untaken At catalog (plan_value p)
 rank_untaken At catalog column relation at tree goal ceiling p o found begins ranks pages h =
     begins found.tree_of pages catalog.limits o.described.limits (found.stands pages h) (base_of catalog pages) column (found.named pages) (plan_value p) ranks
 

@@ -4,12 +4,12 @@ use Rattle.page_pool.specs.Desk.{DeskState}
 use Rattle.page_pool.specs.Disk.{PageMap}
 use Rattle.page_pool.specs.declared.fault.PageFault.{PageFault}
 use Rattle.sand_model.specs.Cursor.{Cursor}
-use Rattle.plan_cursor.specs.PaidCalls.{StepsPaid}
-use Rattle.plan_cursor.specs.Standing.{IsAt}
-use Rattle.plan_rows.specs.Rows.{counts_of}
-use Rattle.plan_rows.specs.declared.answer.Answer.{Answer}
-use Rattle.plan_steps.specs.Following.{steps_of}
-use Rattle.plan_steps.specs.Paying.{Prices, prices}
+use Rattle.plan_iterator.specs.PaidCalls.{StepsPaid}
+use Rattle.plan_iterator.specs.Standing.{IsAt}
+use Rattle.plan_iterator.specs.Rows.{counts_of}
+use Rattle.plan_iterator.specs.declared.answer.Answer.{Answer}
+use Rattle.plan_iterator.specs.Following.{steps_of}
+use Rattle.plan_iterator.specs.Paying.{Prices, prices}
 use Rattle.plan_ops.specs.Sources.{source_at, source_seen, source_steps, source_heights, source_step_price, source_owed}
 use Rattle.plan_ops.specs.Stages.{StageStands, is_closed, stage_steps, stage_price, stage_owed}
 use Rattle.plan_ops.specs.declared.source.Source.{Source}
@@ -17,8 +17,8 @@ use Rattle.plan_ops.specs.declared.stage.Stage.{Stage}
 use Rattle.plan_ops.specs.declared.running.Running.{Running}
 
 -- over these pages it stands where the cursor of the model does
-abbrev pub StandsAt : Running → PageMap → Cursor → Type 0
-StandsAt r = IsAt source_at StageStands is_closed (λ s. counts_of (source_seen s)) r.cursor
+abbrev pub RunningStandsAt : Running → PageMap → Cursor → Type 0
+RunningStandsAt r = IsAt source_at StageStands is_closed (λ s. counts_of (source_seen s)) r.cursor
 
 -- how many steps may still be made
 abbrev pub steps_left : Running → ℕ

@@ -7,20 +7,20 @@ use Rattle.best_first.specs.Steps.{steps}
 use Rattle.dist_join.specs.OverPages.{pair_weight}
 use Rattle.page_pool.specs.Disk.{PageMap}
 use Rattle.sand_model.specs.Price.{scan_price}
-use Rattle.plan_places.specs.Prices.{descent_price}
-use Rattle.plan_rows.specs.Prices.{Heights}
-use Rattle.plan_rows.specs.declared.stats.SourceCounts.{SourceCounts}
-use Rattle.plan_steps.specs.Following.{Taking}
-use Rattle.plain_source.specs.Plain.{IsScan, IsPickEqual, IsPickBetween, steps_left}
-use Rattle.plain_source.specs.Prices.{heights_of as plain_heights, entries_price}
-use Rattle.rank_source.specs.Rankings.{IsAt, by_code, hierarchy_of, seen_of, steps_of, heights_of as rank_heights}
+use Rattle.plan_names.specs.LookUpCosts.{descent_price}
+use Rattle.plan_iterator.specs.Prices.{Heights}
+use Rattle.plan_iterator.specs.declared.stats.SourceCounts.{SourceCounts}
+use Rattle.plan_iterator.specs.Following.{Taking}
+use Rattle.plan_sources.specs.Plain.{IsScan, IsPickEqual, IsPickBetween, entries_left}
+use Rattle.plan_sources.specs.Prices.{heights_of as plain_heights, entries_price}
+use Rattle.plan_sources.specs.Rankings.{IsSearchAt, by_code, hierarchy_of, search_seen, search_steps, heights_of as rank_heights}
 use Rattle.near_cursor.specs.NearRanking.{near_weight}
-use Rattle.near_source.specs.declared.near_source.NearSource.{NearSource}
-use Rattle.near_source.specs.NearPlans.{HasTakenNear, near_heights, geometries_seen}
-use Rattle.pair_source.specs.declared.join_source.JoinSource.{JoinSource}
-use Rattle.pair_source.specs.declared.knn_source.KnnSource.{KnnSource}
-use Rattle.pair_source.specs.declared.semi_source.SemiSource.{SemiSource}
-use Rattle.pair_source.specs.Joins.{join_of, joining_in, heights_of as join_heights, HasTaken, HasTakenFirsts, HasTakenPartners}
+use Rattle.plan_sources.specs.declared.near_source.NearSource.{NearSource}
+use Rattle.plan_sources.specs.NearPlans.{HasTakenNear, near_heights, geometries_seen}
+use Rattle.plan_sources.specs.declared.join_source.JoinSource.{JoinSource}
+use Rattle.plan_sources.specs.declared.knn_source.KnnSource.{KnnSource}
+use Rattle.plan_sources.specs.declared.semi_source.SemiSource.{SemiSource}
+use Rattle.plan_sources.specs.Joins.{join_of, joining_in, heights_of as join_heights, HasTakenPairs, HasTakenFirsts, HasTakenPartners}
 use Rattle.plan_ops.specs.declared.source.Source.{Source}
 use Rattle.plan_ops.specs.declared.source.Source.TheVariants as source
 
@@ -34,7 +34,7 @@ by_codes a b = ordering_then (by_code a.0 b.0) (by_code a.1 b.1)
 abbrev pub join_at : JoinSource → Taking
 join_at s pages d p t =
     let h = s.search.hierarchy in
-    HasTaken by_codes
+    HasTakenPairs by_codes
     (joining_in (join_of h) pages)
     s.search.frontier.queue.items s.search.frontier.last s.search.frontier.counts d p t
 
@@ -64,7 +64,7 @@ abbrev pub source_at : Source → Taking
 source_at (source.Scan s) = IsScan s.relation.value s.last
 source_at (source.PickEqual s) = IsPickEqual s.look_up s.value s.last
 source_at (source.PickBetween s) = IsPickBetween s.look_up s.low s.high s.last
-source_at (source.Rank s) = IsAt s.search
+source_at (source.Rank s) = IsSearchAt s.search
 source_at (source.Near s) = near_at s
 source_at (source.Join s) = join_at s
 source_at (source.Semi s) = semi_at s
@@ -75,7 +75,7 @@ abbrev pub source_seen : Source → SourceCounts
 source_seen (source.Scan s) = record { blocks = 0; pairs = 0; geometries = 0 }
 source_seen (source.PickEqual s) = record { blocks = 0; pairs = 0; geometries = 0 }
 source_seen (source.PickBetween s) = record { blocks = 0; pairs = 0; geometries = 0 }
-source_seen (source.Rank s) = seen_of s.search
+source_seen (source.Rank s) = search_seen s.search
 source_seen (source.Near s) = geometries_seen s.search.frontier.counts
 source_seen (source.Join s) =
     record { blocks = 0; pairs = s.search.frontier.counts.visited; geometries = s.search.frontier.counts.fetched }
@@ -88,8 +88,8 @@ source_seen (source.Knn s) =
 abbrev pub source_steps : Source → ℕ
 source_steps (source.Scan s) = 4294967296 - s.last
 source_steps (source.PickEqual s) = 4294967296 - s.last
-source_steps (source.PickBetween s) = steps_left s.low s.high s.last
-source_steps (source.Rank s) = steps_of s.search
+source_steps (source.PickBetween s) = entries_left s.low s.high s.last
+source_steps (source.Rank s) = search_steps s.search
 source_steps (source.Near s) = steps near_weight s.search.frontier.queue.items
 source_steps (source.Join s) = steps pair_weight s.search.frontier.queue.items
 source_steps (source.Semi s) = steps pair_weight s.semi.engine.frontier.queue.items

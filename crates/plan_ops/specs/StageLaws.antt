@@ -1,15 +1,15 @@
 -- The laws of stages, by the kind of the stage, with their proofs.
 use Rattle.std.proofs.Common.{filter, map}
 use Rattle.sand_model.specs.Operators.{relations_of, passes_all, with_fetched}
-use Rattle.plan_steps.specs.Stages.{IsOutermost, GivesFront, OpensLate, ClosedWaits, Rises}
+use Rattle.plan_iterator.specs.Stages.{IsOutermost, GivesFront, OpensLate, ClosedWaits, RisesWithSteps}
 use Rattle.plan_stages.specs.MatchLaws.{match_rises}
-use Rattle.plan_stages.specs.Matches.{to_come}
+use Rattle.plan_stages.specs.Matches.{matches_to_come}
 use Rattle.plan_stages.specs.SplitLaws.{front_of, late_of, open_of, rises_of}
 use Rattle.plan_stages.specs.Splits.{waiting, wait_count}
-use Rattle.row_sort.specs.Keyed.{keyed_row, gapped_row}
-use Rattle.sort_stages.specs.Gaps.{HasGap}
-use Rattle.sort_stages.specs.Numbers.{HasNumber}
-use Rattle.sort_stages.specs.SortLaws.{by_outermost, near_outermost, front_of as sort_front, late_of as sort_late, closed_waits_of, rises_of as sort_rises}
+use Rattle.plan_stages.specs.Keyed.{keyed_row, gapped_row}
+use Rattle.plan_stages.specs.Gaps.{HasGapKey}
+use Rattle.plan_stages.specs.Numbers.{HasNumber}
+use Rattle.plan_stages.specs.SortLaws.{by_outermost, near_outermost, front_of as sort_front, late_of as sort_late, closed_waits_of, rises_of as sort_rises}
 use Rattle.plan_ops.specs.Stages.{StageStands, stage_waits, is_closed, stage_steps}
 use Rattle.plan_ops.specs.declared.stage.Stage.TheVariants as stage
 
@@ -30,11 +30,11 @@ stage_front (stage.Filter s) pages d p taken given all f b whole =
 stage_front (stage.Fetch s) pages d p taken given all f b whole =
     front_of d p taken given (map (with_fetched d (relations_of f.below) f.places) (waiting s.held)) all f.splits b
 stage_front (stage.Match s) pages d p taken given all f b whole =
-    front_of d p taken given (to_come d (relations_of f.below) f.place f.column s.held) all f.splits b
+    front_of d p taken given (matches_to_come d (relations_of f.below) f.place f.column s.held) all f.splits b
 stage_front (stage.SortBy s) pages d p taken given all f b whole =
     sort_front s.closed (HasNumber d (relations_of f.below) f.place) keyed_row d p s.held s.rows taken given all f.sorts b whole
 stage_front (stage.SortNear s) pages d p taken given all f b whole =
-    sort_front s.closed (HasGap d (relations_of f.below) f.place s.goal) gapped_row d p s.held s.rows taken given all f.sorts b whole
+    sort_front s.closed (HasGapKey d (relations_of f.below) f.place s.goal) gapped_row d p s.held s.rows taken given all f.sorts b whole
 
 -- a sort opens late, any other stage is open
 pub stage_late : OpensLate StageStands is_closed
@@ -44,11 +44,11 @@ stage_late (stage.Filter s) pages d p taken given f sort =
 stage_late (stage.Fetch s) pages d p taken given f sort =
     late_of d p taken given (map (with_fetched d (relations_of f.below) f.places) (waiting s.held)) _ f.splits sort
 stage_late (stage.Match s) pages d p taken given f sort =
-    late_of d p taken given (to_come d (relations_of f.below) f.place f.column s.held) _ f.splits sort
+    late_of d p taken given (matches_to_come d (relations_of f.below) f.place f.column s.held) _ f.splits sort
 stage_late (stage.SortBy s) pages d p taken given f sort =
     sort_late s.closed (HasNumber d (relations_of f.below) f.place) keyed_row d p s.held s.rows taken given f.sorts
 stage_late (stage.SortNear s) pages d p taken given f sort =
-    sort_late s.closed (HasGap d (relations_of f.below) f.place s.goal) gapped_row d p s.held s.rows taken given f.sorts
+    sort_late s.closed (HasGapKey d (relations_of f.below) f.place s.goal) gapped_row d p s.held s.rows taken given f.sorts
 
 -- a closed sort holds no row that waits
 pub stage_closed_waits : ClosedWaits is_closed stage_waits
@@ -60,7 +60,7 @@ stage_closed_waits (stage.SortBy s) = closed_waits_of s.held s.closed
 stage_closed_waits (stage.SortNear s) = closed_waits_of s.held s.closed
 
 -- the steps of a stage rise with those of its source
-pub stage_rises : Rises stage_steps
+pub stage_rises : RisesWithSteps stage_steps
 stage_rises (stage.First s) = rises_of (wait_count s.held)
 stage_rises (stage.Filter s) = rises_of (wait_count s.held)
 stage_rises (stage.Fetch s) = rises_of (wait_count s.held)

@@ -10,10 +10,10 @@ use Rattle.plan_stages.specs.Firsts.{FirstStands, first_waits, first_steps}
 use Rattle.plan_stages.specs.Matches.{MatchStands, match_waits, match_steps}
 use Rattle.plan_stages.specs.MatchPrices.{match_row_price, match_owed}
 use Rattle.plan_stages.specs.Prices.{tests_price, spots_price, if_waiting as filter_waiting}
-use Rattle.sort_stages.specs.Gaps.{SortNearStands}
-use Rattle.sort_stages.specs.Numbers.{SortByStands}
-use Rattle.sort_stages.specs.Prices.{key_price, if_waiting as sort_waiting}
-use Rattle.sort_stages.specs.Sorting.{sort_waits, sort_steps}
+use Rattle.plan_stages.specs.Gaps.{SortNearStands}
+use Rattle.plan_stages.specs.Numbers.{SortByStands}
+use Rattle.plan_stages.specs.SortPrices.{key_price, if_waiting as sort_waiting}
+use Rattle.plan_stages.specs.Sorting.{sort_waits, sort_steps}
 use Rattle.plan_ops.specs.declared.stage.Stage.{Stage}
 use Rattle.plan_ops.specs.declared.stage.Stage.TheVariants as stage
 

@@ -5,15 +5,15 @@ ghost use Rattle.sand_model.specs.Reach.{no_counts};
 ghost use Rattle.sand_store.specs.Contents.{database_in};
 ghost use Rattle.sand_store.specs.Standing.{CatalogStands};
 ghost use Rattle.statements.specs.Plan.{plan_value};
-ghost use Rattle.plan_rows.specs.Rows.{counts_of};
-ghost use Rattle.plan_rows.specs.SourceSteps.{nothing_taken};
-ghost use Rattle.plan_steps.specs.Following.{Follows, source_of};
+ghost use Rattle.plan_iterator.specs.Rows.{counts_of};
+ghost use Rattle.plan_iterator.specs.SourceSteps.{nothing_taken};
+ghost use Rattle.plan_iterator.specs.Following.{Follows, source_of};
 ghost use Rattle.plan_ops.specs.Openable.{IsOpenable};
 ghost use Rattle.plan_ops.specs.Sources.{source_at, source_seen};
 ghost use Rattle.plan_ops.specs.Stages.{StageStands, is_closed};
 
 use crate::{Source, Stage};
-use plan_steps::{Operator, Over};
+use plan_iterator::{Operator, Over};
 use sand_base::NoMemory;
 use sand_store::Catalog;
 use script_text::Plan;
@@ -29,7 +29,8 @@ pub(crate) fn operator_of(
 ) -> Result<Operator<Source, Stage>, NoMemory>
     requires { IsOpenable catalog.now plan.now }
     ensures counts { IfOk result (λ o. counts_of (source_seen (source_of o)) ≡ no_counts) }
-    ensures begun { IfOk result (λ o. (pages : PageMap) → CatalogStands pages catalog.now → Follows source_at StageStands is_closed o pages (database_in pages catalog.now.relations) (plan_value plan.now) nothing_taken []) }
+    ensures begun { IfOk result (λ o. (pages : PageMap) → CatalogStands pages catalog.now
+        → Follows source_at StageStands is_closed o pages (database_in pages catalog.now.relations) (plan_value plan.now) nothing_taken []) }
 {
     match plan {
         Plan::Filter { plan: inner, .. }

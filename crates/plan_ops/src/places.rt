@@ -6,15 +6,14 @@ ghost use Rattle.sand_model.specs.Operators.{relations_of};
 ghost use Rattle.sand_store.specs.Contents.{database_in};
 ghost use Rattle.sand_store.specs.Standing.{CatalogStands};
 ghost use Rattle.statements.specs.Plan.{plan_value};
-ghost use Rattle.plan_places.specs.Spots.{IsSpot};
-ghost use Rattle.plan_places.specs.declared.spot.Spot.{Spot as Place'};
+ghost use Rattle.plan_names.specs.Spots.{IsSpot};
+ghost use Rattle.plan_names.specs.declared.spot.Spot.{Spot as Place'};
 ghost use Rattle.plan_stages.specs.Fetches.{AreSpots};
 ghost use Rattle.plan_stages.specs.Tests.{IsTest, AreTests};
 ghost use Rattle.plan_stages.specs.declared.tests.SpotTest.{SpotTest as Test'};
 ghost use Rattle.plan_ops.specs.Checked.{IsPlaceChecked};
 
-use plan_check::relation_name;
-use plan_places::Spot;
+use plan_names::{Spot, relation_name};
 use plan_stages::SpotTest;
 use sand_base::NoMemory;
 use sand_store::Catalog;
@@ -69,7 +68,8 @@ pub(crate) fn add_tests(
     found: &mut Vec<SpotTest>,
 ) -> Result<(), NoMemory>
     requires { (pages : PageMap) → check_tests (database_in pages catalog.now.relations) (relations_of (plan_value plan.now)) tests.now ≡ None }
-    ensures { OnOk result ((pages : PageMap) → CatalogStands pages catalog.now → (added : List Test') × ((found.new.items ≡ found.old.items ++ added) × AreTests (database_in pages catalog.now.relations) (relations_of (plan_value plan.now)) pages added tests.now)) }
+    ensures { OnOk result ((pages : PageMap) → CatalogStands pages catalog.now → (added : List Test')
+        × ((found.new.items ≡ found.old.items ++ added) × AreTests (database_in pages catalog.now.relations) (relations_of (plan_value plan.now)) pages added tests.now)) }
 {
     match tests {
         [] => Ok(()),
@@ -90,7 +90,8 @@ pub(crate) fn add_spots(
     found: &mut Vec<Spot>,
 ) -> Result<(), NoMemory>
     requires { (pages : PageMap) → check_places (database_in pages catalog.now.relations) (relations_of (plan_value plan.now)) places.now ≡ None }
-    ensures { OnOk result ((pages : PageMap) → CatalogStands pages catalog.now → (added : List Place') × ((found.new.items ≡ found.old.items ++ added) × AreSpots (database_in pages catalog.now.relations) (relations_of (plan_value plan.now)) pages added places.now)) }
+    ensures { OnOk result ((pages : PageMap) → CatalogStands pages catalog.now → (added : List Place')
+        × ((found.new.items ≡ found.old.items ++ added) × AreSpots (database_in pages catalog.now.relations) (relations_of (plan_value plan.now)) pages added places.now)) }
 {
     match places {
         [] => Ok(()),

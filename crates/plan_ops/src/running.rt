@@ -7,16 +7,15 @@ ghost use Rattle.sand_store.specs.Contents.{database_in};
 ghost use Rattle.sand_store.specs.Standing.{CatalogStands};
 ghost use Rattle.best_first.specs.Visits.{told_pages};
 ghost use Rattle.statements.specs.Plan.{plan_value};
-ghost use Rattle.plan_cursor.specs.Standing.{AreStats};
-ghost use Rattle.plan_rows.specs.SourceSteps.{Falls};
+ghost use Rattle.plan_iterator.specs.Standing.{AreStats};
+ghost use Rattle.plan_iterator.specs.SourceSteps.{FallsAtRow};
 ghost use Rattle.plan_ops.specs.Openable.{IsOpenable};
-ghost use Rattle.plan_ops.specs.Running.{StandsAt, TakesPaidStep, steps_left};
+ghost use Rattle.plan_ops.specs.Running.{RunningStandsAt, TakesPaidStep, steps_left};
 
 use crate::operators::operator_of;
 use crate::{Source, Stage};
 use page_pool::{Desk, Disk, PageFault};
-use plan_cursor::RowCursor;
-use plan_rows::{Answer, Stats};
+use plan_iterator::{Answer, RowCursor, Stats};
 use sand_base::NoMemory;
 use sand_store::Catalog;
 use script_text::Plan;
@@ -32,7 +31,8 @@ impl Running {
     /// A cursor that has given nothing. No page is read. Condition: the checks of the plan's operators pass.
     pub fn start(alloc: Global, catalog: &Catalog, plan: &Plan) -> Result<Running, NoMemory>
         requires { IsOpenable catalog.now plan.now }
-        ensures { IfOk result (λ r. (pages : PageMap) → CatalogStands pages catalog.now → (name : List ℕ) → StandsAt r pages (new_cursor name (plan_value plan.now) (database_in pages catalog.now.relations))) }
+        ensures { IfOk result (λ r. (pages : PageMap) → CatalogStands pages catalog.now → (name : List ℕ)
+            → RunningStandsAt r pages (new_cursor name (plan_value plan.now) (database_in pages catalog.now.relations))) }
     {
         let operator = operator_of(alloc, catalog, plan)?;
         Ok(Running {
@@ -49,10 +49,10 @@ impl Running {
         alloc: Global,
         desk: &mut Desk<D>,
     ) -> Result<Option<Answer>, PageFault>
-        requires stands { IfSome (told_pages desk.old) (λ pages. (c : Cursor) × StandsAt self.old pages c) }
+        requires stands { IfSome (told_pages desk.old) (λ pages. (c : Cursor) × RunningStandsAt self.old pages c) }
         ensures read { IsRead desk.old.pool desk.new.pool }
         ensures cause { HasPageCause desk.old.pool desk.new.pool result }
-        ensures falls { Falls (steps_left self.old) (steps_left self.new) result }
+        ensures falls { FallsAtRow (steps_left self.old) (steps_left self.new) result }
         ensures step { IfSome (told_pages desk.old) (TakesPaidStep self.old self.new desk.old desk.new result) }
     {
         self.cursor.next(alloc, desk)
@@ -60,7 +60,7 @@ impl Running {
 
     /// What the source has visited, and how many rows were given. It reads no page and takes no memory.
     pub fn stats(&self) -> Stats
-        ensures { (pages : PageMap) (c : Cursor) → StandsAt self.now pages c → AreStats c result }
+        ensures { (pages : PageMap) (c : Cursor) → RunningStandsAt self.now pages c → AreStats c result }
     {
         self.cursor.stats()
     }

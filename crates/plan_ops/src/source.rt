@@ -1,11 +1,10 @@
 ghost use Rattle.plan_ops.specs.Sources.{source_at, source_seen, source_steps, source_heights, source_step_price, source_owed};
 
-use near_source::NearSource;
 use page_pool::{Desk, Disk, PageFault};
-use pair_source::{JoinSource, KnnSource, SemiSource};
-use plain_source::{PickBetween, PickEqual, Scan};
-use plan_rows::{Answer, RowSource, SourceCounts};
-use rank_source::RankSource;
+use plan_iterator::{Answer, RowSource, SourceCounts};
+use plan_sources::{
+    JoinSource, KnnSource, NearSource, PickBetween, PickEqual, RankSource, Scan, SemiSource,
+};
 use std::alloc::Global;
 
 /// The source of any plan. A window is a ranking within the distance 0.

@@ -1,10 +1,8 @@
 ghost use Rattle.plan_ops.specs.Stages.{StageStands, stage_waits, is_closed, stage_steps, stage_price, stage_owed};
 
 use page_pool::{Desk, Disk, PageFault};
-use plan_rows::Answer;
-use plan_stages::{Fetch, Filter, First, Match};
-use plan_steps::{RowStage, Sifted, Step};
-use sort_stages::{SortBy, SortNear};
+use plan_iterator::{Answer, RowStage, Sifted, Step};
+use plan_stages::{Fetch, Filter, First, Match, SortBy, SortNear};
 use std::alloc::Global;
 
 /// A stage of any kind.

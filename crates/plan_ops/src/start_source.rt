@@ -8,20 +8,19 @@ ghost use Rattle.sand_model.specs.Reach.{no_counts};
 ghost use Rattle.sand_store.specs.Catalog.{IsCatalog};
 ghost use Rattle.sand_store.specs.Contents.{database_in};
 ghost use Rattle.sand_store.specs.Standing.{CatalogStands};
-ghost use Rattle.plan_rows.specs.Rows.{counts_of};
-ghost use Rattle.plan_rows.specs.SourceSteps.{nothing_taken};
-ghost use Rattle.plan_steps.specs.Outermost.{is_source};
+ghost use Rattle.plan_iterator.specs.Rows.{counts_of};
+ghost use Rattle.plan_iterator.specs.SourceSteps.{nothing_taken};
+ghost use Rattle.plan_iterator.specs.Outermost.{is_source};
 ghost use Rattle.plan_ops.specs.Checked.{IsChecked};
 ghost use Rattle.plan_ops.specs.Openable.{IsOpenable};
 ghost use Rattle.plan_ops.specs.Sources.{source_at, source_seen};
 
 use crate::Source;
 use crate::columns::{rtree_column, tree_column};
-use near_source::NearSource;
-use pair_source::{JoinSource, KnnSource, SemiSource};
-use plain_source::{PickBetween, PickEqual, Scan};
-use plan_rows::RowSource;
-use rank_source::RankSource;
+use plan_iterator::RowSource;
+use plan_sources::{
+    JoinSource, KnnSource, NearSource, PickBetween, PickEqual, RankSource, Scan, SemiSource,
+};
 use sand_base::{Goal, NoMemory, Value};
 use sand_store::Catalog;
 use script_text::{Column, Plan};
@@ -114,7 +113,8 @@ impl Source {
 fn scan(alloc: Global, catalog: &Catalog, relation: &str) -> Result<Scan, NoMemory>
     requires { (pages : PageMap) → check_relation (database_in pages catalog.now.relations) relation.now ≡ None }
     ensures counts { IfOk result (λ s. counts_of (⟦<Scan as RowSource>⟧.seen s) ≡ no_counts) }
-    ensures begun { IfOk result (λ s. (pages : PageMap) → CatalogStands pages catalog.now → ⟦<Scan as RowSource>⟧.At s pages (database_in pages catalog.now.relations) (of_relation relation.now) nothing_taken) }
+    ensures begun { IfOk result (λ s. (pages : PageMap) → CatalogStands pages catalog.now
+        → ⟦<Scan as RowSource>⟧.At s pages (database_in pages catalog.now.relations) (of_relation relation.now) nothing_taken) }
 {
     match Scan::start(alloc, catalog, relation)? {
         Some(scan) => Ok(scan),
@@ -132,7 +132,8 @@ fn pick_equal(
     requires described { IsCatalog catalog.now }
     requires checked { (pages : PageMap) → IsChecked (database_in pages catalog.now.relations) column.now false }
     ensures counts { IfOk result (λ s. counts_of (⟦<PickEqual as RowSource>⟧.seen s) ≡ no_counts) }
-    ensures begun { IfOk result (λ s. (pages : PageMap) → CatalogStands pages catalog.now → ⟦<PickEqual as RowSource>⟧.At s pages (database_in pages catalog.now.relations) (of_column column.now value) nothing_taken) }
+    ensures begun { IfOk result (λ s. (pages : PageMap) → CatalogStands pages catalog.now
+        → ⟦<PickEqual as RowSource>⟧.At s pages (database_in pages catalog.now.relations) (of_column column.now value) nothing_taken) }
 {
     match PickEqual::start(
         alloc,
@@ -157,7 +158,8 @@ fn pick_between(
     requires described { IsCatalog catalog.now }
     requires checked { (pages : PageMap) → check_column (database_in pages catalog.now.relations) column.now (same_kind Int) ≡ None }
     ensures counts { IfOk result (λ s. counts_of (⟦<PickBetween as RowSource>⟧.seen s) ≡ no_counts) }
-    ensures begun { IfOk result (λ s. (pages : PageMap) → CatalogStands pages catalog.now → ⟦<PickBetween as RowSource>⟧.At s pages (database_in pages catalog.now.relations) (of_ints column.now low high) nothing_taken) }
+    ensures begun { IfOk result (λ s. (pages : PageMap) → CatalogStands pages catalog.now
+        → ⟦<PickBetween as RowSource>⟧.At s pages (database_in pages catalog.now.relations) (of_ints column.now low high) nothing_taken) }
 {
     match PickBetween::start(
         alloc,

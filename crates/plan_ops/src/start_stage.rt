@@ -3,18 +3,17 @@ ghost use Rattle.page_pool.specs.Disk.{PageMap};
 ghost use Rattle.sand_store.specs.Contents.{database_in};
 ghost use Rattle.sand_store.specs.Standing.{CatalogStands};
 ghost use Rattle.statements.specs.Plan.{plan_value};
-ghost use Rattle.plan_steps.specs.Outermost.{is_source};
+ghost use Rattle.plan_iterator.specs.Outermost.{is_source};
 ghost use Rattle.plan_ops.specs.Openable.{IsOpenable};
 ghost use Rattle.plan_ops.specs.Stages.{StageStands, is_closed};
 
 use crate::Stage;
 use crate::columns::look_up;
 use crate::places::{add_spots, add_tests, spot};
-use plan_stages::{Fetch, Filter, First, Match};
+use plan_stages::{Fetch, Filter, First, Match, SortBy, SortNear};
 use sand_base::NoMemory;
 use sand_store::Catalog;
 use script_text::Plan;
-use sort_stages::{SortBy, SortNear};
 use std::alloc::Global;
 
 impl Stage {

@@ -2,8 +2,8 @@
 use Rattle.std.proofs.Common.{◌-◌, List, All, IsTrue, take, drop, length, sym, subst}
 use Rattle.page_pool.specs.Pool.{PoolState, IsTold}
 use Rattle.page_pool.specs.Reads.{IsRead}
-use Rattle.plan_places.specs.Spots.{Stands}
-use Rattle.plan_places.specs.declared.spot.Spot.{Spot}
+use Rattle.plan_names.specs.Spots.{Stands}
+use Rattle.plan_names.specs.declared.spot.Spot.{Spot}
 use Rattle.plan_stages.specs.Fetches.{SpotsStand}
 use Rattle.plan_stages.specs.Tests.{TestsStand}
 use Rattle.plan_stages.specs.declared.tests.SpotTest.{SpotTest}

@@ -9,8 +9,8 @@ use Rattle.statements.specs.Plan.{Plan}
 use Rattle.statements.specs.declared.column.Place.{Place}
 use Rattle.statements.specs.declared.test.Test.{Test}
 use Rattle.best_first.specs.Visits.{told_pages}
-use Rattle.plan_places.specs.Spots.{Stands}
-use Rattle.plan_places.specs.declared.spot.Spot.{Spot}
+use Rattle.plan_names.specs.Spots.{Stands}
+use Rattle.plan_names.specs.declared.spot.Spot.{Spot}
 use Rattle.plan_stages.specs.Fetches.{FetchStands, AreSpots, SpotsStand}
 use Rattle.plan_stages.specs.Filters.{FilterStands}
 use Rattle.plan_stages.specs.Tests.{AreTests, TestsStand}

@@ -11,16 +11,16 @@ use Rattle.statements.specs.declared.column.Place.{Place}
 use Rattle.statements.specs.declared.column.Column.{Column}
 use Rattle.sand_model.specs.Price.{lookup_price, text_lookup_price, tuple_price}
 use Rattle.best_first.specs.Visits.{told_pages}
-use Rattle.plan_places.specs.Equals.{equals, above}
-use Rattle.plan_places.specs.Prices.{entries_above, tells}
-use Rattle.plan_places.specs.Spots.{IsSpot}
-use Rattle.plan_places.specs.declared.look_up.LookUp.{LookUp}
-use Rattle.plan_places.specs.declared.spot.Spot.{Spot}
-use Rattle.plan_rows.specs.Rows.{row_of}
-use Rattle.plan_rows.specs.declared.answer.Answer.{Answer}
-use Rattle.plan_steps.specs.Stages.{Works}
-use Rattle.plan_steps.specs.declared.step.Step.TheVariants.{Pass}
-use Rattle.plan_stages.specs.Matches.{MatchStands, with_id, matches_with, left_of, to_come}
+use Rattle.plan_names.specs.Equals.{equals, above}
+use Rattle.plan_names.specs.LookUpCosts.{entries_above, tells}
+use Rattle.plan_names.specs.Spots.{IsSpot}
+use Rattle.plan_names.specs.declared.look_up.LookUp.{LookUp}
+use Rattle.plan_names.specs.declared.spot.Spot.{Spot}
+use Rattle.plan_iterator.specs.Rows.{row_of}
+use Rattle.plan_iterator.specs.declared.answer.Answer.{Answer}
+use Rattle.plan_iterator.specs.Stages.{Works}
+use Rattle.plan_iterator.specs.declared.step.Step.TheVariants.{Pass}
+use Rattle.plan_stages.specs.Matches.{MatchStands, row_with_id, matches_with, matches_left_of, matches_to_come}
 use Rattle.plan_stages.specs.MatchPrices.{value_height, index_height, others_height, matches_price, left_price, match_owed}
 use Rattle.plan_stages.specs.declared.matching.Held.{Held}
 use Rattle.plan_stages.specs.declared.matching.Held.TheVariants.{Fresh, Probing}
@@ -50,7 +50,7 @@ Passes m after pages =
 
 passes : (m : Match) (after : Option Held) (pages : PageMap)
     → ((d : Database) (p : Plan) (taken given : List PlanRow) (s : MatchStands m pages d p taken given)
-    → to_come d (relations_of s.below) s.place s.column m.held ≡ to_come d (relations_of s.below) s.place s.column after)
+    → matches_to_come d (relations_of s.below) s.place s.column m.held ≡ matches_to_come d (relations_of s.below) s.place s.column after)
     → Passes m after pages
 passes m after pages same d p taken given s = record {
   stands = record {
@@ -69,9 +69,9 @@ passes m after pages same d p taken given s = record {
 
 -- the matches of a row with a value are those of ids above 0
 begins : (d : Database) (column : Column) (row : Answer) (v : Value) (o : Option Value) → Some v ≡ o → above 0 (equals d column v) ≡ equals d column v
-    → matches_with d column (row_of row) o ≡ left_of d column (first_probe row v)
+    → matches_with d column (row_of row) o ≡ matches_left_of d column (first_probe row v)
 begins d column row v o is all =
-    subst (λ (o : Option Value). matches_with d column (row_of row) o ≡ left_of d column (first_probe row v)) is (ap (λ pairs. map (with_id (row_of row)) pairs) (sym all))
+    subst (λ (o : Option Value). matches_with d column (row_of row) o ≡ matches_left_of d column (first_probe row v)) is (ap (λ pairs. map (row_with_id (row_of row)) pairs) (sym all))
 
 -- the price of a row with a value: its tuple, and a look-up
 row_is : (spot : Spot) (l : LookUp) (pages : PageMap) (row : Answer) (v : Value) → matches_price spot l pages (Some v) ≡ tuple_price (value_height spot) + left_price l pages (first_probe row v)
@@ -100,7 +100,7 @@ module _ (desk : DeskState) (pool : PoolState) (m : Match) (row : Answer) (same 
   value_passes v says =
       by_told desk (Passes m (Some (Probing (first_probe row v))))
       (λ told. passes m (Some (Probing (first_probe row v))) desk.pool.pages
-      (λ d p taken given s. ap (λ o. to_come d (relations_of s.below) s.place s.column o) is
+      (λ d p taken given s. ap (λ o. matches_to_come d (relations_of s.below) s.place s.column o) is
       ∙ begins d s.column row v (value_at d (relations_of s.below) (row_of row) s.place) (value_is (Some v) says told d p taken given s) (s.all v)))
 
   -- the row has none
@@ -108,9 +108,9 @@ module _ (desk : DeskState) (pool : PoolState) (m : Match) (row : Answer) (same 
   none_passes after gone says =
       by_told desk (Passes m after)
       (λ told. passes m after desk.pool.pages
-      (λ d p taken given s. ap (λ o. to_come d (relations_of s.below) s.place s.column o) is
+      (λ d p taken given s. ap (λ o. matches_to_come d (relations_of s.below) s.place s.column o) is
       ∙ subst (λ (o : Option Value). matches_with d s.column (row_of row) o ≡ []) (value_is None says told d p taken given s) refl
-      ∙ ap (λ o. to_come d (relations_of s.below) s.place s.column o) (sym gone)))
+      ∙ ap (λ o. matches_to_come d (relations_of s.below) s.place s.column o) (sym gone)))
 
   -- the tuple was paid, and the look-up is left
   pub value_costs : (new : PoolState) (v : Value) → Says m.spot row.ids (Some v) pool → new.gets ≤ pool.gets + tuple_price (value_height m.spot)

@@ -8,8 +8,8 @@ use Rattle.sand_model.specs.Operators.{PlanRow, relations_of, with_fetched}
 use Rattle.statements.specs.Plan as plan
 use Rattle.statements.specs.Plan.{Plan}
 use Rattle.statements.specs.declared.column.Place.{Place}
-use Rattle.plan_places.specs.Spots.{Stands, IsSpot}
-use Rattle.plan_places.specs.declared.spot.Spot.{Spot}
+use Rattle.plan_names.specs.Spots.{Stands, IsSpot}
+use Rattle.plan_names.specs.declared.spot.Spot.{Spot}
 use Rattle.plan_stages.specs.Splits.{Splits, waiting, is_waiting, wait_count}
 use Rattle.plan_stages.specs.declared.fetch.Fetch.{Fetch}
 

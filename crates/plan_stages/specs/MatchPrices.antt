@@ -9,11 +9,11 @@ use Rattle.sand_model.specs.Operators.{PlanRow, relations_of, value_at}
 use Rattle.statements.specs.Plan as plan
 use Rattle.statements.specs.Plan.{Plan}
 use Rattle.sand_model.specs.Price.{lookup_price, text_lookup_price, match_price, text_match_price, tuple_price}
-use Rattle.plan_rows.specs.Rows.{row_of}
-use Rattle.plan_rows.specs.declared.answer.Answer.{Answer}
-use Rattle.plan_places.specs.Prices.{entries_above, tells}
-use Rattle.plan_places.specs.declared.look_up.LookUp.{LookUp}
-use Rattle.plan_places.specs.declared.spot.Spot.{Spot}
+use Rattle.plan_iterator.specs.Rows.{row_of}
+use Rattle.plan_iterator.specs.declared.answer.Answer.{Answer}
+use Rattle.plan_names.specs.LookUpCosts.{entries_above, tells}
+use Rattle.plan_names.specs.declared.look_up.LookUp.{LookUp}
+use Rattle.plan_names.specs.declared.spot.Spot.{Spot}
 use Rattle.plan_stages.specs.declared.matching.Held.{Held}
 use Rattle.plan_stages.specs.declared.matching.Held.TheVariants.{Fresh, Probing}
 use Rattle.plan_stages.specs.declared.matching.Match.{Match}

@@ -9,11 +9,11 @@ use Rattle.statements.specs.Plan as plan
 use Rattle.statements.specs.Plan.{Plan}
 use Rattle.statements.specs.declared.column.Place.{Place}
 use Rattle.statements.specs.declared.column.Column.{Column}
-use Rattle.plan_places.specs.Equals.{equals, above}
-use Rattle.plan_places.specs.Indexed.{IsLookUp}
-use Rattle.plan_places.specs.Spots.{IsSpot}
-use Rattle.plan_rows.specs.Rows.{row_of}
-use Rattle.plan_rows.specs.declared.answer.Answer.{Answer}
+use Rattle.plan_names.specs.Equals.{equals, above}
+use Rattle.plan_names.specs.Indexed.{IsLookUp}
+use Rattle.plan_names.specs.Spots.{IsSpot}
+use Rattle.plan_iterator.specs.Rows.{row_of}
+use Rattle.plan_iterator.specs.declared.answer.Answer.{Answer}
 use Rattle.plan_stages.specs.Splits.{Splits}
 use Rattle.plan_stages.specs.declared.matching.Held.{Held}
 use Rattle.plan_stages.specs.declared.matching.Held.TheVariants.{Fresh, Probing}
@@ -21,29 +21,29 @@ use Rattle.plan_stages.specs.declared.matching.Match.{Match}
 use Rattle.plan_stages.specs.declared.probe.Probe.{Probe}
 
 -- the row with one id more
-abbrev pub with_id : PlanRow → ℕ × Value → PlanRow
-with_id row pair = record row { ids = row.ids ++ pair.0 ∷ [] }
+abbrev pub row_with_id : PlanRow → ℕ × Value → PlanRow
+row_with_id row pair = record row { ids = row.ids ++ pair.0 ∷ [] }
 
 -- the matches of a row with this value at the place, if any: the rows of the column whose values equal it, by id
 abbrev pub matches_with : Database → Column → PlanRow → Option Value → List PlanRow
-matches_with d column row (Some v) = map (with_id row) (equals d column v)
+matches_with d column row (Some v) = map (row_with_id row) (equals d column v)
 matches_with d column row None = []
 
 -- the matches of a row with a value that was read: those of ids above the last one given are still to come
-abbrev pub left_of : Database → Column → Probe → List PlanRow
-left_of d column h = map (with_id (row_of h.row)) (above h.last (equals d column h.value))
+abbrev pub matches_left_of : Database → Column → Probe → List PlanRow
+matches_left_of d column h = map (row_with_id (row_of h.row)) (above h.last (equals d column h.value))
 
 -- the next match was given, or none was left
-abbrev pub GivesNext : Database → Column → Probe → Result (Option Answer) PageFault → Probe → Type 0
-GivesNext d column old (Ok (Some a)) new = left_of d column old ≡ row_of a ∷ left_of d column new
-GivesNext d column old (Ok None) new = left_of d column old ≡ []
-GivesNext d column old (Err fault) new = ⊤
+abbrev pub GivesNextMatch : Database → Column → Probe → Result (Option Answer) PageFault → Probe → Type 0
+GivesNextMatch d column old (Ok (Some a)) new = matches_left_of d column old ≡ row_of a ∷ matches_left_of d column new
+GivesNextMatch d column old (Ok None) new = matches_left_of d column old ≡ []
+GivesNextMatch d column old (Err fault) new = ⊤
 
 -- the matches of a held row that are still to come: all of one whose value is still to be read
-abbrev pub to_come : Database → List (List ℕ) → Place → Column → Option Held → List PlanRow
-to_come d names place column (Some (Fresh row)) = matches_with d column (row_of row) (value_at d names (row_of row) place)
-to_come d names place column (Some (Probing h)) = left_of d column h
-to_come d names place column None = []
+abbrev pub matches_to_come : Database → List (List ℕ) → Place → Column → Option Held → List PlanRow
+matches_to_come d names place column (Some (Fresh row)) = matches_with d column (row_of row) (value_at d names (row_of row) place)
+matches_to_come d names place column (Some (Probing h)) = matches_left_of d column h
+matches_to_come d names place column None = []
 
 -- a row's matches are looked for
 abbrev pub match_waits : Match → Bool
@@ -69,4 +69,4 @@ pub record MatchStands (m : Match) (pages : PageMap) (d : Database) (p : Plan) (
   pub spot : IsSpot d (relations_of below) place m.spot pages
   pub look_up : IsLookUp d column m.look_up pages
   pub all : (v : Value) → above 0 (equals d column v) ≡ equals d column v
-  pub splits : Splits d p taken given (to_come d (relations_of below) place column m.held)
+  pub splits : Splits d p taken given (matches_to_come d (relations_of below) place column m.held)

@@ -1,8 +1,8 @@
 -- What filters and fetches cost in page gets: one tuple for each place that is read of a row.
 use Rattle.std.specs.Prelude.{ℕ, ◌+◌, List, [], ◌∷◌, Option, None, Some}
 use Rattle.sand_model.specs.Price.{tuple_price}
-use Rattle.plan_rows.specs.declared.answer.Answer.{Answer}
-use Rattle.plan_places.specs.declared.spot.Spot.{Spot}
+use Rattle.plan_iterator.specs.declared.answer.Answer.{Answer}
+use Rattle.plan_names.specs.declared.spot.Spot.{Spot}
 use Rattle.plan_stages.specs.declared.tests.SpotTest.{SpotTest}
 
 -- to read a place of a row: a tuple of its relation

@@ -3,12 +3,12 @@ use Rattle.std.proofs.Common.{◌≡◌, ℕ, ◌+◌, ◌*◌, ◌<◌, true, f
 use Rattle.sand_model.specs.Database.{Database}
 use Rattle.sand_model.specs.Operators.{PlanRow}
 use Rattle.statements.specs.Plan.{Plan}
-use Rattle.plan_steps.specs.Outermost.{is_sort, made, Begins}
-use Rattle.plan_steps.proofs.Levels.{made_front, begins_through}
+use Rattle.plan_iterator.specs.Outermost.{is_sort, made, BeginsRows}
+use Rattle.plan_iterator.proofs.Levels.{made_front, begins_through}
 use Rattle.plan_stages.specs.Splits.{Splits}
 
 -- what was given begins all that is made
-pub front_of : (d : Database) (p : Plan) (taken given rest all : List PlanRow) → Splits d p taken given rest → Begins taken all → Begins given (made d p all)
+pub front_of : (d : Database) (p : Plan) (taken given rest all : List PlanRow) → Splits d p taken given rest → BeginsRows taken all → BeginsRows given (made d p all)
 front_of d p taken given rest all s b =
     begins_through given (made d p taken) (made d p all) (record { rest = rest; split = s.split }) (made_front d p taken all s.plain b)
 

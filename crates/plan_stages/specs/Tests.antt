@@ -5,7 +5,7 @@ use Rattle.page_pool.specs.Disk.{PageMap}
 use Rattle.page_pool.specs.Pool.{PoolState, IsTold}
 use Rattle.sand_model.specs.Database.{Database}
 use Rattle.statements.specs.declared.test.Test.{Test}
-use Rattle.plan_places.specs.Spots.{Stands, IsSpot}
+use Rattle.plan_names.specs.Spots.{Stands, IsSpot}
 use Rattle.plan_stages.specs.declared.tests.SpotTest.{SpotTest}
 
 -- the test asks the same of the place that was looked up

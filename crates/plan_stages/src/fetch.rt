@@ -4,9 +4,8 @@ ghost use Rattle.plan_stages.specs.Prices.{spots_price, if_waiting};
 
 use crate::values::with_values;
 use page_pool::{Desk, Disk, PageFault};
-use plan_places::Spot;
-use plan_rows::Answer;
-use plan_steps::{RowStage, Step};
+use plan_iterator::{Answer, RowStage, Step};
+use plan_names::Spot;
 use std::alloc::Global;
 
 /// `fetch`: the rows with the values at places. It holds a row until these are read.
@@ -28,7 +27,8 @@ impl Fetch {
 
     /// The stage of a fetch of these places.
     pub fn new(spots: Vec<Spot>) -> Fetch
-        ensures { (pages : PageMap) (d : Database) (below : Plan) (places : List Place) → AreSpots d (relations_of below) pages spots.items places → FetchStands result pages d (plan.Fetch below places) [] [] }
+        ensures { (pages : PageMap) (d : Database) (below : Plan) (places : List Place) → AreSpots d (relations_of below) pages spots.items places
+            → FetchStands result pages d (plan.Fetch below places) [] [] }
     {
         Fetch { spots, held: None }
     }

@@ -5,8 +5,7 @@ ghost use Rattle.plan_stages.specs.Prices.{tests_price, if_waiting};
 use crate::SpotTest;
 use crate::tests::passes_all;
 use page_pool::{Desk, Disk, PageFault};
-use plan_rows::Answer;
-use plan_steps::{RowStage, Sifted, Step};
+use plan_iterator::{Answer, RowStage, Sifted, Step};
 use std::alloc::Global;
 
 /// `filter`: the rows that pass all tests. It holds a row until its tests are read.
@@ -28,7 +27,8 @@ impl Filter {
 
     /// The stage of a filter by these tests.
     pub fn new(tests: Vec<SpotTest>) -> Filter
-        ensures { (pages : PageMap) (d : Database) (below : Plan) (asked : List Test) → AreTests d (relations_of below) pages tests.items asked → FilterStands result pages d (plan.Filter below asked) [] [] }
+        ensures { (pages : PageMap) (d : Database) (below : Plan) (asked : List Test) → AreTests d (relations_of below) pages tests.items asked
+            → FilterStands result pages d (plan.Filter below asked) [] [] }
     {
         Filter { tests, held: None }
     }

@@ -2,8 +2,7 @@ ghost use Rattle.std.specs.Prelude.{false};
 ghost use Rattle.plan_stages.specs.Firsts.{FirstStands, first_waits, first_steps};
 
 use page_pool::{Desk, Disk, PageFault};
-use plan_rows::Answer;
-use plan_steps::{RowStage, Step};
+use plan_iterator::{Answer, RowStage, Step};
 use std::alloc::Global;
 
 /// `first n`: the first rows of the plan beneath. Once it has them it asks for none.

@@ -2,16 +2,15 @@ ghost use Rattle.std.specs.Prelude.{◌≡◌, List, [], false};
 ghost use Rattle.sand_model.specs.Database.{Database};
 ghost use Rattle.statements.specs.declared.column.Place.{Place};
 ghost use Rattle.statements.specs.declared.column.Column.{Column};
-ghost use Rattle.plan_places.specs.Indexed.{IsLookUp};
-ghost use Rattle.plan_places.specs.Spots.{IsSpot};
+ghost use Rattle.plan_names.specs.Indexed.{IsLookUp};
+ghost use Rattle.plan_names.specs.Spots.{IsSpot};
 ghost use Rattle.plan_stages.specs.Matches.{MatchStands, match_waits, match_steps};
 ghost use Rattle.plan_stages.specs.MatchPrices.{match_row_price, match_owed};
 
 use crate::probe::Probe;
 use page_pool::{Desk, Disk, PageFault};
-use plan_places::{LookUp, Spot};
-use plan_rows::Answer;
-use plan_steps::{RowStage, Step};
+use plan_iterator::{Answer, RowStage, Step};
+use plan_names::{LookUp, Spot};
 use std::alloc::Global;
 
 /// The row that a match holds: its value at the place is still to be read, or its matches are looked up.
@@ -38,7 +37,8 @@ impl Match {
 
     /// The stage of a match of this place with this column.
     pub fn new(spot: Spot, look_up: LookUp) -> Match
-        ensures { (pages : PageMap) (d : Database) (below : Plan) (place : Place) (column : Column) → IsSpot d (relations_of below) place spot pages → IsLookUp d column look_up pages → MatchStands result pages d (plan.Match below place column) [] [] }
+        ensures { (pages : PageMap) (d : Database) (below : Plan) (place : Place) (column : Column) → IsSpot d (relations_of below) place spot pages
+            → IsLookUp d column look_up pages → MatchStands result pages d (plan.Match below place column) [] [] }
     {
         Match {
             spot,
@@ -109,15 +109,15 @@ impl RowStage for Match {
     }
 
     ghost use Rattle.sand_model.specs.Operators.{relations_of};
-    ghost use Rattle.plan_stages.specs.Matches.{to_come};
+    ghost use Rattle.plan_stages.specs.Matches.{matches_to_come};
     ghost use Rattle.plan_stages.specs.SplitLaws.{front_of, late_of, open_of};
     ghost use Rattle.plan_stages.specs.MatchLaws.{match_rises};
 
     ghost outermost = { λ s pages d p taken given f. f.splits.operator };
 
-    ghost front = { λ s pages d p taken given all f b whole. front_of d p taken given (to_come d (relations_of f.below) f.place f.column s.held) all f.splits b };
+    ghost front = { λ s pages d p taken given all f b whole. front_of d p taken given (matches_to_come d (relations_of f.below) f.place f.column s.held) all f.splits b };
 
-    ghost late = { λ s pages d p taken given f. late_of d p taken given (to_come d (relations_of f.below) f.place f.column s.held) _ f.splits };
+    ghost late = { λ s pages d p taken given f. late_of d p taken given (matches_to_come d (relations_of f.below) f.place f.column s.held) _ f.splits };
 
     ghost closed_waits = { λ s. open_of _ };
 

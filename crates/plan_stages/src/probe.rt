@@ -5,13 +5,13 @@ ghost use Rattle.page_pool.specs.Pool.{IsTold};
 ghost use Rattle.page_pool.specs.Reads.{IsRead};
 ghost use Rattle.sand_model.specs.Database.{Database};
 ghost use Rattle.statements.specs.declared.column.Column.{Column};
-ghost use Rattle.plan_places.specs.Indexed.{Holds, IsLookUp};
+ghost use Rattle.plan_names.specs.Indexed.{Holds, IsLookUp};
 ghost use Rattle.plan_stages.specs.MatchPrices.{ProbeCosts};
-ghost use Rattle.plan_stages.specs.Matches.{GivesNext};
+ghost use Rattle.plan_stages.specs.Matches.{GivesNextMatch};
 
 use page_pool::{PageFault, Pages};
-use plan_places::LookUp;
-use plan_rows::Answer;
+use plan_iterator::Answer;
+use plan_names::LookUp;
 use sand_base::{Ids, NoMemory, Value};
 use std::alloc::Global;
 
@@ -58,7 +58,7 @@ impl Probe {
         look_up: &LookUp,
     ) -> Result<Option<Answer>, PageFault>
         requires { IsTold (P.shown pages.old) → Holds (P.shown pages.old).pages look_up.now }
-        ensures gives { IsTold (P.shown pages.old) → (d : Database) (column : Column) → IsLookUp d column look_up.now (P.shown pages.old).pages → GivesNext d column self.old result self.new }
+        ensures gives { IsTold (P.shown pages.old) → (d : Database) (column : Column) → IsLookUp d column look_up.now (P.shown pages.old).pages → GivesNextMatch d column self.old result self.new }
         ensures rises { IfOk result (λ found. IfSome found (λ row. self.old.last < self.new.last)) }
         ensures kept { IfErr result (λ fault. self.new ≡ self.old) }
         ensures read { IsRead (P.shown pages.old) (P.shown pages.new) }

@@ -7,12 +7,12 @@ ghost use Rattle.page_pool.specs.Reads.{IsRead};
 ghost use Rattle.sand_model.specs.Database.{Database};
 ghost use Rattle.sand_model.specs.Operators.{PlanRow, is_order, passes, passes_test, passes_all};
 ghost use Rattle.statements.specs.declared.test.Test.{Test};
-ghost use Rattle.plan_places.specs.Spots.{Stands};
+ghost use Rattle.plan_names.specs.Spots.{Stands};
 ghost use Rattle.plan_stages.specs.Prices.{spot_price, tests_price};
 ghost use Rattle.plan_stages.specs.Tests.{IsTest, AreTests, TestsStand};
 
 use page_pool::{PageFault, Pages};
-use plan_places::Spot;
+use plan_names::Spot;
 use sand_base::Value;
 use script_text::Op;
 use std::alloc::Global;
@@ -67,7 +67,8 @@ fn passes_one<P: Pages>(
     ids: &[u32],
 ) -> Result<bool, PageFault>
     requires stands { IsTold (P.shown pages.old) → Stands (P.shown pages.old).pages test.now.spot.relation.value }
-    ensures value { IfOk result (λ passed. IsTold (P.shown pages.old) → (d : Database) (names : List (List ℕ)) (asked : Test) (row : PlanRow) → IsTest d names (P.shown pages.old).pages test.now asked → row.ids ≡ ids.now → passed ≡ passes_test d names row asked) }
+    ensures value { IfOk result (λ passed. IsTold (P.shown pages.old) → (d : Database) (names : List (List ℕ)) (asked : Test) (row : PlanRow)
+        → IsTest d names (P.shown pages.old).pages test.now asked → row.ids ≡ ids.now → passed ≡ passes_test d names row asked) }
     ensures read { IsRead (P.shown pages.old) (P.shown pages.new) }
     ensures up { min (P.shown pages.old).gets last_count ≤ (P.shown pages.new).gets }
     ensures cause { HasPageCause (P.shown pages.old) (P.shown pages.new) result }
@@ -89,7 +90,8 @@ fn passes_each<P: Pages>(
     ids: &[u32],
 ) -> Result<bool, PageFault>
     requires stands { TestsStand (P.shown pages.old) tests.now }
-    ensures value { IfOk result (λ passed. IsTold (P.shown pages.old) → (d : Database) (names : List (List ℕ)) (asked : List Test) (row : PlanRow) → AreTests d names (P.shown pages.old).pages tests.now asked → row.ids ≡ ids.now → passed ≡ passes_all d names asked row) }
+    ensures value { IfOk result (λ passed. IsTold (P.shown pages.old) → (d : Database) (names : List (List ℕ)) (asked : List Test) (row : PlanRow)
+        → AreTests d names (P.shown pages.old).pages tests.now asked → row.ids ≡ ids.now → passed ≡ passes_all d names asked row) }
     ensures read { IsRead (P.shown pages.old) (P.shown pages.new) }
     ensures up { min (P.shown pages.old).gets last_count ≤ (P.shown pages.new).gets }
     ensures cause { HasPageCause (P.shown pages.old) (P.shown pages.new) result }
@@ -114,7 +116,8 @@ pub(crate) fn passes_all<P: Pages>(
     ids: &[u32],
 ) -> Result<bool, PageFault>
     requires stands { TestsStand (P.shown pages.old) tests.now }
-    ensures value { IfOk result (λ passed. IsTold (P.shown pages.old) → (d : Database) (names : List (List ℕ)) (asked : List Test) (row : PlanRow) → AreTests d names (P.shown pages.old).pages tests.now asked → row.ids ≡ ids.now → passed ≡ passes_all d names asked row) }
+    ensures value { IfOk result (λ passed. IsTold (P.shown pages.old) → (d : Database) (names : List (List ℕ)) (asked : List Test) (row : PlanRow)
+        → AreTests d names (P.shown pages.old).pages tests.now asked → row.ids ≡ ids.now → passed ≡ passes_all d names asked row) }
     ensures read { IsRead (P.shown pages.old) (P.shown pages.new) }
     ensures up { min (P.shown pages.old).gets last_count ≤ (P.shown pages.new).gets }
     ensures cause { HasPageCause (P.shown pages.old) (P.shown pages.new) result }

@@ -9,14 +9,14 @@ ghost use Rattle.sand_model.specs.Database.{Database};
 ghost use Rattle.sand_model.specs.Operators.{PlanRow, value_at, fetched_values};
 ghost use Rattle.sand_model.specs.PlainLines.{fits_line};
 ghost use Rattle.statements.specs.declared.column.Place.{Place};
-ghost use Rattle.plan_rows.specs.Rows.{row_of};
-ghost use Rattle.plan_places.specs.Spots.{Stands, IsSpot};
+ghost use Rattle.plan_iterator.specs.Rows.{row_of};
+ghost use Rattle.plan_names.specs.Spots.{Stands, IsSpot};
 ghost use Rattle.plan_stages.specs.Prices.{spot_price, spots_price};
 ghost use Rattle.plan_stages.specs.Fetches.{AreSpots, SpotsStand};
 
 use page_pool::{PageFault, Pages};
-use plan_places::Spot;
-use plan_rows::Answer;
+use plan_iterator::Answer;
+use plan_names::Spot;
 use sand_base::{NoMemory, Row, Value};
 use std::alloc::Global;
 
@@ -49,7 +49,8 @@ fn add_value<P: Pages>(
     values: &mut Vec<Value>,
 ) -> Result<(), PageFault>
     requires stands { IsTold (P.shown pages.old) → Stands (P.shown pages.old).pages spot.now.relation.value }
-    ensures value { OnOk result (IsTold (P.shown pages.old) → (d : Database) (names : List (List ℕ)) (place : Place) (row : PlanRow) → IsSpot d names place spot.now (P.shown pages.old).pages → row.ids ≡ ids.now → values.new.items ≡ values.old.items ++ option_to_list (value_at d names row place)) }
+    ensures value { OnOk result (IsTold (P.shown pages.old) → (d : Database) (names : List (List ℕ)) (place : Place) (row : PlanRow)
+        → IsSpot d names place spot.now (P.shown pages.old).pages → row.ids ≡ ids.now → values.new.items ≡ values.old.items ++ option_to_list (value_at d names row place)) }
     ensures fits { OnOk result (list_all fits_line values.old.items ≡ true → list_all fits_line values.new.items ≡ true) }
     ensures read { IsRead (P.shown pages.old) (P.shown pages.new) }
     ensures up { min (P.shown pages.old).gets last_count ≤ (P.shown pages.new).gets }
@@ -75,7 +76,8 @@ fn add_values<P: Pages>(
     values: &mut Vec<Value>,
 ) -> Result<(), PageFault>
     requires stands { SpotsStand (P.shown pages.old) spots.now }
-    ensures value { OnOk result (IsTold (P.shown pages.old) → (d : Database) (names : List (List ℕ)) (places : List Place) (row : PlanRow) → AreSpots d names (P.shown pages.old).pages spots.now places → row.ids ≡ ids.now → values.new.items ≡ values.old.items ++ fetched_values d names row places) }
+    ensures value { OnOk result (IsTold (P.shown pages.old) → (d : Database) (names : List (List ℕ)) (places : List Place) (row : PlanRow)
+        → AreSpots d names (P.shown pages.old).pages spots.now places → row.ids ≡ ids.now → values.new.items ≡ values.old.items ++ fetched_values d names row places) }
     ensures fits { OnOk result (list_all fits_line values.old.items ≡ true → list_all fits_line values.new.items ≡ true) }
     ensures read { IsRead (P.shown pages.old) (P.shown pages.new) }
     ensures up { min (P.shown pages.old).gets last_count ≤ (P.shown pages.new).gets }
@@ -99,7 +101,8 @@ pub(crate) fn with_values<P: Pages>(
     row: &Answer,
 ) -> Result<Row, PageFault>
     requires stands { SpotsStand (P.shown pages.old) spots.now }
-    ensures value { IfOk result (λ values. IsTold (P.shown pages.old) → (d : Database) (names : List (List ℕ)) (places : List Place) → AreSpots d names (P.shown pages.old).pages spots.now places → values ≡ row.now.values ++ fetched_values d names (row_of row.now) places) }
+    ensures value { IfOk result (λ values. IsTold (P.shown pages.old) → (d : Database) (names : List (List ℕ)) (places : List Place)
+        → AreSpots d names (P.shown pages.old).pages spots.now places → values ≡ row.now.values ++ fetched_values d names (row_of row.now) places) }
     ensures fits { IfOk result (λ values. list_all fits_line values ≡ true) }
     ensures read { IsRead (P.shown pages.old) (P.shown pages.new) }
     ensures up { min (P.shown pages.old).gets last_count ≤ (P.shown pages.new).gets }

@@ -3,10 +3,10 @@ use Rattle.std.proofs.Common.{◌≡◌, ℕ, ◌*◌, ◌<◌, ℤ, pos, ◌+�
 use Rattle.std.proofs.lemmas.Int.{ints, by_lt_z}
 use Rattle.sand_model.specs.Points.{RationalPoint}
 use Rattle.sand_model.specs.Gap.{scaled_distance, common_square}
-use Rattle.int_ring.specs.Expr.{num, ◌⊖◌, ◌⊗◌}
-use Rattle.int_ring.proofs.Named.{identity, inequality}
-use Rattle.int_ring.proofs.Order.{mul_nonneg, mul_positive, add_nonneg}
-use Rattle.int_ring.proofs.Squares.{square_nonneg}
+use Rattle.plane_geom.specs.Expr.{num, ◌⊖◌, ◌⊗◌}
+use Rattle.plane_geom.proofs.Named.{identity, inequality}
+use Rattle.plane_geom.proofs.Order.{mul_nonneg, mul_positive, add_nonneg}
+use Rattle.plane_geom.proofs.Squares.{square_nonneg}
 use Rattle.plane_geom.proofs.Forms as form
 use Rattle.plane_geom.proofs.Signs.{natural, above_zero}
 

@@ -3,8 +3,8 @@ use Rattle.std.proofs.Common.{◌≡◌, ℕ, ℤ, pos, ◌+ℤ◌, ◌-ℤ◌, 
 use Rattle.sand_base.specs.declared.point.Point.{Point}
 use Rattle.sand_base.specs.declared.rect.Rect.{Rect}
 use Rattle.sand_model.specs.Points.{RationalPoint, IsWithin, IsInRect}
-use Rattle.int_ring.specs.Expr.{num, ◌⊕◌, ◌⊖◌, ◌⊗◌}
-use Rattle.int_ring.proofs.Named.{identity_using}
+use Rattle.plane_geom.specs.Expr.{num, ◌⊕◌, ◌⊖◌, ◌⊗◌}
+use Rattle.plane_geom.proofs.Named.{identity_using}
 use Rattle.plane_geom.proofs.Forms as form
 
 -- along x, or along y

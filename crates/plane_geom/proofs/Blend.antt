@@ -3,10 +3,10 @@ use Rattle.std.proofs.Common.{◌≡◌, ℕ, ◌+◌, ◌*◌, ◌<◌, min, ma
 use Rattle.std.proofs.lemmas.Int.{ints, by_lt_z}
 use Rattle.sand_base.specs.declared.segment.Segment.{Segment}
 use Rattle.sand_model.specs.Points.{RationalPoint, IsWithin, IsOnSegment}
-use Rattle.int_ring.specs.Expr.{var, at, num, ◌⊕◌, ◌⊖◌, ◌⊗◌}
-use Rattle.int_ring.proofs.Ring.{ring_using_two}
-use Rattle.int_ring.proofs.Order.{difference_nonneg, mul_nonneg, mul_positive, add_nonneg, pos_abs}
-use Rattle.int_ring.proofs.Inequality.{le_ring}
+use Rattle.plane_geom.specs.Expr.{var, at, num, ◌⊕◌, ◌⊖◌, ◌⊗◌}
+use Rattle.plane_geom.proofs.Ring.{ring_using_two}
+use Rattle.plane_geom.proofs.Order.{difference_nonneg, mul_nonneg, mul_positive, add_nonneg, pos_abs}
+use Rattle.plane_geom.proofs.Inequality.{le_ring}
 use Rattle.plane_geom.proofs.Axis.{Axis, horizontal, vertical, numerator}
 use Rattle.plane_geom.proofs.Signs.{natural}
 

@@ -5,12 +5,12 @@ use Rattle.sand_base.specs.declared.point.Point.{Point}
 use Rattle.sand_base.specs.declared.segment.Segment.{Segment}
 use Rattle.sand_model.specs.Points.{RationalPoint, IsOnSegment}
 use Rattle.sand_model.specs.Gap.{IsLeast, square, common_square}
-use Rattle.int_ring.specs.Expr.{Expr, var, at, num, ◌⊕◌, ◌⊖◌, ◌⊗◌}
-use Rattle.int_ring.proofs.Ring.{ring}
-use Rattle.int_ring.proofs.Named.{identity}
-use Rattle.int_ring.proofs.Order.{add_nonneg, pos_abs}
-use Rattle.int_ring.proofs.Inequality.{le_ring}
-use Rattle.int_ring.proofs.Squares.{square_nonneg}
+use Rattle.plane_geom.specs.Expr.{Expr, var, at, num, ◌⊕◌, ◌⊖◌, ◌⊗◌}
+use Rattle.plane_geom.proofs.Ring.{ring}
+use Rattle.plane_geom.proofs.Named.{identity}
+use Rattle.plane_geom.proofs.Order.{add_nonneg, pos_abs}
+use Rattle.plane_geom.proofs.Inequality.{le_ring}
+use Rattle.plane_geom.proofs.Squares.{square_nonneg}
 use Rattle.plane_geom.specs.Crossing.{Cross}
 use Rattle.plane_geom.specs.Vectors.{cross_of}
 use Rattle.plane_geom.proofs.Clear.{offset}

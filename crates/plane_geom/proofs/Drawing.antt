@@ -1,8 +1,8 @@
 -- Identities of a difference that is drawn together: how the drawn point lies to the ends of both ways.
 use Rattle.std.proofs.Common.{◌≡◌, ℤ, pos, negsuc, ◌+ℤ◌, ◌-ℤ◌, ◌*ℤ◌, [], ◌∷◌, refl, ap₂, ◌∙◌}
-use Rattle.int_ring.specs.Expr.{var, at, num, ◌⊕◌, ◌⊖◌, ◌⊗◌}
-use Rattle.int_ring.proofs.Ring.{ring, ring_using}
-use Rattle.int_ring.proofs.Named.{identity, identity_using}
+use Rattle.plane_geom.specs.Expr.{var, at, num, ◌⊕◌, ◌⊖◌, ◌⊗◌}
+use Rattle.plane_geom.proofs.Ring.{ring, ring_using}
+use Rattle.plane_geom.proofs.Named.{identity, identity_using}
 use Rattle.plane_geom.proofs.Clear.{offset}
 use Rattle.plane_geom.proofs.Forms as form
 

@@ -6,11 +6,11 @@ use Rattle.sand_base.specs.declared.rect.Rect.{Rect}
 use Rattle.sand_base.specs.declared.segment.Segment.{Segment}
 use Rattle.sand_model.specs.Points.{RationalPoint, IsPoint, IsOnSegment, IsInRect}
 use Rattle.sand_model.specs.Gap.{IsLeast}
-use Rattle.int_ring.specs.Expr.{var, at, num, ◌⊕◌, ◌⊖◌, ◌⊗◌}
-use Rattle.int_ring.proofs.Ring.{ring}
+use Rattle.plane_geom.specs.Expr.{var, at, num, ◌⊕◌, ◌⊖◌, ◌⊗◌}
+use Rattle.plane_geom.proofs.Ring.{ring}
 use Rattle.plane_geom.specs.Crossing.{Cross}
 use Rattle.exact_frac.specs.Lesser.{IsLesser}
-use Rattle.plane_geom.specs.Rectangles.{Enters, IsCovered, top_left, bottom_right, left_side, right_side, bottom_side, top_side}
+use Rattle.plane_geom.specs.Rectangles.{EntersRect, IsCovered, top_left, bottom_right, left_side, right_side, bottom_side, top_side}
 use Rattle.plane_geom.proofs.Clear.{exchange}
 use Rattle.plane_geom.proofs.CrossingPoint.{crossing_shared, shared_least}
 use Rattle.plane_geom.proofs.Least.{Attained, attained_within, attained_exchanged, clear_of_bound, means_clear}
@@ -116,7 +116,7 @@ side_apart m e s t r h side ha hb apart q z hq hz =
     ((segment_hull s).into q hq) ((segment_hull t).into z hz)
 
 -- and so are all sides of a rectangle that the segment doesn't enter
-sides_apart : (m e : ℕ) (s : Segment) (r : Rect) → IsOrdered r → IsBound m e s r → ¬ Enters s r → SidesApart m e s r
+sides_apart : (m e : ℕ) (s : Segment) (r : Rect) → IsOrdered r → IsBound m e s r → ¬ EntersRect s r → SidesApart m e s r
 sides_apart m e s r o h outside horizontal low_end =
     side_apart m e s (left_side r) r h (side_in horizontal low_end r o) h.low h.top_left (λ x. outside (inr (inl (inl x))))
 sides_apart m e s r o h outside horizontal high_end =
@@ -128,7 +128,7 @@ sides_apart m e s r o h outside vertical high_end =
 
 -- the least distance of the ends and the corners is that of a segment that doesn't enter the rectangle
 pub nearest_least : (s : Segment) (r : Rect) (a b ends low top_left_one left bottom_right_one high right corners least : Frac)
-    → IsOrdered r → IsNearest s r a b ends low top_left_one left bottom_right_one high right corners least → ¬ Enters s r
+    → IsOrdered r → IsNearest s r a b ends low top_left_one left bottom_right_one high right corners least → ¬ EntersRect s r
     → IsLeast (IsOnSegment s) (IsInRect r) least.num least.den
 nearest_least s r a b ends low top_left_one left bottom_right_one high right corners least o h outside =
     let bound = nearest_bound s r a b ends low top_left_one left bottom_right_one high right corners least h in
@@ -153,7 +153,7 @@ crossed_shared : (s t : Segment) (r : Rect) → ((z : RationalPoint) → IsOnSeg
 crossed_shared s t r side h = attained_within 0 1 (λ q hq. hq) side (crossing_shared s t h)
 
 -- a segment that enters the rectangle is 0 apart from it
-pub entering_least : (s : Segment) (r : Rect) (m e : ℕ) → IsOrdered r → m ≡ 0 → e ≡ 1 → Enters s r → IsLeast (IsOnSegment s) (IsInRect r) m e
+pub entering_least : (s : Segment) (r : Rect) (m e : ℕ) → IsOrdered r → m ≡ 0 → e ≡ 1 → EntersRect s r → IsLeast (IsOnSegment s) (IsInRect r) m e
 entering_least s r m e o hm he h =
     shared_least m e hm he
     (elim h [

@@ -1,5 +1,5 @@
 -- Words of the geometry on expressions, so that identities can be told in them.
-use Rattle.int_ring.specs.Expr.{Expr, ◌⊕◌, ◌⊖◌, ◌⊗◌}
+use Rattle.plane_geom.specs.Expr.{Expr, ◌⊕◌, ◌⊖◌, ◌⊗◌}
 
 -- the sum of two squares
 abbrev pub squares : Expr → Expr → Expr

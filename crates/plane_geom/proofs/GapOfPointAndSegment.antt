@@ -5,11 +5,11 @@ use Rattle.sand_base.specs.declared.point.Point.{Point}
 use Rattle.sand_base.specs.declared.segment.Segment.{Segment}
 use Rattle.sand_model.specs.Points.{IsPoint, IsOnSegment}
 use Rattle.sand_model.specs.Gap.{IsLeast}
-use Rattle.int_ring.specs.Expr.{var, at, num, ◌⊕◌, ◌⊖◌, ◌⊗◌}
-use Rattle.int_ring.proofs.Ring.{ring}
-use Rattle.int_ring.proofs.Order.{mul_nonneg, add_nonneg, pos_abs}
-use Rattle.int_ring.proofs.Named.{inequality}
-use Rattle.int_ring.proofs.Squares.{square_nonneg}
+use Rattle.plane_geom.specs.Expr.{var, at, num, ◌⊕◌, ◌⊖◌, ◌⊗◌}
+use Rattle.plane_geom.proofs.Ring.{ring}
+use Rattle.plane_geom.proofs.Order.{mul_nonneg, add_nonneg, pos_abs}
+use Rattle.plane_geom.proofs.Named.{inequality}
+use Rattle.plane_geom.proofs.Squares.{square_nonneg}
 use Rattle.plane_geom.specs.Vectors.{dot_of, cross_of}
 use Rattle.plane_geom.proofs.Clear.{IsClear, IsWeights, AreClear, offset, as_long, farther, turn_second}
 use Rattle.plane_geom.proofs.Forms as form

@@ -5,8 +5,8 @@ use Rattle.std.proofs.lemmas.Int.{ints}
 use Rattle.sand_base.specs.declared.point.Point.{Point}
 use Rattle.sand_model.specs.Points.{RationalPoint, IsPoint}
 use Rattle.sand_model.specs.Gap.{IsLeast, square, scaled_distance, common_square}
-use Rattle.int_ring.specs.Expr.{var, at, num, ◌⊕◌, ◌⊖◌, ◌⊗◌}
-use Rattle.int_ring.proofs.Ring.{ring, ring_using_two}
+use Rattle.plane_geom.specs.Expr.{var, at, num, ◌⊕◌, ◌⊖◌, ◌⊗◌}
+use Rattle.plane_geom.proofs.Ring.{ring, ring_using_two}
 use Rattle.plane_geom.specs.Vectors.{dot_of}
 use Rattle.plane_geom.proofs.Signs.{same_le}
 

@@ -5,11 +5,11 @@ use Rattle.sand_base.specs.declared.point.Point.{Point}
 use Rattle.sand_base.specs.declared.rect.Rect.{Rect}
 use Rattle.sand_model.specs.Points.{IsPoint, IsWithin, IsInRect}
 use Rattle.sand_model.specs.Gap.{IsLeast, scaled_distance, common_square}
-use Rattle.int_ring.specs.Expr.{var, at, num, ◌⊕◌, ◌⊖◌, ◌⊗◌}
-use Rattle.int_ring.proofs.Ring.{ring}
-use Rattle.int_ring.proofs.Order.{difference_nonneg, mul_nonneg, add_nonneg, both_le}
-use Rattle.int_ring.proofs.Inequality.{le_ring}
-use Rattle.int_ring.proofs.Squares.{square_nonneg, square_le}
+use Rattle.plane_geom.specs.Expr.{var, at, num, ◌⊕◌, ◌⊖◌, ◌⊗◌}
+use Rattle.plane_geom.proofs.Ring.{ring}
+use Rattle.plane_geom.proofs.Order.{difference_nonneg, mul_nonneg, add_nonneg, both_le}
+use Rattle.plane_geom.proofs.Inequality.{le_ring}
+use Rattle.plane_geom.proofs.Squares.{square_nonneg, square_le}
 use Rattle.plane_geom.specs.Rectangles.{range_gap}
 use Rattle.plane_geom.specs.Vectors.{dot_of}
 use Rattle.plane_geom.proofs.Least.{least_same}

@@ -4,9 +4,9 @@ use Rattle.std.proofs.lemmas.Int.{ints}
 use Rattle.sand_base.specs.declared.point.Point.{Point}
 use Rattle.sand_model.specs.Points.{RationalPoint}
 use Rattle.sand_model.specs.Gap.{IsLeast, scaled_distance, common_square}
-use Rattle.int_ring.specs.Expr.{var, at, ◌⊖◌, ◌⊗◌}
-use Rattle.int_ring.proofs.Ring.{ring}
-use Rattle.int_ring.proofs.Order.{mul_positive}
+use Rattle.plane_geom.specs.Expr.{var, at, ◌⊖◌, ◌⊗◌}
+use Rattle.plane_geom.proofs.Ring.{ring}
+use Rattle.plane_geom.proofs.Order.{mul_positive}
 use Rattle.plane_geom.proofs.Apart.{distance_exchanged, common_exchanged, apart_exchanged}
 use Rattle.plane_geom.proofs.Clear.{IsClear, AreClear, offset, as_long, unscaled}
 use Rattle.plane_geom.proofs.Means.{IsMean, IsHull}

@@ -1,3 +1,11 @@
+mod Examples
+pub mod Inequality
+pub mod Named
+pub mod Order
+mod PolynomialValues
+pub mod ProductLaws
+pub mod Ring
+pub mod Squares
 pub mod Apart
 pub mod Axis
 pub mod Blend

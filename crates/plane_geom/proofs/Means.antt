@@ -5,9 +5,9 @@ use Rattle.std.proofs.lemmas.Int.{ints}
 use Rattle.sand_base.specs.declared.point.Point.{Point}
 use Rattle.sand_base.specs.declared.segment.Segment.{Segment}
 use Rattle.sand_model.specs.Points.{RationalPoint, IsPoint, IsWithin, IsOnSegment}
-use Rattle.int_ring.specs.Expr.{var, at, num, ◌⊕◌, ◌⊖◌, ◌⊗◌}
-use Rattle.int_ring.proofs.Ring.{ring_using, ring_using_two}
-use Rattle.int_ring.proofs.Order.{difference_nonneg, le_by, mul_nonneg, add_nonneg, le_from_mul, same_from_mul, pos_le}
+use Rattle.plane_geom.specs.Expr.{var, at, num, ◌⊕◌, ◌⊖◌, ◌⊗◌}
+use Rattle.plane_geom.proofs.Ring.{ring_using, ring_using_two}
+use Rattle.plane_geom.proofs.Order.{difference_nonneg, le_by, mul_nonneg, add_nonneg, le_from_mul, same_from_mul, pos_le}
 use Rattle.plane_geom.proofs.Clear.{IsWeights, turned_weights}
 use Rattle.plane_geom.proofs.Signs.{natural}
 

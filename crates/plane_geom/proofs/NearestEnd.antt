@@ -6,10 +6,10 @@ use Rattle.sand_base.specs.declared.point.Point.{Point}
 use Rattle.sand_base.specs.declared.segment.Segment.{Segment}
 use Rattle.sand_model.specs.Points.{RationalPoint, IsPoint, IsOnSegment}
 use Rattle.sand_model.specs.Gap.{IsLeast}
-use Rattle.int_ring.specs.Expr.{◌⊕◌, ◌⊖◌, ◌⊗◌}
-use Rattle.int_ring.proofs.Order.{difference_nonneg, mul_nonneg, add_nonneg, pos_le}
-use Rattle.int_ring.proofs.Named.{inequality_scaled}
-use Rattle.int_ring.proofs.Squares.{square_nonneg}
+use Rattle.plane_geom.specs.Expr.{◌⊕◌, ◌⊖◌, ◌⊗◌}
+use Rattle.plane_geom.proofs.Order.{difference_nonneg, mul_nonneg, add_nonneg, pos_le}
+use Rattle.plane_geom.proofs.Named.{inequality_scaled}
+use Rattle.plane_geom.proofs.Squares.{square_nonneg}
 use Rattle.plane_geom.specs.Crossing.{AreOpposed, Cross}
 use Rattle.exact_frac.specs.Lesser.{IsAtMost, IsLesser}
 use Rattle.plane_geom.specs.Vectors.{cross_of}

@@ -5,8 +5,8 @@ use Rattle.std.proofs.lemmas.Int.{ints}
 use Rattle.sand_base.specs.declared.point.Point.{Point}
 use Rattle.sand_base.specs.declared.segment.Segment.{Segment}
 use Rattle.sand_model.specs.Points.{RationalPoint, IsPoint, IsWithin, cross_at}
-use Rattle.int_ring.specs.Expr.{var, at, num, ◌⊖◌, ◌⊗◌}
-use Rattle.int_ring.proofs.Ring.{ring_using_two}
+use Rattle.plane_geom.specs.Expr.{var, at, num, ◌⊖◌, ◌⊗◌}
+use Rattle.plane_geom.proofs.Ring.{ring_using_two}
 use Rattle.plane_geom.specs.Incidence.{IsBetween, IsInBox, LiesOn}
 use Rattle.plane_geom.specs.Vectors.{cross_of}
 use Rattle.plane_geom.proofs.GapOfPoints.{spot, spot_is}

@@ -2,12 +2,12 @@
 use Rattle.std.proofs.Common.{◌≡◌, ℤ, pos, ◌+ℤ◌, ◌-ℤ◌, ◌*ℤ◌, ◌≤ℤ◌, ◌<ℤ◌, [], ◌∷◌, refl, ap, ◌∙◌, arith}
 use Rattle.std.proofs.lemmas.Int.{ints, by_lt_z}
 use Rattle.sand_base.specs.declared.point.Point.{Point}
-use Rattle.int_ring.specs.Expr.{var, at, num, ◌⊕◌, ◌⊖◌, ◌⊗◌}
-use Rattle.int_ring.proofs.Named.{identity}
-use Rattle.int_ring.proofs.Ring.{ring, ring_using_two}
-use Rattle.int_ring.proofs.Order.{difference_nonneg, mul_nonneg, mul_positive, chain_le, both_le, apart}
-use Rattle.int_ring.proofs.Inequality.{le_ring}
-use Rattle.int_ring.proofs.Squares.{square_nonneg, squares_zero}
+use Rattle.plane_geom.specs.Expr.{var, at, num, ◌⊕◌, ◌⊖◌, ◌⊗◌}
+use Rattle.plane_geom.proofs.Named.{identity}
+use Rattle.plane_geom.proofs.Ring.{ring, ring_using_two}
+use Rattle.plane_geom.proofs.Order.{difference_nonneg, mul_nonneg, mul_positive, chain_le, both_le, apart}
+use Rattle.plane_geom.proofs.Inequality.{le_ring}
+use Rattle.plane_geom.proofs.Squares.{square_nonneg, squares_zero}
 use Rattle.plane_geom.specs.Vectors.{cross_of}
 use Rattle.plane_geom.proofs.Forms as form
 use Rattle.plane_geom.proofs.Clear.{AreClear, offset, as_long, turn_first, turn_second, exchange}

@@ -3,11 +3,11 @@ use Rattle.std.proofs.Common.{◌≡◌, ℕ, ◌*◌, ◌<◌, min, max, ℤ, p
 use Rattle.std.proofs.lemmas.Int.{ints, by_lt_z}
 use Rattle.sand_base.specs.declared.segment.Segment.{Segment}
 use Rattle.sand_model.specs.Points.{RationalPoint, IsWithin, IsOnSegment}
-use Rattle.int_ring.specs.Expr.{var, at, num, ◌⊕◌, ◌⊖◌, ◌⊗◌}
-use Rattle.int_ring.proofs.Ring.{ring, ring_using_two}
-use Rattle.int_ring.proofs.Order.{difference_nonneg, mul_nonneg, mul_positive, add_nonneg, both_le}
-use Rattle.int_ring.proofs.Squares.{square_nonneg, squares_zero}
-use Rattle.int_ring.proofs.Named.{identity_using}
+use Rattle.plane_geom.specs.Expr.{var, at, num, ◌⊕◌, ◌⊖◌, ◌⊗◌}
+use Rattle.plane_geom.proofs.Ring.{ring, ring_using_two}
+use Rattle.plane_geom.proofs.Order.{difference_nonneg, mul_nonneg, mul_positive, add_nonneg, both_le}
+use Rattle.plane_geom.proofs.Squares.{square_nonneg, squares_zero}
+use Rattle.plane_geom.proofs.Named.{identity_using}
 use Rattle.plane_geom.proofs.Axis.{foot_shares}
 use Rattle.plane_geom.proofs.Signs.{sum_zero}
 use Rattle.plane_geom.proofs.Means.{IsMean, IsHull, first_end, mean_on}

@@ -7,10 +7,10 @@ use Rattle.sand_base.specs.declared.rect.Rect.{Rect}
 use Rattle.sand_base.specs.declared.segment.Segment.{Segment}
 use Rattle.sand_model.specs.Points.{RationalPoint, IsWithin, IsOnSegment, IsInRect}
 use Rattle.sand_model.specs.Gap.{square}
-use Rattle.int_ring.specs.Expr.{num, ◌⊕◌, ◌⊖◌, ◌⊗◌}
-use Rattle.int_ring.proofs.Named.{identity, inequality}
-use Rattle.int_ring.proofs.Order.{difference_nonneg, mul_nonneg, mul_le, add_nonneg, chain_le, pos_le}
-use Rattle.int_ring.proofs.Squares.{square_nonneg}
+use Rattle.plane_geom.specs.Expr.{num, ◌⊕◌, ◌⊖◌, ◌⊗◌}
+use Rattle.plane_geom.proofs.Named.{identity, inequality}
+use Rattle.plane_geom.proofs.Order.{difference_nonneg, mul_nonneg, mul_le, add_nonneg, chain_le, pos_le}
+use Rattle.plane_geom.proofs.Squares.{square_nonneg}
 use Rattle.plane_geom.specs.Rectangles.{IsCovered, top_left, bottom_right, left_side, right_side, bottom_side, top_side}
 use Rattle.plane_geom.proofs.Apart.{AreApart}
 use Rattle.plane_geom.proofs.Axis.{Axis, horizontal, vertical, coordinate, numerator, IsInRange, in_range}

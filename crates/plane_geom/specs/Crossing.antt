@@ -8,10 +8,10 @@ abbrev pub AreOpposed : ℤ → ℤ → Type 0
 AreOpposed x y = ((x <ℤ pos 0) × (pos 0 <ℤ y)) ⊎ ((pos 0 <ℤ x) × (y <ℤ pos 0))
 
 -- the ends of t lie on the two sides of the line of s, and neither on the line
-abbrev pub Splits : Segment → Segment → Type 0
-Splits s t = AreOpposed (cross_of s.a s.b t.a) (cross_of s.a s.b t.b)
+abbrev pub SplitsSides : Segment → Segment → Type 0
+SplitsSides s t = AreOpposed (cross_of s.a s.b t.a) (cross_of s.a s.b t.b)
 
 -- the segments cross properly: each splits the other
 pub record Cross (s t : Segment) : Type 0 where
-  pub first : Splits s t
-  pub second : Splits t s
+  pub first : SplitsSides s t
+  pub second : SplitsSides t s

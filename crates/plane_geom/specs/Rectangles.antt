@@ -41,6 +41,6 @@ abbrev pub top_side : Rect → Segment
 top_side r = record { a = top_left r; b = r.high }
 
 -- the segment begins in the rectangle, or it properly crosses a side
-abbrev pub Enters : Segment → Rect → Type 0
-Enters s r =
+abbrev pub EntersRect : Segment → Rect → Type 0
+EntersRect s r =
     IsCovered s.a r ⊎ ((Cross s (left_side r) ⊎ Cross s (right_side r)) ⊎ (Cross s (bottom_side r) ⊎ Cross s (top_side r)))

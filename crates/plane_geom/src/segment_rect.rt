@@ -3,7 +3,7 @@ ghost use Rattle.sand_base.specs.Plane.{IsRectInClosedPlane, IsSegmentInClosedPl
 ghost use Rattle.sand_model.specs.Points.{IsInRect, IsOnSegment};
 ghost use Rattle.sand_model.specs.Gap.{IsLeast};
 ghost use Rattle.plane_geom.specs.Crossing.{Cross};
-ghost use Rattle.plane_geom.specs.Rectangles.{Enters, IsCovered, left_side, right_side, bottom_side, top_side};
+ghost use Rattle.plane_geom.specs.Rectangles.{EntersRect, IsCovered, left_side, right_side, bottom_side, top_side};
 
 use crate::point_segment::gap_point_segment;
 use crate::rects::gap_point_rect;
@@ -28,7 +28,7 @@ pub fn gap_segment_rect(s: Segment, r: Rect) -> Frac
 fn nearest_end_or_corner(s: Segment, r: Rect) -> Frac
     requires s { IsSegmentInClosedPlane s }
     requires r { IsRectInClosedPlane r }
-    ensures { ¬ Enters s r → IsLeast (IsOnSegment s) (IsInRect r) result.num result.den }
+    ensures { ¬ EntersRect s r → IsLeast (IsOnSegment s) (IsInRect r) result.num result.den }
 {
     let (left, right) = vertical_sides(r);
     let of_ends = nearer(gap_point_rect(s.a, r), gap_point_rect(s.b, r));
@@ -41,7 +41,7 @@ fn nearest_end_or_corner(s: Segment, r: Rect) -> Frac
 fn enters(s: Segment, r: Rect) -> bool
     requires s { IsSegmentInClosedPlane s }
     requires r { IsRectInClosedPlane r }
-    ensures { IsTrue result ↔ Enters s r }
+    ensures { IsTrue result ↔ EntersRect s r }
 {
     let (left, right) = vertical_sides(r);
     let (bottom, top) = horizontal_sides(r);

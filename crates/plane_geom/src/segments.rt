@@ -2,7 +2,7 @@ ghost use Rattle.std.specs.Prelude.{◌↔◌, IsTrue};
 ghost use Rattle.sand_base.specs.Plane.{IsSegmentInClosedPlane};
 ghost use Rattle.sand_model.specs.Points.{IsOnSegment};
 ghost use Rattle.sand_model.specs.Gap.{IsLeast};
-ghost use Rattle.plane_geom.specs.Crossing.{AreOpposed, Cross, Splits};
+ghost use Rattle.plane_geom.specs.Crossing.{AreOpposed, Cross, SplitsSides};
 ghost use Rattle.exact_frac.specs.Lesser.{IsLesser};
 
 use crate::point_segment::gap_point_segment;
@@ -54,7 +54,7 @@ pub fn crosses(s: Segment, t: Segment) -> bool
 fn splits(s: Segment, t: Segment) -> bool
     requires s { IsSegmentInClosedPlane s }
     requires t { IsSegmentInClosedPlane t }
-    ensures { IsTrue result ↔ Splits s t }
+    ensures { IsTrue result ↔ SplitsSides s t }
 {
     are_opposed(cross(s.a, s.b, t.a), cross(s.a, s.b, t.b))
 }

@@ -13,7 +13,7 @@ use Rattle.pmr_tree.specs.Leaves.{firsts, Passes}
 use Rattle.pmr_tree.specs.Listing.{Pair}
 use Rattle.pmr_tree.proofs.Counts.{count_keys}
 use Rattle.pmr_tree.proofs.Entries.{id_in_key}
-use Rattle.pmr_tree.proofs.Orders.{holds, fails, test, each_append, each_filter}
+use Rattle.pmr_tree.proofs.AscendingLists.{holds, fails, test, each_append, each_filter}
 use Rattle.pmr_build.specs.Bulk.{leaf_room, bulk}
 use Rattle.pmr_build.specs.Calls.{member_entry, leaf_entries, EntersBlock, IsTooMany}
 use Rattle.pmr_build.specs.Members.{Member, member_ids, AreMembersIn, MembersPass}

@@ -16,17 +16,17 @@ use Rattle.sand_model.specs.Tree.{Tree, root_block, Fits, IsFull, listings}
 use Rattle.ring_geom.specs.Laws.{GapExists}
 use Rattle.ring_geom.specs.MeasureLaws.{ChildrenMeet, TestIsMeeting, RootMeetsAll}
 use Rattle.pmr_tree.specs.Entries.{figure_of, value_of, KeepsIn}
-use Rattle.pmr_tree.specs.Keys.{IsShaped, is_inside, keys, within}
+use Rattle.pmr_tree.specs.Keys.{IsShaped, is_inside, keys, keys_within}
 use Rattle.pmr_tree.specs.Laws.{AreInPlane}
 use Rattle.pmr_tree.specs.Leaves.{firsts}
 use Rattle.pmr_tree.specs.Listing.{Pair}
-use Rattle.pmr_tree.specs.Lists.{Above, Rises}
+use Rattle.pmr_tree.specs.Lists.{Above, RiseStrictly}
 use Rattle.pmr_tree.specs.Quadtree.{store_of, keys_at, tree_at, IsPmr}
 use Rattle.pmr_tree.specs.declared.quadtree.Pmr.{Pmr}
 use Rattle.pmr_tree.proofs.Counts.{count_keys}
 use Rattle.pmr_tree.proofs.Grown.{keeps_test, passes_keeps}
 use Rattle.pmr_tree.proofs.KeyLists.{keys_inside, keys_rise}
-use Rattle.pmr_tree.proofs.Orders.{filter_all}
+use Rattle.pmr_tree.proofs.AscendingLists.{filter_all}
 use Rattle.pmr_tree.proofs.ShapeLaws.{some_same, rows_quarters, is_root}
 use Rattle.pmr_tree.proofs.TreeAt.{tree_is}
 use Rattle.pmr_build.specs.Bulk.{bulk}
@@ -67,7 +67,7 @@ keys_told rows list h gap measure n es e = at COORDINATE_BITS refl where
   at levels l = e.keys levels (omega (arith, l)) ∙ ap (keys root_block) (sym (tree_told rows list h gap measure n levels l))
 
 -- so they ascend
-rises_ascend : (es : List Pair) → Rises (firsts es) → Ascending es
+rises_ascend : (es : List Pair) → RiseStrictly (firsts es) → Ascending es
 rises_ascend [] h = tt
 rises_ascend (e ∷ es) h = (above es h.0, rises_ascend es h.1) where
   above : (xs : List Pair) → Above e.0 (firsts xs) → AboveKeys e.0 xs
@@ -77,7 +77,7 @@ rises_ascend (e ∷ es) h = (above es h.0, rises_ascend es h.1) where
 pub entries_ascend : (rows : Rows) (list : List Member) → Premises rows list → (gap : Measure) → IsMeasure gap → (n : ℕ) (es : List Pair)
     → EntersBlock (meets_block gap rows) n root_block n list [] es → Ascending es
 entries_ascend rows list h gap measure n es e =
-    rises_ascend es (subst Rises (sym (keys_told rows list h gap measure n es e)) (keys_rise root_block (tree_of gap rows n) (tree_shaped rows list h gap measure n)))
+    rises_ascend es (subst RiseStrictly (sym (keys_told rows list h gap measure n es e)) (keys_rise root_block (tree_of gap rows n) (tree_shaped rows list h gap measure n)))
 
 -- the entries of an id have the value of its row's rough shape
 members_pass : (rows : Rows) (m : Block → ℕ → Bool) (b : Block) (id : ℕ) (s : Shape) → shape_at rows id ≡ Some s → (list : List Member) → AreMembersIn rows m b list
@@ -103,7 +103,7 @@ tree_here rows list h gap measure w t n e =
     let tree : Tree = tree_of gap rows n in
     let shaped : IsShaped root_block tree = tree_shaped rows list h gap measure n in
     tree_is w t tree (record {
-      is = ap (within root_block) e ∙ filter_all (is_inside root_block) (keys root_block tree) (keys_inside root_block tree shaped);
+      is = ap (keys_within root_block) e ∙ filter_all (is_inside root_block) (keys root_block tree) (keys_inside root_block tree shaped);
       shaped = shaped;
     })
 

@@ -8,7 +8,7 @@ use Rattle.z_code.specs.declared.block.Block.{Block}
 use Rattle.page_pool.specs.Disk.{PageMap}
 use Rattle.pmr_tree.specs.Lists.{Each}
 use Rattle.pmr_tree.proofs.Entries.{each_at}
-use Rattle.pmr_tree.proofs.Orders.{holds, fails, test}
+use Rattle.pmr_tree.proofs.AscendingLists.{holds, fails, test}
 use Rattle.pmr_build.specs.Members.{Member, IsMemberOf, AreMembersIn, TellsRows}
 use Rattle.pmr_build.specs.Parts.{AreQuartersMet, TakesIn, members_met, PartsTake, HaveMost, IsChildOf, AreDivided}
 use Rattle.pmr_build.specs.declared.divide.Mosts.{Mosts}
@@ -61,7 +61,8 @@ child_is : (m : Block → ℕ → Bool) (n : ℕ) (c : Block) (most : ℕ) (list
 child_is m n c most list begun more child_most mid new b d h k j =
     let f : Member → Bool = λ i. m c i.0 in record {
       keeps = k ∙ ap (λ t. max n (length t)) (h ∙ ap (filter f) (b ∙ ap (λ t. take t list) (add-one most)));
-      part_is = j ∙ (ap (λ t. t ++ filter f more) h ∙ (sym (filter_of_both f begun more) ∙ ap (filter f) (ap (λ t. t ++ more) b ∙ (ap (λ t. take (most + 1) list ++ t) d ∙ take_then_drop (most + 1) list))));
+      part_is = j ∙ (ap (λ t. t ++ filter f more) h
+          ∙ (sym (filter_of_both f begun more) ∙ ap (filter f) (ap (λ t. t ++ more) b ∙ (ap (λ t. take (most + 1) list ++ t) d ∙ take_then_drop (most + 1) list))));
     }
 
 -- all of a list are taken

@@ -8,9 +8,9 @@ use Rattle.z_code.specs.Block.{IsBlock, child}
 use Rattle.z_code.specs.declared.block.Block.{Block}
 use Rattle.sand_model.specs.Tree.{Tree, Leaf, Inner, split, settled, grown}
 use Rattle.pmr_tree.specs.Changes.{Quarters}
-use Rattle.pmr_tree.specs.Lists.{Each, Rises}
-use Rattle.pmr_tree.proofs.Orders.{holds, fails, test, each_append, each_filter, filter_weaker, add_last}
-use Rattle.pmr_tree.proofs.Growth.{met_0, met_1, met_2, met_3}
+use Rattle.pmr_tree.specs.Lists.{Each, RiseStrictly}
+use Rattle.pmr_tree.proofs.AscendingLists.{holds, fails, test, each_append, each_filter, filter_weaker, add_last}
+use Rattle.pmr_tree.proofs.GrownTrees.{met_0, met_1, met_2, met_3}
 use Rattle.pmr_tree.proofs.Quarter.{child_block}
 use Rattle.pmr_build.specs.Bulk.{grown_by, leaf_room, bulk}
 
@@ -35,7 +35,7 @@ follows_fewer few many (x ∷ xs) h f = (h x f.0, follows_fewer (few ++ x ∷ []
   more z k = (let r = first z many k in each_append (λ y. y < z) few (x ∷ []) (h z r.0) (r.1, tt))
 
 -- ids that rise follow one another
-pub rises_follow : (there ids : List ℕ) → Each (λ y. Each (λ x. y < x) ids) there → Rises ids → Follows there ids
+pub rises_follow : (there ids : List ℕ) → Each (λ y. Each (λ x. y < x) ids) there → RiseStrictly ids → Follows there ids
 rises_follow there [] h r = tt
 rises_follow there (x ∷ ids) h r = (firsts there h, rises_follow (there ++ x ∷ []) ids (each_append (λ y. Each (λ z. y < z) ids) there (x ∷ []) (rests there h) (r.0, tt)) r.1) where
   firsts : (ys : List ℕ) → Each (λ y. Each (λ z. y < z) (x ∷ ids)) ys → Each (λ y. y < x) ys

@@ -12,9 +12,9 @@ use Rattle.ring_geom.specs.MeasureLaws.{ChildrenMeet, TestIsMeeting, RootMeetsAl
 use Rattle.pmr_tree.specs.Entries.{figure_of}
 use Rattle.pmr_tree.specs.Keys.{IsId}
 use Rattle.pmr_tree.specs.Laws.{AreInPlane}
-use Rattle.pmr_tree.specs.Lists.{Each, Above, Rises}
+use Rattle.pmr_tree.specs.Lists.{Each, Above, RiseStrictly}
 use Rattle.pmr_tree.proofs.Grown.{measure_tells}
-use Rattle.pmr_tree.proofs.Orders.{holds, fails, test, each_of_map}
+use Rattle.pmr_tree.proofs.AscendingLists.{holds, fails, test, each_of_map}
 use Rattle.pmr_tree.proofs.ShapeLaws.{here_shape, there_shape, shape_in_closed, rows_quarters}
 use Rattle.pmr_build.specs.Members.{Member, member_ids, AreRowsById, AreMembersOf, AreMembersIn, TellsRows}
 
@@ -41,7 +41,7 @@ later : (all : Rows) (row : ℕ × Shape) (rest : Rows) → Above row.0 (ids_of 
 later all row [] h k = tt
 later all row (r ∷ rest) h k = (there_shape row all r.0 (differs row.0 r.0 h.0) ∙ k.0, later all row rest h.1 k.1)
 
-own_shapes : (rows : Rows) → Rises (ids_of rows) → Each (λ r. shape_at rows r.0 ≡ Some r.1) rows
+own_shapes : (rows : Rows) → RiseStrictly (ids_of rows) → Each (λ r. shape_at rows r.0 ≡ Some r.1) rows
 own_shapes [] h = tt
 own_shapes (r ∷ rows) h = (here_shape r rows r.0 (itself r.0), later rows r rows h.0 (own_shapes rows h.1))
 

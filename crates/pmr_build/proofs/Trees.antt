@@ -11,9 +11,9 @@ use Rattle.sand_model.specs.Database.{meets_block, tree_of}
 use Rattle.sand_model.specs.Tree.{Tree, Leaf, root_block, add, grown, Fits, IsShallow, IsFull}
 use Rattle.pmr_tree.specs.Changes.{Quarters}
 use Rattle.pmr_tree.specs.Keys.{IsId, IsShaped}
-use Rattle.pmr_tree.specs.Lists.{Each, Rises}
-use Rattle.pmr_tree.proofs.Growth.{met_0, met_1, met_2, met_3, fits_grown, full_grown}
-use Rattle.pmr_tree.proofs.Orders.{filter_all, filter_weaker, rises_filter, rises_add, each_filter}
+use Rattle.pmr_tree.specs.Lists.{Each, RiseStrictly}
+use Rattle.pmr_tree.proofs.GrownTrees.{met_0, met_1, met_2, met_3, fits_grown, full_grown}
+use Rattle.pmr_tree.proofs.AscendingLists.{filter_all, filter_weaker, rises_filter, rises_add, each_filter}
 use Rattle.pmr_tree.proofs.Quarter.{child_block}
 use Rattle.pmr_tree.proofs.ShapeLaws.{is_root, shallow_grown}
 use Rattle.pmr_build.specs.Bulk.{grown_by, leaf_room, bulk}
@@ -28,7 +28,7 @@ Met = Block → ℕ → Bool
 entered_by : (gap : Measure) (shapes : List (ℕ × Shape)) (n : ℕ) → tree_of gap shapes n ≡ grown_by (meets_block gap shapes) n root_block (map (λ row. row.0) shapes) (Leaf [])
 entered_by gap shapes n = refl
 
-pub rows_are : (gap : Measure) (shapes : List (ℕ × Shape)) (n levels : ℕ) → levels ≡ COORDINATE_BITS → Quarters (meets_block gap shapes) → Rises (map (λ row. row.0) shapes)
+pub rows_are : (gap : Measure) (shapes : List (ℕ × Shape)) (n levels : ℕ) → levels ≡ COORDINATE_BITS → Quarters (meets_block gap shapes) → RiseStrictly (map (λ row. row.0) shapes)
     → Each (λ id. meets_block gap shapes root_block id ≡ true) (map (λ row. row.0) shapes)
     → tree_of gap shapes n ≡ bulk (meets_block gap shapes) n levels root_block n (map (λ row. row.0) shapes)
 rows_are gap shapes n levels e q rise all =
@@ -87,7 +87,7 @@ bulk_fits m q n rows (suc levels) b block e most ids is =
     ]
 
 -- each leaf has ids of rows in ascending order
-pub bulk_shaped : (m : Met) (n levels : ℕ) (b : Block) → levels + b.level ≡ COORDINATE_BITS → (most : ℕ) (ids : List ℕ) → Rises ids → Each IsId ids → IsShaped b (bulk m n levels b most ids)
+pub bulk_shaped : (m : Met) (n levels : ℕ) (b : Block) → levels + b.level ≡ COORDINATE_BITS → (most : ℕ) (ids : List ℕ) → RiseStrictly ids → Each IsId ids → IsShaped b (bulk m n levels b most ids)
 bulk_shaped m n zero b e most ids rise are = (omega (arith, e), (rise, are))
 bulk_shaped m n (suc levels) b e most ids rise are =
     let F : Tree → Type 0 = λ t. IsShaped b t in
@@ -96,12 +96,16 @@ bulk_shaped m n (suc levels) b e most ids rise are =
       | many h ↦ subst F (sym (bulk_inner m n levels b most ids h)) (
         omega (arith, e),
         (
-          bulk_shaped m n levels (child b 0) (omega (arith, e)) (leaf_room m n (child b 0) (take (suc most) ids)) (filter (m (child b 0)) ids) (rises_filter (m (child b 0)) ids rise) (each_filter IsId (m (child b 0)) ids are),
+          bulk_shaped m n levels (child b 0) (omega (arith, e)) (leaf_room m n (child b 0) (take (suc most) ids)) (filter (m (child b 0)) ids)
+              (rises_filter (m (child b 0)) ids rise) (each_filter IsId (m (child b 0)) ids are),
           (
-            bulk_shaped m n levels (child b 1) (omega (arith, e)) (leaf_room m n (child b 1) (take (suc most) ids)) (filter (m (child b 1)) ids) (rises_filter (m (child b 1)) ids rise) (each_filter IsId (m (child b 1)) ids are),
+            bulk_shaped m n levels (child b 1) (omega (arith, e)) (leaf_room m n (child b 1) (take (suc most) ids)) (filter (m (child b 1)) ids)
+                (rises_filter (m (child b 1)) ids rise) (each_filter IsId (m (child b 1)) ids are),
             (
-              bulk_shaped m n levels (child b 2) (omega (arith, e)) (leaf_room m n (child b 2) (take (suc most) ids)) (filter (m (child b 2)) ids) (rises_filter (m (child b 2)) ids rise) (each_filter IsId (m (child b 2)) ids are),
-              bulk_shaped m n levels (child b 3) (omega (arith, e)) (leaf_room m n (child b 3) (take (suc most) ids)) (filter (m (child b 3)) ids) (rises_filter (m (child b 3)) ids rise) (each_filter IsId (m (child b 3)) ids are),
+              bulk_shaped m n levels (child b 2) (omega (arith, e)) (leaf_room m n (child b 2) (take (suc most) ids)) (filter (m (child b 2)) ids)
+                  (rises_filter (m (child b 2)) ids rise) (each_filter IsId (m (child b 2)) ids are),
+              bulk_shaped m n levels (child b 3) (omega (arith, e)) (leaf_room m n (child b 3) (take (suc most) ids)) (filter (m (child b 3)) ids)
+                  (rises_filter (m (child b 3)) ids rise) (each_filter IsId (m (child b 3)) ids are),
             ),
           ),
         ),
@@ -109,7 +113,7 @@ bulk_shaped m n (suc levels) b e most ids rise are =
     ]
 
 -- A full tree that grows by ids stays full.
-pub full_by_all : (m : Met) → Quarters m → (n : ℕ) (done more : List ℕ) (t : Tree) → Rises done → IsShallow root_block t → Fits m done root_block t → IsFull n t
+pub full_by_all : (m : Met) → Quarters m → (n : ℕ) (done more : List ℕ) (t : Tree) → RiseStrictly done → IsShallow root_block t → Fits m done root_block t → IsFull n t
     → IsFull n (grown_by m n root_block more t)
 full_by_all m q n done [] t rise shallow fit full = full
 full_by_all m q n done (x ∷ more) t rise shallow fit full =

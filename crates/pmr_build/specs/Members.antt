@@ -8,7 +8,7 @@ use Rattle.sand_model.specs.Roughs.{rough_figure, row_figure}
 use Rattle.pmr_tree.specs.Changes.{Quarters}
 use Rattle.pmr_tree.specs.Entries.{figure_of, value_of}
 use Rattle.pmr_tree.specs.Keys.{IsId}
-use Rattle.pmr_tree.specs.Lists.{Each, Rises}
+use Rattle.pmr_tree.specs.Lists.{Each, RiseStrictly}
 use Rattle.pmr_tree.specs.Plot.{TellsOf}
 
 -- an id with its rough shape
@@ -21,7 +21,7 @@ member_ids list = map (λ i. i.0) list
 
 -- rows under ids that rows may have, in ascending order
 pub record AreRowsById (rows : List (ℕ × Shape)) : Type 0 where
-  pub rise : Rises (map (λ row. row.0) rows)
+  pub rise : RiseStrictly (map (λ row. row.0) rows)
   pub ids : Each IsId (map (λ row. row.0) rows)
 
 -- members are the rows' ids with their rough shapes, in the rows' order

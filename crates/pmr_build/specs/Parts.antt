@@ -1,11 +1,12 @@
 -- The members of a block, divided among its four children.
-use Rattle.std.specs.Prelude.{◌≡◌, ◌↔◌, IsTrue, ℕ, suc, Bool, cond, max, List, [], ◌∷◌, ◌++◌, filter, take, length}
+use Rattle.std.specs.Prelude.{◌≡◌, ◌↔◌, IsTrue, ℕ, suc, Bool, true, false, ⊤, cond, max, List, [], ◌∷◌, ◌++◌, filter, take, length}
 use Rattle.sand_base.specs.Plane.{IsRectInClosedPlane}
 use Rattle.sand_base.specs.declared.goal.Goal.TheVariants as figure
 use Rattle.sand_base.specs.declared.rect.Rect.{Rect}
 use Rattle.sand_base.specs.declared.shape.Shape.{Shape}
 use Rattle.z_code.specs.Block.{child, square_of}
 use Rattle.z_code.specs.declared.block.Block.{Block}
+use Rattle.ring_geom.specs.Bounding.{Overlap}
 use Rattle.sand_model.specs.FigureGap.{IsMeeting}
 use Rattle.pmr_build.specs.Members.{Member}
 use Rattle.pmr_build.specs.declared.divide.Division.{Division}
@@ -35,6 +36,21 @@ pub record MeetsSquares (s : Shape) (b : Block) (met : QuartersMet) : Type 0 whe
   pub second : TellsMeeting s (child b 1) met.second
   pub third : TellsMeeting s (child b 2) met.third
   pub fourth : TellsMeeting s (child b 3) met.fourth
+
+-- each square that the rectangle overlaps has the answer yes
+pub record AreNear (bound : Rect) (squares : Squares) (near : QuartersMet) : Type 0 where
+  pub first : Overlap bound squares.first → IsTrue near.first
+  pub second : Overlap bound squares.second → IsTrue near.second
+  pub third : Overlap bound squares.third → IsTrue near.third
+  pub fourth : Overlap bound squares.fourth → IsTrue near.fourth
+
+-- just one of four answers is yes
+abbrev pub IsOne : Bool → Bool → Bool → Bool → Type 0
+IsOne true false false false = ⊤
+IsOne false true false false = ⊤
+IsOne false false true false = ⊤
+IsOne false false false true = ⊤
+IsOne _ _ _ _ = ⊥
 
 -- the four answers are those of a test of the id at the four children
 pub record AreQuartersMet (meets : Block → ℕ → Bool) (b : Block) (id : ℕ) (met : QuartersMet) : Type 0 where

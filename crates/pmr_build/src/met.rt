@@ -1,5 +1,5 @@
 // Which quarters of a block the shape of a row meets.
-ghost use Rattle.std.specs.Prelude.{◌≡◌, ℕ, ◌<◌, Bool, true, IfOk};
+ghost use Rattle.std.specs.Prelude.{◌≡◌, ℕ, ◌<◌, Bool, true, IsTrue, IfOk};
 ghost use Rattle.sand_base.specs.Grid.{IsInPlane};
 ghost use Rattle.sand_base.specs.Plane.{IsShapeInPlane};
 ghost use Rattle.sand_base.specs.declared.TheConstants.{COORDINATE_BITS};
@@ -9,7 +9,8 @@ ghost use Rattle.page_pool.specs.Causes.{HasPageCause};
 ghost use Rattle.z_code.specs.Block.{IsBlock};
 ghost use Rattle.z_code.specs.declared.block.Block.{Block};
 ghost use Rattle.pmr_build.specs.Members.{IsMemberOf, TellsRows};
-ghost use Rattle.pmr_build.specs.Parts.{AreSquares, MeetsSquares, AreQuartersMet};
+ghost use Rattle.ring_geom.specs.Bounding.{Overlap};
+ghost use Rattle.pmr_build.specs.Parts.{AreSquares, MeetsSquares, AreNear, IsOne, AreQuartersMet};
 
 use page_pool::{PageFault, Pages};
 use pmr_tree::ShapeOf;
@@ -72,7 +73,38 @@ fn squares_met(shape: &Shape, block: Block, squares: Squares) -> QuartersMet
     }
 }
 
-// The children of the block whose squares the shape of a member meets. A polygon's is read.
+// Whether two closed rectangles have a point in common.
+fn overlap(a: Rect, b: Rect) -> bool
+    ensures { Overlap a b → IsTrue result }
+{
+    a.low.x <= b.high.x && b.low.x <= a.high.x && a.low.y <= b.high.y && b.low.y <= a.high.y
+}
+
+// The squares that a rectangle touches.
+fn squares_near(bound: Rect, squares: Squares) -> QuartersMet
+    ensures { AreNear bound squares result }
+{
+    QuartersMet {
+        first: overlap(bound, squares.first),
+        second: overlap(bound, squares.second),
+        third: overlap(bound, squares.third),
+        fourth: overlap(bound, squares.fourth),
+    }
+}
+
+// Whether just one of the four answers is yes.
+fn is_one(met: QuartersMet) -> bool
+    ensures { result ≡ true → IsOne met.first met.second met.third met.fourth }
+{
+    match (met.first, met.second, met.third, met.fourth) {
+        (true, false, false, false) | (false, true, false, false) => true,
+        (false, false, true, false) | (false, false, false, true) => true,
+        _ => false,
+    }
+}
+
+// The children of the block whose squares the shape of a member meets. A polygon's is read, but where its rectangle
+// touches one of the squares alone: this one it meets, since it meets the block's.
 pub fn quarters_met<P: Pages, S: ShapeOf>(
     alloc: Global,
     pages: &mut P,
@@ -104,7 +136,11 @@ pub fn quarters_met<P: Pages, S: ShapeOf>(
             }
             Ok(squares_met(&Shape::Segment(way), block, squares))
         }
-        Rough::Bound(_) => {
+        Rough::Bound(bound) => {
+            let near = squares_near(bound, squares);
+            if is_one(near) {
+                return Ok(near);
+            }
             let shape = shapes.shape_of(alloc, pages, member.0)?;
             Ok(squares_met(&shape, block, squares))
         }

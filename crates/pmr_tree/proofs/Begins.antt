@@ -21,12 +21,12 @@ use Rattle.sand_model.specs.Tree.{Tree, Leaf, Inner, places, root_block}
 use Rattle.ring_geom.specs.Bounding.{Overlap}
 use Rattle.ring_geom.specs.Laws.{HoldersMeet}
 use Rattle.ring_geom.proofs.Overlaps.{rejected}
-use Rattle.pmr_tree.specs.Lists.{Each, Rises}
-use Rattle.pmr_tree.specs.Keys.{IsShaped, Reads, own}
+use Rattle.pmr_tree.specs.Lists.{Each, RiseStrictly}
+use Rattle.pmr_tree.specs.Keys.{IsShaped, ReadsKeys, own}
 use Rattle.pmr_tree.specs.Plot.{TellsOf}
-use Rattle.pmr_tree.specs.Changes.{Stands, Becomes, grown_where, below_grown}
-use Rattle.pmr_tree.specs.Starts.{has_inside, IsLeafIn, IsInside, BeginsAt, AreApart, MeetsAlone, HasLeaf}
-use Rattle.pmr_tree.proofs.Orders.{each_map, each_append}
+use Rattle.pmr_tree.specs.Changes.{KeysStand, Becomes, grown_where, below_grown}
+use Rattle.pmr_tree.specs.Starts.{has_inside, IsLeafIn, IsPointInside, MayBeginAt, AreApart, MeetsAlone, HasLeaf}
+use Rattle.pmr_tree.proofs.AscendingLists.{each_map, each_append}
 use Rattle.pmr_tree.proofs.KeyLists.{Parts, reads_children, own_inner}
 use Rattle.pmr_tree.proofs.LeafSteps.{becomes_unmet, becomes_grown_inner}
 use Rattle.pmr_tree.proofs.Places.{each_has}
@@ -104,8 +104,8 @@ pub apart_child : (b : Block) (i j : ℕ) → i ≢ j → (t : Tree) → IsShape
 apart_child b i j differ t sh l at z h k = code_apart b i j differ z (codes_in (child b i) t sh l at z k) h
 
 -- the leaf stands for itself
-pub stands_at : (ks : List ℕ) → Rises ks → (b : Block) (t : Tree) → Reads b ks t → (l : Block) → IsLeafIn b t l → Stands l ks
-stands_at ks rise b (Leaf ids) reads l at = record { rises = rise; tree = Leaf ids; reads = subst (λ x. Reads x ks (Leaf ids)) (sym at) reads }
+pub stands_at : (ks : List ℕ) → RiseStrictly ks → (b : Block) (t : Tree) → ReadsKeys b ks t → (l : Block) → IsLeafIn b t l → KeysStand l ks
+stands_at ks rise b (Leaf ids) reads l at = record { rises = rise; tree = Leaf ids; reads = subst (λ x. ReadsKeys x ks (Leaf ids)) (sym at) reads }
 stands_at ks rise b (Inner p q r s) reads l at =
     let parts = reads_children b ks p q r s reads in
     elim at [
@@ -117,7 +117,7 @@ stands_at ks rise b (Inner p q r s) reads l at =
     ]
 
 -- an inner place whose four children grow one after another
-four_grown : (m : Block → ℕ → Bool) (n id : ℕ) (b : Block) (k0 k1 k2 k3 k4 : List ℕ) → Stands b k0 → own b k0 ≡ [] → m b id ≡ true
+four_grown : (m : Block → ℕ → Bool) (n id : ℕ) (b : Block) (k0 k1 k2 k3 k4 : List ℕ) → KeysStand b k0 → own b k0 ≡ [] → m b id ≡ true
     → Becomes (child b 0) (grown_where m n id (child b 0)) k0 k1
     → Becomes (child b 1) (grown_where m n id (child b 1)) k1 k2
     → Becomes (child b 2) (grown_where m n id (child b 2)) k2 k3
@@ -129,8 +129,8 @@ four_grown m n id b k0 k1 k2 k3 k4 stands none met g0 g1 g2 g3 =
     (below_grown m n id b) (λ p q r s. refl) stands none g0 g1 g2 g3)
 
 -- what has grown at a leaf has grown from the block of its tree
-grown_up : (m : Block → ℕ → Bool) (n id : ℕ) (l : Block) → MeetsAlone m id l → (old new : List ℕ) → Rises old → Becomes l (grown_where m n id l) old new
-    → (b : Block) (t : Tree) → IsBlock b → Reads b old t → IsLeafIn b t l → Becomes b (grown_where m n id b) old new
+grown_up : (m : Block → ℕ → Bool) (n id : ℕ) (l : Block) → MeetsAlone m id l → (old new : List ℕ) → RiseStrictly old → Becomes l (grown_where m n id l) old new
+    → (b : Block) (t : Tree) → IsBlock b → ReadsKeys b old t → IsLeafIn b t l → Becomes b (grown_where m n id b) old new
 grown_up m n id l h old new rise begun b (Leaf ids) block reads at = subst (λ x. Becomes x (grown_where m n id x) old new) at begun
 grown_up m n id l h old new rise begun b (Inner p q r s) block reads at =
     elim at [
@@ -171,7 +171,7 @@ grown_up m n id l h old new rise begun b (Inner p q r s) block reads at =
     parts : Parts b old p q r s
     parts = reads_children b old p q r s reads
 
-    stands : Stands b old
+    stands : KeysStand b old
     stands = record { rises = rise; tree = Inner p q r s; reads = reads }
 
     none : own b old ≡ []
@@ -188,10 +188,10 @@ grown_up m n id l h old new rise begun b (Inner p q r s) block reads at =
     beside i j differ small t sh a = h.alone (child b j) (kid j small) (apart_child b i j differ t sh l a)
 
     -- it stays as it is, before and after
-    before : (j : ℕ) (t : Tree) → Reads (child b j) old t → m (child b j) id ≡ false → Becomes (child b j) (grown_where m n id (child b j)) old old
+    before : (j : ℕ) (t : Tree) → ReadsKeys (child b j) old t → m (child b j) id ≡ false → Becomes (child b j) (grown_where m n id (child b j)) old old
     before j t r unmet = becomes_unmet m n id (child b j) old (record { rises = rise; tree = t; reads = r }) unmet
 
-    after : (i j : ℕ) → i ≢ j → (f : Tree → Tree) → Becomes (child b i) f old new → (t : Tree) → Reads (child b j) old t → m (child b j) id ≡ false
+    after : (i j : ℕ) → i ≢ j → (f : Tree → Tree) → Becomes (child b i) f old new → (t : Tree) → ReadsKeys (child b j) old t → m (child b j) id ≡ false
         → Becomes (child b j) (grown_where m n id (child b j)) new new
     after i j differ f change t r unmet = becomes_unmet m n id (child b j) new (stands_sibling b i j differ f old new change (record { rises = rise; tree = t; reads = r })) unmet
 
@@ -267,31 +267,32 @@ first_tells rows id s m has tells one =
     let same : told.0 ≡ s = some_same told.0 s (sym told.1.0 ∙ first_shape id s rows) in
     subst (λ x. (b : Block) → IsBlock b → IsTrue (m b id) ↔ IsMeeting (figure.Shape x) (figure.Rect (square_of b))) same told.1.1
 
-inside_alone : HoldersMeet → (m : Block → ℕ → Bool) (id : ℕ) (s : Shape) → IsShapeInPlane s → (l : Block) → IsBlock l → IsInside s l
+inside_alone : HoldersMeet → (m : Block → ℕ → Bool) (id : ℕ) (s : Shape) → IsShapeInPlane s → (l : Block) → IsBlock l → IsPointInside s l
     → ((b : Block) → IsBlock b → IsTrue (m b id) ↔ IsMeeting (figure.Shape s) (figure.Rect (square_of b))) → MeetsAlone m id l
 inside_alone holder m id (shape.Point p) plane l hl t tells = point_alone holder m id p plane l hl t tells
 inside_alone holder m id (shape.Segment e) plane l hl t tells = absurd t
 inside_alone holder m id (shape.Polygon corners) plane l hl t tells = absurd t
 
 -- the keys stand at the block where a change begins
-pub start_stands : (ks : List ℕ) (s : Shape) (t : Tree) (start : Block) → Rises ks → Reads root_block ks t → BeginsAt s t start → Stands start ks
-start_stands ks s t start rise reads (inl e) = subst (λ x. Stands x ks) (sym e) (record { rises = rise; tree = t; reads = reads })
+pub start_stands : (ks : List ℕ) (s : Shape) (t : Tree) (start : Block) → RiseStrictly ks → ReadsKeys root_block ks t → MayBeginAt s t start → KeysStand start ks
+start_stands ks s t start rise reads (inl e) = subst (λ x. KeysStand x ks) (sym e) (record { rises = rise; tree = t; reads = reads })
 start_stands ks s t start rise reads (inr h) = stands_at ks rise root_block t reads start h.1
 
 -- what has grown there has grown from the root
 pub grown_from_root : HoldersMeet → (rows : List (ℕ × Shape)) (id : ℕ) (s : Shape) (m : Block → ℕ → Bool) (has : ℕ → Bool) → IsShapeInPlane s → TellsOf ((id, s) ∷ rows) m has → has id ≡ true
-    → (n : ℕ) (old new : List ℕ) (t : Tree) (start : Block) → Rises old → Reads root_block old t → IsBlock start → BeginsAt s t start
+    → (n : ℕ) (old new : List ℕ) (t : Tree) (start : Block) → RiseStrictly old → ReadsKeys root_block old t → IsBlock start → MayBeginAt s t start
     → Becomes start (grown_where m n id start) old new → Becomes root_block (grown_where m n id root_block) old new
 grown_from_root holder rows id s m has plane tells one n old new t start rise reads block (inl e) becomes = subst (λ x. Becomes x (grown_where m n id x) old new) e becomes
 grown_from_root holder rows id s m has plane tells one n old new t start rise reads block (inr h) becomes =
     grown_up m n id start (inside_alone holder m id s plane start block h.0 (first_tells rows id s m has tells one)) old new rise becomes root_block t is_root reads h.1
 
 -- a block above the one where a change begins has it as a leaf, which alone has the shape
-pub start_place : (ks : List ℕ) (s : Shape) (t : Tree) (start b : Block) → b ≡ root_block → Rises ks → Reads root_block ks t → BeginsAt s t start → b.level < start.level → HasLeaf start b ks
+pub start_place : (ks : List ℕ) (s : Shape) (t : Tree) (start b : Block) → b ≡ root_block → RiseStrictly ks → ReadsKeys root_block ks t → MayBeginAt s t start
+    → b.level < start.level → HasLeaf start b ks
 start_place ks s t start b is rise reads (inl e) lower = absurd (omega (arith, lower, ap (λ x. x.level) e, ap (λ x. x.level) is))
 start_place ks s t start b is rise reads (inr h) lower = subst (λ x. HasLeaf start x ks) (sym is) (record { rises = rise; tree = t; reads = reads; at = h.1 })
 
 pub start_alone : HoldersMeet → (rows : List (ℕ × Shape)) (id : ℕ) (s : Shape) (m : Block → ℕ → Bool) (has : ℕ → Bool) → IsShapeInPlane s → TellsOf ((id, s) ∷ rows) m has → has id ≡ true
-    → (t : Tree) (start b : Block) → b ≡ root_block → IsBlock start → BeginsAt s t start → b.level < start.level → MeetsAlone m id start
+    → (t : Tree) (start b : Block) → b ≡ root_block → IsBlock start → MayBeginAt s t start → b.level < start.level → MeetsAlone m id start
 start_alone holder rows id s m has plane tells one t start b is block (inl e) lower = absurd (omega (arith, lower, ap (λ x. x.level) e, ap (λ x. x.level) is))
 start_alone holder rows id s m has plane tells one t start b is block (inr h) lower = inside_alone holder m id s plane start block h.0 (first_tells rows id s m has tells one)

@@ -5,7 +5,7 @@ use Rattle.z_code.specs.Block.{child}
 use Rattle.z_code.specs.declared.block.Block.{Block}
 use Rattle.sand_model.specs.Tree.{Tree, Leaf, Inner, listings}
 use Rattle.pmr_tree.specs.Keys.{key_of, keys}
-use Rattle.pmr_tree.specs.Quadtree.{entries_at, tree_at, IsPmr}
+use Rattle.pmr_tree.specs.Quadtree.{quadtree_entries, tree_at, IsPmr}
 use Rattle.pmr_tree.specs.declared.quadtree.Pmr.{Pmr}
 
 length_map : {A B : Type 0} (f : A → B) (xs : List A) → length (map f xs) ≡ length xs
@@ -30,4 +30,4 @@ count_keys b (Inner p q r s) =
 
 pub entries_are_listings : (pages : PageMap) (t : Pmr) → IsPmr pages t → t.map.entries ≡ listings (tree_at pages t)
 entries_are_listings pages t h =
-    h.entries.at.counted ∙ sym (length_map (λ e. e.0) (entries_at pages t)) ∙ ap length h.keys ∙ count_keys (record { z = 0; level = 0 }) (tree_at pages t)
+    h.entries.at.counted ∙ sym (length_map (λ e. e.0) (quadtree_entries pages t)) ∙ ap length h.keys ∙ count_keys (record { z = 0; level = 0 }) (tree_at pages t)

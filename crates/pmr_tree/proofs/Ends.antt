@@ -4,9 +4,9 @@ use Rattle.z_code.specs.Block.{IsBlock, HasCode, child}
 use Rattle.z_code.specs.declared.block.Block.{Block}
 use Rattle.z_code.proofs.Blocks.{same_block, HasCode-first}
 use Rattle.sand_model.specs.Tree.{Tree, Leaf, Inner}
-use Rattle.pmr_tree.specs.Lists.{Rises}
-use Rattle.pmr_tree.specs.Keys.{IsShaped, Reads, own}
-use Rattle.pmr_tree.specs.Changes.{Stands, Becomes, merging, shrunk_where, below_shrunk}
+use Rattle.pmr_tree.specs.Lists.{RiseStrictly}
+use Rattle.pmr_tree.specs.Keys.{IsShaped, ReadsKeys, own}
+use Rattle.pmr_tree.specs.Changes.{KeysStand, Becomes, merging, shrunk_where, below_shrunk}
 use Rattle.pmr_tree.specs.Starts.{IsLeafIn, MeetsAlone, HasLeaf}
 use Rattle.pmr_tree.proofs.Begins.{apart_child, codes_in}
 use Rattle.pmr_tree.proofs.KeyLists.{Parts, reads_children, own_inner}
@@ -17,14 +17,14 @@ use Rattle.pmr_tree.proofs.Steps.{stands_sibling, stands_after, becomes_four}
 
 -- The block is an inner place, and one of its children has the leaf: what this one makes of it, and what one that is inner keeps.
 pub record Step (leaf b c : Block) (id : ℕ) (ks : List ℕ) : Type 0 where
-  pub stands : Stands b ks
+  pub stands : KeysStand b ks
   pub none : own b ks ≡ []
   pub has : HasLeaf leaf c ks
   pub met : (m : Block → ℕ → Bool) → MeetsAlone m id leaf → m b id ≡ true
   pub up : (m : Block → ℕ → Bool) → MeetsAlone m id leaf → (n : ℕ) (new : List ℕ) → Becomes c (shrunk_where m n id c) ks new → Becomes b (below_shrunk m n id b) ks new
-  pub kept : (n : ℕ) (new : List ℕ) → Stands b new → own b new ≡ [] → own c new ≡ [] → Becomes b (merging n) new new
+  pub kept : (n : ℕ) (new : List ℕ) → KeysStand b new → own b new ≡ [] → own c new ≡ [] → Becomes b (merging n) new new
 
-stepped : (leaf b : Block) (id : ℕ) (ks : List ℕ) (p q r s : Tree) → IsBlock b → Rises ks → Reads b ks (Inner p q r s) → (c : Block) → IsBlock c → c.level ≡ b.level + 1 → HasCode c leaf.z
+stepped : (leaf b : Block) (id : ℕ) (ks : List ℕ) (p q r s : Tree) → IsBlock b → RiseStrictly ks → ReadsKeys b ks (Inner p q r s) → (c : Block) → IsBlock c → c.level ≡ b.level + 1 → HasCode c leaf.z
     → IsLeafIn b (Inner p q r s) leaf → Step leaf b c id ks
 stepped leaf b id ks p q r s block rise reads c hc level code at =
     elim at [
@@ -74,7 +74,7 @@ stepped leaf b id ks p q r s block rise reads c hc level code at =
     parts : Parts b ks p q r s
     parts = reads_children b ks p q r s reads
 
-    stands : Stands b ks
+    stands : KeysStand b ks
     stands = record { rises = rise; tree = Inner p q r s; reads = reads }
 
     none : own b ks ≡ []
@@ -88,10 +88,10 @@ stepped leaf b id ks p q r s block rise reads c hc level code at =
     beside m h i j differ small t sh a = h.alone (child b j) (kid j small) (apart_child b i j differ t sh leaf a)
 
     -- it stays as it is, before and after
-    before : (m : Block → ℕ → Bool) (n j : ℕ) (t : Tree) → Reads (child b j) ks t → m (child b j) id ≡ false → Becomes (child b j) (shrunk_where m n id (child b j)) ks ks
+    before : (m : Block → ℕ → Bool) (n j : ℕ) (t : Tree) → ReadsKeys (child b j) ks t → m (child b j) id ≡ false → Becomes (child b j) (shrunk_where m n id (child b j)) ks ks
     before m n j t x unmet = shrunk_unmet m n id (child b j) ks (record { rises = rise; tree = t; reads = x }) unmet
 
-    after : (m : Block → ℕ → Bool) (n i j : ℕ) → i ≢ j → (f : Tree → Tree) (new : List ℕ) → Becomes (child b i) f ks new → (t : Tree) → Reads (child b j) ks t → m (child b j) id ≡ false
+    after : (m : Block → ℕ → Bool) (n i j : ℕ) → i ≢ j → (f : Tree → Tree) (new : List ℕ) → Becomes (child b i) f ks new → (t : Tree) → ReadsKeys (child b j) ks t → m (child b j) id ≡ false
         → Becomes (child b j) (shrunk_where m n id (child b j)) new new
     after m n i j differ f new change t x unmet = shrunk_unmet m n id (child b j) new (stands_sibling b i j differ f ks new change (record { rises = rise; tree = t; reads = x })) unmet
 
@@ -107,9 +107,9 @@ stepped leaf b id ks p q r s block rise reads c hc level code at =
         (shrunk_where m n id (child b 3)) ks k0 k1 k2 new (below_shrunk m n id b) (λ p q r s. refl) stands none g0 g1 g2 g3
 
     -- the child of the leaf is the one that has its first code
-    from : (i : ℕ) → i < 4 → (t : Tree) → Reads (child b i) ks t → IsLeafIn (child b i) t leaf
+    from : (i : ℕ) → i < 4 → (t : Tree) → ReadsKeys (child b i) ks t → IsLeafIn (child b i) t leaf
         → ((m : Block → ℕ → Bool) → MeetsAlone m id leaf → (n : ℕ) (new : List ℕ) → Becomes (child b i) (shrunk_where m n id (child b i)) ks new → Becomes b (below_shrunk m n id b) ks new)
-        → ((n : ℕ) (new : List ℕ) → Stands b new → own b new ≡ [] → own (child b i) new ≡ [] → Becomes b (merging n) new new)
+        → ((n : ℕ) (new : List ℕ) → KeysStand b new → own b new ≡ [] → own (child b i) new ≡ [] → Becomes b (merging n) new new)
         → Step leaf b c id ks
     from i small t x a up kept =
         let same : c ≡ child b i = same_block c (child b i) hc (kid i small) level leaf.z code (codes_in (child b i) t x.shaped leaf a leaf.z (HasCode-first leaf)) in
@@ -125,17 +125,17 @@ stepped leaf b id ks p q r s block rise reads c hc level code at =
 -- the child with the first code of the leaf, where this is below the block
 pub step_of : (leaf b c : Block) (id : ℕ) (ks : List ℕ) → HasLeaf leaf b ks → b.level < leaf.level → IsBlock b → IsBlock c → c.level ≡ b.level + 1 → HasCode c leaf.z → Step leaf b c id ks
 step_of leaf b c id ks h below block hc level code = go h.tree h.reads h.at where
-  go : (t : Tree) → Reads b ks t → IsLeafIn b t leaf → Step leaf b c id ks
+  go : (t : Tree) → ReadsKeys b ks t → IsLeafIn b t leaf → Step leaf b c id ks
   go (Leaf ids) reads at = absurd (omega (arith, below, ap (λ x. x.level) at))
   go (Inner p q r s) reads at = stepped leaf b id ks p q r s block h.rises reads c hc level code at
 
 -- the child stands
-pub child_stands : (leaf b c : Block) (id : ℕ) (ks : List ℕ) → Step leaf b c id ks → Stands c ks
+pub child_stands : (leaf b c : Block) (id : ℕ) (ks : List ℕ) → Step leaf b c id ks → KeysStand c ks
 child_stands leaf b c id ks h = record { rises = h.has.rises; tree = h.has.tree; reads = h.has.reads }
 
 -- when it has shrunk, the block is an inner place still
 pub block_stands : (leaf b c : Block) (id : ℕ) (ks : List ℕ) → Step leaf b c id ks → (m : Block → ℕ → Bool) → MeetsAlone m id leaf → (n : ℕ) (new : List ℕ)
-    → Becomes c (shrunk_where m n id c) ks new → Stands b new
+    → Becomes c (shrunk_where m n id c) ks new → KeysStand b new
 block_stands leaf b c id ks h m alone n new one = stands_after b (below_shrunk m n id b) ks new (h.up m alone n new one) h.stands
 
 pub block_inner : (leaf b c : Block) (id : ℕ) (ks : List ℕ) → Step leaf b c id ks → (m : Block → ℕ → Bool) → MeetsAlone m id leaf → (n : ℕ) (new : List ℕ)

@@ -6,12 +6,12 @@ use Rattle.z_code.specs.declared.block.Block.{Block}
 use Rattle.std.proofs.Math.Seq.{drop-cons}
 use Rattle.std.proofs.lemmas.List.Elements.{filter-append}
 use Rattle.sand_model.specs.Tree.{Tree, Leaf, Inner, add, without}
-use Rattle.pmr_tree.specs.Lists.{Each, is_between, put_all, take_all}
-use Rattle.pmr_tree.specs.Keys.{key_of, mark_of, leaf_keys, own, IsId, Reads, id_in, ids_in}
-use Rattle.pmr_tree.specs.Leaves.{firsts, Passes, own_pairs, kept_of, ids_of, ListPasses, IsLeafOf}
+use Rattle.pmr_tree.specs.Lists.{Each, is_from_to, put_all, take_all}
+use Rattle.pmr_tree.specs.Keys.{key_of, mark_of, leaf_keys, own, IsId, ReadsKeys, id_in, ids_in}
+use Rattle.pmr_tree.specs.Leaves.{firsts, Passes, own_pairs, kept_of, ids_of, ListPasses, HasLeafIds}
 use Rattle.pmr_tree.specs.Listing.{Pair}
 use Rattle.pmr_tree.specs.declared.leaf.Kept.{Kept}
-use Rattle.pmr_tree.proofs.Orders.{holds, fails, test, each_filter}
+use Rattle.pmr_tree.proofs.AscendingLists.{holds, fails, test, each_filter}
 use Rattle.pmr_tree.proofs.KeyLists.{own_leaf, own_inner}
 
 pub map_filter : {A B : Type 0} (f : A → B) (p : B → Bool) (xs : List A) → map f (filter (λ x. p (f x)) xs) ≡ filter p (map f xs)
@@ -24,7 +24,7 @@ map_map f h (x ∷ xs) = ap (λ t. f (h x) ∷ t) (map_map f h xs)
 
 -- the keys of a block's own entries
 pub firsts_own : (b : Block) (es : List Pair) → firsts (own_pairs b es) ≡ own b (firsts es)
-firsts_own b es = map_filter (λ e. e.0) (is_between (mark_of b) (mark_of b + 2 ^ 32)) es
+firsts_own b es = map_filter (λ e. e.0) (is_from_to (mark_of b) (mark_of b + 2 ^ 32)) es
 
 abbrev mk_of : Pair → Kept
 mk_of e = record { id = id_in e.0; value = e.1 }
@@ -44,7 +44,7 @@ passes_kept test (e ∷ es) h =
     elim [ true ↦ λ some. (h.0 (some_id (id_in e.0) some), passes_kept test es h.1) | false ↦ λ none. passes_kept test es h.1 ] in
     go (not (nat_eq (id_in e.0) 0)) refl
 
-pub leaf_found : (b : Block) (es pairs : List Pair) → pairs ≡ own_pairs b es → 0 < length pairs → IsLeafOf b (firsts es) (ids_of (kept_of pairs))
+pub leaf_found : (b : Block) (es pairs : List Pair) → pairs ≡ own_pairs b es → 0 < length pairs → HasLeafIds b (firsts es) (ids_of (kept_of pairs))
 leaf_found b es pairs is some = record {
   some = λ none. (let z = no_pairs pairs (ap firsts is ∙ firsts_own b es ∙ none) in absurd (omega arith));
   ids_are = ids_kept pairs ∙ ap ids_in (ap firsts is ∙ firsts_own b es);
@@ -61,7 +61,7 @@ no_leaf_found b es pairs is none = sym (firsts_own b es) ∙ sym (ap firsts is) 
 
 pub found_passes : (test : ℕ → ℕ → Bool) (b : Block) (es pairs : List Pair) → pairs ≡ own_pairs b es → Passes test es → ListPasses test (kept_of pairs)
 found_passes test b es pairs is h = passes_kept test pairs
-    (subst (Passes test) (sym is) (each_filter (λ e. 1 ≤ id_in e.0 → test (id_in e.0) e.1 ≡ true) (λ e. is_between (mark_of b) (mark_of b + 2 ^ 32) e.0) es h))
+    (subst (Passes test) (sym is) (each_filter (λ e. 1 ≤ id_in e.0 → test (id_in e.0) e.1 ≡ true) (λ e. is_from_to (mark_of b) (mark_of b + 2 ^ 32) e.0) es h))
 
 -- a leaf's keys have its ids
 pub id_in_key : (b : Block) (id : ℕ) → id < 2 ^ 32 → id_in (key_of b id) ≡ id
@@ -81,7 +81,7 @@ ids_leaf b (id ∷ ids) h = each_in (id ∷ ids) h where
       not_mark x l = grind (arith, nat_tests)
 
 -- a block with keys of its own is a leaf
-pub leaf_is : (b : Block) (ks ids : List ℕ) (t : Tree) → Reads b ks t → IsLeafOf b ks ids → t ≡ Leaf ids
+pub leaf_is : (b : Block) (ks ids : List ℕ) (t : Tree) → ReadsKeys b ks t → HasLeafIds b ks ids → t ≡ Leaf ids
 leaf_is b ks ids (Leaf listed) reads h = ap Leaf (sym (h.ids_are ∙ ap ids_in (own_leaf b ks listed reads) ∙ ids_leaf b listed reads.shaped.1.1))
 leaf_is b ks ids (Inner p q r s) reads h = absurd (h.some (own_inner b ks p q r s reads))
 
@@ -136,9 +136,9 @@ passes_met test f list found e h = subst (ListPasses test) (sym e) (each_filter 
 -- a read of a block's own entries
 pub leaf_read : {V : Type 0} (items : V → List Kept) (b : Block) (es pairs : List Pair) (found : Option V) → pairs ≡ own_pairs b es
     → MatchOption found (length pairs ≡ 0) (λ list. (0 < length pairs) × (items list ≡ kept_of pairs))
-    → MatchOption found (own b (firsts es) ≡ []) (λ list. IsLeafOf b (firsts es) (ids_of (items list)))
+    → MatchOption found (own b (firsts es) ≡ []) (λ list. HasLeafIds b (firsts es) (ids_of (items list)))
 leaf_read items b es pairs None is h = no_leaf_found b es pairs is h
-leaf_read items b es pairs (Some list) is h = subst (λ t. IsLeafOf b (firsts es) (ids_of t)) (sym h.1) (leaf_found b es pairs is h.0)
+leaf_read items b es pairs (Some list) is h = subst (λ t. HasLeafIds b (firsts es) (ids_of t)) (sym h.1) (leaf_found b es pairs is h.0)
 
 pub passes_read : {V : Type 0} (items : V → List Kept) (test : ℕ → ℕ → Bool) (b : Block) (es pairs : List Pair) (found : Option V) → pairs ≡ own_pairs b es → Passes test es
     → MatchOption found (length pairs ≡ 0) (λ list. (0 < length pairs) × (items list ≡ kept_of pairs))
@@ -161,5 +161,5 @@ length_ids [] = refl
 length_ids (k ∷ ks) = ap suc (length_ids ks)
 
 -- a leaf is the same one later, where no key has changed
-pub leaf_later : (b : Block) (k0 k1 : List ℕ) (items list : List Kept) → k1 ≡ k0 → list ≡ items → IsLeafOf b k0 (ids_of items) → IsLeafOf b k1 (ids_of list)
-leaf_later b k0 k1 items list same is leaf = subst (λ k. IsLeafOf b k (ids_of list)) (sym same) (subst (λ x. IsLeafOf b k0 (ids_of x)) (sym is) leaf)
+pub leaf_later : (b : Block) (k0 k1 : List ℕ) (items list : List Kept) → k1 ≡ k0 → list ≡ items → HasLeafIds b k0 (ids_of items) → HasLeafIds b k1 (ids_of list)
+leaf_later b k0 k1 items list same is leaf = subst (λ k. HasLeafIds b k (ids_of list)) (sym same) (subst (λ x. HasLeafIds b k0 (ids_of x)) (sym is) leaf)

@@ -5,7 +5,7 @@ use Rattle.z_code.specs.Block.{IsBlock, child, children_of}
 use Rattle.z_code.specs.declared.block.Block.{Block}
 use Rattle.sand_model.specs.Tree.{Tree}
 use Rattle.pmr_tree.specs.Keys.{own}
-use Rattle.pmr_tree.specs.Changes.{Stands, Becomes, grown_where, below_grown}
+use Rattle.pmr_tree.specs.Changes.{KeysStand, Becomes, grown_where, below_grown}
 use Rattle.pmr_tree.specs.Leaves.{Passes, id_test, Told}
 use Rattle.pmr_tree.specs.Listing.{Pair}
 use Rattle.pmr_tree.proofs.Quarter.{child_block}
@@ -24,7 +24,7 @@ pub from_child : (b : Block) (cs : List Block) (i : ℕ) (d : Block) (P : Block 
 from_child b cs i d P is h = subst (λ t. P (get_or t i d)) (sym is) h
 
 pub grow_steps : (m : Block → ℕ → Bool) (n id : ℕ) (b : Block) (cs : List Block) (d0 d1 d2 d3 : Block) (k0 k1 k2 k3 k4 : List ℕ)
-    → Stands b k0 → own b k0 ≡ [] → m b id ≡ true → cs ≡ children_of b
+    → KeysStand b k0 → own b k0 ≡ [] → m b id ≡ true → cs ≡ children_of b
     → Becomes (get_or cs 0 d0) (grown_where m n id (get_or cs 0 d0)) k0 k1
     → Becomes (get_or cs 1 d1) (grown_where m n id (get_or cs 1 d1)) k1 k2
     → Becomes (get_or cs 2 d2) (grown_where m n id (get_or cs 2 d2)) k2 k3
@@ -40,25 +40,25 @@ grow_steps m n id b cs d0 d1 d2 d3 k0 k1 k2 k3 k4 stands none met is g0 g1 g2 g3
     (at_child b cs 3 d3 (λ x. Becomes x (grown_where m n id x) k3 k4) is g3))
 
 -- each child stands, after those before it have changed in some way
-pub stands_first : (b : Block) (cs : List Block) (d0 : Block) (k0 : List ℕ) → cs ≡ children_of b → Stands b k0 → own b k0 ≡ [] → Stands (get_or cs 0 d0) k0
-stands_first b cs d0 k0 is stands none = from_child b cs 0 d0 (λ x. Stands x k0) is (stands_0 b k0 stands none)
+pub stands_first : (b : Block) (cs : List Block) (d0 : Block) (k0 : List ℕ) → cs ≡ children_of b → KeysStand b k0 → own b k0 ≡ [] → KeysStand (get_or cs 0 d0) k0
+stands_first b cs d0 k0 is stands none = from_child b cs 0 d0 (λ x. KeysStand x k0) is (stands_0 b k0 stands none)
 
-pub stands_second : (b : Block) (cs : List Block) (d0 d1 : Block) (f0 : Block → Tree → Tree) (k0 k1 : List ℕ) → cs ≡ children_of b → Stands b k0 → own b k0 ≡ []
-    → Becomes (get_or cs 0 d0) (f0 (get_or cs 0 d0)) k0 k1 → Stands (get_or cs 1 d1) k1
+pub stands_second : (b : Block) (cs : List Block) (d0 d1 : Block) (f0 : Block → Tree → Tree) (k0 k1 : List ℕ) → cs ≡ children_of b → KeysStand b k0 → own b k0 ≡ []
+    → Becomes (get_or cs 0 d0) (f0 (get_or cs 0 d0)) k0 k1 → KeysStand (get_or cs 1 d1) k1
 stands_second b cs d0 d1 f0 k0 k1 is stands none g0 =
-    from_child b cs 1 d1 (λ x. Stands x k1) is (stands_sibling b 0 1 (omega arith) (f0 (child b 0)) k0 k1 (at_child b cs 0 d0 (λ x. Becomes x (f0 x) k0 k1) is g0) (stands_1 b k0 stands none))
+    from_child b cs 1 d1 (λ x. KeysStand x k1) is (stands_sibling b 0 1 (omega arith) (f0 (child b 0)) k0 k1 (at_child b cs 0 d0 (λ x. Becomes x (f0 x) k0 k1) is g0) (stands_1 b k0 stands none))
 
-pub stands_third : (b : Block) (cs : List Block) (d0 d1 d2 : Block) (f0 f1 : Block → Tree → Tree) (k0 k1 k2 : List ℕ) → cs ≡ children_of b → Stands b k0 → own b k0 ≡ []
-    → Becomes (get_or cs 0 d0) (f0 (get_or cs 0 d0)) k0 k1 → Becomes (get_or cs 1 d1) (f1 (get_or cs 1 d1)) k1 k2 → Stands (get_or cs 2 d2) k2
+pub stands_third : (b : Block) (cs : List Block) (d0 d1 d2 : Block) (f0 f1 : Block → Tree → Tree) (k0 k1 k2 : List ℕ) → cs ≡ children_of b → KeysStand b k0 → own b k0 ≡ []
+    → Becomes (get_or cs 0 d0) (f0 (get_or cs 0 d0)) k0 k1 → Becomes (get_or cs 1 d1) (f1 (get_or cs 1 d1)) k1 k2 → KeysStand (get_or cs 2 d2) k2
 stands_third b cs d0 d1 d2 f0 f1 k0 k1 k2 is stands none g0 g1 =
-    from_child b cs 2 d2 (λ x. Stands x k2) is
+    from_child b cs 2 d2 (λ x. KeysStand x k2) is
     (stands_sibling b 1 2 (omega arith) (f1 (child b 1)) k1 k2 (at_child b cs 1 d1 (λ x. Becomes x (f1 x) k1 k2) is g1)
     (stands_sibling b 0 2 (omega arith) (f0 (child b 0)) k0 k1 (at_child b cs 0 d0 (λ x. Becomes x (f0 x) k0 k1) is g0) (stands_2 b k0 stands none)))
 
-pub stands_fourth : (b : Block) (cs : List Block) (d0 d1 d2 d3 : Block) (f0 f1 f2 : Block → Tree → Tree) (k0 k1 k2 k3 : List ℕ) → cs ≡ children_of b → Stands b k0 → own b k0 ≡ []
-    → Becomes (get_or cs 0 d0) (f0 (get_or cs 0 d0)) k0 k1 → Becomes (get_or cs 1 d1) (f1 (get_or cs 1 d1)) k1 k2 → Becomes (get_or cs 2 d2) (f2 (get_or cs 2 d2)) k2 k3 → Stands (get_or cs 3 d3) k3
+pub stands_fourth : (b : Block) (cs : List Block) (d0 d1 d2 d3 : Block) (f0 f1 f2 : Block → Tree → Tree) (k0 k1 k2 k3 : List ℕ) → cs ≡ children_of b → KeysStand b k0 → own b k0 ≡ []
+    → Becomes (get_or cs 0 d0) (f0 (get_or cs 0 d0)) k0 k1 → Becomes (get_or cs 1 d1) (f1 (get_or cs 1 d1)) k1 k2 → Becomes (get_or cs 2 d2) (f2 (get_or cs 2 d2)) k2 k3 → KeysStand (get_or cs 3 d3) k3
 stands_fourth b cs d0 d1 d2 d3 f0 f1 f2 k0 k1 k2 k3 is stands none g0 g1 g2 =
-    from_child b cs 3 d3 (λ x. Stands x k3) is
+    from_child b cs 3 d3 (λ x. KeysStand x k3) is
     (stands_sibling b 2 3 (omega arith) (f2 (child b 2)) k2 k3 (at_child b cs 2 d2 (λ x. Becomes x (f2 x) k2 k3) is g2)
     (stands_sibling b 1 3 (omega arith) (f1 (child b 1)) k1 k2 (at_child b cs 1 d1 (λ x. Becomes x (f1 x) k1 k2) is g1)
     (stands_sibling b 0 3 (omega arith) (f0 (child b 0)) k0 k1 (at_child b cs 0 d0 (λ x. Becomes x (f0 x) k0 k1) is g0) (stands_3 b k0 stands none))))

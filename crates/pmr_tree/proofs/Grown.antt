@@ -26,12 +26,12 @@ use Rattle.pmr_tree.specs.Listing.{Pair}
 use Rattle.pmr_tree.specs.Changes.{Becomes, grown_where}
 use Rattle.pmr_tree.specs.Entries.{value_of}
 use Rattle.pmr_tree.specs.Laws.{AreInPlane}
-use Rattle.pmr_tree.specs.Quadtree.{store_of, entries_at, keys_at, pages_at, tree_at, IsPmr, FitsOthers}
+use Rattle.pmr_tree.specs.Quadtree.{store_of, quadtree_entries, keys_at, pages_at, tree_at, IsPmr, FitsOthers}
 use Rattle.pmr_tree.specs.Calls.{Grows}
 use Rattle.pmr_tree.specs.Plot.{TellsOf}
 use Rattle.pmr_tree.specs.declared.quadtree.Pmr.{Pmr}
-use Rattle.pmr_tree.proofs.Orders.{each_map}
-use Rattle.pmr_tree.proofs.Growth.{grown_where_same, full_grown}
+use Rattle.pmr_tree.proofs.AscendingLists.{each_map}
+use Rattle.pmr_tree.proofs.GrownTrees.{grown_where_same, full_grown}
 use Rattle.pmr_tree.proofs.TreeAt.{Changed, changed, shaped_shallow, fitted_keys, each_firsts}
 use Rattle.pmr_tree.proofs.ShapeLaws.{rows_quarters, row_in_plane, shape_in_closed, is_root, meets_alike, fits_alike}
 
@@ -113,9 +113,9 @@ pub record Grew (old new : PageMap) (t u : Pmr) (rows : List (ℕ × Shape)) (id
   pub threshold : u.threshold ≡ t.threshold
   pub number : u.number ≡ t.number
   pub keeps : Keeps (store_of old) (store_of new) (pages_at old t) (pages_at new u)
-  pub becomes : (m : Block → ℕ → Bool) (has : ℕ → Bool) → TellsOf ((id, s) ∷ rows) m has → Passes (id_test has) (entries_at old t) → has id ≡ true
+  pub becomes : (m : Block → ℕ → Bool) (has : ℕ → Bool) → TellsOf ((id, s) ∷ rows) m has → Passes (id_test has) (quadtree_entries old t) → has id ≡ true
       → Becomes root_block (grown_where m t.threshold id root_block) (keys_at old t) (keys_at new u)
-  pub values : (test : ℕ → ℕ → Bool) → test id (value_of (rough_figure s)) ≡ true → Passes test (entries_at old t) → Passes test (entries_at new u)
+  pub values : (test : ℕ → ℕ → Bool) → test id (value_of (rough_figure s)) ≡ true → Passes test (quadtree_entries old t) → Passes test (quadtree_entries new u)
 
 pub record Premises (old : PageMap) (t : Pmr) (rows : List (ℕ × Shape)) (id : ℕ) (s : Shape) : Type 0 where
   pub quarters : ChildrenMeet
@@ -128,11 +128,11 @@ pub record Premises (old : PageMap) (t : Pmr) (rows : List (ℕ × Shape)) (id :
 
 -- the listed ids are those of rows, and not this one
 listed_have : (old : PageMap) (t : Pmr) (rows : List (ℕ × Shape)) (id : ℕ) (s : Shape) → Premises old t rows id s → (gap : Measure) → IsMeasure gap
-    → Passes (id_test (has_shape ((id, s) ∷ rows))) (entries_at old t)
+    → Passes (id_test (has_shape ((id, s) ∷ rows))) (quadtree_entries old t)
 listed_have old t rows id s h gap measure =
     let f = h.fits gap measure in
     let P : ℕ → Type 0 = λ i. has_shape ((id, s) ∷ rows) i ≡ true in
-    each_firsts (λ k. 1 ≤ id_in k → P (id_in k)) (entries_at old t)
+    each_firsts (λ k. 1 ≤ id_in k → P (id_in k)) (quadtree_entries old t)
     (subst (Each (λ k. 1 ≤ id_in k → P (id_in k))) (sym h.is.keys)
     (fitted_keys P (meets_block gap rows) f.ids (each_two f.ids f.listed (each_other f.ids id f.new)) root_block (tree_at old t) h.is.shaped f.fits))
   where
@@ -141,15 +141,15 @@ listed_have old t rows id s h gap measure =
     each_two (x ∷ xs) a b = (ap is_some (other_shape id s rows x b.0) ∙ a.0, each_two xs a.1 b.1)
 
 unlisted : (old : PageMap) (t : Pmr) (rows : List (ℕ × Shape)) (id : ℕ) (s : Shape) → Premises old t rows id s → (gap : Measure) → IsMeasure gap → (value : ℕ)
-    → Passes (keeps_test id value) (entries_at old t)
+    → Passes (keeps_test id value) (quadtree_entries old t)
 unlisted old t rows id s h gap measure value =
     let f = h.fits gap measure in
     let P : ℕ → Type 0 = λ i. id ≡ i → ⊥ in
-    let all = each_firsts (λ k. 1 ≤ id_in k → P (id_in k)) (entries_at old t)
+    let all = each_firsts (λ k. 1 ≤ id_in k → P (id_in k)) (quadtree_entries old t)
     (subst (Each (λ k. 1 ≤ id_in k → P (id_in k))) (sym h.is.keys)
     (fitted_keys P (meets_block gap rows) f.ids (each_other f.ids id f.new) root_block (tree_at old t) h.is.shaped f.fits)) in
     each_map (λ e. 1 ≤ id_in e.0 → P (id_in e.0)) (λ e. 1 ≤ id_in e.0 → keeps_test id value (id_in e.0) e.1 ≡ true)
-    (λ e g some. other_passes id value (id_in e.0) e.1 (λ same. g some (sym same))) (entries_at old t) all
+    (λ e g some. other_passes id value (id_in e.0) e.1 (λ same. g some (sym same))) (quadtree_entries old t) all
 
 -- the tree has grown by the model's rule
 grown_by : (old new : PageMap) (t u : Pmr) (rows : List (ℕ × Shape)) (id : ℕ) (s : Shape) → Premises old t rows id s → Grew old new t u rows id s → (gap : Measure) → IsMeasure gap
@@ -188,11 +188,11 @@ grows old new t u rows id s h g gap measure =
         keeps = g.keeps;
       };
       grown = λ gap measure. (grown_by old new t u rows id s h g gap measure).tree_is;
-      rough = (let v = value_of (rough_figure s) in passes_keeps (entries_at new u) id v h.some (g.values (keeps_test id v) (this_passes id v) (unlisted old t rows id s h gap measure v)));
+      rough = (let v = value_of (rough_figure s) in passes_keeps (quadtree_entries new u) id v h.some (g.values (keeps_test id v) (this_passes id v) (unlisted old t rows id s h gap measure v)));
       others = λ other o some differ kept.
           (let v = value_of (rough_figure o) in
-          passes_keeps (entries_at new u) other v some
-          (g.values (keeps_test other v) (other_passes other v id (value_of (rough_figure s)) (λ e. differ (sym e))) (keeps_passes (entries_at old t) other v kept)));
+          passes_keeps (quadtree_entries new u) other v some
+          (g.values (keeps_test other v) (other_passes other v id (value_of (rough_figure s)) (λ e. differ (sym e))) (keeps_passes (quadtree_entries old t) other v kept)));
     }
 
 -- the block of code 0 and level 0 is the root
@@ -200,7 +200,7 @@ pub root_is : (b : Block) → b.z ≡ 0 → b.level ≡ 0 → b ≡ root_block
 root_is b e f = (let at : ℕ → ℕ → Block = λ z level. record { z = z; level = level } in ap₂ at e f)
 
 -- a measure tells of all listed ids and this one
-pub told_of : (old : PageMap) (t : Pmr) (rows : List (ℕ × Shape)) (id : ℕ) (s : Shape) → Premises old t rows id s → GapExists → Told (TellsOf ((id, s) ∷ rows)) (entries_at old t) id
+pub told_of : (old : PageMap) (t : Pmr) (rows : List (ℕ × Shape)) (id : ℕ) (s : Shape) → Premises old t rows id s → GapExists → Told (TellsOf ((id, s) ∷ rows)) (quadtree_entries old t) id
 told_of old t rows id s h measured = record {
   meets = meets_block measured.0 ((id, s) ∷ rows);
   has = has_shape ((id, s) ∷ rows);

@@ -8,9 +8,10 @@ use Rattle.sand_base.specs.declared.TheConstants.{COORDINATE_BITS}
 use Rattle.z_code.specs.Block.{code_count, child}
 use Rattle.z_code.specs.declared.block.Block.{Block}
 use Rattle.sand_model.specs.Tree.{Tree, Leaf, Inner}
-use Rattle.pmr_tree.specs.Lists.{Each, Rises, is_between, part}
-use Rattle.pmr_tree.specs.Keys.{key_of, mark_of, end_of, leaf_keys, keys, is_inside, within, own, IsId, IsShaped, Reads}
-use Rattle.pmr_tree.proofs.Orders.{each_map, each_append, each_of_map, filter_all, filter_none, filter_weaker, rises_append, cut, between_true, between_below, between_above, between_from, between_to}
+use Rattle.pmr_tree.specs.Lists.{Each, RiseStrictly, is_from_to, part}
+use Rattle.pmr_tree.specs.Keys.{key_of, mark_of, end_of, leaf_keys, keys, is_inside, keys_within, own, IsId, IsShaped, ReadsKeys}
+use Rattle.pmr_tree.proofs.AscendingLists.{each_map, each_append, each_of_map, filter_all, filter_none, filter_weaker, rises_append}
+use Rattle.pmr_tree.proofs.Orders.{cut, between_true, between_below, between_above, between_from, between_to}
 use Rattle.pmr_tree.proofs.Quarter.{quarter_count, count_some}
 
 -- where a key of the tree of a block lies
@@ -80,7 +81,7 @@ child_inside b h i small k t =
     between_true (b.z * 2 ^ 40) (end_of b) k (omega (arith, from)) (omega (arith, to, child_end b h i small))
 
 -- the ranges of the children follow one another
-leaf_rise : (b : Block) (ids : List ℕ) → Rises ids → Rises (map (key_of b) ids)
+leaf_rise : (b : Block) (ids : List ℕ) → RiseStrictly ids → RiseStrictly (map (key_of b) ids)
 leaf_rise b [] h = tt
 leaf_rise b (id ∷ ids) h = (each_of_map (λ y. key_of b id < y) (key_of b) ids (each_map (λ x. id < x) (λ x. key_of b id < key_of b x) (λ x l. omega arith) ids h.0), leaf_rise b ids h.1)
 
@@ -93,7 +94,7 @@ keys_after b i j l t h =
     let next : i * c ≤ j * c = mul-le-mul_right c l in
     each_map (Lies (child b j)) (λ k. (child b i).z * 2 ^ 40 ≤ k) (λ k a. omega (arith, a.0, next)) (keys (child b j) t) (keys_lie (child b j) t h)
 
-pub keys_rise : (b : Block) (t : Tree) → IsShaped b t → Rises (keys b t)
+pub keys_rise : (b : Block) (t : Tree) → IsShaped b t → RiseStrictly (keys b t)
 keys_rise b (Leaf []) h = (tt, tt)
 keys_rise b (Leaf (id ∷ ids)) h = leaf_rise b (id ∷ ids) h.1.0
 keys_rise b (Inner p q r s) h =
@@ -113,30 +114,30 @@ four_parts : (f : ℕ → Bool) (p q r s : List ℕ) → filter f (p ++ (q ++ (r
 four_parts f p q r s = filter-append f p (q ++ (r ++ s)) ∙ ap (λ t. filter f p ++ t) (filter-append f q (r ++ s) ∙ ap (λ t. filter f q ++ t) (filter-append f r s))
 
 -- the keys of a child's tree, among those of the child and of another child
-mine : (b : Block) (i : ℕ) (t : Tree) → IsShaped (child b i) t → within (child b i) (keys (child b i) t) ≡ keys (child b i) t
+mine : (b : Block) (i : ℕ) (t : Tree) → IsShaped (child b i) t → keys_within (child b i) (keys (child b i) t) ≡ keys (child b i) t
 mine b i t h = filter_all (is_inside (child b i)) (keys (child b i) t) (keys_inside (child b i) t h)
 
-other : (b : Block) (i j : ℕ) → j ≢ i → (t : Tree) → IsShaped (child b j) t → within (child b i) (keys (child b j) t) ≡ []
+other : (b : Block) (i j : ℕ) → j ≢ i → (t : Tree) → IsShaped (child b j) t → keys_within (child b i) (keys (child b j) t) ≡ []
 other b i j differ t h = filter_none (is_inside (child b i)) (keys (child b j) t)
     (each_map (λ k. is_inside (child b j) k ≡ true) (λ k. is_inside (child b i) k ≡ false) (child_apart b j i differ) (keys (child b j) t) (keys_inside (child b j) t h))
 
 -- the keys inside a child are among those inside its block
-narrowed : (b : Block) → b.level < COORDINATE_BITS → (i : ℕ) → i < 4 → (ks xs : List ℕ) → within b ks ≡ xs → within (child b i) ks ≡ within (child b i) xs
-narrowed b h i small ks xs e = sym (filter_weaker (is_inside b) (is_inside (child b i)) (child_inside b h i small) ks) ∙ ap (within (child b i)) e
+narrowed : (b : Block) → b.level < COORDINATE_BITS → (i : ℕ) → i < 4 → (ks xs : List ℕ) → keys_within b ks ≡ xs → keys_within (child b i) ks ≡ keys_within (child b i) xs
+narrowed b h i small ks xs e = sym (filter_weaker (is_inside b) (is_inside (child b i)) (child_inside b h i small) ks) ∙ ap (keys_within (child b i)) e
 
 -- what the four children of an inner place have
 pub record Parts (b : Block) (ks : List ℕ) (p q r s : Tree) : Type 0 where
   pub above : b.level < COORDINATE_BITS
-  pub first : Reads (child b 0) ks p
-  pub second : Reads (child b 1) ks q
-  pub third : Reads (child b 2) ks r
-  pub fourth : Reads (child b 3) ks s
+  pub first : ReadsKeys (child b 0) ks p
+  pub second : ReadsKeys (child b 1) ks q
+  pub third : ReadsKeys (child b 2) ks r
+  pub fourth : ReadsKeys (child b 3) ks s
 
-pub reads_children : (b : Block) (ks : List ℕ) (p q r s : Tree) → Reads b ks (Inner p q r s) → Parts b ks p q r s
+pub reads_children : (b : Block) (ks : List ℕ) (p q r s : Tree) → ReadsKeys b ks (Inner p q r s) → Parts b ks p q r s
 reads_children b ks p q r s h =
     let sh = h.shaped in
-    let part_of : (i : ℕ) → i < 4 → within (child b i) ks ≡ within (child b i) (keys (child b 0) p)
-    ++ (within (child b i) (keys (child b 1) q) ++ (within (child b i) (keys (child b 2) r) ++ within (child b i) (keys (child b 3) s))) =
+    let part_of : (i : ℕ) → i < 4 → keys_within (child b i) ks ≡ keys_within (child b i) (keys (child b 0) p)
+    ++ (keys_within (child b i) (keys (child b 1) q) ++ (keys_within (child b i) (keys (child b 2) r) ++ keys_within (child b i) (keys (child b 3) s))) =
     λ i small. narrowed b sh.0 i small ks (keys b (Inner p q r s)) h.is ∙ four_parts (is_inside (child b i)) (keys (child b 0) p) (keys (child b 1) q) (keys (child b 2) r) (keys (child b 3) s) in
     record {
       above = sh.0;
@@ -173,15 +174,15 @@ reads_children b ks p q r s h =
       };
     }
 
-pub reads_inner : (b : Block) (ks : List ℕ) (p q r s : Tree) → Rises ks → Parts b ks p q r s → Reads b ks (Inner p q r s)
+pub reads_inner : (b : Block) (ks : List ℕ) (p q r s : Tree) → RiseStrictly ks → Parts b ks p q r s → ReadsKeys b ks (Inner p q r s)
 reads_inner b ks p q r s rise h =
     let c = code_count (b.level + 1) in
     let at : ℕ → ℕ = λ i. (b.z + i * c) * 2 ^ 40 in
     let four = quarter_count b.level h.above in
     let low : b.z * 2 ^ 40 ≡ at 0 = omega arith in
     let high : end_of b ≡ at 4 = omega (arith, four) in
-    let part_is : (i : ℕ) → within (child b i) ks ≡ part (at i) (at (i + 1)) ks = λ i. (let e : end_of (child b i) ≡ at (i + 1) = omega arith in ap (λ t. part (at i) t ks) e) in
-    let whole : within b ks ≡ part (at 0) (at 4) ks = ap₂ (λ l u. part l u ks) low high in record {
+    let part_is : (i : ℕ) → keys_within (child b i) ks ≡ part (at i) (at (i + 1)) ks = λ i. (let e : end_of (child b i) ≡ at (i + 1) = omega arith in ap (λ t. part (at i) t ks) e) in
+    let whole : keys_within b ks ≡ part (at 0) (at 4) ks = ap₂ (λ l u. part l u ks) low high in record {
       is = whole
           ∙ cut (at 0) (at 1) (at 4) (omega arith) (omega arith) ks rise
           ∙ ap₂ (λ x y. x ++ y) (sym (part_is 0) ∙ h.first.is)
@@ -193,34 +194,34 @@ reads_inner b ks p q r s rise h =
     }
 
 -- a block's own range lies inside it
-own_inside : (b : Block) → b.level ≤ COORDINATE_BITS → (k : ℕ) → is_between (mark_of b) (mark_of b + 2 ^ 32) k ≡ true → is_inside b k ≡ true
+own_inside : (b : Block) → b.level ≤ COORDINATE_BITS → (k : ℕ) → is_from_to (mark_of b) (mark_of b + 2 ^ 32) k ≡ true → is_inside b k ≡ true
 own_inside b h k t =
     let from = between_from (mark_of b) (mark_of b + 2 ^ 32) k t in
     let to = between_to (mark_of b) (mark_of b + 2 ^ 32) k t in
     lies_inside b k (from, omega (arith, to, count_some b.level))
 
-own_narrowed : (b : Block) → b.level ≤ COORDINATE_BITS → (ks xs : List ℕ) → within b ks ≡ xs → own b ks ≡ own b xs
-own_narrowed b h ks xs e = sym (filter_weaker (is_inside b) (is_between (mark_of b) (mark_of b + 2 ^ 32)) (own_inside b h) ks) ∙ ap (own b) e
+own_narrowed : (b : Block) → b.level ≤ COORDINATE_BITS → (ks xs : List ℕ) → keys_within b ks ≡ xs → own b ks ≡ own b xs
+own_narrowed b h ks xs e = sym (filter_weaker (is_inside b) (is_from_to (mark_of b) (mark_of b + 2 ^ 32)) (own_inside b h) ks) ∙ ap (own b) e
 
-leaf_own : (b : Block) (ids : List ℕ) → Each IsId ids → Each (λ k. is_between (mark_of b) (mark_of b + 2 ^ 32) k ≡ true) (leaf_keys b ids)
+leaf_own : (b : Block) (ids : List ℕ) → Each IsId ids → Each (λ k. is_from_to (mark_of b) (mark_of b + 2 ^ 32) k ≡ true) (leaf_keys b ids)
 leaf_own b [] e = (between_true (mark_of b) (mark_of b + 2 ^ 32) (mark_of b) (omega arith) (omega arith), tt)
 leaf_own b (id ∷ ids) e =
-    each_of_map (λ k. is_between (mark_of b) (mark_of b + 2 ^ 32) k ≡ true) (key_of b) (id ∷ ids)
-    (each_map IsId (λ x. is_between (mark_of b) (mark_of b + 2 ^ 32) (key_of b x) ≡ true)
+    each_of_map (λ k. is_from_to (mark_of b) (mark_of b + 2 ^ 32) k ≡ true) (key_of b) (id ∷ ids)
+    (each_map IsId (λ x. is_from_to (mark_of b) (mark_of b + 2 ^ 32) (key_of b x) ≡ true)
     (λ x i. between_true (mark_of b) (mark_of b + 2 ^ 32) (key_of b x) (omega arith) (omega (arith, i.small))) (id ∷ ids) e)
 
 -- a leaf's own keys are its keys, and an inner place has none of its own
-pub own_leaf : (b : Block) (ks ids : List ℕ) → Reads b ks (Leaf ids) → own b ks ≡ leaf_keys b ids
-own_leaf b ks ids h = own_narrowed b h.shaped.0 ks (leaf_keys b ids) h.is ∙ filter_all (is_between (mark_of b) (mark_of b + 2 ^ 32)) (leaf_keys b ids) (leaf_own b ids h.shaped.1.1)
+pub own_leaf : (b : Block) (ks ids : List ℕ) → ReadsKeys b ks (Leaf ids) → own b ks ≡ leaf_keys b ids
+own_leaf b ks ids h = own_narrowed b h.shaped.0 ks (leaf_keys b ids) h.is ∙ filter_all (is_from_to (mark_of b) (mark_of b + 2 ^ 32)) (leaf_keys b ids) (leaf_own b ids h.shaped.1.1)
 
 child_own : (b : Block) (i : ℕ) (t : Tree) → IsShaped (child b i) t → own b (keys (child b i) t) ≡ []
-child_own b i t h = filter_none (is_between (mark_of b) (mark_of b + 2 ^ 32)) (keys (child b i) t)
-    (each_map (Lies (child b i)) (λ k. is_between (mark_of b) (mark_of b + 2 ^ 32) k ≡ false)
+child_own b i t h = filter_none (is_from_to (mark_of b) (mark_of b + 2 ^ 32)) (keys (child b i) t)
+    (each_map (Lies (child b i)) (λ k. is_from_to (mark_of b) (mark_of b + 2 ^ 32) k ≡ false)
     (λ k l. between_above (mark_of b) (mark_of b + 2 ^ 32) k (omega (arith, l.0, child_mark b i))) (keys (child b i) t) (keys_lie (child b i) t h))
 
-pub own_inner : (b : Block) (ks : List ℕ) (p q r s : Tree) → Reads b ks (Inner p q r s) → own b ks ≡ []
+pub own_inner : (b : Block) (ks : List ℕ) (p q r s : Tree) → ReadsKeys b ks (Inner p q r s) → own b ks ≡ []
 own_inner b ks p q r s h =
     let sh = h.shaped in
     own_narrowed b (omega (arith, sh.0)) ks (keys b (Inner p q r s)) h.is
-    ∙ four_parts (is_between (mark_of b) (mark_of b + 2 ^ 32)) (keys (child b 0) p) (keys (child b 1) q) (keys (child b 2) r) (keys (child b 3) s)
+    ∙ four_parts (is_from_to (mark_of b) (mark_of b + 2 ^ 32)) (keys (child b 0) p) (keys (child b 1) q) (keys (child b 2) r) (keys (child b 3) s)
     ∙ rw (child_own b 0 p sh.1.0, child_own b 1 q sh.1.1.0, child_own b 2 r sh.1.1.1.0, child_own b 3 s sh.1.1.1.1) refl

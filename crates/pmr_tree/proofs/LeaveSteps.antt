@@ -4,12 +4,13 @@ use Rattle.std.specs.Prelude.{nat_eq}
 use Rattle.std.proofs.lemmas.Bool.Decides.{nat_tests}
 use Rattle.z_code.specs.declared.block.Block.{Block}
 use Rattle.sand_model.specs.Tree.{Tree, Leaf, Inner, add, without}
-use Rattle.pmr_tree.specs.Lists.{Rises, put_all, take_all}
-use Rattle.pmr_tree.specs.Keys.{key_of, mark_of, leaf_keys, keys, is_inside, within, outside, IsId, IsShaped, Reads}
-use Rattle.pmr_tree.specs.Changes.{Stands, Becomes, left, shrunk_where}
-use Rattle.pmr_tree.specs.Leaves.{IsLeafOf, ids_of}
+use Rattle.pmr_tree.specs.Lists.{RiseStrictly, put_all, take_all}
+use Rattle.pmr_tree.specs.Keys.{key_of, mark_of, leaf_keys, keys, is_inside, keys_within, outside, IsId, IsShaped, ReadsKeys}
+use Rattle.pmr_tree.specs.Changes.{KeysStand, Becomes, left, shrunk_where}
+use Rattle.pmr_tree.specs.Leaves.{HasLeafIds, ids_of}
 use Rattle.pmr_tree.specs.declared.leaf.Kept.{Kept}
-use Rattle.pmr_tree.proofs.Orders.{holds, fails, test, each_filter, filter_swap, rises_filter, take_all_other}
+use Rattle.pmr_tree.proofs.AscendingLists.{holds, fails, test, each_filter, filter_swap, rises_filter}
+use Rattle.pmr_tree.proofs.Orders.{take_all_other}
 use Rattle.pmr_tree.proofs.Entries.{leaf_is, length_ids}
 use Rattle.pmr_tree.proofs.LeafSteps.{key_inside}
 use Rattle.pmr_tree.proofs.Steps.{becomes_refilled, becomes_same, becomes_as}
@@ -64,7 +65,7 @@ some_keys_of b [] z zs e = cc
 some_keys_of b (y ∷ ys) z zs e = refl
 
 -- the keys of a leaf without an id, where it was not the only one
-left_keys : (b : Block) (id : ℕ) → IsId id → (ids : List ℕ) → Rises ids → (ids ≡ id ∷ [] → ⊥) → leaf_keys b (without id ids) ≡ without (key_of b id) (leaf_keys b ids)
+left_keys : (b : Block) (id : ℕ) → IsId id → (ids : List ℕ) → RiseStrictly ids → (ids ≡ id ∷ [] → ⊥) → leaf_keys b (without id ids) ≡ without (key_of b id) (leaf_keys b ids)
 left_keys b id i [] rise more =
     let other : not (nat_eq (mark_of b) (key_of b id)) ≡ true = keeps_other (mark_of b) (key_of b id) (λ e. omega (arith, e, i.above_mark)) in
     rw other refl
@@ -77,22 +78,22 @@ left_keys b id i (x ∷ y ∷ zs) rise more =
     some_keys_of b (without id (x ∷ y ∷ zs)) s.0 s.1.0 s.1.1 ∙ keys_without b id (x ∷ y ∷ zs)
 
 -- an id leaves, and others stay
-left_more : (b : Block) (ks ids : List ℕ) (id : ℕ) → Stands b ks → IsLeafOf b ks ids → IsId id → (ids ≡ id ∷ [] → ⊥) → (new : List ℕ) → new ≡ without (key_of b id) ks → Becomes b (left id) ks new
+left_more : (b : Block) (ks ids : List ℕ) (id : ℕ) → KeysStand b ks → HasLeafIds b ks ids → IsId id → (ids ≡ id ∷ [] → ⊥) → (new : List ℕ) → new ≡ without (key_of b id) ks → Becomes b (left id) ks new
 left_more b ks ids id stands leaf i more new is =
     let e = leaf_is b ks ids stands.tree stands.reads leaf in
-    let level = (subst (Reads b ks) e stands.reads).shaped.0 in
+    let level = (subst (ReadsKeys b ks) e stands.reads).shaped.0 in
     let inside = key_inside b id level i in record {
-      rises = subst Rises (sym is) (rises_filter (λ k. not (nat_eq k (key_of b id))) ks stands.rises);
+      rises = subst RiseStrictly (sym is) (rises_filter (λ k. not (nat_eq k (key_of b id))) ks stands.rises);
       elsewhere = ap (outside b) is ∙ filter_swap (λ k. not (is_inside b k)) (λ k. not (nat_eq k (key_of b id))) ks ∙ take_all_other (is_inside b) (key_of b id ∷ []) ks (inside, tt);
       here = here;
     }
   where
-    here : (t : Tree) → Reads b ks t → Reads b new (left id t)
+    here : (t : Tree) → ReadsKeys b ks t → ReadsKeys b new (left id t)
     here t r =
         let e = leaf_is b ks ids t r leaf in
-        let at = subst (Reads b ks) e r in
-        subst (λ t. Reads b new (left id t)) (sym e) (record {
-          is = ap (within b) is
+        let at = subst (ReadsKeys b ks) e r in
+        subst (λ t. ReadsKeys b new (left id t)) (sym e) (record {
+          is = ap (keys_within b) is
               ∙ filter_swap (is_inside b) (λ k. not (nat_eq k (key_of b id))) ks
               ∙ ap (without (key_of b id)) at.is
               ∙ sym (left_keys b id i ids at.shaped.1.0 more);
@@ -100,25 +101,25 @@ left_more b ks ids id stands leaf i more new is =
         })
 
 -- the only id leaves, and a mark comes
-left_last : (b : Block) (ks : List ℕ) (id : ℕ) → Stands b ks → IsLeafOf b ks (id ∷ []) → (new : List ℕ) → new ≡ add (mark_of b) (without (key_of b id) ks) → Becomes b (left id) ks new
+left_last : (b : Block) (ks : List ℕ) (id : ℕ) → KeysStand b ks → HasLeafIds b ks (id ∷ []) → (new : List ℕ) → new ≡ add (mark_of b) (without (key_of b id) ks) → Becomes b (left id) ks new
 left_last b ks id stands leaf new is = becomes_refilled b (left id) ks new stands.rises here stands where
   none : without id (id ∷ []) ≡ []
   none = rw (takes_same id) refl
 
-  here : (t : Tree) → Reads b ks t → IsShaped b (left id t) × (new ≡ put_all (keys b (left id t)) (take_all (keys b t) ks))
+  here : (t : Tree) → ReadsKeys b ks t → IsShaped b (left id t) × (new ≡ put_all (keys b (left id t)) (take_all (keys b t) ks))
   here t r =
       let e = leaf_is b ks (id ∷ []) t r leaf in
-      let at = subst (Reads b ks) e r in
+      let at = subst (ReadsKeys b ks) e r in
       subst (λ t. IsShaped b (left id t) × (new ≡ put_all (keys b (left id t)) (take_all (keys b t) ks))) (sym e)
       (subst (λ ids. IsShaped b (Leaf ids) × (new ≡ put_all (leaf_keys b ids) (take_all (leaf_keys b (id ∷ [])) ks))) (sym none) ((at.shaped.0, (tt, tt)), is))
 
 -- the two ways in which an id leaves, as a list of ids tells them apart
-pub last_left : (b : Block) (ks : List ℕ) (list : List Kept) (id key mark : ℕ) (mid new : List ℕ) → Stands b ks → IsLeafOf b ks (ids_of list) → ids_of list ≡ id ∷ []
+pub last_left : (b : Block) (ks : List ℕ) (list : List Kept) (id key mark : ℕ) (mid new : List ℕ) → KeysStand b ks → HasLeafIds b ks (ids_of list) → ids_of list ≡ id ∷ []
     → key ≡ key_of b id → mark ≡ mark_of b → mid ≡ without key ks → new ≡ add mark mid → Becomes b (left id) ks new
 last_left b ks list id key mark mid new stands leaf only e f m n =
-    left_last b ks id stands (subst (IsLeafOf b ks) only leaf) new (n ∙ ap₂ add f (m ∙ ap (λ x. without x ks) e))
+    left_last b ks id stands (subst (HasLeafIds b ks) only leaf) new (n ∙ ap₂ add f (m ∙ ap (λ x. without x ks) e))
 
-pub others_left : (b : Block) (ks : List ℕ) (list : List Kept) (id key : ℕ) (new : List ℕ) → Stands b ks → IsLeafOf b ks (ids_of list) → IsId id → (ids_of list ≡ id ∷ [] → ⊥)
+pub others_left : (b : Block) (ks : List ℕ) (list : List Kept) (id key : ℕ) (new : List ℕ) → KeysStand b ks → HasLeafIds b ks (ids_of list) → IsId id → (ids_of list ≡ id ∷ [] → ⊥)
     → key ≡ key_of b id → new ≡ without key ks → Becomes b (left id) ks new
 others_left b ks list id key new stands leaf i more e n = left_more b ks (ids_of list) id stands leaf i more new (n ∙ ap (λ x. without x ks) e)
 
@@ -142,16 +143,16 @@ not_this (k ∷ ks) id d h n e = n (head_of (ids_of (k ∷ ks)) id e) where
   head_of xs id e = ap head_or e
 
 -- what the shape does not meet stays
-pub shrunk_unmet : (m : Block → ℕ → Bool) (n id : ℕ) (b : Block) (ks : List ℕ) → Stands b ks → m b id ≡ false → Becomes b (shrunk_where m n id b) ks ks
+pub shrunk_unmet : (m : Block → ℕ → Bool) (n id : ℕ) (b : Block) (ks : List ℕ) → KeysStand b ks → m b id ≡ false → Becomes b (shrunk_where m n id b) ks ks
 shrunk_unmet m n id b ks stands h = becomes_same b (shrunk_where m n id b) ks stands.rises (λ t r. same t) where
   same : (t : Tree) → t ≡ shrunk_where m n id b t
   same (Leaf ids) = rw h refl
   same (Inner p q r s) = rw h refl
 
 -- a leaf that the shape meets loses the id
-pub shrunk_leaf : (m : Block → ℕ → Bool) (n id : ℕ) (b : Block) (k0 k1 ids : List ℕ) → IsLeafOf b k0 ids → m b id ≡ true → Becomes b (left id) k0 k1 → Becomes b (shrunk_where m n id b) k0 k1
+pub shrunk_leaf : (m : Block → ℕ → Bool) (n id : ℕ) (b : Block) (k0 k1 ids : List ℕ) → HasLeafIds b k0 ids → m b id ≡ true → Becomes b (left id) k0 k1 → Becomes b (shrunk_where m n id b) k0 k1
 shrunk_leaf m n id b k0 k1 ids leaf h leave = becomes_as b (left id) (shrunk_where m n id b) k0 k1 same leave where
-  same : (t : Tree) → Reads b k0 t → left id t ≡ shrunk_where m n id b t
+  same : (t : Tree) → ReadsKeys b k0 t → left id t ≡ shrunk_where m n id b t
   same t r =
       let e = leaf_is b k0 ids t r leaf in
       subst (λ t. left id t ≡ shrunk_where m n id b t) (sym e) (sym (ap (λ c. cond c (Leaf (without id ids)) (Leaf ids)) h))

@@ -1,6 +1,10 @@
+-- ascending lists of numbers: filters, and numbers put in
+pub mod AscendingLists
 pub mod Orders
 pub mod Quarter
 pub mod KeyLists
+-- growing a tree: what fits goes on to fit, and full trees stay full
+pub mod GrownTrees
 pub mod Growth
 pub mod Steps
 pub mod Entries
@@ -26,6 +30,8 @@ pub mod Planted
 pub mod Places
 pub mod Roughs
 pub mod Looked
+-- the quarter of a block that has a code, and the keys there
+pub mod CodeInQuarter
 pub mod LeafOfCode
 pub mod Begins
 pub mod Ends

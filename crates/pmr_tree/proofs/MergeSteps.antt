@@ -5,16 +5,17 @@ use Rattle.std.proofs.lemmas.Bool.Decides.{nat_tests}
 use Rattle.z_code.specs.Block.{child, children_of}
 use Rattle.z_code.specs.declared.block.Block.{Block}
 use Rattle.sand_model.specs.Tree.{Tree, Leaf, Inner, union, union_of_four, merged}
-use Rattle.pmr_tree.specs.Lists.{Each, Rises, put_all, take_all}
-use Rattle.pmr_tree.specs.Keys.{leaf_keys, keys, own, IsId, IsShaped, Reads}
-use Rattle.pmr_tree.specs.Changes.{Stands, Becomes, merging, below_shrunk, shrunk_where}
-use Rattle.pmr_tree.specs.Leaves.{IsLeafOf, ids_of}
+use Rattle.pmr_tree.specs.Lists.{Each, RiseStrictly, put_all, take_all}
+use Rattle.pmr_tree.specs.Keys.{leaf_keys, keys, own, IsId, IsShaped, ReadsKeys}
+use Rattle.pmr_tree.specs.Changes.{KeysStand, Becomes, merging, below_shrunk, shrunk_where}
+use Rattle.pmr_tree.specs.Leaves.{HasLeafIds, ids_of}
 use Rattle.pmr_tree.specs.Parts.{HasInner}
 use Rattle.pmr_tree.specs.declared.leaf.Kept.{Kept}
 use Rattle.pmr_tree.proofs.Orders.{take_all_append}
 use Rattle.pmr_tree.proofs.KeyLists.{Parts, reads_children, own_leaf, own_inner}
 use Rattle.pmr_tree.proofs.Entries.{leaf_is}
-use Rattle.pmr_tree.proofs.Growth.{merged_full, enough_second, enough_third, enough_fourth}
+use Rattle.pmr_tree.proofs.GrownTrees.{enough_second, enough_third, enough_fourth}
+use Rattle.pmr_tree.proofs.Growth.{merged_full}
 use Rattle.pmr_tree.proofs.Unions.{union_nil, rises_union, each_union}
 use Rattle.pmr_tree.proofs.GrowSteps.{at_child}
 use Rattle.pmr_tree.proofs.Steps.{becomes_refilled, becomes_same, becomes_as, becomes_then, becomes_four, stands_parts}
@@ -23,36 +24,36 @@ no_keys : {A : Type 0} {x : A} {xs : List A} → [] ≡ x ∷ xs → ⊥
 no_keys e = cc
 
 -- a block with no keys of its own is no leaf
-leaf_no : (b : Block) (ks ids : List ℕ) → Reads b ks (Leaf ids) → own b ks ≡ [] → ⊥
+leaf_no : (b : Block) (ks ids : List ℕ) → ReadsKeys b ks (Leaf ids) → own b ks ≡ [] → ⊥
 leaf_no b ks [] r none = no_keys (sym none ∙ own_leaf b ks [] r)
 leaf_no b ks (x ∷ xs) r none = no_keys (sym none ∙ own_leaf b ks (x ∷ xs) r)
 
 -- a place with an inner place among its children is not merged
-merged_first : (n : ℕ) (b : Block) (ks : List ℕ) (p q r s : Tree) → Reads b ks p → own b ks ≡ [] → merged n p q r s ≡ Inner p q r s
+merged_first : (n : ℕ) (b : Block) (ks : List ℕ) (p q r s : Tree) → ReadsKeys b ks p → own b ks ≡ [] → merged n p q r s ≡ Inner p q r s
 merged_first n b ks (Leaf p) q r s h none = absurd (leaf_no b ks p h none)
 merged_first n b ks (Inner a c d e) q r s h none = refl
 
-merged_second : (n : ℕ) (b : Block) (ks : List ℕ) (p q r s : Tree) → Reads b ks q → own b ks ≡ [] → merged n p q r s ≡ Inner p q r s
+merged_second : (n : ℕ) (b : Block) (ks : List ℕ) (p q r s : Tree) → ReadsKeys b ks q → own b ks ≡ [] → merged n p q r s ≡ Inner p q r s
 merged_second n b ks p (Leaf q) r s h none = absurd (leaf_no b ks q h none)
 merged_second n b ks p (Inner a c d e) r s h none = merged_full n p (Inner a c d e) r s (enough_second n p a c d e r s)
 
-merged_third : (n : ℕ) (b : Block) (ks : List ℕ) (p q r s : Tree) → Reads b ks r → own b ks ≡ [] → merged n p q r s ≡ Inner p q r s
+merged_third : (n : ℕ) (b : Block) (ks : List ℕ) (p q r s : Tree) → ReadsKeys b ks r → own b ks ≡ [] → merged n p q r s ≡ Inner p q r s
 merged_third n b ks p q (Leaf r) s h none = absurd (leaf_no b ks r h none)
 merged_third n b ks p q (Inner a c d e) s h none = merged_full n p q (Inner a c d e) s (enough_third n p q a c d e s)
 
-merged_fourth : (n : ℕ) (b : Block) (ks : List ℕ) (p q r s : Tree) → Reads b ks s → own b ks ≡ [] → merged n p q r s ≡ Inner p q r s
+merged_fourth : (n : ℕ) (b : Block) (ks : List ℕ) (p q r s : Tree) → ReadsKeys b ks s → own b ks ≡ [] → merged n p q r s ≡ Inner p q r s
 merged_fourth n b ks p q r (Leaf s) h none = absurd (leaf_no b ks s h none)
 merged_fourth n b ks p q r (Inner a c d e) h none = merged_full n p q r (Inner a c d e) (enough_fourth n p q r a c d e)
 
 -- nothing is merged where the inner place has such a child
-kept_inner : (n : ℕ) (b : Block) (k0 k1 : List ℕ) → Stands b k0 → own b k0 ≡ [] → ((p q r s : Tree) → Parts b k0 p q r s → merged n p q r s ≡ Inner p q r s) → k1 ≡ k0 → Becomes b (merging n) k0 k1
+kept_inner : (n : ℕ) (b : Block) (k0 k1 : List ℕ) → KeysStand b k0 → own b k0 ≡ [] → ((p q r s : Tree) → Parts b k0 p q r s → merged n p q r s ≡ Inner p q r s) → k1 ≡ k0 → Becomes b (merging n) k0 k1
 kept_inner n b k0 k1 stands none h same = subst (Becomes b (merging n) k0) (sym same) (becomes_same b (merging n) k0 stands.rises here) where
-  here : (t : Tree) → Reads b k0 t → t ≡ merging n t
+  here : (t : Tree) → ReadsKeys b k0 t → t ≡ merging n t
   here (Leaf ids) r = absurd (leaf_no b k0 ids r none)
   here (Inner p q r s) read = sym (h p q r s (reads_children b k0 p q r s read))
 
 -- nothing is merged where one of the children is an inner place
-pub some_inner : (n : ℕ) (b : Block) (k0 k1 : List ℕ) → Stands b k0 → own b k0 ≡ [] → HasInner b k0 → k1 ≡ k0 → Becomes b (merging n) k0 k1
+pub some_inner : (n : ℕ) (b : Block) (k0 k1 : List ℕ) → KeysStand b k0 → own b k0 ≡ [] → HasInner b k0 → k1 ≡ k0 → Becomes b (merging n) k0 k1
 some_inner n b k0 k1 stands none inner same = kept_inner n b k0 k1 stands none (λ p q r s parts. apart p q r s parts inner) same where
   apart : (p q r s : Tree) → Parts b k0 p q r s → HasInner b k0 → merged n p q r s ≡ Inner p q r s
   apart p q r s parts (inl h) = merged_first n (child b 0) k0 p q r s parts.first h
@@ -62,15 +63,15 @@ some_inner n b k0 k1 stands none inner same = kept_inner n b k0 k1 stands none (
 
 -- the four leaves of a place
 pub record Four (b : Block) (ks p q r s : List ℕ) : Type 0 where
-  pub first : IsLeafOf (child b 0) ks p
-  pub second : IsLeafOf (child b 1) ks q
-  pub third : IsLeafOf (child b 2) ks r
-  pub fourth : IsLeafOf (child b 3) ks s
+  pub first : HasLeafIds (child b 0) ks p
+  pub second : HasLeafIds (child b 1) ks q
+  pub third : HasLeafIds (child b 2) ks r
+  pub fourth : HasLeafIds (child b 3) ks s
 
 inner_same : (p q r s p' q' r' s' : Tree) → p ≡ p' → q ≡ q' → r ≡ r' → s ≡ s' → Inner p q r s ≡ Inner p' q' r' s'
 inner_same p q r s p' q' r' s' a b c d = cc
 
-four_is : (b : Block) (ks p q r s : List ℕ) → own b ks ≡ [] → Four b ks p q r s → (t : Tree) → Reads b ks t → t ≡ Inner (Leaf p) (Leaf q) (Leaf r) (Leaf s)
+four_is : (b : Block) (ks p q r s : List ℕ) → own b ks ≡ [] → Four b ks p q r s → (t : Tree) → ReadsKeys b ks t → t ≡ Inner (Leaf p) (Leaf q) (Leaf r) (Leaf s)
 four_is b ks p q r s none four (Leaf ids) read = absurd (leaf_no b ks ids read none)
 four_is b ks p q r s none four (Inner t u v w) read =
     let parts = reads_children b ks t u v w read in
@@ -78,9 +79,9 @@ four_is b ks p q r s none four (Inner t u v w) read =
     (leaf_is (child b 2) ks r v parts.third four.third) (leaf_is (child b 3) ks s w parts.fourth four.fourth)
 
 -- the ids of four leaves, joined one list after another
-pub joined : (b : Block) (ks p q r s : List ℕ) → Stands b ks → own b ks ≡ [] → Four b ks p q r s → union p (union q (union r (union s []))) ≡ union_of_four p q r s
+pub joined : (b : Block) (ks p q r s : List ℕ) → KeysStand b ks → own b ks ≡ [] → Four b ks p q r s → union p (union q (union r (union s []))) ≡ union_of_four p q r s
 joined b ks p q r s stands none four =
-    let at = subst (Reads b ks) (four_is b ks p q r s none four stands.tree stands.reads) stands.reads in
+    let at = subst (ReadsKeys b ks) (four_is b ks p q r s none four stands.tree stands.reads) stands.reads in
     ap (λ t. union p (union q (union r t))) (union_nil s at.shaped.1.1.1.1.1.0)
 
 not_less : (x y : ℕ) → y ≤ x → nat_lt x y ≡ false
@@ -90,18 +91,18 @@ is_less : (x y : ℕ) → x < y → nat_lt x y ≡ true
 is_less x y h = grind (arith, nat_tests)
 
 -- enough ids: they stay apart
-pub merge_enough : (n : ℕ) (b : Block) (k0 k1 p q r s all : List ℕ) → Stands b k0 → own b k0 ≡ [] → Four b k0 p q r s → all ≡ union p (union q (union r (union s []))) → n ≤ length all → k1 ≡ k0
+pub merge_enough : (n : ℕ) (b : Block) (k0 k1 p q r s all : List ℕ) → KeysStand b k0 → own b k0 ≡ [] → Four b k0 p q r s → all ≡ union p (union q (union r (union s []))) → n ≤ length all → k1 ≡ k0
     → Becomes b (merging n) k0 k1
 merge_enough n b k0 k1 p q r s all stands none four is many same = subst (Becomes b (merging n) k0) (sym same) (becomes_same b (merging n) k0 stands.rises here) where
   enough : nat_lt (length (union_of_four p q r s)) n ≡ false
   enough = not_less (length (union_of_four p q r s)) n (subst (λ t. n ≤ length t) (is ∙ joined b k0 p q r s stands none four) many)
 
-  here : (t : Tree) → Reads b k0 t → t ≡ merging n t
+  here : (t : Tree) → ReadsKeys b k0 t → t ≡ merging n t
   here t read =
       subst (λ t. t ≡ merging n t) (sym (four_is b k0 p q r s none four t read)) (sym (ap (λ c. cond c (Leaf (union_of_four p q r s)) (Inner (Leaf p) (Leaf q) (Leaf r) (Leaf s))) enough))
 
 -- too few ids: one leaf has them
-pub merge_few : (n : ℕ) (b : Block) (k0 k1 p q r s all : List ℕ) → Stands b k0 → own b k0 ≡ [] → Four b k0 p q r s → all ≡ union p (union q (union r (union s []))) → length all < n
+pub merge_few : (n : ℕ) (b : Block) (k0 k1 p q r s all : List ℕ) → KeysStand b k0 → own b k0 ≡ [] → Four b k0 p q r s → all ≡ union p (union q (union r (union s []))) → length all < n
     → k1 ≡ put_all (leaf_keys b all) (take_all (leaf_keys (child b 3) s) (take_all (leaf_keys (child b 2) r) (take_all (leaf_keys (child b 1) q) (take_all (leaf_keys (child b 0) p) k0))))
     → Becomes b (merging n) k0 k1
 merge_few n b k0 k1 p q r s all stands none four is few new = becomes_refilled b (merging n) k0 k1 stands.rises here stands where
@@ -119,16 +120,16 @@ merge_few n b k0 k1 p q r s all stands none four is few new = becomes_refilled b
       ∙ take_all_append (leaf_keys (child b 1) q) (leaf_keys (child b 2) r ++ leaf_keys (child b 3) s) (take_all (leaf_keys (child b 0) p) k0)
       ∙ take_all_append (leaf_keys (child b 2) r) (leaf_keys (child b 3) s) (take_all (leaf_keys (child b 1) q) (take_all (leaf_keys (child b 0) p) k0)))
 
-  here : (t : Tree) → Reads b k0 t → IsShaped b (merging n t) × (k1 ≡ put_all (keys b (merging n t)) (take_all (keys b t) k0))
+  here : (t : Tree) → ReadsKeys b k0 t → IsShaped b (merging n t) × (k1 ≡ put_all (keys b (merging n t)) (take_all (keys b t) k0))
   here t read =
       let e = four_is b k0 p q r s none four t read in
-      let at = subst (Reads b k0) e read in
+      let at = subst (ReadsKeys b k0) e read in
       let sh = at.shaped in
-      let rise : Rises (union_of_four p q r s) = rises_union p (union q (union r s)) (rises_union q (union r s) (rises_union r s sh.1.1.1.1.1.0)) in
+      let rise : RiseStrictly (union_of_four p q r s) = rises_union p (union q (union r s)) (rises_union q (union r s) (rises_union r s sh.1.1.1.1.1.0)) in
       let each : Each IsId (union_of_four p q r s) =
       each_union IsId p (union q (union r s)) sh.1.0.1.1 (each_union IsId q (union r s) sh.1.1.0.1.1 (each_union IsId r s sh.1.1.1.0.1.1 sh.1.1.1.1.1.1)) in
       let one : IsShaped b (Leaf all) × (k1 ≡ put_all (keys b (Leaf all)) (take_all (keys b (Inner (Leaf p) (Leaf q) (Leaf r) (Leaf s))) k0)) =
-      ((omega (arith, sh.0), (subst Rises (sym whole) rise, subst (Each IsId) (sym whole) each)), new ∙ ap (put_all (leaf_keys b all)) apart) in
+      ((omega (arith, sh.0), (subst RiseStrictly (sym whole) rise, subst (Each IsId) (sym whole) each)), new ∙ ap (put_all (leaf_keys b all)) apart) in
       subst (λ t. IsShaped b (merging n t) × (k1 ≡ put_all (keys b (merging n t)) (take_all (keys b t) k0))) (sym e)
       (subst (λ u. IsShaped b u × (k1 ≡ put_all (keys b u) (take_all (keys b (Inner (Leaf p) (Leaf q) (Leaf r) (Leaf s))) k0))) merges one)
 
@@ -151,17 +152,17 @@ cleared b k0 k1 list read is e = e ∙ ap (λ x. take_all (leaf_keys b (ids_of x
 
 -- an inner place whose children have changed is one still
 pub still_inner : (b : Block) (f : Tree → Tree) (g h k l : Tree → Tree) (k0 k1 : List ℕ) → ((p q r s : Tree) → f (Inner p q r s) ≡ Inner (g p) (h q) (k r) (l s))
-    → Stands b k0 → own b k0 ≡ [] → Becomes b f k0 k1 → own b k1 ≡ []
+    → KeysStand b k0 → own b k0 ≡ [] → Becomes b f k0 k1 → own b k1 ≡ []
 still_inner b f g h k l k0 k1 is stands none change =
     let parts = stands_parts b k0 stands none in
     go stands.tree stands.reads
   where
-    go : (t : Tree) → Reads b k0 t → own b k1 ≡ []
+    go : (t : Tree) → ReadsKeys b k0 t → own b k1 ≡ []
     go (Leaf ids) read = absurd (leaf_no b k0 ids read none)
-    go (Inner p q r s) read = own_inner b k1 (g p) (h q) (k r) (l s) (subst (Reads b k1) (is p q r s) (change.here (Inner p q r s) read))
+    go (Inner p q r s) read = own_inner b k1 (g p) (h q) (k r) (l s) (subst (ReadsKeys b k1) (is p q r s) (change.here (Inner p q r s) read))
 
 pub shrink_steps : (m : Block → ℕ → Bool) (n id : ℕ) (b : Block) (cs : List Block) (d0 d1 d2 d3 : Block) (k0 k1 k2 k3 k4 : List ℕ)
-    → Stands b k0 → own b k0 ≡ [] → cs ≡ children_of b
+    → KeysStand b k0 → own b k0 ≡ [] → cs ≡ children_of b
     → Becomes (get_or cs 0 d0) (shrunk_where m n id (get_or cs 0 d0)) k0 k1
     → Becomes (get_or cs 1 d1) (shrunk_where m n id (get_or cs 1 d1)) k1 k2
     → Becomes (get_or cs 2 d2) (shrunk_where m n id (get_or cs 2 d2)) k2 k3
@@ -180,6 +181,6 @@ pub shrunk_inner : (m : Block → ℕ → Bool) (n id : ℕ) (b : Block) (k0 k1 
 shrunk_inner m n id b k0 k1 k2 none h below merge =
     becomes_as b (λ t. merging n (below_shrunk m n id b t)) (shrunk_where m n id b) k0 k2 same (becomes_then b (below_shrunk m n id b) (merging n) k0 k1 k2 below merge)
   where
-    same : (t : Tree) → Reads b k0 t → merging n (below_shrunk m n id b t) ≡ shrunk_where m n id b t
+    same : (t : Tree) → ReadsKeys b k0 t → merging n (below_shrunk m n id b t) ≡ shrunk_where m n id b t
     same (Leaf ids) read = absurd (leaf_no b k0 ids read none)
     same (Inner p q r s) read = rw h refl

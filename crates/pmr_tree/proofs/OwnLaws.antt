@@ -5,15 +5,15 @@ use Rattle.code_btree.specs.Calls as btree
 use Rattle.sand_base.specs.declared.TheConstants.{COORDINATE_BITS}
 use Rattle.sand_model.specs.Tree.{root_block, IsFull}
 use Rattle.pmr_tree.specs.Keys.{keys, IsShaped}
-use Rattle.pmr_tree.specs.Quadtree.{store_of, entries_at, tree_in, tree_at}
-use Rattle.pmr_tree.specs.Calls.{Unmoved}
+use Rattle.pmr_tree.specs.Quadtree.{store_of, quadtree_entries, tree_in, tree_at}
+use Rattle.pmr_tree.specs.Calls.{QuadtreeUnmoved}
 use Rattle.pmr_tree.specs.declared.quadtree.Pmr.{Pmr}
 
-tree_same : (m w : PageMap) (t : Pmr) → entries_at w t ≡ entries_at m t → tree_at w t ≡ tree_at m t
+tree_same : (m w : PageMap) (t : Pmr) → quadtree_entries w t ≡ quadtree_entries m t → tree_at w t ≡ tree_at m t
 unfolding tree_at
 tree_same m w t e = ap (λ es. tree_in COORDINATE_BITS root_block (map (λ e. e.0) es)) e
 
-pub pmr_unmoved : (m w : PageMap) (t : Pmr) → btree.Unmoved (store_of m) (store_of w) t.map → Unmoved m w t
+pub pmr_unmoved : (m w : PageMap) (t : Pmr) → btree.Unmoved (store_of m) (store_of w) t.map → QuadtreeUnmoved m w t
 pmr_unmoved m w t h =
     let same = tree_same m w t h.items in record {
       entries = h.items;

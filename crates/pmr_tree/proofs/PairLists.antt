@@ -5,11 +5,11 @@ use Rattle.std.proofs.lemmas.Bool.Decides.{nat_tests}
 use Rattle.code_btree.specs.Items.{Ascending, items_below, items_above, items_from, put_item, drop_item}
 use Rattle.code_btree.specs.Items as btree
 use Rattle.sand_model.specs.Tree.{add, without}
-use Rattle.pmr_tree.specs.Lists.{Each, Above, Rises}
+use Rattle.pmr_tree.specs.Lists.{Each, Above, RiseStrictly}
 use Rattle.pmr_tree.specs.Keys.{id_in}
 use Rattle.pmr_tree.specs.Leaves.{firsts, Passes}
 use Rattle.pmr_tree.specs.Listing.{Pair}
-use Rattle.pmr_tree.proofs.Orders.{each_append, order, below, same, above}
+use Rattle.pmr_tree.proofs.AscendingLists.{below, same, above, each_append, order}
 
 less_true : (x y : ℕ) → x < y → nat_lt x y ≡ true
 less_true x y h = grind (arith, nat_tests)
@@ -28,7 +28,7 @@ firsts_above : (key : ℕ) (es : List Pair) → btree.Above key es → Above key
 firsts_above key [] h = tt
 firsts_above key (e ∷ es) h = (h.0, firsts_above key es h.1)
 
-pub firsts_rise : (es : List Pair) → Ascending es → Rises (firsts es)
+pub firsts_rise : (es : List Pair) → Ascending es → RiseStrictly (firsts es)
 firsts_rise [] h = tt
 firsts_rise (e ∷ es) h = (firsts_above e.0 es h.0, firsts_rise es h.1)
 

@@ -12,11 +12,11 @@ use Rattle.z_code.specs.declared.block.Block.{Block}
 use Rattle.sand_model.specs.Database.{shape_at}
 use Rattle.sand_model.specs.FigureGap.{IsMeeting}
 use Rattle.pmr_tree.specs.Leaves.{ListPasses}
-use Rattle.pmr_tree.specs.Parts.{AreQuarters, MeetsQuarters, TellsMeeting, AreParts, Gained, PartsPass}
+use Rattle.pmr_tree.specs.Parts.{AreQuarters, MeetsQuarters, TellsMeeting, AreParts, GainsId, PartsPass}
 use Rattle.pmr_tree.specs.declared.leaf.Kept.{Kept}
 use Rattle.pmr_tree.specs.declared.part.QuartersMet.{QuartersMet}
 use Rattle.pmr_tree.specs.declared.part.Parts.{Parts}
-use Rattle.pmr_tree.proofs.Orders.{each_append}
+use Rattle.pmr_tree.proofs.AscendingLists.{each_append}
 use Rattle.pmr_tree.proofs.Entries.{met_step}
 use Rattle.pmr_tree.proofs.Quarter.{child_block}
 use Rattle.pmr_tree.proofs.ShapeLaws.{here_shape, there_shape, some_same}
@@ -75,7 +75,7 @@ gained : (f : ℕ → Bool) (list : List Kept) (i : ℕ) (d : Kept) → i < leng
 gained f list i d lt met e old new h n = met_step f list i d lt old new h (n ∙ ap (λ c. old ++ cond c (get_or list i d ∷ []) []) e)
 
 pub parts_step : (m : Block → ℕ → Bool) (b : Block) (list : List Kept) (i : ℕ) (d : Kept) → i < length list → (met : QuartersMet) (old new : Parts)
-    → AreQuarters (λ c. m c (get_or list i d).id) b met → AreParts m b (take i list) old → Gained met (get_or list i d) old new → AreParts m b (take (i + 1) list) new
+    → AreQuarters (λ c. m c (get_or list i d).id) b met → AreParts m b (take i list) old → GainsId met (get_or list i d) old new → AreParts m b (take (i + 1) list) new
 parts_step m b list i d lt met old new quarters are gain = record {
   first = gained (m (child b 0)) list i d lt met.first quarters.first old.first.items new.first.items are.first gain.first;
   second = gained (m (child b 1)) list i d lt met.second quarters.second old.second.items new.second.items are.second gain.second;
@@ -88,7 +88,7 @@ passed : (test : ℕ → ℕ → Bool) (met : Bool) (k : Kept) (old new : List K
 passed test true k old new one h n = subst (ListPasses test) (sym n) (each_append (λ x. test x.id x.value ≡ true) old (k ∷ []) h (one, tt))
 passed test false k old new one h n = subst (ListPasses test) (sym n) (each_append (λ x. test x.id x.value ≡ true) old [] h tt)
 
-pub parts_pass : (test : ℕ → ℕ → Bool) (met : QuartersMet) (k : Kept) (old new : Parts) → test k.id k.value ≡ true → PartsPass test old → Gained met k old new → PartsPass test new
+pub parts_pass : (test : ℕ → ℕ → Bool) (met : QuartersMet) (k : Kept) (old new : Parts) → test k.id k.value ≡ true → PartsPass test old → GainsId met k old new → PartsPass test new
 parts_pass test met k old new one pass gain = record {
   first = passed test met.first k old.first.items new.first.items one pass.first gain.first;
   second = passed test met.second k old.second.items new.second.items one pass.second gain.second;

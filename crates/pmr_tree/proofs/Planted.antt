@@ -7,25 +7,25 @@ use Rattle.code_btree.specs.Calls as btree
 use Rattle.sand_base.specs.declared.shape.Shape.{Shape}
 use Rattle.sand_model.specs.Nodes.{rough_figure}
 use Rattle.sand_model.specs.Tree.{Leaf, root_block, empty_tree, IsFull}
-use Rattle.pmr_tree.specs.Keys.{keys, id_in, IsShaped, Reads}
+use Rattle.pmr_tree.specs.Keys.{keys, id_in, IsShaped, ReadsKeys}
 use Rattle.pmr_tree.specs.Lists.{Each}
 use Rattle.pmr_tree.specs.Leaves.{firsts}
 use Rattle.pmr_tree.specs.Listing.{Pair}
 use Rattle.pmr_tree.specs.Entries.{value_of}
-use Rattle.pmr_tree.specs.Quadtree.{store_of, entries_at, keys_at, pages_at, tree_at, IsPmr}
+use Rattle.pmr_tree.specs.Quadtree.{store_of, quadtree_entries, keys_at, pages_at, tree_at, IsPmr}
 use Rattle.pmr_tree.specs.Calls.{Plants}
 use Rattle.pmr_tree.specs.declared.quadtree.Pmr.{Pmr}
 use Rattle.pmr_tree.proofs.TreeAt.{tree_is}
 use Rattle.pmr_tree.proofs.OwnPages.{keeps_then}
 
-root_reads : Reads root_block (0 ∷ []) (Leaf [])
+root_reads : ReadsKeys root_block (0 ∷ []) (Leaf [])
 root_reads = record { is = refl; shaped = (omega arith, (tt, tt)) }
 
 -- the mark of the root alone is an empty quadtree
-pub mark_alone : (pages : PageMap) (t : Pmr) → IsTree (store_of pages) t.map → entries_at pages t ≡ (0, 0) ∷ [] → IsPmr pages t × (tree_at pages t ≡ empty_tree)
+pub mark_alone : (pages : PageMap) (t : Pmr) → IsTree (store_of pages) t.map → quadtree_entries pages t ≡ (0, 0) ∷ [] → IsPmr pages t × (tree_at pages t ≡ empty_tree)
 mark_alone pages t tree es =
     let ks : keys_at pages t ≡ 0 ∷ [] = ap firsts es in
-    let is = tree_is pages t (Leaf []) (subst (λ x. Reads root_block x (Leaf [])) (sym ks) root_reads) in (
+    let is = tree_is pages t (Leaf []) (subst (λ x. ReadsKeys root_block x (Leaf [])) (sym ks) root_reads) in (
       record {
         entries = tree;
         keys = ks ∙ sym (ap (keys root_block) is);
@@ -44,10 +44,10 @@ pub plants : (m v w : PageMap) (old : Pmr) (t : Pmr) → btree.Planted (store_of
     → tree_items (store_of w) t.map ≡ put_item 0 0 (tree_items (store_of v) old.map) → IsTree (store_of w) t.map
     → btree.Keeps (store_of v) (store_of w) (pages_at v old) (pages_at w t) → Plants m w t
 plants m v w old t planted items tree keeps =
-    let es : entries_at w t ≡ (0, 0) ∷ [] = items ∙ ap (put_item 0 0) planted.items in
+    let es : quadtree_entries w t ≡ (0, 0) ∷ [] = items ∙ ap (put_item 0 0) planted.items in
     let one = mark_alone w t tree es in record {
       is = one.0;
       empty = one.1;
-      entries = λ id s some. kept (entries_at w t) es id s some;
+      entries = λ id s some. kept (quadtree_entries w t) es id s some;
       keeps = keeps_then (store_of m) (store_of v) (store_of w) [] (pages_at v old) (pages_at w t) planted.keeps keeps;
     }

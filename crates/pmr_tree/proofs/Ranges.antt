@@ -4,22 +4,22 @@ use Rattle.std.specs.Prelude.{filter, nat_lt, nat_le}
 use Rattle.std.proofs.lemmas.Bool.Decides.{nat_tests}
 use Rattle.code_btree.specs.Between.{items_between}
 use Rattle.z_code.specs.declared.block.Block.{Block}
-use Rattle.pmr_tree.specs.Lists.{is_between}
+use Rattle.pmr_tree.specs.Lists.{is_from_to}
 use Rattle.pmr_tree.specs.Keys.{mark_of}
 use Rattle.pmr_tree.specs.Leaves.{own_pairs}
 use Rattle.pmr_tree.specs.Listing.{Pair}
-use Rattle.pmr_tree.proofs.Orders.{holds, fails, test}
+use Rattle.pmr_tree.proofs.AscendingLists.{holds, fails, test}
 
 at_least : (low x : ℕ) → nat_lt x low ≡ false → nat_le low x ≡ true
 at_least low x h = grind (arith, nat_tests)
 
-neither : (low high x : ℕ) → nat_lt x low ≡ true → is_between low high x ≡ false
+neither : (low high x : ℕ) → nat_lt x low ≡ true → is_from_to low high x ≡ false
 neither low high x h = (let no : nat_le low x ≡ false = below low x h in rw no refl) where
   below : (low x : ℕ) → nat_lt x low ≡ true → nat_le low x ≡ false
   below low x h = grind (arith, nat_tests)
 
 -- those from a key on and below another
-pub range_filter : (low high : ℕ) (es : List Pair) → items_between low high es ≡ filter (λ e. is_between low high e.0) es
+pub range_filter : (low high : ℕ) (es : List Pair) → items_between low high es ≡ filter (λ e. is_from_to low high e.0) es
 range_filter low high [] = refl
 range_filter low high (e ∷ es) =
     let more = range_filter low high es in
@@ -33,7 +33,7 @@ range_filter low high (e ∷ es) =
 
 -- a block's own entries are those from its mark on and below the end of its range
 pub own_range : (b : Block) (mark : ℕ) (es : List Pair) → mark ≡ mark_of b → items_between mark (mark + 2 ^ 32) es ≡ own_pairs b es
-own_range b mark es me = range_filter mark (mark + 2 ^ 32) es ∙ ap (λ m. filter (λ e. is_between m (m + 2 ^ 32) e.0) es) me
+own_range b mark es me = range_filter mark (mark + 2 ^ 32) es ∙ ap (λ m. filter (λ e. is_from_to m (m + 2 ^ 32) e.0) es) me
 
 -- and so the gets
 pub own_price : (b : Block) (mark height old new : ℕ) (es : List Pair) → mark ≡ mark_of b → new ≤ old + (height + 1 + length (items_between mark (mark + 2 ^ 32) es) / 63)

@@ -18,7 +18,7 @@ use Rattle.ring_geom.specs.MeasureLaws.{ChildrenMeet}
 use Rattle.pmr_tree.specs.Lists.{Each}
 use Rattle.pmr_tree.specs.Laws.{AreInPlane}
 use Rattle.pmr_tree.specs.Changes.{Quarters, ListsWhere}
-use Rattle.pmr_tree.proofs.Orders.{holds, fails, test, filter_same}
+use Rattle.pmr_tree.proofs.AscendingLists.{holds, fails, test, filter_same}
 
 -- the plane lies in the closed plane
 in_closed : (p : Point) → IsInPlane p → IsInClosedPlane p

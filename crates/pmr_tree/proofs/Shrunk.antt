@@ -16,7 +16,7 @@ use Rattle.pmr_tree.specs.Leaves.{Passes, Told}
 use Rattle.pmr_tree.specs.Changes.{Becomes, shrunk_where}
 use Rattle.pmr_tree.specs.Entries.{value_of}
 use Rattle.pmr_tree.specs.Laws.{AreInPlane}
-use Rattle.pmr_tree.specs.Quadtree.{store_of, entries_at, keys_at, pages_at, tree_at, IsPmr, IsListedWhereMet}
+use Rattle.pmr_tree.specs.Quadtree.{store_of, quadtree_entries, keys_at, pages_at, tree_at, IsPmr, IsListedWhereMet}
 use Rattle.pmr_tree.specs.Calls.{Shrinks}
 use Rattle.pmr_tree.specs.Plot.{TellsOf}
 use Rattle.pmr_tree.specs.declared.quadtree.Pmr.{Pmr}
@@ -32,7 +32,7 @@ pub record Shrank (old new : PageMap) (t u : Pmr) (id : ℕ) (s : Shape) : Type 
   pub number : u.number ≡ t.number
   pub keeps : Keeps (store_of old) (store_of new) (pages_at old t) (pages_at new u)
   pub becomes : (m : Block → ℕ → Bool) (has : ℕ → Bool) → TellsOf ((id, s) ∷ []) m has → has id ≡ true → Becomes root_block (shrunk_where m t.threshold id root_block) (keys_at old t) (keys_at new u)
-  pub values : (test : ℕ → ℕ → Bool) → Passes test (entries_at old t) → Passes test (entries_at new u)
+  pub values : (test : ℕ → ℕ → Bool) → Passes test (quadtree_entries old t) → Passes test (quadtree_entries new u)
 
 pub record Leaving (old : PageMap) (t : Pmr) (id : ℕ) (s : Shape) : Type 0 where
   pub quarters : ChildrenMeet
@@ -67,5 +67,6 @@ shrinks old new t u id s h g measured =
         keeps = g.keeps;
       };
       shrunk = one.tree_is;
-      roughs = λ other o some kept. (let v = value_of (rough_figure o) in passes_keeps (entries_at new u) other v some (g.values (keeps_test other v) (keeps_passes (entries_at old t) other v kept)));
+      roughs = λ other o some kept. (let v = value_of (rough_figure o) in
+          passes_keeps (quadtree_entries new u) other v some (g.values (keeps_test other v) (keeps_passes (quadtree_entries old t) other v kept)));
     }

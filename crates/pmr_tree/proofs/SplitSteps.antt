@@ -6,8 +6,8 @@ use Rattle.z_code.specs.Block.{child, children_of}
 use Rattle.z_code.specs.declared.block.Block.{Block}
 use Rattle.pmr_tree.specs.Lists.{put_all, take_all}
 use Rattle.pmr_tree.specs.Keys.{leaf_keys}
-use Rattle.pmr_tree.specs.Changes.{Stands, Becomes, IsOneMore, divided}
-use Rattle.pmr_tree.specs.Leaves.{IsLeafOf, ids_of}
+use Rattle.pmr_tree.specs.Changes.{KeysStand, Becomes, IsOneMore, split_leaf}
+use Rattle.pmr_tree.specs.Leaves.{HasLeafIds, ids_of}
 use Rattle.pmr_tree.specs.Parts.{AreParts, with_parts}
 use Rattle.pmr_tree.specs.declared.leaf.Kept.{Kept}
 use Rattle.pmr_tree.specs.declared.part.Parts.{Parts}
@@ -38,9 +38,9 @@ met_keys : (m : Block → ℕ → Bool) (c : Block) (list part : List Kept) → 
 met_keys m c list part are ks = ap (λ ids. put_all (leaf_keys c ids) ks) (ids_met (m c) list part are)
 
 pub split_steps : (b : Block) (m : Block → ℕ → Bool) (list all : List Kept) (parts : Parts) (ks js k0 k4 : List ℕ)
-    → Stands b ks → IsLeafOf b ks (ids_of list) → IsOneMore (ids_of list) (ids_of all) → b.level < COORDINATE_BITS → AreParts m b all parts
+    → KeysStand b ks → HasLeafIds b ks (ids_of list) → IsOneMore (ids_of list) (ids_of all) → b.level < COORDINATE_BITS → AreParts m b all parts
     → js ≡ ks → k0 ≡ take_all (leaf_keys b (ids_of list)) js → k4 ≡ with_parts b parts k0
-    → Becomes b (divided m b (ids_of all)) ks k4
+    → Becomes b (split_leaf m b (ids_of all)) ks k4
 split_steps b m list all parts ks js k0 k4 stands leaf one up are same e0 e4 =
     let k1 = put_all (leaf_keys (child b 0) (ids_of parts.first.items)) k0 in
     let k2 = put_all (leaf_keys (child b 1) (ids_of parts.second.items)) k1 in

@@ -8,40 +8,40 @@ use Rattle.z_code.specs.Block.{child}
 use Rattle.z_code.specs.declared.block.Block.{Block}
 use Rattle.sand_model.specs.Tree.{Tree, Leaf, Inner, root_block, Fits, IsShallow}
 use Rattle.pmr_tree.specs.Lists.{Each}
-use Rattle.pmr_tree.specs.Keys.{key_of, leaf_keys, keys, is_inside, within, outside, own, id_in, ids_in, IsId, IsShaped, Reads}
+use Rattle.pmr_tree.specs.Keys.{key_of, leaf_keys, keys, is_inside, keys_within, outside, own, id_in, ids_in, IsId, IsShaped, ReadsKeys}
 use Rattle.pmr_tree.specs.Leaves.{firsts}
 use Rattle.pmr_tree.specs.Listing.{Pair}
-use Rattle.pmr_tree.specs.Changes.{Stands, Becomes}
-use Rattle.pmr_tree.specs.Quadtree.{entries_at, keys_at, tree_in, tree_at, IsPmr, is_inner}
+use Rattle.pmr_tree.specs.Changes.{KeysStand, Becomes}
+use Rattle.pmr_tree.specs.Quadtree.{quadtree_entries, keys_at, tree_in, tree_at, IsPmr, is_inner_place}
 use Rattle.pmr_tree.specs.declared.quadtree.Pmr.{Pmr}
-use Rattle.pmr_tree.proofs.Orders.{each_map, each_filter, filter_all, filter_none, each_append}
+use Rattle.pmr_tree.proofs.AscendingLists.{each_map, each_filter, filter_all, filter_none, each_append}
 use Rattle.pmr_tree.proofs.KeyLists.{keys_inside, own_leaf, own_inner, reads_children}
 use Rattle.pmr_tree.proofs.Entries.{ids_leaf, id_in_key}
 use Rattle.pmr_tree.proofs.PairLists.{firsts_rise}
 
-some_inner : (ks : List ℕ) (k : ℕ) (more : List ℕ) → ks ≡ k ∷ more → is_inner ks ≡ false
-some_inner ks k more e = ap is_inner e
+some_inner : (ks : List ℕ) (k : ℕ) (more : List ℕ) → ks ≡ k ∷ more → is_inner_place ks ≡ false
+some_inner ks k more e = ap is_inner_place e
 
-leaf_some : (b : Block) (ids : List ℕ) → is_inner (leaf_keys b ids) ≡ false
+leaf_some : (b : Block) (ids : List ℕ) → is_inner_place (leaf_keys b ids) ≡ false
 leaf_some b [] = refl
 leaf_some b (id ∷ ids) = refl
 
 -- keys of a leaf are read as the leaf
-read_leaf : (b : Block) (ks ids : List ℕ) → Reads b ks (Leaf ids) → ids_in (own b ks) ≡ ids
+read_leaf : (b : Block) (ks ids : List ℕ) → ReadsKeys b ks (Leaf ids) → ids_in (own b ks) ≡ ids
 read_leaf b ks ids r = ap ids_in (own_leaf b ks ids r) ∙ ids_leaf b ids r.shaped.1.1
 
 inner_same : (p q r s p' q' r' s' : Tree) → p ≡ p' → q ≡ q' → r ≡ r' → s ≡ s' → Inner p q r s ≡ Inner p' q' r' s'
 inner_same p q r s p' q' r' s' a b c d = cc
 
-pub tree_reads : (levels : ℕ) (b : Block) (ks : List ℕ) (t : Tree) → levels + b.level ≡ COORDINATE_BITS → Reads b ks t → tree_in levels b ks ≡ t
+pub tree_reads : (levels : ℕ) (b : Block) (ks : List ℕ) (t : Tree) → levels + b.level ≡ COORDINATE_BITS → ReadsKeys b ks t → tree_in levels b ks ≡ t
 unfolding tree_in
 tree_reads zero b ks (Leaf ids) e r = ap Leaf (read_leaf b ks ids r)
 tree_reads zero b ks (Inner p q u v) e r = absurd (omega (arith, e, r.shaped.0))
 tree_reads (suc levels) b ks (Leaf ids) e r =
-    let some : is_inner (own b ks) ≡ false = ap is_inner (own_leaf b ks ids r) ∙ leaf_some b ids in
+    let some : is_inner_place (own b ks) ≡ false = ap is_inner_place (own_leaf b ks ids r) ∙ leaf_some b ids in
     rw some (ap Leaf (read_leaf b ks ids r))
 tree_reads (suc levels) b ks (Inner p q u v) e r =
-    let none : is_inner (own b ks) ≡ true = ap is_inner (own_inner b ks p q u v r) in
+    let none : is_inner_place (own b ks) ≡ true = ap is_inner_place (own_inner b ks p q u v r) in
     let parts = reads_children b ks p q u v r in
     let next : levels + (b.level + 1) ≡ COORDINATE_BITS = omega (arith, e) in
     rw none
@@ -49,14 +49,14 @@ tree_reads (suc levels) b ks (Inner p q u v) e r =
     (tree_reads levels (child b 0) ks p next parts.first) (tree_reads levels (child b 1) ks q next parts.second) (tree_reads levels (child b 2) ks u next parts.third)
     (tree_reads levels (child b 3) ks v next parts.fourth))
 
-pub tree_is : (pages : PageMap) (t : Pmr) (tree : Tree) → Reads root_block (keys_at pages t) tree → tree_at pages t ≡ tree
+pub tree_is : (pages : PageMap) (t : Pmr) (tree : Tree) → ReadsKeys root_block (keys_at pages t) tree → tree_at pages t ≡ tree
 unfolding tree_at
 tree_is pages t tree r = tree_reads COORDINATE_BITS root_block (keys_at pages t) tree refl r
 
 -- all keys of a quadtree are those of its tree, inside the root
-pub pmr_reads : (pages : PageMap) (t : Pmr) → IsPmr pages t → Reads root_block (keys_at pages t) (tree_at pages t)
+pub pmr_reads : (pages : PageMap) (t : Pmr) → IsPmr pages t → ReadsKeys root_block (keys_at pages t) (tree_at pages t)
 pmr_reads pages t h = record {
-  is = ap (within root_block) h.keys ∙ filter_all (is_inside root_block) (keys root_block (tree_at pages t)) (keys_inside root_block (tree_at pages t) h.shaped) ∙ sym refl;
+  is = ap (keys_within root_block) h.keys ∙ filter_all (is_inside root_block) (keys root_block (tree_at pages t)) (keys_inside root_block (tree_at pages t) h.shaped) ∙ sym refl;
   shaped = h.shaped;
 }
 
@@ -66,14 +66,14 @@ none_outside b ks h = filter_none (λ k. not (is_inside b k)) ks (each_map (λ k
 pub pmr_outside : (pages : PageMap) (t : Pmr) → IsPmr pages t → outside root_block (keys_at pages t) ≡ []
 pmr_outside pages t h = ap (outside root_block) h.keys ∙ none_outside root_block (keys root_block (tree_at pages t)) (keys_inside root_block (tree_at pages t) h.shaped)
 
-pub pmr_stands : (pages : PageMap) (t : Pmr) → IsPmr pages t → Stands root_block (keys_at pages t)
-pmr_stands pages t h = record { rises = firsts_rise (entries_at pages t) h.entries.at.ascending; tree = tree_at pages t; reads = pmr_reads pages t h }
+pub pmr_stands : (pages : PageMap) (t : Pmr) → IsPmr pages t → KeysStand root_block (keys_at pages t)
+pmr_stands pages t h = record { rises = firsts_rise (quadtree_entries pages t) h.entries.at.ascending; tree = tree_at pages t; reads = pmr_reads pages t h }
 
 -- with nothing outside a block all is inside
-all_inside : (b : Block) (ks : List ℕ) → outside b ks ≡ [] → within b ks ≡ ks
+all_inside : (b : Block) (ks : List ℕ) → outside b ks ≡ [] → keys_within b ks ≡ ks
 all_inside b [] h = refl
 all_inside b (k ∷ ks) h =
-    let go : (c : Bool) → is_inside b k ≡ c → cond (not c) (k ∷ outside b ks) (outside b ks) ≡ [] → cond c (k ∷ within b ks) (within b ks) ≡ k ∷ ks =
+    let go : (c : Bool) → is_inside b k ≡ c → cond (not c) (k ∷ outside b ks) (outside b ks) ≡ [] → cond c (k ∷ keys_within b ks) (keys_within b ks) ≡ k ∷ ks =
     elim [ true ↦ λ e z. ap (λ t. k ∷ t) (all_inside b ks z) | false ↦ λ e z. absurd (some_none z) ] in
     go (is_inside b k) refl h
   where

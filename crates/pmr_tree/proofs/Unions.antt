@@ -6,10 +6,10 @@ use Rattle.std.proofs.Math.Seq.{drop-cons}
 use Rattle.std.proofs.lemmas.Bool.{false≢true}
 use Rattle.std.proofs.lemmas.Bool.Decides.{nat_tests}
 use Rattle.sand_model.specs.Tree.{add, union}
-use Rattle.pmr_tree.specs.Lists.{Each, Rises, place_in, is_at}
+use Rattle.pmr_tree.specs.Lists.{Each, RiseStrictly, place_in, is_at}
 use Rattle.pmr_tree.specs.Leaves.{ids_of, ListPasses}
 use Rattle.pmr_tree.specs.declared.leaf.Kept.{Kept}
-use Rattle.pmr_tree.proofs.Orders.{test, order, below, same, above, add_before, add_after, add_here, add_first, each_append, each_add, rises_add}
+use Rattle.pmr_tree.proofs.AscendingLists.{below, same, above, test, order, add_before, add_after, add_here, add_first, each_append, each_add, rises_add}
 
 -- the end of the search for a place
 pub place_end : (list : List Kept) (at id : ℕ) → length list ≤ at → place_in id (ids_of (drop at list)) ≡ 0
@@ -109,11 +109,11 @@ join_step more i d j h n ys old new e f =
     f ∙ ap (add (get_or more i d).id) (e ∙ ap (λ t. union (ids_of (drop t more)) ys) n) ∙ ap (λ t. union (ids_of t) ys) (sym (drop-cons more i d h))
 
 -- nothing more, and a list alone
-pub union_nil : (xs : List ℕ) → Rises xs → union xs [] ≡ xs
+pub union_nil : (xs : List ℕ) → RiseStrictly xs → union xs [] ≡ xs
 union_nil [] h = refl
 union_nil (x ∷ xs) h = ap (add x) (union_nil xs h.1) ∙ add_first x xs h.0
 
-pub rises_union : (xs ys : List ℕ) → Rises ys → Rises (union xs ys)
+pub rises_union : (xs ys : List ℕ) → RiseStrictly ys → RiseStrictly (union xs ys)
 rises_union [] ys h = h
 rises_union (x ∷ xs) ys h = rises_add x (union xs ys) (rises_union xs ys h)
 

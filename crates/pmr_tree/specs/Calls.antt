@@ -19,7 +19,7 @@ use Rattle.sand_base.specs.Plane.{IsShapeInPlane}
 use Rattle.z_code.specs.declared.block.Block.{Block}
 use Rattle.pmr_tree.specs.Entries.{listed_of, figure_of, IsRoughInPlane, IsNodeOf, id_count}
 use Rattle.pmr_tree.specs.declared.listed.Node.{Node}
-use Rattle.pmr_tree.specs.Quadtree.{store_of, entries_at, pages_at, tree_at, IsPmr, KeepsShape}
+use Rattle.pmr_tree.specs.Quadtree.{store_of, quadtree_entries, pages_at, tree_at, IsPmr, KeepsShape}
 use Rattle.pmr_tree.specs.declared.fault.PmrFault.{PmrFault}
 use Rattle.pmr_tree.specs.declared.fault.PmrFault.TheVariants.{Memory, Device, Damaged, IndexFull}
 use Rattle.pmr_tree.specs.declared.quadtree.Pmr.{Pmr}
@@ -44,7 +44,7 @@ pub record Plants (m w : PageMap) (t : Pmr) : Type 0 where
   pub keeps : Keeps (store_of m) (store_of w) [] (pages_at w t)
 
 -- what both changes keep: the threshold and the number, and all pages but those of the quadtree
-pub record Stays (m w : PageMap) (t u : Pmr) : Type 0 where
+pub record QuadtreeStays (m w : PageMap) (t u : Pmr) : Type 0 where
   pub is : IsPmr w u
   pub threshold : u.threshold ≡ t.threshold
   pub number : u.number ≡ t.number
@@ -52,27 +52,27 @@ pub record Stays (m w : PageMap) (t u : Pmr) : Type 0 where
 
 -- The quadtree has grown by the id with this shape, among these rows. It keeps the rough shape, and those of all other ids.
 pub record Grows (m w : PageMap) (t u : Pmr) (rows : List (ℕ × Shape)) (id : ℕ) (s : Shape) : Type 0 where
-  pub stays : Stays m w t u
+  pub stays : QuadtreeStays m w t u
   pub grown : (gap : Measure) → IsMeasure gap → tree_at w u ≡ tree_with gap ((id, s) ∷ rows) t.threshold id (tree_at m t)
   pub rough : KeepsShape w u id s
   pub others : (other : ℕ) (o : Shape) → 1 ≤ other → other ≢ id → KeepsShape m t other o → KeepsShape w u other o
 
 -- The quadtree has shrunk by the id, and keeps the rough shapes of all ids that are left.
 pub record Shrinks (m w : PageMap) (t u : Pmr) (id : ℕ) : Type 0 where
-  pub stays : Stays m w t u
+  pub stays : QuadtreeStays m w t u
   pub shrunk : tree_at w u ≡ shrunk t.threshold id (tree_at m t)
   pub roughs : (other : ℕ) (o : Shape) → 1 ≤ other → KeepsShape m t other o → KeepsShape w u other o
 
 -- the quadtree is in w what it is in m: its entries, its tree, its pages, and that it is one
-pub record Unmoved (m w : PageMap) (t : Pmr) : Type 0 where
-  pub entries : entries_at w t ≡ entries_at m t
+pub record QuadtreeUnmoved (m w : PageMap) (t : Pmr) : Type 0 where
+  pub entries : quadtree_entries w t ≡ quadtree_entries m t
   pub tree : tree_at w t ≡ tree_at m t
   pub pages : pages_at w t ≡ pages_at m t
   pub is : IsPmr m t → IsPmr w t
 
 -- what was found is the place of the block
-abbrev pub Finds : Tree → Block → Node → Type 0
-Finds tree b found = (place : Tree) → IsPlace tree b place → IsNodeOf place found
+abbrev pub FindsPlace : Tree → Block → Node → Type 0
+FindsPlace tree b found = (place : Tree) → IsPlace tree b place → IsNodeOf place found
 
 -- each id of what was found has its rough shape with it
 abbrev pub HasRoughs : PageMap → Pmr → Node → Type 0

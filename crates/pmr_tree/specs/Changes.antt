@@ -4,8 +4,8 @@ use Rattle.sand_base.specs.declared.TheConstants.{COORDINATE_BITS}
 use Rattle.z_code.specs.Block.{IsBlock, child}
 use Rattle.z_code.specs.declared.block.Block.{Block}
 use Rattle.sand_model.specs.Tree.{Tree, Leaf, Inner, add, grown, split, merged, without}
-use Rattle.pmr_tree.specs.Lists.{Rises}
-use Rattle.pmr_tree.specs.Keys.{Reads, outside, IsId}
+use Rattle.pmr_tree.specs.Lists.{RiseStrictly}
+use Rattle.pmr_tree.specs.Keys.{ReadsKeys, outside, IsId}
 
 -- a shape meets a square exactly where it meets one of its four closed quarters
 abbrev pub Quarters : (Block → ℕ → Bool) → Type 0
@@ -13,16 +13,16 @@ Quarters meets = (b : Block) (id : ℕ) → IsBlock b → b.level < COORDINATE_B
     → meets b id ≡ (meets (child b 0) id || (meets (child b 1) id || (meets (child b 2) id || meets (child b 3) id)))
 
 -- the keys ascend, and those inside a block are the keys of a tree
-pub record Stands (b : Block) (ks : List ℕ) : Type 0 where
-  pub rises : Rises ks
+pub record KeysStand (b : Block) (ks : List ℕ) : Type 0 where
+  pub rises : RiseStrictly ks
   pub tree : Tree
-  pub reads : Reads b ks tree
+  pub reads : ReadsKeys b ks tree
 
 -- the tree of a block changed, and nothing else
 pub record Becomes (b : Block) (change : Tree → Tree) (old new : List ℕ) : Type 0 where
-  pub rises : Rises new
+  pub rises : RiseStrictly new
   pub elsewhere : outside b new ≡ outside b old
-  pub here : (tree : Tree) → Reads b old tree → Reads b new (change tree)
+  pub here : (tree : Tree) → ReadsKeys b old tree → ReadsKeys b new (change tree)
 
 -- a tree grown by an id, where only children that meet its shape are looked at
 abbrev pub grown_where : (Block → ℕ → Bool) → ℕ → ℕ → Block → Tree → Tree
@@ -55,9 +55,9 @@ entered id (Leaf ids) = Leaf (add id ids)
 entered id (Inner p q r s) = Inner p q r s
 
 -- a leaf in whose place come four, each with those of the ids whose shapes meet its square
-abbrev pub divided : (Block → ℕ → Bool) → Block → List ℕ → Tree → Tree
-divided meets b ids (Leaf listed) = split meets b ids
-divided meets b ids (Inner p q r s) = Inner p q r s
+abbrev pub split_leaf : (Block → ℕ → Bool) → Block → List ℕ → Tree → Tree
+split_leaf meets b ids (Leaf listed) = split meets b ids
+split_leaf meets b ids (Inner p q r s) = Inner p q r s
 
 -- ids with one more among them
 pub record IsOneMore (ids all : List ℕ) : Type 0 where

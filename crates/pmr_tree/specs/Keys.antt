@@ -4,7 +4,7 @@ use Rattle.sand_base.specs.declared.TheConstants.{COORDINATE_BITS}
 use Rattle.z_code.specs.Block.{child, code_count}
 use Rattle.z_code.specs.declared.block.Block.{Block}
 use Rattle.sand_model.specs.Tree.{Tree, Leaf, Inner}
-use Rattle.pmr_tree.specs.Lists.{Each, Rises, is_between, part}
+use Rattle.pmr_tree.specs.Lists.{Each, RiseStrictly, is_from_to, part}
 
 -- the key of an id in the leaf of a block; ids are below 2 ^ 32, and no row has the id 0
 abbrev pub key_of : Block → ℕ → ℕ
@@ -35,11 +35,11 @@ keys b (Inner p q r s) =
 
 -- the key is one of a block inside the block
 abbrev pub is_inside : Block → ℕ → Bool
-is_inside b = is_between (b.z * 2 ^ 40) (end_of b)
+is_inside b = is_from_to (b.z * 2 ^ 40) (end_of b)
 
 -- the keys of the blocks inside a block
-abbrev pub within : Block → List ℕ → List ℕ
-within b ks = filter (is_inside b) ks
+abbrev pub keys_within : Block → List ℕ → List ℕ
+keys_within b ks = filter (is_inside b) ks
 
 -- all other keys
 abbrev pub outside : Block → List ℕ → List ℕ
@@ -56,14 +56,14 @@ pub record IsId (id : ℕ) : Type 0 where
 
 -- no level is below the finest one, and each leaf has ids of rows in ascending order
 abbrev pub IsShaped : Block → Tree → Type 0
-IsShaped b (Leaf ids) = (b.level ≤ COORDINATE_BITS) × (Rises ids × Each IsId ids)
+IsShaped b (Leaf ids) = (b.level ≤ COORDINATE_BITS) × (RiseStrictly ids × Each IsId ids)
 IsShaped b (Inner p q r s) =
     (b.level < COORDINATE_BITS)
     × (IsShaped (child b 0) p × (IsShaped (child b 1) q × (IsShaped (child b 2) r × IsShaped (child b 3) s)))
 
 -- the keys inside a block are those of the tree
-pub record Reads (b : Block) (ks : List ℕ) (tree : Tree) : Type 0 where
-  pub is : within b ks ≡ keys b tree
+pub record ReadsKeys (b : Block) (ks : List ℕ) (tree : Tree) : Type 0 where
+  pub is : keys_within b ks ≡ keys b tree
   pub shaped : IsShaped b tree
 
 -- the ids among a leaf's keys

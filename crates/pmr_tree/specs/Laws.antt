@@ -5,7 +5,7 @@ use Rattle.sand_base.specs.declared.shape.Shape.{Shape}
 use Rattle.sand_model.specs.Measure.{Measure, IsMeasure}
 use Rattle.sand_model.specs.Database.{shape_at, meets_block, tree_with}
 use Rattle.sand_model.specs.Tree.{Tree, root_block, add, without, shrunk, Fits, IsShallow, IsFull}
-use Rattle.pmr_tree.specs.Lists.{Each, Rises}
+use Rattle.pmr_tree.specs.Lists.{Each, RiseStrictly}
 use Rattle.pmr_tree.specs.Changes.{ListsWhere}
 
 -- trees grow alike where the shapes of all ids are the same
@@ -21,14 +21,14 @@ AreInPlane rows = Each (λ row. IsShapeInPlane row.1) rows
 -- a tree that fits ascending ids of rows, and grows by a row, fits them and this one
 abbrev pub GrownFits : Type 0
 GrownFits =
-    (gap : Measure) → IsMeasure gap → (rows : List (ℕ × Shape)) (ids : List ℕ) (threshold id : ℕ) (tree : Tree) → AreInPlane rows → Rises ids
+    (gap : Measure) → IsMeasure gap → (rows : List (ℕ × Shape)) (ids : List ℕ) (threshold id : ℕ) (tree : Tree) → AreInPlane rows → RiseStrictly ids
     → IsShallow root_block tree → Fits (meets_block gap rows) ids root_block tree
     → Fits (meets_block gap rows) (add id ids) root_block (tree_with gap rows threshold id tree)
 
 -- and a full one stays full, and shallow
 abbrev pub GrownIsFull : Type 0
 GrownIsFull =
-    (gap : Measure) → IsMeasure gap → (rows : List (ℕ × Shape)) (ids : List ℕ) (threshold id : ℕ) (tree : Tree) → AreInPlane rows → Rises ids
+    (gap : Measure) → IsMeasure gap → (rows : List (ℕ × Shape)) (ids : List ℕ) (threshold id : ℕ) (tree : Tree) → AreInPlane rows → RiseStrictly ids
     → IsShallow root_block tree → Fits (meets_block gap rows) ids root_block tree → IsFull threshold tree
     → IsFull threshold (tree_with gap rows threshold id tree)
 
@@ -41,7 +41,7 @@ GrownIsShallow =
 -- a tree that has shrunk by a row fits the ids without it, and is full and shallow
 abbrev pub ShrunkFits : Type 0
 ShrunkFits =
-    (gap : Measure) → IsMeasure gap → (rows : List (ℕ × Shape)) (ids : List ℕ) (threshold id : ℕ) (tree : Tree) → AreInPlane rows → Rises ids
+    (gap : Measure) → IsMeasure gap → (rows : List (ℕ × Shape)) (ids : List ℕ) (threshold id : ℕ) (tree : Tree) → AreInPlane rows → RiseStrictly ids
     → IsShallow root_block tree → Fits (meets_block gap rows) ids root_block tree → Fits (meets_block gap rows) (without id ids) root_block (shrunk threshold id tree)
 
 -- a deletion leaves no four leaves that could be one

@@ -2,7 +2,7 @@
 use Rattle.std.specs.Prelude.{◌≡◌, ◌≢◌, ℕ, ◌+◌, ◌-◌, ◌*◌, ◌/◌, ◌%◌, ◌≤◌, ◌^◌, Bool, true, cond, ◌&&◌, List, [], length, map, filter, not, nat_eq, nat_lt, min, Option, None, Some, Result, Ok, Err}
 use Rattle.sand_base.specs.declared.TheConstants.{COORDINATE_BITS}
 use Rattle.z_code.specs.declared.block.Block.{Block}
-use Rattle.pmr_tree.specs.Lists.{Each, is_between}
+use Rattle.pmr_tree.specs.Lists.{Each, is_from_to}
 use Rattle.pmr_tree.specs.Keys.{mark_of, own, id_in, ids_in}
 use Rattle.pmr_tree.specs.declared.leaf.Kept.{Kept}
 use Rattle.pmr_tree.specs.Listing.{Pair, listed_in}
@@ -19,7 +19,7 @@ Passes test es = Each (λ e. 1 ≤ id_in e.0 → test (id_in e.0) e.1 ≡ true) 
 
 -- the entries of the block itself
 abbrev pub own_pairs : Block → List Pair → List Pair
-own_pairs b es = filter (λ e. is_between (mark_of b) (mark_of b + 2 ^ 32) e.0) es
+own_pairs b es = filter (λ e. is_from_to (mark_of b) (mark_of b + 2 ^ 32) e.0) es
 
 -- the ids among the entries of a leaf, with their values
 abbrev pub kept_of : List Pair → List Kept
@@ -38,7 +38,7 @@ abbrev pub id_test : (ℕ → Bool) → ℕ → ℕ → Bool
 id_test has id value = has id
 
 -- the block has keys of its own, and these are their ids
-pub record IsLeafOf (b : Block) (ks ids : List ℕ) : Type 0 where
+pub record HasLeafIds (b : Block) (ks ids : List ℕ) : Type 0 where
   pub some : own b ks ≢ []
   pub ids_are : ids ≡ ids_in (own b ks)
 
@@ -56,8 +56,8 @@ fault_of (Ok x) = None
 fault_of (Err e) = Some e
 
 -- the place of a block whose own entries these are
-abbrev pub node_in : Block → List Pair → Node
-node_in b es = cond (nat_eq (length es) 0 && nat_lt b.level COORDINATE_BITS) node.Inner (node.Leaf (listed_in es))
+abbrev pub place_of_entries : Block → List Pair → Node
+place_of_entries b es = cond (nat_eq (length es) 0 && nat_lt b.level COORDINATE_BITS) node.Inner (node.Leaf (listed_in es))
 
 -- the ids alone among the entries of a leaf
 abbrev pub ids_at : List Pair → List ℕ

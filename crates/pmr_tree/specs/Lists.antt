@@ -12,17 +12,17 @@ abbrev pub Above : ℕ → List ℕ → Type 0
 Above x = Each (λ y. x < y)
 
 -- the numbers rise strictly, so none stands twice
-abbrev pub Rises : List ℕ → Type 0
-Rises [] = Unit {0}
-Rises (x ∷ xs) = Above x xs × Rises xs
+abbrev pub RiseStrictly : List ℕ → Type 0
+RiseStrictly [] = Unit {0}
+RiseStrictly (x ∷ xs) = Above x xs × RiseStrictly xs
 
 -- the number is from `low` on and below `high`
-abbrev pub is_between : ℕ → ℕ → ℕ → Bool
-is_between low high k = nat_le low k && nat_lt k high
+abbrev pub is_from_to : ℕ → ℕ → ℕ → Bool
+is_from_to low high k = nat_le low k && nat_lt k high
 
 -- the numbers of a list from `low` on and below `high`
 abbrev pub part : ℕ → ℕ → List ℕ → List ℕ
-part low high ks = filter (is_between low high) ks
+part low high ks = filter (is_from_to low high) ks
 
 -- the list with all of these numbers
 abbrev pub put_all : List ℕ → List ℕ → List ℕ

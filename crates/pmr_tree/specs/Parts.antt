@@ -8,7 +8,7 @@ use Rattle.sand_model.specs.FigureGap.{IsMeeting}
 use Rattle.pmr_tree.specs.Lists.{put_all, take_all}
 use Rattle.sand_model.specs.Tree.{union}
 use Rattle.pmr_tree.specs.Keys.{leaf_keys, own}
-use Rattle.pmr_tree.specs.Leaves.{ListPasses, ids_of, IsLeafOf}
+use Rattle.pmr_tree.specs.Leaves.{ListPasses, ids_of, HasLeafIds}
 use Rattle.pmr_tree.specs.declared.leaf.Kept.{Kept}
 use Rattle.pmr_tree.specs.declared.part.QuartersMet.{QuartersMet}
 use Rattle.pmr_tree.specs.declared.part.Parts.{Parts}
@@ -39,7 +39,7 @@ pub record AreParts (m : Block → ℕ → Bool) (b : Block) (list : List Kept) 
   pub fourth : parts.fourth.items ≡ filter (λ k. m (child b 3) k.id) list
 
 -- the id is the last of those parts that it belongs to
-pub record Gained (met : QuartersMet) (k : Kept) (old new : Parts) : Type 0 where
+pub record GainsId (met : QuartersMet) (k : Kept) (old new : Parts) : Type 0 where
   pub first : new.first.items ≡ old.first.items ++ cond met.first (k ∷ []) []
   pub second : new.second.items ≡ old.second.items ++ cond met.second (k ∷ []) []
   pub third : new.third.items ≡ old.third.items ++ cond met.third (k ∷ []) []
@@ -70,10 +70,10 @@ without_parts b parts ks =
 
 -- the four children of a block are leaves with these ids
 pub record AreLeaves (b : Block) (ks : List ℕ) (parts : Parts) : Type 0 where
-  pub first : IsLeafOf (child b 0) ks (ids_of parts.first.items)
-  pub second : IsLeafOf (child b 1) ks (ids_of parts.second.items)
-  pub third : IsLeafOf (child b 2) ks (ids_of parts.third.items)
-  pub fourth : IsLeafOf (child b 3) ks (ids_of parts.fourth.items)
+  pub first : HasLeafIds (child b 0) ks (ids_of parts.first.items)
+  pub second : HasLeafIds (child b 1) ks (ids_of parts.second.items)
+  pub third : HasLeafIds (child b 2) ks (ids_of parts.third.items)
+  pub fourth : HasLeafIds (child b 3) ks (ids_of parts.fourth.items)
 
 -- one of the four children of a block has no keys of its own
 abbrev pub HasInner : Block → List ℕ → Type 0

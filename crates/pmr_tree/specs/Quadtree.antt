@@ -12,7 +12,7 @@ use Rattle.z_code.specs.declared.block.Block.{Block}
 use Rattle.sand_model.specs.Measure.{Measure, IsMeasure}
 use Rattle.sand_model.specs.Database.{shape_at, meets_block}
 use Rattle.sand_model.specs.Tree.{Tree, Leaf, Inner, root_block, Fits, IsFull, IsPlace}
-use Rattle.pmr_tree.specs.Lists.{Each, Rises}
+use Rattle.pmr_tree.specs.Lists.{Each, RiseStrictly}
 use Rattle.pmr_tree.specs.Keys.{own, ids_in, keys, IsShaped}
 use Rattle.pmr_tree.specs.Changes.{ListsWhere}
 use Rattle.pmr_tree.specs.Entries.{KeepsIn}
@@ -23,27 +23,27 @@ abbrev pub store_of : PageMap → Store
 store_of pages = λ n. fin.get pages n
 
 -- the entries, in the order of their keys
-abbrev pub entries_at : PageMap → Pmr → List (ℕ × ℕ)
-entries_at pages t = tree_items (store_of pages) t.map
+abbrev pub quadtree_entries : PageMap → Pmr → List (ℕ × ℕ)
+quadtree_entries pages t = tree_items (store_of pages) t.map
 
 -- their keys
 abbrev pub keys_at : PageMap → Pmr → List ℕ
-keys_at pages t = map (λ e. e.0) (entries_at pages t)
+keys_at pages t = map (λ e. e.0) (quadtree_entries pages t)
 
 -- the pages of the quadtree, on which alone its entries depend
 abbrev pub pages_at : PageMap → Pmr → List ℕ
 pages_at pages t = tree_pages (store_of pages) t.map
 
 -- no key of its own makes a block an inner place
-abbrev pub is_inner : List ℕ → Bool
-is_inner [] = true
-is_inner (k ∷ ks) = false
+abbrev pub is_inner_place : List ℕ → Bool
+is_inner_place [] = true
+is_inner_place (k ∷ ks) = false
 
 -- the tree of a block, so many levels high at most, that a list of keys stands for
 unfoldable pub tree_in : ℕ → Block → List ℕ → Tree
 tree_in zero b ks = Leaf (ids_in (own b ks))
 tree_in (suc levels) b ks =
-    cond (is_inner (own b ks))
+    cond (is_inner_place (own b ks))
     (Inner (tree_in levels (child b 0) ks) (tree_in levels (child b 1) ks) (tree_in levels (child b 2) ks) (tree_in levels (child b 3) ks))
     (Leaf (ids_in (own b ks)))
 
@@ -60,12 +60,12 @@ pub record IsPmr (pages : PageMap) (t : Pmr) : Type 0 where
 
 -- the quadtree keeps the rough shape of this shape for the id
 abbrev pub KeepsShape : PageMap → Pmr → ℕ → Shape → Type 0
-KeepsShape pages t id s = KeepsIn (entries_at pages t) id s
+KeepsShape pages t id s = KeepsIn (quadtree_entries pages t) id s
 
 -- The tree fits some of the rows, those of these ids, and the id is none of them.
 pub record FitsOthers (gap : Measure) (rows : List (ℕ × Shape)) (id : ℕ) (tree : Tree) : Type 0 where
   pub ids : List ℕ
-  pub rise : Rises ids
+  pub rise : RiseStrictly ids
   pub listed : Each (λ other. is_some (shape_at rows other) ≡ true) ids
   pub new : Contains ids id → ⊥
   pub fits : Fits (meets_block gap rows) ids root_block tree

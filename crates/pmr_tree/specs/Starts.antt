@@ -6,8 +6,8 @@ use Rattle.sand_base.specs.declared.shape.Shape.TheVariants as shape
 use Rattle.z_code.specs.Block.{IsBlock, HasCode, child, square_of}
 use Rattle.z_code.specs.declared.block.Block.{Block}
 use Rattle.sand_model.specs.Tree.{Tree, Leaf, Inner, root_block}
-use Rattle.pmr_tree.specs.Lists.{Rises}
-use Rattle.pmr_tree.specs.Keys.{Reads}
+use Rattle.pmr_tree.specs.Lists.{RiseStrictly}
+use Rattle.pmr_tree.specs.Keys.{ReadsKeys}
 
 -- whether the point lies in the square of the block, on none of its sides
 abbrev pub has_inside : Block → Point → Bool
@@ -21,13 +21,13 @@ IsLeafIn b (Inner p q r s) leaf =
     IsLeafIn (child b 0) p leaf ⊎ (IsLeafIn (child b 1) q leaf ⊎ (IsLeafIn (child b 2) r leaf ⊎ IsLeafIn (child b 3) s leaf))
 
 -- the shape is a point inside the square of the block
-abbrev pub IsInside : Shape → Block → Type 0
-IsInside (shape.Point p) b = has_inside b p ≡ true
-IsInside _ b = ⊥
+abbrev pub IsPointInside : Shape → Block → Type 0
+IsPointInside (shape.Point p) b = has_inside b p ≡ true
+IsPointInside _ b = ⊥
 
 -- a change by the shape may begin at the block: it is the root, or a leaf with the shape inside its square
-abbrev pub BeginsAt : Shape → Tree → Block → Type 0
-BeginsAt s tree b = (b ≡ root_block) ⊎ (IsInside s b × IsLeafIn root_block tree b)
+abbrev pub MayBeginAt : Shape → Tree → Block → Type 0
+MayBeginAt s tree b = (b ≡ root_block) ⊎ (IsPointInside s b × IsLeafIn root_block tree b)
 
 -- two blocks have no code in common
 abbrev pub AreApart : Block → Block → Type 0
@@ -40,7 +40,7 @@ pub record MeetsAlone (m : Block → ℕ → Bool) (id : ℕ) (l : Block) : Type
 
 -- the keys ascend, and those inside a block are the keys of a tree with this leaf
 pub record HasLeaf (leaf b : Block) (ks : List ℕ) : Type 0 where
-  pub rises : Rises ks
+  pub rises : RiseStrictly ks
   pub tree : Tree
-  pub reads : Reads b ks tree
+  pub reads : ReadsKeys b ks tree
   pub at : IsLeafIn b tree leaf

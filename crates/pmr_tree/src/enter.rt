@@ -1,8 +1,8 @@
 ghost use Rattle.std.specs.Prelude.{◌≡◌, ℕ, ◌+◌, ◌<◌, ◌≤◌, ◌^◌, Bool, true, List, [], length, map, filter, nat_lt, ◌&&◌, IfOk, OnOk, Option, None, Some};
 ghost use Rattle.z_code.specs.Block.{IsBlock, child};
 ghost use Rattle.pmr_tree.specs.Keys.{key_of, IsId, own};
-ghost use Rattle.pmr_tree.specs.Leaves.{firsts, ids_of, Passes, ListPasses, id_test, IsLeafOf, fault_of};
-ghost use Rattle.pmr_tree.specs.Changes.{Stands, Becomes, entered};
+ghost use Rattle.pmr_tree.specs.Leaves.{firsts, ids_of, Passes, ListPasses, id_test, HasLeafIds, fault_of};
+ghost use Rattle.pmr_tree.specs.Changes.{KeysStand, Becomes, entered};
 
 use crate::leaf::key_of;
 use crate::{Ground, Kept, PmrFault};
@@ -19,11 +19,12 @@ pub fn enter<P, S: Ground<P>>(
     requires ready { S.IsReady ground.old pages.old }
     requires block { IsBlock block }
     requires id { IsId newcomer.id }
-    requires stands { S.IsKnown ground.old pages.old → Stands block (firsts (S.pairs ground.old pages.old)) }
-    requires leaf { S.IsKnown ground.old pages.old → IsLeafOf block (firsts (S.pairs ground.old pages.old)) (ids_of list.now) }
+    requires stands { S.IsKnown ground.old pages.old → KeysStand block (firsts (S.pairs ground.old pages.old)) }
+    requires leaf { S.IsKnown ground.old pages.old → HasLeafIds block (firsts (S.pairs ground.old pages.old)) (ids_of list.now) }
     ensures leads { S.Leads ground.old pages.old ground.new pages.new (fault_of result) }
     ensures keys { OnOk result (S.IsKnown ground.old pages.old → Becomes block (entered newcomer.id) (firsts (S.pairs ground.old pages.old)) (firsts (S.pairs ground.new pages.new))) }
-    ensures values { OnOk result (S.IsKnown ground.old pages.old → (test : ℕ → ℕ → Bool) → test newcomer.id newcomer.value ≡ true → Passes test (S.pairs ground.old pages.old) → Passes test (S.pairs ground.new pages.new)) }
+    ensures values { OnOk result (S.IsKnown ground.old pages.old → (test : ℕ → ℕ → Bool) → test newcomer.id newcomer.value ≡ true → Passes test (S.pairs ground.old pages.old)
+        → Passes test (S.pairs ground.new pages.new)) }
 {
     let key = key_of(block, newcomer.id);
     if list.len() == 0 {

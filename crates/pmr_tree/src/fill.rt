@@ -39,7 +39,8 @@ fn put_ids<P, S: Ground<P>>(
     requires block { IsBlock block }
     ensures leads { S.Leads ground.old pages.old ground.new pages.new (fault_of result) }
     ensures keys { OnOk result (S.IsKnown ground.old pages.old → firsts (S.pairs ground.new pages.new) ≡ put_all (map (key_of block) (ids_of list.now)) (firsts (S.pairs ground.old pages.old))) }
-    ensures values { OnOk result (S.IsKnown ground.old pages.old → (test : ℕ → ℕ → Bool) → ListPasses test list.now → Passes test (S.pairs ground.old pages.old) → Passes test (S.pairs ground.new pages.new)) }
+    ensures values { OnOk result (S.IsKnown ground.old pages.old → (test : ℕ → ℕ → Bool) → ListPasses test list.now → Passes test (S.pairs ground.old pages.old)
+        → Passes test (S.pairs ground.new pages.new)) }
 {
     for kept in list {
         ground.put(pages, key_of(block, kept.id), kept.value)?;
@@ -78,7 +79,8 @@ pub fn plant<P, S: Ground<P>>(
     requires block { IsBlock block }
     ensures leads { S.Leads ground.old pages.old ground.new pages.new (fault_of result) }
     ensures keys { OnOk result (S.IsKnown ground.old pages.old → firsts (S.pairs ground.new pages.new) ≡ put_all (leaf_keys block (ids_of list.now)) (firsts (S.pairs ground.old pages.old))) }
-    ensures values { OnOk result (S.IsKnown ground.old pages.old → (test : ℕ → ℕ → Bool) → ListPasses test list.now → Passes test (S.pairs ground.old pages.old) → Passes test (S.pairs ground.new pages.new)) }
+    ensures values { OnOk result (S.IsKnown ground.old pages.old → (test : ℕ → ℕ → Bool) → ListPasses test list.now → Passes test (S.pairs ground.old pages.old)
+        → Passes test (S.pairs ground.new pages.new)) }
 {
     if list.len() == 0 {
         ground.put(pages, key_of(block, 0), 0)?;

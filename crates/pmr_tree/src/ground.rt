@@ -6,7 +6,7 @@ ghost use Rattle.sand_model.specs.Tree.{add, without};
 ghost use Rattle.pmr_tree.specs.declared.fault.PmrFault.{PmrFault};
 ghost use Rattle.pmr_tree.specs.declared.fault.PmrFault.TheVariants.{Memory};
 ghost use Rattle.pmr_tree.specs.Parts.{AreQuarters};
-ghost use Rattle.pmr_tree.specs.Lists.{is_between};
+ghost use Rattle.pmr_tree.specs.Lists.{is_from_to};
 ghost use Rattle.pmr_tree.specs.Keys.{id_in};
 ghost use Rattle.pmr_tree.specs.Leaves.{firsts, Passes, fault_of};
 ghost use Rattle.pmr_tree.specs.Listing.{Pair};
@@ -44,7 +44,7 @@ pub trait Ground<P> {
     ) -> Result<Vec<(u128, u128)>, PmrFault>
         requires { IsReady self.now pages.old }
         ensures leads { Leads self.now pages.old self.now pages.new (fault_of result) }
-        ensures found { IfOk result (λ found. IsKnown self.now pages.old → found.items ≡ filter (λ e. is_between low high e.0) (pairs self.now pages.old)) }
+        ensures found { IfOk result (λ found. IsKnown self.now pages.old → found.items ≡ filter (λ e. is_from_to low high e.0) (pairs self.now pages.old)) }
         ensures same { OnOk result (IsKnown self.now pages.old → pairs self.now pages.new ≡ pairs self.now pages.old) };
 
     /// Whether the shape of the id meets the square of the block.
@@ -73,7 +73,8 @@ pub trait Ground<P> {
         requires block { IsBlock block }
         requires above_points { block.level < COORDINATE_BITS }
         ensures leads { Leads self.now pages.old self.now pages.new (fault_of result) }
-        ensures value { IfOk result (λ met. IsKnown self.now pages.old → (m : Block → ℕ → Bool) (has : ℕ → Bool) → Tells self.now pages.old m has → has id ≡ true → AreQuarters (λ b. m b id) block met) }
+        ensures value { IfOk result (λ met. IsKnown self.now pages.old → (m : Block → ℕ → Bool) (has : ℕ → Bool) → Tells self.now pages.old m has → has id ≡ true
+            → AreQuarters (λ b. m b id) block met) }
         ensures same { OnOk result (IsKnown self.now pages.old → pairs self.now pages.new ≡ pairs self.now pages.old) };
 
     /// Puts an entry in its place, or in that of the entry with its key.
@@ -81,7 +82,8 @@ pub trait Ground<P> {
         requires { IsReady self.old pages.old }
         ensures leads { Leads self.old pages.old self.new pages.new (fault_of result) }
         ensures keys { OnOk result (IsKnown self.old pages.old → firsts (pairs self.new pages.new) ≡ add key (firsts (pairs self.old pages.old))) }
-        ensures values { OnOk result (IsKnown self.old pages.old → (test : ℕ → ℕ → Bool) → (1 ≤ id_in key → test (id_in key) value ≡ true) → Passes test (pairs self.old pages.old) → Passes test (pairs self.new pages.new)) };
+        ensures values { OnOk result (IsKnown self.old pages.old → (test : ℕ → ℕ → Bool) → (1 ≤ id_in key → test (id_in key) value ≡ true) → Passes test (pairs self.old pages.old)
+            → Passes test (pairs self.new pages.new)) };
 
     /// Takes the entry of the key, if there is one.
     fn take(&mut self, pages: &mut P, key: u128) -> Result<(), PmrFault>

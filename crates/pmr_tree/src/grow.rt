@@ -4,8 +4,8 @@ ghost use Rattle.z_code.specs.Block.{IsBlock};
 ghost use Rattle.z_code.specs.declared.block.Block.{Block};
 ghost use Rattle.sand_model.specs.Tree.{add};
 ghost use Rattle.pmr_tree.specs.Keys.{IsId};
-ghost use Rattle.pmr_tree.specs.Leaves.{firsts, ids_of, Passes, ListPasses, id_test, IsLeafOf, Told, fault_of};
-ghost use Rattle.pmr_tree.specs.Changes.{Stands, Becomes, grown_where};
+ghost use Rattle.pmr_tree.specs.Leaves.{firsts, ids_of, Passes, ListPasses, id_test, HasLeafIds, Told, fault_of};
+ghost use Rattle.pmr_tree.specs.Changes.{KeysStand, Becomes, grown_where};
 ghost use Rattle.pmr_tree.specs.declared.fault.PmrFault.TheVariants.{Memory};
 
 use crate::enter::enter;
@@ -55,12 +55,15 @@ fn grow_leaf<P, S: Ground<P>>(
     requires ready { S.IsReady ground.old pages.old }
     requires block { IsBlock block }
     requires id { IsId newcomer.id }
-    requires stands { S.IsKnown ground.old pages.old → Stands block (firsts (S.pairs ground.old pages.old)) }
-    requires leaf { S.IsKnown ground.old pages.old → IsLeafOf block (firsts (S.pairs ground.old pages.old)) (ids_of list.now) }
+    requires stands { S.IsKnown ground.old pages.old → KeysStand block (firsts (S.pairs ground.old pages.old)) }
+    requires leaf { S.IsKnown ground.old pages.old → HasLeafIds block (firsts (S.pairs ground.old pages.old)) (ids_of list.now) }
     requires told { S.IsKnown ground.old pages.old → (test : ℕ → ℕ → Bool) → Passes test (S.pairs ground.old pages.old) → ListPasses test list.now }
     ensures leads { S.Leads ground.old pages.old ground.new pages.new (fault_of result) }
-    ensures keys { OnOk result (S.IsKnown ground.old pages.old → (m : Block → ℕ → Bool) (has : ℕ → Bool) → S.Tells ground.old pages.old m has → Passes (id_test has) (S.pairs ground.old pages.old) → has newcomer.id ≡ true → m block newcomer.id ≡ true → Becomes block (grown_where m threshold newcomer.id block) (firsts (S.pairs ground.old pages.old)) (firsts (S.pairs ground.new pages.new))) }
-    ensures values { OnOk result (S.IsKnown ground.old pages.old → (test : ℕ → ℕ → Bool) → test newcomer.id newcomer.value ≡ true → Passes test (S.pairs ground.old pages.old) → Passes test (S.pairs ground.new pages.new)) }
+    ensures keys { OnOk result (S.IsKnown ground.old pages.old → (m : Block → ℕ → Bool) (has : ℕ → Bool) → S.Tells ground.old pages.old m has
+        → Passes (id_test has) (S.pairs ground.old pages.old) → has newcomer.id ≡ true → m block newcomer.id ≡ true
+        → Becomes block (grown_where m threshold newcomer.id block) (firsts (S.pairs ground.old pages.old)) (firsts (S.pairs ground.new pages.new))) }
+    ensures values { OnOk result (S.IsKnown ground.old pages.old → (test : ℕ → ℕ → Bool) → test newcomer.id newcomer.value ≡ true → Passes test (S.pairs ground.old pages.old)
+        → Passes test (S.pairs ground.new pages.new)) }
 {
     if list.len() < threshold as usize {
         enter(ground, pages, block, newcomer, list)?;
@@ -87,11 +90,14 @@ pub fn grow<P, S: Ground<P>>(
     requires ready { S.IsReady ground.old pages.old }
     requires block { IsBlock block }
     requires id { IsId newcomer.id }
-    requires stands { S.IsKnown ground.old pages.old → Stands block (firsts (S.pairs ground.old pages.old)) }
+    requires stands { S.IsKnown ground.old pages.old → KeysStand block (firsts (S.pairs ground.old pages.old)) }
     requires shapes { S.IsKnown ground.old pages.old → Told (S.Tells ground.old pages.old) (S.pairs ground.old pages.old) newcomer.id }
     ensures leads { S.Leads ground.old pages.old ground.new pages.new (fault_of result) }
-    ensures keys { OnOk result (S.IsKnown ground.old pages.old → (m : Block → ℕ → Bool) (has : ℕ → Bool) → S.Tells ground.old pages.old m has → Passes (id_test has) (S.pairs ground.old pages.old) → has newcomer.id ≡ true → Becomes block (grown_where m threshold newcomer.id block) (firsts (S.pairs ground.old pages.old)) (firsts (S.pairs ground.new pages.new))) }
-    ensures values { OnOk result (S.IsKnown ground.old pages.old → (test : ℕ → ℕ → Bool) → test newcomer.id newcomer.value ≡ true → Passes test (S.pairs ground.old pages.old) → Passes test (S.pairs ground.new pages.new)) }
+    ensures keys { OnOk result (S.IsKnown ground.old pages.old → (m : Block → ℕ → Bool) (has : ℕ → Bool) → S.Tells ground.old pages.old m has
+        → Passes (id_test has) (S.pairs ground.old pages.old) → has newcomer.id ≡ true
+        → Becomes block (grown_where m threshold newcomer.id block) (firsts (S.pairs ground.old pages.old)) (firsts (S.pairs ground.new pages.new))) }
+    ensures values { OnOk result (S.IsKnown ground.old pages.old → (test : ℕ → ℕ → Bool) → test newcomer.id newcomer.value ≡ true → Passes test (S.pairs ground.old pages.old)
+        → Passes test (S.pairs ground.new pages.new)) }
 {
     if !ground.does_meet(alloc, pages, block, newcomer.id)? {
         return Ok(());

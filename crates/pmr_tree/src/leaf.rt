@@ -2,8 +2,8 @@ ghost use Rattle.std.specs.Prelude.{◌≡◌, ◌≢◌, ℕ, ◌+◌, ◌*◌,
 ghost use Rattle.sand_base.specs.declared.TheConstants.{COORDINATE_BITS};
 ghost use Rattle.z_code.specs.Block.{IsBlock};
 ghost use Rattle.pmr_tree.specs.Keys.{key_of, mark_of, id_in, own};
-ghost use Rattle.pmr_tree.specs.Lists.{is_between};
-ghost use Rattle.pmr_tree.specs.Leaves.{firsts, own_pairs, kept_of, ids_of, Passes, ListPasses, id_test, IsLeafOf, fault_of};
+ghost use Rattle.pmr_tree.specs.Lists.{is_from_to};
+ghost use Rattle.pmr_tree.specs.Leaves.{firsts, own_pairs, kept_of, ids_of, Passes, ListPasses, id_test, HasLeafIds, fault_of};
 ghost use Rattle.pmr_tree.specs.Listing.{Pair};
 
 use crate::{Ground, PmrFault};
@@ -88,7 +88,7 @@ pub fn leaf_of<P, S: Ground<P>>(
     ensures leads { S.Leads ground.now pages.old ground.now pages.new (fault_of result) }
     ensures found { IfOk result (λ found. S.IsKnown ground.now pages.old → MatchOption found
         (own block (firsts (S.pairs ground.now pages.old)) ≡ [])
-        (λ list. IsLeafOf block (firsts (S.pairs ground.now pages.old)) (ids_of list.items))) }
+        (λ list. HasLeafIds block (firsts (S.pairs ground.now pages.old)) (ids_of list.items))) }
     ensures values { IfOk result (λ found. S.IsKnown ground.now pages.old → (test : ℕ → ℕ → Bool) → Passes test (S.pairs ground.now pages.old) → IfSome found (λ list. ListPasses test list.items)) }
     ensures same { OnOk result (S.IsKnown ground.now pages.old → S.pairs ground.now pages.new ≡ S.pairs ground.now pages.old) }
 {

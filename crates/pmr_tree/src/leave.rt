@@ -1,8 +1,8 @@
 ghost use Rattle.std.specs.Prelude.{◌≡◌, ℕ, ◌<◌, ◌≤◌, Bool, true, List, length, OnOk};
 ghost use Rattle.z_code.specs.Block.{IsBlock};
 ghost use Rattle.pmr_tree.specs.Keys.{key_of, IsId};
-ghost use Rattle.pmr_tree.specs.Leaves.{firsts, ids_of, Passes, IsLeafOf, fault_of};
-ghost use Rattle.pmr_tree.specs.Changes.{Stands, Becomes, left};
+ghost use Rattle.pmr_tree.specs.Leaves.{firsts, ids_of, Passes, HasLeafIds, fault_of};
+ghost use Rattle.pmr_tree.specs.Changes.{KeysStand, Becomes, left};
 
 use crate::leaf::key_of;
 use crate::{Ground, Kept, PmrFault};
@@ -19,8 +19,8 @@ pub fn leave<P, S: Ground<P>>(
     requires ready { S.IsReady ground.old pages.old }
     requires block { IsBlock block }
     requires id { IsId id }
-    requires stands { S.IsKnown ground.old pages.old → Stands block (firsts (S.pairs ground.old pages.old)) }
-    requires leaf { S.IsKnown ground.old pages.old → IsLeafOf block (firsts (S.pairs ground.old pages.old)) (ids_of list.now) }
+    requires stands { S.IsKnown ground.old pages.old → KeysStand block (firsts (S.pairs ground.old pages.old)) }
+    requires leaf { S.IsKnown ground.old pages.old → HasLeafIds block (firsts (S.pairs ground.old pages.old)) (ids_of list.now) }
     ensures leads { S.Leads ground.old pages.old ground.new pages.new (fault_of result) }
     ensures keys { OnOk result (S.IsKnown ground.old pages.old → Becomes block (left id) (firsts (S.pairs ground.old pages.old)) (firsts (S.pairs ground.new pages.new))) }
     ensures values { OnOk result (S.IsKnown ground.old pages.old → (test : ℕ → ℕ → Bool) → Passes test (S.pairs ground.old pages.old) → Passes test (S.pairs ground.new pages.new)) }

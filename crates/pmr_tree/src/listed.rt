@@ -1,6 +1,6 @@
 ghost use Rattle.std.specs.Prelude.{◌≡◌, [], ◌∷◌, IfOk, IfSome, option_to_list};
 ghost use Rattle.pmr_tree.specs.Entries.{IsRoughInPlane};
-ghost use Rattle.pmr_tree.specs.Leaves.{ids_at, node_in};
+ghost use Rattle.pmr_tree.specs.Leaves.{ids_at, place_of_entries};
 ghost use Rattle.pmr_tree.specs.Listing.{listed_in};
 
 use crate::leaf::id_in;
@@ -97,7 +97,7 @@ fn listed_in(alloc: Global, pairs: &[(u128, u128)]) -> Result<Vec<Listed>, Alloc
 
 // The place of a block whose own entries these are. A block of the finest level is a leaf in any case.
 pub fn node_in(block: Block, pairs: Vec<(u128, u128)>) -> Node
-    ensures { result ≡ node_in block pairs.items }
+    ensures { result ≡ place_of_entries block pairs.items }
 {
     if pairs.len() == 0 && u32::from(block.level) < COORDINATE_BITS {
         return Node::Inner;

@@ -4,7 +4,7 @@ ghost use Rattle.sand_base.specs.Plane.{IsShapeInPlane};
 ghost use Rattle.z_code.specs.Block.{IsBlock};
 ghost use Rattle.z_code.specs.declared.block.Block.{Block};
 ghost use Rattle.pmr_tree.specs.Leaves.{ListPasses, id_test, fault_of};
-ghost use Rattle.pmr_tree.specs.Parts.{TellsMeeting, MeetsQuarters, AreParts, Gained, PartsPass};
+ghost use Rattle.pmr_tree.specs.Parts.{TellsMeeting, MeetsQuarters, AreParts, GainsId, PartsPass};
 ghost use Rattle.pmr_tree.specs.declared.fault.PmrFault.TheVariants.{Memory};
 
 use crate::{Ground, Kept, PmrFault};
@@ -69,7 +69,7 @@ fn push_if(met: bool, kept: Kept, found: &mut Vec<Kept>) -> Result<(), PmrFault>
 
 // Adds an id to the parts of those children whose squares its shape meets.
 fn push_parts(met: QuartersMet, kept: Kept, parts: &mut Parts) -> Result<(), PmrFault>
-    ensures found { OnOk result (Gained met kept parts.old parts.new) }
+    ensures found { OnOk result (GainsId met kept parts.old parts.new) }
     ensures memory { IfErr result (λ e. e ≡ Memory) }
 {
     push_if(met.first, kept, &mut parts.first)?;
@@ -91,7 +91,8 @@ pub fn parts_of<P, S: Ground<P>>(
     requires block { IsBlock block }
     requires above_points { block.level < COORDINATE_BITS }
     ensures leads { S.Leads ground.now pages.old ground.now pages.new (fault_of result) }
-    ensures found { IfOk result (λ parts. S.IsKnown ground.now pages.old → (m : Block → ℕ → Bool) (has : ℕ → Bool) → S.Tells ground.now pages.old m has → ListPasses (id_test has) list.now → AreParts m block list.now parts) }
+    ensures found { IfOk result (λ parts. S.IsKnown ground.now pages.old → (m : Block → ℕ → Bool) (has : ℕ → Bool) → S.Tells ground.now pages.old m has
+        → ListPasses (id_test has) list.now → AreParts m block list.now parts) }
     ensures values { IfOk result (λ parts. (test : ℕ → ℕ → Bool) → ListPasses test list.now → PartsPass test parts) }
     ensures same { OnOk result (S.IsKnown ground.now pages.old → S.pairs ground.now pages.new ≡ S.pairs ground.now pages.old) }
 {

@@ -32,7 +32,8 @@ impl<'s, D: Disk, G: ShapeOf> Ground<Pool<D>> for Plot<'s, G> {
 
     ghost IsKnown = { λ a p. IsTold p };
 
-    ghost Leads = { λ a p b q end. (b.shapes ≡ a.shapes) × ((b.id ≡ a.id) × ((b.shape ≡ a.shape) × LeadsOn (G.rows a.shapes.now) a.shape.now (G.Stands a.shapes.now) (G.Owns a.shapes.now) a.tree p b.tree q end)) };
+    ghost Leads = { λ a p b q end. (b.shapes ≡ a.shapes) × ((b.id ≡ a.id)
+        × ((b.shape ≡ a.shape) × LeadsOn (G.rows a.shapes.now) a.shape.now (G.Stands a.shapes.now) (G.Owns a.shapes.now) a.tree p b.tree q end)) };
 
     fn between(
         &self,
@@ -87,7 +88,17 @@ impl<'s, D: Disk, G: ShapeOf> Ground<Pool<D>> for Plot<'s, G> {
 
     ghost spent = { λ a p. (refl, (refl, (refl, LeadsOn-spent (G.rows a.shapes.now) a.shape.now (G.Stands a.shapes.now) (G.Owns a.shapes.now) a.tree p))) };
 
-    ghost onward = { λ a p b q c r end h k. (k.0 ∙ h.0, (k.1.0 ∙ h.1.0, (k.1.1.0 ∙ h.1.1.0, LeadsOn-onward (G.rows a.shapes.now) a.shape.now (G.Stands a.shapes.now) (G.Owns a.shapes.now) a.tree p b.tree q c.tree r end h.1.1.1 (LeadsOn-from (λ s. G.rows s.now) (λ z. z.now) (λ s. G.Stands s.now) (λ s. G.Owns s.now) a.shapes b.shapes a.shape b.shape b.tree q c.tree r end h.0 h.1.1.0 k.1.1.1)))) };
+    ghost onward = { λ a p b q c r end h k. (
+      k.0 ∙ h.0,
+      (
+        k.1.0 ∙ h.1.0,
+        (
+          k.1.1.0 ∙ h.1.1.0,
+          LeadsOn-onward (G.rows a.shapes.now) a.shape.now (G.Stands a.shapes.now) (G.Owns a.shapes.now) a.tree p b.tree q c.tree r end h.1.1.1
+              (LeadsOn-from (λ s. G.rows s.now) (λ z. z.now) (λ s. G.Stands s.now) (λ s. G.Owns s.now) a.shapes b.shapes a.shape b.shape b.tree q c.tree r end h.0 h.1.1.0 k.1.1.1),
+        ),
+      ),
+    ) };
 
     ghost ready = { λ a p b q h ready. IsReadyOn-from (λ z. z.now) (λ s. G.Stands s.now) (λ s. G.Owns s.now) a.shapes b.shapes a.shape b.shape b.tree q h.0 h.1.1.0 (h.1.1.1.ready refl ready) };
 
@@ -95,5 +106,6 @@ impl<'s, D: Disk, G: ShapeOf> Ground<Pool<D>> for Plot<'s, G> {
 
     ghost knew = { λ a p b q h told. sym h.1.1.1.within.told ∙ told };
 
-    ghost steady = { λ a p b q h ready told m has tells. TellsOf-from a.id b.id a.shape.now b.shape.now (G.rows a.shapes.now p.pages) (G.rows b.shapes.now q.pages) m has h.1.0 (ap (λ z. z.now) h.1.1.0) (ap (λ s. G.rows s.now q.pages) h.0 ∙ h.1.1.1.same refl told ready) tells };
+    ghost steady = { λ a p b q h ready told m has tells. TellsOf-from a.id b.id a.shape.now b.shape.now (G.rows a.shapes.now p.pages) (G.rows b.shapes.now q.pages) m has h.1.0
+        (ap (λ z. z.now) h.1.1.0) (ap (λ s. G.rows s.now q.pages) h.0 ∙ h.1.1.1.same refl told ready) tells };
 }

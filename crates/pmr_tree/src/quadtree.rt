@@ -14,7 +14,7 @@ ghost use Rattle.page_pool.specs.Causes.{HasPageCause};
 ghost use Rattle.page_pool.specs.Steps.{InCommand};
 ghost use Rattle.code_btree.specs.Tree.{times};
 ghost use Rattle.pmr_tree.specs.Quadtree.{pages_at, tree_at, IsPmr, FitsOthers, IsListedWhereMet, HasPlace, IsNearIn};
-ghost use Rattle.pmr_tree.specs.Calls.{HasPmrCause, Plants, Grows, Shrinks, Finds, HasRoughs, IsFoundInRange, IsWithinPrice, GetsSome, NotesVisit};
+ghost use Rattle.pmr_tree.specs.Calls.{HasPmrCause, Plants, Grows, Shrinks, FindsPlace, HasRoughs, IsFoundInRange, IsWithinPrice, GetsSome, NotesVisit};
 ghost use Rattle.pmr_tree.specs.declared.fault.PmrFault.TheVariants.{IndexFull};
 ghost use Rattle.pmr_tree.specs.declared.listed.Node.TheVariants as node;
 
@@ -80,7 +80,8 @@ impl Pmr {
         requires fits { IsTold pool.old → (gap : Measure) → IsMeasure gap → FitsOthers gap (G.rows shapes.now pool.old.pages) id (tree_at pool.old.pages self.old) }
         ensures grown { OnOk result (IsTold pool.old → Grows pool.old.pages pool.new.pages self.old self.new (G.rows shapes.now pool.old.pages) id shape.now) }
         ensures few { OnOk result (IsTold pool.old → listings (tree_at pool.new.pages self.new) ≤ limit) }
-        ensures full { IfErr result (λ e. e ≡ IndexFull → IsTold pool.old → (gap : Measure) → IsMeasure gap → limit < listings (tree_with gap ((id, shape.now) ∷ G.rows shapes.now pool.old.pages) self.old.threshold id (tree_at pool.old.pages self.old))) }
+        ensures full { IfErr result (λ e. e ≡ IndexFull → IsTold pool.old → (gap : Measure) → IsMeasure gap
+            → limit < listings (tree_with gap ((id, shape.now) ∷ G.rows shapes.now pool.old.pages) self.old.threshold id (tree_at pool.old.pages self.old))) }
         ensures unchanged { OnErr result (self.new ≡ self.old) }
         ensures within { InCommand pool.old pool.new }
         ensures cause { HasPmrCause pool.old pool.new result }
@@ -133,7 +134,7 @@ impl Pmr {
         requires block { IsBlock block }
         requires tree { IsTold (P.shown pages.old) → IsPmr (P.shown pages.old).pages self.now }
         requires place { IsTold (P.shown pages.old) → HasPlace (tree_at (P.shown pages.old).pages self.now) block }
-        ensures place { IfOk result (λ found. IsTold (P.shown pages.old) → Finds (tree_at (P.shown pages.old).pages self.now) block found) }
+        ensures place { IfOk result (λ found. IsTold (P.shown pages.old) → FindsPlace (tree_at (P.shown pages.old).pages self.now) block found) }
         ensures roughs { IfOk result (λ found. IsTold (P.shown pages.old) → HasRoughs (P.shown pages.old).pages self.now found) }
         ensures plane { IfOk result IsFoundInRange }
         ensures above_points { IfOk result (λ found. found ≡ node.Inner → block.level < COORDINATE_BITS) }
@@ -161,7 +162,7 @@ impl Pmr {
         requires tree { IsTold (P.shown pages.old) → IsPmr (P.shown pages.old).pages self.now }
         requires place { IsTold (P.shown pages.old) → HasPlace (tree_at (P.shown pages.old).pages self.now) block }
         requires near { IsTold (P.shown pages.old) → IsNearIn (P.shown pages.old).pages self.now near.old }
-        ensures place { IfOk result (λ found. IsTold (P.shown pages.old) → Finds (tree_at (P.shown pages.old).pages self.now) block found) }
+        ensures place { IfOk result (λ found. IsTold (P.shown pages.old) → FindsPlace (tree_at (P.shown pages.old).pages self.now) block found) }
         ensures roughs { IfOk result (λ found. IsTold (P.shown pages.old) → HasRoughs (P.shown pages.old).pages self.now found) }
         ensures plane { IfOk result IsFoundInRange }
         ensures above_points { IfOk result (λ found. found ≡ node.Inner → block.level < COORDINATE_BITS) }
@@ -189,7 +190,7 @@ impl Pmr {
         requires tree { IsTold desk.old.pool → IsPmr desk.old.pool.pages self.now }
         requires place { IsTold desk.old.pool → HasPlace (tree_at desk.old.pool.pages self.now) block }
         ensures noted { NotesVisit (visit.Block self.now.number block.z block.level) desk.old desk.new result }
-        ensures place { IfOk result (λ found. IsTold desk.old.pool → Finds (tree_at desk.old.pool.pages self.now) block found) }
+        ensures place { IfOk result (λ found. IsTold desk.old.pool → FindsPlace (tree_at desk.old.pool.pages self.now) block found) }
         ensures roughs { IfOk result (λ found. IsTold desk.old.pool → HasRoughs desk.old.pool.pages self.now found) }
         ensures plane { IfOk result IsFoundInRange }
         ensures above_points { IfOk result (λ found. found ≡ node.Inner → block.level < COORDINATE_BITS) }
@@ -217,7 +218,7 @@ impl Pmr {
         requires place { IsTold desk.old.pool → HasPlace (tree_at desk.old.pool.pages self.now) block }
         requires near { IsTold desk.old.pool → IsNearIn desk.old.pool.pages self.now near.old }
         ensures noted { NotesVisit (visit.Block self.now.number block.z block.level) desk.old desk.new result }
-        ensures place { IfOk result (λ found. IsTold desk.old.pool → Finds (tree_at desk.old.pool.pages self.now) block found) }
+        ensures place { IfOk result (λ found. IsTold desk.old.pool → FindsPlace (tree_at desk.old.pool.pages self.now) block found) }
         ensures roughs { IfOk result (λ found. IsTold desk.old.pool → HasRoughs desk.old.pool.pages self.now found) }
         ensures plane { IfOk result IsFoundInRange }
         ensures above_points { IfOk result (λ found. found ≡ node.Inner → block.level < COORDINATE_BITS) }

@@ -6,7 +6,7 @@ ghost use Rattle.page_pool.specs.Reads.{IsRead};
 ghost use Rattle.page_pool.specs.Causes.{HasPageCause};
 ghost use Rattle.code_btree.specs.Tree.{IsTree, pages_in, tree_items};
 ghost use Rattle.code_btree.specs.Near.{IsNear};
-ghost use Rattle.pmr_tree.specs.Lists.{is_between};
+ghost use Rattle.pmr_tree.specs.Lists.{is_from_to};
 ghost use Rattle.pmr_tree.specs.Leaves.{own_pairs};
 
 use crate::leaf::key_of;
@@ -24,7 +24,7 @@ pub fn entries_between<P: Pages>(
     high: u128,
 ) -> Result<Vec<(u128, u128)>, PageFault>
     requires { IsTold (P.shown pages.old) → IsTree (pages_in (P.shown pages.old)) tree }
-    ensures found { IfOk result (λ found. IsTold (P.shown pages.old) → found.items ≡ filter (λ e. is_between low high e.0) (tree_items (pages_in (P.shown pages.old)) tree)) }
+    ensures found { IfOk result (λ found. IsTold (P.shown pages.old) → found.items ≡ filter (λ e. is_from_to low high e.0) (tree_items (pages_in (P.shown pages.old)) tree)) }
     ensures read { IsRead (P.shown pages.old) (P.shown pages.new) }
     ensures cause { HasPageCause (P.shown pages.old) (P.shown pages.new) result }
 {
@@ -50,7 +50,8 @@ pub fn own_entries<P: Pages>(
     ensures cause { HasPageCause (P.shown pages.old) (P.shown pages.new) result }
     ensures up { min (P.shown pages.old).gets last_count ≤ (P.shown pages.new).gets }
     ensures some { OnOk result (next_count (P.shown pages.old).gets ≤ (P.shown pages.new).gets) }
-    ensures price { IsTold (P.shown pages.old) → (P.shown pages.new).gets ≤ (P.shown pages.old).gets + (tree.height + 1 + length (own_pairs block (tree_items (pages_in (P.shown pages.old)) tree)) / 63) }
+    ensures price { IsTold (P.shown pages.old) → (P.shown pages.new).gets ≤ (P.shown pages.old).gets +
+        (tree.height + 1 + length (own_pairs block (tree_items (pages_in (P.shown pages.old)) tree)) / 63) }
 {
     let mark = key_of(block, 0);
     let found = tree.between_near(alloc, pages, mark, mark + (1 << 32), near)?;

@@ -7,7 +7,7 @@ ghost use Rattle.pmr_tree.specs.Keys.{IsId, own, leaf_keys};
 ghost use Rattle.pmr_tree.specs.Parts.{PartsPass, AreLeaves, HasInner, ids_together, without_parts};
 ghost use Rattle.pmr_tree.specs.declared.fault.PmrFault.TheVariants.{Memory};
 ghost use Rattle.pmr_tree.specs.Leaves.{firsts, ids_of, Passes, ListPasses, Told, fault_of};
-ghost use Rattle.pmr_tree.specs.Changes.{Stands, Becomes, merging, shrunk_where};
+ghost use Rattle.pmr_tree.specs.Changes.{KeysStand, Becomes, merging, shrunk_where};
 ghost use Rattle.pmr_tree.specs.Starts.{HasLeaf, MeetsAlone};
 
 use crate::code_leaf::block_with;
@@ -33,8 +33,10 @@ fn replace_four<P, S: Ground<P>>(
     requires block { IsBlock block }
     requires above_points { block.level < COORDINATE_BITS }
     ensures leads { S.Leads ground.old pages.old ground.new pages.new (fault_of result) }
-    ensures keys { OnOk result (S.IsKnown ground.old pages.old → firsts (S.pairs ground.new pages.new) ≡ put_all (leaf_keys block (ids_of all.now)) (without_parts block parts.now (firsts (S.pairs ground.old pages.old)))) }
-    ensures values { OnOk result (S.IsKnown ground.old pages.old → (test : ℕ → ℕ → Bool) → ListPasses test all.now → Passes test (S.pairs ground.old pages.old) → Passes test (S.pairs ground.new pages.new)) }
+    ensures keys { OnOk result (S.IsKnown ground.old pages.old → firsts (S.pairs ground.new pages.new)
+        ≡ put_all (leaf_keys block (ids_of all.now)) (without_parts block parts.now (firsts (S.pairs ground.old pages.old)))) }
+    ensures values { OnOk result (S.IsKnown ground.old pages.old → (test : ℕ → ℕ → Bool) → ListPasses test all.now → Passes test (S.pairs ground.old pages.old)
+        → Passes test (S.pairs ground.new pages.new)) }
 {
     let [first, second, third, fourth] = block.children();
     clear(ground, pages, first, &parts.first)?;
@@ -109,7 +111,7 @@ fn merge<P, S: Ground<P>>(
     requires ready { S.IsReady ground.old pages.old }
     requires block { IsBlock block }
     requires above_points { block.level < COORDINATE_BITS }
-    requires stands { S.IsKnown ground.old pages.old → Stands block (firsts (S.pairs ground.old pages.old)) }
+    requires stands { S.IsKnown ground.old pages.old → KeysStand block (firsts (S.pairs ground.old pages.old)) }
     requires inner { S.IsKnown ground.old pages.old → own block (firsts (S.pairs ground.old pages.old)) ≡ [] }
     ensures leads { S.Leads ground.old pages.old ground.new pages.new (fault_of result) }
     ensures keys { OnOk result (S.IsKnown ground.old pages.old → Becomes block (merging threshold) (firsts (S.pairs ground.old pages.old)) (firsts (S.pairs ground.new pages.new))) }
@@ -139,10 +141,11 @@ pub fn shrink<P, S: Ground<P>>(
     requires ready { S.IsReady ground.old pages.old }
     requires block { IsBlock block }
     requires id { IsId id }
-    requires stands { S.IsKnown ground.old pages.old → Stands block (firsts (S.pairs ground.old pages.old)) }
+    requires stands { S.IsKnown ground.old pages.old → KeysStand block (firsts (S.pairs ground.old pages.old)) }
     requires shapes { S.IsKnown ground.old pages.old → Told (S.Tells ground.old pages.old) [] id }
     ensures leads { S.Leads ground.old pages.old ground.new pages.new (fault_of result) }
-    ensures keys { OnOk result (S.IsKnown ground.old pages.old → (m : Block → ℕ → Bool) (has : ℕ → Bool) → S.Tells ground.old pages.old m has → has id ≡ true → Becomes block (shrunk_where m threshold id block) (firsts (S.pairs ground.old pages.old)) (firsts (S.pairs ground.new pages.new))) }
+    ensures keys { OnOk result (S.IsKnown ground.old pages.old → (m : Block → ℕ → Bool) (has : ℕ → Bool) → S.Tells ground.old pages.old m has → has id ≡ true
+        → Becomes block (shrunk_where m threshold id block) (firsts (S.pairs ground.old pages.old)) (firsts (S.pairs ground.new pages.new))) }
     ensures values { OnOk result (S.IsKnown ground.old pages.old → (test : ℕ → ℕ → Bool) → Passes test (S.pairs ground.old pages.old) → Passes test (S.pairs ground.new pages.new)) }
 {
     if !ground.does_meet(alloc, pages, block, id)? {
@@ -179,12 +182,13 @@ pub fn shrink_at<P, S: Ground<P>>(
     requires block { IsBlock block }
     requires leaf { IsBlock leaf }
     requires id { IsId id }
-    requires stands { S.IsKnown ground.old pages.old → Stands block (firsts (S.pairs ground.old pages.old)) }
+    requires stands { S.IsKnown ground.old pages.old → KeysStand block (firsts (S.pairs ground.old pages.old)) }
     requires place { S.IsKnown ground.old pages.old → block.level < leaf.level → HasLeaf leaf block (firsts (S.pairs ground.old pages.old)) }
     requires shapes { S.IsKnown ground.old pages.old → Told (S.Tells ground.old pages.old) [] id }
     requires alone { S.IsKnown ground.old pages.old → block.level < leaf.level → (m : Block → ℕ → Bool) (has : ℕ → Bool) → S.Tells ground.old pages.old m has → has id ≡ true → MeetsAlone m id leaf }
     ensures leads { S.Leads ground.old pages.old ground.new pages.new (fault_of result) }
-    ensures keys { OnOk result (S.IsKnown ground.old pages.old → (m : Block → ℕ → Bool) (has : ℕ → Bool) → S.Tells ground.old pages.old m has → has id ≡ true → Becomes block (shrunk_where m threshold id block) (firsts (S.pairs ground.old pages.old)) (firsts (S.pairs ground.new pages.new))) }
+    ensures keys { OnOk result (S.IsKnown ground.old pages.old → (m : Block → ℕ → Bool) (has : ℕ → Bool) → S.Tells ground.old pages.old m has → has id ≡ true
+        → Becomes block (shrunk_where m threshold id block) (firsts (S.pairs ground.old pages.old)) (firsts (S.pairs ground.new pages.new))) }
     ensures inner { IfOk result (λ is_leaf. is_leaf ≡ false → S.IsKnown ground.old pages.old → own block (firsts (S.pairs ground.new pages.new)) ≡ []) }
     ensures values { OnOk result (S.IsKnown ground.old pages.old → (test : ℕ → ℕ → Bool) → Passes test (S.pairs ground.old pages.old) → Passes test (S.pairs ground.new pages.new)) }
 {

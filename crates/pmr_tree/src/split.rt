@@ -3,9 +3,9 @@ ghost use Rattle.z_code.specs.Block.{IsBlock, child};
 ghost use Rattle.z_code.specs.declared.block.Block.{Block};
 ghost use Rattle.sand_base.specs.declared.TheConstants.{COORDINATE_BITS};
 ghost use Rattle.pmr_tree.specs.Keys.{key_of, IsId, own};
-ghost use Rattle.pmr_tree.specs.Leaves.{firsts, ids_of, Passes, ListPasses, id_test, IsLeafOf, fault_of};
+ghost use Rattle.pmr_tree.specs.Leaves.{firsts, ids_of, Passes, ListPasses, id_test, HasLeafIds, fault_of};
 ghost use Rattle.pmr_tree.specs.Parts.{PartsPass, with_parts};
-ghost use Rattle.pmr_tree.specs.Changes.{Stands, Becomes, IsOneMore, divided};
+ghost use Rattle.pmr_tree.specs.Changes.{KeysStand, Becomes, IsOneMore, split_leaf};
 
 use crate::fill::{clear, plant};
 use crate::part::{Parts, parts_of};
@@ -25,7 +25,8 @@ fn plant_parts<P, S: Ground<P>>(
     requires above_points { block.level < COORDINATE_BITS }
     ensures leads { S.Leads ground.old pages.old ground.new pages.new (fault_of result) }
     ensures keys { OnOk result (S.IsKnown ground.old pages.old → firsts (S.pairs ground.new pages.new) ≡ with_parts block parts.now (firsts (S.pairs ground.old pages.old))) }
-    ensures values { OnOk result (S.IsKnown ground.old pages.old → (test : ℕ → ℕ → Bool) → PartsPass test parts.now → Passes test (S.pairs ground.old pages.old) → Passes test (S.pairs ground.new pages.new)) }
+    ensures values { OnOk result (S.IsKnown ground.old pages.old → (test : ℕ → ℕ → Bool) → PartsPass test parts.now → Passes test (S.pairs ground.old pages.old)
+        → Passes test (S.pairs ground.new pages.new)) }
 {
     let [first, second, third, fourth] = block.children();
     plant(ground, pages, first, &parts.first)?;
@@ -49,11 +50,13 @@ pub fn split<P, S: Ground<P>>(
     requires block { IsBlock block }
     requires above_points { block.level < COORDINATE_BITS }
     requires all { IsOneMore (ids_of list.now) (ids_of all.now) }
-    requires stands { S.IsKnown ground.old pages.old → Stands block (firsts (S.pairs ground.old pages.old)) }
-    requires leaf { S.IsKnown ground.old pages.old → IsLeafOf block (firsts (S.pairs ground.old pages.old)) (ids_of list.now) }
+    requires stands { S.IsKnown ground.old pages.old → KeysStand block (firsts (S.pairs ground.old pages.old)) }
+    requires leaf { S.IsKnown ground.old pages.old → HasLeafIds block (firsts (S.pairs ground.old pages.old)) (ids_of list.now) }
     ensures leads { S.Leads ground.old pages.old ground.new pages.new (fault_of result) }
-    ensures keys { OnOk result (S.IsKnown ground.old pages.old → (m : Block → ℕ → Bool) (has : ℕ → Bool) → S.Tells ground.old pages.old m has → ListPasses (id_test has) all.now → Becomes block (divided m block (ids_of all.now)) (firsts (S.pairs ground.old pages.old)) (firsts (S.pairs ground.new pages.new))) }
-    ensures values { OnOk result (S.IsKnown ground.old pages.old → (test : ℕ → ℕ → Bool) → ListPasses test all.now → Passes test (S.pairs ground.old pages.old) → Passes test (S.pairs ground.new pages.new)) }
+    ensures keys { OnOk result (S.IsKnown ground.old pages.old → (m : Block → ℕ → Bool) (has : ℕ → Bool) → S.Tells ground.old pages.old m has → ListPasses (id_test has) all.now
+        → Becomes block (split_leaf m block (ids_of all.now)) (firsts (S.pairs ground.old pages.old)) (firsts (S.pairs ground.new pages.new))) }
+    ensures values { OnOk result (S.IsKnown ground.old pages.old → (test : ℕ → ℕ → Bool) → ListPasses test all.now → Passes test (S.pairs ground.old pages.old)
+        → Passes test (S.pairs ground.new pages.new)) }
 {
     let parts = parts_of(alloc, &*ground, pages, block, all)?;
     clear(ground, pages, block, list)?;

@@ -7,7 +7,7 @@ ghost use Rattle.page_pool.specs.Pool.{IsTold};
 ghost use Rattle.page_pool.specs.Reads.{IsRead};
 ghost use Rattle.page_pool.specs.Causes.{HasPageCause};
 ghost use Rattle.pmr_tree.specs.Quadtree.{tree_at, IsPmr};
-ghost use Rattle.pmr_tree.specs.Starts.{has_inside, IsLeafIn, BeginsAt};
+ghost use Rattle.pmr_tree.specs.Starts.{has_inside, IsLeafIn, MayBeginAt};
 
 use crate::Pmr;
 use crate::code_leaf::{block_with, last_key, level_in};
@@ -46,7 +46,7 @@ pub fn start_of<P: Pages>(pages: &mut P, tree: Pmr, shape: &Shape) -> Result<Blo
     requires plane { IsShapeInPlane shape.now }
     requires tree { IsTold (P.shown pages.old) → IsPmr (P.shown pages.old).pages tree }
     ensures block { IfOk result (λ start. IsBlock start) }
-    ensures start { IfOk result (λ start. IsTold (P.shown pages.old) → BeginsAt shape.now (tree_at (P.shown pages.old).pages tree) start) }
+    ensures start { IfOk result (λ start. IsTold (P.shown pages.old) → MayBeginAt shape.now (tree_at (P.shown pages.old).pages tree) start) }
     ensures read { IsRead (P.shown pages.old) (P.shown pages.new) }
     ensures cause { HasPageCause (P.shown pages.old) (P.shown pages.new) result }
 {

@@ -12,12 +12,12 @@ use Rattle.code_btree.proofs.Cells.{length-cells, cells-add, cells_apart}
 use Rattle.r_tree.specs.declared.entry.NodeEntry.{NodeEntry}
 use Rattle.r_tree.specs.Entry.{box_of, member_of, members_of}
 use Rattle.r_tree.specs.Nodes.{branches_of}
-use Rattle.r_tree.specs.Page.{node, rough_of, point_of, entry_from, entry_of, entry_count, page_entries, node_of}
+use Rattle.r_tree.specs.Page.{node, rough_of_tag, point_of_halves, entry_from, node_entry, entry_count, page_entries, rtree_node}
 
 abbrev point : ℕ → ℕ → Point
 point x y = record { x = x; y = y }
 
-point_is : (w : ℕ) (p : Point) → w ≡ p.x * 2 ^ 32 + p.y → p.y < 2 ^ 32 → point_of w ≡ p
+point_is : (w : ℕ) (p : Point) → w ≡ p.x * 2 ^ 32 + p.y → p.y < 2 ^ 32 → point_of_halves w ≡ p
 point_is w p e l =
     let a : w / 2 ^ 32 ≡ p.x = omega arith in
     let b : w % 2 ^ 32 ≡ p.y = omega arith in
@@ -25,13 +25,13 @@ point_is w p e l =
 
 -- the numbers of an entry, and the entry of them
 pub entry_back : (tag : ℕ) (p q : Point) (id child w v k : ℕ) → w ≡ p.x * 2 ^ 32 + p.y → p.y < 2 ^ 32 → v ≡ q.x * 2 ^ 32 + q.y → q.y < 2 ^ 32 → k ≡ tag * 2 ^ 32 + id
-    → id < 2 ^ 32 → entry_from w v k child ≡ record { rough = rough_of tag p q; id = id; child = child }
+    → id < 2 ^ 32 → entry_from w v k child ≡ record { rough = rough_of_tag tag p q; id = id; child = child }
 unfolding entry_from
 entry_back tag p q id child w v k e l f m g n =
     let a : k / 2 ^ 32 ≡ tag = omega arith in
     let b : k % 2 ^ 32 ≡ id = omega arith in
-    let c : point_of w ≡ p = point_is w p e l in
-    let d : point_of v ≡ q = point_is v q f m in
+    let c : point_of_halves w ≡ p = point_is w p e l in
+    let d : point_of_halves v ≡ q = point_is v q f m in
     rw (a, b, c, d)
 
 -- eight bytes that were pasted, and those before them
@@ -50,8 +50,8 @@ long : (p : List ℕ) (at v n : ℕ) → length p ≡ n → at + 8 ≤ n → len
 long p at v n e h = let len : length (word_bytes v) ≡ 8 = length-word_bytes v in length-pasted p at (word_bytes v) (omega arith) ∙ e
 
 pub cell_back : (z f1 f2 f3 f4 : List ℕ) (p q k c : ℕ) → length z ≡ 32 → p < 2 ^ 64 → q < 2 ^ 64 → k < 2 ^ 64 → c < 2 ^ 64 → f1 ≡ pasted z 0 (word_bytes p)
-    → f2 ≡ pasted f1 8 (word_bytes q) → f3 ≡ pasted f2 16 (word_bytes k) → f4 ≡ pasted f3 24 (word_bytes c) → entry_of f4 ≡ entry_from p q k c
-unfolding entry_of
+    → f2 ≡ pasted f1 8 (word_bytes q) → f3 ≡ pasted f2 16 (word_bytes k) → f4 ≡ pasted f3 24 (word_bytes c) → node_entry f4 ≡ entry_from p q k c
+unfolding node_entry
 cell_back z f1 f2 f3 f4 p q k c lz lp lq lk lc e1 e2 e3 e4 =
     let l1 : length f1 ≡ 32 = ap (λ (x : List ℕ). length x) e1 ∙ long z 0 p 32 lz (omega arith) in
     let l2 : length f2 ≡ 32 = ap (λ (x : List ℕ). length x) e2 ∙ long f1 8 q 32 l1 (omega arith) in
@@ -78,8 +78,8 @@ cell_long z f1 f2 f3 f4 p q k c lz e1 e2 e3 e4 =
 
 -- the entry in 32 bytes of a page, by its words
 pub entry_read : (p : List ℕ) (at a b c d : ℕ) → at + 32 ≤ length p → a ≡ word_of (piece 8 at p) → b ≡ word_of (piece 8 (at + 8) p) → c ≡ word_of (piece 8 (at + 16) p)
-    → d ≡ word_of (piece 8 (at + 24) p) → entry_from a b c d ≡ entry_of (piece 32 at p)
-unfolding entry_of
+    → d ≡ word_of (piece 8 (at + 24) p) → entry_from a b c d ≡ node_entry (piece 32 at p)
+unfolding node_entry
 entry_read p at a b c d h ea eb ec ed =
     let e : at + 0 ≡ at = omega arith in
     let wa : a ≡ word_of (piece 8 0 (piece 32 at p)) = ea ∙ sym (ap (λ (x : List ℕ). word_of x) (piece_piece 8 0 32 at p h (omega arith) ∙ ap (λ (i : ℕ). piece 8 i p) e)) in
@@ -92,18 +92,18 @@ entry_read p at a b c d h ea eb ec ed =
     ∙ ap (λ (x : ℕ). entry_from (word_of (piece 8 0 (piece 32 at p))) (word_of (piece 8 8 (piece 32 at p))) (word_of (piece 8 16 (piece 32 at p))) x) wd))
 
 -- one entry more, read
-pub entries_read_more : (p : List ℕ) (i : ℕ) → page_entries (i + 1) p ≡ page_entries i p ++ entry_of (piece 32 (32 + 32 * i) p) ∷ []
-entries_read_more p i = ap (λ (cs : List (List ℕ)). map entry_of cs) (cells-add 32 32 i 1 p) ∙ map-append entry_of (cells 32 32 i p) (cells 32 (32 + 32 * i) 1 p)
+pub entries_read_more : (p : List ℕ) (i : ℕ) → page_entries (i + 1) p ≡ page_entries i p ++ node_entry (piece 32 (32 + 32 * i) p) ∷ []
+entries_read_more p i = ap (λ (cs : List (List ℕ)). map node_entry cs) (cells-add 32 32 i 1 p) ∙ map-append node_entry (cells 32 32 i p) (cells 32 (32 + 32 * i) 1 p)
 
 -- one member more, read
-pub members_read_more : (p : List ℕ) (i : ℕ) → members_of (page_entries (i + 1) p) ≡ members_of (page_entries i p) ++ member_of (entry_of (piece 32 (32 + 32 * i) p)) ∷ []
-members_read_more p i = ap (λ (es : List NodeEntry). members_of es) (entries_read_more p i) ∙ map-append member_of (page_entries i p) (entry_of (piece 32 (32 + 32 * i) p) ∷ [])
+pub members_read_more : (p : List ℕ) (i : ℕ) → members_of (page_entries (i + 1) p) ≡ members_of (page_entries i p) ++ member_of (node_entry (piece 32 (32 + 32 * i) p)) ∷ []
+members_read_more p i = ap (λ (es : List NodeEntry). members_of es) (entries_read_more p i) ∙ map-append member_of (page_entries i p) (node_entry (piece 32 (32 + 32 * i) p) ∷ [])
 
 -- one branch more, read
 pub branches_read_more : (p : List ℕ) (i : ℕ) → branches_of (page_entries (i + 1) p)
-    ≡ branches_of (page_entries i p) ++ (box_of (entry_of (piece 32 (32 + 32 * i) p)).rough, (entry_of (piece 32 (32 + 32 * i) p)).child) ∷ []
+    ≡ branches_of (page_entries i p) ++ (box_of (node_entry (piece 32 (32 + 32 * i) p)).rough, (node_entry (piece 32 (32 + 32 * i) p)).child) ∷ []
 branches_read_more p i = ap (λ (es : List NodeEntry). branches_of es) (entries_read_more p i)
-    ∙ map-append (λ (e : NodeEntry). (box_of e.rough, e.child)) (page_entries i p) (entry_of (piece 32 (32 + 32 * i) p) ∷ [])
+    ∙ map-append (λ (e : NodeEntry). (box_of e.rough, e.child)) (page_entries i p) (node_entry (piece 32 (32 + 32 * i) p) ∷ [])
 
 -- one entry more, written
 pub record Written (p z : List ℕ) (es : List NodeEntry) (i : ℕ) : Type 0 where
@@ -112,7 +112,7 @@ pub record Written (p z : List ℕ) (es : List NodeEntry) (i : ℕ) : Type 0 whe
   pub size : length p ≡ 4096
 
 pub written_more : (p q z cell : List ℕ) (es : List NodeEntry) (i : ℕ) (d : NodeEntry) → i < length es → length es ≤ 126 → length cell ≡ 32
-    → entry_of cell ≡ get_or es i d → q ≡ pasted p (32 + 32 * i) cell → Written p z es i → Written q z es (i + 1)
+    → node_entry cell ≡ get_or es i d → q ≡ pasted p (32 + 32 * i) cell → Written p z es i → Written q z es (i + 1)
 written_more p q z cell es i d lt few lc ec eq w =
     let fits : (32 + 32 * i) + length cell ≤ length p = omega (arith, w.size) in
     let f : pasted p (32 + 32 * i) cell ≡ q = sym eq in
@@ -120,15 +120,15 @@ written_more p q z cell es i d lt few lc ec eq w =
     let whole : piece 32 0 cell ≡ cell = take_all 32 cell (omega arith) in
     let own : piece 32 (32 + 32 * i) (pasted p (32 + 32 * i) cell) ≡ cell = ap (λ (j : ℕ). piece 32 j (pasted p (32 + 32 * i) cell)) (sym zero_off)
     ∙ (piece_within 32 0 p (32 + 32 * i) cell fits (omega arith) ∙ whole) in
-    let before : page_entries i (pasted p (32 + 32 * i) cell) ≡ page_entries i p = ap (λ (cs : List (List ℕ)). map entry_of cs) (cells_apart 32 32 i p (32 + 32 * i) cell fits (inl (omega arith))) in
+    let before : page_entries i (pasted p (32 + 32 * i) cell) ≡ page_entries i p = ap (λ (cs : List (List ℕ)). map node_entry cs) (cells_apart 32 32 i p (32 + 32 * i) cell fits (inl (omega arith))) in
     let all : page_entries (i + 1) (pasted p (32 + 32 * i) cell) ≡ take (i + 1) es = entries_read_more (pasted p (32 + 32 * i) cell) i
-    ∙ (ap₂ (λ (x : List NodeEntry) (y : NodeEntry). x ++ y ∷ []) (before ∙ w.entries) (ap (λ (x : List ℕ). entry_of x) own ∙ ec) ∙ sym (take_more es i d lt)) in
+    ∙ (ap₂ (λ (x : List NodeEntry) (y : NodeEntry). x ++ y ∷ []) (before ∙ w.entries) (ap (λ (x : List ℕ). node_entry x) own ∙ ec) ∙ sym (take_more es i d lt)) in
     let P : List ℕ → Type 0 = λ x. Written x z es (i + 1) in
     subst P f (record { entries = all; head = piece_apart 32 0 p (32 + 32 * i) cell fits (inl (omega arith)) ∙ w.head; size = length-pasted p (32 + 32 * i) cell fits ∙ w.size })
 
 -- byte 0 and the count tell which node the bytes are
-pub node_made : (p : List ℕ) (n k : ℕ) (inner : Bool) → k ≡ cond inner 5 4 → get_or p 0 0 ≡ k → entry_count p ≡ n → n ≤ 126 → node_of p ≡ node inner (page_entries n p)
-unfolding node_of
+pub node_made : (p : List ℕ) (n k : ℕ) (inner : Bool) → k ≡ cond inner 5 4 → get_or p 0 0 ≡ k → entry_count p ≡ n → n ≤ 126 → rtree_node p ≡ node inner (page_entries n p)
+unfolding rtree_node
 node_made p n k true ek e c l =
     let not_leaf : eqb (get_or p 0 0) 4 ≡ false = elim (eqb_tells (get_or p 0 0) 4) [ inl t ↦ absurd (omega (arith, t.1)) | inr t ↦ t.0 ] in
     let is_five : eqb (get_or p 0 0) 5 ≡ true = elim (eqb_tells (get_or p 0 0) 5) [ inl t ↦ t.0 | inr t ↦ absurd (t.1 (e ∙ ek)) ] in
@@ -150,7 +150,7 @@ head_count p q lp lq h = ap (λ (x : List ℕ). half_of x) (sym (piece_piece 2 2
 -- a page whose head was written before its entries
 pub node_written : (z h f : List ℕ) (es : List NodeEntry) (n k : ℕ) (inner : Bool) → length z ≡ 4096 → length f ≡ 4096 → n < 2 ^ 16 → n ≡ length es → length es ≤ 126
     → k ≡ cond inner 5 4 → get_or z 0 0 ≡ k → h ≡ pasted z 2 (half_bytes n) → piece 32 0 f ≡ piece 32 0 h
-    → page_entries (length es) f ≡ es → node_of f ≡ node inner es
+    → page_entries (length es) f ≡ es → rtree_node f ≡ node inner es
 node_written z h f es n k inner lz lf small en few ek e eh head all =
     let len : length (half_bytes n) ≡ 2 = length-half_bytes n in
     let lh : length h ≡ 4096 = ap (λ (x : List ℕ). length x) eh ∙ (length-pasted z 2 (half_bytes n) (omega arith) ∙ lz) in
@@ -183,4 +183,4 @@ entry_with r id child = record { rough = r; id = id; child = child }
 
 -- the entries of a page are as many as were asked for
 pub length-page_entries : (n : ℕ) (p : List ℕ) → length (page_entries n p) ≡ n
-length-page_entries n p = length-map (cells 32 32 n p) entry_of ∙ length-cells 32 32 n p
+length-page_entries n p = length-map (cells 32 32 n p) node_entry ∙ length-cells 32 32 n p

@@ -11,7 +11,7 @@ use Rattle.code_btree.specs.Tree.{Store}
 use Rattle.code_btree.proofs.Lists.{Each-append, Each-map}
 use Rattle.r_tree.specs.declared.entry.NodeEntry.{NodeEntry}
 use Rattle.r_tree.specs.Entry.{Member, box_of, rect_union, union_of, hull, covers, members_of, bound_of, bound_of_members}
-use Rattle.r_tree.specs.Tree.{entries_at, members_in, members_under, StandsUnder, StandsAt}
+use Rattle.r_tree.specs.Tree.{entries_at, members_in, members_under, StandsUnder, NodeStandsAt}
 
 min_assoc : (a b c : ℕ) → min (min a b) c ≡ min a (min b c)
 min_assoc a b c = omega arith
@@ -65,14 +65,14 @@ leaf_bound : (es : List NodeEntry) → bound_of_members (members_of es) ≡ boun
 leaf_bound [] = refl
 leaf_bound (e ∷ es) = ap (λ (o : Option Rect). union_of (Some (box_of e.rough)) o) (leaf_bound es)
 
-row_bound : (m : Store) (l : ℕ) (below : (n : ℕ) → StandsAt m l n → bound_of_members (members_under m l n) ≡ bound_of (entries_at m n)) (es : List NodeEntry)
+row_bound : (m : Store) (l : ℕ) (below : (n : ℕ) → NodeStandsAt m l n → bound_of_members (members_under m l n) ≡ bound_of (entries_at m n)) (es : List NodeEntry)
     → StandsUnder m (suc l) es → bound_of_members (members_in m (suc l) es) ≡ bound_of es
 row_bound m l below [] s = refl
 row_bound m l below (e ∷ es) s =
     members-bound-append (members_under m l e.child) (members_in m (suc l) es)
     ∙ ap₂ (λ (o p : Option Rect). union_of o p) (below e.child s.0.1.1 ∙ s.0.0.least) (row_bound m l below es s.1)
 
-pub hull_members : (m : Store) (l n : ℕ) → StandsAt m l n → bound_of_members (members_under m l n) ≡ bound_of (entries_at m n)
+pub hull_members : (m : Store) (l n : ℕ) → NodeStandsAt m l n → bound_of_members (members_under m l n) ≡ bound_of (entries_at m n)
 hull_members m zero n s = leaf_bound (entries_at m n)
 hull_members m (suc l) n s = row_bound m l (λ c t. hull_members m l c t) (entries_at m n) s.1
 
@@ -129,7 +129,7 @@ leaf_members : (r : Rect) (es : List NodeEntry) → Each (λ e. Inside r (box_of
 leaf_members r [] h = tt
 leaf_members r (e ∷ es) h = (h.0, leaf_members r es h.1)
 
-row_each : (m : Store) (l : ℕ) (below : (n : ℕ) (b : Rect) → StandsAt m l n → bound_of (entries_at m n) ≡ Some b → Each (λ i. Inside b (box_of i.1)) (members_under m l n))
+row_each : (m : Store) (l : ℕ) (below : (n : ℕ) (b : Rect) → NodeStandsAt m l n → bound_of (entries_at m n) ≡ Some b → Each (λ i. Inside b (box_of i.1)) (members_under m l n))
     (r : Rect) (es : List NodeEntry)
     → StandsUnder m (suc l) es → Each (λ e. Inside r (box_of e.rough)) es → Each (λ i. Inside r (box_of i.1)) (members_in m (suc l) es)
 row_each m l below r [] s h = tt
@@ -139,7 +139,7 @@ row_each m l below r (e ∷ es) s h = Each-append (λ i. Inside r (box_of i.1)) 
     (row_each m l below r es s.1 h.1)
 
 -- it holds each shape that is listed under the node
-pub members_each : (m : Store) (l n : ℕ) (r : Rect) → StandsAt m l n → bound_of (entries_at m n) ≡ Some r → Each (λ i. Inside r (box_of i.1)) (members_under m l n)
+pub members_each : (m : Store) (l n : ℕ) (r : Rect) → NodeStandsAt m l n → bound_of (entries_at m n) ≡ Some r → Each (λ i. Inside r (box_of i.1)) (members_under m l n)
 members_each m zero n r s e = leaf_members r (entries_at m n) (hull_each r (entries_at m n) e)
 members_each m (suc l) n r s e = row_each m l (λ c b t f. members_each m l c b t f) r (entries_at m n) s.1 (hull_each r (entries_at m n) e)
 

@@ -10,11 +10,11 @@ use Rattle.r_tree.specs.declared.entry.NodeEntry.{NodeEntry}
 use Rattle.r_tree.specs.declared.insert.Grown.{Grown}
 use Rattle.r_tree.specs.declared.insert.Grown.TheVariants.{Kept, Split}
 use Rattle.r_tree.specs.Entry.{Member, member_of}
-use Rattle.r_tree.specs.Page.{NodeView, node, entries_of}
+use Rattle.r_tree.specs.Page.{NodeView, node, node_entries}
 use Rattle.r_tree.specs.Tree.{node_at, entries_at, members_in, members_under, pages_below, pages_under, is_inner, StandsUnder}
-use Rattle.r_tree.specs.Steps.{weigh, Moves, grandchildren, Lays, LeadsToTree, IsFilledIfSplit, raised, Grows, Subtree, InsertsUnder}
+use Rattle.r_tree.specs.Steps.{weigh, Moves, grandchildren, Lays, LeadsToTree, IsFilledIfSplit, raised, GrowsNode, NodeTree, EntersUnder}
 use Rattle.r_tree.proofs.Bags.{length-perm}
-use Rattle.r_tree.proofs.Rows.{members-perm, pages-perm, members-append, pages-append, one_members, one_pages, stands-perm, stands-append, InStays, in_stays}
+use Rattle.r_tree.proofs.EntryTrees.{members-perm, pages-perm, members-append, pages-append, one_members, one_pages, stands-perm, stands-append, InStays, in_stays}
 use Rattle.r_tree.proofs.Raises.{moves_next, moves_beside, owns_after, Laid, laid}
 
 -- some entries of an inner node lead on otherwise, and the others stay
@@ -55,13 +55,13 @@ one_moves m u l e Q J less more a = moves_beside m u (pages_under m l e.child) Q
     (λ q. omega (arith, one_pages q m l e)) (λ q. omega arith) (λ f. omega (arith, one_members f m l e)) (λ f. omega arith)
 
 -- the entries that lead to a child that grew
-raised_stands : (m u : Store) (l c : ℕ) (g : Grown) → 50 ≤ length (entries_at m c) → Each (LeadsToTree u l) (raised c g) → Grows m u c g → StandsUnder u (suc l) (raised c g)
+raised_stands : (m u : Store) (l c : ℕ) (g : Grown) → 50 ≤ length (entries_at m c) → Each (LeadsToTree u l) (raised c g) → GrowsNode m u c g → StandsUnder u (suc l) (raised c g)
 raised_stands m u l c (Kept r) few le gr = ((le.0.0, (omega (arith, few, gr), le.0.1)), tt)
 raised_stands m u l c (Split r s p) few le gr = ((le.0.0, (gr.0, le.0.1)), ((le.1.0.0, (gr.1.0, le.1.0.1)), tt))
 
 -- a page that was laid out anew has no fewer entries, or was split
 grown_of : (m w : Store) (n : ℕ) (g : Grown) (es fs : List NodeEntry) → entries_at m n ≡ es → length es ≤ length fs → IsPermutation fs (grandchildren w (raised n g))
-    → IsFilledIfSplit w n g → Grows m w n g
+    → IsFilledIfSplit w n g → GrowsNode m w n g
 grown_of m w n (Kept r) es fs e l p f = omega (arith, l, ap (λ (x : List NodeEntry). length x) e, length-perm fs (entries_at w n ++ []) p, length-append (entries_at w n) [])
 grown_of m w n (Split r s p2) es fs e l p f = f
 
@@ -71,13 +71,13 @@ raised_some c (Split r s p) = omega arith
 
 -- the entries of page n, read as this node
 pub read_as : (m : Store) (n : ℕ) (inner : Bool) (es : List NodeEntry) → node_at m n ≡ node inner es → entries_at m n ≡ es
-read_as m n inner es e = ap (λ (v : NodeView). entries_of v) e
+read_as m n inner es e = ap (λ (v : NodeView). node_entries v) e
 
 -- entries that became others under page n, and were laid into it
 laid_up : (m u w : Store) (l n : ℕ) (g : Grown) (i : Member) (es fs : List NodeEntry) → entries_at m n ≡ es → length es ≤ length fs → StandsUnder u l fs
     → ((q : ℕ) → times q (n ∷ pages_below u l fs) ≤ live u q)
     → Moves m u (n ∷ pages_below m l es) (n ∷ pages_below u l fs) (members_in m l es) (members_in u l fs) [] (i ∷ []) → Lays u w (n ∷ []) (raised n g) fs (is_inner l)
-    → IsFilledIfSplit w n g → InsertsUnder m w l n i g
+    → IsFilledIfSplit w n g → EntersUnder m w l n i g
 laid_up m u w l n g i es fs e len s o mv a full =
     let ld : Laid u w l (n ∷ []) (raised n g) fs = laid u w l (n ∷ []) (raised n g) fs s o a in
     let M : List NodeEntry → Type 0 = λ x. Moves m w (n ∷ pages_below m l x) (pages_below w (suc l) (raised n g)) (members_in m l x) (members_in w (suc l) (raised n g)) [] (i ∷ []) in
@@ -89,15 +89,15 @@ laid_up m u w l n g i es fs e len s o mv a full =
     }
 
 -- a member more in a leaf
-pub leaf_put : (m w : Store) (n : ℕ) (g : Grown) (x : NodeEntry) (es : List NodeEntry) → node_at m n ≡ node false es → Subtree m 0 n
-    → Lays m w (n ∷ []) (raised n g) (es ++ x ∷ []) false → IsFilledIfSplit w n g → InsertsUnder m w 0 n (member_of x) g
+pub leaf_put : (m w : Store) (n : ℕ) (g : Grown) (x : NodeEntry) (es : List NodeEntry) → node_at m n ≡ node false es → NodeTree m 0 n
+    → Lays m w (n ∷ []) (raised n g) (es ++ x ∷ []) false → IsFilledIfSplit w n g → EntersUnder m w 0 n (member_of x) g
 leaf_put m w n g x es e t a full = laid_up m m w 0 n g (member_of x) es (es ++ x ∷ []) (read_as m n false es e) (omega (arith, length-append es (x ∷ []))) tt t.owns
     (record { frame = λ q l z. refl; moved = λ q. refl; weighed = λ f. omega (arith, members-append f m 0 es (x ∷ [])) }) a full
 
 -- a member more under an entry of an inner node
-pub inner_put : (m u w : Store) (l n at : ℕ) (below g : Grown) (i : Member) (c : NodeEntry) (es : List NodeEntry) → node_at m n ≡ node true es → Subtree m (suc l) n
-    → at < length es → c ≡ get_or es at c → InsertsUnder m u l c.child i below
-    → Lays u w (n ∷ []) (raised n g) (swap_remove es at c ++ raised c.child below) true → IsFilledIfSplit w n g → InsertsUnder m w (suc l) n i g
+pub inner_put : (m u w : Store) (l n at : ℕ) (below g : Grown) (i : Member) (c : NodeEntry) (es : List NodeEntry) → node_at m n ≡ node true es → NodeTree m (suc l) n
+    → at < length es → c ≡ get_or es at c → EntersUnder m u l c.child i below
+    → Lays u w (n ∷ []) (raised n g) (swap_remove es at c ++ raised c.child below) true → IsFilledIfSplit w n g → EntersUnder m w (suc l) n i g
 inner_put m u w l n at below g i c es e t lt is ins a full =
     let rest : List NodeEntry = swap_remove es at c in
     let ee : entries_at m n ≡ es = read_as m n true es e in
@@ -115,22 +115,22 @@ inner_put m u w l n at below g i c es e t lt is ins a full =
 
 -- the same, from a store where the pages are as before, with the entries as they were handed on
 pub leaf_put_from : (m m0 w : Store) (n : ℕ) (g : Grown) (x : NodeEntry) (es fs : List NodeEntry) → m0 ≡ m → fs ≡ es ++ x ∷ [] → node_at m n ≡ node false es
-    → Subtree m 0 n → Lays m0 w (n ∷ []) (raised n g) fs false → IsFilledIfSplit w n g → InsertsUnder m w 0 n (member_of x) g
+    → NodeTree m 0 n → Lays m0 w (n ∷ []) (raised n g) fs false → IsFilledIfSplit w n g → EntersUnder m w 0 n (member_of x) g
 leaf_put_from m m0 w n g x es fs s f e t a full =
     let P : Store → Type 0 = λ y. Lays y w (n ∷ []) (raised n g) fs false in
     let Q : List NodeEntry → Type 0 = λ y. Lays m w (n ∷ []) (raised n g) y false in
     leaf_put m w n g x es e t (subst Q f (subst P s a)) full
 
 pub inner_put_from : (m m0 u w : Store) (l n at : ℕ) (below g : Grown) (i : Member) (c : NodeEntry) (es fs : List NodeEntry) → m0 ≡ m
-    → fs ≡ swap_remove es at c ++ raised c.child below → node_at m n ≡ node true es → Subtree m (suc l) n → at < length es → c ≡ get_or es at c
-    → InsertsUnder m0 u l c.child i below → Lays u w (n ∷ []) (raised n g) fs true → IsFilledIfSplit w n g → InsertsUnder m w (suc l) n i g
+    → fs ≡ swap_remove es at c ++ raised c.child below → node_at m n ≡ node true es → NodeTree m (suc l) n → at < length es → c ≡ get_or es at c
+    → EntersUnder m0 u l c.child i below → Lays u w (n ∷ []) (raised n g) fs true → IsFilledIfSplit w n g → EntersUnder m w (suc l) n i g
 inner_put_from m m0 u w l n at below g i c es fs s f e t lt is ins a full =
-    let P : Store → Type 0 = λ y. InsertsUnder y u l c.child i below in
+    let P : Store → Type 0 = λ y. EntersUnder y u l c.child i below in
     let Q : List NodeEntry → Type 0 = λ y. Lays u w (n ∷ []) (raised n g) y true in
     inner_put m u w l n at below g i c es e t lt is (subst P s ins) (subst Q f a) full
 
 -- the tree under an entry of an inner node
-pub child_tree : (m : Store) (l n at : ℕ) (c : NodeEntry) (es : List NodeEntry) → node_at m n ≡ node true es → Subtree m (suc l) n → at < length es → c ≡ get_or es at c → Subtree m l c.child
+pub child_tree : (m : Store) (l n at : ℕ) (c : NodeEntry) (es : List NodeEntry) → node_at m n ≡ node true es → NodeTree m (suc l) n → at < length es → c ≡ get_or es at c → NodeTree m l c.child
 child_tree m l n at c es e t lt is =
     let ee : entries_at m n ≡ es = read_as m n true es e in
     let rest : List NodeEntry = swap_remove es at c in

@@ -9,7 +9,7 @@ use Rattle.r_tree.specs.declared.insert.Grown.TheVariants.{Kept}
 use Rattle.r_tree.specs.Entry.{branch}
 use Rattle.r_tree.specs.Page.{node}
 use Rattle.r_tree.specs.Tree.{node_at, entries_at}
-use Rattle.r_tree.specs.Steps.{Lays, AllFilled, raised, Balances}
+use Rattle.r_tree.specs.Steps.{Lays, AllFilled, raised, BalancesNodes}
 use Rattle.r_tree.proofs.Bags.{length-perm}
 use Rattle.r_tree.proofs.Inserts.{read_as}
 
@@ -25,7 +25,7 @@ lays_from m u w old row es fs inner e f a =
     subst Q f (subst P e a)
 
 pub balanced_one : (m u w : Store) (inner : Bool) (a b : ℕ) (bound : Rect) (es more fs : List NodeEntry) → u ≡ m → node_at m a ≡ node inner es
-    → node_at m b ≡ node inner more → fs ≡ es ++ more → Lays u w (a ∷ (b ∷ [])) (branch bound a ∷ []) fs inner → Balances m w inner a b (Kept bound)
+    → node_at m b ≡ node inner more → fs ≡ es ++ more → Lays u w (a ∷ (b ∷ [])) (branch bound a ∷ []) fs inner → BalancesNodes m w inner a b (Kept bound)
 balanced_one m u w inner a b bound es more fs s e f g y =
     let ly : Lays m w (a ∷ (b ∷ [])) (branch bound a ∷ []) (entries_at m a ++ entries_at m b) inner =
     lays_from m u w (a ∷ (b ∷ [])) (branch bound a ∷ []) (entries_at m a ++ entries_at m b) fs inner s (g ∙ sym (both_read m a b inner es more e f)) y in
@@ -44,7 +44,7 @@ balanced_one m u w inner a b bound es more fs s e f g y =
     }
 
 pub balanced_two : (m u w : Store) (inner : Bool) (a b : ℕ) (g : Grown) (es more fs : List NodeEntry) → u ≡ m → node_at m a ≡ node inner es
-    → node_at m b ≡ node inner more → fs ≡ es ++ more → Lays u w (a ∷ (b ∷ [])) (raised a g) fs inner → AllFilled w (raised a g) → Balances m w inner a b g
+    → node_at m b ≡ node inner more → fs ≡ es ++ more → Lays u w (a ∷ (b ∷ [])) (raised a g) fs inner → AllFilled w (raised a g) → BalancesNodes m w inner a b g
 balanced_two m u w inner a b g es more fs s e f h y full = record {
   lays = lays_from m u w (a ∷ (b ∷ [])) (raised a g) (entries_at m a ++ entries_at m b) fs inner s (h ∙ sym (both_read m a b inner es more e f)) y;
   full = λ k. full;

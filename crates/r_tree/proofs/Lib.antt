@@ -1,5 +1,5 @@
 pub mod Bags
-pub mod Rows
+pub mod EntryTrees
 pub mod Writes
 pub mod Raises
 pub mod Inserts
@@ -12,3 +12,9 @@ pub mod Roots
 pub mod Wholes
 pub mod Tilings
 pub mod Cells
+-- Lists whose images stand in another order.
+pub mod Orders
+-- What becomes of the rows that an R-tree lists.
+pub mod ListedMembers
+pub mod Unmoved
+pub mod Listings

@@ -14,7 +14,7 @@ use Rattle.r_tree.specs.Entry.{Member, box_of, covers}
 use Rattle.r_tree.specs.Page.{node}
 use Rattle.r_tree.specs.Tree.{node_at, entries_at}
 use Rattle.r_tree.specs.Ways.{ways_below, ways_under}
-use Rattle.r_tree.specs.Steps.{Subtree, Lacks, PassesBy}
+use Rattle.r_tree.specs.Steps.{NodeTree, Lacks, PassesBy}
 use Rattle.r_tree.proofs.Inserts.{read_as}
 use Rattle.r_tree.proofs.Removes.{lacks_more, past_lacks, lacks_all}
 
@@ -42,16 +42,16 @@ ways_front m l at es box = sum_by-take-le (way m l box) es at
 
 -- what is known of the node whose entries are tried
 abbrev pub Tried : PoolState → ℕ → ℕ → List NodeEntry → Type 0
-Tried a level n es = IsTold a → (node_at (pages_in a) n ≡ node true es) × Subtree (pages_in a) (suc (level - 1)) n
+Tried a level n es = IsTold a → (node_at (pages_in a) n ≡ node true es) × NodeTree (pages_in a) (suc (level - 1)) n
 
 pub tried_after : (a b : PoolState) (level n : ℕ) (es : List NodeEntry) → (level ≡ 0 → ⊥) → b.pages ≡ a.pages → b.disk.told ≡ a.disk.told
-    → (IsTold a → node_at (pages_in a) n ≡ node true es) → (IsTold a → Subtree (pages_in a) level n) → Tried b level n es
+    → (IsTold a → node_at (pages_in a) n ≡ node true es) → (IsTold a → NodeTree (pages_in a) level n) → Tried b level n es
 tried_after a b level n es h same told e t = λ k.
     let s : pages_in a ≡ pages_in b = sym (same_store b a same) in
     let l : level ≡ suc (level - 1) = omega (arith, h) in
     let N : Store → Type 0 = λ x. node_at x n ≡ node true es in
-    let S : Store → Type 0 = λ x. Subtree x (suc (level - 1)) n in
-    let L : ℕ → Type 0 = λ x. Subtree (pages_in a) x n in
+    let S : Store → Type 0 = λ x. NodeTree x (suc (level - 1)) n in
+    let L : ℕ → Type 0 = λ x. NodeTree (pages_in a) x n in
     (subst N s (e (sym told ∙ k)), subst S s (subst L l (t (sym told ∙ k))))
 
 pub none_passed : (a : PoolState) (level : ℕ) (es : List NodeEntry) (i : Member) → PassesBy a a level 0 es i

@@ -5,11 +5,11 @@ use Rattle.code_btree.specs.Tree.{Store, times, live}
 use Rattle.code_btree.proofs.Lists.{live_small, live_same, times-append}
 use Rattle.r_tree.specs.declared.entry.NodeEntry.{NodeEntry}
 use Rattle.r_tree.specs.Entry.{Member}
-use Rattle.r_tree.specs.Page.{NodeView, node, entries_of}
-use Rattle.r_tree.specs.Tree.{entries_at, members_in, members_under, pages_below, pages_under, is_inner, StandsUnder, StandsAt}
+use Rattle.r_tree.specs.Page.{NodeView, node, node_entries}
+use Rattle.r_tree.specs.Tree.{entries_at, members_in, members_under, pages_below, pages_under, is_inner, StandsUnder, NodeStandsAt}
 use Rattle.r_tree.specs.Steps.{WritesNode, weigh, Moves, grandchildren, LeadsToNode, Lays, LeadsToTree}
 use Rattle.r_tree.proofs.Writes.{live_kept}
-use Rattle.r_tree.proofs.Rows.{members-perm, pages-perm, stands-perm, stands-left, stands-right, InStays, in_stays, row_pages, row_members}
+use Rattle.r_tree.proofs.EntryTrees.{members-perm, pages-perm, stands-perm, stands-left, stands-right, InStays, in_stays, row_pages, row_members}
 
 -- two changes, one after the other, of which the second loses and gains no member
 pub moves_next : (m u w : Store) (P Q R : List ℕ) (I J K less more : List Member) → Moves m u P Q I J less more → Moves u w Q R J K [] [] → Moves m w P R I K less more
@@ -70,7 +70,7 @@ laid u w l old row es s o a =
 
 -- entries that were written into one node
 pub record Held (u w : Store) (l n : ℕ) (es : List NodeEntry) : Type 0 where
-  pub stands : StandsAt w l n
+  pub stands : NodeStandsAt w l n
   pub entries : entries_at w n ≡ es
   pub moves : Moves u w (n ∷ pages_below u l es) (pages_under w l n) (members_in u l es) (members_under w l n) [] []
 
@@ -78,7 +78,7 @@ pub held : (u w : Store) (l n : ℕ) (es : List NodeEntry) → length es ≤ 126
     → WritesNode u w n (is_inner l) es → Held u w l n es
 held u w l n es fits s o a =
     let st : InStays u w l es = in_stays u w l es (λ q k. a.others q (omega (arith, k, o q, live_small u q))) in
-    let ee : entries_at w n ≡ es = ap (λ (v : NodeView). entries_of v) a.is in
+    let ee : entries_at w n ≡ es = ap (λ (v : NodeView). node_entries v) a.is in
     let U : List NodeEntry → Type 0 = λ fs. StandsUnder w l fs in
     record {
       stands = (

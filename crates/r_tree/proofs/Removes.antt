@@ -16,17 +16,17 @@ use Rattle.r_tree.specs.declared.insert.Grown.TheVariants.{Kept, Split}
 use Rattle.r_tree.specs.declared.remove.Shrunk.{Shrunk}
 use Rattle.r_tree.specs.Entry.{Member, member_of, members_of, box_of, branch, covers, bound_of}
 use Rattle.r_tree.specs.Page.{node}
-use Rattle.r_tree.specs.Tree.{node_at, entries_at, members_in, members_under, pages_below, pages_under, is_inner, IsNodeAt, Encloses, StandsUnder, StandsAt}
-use Rattle.r_tree.specs.Steps.{WritesNode, Moves, LeadsToTree, AllFilled, raised, Subtree, RemovesUnder, Settles, Lacks, Balances}
+use Rattle.r_tree.specs.Tree.{node_at, entries_at, members_in, members_under, pages_below, pages_under, is_inner, IsNodeAt, Encloses, StandsUnder, NodeStandsAt}
+use Rattle.r_tree.specs.Steps.{WritesNode, Moves, LeadsToTree, AllFilled, raised, NodeTree, RemovesUnder, SettlesEntry, Lacks, BalancesNodes}
 use Rattle.r_tree.proofs.Bags.{weigh-append, length-perm, Each-get}
-use Rattle.r_tree.proofs.Rows.{members-perm, pages-perm, members-append, pages-append, one_members, one_pages, stands-perm, stands-append, InStays}
+use Rattle.r_tree.proofs.EntryTrees.{members-perm, pages-perm, members-append, pages-append, one_members, one_pages, stands-perm, stands-append, InStays}
 use Rattle.r_tree.proofs.Raises.{moves_next, moves_beside, Laid, laid, Held, held}
 use Rattle.r_tree.proofs.Hulls.{members_each, members_lack}
 use Rattle.r_tree.proofs.Inserts.{Stepped, stepped, others_stay, one_moves, read_as}
 
 -- the entries of a node once a member was taken from under it
 pub record Lesser (m w : Store) (l n : ℕ) (i : Member) : Type 0 where
-  pub stands : StandsAt w l n
+  pub stands : NodeStandsAt w l n
   pub lost : length (entries_at m n) ≤ length (entries_at w n) + 1
   pub moves : Moves m w (pages_under m l n) (pages_under w l n) (members_under m l n) (members_under w l n) (i ∷ []) []
 
@@ -54,7 +54,7 @@ lesser m u w l n i es fs e len fits s o mv a =
     }
 
 -- an entry less in a leaf
-pub leaf_took : (m w : Store) (n at : ℕ) (i : Member) (s : Shrunk) (x : NodeEntry) (es : List NodeEntry) → node_at m n ≡ node false es → Subtree m 0 n → at < length es
+pub leaf_took : (m w : Store) (n at : ℕ) (i : Member) (s : Shrunk) (x : NodeEntry) (es : List NodeEntry) → node_at m n ≡ node false es → NodeTree m 0 n → at < length es
     → x ≡ get_or es at x → member_of x ≡ i → WritesNode m w n false (swap_remove es at x)
     → bound_of (swap_remove es at x) ≡ s.bound → s.size ≡ length (swap_remove es at x) → s.size ≤ 126 → RemovesUnder m w 0 n i s
 leaf_took m w n at i s x es e t lt is j a b c fits =
@@ -77,7 +77,7 @@ record Beside (m u : Store) (l n c : ℕ) (i : Member) (es others : List NodeEnt
   pub counted : length es ≡ length others + 1
 
 beside : (m u : Store) (l n : ℕ) (i : Member) (e : NodeEntry) (others : List NodeEntry) (below : Shrunk) (bound : Rect) → below.bound ≡ Some bound
-    → Settles m u l n i e others below → Beside m u l n e.child i (entries_at m n) others bound
+    → SettlesEntry m u l n i e others below → Beside m u l n e.child i (entries_at m n) others bound
 beside m u l n i e others below bound b s =
     let es : List NodeEntry = entries_at m n in
     let r : RemovesUnder m u l e.child i below = s.removed in
@@ -103,7 +103,7 @@ beside m u l n i e others below bound b s =
 
 -- the child is filled still
 pub settled_full : (m u w : Store) (l n : ℕ) (i : Member) (e : NodeEntry) (others : List NodeEntry) (below s : Shrunk) (bound : Rect) → below.bound ≡ Some bound
-    → Settles m u l n i e others below → 50 ≤ below.size
+    → SettlesEntry m u l n i e others below → 50 ≤ below.size
     → WritesNode u w n true (others ++ branch bound e.child ∷ []) → bound_of (others ++ branch bound e.child ∷ []) ≡ s.bound
     → s.size ≡ length (others ++ branch bound e.child ∷ []) → s.size ≤ 126 → RemovesUnder m w (suc l) n i s
 settled_full m u w l n i e others below s bound b st few a least counted fits =
@@ -145,8 +145,8 @@ in_front others rest x y p = IsPermutation-trans (others ++ x ∷ []) (x ∷ oth
 
 -- the child was short, and was balanced with a sibling
 pub settled_short : (m u v w : Store) (l n : ℕ) (i : Member) (e y : NodeEntry) (others rest : List NodeEntry) (below s : Shrunk) (bound : Rect) (g : Grown)
-    → below.bound ≡ Some bound → Settles m u l n i e others below → IsPermutation others (y ∷ rest)
-    → (same y.child e.child ≡ 0 → Balances u v (is_inner l) e.child y.child g) → WritesNode v w n true (rest ++ raised e.child g)
+    → below.bound ≡ Some bound → SettlesEntry m u l n i e others below → IsPermutation others (y ∷ rest)
+    → (same y.child e.child ≡ 0 → BalancesNodes u v (is_inner l) e.child y.child g) → WritesNode v w n true (rest ++ raised e.child g)
     → bound_of (rest ++ raised e.child g) ≡ s.bound → s.size ≡ length (rest ++ raised e.child g) → s.size ≤ 126
     → RemovesUnder m w (suc l) n i s
 settled_short m u v w l n i e y others rest below s bound g b st p ba a least counted fits =
@@ -159,7 +159,7 @@ settled_short m u v w l n i e y others rest below s bound g b st p ba a least co
     let bs : Beside m u l n e.child i (entries_at m n) others bound = beside m u l n i e others below bound b st in
     let front : IsPermutation fs (x ∷ (y ∷ rest)) = in_front others rest x y p in
     let far : same y.child e.child ≡ 0 = apart u l n x y rest fs front bs.owns in
-    let bal : Balances u v (is_inner l) e.child y.child g = ba far in
+    let bal : BalancesNodes u v (is_inner l) e.child y.child g = ba far in
     let yst : StandsUnder u (suc l) (y ∷ rest) = stands-perm u (suc l) others (y ∷ rest) p bs.stands in
     let under : StandsUnder u l (ex ++ ey) = stands-append u l ex ey st.removed.stands.1 yst.0.1.1.1 in
     let count : (q : ℕ) → times q (pages_below u (suc l) (x ∷ (y ∷ []))) ≡ times q (e.child ∷ (y.child ∷ pages_below u l (ex ++ ey))) =
@@ -186,7 +186,7 @@ settled_short m u v w l n i e y others rest below s bound g b st p ba a least co
 
 -- the same, with the entries as they were handed on
 pub settled_full_from : (m u w : Store) (l n c : ℕ) (i : Member) (e : NodeEntry) (others fs : List NodeEntry) (below s : Shrunk) (bound : Rect) → e.child ≡ c
-    → below.bound ≡ Some bound → Settles m u l n i e others below → 50 ≤ below.size → fs ≡ others ++ branch bound c ∷ []
+    → below.bound ≡ Some bound → SettlesEntry m u l n i e others below → 50 ≤ below.size → fs ≡ others ++ branch bound c ∷ []
     → WritesNode u w n true fs → bound_of fs ≡ s.bound → s.size ≡ length fs → s.size ≤ 126 → RemovesUnder m w (suc l) n i s
 settled_full_from m u w l n c i e others fs below s bound ec b st few f a least counted fits =
     let g : fs ≡ others ++ branch bound e.child ∷ [] = f ∙ ap (λ (x : ℕ). others ++ branch bound x ∷ []) (sym ec) in
@@ -194,16 +194,16 @@ settled_full_from m u w l n c i e others fs below s bound ec b st few f a least 
     settled_full m u w l n i e others below s bound b st few (subst W g a) (sym (ap (λ (x : List NodeEntry). bound_of x) g) ∙ least) (counted ∙ ap (λ (x : List NodeEntry). length x) g) fits
 
 pub settled_short_from : (m u v w : Store) (l n c at : ℕ) (i : Member) (e y : NodeEntry) (others fs : List NodeEntry) (below s : Shrunk) (bound : Rect) (g : Grown) (inner : Bool)
-    → e.child ≡ c → below.bound ≡ Some bound → Settles m u l n i e others below
-    → at < length others → y ≡ get_or others at y → inner ≡ is_inner l → (same y.child c ≡ 0 → Balances u v inner c y.child g)
+    → e.child ≡ c → below.bound ≡ Some bound → SettlesEntry m u l n i e others below
+    → at < length others → y ≡ get_or others at y → inner ≡ is_inner l → (same y.child c ≡ 0 → BalancesNodes u v inner c y.child g)
     → fs ≡ swap_remove others at y ++ raised c g → WritesNode v w n true fs → bound_of fs ≡ s.bound → s.size ≡ length fs → s.size ≤ 126
     → RemovesUnder m w (suc l) n i s
 settled_short_from m u v w l n c at i e y others fs below s bound g inner ec b st lt is inn ba f a least counted fits =
     let rest : List NodeEntry = swap_remove others at y in
     let h : fs ≡ rest ++ raised e.child g = f ∙ ap (λ (x : ℕ). rest ++ raised x g) (sym ec) in
     let W : List NodeEntry → Type 0 = λ x. WritesNode v w n true x in
-    let B : ℕ → Type 0 = λ x. same y.child x ≡ 0 → Balances u v (is_inner l) x y.child g in
-    let C : Bool → Type 0 = λ x. same y.child c ≡ 0 → Balances u v x c y.child g in
+    let B : ℕ → Type 0 = λ x. same y.child x ≡ 0 → BalancesNodes u v (is_inner l) x y.child g in
+    let C : Bool → Type 0 = λ x. same y.child c ≡ 0 → BalancesNodes u v x c y.child g in
     settled_short m u v w l n i e y others rest below s bound g b st (IsPermutation-swap_remove others at y lt is) (subst B (sym ec) (subst C inn ba)) (subst W h a)
     (sym (ap (λ (x : List NodeEntry). bound_of x) h) ∙ least) (counted ∙ ap (λ (x : List NodeEntry). length x) h) fits
 
@@ -219,7 +219,7 @@ leaf_lacks m n i es ds e f h =
 
 -- an entry less in a leaf, with the entries as they were handed on
 pub leaf_took_from : (m m0 w : Store) (n at : ℕ) (i : Member) (s : Shrunk) (x : NodeEntry) (es ds fs : List NodeEntry) → m0 ≡ m → ds ≡ es → fs ≡ swap_remove es at x
-    → node_at m n ≡ node false es → Subtree m 0 n → at < length ds → x ≡ get_or es at x
+    → node_at m n ≡ node false es → NodeTree m 0 n → at < length ds → x ≡ get_or es at x
     → ((e : NodeEntry) → e ≡ get_or ds at e → member_of e ≡ i) → WritesNode m0 w n false fs → bound_of fs ≡ s.bound → s.size ≡ length fs → s.size ≤ 126 → RemovesUnder m w 0 n i s
 leaf_took_from m m0 w n at i s x es ds fs e0 ed ef e t lt is j a b c fits =
     let W : List NodeEntry → Type 0 = λ y. WritesNode m w n false y in
@@ -238,7 +238,7 @@ lacks_more m l at i d es lt h k =
     (Each-append (λ j. j ≢ i) (members_in m (suc l) (take at es)) (members_in m (suc l) (x ∷ [])) h (Each-append (λ j. j ≢ i) (members_under m l x.child) [] k tt)))
 
 -- a member isn't under an entry whose rectangle doesn't hold its box
-pub past_lacks : (m : Store) (l n at : ℕ) (i : Member) (d : NodeEntry) (es : List NodeEntry) → node_at m n ≡ node true es → Subtree m (suc l) n → at < length es
+pub past_lacks : (m : Store) (l n at : ℕ) (i : Member) (d : NodeEntry) (es : List NodeEntry) → node_at m n ≡ node true es → NodeTree m (suc l) n → at < length es
     → covers (box_of (get_or es at d).rough) (box_of i.1) ≡ false → Lacks m l (get_or es at d).child i
 past_lacks m l n at i d es e t lt c =
     let S : List NodeEntry → Type 0 = λ x. StandsUnder m (suc l) x in
@@ -264,8 +264,8 @@ get_same (e ∷ es) (suc at) x y lt = get_same es at x y (omega arith)
 
 -- the entry under which a member was found, beside the others
 pub settles_from : (m m0 u : Store) (l n at : ℕ) (i : Member) (e x : NodeEntry) (es fs : List NodeEntry) (below : Shrunk) → m0 ≡ m → node_at m n ≡ node true es
-    → Subtree m (suc l) n → at < length es → e ≡ get_or es at e → x ≡ get_or es at x → fs ≡ swap_remove es at x
-    → RemovesUnder m0 u l e.child i below → Settles m u l n i e fs below
+    → NodeTree m (suc l) n → at < length es → e ≡ get_or es at e → x ≡ get_or es at x → fs ≡ swap_remove es at x
+    → RemovesUnder m0 u l e.child i below → SettlesEntry m u l n i e fs below
 settles_from m m0 u l n at i e x es fs below s is t lt ie ix f r =
     let xe : x ≡ e = ix ∙ (get_same es at x e lt ∙ sym ie) in
     let P : NodeEntry → Type 0 = λ y. IsPermutation es (y ∷ swap_remove es at x) in

@@ -11,11 +11,11 @@ use Rattle.r_tree.specs.declared.entry.NodeEntry.{NodeEntry}
 use Rattle.r_tree.specs.declared.insert.Grown.TheVariants.{Kept, Split}
 use Rattle.r_tree.specs.declared.remove.Shrunk.{Shrunk}
 use Rattle.r_tree.specs.Entry.{Member, members_of, branch, bound_of, member_ids}
-use Rattle.r_tree.specs.Page.{NodeView, node, entries_of}
-use Rattle.r_tree.specs.Tree.{node_at, entries_at, members_in, members_under, pages_below, pages_under, is_inner, StandsUnder, StandsAt, IsRootAt}
+use Rattle.r_tree.specs.Page.{NodeView, node, node_entries}
+use Rattle.r_tree.specs.Tree.{node_at, entries_at, members_in, members_under, pages_below, pages_under, is_inner, StandsUnder, NodeStandsAt, IsRootAt}
 use Rattle.r_tree.specs.Calls.{IsUnlisted}
-use Rattle.r_tree.specs.Steps.{GainsNode, weigh, Moves, raised, AllFilled, LeadsToTree, InsertsUnder, RemovesUnder, LoneChild}
-use Rattle.r_tree.proofs.Rows.{one_members, one_pages, InStays, in_stays, node_stays}
+use Rattle.r_tree.specs.Steps.{GainsNode, weigh, Moves, raised, AllFilled, LeadsToTree, EntersUnder, RemovesUnder, LoneChild}
+use Rattle.r_tree.proofs.EntryTrees.{one_members, one_pages, InStays, in_stays, node_stays}
 use Rattle.r_tree.proofs.Writes.{live_gained, live_freed}
 use Rattle.r_tree.proofs.Raises.{moves_next, moves_beside, owns_after}
 use Rattle.r_tree.proofs.Inserts.{read_as}
@@ -59,7 +59,7 @@ one_root m w l n r P I less more a = moves_beside m w P (pages_below w (suc l) (
 
 -- the root is whole after a member was entered
 pub inserted_kept : (m w : Store) (l n : ℕ) (bound : Option Rect) (i : Member) (r : Rect) → IsRootAt m l n bound → IsUnlisted i.0 (members_under m l n)
-    → InsertsUnder m w l n i (Kept r) → Rooted m w l n (Some r) (pages_under m l n) (members_under m l n) [] (i ∷ [])
+    → EntersUnder m w l n i (Kept r) → Rooted m w l n (Some r) (pages_under m l n) (members_under m l n) [] (i ∷ [])
 inserted_kept m w l n bound i r t u ins =
     let mv : Moves m w (pages_under m l n) (pages_under w l n) (members_under m l n) (members_under w l n) [] (i ∷ []) =
     one_root m w l n r (pages_under m l n) (members_under m l n) [] (i ∷ []) ins.moves in
@@ -76,7 +76,7 @@ inserted_kept m w l n bound i r t u ins =
 
 -- a new page over what stands
 pub record Raised (u w : Store) (l n : ℕ) (es : List NodeEntry) : Type 0 where
-  pub stands : StandsAt w l n
+  pub stands : NodeStandsAt w l n
   pub entries : entries_at w n ≡ es
   pub moves : Moves u w (pages_below u l es) (pages_under w l n) (members_in u l es) (members_under w l n) [] []
 
@@ -105,7 +105,7 @@ filled_row u l n r s p le f = ((le.0.0, (f.0, le.0.1)), ((le.1.0.0, (f.1.0, le.1
 
 -- the root was split, and a new root stands over both halves
 pub inserted_split : (m u w : Store) (l n root : ℕ) (bound b : Option Rect) (i : Member) (r s : Rect) (p : ℕ) (es : List NodeEntry) → es ≡ raised n (Split r s p)
-    → IsRootAt m l n bound → IsUnlisted i.0 (members_under m l n) → InsertsUnder m u l n i (Split r s p)
+    → IsRootAt m l n bound → IsUnlisted i.0 (members_under m l n) → EntersUnder m u l n i (Split r s p)
     → GainsNode u w root true es → b ≡ bound_of es → Rooted m w (suc l) root b (pages_under m l n) (members_under m l n) [] (i ∷ [])
 inserted_split m u w l n root bound b i r s p es e t un ins a be =
     let row : List NodeEntry = raised n (Split r s p) in
@@ -176,10 +176,10 @@ removed_falls m u w l n child bound i s t r lone f =
     λ q. omega (arith, ap (λ (x : List NodeEntry). times q (pages_below u (suc l) x)) ee, one_pages q u l e) in
     let apart : (q : ℕ) → 1 ≤ same q e.child + times q (pages_below u l (entries_at u e.child)) → same q n ≡ 0 = λ q k. omega (arith, k, P q, o q, live_small u q) in
     let nn : node_at w e.child ≡ node_at u e.child = node_stays u w e.child (f.others e.child (apart e.child (omega (arith, same_self e.child)))) in
-    let ce : entries_at w e.child ≡ entries_at u e.child = ap (λ (v : NodeView). entries_of v) nn in
+    let ce : entries_at w e.child ≡ entries_at u e.child = ap (λ (v : NodeView). node_entries v) nn in
     let stay : InStays u w l (entries_at u e.child) = in_stays u w l (entries_at u e.child) (λ q k. f.others q (apart q (omega (arith, k)))) in
     let W : List NodeEntry → Type 0 = λ x. StandsUnder w l x in
-    let stands : StandsAt w l e.child = (
+    let stands : NodeStandsAt w l e.child = (
       record {
         is = nn ∙ (st.0.1.1.0.is ∙ sym (ap (λ (x : List NodeEntry). node (is_inner l) x) ce));
         fits = omega (arith, ap (λ (x : List NodeEntry). length x) ce, st.0.1.1.0.fits);

@@ -10,12 +10,12 @@ use Rattle.code_btree.specs.Tree.{Store, same, times, live}
 use Rattle.code_btree.proofs.Lists.{same_self, live_small, live_same, times-append, Each-append, Each-map, Each-zip, flat_map-same}
 use Rattle.r_tree.specs.declared.entry.NodeEntry.{NodeEntry}
 use Rattle.r_tree.specs.Entry.{Member, branch, bound_of, members_of}
-use Rattle.r_tree.specs.Page.{NodeView, node, entries_of}
+use Rattle.r_tree.specs.Page.{NodeView, node, node_entries}
 use Rattle.r_tree.specs.Tree.{node_at, entries_at, members_in, members_under, pages_below, pages_under, is_inner, IsNodeAt, Encloses, StandsUnder}
 use Rattle.r_tree.specs.Calls.{HasEachIdOnce}
-use Rattle.r_tree.specs.Steps.{GainsNode, weigh, children, grandchildren, LeadsToNode, Lays, AllFilled, Tiles, IsTop, LeadsToTree}
+use Rattle.r_tree.specs.Steps.{GainsNode, weigh, children, grandchildren, LeadsToNode, Lays, AllFilled, LaysNodes, IsTop, LeadsToTree}
 use Rattle.r_tree.proofs.Bags.{length-perm}
-use Rattle.r_tree.proofs.Rows.{node_stays}
+use Rattle.r_tree.proofs.EntryTrees.{node_stays}
 use Rattle.r_tree.proofs.Writes.{new_laid}
 use Rattle.r_tree.proofs.Raises.{moves_next, owns_after, Laid, laid}
 use Rattle.r_tree.proofs.Inserts.{read_as}
@@ -23,7 +23,7 @@ use Rattle.r_tree.proofs.Roots.{Rooted, Raised, raised_over, ids_weigh}
 
 -- a part that has room in one new node
 pub tiled_one : (m w : Store) (n : ℕ) (inner : Bool) (es before after : List NodeEntry) (r : Rect) → length es ≤ 126 → bound_of es ≡ Some r → GainsNode m w n inner es
-    → after ≡ before ++ branch r n ∷ [] → Tiles m w inner es before after
+    → after ≡ before ++ branch r n ∷ [] → LaysNodes m w inner es before after
 tiled_one m w n inner es before after r l b a e = record {
   row = branch r n ∷ [];
   joined = e;
@@ -39,7 +39,7 @@ row_lives u (e ∷ row) o = (omega (arith, o e.child, same_self e.child, live_sm
 -- a node stays, with the entry that leads to it
 lead_stays : (u w : Store) (inner : Bool) (e : NodeEntry) → node_at w e.child ≡ node_at u e.child → LeadsToNode u inner e → LeadsToNode w inner e
 lead_stays u w inner e nn s =
-    let ee : entries_at w e.child ≡ entries_at u e.child = ap (λ (v : NodeView). entries_of v) nn in
+    let ee : entries_at w e.child ≡ entries_at u e.child = ap (λ (v : NodeView). node_entries v) nn in
     record {
       is = nn ∙ (s.is ∙ sym (ap (λ (x : List NodeEntry). node inner x) ee));
       fits = omega (arith, s.fits, ap (λ (x : List NodeEntry). length x) ee);
@@ -48,7 +48,7 @@ lead_stays u w inner e nn s =
 
 -- it stays filled
 fill_stays : (u w : Store) (e : NodeEntry) → node_at w e.child ≡ node_at u e.child → 50 ≤ length (entries_at u e.child) → 50 ≤ length (entries_at w e.child)
-fill_stays u w e nn k = omega (arith, k, ap (λ (v : NodeView). length (entries_of v)) nn)
+fill_stays u w e nn k = omega (arith, k, ap (λ (v : NodeView). length (node_entries v)) nn)
 
 -- how often a page is a child of two rows
 children-append : (q : ℕ) (xs ys : List NodeEntry) → times q (children (xs ++ ys)) ≡ times q (children xs) + times q (children ys)
@@ -60,11 +60,11 @@ under_both u w xs ys h =
     flat_map-append (λ (e : NodeEntry). entries_at w e.child) xs ys
     ∙ ap (λ (x : List NodeEntry). x ++ grandchildren w ys)
     (flat_map-same (λ (e : NodeEntry). entries_at w e.child) (λ (e : NodeEntry). entries_at u e.child) xs
-    (Each-map (λ e. node_at w e.child ≡ node_at u e.child) (λ e. entries_at w e.child ≡ entries_at u e.child) (λ e k. ap (λ (v : NodeView). entries_of v) k) xs h))
+    (Each-map (λ e. node_at w e.child ≡ node_at u e.child) (λ e. entries_at w e.child ≡ entries_at u e.child) (λ e k. ap (λ (v : NodeView). node_entries v) k) xs h))
 
 -- two parts, one after the other
 pub tiled_two : (m u w : Store) (inner : Bool) (es left right before mid after : List NodeEntry) → IsPermutation es (left ++ right) → 50 ≤ length left → 50 ≤ length right
-    → Tiles m u inner left before mid → Tiles u w inner right mid after → Tiles m w inner es before after
+    → LaysNodes m u inner left before mid → LaysNodes u w inner right mid after → LaysNodes m w inner es before after
 tiled_two m u w inner es left right before mid after p few_left few_right a b =
     let lives : Each (λ e. live u e.child ≡ 1) a.row = row_lives u a.row (λ q. omega (arith, a.lays.moved q)) in
     let stay : Each (λ e. node_at w e.child ≡ node_at u e.child) a.row =
@@ -100,7 +100,7 @@ room_in w inner [] n = omega arith
 room_in w inner (e ∷ row) n = omega (arith, n.0.fits, room_in w inner row n.1, length-append (entries_at w e.child) (grandchildren w row))
 
 -- a level has fewer nodes than entries
-pub level_fewer : (u w : Store) (inner : Bool) (es row : List NodeEntry) → 127 ≤ length es → Tiles u w inner es [] row → length row < length es
+pub level_fewer : (u w : Store) (inner : Bool) (es row : List NodeEntry) → 127 ≤ length es → LaysNodes u w inner es [] row → length row < length es
 level_fewer u w inner es row many a = omega (
   arith,
   many,
@@ -122,7 +122,7 @@ level_first m es is e = record {
 }
 
 -- one level more
-pub level_next : (m u w : Store) (l : ℕ) (es row : List NodeEntry) (is : List Member) → 127 ≤ length es → IsTop m u l es is → Tiles u w (is_inner l) es [] row → IsTop m w (suc l) row is
+pub level_next : (m u w : Store) (l : ℕ) (es row : List NodeEntry) (is : List Member) → 127 ≤ length es → IsTop m u l es is → LaysNodes u w (is_inner l) es [] row → IsTop m w (suc l) row is
 level_next m u w l es row is many h a =
     let L : List NodeEntry → Type 0 = λ x. Lays u w [] x es (is_inner l) in
     let F : List NodeEntry → Type 0 = λ x. AllFilled w x in

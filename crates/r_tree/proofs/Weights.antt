@@ -9,7 +9,7 @@ use Rattle.sand_base.specs.declared.rough.Rough.TheVariants as rough
 use Rattle.code_btree.specs.Tree.{same}
 use Rattle.code_btree.proofs.Lists.{same_cases, same_self}
 use Rattle.r_tree.specs.Entry.{Member}
-use Rattle.r_tree.specs.Page.{rough_of}
+use Rattle.r_tree.specs.Page.{rough_of_tag}
 use Rattle.r_tree.specs.Steps.{weigh}
 use Rattle.r_tree.proofs.Bags.{weigh-perm}
 
@@ -57,7 +57,7 @@ abbrev point_at : List ℕ → ℕ → Point
 point_at ns k = record { x = get_or ns k 0; y = get_or ns (k + 1) 0 }
 
 abbrev rough_back : List ℕ → Rough
-rough_back ns = rough_of (get_or ns 0 0) (point_at ns 1) (point_at ns 3)
+rough_back ns = rough_of_tag (get_or ns 0 0) (point_at ns 1) (point_at ns 3)
 
 rough_is : (r : Rough) → rough_back (rough_numbers r) ≡ r
 rough_is (rough.Point p) = refl

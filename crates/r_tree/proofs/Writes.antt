@@ -8,7 +8,7 @@ use Rattle.code_btree.specs.Steps.{Wrote, Gained, Freed}
 use Rattle.code_btree.proofs.Lists.{same_cases, same_self, live_same, live_some, live_none}
 use Rattle.r_tree.specs.declared.entry.NodeEntry.{NodeEntry}
 use Rattle.r_tree.specs.Entry.{branch, bound_of}
-use Rattle.r_tree.specs.Page.{NodeView, node, node_in, node_of, entries_of}
+use Rattle.r_tree.specs.Page.{NodeView, node, rtree_node_in, rtree_node, node_entries}
 use Rattle.r_tree.specs.Tree.{node_at, entries_at}
 use Rattle.r_tree.specs.Steps.{WritesNode, GainsNode, grandchildren, LeadsToNode, AllFilled, Lays}
 
@@ -34,16 +34,16 @@ live_freed u w n a q = elim (same_cases q n) [
 ]
 
 -- a page that was written or gained with the bytes of a node
-pub node_wrote : (m w : Store) (n : ℕ) (page : List ℕ) (inner : Bool) (es : List NodeEntry) → node_of page ≡ node inner es → Wrote m w n page → WritesNode m w n inner es
-node_wrote m w n page inner es e a = record { before = a.before; now = live_some w n page a.now; is = ap (λ (o : Option (List ℕ)). node_in o) a.now ∙ e; others = a.others }
+pub node_wrote : (m w : Store) (n : ℕ) (page : List ℕ) (inner : Bool) (es : List NodeEntry) → rtree_node page ≡ node inner es → Wrote m w n page → WritesNode m w n inner es
+node_wrote m w n page inner es e a = record { before = a.before; now = live_some w n page a.now; is = ap (λ (o : Option (List ℕ)). rtree_node_in o) a.now ∙ e; others = a.others }
 
-pub node_gained : (m w : Store) (n : ℕ) (page : List ℕ) (inner : Bool) (es : List NodeEntry) → node_of page ≡ node inner es → Gained m w n page → GainsNode m w n inner es
-node_gained m w n page inner es e a = record { before = live_none m n a.before; now = live_some w n page a.now; is = ap (λ (o : Option (List ℕ)). node_in o) a.now ∙ e; others = a.others }
+pub node_gained : (m w : Store) (n : ℕ) (page : List ℕ) (inner : Bool) (es : List NodeEntry) → rtree_node page ≡ node inner es → Gained m w n page → GainsNode m w n inner es
+node_gained m w n page inner es e a = record { before = live_none m n a.before; now = live_some w n page a.now; is = ap (λ (o : Option (List ℕ)). rtree_node_in o) a.now ∙ e; others = a.others }
 
 -- a node that was written, and the entry that leads to it
 leads : (w : Store) (n : ℕ) (inner : Bool) (es : List NodeEntry) (r : Rect) → node_at w n ≡ node inner es → length es ≤ 126 → bound_of es ≡ Some r → LeadsToNode w inner (branch r n)
 leads w n inner es r e l b =
-    let ee : entries_at w n ≡ es = ap (λ (v : NodeView). entries_of v) e in
+    let ee : entries_at w n ≡ es = ap (λ (v : NodeView). node_entries v) e in
     record {
       is = e ∙ ap (λ (x : List NodeEntry). node inner x) (sym ee);
       fits = omega (arith, l, ap (λ (x : List NodeEntry). length x) ee);
@@ -51,19 +51,19 @@ leads w n inner es r e l b =
     }
 
 at_node : (w v : Store) (n : ℕ) (inner : Bool) (es : List NodeEntry) → w n ≡ v n → node_at v n ≡ node inner es → node_at w n ≡ node inner es
-at_node w v n inner es e is = ap (λ (o : Option (List ℕ)). node_in o) e ∙ is
+at_node w v n inner es e is = ap (λ (o : Option (List ℕ)). rtree_node_in o) e ∙ is
 
 in_one : (w : Store) (n : ℕ) (inner : Bool) (es : List NodeEntry) (r : Rect) → node_at w n ≡ node inner es → IsPermutation es (grandchildren w (branch r n ∷ []))
 in_one w n inner es r e =
-    let ee : entries_at w n ≡ es = ap (λ (v : NodeView). entries_of v) e in
+    let ee : entries_at w n ≡ es = ap (λ (v : NodeView). node_entries v) e in
     let P : List NodeEntry → Type 0 = λ x. IsPermutation es x in
     subst P (sym (append-nil (entries_at w n) ∙ ee)) (IsPermutation-refl es)
 
 in_two : (w : Store) (n r : ℕ) (inner : Bool) (es left right : List NodeEntry) (b s : Rect) → node_at w n ≡ node inner left → node_at w r ≡ node inner right
     → IsPermutation es (left ++ right) → IsPermutation es (grandchildren w (branch b n ∷ (branch s r ∷ [])))
 in_two w n r inner es left right b s e f p =
-    let ee : entries_at w n ≡ left = ap (λ (v : NodeView). entries_of v) e in
-    let ff : entries_at w r ≡ right = ap (λ (v : NodeView). entries_of v) f in
+    let ee : entries_at w n ≡ left = ap (λ (v : NodeView). node_entries v) e in
+    let ff : entries_at w r ≡ right = ap (λ (v : NodeView). node_entries v) f in
     let P : List NodeEntry → Type 0 = λ x. IsPermutation es x in
     subst P (sym (ap₂ (λ (x y : List NodeEntry). x ++ y) ee (append-nil (entries_at w r) ∙ ff))) p
 
@@ -98,8 +98,8 @@ pub record Parts (es left right : List NodeEntry) (b s : Rect) : Type 0 where
 filled : (w : Store) (n r : ℕ) (inner : Bool) (es left right : List NodeEntry) (b s : Rect) → Parts es left right b s → node_at w n ≡ node inner left
     → node_at w r ≡ node inner right → AllFilled w (branch b n ∷ (branch s r ∷ []))
 filled w n r inner es left right b s p e f = (
-  omega (arith, p.left_full, ap (λ (v : NodeView). length (entries_of v)) e),
-  (omega (arith, p.right_full, ap (λ (v : NodeView). length (entries_of v)) f), tt),
+  omega (arith, p.left_full, ap (λ (v : NodeView). length (node_entries v)) e),
+  (omega (arith, p.right_full, ap (λ (v : NodeView). length (node_entries v)) f), tt),
 )
 
 -- one node was written, and one gained

@@ -5,7 +5,7 @@ use Rattle.code_btree.specs.Tree.{Store, times}
 use Rattle.code_btree.specs.Calls.{Keeps}
 use Rattle.r_tree.specs.declared.tree.RTree.{RTree}
 use Rattle.r_tree.specs.Entry.{Member, member_ids}
-use Rattle.r_tree.specs.Tree.{IsRTree, tree_members, tree_pages}
+use Rattle.r_tree.specs.Tree.{IsRTree, tree_members, rtree_pages}
 
 -- no member that is listed has this id
 abbrev pub IsUnlisted : ℕ → List Member → Type 0
@@ -16,7 +16,7 @@ abbrev pub HasEachIdOnce : List Member → Type 0
 HasEachIdOnce is = (id : ℕ) → times id (member_ids is) ≤ 1
 
 -- the id is listed with this rough shape, among others
-pub record IsListed (id : ℕ) (shape : Rough) (is : List Member) : Type 0 where
+pub record IsListedMember (id : ℕ) (shape : Rough) (is : List Member) : Type 0 where
   pub others : List Member
   pub order : IsPermutation is ((id, shape) ∷ others)
 
@@ -25,18 +25,18 @@ pub record PlantsTree (m w : Store) (t : RTree) (number : ℕ) (is : List Member
   pub tree : IsRTree w t
   pub numbered : t.number ≡ number
   pub lists : IsPermutation is (tree_members w t)
-  pub keeps : Keeps m w [] (tree_pages w t)
+  pub keeps : Keeps m w [] (rtree_pages w t)
 
 -- The tree lists this member besides those of before, and no page but its own was touched.
 pub record InsertsMember (m w : Store) (t u : RTree) (id : ℕ) (shape : Rough) : Type 0 where
   pub tree : IsRTree w u
   pub numbered : u.number ≡ t.number
   pub lists : IsPermutation ((id, shape) ∷ tree_members m t) (tree_members w u)
-  pub keeps : Keeps m w (tree_pages m t) (tree_pages w u)
+  pub keeps : Keeps m w (rtree_pages m t) (rtree_pages w u)
 
 -- The tree lists the members of before without this one, and no page but its own was touched.
 pub record RemovesMember (m w : Store) (t u : RTree) (id : ℕ) (shape : Rough) : Type 0 where
   pub tree : IsRTree w u
   pub numbered : u.number ≡ t.number
   pub lists : IsPermutation (tree_members m t) ((id, shape) ∷ tree_members w u)
-  pub keeps : Keeps m w (tree_pages m t) (tree_pages w u)
+  pub keeps : Keeps m w (rtree_pages m t) (rtree_pages w u)

@@ -8,3 +8,5 @@ pub mod Calls
 pub mod Nodes
 -- What only the proof needs.
 pub mod Steps
+-- The rows that an R-tree lists.
+pub mod Listing

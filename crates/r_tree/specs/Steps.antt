@@ -11,7 +11,7 @@ use Rattle.r_tree.specs.declared.insert.Grown.TheVariants.{Kept, Split}
 use Rattle.r_tree.specs.declared.remove.Shrunk.{Shrunk}
 use Rattle.r_tree.specs.Entry.{Member, box_of, branch, bound_of}
 use Rattle.r_tree.specs.Page.{node}
-use Rattle.r_tree.specs.Tree.{node_at, entries_at, members_in, members_under, pages_below, pages_under, Encloses, StandsUnder, StandsAt}
+use Rattle.r_tree.specs.Tree.{node_at, entries_at, members_in, members_under, pages_below, pages_under, Encloses, StandsUnder, NodeStandsAt}
 use Rattle.r_tree.specs.Ways.{ways_below}
 
 -- page n was written as this node, and no other page changed
@@ -65,7 +65,7 @@ abbrev pub AllFilled : Store → List NodeEntry → Type 0
 AllFilled m row = Each (λ e. 50 ≤ length (entries_at m e.child)) row
 
 -- Entries were laid into new nodes, filled where they are enough, and the entries that lead to these were put behind a row.
-pub record Tiles (m w : Store) (inner : Bool) (es before after : List NodeEntry) : Type 0 where
+pub record LaysNodes (m w : Store) (inner : Bool) (es before after : List NodeEntry) : Type 0 where
   pub row : List NodeEntry
   pub joined : after ≡ before ++ row
   pub lays : Lays m w [] row es inner
@@ -79,7 +79,7 @@ pub record IsTop (m w : Store) (level : ℕ) (es : List NodeEntry) (is : List Me
 
 -- an entry leads to a tree, and is the least rectangle round it
 abbrev pub LeadsToTree : Store → ℕ → NodeEntry → Type 0
-LeadsToTree m level e = Encloses m e × StandsAt m level e.child
+LeadsToTree m level e = Encloses m e × NodeStandsAt m level e.child
 
 -- the entries that lead to page n after it grew: one, or two where it was split
 abbrev pub raised : ℕ → Grown → List NodeEntry
@@ -92,24 +92,24 @@ IsFilledIfSplit m n (Kept bound) = Unit {0}
 IsFilledIfSplit m n (Split bound right_bound right) = AllFilled m (raised n (Split bound right_bound right))
 
 -- the page has no fewer entries than before, or was split in two that are filled
-abbrev pub Grows : Store → Store → ℕ → Grown → Type 0
-Grows m w n (Kept bound) = length (entries_at m n) ≤ length (entries_at w n)
-Grows m w n (Split bound right_bound right) = AllFilled w (raised n (Split bound right_bound right))
+abbrev pub GrowsNode : Store → Store → ℕ → Grown → Type 0
+GrowsNode m w n (Kept bound) = length (entries_at m n) ≤ length (entries_at w n)
+GrowsNode m w n (Split bound right_bound right) = AllFilled w (raised n (Split bound right_bound right))
 
 -- a tree under page n, on live pages of its own
-pub record Subtree (m : Store) (level n : ℕ) : Type 0 where
-  pub stands : StandsAt m level n
+pub record NodeTree (m : Store) (level n : ℕ) : Type 0 where
+  pub stands : NodeStandsAt m level n
   pub owns : (q : ℕ) → times q (pages_under m level n) ≤ live m q
 
 -- a member was entered under page n
-pub record InsertsUnder (m w : Store) (level n : ℕ) (i : Member) (grown : Grown) : Type 0 where
+pub record EntersUnder (m w : Store) (level n : ℕ) (i : Member) (grown : Grown) : Type 0 where
   pub leads : Each (LeadsToTree w level) (raised n grown)
-  pub grows : Grows m w n grown
+  pub grows : GrowsNode m w n grown
   pub moves : Moves m w (pages_under m level n) (pages_below w (suc level) (raised n grown)) (members_under m level n) (members_in w (suc level) (raised n grown)) [] (i ∷ [])
 
 -- a member was taken from under page n, which has one entry less at most
 pub record RemovesUnder (m w : Store) (level n : ℕ) (i : Member) (shrunk : Shrunk) : Type 0 where
-  pub stands : StandsAt w level n
+  pub stands : NodeStandsAt w level n
   pub least : bound_of (entries_at w n) ≡ shrunk.bound
   pub counted : shrunk.size ≡ length (entries_at w n)
   pub lost : length (entries_at m n) ≤ length (entries_at w n) + 1
@@ -125,19 +125,20 @@ TakesUnder m w level n i None = Lacks m level n i
 TakesUnder m w level n i (Some shrunk) = RemovesUnder m w level n i shrunk
 
 -- two nodes of one level became one, or two others, and all are filled
-pub record Balances (m w : Store) (inner : Bool) (a b : ℕ) (grown : Grown) : Type 0 where
+pub record BalancesNodes (m w : Store) (inner : Bool) (a b : ℕ) (grown : Grown) : Type 0 where
   pub lays : Lays m w (a ∷ (b ∷ [])) (raised a grown) (entries_at m a ++ entries_at m b) inner
   pub full : 99 ≤ length (entries_at m a) + length (entries_at m b) → AllFilled w (raised a grown)
 
 -- A member was taken from under one entry of page n, whose child stands at this level; these are the other entries.
-pub record Settles (m u : Store) (level n : ℕ) (i : Member) (e : NodeEntry) (others : List NodeEntry) (below : Shrunk) : Type 0 where
-  pub old : Subtree m (suc level) n
+pub record SettlesEntry (m u : Store) (level n : ℕ) (i : Member) (e : NodeEntry) (others : List NodeEntry) (below : Shrunk) : Type 0 where
+  pub old : NodeTree m (suc level) n
   pub among : IsPermutation (entries_at m n) (e ∷ others)
   pub removed : RemovesUnder m u level e.child i below
 
 -- Wherever a member was taken from under an entry of page n that leads to this child, it is taken from under page n.
-abbrev pub IsSettled : Store → Store → ℕ → ℕ → ℕ → List NodeEntry → Shrunk → Shrunk → Type 0
-IsSettled u w level n child others below shrunk = (m : Store) (i : Member) (e : NodeEntry) → e.child ≡ child → Settles m u level n i e others below → RemovesUnder m w (suc level) n i shrunk
+abbrev pub IsTakenFromUnder : Store → Store → ℕ → ℕ → ℕ → List NodeEntry → Shrunk → Shrunk → Type 0
+IsTakenFromUnder u w level n child others below shrunk = (m : Store) (i : Member) (e : NodeEntry) → e.child ≡ child → SettlesEntry m u level n i e others below
+    → RemovesUnder m w (suc level) n i shrunk
 
 -- page n is an inner node whose one entry leads to this child
 pub record LoneChild (m : Store) (n child : ℕ) : Type 0 where

@@ -7,15 +7,15 @@ use Rattle.code_btree.specs.Tree.{Store, times, live}
 use Rattle.r_tree.specs.declared.entry.NodeEntry.{NodeEntry}
 use Rattle.r_tree.specs.declared.tree.RTree.{RTree}
 use Rattle.r_tree.specs.Entry.{Member, box_of, branch, members_of, bound_of, member_ids}
-use Rattle.r_tree.specs.Page.{NodeView, node, node_in, entries_of}
+use Rattle.r_tree.specs.Page.{NodeView, node, rtree_node_in, node_entries}
 
 -- the node at a page number
 abbrev pub node_at : Store → ℕ → NodeView
-node_at m n = node_in (m n)
+node_at m n = rtree_node_in (m n)
 
 -- its entries
 abbrev pub entries_at : Store → ℕ → List NodeEntry
-entries_at m n = entries_of (node_at m n)
+entries_at m n = node_entries (node_at m n)
 
 -- what the entries of a node list, which stands so many levels above the leaves
 abbrev pub members_in : Store → ℕ → List NodeEntry → List Member
@@ -56,12 +56,12 @@ StandsUnder m zero es = Unit {0}
 StandsUnder m (suc level) es = Each (λ e. Encloses m e × ((50 ≤ length (entries_at m e.child)) × (IsNodeAt m level e.child × StandsUnder m level (entries_at m e.child)))) es
 
 -- page n is the top of a tree of leaves of one depth, in which every node under it is filled
-abbrev pub StandsAt : Store → ℕ → ℕ → Type 0
-StandsAt m level n = IsNodeAt m level n × StandsUnder m level (entries_at m n)
+abbrev pub NodeStandsAt : Store → ℕ → ℕ → Type 0
+NodeStandsAt m level n = IsNodeAt m level n × StandsUnder m level (entries_at m n)
 
 -- Page n is the root of a tree. An inner root has two entries. No page stands twice. The rectangle is the least round all entries. No id is listed twice.
 pub record IsRootAt (m : Store) (level n : ℕ) (bound : Option Rect) : Type 0 where
-  pub stands : StandsAt m level n
+  pub stands : NodeStandsAt m level n
   pub top : 1 ≤ level → 2 ≤ length (entries_at m n)
   pub owns : (q : ℕ) → times q (pages_under m level n) ≤ live m q
   pub least : bound_of (entries_at m n) ≡ bound
@@ -72,8 +72,8 @@ abbrev pub tree_members : Store → RTree → List Member
 tree_members m t = members_under m (t.height - 1) t.root
 
 -- a tree's pages, on which alone it depends
-abbrev pub tree_pages : Store → RTree → List ℕ
-tree_pages m t = pages_under m (t.height - 1) t.root
+abbrev pub rtree_pages : Store → RTree → List ℕ
+rtree_pages m t = pages_under m (t.height - 1) t.root
 
 -- The root's pages are a tree of this height and rectangle; of height 1 is a lone leaf.
 pub record IsRTree (m : Store) (t : RTree) : Type 0 where

@@ -4,7 +4,7 @@ ghost use Rattle.page_pool.specs.Causes.{HasPageCause};
 ghost use Rattle.page_pool.specs.Steps.{InCommand};
 ghost use Rattle.code_btree.specs.Tree.{pages_in};
 ghost use Rattle.r_tree.specs.Entry.{members_of};
-ghost use Rattle.r_tree.specs.Steps.{Tiles, IsTop};
+ghost use Rattle.r_tree.specs.Steps.{LaysNodes, IsTop};
 
 use crate::cut::order;
 use crate::entry::{NodeEntry, branch};
@@ -60,7 +60,7 @@ fn tile<D: Disk>(
     row: &mut Vec<NodeEntry>,
 ) -> Result<(), PageFault>
     requires opened { IsOpen pool.old }
-    ensures value { OnOk result (Tiles (pages_in pool.old) (pages_in pool.new) inner entries.old row.old.items row.new.items) }
+    ensures value { OnOk result (LaysNodes (pages_in pool.old) (pages_in pool.new) inner entries.old row.old.items row.new.items) }
     ensures within { InCommand pool.old pool.new }
     ensures gets { pool.new.gets ≡ pool.old.gets }
     ensures cause { HasPageCause pool.old pool.new result }
@@ -89,7 +89,7 @@ fn tile_level<D: Disk>(
     entries: &mut [NodeEntry],
 ) -> Result<Vec<NodeEntry>, PageFault>
     requires { IsOpen pool.old }
-    ensures value { IfOk result (λ row. Tiles (pages_in pool.old) (pages_in pool.new) inner entries.old [] row.items) }
+    ensures value { IfOk result (λ row. LaysNodes (pages_in pool.old) (pages_in pool.new) inner entries.old [] row.items) }
     ensures within { InCommand pool.old pool.new }
     ensures gets { pool.new.gets ≡ pool.old.gets }
     ensures cause { HasPageCause pool.old pool.new result }

@@ -4,7 +4,7 @@ ghost use Rattle.page_pool.specs.Causes.{HasPageCause};
 ghost use Rattle.page_pool.specs.Steps.{InCommand};
 ghost use Rattle.code_btree.specs.Tree.{pages_in};
 ghost use Rattle.r_tree.specs.Entry.{member_of};
-ghost use Rattle.r_tree.specs.Steps.{Lays, IsFilledIfSplit, raised, Subtree, InsertsUnder};
+ghost use Rattle.r_tree.specs.Steps.{Lays, IsFilledIfSplit, raised, NodeTree, EntersUnder};
 
 use crate::cut::cut;
 use crate::entry::{NodeEntry, box_of, branch};
@@ -107,8 +107,8 @@ fn insert_leaf<D: Disk>(
     entry: NodeEntry,
 ) -> Result<Grown, PageFault>
     requires opened { IsOpen pool.old }
-    requires tree { IsTold pool.old → Subtree (pages_in pool.old) 0 n }
-    ensures value { IfOk result (λ grown. IsTold pool.old → InsertsUnder (pages_in pool.old) (pages_in pool.new) 0 n (member_of entry) grown) }
+    requires tree { IsTold pool.old → NodeTree (pages_in pool.old) 0 n }
+    ensures value { IfOk result (λ grown. IsTold pool.old → EntersUnder (pages_in pool.old) (pages_in pool.new) 0 n (member_of entry) grown) }
     ensures within { InCommand pool.old pool.new }
     ensures gets { pool.new.gets ≤ pool.old.gets + 1 }
     ensures cause { HasPageCause pool.old pool.new result }
@@ -128,8 +128,8 @@ pub fn insert_under<D: Disk>(
     entry: NodeEntry,
 ) -> Result<Grown, PageFault>
     requires opened { IsOpen pool.old }
-    requires tree { IsTold pool.old → Subtree (pages_in pool.old) level n }
-    ensures value { IfOk result (λ grown. IsTold pool.old → InsertsUnder (pages_in pool.old) (pages_in pool.new) level n (member_of entry) grown) }
+    requires tree { IsTold pool.old → NodeTree (pages_in pool.old) level n }
+    ensures value { IfOk result (λ grown. IsTold pool.old → EntersUnder (pages_in pool.old) (pages_in pool.new) level n (member_of entry) grown) }
     ensures within { InCommand pool.old pool.new }
     ensures gets { pool.new.gets ≤ pool.old.gets + (level + 1) }
     ensures cause { HasPageCause pool.old pool.new result }

@@ -4,7 +4,7 @@ ghost use Rattle.page_pool.specs.Causes.{HasPageCause};
 ghost use Rattle.page_pool.specs.Steps.{InCommand};
 ghost use Rattle.code_btree.specs.Tree.{pages_in, same};
 ghost use Rattle.r_tree.specs.Entry.{branch};
-ghost use Rattle.r_tree.specs.Steps.{Lays, AllFilled, raised, Balances};
+ghost use Rattle.r_tree.specs.Steps.{Lays, AllFilled, raised, BalancesNodes};
 
 use crate::cut::cut;
 use crate::entry::NodeEntry;
@@ -85,7 +85,7 @@ pub fn balance<D: Disk>(
     inner: bool,
 ) -> Result<Grown, PageFault>
     requires { IsOpen pool.old }
-    ensures value { IfOk result (λ grown. IsTold pool.old → same b a ≡ 0 → Balances (pages_in pool.old) (pages_in pool.new) inner a b grown) }
+    ensures value { IfOk result (λ grown. IsTold pool.old → same b a ≡ 0 → BalancesNodes (pages_in pool.old) (pages_in pool.new) inner a b grown) }
     ensures within { InCommand pool.old pool.new }
     ensures gets { pool.new.gets ≤ pool.old.gets + 2 }
     ensures cause { HasPageCause pool.old pool.new result }

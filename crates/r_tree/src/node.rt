@@ -3,9 +3,9 @@ ghost use Rattle.page_pool.specs.Pool.{IsTold};
 ghost use Rattle.code_btree.specs.Tree.{pages_in};
 ghost use Rattle.code_btree.specs.Calls.{Looks};
 ghost use Rattle.r_tree.specs.Entry.{members_of};
-ghost use Rattle.r_tree.specs.Page.{node, page_entries, node_of};
+ghost use Rattle.r_tree.specs.Page.{node, page_entries, rtree_node};
 ghost use Rattle.r_tree.specs.Tree.{node_at};
-ghost use Rattle.r_tree.specs.Nodes.{branches_of, Shows, IsNodeOf};
+ghost use Rattle.r_tree.specs.Nodes.{branches_of, ShowsNode, IsTreeNode};
 
 use crate::entry::box_of;
 use crate::page::{Page, entry_at, node_count};
@@ -113,8 +113,8 @@ fn members_of(alloc: Global, page: &Page, count: usize) -> Result<Vec<(u32, Roug
 // The inner node that a page is.
 fn inner_node(alloc: Global, page: &Page, count: usize) -> Result<TreeNode, NoMemory>
     requires few { count ≤ 126 }
-    requires inner { node_of page.now ≡ node true (page_entries count page.now) }
-    ensures { IfOk result (λ found. Shows (node_of page.now) found) }
+    requires inner { rtree_node page.now ≡ node true (page_entries count page.now) }
+    ensures { IfOk result (λ found. ShowsNode (rtree_node page.now) found) }
 {
     let branches = branches_of(alloc, page, count)?;
     Ok(TreeNode::Inner(Branches::new(branches)))
@@ -123,8 +123,8 @@ fn inner_node(alloc: Global, page: &Page, count: usize) -> Result<TreeNode, NoMe
 // The leaf that a page is.
 fn leaf_node(alloc: Global, page: &Page, count: usize) -> Result<TreeNode, NoMemory>
     requires few { count ≤ 126 }
-    requires leaf { node_of page.now ≡ node false (page_entries count page.now) }
-    ensures { IfOk result (λ found. Shows (node_of page.now) found) }
+    requires leaf { rtree_node page.now ≡ node false (page_entries count page.now) }
+    ensures { IfOk result (λ found. ShowsNode (rtree_node page.now) found) }
 {
     let members = members_of(alloc, page, count)?;
     Ok(TreeNode::Leaf(Members::new(members)))
@@ -132,7 +132,7 @@ fn leaf_node(alloc: Global, page: &Page, count: usize) -> Result<TreeNode, NoMem
 
 // The node that a page is; other bytes, which no tree leads to, are refused as out of memory.
 fn tree_node(alloc: Global, page: &Page) -> Result<TreeNode, NoMemory>
-    ensures { IfOk result (λ found. Shows (node_of page.now) found) }
+    ensures { IfOk result (λ found. ShowsNode (rtree_node page.now) found) }
 {
     if let Some(count) = node_count(page, true) {
         let found = inner_node(alloc, page, count)?;
@@ -153,8 +153,8 @@ impl RTree {
         pages: &mut P,
         page: u64,
     ) -> Result<TreeNode, PageFault>
-        requires { IsTold (P.shown pages.old) → IsNodeOf (pages_in (P.shown pages.old)) self.now page }
-        ensures value { IfOk result (λ found. IsTold (P.shown pages.old) → Shows (node_at (pages_in (P.shown pages.old)) page) found) }
+        requires { IsTold (P.shown pages.old) → IsTreeNode (pages_in (P.shown pages.old)) self.now page }
+        ensures value { IfOk result (λ found. IsTold (P.shown pages.old) → ShowsNode (node_at (pages_in (P.shown pages.old)) page) found) }
         ensures looks { Looks (P.shown pages.old) (P.shown pages.new) 1 result }
     {
         let bytes = pages.live_page(page)?;

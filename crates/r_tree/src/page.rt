@@ -1,6 +1,6 @@
 ghost use Rattle.std.specs.Prelude.{◌≡◌, ℕ, cond, ◌+◌, ◌*◌, ◌^◌, ◌<◌, ◌≤◌, length, IfOk, IfSome};
 ghost use Rattle.code_btree.specs.Bytes.{piece, half_of, half_bytes, word_of, word_bytes, pasted};
-ghost use Rattle.r_tree.specs.Page.{point_of, entry_from, entry_of, page_entries, node, node_of};
+ghost use Rattle.r_tree.specs.Page.{point_of_halves, entry_from, node_entry, page_entries, node, rtree_node};
 
 use crate::entry::NodeEntry;
 use sand_base::{NoMemory, Point, Rect, Rough, Segment};
@@ -71,7 +71,7 @@ fn pair(high: u32, low: u32) -> u64
 
 // The point of two numbers of four bytes.
 fn point_of(word: u64) -> Point
-    ensures { result ≡ point_of word }
+    ensures { result ≡ point_of_halves word }
 {
     Point {
         x: (word / HALF) as u32,
@@ -119,7 +119,7 @@ fn marks_of(rough: Rough, id: u32) -> (u64, u64, u64)
 
 // The bytes of four numbers.
 fn cell_of(p: u64, q: u64, mark: u64, child: u64) -> [u8; 32]
-    ensures value { entry_of result ≡ entry_from p q mark child }
+    ensures value { node_entry result ≡ entry_from p q mark child }
     ensures long { length result ≡ 32 }
 {
     let mut cell = [0; 32];
@@ -132,7 +132,7 @@ fn cell_of(p: u64, q: u64, mark: u64, child: u64) -> [u8; 32]
 
 // The bytes of an entry.
 fn entry_bytes(entry: NodeEntry) -> [u8; 32]
-    ensures value { entry_of result ≡ entry }
+    ensures value { node_entry result ≡ entry }
     ensures long { length result ≡ 32 }
 {
     let (p, q, mark) = marks_of(entry.rough, entry.id);
@@ -142,7 +142,7 @@ fn entry_bytes(entry: NodeEntry) -> [u8; 32]
 /// Entry `i` of a page.
 pub fn entry_at(page: &Page, i: usize) -> NodeEntry
     requires { i < 127 }
-    ensures { result ≡ entry_of (piece 32 (32 + 32 * i) page.now) }
+    ensures { result ≡ node_entry (piece 32 (32 + 32 * i) page.now) }
 {
     let at = 32 + 32 * i;
     entry_from(
@@ -174,7 +174,7 @@ fn kind_of(inner: bool) -> u8
 /// The page of a node.
 pub fn node_page(inner: bool, entries: &[NodeEntry]) -> Page
     requires { length entries.now ≤ 126 }
-    ensures { node_of result ≡ node inner entries.now }
+    ensures { rtree_node result ≡ node inner entries.now }
 {
     let mut page = [0; 4096];
     paste(&mut page, 0, &[kind_of(inner)]);
@@ -185,7 +185,7 @@ pub fn node_page(inner: bool, entries: &[NodeEntry]) -> Page
 
 /// The number of a node's entries; other bytes are no such node.
 pub fn node_count(page: &Page, inner: bool) -> Option<usize>
-    ensures value { IfSome result (λ count. node_of page.now ≡ node inner (page_entries count page.now)) }
+    ensures value { IfSome result (λ count. rtree_node page.now ≡ node inner (page_entries count page.now)) }
     ensures few { IfSome result (λ count. count ≤ 126) }
 {
     let count = usize::from(half_at(page, 2));

@@ -9,7 +9,7 @@ ghost use Rattle.r_tree.specs.Entry.{Member, member_of, box_of, bound_of};
 ghost use Rattle.r_tree.specs.Page.{node};
 ghost use Rattle.r_tree.specs.Tree.{node_at};
 ghost use Rattle.r_tree.specs.Ways.{ways_under};
-ghost use Rattle.r_tree.specs.Steps.{WritesNode, Subtree, TakesUnder, IsSettled};
+ghost use Rattle.r_tree.specs.Steps.{WritesNode, NodeTree, TakesUnder, IsTakenFromUnder};
 
 use crate::entry::{NodeEntry, box_of, branch, covers};
 use crate::hull::bound_of;
@@ -77,7 +77,7 @@ fn remove_leaf<D: Disk>(
     rough: Rough,
 ) -> Result<Option<Shrunk>, PageFault>
     requires opened { IsOpen pool.old }
-    requires tree { IsTold pool.old → Subtree (pages_in pool.old) 0 n }
+    requires tree { IsTold pool.old → NodeTree (pages_in pool.old) 0 n }
     ensures value { IfOk result (λ taken. IsTold pool.old → TakesUnder (pages_in pool.old) (pages_in pool.new) 0 n (id, rough) taken) }
     ensures same { IfOk result (λ taken. IfNone taken (pool.new.pages ≡ pool.old.pages)) }
     ensures within { InCommand pool.old pool.new }
@@ -105,7 +105,7 @@ fn settle<D: Disk>(
     below: Shrunk,
 ) -> Result<Shrunk, PageFault>
     requires { IsOpen pool.old }
-    ensures value { IfOk result (λ shrunk. IsTold pool.old → IsSettled (pages_in pool.old) (pages_in pool.new) level n child entries.old.items below shrunk) }
+    ensures value { IfOk result (λ shrunk. IsTold pool.old → IsTakenFromUnder (pages_in pool.old) (pages_in pool.new) level n child entries.old.items below shrunk) }
     ensures within { InCommand pool.old pool.new }
     ensures gets { pool.new.gets ≤ pool.old.gets + 2 }
     ensures cause { HasPageCause pool.old pool.new result }
@@ -140,7 +140,7 @@ pub fn remove_under<D: Disk>(
     rough: Rough,
 ) -> Result<Option<Shrunk>, PageFault>
     requires opened { IsOpen pool.old }
-    requires tree { IsTold pool.old → Subtree (pages_in pool.old) level n }
+    requires tree { IsTold pool.old → NodeTree (pages_in pool.old) level n }
     ensures value { IfOk result (λ taken. IsTold pool.old → TakesUnder (pages_in pool.old) (pages_in pool.new) level n (id, rough) taken) }
     ensures same { IfOk result (λ taken. IfNone taken (pool.new.pages ≡ pool.old.pages)) }
     ensures within { InCommand pool.old pool.new }

@@ -6,7 +6,7 @@ ghost use Rattle.code_btree.specs.Tree.{Store, pages_in};
 ghost use Rattle.r_tree.specs.Entry.{box_of, bound_of_members};
 ghost use Rattle.r_tree.specs.Tree.{IsRTree, tree_members};
 ghost use Rattle.r_tree.specs.Ways.{ways_under};
-ghost use Rattle.r_tree.specs.Calls.{IsUnlisted, IsListed, HasEachIdOnce, PlantsTree, InsertsMember, RemovesMember};
+ghost use Rattle.r_tree.specs.Calls.{IsUnlisted, IsListedMember, HasEachIdOnce, PlantsTree, InsertsMember, RemovesMember};
 ghost use Rattle.r_tree.specs.Steps.{LoneChild};
 
 use crate::build::tile_all;
@@ -159,7 +159,7 @@ impl RTree {
     ) -> Result<(), PageFault>
         requires opened { IsOpen pool.old }
         requires tree { IsTold pool.old → IsRTree (pages_in pool.old) self.old }
-        requires listed { IsTold pool.old → IsListed id rough (tree_members (pages_in pool.old) self.old) }
+        requires listed { IsTold pool.old → IsListedMember id rough (tree_members (pages_in pool.old) self.old) }
         ensures value { OnOk result (IsTold pool.old → RemovesMember (pages_in pool.old) (pages_in pool.new) self.old self.new id rough) }
         ensures unchanged { OnErr result (self.new ≡ self.old) }
         ensures within { InCommand pool.old pool.new }

@@ -15,15 +15,15 @@ use Rattle.sand_base.specs.declared.rect.Rect.{Rect}
 use Rattle.z_code.specs.Block.{children_of, with_square}
 use Rattle.z_code.specs.declared.block.Block.{Block}
 use Rattle.sand_model.specs.Nodes.{greater}
-use Rattle.best_first.specs.Item.{IsAlike, node_of, nodes_of}
+use Rattle.best_first.specs.Item.{IsAlike, node_if_any, nodes_of}
 use Rattle.best_first.specs.Reach.{IsSameGap, IsAtMost, within}
 use Rattle.best_first.specs.declared.item.Item.{Item}
 use Rattle.best_first.specs.declared.item.Item.TheVariants.{Rough, Row}
 use Rattle.best_first.proofs.Gaps.{less_is, not_below, reach_same, same_itself, within_reach}
-use Rattle.zero_search.specs.RowsAtZero.{zero_gap, row_at_zero}
-use Rattle.zero_search.specs.ZeroItems.{ZeroItems, PutIn, Opens, at_zero, is_at_zero, rough_id_in, row_id_in, rough_at_zero}
-use Rattle.zero_search.proofs.Leveled.{within_zero}
-use Rattle.zero_search.proofs.Queued.{puts_none, opens_then}
+use Rattle.best_first.specs.RowsAtZero.{zero_gap, row_at_zero}
+use Rattle.best_first.specs.ZeroItems.{ZeroItems, PutIn, OpensNode, at_zero, is_at_zero, rough_id_in, row_id_in, rough_at_zero}
+use Rattle.best_first.proofs.Leveled.{within_zero}
+use Rattle.best_first.proofs.Queued.{puts_none, opens_then}
 use Rattle.sand_base.specs.declared.goal.Goal.{Goal}
 use Rattle.sand_base.specs.declared.goal.Goal.TheVariants as figure
 use Rattle.sand_base.specs.declared.rough.Rough as Shapes
@@ -51,18 +51,18 @@ brought : {A : Type 0} (f : Item Block → List A) (item : Item Block) → is_at
 brought f item near = ap (λ b. flat_map f (cond b (item ∷ []) [])) near ∙ append-nil (f item)
 
 -- an item may be told under another gap at the distance 0
-retold : (item other : Item Block) (rest : List Block) (old new : ZeroItems Block) → is_at_zero item ≡ true → is_at_zero other ≡ true → node_of item ≡ node_of other
+retold : (item other : Item Block) (rest : List Block) (old new : ZeroItems Block) → is_at_zero item ≡ true → is_at_zero other ≡ true → node_if_any item ≡ node_if_any other
     → rough_id_in item ≡ rough_id_in other → row_id_in item ≡ row_id_in other
-    → Opens rest (item ∷ []) old new → Opens rest (other ∷ []) old new
+    → OpensNode rest (item ∷ []) old new → OpensNode rest (other ∷ []) old new
 retold item other rest old new near too nodes roughs rows o = record {
-  nodes = subst (λ l. IsPermutation (l ++ rest) new.nodes) (brought node_of item near ∙ nodes ∙ sym (brought node_of other too)) o.nodes;
+  nodes = subst (λ l. IsPermutation (l ++ rest) new.nodes) (brought node_if_any item near ∙ nodes ∙ sym (brought node_if_any other too)) o.nodes;
   roughs = subst (λ l. PutIn l old.roughs new.roughs) (brought rough_id_in item near ∙ roughs ∙ sym (brought rough_id_in other too)) o.roughs;
   rows = subst (λ l. PutIn l old.rows new.rows) (brought row_id_in item near ∙ rows ∙ sym (brought row_id_in other too)) o.rows;
   below = o.below;
 }
 
 -- an item that is farther brings nothing
-left_out : (item : Item Block) (q : ZeroItems Block) → is_at_zero item ≡ false → Opens q.nodes (item ∷ []) q q
+left_out : (item : Item Block) (q : ZeroItems Block) → is_at_zero item ≡ false → OpensNode q.nodes (item ∷ []) q q
 left_out item q far =
     let e : at_zero (item ∷ []) ≡ [] = ap (λ b. cond b (item ∷ []) []) far in
     record {
@@ -79,51 +79,53 @@ greater_is : (h : Frac) → greater h zero_gap ≡ h
 greater_is h = ap (λ b. cond b zero_gap h) (never_nearer h)
 
 -- an exact object at the distance 0
-pub exact_near : (id : ℕ) (g h : Frac) (q new : ZeroItems Block) → IsSameGap g h → nat_eq g.num 0 ≡ true → Opens q.nodes (row_at_zero id ∷ []) q new → Opens q.nodes (exact_found zero_gap id h) q new
+pub exact_near : (id : ℕ) (g h : Frac) (q new : ZeroItems Block) → IsSameGap g h → nat_eq g.num 0 ≡ true → OpensNode q.nodes (row_at_zero id ∷ []) q new
+    → OpensNode q.nodes (exact_found zero_gap id h) q new
 exact_near id g h q new same near o =
-    subst (λ (l : List (Item Block)). Opens q.nodes l q new) (sym (exact_is id h))
+    subst (λ (l : List (Item Block)). OpensNode q.nodes l q new) (sym (exact_is id h))
     (retold (row_at_zero id) (Row h id 0) q.nodes q new refl (sym (both_zero g h same) ∙ near) refl refl refl o)
 
 -- and a farther one
-pub exact_far : (id : ℕ) (g h : Frac) (q : ZeroItems Block) → IsSameGap g h → nat_eq g.num 0 ≡ false → Opens q.nodes (exact_found zero_gap id h) q q
+pub exact_far : (id : ℕ) (g h : Frac) (q : ZeroItems Block) → IsSameGap g h → nat_eq g.num 0 ≡ false → OpensNode q.nodes (exact_found zero_gap id h) q q
 exact_far id g h q same far =
-    subst (λ (l : List (Item Block)). Opens q.nodes l q q) (sym (exact_is id h)) (left_out (Row h id 0) q (sym (both_zero g h same) ∙ far))
+    subst (λ (l : List (Item Block)). OpensNode q.nodes l q q) (sym (exact_is id h)) (left_out (Row h id 0) q (sym (both_zero g h same) ∙ far))
 
 -- a rough object at the distance 0
-pub bound_near : (id : ℕ) (g h : Frac) (q new : ZeroItems Block) → IsSameGap g h → nat_eq g.num 0 ≡ true → Opens q.nodes (rough_at_zero id ∷ []) q new
-    → Opens q.nodes (Rough (greater h zero_gap) id 0 ∷ []) q new
+pub bound_near : (id : ℕ) (g h : Frac) (q new : ZeroItems Block) → IsSameGap g h → nat_eq g.num 0 ≡ true → OpensNode q.nodes (rough_at_zero id ∷ []) q new
+    → OpensNode q.nodes (Rough (greater h zero_gap) id 0 ∷ []) q new
 bound_near id g h q new same near o =
-    subst (λ f. Opens q.nodes (Rough f id 0 ∷ []) q new) (sym (greater_is h))
+    subst (λ f. OpensNode q.nodes (Rough f id 0 ∷ []) q new) (sym (greater_is h))
     (retold (rough_at_zero id) (Rough h id 0) q.nodes q new refl (sym (both_zero g h same) ∙ near) refl refl refl o)
 
 -- and a farther one
-pub bound_far : (id : ℕ) (g h : Frac) (q : ZeroItems Block) → IsSameGap g h → nat_eq g.num 0 ≡ false → Opens q.nodes (Rough (greater h zero_gap) id 0 ∷ []) q q
+pub bound_far : (id : ℕ) (g h : Frac) (q : ZeroItems Block) → IsSameGap g h → nat_eq g.num 0 ≡ false → OpensNode q.nodes (Rough (greater h zero_gap) id 0 ∷ []) q q
 bound_far id g h q same far =
-    subst (λ f. Opens q.nodes (Rough f id 0 ∷ []) q q) (sym (greater_is h)) (left_out (Rough h id 0) q (sym (both_zero g h same) ∙ far))
+    subst (λ f. OpensNode q.nodes (Rough f id 0 ∷ []) q q) (sym (greater_is h)) (left_out (Rough h id 0) q (sym (both_zero g h same) ∙ far))
 
 -- what one more element gives was added
 pub one_joined : {X : Type 0} (f : X → List (Item Block)) (xs : List X) (i : ℕ) (d : X) (rest : List Block) (old mid new : ZeroItems Block) → i < length xs
-    → Opens rest (flat_map f (take i xs)) old mid → Opens mid.nodes (f (get_or xs i d)) mid new → Opens rest (flat_map f (take (i + 1) xs)) old new
+    → OpensNode rest (flat_map f (take i xs)) old mid → OpensNode mid.nodes (f (get_or xs i d)) mid new → OpensNode rest (flat_map f (take (i + 1) xs)) old new
 one_joined f xs i d rest old mid new below first second =
     let x = get_or xs i d in
     let all : flat_map f (take (i + 1) xs) ≡ flat_map f (take i xs) ++ f x =
     ap (flat_map f) (take_more xs i d below) ∙ flat_map-append f (take i xs) (x ∷ []) ∙ ap (λ l. flat_map f (take i xs) ++ l) (append-nil (f x)) in
-    subst (λ (l : List (Item Block)). Opens rest l old new) (sym all) (opens_then rest (flat_map f (take i xs)) (f x) old mid new first second)
+    subst (λ (l : List (Item Block)). OpensNode rest l old new) (sym all) (opens_then rest (flat_map f (take i xs)) (f x) old mid new first second)
 
 -- what joined after the node was taken took its place
-pub from_taken : (rest : List Block) (found : List (Item Block)) (old taken new : ZeroItems Block) → taken ≡ record old { nodes = rest } → Opens taken.nodes found taken new → Opens rest found old new
+pub from_taken : (rest : List Block) (found : List (Item Block)) (old taken new : ZeroItems Block) → taken ≡ record old { nodes = rest }
+    → OpensNode taken.nodes found taken new → OpensNode rest found old new
 from_taken rest found old taken new is o =
-    let p : Opens rest found (record old { nodes = rest }) new = subst (λ (q : ZeroItems Block). Opens q.nodes found q new) is o in
+    let p : OpensNode rest found (record old { nodes = rest }) new = subst (λ (q : ZeroItems Block). OpensNode q.nodes found q new) is o in
     record { nodes = p.nodes; roughs = p.roughs; rows = p.rows; below = p.below }
 
 -- a node was taken, and nothing took its place
-pub nothing_took : (rest : List Block) (old new : ZeroItems Block) → new ≡ record old { nodes = rest } → Opens rest [] old new
+pub nothing_took : (rest : List Block) (old new : ZeroItems Block) → new ≡ record old { nodes = rest } → OpensNode rest [] old new
 nothing_took rest old new is =
-    subst (λ (q : ZeroItems Block). Opens rest [] old q) (sym is)
+    subst (λ (q : ZeroItems Block). OpensNode rest [] old q) (sym is)
     (record { nodes = IsPermutation-refl rest; roughs = puts_none old.roughs; rows = puts_none old.rows; below = refl })
 
 -- nothing joined yet
-pub nothing_joined : (q : ZeroItems Block) → Opens q.nodes [] q q
+pub nothing_joined : (q : ZeroItems Block) → OpensNode q.nodes [] q q
 nothing_joined q = record { nodes = IsPermutation-refl q.nodes; roughs = puts_none q.roughs; rows = puts_none q.rows; below = refl }
 
 -- a numerator other than 0
@@ -140,16 +142,16 @@ measured_zero n g h is same = (
 )
 
 -- the same, where it is the measure's own gap that is known to be 0, or not
-pub exact_touched : (id : ℕ) (h : Frac) (q new : ZeroItems Block) → h.num ≡ 0 → Opens q.nodes (row_at_zero id ∷ []) q new → Opens q.nodes (exact_found zero_gap id h) q new
+pub exact_touched : (id : ℕ) (h : Frac) (q new : ZeroItems Block) → h.num ≡ 0 → OpensNode q.nodes (row_at_zero id ∷ []) q new → OpensNode q.nodes (exact_found zero_gap id h) q new
 exact_touched id h q new e o = exact_near id h h q new (same_itself h) (eq-eqb h.num 0 e) o
 
-pub exact_missed : (id : ℕ) (h : Frac) (q : ZeroItems Block) → (h.num ≡ 0 → ⊥) → Opens q.nodes (exact_found zero_gap id h) q q
+pub exact_missed : (id : ℕ) (h : Frac) (q : ZeroItems Block) → (h.num ≡ 0 → ⊥) → OpensNode q.nodes (exact_found zero_gap id h) q q
 exact_missed id h q apart = exact_far id h h q (same_itself h) (is_far h.num apart)
 
-pub bound_touched : (id : ℕ) (h : Frac) (q new : ZeroItems Block) → h.num ≡ 0 → Opens q.nodes (rough_at_zero id ∷ []) q new → Opens q.nodes (Rough (greater h zero_gap) id 0 ∷ []) q new
+pub bound_touched : (id : ℕ) (h : Frac) (q new : ZeroItems Block) → h.num ≡ 0 → OpensNode q.nodes (rough_at_zero id ∷ []) q new → OpensNode q.nodes (Rough (greater h zero_gap) id 0 ∷ []) q new
 bound_touched id h q new e o = bound_near id h h q new (same_itself h) (eq-eqb h.num 0 e) o
 
-pub bound_missed : (id : ℕ) (h : Frac) (q : ZeroItems Block) → (h.num ≡ 0 → ⊥) → Opens q.nodes (Rough (greater h zero_gap) id 0 ∷ []) q q
+pub bound_missed : (id : ℕ) (h : Frac) (q : ZeroItems Block) → (h.num ≡ 0 → ⊥) → OpensNode q.nodes (Rough (greater h zero_gap) id 0 ∷ []) q q
 bound_missed id h q apart = bound_far id h h q (same_itself h) (is_far h.num apart)
 
 -- what holds of one more element holds of all so far
@@ -226,20 +228,20 @@ bits_apart below (pair ∷ pairs) h =
 
 -- what an entry listed joined
 pub some_joined : (goal : Goal) (pair : Pair) (l : Listed) (rest : List Block) (old new : ZeroItems Block) → l ∷ [] ≡ listed_in (pair ∷ [])
-    → Opens rest (entry_found goal zero_gap l.id l.rough) old new → Opens rest (pair_found goal zero_gap pair) old new
+    → OpensNode rest (entry_found goal zero_gap l.id l.rough) old new → OpensNode rest (pair_found goal zero_gap pair) old new
 some_joined goal pair l rest old new is h =
-    subst (λ list. Opens rest (list_found goal list) old new) is
-    (subst (λ found. Opens rest found old new) (sym (append-nil (entry_found goal zero_gap l.id l.rough))) h)
+    subst (λ list. OpensNode rest (list_found goal list) old new) is
+    (subst (λ found. OpensNode rest found old new) (sym (append-nil (entry_found goal zero_gap l.id l.rough))) h)
 
 -- an entry that lists nothing adds nothing
-pub none_joined : (goal : Goal) (pair : Pair) (q : ZeroItems Block) → [] ≡ listed_in (pair ∷ []) → Opens q.nodes (pair_found goal zero_gap pair) q q
-none_joined goal pair q is = subst (λ list. Opens q.nodes (list_found goal list) q q) is (nothing_joined q)
+pub none_joined : (goal : Goal) (pair : Pair) (q : ZeroItems Block) → [] ≡ listed_in (pair ∷ []) → OpensNode q.nodes (pair_found goal zero_gap pair) q q
+none_joined goal pair q is = subst (λ list. OpensNode q.nodes (list_found goal list) q q) is (nothing_joined q)
 
 -- the entries together give what their list gives
 pub all_joined : (goal : Goal) (pairs : List Pair) (i : ℕ) (list : List Listed) (rest : List Block) (old new : ZeroItems Block) → length pairs ≤ i → listed_in pairs ≡ list
-    → Opens rest (flat_map (pair_found goal zero_gap) (take i pairs)) old new → Opens rest (list_found goal list) old new
+    → OpensNode rest (flat_map (pair_found goal zero_gap) (take i pairs)) old new → OpensNode rest (list_found goal list) old new
 all_joined goal pairs i list rest old new end is h =
-    subst (λ found. Opens rest found old new)
+    subst (λ found. OpensNode rest found old new)
     (ap (flat_map (pair_found goal zero_gap)) (take_all i pairs end) ∙ pairs_found goal zero_gap pairs ∙ ap (list_found goal) is) h
 
 -- no more ids than entries

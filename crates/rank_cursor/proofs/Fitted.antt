@@ -21,7 +21,7 @@ use Rattle.ring_geom.proofs.TreeLaws.{leaves_cover}
 use Rattle.page_pool.specs.Disk.{PageMap}
 use Rattle.pmr_tree.specs.Keys.{IsShaped}
 use Rattle.pmr_tree.specs.Laws.{AreInPlane}
-use Rattle.pmr_tree.specs.Lists.{Each, Rises}
+use Rattle.pmr_tree.specs.Lists.{Each, RiseStrictly}
 use Rattle.pmr_tree.specs.Quadtree.{tree_at, FitsRows}
 use Rattle.pmr_tree.specs.declared.quadtree.Pmr.{Pmr}
 use Rattle.best_first.specs.Reach.{IsAtMost}
@@ -52,13 +52,13 @@ shaped_shallow b (Inner p q s t) h = (
 )
 
 -- the ids of each leaf ascend
-leaf_rises : (b : Block) (tree : Tree) → IsShaped b tree → (c : Block) (ids : List ℕ) → Contains (places b tree) (c, Leaf ids) → Rises ids
+leaf_rises : (b : Block) (tree : Tree) → IsShaped b tree → (c : Block) (ids : List ℕ) → Contains (places b tree) (c, Leaf ids) → RiseStrictly ids
 leaf_rises b (Leaf listed) h c ids at =
-    subst (λ (x : Block × Tree). elim x.1 as (λ _. Type 0) [ Leaf l ↦ Rises l | Inner p q s t ↦ Unit {0} ]) (only (b, Leaf listed) (c, Leaf ids) at) h.1.0
+    subst (λ (x : Block × Tree). elim x.1 as (λ _. Type 0) [ Leaf l ↦ RiseStrictly l | Inner p q s t ↦ Unit {0} ]) (only (b, Leaf listed) (c, Leaf ids) at) h.1.0
 leaf_rises b (Inner p q s t) h c ids at =
     ⊎_elim (λ e. absurd (true≢false (ap is_inner e)))
     (λ (i, small, below).
-    by_four (λ j. Contains (places (child b j) (pick p q s t j)) (c, Leaf ids) → Rises ids)
+    by_four (λ j. Contains (places (child b j) (pick p q s t j)) (c, Leaf ids) → RiseStrictly ids)
     (leaf_rises (child b 0) p h.1.0 c ids) (leaf_rises (child b 1) q h.1.1.0 c ids)
     (leaf_rises (child b 2) s h.1.1.1.0 c ids) (leaf_rises (child b 3) t h.1.1.1.1 c ids) i small below)
     (place_cases b p q s t (c, Leaf ids) at)
@@ -75,16 +75,17 @@ each_of P (y ∷ ys) x h at = ⊎_elim (λ e. subst P e h.0) (λ t. each_of P ys
 below_itself : (n : ℕ) → n < n → ⊥
 below_itself n h = omega arith
 
-rest_step : (x : ℕ) (ys : List ℕ) (b : Bool) → Rises (cond b (x ∷ ys) ys) → Rises ys
+rest_step : (x : ℕ) (ys : List ℕ) (b : Bool) → RiseStrictly (cond b (x ∷ ys) ys) → RiseStrictly ys
 rest_step x ys true h = h.1
 rest_step x ys false h = h
 
-first_step : (p : ℕ → Bool) (x : ℕ) (xs : List ℕ) (b : Bool) → b ≡ true → Rises (cond b (x ∷ filter p xs) (filter p xs)) → Contains (filter p xs) x → ⊥
+first_step : (p : ℕ → Bool) (x : ℕ) (xs : List ℕ) (b : Bool) → b ≡ true → RiseStrictly (cond b (x ∷ filter p xs) (filter p xs)) → Contains (filter p xs) x → ⊥
 first_step p x xs true e h at = below_itself x (each_of (λ y. x < y) (filter p xs) x h.0 at)
 first_step p x xs false e h at = absurd (true≢false (sym e))
 
 -- ids some of which, each id among them somewhere, ascend
-own_ids : (rows : List (ℕ × Shape)) → ((id : ℕ) → Contains (map (λ (row : ℕ × Shape). row.0) rows) id → (p : ℕ → Bool) × (p id ≡ true) × Rises (filter p (map (λ (row : ℕ × Shape). row.0) rows)))
+own_ids : (rows : List (ℕ × Shape)) → ((id : ℕ) → Contains (map (λ (row : ℕ × Shape). row.0) rows) id
+    → (p : ℕ → Bool) × (p id ≡ true) × RiseStrictly (filter p (map (λ (row : ℕ × Shape). row.0) rows)))
     → HaveOwnIds rows
 own_ids [] each = tt
 own_ids (row ∷ rows) each =
@@ -107,7 +108,7 @@ module _ (pages : PageMap) (t : Pmr) (rows : List (ℕ × Shape)) (fits : FitsRo
 
   -- some leaf lists the id of a row
   listed_somewhere : (id : ℕ) → Contains (map (λ (row : ℕ × Shape). row.0) rows) id
-      → (p : ℕ → Bool) × (p id ≡ true) × Rises (filter p (map (λ (row : ℕ × Shape). row.0) rows))
+      → (p : ℕ → Bool) × (p id ≡ true) × RiseStrictly (filter p (map (λ (row : ℕ × Shape). row.0) rows))
   listed_somewhere id at =
       let (row, among, same) = from_map (λ (row : ℕ × Shape). row.0) rows id at in
       let test : ℕ × Shape → Bool = λ (pair : ℕ × Shape). nat_eq pair.0 id in
@@ -121,7 +122,7 @@ module _ (pages : PageMap) (t : Pmr) (rows : List (ℕ × Shape)) (fits : FitsRo
       let place = leaf_place root_block tree leaf.0 leaf.1 in_leaves in (
         meets_block the_measure rows leaf.0,
         ap (met_at leaf.0) (ap (option_map (λ (pair : ℕ × Shape). pair.1)) found) ∙ met.0,
-        subst Rises (leaf_fits (meets_block the_measure rows) (map (λ (row : ℕ × Shape). row.0) rows) root_block tree (fits.fits the_measure measured.1) leaf.0 leaf.1 place)
+        subst RiseStrictly (leaf_fits (meets_block the_measure rows) (map (λ (row : ℕ × Shape). row.0) rows) root_block tree (fits.fits the_measure measured.1) leaf.0 leaf.1 place)
             (leaf_rises root_block tree fits.tree.shaped leaf.0 leaf.1 place),
       )
     where

@@ -38,8 +38,8 @@ use Rattle.best_first.proofs.Gaps.{same_itself}
 use Rattle.rank_cursor.specs.Cursor.{the_measure, goal_gap, block_found, exact_found, entry_found}
 use Rattle.rank_cursor.specs.Ranking.{Ranking, block_gap, leaf_item, shown}
 use Rattle.rank_cursor.proofs.AlikeLists.{all_alike_append, none_added}
-use Rattle.rank_cursor.proofs.Counted.{same_greater}
-use Rattle.rank_cursor.proofs.RankingLaws.{one_item}
+use Rattle.rank_cursor.proofs.CountedItems.{same_greater}
+use Rattle.rank_cursor.proofs.RankedItems.{one_item}
 
 -- what a gap call gives has the value that the measure gives
 pub gap_is : (a b : Goal) (f : Frac) → IsGoalInClosedPlane a → IsGoalInClosedPlane b → IsFigureGap a b f → IsSameGap f (the_measure a b)

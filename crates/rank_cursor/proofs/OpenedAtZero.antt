@@ -17,14 +17,15 @@ use Rattle.pmr_tree.specs.declared.listed.Node.TheVariants as place
 use Rattle.pmr_tree.specs.declared.quadtree.Pmr.{Pmr}
 use Rattle.best_first.specs.Hierarchy.{Meaning, FindsAlike}
 use Rattle.best_first.specs.Visits.{told_pages}
-use Rattle.zero_search.specs.OpensAs.{OpensAs}
-use Rattle.zero_search.specs.RowsAtZero.{zero_gap}
-use Rattle.zero_search.specs.ZeroItems.{ZeroItems}
+use Rattle.best_first.specs.OpensAs.{OpensAs}
+use Rattle.best_first.specs.RowsAtZero.{zero_gap}
+use Rattle.best_first.specs.ZeroItems.{ZeroItems}
 use Rattle.rank_cursor.specs.AtZero.{OpensPlace}
 use Rattle.rank_cursor.specs.Cursor.{ranking_over, block_weight, place_found}
 use Rattle.rank_cursor.specs.Ranking.{rank_meaning}
 use Rattle.rank_cursor.proofs.AtZeroEntries.{nothing_took}
-use Rattle.rank_cursor.proofs.Searching.{Asks, found_ok, found_falls, nothing_falls}
+use Rattle.rank_cursor.proofs.SearchPages.{found_falls, nothing_falls}
+use Rattle.rank_cursor.proofs.Searching.{Asks, found_ok}
 
 module _ (rows : PageMap → List (ℕ × Shape)) (Stands : PageMap → Type 0) (price : ℕ) (t : Pmr) (goal : Goal) (ceiling : Option ℕ)
     (in_plane : (p : PageMap) → Stands p → AreInPlane (rows p)) (plane : IsGoalInClosedPlane goal) where
@@ -43,7 +44,7 @@ module _ (rows : PageMap → List (ℕ × Shape)) (Stands : PageMap → Type 0) 
   }
 
   -- what stands for what a place gives stands for what the ranking finds at the block
-  pub opens_place : (d : DeskState) (b : Block) → Asks rows Stands price t goal ceiling in_plane plane d b zero_gap → (found : Place) → (IsTold d.pool → pmr.Finds (tree_at d.pool.pages t) b found)
+  pub opens_place : (d : DeskState) (b : Block) → Asks rows Stands price t goal ceiling in_plane plane d b zero_gap → (found : Place) → (IsTold d.pool → pmr.FindsPlace (tree_at d.pool.pages t) b found)
       → (IsTold d.pool → HasRoughs d.pool.pages t found) → (found ≡ place.Inner → b.level < COORDINATE_BITS) → (old new : ZeroItems Block)
       → OpensPlace b (place_found goal zero_gap b found) old new → OpensAs block_weight m (told_pages d) b old new
   opens_place d b asks found finds roughs above old new h =

@@ -23,8 +23,8 @@ use Rattle.best_first.specs.declared.hit.Hit.{Hit}
 use Rattle.best_first.proofs.Alikes.{rows_tied}
 use Rattle.best_first.proofs.Bags.{there, All-by, in_filter, from_filter}
 use Rattle.best_first.proofs.Gaps.{same_back, same_trans, reach_same, within_reach}
-use Rattle.rank_cursor.specs.Ranking.{Ranking, row_at, rank_meaning, HaveOwnIds, IsSound}
-use Rattle.rank_cursor.specs.Answers.{IsFoundRow, StandsAt, AreGiven, GivesList}
+use Rattle.rank_cursor.specs.Ranking.{Ranking, hit_at, rank_meaning, HaveOwnIds, IsSound}
+use Rattle.rank_cursor.specs.Answers.{IsFoundRow, RowStandsAt, AreGiven, GivesList}
 use Rattle.rank_cursor.proofs.Elements.{in_map, from_map}
 use Rattle.rank_cursor.proofs.SortedRows.{Rises, AreApart, from_sorted, in_sorted, at_is, place_of, at_below, below_at, rising_at, filter_rises, sorted_rises, later_place}
 
@@ -73,7 +73,7 @@ module _ {N : Type 0} (m : Meaning N) (rows : List Found) (just : HasJust m rows
       let two : found_cmp before (found_of hit) ≡ Less = sym (alike_right found_total found (found_of hit) before (tied found hit is)) ∙ one in
       sym (found_total.congr before (found_of last) (found_of hit) (tied before last same)) ∙ two
 
-  next_at : (n : ℕ) (last : Option Hit) (hit : Hit) → AreGiven rows n last → IsNext m last hit → StandsAt rows n hit
+  next_at : (n : ℕ) (last : Option Hit) (hit : Hit) → AreGiven rows n last → IsNext m last hit → RowStandsAt rows n hit
   next_at n last hit given next =
       let (found, among, is) = just.has next.row next.answer in
       let (k, at) = place_of rows found among in
@@ -130,7 +130,7 @@ module _ (r : Ranking) (sound : IsSound r) (gap : Measure) (is : IsMeasure gap) 
   abbrev found_at : ℕ × Shape → Found
   found_at row = record { gap = gap r.goal (figure.Shape row.1); left = row.0; right = 0 }
 
-  same_row : (row : ℕ × Shape) → Contains r.shapes row → IsFoundRow (found_at row) (row_at r row)
+  same_row : (row : ℕ × Shape) → Contains r.shapes row → IsFoundRow (found_at row) (hit_at r row)
   same_row row at = (
     same_measures gap r.measure is sound.measure r.goal (figure.Shape row.1) sound.goal
         (All-contains (λ (row : ℕ × Shape). IsShapeInClosedPlane row.1) r.shapes row sound.plane at),
@@ -143,7 +143,7 @@ module _ (r : Ranking) (sound : IsSound r) (gap : Measure) (is : IsMeasure gap) 
 
   has_row : (hit : Hit) → IsAnswer (rank_meaning r) hit → (found : Found) × Contains (ranked gap r.goal r.ceiling r.shapes) found × IsFoundRow found hit
   has_row hit answer =
-      let (row, among, same) = from_map (row_at r) r.shapes hit answer.0 in
+      let (row, among, same) = from_map (hit_at r) r.shapes hit answer.0 in
       let one = subst (IsFoundRow (found_at row)) same (same_row row among) in
       let near = reach_same (within r.ceiling) (within_reach r.ceiling) hit.gap (gap r.goal (figure.Shape row.1)) (same_back (gap r.goal (figure.Shape row.1)) hit.gap one.0) true answer.1 in (
         found_at row,
@@ -156,9 +156,9 @@ module _ (r : Ranking) (sound : IsSound r) (gap : Measure) (is : IsMeasure gap) 
   only_row found at =
       let (there, near) = from_filter (λ found. is_within r.ceiling found.gap) (sorted found_cmp all_found) found at in
       let (row, among, same) = from_map found_at r.shapes found (from_sorted found_cmp all_found found there) in
-      let one = subst (λ (f : Found). IsFoundRow f (row_at r row)) same (same_row row among) in
-      let inside = reach_same (within r.ceiling) (within_reach r.ceiling) found.gap (row_at r row).gap one.0 true near in
-      (row_at r row, (in_map (row_at r) r.shapes row among, inside), one)
+      let one = subst (λ (f : Found). IsFoundRow f (hit_at r row)) same (same_row row among) in
+      let inside = reach_same (within r.ceiling) (within_reach r.ceiling) found.gap (hit_at r row).gap one.0 true near in
+      (hit_at r row, (in_map (hit_at r) r.shapes row among, inside), one)
 
   -- rows of other ids are not tied
   then_equal : (a b : Ordering) → ordering_then a b ≡ Equal → (a ≡ Equal) × (b ≡ Equal)

@@ -24,18 +24,18 @@ abbrev pub IsFoundRow : Found → Hit → Type 0
 IsFoundRow found hit = IsSameGap found.gap hit.gap × (found.left ≡ hit.left) × (found.right ≡ hit.right)
 
 -- the row stands at this place of the list, counted from 0
-abbrev pub StandsAt : List Found → ℕ → Hit → Type 0
-StandsAt rows n hit = (found : Found) × (element rows n ≡ Some found) × IsFoundRow found hit
+abbrev pub RowStandsAt : List Found → ℕ → Hit → Type 0
+RowStandsAt rows n hit = (found : Found) × (element rows n ≡ Some found) × IsFoundRow found hit
 
 -- so many rows of the list were given, this one last
 abbrev pub AreGiven : List Found → ℕ → Option Hit → Type 0
 AreGiven rows zero last = last ≡ None
 AreGiven rows (suc n) None = ⊥
-AreGiven rows (suc n) (Some hit) = StandsAt rows n hit
+AreGiven rows (suc n) (Some hit) = RowStandsAt rows n hit
 
 -- Whoever was given so many rows of the list is given the next one, and nothing is left exactly where it was given all.
 pub record GivesList {N : Type 0} (m : Meaning N) (rows : List Found) : Type 0 where
-  pub next : (n : ℕ) (last : Option Hit) (hit : Hit) → AreGiven rows n last → IsNext m last hit → StandsAt rows n hit
+  pub next : (n : ℕ) (last : Option Hit) (hit : Hit) → AreGiven rows n last → IsNext m last hit → RowStandsAt rows n hit
   pub over : (n : ℕ) (last : Option Hit) → AreGiven rows n last → IsExhausted m last → n ≡ length rows
 
 -- ---- counts

@@ -6,8 +6,8 @@ use Rattle.z_code.specs.declared.block.Block.{Block}
 use Rattle.pmr_tree.specs.declared.listed.Listed.{Listed}
 use Rattle.best_first.specs.Item.{IsAlike}
 use Rattle.best_first.specs.declared.item.Item.{Item}
-use Rattle.zero_search.specs.RowsAtZero.{zero_gap}
-use Rattle.zero_search.specs.ZeroItems.{ZeroItems, Opens}
+use Rattle.best_first.specs.RowsAtZero.{zero_gap}
+use Rattle.best_first.specs.ZeroItems.{ZeroItems, OpensNode}
 use Rattle.rank_cursor.specs.Cursor.{entry_found}
 
 -- each id of a list is below the bound
@@ -23,4 +23,4 @@ pub record OpensPlace (block : Block) (gives : List (Item Block)) (old new : Zer
   pub found : List (Item Block)
   pub alike : AllZip IsAlike found gives
   pub few : length found < 2 ^ 64
-  pub opens : (rest : List Block) → old.nodes ≡ rest ++ block ∷ [] → Opens rest found old new
+  pub opens : (rest : List Block) → old.nodes ≡ rest ++ block ∷ [] → OpensNode rest found old new

@@ -46,9 +46,9 @@ blocks_under b None = b ∷ []
 blocks_under b (Some place) = map (λ below. below.0) (places b place)
 
 -- how many ids the leaf at a place lists
-abbrev pub id_count : Option Tree → ℕ
-id_count (Some (Leaf ids)) = length ids
-id_count place = 0
+abbrev pub listed_count : Option Tree → ℕ
+listed_count (Some (Leaf ids)) = length ids
+listed_count place = 0
 
 -- ---- what a place finds
 
@@ -76,14 +76,14 @@ found_at r b (Some (Leaf ids)) = map leaf_item (shown r b ids)
 found_at r b (Some (Inner p q s t)) = map (block_item r) (children_of b)
 
 -- what a visit may cost in page gets
-abbrev pub visit_price : Ranking → Item Block → ℕ
-visit_price r (Node gap b) = block_price r.height (id_count (place_at r.tree b))
-visit_price r (Rough gap left right) = r.fetch_price
-visit_price r (Row gap left right) = 0
+abbrev pub block_visit_price : Ranking → Item Block → ℕ
+block_visit_price r (Node gap b) = block_price r.height (listed_count (place_at r.tree b))
+block_visit_price r (Rough gap left right) = r.fetch_price
+block_visit_price r (Row gap left right) = 0
 
 -- a row with its gap from the goal; a single row has the right id 0
-abbrev pub row_at : Ranking → ℕ × Shape → Hit
-row_at r row = record { gap = r.measure r.goal (figure.Shape row.1); left = row.0; right = 0 }
+abbrev pub hit_at : Ranking → ℕ × Shape → Hit
+hit_at r row = record { gap = r.measure r.goal (figure.Shape row.1); left = row.0; right = 0 }
 
 -- the hierarchy of a ranking
 abbrev pub rank_meaning : Ranking → Meaning Block
@@ -93,9 +93,9 @@ rank_meaning r = record {
   gap = block_gap r;
   finds = λ b. found_at r b (place_at r.tree b);
   under = λ b. blocks_under b (place_at r.tree b);
-  rows = map (row_at r) r.shapes;
+  rows = map (hit_at r) r.shapes;
   ceiling = r.ceiling;
-  price = visit_price r;
+  price = block_visit_price r;
 }
 
 -- ---- what makes a ranking sound

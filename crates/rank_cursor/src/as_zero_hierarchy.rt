@@ -1,12 +1,12 @@
 use crate::RankTree;
 use crate::at_zero::open_place;
 use crate::blocks::is_block;
+use best_first::{ZeroHierarchy, ZeroQueue};
 use page_pool::{Desk, Disk, PageFault};
 use pmr_tree::{Near, ShapeOf};
 use sand_base::NoMemory;
 use std::alloc::Global;
 use z_code::Block;
-use zero_search::{ZeroHierarchy, ZeroQueue};
 
 impl<G: ShapeOf + Drop> ZeroHierarchy for RankTree<G> {
     fn open_near<D: Disk>(

@@ -11,18 +11,17 @@ ghost use Rattle.pmr_tree.specs.Entries.{IsRoughInPlane};
 ghost use Rattle.pmr_tree.specs.Listing.{listed_in};
 ghost use Rattle.pmr_tree.specs.declared.listed.Node.TheVariants as of_tree;
 ghost use Rattle.best_first.specs.Item.{IsAlike};
-ghost use Rattle.zero_search.specs.RowsAtZero.{zero_gap};
-ghost use Rattle.zero_search.specs.ZeroItems.{Opens};
+ghost use Rattle.best_first.specs.RowsAtZero.{zero_gap};
+ghost use Rattle.best_first.specs.ZeroItems.{OpensNode};
 ghost use Rattle.rank_cursor.specs.Cursor.{goal_gap, block_found, entry_found, place_found};
 ghost use Rattle.rank_cursor.specs.AtZero.{HaveBits, list_found, OpensPlace};
 
 use crate::entries::{rect_gap, shape_gap};
-use best_first::Item;
+use best_first::{Item, ZeroQueue};
 use pmr_tree::{LeafList, Listed, Node, listed_of};
 use ring_geom::meets_rect;
 use sand_base::{Goal, NoMemory, Point, Rect, Rough, Shape};
 use z_code::Block;
-use zero_search::ZeroQueue;
 
 // A child under the gap of its square.
 #[inline]
@@ -133,7 +132,7 @@ fn add_entry(goal: &Goal, listed: Listed, queue: &mut ZeroQueue<Block>)
     requires goal { IsGoalInClosedPlane goal.now }
     requires rough { IsRoughInPlane listed.rough }
     requires bit { listed.id < queue.old.below }
-    ensures { Opens queue.old.nodes (entry_found goal.now zero_gap listed.id listed.rough) queue.old queue.new }
+    ensures { OpensNode queue.old.nodes (entry_found goal.now zero_gap listed.id listed.rough) queue.old queue.new }
 {
     match listed.rough {
         Rough::Point(p) => {
@@ -159,7 +158,7 @@ fn add_entry(goal: &Goal, listed: Listed, queue: &mut ZeroQueue<Block>)
 fn add_pair(goal: &Goal, pair: (u128, u128), queue: &mut ZeroQueue<Block>)
     requires goal { IsGoalInClosedPlane goal.now }
     requires bit { HaveBits queue.old.below (listed_in (pair ∷ [])) }
-    ensures { Opens queue.old.nodes (list_found goal.now (listed_in (pair ∷ []))) queue.old queue.new }
+    ensures { OpensNode queue.old.nodes (list_found goal.now (listed_in (pair ∷ []))) queue.old queue.new }
 {
     if let Some(listed) = listed_of(pair) {
         add_entry(goal, listed, queue);
@@ -170,7 +169,7 @@ fn add_pair(goal: &Goal, pair: (u128, u128), queue: &mut ZeroQueue<Block>)
 fn add_entries(goal: &Goal, list: &LeafList, queue: &mut ZeroQueue<Block>)
     requires goal { IsGoalInClosedPlane goal.now }
     requires bits { HaveBits queue.old.below list.now }
-    ensures added { Opens queue.old.nodes (list_found goal.now list.now) queue.old queue.new }
+    ensures added { OpensNode queue.old.nodes (list_found goal.now list.now) queue.old queue.new }
     ensures few { length (list_found goal.now list.now) < 2 ^ 64 }
 {
     let pairs = list.pairs();

@@ -5,7 +5,7 @@ use Rattle.std.specs.Cmp.{IsTotalOrder}
 use Rattle.std.proofs.lemmas.List.Elements.{All-cons}
 use Rattle.std.proofs.lemmas.List.Sorted.{IsPermutation-sym, IsPermutation-cons, IsPermutation-trans, IsPermutation-middle, IsPermutation-append_right, All-permutation, Contains-permutation}
 use Rattle.pair_heap.proofs.OrderOfItems.{itself}
-use Rattle.rank_queue.specs.Least.{AtMost, IsLeast, IsFirst}
+use Rattle.rank_queue.specs.Least.{AtMost, IsLeastItem, IsFirst}
 
 module _ {X : Type 0} where
   -- the item is gone, and those of the list are still to come
@@ -22,7 +22,7 @@ module _ {X : Type 0} where
 
 module _ {X : Type 0} {cmp : X → X → Ordering} (o : IsTotalOrder cmp) where
   -- what was taken, and comes after none that is left, was the first
-  pub was_first : (first : X) (old new : List X) → IsPermutation old (first ∷ new) → IsLeast cmp first new → IsFirst cmp first old
+  pub was_first : (first : X) (old new : List X) → IsPermutation old (first ∷ new) → IsLeastItem cmp first new → IsFirst cmp first old
   was_first first old new taken least = record {
     queued = Contains-permutation (first ∷ new) old first (IsPermutation-sym old (first ∷ new) taken) (0, omega arith, refl);
     least = All-permutation (AtMost cmp first) (first ∷ new) old (IsPermutation-sym old (first ∷ new) taken) (All-cons (AtMost cmp first) first new (itself o first) least);

@@ -10,7 +10,7 @@ use Rattle.std.proofs.lemmas.List.Elements.{All-nil, All-cons, All-head, All-tai
 use Rattle.std.proofs.lemmas.List.Folds.{length-prefix_len}
 use Rattle.std.proofs.lemmas.List.Sorted.{IsPermutation-insert, IsPermutation-to_front, All-permutation}
 use Rattle.pair_heap.proofs.OrderOfItems.{not_after, itself}
-use Rattle.rank_queue.specs.Least.{AtMost, IsLeast, IsFirst}
+use Rattle.rank_queue.specs.Least.{AtMost, IsLeastItem, IsFirst}
 use Rattle.rank_queue.specs.Falling.{IsFalling}
 
 -- a list of no length
@@ -37,7 +37,7 @@ module _ {X : Type 0} {cmp : X → X → Ordering} (o : IsTotalOrder cmp) where
   placed_at xs y n e h = subst (λ k. IsFalling cmp (insert xs k y)) (sym (e ∙ length-prefix_len (λ x. is_gt (cmp x y)) xs)) (placed xs y h)
 
   -- the last item comes before no other
-  pub last_least : (xs : List X) (x : X) → IsFalling cmp (xs ++ x ∷ []) → IsLeast cmp x xs
+  pub last_least : (xs : List X) (x : X) → IsFalling cmp (xs ++ x ∷ []) → IsLeastItem cmp x xs
   last_least [] x h = All-nil _
   last_least (y ∷ xs) x h =
       All-cons (AtMost cmp x) y xs (All-head (λ z. AtMost cmp z y) x xs (All-permutation (λ z. AtMost cmp z y) (xs ++ x ∷ []) (x ∷ xs) (IsPermutation-to_front xs x) h.0)) (last_least xs x h.1)
@@ -49,7 +49,7 @@ module _ {X : Type 0} {cmp : X → X → Ordering} (o : IsTotalOrder cmp) where
       (All-tail (λ z. AtMost cmp z y) x xs (All-permutation (λ z. AtMost cmp z y) (xs ++ x ∷ []) (x ∷ xs) (IsPermutation-to_front xs x) h.0), without_last xs x h.1)
 
   -- the item at the last place is the least of all
-  end_least : (xs : List X) (last : ℕ) (d : X) → length xs ≡ suc last → IsFalling cmp xs → IsLeast cmp (get_or xs last d) xs
+  end_least : (xs : List X) (last : ℕ) (d : X) → length xs ≡ suc last → IsFalling cmp xs → IsLeastItem cmp (get_or xs last d) xs
   end_least [] last d e h = absurd (omega arith)
   end_least (x ∷ []) zero d e h = All-cons (AtMost cmp x) x [] (itself o x) (All-nil _)
   end_least (x ∷ []) (suc last) d e h = absurd (omega arith)
@@ -60,7 +60,7 @@ module _ {X : Type 0} {cmp : X → X → Ordering} (o : IsTotalOrder cmp) where
   pub end_first : (xs : List X) (x : X) → IsFalling cmp xs → 0 < length xs → x ≡ get_or xs (length xs - 1) x → IsFirst cmp x xs
   end_first xs x h more at = record {
     queued = (length xs - 1, omega arith, sym at);
-    least = subst (λ y. IsLeast cmp y xs) (sym at) (end_least xs (length xs - 1) x (omega arith) h);
+    least = subst (λ y. IsLeastItem cmp y xs) (sym at) (end_least xs (length xs - 1) x (omega arith) h);
   }
 
   -- what the slice's end shows is the first of the queue

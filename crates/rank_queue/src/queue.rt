@@ -1,5 +1,5 @@
 ghost use Rattle.std.specs.Prelude.{◌≡◌, ℕ, ◌+◌, ◌<◌, ◌≤◌, List, [], ◌∷◌, ◌++◌, length, OnOk, MatchOption, IsPermutation};
-ghost use Rattle.rank_queue.specs.Least.{IsFirst, IsLeast};
+ghost use Rattle.rank_queue.specs.Least.{IsFirst, IsLeastItem};
 
 use sand_base::NoMemory;
 use std::alloc::Global;
@@ -36,7 +36,7 @@ pub trait Queue<T: Ord> {
     /// Takes an item that no other comes before, whose place is reserved from then on; None exactly where there is none.
     fn pop(&mut self) -> Option<T>
         ensures items { MatchOption result ((held self.old ≡ []) × (held self.new ≡ [])) (λ x. IsPermutation (held self.old) (x ∷ held self.new)) }
-        ensures least { MatchOption result (held self.old ≡ []) (λ x. IsLeast T.cmp x (held self.new)) }
+        ensures least { MatchOption result (held self.old ≡ []) (λ x. IsLeastItem T.cmp x (held self.new)) }
         ensures spare { MatchOption result (spare self.new ≡ spare self.old) (λ _. spare self.new ≡ spare self.old + 1) };
 
     /// Takes an item that no other comes before, and adds those of the list, which is empty afterwards. None exactly

@@ -12,7 +12,7 @@ use Rattle.sand_base.specs.declared.shape.Shape.TheVariants as shape
 use Rattle.sand_model.specs.Points.{RationalPoint, IsOnSegment, IsInRect}
 use Rattle.sand_model.specs.Figures.{IsPointOf, Holds, corners_of}
 use Rattle.sand_model.specs.Rings.{SomeOf, EachOf, chain, last_of, edges, grid, is_crossed, is_odd, differ, IsInside}
-use Rattle.int_ring.proofs.Order.{pos_le}
+use Rattle.plane_geom.proofs.Order.{pos_le}
 use Rattle.plane_geom.specs.Rectangles.{IsCovered}
 use Rattle.plane_geom.proofs.Sides.{EndsCovered, segment_in, value_within}
 use Rattle.ring_geom.specs.Bounding.{AreCovered}

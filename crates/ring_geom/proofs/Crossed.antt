@@ -7,9 +7,9 @@ use Rattle.sand_base.specs.declared.point.Point.{Point}
 use Rattle.sand_base.specs.declared.segment.Segment.{Segment}
 use Rattle.sand_model.specs.Points.{RationalPoint, IsOnSegment}
 use Rattle.sand_model.specs.Rings.{grid, is_crossed, differ}
-use Rattle.int_ring.specs.Expr.{var, num, at, ◌⊖◌, ◌⊗◌}
-use Rattle.int_ring.proofs.Ring.{ring_using_two}
-use Rattle.int_ring.proofs.Order.{mul_lt, lt_from_mul, difference_positive}
+use Rattle.plane_geom.specs.Expr.{var, num, at, ◌⊖◌, ◌⊗◌}
+use Rattle.plane_geom.proofs.Ring.{ring_using_two}
+use Rattle.plane_geom.proofs.Order.{mul_lt, lt_from_mul, difference_positive}
 use Rattle.plane_geom.proofs.Axis.{vertical}
 use Rattle.plane_geom.proofs.Blend.{cut}
 use Rattle.plane_geom.proofs.Means.{mean_on, first_end, second_end}

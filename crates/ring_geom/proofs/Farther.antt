@@ -13,9 +13,9 @@ use Rattle.sand_model.specs.FigureGap.{IsCovering, IsGapOf}
 use Rattle.sand_model.specs.Figures.{IsPointOf, IsPointOfFigure, HoldsInside, corners_of, vertices_of}
 use Rattle.sand_model.specs.Gap.{scaled_distance, common_square}
 use Rattle.sand_model.specs.Rings.{SomeOf, EachOf, chain, last_of, grid, IsOnRing}
-use Rattle.int_ring.specs.Expr.{var, num, at, ◌⊖◌, ◌⊗◌}
-use Rattle.int_ring.proofs.Ring.{ring_using}
-use Rattle.int_ring.proofs.Order.{le_by, le_from_mul, le_pos, mul_nonneg, difference_nonneg, chain_le, pos_le}
+use Rattle.plane_geom.specs.Expr.{var, num, at, ◌⊖◌, ◌⊗◌}
+use Rattle.plane_geom.proofs.Ring.{ring_using}
+use Rattle.plane_geom.proofs.Order.{le_by, le_from_mul, le_pos, mul_nonneg, difference_nonneg, chain_le, pos_le}
 use Rattle.plane_geom.specs.Rectangles.{IsCovered}
 use Rattle.plane_geom.proofs.GapOfPoints.{spot_is}
 use Rattle.plane_geom.proofs.Signs.{natural}

@@ -7,8 +7,8 @@ use Rattle.sand_base.specs.declared.point.Point.{Point}
 use Rattle.sand_base.specs.declared.segment.Segment.{Segment}
 use Rattle.sand_model.specs.Points.{IsWithin, IsOnSegment}
 use Rattle.sand_model.specs.Rings.{SomeOf, chain, last_of, edges, grid, is_crossed, is_odd, differ}
-use Rattle.int_ring.specs.Expr.{var, num, at, ◌⊖◌, ◌⊗◌}
-use Rattle.int_ring.proofs.Ring.{ring_using}
+use Rattle.plane_geom.specs.Expr.{var, num, at, ◌⊖◌, ◌⊗◌}
+use Rattle.plane_geom.proofs.Ring.{ring_using}
 use Rattle.plane_geom.specs.Incidence.{IsBetween, LiesOn}
 use Rattle.plane_geom.proofs.OnSegment.{lies_on}
 use Rattle.plane_geom.proofs.GapOfPoints.{spot_is}

@@ -9,7 +9,7 @@ use Rattle.sand_base.specs.declared.rect.Rect.{Rect}
 use Rattle.sand_base.specs.declared.segment.Segment.{Segment}
 use Rattle.sand_model.specs.Points.{RationalPoint, IsWithin, IsOnSegment, IsInRect}
 use Rattle.sand_model.specs.Rings.{grid, is_crossed, differ}
-use Rattle.int_ring.proofs.Order.{pos_le, chain_le}
+use Rattle.plane_geom.proofs.Order.{pos_le, chain_le}
 use Rattle.plane_geom.proofs.Axis.{horizontal, vertical}
 use Rattle.plane_geom.proofs.Blend.{cut}
 use Rattle.plane_geom.proofs.Sides.{value_within}

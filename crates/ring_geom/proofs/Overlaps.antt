@@ -10,7 +10,7 @@ use Rattle.sand_model.specs.Points.{RationalPoint, IsInRect}
 use Rattle.sand_model.specs.FigureGap.{IsGapOf, IsMeeting}
 use Rattle.sand_model.specs.Figures.{Holds, corners_of}
 use Rattle.sand_model.specs.Rings.{grid}
-use Rattle.int_ring.proofs.Order.{chain_le, le_from_mul, le_pos}
+use Rattle.plane_geom.proofs.Order.{chain_le, le_from_mul, le_pos}
 use Rattle.plane_geom.proofs.Signs.{above_zero}
 use Rattle.ring_geom.specs.Bounding.{AreCovered, Overlap}
 use Rattle.ring_geom.proofs.Boxes.{points_in, held_in}

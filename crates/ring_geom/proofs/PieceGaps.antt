@@ -15,10 +15,10 @@ use Rattle.sand_base.specs.declared.rect.Rect.{Rect}
 use Rattle.sand_base.specs.declared.segment.Segment.{Segment}
 use Rattle.sand_model.specs.Points.{RationalPoint, IsPoint, IsOnSegment, IsInRect}
 use Rattle.sand_model.specs.Gap.{IsLeast}
-use Rattle.int_ring.proofs.Order.{pos_abs, add_nonneg}
-use Rattle.int_ring.proofs.Squares.{square_nonneg, square_abs}
+use Rattle.plane_geom.proofs.Order.{pos_abs, add_nonneg}
+use Rattle.plane_geom.proofs.Squares.{square_nonneg, square_abs}
 use Rattle.plane_geom.specs.Crossing.{AreOpposed, Cross}
-use Rattle.plane_geom.specs.Rectangles.{range_gap, IsCovered, Enters, left_side, right_side, bottom_side, top_side, top_left, bottom_right}
+use Rattle.plane_geom.specs.Rectangles.{range_gap, IsCovered, EntersRect, left_side, right_side, bottom_side, top_side, top_left, bottom_right}
 use Rattle.plane_geom.specs.Vectors.{dot_of, cross_of}
 use Rattle.plane_geom.proofs.CrossingPoint.{crossing_least}
 use Rattle.plane_geom.proofs.EndsAndCorners as corners
@@ -165,7 +165,7 @@ segment_segment s t hs ht =
     ]
 
 -- whether a segment enters a rectangle is decided
-decide_enters : (s : Segment) (r : Rect) → Dec (Enters s r)
+decide_enters : (s : Segment) (r : Rect) → Dec (EntersRect s r)
 decide_enters s r =
     decide_either (decide_covered s.a r)
     (decide_either (decide_either (decide_cross s (left_side r)) (decide_cross s (right_side r)))

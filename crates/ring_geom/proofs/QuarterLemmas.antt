@@ -9,7 +9,7 @@ use Rattle.sand_model.specs.Points.{RationalPoint, IsInRect}
 use Rattle.sand_model.specs.FigureGap.{IsMeeting}
 use Rattle.sand_model.specs.Figures.{HoldsInside, vertices_of}
 use Rattle.sand_model.specs.Rings.{SomeOf}
-use Rattle.int_ring.proofs.Order.{le_or_le}
+use Rattle.plane_geom.proofs.Order.{le_or_le}
 use Rattle.plane_geom.specs.Rectangles.{IsCovered}
 use Rattle.ring_geom.specs.Bounding.{IsPartOf}
 use Rattle.ring_geom.specs.Quarters.{low_low, high_low, low_high, high_high, quarters, MeetsAQuarter, Tiles}

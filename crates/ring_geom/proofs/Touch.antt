@@ -12,10 +12,10 @@ use Rattle.sand_model.specs.FigureGap.{IsCovering, IsGapOf, IsMeeting}
 use Rattle.sand_model.specs.Figures.{IsPointOfFigure, HoldsInside}
 use Rattle.sand_model.specs.Gap.{IsLeast, scaled_distance, common_square}
 use Rattle.sand_model.specs.Rings.{SomeOf, edges}
-use Rattle.int_ring.specs.Expr.{var, at, ◌⊗◌}
-use Rattle.int_ring.proofs.Ring.{ring}
-use Rattle.int_ring.proofs.Order.{mul_le, le_from_mul, same_from_mul}
-use Rattle.int_ring.proofs.Squares.{squares_zero}
+use Rattle.plane_geom.specs.Expr.{var, at, ◌⊗◌}
+use Rattle.plane_geom.proofs.Ring.{ring}
+use Rattle.plane_geom.proofs.Order.{mul_le, le_from_mul, same_from_mul}
+use Rattle.plane_geom.proofs.Squares.{squares_zero}
 use Rattle.plane_geom.specs.Rectangles.{IsCovered}
 use Rattle.plane_geom.proofs.Apart.{itself, met}
 use Rattle.plane_geom.proofs.CrossingPoint.{shared_least}

@@ -7,7 +7,7 @@ use Rattle.sand_base.specs.declared.segment.Segment.{Segment}
 use Rattle.sand_model.specs.Points.{RationalPoint, IsOnSegment}
 use Rattle.sand_model.specs.Gap.{IsLeast}
 use Rattle.sand_model.specs.Rings.{SomeOf}
-use Rattle.int_ring.specs.Expr.{at}
+use Rattle.plane_geom.specs.Expr.{at}
 use Rattle.exact_frac.specs.Lesser.{IsLesser}
 use Rattle.plane_geom.proofs.Least.{attained_within, least_same}
 use Rattle.plane_geom.proofs.NearestEnd.{lesser_attained, lesser_apart}

@@ -6,7 +6,7 @@ use Rattle.sand_model.specs.Points.{RationalPoint}
 use Rattle.sand_model.specs.FigureGap.{IsGapOf, IsMeeting}
 use Rattle.sand_model.specs.Figures.{IsPointOfFigure}
 use Rattle.sand_model.specs.Gap.{IsLeast, scaled_distance, common_square}
-use Rattle.int_ring.proofs.Order.{same_from_mul, mul_positive}
+use Rattle.plane_geom.proofs.Order.{same_from_mul, mul_positive}
 use Rattle.plane_geom.proofs.CrossingPoint.{shared_least}
 use Rattle.plane_geom.proofs.Signs.{above_zero}
 use Rattle.ring_geom.proofs.Decide.{decide_covering}

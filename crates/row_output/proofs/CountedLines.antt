@@ -10,8 +10,8 @@ use Rattle.sand_model.specs.Cursor.{OutputLine}
 use Rattle.sand_model.specs.OutputText.{IsText}
 use Rattle.sand_model.specs.PlainLines.{AreLinesOfRows, IsPlainRow, IsPlainLine, IsRowLine}
 use Rattle.output_text.specs.Writing.{Writes}
-use Rattle.plan_rows.specs.Rows.{row_of}
-use Rattle.plan_rows.specs.declared.answer.Answer.{Answer}
+use Rattle.plan_iterator.specs.Rows.{row_of}
+use Rattle.plan_iterator.specs.declared.answer.Answer.{Answer}
 use Rattle.row_output.specs.Printing.{WritesCounted}
 use Rattle.row_output.specs.Stepping.{PrintsStep}
 use Rattle.row_output.specs.declared.next.Next.{Next}

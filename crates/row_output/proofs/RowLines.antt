@@ -9,10 +9,10 @@ use Rattle.sand_model.specs.Cursor.{Row}
 use Rattle.sand_model.specs.Operators.{PlanRow}
 use Rattle.sand_model.specs.OutputText.{IsText, PrintsGap}
 use Rattle.output_text.specs.Writing.{Writes, WritesPrefix}
-use Rattle.plan_rows.specs.Lowest.{lowest_of}
-use Rattle.plan_rows.specs.Rows.{row_of}
-use Rattle.plan_rows.specs.declared.answer.Answer.{Answer}
-use Rattle.plan_rows.proofs.LowestFractions.{lowest_value}
+use Rattle.plan_iterator.specs.Lowest.{lowest_of}
+use Rattle.plan_iterator.specs.Rows.{row_of}
+use Rattle.plan_iterator.specs.declared.answer.Answer.{Answer}
+use Rattle.plan_iterator.proofs.LowestFractions.{lowest_value}
 
 -- the row as it is
 abbrev pub plain_row : Answer → PlanRow

@@ -5,9 +5,9 @@ use Rattle.sand_model.specs.Answer.{answer}
 use Rattle.sand_model.specs.Cursor.{Cursor, OutputLine, Row, End, step_of, Steps}
 use Rattle.sand_model.specs.Database.{element}
 use Rattle.sand_model.specs.Operators.{PlanRow}
-use Rattle.plan_rows.specs.Rows.{plan_measure}
-use Rattle.plan_rows.proofs.ModelSteps.{step_row, step_end}
-use Rattle.plan_cursor.proofs.Counting.{row_given}
+use Rattle.plan_iterator.specs.Rows.{plan_measure}
+use Rattle.plan_iterator.proofs.ModelSteps.{step_row, step_end}
+use Rattle.plan_iterator.proofs.Counting.{row_given}
 
 -- so many steps that each give a row
 abbrev pub RowSteps : ℕ → Cursor → List OutputLine → Cursor → Type 0

@@ -23,20 +23,20 @@ use Rattle.sand_model.specs.Reach.{Counts, reach, reach_of_last}
 use Rattle.sand_model.specs.Taken.{Taken, has_taken, is_lazy}
 use Rattle.best_first.proofs.Bags.{All-by}
 use Rattle.output_text.specs.Writing.{Writes, WritesPrefix}
-use Rattle.plan_rows.specs.Rows.{plan_measure, row_of}
-use Rattle.plan_rows.specs.SourceSteps.{node_count}
-use Rattle.plan_rows.specs.Visited.{◌plus◌, visit_counts, LiesWithin}
-use Rattle.plan_rows.specs.declared.answer.Answer.{Answer}
-use Rattle.plan_rows.proofs.CountedVisits.{at_most_itself, at_most_trans, between_low}
-use Rattle.plan_rows.proofs.FartherReaches.{AreAtMost}
-use Rattle.plan_rows.proofs.GrowingReach.{IsBefore, grows}
-use Rattle.plan_rows.proofs.ModelSteps as model
-use Rattle.plan_rows.proofs.ModelSteps.{element_below, step_row, step_end}
-use Rattle.plan_rows.proofs.VisitCounts.{plus_none, counts_behind}
-use Rattle.plan_cursor.specs.CursorStep.{step_taken, CursorStep}
-use Rattle.plan_cursor.proofs.Advancing.{taken_same}
-use Rattle.plan_cursor.proofs.Counting.{end_given}
-use Rattle.plan_cursor.proofs.ModelTaken.{model_later, model_reach}
+use Rattle.plan_iterator.specs.Needed.{AreAtMost}
+use Rattle.plan_iterator.specs.Rows.{plan_measure, row_of}
+use Rattle.plan_iterator.specs.SourceSteps.{node_count}
+use Rattle.plan_iterator.specs.Visited.{◌plus◌, visit_counts, LiesWithin}
+use Rattle.plan_iterator.specs.declared.answer.Answer.{Answer}
+use Rattle.plan_iterator.proofs.CountedVisits.{at_most_itself, at_most_trans, between_low}
+use Rattle.plan_iterator.proofs.GrowingReach.{IsBefore, grows}
+use Rattle.plan_iterator.proofs.ModelSteps as model
+use Rattle.plan_iterator.proofs.ModelSteps.{element_below, step_row, step_end}
+use Rattle.plan_iterator.proofs.VisitCounts.{plus_none, counts_behind}
+use Rattle.plan_iterator.specs.CursorStep.{step_taken, CursorStep}
+use Rattle.plan_iterator.proofs.StepsTaken.{taken_same}
+use Rattle.plan_iterator.proofs.Counting.{end_given}
+use Rattle.plan_iterator.proofs.ModelTaken.{model_later, model_reach}
 use Rattle.row_output.specs.Printing.{MakesSteps, PrintsRows}
 use Rattle.row_output.specs.Stepping.{PrintsStep, PrintsNext}
 use Rattle.row_output.specs.declared.next.Next.TheVariants as next

@@ -10,15 +10,15 @@ use Rattle.sand_model.specs.Cursor.{Cursor}
 use Rattle.sand_model.specs.OutputText.{IsText}
 use Rattle.sand_model.specs.Reach.{Counts}
 use Rattle.output_text.specs.Writing.{WritesPrefix}
-use Rattle.plan_rows.specs.Rows.{row_of}
-use Rattle.plan_rows.specs.declared.answer.Answer.{Answer}
-use Rattle.plan_steps.specs.Following.{Taking, source_of}
-use Rattle.plan_steps.specs.Paying.{Prices, is_shut, owed_by}
-use Rattle.plan_steps.specs.Stages.{Standing}
-use Rattle.plan_steps.specs.declared.operator.Operator.{Operator}
-use Rattle.plan_cursor.specs.PaidCalls.{left_behind, IsAtPaid, StepsPaid}
-use Rattle.plan_cursor.specs.declared.cursor.RowCursor.{RowCursor}
-use Rattle.plan_cursor.proofs.Chained.{at_less, step_then}
+use Rattle.plan_iterator.specs.Rows.{row_of}
+use Rattle.plan_iterator.specs.declared.answer.Answer.{Answer}
+use Rattle.plan_iterator.specs.Following.{Taking, source_of}
+use Rattle.plan_iterator.specs.Paying.{Prices, is_shut, owed_by}
+use Rattle.plan_iterator.specs.Stages.{Standing}
+use Rattle.plan_iterator.specs.declared.operator.Operator.{Operator}
+use Rattle.plan_iterator.specs.PaidCalls.{left_behind, IsAtPaid, StepsPaid}
+use Rattle.plan_iterator.specs.declared.cursor.RowCursor.{RowCursor}
+use Rattle.plan_iterator.proofs.Chained.{at_less, step_then}
 use Rattle.row_output.specs.Stepping.{PrintsStep, left_by_line, PrintsNextPaid}
 use Rattle.row_output.specs.declared.next.Next.{Next}
 use Rattle.row_output.specs.declared.next.Next.TheVariants.{Row, End, Refused}

@@ -6,14 +6,14 @@ use Rattle.page_pool.specs.Disk.{PageMap}
 use Rattle.page_pool.specs.declared.fault.PageFault.{PageFault}
 use Rattle.sand_model.specs.Cursor.{Cursor}
 use Rattle.sand_model.specs.Reach.{Counts}
-use Rattle.plan_steps.specs.Following.{Taking}
-use Rattle.plan_steps.specs.Paying.{Prices}
-use Rattle.plan_steps.specs.Stages.{Standing}
-use Rattle.plan_cursor.specs.PaidCalls.{left_at, IsAtPaid}
-use Rattle.plan_cursor.specs.Standing.{IsAt}
-use Rattle.plan_cursor.specs.declared.cursor.RowCursor.{RowCursor}
-use Rattle.plan_cursor.proofs.Chained.{at_none, at_both, step_then}
-use Rattle.plan_cursor.proofs.Told.{both_told}
+use Rattle.plan_iterator.specs.Following.{Taking}
+use Rattle.plan_iterator.specs.Paying.{Prices}
+use Rattle.plan_iterator.specs.Stages.{Standing}
+use Rattle.plan_iterator.specs.PaidCalls.{left_at, IsAtPaid}
+use Rattle.plan_iterator.specs.Standing.{IsAt}
+use Rattle.plan_iterator.specs.declared.cursor.RowCursor.{RowCursor}
+use Rattle.plan_iterator.proofs.Chained.{at_none, at_both, step_then}
+use Rattle.plan_iterator.proofs.ToldCalls.{both_told}
 use Rattle.row_output.specs.Printing.{PrintsRowsPaid}
 use Rattle.row_output.specs.Stepping.{PrintsNext, left_by_line, PrintsNextPaid}
 use Rattle.row_output.specs.declared.next.Next.{Next}

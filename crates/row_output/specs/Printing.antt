@@ -16,17 +16,17 @@ use Rattle.sand_model.specs.PlainLines.{AreLinesOfRows, IsPlainLine}
 use Rattle.sand_model.specs.Reach.{Counts, reach, reach_of_last}
 use Rattle.sand_model.specs.Taken.{Taken, has_taken, is_lazy}
 use Rattle.output_text.specs.Writing.{Writes, WritesPrefix}
-use Rattle.plan_rows.specs.Rows.{plan_measure}
-use Rattle.plan_rows.specs.SourceSteps.{node_count}
-use Rattle.plan_rows.specs.Visited.{◌plus◌, visit_counts, LiesWithin}
-use Rattle.plan_cursor.specs.CursorStep.{step_taken}
-use Rattle.plan_cursor.specs.PaidCalls.{left_at, IsAtPaid}
-use Rattle.plan_cursor.specs.Standing.{IsAt}
-use Rattle.plan_cursor.specs.declared.cursor.RowCursor.{RowCursor}
-use Rattle.plan_steps.specs.Following.{Taking}
-use Rattle.plan_steps.specs.Paying.{Prices, owed_by}
-use Rattle.plan_steps.specs.Stages.{Standing}
-use Rattle.plan_steps.specs.declared.operator.Operator.{Operator}
+use Rattle.plan_iterator.specs.Rows.{plan_measure}
+use Rattle.plan_iterator.specs.SourceSteps.{node_count}
+use Rattle.plan_iterator.specs.Visited.{◌plus◌, visit_counts, LiesWithin}
+use Rattle.plan_iterator.specs.CursorStep.{step_taken}
+use Rattle.plan_iterator.specs.PaidCalls.{left_at, IsAtPaid}
+use Rattle.plan_iterator.specs.Standing.{IsAt}
+use Rattle.plan_iterator.specs.declared.cursor.RowCursor.{RowCursor}
+use Rattle.plan_iterator.specs.Following.{Taking}
+use Rattle.plan_iterator.specs.Paying.{Prices, owed_by}
+use Rattle.plan_iterator.specs.Stages.{Standing}
+use Rattle.plan_iterator.specs.declared.operator.Operator.{Operator}
 use Rattle.row_output.specs.declared.rows.Printed.{Printed}
 use Rattle.row_output.specs.declared.rows.Printed.TheVariants.{Rows, Refused}
 

@@ -10,25 +10,25 @@ use Rattle.sand_model.specs.Cursor.{Cursor}
 use Rattle.sand_model.specs.OutputText.{IsText}
 use Rattle.sand_model.specs.Reach.{Counts}
 use Rattle.output_text.specs.Writing.{Writes, WritesPrefix}
-use Rattle.plan_rows.specs.Rows.{row_of}
-use Rattle.plan_rows.specs.declared.answer.Answer.{Answer}
-use Rattle.plan_cursor.specs.CursorStep.{CursorStep}
-use Rattle.plan_cursor.specs.PaidCalls.{left_at, IsAtPaid}
-use Rattle.plan_cursor.specs.Standing.{IsAt}
-use Rattle.plan_cursor.specs.declared.cursor.RowCursor.{RowCursor}
-use Rattle.plan_steps.specs.Following.{Taking}
-use Rattle.plan_steps.specs.Paying.{Prices, owed_by}
-use Rattle.plan_steps.specs.Stages.{Standing}
-use Rattle.plan_steps.specs.declared.operator.Operator.{Operator}
+use Rattle.plan_iterator.specs.Rows.{row_of}
+use Rattle.plan_iterator.specs.declared.answer.Answer.{Answer}
+use Rattle.plan_iterator.specs.CursorStep.{CursorStep}
+use Rattle.plan_iterator.specs.PaidCalls.{left_at, IsAtPaid}
+use Rattle.plan_iterator.specs.Standing.{IsAt}
+use Rattle.plan_iterator.specs.declared.cursor.RowCursor.{RowCursor}
+use Rattle.plan_iterator.specs.Following.{Taking}
+use Rattle.plan_iterator.specs.Paying.{Prices, owed_by}
+use Rattle.plan_iterator.specs.Stages.{Standing}
+use Rattle.plan_iterator.specs.declared.operator.Operator.{Operator}
 use Rattle.row_output.specs.declared.next.Next.{Next}
 use Rattle.row_output.specs.declared.next.Next.TheVariants.{Row, End, Refused}
 
 -- the refusal of a page in what was printed
-abbrev pub refusal_of : Result Next Failed → Result Unit PageFault
-refusal_of (Ok (Refused fault)) = Err fault
-refusal_of (Ok Row) = Ok tt
-refusal_of (Ok End) = Ok tt
-refusal_of (Err failed) = Ok tt
+abbrev pub printed_refusal : Result Next Failed → Result Unit PageFault
+printed_refusal (Ok (Refused fault)) = Err fault
+printed_refusal (Ok Row) = Ok tt
+printed_refusal (Ok End) = Ok tt
+printed_refusal (Err failed) = Ok tt
 
 -- the line of a step was written, or a prefix of it where the sink failed; a refused step has no line yet
 abbrev pub PrintsStep : Result (Option Answer) PageFault → Result Next Failed → (List ℕ → Type 0) → (List ℕ → Type 0) → Type 0

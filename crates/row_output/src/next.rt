@@ -5,18 +5,16 @@ ghost use Rattle.page_pool.specs.Reads.{IsRead};
 ghost use Rattle.sand_model.specs.Cursor.{Cursor};
 ghost use Rattle.best_first.specs.Visits.{told_pages};
 ghost use Rattle.page_pool.specs.declared.fault.PageFault.{PageFault as Fault};
-ghost use Rattle.plan_rows.specs.Rows.{counts_of};
-ghost use Rattle.plan_rows.specs.declared.answer.Answer.{Answer};
-ghost use Rattle.plan_cursor.specs.Standing.{IsAt};
-ghost use Rattle.plan_steps.specs.Paying.{prices};
-ghost use Rattle.row_output.specs.Stepping.{PrintsNextPaid, PrintsStep, refusal_of};
+ghost use Rattle.plan_iterator.specs.Rows.{counts_of};
+ghost use Rattle.plan_iterator.specs.declared.answer.Answer.{Answer};
+ghost use Rattle.plan_iterator.specs.Standing.{IsAt};
+ghost use Rattle.plan_iterator.specs.Paying.{prices};
+ghost use Rattle.row_output.specs.Stepping.{PrintsNextPaid, PrintsStep, printed_refusal};
 
 use crate::row::print_row;
 use output_text::{LineRef, write_line};
 use page_pool::{Desk, Disk, PageFault};
-use plan_cursor::RowCursor;
-use plan_rows::RowSource;
-use plan_steps::RowStage;
+use plan_iterator::{RowCursor, RowSource, RowStage};
 use sand_base::{Failed, Sink};
 use std::alloc::Global;
 
@@ -36,10 +34,11 @@ pub fn print_next<S: RowSource, T: RowStage, D: Disk, K: Sink>(
 ) -> Result<Next, Failed>
     requires stands { IfSome (told_pages desk.old) (λ pages. (c : Cursor) × IsAt S.At T.Stands T.closed (λ s. counts_of (S.seen s)) cursor.old pages c) }
     ensures read { IsRead desk.old.pool desk.new.pool }
-    ensures refused { HasPageCause desk.old.pool desk.new.pool (refusal_of result) }
+    ensures refused { HasPageCause desk.old.pool desk.new.pool (printed_refusal result) }
     ensures cause { HasCause (K.faults out.old) (K.faults out.new) result }
     ensures line { (answer : Result (Option Answer) Fault) × PrintsStep answer result (K.took out.old) (K.took out.new) }
-    ensures step { IfSome (told_pages desk.old) (PrintsNextPaid S.At T.Stands T.closed (prices S.heights S.step_price S.owed T.price T.owed) (λ s. counts_of (S.seen s)) cursor.old cursor.new desk.old desk.new (K.took out.old) (K.took out.new) result) }
+    ensures step { IfSome (told_pages desk.old) (PrintsNextPaid S.At T.Stands T.closed (prices S.heights S.step_price S.owed T.price T.owed)
+        (λ s. counts_of (S.seen s)) cursor.old cursor.new desk.old desk.new (K.took out.old) (K.took out.new) result) }
 {
     match cursor.next(alloc, desk) {
         Ok(Some(row)) => {

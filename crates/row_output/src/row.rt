@@ -3,10 +3,10 @@ ghost use Rattle.sand_base.specs.Faults.{HasCause};
 ghost use Rattle.sand_model.specs.Cursor.{Row};
 ghost use Rattle.sand_model.specs.OutputText.{IsText};
 ghost use Rattle.output_text.specs.Writing.{Writes, WritesPrefix};
-ghost use Rattle.plan_rows.specs.Rows.{row_of};
+ghost use Rattle.plan_iterator.specs.Rows.{row_of};
 
 use output_text::{LineRef, write_line};
-use plan_rows::Answer;
+use plan_iterator::Answer;
 use sand_base::{Failed, Sink};
 
 /// Writes the line of a row.

@@ -4,16 +4,14 @@ ghost use Rattle.page_pool.specs.Causes.{HasPageCause};
 ghost use Rattle.page_pool.specs.Reads.{IsRead};
 ghost use Rattle.sand_model.specs.Cursor.{Cursor};
 ghost use Rattle.best_first.specs.Visits.{told_pages};
-ghost use Rattle.plan_rows.specs.Rows.{counts_of};
-ghost use Rattle.plan_cursor.specs.Standing.{IsAt};
-ghost use Rattle.plan_steps.specs.Paying.{prices};
+ghost use Rattle.plan_iterator.specs.Rows.{counts_of};
+ghost use Rattle.plan_iterator.specs.Standing.{IsAt};
+ghost use Rattle.plan_iterator.specs.Paying.{prices};
 ghost use Rattle.row_output.specs.Printing.{PrintsRowsPaid, WritesCounted, refusal_in};
 
 use crate::next::{Next, print_next};
 use page_pool::{Desk, Disk, PageFault};
-use plan_cursor::RowCursor;
-use plan_rows::RowSource;
-use plan_steps::RowStage;
+use plan_iterator::{RowCursor, RowSource, RowStage};
 use sand_base::{Failed, Sink};
 use std::alloc::Global;
 
@@ -42,7 +40,8 @@ pub fn print_rows<S: RowSource, T: RowStage, D: Disk, K: Sink>(
     ensures refused { HasPageCause desk.old.pool desk.new.pool (refusal_in result) }
     ensures cause { HasCause (K.faults out.old) (K.faults out.new) result }
     ensures lines { WritesCounted count result (K.took out.old) (K.took out.new) }
-    ensures step { IfSome (told_pages desk.old) (PrintsRowsPaid S.At T.Stands T.closed (prices S.heights S.step_price S.owed T.price T.owed) (λ s. counts_of (S.seen s)) cursor.old cursor.new count desk.old desk.new (K.took out.old) (K.took out.new) result) }
+    ensures step { IfSome (told_pages desk.old) (PrintsRowsPaid S.At T.Stands T.closed (prices S.heights S.step_price S.owed T.price T.owed)
+        (λ s. counts_of (S.seen s)) cursor.old cursor.new count desk.old desk.new (K.took out.old) (K.took out.new) result) }
 {
     let mut rows = 0;
     'rows: while rows < count {

@@ -14,7 +14,7 @@ use Rattle.statements.specs.Statement.{Statement, Create, Insert, Delete, Load, 
 use Rattle.sand_model.specs.ScriptLine.{ScriptLine, Blank, TooLong, BadToken, OutOfRange, Says}
 use Rattle.sand_model.specs.StatementChecks.{Setting, early, late, cursor_named, entered, file_rows}
 use Rattle.run_laws.specs.Determined.{is_of_memory, IsCalm}
-use Rattle.run_laws.specs.Undisturbed.{IsMemory, HasEffect, HasDefinedOutcome, LineIsDefined, RunsUndisturbed}
+use Rattle.run_laws.specs.Undisturbed.{IsOfMemory, HasEffect, HasDefinedOutcome, LineIsDefined, RunsUndisturbed}
 use Rattle.run_laws.proofs.CursorsInRuns.{neither}
 use Rattle.run_laws.proofs.DefinedOutcomes.{run_complete}
 
@@ -23,7 +23,7 @@ abbrev pub HasMemory : List OutputLine → Type 0
 HasMemory lines = list_any is_of_memory lines ≡ false
 
 -- lines that end with a refusal of memory
-memory_last : {A : Type 0} (printed : List OutputLine) (refusal : Refusal) (lines : List OutputLine) → IsMemory refusal → lines ≡ printed ++ Refused refusal ∷ [] → HasMemory lines → A
+memory_last : {A : Type 0} (printed : List OutputLine) (refusal : Refusal) (lines : List OutputLine) → IsOfMemory refusal → lines ≡ printed ++ Refused refusal ∷ [] → HasMemory lines → A
 memory_last printed refusal lines m is h =
     let last : list_any is_of_memory (Refused refusal ∷ []) ≡ true = rw m refl in
     let all : list_any is_of_memory (printed ++ Refused refusal ∷ []) ≡ (list_any is_of_memory printed || list_any is_of_memory (Refused refusal ∷ [])) =
@@ -42,7 +42,7 @@ one_there : {A : Type 0} (o : Option A) (a b : A) → o ≡ Some a → o ≡ Som
 one_there o a b e f = let k : Some a ≡ Some b = sym e ∙ f in cc
 
 -- the steps of a cursor
-one_steps : (gap : Measure) (count : ℕ) (c one other : Cursor) (lines again : List OutputLine) → Steps gap IsMemory count c lines one → Steps gap IsMemory count c again other
+one_steps : (gap : Measure) (count : ℕ) (c one other : Cursor) (lines again : List OutputLine) → Steps gap IsOfMemory count c lines one → Steps gap IsOfMemory count c again other
     → HasMemory lines → HasMemory again → (lines ≡ again) × (one ≡ other)
 one_steps gap zero c one other lines again h k m n = (h.0 ∙ sym k.0, h.1 ∙ sym k.1)
 one_steps gap (suc count) c one other lines again (inr (inr (refusal, by, stepped, is))) k m n = memory_last [] refusal lines by is m
@@ -58,11 +58,11 @@ one_steps gap (suc count) c one other lines again (inl (row, mid, more, stepped,
     let same : mid ≡ mid' = ap (λ q. q.1) (sym stepped ∙ step') in
     let behind : HasMemory more = ap (λ xs. list_any is_of_memory xs) (sym is) ∙ m in
     let behind' : HasMemory more' = ap (λ xs. list_any is_of_memory xs) (sym is') ∙ n in
-    let go = one_steps gap count mid one other more more' rest (subst (λ x. Steps gap IsMemory count x more' other) (sym same) rest') behind behind' in
+    let go = one_steps gap count mid one other more more' rest (subst (λ x. Steps gap IsOfMemory count x more' other) (sym same) rest') behind behind' in
     (is ∙ ap₂ (λ x xs. x ∷ xs) first go.0 ∙ sym is', go.1)
 
 -- all leaves are printed
-all_leaves : (all lines : List OutputLine) → PrintsFirst IsMemory all lines → HasMemory lines → lines ≡ all
+all_leaves : (all lines : List OutputLine) → PrintsFirst IsOfMemory all lines → HasMemory lines → lines ≡ all
 all_leaves all lines (inl is) m = is
 all_leaves all lines (inr (printed, rest, refusal, by, split, is)) m = memory_last printed refusal lines by is m
 
@@ -96,7 +96,7 @@ module _ (setting : Setting) (old one other : State) (lines again : List OutputL
   one_effect (OpenCursor name p) h k = same_line _ _ _ _ refl refl h k
   one_effect (Next name count) (c, found, h) (c', found', k) =
       let same : c' ≡ c = one_there (cursor_named old name) c' c found' found in
-      let steps = one_steps setting.gap count c h.0 k.0 lines again h.1 (subst (λ x. Steps setting.gap IsMemory count x again k.0) same k.1) m n in
+      let steps = one_steps setting.gap count c h.0 k.0 lines again h.1 (subst (λ x. Steps setting.gap IsOfMemory count x again k.0) same k.1) m n in
       (steps.0, h.2 ∙ ap (λ after. record old { cursors = replaced name after old.cursors }) steps.1 ∙ sym k.2)
   one_effect (CloseCursor name) h k = same_line _ _ _ _ refl refl h k
   one_effect (Show count p) (after, h, is) (after', k, is') =

@@ -14,7 +14,7 @@ use Rattle.sand_model.specs.Checks.{first_refusal}
 use Rattle.sand_model.specs.Cursor.{State, Cursor, OutputLine, Accepted, Id, Loaded, Row, End, Stats, LeafOf, Steps}
 use Rattle.sand_model.specs.Database.{Database, Relation, Index, Quadtree, Attribute, column_named, index_at}
 use Rattle.sand_model.specs.Measure.{Measure}
-use Rattle.sand_model.specs.Outcome.{Rises, Outcome, IsLicensed, IsCaused, IsRefusedBy, IsCarriedOut, PrintsFirst, leaf_lines, first_lines, far_lines}
+use Rattle.sand_model.specs.Outcome.{Rises, Outcome, IsLicensed, IsRefusalCaused, IsRefusedBy, IsCarriedOut, PrintsFirst, leaf_lines, first_lines, far_lines}
 use Rattle.sand_model.specs.Run.{LineOutcome, Run}
 use Rattle.statements.specs.Statement.{Statement, Create, Insert, Delete, Load, Index as IndexOn, Rtree, OpenCursor, Next, CloseCursor, Show, Stats as StatsOf, Far, Blocks}
 use Rattle.sand_model.specs.ScriptLine.{ScriptLine, Blank, TooLong, BadToken, OutOfRange, Says}
@@ -35,7 +35,7 @@ licensed_cause setting rises state statement why.File h = h.1
 licensed_cause setting rises state statement _ h = absurd h
 
 -- so has what a check refuses
-check_cause : (tells : Bool) (rises : Rises) (refusal : Refusal) → IsInside (Some refusal) → IsCaused rises refusal → HasItsCause tells rises refusal
+check_cause : (tells : Bool) (rises : Rises) (refusal : Refusal) → IsInside (Some refusal) → IsRefusalCaused rises refusal → HasItsCause tells rises refusal
 check_cause tells rises why.Memory i h = absurd (true≢false i)
 check_cause tells rises why.Device i h = absurd (true≢false i)
 check_cause tells rises (why.Damaged page kept read) i h = absurd (true≢false i)
@@ -123,7 +123,7 @@ module _ (setting : Setting) (rises : Rises) (old new : State) (lines : List Out
     go : (o : Option Refusal) → first_refusal (early setting old statement ∷ late setting old statement ∷ []) ≡ o → HaveCauses setting.tells rises lines
     go None e = let carried : IsCarriedOut setting rises old statement lines new = rw e at by_checks in carried_cause statement carried
     go (Some refusal) e =
-        let refused : IsCaused rises refusal × IsRefusedBy refusal old lines new = rw e at by_checks in
+        let refused : IsRefusalCaused rises refusal × IsRefusedBy refusal old lines new = rw e at by_checks in
         let inside : IsInside (Some refusal) = rw e at (inside_checks setting old statement) in
         refused_cause setting.tells rises refusal old new lines (check_cause setting.tells rises refusal inside refused.0) refused.1
 

@@ -5,12 +5,12 @@ use Rattle.sand_base.specs.declared.refusal.Refusal.{Refusal}
 use Rattle.sand_base.specs.declared.refusal.Refusal.TheVariants as why
 use Rattle.sand_model.specs.Checks.{first_refusal}
 use Rattle.sand_model.specs.Cursor.{State, Cursor, OutputLine, Steps, new_cursor}
-use Rattle.sand_model.specs.Outcome.{Rises, Outcome, IsLicensed, IsRefusedBy, IsCaused, IsCarriedOut}
+use Rattle.sand_model.specs.Outcome.{Rises, Outcome, IsLicensed, IsRefusedBy, IsRefusalCaused, IsCarriedOut}
 use Rattle.sand_model.specs.Run.{LineOutcome, Run}
 use Rattle.statements.specs.Statement.{Statement, Create, Insert, Delete, Load, Index as IndexOn, Rtree, OpenCursor, Next, CloseCursor, Show, Stats, Far, Blocks}
 use Rattle.sand_model.specs.ScriptLine.{ScriptLine, Blank, TooLong, BadToken, OutOfRange, Says}
 use Rattle.sand_model.specs.StatementChecks.{Setting, early, late, cursor_named}
-use Rattle.run_laws.specs.Following.{rows_left, GoesOn, asks, closes}
+use Rattle.run_laws.specs.Following.{rows_left, GoesOnPrinting, asks, closes}
 use Rattle.run_laws.proofs.CursorsByName.{named, found_name, kept_replaced, kept_closed, kept_opened}
 use Rattle.run_laws.proofs.StepsFollow.{steps_follow}
 
@@ -27,7 +27,7 @@ module _ (setting : Setting) (rises : Rises) (old new : State) (lines : List Out
         → RefusedWith old lines new ⊎ IsCarriedOut setting rises old statement lines new
     go None e = inr (rw e at by_checks)
     go (Some refusal) e =
-        let refused : IsCaused rises refusal × IsRefusedBy refusal old lines new = rw e at by_checks in
+        let refused : IsRefusalCaused rises refusal × IsRefusedBy refusal old lines new = rw e at by_checks in
         inl (record { refusal = refusal; by = refused.1 })
 
   -- a line of a run, or its want of memory
@@ -62,7 +62,7 @@ module _ (setting : Setting) (rises : Rises) (old new : State) (lines : List Out
               → Steps setting.gap (IsLicensed setting rises old (Next other count)) count cursor lines after → after.name ≡ other
           after_name other count cursor found after steps =
               steps_name (steps_follow setting.gap (IsLicensed setting rises old (Next other count)) count cursor lines after steps) ∙ found_name old.cursors other cursor found where
-                steps_name : GoesOn (IsLicensed setting rises old (Next other count)) (rows_left setting.gap cursor) count cursor lines after → after.name ≡ cursor.name
+                steps_name : GoesOnPrinting (IsLicensed setting rises old (Next other count)) (rows_left setting.gap cursor) count cursor lines after → after.name ≡ cursor.name
                 steps_name (inl (enough, printed, gave)) = gave.name
                 steps_name (inr (inl (few, printed, gave))) = gave.name
                 steps_name (inr (inr (rows, refusal, m, less, within, printed, gave))) = gave.name

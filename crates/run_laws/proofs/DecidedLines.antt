@@ -17,7 +17,7 @@ use Rattle.statement_exec.specs.Deciding.{ComesBefore, ComesBehind, EndsRows, Pr
 use Rattle.statement_exec.specs.Moment.{Moment}
 use Rattle.statement_exec.specs.Outline.{Outline, bare, outline_of}
 use Rattle.line_meaning.specs.Said.{PrintsOrMemory, AnswersSaid, AnswerInOrder, AreAnswered}
-use Rattle.run_laws.specs.SeenRefusals.{begins_refused}
+use Rattle.run_laws.specs.SeenRefusals.{says_refused}
 use Rattle.run_laws.proofs.SeenLines.{ArePlain, lines_seen}
 use Rattle.run_laws.proofs.Settings.{moment_setting}
 
@@ -134,7 +134,7 @@ order_plain files setting old (told ∷ script) printed new (own, others, mid, s
 
 -- they are seen in the text
 pub answered_seen : (script : List ScriptLine) (old new : Moment) (printed : List OutputLine) → AreAnswered script old new printed
-    → (text : List ℕ) → IsText printed text → count_by begins_refused (ended_lines text) ≡ count_by is_refused printed
+    → (text : List ℕ) → IsText printed text → count_by says_refused (ended_lines text) ≡ count_by is_refused printed
 answered_seen script old new printed answered =
     let s = moment_setting old in
     lines_seen printed (order_plain old.files s.0 (outline_of old.state) script printed (outline_of new.state) (answered s.0 s.2))

@@ -5,12 +5,12 @@ use Rattle.sand_base.specs.declared.refusal.Refusal.TheVariants as why
 use Rattle.sand_model.specs.Checks.{first_refusal}
 use Rattle.sand_model.specs.Cursor.{State, Cursor, OutputLine, Steps}
 use Rattle.sand_model.specs.Measure.{Measure}
-use Rattle.sand_model.specs.Outcome.{Rises, Outcome, IsLicensed, IsCaused, IsRefusedBy, IsCarriedOut, PrintsFirst, leaf_lines, far_lines}
+use Rattle.sand_model.specs.Outcome.{Rises, Outcome, IsLicensed, IsRefusalCaused, IsRefusedBy, IsCarriedOut, PrintsFirst, leaf_lines, far_lines}
 use Rattle.sand_model.specs.Run.{LineOutcome, Run}
 use Rattle.statements.specs.Statement.{Statement, Create, Insert, Delete, Load, Index as IndexOn, Rtree, OpenCursor, Next, CloseCursor, Show, Stats, Far, Blocks}
 use Rattle.sand_model.specs.ScriptLine.{ScriptLine, Blank, TooLong, BadToken, OutOfRange, Says}
 use Rattle.sand_model.specs.StatementChecks.{Setting, early, late}
-use Rattle.run_laws.specs.Undisturbed.{IsMemory, HasEffect, HasDefinedOutcome, LineIsDefined, RunsUndisturbed}
+use Rattle.run_laws.specs.Undisturbed.{IsOfMemory, HasEffect, HasDefinedOutcome, LineIsDefined, RunsUndisturbed}
 
 module _ (may might : Refusal → Type 0) (weaker : (refusal : Refusal) → may refusal → might refusal) where
   -- steps under a licence are steps under a wider one
@@ -32,7 +32,7 @@ no_fault n e h = absurd (omega arith)
 
 module _ (setting : Setting) (rises : Rises) (tells : setting.tells ≡ true) (disk : rises.disk ≡ 0) (shelf : rises.shelf ≡ 0) where
   -- of what is licensed memory is left
-  memory_alone : (state : State) (statement : Statement) (refusal : Refusal) → IsLicensed setting rises state statement refusal → IsMemory refusal
+  memory_alone : (state : State) (statement : Statement) (refusal : Refusal) → IsLicensed setting rises state statement refusal → IsOfMemory refusal
   memory_alone state statement why.Memory h = refl
   memory_alone state statement why.Device h = no_fault rises.disk disk h.1
   memory_alone state statement (why.Damaged page kept read) h = absurd cc (tells, h.1)
@@ -40,20 +40,23 @@ module _ (setting : Setting) (rises : Rises) (tells : setting.tells ≡ true) (d
   memory_alone state statement _ h = absurd h
 
   -- no check refuses because a file isn't there
-  not_of_file : (refusal : Refusal) → IsCaused rises refusal → refusal ≢ why.File
+  not_of_file : (refusal : Refusal) → IsRefusalCaused rises refusal → refusal ≢ why.File
   not_of_file why.File h e = no_fault rises.shelf shelf h
   not_of_file _ h e = absurd cc
 
   module _ (old new : State) (lines : List OutputLine) where
     effect : (statement : Statement) → IsCarriedOut setting rises old statement lines new → HasEffect setting old statement lines new
     effect (Next name count) (cursor, found, rest) =
-        (cursor, found, (rest.0, steps_under (IsLicensed setting rises old (Next name count)) IsMemory (memory_alone old (Next name count)) setting.gap count cursor rest.0 lines rest.1, rest.2))
+        (cursor, found, (rest.0, steps_under (IsLicensed setting rises old (Next name count)) IsOfMemory (memory_alone old (Next name count)) setting.gap count cursor rest.0 lines rest.1, rest.2))
     effect (Show count p) (after, h, is) =
-        (after, steps_under (IsLicensed setting rises old (Show count p)) IsMemory (memory_alone old (Show count p)) setting.gap count _ after lines h, is)
-    effect (Far count column goal) h =
-        (leaves_under (IsLicensed setting rises old (Far count column goal)) IsMemory (memory_alone old (Far count column goal)) (far_lines setting.gap old.database count column goal) lines h.0, h.1)
+        (after, steps_under (IsLicensed setting rises old (Show count p)) IsOfMemory (memory_alone old (Show count p)) setting.gap count _ after lines h, is)
+    effect (Far count column goal) h = (
+      leaves_under (IsLicensed setting rises old (Far count column goal)) IsOfMemory (memory_alone old (Far count column goal))
+          (far_lines setting.gap old.database count column goal) lines h.0,
+      h.1,
+    )
     effect (Blocks column) (relation, found, h) =
-        (relation, found, (leaves_under (IsLicensed setting rises old (Blocks column)) IsMemory (memory_alone old (Blocks column)) (leaf_lines relation column.column) lines h.0, h.1))
+        (relation, found, (leaves_under (IsLicensed setting rises old (Blocks column)) IsOfMemory (memory_alone old (Blocks column)) (leaf_lines relation column.column) lines h.0, h.1))
     effect (Create name columns) h = h
     effect (Insert name row) h = h
     effect (Delete name id) h = h
@@ -71,7 +74,7 @@ module _ (setting : Setting) (rises : Rises) (tells : setting.tells ≡ true) (d
       go : (o : Option Refusal) → first_refusal (early setting old statement ∷ late setting old statement ∷ []) ≡ o → HasDefinedOutcome setting old statement lines new
       go None e = let carried : IsCarriedOut setting rises old statement lines new = rw e at by_checks in rw e (effect statement carried)
       go (Some refusal) e =
-          let refused : IsCaused rises refusal × IsRefusedBy refusal old lines new = rw e at by_checks in
+          let refused : IsRefusalCaused rises refusal × IsRefusedBy refusal old lines new = rw e at by_checks in
           rw e (not_of_file refusal refused.0, refused.1)
 
     line_defined : (line : ScriptLine) → LineOutcome setting rises old line lines new ⊎ IsRefusedBy why.Memory old lines new

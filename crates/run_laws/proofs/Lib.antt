@@ -1,3 +1,5 @@
+-- a reading of each line
+pub mod Readings
 -- what the lines of a script say
 pub mod ScriptReadings
 -- settings of a moment
@@ -16,6 +18,8 @@ pub mod DefinedOutcomes
 pub mod StepsFollow
 pub mod CursorsByName
 pub mod CursorsInRuns
+-- rows that are taken in two parts, and those that a line's `next` prints
+pub mod NextsOfLines
 pub mod NextsInRuns
 pub mod OpenedCursors
 -- what a refused line leaves

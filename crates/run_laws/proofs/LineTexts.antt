@@ -22,7 +22,7 @@ use Rattle.sand_model.specs.OutputText.{joined, spaced, tabbed, point_text, shap
 use Rattle.sand_model.specs.PlainLines.{has_no_feed, fits_line, IsPlainRow, IsPlainLine}
 use Rattle.sand_model.specs.Reach.{Counts}
 use Rattle.script_lines.specs.Lines.{HasNoFeed}
-use Rattle.run_laws.specs.SeenRefusals.{begins_refused}
+use Rattle.run_laws.specs.SeenRefusals.{says_refused}
 
 free_word : (bytes : List ℕ) → has_no_feed bytes ≡ true → HasNoFeed bytes
 free_word [] h = tt
@@ -127,7 +127,7 @@ digit_joined : (between text : List ℕ) (texts : List (List ℕ)) → BeginsDig
 digit_joined between text [] h = h
 digit_joined between text (second ∷ texts) h = digit_both (text ++ between) (joined between (second ∷ texts)) (digit_both text between h)
 
-begins_other : (bytes : List ℕ) → BeginsDigit bytes → begins_refused bytes ≡ false
+begins_other : (bytes : List ℕ) → BeginsDigit bytes → says_refused bytes ≡ false
 begins_other [] h = absurd h
 begins_other (b ∷ bytes) h = let other : (114 == b) ≡ false = ne_eqb 114 b (λ e. absurd (omega (arith, e, h))) in rw other refl
 
@@ -157,10 +157,10 @@ free_value (value.Shape s) h = free_shape s
 -- a text without a line feed, which begins with `refused` or not
 pub record IsSeen (text : List ℕ) (refused : Bool) : Type 0 where
   pub free : HasNoFeed text
-  pub begins : begins_refused text ≡ refused
+  pub begins : says_refused text ≡ refused
 
-seen_as : (text word : List ℕ) (refused : Bool) → text ≡ word → HasNoFeed word → begins_refused word ≡ refused → IsSeen text refused
-seen_as text word refused e h k = record { free = subst HasNoFeed (sym e) h; begins = ap begins_refused e ∙ k }
+seen_as : (text word : List ℕ) (refused : Bool) → text ≡ word → HasNoFeed word → says_refused word ≡ refused → IsSeen text refused
+seen_as text word refused e h k = record { free = subst HasNoFeed (sym e) h; begins = ap says_refused e ∙ k }
 
 -- a gap is none, or begins with a digit
 ratio_digit : (n d : ℕ) → HasNoFeed (ratio_text n d) × BeginsDigit (ratio_text n d)

@@ -5,7 +5,7 @@ use Rattle.sand_base.specs.declared.refusal.Refusal.TheVariants as why
 use Rattle.sand_model.specs.Checks.{first_refusal}
 use Rattle.sand_model.specs.Cursor.{State, Cursor, Accepted, Refused, new_cursor}
 use Rattle.sand_model.specs.Database.{same_name}
-use Rattle.sand_model.specs.Outcome.{Rises, Outcome, IsCaused, IsRefusedBy, IsCarriedOut}
+use Rattle.sand_model.specs.Outcome.{Rises, Outcome, IsRefusalCaused, IsRefusedBy, IsCarriedOut}
 use Rattle.statements.specs.Plan.{Plan}
 use Rattle.statements.specs.Statement.{OpenCursor}
 use Rattle.sand_model.specs.StatementChecks.{Setting, early, late, cursor_named, is_there, refused_where}
@@ -38,7 +38,7 @@ opened setting rises old new name p (inl (refusal, licensed, by)) = absurd (not_
 opened setting rises old new name p (inr by_checks) = go (first_refusal (early setting old (OpenCursor name p) ∷ late setting old (OpenCursor name p) ∷ [])) refl where
   go : (o : Option Refusal) → first_refusal (early setting old (OpenCursor name p) ∷ late setting old (OpenCursor name p) ∷ []) ≡ o
       → (new.database ≡ old.database) × (cursor_named new name ≡ Some (new_cursor name p old.database))
-  go (Some refusal) e = let refused : IsCaused rises refusal × IsRefusedBy refusal old (Accepted ∷ []) new = rw e at by_checks in absurd (not_both refusal refused.1.0)
+  go (Some refusal) e = let refused : IsRefusalCaused rises refusal × IsRefusedBy refusal old (Accepted ∷ []) new = rw e at by_checks in absurd (not_both refusal refused.1.0)
   go None e =
       let h : IsCarriedOut setting rises old (OpenCursor name p) (Accepted ∷ []) new = rw e at by_checks in
       let passes : early setting old (OpenCursor name p) ≡ None = first_passes _ _ e in

@@ -10,11 +10,12 @@ use Rattle.sand_model.specs.Run.{LineOutcome}
 use Rattle.statements.specs.Statement.{Next}
 use Rattle.sand_model.specs.ScriptLine.{Says}
 use Rattle.sand_model.specs.StatementChecks.{Setting, cursor_named}
-use Rattle.run_laws.specs.Following.{rows_left, GoesOn, rows_among, is_end, HasGiven}
+use Rattle.run_laws.specs.Following.{rows_left, GoesOnPrinting, rows_among, is_end, HasGiven}
 use Rattle.run_laws.specs.Refused.{MovesByItsRows}
 use Rattle.run_laws.proofs.CursorsByName.{found_name, found_as_before}
 use Rattle.run_laws.proofs.CursorsInRuns.{RefusedWith, refused_or_done, Goes}
-use Rattle.run_laws.proofs.NextsInRuns.{next_given, next_ends, and_none}
+use Rattle.run_laws.proofs.NextsOfLines.{and_none}
+use Rattle.run_laws.proofs.NextsInRuns.{next_given, next_ends}
 use Rattle.run_laws.proofs.StepsFollow.{steps_follow}
 
 module _ (setting : Setting) (rises : Rises) (old new : State) (name : List ℕ) (count : ℕ) (lines : List OutputLine) where
@@ -36,7 +37,7 @@ module _ (setting : Setting) (rises : Rises) (old new : State) (name : List ℕ)
       → Steps setting.gap (IsLicensed setting rises old (Next name count)) count cursor lines after → after.name ≡ name
   after_name cursor found after steps =
       steps_name (steps_follow setting.gap (IsLicensed setting rises old (Next name count)) count cursor lines after steps) ∙ found_name old.cursors name cursor found where
-        steps_name : GoesOn (IsLicensed setting rises old (Next name count)) (rows_left setting.gap cursor) count cursor lines after → after.name ≡ cursor.name
+        steps_name : GoesOnPrinting (IsLicensed setting rises old (Next name count)) (rows_left setting.gap cursor) count cursor lines after → after.name ≡ cursor.name
         steps_name (inl (enough, printed, gave)) = gave.name
         steps_name (inr (inl (few, printed, gave))) = gave.name
         steps_name (inr (inr (rows, refusal, m, less, within, printed, gave))) = gave.name

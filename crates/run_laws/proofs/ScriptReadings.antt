@@ -1,6 +1,6 @@
 -- The lines of every script say something: each is too long, or has a reading.
 use Rattle.std.proofs.Common.{◌≢◌, ℕ, List, [], ◌∷◌, Option, Some, None, Result, Ok, Err, refl}
-use Rattle.line_laws.proofs.Readings.{reading_of}
+use Rattle.run_laws.proofs.Readings.{reading_of}
 use Rattle.sand_model.specs.ScriptLine.{ScriptLine, Blank, TooLong, BadToken, OutOfRange, Says}
 use Rattle.script_lines.specs.Lines.{chopped, clipped}
 use Rattle.line_meaning.specs.Spoken.{Tells, IsLine, AreLines}

@@ -1,9 +1,9 @@
 -- A setting of a moment.
 use Rattle.std.proofs.Common.{◌≡◌, refl}
 use Rattle.csv_load.proofs.RowByRow.{file-rows-fit}
-use Rattle.csv_load.specs.FileRows.{file_rows}
-use Rattle.plan_rows.proofs.PlanMeasure.{plan_measure_is}
-use Rattle.plan_rows.specs.Rows.{plan_measure}
+use Rattle.csv_load.specs.FileRows.{rows_of_file}
+use Rattle.plan_iterator.proofs.PlanMeasure.{plan_measure_is}
+use Rattle.plan_iterator.specs.Rows.{plan_measure}
 use Rattle.sand_base.specs.Shelf.{Files}
 use Rattle.sand_model.specs.StatementChecks.{Setting}
 use Rattle.statement_exec.proofs.FileFaults.{some_files}
@@ -11,7 +11,7 @@ use Rattle.statement_exec.specs.Moment.{Moment, IsSettingOf}
 
 -- that of its own limits and mark, of these files, and of rows as files have them
 abbrev pub setting_of : Moment → Files → Setting
-setting_of moment files = record { gap = plan_measure; limits = moment.limits; files = files; rows_of = file_rows; tells = moment.told }
+setting_of moment files = record { gap = plan_measure; limits = moment.limits; files = files; rows_of = rows_of_file; tells = moment.told }
 
 -- the one of the files that are told, or of none
 pub moment_setting : (moment : Moment) → (setting : Setting) × (setting.gap ≡ plan_measure) × IsSettingOf moment setting

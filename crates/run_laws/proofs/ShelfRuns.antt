@@ -9,7 +9,7 @@ use Rattle.sand_model.specs.Run.{Run, LineOutcome}
 use Rattle.sand_model.specs.ScriptLine.{ScriptLine, Says}
 use Rattle.statements.specs.Statement.{Load}
 use Rattle.sand_model.specs.StatementChecks.{Setting}
-use Rattle.line_meaning.specs.ShelfRun.{Finds, ShelfRun, is_load}
+use Rattle.line_meaning.specs.ShelfRun.{FindsFiles, ShelfRun, is_load}
 use Rattle.run_laws.specs.ShelfRuns.{RunsInTwo}
 
 -- what a line does in a setting, or that it is refused as out of memory
@@ -18,7 +18,7 @@ Goes rises old line first mid own = LineOutcome own rises old line first mid ⊎
 
 module _ (files : Option Files) (setting : Setting) where
   -- a load finds the files that are told
-  found_told : (told : Files) (line : ScriptLine) (own : Setting) → files ≡ Some told → setting.files ≡ told → Finds files setting line own → own ≡ setting
+  found_told : (told : Files) (line : ScriptLine) (own : Setting) → files ≡ Some told → setting.files ≡ told → FindsFiles files setting line own → own ≡ setting
   found_told told (Says (Load relation file header)) own is has (found, same, at) = at ∙ ap (λ (f : Files). record setting { files = f }) (same told is ∙ sym has)
   found_told told _ own is has at = at
 
@@ -38,7 +38,7 @@ module _ (files : Option Files) (setting : Setting) where
   }
 
   -- a line that is no load finds the setting of the run
-  found_unloaded : (line : ScriptLine) (own : Setting) → is_load line ≡ false → Finds files setting line own → own ≡ setting
+  found_unloaded : (line : ScriptLine) (own : Setting) → is_load line ≡ false → FindsFiles files setting line own → own ≡ setting
   found_unloaded (Says (Load relation file header)) own none h = absurd (true≢false none)
   found_unloaded _ own none at = at
 

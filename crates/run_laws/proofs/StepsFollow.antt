@@ -6,7 +6,7 @@ use Rattle.sand_model.specs.Cursor.{Cursor, OutputLine, Row, End, Steps, IsRefus
 use Rattle.sand_model.specs.Database.{element}
 use Rattle.sand_model.specs.Measure.{Measure}
 use Rattle.sand_model.specs.Operators.{PlanRow}
-use Rattle.run_laws.specs.Following.{rows_left, Gave, GivesTheLast, GoesOn}
+use Rattle.run_laws.specs.Following.{rows_left, Gave, GivesTheLast, GoesOnPrinting}
 
 -- the row at a place stands before those behind it
 at_a_row : (xs : List PlanRow) (at : ℕ) (x : PlanRow) → element xs at ≡ Some x → drop at xs ≡ x ∷ drop (at + 1) xs
@@ -96,7 +96,7 @@ module _ (gap : Measure) where
   module _ (may : Refusal → Type 0) where
     -- with one row before
     one_before : (left rest : List PlanRow) (row : PlanRow) (count : ℕ) (old mid new : Cursor) (lines more : List OutputLine)
-        → left ≡ row ∷ rest → lines ≡ Row row ∷ more → Gave 1 old.is_ended old mid → GoesOn may rest count mid more new → GoesOn may left (suc count) old lines new
+        → left ≡ row ∷ rest → lines ≡ Row row ∷ more → Gave 1 old.is_ended old mid → GoesOnPrinting may rest count mid more new → GoesOnPrinting may left (suc count) old lines new
     one_before left rest row count old mid new lines more l p g (inl (enough, is, gave)) =
         let long : length left ≡ suc (length rest) = ap length l in
         let same : Gave count old.is_ended mid new = subst (λ m. Gave count m mid new) g.mark gave in
@@ -118,7 +118,7 @@ module _ (gap : Measure) where
         ))
 
     -- step by step
-    pub steps_follow : (count : ℕ) (old : Cursor) (lines : List OutputLine) (new : Cursor) → Steps gap may count old lines new → GoesOn may (rows_left gap old) count old lines new
+    pub steps_follow : (count : ℕ) (old : Cursor) (lines : List OutputLine) (new : Cursor) → Steps gap may count old lines new → GoesOnPrinting may (rows_left gap old) count old lines new
     steps_follow zero old lines new (is, same) =
         inl (omega arith, is, subst (Gave 0 old.is_ended old) (sym same) (gave_itself old))
     steps_follow (suc count) old lines new (inl (row, mid, more, stepped, is, rest)) =

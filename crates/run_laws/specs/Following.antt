@@ -39,15 +39,15 @@ GivesTheLast left count old lines new =
     (length left < count) × (lines ≡ map Row left ++ End ∷ []) × Gave (length left) true old new
 
 -- the first of them are printed, and then a refusal that `may` allows
-abbrev pub GivesSome : (Refusal → Type 0) → List PlanRow → ℕ → Cursor → List OutputLine → Cursor → Type 0
-GivesSome may left count old lines new =
+abbrev pub GivesSomeRows : (Refusal → Type 0) → List PlanRow → ℕ → Cursor → List OutputLine → Cursor → Type 0
+GivesSomeRows may left count old lines new =
     (rows : ℕ) × (refusal : Refusal) × may refusal × (rows < count) × (rows ≤ length left)
     × (lines ≡ map Row (take rows left) ++ Refused refusal ∷ []) × Gave rows old.is_ended old new
 
 -- one of these, by how many rows are left
-abbrev pub GoesOn : (Refusal → Type 0) → List PlanRow → ℕ → Cursor → List OutputLine → Cursor → Type 0
-GoesOn may left count old lines new =
-    GivesAll left count old lines new ⊎ (GivesTheLast left count old lines new ⊎ GivesSome may left count old lines new)
+abbrev pub GoesOnPrinting : (Refusal → Type 0) → List PlanRow → ℕ → Cursor → List OutputLine → Cursor → Type 0
+GoesOnPrinting may left count old lines new =
+    GivesAll left count old lines new ⊎ (GivesTheLast left count old lines new ⊎ GivesSomeRows may left count old lines new)
 
 -- steps of a cursor print the following rows of its answer, and `end` exactly where fewer are left than were asked, or a refusal after the first of them
 abbrev pub StepsGiveTheAnswer : Type 0
@@ -55,7 +55,7 @@ StepsGiveTheAnswer =
     (setting : Setting) (rises : Rises) (state : State) (statement : Statement)
     → (count : ℕ) (old : Cursor) (lines : List OutputLine) (new : Cursor)
     → Steps setting.gap (IsLicensed setting rises state statement) count old lines new
-    → GoesOn (IsLicensed setting rises state statement) (rows_left setting.gap old) count old lines new
+    → GoesOnPrinting (IsLicensed setting rises state statement) (rows_left setting.gap old) count old lines new
 
 -- where `open` is accepted, a cursor of the name is open on the plan over the database as it stands, and has given nothing
 abbrev pub OpenedCursorsAreNew : Type 0

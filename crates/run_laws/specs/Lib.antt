@@ -1,3 +1,4 @@
+-- No definitions: the law is said in the words of script_text.
 -- settings of a moment
 pub mod Settings
 -- The early checks read the outline of a state alone.

@@ -1,6 +1,6 @@
 -- What is promised in every setting of a moment is not empty.
 use Rattle.std.specs.Prelude.{◌≡◌}
-use Rattle.plan_rows.specs.Rows.{plan_measure}
+use Rattle.plan_iterator.specs.Rows.{plan_measure}
 use Rattle.sand_model.specs.StatementChecks.{Setting}
 use Rattle.statement_exec.specs.Moment.{Moment, IsSettingOf}
 

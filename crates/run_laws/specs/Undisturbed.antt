@@ -15,19 +15,19 @@ abbrev pub no_rises : Rises
 no_rises = record { disk = 0; shelf = 0 }
 
 -- memory was refused
-abbrev pub IsMemory : Refusal → Type 0
-IsMemory refusal = refusal ≡ why.Memory
+abbrev pub IsOfMemory : Refusal → Type 0
+IsOfMemory refusal = refusal ≡ why.Memory
 
 -- the effect of a statement; rows and leaves end early where memory is refused
 abbrev pub HasEffect : Setting → State → Statement → List OutputLine → State → Type 0
 HasEffect setting old (Next name count) lines new =
-    OfCursor old name (λ cursor. (after : Cursor) × Steps setting.gap IsMemory count cursor lines after
+    OfCursor old name (λ cursor. (after : Cursor) × Steps setting.gap IsOfMemory count cursor lines after
     × (new ≡ record old { cursors = replaced name after old.cursors }))
 HasEffect setting old (Show count p) lines new =
-    (after : Cursor) × Steps setting.gap IsMemory count (new_cursor [] p old.database) lines after × (new ≡ old)
-HasEffect setting old (Far count column goal) lines new = PrintsFirst IsMemory (far_lines setting.gap old.database count column goal) lines × (new ≡ old)
+    (after : Cursor) × Steps setting.gap IsOfMemory count (new_cursor [] p old.database) lines after × (new ≡ old)
+HasEffect setting old (Far count column goal) lines new = PrintsFirst IsOfMemory (far_lines setting.gap old.database count column goal) lines × (new ≡ old)
 HasEffect setting old (Blocks column) lines new =
-    OfRelation old column.relation (λ relation. PrintsFirst IsMemory (leaf_lines relation column.column) lines × (new ≡ old))
+    OfRelation old column.relation (λ relation. PrintsFirst IsOfMemory (leaf_lines relation column.column) lines × (new ≡ old))
 HasEffect setting old statement lines new = IsCarriedOut setting no_rises old statement lines new
 
 -- the first check that fails refuses the statement, though none because a file isn't there; where none fails it has its effect

@@ -1,16 +1,21 @@
 //! Laws of runs: what every run of a script keeps, whatever the script says.
 //!
-//! The lines of every script say something. A refusal from outside has its cause; where nothing outside fails, each line
+//! Every line has a reading: it falls from the left into tokens, to its end or to a first byte at which none begins, and the tokens write a
+//! statement, in range or not, or have a first bad one. So the lines of every script say something. A refusal from outside has its cause; where nothing outside fails, each line
 //! has the outcome that its checks and its effect define, and the output is determined. However cursors and changes
 //! interleave, the `next`s of a cursor print the following rows of its answer over the database at its opening, and
 //! `end` behind the last. A refused line changes nothing but, by the rows it printed, the cursor of a `next`; and the
 //! lines of the text that begin with `refused` are as many as were refused.
 //! Nothing runs here: each function is a law, its clause. Above: `session`, whose program carries runs out. Below:
-//! `sand_model`, which defines them, and `line_meaning` with `line_laws` for what lines say.
+//! `sand_model`, which defines them, `script_text`, whose reader answers one reading of each line, and `line_meaning` for what lines say.
 //! Read `specs/Lib.antt` and the files that it lists.
 #![tactic(auto)]
 
-ghost use Rattle.std.specs.Prelude.{ℕ, List};
+ghost use Rattle.std.specs.Prelude.{◌≢◌, ℕ, List, Option, Result, Err};
+ghost use Rattle.script_text.specs.Line.{Reads};
+ghost use Rattle.statements.specs.Statement.{Statement};
+ghost use Rattle.script_text.specs.declared.parse.LineFault.{LineFault};
+ghost use Rattle.script_text.specs.declared.parse.LineFault.TheVariants.{Memory};
 ghost use Rattle.run_laws.specs.Causes.{RefusalsHaveCauses};
 ghost use Rattle.run_laws.specs.Determined.{CalmRunsAreOne};
 ghost use Rattle.run_laws.specs.Following.{StepsGiveTheAnswer, OpenedCursorsAreNew, CursorsAreMovedByTheirNext, NextsFollowTheAnswer, NextsEndWithTheAnswer, NextsGiveTheAnswer};
@@ -22,6 +27,11 @@ ghost use Rattle.run_laws.specs.ShelfRuns.{ToldShelvesGiveRuns, ScriptsWithoutLo
 ghost use Rattle.run_laws.specs.Undisturbed.{RunsAreComplete};
 ghost use Rattle.sand_model.specs.ScriptLine.{ScriptLine};
 ghost use Rattle.line_meaning.specs.Spoken.{AreLines};
+
+/// Does nothing: its clause says that every line has an answer other than want of memory.
+pub fn every_line_has_a_reading()
+    ensures { (line : List ℕ) → (answer : Result (Option Statement) LineFault) × (answer ≢ Err Memory) × Reads line answer }
+{}
 
 /// The lines of every script say something, so what is promised of whatever they say is promised of every script.
 pub fn every_script_has_readings()

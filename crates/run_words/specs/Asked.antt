@@ -25,8 +25,8 @@ abbrev pub value_in : App → Text → List Text → Option Text
 value_in app name words = first_of name (matches_of app words)
 
 -- the value of an option in the words
-abbrev pub value_of : Text → List Text → Option Text
-value_of = value_in sand_app
+abbrev pub option_value : Text → List Text → Option Text
+option_value = value_in sand_app
 
 -- the number, or this one where there is none
 abbrev pub number_or : ℕ → Option Text → ℕ

@@ -7,7 +7,7 @@ use Rattle.std.specs.List.{find, position, position_or_len, slice_get}
 use Rattle.std.proofs.lemmas.Bool.{ltb-true, ltb-false}
 use Rattle.std.proofs.lemmas.List.Folds.{find_at}
 use Rattle.std.proofs.lemmas.Option.{slice_get_past, slice_get-map, slice_get_cases}
-use Rattle.sand_base.specs.MemShelf.{FilesState, file_named, bytes_from, is_there, opened}
+use Rattle.sand_base.specs.MemShelf.{FilesState, file_named, bytes_from, has_file, opened}
 
 -- a search among values is a search among what they are the values of
 find-map : {X Y : Type 0} (v : X → Y) (q : Y → Bool) (xs : List X) → find q (map v xs) ≡ option_map v (find (λ x. q (v x)) xs)
@@ -69,8 +69,8 @@ named-there {X} v name xs at h =
 
 -- what an attempt to choose a file says and leaves
 
-pub there-is : (s now : FilesState) (name : List ℕ) (found : Option (List ℕ)) → s ≡ now → file_named s.files name ≡ found → is_some found ≡ is_there now name
-there-is s now name found same h = subst (λ (t : FilesState). is_some found ≡ is_there t name) same (ap is_some (sym h))
+pub there-is : (s now : FilesState) (name : List ℕ) (found : Option (List ℕ)) → s ≡ now → file_named s.files name ≡ found → is_some found ≡ has_file now name
+there-is s now name found same h = subst (λ (t : FilesState). is_some found ≡ has_file t name) same (ap is_some (sym h))
 
 pub opened-is : (s now : FilesState) (name : List ℕ) (found : Option (List ℕ)) → s ≡ now → file_named s.files name ≡ found
     → record { files = s.files; left = found } ≡ opened now name

@@ -30,16 +30,16 @@ left_bytes files = bytes_left files.left where
   bytes_left (Some bytes) = bytes
 
 -- the name is that of a file
-abbrev pub is_there : FilesState → List ℕ → Bool
-is_there files name = is_some (file_named files.files name)
+abbrev pub has_file : FilesState → List ℕ → Bool
+has_file files name = is_some (file_named files.files name)
 
 -- the files once the one of the name is chosen, or none where there is none
 abbrev pub opened : FilesState → List ℕ → FilesState
 opened files name = record files { left = file_named files.files name }
 
 -- the files with none chosen
-abbrev pub closed : FilesState → FilesState
-closed files = record files { left = None }
+abbrev pub none_chosen : FilesState → FilesState
+none_chosen files = record files { left = None }
 
 -- the files once so many bytes more were read
 abbrev pub read_on : FilesState → ℕ → FilesState
@@ -56,8 +56,8 @@ pub record ShelfState : Type 0 where
 
 -- A choice is a fault where the list names its call or no file has the name, and then none is chosen. Any other chooses the first file of the name.
 abbrev pub Chooses : {T E : Type 0} → ShelfState → ShelfState → Result T E → List ℕ → Type 0
-Chooses old new result name = MatchBool (is_next_named old.calls || not (is_there old.files name))
-    (IsErr result × (new ≡ record { files = closed old.files; calls = one_fault (one_more old.calls) }))
+Chooses old new result name = MatchBool (is_next_named old.calls || not (has_file old.files name))
+    (IsErr result × (new ≡ record { files = none_chosen old.files; calls = one_fault (one_more old.calls) }))
     (IsOk result × (new ≡ record { files = opened old.files name; calls = one_more old.calls }))
 
 -- A read takes nothing where the list names its call, and is a fault. Any other gives all that it may.
@@ -74,6 +74,6 @@ pub record SureShelfState : Type 0 where
 
 -- A choice is a fault where no file has the name, and then none is chosen.
 abbrev pub SureChooses : {T E : Type 0} → SureShelfState → SureShelfState → Result T E → List ℕ → Type 0
-SureChooses old new result name = MatchBool (is_there old.files name)
+SureChooses old new result name = MatchBool (has_file old.files name)
     (IsOk result × (new ≡ record old { files = opened old.files name }))
-    (IsErr result × (new ≡ record { files = closed old.files; faults = next_count old.faults }))
+    (IsErr result × (new ≡ record { files = none_chosen old.files; faults = next_count old.faults }))

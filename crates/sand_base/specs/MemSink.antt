@@ -13,8 +13,8 @@ abbrev pub free_count : SinkState → ℕ
 free_count sink = sink.room - length sink.taken
 
 -- A write takes nothing where the list names its call or no byte fits, and is a fault. Any other takes the longest front that fits.
-abbrev pub Writes : {E : Type 0} → SinkState → SinkState → Result ℕ E → List ℕ → Type 0
-Writes old new result piece = MatchBool (is_next_named old.calls || nat_eq (free_count old) 0)
+abbrev pub WritesBytes : {E : Type 0} → SinkState → SinkState → Result ℕ E → List ℕ → Type 0
+WritesBytes old new result piece = MatchBool (is_next_named old.calls || nat_eq (free_count old) 0)
     (IsErr result × (new ≡ record old { calls = one_fault (one_more old.calls) }))
     (let n = min (free_count old) (length piece) in
     (result ≡ Ok n) × (new ≡ record old { taken = old.taken ++ take n piece; calls = one_more old.calls }))

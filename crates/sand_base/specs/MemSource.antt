@@ -10,8 +10,8 @@ pub record SourceState : Type 0 where
   pub calls : CallsState
 
 -- A read into a piece of this length takes nothing where the list names its call, and is a fault. Any other gives all that it may.
-abbrev pub Reads : {E : Type 0} → SourceState → SourceState → Result ℕ E → ℕ → Type 0
-Reads old new result room = MatchBool (is_next_named old.calls)
+abbrev pub ReadsPiece : {E : Type 0} → SourceState → SourceState → Result ℕ E → ℕ → Type 0
+ReadsPiece old new result room = MatchBool (is_next_named old.calls)
     (IsErr result × (new ≡ record old { calls = one_fault (one_more old.calls) }))
     (let n = given_count old.chunk old.left room in
     (result ≡ Ok n) × (new ≡ record old { left = drop n old.left; calls = one_more old.calls }))

@@ -1,6 +1,6 @@
 ghost use Rattle.std.specs.Prelude.{◌≡◌, ◌+◌, ◌^◌, ◌<◌, ◌≤◌, Some, None, [], min, map, nat_eq, position, length, take};
 ghost use Rattle.std.specs.Cmp.Lexicographic.{pointwise};
-ghost use Rattle.sand_base.specs.MemShelf.{FilesState, bytes_from, closed, is_there, left_bytes, opened, read_count, read_on};
+ghost use Rattle.sand_base.specs.MemShelf.{FilesState, bytes_from, none_chosen, has_file, left_bytes, opened, read_count, read_on};
 
 use crate::Label;
 use std::marker::Model;
@@ -69,14 +69,14 @@ impl DataFiles {
 
     // Chooses no file.
     pub(crate) fn close(&mut self)
-        ensures { self.new ≡ closed self.old }
+        ensures { self.new ≡ none_chosen self.old }
     {
         self.chosen = None;
     }
 
     // Chooses the first file of the name, or none where there is none, and says whether there is one.
     pub(crate) fn open(&mut self, name: &str) -> bool
-        ensures there { result ≡ is_there self.old name.now }
+        ensures there { result ≡ has_file self.old name.now }
         ensures opened { self.new ≡ opened self.old name.now }
     {
         let Some(file) = place_of(&self.files, name) else {

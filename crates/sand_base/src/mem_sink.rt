@@ -2,7 +2,7 @@ ghost use Rattle.std.specs.Prelude.{◌≡◌, ◌+◌, ◌<◌, ◌≤◌, [], 
 ghost use Rattle.sand_base.specs.Calls.{no_calls};
 ghost use Rattle.sand_base.specs.Faults.{HasCause};
 ghost use Rattle.sand_base.specs.Streams.{TakesFront};
-ghost use Rattle.sand_base.specs.MemSink.{Writes};
+ghost use Rattle.sand_base.specs.MemSink.{WritesBytes};
 
 use crate::{Calls, Failed, NoMemory, Sink};
 use std::alloc::Global;
@@ -70,7 +70,7 @@ impl Sink for MemSink {
         ensures count { IfOk result (λ n. (1 ≤ n) × (n ≤ length piece.now)) }
         ensures bytes { TakesFront (λ bytes. self.old.taken ≡ bytes) (λ bytes. self.new.taken ≡ bytes) result piece.now }
         ensures cause { HasCause self.old.calls.faults self.new.calls.faults result }
-        ensures step { Writes self.old self.new result piece.now }
+        ensures step { WritesBytes self.old self.new result piece.now }
     {
         self.calls.begin()?;
         let count = piece.len().min(self.room - self.bytes.len());

@@ -3,7 +3,7 @@ ghost use Rattle.std.specs.Io.{ReadsAtMost};
 ghost use Rattle.std.specs.Io.KnownBytes.{ReadConsumes};
 ghost use Rattle.sand_base.specs.Calls.{no_calls};
 ghost use Rattle.sand_base.specs.Faults.{HasCause};
-ghost use Rattle.sand_base.specs.MemSource.{Reads};
+ghost use Rattle.sand_base.specs.MemSource.{ReadsPiece};
 
 use crate::{Calls, Failed, Source, SureSource};
 use std::alloc::Global;
@@ -47,7 +47,7 @@ impl Source for MemSource {
         ensures bound { ReadsAtMost result piece.new }
         ensures bytes { ReadConsumes (Some self.old.left) (Some self.new.left) result piece.new }
         ensures cause { HasCause self.old.calls.faults self.new.calls.faults result }
-        ensures step { Reads self.old self.new result (length piece.old) }
+        ensures step { ReadsPiece self.old self.new result (length piece.old) }
     {
         self.calls.begin()?;
         Ok(self.source.fill(piece))

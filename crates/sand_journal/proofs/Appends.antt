@@ -1,6 +1,6 @@
 -- What the two phases of an append leave, call by call.
 use Rattle.std.proofs.Common.{◌≡◌, ◌≢◌, ℕ, ◌+◌, ◌<◌, List, [], ◌∷◌, ◌++◌, length, drop, IsTrue, Result, Ok, sym, subst, ◌∙◌, arith}
-use Rattle.sand_journal.specs.Tape.{TapeView, Only, IsWritten, Torn, WritesTape, SyncsTape}
+use Rattle.sand_journal.specs.Tape.{TapeView, Only, IsWrittenAt, Torn, WritesTape, SyncsTape}
 use Rattle.sand_journal.specs.Images.{IsShort, framed, records, HasBodies, LiesBetween, LeavesOnly}
 use Rattle.sand_journal.specs.Journal.{IsAtRest, IsStaged}
 use Rattle.sand_journal.proofs.Frames.{length-records-push, short_push}
@@ -40,7 +40,7 @@ stage_done v u old mid new end bodies body bytes is rest short w s =
       has.shut,
       s.kept.bytes
           ∙ written_behind bodies end rest.stands.place body old.bytes mid.bytes has.behind has.gate has.is
-          (subst (λ (l : List ℕ). IsWritten old.bytes (end + 1) l mid.bytes) is (w.written (told_old told))),
+          (subst (λ (l : List ℕ). IsWrittenAt old.bytes (end + 1) l mid.bytes) is (w.written (told_old told))),
     ) in
     record {
       rest = record {

@@ -3,7 +3,7 @@ use Rattle.std.proofs.Common.{◌≡◌, inl, inr, ℕ, ◌+◌, ◌<◌, List, 
 use Rattle.std.proofs.lemmas.Bool.{cases_eq}
 use Rattle.std.proofs.lemmas.List.{append-nil, take_at, drop_at, drop_more}
 use Rattle.std.specs.List.{AllByRecursion}
-use Rattle.sand_journal.specs.Tape.{Torn, IsWritten}
+use Rattle.sand_journal.specs.Tape.{Torn, IsWrittenAt}
 use Rattle.sand_journal.specs.Images.{IsShort, framed, records, HasBodies, LiesBetween}
 use Rattle.sand_journal.proofs.Frames.{records-push, short_push}
 
@@ -42,7 +42,7 @@ module _ (bodies : List (List ℕ)) (end : ℕ) (place : end ≡ length (records
   }
 
   -- and once it is accepted, the body stands there in its frame, with a shut gate behind it
-  pub written_behind : (body bytes new behind : List ℕ) (gate : ℕ) → bytes ≡ records bodies ++ gate ∷ behind → IsWritten bytes (end + 1) (framed body ++ 0 ∷ []) new
+  pub written_behind : (body bytes new behind : List ℕ) (gate : ℕ) → bytes ≡ records bodies ++ gate ∷ behind → IsWrittenAt bytes (end + 1) (framed body ++ 0 ∷ []) new
       → new ≡ records bodies ++ gate ∷ (framed body ++ 0 ∷ drop (end + 1 + length (framed body ++ 0 ∷ [])) bytes)
   written_behind body bytes new behind gate is written =
       let junk : List ℕ = drop (end + 1 + length (framed body ++ 0 ∷ [])) bytes in
@@ -91,7 +91,7 @@ module _ (bodies : List (List ℕ)) (end : ℕ) (place : end ≡ length (records
 
   -- and once it is accepted, they are those and this one
   pub written_gate : (body bytes new junk : List ℕ) (gate : ℕ) → AllByRecursion IsShort bodies → IsShort body
-      → bytes ≡ records bodies ++ gate ∷ (framed body ++ 0 ∷ junk) → IsWritten bytes end (1 ∷ []) new
+      → bytes ≡ records bodies ++ gate ∷ (framed body ++ 0 ∷ junk) → IsWrittenAt bytes end (1 ∷ []) new
       → HasBodies (bodies ++ body ∷ []) new
   written_gate body bytes new junk gate all short is written =
       let behind : List ℕ = framed body ++ 0 ∷ junk in

@@ -12,7 +12,7 @@ use Rattle.script_text.specs.Name.{IsName}
 use Rattle.sand_base.specs.declared.memory.NoMemory.{NoMemory}
 use Rattle.sand_journal.specs.declared.TheConstants.{LONGEST_ENCODING}
 use Rattle.sand_journal.specs.ChangeBody.{IsEncodingShort, framed_row, counted_rows}
-use Rattle.sand_journal.specs.RowsBody.{bytes_of_each, row_bytes, AreRows, AreCounted, IsRowsBody}
+use Rattle.sand_journal.specs.RowsBody.{bytes_of_each, row_bytes, AreFramedRows, AreCountedRows, IsRowsBody}
 use Rattle.sand_journal.proofs.Bodies.{rows_fit, counted_is}
 use Rattle.sand_journal.proofs.RowFrames.{rows_first}
 use Rattle.sand_journal.proofs.RowBodies.{rows_made, rows_parts, rows_behind, count_behind, row_size}
@@ -47,8 +47,8 @@ stuck_at rest [] none short same = refl
 stuck_at rest (row ∷ more) none short same = absurd (none row (flat_map framed_row more) short.0 same)
 
 pub split_stuck : (bytes : List ℕ) (rows : List (List ℕ)) (rest : List ℕ) (count : ℕ) → IsSplit bytes rows rest → length rows < count
-    → ((row after : List ℕ) → IsEncodingShort row → rest ≡ framed_row row ++ after → ⊥) → AreRows bytes count None
-unfolding AreRows
+    → ((row after : List ℕ) → IsEncodingShort row → rest ≡ framed_row row ++ after → ⊥) → AreFramedRows bytes count None
+unfolding AreFramedRows
 split_stuck bytes rows rest count split fewer none = λ others short many same.
     let m = others_more bytes rows rest others split short same in
     let over = stuck_at rest m.0 none m.3 m.2 in
@@ -59,23 +59,23 @@ none_behind : (rest : List ℕ) (more : List (List ℕ)) → length more ≡ 0 �
 none_behind rest [] none same = same
 none_behind rest (row ∷ more) none same = absurd (omega (arith, none))
 
-pub split_over : (bytes : List ℕ) (rows : List (List ℕ)) (rest : List ℕ) (count : ℕ) → IsSplit bytes rows rest → length rows ≡ count → rest ≢ [] → AreRows bytes count None
-unfolding AreRows
+pub split_over : (bytes : List ℕ) (rows : List (List ℕ)) (rest : List ℕ) (count : ℕ) → IsSplit bytes rows rest → length rows ≡ count → rest ≢ [] → AreFramedRows bytes count None
+unfolding AreFramedRows
 split_over bytes rows rest count split all some = λ others short many same.
     let m = others_more bytes rows rest others split short same in
     some (none_behind rest m.0 (omega (arith, all, many, ap length m.1, length-append rows m.0)) m.2)
 
 -- so many rows with nothing behind them are all
 pub split_done : (bytes rest : List ℕ) (count : ℕ) (rows : Vec (Vec ℕ Global) Global) → IsSplit bytes (row_bytes rows) rest → length (row_bytes rows) ≡ count → rest ≡ []
-    → AreRows bytes count (Some rows)
-unfolding AreRows
+    → AreFramedRows bytes count (Some rows)
+unfolding AreFramedRows
 split_done bytes rest count rows split all none =
     (split.short, all, split.is ∙ ap (λ (l : List ℕ). flat_map framed_row (row_bytes rows) ++ l) none ∙ append-nil (flat_map framed_row (row_bytes rows)))
 
 -- rows behind the count that was read
 pub counted_as : (bytes rest : List ℕ) (count : ℕ) (found : Option (Vec (Vec ℕ Global) Global)) → count < 2 ^ 32 → bytes ≡ to_be_bytes w32 count ++ rest
-    → AreRows rest count found → AreCounted bytes found
-unfolding AreRows AreCounted
+    → AreFramedRows rest count found → AreCountedRows bytes found
+unfolding AreFramedRows AreCountedRows
 counted_as bytes rest count None fits is none = λ rows short fits_rows counted.
     let behind = count_behind bytes rest count rows fits is fits_rows counted in none rows short (sym behind.0) behind.1
 counted_as bytes rest count (Some rows) fits is found = (
@@ -85,20 +85,20 @@ counted_as bytes rest count (Some rows) fits is found = (
 )
 
 -- bytes with no count have no counted rows
-pub no_count : (bytes : List ℕ) → ((count : ℕ) (rest : List ℕ) → bytes ≡ to_be_bytes w32 count ++ rest → ⊥) → AreCounted bytes None
-unfolding AreCounted
+pub no_count : (bytes : List ℕ) → ((count : ℕ) (rest : List ℕ) → bytes ≡ to_be_bytes w32 count ++ rest → ⊥) → AreCountedRows bytes None
+unfolding AreCountedRows
 no_count bytes none = λ rows short fits counted. none (length rows) (flat_map framed_row rows) (counted ∙ counted_is rows)
 
 -- a name and counted rows behind it are a body
-pub body_found : (bytes name rest relation : List ℕ) (rows : Vec (Vec ℕ Global) Global) (others : List (List ℕ)) → IsName name → bytes ≡ length name ∷ (name ++ rest) → AreCounted rest (Some rows)
+pub body_found : (bytes name rest relation : List ℕ) (rows : Vec (Vec ℕ Global) Global) (others : List (List ℕ)) → IsName name → bytes ≡ length name ∷ (name ++ rest) → AreCountedRows rest (Some rows)
     → length bytes + 1 < 2 ^ 32 → relation ≡ name → others ≡ row_bytes rows → IsRowsBody bytes (Some (relation, others))
-unfolding AreCounted IsRowsBody
+unfolding AreCountedRows IsRowsBody
 body_found bytes name rest relation rows others named is counted fits same_name same_rows =
     rows_made bytes name rest relation (row_bytes rows) others named is counted.0 counted.1 fits same_name same_rows
 
 -- with no counted rows behind it they are none
-pub no_rows : (bytes name rest : List ℕ) → bytes ≡ length name ∷ (name ++ rest) → AreCounted rest None → IsRowsBody bytes None
-unfolding AreCounted IsRowsBody
+pub no_rows : (bytes name rest : List ℕ) → bytes ≡ length name ∷ (name ++ rest) → AreCountedRows rest None → IsRowsBody bytes None
+unfolding AreCountedRows IsRowsBody
 no_rows bytes name rest is none = λ relation rows change same.
     none rows change.1 (rows_fit relation rows change) (rows_behind bytes name rest relation rows is same)
 
@@ -113,13 +113,14 @@ items_of row = row.items
 
 -- the same where the rows are kept in a vector: no more of them, too many, and all
 pub kept_stuck : (bytes : List ℕ) (rows : List (Vec ℕ Global)) (rest : List ℕ) (count : ℕ) → IsSplit bytes (bytes_of_each rows) rest → length rows < count
-    → ((row after : List ℕ) → IsEncodingShort row → rest ≡ framed_row row ++ after → ⊥) → AreRows bytes count None
+    → ((row after : List ℕ) → IsEncodingShort row → rest ≡ framed_row row ++ after → ⊥) → AreFramedRows bytes count None
 kept_stuck bytes rows rest count split fewer none = split_stuck bytes (bytes_of_each rows) rest count split (omega (arith, fewer, length-map rows items_of)) none
 
-pub kept_over : (bytes : List ℕ) (rows : List (Vec ℕ Global)) (rest : List ℕ) (count : ℕ) → IsSplit bytes (bytes_of_each rows) rest → length rows ≡ count → rest ≢ [] → AreRows bytes count None
+pub kept_over : (bytes : List ℕ) (rows : List (Vec ℕ Global)) (rest : List ℕ) (count : ℕ) → IsSplit bytes (bytes_of_each rows) rest → length rows ≡ count → rest ≢ [] → AreFramedRows bytes count None
 kept_over bytes rows rest count split all some = split_over bytes (bytes_of_each rows) rest count split (omega (arith, all, length-map rows items_of)) some
 
-pub kept_done : (bytes rest : List ℕ) (count : ℕ) (rows : Vec (Vec ℕ Global) Global) → IsSplit bytes (row_bytes rows) rest → length rows.items ≡ count → rest ≡ [] → AreRows bytes count (Some rows)
+pub kept_done : (bytes rest : List ℕ) (count : ℕ) (rows : Vec (Vec ℕ Global) Global) → IsSplit bytes (row_bytes rows) rest → length rows.items ≡ count → rest ≡ []
+    → AreFramedRows bytes count (Some rows)
 kept_done bytes rest count rows split all none = split_done bytes rest count rows split (omega (arith, all, length-map rows.items items_of)) none
 
 -- what the test for no bytes tells
@@ -132,7 +133,7 @@ none_by (b ∷ rest) e is holds = absurd (let same : (length (b ∷ rest) == 0) 
 
 -- rows behind the count that was read, where memory was there
 pub counted_answer : (bytes rest : List ℕ) (count : ℕ) (result : Result (Option (Vec (Vec ℕ Global) Global)) NoMemory) → count < 2 ^ 32 → bytes ≡ to_be_bytes w32 count ++ rest
-    → IfOk result (AreRows rest count) → IfOk result (AreCounted bytes)
+    → IfOk result (AreFramedRows rest count) → IfOk result (AreCountedRows bytes)
 counted_answer bytes rest count (Ok found) fits is rows = counted_as bytes rest count found fits is rows
 counted_answer bytes rest count (Err why) fits is rows = tt
 

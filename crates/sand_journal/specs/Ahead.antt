@@ -24,13 +24,13 @@ IsAhead tape bodies ahead.Bad = IsCutBehind tape.bytes bodies
 IsAhead tape bodies (ahead.Body body) = HasNext tape.bytes bodies body.items
 
 -- a body that was found is short, and the gate behind it isn't above the last
-abbrev pub IsNear : ℕ → Ahead → Type 0
-IsNear end ahead.End = ⊤
-IsNear end ahead.Bad = ⊤
-IsNear end (ahead.Body body) = IsShort body.items × (end + 5 + length body.items ≤ 2 ^ 62)
+abbrev pub IsNearAhead : ℕ → Ahead → Type 0
+IsNearAhead end ahead.End = ⊤
+IsNearAhead end ahead.Bad = ⊤
+IsNearAhead end (ahead.Body body) = IsShort body.items × (end + 5 + length body.items ≤ 2 ^ 62)
 
 -- the fault is of memory or of the tape
-abbrev pub IsOutside : JournalFault → Type 0
-IsOutside Memory = ⊤
-IsOutside Failed = ⊤
-IsOutside (Bad _) = ⊥
+abbrev pub IsMemoryOrTape : JournalFault → Type 0
+IsMemoryOrTape Memory = ⊤
+IsMemoryOrTape Failed = ⊤
+IsMemoryOrTape (Bad _) = ⊥

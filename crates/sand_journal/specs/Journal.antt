@@ -90,9 +90,9 @@ pub record IsBadBehind (bytes : List ℕ) (bodies : List (List ℕ)) : Type 0 wh
   pub none : (change : ChangeValue) → IsChange change → HasNext bytes bodies (body_of change) → ⊥
 
 -- What a journal that had passed these bodies gives next: that they are all, or the change whose body it has passed now too.
-abbrev pub GivesNext : {T : Type 0} → (T → TapeView) → Journal T → List (List ℕ) → Option Change → Type 0
-GivesNext seen journal bodies None = IsAtEnd seen journal bodies
-GivesNext seen journal bodies (Some change) = HasPassed seen journal (bodies ++ body_of (change_value change) ∷ [])
+abbrev pub GivesNextChange : {T : Type 0} → (T → TapeView) → Journal T → List (List ℕ) → Option Change → Type 0
+GivesNextChange seen journal bodies None = IsAtEnd seen journal bodies
+GivesNextChange seen journal bodies (Some change) = HasPassed seen journal (bodies ++ body_of (change_value change) ∷ [])
 
 -- Why a journal that had passed these bodies gives none: at `Bad` the record of that number is open and is that of no change.
 abbrev pub IsWhy : JournalFault → List ℕ → List (List ℕ) → Type 0

@@ -13,14 +13,14 @@ abbrev pub row_bytes : Vec (Vec ℕ Global) Global → List (List ℕ)
 row_bytes rows = bytes_of_each rows.items
 
 -- What bytes are read as: so many rows in their frames, or None where they are no such rows.
-unfoldable pub AreRows : List ℕ → ℕ → Option (Vec (Vec ℕ Global) Global) → Type 0
-AreRows bytes count None = (rows : List (List ℕ)) → AllByRecursion IsEncodingShort rows → length rows ≡ count → bytes ≡ flat_map framed_row rows → ⊥
-AreRows bytes count (Some rows) = AllByRecursion IsEncodingShort (row_bytes rows) × (length (row_bytes rows) ≡ count) × (bytes ≡ flat_map framed_row (row_bytes rows))
+unfoldable pub AreFramedRows : List ℕ → ℕ → Option (Vec (Vec ℕ Global) Global) → Type 0
+AreFramedRows bytes count None = (rows : List (List ℕ)) → AllByRecursion IsEncodingShort rows → length rows ≡ count → bytes ≡ flat_map framed_row rows → ⊥
+AreFramedRows bytes count (Some rows) = AllByRecursion IsEncodingShort (row_bytes rows) × (length (row_bytes rows) ≡ count) × (bytes ≡ flat_map framed_row (row_bytes rows))
 
 -- What bytes are read as: rows behind their count, or None where they are no such rows.
-unfoldable pub AreCounted : List ℕ → Option (Vec (Vec ℕ Global) Global) → Type 0
-AreCounted bytes None = (rows : List (List ℕ)) → AllByRecursion IsEncodingShort rows → length rows < 2 ^ 32 → bytes ≡ counted_rows rows → ⊥
-AreCounted bytes (Some rows) = AllByRecursion IsEncodingShort (row_bytes rows) × (bytes ≡ counted_rows (row_bytes rows))
+unfoldable pub AreCountedRows : List ℕ → Option (Vec (Vec ℕ Global) Global) → Type 0
+AreCountedRows bytes None = (rows : List (List ℕ)) → AllByRecursion IsEncodingShort rows → length rows < 2 ^ 32 → bytes ≡ counted_rows rows → ⊥
+AreCountedRows bytes (Some rows) = AllByRecursion IsEncodingShort (row_bytes rows) × (bytes ≡ counted_rows (row_bytes rows))
 
 -- What the bytes behind a body's first byte are read as: a relation's name and rows, or None where they are no such body's.
 unfoldable pub IsRowsBody : List ℕ → Option (List ℕ × List (List ℕ)) → Type 0

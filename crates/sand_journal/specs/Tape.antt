@@ -24,8 +24,8 @@ pub record Torn (at n : ℕ) (old new : List ℕ) : Type 0 where
   pub no_shorter : length old ≤ length new
 
 -- the new bytes are the old ones with these at this place
-abbrev pub IsWritten : List ℕ → ℕ → List ℕ → List ℕ → Type 0
-IsWritten old at bytes new = new ≡ take at old ++ bytes ++ drop (at + length bytes) old
+abbrev pub IsWrittenAt : List ℕ → ℕ → List ℕ → List ℕ → Type 0
+IsWrittenAt old at bytes new = new ≡ take at old ++ bytes ++ drop (at + length bytes) old
 
 -- a crash leaves these bytes and nothing else
 abbrev pub Only : List ℕ → (List ℕ → Type 0) → Type 0
@@ -68,7 +68,7 @@ pub record ReadsTape {E : Type 0} (old new : TapeView) (at : ℕ) (piece : List 
 pub record WritesTape {T E : Type 0} (old new : TapeView) (at : ℕ) (bytes : List ℕ) (result : Result T E) : Type 0 where
   pub passes : TimePasses old new
   pub started : new.started ≡ old.started
-  pub written : OnOk result (IsTrue old.told → IsWritten old.bytes at bytes new.bytes)
+  pub written : OnOk result (IsTrue old.told → IsWrittenAt old.bytes at bytes new.bytes)
   pub failed : OnErr result (IsTrue old.told → Torn at (length bytes) old.bytes new.bytes)
   pub torn : IsTrue old.told → (image : List ℕ) → new.leaves image → (from : List ℕ) × old.leaves from × Torn at (length bytes) from image
   pub cause : HasCause old.faults new.faults result

@@ -1,6 +1,6 @@
 ghost use Rattle.std.specs.Prelude.{◌≡◌, ◌+◌, ◌-◌, ◌≤◌, ◌<◌, ◌^◌, ℕ, List, true, false, IsTrue, IfOk, IfErr, MatchBool, IfSome, IfNone, length, take, drop};
 ghost use Rattle.sand_base.specs.Faults.{HasCause};
-ghost use Rattle.sand_journal.specs.Ahead.{IsHead, IsAhead, IsNear, IsOutside};
+ghost use Rattle.sand_journal.specs.Ahead.{IsHead, IsAhead, IsNearAhead, IsMemoryOrTape};
 ghost use Rattle.sand_journal.specs.Journal.{IsOnlyRead, HasFaultCause, StandsBehind};
 
 use crate::gate::{GATE_OPEN, HEAD_BYTES, LAST_GATE};
@@ -85,7 +85,7 @@ fn read_body<T: Tape>(
     ensures body { IfOk result (λ found. IfSome found (λ body. IsTrue (T.seen tape.old).told
         → (at + size < length (T.seen tape.old).bytes) × (body.items ≡ take size (drop at (T.seen tape.old).bytes)))) }
     ensures none { IfOk result (λ found. IfNone found (IsTrue (T.seen tape.old).told → length (T.seen tape.old).bytes ≤ at + size)) }
-    ensures outside { IfErr result IsOutside }
+    ensures outside { IfErr result IsMemoryOrTape }
     ensures cause { HasFaultCause (T.seen tape.old).faults (T.seen tape.new).faults result }
 {
     if !has_byte(tape, at + u64::from(size))? {
@@ -107,8 +107,8 @@ pub(crate) fn look_ahead<T: Tape>(
     ensures read { IsOnlyRead (T.seen tape.old) (T.seen tape.new) }
     ensures ahead { IfOk result (λ ahead. (bodies : List (List ℕ)) → StandsBehind (T.seen tape.old) end bodies
         → IsTrue (T.seen tape.old).told → IsAhead (T.seen tape.old) bodies ahead) }
-    ensures near { IfOk result (λ ahead. IsNear end ahead) }
-    ensures outside { IfErr result IsOutside }
+    ensures near { IfOk result (λ ahead. IsNearAhead end ahead) }
+    ensures outside { IfErr result IsMemoryOrTape }
     ensures cause { HasFaultCause (T.seen tape.old).faults (T.seen tape.new).faults result }
 {
     let size = match read_head(tape, end)? {

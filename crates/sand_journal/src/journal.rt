@@ -21,7 +21,7 @@ pub struct Journal<T: Tape> {
 }
 
 impl<T: Tape> Journal<T> {
-    ghost use Rattle.sand_journal.specs.Journal.{HasPassed, IsAtEnd, IsReading, IsReady, IsOnlyRead, WasOpened, HasOpened, HasFaultCause, GivesNext, IsWhy, last_number};
+    ghost use Rattle.sand_journal.specs.Journal.{HasPassed, IsAtEnd, IsReading, IsReady, IsOnlyRead, WasOpened, HasOpened, HasFaultCause, GivesNextChange, IsWhy, last_number};
     ghost use Rattle.sand_journal.specs.ChangeBody.{IsChange, change_value};
 
     /// Opens the file of a tape. It is synced first, so that what is read is what a crash leaves; an empty file gets its
@@ -56,7 +56,7 @@ impl<T: Tape> Journal<T> {
 
     /// The change of the next record, None where all are read. A refusal changes nothing but the tape's count of faults.
     pub fn next(&mut self, alloc: Global) -> Result<Option<Change>, JournalFault>
-        ensures next { IfOk result (λ found. (bodies : List (List ℕ)) → HasPassed T.seen self.old bodies → GivesNext T.seen self.new bodies found) }
+        ensures next { IfOk result (λ found. (bodies : List (List ℕ)) → HasPassed T.seen self.old bodies → GivesNextChange T.seen self.new bodies found) }
         ensures form { IfOk result (λ found. IfSome found (λ change. IsChange (change_value change))) }
         ensures ready { IfOk result (λ found. IfNone found (IsReading T.seen self.old → IsReady T.seen self.new)) }
         ensures reading { OnOk result (IsReading T.seen self.old → IsReading T.seen self.new) }

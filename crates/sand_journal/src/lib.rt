@@ -5,7 +5,7 @@
 //! A journal is read from the front, up to the first gate that isn't open (`ahead`), and each body as a change (`read_change`);
 //! `write_change` makes the body of a change. `Tape` is the file, with its crash model as
 //! ghost members: what a crash now may leave, and what one since an earlier moment might have left; `MemTape` is one in
-//! memory. Above: `journal_table`, its tables. Below: `sand_base`, and `script_text` for the bodies of changes.
+//! memory. Above: `fault_tables`, its tables. Below: `sand_base`, and `script_text` for the bodies of changes.
 //! Contracts see a tape as a `TapeView` and a record as the bytes of its body; read `specs/Tape.antt`, `specs/Images.antt` and
 //! `specs/Journal.antt` first.
 //! Write-ahead logging after J. Gray and A. Reuter (1993), with a commit byte in the place of a checksum.

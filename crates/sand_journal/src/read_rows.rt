@@ -3,7 +3,7 @@ ghost use Rattle.std.specs.Int.{w16, w32, to_be_bytes};
 ghost use Rattle.std.specs.List.{AllByRecursion, flat_map};
 ghost use Rattle.script_text.specs.Name.{IsName};
 ghost use Rattle.sand_journal.specs.ChangeBody.{IsEncodingShort, framed_row};
-ghost use Rattle.sand_journal.specs.RowsBody.{AreRows, AreCounted, IsRowsBody};
+ghost use Rattle.sand_journal.specs.RowsBody.{AreFramedRows, AreCountedRows, IsRowsBody};
 
 use crate::read_name::split_name;
 use crate::{Encodings, LONGEST_ENCODING};
@@ -50,7 +50,7 @@ fn split_row(bytes: &[u8]) -> Option<(&[u8], &[u8])>
 
 // The rows that the bytes are, so many of them, each in its frame.
 fn split_rows(alloc: Global, bytes: &[u8], count: u32) -> Result<Option<Vec<Vec<u8>>>, NoMemory>
-    ensures { IfOk result (AreRows bytes.now count) }
+    ensures { IfOk result (AreFramedRows bytes.now count) }
 {
     let mut rows = Vec::new(alloc);
     let mut rest = bytes;
@@ -69,7 +69,7 @@ fn split_rows(alloc: Global, bytes: &[u8], count: u32) -> Result<Option<Vec<Vec<
 
 // The rows that the bytes are, behind their count.
 fn read_counted(alloc: Global, bytes: &[u8]) -> Result<Option<Vec<Vec<u8>>>, NoMemory>
-    ensures { IfOk result (AreCounted bytes.now) }
+    ensures { IfOk result (AreCountedRows bytes.now) }
 {
     match split_count(bytes) {
         Some((count, rest)) => split_rows(alloc, rest, count),

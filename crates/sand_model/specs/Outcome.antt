@@ -46,9 +46,9 @@ IsLicensed setting rises state statement why.File = ReachesFile state statement 
 IsLicensed setting rises state statement _ = ⊥
 
 -- a check refuses; the shelf doesn't have the file only where it counted a fault
-abbrev pub IsCaused : Rises → Refusal → Type 0
-IsCaused rises why.File = 0 < rises.shelf
-IsCaused rises _ = ⊤
+abbrev pub IsRefusalCaused : Rises → Refusal → Type 0
+IsRefusalCaused rises why.File = 0 < rises.shelf
+IsRefusalCaused rises _ = ⊤
 
 -- one line says why, and the state is as it was
 abbrev pub IsRefusedBy : Refusal → State → List OutputLine → State → Type 0
@@ -59,8 +59,8 @@ abbrev pub Changes : OutputLine → Database → State → List OutputLine → S
 Changes line database old lines new = (lines ≡ line ∷ []) × (new ≡ record old { database = database })
 
 -- one line is printed, and these are the open cursors afterwards
-abbrev pub Leaves : OutputLine → List Cursor → State → List OutputLine → State → Type 0
-Leaves line cursors old lines new = (lines ≡ line ∷ []) × (new ≡ record old { cursors = cursors })
+abbrev pub LeavesCursors : OutputLine → List Cursor → State → List OutputLine → State → Type 0
+LeavesCursors line cursors old lines new = (lines ≡ line ∷ []) × (new ≡ record old { cursors = cursors })
 
 -- of the relation of this name, which is there
 abbrev pub OfRelation : State → List ℕ → (Relation → Type 0) → Type 0
@@ -120,15 +120,15 @@ IsCarriedOut setting rises old (IndexOn column threshold) lines new =
 IsCarriedOut setting rises old (Rtree column) lines new =
     Changes Accepted (changed_at column.relation (treed_by column) old.database) old lines new
 IsCarriedOut setting rises old (OpenCursor name p) lines new =
-    Leaves Accepted (old.cursors ++ new_cursor name p old.database ∷ []) old lines new
+    LeavesCursors Accepted (old.cursors ++ new_cursor name p old.database ∷ []) old lines new
 IsCarriedOut setting rises old (Next name count) lines new =
     OfCursor old name (λ cursor. (after : Cursor) × Steps setting.gap (IsLicensed setting rises old (Next name count)) count cursor lines after
     × (new ≡ record old { cursors = replaced name after old.cursors }))
-IsCarriedOut setting rises old (CloseCursor name) lines new = Leaves Accepted (closed name old.cursors) old lines new
+IsCarriedOut setting rises old (CloseCursor name) lines new = LeavesCursors Accepted (closed name old.cursors) old lines new
 IsCarriedOut setting rises old (Show count p) lines new =
     (after : Cursor) × Steps setting.gap (IsLicensed setting rises old (Show count p)) count (new_cursor [] p old.database) lines after × (new ≡ old)
 IsCarriedOut setting rises old (Stats name) lines new =
-    OfCursor old name (λ cursor. Leaves (StatsOf cursor.counts cursor.given) old.cursors old lines new)
+    OfCursor old name (λ cursor. LeavesCursors (StatsOf cursor.counts cursor.given) old.cursors old lines new)
 IsCarriedOut setting rises old (Far count column goal) lines new =
     PrintsFirst (IsLicensed setting rises old (Far count column goal)) (far_lines setting.gap old.database count column goal) lines × (new ≡ old)
 IsCarriedOut setting rises old (Blocks column) lines new =
@@ -140,5 +140,5 @@ Outcome setting rises old statement lines new =
     ((refusal : Refusal) × IsLicensed setting rises old statement refusal × IsRefusedBy refusal old lines new)
     ⊎ by_checks (first_refusal (early setting old statement ∷ late setting old statement ∷ [])) where
       by_checks : Option Refusal → Type 0
-      by_checks (Some refusal) = IsCaused rises refusal × IsRefusedBy refusal old lines new
+      by_checks (Some refusal) = IsRefusalCaused rises refusal × IsRefusedBy refusal old lines new
       by_checks None = IsCarriedOut setting rises old statement lines new

@@ -26,7 +26,7 @@ abbrev pub no_state : State
 no_state = record { database = []; cursors = [] }
 
 -- the run of a line and of those behind it; memory may be refused at any line
-pub record Begins (Goes : Rises → List OutputLine → State → Type 0) (setting : Setting) (old : State) (line : ScriptLine) (rises : Rises) (printed : List OutputLine) : Type 0 where
+pub record BeginsRun (Goes : Rises → List OutputLine → State → Type 0) (setting : Setting) (old : State) (line : ScriptLine) (rises : Rises) (printed : List OutputLine) : Type 0 where
   pub own : Rises
   pub others : Rises
   pub fit : FitIn own others rises
@@ -41,7 +41,7 @@ pub record Begins (Goes : Rises → List OutputLine → State → Type 0) (setti
 abbrev pub Run : Setting → State → List ScriptLine → Rises → List OutputLine → State → Type 0
 Run setting old [] rises printed new = (printed ≡ []) × (new ≡ old)
 Run setting old (line ∷ lines) rises printed new =
-    Begins (λ others more mid. Run setting mid lines others more new) setting old line rises printed
+    BeginsRun (λ others more mid. Run setting mid lines others more new) setting old line rises printed
 
 -- The text of a run over the lines of a script, from no relations and no cursors, and whether a line was refused.
 -- It is claimed where the source, the shelf and the sink tell what they hold, the disk tells its pages, and no count of

@@ -15,7 +15,7 @@ use Rattle.sand_model.specs.Kept.{has_twice}
 use Rattle.sand_model.specs.Measure.{Measure, IsMeasure}
 use Rattle.sand_store.specs.Catalog.{RelationView, is_named, IsDescribed}
 use Rattle.sand_store.specs.Contents.{relation_in, database_in}
-use Rattle.sand_store.specs.Ownership.{relation_pages, catalog_pages, Owns}
+use Rattle.sand_store.specs.Ownership.{relation_pages, catalog_pages, OwnsPages}
 use Rattle.sand_store.specs.Standing.{RelationStands, CatalogStands, IsStore}
 use Rattle.sand_store.specs.Steps.{Became, FirstAt}
 use Rattle.sand_store.specs.TableLaws.{SameOn}
@@ -93,7 +93,7 @@ database_set m w name (x ∷ rs) (suc at) r u change first here same means =
 
 -- the others stay
 others_same : (m w : PageMap) (limits : Limits) (rs : List RelationView) (at : ℕ) (r u : RelationView) (change : Measure → Relation → Relation)
-    → at < length rs → r ≡ get_or rs at r → Owns m (catalog_pages m rs) → Became m w limits r u change → SameOn m w (catalog_pages m (without_at rs at))
+    → at < length rs → r ≡ get_or rs at r → OwnsPages m (catalog_pages m rs) → Became m w limits r u change → SameOn m w (catalog_pages m (without_at rs at))
 others_same m w limits rs at r u change l here owns b =
     untouched (store_of m) (store_of w) (relation_pages m r) (relation_pages w u) (catalog_pages m (without_at rs at)) b.keeps
     (λ q. (let o : times q (catalog_pages m rs) ≤ live (store_of m) q = owns q in omega (arith, o, pages_split m rs at r q l here)))

@@ -7,7 +7,7 @@ use Rattle.std.proofs.lemmas.Bool.Decides.{eqb_tells}
 use Rattle.std.proofs.lemmas.List.Elements.{All-head, All-tail}
 use Rattle.r_tree.specs.declared.tree.RTree.{RTree}
 use Rattle.page_pool.specs.Disk.{PageMap}
-use Rattle.rtree_rows.specs.Listing.{ListsRows}
+use Rattle.r_tree.specs.Listing.{ListsRows}
 use Rattle.sand_base.specs.declared.limits.Limits.{Limits}
 use Rattle.sand_model.specs.Database.{Rectangles, shapes_of}
 use Rattle.sand_store.specs.Catalog.{RelationView}

@@ -11,8 +11,8 @@ use Rattle.code_btree.specs.Calls.{Keeps}
 use Rattle.code_btree.proofs.Lists.{times-append}
 use Rattle.pmr_tree.specs.Quadtree.{store_of}
 use Rattle.tuple_file.specs.declared.file.TupleFile.{TupleFile}
-use Rattle.tuple_file.specs.File.{IsFile, file_rows, file_pages}
-use Rattle.tuple_file.specs.Calls.{Planted}
+use Rattle.tuple_file.specs.File.{IsFile, tuples_of, file_pages}
+use Rattle.tuple_file.specs.Calls.{FilePlanted}
 use Rattle.tuple_file.specs.Table.{encodings, AreRowsFor}
 use Rattle.tuple_codec.specs.Decoding.{IsRowFor}
 use Rattle.sand_base.specs.declared.kind.Kind.{Kind}
@@ -24,10 +24,10 @@ use Rattle.sand_model.specs.RowSize.{row_size}
 use Rattle.tuple_file.proofs.Leads.{none_known}
 use Rattle.sand_store.specs.Catalog.{RelationView, new_view, IsColumnAt, IsPathOf, IsDescribed, IsCatalog}
 use Rattle.sand_store.specs.Contents.{rows_in, relation_in, database_in}
-use Rattle.sand_store.specs.Ownership.{relation_pages, catalog_pages, Owns}
+use Rattle.sand_store.specs.Ownership.{relation_pages, catalog_pages, OwnsPages}
 use Rattle.sand_store.specs.Standing.{PathStands, TreeStands, RelationStands, CatalogStands, IsStore}
 use Rattle.sand_store.specs.Calls.{Created, IsUnchanged}
-use Rattle.sand_store.specs.Steps.{store_from, create_check, Adds, Reverts}
+use Rattle.sand_store.specs.Steps.{store_from, create_check, AddsRelation, Reverts}
 use Rattle.sand_store.specs.Tuples.{row_in}
 use Rattle.sand_store.proofs.Places.{early_create, twice_none}
 use Rattle.sand_store.proofs.Refusals.{IsNew, create_passes}
@@ -38,19 +38,19 @@ use Rattle.sand_store.proofs.Stays.{database_stays, relations_stand, catalog_pag
 
 -- what a command began with and ended with are the pages of before and after it
 pub planted_over : (old begun planted new : PoolState) (file : TupleFile) → (IsTold old → begun.pages ≡ old.pages) → begun.disk.told ≡ old.disk.told
-    → new.pages ≡ planted.pages → (IsTold begun → Planted (pages_in begun) (pages_in planted) file) → IsTold old → Planted (store_of old.pages) (store_of new.pages) file
+    → new.pages ≡ planted.pages → (IsTold begun → FilePlanted (pages_in begun) (pages_in planted) file) → IsTold old → FilePlanted (store_of old.pages) (store_of new.pages) file
 planted_over old begun planted new file same told pages h is =
-    let P : PageMap → Type 0 = λ a. Planted (store_of a) (store_of new.pages) file in
-    let Q : PageMap → Type 0 = λ b. Planted (store_of begun.pages) (store_of b) file in
+    let P : PageMap → Type 0 = λ a. FilePlanted (store_of a) (store_of new.pages) file in
+    let Q : PageMap → Type 0 = λ b. FilePlanted (store_of begun.pages) (store_of b) file in
     subst P (same is) (subst Q (sym pages) (h (told ∙ is)))
 
 -- the rows of a file without tuples
-rows_none : (w : PageMap) (r : RelationView) → file_rows (store_of w) r.file ≡ [] → rows_in w r ≡ []
+rows_none : (w : PageMap) (r : RelationView) → tuples_of (store_of w) r.file ≡ [] → rows_in w r ≡ []
 rows_none w r e = ap (λ (ts : List (ℕ × List ℕ)). map (λ t. (t.0, row_in r.schema t.1)) ts) e
 
 -- a relation over a file without tuples stands
 pub new_stands : (w : PageMap) (limits : Limits) (name : List ℕ) (schema : List (List ℕ × Kind)) (file : TupleFile) → IsFile (store_of w) file
-    → file_rows (store_of w) file ≡ [] → RelationStands w limits (new_view name schema file)
+    → tuples_of (store_of w) file ≡ [] → RelationStands w limits (new_view name schema file)
 new_stands w limits name schema file is e =
     let r : RelationView = new_view name schema file in
     let none : rows_in w r ≡ [] = rows_none w r e in
@@ -70,7 +70,7 @@ new_stands w limits name schema file is e =
     }
 
 -- it is the new relation
-new_means : (w : PageMap) (name : List ℕ) (schema : List (List ℕ × Kind)) (file : TupleFile) → file_rows (store_of w) file ≡ []
+new_means : (w : PageMap) (name : List ℕ) (schema : List (List ℕ × Kind)) (file : TupleFile) → tuples_of (store_of w) file ≡ []
     → relation_in w (new_view name schema file) ≡ new_relation name schema
 new_means w name schema file e =
     ap (λ (rows : List (ℕ × List Value)). record { name = name; schema = schema; rows = rows; next = 1; indexes = []; rectangles = [] }) (rows_none w (new_view name schema file) e)
@@ -90,13 +90,13 @@ pages_new : (w : PageMap) (name : List ℕ) (schema : List (List ℕ × Kind)) (
 pages_new w name schema file q = omega (arith, times-append q (file_pages (store_of w) file) [])
 
 -- the other relations stay
-pub others_stay : (m w : PageMap) (rs : List RelationView) (after : List ℕ) → Owns m (catalog_pages m rs) → Keeps (store_of m) (store_of w) [] after → SameOn m w (catalog_pages m rs)
+pub others_stay : (m w : PageMap) (rs : List RelationView) (after : List ℕ) → OwnsPages m (catalog_pages m rs) → Keeps (store_of m) (store_of w) [] after → SameOn m w (catalog_pages m rs)
 others_stay m w rs after owns k q l =
     untouched (store_of m) (store_of w) [] after (catalog_pages m rs) k (λ p. (let h : times p (catalog_pages m rs) ≤ live (store_of m) p = owns p in omega (arith, h))) q l
 
 -- a catalog with a new relation stands
 pub catalog_more : (m w : PageMap) (rs : List RelationView) (limits : Limits) (name : List ℕ) (schema : List (List ℕ × Kind)) (file : TupleFile)
-    → CatalogStands m (record { relations = rs; limits = limits }) → Planted (store_of m) (store_of w) file
+    → CatalogStands m (record { relations = rs; limits = limits }) → FilePlanted (store_of m) (store_of w) file
     → CatalogStands w (record { relations = rs ++ new_view name schema file ∷ []; limits = limits })
 catalog_more m w rs limits name schema file h p =
     let same : SameOn m w (catalog_pages m rs) = others_stay m w rs (file_pages (store_of w) file) h.owns p.keeps in
@@ -110,7 +110,7 @@ catalog_more m w rs limits name schema file h p =
 
 -- and its database has the new relation
 pub database_more : (m w : PageMap) (rs : List RelationView) (limits : Limits) (name : List ℕ) (schema : List (List ℕ × Kind)) (file : TupleFile)
-    → CatalogStands m (record { relations = rs; limits = limits }) → Planted (store_of m) (store_of w) file
+    → CatalogStands m (record { relations = rs; limits = limits }) → FilePlanted (store_of m) (store_of w) file
     → database_in w (rs ++ new_view name schema file ∷ []) ≡ with_relation (new_relation name schema) (database_in m rs)
 database_more m w rs limits name schema file h p =
     map-append (relation_in w) rs (new_view name schema file ∷ [])
@@ -144,7 +144,7 @@ catalog_is rs limits name schema file range new h = record {
 -- the store with a new relation is one
 pub created_store : (old new : PoolState) (rs us : List RelationView) (limits : Limits) (name : List ℕ) (schema : List (List ℕ × Kind))
     → IsStore (record { relations = rs; limits = limits }) old → IsSchemaInRange schema → create_check rs name schema ≡ None
-    → Adds old new rs us name schema → new.disk.told ≡ old.disk.told → IsClosed new → IsStore (record { relations = us; limits = limits }) new
+    → AddsRelation old new rs us name schema → new.disk.told ≡ old.disk.told → IsClosed new → IsStore (record { relations = us; limits = limits }) new
 created_store old new rs us limits name schema h range passes a told closed =
     let P : List RelationView → Type 0 = λ xs. IsStore (record { relations = xs; limits = limits }) new in
     subst P (sym a.added) (record {
@@ -156,7 +156,7 @@ created_store old new rs us limits name schema h range passes a told closed =
 -- what a new relation is to the database
 pub created_is : (old new : PoolState) (rs us : List RelationView) (limits : Limits) (name : List ℕ) (schema : List (List ℕ × Kind))
     → IsStore (record { relations = rs; limits = limits }) old → create_check rs name schema ≡ None
-    → Adds old new rs us name schema → Created (store_from rs limits old) (store_from us limits new) name schema
+    → AddsRelation old new rs us name schema → Created (store_from rs limits old) (store_from us limits new) name schema
 created_is old new rs us limits name schema h passes a = record {
   passes = λ setting is l. (early_create setting old.pages rs name schema ∙ passes, λ told. refl);
   sketched = sketched_more rs us name schema a.file a.added;

@@ -7,7 +7,7 @@ use Rattle.page_pool.specs.Pool.{PoolState, IsTold}
 use Rattle.code_btree.specs.Node.{Pair}
 use Rattle.code_btree.specs.Items.{Above, Ascending}
 use Rattle.code_btree.specs.Tree.{Store, tree_items}
-use Rattle.pmr_tree.specs.Lists.{Rises, Above as AboveAll}
+use Rattle.pmr_tree.specs.Lists.{RiseStrictly, Above as AboveAll}
 use Rattle.pmr_tree.specs.Quadtree.{store_of, tree_at}
 use Rattle.pmr_tree.proofs.TreeAt.{shaped_shallow}
 use Rattle.sand_base.specs.declared.kind.Kind.{Kind}
@@ -40,18 +40,18 @@ above_ids : (m : Store) (schema : List (List ℕ × Kind)) (n : ℕ) (es : List 
 above_ids m schema n [] h = tt
 above_ids m schema n (e ∷ es) h = (h.0, above_ids m schema n es h.1)
 
-rises_of : (m : Store) (schema : List (List ℕ × Kind)) (es : List Pair) → Ascending es → Rises (ids (rows_of m schema es))
+rises_of : (m : Store) (schema : List (List ℕ × Kind)) (es : List Pair) → Ascending es → RiseStrictly (ids (rows_of m schema es))
 rises_of m schema [] h = tt
 rises_of m schema (e ∷ es) h = (above_ids m schema e.0 es h.0, rises_of m schema es h.1)
 
-pub rises_at : (m : PageMap) (schema : List (List ℕ × Kind)) (file : TupleFile) → IsFile (store_of m) file → Rises (ids (rows_at m schema file))
+pub rises_at : (m : PageMap) (schema : List (List ℕ × Kind)) (file : TupleFile) → IsFile (store_of m) file → RiseStrictly (ids (rows_at m schema file))
 rises_at m schema file h = rises_of (store_of m) schema (tree_items (store_of m) file.tree) h.tree.at.ascending
 
 above_all : (n : ℕ) (ns : List ℕ) → AboveAll n ns → All (λ k. n < k) ns
 above_all n [] h = All-nil (λ k. n < k)
 above_all n (k ∷ ns) h = All-cons (λ k. n < k) k ns h.0 (above_all n ns h.1)
 
-ascending_from : (ns : List ℕ) → Rises ns → IsAscending ns
+ascending_from : (ns : List ℕ) → RiseStrictly ns → IsAscending ns
 ascending_from [] h = tt
 ascending_from (n ∷ ns) h = (above_all n ns h.0, ascending_from ns h.1)
 

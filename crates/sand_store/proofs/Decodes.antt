@@ -21,7 +21,7 @@ use Rattle.sand_base.specs.declared.value.Value.TheVariants as value
 use Rattle.tuple_codec.specs.Encoding.{coordinate_bytes, int_bytes, point_bytes, value_bytes, encoding}
 use Rattle.tuple_codec.specs.Decoding.{IsRowFor}
 use Rattle.tuple_codec.proofs.Numbers.{length-coordinate_bytes, length-int_bytes}
-use Rattle.sand_store.specs.Tuples.{coordinate_in, point_in, points_in, value_in, row_in}
+use Rattle.sand_store.specs.Tuples.{leading_coordinate, leading_point, points_in, leading_value, row_in}
 
 coordinate_from : (n : ℕ) → n < 2 ^ 32 → from_be_bytes w32 (coordinate_bytes n) ≡ n
 unfolding coordinate_bytes
@@ -39,20 +39,20 @@ int_from : (n : ℤ) → IsIntInRange n → cast_signed w64 (from_be_bytes w64 (
 unfolding int_bytes
 int_from n h = ap (cast_signed w64) (from_be_bytes-to_be_bytes_8 (cast_unsigned w64 n) (int_bits n h)) ∙ to_z-of_z w64 n (int_fits n h)
 
-coordinate_back : (n : ℕ) (rest : List ℕ) → n < 2 ^ 32 → coordinate_in (coordinate_bytes n ++ rest) ≡ n
+coordinate_back : (n : ℕ) (rest : List ℕ) → n < 2 ^ 32 → leading_coordinate (coordinate_bytes n ++ rest) ≡ n
 coordinate_back n rest h = ap (from_be_bytes w32) (take_at (coordinate_bytes n) rest 4 (length-coordinate_bytes n)) ∙ coordinate_from n h
 
 point_length : (p : Point) → length (point_bytes p) ≡ 8
 point_length p = omega (arith, length-append (coordinate_bytes p.x) (coordinate_bytes p.y), length-coordinate_bytes p.x, length-coordinate_bytes p.y)
 
-point_back : (p : Point) (rest : List ℕ) → IsInPlane p → point_in (point_bytes p ++ rest) ≡ p
+point_back : (p : Point) (rest : List ℕ) → IsInPlane p → leading_point (point_bytes p ++ rest) ≡ p
 point_back p rest h =
     let whole : point_bytes p ++ rest ≡ coordinate_bytes p.x ++ (coordinate_bytes p.y ++ rest) = append_assoc (coordinate_bytes p.x) (coordinate_bytes p.y) rest in
     let behind : drop 4 (coordinate_bytes p.x ++ (coordinate_bytes p.y ++ rest)) ≡ coordinate_bytes p.y ++ rest =
     drop_at (coordinate_bytes p.x) (coordinate_bytes p.y ++ rest) 4 (length-coordinate_bytes p.x) in
-    ap (λ (b : List ℕ). point_in b) whole
+    ap (λ (b : List ℕ). leading_point b) whole
     ∙ ap₂ (λ (x y : ℕ). record { x = x; y = y }) (coordinate_back p.x (coordinate_bytes p.y ++ rest) (omega (arith, h.x)))
-    (ap (λ (b : List ℕ). coordinate_in b) behind ∙ coordinate_back p.y rest (omega (arith, h.y)))
+    (ap (λ (b : List ℕ). leading_coordinate b) behind ∙ coordinate_back p.y rest (omega (arith, h.y)))
 
 points_back : (ps : List Point) (rest : List ℕ) → All IsInPlane ps → points_in (length ps) (flat_map point_bytes ps ++ rest) ≡ ps
 points_back [] rest h = refl
@@ -64,7 +64,7 @@ points_back (p ∷ ps) rest h =
     (ap (λ (b : List ℕ). points_in (length ps) b) behind ∙ points_back ps rest (All-tail IsInPlane p ps h))
 
 -- a value at the front of some bytes
-pub value_back : (v : Value) (rest : List ℕ) → IsValueInRange v → value_in (value_kind v) (value_bytes v ++ rest) ≡ v
+pub value_back : (v : Value) (rest : List ℕ) → IsValueInRange v → leading_value (value_kind v) (value_bytes v ++ rest) ≡ v
 value_back (value.Int n) rest h =
     ap (λ (i : ℤ). value.Int i) (ap (λ (b : List ℕ). cast_signed w64 (from_be_bytes w64 b)) (take_at (int_bytes n) rest 8 (length-int_bytes n)) ∙ int_from n h)
 value_back (value.Text bytes) rest h = ap (λ (b : List ℕ). value.Text b) (take_at bytes rest (length bytes) refl)
@@ -72,9 +72,9 @@ value_back (value.Shape (shape.Point p)) rest h = ap (λ (q : Point). value.Shap
 value_back (value.Shape (shape.Segment s)) rest h =
     let whole : (point_bytes s.a ++ point_bytes s.b) ++ rest ≡ point_bytes s.a ++ (point_bytes s.b ++ rest) = append_assoc (point_bytes s.a) (point_bytes s.b) rest in
     let behind : drop 8 (point_bytes s.a ++ (point_bytes s.b ++ rest)) ≡ point_bytes s.b ++ rest = drop_at (point_bytes s.a) (point_bytes s.b ++ rest) 8 (point_length s.a) in
-    ap (λ (b : List ℕ). value.Shape (shape.Segment (record { a = point_in b; b = point_in (drop 8 b) }))) whole
+    ap (λ (b : List ℕ). value.Shape (shape.Segment (record { a = leading_point b; b = leading_point (drop 8 b) }))) whole
     ∙ ap₂ (λ (p q : Point). value.Shape (shape.Segment (record { a = p; b = q }))) (point_back s.a (point_bytes s.b ++ rest) h.a)
-    (ap (λ (b : List ℕ). point_in b) behind ∙ point_back s.b rest h.b)
+    (ap (λ (b : List ℕ). leading_point b) behind ∙ point_back s.b rest h.b)
 value_back (value.Shape (shape.Polygon corners)) rest h =
     ap (λ (ps : List Point). value.Shape (shape.Polygon ps)) (points_back corners rest h.in_plane)
 
@@ -87,8 +87,8 @@ row_back schema row h = go schema row h.of_schema h.in_range where
   go (c ∷ cs) [] e r = (let n : 0 ≡ suc (length (map (λ (x : List ℕ × Kind). x.1) cs)) = ap (λ (ks : List Kind). length ks) e in absurd (omega (arith, n)))
   go (c ∷ cs) (v ∷ vs) e r =
       let k : c.1 ≡ value_kind v = sym (ap (λ (ks : List Kind). get_or ks 0 kind.Int) e) in
-      let first : value_in c.1 (value_bytes v ++ encoding vs) ≡ v =
-      ap (λ (x : Kind). value_in x (value_bytes v ++ encoding vs)) k ∙ value_back v (encoding vs) (All-head IsValueInRange v vs r) in
+      let first : leading_value c.1 (value_bytes v ++ encoding vs) ≡ v =
+      ap (λ (x : Kind). leading_value x (value_bytes v ++ encoding vs)) k ∙ value_back v (encoding vs) (All-head IsValueInRange v vs r) in
       let rest : IsRowOf cs vs = ap (λ (ks : List Kind). drop 1 ks) e in
       ap (λ (x : Value). x ∷ row_in cs (drop (length (value_bytes x)) (value_bytes v ++ encoding vs))) first
       ∙ ap (λ (xs : List Value). v ∷ xs) (ap (λ (b : List ℕ). row_in cs b) (drop_at (value_bytes v) (encoding vs) (length (value_bytes v)) refl) ∙ go cs vs rest (All-tail IsValueInRange v vs r))

@@ -19,12 +19,12 @@ use Rattle.sand_model.specs.StatementChecks.{Setting, early, late, refused_where
 use Rattle.r_tree.specs.declared.tree.RTree.{RTree}
 use Rattle.tuple_file.specs.declared.file.TupleFile.{TupleFile}
 use Rattle.tuple_file.specs.Calls.{IsRowAt}
-use Rattle.tuple_file.specs.File.{file_rows}
+use Rattle.tuple_file.specs.File.{tuples_of}
 use Rattle.tuple_file.specs.Rows.{of_id}
 use Rattle.tuple_file.proofs.Tables.{fetched}
 use Rattle.pmr_tree.specs.Quadtree.{store_of}
 use Rattle.sand_store.specs.declared.path.AccessPath.{AccessPath}
-use Rattle.sand_store.specs.Calls.{alone, Refuses, IsRefusedBy, Deleted, is_missing, early_at, late_at}
+use Rattle.sand_store.specs.Calls.{alone, Refuses, IsStatementRefused, Deleted, is_missing, early_at, late_at}
 use Rattle.sand_store.specs.Catalog.{RelationView, CatalogView, StoreState, is_named, IsColumnAt, IsDescribed}
 use Rattle.sand_store.specs.Contents.{rows_in, database_in}
 use Rattle.sand_store.specs.Leaving.{RelationCanLose, shrunk_view, IsOutsideOrMissing, there_check}
@@ -59,7 +59,7 @@ late_delete setting m rs name id at r found first here e =
 
 -- no relation has the name
 pub none_to_lose : (pool : PoolState) (rs : List RelationView) (limits : Limits) (name : List ℕ) (id : ℕ) → position (is_named name) rs ≡ None
-    → IsRefusedBy is_missing (store_from rs limits pool) (Delete name id) why.UnknownRelation
+    → IsStatementRefused is_missing (store_from rs limits pool) (Delete name id) why.UnknownRelation
 none_to_lose pool rs limits name id e = λ setting is l.
     early_delete setting pool.pages rs name id ∙ ap (λ (o : Option RelationView). there_check o) (none_found name rs e)
 
@@ -73,7 +73,7 @@ outside_or_missing told before behind why.NoSuchId o e f = (e, f refl)
 outside_or_missing told before behind _ o e f = absurd o
 
 pub not_found : (pool : PoolState) (rs : List RelationView) (limits : Limits) (name : List ℕ) (id at : ℕ) (r : RelationView) (w : Refusal) → FirstAt name rs at → r ≡ get_or rs at r
-    → IsOutsideOrMissing w → (w ≡ why.NoSuchId → IsTold pool → of_id id (rows_in pool.pages r) ≡ None) → IsRefusedBy is_missing (store_from rs limits pool) (Delete name id) w
+    → IsOutsideOrMissing w → (w ≡ why.NoSuchId → IsTold pool → of_id id (rows_in pool.pages r) ≡ None) → IsStatementRefused is_missing (store_from rs limits pool) (Delete name id) w
 not_found pool rs limits name id at r w first here outside missing = λ setting is l.
     let store : StoreState = store_from rs limits pool in
     outside_or_missing (IsTold pool) (early_at setting store (Delete name id)) (late_at setting store (Delete name id)) w outside
@@ -81,17 +81,17 @@ not_found pool rs limits name id at r w first here outside missing = λ setting 
 
 -- the command is refused
 pub remove_refused : (pool : PoolState) (rs : List RelationView) (limits : Limits) (name : List ℕ) (id at : ℕ) (r : RelationView) (w : Refusal) → FirstAt name rs at → r ≡ get_or rs at r
-    → IsOutside w → IsRefusedBy is_missing (store_from rs limits pool) (Delete name id) w
+    → IsOutside w → IsStatementRefused is_missing (store_from rs limits pool) (Delete name id) w
 remove_refused pool rs limits name id at r w first here outside = λ setting is l.
     let store : StoreState = store_from rs limits pool in
     outside_refuses (IsTold pool) is_missing (early_at setting store (Delete name id)) (late_at setting store (Delete name id)) w outside (early_passes setting pool.pages rs name id at r first here)
 
 -- what was fetched is the row of the id
 pub row_fetched : (m : PageMap) (limits : Limits) (x r : RelationView) (id : ℕ) (found : Option (List Value)) → x ≡ r → RelationStands m limits r
-    → IsRowAt x.schema (file_rows (store_of m) x.file) id found
+    → IsRowAt x.schema (tuples_of (store_of m) x.file) id found
     → of_id id (rows_in m r) ≡ found
 row_fetched m limits x r id found e h is =
-    let P : RelationView → Type 0 = λ y. IsRowAt y.schema (file_rows (store_of m) y.file) id found in
+    let P : RelationView → Type 0 = λ y. IsRowAt y.schema (tuples_of (store_of m) y.file) id found in
     let Q : List (ℕ × List ℕ) → Type 0 = λ ts. IsRowAt r.schema ts id found in
     sym (fetched r.schema (rows_in m r) id found h.table.rows (subst Q h.table.tuples (subst P e is)))
 

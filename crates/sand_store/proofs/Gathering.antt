@@ -12,9 +12,9 @@ use Rattle.page_pool.specs.Pool.{PoolState, IsTold}
 use Rattle.page_pool.specs.Reads.{IsRead}
 use Rattle.page_pool.specs.Steps.{IsRead-refl, IsRead-trans}
 use Rattle.pmr_tree.specs.Entries.{figure_of}
-use Rattle.pmr_tree.specs.Lists.{Above, Rises}
+use Rattle.pmr_tree.specs.Lists.{Above, RiseStrictly}
 use Rattle.r_tree.specs.Entry.{Member}
-use Rattle.rtree_rows.specs.Listing.{member_figure, AreMembersOf, HasRowsOnce}
+use Rattle.r_tree.specs.Listing.{member_figure, AreMembersOf, HasRowsOnce}
 use Rattle.sand_base.specs.declared.goal.Goal.{Goal}
 use Rattle.sand_base.specs.declared.kind.Kind.{Kind}
 use Rattle.sand_base.specs.declared.rough.Rough.{Rough}
@@ -28,7 +28,7 @@ use Rattle.sand_store.specs.Catalog.{RelationView}
 use Rattle.sand_store.specs.Contents.{rows_at, rows_in}
 use Rattle.sand_store.specs.Standing.{TableStands, RelationStands}
 use Rattle.sand_store.proofs.Databases.{rises_at}
-use Rattle.sand_store.proofs.Filling.{first_of, Begins, begins, nothing_left, rises_rest, all_above}
+use Rattle.sand_store.proofs.HalfFilled.{first_of, Begins, begins, nothing_left, rises_rest, all_above}
 use Rattle.sand_store.proofs.RowLists.{Rows, Shapes, ids_of, rises_shapes, shapes_more}
 
 -- rows in two parts, those below an id and those from it on: the second begins with what is found
@@ -64,14 +64,14 @@ gathered_start rows column = record {
 }
 
 -- one member more
-gathered_next : (rows : Rows) (column from id : ℕ) (done : List Member) (row : List Value) (s : Shape) (q : Rough) → Rises (map (λ (r : ℕ × List Value). r.0) rows)
+gathered_next : (rows : Rows) (column from id : ℕ) (done : List Member) (row : List Value) (s : Shape) (q : Rough) → RiseStrictly (map (λ (r : ℕ × List Value). r.0) rows)
     → Gathered rows column from done → Some (id, row) ≡ find (λ r. nat_le from r.0) rows → shape_in column row ≡ Some s → figure_of q ≡ rough_figure s
     → Gathered rows column (id + 1) (done ++ (id, q) ∷ [])
 gathered_next rows column from id done row s q rise k e shape figure =
     let g : Begins k.rest (id, row) = begins k.rest (id, row) (sym (found_next from k.before k.rest k.below k.above) ∙ (ap (λ (xs : Rows). find (λ r. nat_le from r.0) xs) (sym k.parts) ∙ sym e)) in
     let split : rows ≡ k.before ++ (id, row) ∷ g.more = k.parts ∙ ap (λ (xs : Rows). k.before ++ xs) g.is in
     let A : Rows → Type 0 = λ xs. All (λ r. from ≤ r.0) xs in
-    let R : Rows → Type 0 = λ xs. Rises (map (λ (r : ℕ × List Value). r.0) xs) in
+    let R : Rows → Type 0 = λ xs. RiseStrictly (map (λ (r : ℕ × List Value). r.0) xs) in
     let l : from ≤ id = All-head (λ (r : ℕ × List Value). from ≤ r.0) (id, row) g.more (subst A g.is k.above) in
     record {
       before = k.before ++ (id, row) ∷ [];
@@ -146,7 +146,7 @@ none_above q n (x ∷ ns) l h = elim (same_cases q x) [
   | inr y ↦ omega (arith, y.0, none_above q n ns l h.1)
 ]
 
-rises_once : (q : ℕ) (ns : List ℕ) → Rises ns → times q ns ≤ 1
+rises_once : (q : ℕ) (ns : List ℕ) → RiseStrictly ns → times q ns ≤ 1
 rises_once q [] h = omega arith
 rises_once q (x ∷ ns) h = elim (same_cases q x) [
   | inl y ↦ omega (arith, y.0, none_above q x ns (omega (arith, y.1)) h.0)

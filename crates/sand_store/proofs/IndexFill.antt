@@ -4,10 +4,10 @@ use Rattle.page_pool.specs.Disk.{PageMap}
 use Rattle.code_btree.specs.Tree.{times}
 use Rattle.pmr_tree.specs.Quadtree.{store_of}
 use Rattle.attr_index.specs.declared.index.AttrIndex.{AttrIndex}
-use Rattle.attr_index.specs.Calls.{Added}
+use Rattle.attr_index.specs.Calls.{EntryAdded}
 use Rattle.attr_index.specs.Entries.{Entry, entry_number}
-use Rattle.attr_index.specs.Index.{entries_at}
-use Rattle.attr_index.specs.Key.{key_of}
+use Rattle.attr_index.specs.Index.{index_entries}
+use Rattle.attr_index.specs.Key.{value_key}
 use Rattle.sand_base.specs.declared.kind.Kind.{Kind}
 use Rattle.sand_base.specs.declared.kind.Kind.TheVariants as kind
 use Rattle.sand_base.specs.declared.limits.Limits.{Limits}
@@ -21,7 +21,7 @@ use Rattle.sand_store.specs.declared.path.AccessPath.{AccessPath}
 use Rattle.sand_store.specs.declared.path.AccessPath.TheVariants.{Attribute}
 use Rattle.sand_store.specs.Building.{CanTake, PathTook}
 use Rattle.sand_store.specs.Contents.{rows_at}
-use Rattle.sand_store.specs.Standing.{entries_of}
+use Rattle.sand_store.specs.Standing.{column_entries}
 use Rattle.sand_store.proofs.IndexGrowth.{numbers, entries_more, entries_below, entry_fresh, times_with, times_last, kind_of_value}
 use Rattle.sand_store.proofs.RowLists.{Rows}
 
@@ -40,13 +40,13 @@ row_is_for m limits schema file id row p h =
 -- An attribute index has taken the row.
 pub index_took : (m w : PageMap) (limits : Limits) (schema : List (List ℕ × Kind)) (file : TupleFile) (id column : ℕ) (row : List Value) (x y : AttrIndex) (v : Value)
     → id < 2 ^ 32 → (h : CanTake m limits schema file id row (column, Attribute x)) → element row column ≡ Some v
-    → Added (store_of m) (store_of w) x y v id → PathTook m w limits schema (rows_at m schema file) h.before id row column (Attribute x) (Attribute y)
+    → EntryAdded (store_of m) (store_of w) x y v id → PathTook m w limits schema (rows_at m schema file) h.before id row column (Attribute x) (Attribute y)
 index_took m w limits schema file id column row x y v l h e a =
-    let e0 : Entry = (key_of v, id) in
-    let old : List Entry = entries_of column h.before in
-    let es : List Entry = entries_at (store_of m) x in
-    let new : entries_of column (h.before ++ (id, row) ∷ []) ≡ old ++ e0 ∷ [] = entries_more column h.before id row v e in
-    let fresh : times (entry_number e0) (numbers es) ≡ 0 = h.stands.entries (entry_number e0) ∙ entry_fresh (key_of v) id old l (entries_below column id h.before h.below) in
+    let e0 : Entry = (value_key v, id) in
+    let old : List Entry = column_entries column h.before in
+    let es : List Entry = index_entries (store_of m) x in
+    let new : column_entries column (h.before ++ (id, row) ∷ []) ≡ old ++ e0 ∷ [] = entries_more column h.before id row v e in
+    let fresh : times (entry_number e0) (numbers es) ≡ 0 = h.stands.entries (entry_number e0) ∙ entry_fresh (value_key v) id old l (entries_below column id h.before h.below) in
     let of : IsRowOf schema row = (row_is_for m limits schema file id row (column, Attribute x) h).of_schema in
     record {
       stands = record {

@@ -12,10 +12,10 @@ use Rattle.code_btree.proofs.Lists.{same_cases, times-append}
 use Rattle.code_btree.proofs.Orders.{lt_is, lt_not}
 use Rattle.pmr_tree.specs.Quadtree.{store_of}
 use Rattle.attr_index.specs.declared.index.AttrIndex.{AttrIndex}
-use Rattle.attr_index.specs.Calls.{Added}
+use Rattle.attr_index.specs.Calls.{EntryAdded}
 use Rattle.attr_index.specs.Entries.{Entry, entry_number, with_entry}
-use Rattle.attr_index.specs.Index.{entries_at}
-use Rattle.attr_index.specs.Key.{key_of, IsAttribute}
+use Rattle.attr_index.specs.Index.{index_entries}
+use Rattle.attr_index.specs.Key.{value_key, IsAttribute}
 use Rattle.sand_base.specs.declared.kind.Kind.{Kind}
 use Rattle.sand_base.specs.declared.kind.Kind.TheVariants as kind
 use Rattle.sand_base.specs.declared.limits.Limits.{Limits}
@@ -29,7 +29,7 @@ use Rattle.tuple_file.specs.declared.file.TupleFile.{TupleFile}
 use Rattle.sand_store.specs.declared.path.AccessPath.TheVariants.{Attribute}
 use Rattle.sand_store.specs.Catalog.{IsColumnAt}
 use Rattle.sand_store.specs.Contents.{rows_at}
-use Rattle.sand_store.specs.Standing.{entries_of, kind_at}
+use Rattle.sand_store.specs.Standing.{column_entries, kind_at}
 use Rattle.sand_store.specs.Steps.{CanGrow, PathGrew}
 use Rattle.sand_store.proofs.ColumnsOfShapes.{some_same}
 use Rattle.sand_store.proofs.RowLists.{Rows}
@@ -40,21 +40,21 @@ numbers es = map entry_number es
 
 -- the entries of rows with one more
 pub entries_more : (column : ℕ) (rows : Rows) (id : ℕ) (row : List Value) (v : Value) → element row column ≡ Some v
-    → entries_of column (rows ++ (id, row) ∷ []) ≡ entries_of column rows ++ (key_of v, id) ∷ []
+    → column_entries column (rows ++ (id, row) ∷ []) ≡ column_entries column rows ++ (value_key v, id) ∷ []
 entries_more column [] id row v e = rw e refl
 entries_more column (r ∷ rows) id row v e =
-    let rest : entries_of column (rows ++ (id, row) ∷ []) ≡ entries_of column rows ++ (key_of v, id) ∷ [] = entries_more column rows id row v e in
-    let go : (o : Option Value) → element r.1 column ≡ o → entries_of column ((r ∷ rows) ++ (id, row) ∷ []) ≡ entries_of column (r ∷ rows) ++ (key_of v, id) ∷ [] =
-    elim [ None ↦ λ n. rw n rest | Some x ↦ λ n. rw n (ap (λ (es : List Entry). (key_of x, r.0) ∷ es) rest) ] in
+    let rest : column_entries column (rows ++ (id, row) ∷ []) ≡ column_entries column rows ++ (value_key v, id) ∷ [] = entries_more column rows id row v e in
+    let go : (o : Option Value) → element r.1 column ≡ o → column_entries column ((r ∷ rows) ++ (id, row) ∷ []) ≡ column_entries column (r ∷ rows) ++ (value_key v, id) ∷ [] =
+    elim [ None ↦ λ n. rw n rest | Some x ↦ λ n. rw n (ap (λ (es : List Entry). (value_key x, r.0) ∷ es) rest) ] in
     go (element r.1 column) refl
 
 -- their ids are ids of rows
-pub entries_below : (column id : ℕ) (rows : Rows) → All (λ r. (1 ≤ r.0) × (r.0 < id)) rows → Each (λ (e : Entry). e.1 < id) (entries_of column rows)
+pub entries_below : (column id : ℕ) (rows : Rows) → All (λ r. (1 ≤ r.0) × (r.0 < id)) rows → Each (λ (e : Entry). e.1 < id) (column_entries column rows)
 entries_below column id [] h = tt
 entries_below column id (r ∷ rows) h =
-    let rest : Each (λ (e : Entry). e.1 < id) (entries_of column rows) = entries_below column id rows (All-tail (λ (x : ℕ × List Value). (1 ≤ x.0) × (x.0 < id)) r rows h) in
+    let rest : Each (λ (e : Entry). e.1 < id) (column_entries column rows) = entries_below column id rows (All-tail (λ (x : ℕ × List Value). (1 ≤ x.0) × (x.0 < id)) r rows h) in
     let here : (1 ≤ r.0) × (r.0 < id) = All-head (λ (x : ℕ × List Value). (1 ≤ x.0) × (x.0 < id)) r rows h in
-    let go : (o : Option Value) → element r.1 column ≡ o → Each (λ (e : Entry). e.1 < id) (entries_of column (r ∷ rows)) =
+    let go : (o : Option Value) → element r.1 column ≡ o → Each (λ (e : Entry). e.1 < id) (column_entries column (r ∷ rows)) =
     elim [ None ↦ λ n. rw n rest | Some x ↦ λ n. rw n (here.1, rest) ] in
     go (element r.1 column) refl
 
@@ -121,13 +121,13 @@ attribute_at schema row column v of e at =
 -- An attribute index has grown.
 pub index_grew : (m w : PageMap) (limits : Limits) (schema : List (List ℕ × Kind)) (file : TupleFile) (id column : ℕ) (row : List Value) (x y : AttrIndex) (v : Value)
     → id < 2 ^ 32 → IsRowOf schema row → CanGrow m limits schema file id row (column, Attribute x) → element row column ≡ Some v
-    → Added (store_of m) (store_of w) x y v id → PathGrew m w limits schema (rows_at m schema file) id column (Attribute x) (Attribute y)
+    → EntryAdded (store_of m) (store_of w) x y v id → PathGrew m w limits schema (rows_at m schema file) id column (Attribute x) (Attribute y)
 index_grew m w limits schema file id column row x y v l of h e a =
-    let e0 : Entry = (key_of v, id) in
-    let old : List Entry = entries_of column h.before in
-    let es : List Entry = entries_at (store_of m) x in
-    let new : entries_of column (rows_at m schema file) ≡ old ++ e0 ∷ [] = ap (λ (rows : Rows). entries_of column rows) h.rows ∙ entries_more column h.before id row v e in
-    let fresh : times (entry_number e0) (numbers es) ≡ 0 = h.stands.entries (entry_number e0) ∙ entry_fresh (key_of v) id old l (entries_below column id h.before h.below) in
+    let e0 : Entry = (value_key v, id) in
+    let old : List Entry = column_entries column h.before in
+    let es : List Entry = index_entries (store_of m) x in
+    let new : column_entries column (rows_at m schema file) ≡ old ++ e0 ∷ [] = ap (λ (rows : Rows). column_entries column rows) h.rows ∙ entries_more column h.before id row v e in
+    let fresh : times (entry_number e0) (numbers es) ≡ 0 = h.stands.entries (entry_number e0) ∙ entry_fresh (value_key v) id old l (entries_below column id h.before h.below) in
     record {
       stands = record {
         is = a.index;

@@ -26,7 +26,7 @@ use Rattle.pmr_tree.specs.Quadtree.{tree_at}
 use Rattle.tuple_file.specs.declared.file.TupleFile.{TupleFile}
 use Rattle.sand_store.specs.declared.path.AccessPath.{AccessPath}
 use Rattle.sand_store.specs.declared.path.AccessPath.TheVariants.{Quadtree, Attribute}
-use Rattle.sand_store.specs.Calls.{alone, Refuses, IsRefusedBy, Inserted, is_full, early_at, late_at}
+use Rattle.sand_store.specs.Calls.{alone, Refuses, IsStatementRefused, RowInserted, is_index_full, early_at, late_at}
 use Rattle.r_tree.specs.declared.tree.RTree.{RTree}
 use Rattle.sand_store.specs.Catalog.{RelationView, StoreState, is_named, IsColumnAt, IsDescribed}
 use Rattle.sand_store.specs.Contents.{index_in, indexes_in, relation_in, database_in}
@@ -42,7 +42,7 @@ use Rattle.sand_store.proofs.Sketched.{sketched_in_place}
 
 -- no relation has the name
 pub no_relation : (pool : PoolState) (rs : List RelationView) (limits : Limits) (name : List ℕ) (row : List Value) → position (is_named name) rs ≡ None
-    → IsRefusedBy is_full (store_from rs limits pool) (Insert name row) why.UnknownRelation
+    → IsStatementRefused is_index_full (store_from rs limits pool) (Insert name row) why.UnknownRelation
 no_relation pool rs limits name row e = λ setting is l.
     early_insert setting pool.pages rs name row ∙ ap (λ (o : Option RelationView). found_check setting.limits row o) (none_found name rs e)
 
@@ -68,12 +68,12 @@ one_of_three false false false u v w x e = absurd (true≢false (sym (ap (λ (o 
 
 -- a check of the row refuses, or there is no memory
 pub row_refused : (pool : PoolState) (rs : List RelationView) (limits : Limits) (name : List ℕ) (row : List Value) (at : ℕ) (r : RelationView) (w : Refusal)
-    → FirstAt name rs at → r ≡ get_or rs at r → IsRefusedOrSpent (row_check limits r row) w → IsRefusedBy is_full (store_from rs limits pool) (Insert name row) w
+    → FirstAt name rs at → r ≡ get_or rs at r → IsRefusedOrSpent (row_check limits r row) w → IsStatementRefused is_index_full (store_from rs limits pool) (Insert name row) w
 row_refused pool rs limits name row at r w first here (inl spent) =
-    let P : Refusal → Type 0 = λ x. IsRefusedBy is_full (store_from rs limits pool) (Insert name row) x in
+    let P : Refusal → Type 0 = λ x. IsStatementRefused is_index_full (store_from rs limits pool) (Insert name row) x in
     subst P (sym spent) (λ setting is l. tt)
 row_refused pool rs limits name row at r w first here (inr refused) =
-    let P : Refusal → Type 0 = λ x. row_check limits r row ≡ Some x → IsRefusedBy is_full (store_from rs limits pool) (Insert name row) x in
+    let P : Refusal → Type 0 = λ x. row_check limits r row ≡ Some x → IsStatementRefused is_index_full (store_from rs limits pool) (Insert name row) x in
     elim (one_of_three (not (is_row_of r.schema row)) (nat_lt longest_row (row_size row)) (nat_le limits.ids (r.next - 1)) why.WrongKind why.TupleTooLong why.IdsSpent w refused) [
       | inl i ↦ subst P (sym i) (λ h setting is l. early_there setting limits pool.pages rs name row at r first here l ∙ h) refused
       | inr (inl i) ↦ subst P (sym i) (λ h setting is l. early_there setting limits pool.pages rs name row at r first here l ∙ h) refused
@@ -82,7 +82,7 @@ row_refused pool rs limits name row at r w first here (inr refused) =
 
 -- a refusal from outside comes where the early checks pass, and a full quadtree where the late ones say so
 outside_or_full : (told : Type 0) (before behind : Option Refusal) (w : Refusal) → IsOutsideOrFull w → before ≡ None → (w ≡ why.IndexFull → told → behind ≡ Some why.IndexFull)
-    → Refuses told is_full before behind w
+    → Refuses told is_index_full before behind w
 outside_or_full told before behind why.Memory o e f = tt
 outside_or_full told before behind why.Device o e f = e
 outside_or_full told before behind (why.Damaged n kept read) o e f = e
@@ -93,7 +93,7 @@ outside_or_full told before behind _ o e f = absurd o
 pub add_refused : (pool : PoolState) (rs : List RelationView) (limits : Limits) (name : List ℕ) (row : List Value) (at : ℕ) (r : RelationView) (w : Refusal)
     → FirstAt name rs at → r ≡ get_or rs at r → row_check limits r row ≡ None → IsOutsideOrFull w
     → (w ≡ why.IndexFull → IsTold pool → (gap : Measure) → IsMeasure gap → check_listings limits (with_row gap row (relation_in pool.pages r)) ≡ Some why.IndexFull)
-    → IsRefusedBy is_full (store_from rs limits pool) (Insert name row) w
+    → IsStatementRefused is_index_full (store_from rs limits pool) (Insert name row) w
 add_refused pool rs limits name row at r w first here passes outside full = λ setting is l.
     let store : StoreState = store_from rs limits pool in
     outside_or_full (IsTold pool) (early_at setting store (Insert name row)) (late_at setting store (Insert name row)) w outside
@@ -153,7 +153,7 @@ stands_within m limits r h = ap (λ (t : Bool). refused_where t why.IndexFull) (
 pub inserted_is : (old new : PoolState) (limits : Limits) (name : List ℕ) (row : List Value) (rs us : List RelationView) (at : ℕ) (r u : RelationView)
     → IsStore (record { relations = rs; limits = limits }) old → FirstAt name rs at → at < length rs → r ≡ get_or rs at r → us ≡ set rs at u → row_check limits r row ≡ None
     → sketch_of u ≡ with_ids 1 (sketch_of r) → (IsTold old → Became old.pages new.pages limits r u (λ gap. with_row gap row))
-    → Inserted (store_from rs limits old) (store_from us limits new) name row r.next
+    → RowInserted (store_from rs limits old) (store_from us limits new) name row r.next
 inserted_is old new limits name row rs us at r u h first l here is passes sketch b = record {
   passes = λ setting s e. (
     early_there setting limits old.pages rs name row at r first here e ∙ passes,

@@ -45,8 +45,12 @@ pub mod RowCounts
 pub mod Listings
 pub mod TreeFill
 pub mod IndexFill
+-- an index that has the first rows of a file, and each step from one row to the next
+pub mod HalfFilled
 pub mod Filling
 pub mod Planting
+-- why the call that makes an index is refused
+pub mod IndexRefusals
 pub mod IndexCall
 -- an R-tree of rows that are there
 pub mod ColumnTrees

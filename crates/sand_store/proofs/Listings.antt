@@ -13,11 +13,11 @@ use Rattle.sand_model.specs.Database.{meets_block, tree_with}
 use Rattle.sand_model.specs.Tree.{Tree, Leaf, Inner, root_block, add, split, settled, grown, listings, Fits, IsShallow}
 use Rattle.pmr_tree.specs.Changes.{Quarters}
 use Rattle.pmr_tree.specs.Laws.{AreInPlane, GrownFits}
-use Rattle.pmr_tree.specs.Lists.{Each, Rises}
-use Rattle.pmr_tree.proofs.Orders.{holds, fails, test, below, same, above, order, add_before, add_after, add_here, each_add, each_map, rises_add}
+use Rattle.pmr_tree.specs.Lists.{Each, RiseStrictly}
+use Rattle.pmr_tree.proofs.AscendingLists.{holds, fails, below, same, above, test, order, add_before, add_after, add_here, each_add, each_map, rises_add}
 use Rattle.pmr_tree.proofs.Quarter.{child_block}
 use Rattle.pmr_tree.proofs.ShapeLaws.{rows_quarters, is_root, shallow_grown}
-use Rattle.sand_store.specs.Building.{entered}
+use Rattle.sand_store.specs.Building.{rows_entered}
 
 -- a test of what meets
 abbrev Met : Type 0
@@ -119,7 +119,7 @@ listings_rise children gap measure shapes ids threshold id tree plane shallow fi
 
 -- nor with all rows that are still to be entered
 pub entered_listings : ChildrenMeet → GrownFits → (gap : Measure) → IsMeasure gap → (shapes : List (ℕ × Shape)) (done more : List ℕ) (threshold : ℕ) (tree : Tree) → AreInPlane shapes
-    → Rises done → IsShallow root_block tree → Fits (meets_block gap shapes) done root_block tree → listings tree ≤ listings (entered gap shapes threshold more tree)
+    → RiseStrictly done → IsShallow root_block tree → Fits (meets_block gap shapes) done root_block tree → listings tree ≤ listings (rows_entered gap shapes threshold more tree)
 entered_listings children law gap measure shapes done [] threshold tree plane rise shallow fit = omega arith
 entered_listings children law gap measure shapes done (id ∷ more) threshold tree plane rise shallow fit =
     let next : Tree = tree_with gap shapes threshold id tree in

@@ -19,7 +19,7 @@ use Rattle.sand_store.specs.declared.path.AccessPath.{AccessPath}
 use Rattle.sand_store.specs.Calls.{Refuses, is_of_a_row, loaded, load_early, load_late, load_plain, LoadIsRefusedBy, RefusesRows, OnePasses, IsRefusedPlainly, Loaded}
 use Rattle.sand_store.specs.Catalog.{RelationView, StoreState, is_named, IsDescribed}
 use Rattle.sand_store.specs.Contents.{relation_in}
-use Rattle.sand_store.specs.Loads.{row_refusal, plain_of, StopsAt, Counts, Enters}
+use Rattle.sand_store.specs.Loads.{row_refusal, plain_of, StopsAt, CountsRows, Enters}
 use Rattle.sand_store.specs.Ownership.{relation_pages}
 use Rattle.sand_store.specs.Sketches.{sketch_of, with_ids}
 use Rattle.sand_store.specs.Standing.{IsStore}
@@ -39,7 +39,7 @@ Rows = List (List Value)
 
 -- a relation that took in a row
 pub counts_one : (limits : Limits) (r : RelationView) (file : TupleFile) (paths : List (ℕ × AccessPath)) (trees : List (ℕ × RTree)) (known : List ℕ) (row : List Value) → IsDescribed limits r
-    → row_check limits r row ≡ None → SamePlaces r.schema r.paths paths → SameColumns r.trees trees → Counts limits r (grown_view r file paths trees known) 1
+    → row_check limits r row ≡ None → SamePlaces r.schema r.paths paths → SameColumns r.trees trees → CountsRows limits r (grown_view r file paths trees known) 1
 counts_one limits r file paths trees known row h passes same columns = record {
   name = refl;
   schema = refl;
@@ -75,7 +75,7 @@ enters_next m v w limits r u x rows row rest k passes b = record {
 pub record Loading (first now : PoolState) (limits : Limits) (r u : RelationView) (rows : Rows) (at : ℕ) : Type 0 where
   pub within : InCommand first now
   pub counted : now.disk.faults ≡ first.disk.faults
-  pub counts : Counts limits r u at
+  pub counts : CountsRows limits r u at
   pub passed : plain_of limits r (take at rows) ≡ None
   pub enters : IsTold first → Enters first.pages now.pages limits r u rows (drop at rows)
 
@@ -96,7 +96,7 @@ before_row first now limits r u rows at row k l here told =
 
 -- a step of the loop
 pub loading_next : (first now next : PoolState) (limits : Limits) (r u x : RelationView) (rows : Rows) (at : ℕ) (row : List Value) → Loading first now limits r u rows at
-    → at < length rows → row ≡ get_or rows at row → InCommand now next → next.disk.faults ≡ now.disk.faults → Counts limits u x 1 → row_check limits u row ≡ None
+    → at < length rows → row ≡ get_or rows at row → InCommand now next → next.disk.faults ≡ now.disk.faults → CountsRows limits u x 1 → row_check limits u row ≡ None
     → (IsTold now → Became now.pages next.pages limits u x (λ gap. with_row gap row)) → Loading first next limits r x rows (at + 1)
 loading_next first now next limits r u x rows at row k l here within counted counts passes became = record {
   within = InCommand-trans first now next k.within within;
@@ -195,7 +195,7 @@ entered_in setting is m w limits r u rows l k = record {
 
 -- the store with the rows is one
 pub loaded_store : (old new : PoolState) (rs us : List RelationView) (limits : Limits) (name : List ℕ) (rows : Rows) (at : ℕ) (r u : RelationView)
-    → IsStore (record { relations = rs; limits = limits }) old → FirstAt name rs at → at < length rs → r ≡ get_or rs at r → us ≡ set rs at u → Counts limits r u (length rows)
+    → IsStore (record { relations = rs; limits = limits }) old → FirstAt name rs at → at < length rs → r ≡ get_or rs at r → us ≡ set rs at u → CountsRows limits r u (length rows)
     → new.disk.told ≡ old.disk.told → IsClosed new → (IsTold old → Enters old.pages new.pages limits r u rows []) → IsStore (record { relations = us; limits = limits }) new
 loaded_store old new rs us limits name rows at r u h first l here is counts told closed enters =
     put_in_place old new limits name rs us at r u (λ gap relation. relation_in new.pages u) h first l here is counts.name counts.described told closed
@@ -203,7 +203,7 @@ loaded_store old new rs us limits name rows at r u h first l here is counts told
 
 -- what the rows are to the database
 pub loaded_is : (old new : PoolState) (rs us : List RelationView) (limits : Limits) (name : List ℕ) (rows : Rows) (at : ℕ) (r u : RelationView) (count : ℕ)
-    → IsStore (record { relations = rs; limits = limits }) old → FirstAt name rs at → at < length rs → r ≡ get_or rs at r → us ≡ set rs at u → Counts limits r u (length rows)
+    → IsStore (record { relations = rs; limits = limits }) old → FirstAt name rs at → at < length rs → r ≡ get_or rs at r → us ≡ set rs at u → CountsRows limits r u (length rows)
     → count ≡ u.next - r.next → plain_of limits r rows ≡ None → (IsTold old → Enters old.pages new.pages limits r u rows [])
     → Loaded (store_from rs limits old) (store_from us limits new) name rows count
 loaded_is old new rs us limits name rows at r u count h first l here is counts counted passed enters =

@@ -25,7 +25,7 @@ use Rattle.sand_store.specs.Contents.{rows_at, index_in, indexes_in}
 use Rattle.sand_store.specs.Ownership.{path_pages, paths_pages}
 use Rattle.sand_store.specs.Standing.{PathStands}
 use Rattle.sand_store.specs.Steps.{CanGrow, PathGrew, AllCanGrow, AllGrew}
-use Rattle.sand_store.specs.Leaving.{Holds, PathChange, PathChanged}
+use Rattle.sand_store.specs.Leaving.{PathHolds, PathChange, PathChanged}
 use Rattle.sand_store.specs.TableLaws.{SameOn, rows_same, table_same}
 use Rattle.sand_store.proofs.Frames.{untouched, owns_after}
 use Rattle.sand_store.proofs.PathSteps.{Paths, Partway, partway_start, partway_next, partway_end, pages_append, pages_cons, drop_here, take_here, drop_all}
@@ -133,7 +133,7 @@ between_can first now limits schema file id row all done at p k l here can told 
       rows = rows_stay first now limits schema file id row all done (p ∷ rest) h mid ∙ h.rows;
       rise = h.rise;
       below = h.below;
-      stands = All-head (Holds now.pages (record { limits = limits; schema = schema; rows = h.before })) p rest mid.waiting;
+      stands = All-head (PathHolds now.pages (record { limits = limits; schema = schema; rows = h.before })) p rest mid.waiting;
     }
 
 pub between_apart : (first now : PoolState) (limits : Limits) (schema : List (List ℕ × Kind)) (file : TupleFile) (id : ℕ) (row : List Value) (all done : Paths) (at : ℕ) (p : ℕ × AccessPath)

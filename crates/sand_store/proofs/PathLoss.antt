@@ -16,15 +16,15 @@ use Rattle.pmr_tree.proofs.TreeAt.{shaped_shallow}
 use Rattle.attr_index.specs.declared.index.AttrIndex.{AttrIndex}
 use Rattle.attr_index.specs.Calls.{Dropped}
 use Rattle.attr_index.specs.Entries.{Entry, entry_number, without_entry}
-use Rattle.attr_index.specs.Index.{entries_at}
-use Rattle.attr_index.specs.Key.{key_of}
+use Rattle.attr_index.specs.Index.{index_entries}
+use Rattle.attr_index.specs.Key.{value_key}
 use Rattle.sand_base.specs.declared.shape.Shape.{Shape}
 use Rattle.sand_base.specs.declared.value.Value.{Value}
 use Rattle.sand_model.specs.Database.{Quadtree as tree_index, element, shape_in, shapes_of, shape_at, meets_block}
 use Rattle.sand_model.specs.Tree.{Tree, Leaf, Inner, root_block, Fits, union, union_of_four, without, merged, shrunk, listings}
 use Rattle.tuple_file.specs.Rows.{without_id}
 use Rattle.sand_store.specs.declared.path.AccessPath.TheVariants.{Quadtree, Attribute}
-use Rattle.sand_store.specs.Standing.{entries_of}
+use Rattle.sand_store.specs.Standing.{column_entries}
 use Rattle.sand_store.specs.Leaving.{Holding, CanLose, losing, PathChanged}
 use Rattle.sand_store.specs.TableLaws.{shapes_plane}
 use Rattle.sand_store.proofs.ColumnsOfShapes.{shape_of_row}
@@ -126,19 +126,19 @@ tree_lost fits decide m w held id column row t u h g =
 pub index_lost : (m w : PageMap) (held : Holding) (id column : ℕ) (row : List Value) (x y : AttrIndex) (v : Value) → id < 2 ^ 32 → CanLose m held id row (column, Attribute x)
     → element row column ≡ Some v → Dropped (store_of m) (store_of w) x y v id → PathChanged m w (losing held id) column (Attribute x) (Attribute y)
 index_lost m w held id column row x y v l h e d =
-    let e0 : Entry = (key_of v, id) in
-    let es : List Entry = entries_at (store_of m) x in
+    let e0 : Entry = (value_key v, id) in
+    let es : List Entry = index_entries (store_of m) x in
     let only : OnlyRow id row held.rows = only_row id row held.rows h.has.rise h.has.there in
     record {
       stands = record {
         is = d.index;
         ints = λ k. d.ints (h.stands.ints k);
         entries = λ n.
-            let now : times n (numbers (entries_at (store_of w) y)) ≡ times n (numbers (without_entry e0 es)) = ap (λ (xs : List Entry). times n (numbers xs)) d.entries in
+            let now : times n (numbers (index_entries (store_of w) y)) ≡ times n (numbers (without_entry e0 es)) = ap (λ (xs : List Entry). times n (numbers xs)) d.entries in
             elim (same_cases n (entry_number e0)) [
               | inl z ↦
-                  let P : ℕ → Type 0 = λ i. times i (numbers (without_entry e0 es)) ≡ times i (numbers (entries_of column (without_id id held.rows))) in
-                  now ∙ subst P (sym z.1) (entry_gone e0 es ∙ sym (row_gone column (key_of v) id held.rows l h.has.small))
+                  let P : ℕ → Type 0 = λ i. times i (numbers (without_entry e0 es)) ≡ times i (numbers (column_entries column (without_id id held.rows))) in
+                  now ∙ subst P (sym z.1) (entry_gone e0 es ∙ sym (row_gone column (value_key v) id held.rows l h.has.small))
               | inr z ↦ now ∙ (entry_stays e0 es n z.1 ∙ (h.stands.entries n ∙ sym (row_stays column id row v held.rows n only e z.1)))
             ];
       };

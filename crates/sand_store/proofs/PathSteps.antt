@@ -19,7 +19,7 @@ use Rattle.sand_store.specs.declared.path.AccessPath.{AccessPath}
 use Rattle.sand_store.specs.Catalog.{IsPathOf}
 use Rattle.sand_store.specs.Contents.{index_in, indexes_in}
 use Rattle.sand_store.specs.Ownership.{path_pages, paths_pages}
-use Rattle.sand_store.specs.Leaving.{Holding, Holds, CanLose, PathChange, losing, PathChanged, AllCanLose, AllChanged}
+use Rattle.sand_store.specs.Leaving.{Holding, PathHolds, CanLose, PathChange, losing, PathChanged, AllCanLose, AllChanged}
 use Rattle.sand_store.specs.Steps.{SamePlaces}
 use Rattle.sand_store.specs.TableLaws.{SameOn}
 use Rattle.sand_store.proofs.Frames.{untouched, keeps_with}
@@ -38,17 +38,17 @@ pages_cons v p b q = times-append q (path_pages v p.1) (paths_pages v b)
 
 -- What holds between two steps. Over pages m none had changed, over pages v those done have, and the rest hasn't.
 pub record Partway (m v : PageMap) (change : PathChange) (all done rest : Paths) : Type 0 where
-  pub changed : All (Holds v change.after) done
-  pub waiting : All (Holds v change.before) rest
+  pub changed : All (PathHolds v change.after) done
+  pub waiting : All (PathHolds v change.before) rest
   pub means : (gap : Measure) → IsMeasure gap → indexes_in v done ++ map (change.index gap) (indexes_in v rest) ≡ map (change.index gap) (indexes_in m all)
   pub keeps : Keeps (store_of m) (store_of v) (paths_pages m all) (paths_pages v (done ++ rest))
   pub apart : (q : ℕ) → times q (paths_pages v (done ++ rest)) ≤ live (store_of v) q
 
 -- before the first step
-pub partway_start : (m : PageMap) (change : PathChange) (all : Paths) → All (Holds m change.before) all → ((q : ℕ) → times q (paths_pages m all) ≤ live (store_of m) q)
+pub partway_start : (m : PageMap) (change : PathChange) (all : Paths) → All (PathHolds m change.before) all → ((q : ℕ) → times q (paths_pages m all) ≤ live (store_of m) q)
     → Partway m m change all [] all
 partway_start m change all stands apart = record {
-  changed = All-nil (Holds m change.after);
+  changed = All-nil (PathHolds m change.after);
   waiting = stands;
   means = λ gap is. refl;
   keeps = keeps_none (store_of m) (paths_pages m all);
@@ -81,8 +81,8 @@ partway_next m v w change all done rest p b k g =
     let step : Keeps (store_of v) (store_of w) (paths_pages v (done ++ p ∷ rest)) (paths_pages w (now ++ rest)) =
     keeps_with (store_of v) (store_of w) (path_pages v p.1) (path_pages w b) others (paths_pages v (done ++ p ∷ rest)) (paths_pages w (now ++ rest)) g.keeps was_pages now_pages in
     record {
-      changed = All-push (Holds w change.after) done (p.0, b) (paths_stand v w change.after.limits change.after.schema change.after.rows done same_done k.changed) g.stands;
-      waiting = paths_stand v w change.before.limits change.before.schema change.before.rows rest same_rest (All-tail (Holds v change.before) p rest k.waiting);
+      changed = All-push (PathHolds w change.after) done (p.0, b) (paths_stand v w change.after.limits change.after.schema change.after.rows done same_done k.changed) g.stands;
+      waiting = paths_stand v w change.before.limits change.before.schema change.before.rows rest same_rest (All-tail (PathHolds v change.before) p rest k.waiting);
       means = λ gap is.
           let f : ℕ × Index → ℕ × Index = change.index gap in
           let split : indexes_in w now ≡ indexes_in w done ++ (p.0, index_in w b) ∷ [] = map-append (λ (x : ℕ × AccessPath). (x.0, index_in w x.1)) done ((p.0, b) ∷ []) in
@@ -157,7 +157,7 @@ pub losing_can : (first now : PoolState) (held : Holding) (id : ℕ) (row : List
 losing_can first now held id row all done at p k l here told h =
     let P : Paths → Type 0 = λ rest. Partway first.pages now.pages (losing held id) all done rest in
     let mid = subst P (drop_here all at p l here) (k.partway (sym k.within.told ∙ told) held h) in
-    record { has = h.has; stands = All-head (Holds now.pages held) p (drop (at + 1) all) mid.waiting }
+    record { has = h.has; stands = All-head (PathHolds now.pages held) p (drop (at + 1) all) mid.waiting }
 
 -- a step of the loop
 pub losing_next : (first now next : PoolState) (id : ℕ) (row : List Value) (all done : Paths) (at : ℕ) (p : ℕ × AccessPath) (b : AccessPath) → Losing first now id row all done at

@@ -15,7 +15,7 @@ use Rattle.tuple_file.specs.File.{file_pages}
 use Rattle.tuple_file.proofs.Houses as houses
 use Rattle.sand_store.specs.declared.path.AccessPath.{AccessPath}
 use Rattle.sand_store.specs.declared.path.AccessPath.TheVariants.{Quadtree, Attribute}
-use Rattle.sand_store.specs.Building.{IsOfKind, empty_index, index_after, Plants, CanFill, Fills, Builds}
+use Rattle.sand_store.specs.Building.{IsOfKind, empty_index, index_after, PlantsPath, CanFill, Fills, Builds}
 use Rattle.sand_store.specs.Catalog.{RelationView, IsColumnAt, IsPathOf}
 use Rattle.sand_store.specs.Contents.{rows_at, rows_in, index_in}
 use Rattle.sand_store.specs.Ownership.{path_pages}
@@ -30,14 +30,14 @@ of_kind schema column threshold (Quadtree t) at is = (let P : Bool → Type 0 = 
 of_kind schema column threshold (Attribute x) at is = (let P : Bool → Type 0 = λ b. IsColumnAt schema column b in subst P is at)
 
 -- the file stays while it is planted
-file_stays : (m w : PageMap) (limits : Limits) (r : RelationView) (threshold : Option ℕ) (a : AccessPath) → RelationStands m limits r → Plants m w threshold a
+file_stays : (m w : PageMap) (limits : Limits) (r : RelationView) (threshold : Option ℕ) (a : AccessPath) → RelationStands m limits r → PlantsPath m w threshold a
     → SameOn m w (file_pages (store_of m) r.file)
 file_stays m w limits r threshold a h p =
     untouched (store_of m) (store_of w) [] (path_pages w a) (file_pages (store_of m) r.file) p.keeps
     (λ q. (let o : times q (file_pages (store_of m) r.file) ≤ live (store_of m) q = h.table.file.owns q in omega (arith, o)))
 
 -- so it can take all rows
-pub can_fill : (m w : PageMap) (limits : Limits) (r : RelationView) (column : ℕ) (threshold : Option ℕ) (a : AccessPath) → 1 ≤ limits.listings → RelationStands m limits r → Plants m w threshold a
+pub can_fill : (m w : PageMap) (limits : Limits) (r : RelationView) (column : ℕ) (threshold : Option ℕ) (a : AccessPath) → 1 ≤ limits.listings → RelationStands m limits r → PlantsPath m w threshold a
     → CanFill w limits r.schema r.file (column, a)
 can_fill m w limits r column threshold a some h p =
     let same : SameOn m w (file_pages (store_of m) r.file) = file_stays m w limits r threshold a h p in
@@ -58,7 +58,7 @@ after_all : (gap : Measure) (rows : Rows) (column : ℕ) (threshold : Option ℕ
 after_all gap rows column (Some threshold) = refl
 after_all gap rows column None = refl
 
-pub new_after : (gap : Measure) (m w : PageMap) (limits : Limits) (r : RelationView) (column : ℕ) (threshold : Option ℕ) (a : AccessPath) → RelationStands m limits r → Plants m w threshold a
+pub new_after : (gap : Measure) (m w : PageMap) (limits : Limits) (r : RelationView) (column : ℕ) (threshold : Option ℕ) (a : AccessPath) → RelationStands m limits r → PlantsPath m w threshold a
     → index_after gap (rows_at w r.schema r.file) column (rows_at w r.schema r.file) (index_in w a) ≡ new_index gap (rows_in m r) column threshold
 new_after gap m w limits r column threshold a h p =
     let rows : rows_at w r.schema r.file ≡ rows_in m r = rows_same m w r.schema r.file (file_stays m w limits r threshold a h p) in
@@ -66,7 +66,7 @@ new_after gap m w limits r column threshold a h p =
     ∙ (ap (λ (i : Index). index_after gap (rows_in m r) column (rows_in m r) i) p.means ∙ after_all gap (rows_in m r) column threshold)
 
 -- the new index, with all rows
-pub built_is : (m w v : PageMap) (limits : Limits) (r : RelationView) (column : ℕ) (threshold : Option ℕ) (a b : AccessPath) → RelationStands m limits r → Plants m w threshold a
+pub built_is : (m w v : PageMap) (limits : Limits) (r : RelationView) (column : ℕ) (threshold : Option ℕ) (a b : AccessPath) → RelationStands m limits r → PlantsPath m w threshold a
     → Fills w v limits r.schema (rows_at w r.schema r.file) column a b → Builds m v limits r.schema (rows_in m r) column threshold b
 built_is m w v limits r column threshold a b h p f =
     let rows : rows_at w r.schema r.file ≡ rows_in m r = rows_same m w r.schema r.file (file_stays m w limits r threshold a h p) in
@@ -80,13 +80,13 @@ built_is m w v limits r column threshold a b h p f =
 -- The same of a relation x that is r, as code sees its parts.
 
 pub asks_fill : (m w : PageMap) (limits : Limits) (x r : RelationView) (column : ℕ) (threshold : Option ℕ) (a : AccessPath) → x ≡ r → 1 ≤ limits.listings
-    → RelationStands m limits r → Plants m w threshold a
+    → RelationStands m limits r → PlantsPath m w threshold a
     → CanFill w limits x.schema x.file (column, a)
 asks_fill m w limits x r column threshold a e some h p =
     let H : RelationView → Type 0 = λ y. RelationStands m limits y in
     can_fill m w limits x column threshold a some (subst H (sym e) h) p
 
-pub got_built : (m w v : PageMap) (limits : Limits) (x r : RelationView) (column : ℕ) (threshold : Option ℕ) (a b : AccessPath) → x ≡ r → RelationStands m limits r → Plants m w threshold a
+pub got_built : (m w v : PageMap) (limits : Limits) (x r : RelationView) (column : ℕ) (threshold : Option ℕ) (a b : AccessPath) → x ≡ r → RelationStands m limits r → PlantsPath m w threshold a
     → Fills w v limits x.schema (rows_at w x.schema x.file) column a b → Builds m v limits r.schema (rows_in m r) column threshold b
 got_built m w v limits x r column threshold a b e h p f =
     let H : RelationView → Type 0 = λ y. RelationStands m limits y in
@@ -94,7 +94,7 @@ got_built m w v limits x r column threshold a b e h p f =
     subst B e (built_is m w v limits x column threshold a b (subst H (sym e) h) p f)
 
 pub built_full : (gap : Measure) (m w : PageMap) (limits : Limits) (x r : RelationView) (column : ℕ) (threshold : Option ℕ) (a : AccessPath) → x ≡ r
-    → RelationStands m limits r → Plants m w threshold a
+    → RelationStands m limits r → PlantsPath m w threshold a
     → is_overfull limits (column, index_after gap (rows_at w x.schema x.file) column (rows_at w x.schema x.file) (index_in w a)) ≡ true
     → is_overfull limits (column, new_index gap (rows_in m r) column threshold) ≡ true
 built_full gap m w limits x r column threshold a e h p full =

@@ -14,7 +14,7 @@ use Rattle.sand_model.specs.Checks.{first_refusal}
 use Rattle.sand_model.specs.Kept.{has_twice, most_relations}
 use Rattle.statements.specs.Statement.{Create}
 use Rattle.sand_model.specs.StatementChecks.{refused_where, is_there}
-use Rattle.sand_store.specs.Calls.{Refuses, IsRefusedBy, is_none, early_at, late_at}
+use Rattle.sand_store.specs.Calls.{Refuses, IsStatementRefused, is_none, early_at, late_at}
 use Rattle.sand_store.specs.Catalog.{RelationView, StoreState, is_named}
 use Rattle.sand_store.specs.Steps.{store_from, create_check, IsOutside, IsOutsideOrFull, refusal_of_tree}
 use Rattle.sand_store.proofs.Places.{early_create}
@@ -40,9 +40,9 @@ one_of false false v w x e = absurd (true≢false (sym (ap (λ (o : Option Refus
 
 -- the name is taken, or there are too many relations
 pub create_refused : (pool : PoolState) (rs : List RelationView) (limits : Limits) (name : List ℕ) (schema : List (List ℕ × Kind)) (w : Refusal)
-    → create_check rs name schema ≡ Some w → IsRefusedBy is_none (store_from rs limits pool) (Create name schema) w
+    → create_check rs name schema ≡ Some w → IsStatementRefused is_none (store_from rs limits pool) (Create name schema) w
 create_refused pool rs limits name schema w e =
-    let P : Refusal → Type 0 = λ x. create_check rs name schema ≡ Some x → IsRefusedBy is_none (store_from rs limits pool) (Create name schema) x in
+    let P : Refusal → Type 0 = λ x. create_check rs name schema ≡ Some x → IsStatementRefused is_none (store_from rs limits pool) (Create name schema) x in
     elim (one_of (is_there (find (is_named name) rs) || has_twice (map (λ column. column.0) schema)) (nat_le most_relations (length rs)) why.NameTaken why.TooManyRelations w e) [
       | inl i ↦ subst P (sym i) (λ h setting is l. early_create setting pool.pages rs name schema ∙ h) e
       | inr i ↦ subst P (sym i) (λ h setting is l. early_create setting pool.pages rs name schema ∙ h) e
@@ -50,7 +50,7 @@ create_refused pool rs limits name schema w e =
 
 -- a refusal of the command of a new relation
 pub create_stopped : (pool : PoolState) (rs : List RelationView) (limits : Limits) (name : List ℕ) (schema : List (List ℕ × Kind)) (w : Refusal)
-    → create_check rs name schema ≡ None → IsOutside w → IsRefusedBy is_none (store_from rs limits pool) (Create name schema) w
+    → create_check rs name schema ≡ None → IsOutside w → IsStatementRefused is_none (store_from rs limits pool) (Create name schema) w
 create_stopped pool rs limits name schema w h o = λ setting is l.
     let store : StoreState = store_from rs limits pool in
     outside_refuses (IsTold pool) is_none (early_at setting store (Create name schema)) (late_at setting store (Create name schema)) w o

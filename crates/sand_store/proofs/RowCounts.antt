@@ -3,13 +3,13 @@ use Rattle.std.proofs.Common.{◌≡◌, ℕ, ◌+◌, ◌<◌, ◌≤◌, List,
 use Rattle.std.proofs.lemmas.List.{length-map}
 use Rattle.std.proofs.lemmas.List.Elements.{All-head, All-tail}
 use Rattle.page_pool.specs.Disk.{PageMap}
-use Rattle.pmr_tree.specs.Lists.{Each, Rises}
+use Rattle.pmr_tree.specs.Lists.{Each, RiseStrictly}
 use Rattle.pmr_tree.specs.Quadtree.{store_of}
-use Rattle.pmr_tree.proofs.Orders.{each_map}
+use Rattle.pmr_tree.proofs.AscendingLists.{each_map}
 use Rattle.sand_base.specs.declared.limits.Limits.{Limits}
 use Rattle.sand_base.specs.declared.value.Value.{Value}
 use Rattle.code_btree.specs.Tree.{tree_items}
-use Rattle.tuple_file.specs.File.{file_rows, tuple_of}
+use Rattle.tuple_file.specs.File.{tuples_of, tuple_of}
 use Rattle.sand_store.specs.Catalog.{RelationView}
 use Rattle.sand_store.specs.Contents.{rows_in}
 use Rattle.sand_store.specs.Standing.{RelationStands}
@@ -17,7 +17,7 @@ use Rattle.sand_store.specs.Tuples.{row_in}
 use Rattle.sand_store.proofs.Databases.{rises_at}
 
 -- numbers that ascend from one on and are below another are no more than lie between
-fewer : (low high : ℕ) (ns : List ℕ) → low ≤ high → Rises ns → Each (λ n. (low ≤ n) × (n < high)) ns → low + length ns ≤ high
+fewer : (low high : ℕ) (ns : List ℕ) → low ≤ high → RiseStrictly ns → Each (λ n. (low ≤ n) × (n < high)) ns → low + length ns ≤ high
 fewer low high [] l r h = omega (arith, l)
 fewer low high (n ∷ ns) l r h =
     let above : Each (λ k. (n + 1 ≤ k) × (k < high)) ns = both ns r.0 h.1 in
@@ -35,8 +35,8 @@ each_of P (r ∷ rows) h = (All-head (λ (x : ℕ × List Value). P x.0) r rows 
 pub rows_counted : (m : PageMap) (limits : Limits) (r : RelationView) → RelationStands m limits r → r.file.tree.entries ≡ length (rows_in m r)
 rows_counted m limits r h =
     let of_tuple : ℕ × List ℕ → ℕ × List Value = λ t. (t.0, row_in r.schema t.1) in
-    let a : length (rows_in m r) ≡ length (file_rows (store_of m) r.file) = length-map (file_rows (store_of m) r.file) of_tuple in
-    let b : length (file_rows (store_of m) r.file) ≡ length (tree_items (store_of m) r.file.tree) =
+    let a : length (rows_in m r) ≡ length (tuples_of (store_of m) r.file) = length-map (tuples_of (store_of m) r.file) of_tuple in
+    let b : length (tuples_of (store_of m) r.file) ≡ length (tree_items (store_of m) r.file.tree) =
     length-map (tree_items (store_of m) r.file.tree) (λ (e : ℕ × ℕ). (e.0, tuple_of (store_of m) e.1)) in
     omega (arith, a, b, h.table.file.tree.at.counted)
 

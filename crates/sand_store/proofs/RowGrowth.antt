@@ -27,7 +27,7 @@ use Rattle.sand_model.specs.RowSize.{row_size}
 use Rattle.tuple_codec.specs.Encoding.{coordinate_bytes, point_bytes, value_bytes, encoding}
 use Rattle.tuple_codec.specs.Decoding.{IsRowFor}
 use Rattle.tuple_file.specs.declared.file.TupleFile.{TupleFile}
-use Rattle.tuple_file.specs.File.{file_rows, file_pages}
+use Rattle.tuple_file.specs.File.{tuples_of, file_pages}
 use Rattle.tuple_file.specs.Calls.{Put}
 use Rattle.tuple_file.specs.Table.{encodings}
 use Rattle.tuple_file.proofs.Tables.{greatest_last}
@@ -54,7 +54,7 @@ use Rattle.sand_store.proofs.RelationTrees.{OwnsOf, bare, bare_stands, bare_owns
 use Rattle.sand_store.proofs.Stays.{table_pages, paths_pages_stay, indexes_stay, paths_stand}
 
 -- the ids of a file are below the next one
-below_next : (m : PageMap) (limits : Limits) (r : RelationView) → RelationStands m limits (bare r) → All (λ t. t.0 < r.next) (file_rows (store_of m) r.file)
+below_next : (m : PageMap) (limits : Limits) (r : RelationView) → RelationStands m limits (bare r) → All (λ t. t.0 < r.next) (tuples_of (store_of m) r.file)
 below_next m limits r h =
     let P : List (ℕ × List ℕ) → Type 0 = λ ts. All (λ t. t.0 < r.next) ts in
     subst P (sym h.table.tuples) (All-map (λ (t : ℕ × List ℕ). t.0 < r.next) (λ (x : ℕ × List Value). (x.0, encoding x.1)) (rows_in m r)
@@ -62,8 +62,8 @@ below_next m limits r h =
 
 -- the tuples with the new one
 tuples_put : (m w : PageMap) (limits : Limits) (r : RelationView) (g : TupleFile) (bytes : List ℕ) → RelationStands m limits (bare r)
-    → Put (store_of m) (store_of w) r.file g r.next bytes → file_rows (store_of w) g ≡ file_rows (store_of m) r.file ++ (r.next, bytes) ∷ []
-tuples_put m w limits r g bytes h p = p.rows ∙ greatest_last r.next bytes (file_rows (store_of m) r.file) (below_next m limits r h)
+    → Put (store_of m) (store_of w) r.file g r.next bytes → tuples_of (store_of w) g ≡ tuples_of (store_of m) r.file ++ (r.next, bytes) ∷ []
+tuples_put m w limits r g bytes h p = p.rows ∙ greatest_last r.next bytes (tuples_of (store_of m) r.file) (below_next m limits r h)
 
 -- the rows with the new one
 rows_put : (m w : PageMap) (limits : Limits) (r : RelationView) (g : TupleFile) (row : List Value) → RelationStands m limits (bare r) → IsRowFor r.schema row
@@ -71,7 +71,7 @@ rows_put : (m w : PageMap) (limits : Limits) (r : RelationView) (g : TupleFile) 
 rows_put m w limits r g row h of p =
     let f : ℕ × List ℕ → ℕ × List Value = λ t. (t.0, row_in r.schema t.1) in
     ap (λ (ts : List (ℕ × List ℕ)). map f ts) (tuples_put m w limits r g (encoding row) h p)
-    ∙ (map-append f (file_rows (store_of m) r.file) ((r.next, encoding row) ∷ []) ∙ ap (λ (x : List Value). rows_in m r ++ (r.next, x) ∷ []) (row_back r.schema row of))
+    ∙ (map-append f (tuples_of (store_of m) r.file) ((r.next, encoding row) ∷ []) ∙ ap (λ (x : List Value). rows_in m r ++ (r.next, x) ∷ []) (row_back r.schema row of))
 
 -- the file holds them
 table_put : (m w : PageMap) (limits : Limits) (r : RelationView) (g : TupleFile) (row : List Value) → RelationStands m limits (bare r) → IsRowFor r.schema row
@@ -180,8 +180,8 @@ none_at {A} n (x ∷ xs) h = elim (eqb_tells x.0 n) [
   | inr y ↦ rw y.0 (none_at n xs (All-tail (λ (z : ℕ × A). z.0 < n) x xs h))
 ]
 
-pub next_is_fresh : (m : PageMap) (limits : Limits) (r : RelationView) → RelationStands m limits r → of_id r.next (file_rows (store_of m) r.file) ≡ None
-next_is_fresh m limits r h = none_at r.next (file_rows (store_of m) r.file) (below_next m limits r (bare_stands m limits r h))
+pub next_is_fresh : (m : PageMap) (limits : Limits) (r : RelationView) → RelationStands m limits r → of_id r.next (tuples_of (store_of m) r.file) ≡ None
+next_is_fresh m limits r h = none_at r.next (tuples_of (store_of m) r.file) (below_next m limits r (bare_stands m limits r h))
 
 -- What the loop over the access paths asks, of a relation x that is r, as code sees its parts.
 pub asks : (m w : PageMap) (limits : Limits) (x r : RelationView) (g : TupleFile) (row : List Value) (bytes : List ℕ) (paths : List (ℕ × AccessPath)) → x ≡ r → bytes ≡ encoding row → paths ≡ x.paths

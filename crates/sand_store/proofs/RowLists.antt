@@ -9,8 +9,8 @@ use Rattle.sand_base.specs.declared.shape.Shape.{Shape}
 use Rattle.sand_base.specs.declared.value.Value.{Value}
 use Rattle.sand_model.specs.Database.{shape_in, shapes_of, shape_at}
 use Rattle.sand_model.specs.Tree.{add}
-use Rattle.pmr_tree.specs.Lists.{Each, Above, Rises}
-use Rattle.pmr_tree.proofs.Orders.{add_after}
+use Rattle.pmr_tree.specs.Lists.{Each, Above, RiseStrictly}
+use Rattle.pmr_tree.proofs.AscendingLists.{add_after}
 use Rattle.pmr_tree.proofs.ShapeLaws.{each_contains}
 
 -- rows, and shapes by the ids of their rows
@@ -55,10 +55,10 @@ above_shapes column n (r ∷ rows) h =
     go (shape_in column r.1) refl
 
 -- and they rise as those do
-pub rises_shapes : (column : ℕ) (rows : Rows) → Rises (map (λ (r : ℕ × List Value). r.0) rows) → Rises (ids_of (shapes_of column rows))
+pub rises_shapes : (column : ℕ) (rows : Rows) → RiseStrictly (map (λ (r : ℕ × List Value). r.0) rows) → RiseStrictly (ids_of (shapes_of column rows))
 rises_shapes column [] h = tt
 rises_shapes column (r ∷ rows) h =
-    let go : (o : Option Shape) → shape_in column r.1 ≡ o → Rises (ids_of (shapes_of column (r ∷ rows))) =
+    let go : (o : Option Shape) → shape_in column r.1 ≡ o → RiseStrictly (ids_of (shapes_of column (r ∷ rows))) =
     elim [ None ↦ λ e. rw e (rises_shapes column rows h.1) | Some x ↦ λ e. rw e (above_shapes column r.0 rows h.0, rises_shapes column rows h.1) ] in
     go (shape_in column r.1) refl
 

@@ -17,8 +17,8 @@ use Rattle.sand_model.specs.RowSize.{row_size}
 use Rattle.sand_base.specs.declared.kind.Kind.{Kind}
 use Rattle.tuple_codec.specs.Decoding.{IsRowFor}
 use Rattle.tuple_file.specs.declared.file.TupleFile.{TupleFile}
-use Rattle.tuple_file.specs.Calls.{Taken}
-use Rattle.tuple_file.specs.File.{file_rows, file_pages}
+use Rattle.tuple_file.specs.Calls.{TupleTaken}
+use Rattle.tuple_file.specs.File.{tuples_of, file_pages}
 use Rattle.tuple_file.specs.Rows.{without_id}
 use Rattle.tuple_file.specs.Table.{encodings}
 use Rattle.tuple_file.proofs.Houses as houses
@@ -33,7 +33,7 @@ use Rattle.sand_store.specs.Ownership.{paths_pages, relation_pages}
 use Rattle.sand_store.specs.Standing.{PathStands, TreeStands, TableStands}
 use Rattle.sand_store.specs.Steps.{Became, SamePlaces, SameColumns}
 use Rattle.sand_store.specs.Trees.{CanChange, rows_after, TreesCanChange, TreesChanged}
-use Rattle.sand_store.specs.Leaving.{Holding, HasRow, losing, AllCanLose, AllChanged, RelationCanLose, Shrank, shrunk_view}
+use Rattle.sand_store.specs.Leaving.{Holding, HoldsRow, losing, AllCanLose, AllChanged, RelationCanLose, Shrank, shrunk_view}
 use Rattle.sand_store.specs.TableLaws.{SameOn, rows_same, table_same}
 use Rattle.sand_store.specs.Tuples.{row_in}
 use Rattle.sand_store.proofs.Databases.{rises_at}
@@ -43,14 +43,14 @@ use Rattle.sand_store.proofs.RelationTrees.{bare, bare_stands, bare_owns, treed_
 use Rattle.sand_store.proofs.Stays.{table_pages, paths_pages_stay, indexes_stay, paths_stand}
 
 -- the rows without the one that was taken
-rows_taken : (m w : PageMap) (r : RelationView) (g : TupleFile) (id : ℕ) (was : Bool) → Taken (store_of m) (store_of w) r.file g id was → rows_at w r.schema g ≡ without_id id (rows_in m r)
+rows_taken : (m w : PageMap) (r : RelationView) (g : TupleFile) (id : ℕ) (was : Bool) → TupleTaken (store_of m) (store_of w) r.file g id was → rows_at w r.schema g ≡ without_id id (rows_in m r)
 rows_taken m w r g id was t =
     let f : ℕ × List ℕ → ℕ × List Value = λ x. (x.0, row_in r.schema x.1) in
-    ap (λ (ts : List (ℕ × List ℕ)). map f ts) t.rows ∙ map_filter f (λ (x : ℕ × List Value). not (nat_eq x.0 id)) (file_rows (store_of m) r.file)
+    ap (λ (ts : List (ℕ × List ℕ)). map f ts) t.rows ∙ map_filter f (λ (x : ℕ × List Value). not (nat_eq x.0 id)) (tuples_of (store_of m) r.file)
 
 -- the file holds them
 table_taken : (m w : PageMap) (limits : Limits) (r : RelationView) (g : TupleFile) (id : ℕ) (row : List Value) (was : Bool) → RelationCanLose m limits (bare r) id row
-    → Taken (store_of m) (store_of w) r.file g id was → TableStands w r.schema g
+    → TupleTaken (store_of m) (store_of w) r.file g id was → TableStands w r.schema g
 table_taken m w limits r g id row was h t =
     let e : rows_at w r.schema g ≡ without_id id (rows_in m r) = rows_taken m w r g id was t in
     let P : Rows → Type 0 = λ rows. All (λ (x : ℕ × List Value). IsRowFor r.schema x.1) rows in
@@ -65,7 +65,7 @@ table_taken m w limits r g id row was h t =
 abbrev pub held_by : PageMap → Limits → RelationView → Holding
 held_by m limits r = record { limits = limits; schema = r.schema; rows = rows_in m r }
 
-has_row : (m : PageMap) (limits : Limits) (r : RelationView) (id : ℕ) (row : List Value) → RelationCanLose m limits (bare r) id row → HasRow (held_by m limits r) id row
+has_row : (m : PageMap) (limits : Limits) (r : RelationView) (id : ℕ) (row : List Value) → RelationCanLose m limits (bare r) id row → HoldsRow (held_by m limits r) id row
 has_row m limits r id row h = record {
   rows = h.stands.table.rows;
   rise = rises_at m r.schema r.file h.stands.table.file;
@@ -76,14 +76,14 @@ has_row m limits r id row h = record {
 
 -- the access paths stay while the tuple is taken
 paths_same : (m w : PageMap) (limits : Limits) (r : RelationView) (g : TupleFile) (id : ℕ) (row : List Value) (was : Bool) → RelationCanLose m limits (bare r) id row
-    → Taken (store_of m) (store_of w) r.file g id was → SameOn m w (paths_pages m r.paths)
+    → TupleTaken (store_of m) (store_of w) r.file g id was → SameOn m w (paths_pages m r.paths)
 paths_same m w limits r g id row was h t =
     untouched (store_of m) (store_of w) (file_pages (store_of m) r.file) (file_pages (store_of w) g) (paths_pages m r.paths) t.keeps
     (λ q. (let o : times q (table_pages m r) ≤ live (store_of m) q = h.owns q in omega (arith, o, times-append q (file_pages (store_of m) r.file) (paths_pages m r.paths))))
 
 -- and share no page with the file
 apart_taken : (m w : PageMap) (limits : Limits) (r : RelationView) (g : TupleFile) (id : ℕ) (row : List Value) (was : Bool) → RelationCanLose m limits (bare r) id row
-    → Taken (store_of m) (store_of w) r.file g id was → (q : ℕ) → times q (paths_pages w r.paths) + times q (file_pages (store_of w) g) ≤ live (store_of w) q
+    → TupleTaken (store_of m) (store_of w) r.file g id was → (q : ℕ) → times q (paths_pages w r.paths) + times q (file_pages (store_of w) g) ≤ live (store_of w) q
 apart_taken m w limits r g id row was h t q =
     let same : SameOn m w (paths_pages m r.paths) = paths_same m w limits r g id row was h t in
     let o : times q (table_pages m r) ≤ live (store_of m) q = h.owns q in
@@ -91,7 +91,7 @@ apart_taken m w limits r g id row was h t q =
 
 -- after it they can lose the row
 can_lose : (m w : PageMap) (limits : Limits) (r : RelationView) (g : TupleFile) (id : ℕ) (row : List Value) (was : Bool) → RelationCanLose m limits (bare r) id row
-    → Taken (store_of m) (store_of w) r.file g id was → AllCanLose w (held_by m limits r) id row r.paths
+    → TupleTaken (store_of m) (store_of w) r.file g id was → AllCanLose w (held_by m limits r) id row r.paths
 can_lose m w limits r g id row was h t = record {
   has = has_row m limits r id row h;
   stands = paths_stand m w limits r.schema (rows_in m r) r.paths (paths_same m w limits r g id row was h t) h.stands.paths;
@@ -100,7 +100,7 @@ can_lose m w limits r g id row was h t = record {
 
 -- A relation lost a row.
 row_lost : (m w v : PageMap) (limits : Limits) (r : RelationView) (g : TupleFile) (id : ℕ) (row : List Value) (was : Bool) (after : List (ℕ × AccessPath)) → RelationCanLose m limits (bare r) id row
-    → Taken (store_of m) (store_of w) r.file g id was → AllChanged w v (losing (held_by m limits r) id) r.paths after
+    → TupleTaken (store_of m) (store_of w) r.file g id was → AllChanged w v (losing (held_by m limits r) id) r.paths after
     → (spans : List ℕ) → Forgot r.spans id spans → Became m v limits (bare r) (shrunk_view (bare r) spans g after []) (λ gap. without_row id)
 row_lost m w v limits r g id row was after h t a spans forgot =
     let file : SameOn w v (file_pages (store_of w) g) =
@@ -140,7 +140,7 @@ bare_can m limits r id row h = record { stands = bare_stands m limits r h.stands
 
 -- the rows without it, once the access paths have lost it
 rows_lost : (m w v : PageMap) (limits : Limits) (r : RelationView) (g : TupleFile) (id : ℕ) (row : List Value) (was : Bool) (after : List (ℕ × AccessPath)) → RelationCanLose m limits (bare r) id row
-    → Taken (store_of m) (store_of w) r.file g id was → AllChanged w v (losing (held_by m limits r) id) r.paths after → rows_at v r.schema g ≡ without_id id (rows_in m r)
+    → TupleTaken (store_of m) (store_of w) r.file g id was → AllChanged w v (losing (held_by m limits r) id) r.paths after → rows_at v r.schema g ≡ without_id id (rows_in m r)
 rows_lost m w v limits r g id row was after h t a =
     let file : SameOn w v (file_pages (store_of w) g) =
     untouched (store_of w) (store_of v) (paths_pages w r.paths) (paths_pages v after) (file_pages (store_of w) g) a.keeps (apart_taken m w limits r g id row was h t) in
@@ -148,7 +148,7 @@ rows_lost m w v limits r g id row was after h t a =
 
 -- What the loop over the R-trees asks then.
 lost_asks : (m w v : PageMap) (limits : Limits) (r : RelationView) (g : TupleFile) (id : ℕ) (row : List Value) (was : Bool) (after : List (ℕ × AccessPath)) → RelationCanLose m limits r id row
-    → Taken (store_of m) (store_of w) r.file g id was → AllChanged w v (losing (held_by m limits r) id) r.paths after
+    → TupleTaken (store_of m) (store_of w) r.file g id was → AllChanged w v (losing (held_by m limits r) id) r.paths after
     → TreesCanChange v (rows_in m r) r.trees × CanChange Leaves id row (rows_in m r)
 lost_asks m w v limits r g id row was after h t a = (
   trees_can m v limits r (shrunk_view r [] g after []) (λ gap. without_row id) h.stands h.owns
@@ -158,7 +158,7 @@ lost_asks m w v limits r g id row was after h t a = (
 
 -- A relation lost a row, its R-trees too.
 row_shrank : (m w v z : PageMap) (limits : Limits) (r : RelationView) (g : TupleFile) (id : ℕ) (row : List Value) (was : Bool) (after : List (ℕ × AccessPath)) (trees : List (ℕ × RTree))
-    → RelationCanLose m limits r id row → Taken (store_of m) (store_of w) r.file g id was → AllChanged w v (losing (held_by m limits r) id) r.paths after
+    → RelationCanLose m limits r id row → TupleTaken (store_of m) (store_of w) r.file g id was → AllChanged w v (losing (held_by m limits r) id) r.paths after
     → TreesChanged v z (rows_after Leaves id row (rows_in m r)) r.trees trees → SameColumns r.trees trees → Shrank m z limits r id g after trees
 row_shrank m w v z limits r g id row was after trees h t a changed columns = record {
   became = λ spans forgot.
@@ -173,7 +173,7 @@ row_shrank m w v z limits r g id row was after trees h t a changed columns = rec
 
 -- The same of a relation x that is r, as code sees its parts. What the loop over the access paths asks.
 pub loss_asks : (m w : PageMap) (limits : Limits) (x r : RelationView) (g : TupleFile) (id : ℕ) (row : List Value) (was : Bool) (paths : List (ℕ × AccessPath)) → x ≡ r → paths ≡ x.paths
-    → RelationCanLose m limits r id row → Taken (store_of m) (store_of w) x.file g id was → AllCanLose w (held_by m limits x) id row paths
+    → RelationCanLose m limits r id row → TupleTaken (store_of m) (store_of w) x.file g id was → AllCanLose w (held_by m limits x) id row paths
 loss_asks m w limits x r g id row was paths e ps h t =
     let A : List (ℕ × AccessPath) → Type 0 = λ xs. AllCanLose w (held_by m limits x) id row xs in
     let H : RelationView → Type 0 = λ y. RelationCanLose m limits y id row in
@@ -181,7 +181,7 @@ loss_asks m w limits x r g id row was paths e ps h t =
 
 -- What it gives.
 paths_lost : (m w v : PageMap) (limits : Limits) (x r : RelationView) (g : TupleFile) (id : ℕ) (row : List Value) (was : Bool) (paths after : List (ℕ × AccessPath)) → x ≡ r → paths ≡ x.paths
-    → RelationCanLose m limits r id row → Taken (store_of m) (store_of w) x.file g id was
+    → RelationCanLose m limits r id row → TupleTaken (store_of m) (store_of w) x.file g id was
     → ((held : Holding) → AllCanLose w held id row paths → AllChanged w v (losing held id) paths after) → AllChanged w v (losing (held_by m limits x) id) x.paths after
 paths_lost m w v limits x r g id row was paths after e ps h t lost =
     let A : List (ℕ × AccessPath) → Type 0 = λ xs. AllChanged w v (losing (held_by m limits x) id) xs after in
@@ -189,7 +189,7 @@ paths_lost m w v limits x r g id row was paths after e ps h t lost =
 
 -- What the loop over the R-trees asks, and what both give.
 pub loss_tree_asks : (m w v : PageMap) (limits : Limits) (x r : RelationView) (g : TupleFile) (id : ℕ) (row : List Value) (was : Bool) (paths after : List (ℕ × AccessPath)) (trees : List (ℕ × RTree))
-    → x ≡ r → paths ≡ x.paths → trees ≡ x.trees → RelationCanLose m limits r id row → Taken (store_of m) (store_of w) x.file g id was
+    → x ≡ r → paths ≡ x.paths → trees ≡ x.trees → RelationCanLose m limits r id row → TupleTaken (store_of m) (store_of w) x.file g id was
     → ((held : Holding) → AllCanLose w held id row paths → AllChanged w v (losing held id) paths after) → TreesCanChange v (rows_in m x) trees × CanChange Leaves id row (rows_in m x)
 loss_tree_asks m w v limits x r g id row was paths after trees e ps ts h t lost =
     let H : RelationView → Type 0 = λ y. RelationCanLose m limits y id row in
@@ -197,7 +197,7 @@ loss_tree_asks m w v limits x r g id row was paths after trees e ps ts h t lost 
     subst T (sym ts) (lost_asks m w v limits x g id row was after (subst H (sym e) h) t (paths_lost m w v limits x r g id row was paths after e ps h t lost))
 
 pub loss_got : (m w v z : PageMap) (limits : Limits) (x r : RelationView) (g : TupleFile) (id : ℕ) (row : List Value) (was : Bool) (paths after : List (ℕ × AccessPath)) (trees now : List (ℕ × RTree))
-    → x ≡ r → paths ≡ x.paths → trees ≡ x.trees → RelationCanLose m limits r id row → Taken (store_of m) (store_of w) x.file g id was
+    → x ≡ r → paths ≡ x.paths → trees ≡ x.trees → RelationCanLose m limits r id row → TupleTaken (store_of m) (store_of w) x.file g id was
     → ((held : Holding) → AllCanLose w held id row paths → AllChanged w v (losing held id) paths after)
     → ((rows : Rows) → TreesCanChange v rows trees → CanChange Leaves id row rows → TreesChanged v z (rows_after Leaves id row rows) trees now) → SameColumns trees now
     → Shrank m z limits r id g after now

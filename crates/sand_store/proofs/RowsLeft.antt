@@ -9,15 +9,15 @@ use Rattle.std.proofs.lemmas.List.Elements.{All-head, All-tail}
 use Rattle.code_btree.specs.Tree.{times}
 use Rattle.code_btree.proofs.Lists.{same_cases}
 use Rattle.attr_index.specs.Entries.{Entry, entry_number, without_entry}
-use Rattle.attr_index.specs.Key.{key_of}
+use Rattle.attr_index.specs.Key.{value_key}
 use Rattle.sand_base.specs.declared.shape.Shape.{Shape}
 use Rattle.sand_base.specs.declared.value.Value.{Value}
 use Rattle.sand_model.specs.Database.{element, shape_in, shapes_of, shape_at}
 use Rattle.sand_model.specs.Tree.{without}
-use Rattle.pmr_tree.specs.Lists.{Each, Above, Rises}
+use Rattle.pmr_tree.specs.Lists.{Each, Above, RiseStrictly}
 use Rattle.pmr_tree.proofs.Entries.{map_filter}
 use Rattle.tuple_file.specs.Rows.{of_id, without_id}
-use Rattle.sand_store.specs.Standing.{entries_of}
+use Rattle.sand_store.specs.Standing.{column_entries}
 use Rattle.sand_store.proofs.ColumnsOfShapes.{some_same}
 use Rattle.sand_store.proofs.IndexGrowth.{numbers}
 use Rattle.sand_store.proofs.RowLists.{Rows, Shapes, ids_of}
@@ -87,7 +87,7 @@ above_id : (n id : ℕ) (row : List Value) (rows : Rows) → n ≡ id → Above 
 above_id n id row [] e h = tt
 above_id n id row (r ∷ rows) e h = ((λ k. absurd (omega (arith, e, k, h.0))), above_id n id row rows e h.1)
 
-pub only_row : (id : ℕ) (row : List Value) (rows : Rows) → Rises (map (λ (r : ℕ × List Value). r.0) rows) → of_id id rows ≡ Some row → OnlyRow id row rows
+pub only_row : (id : ℕ) (row : List Value) (rows : Rows) → RiseStrictly (map (λ (r : ℕ × List Value). r.0) rows) → of_id id rows ≡ Some row → OnlyRow id row rows
 only_row id row [] h e = tt
 only_row id row (r ∷ rows) h e =
     let go : (b : Bool) → nat_eq r.0 id ≡ b → option_map (λ (x : ℕ × List Value). x.1) (cond b (Some r) (find (λ x. nat_eq x.0 id) rows)) ≡ Some row → OnlyRow id row (r ∷ rows) =
@@ -126,20 +126,20 @@ entry_stays e (d ∷ es) n other = elim (eqb_tells (entry_number d) (entry_numbe
 
 -- the rows left have no entry of the id
 pub row_gone : (column k id : ℕ) (rows : Rows) → id < 2 ^ 32 → All (λ r. (1 ≤ r.0) × (r.0 < 2 ^ 32)) rows
-    → times (entry_number (k, id)) (numbers (entries_of column (without_id id rows))) ≡ 0
+    → times (entry_number (k, id)) (numbers (column_entries column (without_id id rows))) ≡ 0
 row_gone column k id [] l h = refl
 row_gone column k id (r ∷ rows) l h =
-    let rest : times (entry_number (k, id)) (numbers (entries_of column (without_id id rows))) ≡ 0 =
+    let rest : times (entry_number (k, id)) (numbers (column_entries column (without_id id rows))) ≡ 0 =
     row_gone column k id rows l (All-tail (λ (x : ℕ × List Value). (1 ≤ x.0) × (x.0 < 2 ^ 32)) r rows h) in
     let here : (1 ≤ r.0) × (r.0 < 2 ^ 32) = All-head (λ (x : ℕ × List Value). (1 ≤ x.0) × (x.0 < 2 ^ 32)) r rows h in
     elim (eqb_tells r.0 id) [
       | inl y ↦ rw y.0 rest
       | inr y ↦
-          let go : (o : Option Value) → element r.1 column ≡ o → times (entry_number (k, id)) (numbers (entries_of column (r ∷ without_id id rows))) ≡ 0 =
+          let go : (o : Option Value) → element r.1 column ≡ o → times (entry_number (k, id)) (numbers (column_entries column (r ∷ without_id id rows))) ≡ 0 =
           elim [
             | None ↦ λ n. rw n rest
-            | Some x ↦ λ n. elim (same_cases (entry_number (k, id)) (entry_number (key_of x, r.0))) [
-              | inl z ↦ absurd (y.1 (let c : k * 2 ^ 32 + id ≡ key_of x * 2 ^ 32 + r.0 = z.1 in omega (arith, c, l, here.1)))
+            | Some x ↦ λ n. elim (same_cases (entry_number (k, id)) (entry_number (value_key x, r.0))) [
+              | inl z ↦ absurd (y.1 (let c : k * 2 ^ 32 + id ≡ value_key x * 2 ^ 32 + r.0 = z.1 in omega (arith, c, l, here.1)))
               | inr z ↦ rw n (omega (arith, z.0, rest))
             ]
           ] in
@@ -147,20 +147,20 @@ row_gone column k id (r ∷ rows) l h =
     ]
 
 -- and all other entries that all rows have
-pub row_stays : (column id : ℕ) (row : List Value) (v : Value) (rows : Rows) (n : ℕ) → OnlyRow id row rows → element row column ≡ Some v → n ≢ entry_number (key_of v, id)
-    → times n (numbers (entries_of column (without_id id rows))) ≡ times n (numbers (entries_of column rows))
+pub row_stays : (column id : ℕ) (row : List Value) (v : Value) (rows : Rows) (n : ℕ) → OnlyRow id row rows → element row column ≡ Some v → n ≢ entry_number (value_key v, id)
+    → times n (numbers (column_entries column (without_id id rows))) ≡ times n (numbers (column_entries column rows))
 row_stays column id row v [] n only e other = refl
 row_stays column id row v (r ∷ rows) n only e other =
-    let rest : times n (numbers (entries_of column (without_id id rows))) ≡ times n (numbers (entries_of column rows)) = row_stays column id row v rows n only.1 e other in
+    let rest : times n (numbers (column_entries column (without_id id rows))) ≡ times n (numbers (column_entries column rows)) = row_stays column id row v rows n only.1 e other in
     elim (eqb_tells r.0 id) [
       | inl y ↦
           let here : element r.1 column ≡ Some v = ap (λ (x : List Value). element x column) (only.0 y.1) ∙ e in
-          elim (same_cases n (entry_number (key_of v, r.0))) [
-            | inl z ↦ absurd (other (z.1 ∙ ap (λ (i : ℕ). entry_number (key_of v, i)) y.1))
+          elim (same_cases n (entry_number (value_key v, r.0))) [
+            | inl z ↦ absurd (other (z.1 ∙ ap (λ (i : ℕ). entry_number (value_key v, i)) y.1))
             | inr z ↦ rw (y.0, here) (omega (arith, z.0, rest))
           ]
       | inr y ↦
-          let go : (o : Option Value) → element r.1 column ≡ o → times n (numbers (entries_of column (r ∷ without_id id rows))) ≡ times n (numbers (entries_of column (r ∷ rows))) =
+          let go : (o : Option Value) → element r.1 column ≡ o → times n (numbers (column_entries column (r ∷ without_id id rows))) ≡ times n (numbers (column_entries column (r ∷ rows))) =
           elim [ None ↦ λ k. rw k rest | Some x ↦ λ k. rw k (omega (arith, rest)) ] in
           rw y.0 (go (element r.1 column) refl)
     ]

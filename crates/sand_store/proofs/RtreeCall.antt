@@ -12,8 +12,8 @@ use Rattle.page_pool.specs.Disk.{PageMap}
 use Rattle.page_pool.specs.Pool.{PoolState, IsTold, IsClosed}
 use Rattle.pmr_tree.specs.Quadtree.{store_of}
 use Rattle.r_tree.specs.declared.tree.RTree.{RTree}
-use Rattle.r_tree.specs.Tree.{tree_pages}
-use Rattle.rtree_rows.specs.Listing.{PlantsRows}
+use Rattle.r_tree.specs.Tree.{rtree_pages}
+use Rattle.r_tree.specs.Listing.{PlantsRows}
 use Rattle.sand_base.specs.declared.kind.Kind.{Kind}
 use Rattle.sand_base.specs.declared.limits.Limits.{Limits}
 use Rattle.sand_base.specs.declared.refusal.Refusal.{Refusal}
@@ -27,7 +27,7 @@ use Rattle.sand_model.specs.Measure.{Measure, IsMeasure}
 use Rattle.sand_model.specs.StatementChecks.{Setting, IsSetting, early, late, refused_where, is_there, treed_by}
 use Rattle.statements.specs.Statement.{Rtree}
 use Rattle.statements.specs.declared.column.Column.{Column}
-use Rattle.sand_store.specs.Calls.{alone, Refuses, IsRefusedBy, IsUnchanged, Treed, is_none, early_at, late_at}
+use Rattle.sand_store.specs.Calls.{alone, Refuses, IsStatementRefused, IsUnchanged, Treed, is_none, early_at, late_at}
 use Rattle.sand_store.specs.Catalog.{RelationView, StoreState, is_named, IsColumnAt, IsDescribed}
 use Rattle.sand_store.specs.Contents.{rows_in, indexes_in, rectangles_of, relation_in, database_in}
 use Rattle.sand_store.specs.Ownership.{trees_pages, relation_pages}
@@ -42,7 +42,7 @@ use Rattle.sand_store.proofs.ColumnTrees.{any_found}
 use Rattle.sand_store.proofs.ColumnsOfShapes.{some_same}
 use Rattle.sand_store.proofs.Found.{none_found, found_at}
 use Rattle.sand_store.proofs.Frames.{untouched, keeps_with}
-use Rattle.sand_store.proofs.IndexCall.{any_last, or_false}
+use Rattle.sand_store.proofs.IndexRefusals.{any_last, or_false}
 use Rattle.sand_store.proofs.Places.{named_in}
 use Rattle.sand_store.proofs.Refusals.{outside_refuses}
 use Rattle.sand_store.proofs.RelationTrees.{OwnsOf}
@@ -93,7 +93,7 @@ early_rtree setting m rs column = in_catalog (find (is_named column.relation) rs
 
 -- no relation has the name
 pub no_relation_to_tree : (pool : PoolState) (rs : List RelationView) (limits : Limits) (column : Column) → position (is_named column.relation) rs ≡ None
-    → IsRefusedBy is_none (store_from rs limits pool) (Rtree column) why.UnknownRelation
+    → IsStatementRefused is_none (store_from rs limits pool) (Rtree column) why.UnknownRelation
 no_relation_to_tree pool rs limits column e = λ setting is l.
     early_rtree setting pool.pages rs column ∙ ap (λ (o : Option RelationView). found_rtree_check column.column o) (none_found column.relation rs e)
 
@@ -127,9 +127,9 @@ failed r name w e = in_schema (column_named r.schema name) refl where
 
 -- a check of the column refuses
 pub tree_refused : (pool : PoolState) (rs : List RelationView) (limits : Limits) (column : Column) (at : ℕ) (r : RelationView) (w : Refusal)
-    → FirstAt column.relation rs at → r ≡ get_or rs at r → rtree_check r column.column ≡ Some w → IsRefusedBy is_none (store_from rs limits pool) (Rtree column) w
+    → FirstAt column.relation rs at → r ≡ get_or rs at r → rtree_check r column.column ≡ Some w → IsStatementRefused is_none (store_from rs limits pool) (Rtree column) w
 tree_refused pool rs limits column at r w first here refused =
-    let P : Refusal → Type 0 = λ x. rtree_check r column.column ≡ Some x → IsRefusedBy is_none (store_from rs limits pool) (Rtree column) x in
+    let P : Refusal → Type 0 = λ x. rtree_check r column.column ≡ Some x → IsStatementRefused is_none (store_from rs limits pool) (Rtree column) x in
     elim (failed r column.column w refused) [
       | inl i ↦ subst P (sym i) (λ h setting is l. early_there setting pool.pages rs column at r first here ∙ h) refused
       | inr (inl i) ↦ subst P (sym i) (λ h setting is l. early_there setting pool.pages rs column at r first here ∙ h) refused
@@ -138,7 +138,7 @@ tree_refused pool rs limits column at r w first here refused =
 
 -- the command is refused
 pub tree_stopped : (pool : PoolState) (rs : List RelationView) (limits : Limits) (column : Column) (at : ℕ) (r : RelationView) (place : ℕ) (w : Refusal)
-    → FirstAt column.relation rs at → r ≡ get_or rs at r → IsTreeWanted r column.column place → IsOutside w → IsRefusedBy is_none (store_from rs limits pool) (Rtree column) w
+    → FirstAt column.relation rs at → r ≡ get_or rs at r → IsTreeWanted r column.column place → IsOutside w → IsStatementRefused is_none (store_from rs limits pool) (Rtree column) w
 tree_stopped pool rs limits column at r place w first here wanted outside = λ setting is l.
     let store : StoreState = store_from rs limits pool in
     outside_refuses (IsTold pool) is_none (early_at setting store (Rtree column)) (late_at setting store (Rtree column)) w outside
@@ -188,7 +188,7 @@ treed_described limits r name at a d w =
 tree_became : (m w : PageMap) (limits : Limits) (r : RelationView) (at number : ℕ) (a : RTree) → RelationStands m limits r → OwnsOf m r
     → PlantsRows m w a number (shapes_of at (rows_in m r)) → Became m w limits r (treed_view r at a) (λ gap. with_rectangles at)
 tree_became m w limits r at number a h owns b =
-    let new : List ℕ = tree_pages (store_of w) a in
+    let new : List ℕ = rtree_pages (store_of w) a in
     let same : SameOn m w (relation_pages m r) = untouched (store_of m) (store_of w) [] new (relation_pages m r) b.keeps
     (λ q. (let o : times q (relation_pages m r) ≤ live (store_of m) q = owns q in omega (arith, o))) in
     let was = relation_stands m w limits r same h in

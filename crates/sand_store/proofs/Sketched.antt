@@ -10,7 +10,7 @@ use Rattle.sand_store.specs.declared.path.AccessPath.{AccessPath}
 use Rattle.sand_store.specs.Building.{HasPath}
 use Rattle.sand_store.specs.Catalog.{RelationView, new_view}
 use Rattle.sand_store.specs.Leaving.{shrunk_view}
-use Rattle.sand_store.specs.Loads.{Counts}
+use Rattle.sand_store.specs.Loads.{CountsRows}
 use Rattle.sand_store.specs.Sketches.{Sketch, sketch_of, new_sketch, with_ids, with_indexed, sketched_at}
 use Rattle.sand_store.specs.Steps.{FirstAt, SamePlaces, SameColumns, grown_view}
 
@@ -61,7 +61,7 @@ indexed_sketch r u name at place h =
     (map-append (λ (p : ℕ × AccessPath). p.0) r.paths ((at, h.path) ∷ []))))
 
 -- so many rows more
-pub counted_sketch : (limits : Limits) (r u : RelationView) (count : ℕ) → Counts limits r u count → sketch_of u ≡ with_ids count (sketch_of r)
+pub counted_sketch : (limits : Limits) (r u : RelationView) (count : ℕ) → CountsRows limits r u count → sketch_of u ≡ with_ids count (sketch_of r)
 counted_sketch limits r u count c =
     ap₂ (λ (name : List ℕ) (schema : List (List ℕ × Kind)).
     record { name = name; schema = schema; next = u.next; indexed = map (λ path. path.0) u.paths; treed = map (λ tree. tree.0) u.trees }) c.name c.schema

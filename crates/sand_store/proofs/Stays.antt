@@ -26,8 +26,8 @@ use Rattle.sand_store.specs.declared.path.AccessPath.{AccessPath}
 use Rattle.sand_store.specs.declared.path.AccessPath.TheVariants.{Quadtree, Attribute}
 use Rattle.sand_store.specs.Catalog.{RelationView}
 use Rattle.r_tree.specs.declared.tree.RTree.{RTree}
-use Rattle.r_tree.specs.Tree.{tree_pages}
-use Rattle.rtree_rows.proofs.Unmoved.{tree_pages_stay, lists_stay}
+use Rattle.r_tree.specs.Tree.{rtree_pages}
+use Rattle.r_tree.proofs.Unmoved.{tree_pages_stay, lists_stay}
 use Rattle.sand_store.specs.Contents.{index_in, indexes_in, rows_in, rectangles_of, relation_in, database_in}
 use Rattle.sand_store.specs.Ownership.{path_pages, paths_pages, trees_pages, relation_pages, catalog_pages}
 use Rattle.sand_store.specs.Standing.{PathStands, TreeStands, RelationStands}
@@ -96,14 +96,14 @@ paths_stand m w limits schema rows (p ∷ ps) same h = All-cons (PathStands w li
 pub trees_pages_stay : (m w : PageMap) (ts : List (ℕ × RTree)) → SameOn m w (trees_pages m ts) → trees_pages w ts ≡ trees_pages m ts
 trees_pages_stay m w [] same = refl
 trees_pages_stay m w (t ∷ ts) same =
-    ap₂ (λ (a b : List ℕ). a ++ b) (tree_pages_stay m w t.1 (same_left m w (tree_pages (store_of m) t.1) (trees_pages m ts) same))
-    (trees_pages_stay m w ts (same_right m w (tree_pages (store_of m) t.1) (trees_pages m ts) same))
+    ap₂ (λ (a b : List ℕ). a ++ b) (tree_pages_stay m w t.1 (same_left m w (rtree_pages (store_of m) t.1) (trees_pages m ts) same))
+    (trees_pages_stay m w ts (same_right m w (rtree_pages (store_of m) t.1) (trees_pages m ts) same))
 
 pub trees_stand : (m w : PageMap) (rows : List (ℕ × List Value)) (ts : List (ℕ × RTree)) → SameOn m w (trees_pages m ts) → All (TreeStands m rows) ts → All (TreeStands w rows) ts
 trees_stand m w rows [] same h = All-nil (TreeStands w rows)
 trees_stand m w rows (t ∷ ts) same h = All-cons (TreeStands w rows) t ts
-    (lists_stay m w t.1 (shapes_of t.0 rows) (same_left m w (tree_pages (store_of m) t.1) (trees_pages m ts) same) (All-head (TreeStands m rows) t ts h))
-    (trees_stand m w rows ts (same_right m w (tree_pages (store_of m) t.1) (trees_pages m ts) same) (All-tail (TreeStands m rows) t ts h))
+    (lists_stay m w t.1 (shapes_of t.0 rows) (same_left m w (rtree_pages (store_of m) t.1) (trees_pages m ts) same) (All-head (TreeStands m rows) t ts h))
+    (trees_stand m w rows ts (same_right m w (rtree_pages (store_of m) t.1) (trees_pages m ts) same) (All-tail (TreeStands m rows) t ts h))
 
 -- the pages of a relation's file and access paths
 abbrev pub table_pages : PageMap → RelationView → List ℕ

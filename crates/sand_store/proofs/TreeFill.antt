@@ -7,10 +7,10 @@ use Rattle.std.proofs.lemmas.Bool.Decides.{eqb_tells}
 use Rattle.page_pool.specs.Disk.{PageMap}
 use Rattle.pmr_tree.specs.Calls.{Grows}
 use Rattle.pmr_tree.specs.Laws.{AreInPlane, GrownFits}
-use Rattle.pmr_tree.specs.Lists.{Each, Rises}
+use Rattle.pmr_tree.specs.Lists.{Each, RiseStrictly}
 use Rattle.pmr_tree.specs.Quadtree.{tree_at, FitsOthers, KeepsShape}
 use Rattle.pmr_tree.specs.declared.quadtree.Pmr.{Pmr}
-use Rattle.pmr_tree.proofs.Orders.{each_map, rises_add}
+use Rattle.pmr_tree.proofs.AscendingLists.{each_map, rises_add}
 use Rattle.pmr_tree.proofs.ShapeLaws.{meets_alike, grown_alike, fits_alike, shallow_grown}
 use Rattle.pmr_tree.proofs.TreeAt.{shaped_shallow}
 use Rattle.sand_base.specs.declared.kind.Kind.{Kind}
@@ -23,7 +23,7 @@ use Rattle.sand_model.specs.StatementChecks.{is_overfull}
 use Rattle.sand_model.specs.Tree.{Tree, root_block, Fits, IsShallow, add, listings}
 use Rattle.tuple_file.specs.declared.file.TupleFile.{TupleFile}
 use Rattle.sand_store.specs.declared.path.AccessPath.TheVariants.{Quadtree}
-use Rattle.sand_store.specs.Building.{entered, index_after, CanTake, PathTook}
+use Rattle.sand_store.specs.Building.{rows_entered, index_after, CanTake, PathTook}
 use Rattle.sand_store.specs.Contents.{rows_at, index_in}
 use Rattle.sand_store.specs.TableLaws.{shapes_plane}
 use Rattle.ring_geom.specs.MeasureLaws.{ChildrenMeet}
@@ -195,8 +195,8 @@ tree_took law m w limits schema file id column row t u s h e g few =
       };
       means = λ gap is more.
           let ids : List ℕ = ids_of (shapes_of column more) in
-          ap₂ (λ (n : ℕ) (x : Tree). tree_index n (entered gap all n ids x)) g.stays.threshold (tree gap is)
-          ∙ ap (λ (xs : Shapes). tree_index t.threshold (entered gap all t.threshold (ids_of xs) (tree_at m t))) (sym (shapes_first column more id row s e));
+          ap₂ (λ (n : ℕ) (x : Tree). tree_index n (rows_entered gap all n ids x)) g.stays.threshold (tree gap is)
+          ∙ ap (λ (xs : Shapes). tree_index t.threshold (rows_entered gap all t.threshold (ids_of xs) (tree_at m t))) (sym (shapes_first column more id row s e));
       keeps = g.stays.keeps;
     }
 
@@ -213,14 +213,14 @@ tree_too_full children law gap is m limits schema file id column row t s h e l =
     let plane : AreInPlane all = shapes_plane schema column (rows_at m schema file) h.table.rows in
     let next : Tree = tree_with gap all t.threshold id (tree_at m t) in
     let ids : List ℕ = ids_of (shapes_of column h.rest) in
-    let last : Tree = entered gap all t.threshold ids next in
+    let last : Tree = rows_entered gap all t.threshold ids next in
     let shallow : IsShallow root_block (tree_at m t) = shaped_shallow root_block (tree_at m t) h.stands.fits.tree.shaped in
-    let rise : Rises (ids_of old) = rises_shapes column h.before h.rise in
+    let rise : RiseStrictly (ids_of old) = rises_shapes column h.before h.rise in
     let rises : listings next ≤ listings last =
     entered_listings children law gap is all (add id (ids_of old)) ids t.threshold next plane (rises_add id (ids_of old) rise)
     (shallow_grown (meets_block gap all) t.threshold id root_block (tree_at m t) shallow)
     (law gap is all (ids_of old) t.threshold id (tree_at m t) plane rise shallow (fits_by gap old all (ids_of old) (tree_at m t) (before_among all old id s p) (h.stands.fits.fits gap is))) in
     let same : listings (tree_with gap ((id, s) ∷ all) t.threshold id (tree_at m t)) ≡ listings next =
     ap (λ (x : Tree). listings x) (tree_same gap m limits schema file id column row t s t.threshold (tree_at m t) h e) in
-    ap (λ (xs : Shapes). is_overfull limits (column, tree_index t.threshold (entered gap all t.threshold (ids_of xs) (tree_at m t)))) (shapes_first column h.rest id row s e)
+    ap (λ (xs : Shapes). is_overfull limits (column, tree_index t.threshold (rows_entered gap all t.threshold (ids_of xs) (tree_at m t)))) (shapes_first column h.rest id row s e)
     ∙ lt-ltb limits.listings (listings last) (omega (arith, l, same, rises))

@@ -8,7 +8,7 @@ use Rattle.pmr_tree.specs.Laws.{AreInPlane, GrownFits}
 use Rattle.pmr_tree.specs.Lists.{Each}
 use Rattle.pmr_tree.specs.Quadtree.{tree_at, FitsOthers, KeepsShape}
 use Rattle.pmr_tree.specs.declared.quadtree.Pmr.{Pmr}
-use Rattle.pmr_tree.proofs.Orders.{each_map}
+use Rattle.pmr_tree.proofs.AscendingLists.{each_map}
 use Rattle.pmr_tree.proofs.ShapeLaws.{meets_alike, grown_alike, fits_alike}
 use Rattle.pmr_tree.proofs.TreeAt.{shaped_shallow}
 use Rattle.sand_base.specs.declared.kind.Kind.{Kind}

@@ -12,8 +12,8 @@ use Rattle.code_btree.proofs.Lists.{times-append}
 use Rattle.pmr_tree.specs.Quadtree.{store_of}
 use Rattle.pmr_tree.proofs.OwnPages.{keeps_then, keeps_none}
 use Rattle.r_tree.specs.declared.tree.RTree.{RTree}
-use Rattle.r_tree.specs.Tree.{tree_pages}
-use Rattle.rtree_rows.proofs.Unmoved.{tree_pages_stay, lists_stay}
+use Rattle.r_tree.specs.Tree.{rtree_pages}
+use Rattle.r_tree.proofs.Unmoved.{tree_pages_stay, lists_stay}
 use Rattle.sand_base.specs.declared.value.Value.{Value}
 use Rattle.sand_model.specs.Database.{shapes_of}
 use Rattle.sand_store.specs.declared.trees.RowChange.{RowChange}
@@ -33,10 +33,10 @@ Trees = List (ℕ × RTree)
 
 -- the pages of R-trees in two parts, counted
 pub trees_append : (v : PageMap) (a b : Trees) (q : ℕ) → times q (trees_pages v (a ++ b)) ≡ times q (trees_pages v a) + times q (trees_pages v b)
-trees_append v a b q = omega (arith, ap (λ (ps : List ℕ). times q ps) (flat_map-append (λ (t : ℕ × RTree). tree_pages (store_of v) t.1) a b), times-append q (trees_pages v a) (trees_pages v b))
+trees_append v a b q = omega (arith, ap (λ (ps : List ℕ). times q ps) (flat_map-append (λ (t : ℕ × RTree). rtree_pages (store_of v) t.1) a b), times-append q (trees_pages v a) (trees_pages v b))
 
-pub trees_cons : (v : PageMap) (t : ℕ × RTree) (b : Trees) (q : ℕ) → times q (trees_pages v (t ∷ b)) ≡ times q (tree_pages (store_of v) t.1) + times q (trees_pages v b)
-trees_cons v t b q = times-append q (tree_pages (store_of v) t.1) (trees_pages v b)
+pub trees_cons : (v : PageMap) (t : ℕ × RTree) (b : Trees) (q : ℕ) → times q (trees_pages v (t ∷ b)) ≡ times q (rtree_pages (store_of v) t.1) + times q (trees_pages v b)
+trees_cons v t b q = times-append q (rtree_pages (store_of v) t.1) (trees_pages v b)
 
 -- What holds between two steps. Over pages m none had changed, over pages v those done have, and the rest hasn't.
 pub record Partly (m v : PageMap) (old new : Rows) (all done rest : Trees) : Type 0 where
@@ -58,8 +58,8 @@ partly_start m old new all h = record {
 partly_next : (m v w : PageMap) (old new : Rows) (all done rest : Trees) (t : ℕ × RTree) (u : RTree) → Partly m v old new all done (t ∷ rest)
     → TreeChanged v w new t.0 t.1 u → Partly m w old new all (done ++ (t.0, u) ∷ []) rest
 partly_next m v w old new all done rest t u k g =
-    let here : List ℕ = tree_pages (store_of v) t.1 in
-    let there : List ℕ = tree_pages (store_of w) u in
+    let here : List ℕ = rtree_pages (store_of v) t.1 in
+    let there : List ℕ = rtree_pages (store_of w) u in
     let others : List ℕ = trees_pages v done ++ trees_pages v rest in
     let was_pages : (q : ℕ) → times q (trees_pages v (done ++ t ∷ rest)) ≡ times q here + times q others =
     λ q. omega (arith, trees_append v done (t ∷ rest) q, trees_cons v t rest q, times-append q (trees_pages v done) (trees_pages v rest)) in

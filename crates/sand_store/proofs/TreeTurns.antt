@@ -5,7 +5,7 @@ use Rattle.page_pool.specs.Disk.{PageMap}
 use Rattle.code_btree.specs.Tree.{times}
 use Rattle.code_btree.proofs.Lists.{same_cases}
 use Rattle.r_tree.specs.declared.tree.RTree.{RTree}
-use Rattle.rtree_rows.specs.Listing.{ListsRows, HasNoRowOf, Relists}
+use Rattle.r_tree.specs.Listing.{ListsRows, HasNoRowOf, Relists}
 use Rattle.sand_base.specs.declared.shape.Shape.{Shape}
 use Rattle.sand_base.specs.declared.value.Value.{Value}
 use Rattle.sand_model.specs.Database.{shape_in, shapes_of, shape_at}

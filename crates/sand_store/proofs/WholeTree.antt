@@ -64,7 +64,8 @@ whole_members first now x r column list is view e read h after =
     let L : List Member → Type 0 = λ xs. AreMembersOf xs (shapes_of column (rows_in now.pages x)) in
     subst L (sym e) (subst P (sym read.pages) (h (sym read.told ∙ after)))
 
-pub whole_rows : (first now : PoolState) (limits : Limits) (x r : RelationView) (column : ℕ) → x ≡ r → x.next ≤ 2 ^ 32 → IsRead first now → (IsTold first → RelationStands first.pages limits r) → IsTold now
+pub whole_rows : (first now : PoolState) (limits : Limits) (x r : RelationView) (column : ℕ) → x ≡ r → x.next ≤ 2 ^ 32 → IsRead first now
+    → (IsTold first → RelationStands first.pages limits r) → IsTold now
     → AreRowsById (shapes_of column (rows_in now.pages x))
 whole_rows first now limits x r column e l read h after =
     let P : PageMap → Type 0 = λ p. AreRowsById (shapes_of column (rows_in p x)) in

@@ -15,7 +15,7 @@ use Rattle.sand_model.specs.Database.{Index, Quadtree as tree_index, Attribute a
 use Rattle.sand_model.specs.Measure.{Measure, IsMeasure}
 use Rattle.sand_model.specs.StatementChecks.{refused_where, is_there, threshold_of}
 use Rattle.sand_model.specs.Tree.{Tree, empty_tree}
-use Rattle.pmr_tree.specs.Lists.{Rises}
+use Rattle.pmr_tree.specs.Lists.{RiseStrictly}
 use Rattle.pmr_tree.specs.Quadtree.{store_of}
 use Rattle.tuple_file.specs.declared.file.TupleFile.{TupleFile}
 use Rattle.tuple_file.specs.File.{file_pages}
@@ -80,20 +80,20 @@ empty_index (Some threshold) = tree_index threshold empty_tree
 empty_index None = attribute_index
 
 -- A new index of no rows, on pages that weren't live.
-pub record Plants (m w : PageMap) (threshold : Option ℕ) (a : AccessPath) : Type 0 where
+pub record PlantsPath (m w : PageMap) (threshold : Option ℕ) (a : AccessPath) : Type 0 where
   pub stands : (limits : Limits) (schema : List (List ℕ × Kind)) (column : ℕ) → 1 ≤ limits.listings → PathStands w limits schema [] (column, a)
   pub means : index_in w a ≡ empty_index threshold
   pub keeps : Keeps (store_of m) (store_of w) [] (path_pages w a)
 
 -- a tree when rows of these ids were entered, in order
-abbrev pub entered : Measure → List (ℕ × Shape) → ℕ → List ℕ → Tree → Tree
-entered gap shapes threshold [] tree = tree
-entered gap shapes threshold (id ∷ ids) tree = entered gap shapes threshold ids (tree_with gap shapes threshold id tree)
+abbrev pub rows_entered : Measure → List (ℕ × Shape) → ℕ → List ℕ → Tree → Tree
+rows_entered gap shapes threshold [] tree = tree
+rows_entered gap shapes threshold (id ∷ ids) tree = rows_entered gap shapes threshold ids (tree_with gap shapes threshold id tree)
 
 -- an index of a column when some of these rows were entered, in order
 abbrev pub index_after : Measure → List (ℕ × List Value) → ℕ → List (ℕ × List Value) → Index → Index
 index_after gap rows column more (tree_index threshold tree) =
-    tree_index threshold (entered gap (shapes_of column rows) threshold (map (λ s. s.0) (shapes_of column more)) tree)
+    tree_index threshold (rows_entered gap (shapes_of column rows) threshold (map (λ s. s.0) (shapes_of column more)) tree)
 index_after gap rows column more attribute_index = attribute_index
 
 -- An access path can take the row of an id of a file: it holds what the rows before it have in its column, and shares no page with the file.
@@ -102,7 +102,7 @@ pub record CanTake (m : PageMap) (limits : Limits) (schema : List (List ℕ × K
   pub rest : List (ℕ × List Value)
   pub table : TableStands m schema file
   pub rows : rows_at m schema file ≡ before ++ (id, row) ∷ rest
-  pub rise : Rises (map (λ r. r.0) before)
+  pub rise : RiseStrictly (map (λ r. r.0) before)
   pub below : All (λ r. (1 ≤ r.0) × (r.0 < id)) before
   pub stands : PathStands m limits schema before path
   pub apart : (q : ℕ) → times q (path_pages m path.1) + times q (file_pages (store_of m) file) ≤ live (store_of m) q

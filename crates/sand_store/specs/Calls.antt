@@ -29,24 +29,24 @@ refusal_of page.Device = why.Device
 refusal_of (page.Damaged n kept read) = why.Damaged n kept read
 
 -- the count of the disk's faults after this refusal: one more at Device
-abbrev pub faults_at : ℕ → Refusal → ℕ
-faults_at before why.Device = next_count before
-faults_at before _ = before
+abbrev pub store_faults_at : ℕ → Refusal → ℕ
+store_faults_at before why.Device = next_count before
+store_faults_at before _ = before
 
 -- the count of the disk's faults after a call: the same at Ok
-abbrev pub faults_after : {T : Type 0} → ℕ → Result T Refusal → ℕ
-faults_after before (Ok _) = before
-faults_after before (Err refusal) = faults_at before refusal
+abbrev pub store_faults_after : {T : Type 0} → ℕ → Result T Refusal → ℕ
+store_faults_after before (Ok _) = before
+store_faults_after before (Err refusal) = store_faults_at before refusal
 
 -- the refusal is no damage, or a page of these is damaged
-abbrev pub IsDamageIfDamaged : PoolState → Refusal → Type 0
-IsDamageIfDamaged s (why.Damaged n kept read) = IsDamage s n kept read
-IsDamageIfDamaged s _ = ⊤
+abbrev pub IsStoreDamage : PoolState → Refusal → Type 0
+IsStoreDamage s (why.Damaged n kept read) = IsDamage s n kept read
+IsStoreDamage s _ = ⊤
 
 -- A call has its cause: the disk's count rose by one at Device and stays at any other answer, and a page is damaged where the answer says so.
-pub record HasCause {T : Type 0} (old new : PoolState) (result : Result T Refusal) : Type 0 where
-  pub counted : new.disk.faults ≡ faults_after old.disk.faults result
-  pub damaged : IfErr result (IsDamageIfDamaged new)
+pub record HasStoreCause {T : Type 0} (old new : PoolState) (result : Result T Refusal) : Type 0 where
+  pub counted : new.disk.faults ≡ store_faults_after old.disk.faults result
+  pub damaged : IfErr result (IsStoreDamage new)
 
 -- What every call keeps: the limits, whether the disk tells its pages, and the maps of the held stamps, whose dirty pages may be written.
 pub record Carries (old new : StoreState) : Type 0 where
@@ -89,8 +89,8 @@ abbrev pub Within : StoreState → (Setting → Type 0) → Type 0
 Within store P = (setting : Setting) → IsSetting setting → setting.limits ≡ store.catalog.limits → P setting
 
 -- a statement is refused so
-abbrev pub IsRefusedBy : (Refusal → Bool) → StoreState → Statement → Refusal → Type 0
-IsRefusedBy is_late store statement refusal =
+abbrev pub IsStatementRefused : (Refusal → Bool) → StoreState → Statement → Refusal → Type 0
+IsStatementRefused is_late store statement refusal =
     Within store (λ setting. Refuses (IsTold store.pool) is_late (early_at setting store statement) (late_at setting store statement) refusal)
 
 -- all checks of a statement pass
@@ -101,9 +101,9 @@ Passes store statement =
 -- the refusals that only the change can find
 
 -- only the change can find that a quadtree would be too large
-abbrev pub is_full : Refusal → Bool
-is_full why.IndexFull = true
-is_full _ = false
+abbrev pub is_index_full : Refusal → Bool
+is_index_full why.IndexFull = true
+is_index_full _ = false
 
 -- only the change can find that there is no row of the id
 abbrev pub is_missing : Refusal → Bool
@@ -123,8 +123,8 @@ abbrev pub is_none : Refusal → Bool
 is_none _ = false
 
 -- the database changed so, where the disk tells its pages
-abbrev pub Becomes : StoreState → StoreState → (Measure → Database → Database) → Type 0
-Becomes old new change = IsTold old.pool → (gap : Measure) → IsMeasure gap → database new ≡ change gap (database old)
+abbrev pub DatabaseBecomes : StoreState → StoreState → (Measure → Database → Database) → Type 0
+DatabaseBecomes old new change = IsTold old.pool → (gap : Measure) → IsMeasure gap → database new ≡ change gap (database old)
 
 -- What a call does at Ok: its checks pass; over any disk the sketches change so, and where the disk tells its pages the database does.
 
@@ -132,32 +132,32 @@ Becomes old new change = IsTold old.pool → (gap : Measure) → IsMeasure gap �
 pub record Created (old new : StoreState) (name : List ℕ) (schema : List (List ℕ × Kind)) : Type 0 where
   pub passes : Passes old (Create name schema)
   pub sketched : sketches new ≡ sketches old ++ new_sketch name schema ∷ []
-  pub becomes : Becomes old new (λ gap d. with_relation (new_relation name schema) d)
+  pub becomes : DatabaseBecomes old new (λ gap d. with_relation (new_relation name schema) d)
 
 -- the relation has the row, under the id that was its next one
-pub record Inserted (old new : StoreState) (name : List ℕ) (row : List Value) (id : ℕ) : Type 0 where
+pub record RowInserted (old new : StoreState) (name : List ℕ) (row : List Value) (id : ℕ) : Type 0 where
   pub passes : Passes old (Insert name row)
   pub next : (relation : Relation) × ((relation_named (database old) name ≡ Some relation) × (id ≡ relation.next))
   pub sketched : sketches new ≡ sketched_at name (with_ids 1) (sketches old)
-  pub becomes : Becomes old new (λ gap d. changed_at name (with_row gap row) d)
+  pub becomes : DatabaseBecomes old new (λ gap d. changed_at name (with_row gap row) d)
 
 -- the relation lacks the row of the id
 pub record Deleted (old new : StoreState) (name : List ℕ) (id : ℕ) : Type 0 where
   pub passes : Passes old (Delete name id)
   pub sketched : sketches new ≡ sketches old
-  pub becomes : Becomes old new (λ gap d. changed_at name (without_row id) d)
+  pub becomes : DatabaseBecomes old new (λ gap d. changed_at name (without_row id) d)
 
 -- the relation has an index of the column, with the rows that were there
 pub record Indexed (old new : StoreState) (column : Column) (threshold : Option ℕ) : Type 0 where
   pub passes : Passes old (Index column threshold)
   pub sketched : sketches new ≡ sketched_at column.relation (with_indexed column.column) (sketches old)
-  pub becomes : Becomes old new (λ gap d. changed_at column.relation (indexed_by gap column threshold) d)
+  pub becomes : DatabaseBecomes old new (λ gap d. changed_at column.relation (indexed_by gap column threshold) d)
 
 -- the relation has an R-tree of the column, with the rows that were there
 pub record Treed (old new : StoreState) (column : Column) : Type 0 where
   pub passes : Passes old (Rtree column)
   pub sketched : sketches new ≡ sketched_at column.relation (with_treed column.column) (sketches old)
-  pub becomes : Becomes old new (λ gap d. changed_at column.relation (treed_by column) d)
+  pub becomes : DatabaseBecomes old new (λ gap d. changed_at column.relation (treed_by column) d)
 
 -- the values of a row are of the kinds of the columns
 abbrev pub check_kinds : Relation → List Value → Option Refusal

@@ -7,7 +7,7 @@ use Rattle.pmr_tree.specs.Quadtree.{store_of, tree_at}
 use Rattle.sand_base.specs.declared.kind.Kind.{Kind}
 use Rattle.r_tree.specs.declared.tree.RTree.{RTree}
 use Rattle.tuple_file.specs.declared.file.TupleFile.{TupleFile}
-use Rattle.tuple_file.specs.File.{file_rows}
+use Rattle.tuple_file.specs.File.{tuples_of}
 use Rattle.sand_store.specs.declared.path.AccessPath.{AccessPath}
 use Rattle.sand_store.specs.declared.path.AccessPath.TheVariants as path
 use Rattle.sand_store.specs.Catalog.{RelationView, StoreState}
@@ -24,7 +24,7 @@ indexes_in pages paths = map (λ p. (p.0, index_in pages p.1)) paths
 
 -- the rows of a file by id: those of which its tuples are the encodings
 abbrev pub rows_at : PageMap → List (List ℕ × Kind) → TupleFile → List (ℕ × List Value)
-rows_at pages schema file = map (λ tuple. (tuple.0, row_in schema tuple.1)) (file_rows (store_of pages) file)
+rows_at pages schema file = map (λ tuple. (tuple.0, row_in schema tuple.1)) (tuples_of (store_of pages) file)
 
 -- the rows of a relation
 abbrev pub rows_in : PageMap → RelationView → List (ℕ × List Value)

@@ -3,7 +3,7 @@ use Rattle.std.specs.Prelude.{◌≡◌, ℕ, ◌^◌, ◌≤◌, ◌<◌, List,
 use Rattle.code_btree.specs.Tree.{times, live}
 use Rattle.code_btree.specs.Calls.{Keeps}
 use Rattle.page_pool.specs.Disk.{PageMap}
-use Rattle.pmr_tree.specs.Lists.{Rises}
+use Rattle.pmr_tree.specs.Lists.{RiseStrictly}
 use Rattle.pmr_tree.specs.Quadtree.{store_of}
 use Rattle.sand_base.specs.declared.kind.Kind.{Kind}
 use Rattle.sand_base.specs.declared.limits.Limits.{Limits}
@@ -31,24 +31,24 @@ pub record Holding : Type 0 where
   pub rows : List (ℕ × List Value)
 
 -- the same without the row of an id
-abbrev pub without : ℕ → Holding → Holding
-without id held = record { limits = held.limits; schema = held.schema; rows = without_id id held.rows }
+abbrev pub holding_without : ℕ → Holding → Holding
+holding_without id held = record { limits = held.limits; schema = held.schema; rows = without_id id held.rows }
 
 -- an access path of a column holds them
-abbrev pub Holds : PageMap → Holding → ℕ × AccessPath → Type 0
-Holds m held path = PathStands m held.limits held.schema held.rows path
+abbrev pub PathHolds : PageMap → Holding → ℕ × AccessPath → Type 0
+PathHolds m held path = PathStands m held.limits held.schema held.rows path
 
 -- The rows are of the schema, under ascending ids of 32 bits, and the id has this row.
-pub record HasRow (held : Holding) (id : ℕ) (row : List Value) : Type 0 where
+pub record HoldsRow (held : Holding) (id : ℕ) (row : List Value) : Type 0 where
   pub rows : AreRowsFor held.schema held.rows
-  pub rise : Rises (map (λ r. r.0) held.rows)
+  pub rise : RiseStrictly (map (λ r. r.0) held.rows)
   pub small : All (λ r. (1 ≤ r.0) × (r.0 < 2 ^ 32)) held.rows
   pub there : of_id id held.rows ≡ Some row
 
 -- an access path can lose the row of an id: it holds what the rows have in its column
 pub record CanLose (m : PageMap) (held : Holding) (id : ℕ) (row : List Value) (path : ℕ × AccessPath) : Type 0 where
-  pub has : HasRow held id row
-  pub stands : Holds m held path
+  pub has : HoldsRow held id row
+  pub stands : PathHolds m held path
 
 -- How access paths change: what they held, what they hold then, and what becomes of their indexes.
 pub record PathChange : Type 0 where
@@ -58,23 +58,23 @@ pub record PathChange : Type 0 where
 
 -- they lose the row of an id
 abbrev pub losing : Holding → ℕ → PathChange
-losing held id = record { before = held; after = without id held; index = λ gap. index_without id }
+losing held id = record { before = held; after = holding_without id held; index = λ gap. index_without id }
 
 -- The access path of a column has changed so, and no other page was touched.
 pub record PathChanged (m w : PageMap) (change : PathChange) (column : ℕ) (a b : AccessPath) : Type 0 where
-  pub stands : Holds w change.after (column, b)
+  pub stands : PathHolds w change.after (column, b)
   pub means : (gap : Measure) → IsMeasure gap → (column, index_in w b) ≡ change.index gap (column, index_in m a)
   pub keeps : Keeps (store_of m) (store_of w) (path_pages m a) (path_pages w b)
 
 -- All access paths of a relation can lose the row of an id: they hold what the rows have, and no page is one of two.
 pub record AllCanLose (m : PageMap) (held : Holding) (id : ℕ) (row : List Value) (paths : List (ℕ × AccessPath)) : Type 0 where
-  pub has : HasRow held id row
-  pub stands : All (Holds m held) paths
+  pub has : HoldsRow held id row
+  pub stands : All (PathHolds m held) paths
   pub apart : (q : ℕ) → times q (paths_pages m paths) ≤ live (store_of m) q
 
 -- All access paths have changed so, and no other page was touched.
 pub record AllChanged (m w : PageMap) (change : PathChange) (before after : List (ℕ × AccessPath)) : Type 0 where
-  pub stands : All (Holds w change.after) after
+  pub stands : All (PathHolds w change.after) after
   pub means : (gap : Measure) → IsMeasure gap → indexes_in w after ≡ map (change.index gap) (indexes_in m before)
   pub keeps : Keeps (store_of m) (store_of w) (paths_pages m before) (paths_pages w after)
 

@@ -48,7 +48,7 @@ abbrev pub StopsAt : Type 0 → Limits → (Setting → Option Refusal) → Refu
 StopsAt told limits check refusal = IsOutside refusal ⊎ ((is_of_a_row refusal ≡ true) × (told → UnderLimits limits (λ setting. check setting ≡ Some refusal)))
 
 -- Rows entered a relation of the catalog, so many: what holds over any pages.
-pub record Counts (limits : Limits) (r u : RelationView) (count : ℕ) : Type 0 where
+pub record CountsRows (limits : Limits) (r u : RelationView) (count : ℕ) : Type 0 where
   pub name : u.name ≡ r.name
   pub schema : u.schema ≡ r.schema
   pub next : u.next ≡ r.next + count

@@ -7,7 +7,7 @@ use Rattle.pmr_tree.specs.Quadtree.{store_of, pages_at}
 use Rattle.tuple_file.specs.File.{file_pages}
 use Rattle.attr_index.specs.Index.{index_pages}
 use Rattle.r_tree.specs.declared.tree.RTree.{RTree}
-use Rattle.r_tree.specs.Tree.{tree_pages}
+use Rattle.r_tree.specs.Tree.{rtree_pages}
 use Rattle.sand_store.specs.declared.path.AccessPath.{AccessPath}
 use Rattle.sand_store.specs.declared.path.AccessPath.TheVariants.{Quadtree, Attribute}
 use Rattle.sand_store.specs.Catalog.{RelationView}
@@ -23,7 +23,7 @@ paths_pages pages paths = flat_map (λ p. path_pages pages p.1) paths
 
 -- the pages of all R-trees of a relation
 abbrev pub trees_pages : PageMap → List (ℕ × RTree) → List ℕ
-trees_pages pages trees = flat_map (λ t. tree_pages (store_of pages) t.1) trees
+trees_pages pages trees = flat_map (λ t. rtree_pages (store_of pages) t.1) trees
 
 -- the pages of a relation: those of its R-trees, of its file and of its access paths
 abbrev pub relation_pages : PageMap → RelationView → List ℕ
@@ -34,5 +34,5 @@ abbrev pub catalog_pages : PageMap → List RelationView → List ℕ
 catalog_pages pages relations = flat_map (relation_pages pages) relations
 
 -- each of these pages is live and stands there once, so none is one of two structures
-abbrev pub Owns : PageMap → List ℕ → Type 0
-Owns pages owned = (q : ℕ) → times q owned ≤ live (store_of pages) q
+abbrev pub OwnsPages : PageMap → List ℕ → Type 0
+OwnsPages pages owned = (q : ℕ) → times q owned ≤ live (store_of pages) q

@@ -4,14 +4,14 @@ use Rattle.code_btree.specs.Tree.{times, live}
 use Rattle.code_btree.specs.Calls.{Keeps}
 use Rattle.page_pool.specs.Disk.{PageMap}
 use Rattle.page_pool.specs.Pool.{PoolState, IsTold}
-use Rattle.pmr_tree.specs.Lists.{Rises}
+use Rattle.pmr_tree.specs.Lists.{RiseStrictly}
 use Rattle.pmr_tree.specs.Quadtree.{store_of}
 use Rattle.pmr_tree.specs.declared.fault.PmrFault.{PmrFault}
 use Rattle.pmr_tree.specs.declared.fault.PmrFault.TheVariants as tree
 use Rattle.r_tree.specs.declared.tree.RTree.{RTree}
 use Rattle.tuple_file.specs.declared.file.TupleFile.{TupleFile}
 use Rattle.tuple_file.specs.File.{file_pages}
-use Rattle.tuple_file.specs.Calls.{Planted}
+use Rattle.tuple_file.specs.Calls.{FilePlanted}
 use Rattle.tuple_file.specs.declared.span.Span.{Span}
 use Rattle.tuple_file.specs.Spans.{Learnt}
 use Rattle.sand_base.specs.declared.kind.Kind.{Kind}
@@ -53,10 +53,10 @@ pub record Reverts (old new : PoolState) (before after : List RelationView) : Ty
   pub pages : IsTold old → new.pages ≡ old.pages
 
 -- a new relation stands last, over a file that was just planted
-pub record Adds (old new : PoolState) (before after : List RelationView) (name : List ℕ) (schema : List (List ℕ × Kind)) : Type 0 where
+pub record AddsRelation (old new : PoolState) (before after : List RelationView) (name : List ℕ) (schema : List (List ℕ × Kind)) : Type 0 where
   pub file : TupleFile
   pub added : after ≡ before ++ new_view name schema file ∷ []
-  pub planted : IsTold old → Planted (store_of old.pages) (store_of new.pages) file
+  pub planted : IsTold old → FilePlanted (store_of old.pages) (store_of new.pages) file
 
 -- A relation became another one: it stands, it is the old one changed so, and no page of another structure was touched.
 pub record Became (m w : PageMap) (limits : Limits) (r u : RelationView) (change : Measure → Relation → Relation) : Type 0 where
@@ -75,7 +75,7 @@ pub record CanGrow (m : PageMap) (limits : Limits) (schema : List (List ℕ × K
   pub before : List (ℕ × List Value)
   pub table : TableStands m schema file
   pub rows : rows_at m schema file ≡ before ++ (id, row) ∷ []
-  pub rise : Rises (map (λ r. r.0) before)
+  pub rise : RiseStrictly (map (λ r. r.0) before)
   pub below : All (λ r. (1 ≤ r.0) × (r.0 < id)) before
   pub stands : PathStands m limits schema before path
 
@@ -105,7 +105,7 @@ pub record AllCanGrow (m : PageMap) (limits : Limits) (schema : List (List ℕ �
   pub before : List (ℕ × List Value)
   pub table : TableStands m schema file
   pub rows : rows_at m schema file ≡ before ++ (id, row) ∷ []
-  pub rise : Rises (map (λ r. r.0) before)
+  pub rise : RiseStrictly (map (λ r. r.0) before)
   pub below : All (λ r. (1 ≤ r.0) × (r.0 < id)) before
   pub stands : All (PathStands m limits schema before) paths
   pub apart : (q : ℕ) → times q (paths_pages m paths) + times q (file_pages (store_of m) file) ≤ live (store_of m) q

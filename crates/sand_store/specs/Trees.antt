@@ -6,7 +6,7 @@ use Rattle.page_pool.specs.Disk.{PageMap}
 use Rattle.pmr_tree.specs.Quadtree.{store_of}
 use Rattle.sand_base.specs.declared.value.Value.{Value}
 use Rattle.r_tree.specs.declared.tree.RTree.{RTree}
-use Rattle.r_tree.specs.Tree.{tree_pages}
+use Rattle.r_tree.specs.Tree.{rtree_pages}
 use Rattle.tuple_file.specs.Rows.{of_id, without_id}
 use Rattle.sand_store.specs.declared.trees.RowChange.{RowChange}
 use Rattle.sand_store.specs.declared.trees.RowChange.TheVariants.{Enters, Leaves}
@@ -26,7 +26,7 @@ CanChange Leaves id row rows = of_id id rows ≡ Some row
 -- The R-tree of a column lists these rows now, and no page but its own was touched.
 pub record TreeChanged (m w : PageMap) (rows : List (ℕ × List Value)) (column : ℕ) (t u : RTree) : Type 0 where
   pub stands : TreeStands w rows (column, u)
-  pub keeps : Keeps (store_of m) (store_of w) (tree_pages (store_of m) t) (tree_pages (store_of w) u)
+  pub keeps : Keeps (store_of m) (store_of w) (rtree_pages (store_of m) t) (rtree_pages (store_of w) u)
 
 -- R-trees list the rows, and no page is one of two.
 pub record TreesCanChange (m : PageMap) (rows : List (ℕ × List Value)) (trees : List (ℕ × RTree)) : Type 0 where

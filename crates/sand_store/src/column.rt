@@ -43,7 +43,7 @@ impl Relation {
     ghost use Rattle.sand_base.specs.declared.refusal.Refusal.TheVariants as why;
     ghost use Rattle.page_pool.specs.Disk.{PageMap};
     ghost use Rattle.sand_base.specs.declared.limits.Limits.{Limits};
-    ghost use Rattle.rtree_rows.specs.Listing.{ListsRows};
+    ghost use Rattle.r_tree.specs.Listing.{ListsRows};
     ghost use Rattle.sand_model.specs.Database.{column_named, shapes_of};
     ghost use Rattle.sand_store.specs.Contents.{rows_in, relation_in};
     ghost use Rattle.sand_store.specs.Standing.{RelationStands};

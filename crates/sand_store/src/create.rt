@@ -7,9 +7,9 @@ ghost use Rattle.std.specs.List.{list_any};
 ghost use Rattle.sand_model.specs.Database.{same_name};
 ghost use Rattle.sand_model.specs.Kept.{has_twice};
 ghost use Rattle.statements.specs.Statement.{Create};
-ghost use Rattle.sand_store.specs.Calls.{Created, IsUnchanged, IsRefusedBy, HasCause, is_none};
+ghost use Rattle.sand_store.specs.Calls.{Created, IsUnchanged, IsStatementRefused, HasStoreCause, is_none};
 ghost use Rattle.sand_store.specs.Standing.{IsStore};
-ghost use Rattle.sand_store.specs.Steps.{store_from, create_check, Adds, Reverts, IsOutside};
+ghost use Rattle.sand_store.specs.Steps.{store_from, create_check, AddsRelation, Reverts, IsOutside};
 
 use crate::Relation;
 use crate::refusal::refusal_of;
@@ -68,10 +68,10 @@ fn add<D: Disk>(
     ensures closed { IsClosed pool.new }
     ensures told { pool.new.disk.told ≡ pool.old.disk.told }
     ensures stamps { SettlesStamps pool.old pool.new }
-    ensures added { OnOk result (Adds pool.old pool.new relations.old.items relations.new.items name schema) }
+    ensures added { OnOk result (AddsRelation pool.old pool.new relations.old.items relations.new.items name schema) }
     ensures reverted { OnErr result (Reverts pool.old pool.new relations.old.items relations.new.items) }
     ensures outside { IfErr result IsOutside }
-    ensures cause { HasCause pool.old pool.new result }
+    ensures cause { HasStoreCause pool.old pool.new result }
 {
     match pool.begin() {
         Ok(()) => {}
@@ -111,8 +111,8 @@ pub fn create<D: Disk>(
     ensures stamps { SettlesStamps pool.old pool.new }
     ensures created { OnOk result (Created (store_from relations.old.items limits pool.old) (store_from relations.new.items limits pool.new) name.now schema) }
     ensures unchanged { OnErr result (IsUnchanged (store_from relations.old.items limits pool.old) (store_from relations.new.items limits pool.new)) }
-    ensures refused { IfErr result (IsRefusedBy is_none (store_from relations.old.items limits pool.old) (Create name.now schema)) }
-    ensures cause { HasCause pool.old pool.new result }
+    ensures refused { IfErr result (IsStatementRefused is_none (store_from relations.old.items limits pool.old) (Create name.now schema)) }
+    ensures cause { HasStoreCause pool.old pool.new result }
 {
     match refused(relations, name, &schema) {
         Some(why) => return Err(why),

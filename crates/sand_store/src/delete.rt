@@ -8,7 +8,7 @@ ghost use Rattle.tuple_file.specs.Rows.{of_id};
 ghost use Rattle.sand_base.specs.declared.limits.Limits.{Limits as Bounds};
 ghost use Rattle.sand_base.specs.declared.refusal.Refusal.TheVariants as why;
 ghost use Rattle.statements.specs.Statement.{Delete};
-ghost use Rattle.sand_store.specs.Calls.{HasCause, Deleted, IsUnchanged, IsRefusedBy, is_missing};
+ghost use Rattle.sand_store.specs.Calls.{HasStoreCause, Deleted, IsUnchanged, IsStatementRefused, is_missing};
 ghost use Rattle.sand_store.specs.Catalog.{IsPathOf};
 ghost use Rattle.sand_store.specs.Contents.{rows_in};
 ghost use Rattle.sand_store.specs.Leaving.{RelationCanLose, Shrank, IsOutsideOrMissing};
@@ -37,7 +37,7 @@ fn found<D: Disk>(
     ensures missing { IfErr result (λ e. e ≡ why.NoSuchId → IsTold pool.old → of_id id (rows_in pool.old.pages relation.now) ≡ None) }
     ensures outside { IfErr result IsOutsideOrMissing }
     ensures read { IsRead pool.old pool.new }
-    ensures cause { HasCause pool.old pool.new result }
+    ensures cause { HasStoreCause pool.old pool.new result }
 {
     if id == 0 {
         return Err(Refusal::NoSuchId);
@@ -61,12 +61,13 @@ fn without_row<D: Disk>(
     requires opened { IsOpen pool.old }
     requires id { 1 ≤ id }
     requires can { IsTold pool.old → (bounds : Bounds) × RelationCanLose pool.old.pages bounds relation.now id row.now }
-    ensures shrank { IfOk result (λ roots. IsTold pool.old → (bounds : Bounds) → RelationCanLose pool.old.pages bounds relation.now id row.now → Shrank pool.old.pages pool.new.pages bounds relation.now id roots.file roots.paths.items roots.trees.items) }
+    ensures shrank { IfOk result (λ roots. IsTold pool.old → (bounds : Bounds) → RelationCanLose pool.old.pages bounds relation.now id row.now
+        → Shrank pool.old.pages pool.new.pages bounds relation.now id roots.file roots.paths.items roots.trees.items) }
     ensures places { IfOk result (λ roots. All (IsPathOf relation.now.schema) relation.now.paths → SamePlaces relation.now.schema relation.now.paths roots.paths.items) }
     ensures columns { IfOk result (λ roots. SameColumns relation.now.trees roots.trees.items) }
     ensures outside { IfErr result IsOutside }
     ensures within { InCommand pool.old pool.new }
-    ensures cause { HasCause pool.old pool.new result }
+    ensures cause { HasStoreCause pool.old pool.new result }
 {
     let mut file = relation.file;
     match file.take(pool, id) {
@@ -98,12 +99,13 @@ fn remove<D: Disk>(
     ensures closed { IsClosed pool.new }
     ensures told { pool.new.disk.told ≡ pool.old.disk.told }
     ensures stamps { SettlesStamps pool.old pool.new }
-    ensures shrank { IfOk result (λ roots. IsTold pool.old → (bounds : Bounds) → RelationCanLose pool.old.pages bounds relation.now id row.now → Shrank pool.old.pages pool.new.pages bounds relation.now id roots.file roots.paths.items roots.trees.items) }
+    ensures shrank { IfOk result (λ roots. IsTold pool.old → (bounds : Bounds) → RelationCanLose pool.old.pages bounds relation.now id row.now
+        → Shrank pool.old.pages pool.new.pages bounds relation.now id roots.file roots.paths.items roots.trees.items) }
     ensures places { IfOk result (λ roots. All (IsPathOf relation.now.schema) relation.now.paths → SamePlaces relation.now.schema relation.now.paths roots.paths.items) }
     ensures columns { IfOk result (λ roots. SameColumns relation.now.trees roots.trees.items) }
     ensures reverted { OnErr result (IsTold pool.old → pool.new.pages ≡ pool.old.pages) }
     ensures outside { IfErr result IsOutside }
-    ensures cause { HasCause pool.old pool.new result }
+    ensures cause { HasStoreCause pool.old pool.new result }
 {
     match pool.begin() {
         Ok(()) => {}
@@ -136,8 +138,8 @@ pub fn delete<D: Disk>(
     ensures stamps { SettlesStamps pool.old pool.new }
     ensures deleted { OnOk result (Deleted (store_from relations.old.items limits pool.old) (store_from relations.new.items limits pool.new) name.now id) }
     ensures unchanged { OnErr result (IsUnchanged (store_from relations.old.items limits pool.old) (store_from relations.new.items limits pool.new)) }
-    ensures refused { IfErr result (IsRefusedBy is_missing (store_from relations.old.items limits pool.old) (Delete name.now id)) }
-    ensures cause { HasCause pool.old pool.new result }
+    ensures refused { IfErr result (IsStatementRefused is_missing (store_from relations.old.items limits pool.old) (Delete name.now id)) }
+    ensures cause { HasStoreCause pool.old pool.new result }
 {
     let Some(at) = place_of(relations, name) else {
         return Err(Refusal::UnknownRelation);

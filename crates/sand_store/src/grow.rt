@@ -13,7 +13,7 @@ ghost use Rattle.sand_model.specs.Database.{index_with};
 ghost use Rattle.sand_model.specs.Measure.{Measure, IsMeasure};
 ghost use Rattle.sand_model.specs.StatementChecks.{is_overfull};
 ghost use Rattle.sand_store.specs.declared.path.AccessPath.TheVariants as path;
-ghost use Rattle.sand_store.specs.Calls.{HasCause};
+ghost use Rattle.sand_store.specs.Calls.{HasStoreCause};
 ghost use Rattle.sand_store.specs.Catalog.{IsColumnAt, IsPathOf};
 ghost use Rattle.sand_store.specs.Contents.{rows_at, index_in, indexes_in};
 ghost use Rattle.sand_store.specs.Steps.{CanGrow, PathGrew, AllCanGrow, AllGrew, SamePlaces, IsOutside, IsOutsideOrFull};
@@ -44,11 +44,13 @@ fn grown_tree<D: Disk>(
     requires row { IsRowInRange row.now }
     requires can { IsTold pool.old → CanGrow pool.old.pages limits shapes.now.schema.now shapes.now.file id row.now (shapes.now.column, path.Quadtree tree) }
     requires apart { IsTold pool.old → (n : ℕ) → 1 ≤ times n (file_pages (store_of pool.old.pages) shapes.now.file) → IsLive pool.old n × (times n (pages_at pool.old.pages tree) ≡ 0) }
-    ensures grew { IfOk result (λ grown. IsTold pool.old → PathGrew pool.old.pages pool.new.pages limits shapes.now.schema.now (rows_at pool.old.pages shapes.now.schema.now shapes.now.file) id shapes.now.column (path.Quadtree tree) (path.Quadtree grown)) }
-    ensures full { IfErr result (λ e. e ≡ why.IndexFull → IsTold pool.old → (gap : Measure) → IsMeasure gap → is_overfull limits (index_with gap (rows_at pool.old.pages shapes.now.schema.now shapes.now.file) id (shapes.now.column, index_in pool.old.pages (path.Quadtree tree))) ≡ true) }
+    ensures grew { IfOk result (λ grown. IsTold pool.old → PathGrew pool.old.pages pool.new.pages limits shapes.now.schema.now
+        (rows_at pool.old.pages shapes.now.schema.now shapes.now.file) id shapes.now.column (path.Quadtree tree) (path.Quadtree grown)) }
+    ensures full { IfErr result (λ e. e ≡ why.IndexFull → IsTold pool.old → (gap : Measure) → IsMeasure gap
+        → is_overfull limits (index_with gap (rows_at pool.old.pages shapes.now.schema.now shapes.now.file) id (shapes.now.column, index_in pool.old.pages (path.Quadtree tree))) ≡ true) }
     ensures outside { IfErr result IsOutsideOrFull }
     ensures within { InCommand pool.old pool.new }
-    ensures cause { HasCause pool.old pool.new result }
+    ensures cause { HasStoreCause pool.old pool.new result }
 {
     growth_laws();
     let Some(shape) = shape_at(row, shapes.column) else {
@@ -74,10 +76,11 @@ fn grown_index<D: Disk>(
     requires row { IsRowOf shapes.now.schema.now row.now }
     requires column { IsColumnAt shapes.now.schema.now shapes.now.column false }
     requires can { IsTold pool.old → CanGrow pool.old.pages limits shapes.now.schema.now shapes.now.file id row.now (shapes.now.column, path.Attribute index) }
-    ensures grew { IfOk result (λ grown. IsTold pool.old → PathGrew pool.old.pages pool.new.pages limits shapes.now.schema.now (rows_at pool.old.pages shapes.now.schema.now shapes.now.file) id shapes.now.column (path.Attribute index) (path.Attribute grown)) }
+    ensures grew { IfOk result (λ grown. IsTold pool.old → PathGrew pool.old.pages pool.new.pages limits shapes.now.schema.now
+        (rows_at pool.old.pages shapes.now.schema.now shapes.now.file) id shapes.now.column (path.Attribute index) (path.Attribute grown)) }
     ensures outside { IfErr result IsOutside }
     ensures within { InCommand pool.old pool.new }
-    ensures cause { HasCause pool.old pool.new result }
+    ensures cause { HasStoreCause pool.old pool.new result }
 {
     let _limits = limits;
     let Some(value) = value_at(row, shapes.column) else {
@@ -110,12 +113,14 @@ impl AccessPath {
         requires of { IsPathOf shapes.now.schema.now (shapes.now.column, self.now) }
         requires can { IsTold pool.old → CanGrow pool.old.pages limits shapes.now.schema.now shapes.now.file id row.now (shapes.now.column, self.now) }
         requires apart { IsTold pool.old → (n : ℕ) → 1 ≤ times n (file_pages (store_of pool.old.pages) shapes.now.file) → IsLive pool.old n × (times n (path_pages pool.old.pages self.now) ≡ 0) }
-        ensures grew { IfOk result (λ grown. IsTold pool.old → PathGrew pool.old.pages pool.new.pages limits shapes.now.schema.now (rows_at pool.old.pages shapes.now.schema.now shapes.now.file) id shapes.now.column self.now grown) }
+        ensures grew { IfOk result (λ grown. IsTold pool.old → PathGrew pool.old.pages pool.new.pages limits shapes.now.schema.now
+            (rows_at pool.old.pages shapes.now.schema.now shapes.now.file) id shapes.now.column self.now grown) }
         ensures of { IfOk result (λ grown. IsPathOf shapes.now.schema.now (shapes.now.column, grown)) }
-        ensures full { IfErr result (λ e. e ≡ why.IndexFull → IsTold pool.old → (gap : Measure) → IsMeasure gap → is_overfull limits (index_with gap (rows_at pool.old.pages shapes.now.schema.now shapes.now.file) id (shapes.now.column, index_in pool.old.pages self.now)) ≡ true) }
+        ensures full { IfErr result (λ e. e ≡ why.IndexFull → IsTold pool.old → (gap : Measure) → IsMeasure gap
+            → is_overfull limits (index_with gap (rows_at pool.old.pages shapes.now.schema.now shapes.now.file) id (shapes.now.column, index_in pool.old.pages self.now)) ≡ true) }
         ensures outside { IfErr result IsOutsideOrFull }
         ensures within { InCommand pool.old pool.new }
-        ensures cause { HasCause pool.old pool.new result }
+        ensures cause { HasStoreCause pool.old pool.new result }
     {
         match self {
             AccessPath::Quadtree(tree) => {
@@ -152,10 +157,11 @@ pub fn grown_paths<D: Disk>(
     requires can { IsTold pool.old → AllCanGrow pool.old.pages limits schema.now file id row.now paths.now }
     ensures grew { IfOk result (λ grown. IsTold pool.old → AllGrew pool.old.pages pool.new.pages limits schema.now (rows_at pool.old.pages schema.now file) id paths.now grown.items) }
     ensures places { IfOk result (λ grown. SamePlaces schema.now paths.now grown.items) }
-    ensures full { IfErr result (λ e. e ≡ why.IndexFull → IsTold pool.old → (gap : Measure) → IsMeasure gap → list_any (is_overfull limits) (map (index_with gap (rows_at pool.old.pages schema.now file) id) (indexes_in pool.old.pages paths.now)) ≡ true) }
+    ensures full { IfErr result (λ e. e ≡ why.IndexFull → IsTold pool.old → (gap : Measure) → IsMeasure gap
+        → list_any (is_overfull limits) (map (index_with gap (rows_at pool.old.pages schema.now file) id) (indexes_in pool.old.pages paths.now)) ≡ true) }
     ensures outside { IfErr result IsOutsideOrFull }
     ensures within { InCommand pool.old pool.new }
-    ensures cause { HasCause pool.old pool.new result }
+    ensures cause { HasStoreCause pool.old pool.new result }
 {
     let mut grown = Vec::new(alloc);
     'paths: for at in 0..paths.len() {

@@ -15,8 +15,8 @@ ghost use Rattle.statements.specs.Statement.{Index};
 ghost use Rattle.sand_model.specs.StatementChecks.{is_overfull, is_there, check_listings};
 ghost use Rattle.tuple_file.specs.File.{file_pages};
 ghost use Rattle.sand_store.specs.declared.path.AccessPath.TheVariants as path;
-ghost use Rattle.sand_store.specs.Building.{index_check, IsWanted, IsThreshold, HasPath, index_after, IsOfKind, Plants, CanTake, PathTook, CanFill, Fills, Builds};
-ghost use Rattle.sand_store.specs.Calls.{HasCause, Indexed, IsUnchanged, IsRefusedBy, is_full};
+ghost use Rattle.sand_store.specs.Building.{index_check, IsWanted, IsThreshold, HasPath, index_after, IsOfKind, PlantsPath, CanTake, PathTook, CanFill, Fills, Builds};
+ghost use Rattle.sand_store.specs.Calls.{HasStoreCause, Indexed, IsUnchanged, IsStatementRefused, is_index_full};
 ghost use Rattle.sand_store.specs.Catalog.{IsDescribed, IsColumnAt, IsPathOf};
 ghost use Rattle.sand_store.specs.Contents.{rows_at, rows_in, index_in, relation_in};
 ghost use Rattle.sand_store.specs.Ownership.{relation_pages};
@@ -87,11 +87,11 @@ fn planted<D: Disk>(
 ) -> Result<AccessPath, Refusal>
     requires opened { IsOpen pool.old }
     requires threshold { IsThreshold threshold }
-    ensures planted { IfOk result (λ planted. IsTold pool.old → Plants pool.old.pages pool.new.pages threshold planted) }
+    ensures planted { IfOk result (λ planted. IsTold pool.old → PlantsPath pool.old.pages pool.new.pages threshold planted) }
     ensures of { IfOk result (λ planted. IsOfKind threshold planted) }
     ensures outside { IfErr result IsOutside }
     ensures within { InCommand pool.old pool.new }
-    ensures cause { HasCause pool.old pool.new result }
+    ensures cause { HasStoreCause pool.old pool.new result }
 {
     match threshold {
         Some(threshold) => match Pmr::plant(pool, threshold, number) {
@@ -118,11 +118,18 @@ fn tree_with<D: Disk>(
     requires opened { IsOpen pool.old }
     requires id { 1 ≤ id }
     requires can { IsTold pool.old → CanTake pool.old.pages limits shapes.now.schema.now shapes.now.file id row.now (shapes.now.column, path.Quadtree tree) }
-    ensures took { IfOk result (λ grown. IsTold pool.old → (h : CanTake pool.old.pages limits shapes.now.schema.now shapes.now.file id row.now (shapes.now.column, path.Quadtree tree)) → PathTook pool.old.pages pool.new.pages limits shapes.now.schema.now (rows_at pool.old.pages shapes.now.schema.now shapes.now.file) h.before id row.now shapes.now.column (path.Quadtree tree) (path.Quadtree grown)) }
-    ensures full { IfErr result (λ e. e ≡ why.IndexFull → IsTold pool.old → (h : CanTake pool.old.pages limits shapes.now.schema.now shapes.now.file id row.now (shapes.now.column, path.Quadtree tree)) → (gap : Measure) → IsMeasure gap → is_overfull limits (shapes.now.column, index_after gap (rows_at pool.old.pages shapes.now.schema.now shapes.now.file) shapes.now.column ((id, row.now) ∷ h.rest) (index_in pool.old.pages (path.Quadtree tree))) ≡ true) }
+    ensures took { IfOk result (λ grown. IsTold pool.old → (h : CanTake pool.old.pages limits shapes.now.schema.now shapes.now.file id row.now (shapes.now.column, path.Quadtree tree))
+        → PathTook pool.old.pages pool.new.pages limits shapes.now.schema.now (rows_at pool.old.pages shapes.now.schema.now shapes.now.file) h.before id row.now shapes.now.column
+        (path.Quadtree tree) (path.Quadtree grown)) }
+    ensures full { IfErr result (λ e. e ≡ why.IndexFull → IsTold pool.old → (h : CanTake pool.old.pages limits shapes.now.schema.now shapes.now.file id row.now (shapes.now.column, path.Quadtree tree))
+        → (gap : Measure) → IsMeasure gap → is_overfull limits (
+          shapes.now.column,
+          index_after gap (rows_at pool.old.pages shapes.now.schema.now shapes.now.file) shapes.now.column ((id, row.now) ∷ h.rest)
+              (index_in pool.old.pages (path.Quadtree tree)),
+        ) ≡ true) }
     ensures outside { IfErr result IsOutsideOrFull }
     ensures within { InCommand pool.old pool.new }
-    ensures cause { HasCause pool.old pool.new result }
+    ensures cause { HasStoreCause pool.old pool.new result }
 {
     growth_laws();
     measure_laws();
@@ -161,10 +168,12 @@ fn index_with_row<D: Disk>(
 ) -> Result<AttrIndex, Refusal>
     requires opened { IsOpen pool.old }
     requires can { IsTold pool.old → CanTake pool.old.pages limits shapes.now.schema.now shapes.now.file id row.now (shapes.now.column, path.Attribute index) }
-    ensures took { IfOk result (λ grown. IsTold pool.old → (h : CanTake pool.old.pages limits shapes.now.schema.now shapes.now.file id row.now (shapes.now.column, path.Attribute index)) → PathTook pool.old.pages pool.new.pages limits shapes.now.schema.now (rows_at pool.old.pages shapes.now.schema.now shapes.now.file) h.before id row.now shapes.now.column (path.Attribute index) (path.Attribute grown)) }
+    ensures took { IfOk result (λ grown. IsTold pool.old → (h : CanTake pool.old.pages limits shapes.now.schema.now shapes.now.file id row.now (shapes.now.column, path.Attribute index))
+        → PathTook pool.old.pages pool.new.pages limits shapes.now.schema.now (rows_at pool.old.pages shapes.now.schema.now shapes.now.file) h.before id row.now shapes.now.column
+        (path.Attribute index) (path.Attribute grown)) }
     ensures outside { IfErr result IsOutside }
     ensures within { InCommand pool.old pool.new }
-    ensures cause { HasCause pool.old pool.new result }
+    ensures cause { HasStoreCause pool.old pool.new result }
 {
     let _limits = limits;
     let Some(value) = value_at(row, shapes.column) else {
@@ -196,12 +205,17 @@ impl AccessPath {
         requires opened { IsOpen pool.old }
         requires id { 1 ≤ id }
         requires can { IsTold pool.old → CanTake pool.old.pages limits shapes.now.schema.now shapes.now.file id row.now (shapes.now.column, self.now) }
-        ensures took { IfOk result (λ grown. IsTold pool.old → (h : CanTake pool.old.pages limits shapes.now.schema.now shapes.now.file id row.now (shapes.now.column, self.now)) → PathTook pool.old.pages pool.new.pages limits shapes.now.schema.now (rows_at pool.old.pages shapes.now.schema.now shapes.now.file) h.before id row.now shapes.now.column self.now grown) }
+        ensures took { IfOk result (λ grown. IsTold pool.old → (h : CanTake pool.old.pages limits shapes.now.schema.now shapes.now.file id row.now (shapes.now.column, self.now))
+            → PathTook pool.old.pages pool.new.pages limits shapes.now.schema.now
+            (rows_at pool.old.pages shapes.now.schema.now shapes.now.file) h.before id row.now shapes.now.column self.now grown) }
         ensures of { IfOk result (λ grown. IsPathOf shapes.now.schema.now (shapes.now.column, self.now) → IsPathOf shapes.now.schema.now (shapes.now.column, grown)) }
-        ensures full { IfErr result (λ e. e ≡ why.IndexFull → IsTold pool.old → (h : CanTake pool.old.pages limits shapes.now.schema.now shapes.now.file id row.now (shapes.now.column, self.now)) → (gap : Measure) → IsMeasure gap → is_overfull limits (shapes.now.column, index_after gap (rows_at pool.old.pages shapes.now.schema.now shapes.now.file) shapes.now.column ((id, row.now) ∷ h.rest) (index_in pool.old.pages self.now)) ≡ true) }
+        ensures full { IfErr result (λ e. e ≡ why.IndexFull → IsTold pool.old → (h : CanTake pool.old.pages limits shapes.now.schema.now shapes.now.file id row.now (shapes.now.column, self.now))
+            → (gap : Measure) → IsMeasure gap → is_overfull limits
+            (shapes.now.column, index_after gap (rows_at pool.old.pages shapes.now.schema.now shapes.now.file) shapes.now.column ((id, row.now) ∷ h.rest) (index_in pool.old.pages self.now))
+            ≡ true) }
         ensures outside { IfErr result IsOutsideOrFull }
         ensures within { InCommand pool.old pool.new }
-        ensures cause { HasCause pool.old pool.new result }
+        ensures cause { HasStoreCause pool.old pool.new result }
     {
         match self {
             AccessPath::Quadtree(tree) => {
@@ -232,7 +246,7 @@ pub fn row_from<D: Disk>(
     ensures rises { IfOk result (λ found. IfSome found (λ row. from ≤ row.0)) }
     ensures read { IsRead pool.old pool.new }
     ensures outside { IfErr result IsOutside }
-    ensures cause { HasCause pool.old pool.new result }
+    ensures cause { HasStoreCause pool.old pool.new result }
 {
     let id = match shapes.file.scan(pool, from) {
         Ok(Some(id)) => id,
@@ -257,12 +271,18 @@ fn filled<D: Disk>(
 ) -> Result<AccessPath, Refusal>
     requires opened { IsOpen pool.old }
     requires can { IsTold pool.old → CanFill pool.old.pages limits shapes.now.schema.now shapes.now.file (shapes.now.column, path) }
-    ensures fills { IfOk result (λ filled. IsTold pool.old → Fills pool.old.pages pool.new.pages limits shapes.now.schema.now (rows_at pool.old.pages shapes.now.schema.now shapes.now.file) shapes.now.column path filled) }
+    ensures fills { IfOk result (λ filled. IsTold pool.old → Fills pool.old.pages pool.new.pages limits shapes.now.schema.now
+        (rows_at pool.old.pages shapes.now.schema.now shapes.now.file) shapes.now.column path filled) }
     ensures of { IfOk result (λ filled. IsPathOf shapes.now.schema.now (shapes.now.column, path) → IsPathOf shapes.now.schema.now (shapes.now.column, filled)) }
-    ensures full { IfErr result (λ e. e ≡ why.IndexFull → IsTold pool.old → (gap : Measure) → IsMeasure gap → is_overfull limits (shapes.now.column, index_after gap (rows_at pool.old.pages shapes.now.schema.now shapes.now.file) shapes.now.column (rows_at pool.old.pages shapes.now.schema.now shapes.now.file) (index_in pool.old.pages path)) ≡ true) }
+    ensures full { IfErr result (λ e. e ≡ why.IndexFull → IsTold pool.old → (gap : Measure) → IsMeasure gap
+        → is_overfull limits (
+          shapes.now.column,
+          index_after gap (rows_at pool.old.pages shapes.now.schema.now shapes.now.file) shapes.now.column
+              (rows_at pool.old.pages shapes.now.schema.now shapes.now.file) (index_in pool.old.pages path),
+        ) ≡ true) }
     ensures outside { IfErr result IsOutsideOrFull }
     ensures within { InCommand pool.old pool.new }
-    ensures cause { HasCause pool.old pool.new result }
+    ensures cause { HasStoreCause pool.old pool.new result }
 {
     let mut filled = path;
     let mut from: u32 = 1;
@@ -301,10 +321,11 @@ fn filled_index<D: Disk>(
     requires stands { IsTold pool.old → RelationStands pool.old.pages limits relation.now }
     ensures builds { IfOk result (λ path. IsTold pool.old → Builds pool.old.pages pool.new.pages limits relation.now.schema (rows_in pool.old.pages relation.now) column threshold path) }
     ensures of { IfOk result (λ path. IsPathOf relation.now.schema (column, path)) }
-    ensures full { IfErr result (λ e. e ≡ why.IndexFull → IsTold pool.old → (gap : Measure) → IsMeasure gap → is_overfull limits (column, new_index gap (rows_in pool.old.pages relation.now) column threshold) ≡ true) }
+    ensures full { IfErr result (λ e. e ≡ why.IndexFull → IsTold pool.old → (gap : Measure) → IsMeasure gap
+        → is_overfull limits (column, new_index gap (rows_in pool.old.pages relation.now) column threshold) ≡ true) }
     ensures outside { IfErr result IsOutsideOrFull }
     ensures within { InCommand pool.old pool.new }
-    ensures cause { HasCause pool.old pool.new result }
+    ensures cause { HasStoreCause pool.old pool.new result }
 {
     let path = match planted(pool, threshold, number) {
         Ok(path) => path,
@@ -338,10 +359,11 @@ fn built<D: Disk>(
     requires stands { IsTold pool.old → RelationStands pool.old.pages limits relation.now }
     ensures builds { IfOk result (λ path. IsTold pool.old → Builds pool.old.pages pool.new.pages limits relation.now.schema (rows_in pool.old.pages relation.now) column threshold path) }
     ensures of { IfOk result (λ path. IsPathOf relation.now.schema (column, path)) }
-    ensures full { IfErr result (λ e. e ≡ why.IndexFull → IsTold pool.old → (gap : Measure) → IsMeasure gap → is_overfull limits (column, new_index gap (rows_in pool.old.pages relation.now) column threshold) ≡ true) }
+    ensures full { IfErr result (λ e. e ≡ why.IndexFull → IsTold pool.old → (gap : Measure) → IsMeasure gap
+        → is_overfull limits (column, new_index gap (rows_in pool.old.pages relation.now) column threshold) ≡ true) }
     ensures outside { IfErr result IsOutsideOrFull }
     ensures within { InCommand pool.old pool.new }
-    ensures cause { HasCause pool.old pool.new result }
+    ensures cause { HasStoreCause pool.old pool.new result }
 {
     match threshold {
         Some(threshold) => {
@@ -380,9 +402,10 @@ fn add<D: Disk>(
     ensures added { OnOk result (HasPath relation.old relation.new column) }
     ensures unchanged { OnErr result (relation.new ≡ relation.old) }
     ensures reverted { OnErr result (IsTold pool.old → pool.new.pages ≡ pool.old.pages) }
-    ensures full { IfErr result (λ e. e ≡ why.IndexFull → IsTold pool.old → (gap : Measure) → IsMeasure gap → check_listings limits (with_index gap column threshold (relation_in pool.old.pages relation.old)) ≡ Some why.IndexFull) }
+    ensures full { IfErr result (λ e. e ≡ why.IndexFull → IsTold pool.old → (gap : Measure) → IsMeasure gap
+        → check_listings limits (with_index gap column threshold (relation_in pool.old.pages relation.old)) ≡ Some why.IndexFull) }
     ensures outside { IfErr result IsOutsideOrFull }
-    ensures cause { HasCause pool.old pool.new result }
+    ensures cause { HasStoreCause pool.old pool.new result }
 {
     match pool.begin() {
         Ok(()) => {}
@@ -422,10 +445,11 @@ pub fn index<D: Disk>(
     ensures store { IsStore (record { relations = relations.new.items; limits = limits }) pool.new }
     ensures told { pool.new.disk.told ≡ pool.old.disk.told }
     ensures stamps { SettlesStamps pool.old pool.new }
-    ensures indexed { OnOk result (Indexed (store_from relations.old.items limits pool.old) (store_from relations.new.items limits pool.new) (record { relation = name.now; column = column.now }) threshold) }
+    ensures indexed { OnOk result (Indexed (store_from relations.old.items limits pool.old) (store_from relations.new.items limits pool.new)
+        (record { relation = name.now; column = column.now }) threshold) }
     ensures unchanged { OnErr result (IsUnchanged (store_from relations.old.items limits pool.old) (store_from relations.new.items limits pool.new)) }
-    ensures refused { IfErr result (IsRefusedBy is_full (store_from relations.old.items limits pool.old) (Index (record { relation = name.now; column = column.now }) threshold)) }
-    ensures cause { HasCause pool.old pool.new result }
+    ensures refused { IfErr result (IsStatementRefused is_index_full (store_from relations.old.items limits pool.old) (Index (record { relation = name.now; column = column.now }) threshold)) }
+    ensures cause { HasStoreCause pool.old pool.new result }
 {
     let Some(at) = place_of(relations, name) else {
         return Err(Refusal::UnknownRelation);

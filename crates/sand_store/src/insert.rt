@@ -16,7 +16,7 @@ ghost use Rattle.sand_model.specs.StatementChecks.{check_listings};
 ghost use Rattle.sand_store.specs.Contents.{relation_in};
 ghost use Rattle.sand_base.specs.InRange.{IsRowInRange};
 ghost use Rattle.statements.specs.Statement.{Insert};
-ghost use Rattle.sand_store.specs.Calls.{HasCause, Inserted, IsUnchanged, IsRefusedBy, is_full};
+ghost use Rattle.sand_store.specs.Calls.{HasStoreCause, RowInserted, IsUnchanged, IsStatementRefused, is_index_full};
 ghost use Rattle.sand_store.specs.Catalog.{IsDescribed};
 ghost use Rattle.sand_store.specs.Ownership.{relation_pages};
 ghost use Rattle.sand_store.specs.Standing.{RelationStands, IsStore};
@@ -53,10 +53,11 @@ pub fn with_row<D: Disk>(
     ensures grew { IfOk result (λ growth. IsTold pool.old → Grew pool.old.pages pool.new.pages limits relation.now growth.file growth.paths.items growth.trees.items growth.span row.now) }
     ensures places { IfOk result (λ growth. SamePlaces relation.now.schema relation.now.paths growth.paths.items) }
     ensures columns { IfOk result (λ growth. SameColumns relation.now.trees growth.trees.items) }
-    ensures full { IfErr result (λ e. e ≡ why.IndexFull → IsTold pool.old → (gap : Measure) → IsMeasure gap → check_listings limits (with_row gap row.now (relation_in pool.old.pages relation.now)) ≡ Some why.IndexFull) }
+    ensures full { IfErr result (λ e. e ≡ why.IndexFull → IsTold pool.old → (gap : Measure) → IsMeasure gap
+        → check_listings limits (with_row gap row.now (relation_in pool.old.pages relation.now)) ≡ Some why.IndexFull) }
     ensures outside { IfErr result IsOutsideOrFull }
     ensures within { InCommand pool.old pool.new }
-    ensures cause { HasCause pool.old pool.new result }
+    ensures cause { HasStoreCause pool.old pool.new result }
 {
     let id = relation.next;
     let mut file = relation.file;
@@ -113,9 +114,10 @@ fn add<D: Disk>(
     ensures places { IfOk result (λ growth. SamePlaces relation.now.schema relation.now.paths growth.paths.items) }
     ensures columns { IfOk result (λ growth. SameColumns relation.now.trees growth.trees.items) }
     ensures reverted { OnErr result (IsTold pool.old → pool.new.pages ≡ pool.old.pages) }
-    ensures full { IfErr result (λ e. e ≡ why.IndexFull → IsTold pool.old → (gap : Measure) → IsMeasure gap → check_listings limits (with_row gap row.now (relation_in pool.old.pages relation.now)) ≡ Some why.IndexFull) }
+    ensures full { IfErr result (λ e. e ≡ why.IndexFull → IsTold pool.old → (gap : Measure) → IsMeasure gap
+        → check_listings limits (with_row gap row.now (relation_in pool.old.pages relation.now)) ≡ Some why.IndexFull) }
     ensures outside { IfErr result IsOutsideOrFull }
-    ensures cause { HasCause pool.old pool.new result }
+    ensures cause { HasStoreCause pool.old pool.new result }
 {
     match pool.begin() {
         Ok(()) => {}
@@ -147,10 +149,10 @@ pub fn insert<D: Disk>(
     ensures store { IsStore (record { relations = relations.new.items; limits = limits }) pool.new }
     ensures told { pool.new.disk.told ≡ pool.old.disk.told }
     ensures stamps { SettlesStamps pool.old pool.new }
-    ensures inserted { IfOk result (λ id. Inserted (store_from relations.old.items limits pool.old) (store_from relations.new.items limits pool.new) name.now row.now id) }
+    ensures inserted { IfOk result (λ id. RowInserted (store_from relations.old.items limits pool.old) (store_from relations.new.items limits pool.new) name.now row.now id) }
     ensures unchanged { OnErr result (IsUnchanged (store_from relations.old.items limits pool.old) (store_from relations.new.items limits pool.new)) }
-    ensures refused { IfErr result (IsRefusedBy is_full (store_from relations.old.items limits pool.old) (Insert name.now row.now)) }
-    ensures cause { HasCause pool.old pool.new result }
+    ensures refused { IfErr result (IsStatementRefused is_index_full (store_from relations.old.items limits pool.old) (Insert name.now row.now)) }
+    ensures cause { HasStoreCause pool.old pool.new result }
 {
     let Some(at) = place_of(relations, name) else {
         return Err(Refusal::UnknownRelation);

@@ -14,7 +14,8 @@ ghost use Rattle.sand_store.specs.Standing.{IsStore};
 /// The database of every store over a disk that tells its pages is one, whatever the measure: each quadtree fits its
 /// relation's rows, ids ascend, names are of their own, and all is within the limits.
 pub fn every_store_is_a_database()
-    ensures { (catalog : CatalogView) (pool : PoolState) → IsStore catalog pool → IsTold pool → (gap : Measure) → IsMeasure gap → IsDatabase gap catalog.limits (database_in pool.pages catalog.relations) }
+    ensures { (catalog : CatalogView) (pool : PoolState) → IsStore catalog pool → IsTold pool → (gap : Measure) → IsMeasure gap
+        → IsDatabase gap catalog.limits (database_in pool.pages catalog.relations) }
 {}
 
 /// Where all rows are of the relation's schema, the store loads them as the model enters the rows of a file.

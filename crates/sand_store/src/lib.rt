@@ -3,8 +3,8 @@
 //! A store is a catalog, plain numbers in memory that lead to pages, and the pool that has the pages. Each writing call
 //! is one command of the pool: it makes the numbers of the changed relation anew beside the old ones, and the catalog
 //! takes them over once the command is committed. So a refusal aborts, and everything is as it was. For reading, a store
-//! is parted into its catalog and a desk. Above: `plan_places` and the sources of plans, `statement_exec` and `session`.
-//! Below: `tuple_file`, `pmr_tree`, `rtree_rows`,
+//! is parted into its catalog and a desk. Above: `plan_names` and the sources of plans, `statement_exec` and `session`.
+//! Below: `tuple_file`, `pmr_tree`, `r_tree`,
 //! `attr_index`, `page_pool`.
 //! Contracts see the database for which catalog and pages stand; read `specs/Catalog.antt` and `specs/Contents.antt`
 //! first, then `specs/Standing.antt` and `specs/Calls.antt`.

@@ -7,10 +7,10 @@ ghost use Rattle.code_btree.specs.Tree.{times, live};
 ghost use Rattle.pmr_tree.specs.Quadtree.{store_of};
 ghost use Rattle.sand_base.specs.InRange.{IsRowInRange};
 ghost use Rattle.sand_model.specs.Database.{with_row};
-ghost use Rattle.sand_store.specs.Calls.{HasCause, IsUnchanged, Loaded, LoadIsRefusedBy, IsRefusedPlainly, RefusesRows, OnePasses, loaded};
+ghost use Rattle.sand_store.specs.Calls.{HasStoreCause, IsUnchanged, Loaded, LoadIsRefusedBy, IsRefusedPlainly, RefusesRows, OnePasses, loaded};
 ghost use Rattle.sand_store.specs.Catalog.{IsLimits, IsDescribed};
 ghost use Rattle.sand_store.specs.Contents.{relation_in};
-ghost use Rattle.sand_store.specs.Loads.{row_refusal, plain_of, StopsAt, Counts, Enters};
+ghost use Rattle.sand_store.specs.Loads.{row_refusal, plain_of, StopsAt, CountsRows, Enters};
 ghost use Rattle.sand_store.specs.Ownership.{relation_pages};
 ghost use Rattle.sand_store.specs.Standing.{RelationStands, IsStore};
 ghost use Rattle.sand_store.specs.Steps.{Became, row_check, store_from};
@@ -38,13 +38,13 @@ fn enter<D: Disk>(
     requires described { IsDescribed limits relation.old }
     requires stands { IsTold pool.old → RelationStands pool.old.pages limits relation.old }
     requires owns { IsTold pool.old → (q : ℕ) → times q (relation_pages pool.old.pages relation.old) ≤ live (store_of pool.old.pages) q }
-    ensures counts { OnOk result (Counts limits relation.old relation.new 1) }
+    ensures counts { OnOk result (CountsRows limits relation.old relation.new 1) }
     ensures passes { OnOk result (row_check limits relation.old row.now ≡ None) }
     ensures became { OnOk result (IsTold pool.old → Became pool.old.pages pool.new.pages limits relation.old relation.new (λ gap. with_row gap row.now)) }
     ensures stops { IfErr result (StopsAt (IsTold pool.old) limits (λ setting. row_refusal setting row.now (relation_in pool.old.pages relation.old))) }
     ensures plain { IfErr result (RefusesRows (row_check limits relation.old row.now) (row_check limits relation.old row.now ≡ None)) }
     ensures within { InCommand pool.old pool.new }
-    ensures cause { HasCause pool.old pool.new result }
+    ensures cause { HasStoreCause pool.old pool.new result }
 {
     let bytes = match admitted(alloc, relation, row, limits) {
         Ok(bytes) => bytes,
@@ -73,13 +73,13 @@ fn enter_all<D: Disk>(
     requires described { IsDescribed limits relation.old }
     requires stands { IsTold pool.old → RelationStands pool.old.pages limits relation.old }
     requires owns { IsTold pool.old → (q : ℕ) → times q (relation_pages pool.old.pages relation.old) ≤ live (store_of pool.old.pages) q }
-    ensures counts { OnOk result (Counts limits relation.old relation.new (length rows.now)) }
+    ensures counts { OnOk result (CountsRows limits relation.old relation.new (length rows.now)) }
     ensures enters { OnOk result (IsTold pool.old → Enters pool.old.pages pool.new.pages limits relation.old relation.new rows.now []) }
     ensures passes { OnOk result (plain_of limits relation.old rows.now ≡ None) }
     ensures stops { IfErr result (StopsAt (IsTold pool.old) limits (λ setting. (loaded setting rows.now (relation_in pool.old.pages relation.old)).0)) }
     ensures plain { IfErr result (RefusesRows (plain_of limits relation.old rows.now) (OnePasses rows.now (plain_of limits relation.old))) }
     ensures within { InCommand pool.old pool.new }
-    ensures cause { HasCause pool.old pool.new result }
+    ensures cause { HasStoreCause pool.old pool.new result }
 {
     'rows: for row in rows {
         match enter(alloc, pool, relation, row, limits) {
@@ -107,13 +107,13 @@ fn add_all<D: Disk>(
     ensures closed { IsClosed pool.new }
     ensures told { pool.new.disk.told ≡ pool.old.disk.told }
     ensures stamps { SettlesStamps pool.old pool.new }
-    ensures counts { IfOk result (λ grown. Counts limits relation.now grown (length rows.now)) }
+    ensures counts { IfOk result (λ grown. CountsRows limits relation.now grown (length rows.now)) }
     ensures enters { IfOk result (λ grown. IsTold pool.old → Enters pool.old.pages pool.new.pages limits relation.now grown rows.now []) }
     ensures passes { IfOk result (λ grown. plain_of limits relation.now rows.now ≡ None) }
     ensures reverted { OnErr result (IsTold pool.old → pool.new.pages ≡ pool.old.pages) }
     ensures stops { IfErr result (StopsAt (IsTold pool.old) limits (λ setting. (loaded setting rows.now (relation_in pool.old.pages relation.now)).0)) }
     ensures plain { IfErr result (RefusesRows (plain_of limits relation.now rows.now) (OnePasses rows.now (plain_of limits relation.now))) }
-    ensures cause { HasCause pool.old pool.new result }
+    ensures cause { HasStoreCause pool.old pool.new result }
 {
     let Ok(mut grown) = relation.copy(alloc) else {
         return Err(Refusal::Memory);
@@ -152,7 +152,7 @@ pub fn load_rows<D: Disk>(
     ensures unchanged { OnErr result (IsUnchanged (store_from relations.old.items limits pool.old) (store_from relations.new.items limits pool.new)) }
     ensures refused { IfErr result (LoadIsRefusedBy (store_from relations.old.items limits pool.old) name.now rows.now) }
     ensures plain { IfErr result (IsRefusedPlainly (store_from relations.old.items limits pool.old) name.now rows.now) }
-    ensures cause { HasCause pool.old pool.new result }
+    ensures cause { HasStoreCause pool.old pool.new result }
 {
     let Some(at) = place_of(relations, name) else {
         return Err(Refusal::UnknownRelation);

@@ -6,11 +6,11 @@ ghost use Rattle.page_pool.specs.Pool.{IsOpen, IsClosed, IsTold};
 ghost use Rattle.page_pool.specs.Reads.{IsRead};
 ghost use Rattle.page_pool.specs.Steps.{InCommand};
 ghost use Rattle.pmr_tree.specs.Quadtree.{store_of};
-ghost use Rattle.rtree_rows.specs.Listing.{AreMembersOf, PlantsRows};
+ghost use Rattle.r_tree.specs.Listing.{AreMembersOf, PlantsRows};
 ghost use Rattle.sand_model.specs.Database.{shapes_of, with_rectangles};
 ghost use Rattle.sand_base.specs.declared.limits.Limits.{Limits as Bounds};
 ghost use Rattle.statements.specs.Statement.{Rtree};
-ghost use Rattle.sand_store.specs.Calls.{HasCause, Treed, IsUnchanged, IsRefusedBy, is_none};
+ghost use Rattle.sand_store.specs.Calls.{HasStoreCause, Treed, IsUnchanged, IsStatementRefused, is_none};
 ghost use Rattle.sand_store.specs.Contents.{rows_at, rows_in};
 ghost use Rattle.sand_store.specs.Ownership.{relation_pages};
 ghost use Rattle.sand_store.specs.Standing.{IsStore, RelationStands, TableStands};
@@ -23,8 +23,7 @@ use crate::refusal::refusal_of;
 use crate::relation::place_of;
 use crate::shapes::{RowShapes, plane_shape_at};
 use page_pool::{Disk, Pool};
-use r_tree::RTree;
-use rtree_rows::{rough_shape, tree_of_rows};
+use r_tree::{RTree, rough_shape, tree_of_rows};
 use sand_base::{Limits, Refusal, Rough};
 use std::alloc::Global;
 
@@ -56,7 +55,7 @@ pub fn members<D: Disk>(
     ensures members { IfOk result (λ members. IsTold pool.old → AreMembersOf members.items (shapes_of shapes.now.column (rows_at pool.old.pages shapes.now.schema.now shapes.now.file))) }
     ensures outside { IfErr result IsOutside }
     ensures read { IsRead pool.old pool.new }
-    ensures cause { HasCause pool.old pool.new result }
+    ensures cause { HasStoreCause pool.old pool.new result }
 {
     let mut members = Vec::new(alloc);
     let mut from: u32 = 0;
@@ -92,7 +91,7 @@ fn built<D: Disk>(
     ensures plants { IfOk result (λ tree. IsTold pool.old → PlantsRows pool.old.pages pool.new.pages tree number (shapes_of column (rows_in pool.old.pages relation.now))) }
     ensures outside { IfErr result IsOutside }
     ensures within { InCommand pool.old pool.new }
-    ensures cause { HasCause pool.old pool.new result }
+    ensures cause { HasStoreCause pool.old pool.new result }
 {
     let shapes = RowShapes {
         file: relation.file,
@@ -129,7 +128,7 @@ fn add<D: Disk>(
     ensures unchanged { OnErr result (relation.new ≡ relation.old) }
     ensures reverted { OnErr result (IsTold pool.old → pool.new.pages ≡ pool.old.pages) }
     ensures outside { IfErr result IsOutside }
-    ensures cause { HasCause pool.old pool.new result }
+    ensures cause { HasStoreCause pool.old pool.new result }
 {
     let _limits = limits;
     match pool.begin() {
@@ -170,8 +169,8 @@ pub fn rtree<D: Disk>(
     ensures stamps { SettlesStamps pool.old pool.new }
     ensures treed { OnOk result (Treed (store_from relations.old.items limits pool.old) (store_from relations.new.items limits pool.new) (record { relation = name.now; column = column.now })) }
     ensures unchanged { OnErr result (IsUnchanged (store_from relations.old.items limits pool.old) (store_from relations.new.items limits pool.new)) }
-    ensures refused { IfErr result (IsRefusedBy is_none (store_from relations.old.items limits pool.old) (Rtree (record { relation = name.now; column = column.now }))) }
-    ensures cause { HasCause pool.old pool.new result }
+    ensures refused { IfErr result (IsStatementRefused is_none (store_from relations.old.items limits pool.old) (Rtree (record { relation = name.now; column = column.now }))) }
+    ensures cause { HasStoreCause pool.old pool.new result }
 {
     let Some(at) = place_of(relations, name) else {
         return Err(Refusal::UnknownRelation);

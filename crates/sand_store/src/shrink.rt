@@ -6,7 +6,7 @@ ghost use Rattle.attr_index.specs.Key.{IsAttribute};
 ghost use Rattle.sand_base.specs.declared.kind.Kind.{Kind};
 ghost use Rattle.sand_model.specs.Database.{element};
 ghost use Rattle.sand_store.specs.declared.path.AccessPath.TheVariants as path;
-ghost use Rattle.sand_store.specs.Calls.{HasCause};
+ghost use Rattle.sand_store.specs.Calls.{HasStoreCause};
 ghost use Rattle.sand_store.specs.Catalog.{IsPathOf};
 ghost use Rattle.sand_store.specs.Leaving.{Holding, CanLose, losing, PathChanged, AllCanLose, AllChanged};
 ghost use Rattle.sand_store.specs.Steps.{SamePlaces, IsOutside};
@@ -45,10 +45,11 @@ fn shrunk_tree<D: Disk>(
     requires opened { IsOpen pool.old }
     requires id { 1 ≤ id }
     requires can { IsTold pool.old → (held : Holding) × CanLose pool.old.pages held id row.now (column, path.Quadtree tree) }
-    ensures lost { IfOk result (λ shrunk. IsTold pool.old → (held : Holding) → CanLose pool.old.pages held id row.now (column, path.Quadtree tree) → PathChanged pool.old.pages pool.new.pages (losing held id) column (path.Quadtree tree) (path.Quadtree shrunk)) }
+    ensures lost { IfOk result (λ shrunk. IsTold pool.old → (held : Holding) → CanLose pool.old.pages held id row.now (column, path.Quadtree tree)
+        → PathChanged pool.old.pages pool.new.pages (losing held id) column (path.Quadtree tree) (path.Quadtree shrunk)) }
     ensures outside { IfErr result IsOutside }
     ensures within { InCommand pool.old pool.new }
-    ensures cause { HasCause pool.old pool.new result }
+    ensures cause { HasStoreCause pool.old pool.new result }
 {
     growth_laws();
     let Some(shape) = plane_shape_at(row, column) else {
@@ -71,10 +72,11 @@ fn shrunk_index<D: Disk>(
 ) -> Result<AttrIndex, Refusal>
     requires opened { IsOpen pool.old }
     requires can { IsTold pool.old → (held : Holding) × CanLose pool.old.pages held id row.now (column, path.Attribute index) }
-    ensures lost { IfOk result (λ shrunk. IsTold pool.old → (held : Holding) → CanLose pool.old.pages held id row.now (column, path.Attribute index) → PathChanged pool.old.pages pool.new.pages (losing held id) column (path.Attribute index) (path.Attribute shrunk)) }
+    ensures lost { IfOk result (λ shrunk. IsTold pool.old → (held : Holding) → CanLose pool.old.pages held id row.now (column, path.Attribute index)
+        → PathChanged pool.old.pages pool.new.pages (losing held id) column (path.Attribute index) (path.Attribute shrunk)) }
     ensures outside { IfErr result IsOutside }
     ensures within { InCommand pool.old pool.new }
-    ensures cause { HasCause pool.old pool.new result }
+    ensures cause { HasStoreCause pool.old pool.new result }
 {
     let Some(value) = attribute_at(row, column) else {
         return Err(Refusal::Memory);
@@ -99,11 +101,12 @@ impl AccessPath {
         requires opened { IsOpen pool.old }
         requires id { 1 ≤ id }
         requires can { IsTold pool.old → (held : Holding) × CanLose pool.old.pages held id row.now (column, self.now) }
-        ensures lost { IfOk result (λ shrunk. IsTold pool.old → (held : Holding) → CanLose pool.old.pages held id row.now (column, self.now) → PathChanged pool.old.pages pool.new.pages (losing held id) column self.now shrunk) }
+        ensures lost { IfOk result (λ shrunk. IsTold pool.old → (held : Holding) → CanLose pool.old.pages held id row.now (column, self.now)
+            → PathChanged pool.old.pages pool.new.pages (losing held id) column self.now shrunk) }
         ensures of { IfOk result (λ shrunk. (schema : List (List ℕ × Kind)) → IsPathOf schema (column, self.now) → IsPathOf schema (column, shrunk)) }
         ensures outside { IfErr result IsOutside }
         ensures within { InCommand pool.old pool.new }
-        ensures cause { HasCause pool.old pool.new result }
+        ensures cause { HasStoreCause pool.old pool.new result }
     {
         match self {
             AccessPath::Quadtree(tree) => match shrunk_tree(alloc, pool, *tree, column, id, row) {
@@ -129,11 +132,12 @@ pub fn shrunk_paths<D: Disk>(
     requires opened { IsOpen pool.old }
     requires id { 1 ≤ id }
     requires can { IsTold pool.old → (held : Holding) × AllCanLose pool.old.pages held id row.now paths.now }
-    ensures lost { IfOk result (λ shrunk. IsTold pool.old → (held : Holding) → AllCanLose pool.old.pages held id row.now paths.now → AllChanged pool.old.pages pool.new.pages (losing held id) paths.now shrunk.items) }
+    ensures lost { IfOk result (λ shrunk. IsTold pool.old → (held : Holding) → AllCanLose pool.old.pages held id row.now paths.now
+        → AllChanged pool.old.pages pool.new.pages (losing held id) paths.now shrunk.items) }
     ensures places { IfOk result (λ shrunk. (schema : List (List ℕ × Kind)) → All (IsPathOf schema) paths.now → SamePlaces schema paths.now shrunk.items) }
     ensures outside { IfErr result IsOutside }
     ensures within { InCommand pool.old pool.new }
-    ensures cause { HasCause pool.old pool.new result }
+    ensures cause { HasStoreCause pool.old pool.new result }
 {
     let mut shrunk = Vec::new(alloc);
     'paths: for at in 0..paths.len() {

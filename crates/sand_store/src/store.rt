@@ -12,7 +12,8 @@ ghost use Rattle.statements.specs.Statement.{Create, Insert, Delete, Index, Rtre
 ghost use Rattle.sand_store.specs.Catalog.{IsLimits, new_catalog};
 ghost use Rattle.sand_store.specs.Contents.{database};
 ghost use Rattle.sand_store.specs.Standing.{IsStore};
-ghost use Rattle.sand_store.specs.Calls.{Carries, IsUnchanged, HasCause, Created, Inserted, Deleted, Indexed, Treed, Loaded, IsRefusedBy, LoadIsRefusedBy, IsRefusedPlainly, is_none, is_full, is_missing};
+ghost use Rattle.sand_store.specs.Calls.{Carries, IsUnchanged, HasStoreCause, Created, RowInserted, Deleted, Indexed, Treed, Loaded, IsStatementRefused, LoadIsRefusedBy};
+ghost use Rattle.sand_store.specs.Calls.{IsRefusedPlainly, is_none, is_index_full, is_missing};
 
 use crate::Catalog;
 use crate::create::create;
@@ -85,9 +86,9 @@ impl<D: Disk> Store<D> {
         requires { IsSchemaInRange schema }
         ensures created { OnOk result (Created self.old self.new name.now schema) }
         ensures unchanged { OnErr result (IsUnchanged self.old self.new) }
-        ensures refused { IfErr result (IsRefusedBy is_none self.old (Create name.now schema)) }
+        ensures refused { IfErr result (IsStatementRefused is_none self.old (Create name.now schema)) }
         ensures carries { Carries self.old self.new }
-        ensures cause { HasCause self.old.pool self.new.pool result }
+        ensures cause { HasStoreCause self.old.pool self.new.pool result }
     {
         create(
             self.alloc,
@@ -102,11 +103,11 @@ impl<D: Disk> Store<D> {
     /// Adds a row to the relation and to each of its indexes and R-trees, and gives its id.
     pub fn insert(&mut self, relation: &str, row: Row) -> Result<u32, Refusal>
         requires { IsRowInRange row }
-        ensures inserted { IfOk result (λ id. Inserted self.old self.new relation.now row id) }
+        ensures inserted { IfOk result (λ id. RowInserted self.old self.new relation.now row id) }
         ensures unchanged { OnErr result (IsUnchanged self.old self.new) }
-        ensures refused { IfErr result (IsRefusedBy is_full self.old (Insert relation.now row)) }
+        ensures refused { IfErr result (IsStatementRefused is_index_full self.old (Insert relation.now row)) }
         ensures carries { Carries self.old self.new }
-        ensures cause { HasCause self.old.pool self.new.pool result }
+        ensures cause { HasStoreCause self.old.pool self.new.pool result }
     {
         insert(
             self.alloc,
@@ -122,9 +123,9 @@ impl<D: Disk> Store<D> {
     pub fn delete(&mut self, relation: &str, id: u32) -> Result<(), Refusal>
         ensures deleted { OnOk result (Deleted self.old self.new relation.now id) }
         ensures unchanged { OnErr result (IsUnchanged self.old self.new) }
-        ensures refused { IfErr result (IsRefusedBy is_missing self.old (Delete relation.now id)) }
+        ensures refused { IfErr result (IsStatementRefused is_missing self.old (Delete relation.now id)) }
         ensures carries { Carries self.old self.new }
-        ensures cause { HasCause self.old.pool self.new.pool result }
+        ensures cause { HasStoreCause self.old.pool self.new.pool result }
     {
         delete(
             self.alloc,
@@ -147,9 +148,9 @@ impl<D: Disk> Store<D> {
         requires { IfSome threshold (λ t. (1 ≤ t) × (t ≤ 64)) }
         ensures indexed { OnOk result (Indexed self.old self.new (record { relation = relation.now; column = column.now }) threshold) }
         ensures unchanged { OnErr result (IsUnchanged self.old self.new) }
-        ensures refused { IfErr result (IsRefusedBy is_full self.old (Index (record { relation = relation.now; column = column.now }) threshold)) }
+        ensures refused { IfErr result (IsStatementRefused is_index_full self.old (Index (record { relation = relation.now; column = column.now }) threshold)) }
         ensures carries { Carries self.old self.new }
-        ensures cause { HasCause self.old.pool self.new.pool result }
+        ensures cause { HasStoreCause self.old.pool self.new.pool result }
     {
         index(
             self.alloc,
@@ -166,9 +167,9 @@ impl<D: Disk> Store<D> {
     pub fn rtree(&mut self, relation: &str, column: &str) -> Result<(), Refusal>
         ensures treed { OnOk result (Treed self.old self.new (record { relation = relation.now; column = column.now })) }
         ensures unchanged { OnErr result (IsUnchanged self.old self.new) }
-        ensures refused { IfErr result (IsRefusedBy is_none self.old (Rtree (record { relation = relation.now; column = column.now }))) }
+        ensures refused { IfErr result (IsStatementRefused is_none self.old (Rtree (record { relation = relation.now; column = column.now }))) }
         ensures carries { Carries self.old self.new }
-        ensures cause { HasCause self.old.pool self.new.pool result }
+        ensures cause { HasStoreCause self.old.pool self.new.pool result }
     {
         rtree(
             self.alloc,
@@ -188,7 +189,7 @@ impl<D: Disk> Store<D> {
         ensures refused { IfErr result (LoadIsRefusedBy self.old relation.now rows.items) }
         ensures plain { IfErr result (IsRefusedPlainly self.old relation.now rows.items) }
         ensures carries { Carries self.old self.new }
-        ensures cause { HasCause self.old.pool self.new.pool result }
+        ensures cause { HasStoreCause self.old.pool self.new.pool result }
     {
         load_rows(
             self.alloc,

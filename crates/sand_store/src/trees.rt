@@ -3,7 +3,7 @@ ghost use Rattle.std.specs.Prelude.{◌≡◌, ℕ, List, IfOk, IfErr};
 ghost use Rattle.page_pool.specs.Pool.{IsOpen, IsTold};
 ghost use Rattle.page_pool.specs.Steps.{InCommand};
 ghost use Rattle.sand_base.specs.declared.value.Value.{Value};
-ghost use Rattle.sand_store.specs.Calls.{HasCause};
+ghost use Rattle.sand_store.specs.Calls.{HasStoreCause};
 ghost use Rattle.sand_store.specs.Standing.{TreeStands};
 ghost use Rattle.sand_store.specs.Steps.{SameColumns, IsOutside};
 ghost use Rattle.sand_store.specs.Trees.{CanChange, rows_after, TreesCanChange, TreeChanged, TreesChanged};
@@ -11,8 +11,7 @@ ghost use Rattle.sand_store.specs.Trees.{CanChange, rows_after, TreesCanChange, 
 use crate::refusal::refusal_of;
 use crate::shapes::plane_shape_at;
 use page_pool::{Disk, Pool};
-use r_tree::RTree;
-use rtree_rows::{with_shape, without_shape};
+use r_tree::{RTree, with_shape, without_shape};
 use sand_base::{Refusal, Row};
 use std::alloc::Global;
 
@@ -35,10 +34,11 @@ fn changed_tree<D: Disk>(
 ) -> Result<RTree, Refusal>
     requires opened { IsOpen pool.old }
     requires can { IsTold pool.old → (rows : List (ℕ × List Value)) × (TreeStands pool.old.pages rows (column, tree) × CanChange change id row.now rows) }
-    ensures changed { IfOk result (λ after. IsTold pool.old → (rows : List (ℕ × List Value)) → TreeStands pool.old.pages rows (column, tree) → CanChange change id row.now rows → TreeChanged pool.old.pages pool.new.pages (rows_after change id row.now rows) column tree after) }
+    ensures changed { IfOk result (λ after. IsTold pool.old → (rows : List (ℕ × List Value)) → TreeStands pool.old.pages rows (column, tree) → CanChange change id row.now rows
+        → TreeChanged pool.old.pages pool.new.pages (rows_after change id row.now rows) column tree after) }
     ensures outside { IfErr result IsOutside }
     ensures within { InCommand pool.old pool.new }
-    ensures cause { HasCause pool.old pool.new result }
+    ensures cause { HasStoreCause pool.old pool.new result }
 {
     let Some(shape) = plane_shape_at(row, column) else {
         return Err(Refusal::Memory);
@@ -66,11 +66,12 @@ pub fn changed_trees<D: Disk>(
 ) -> Result<Vec<(usize, RTree)>, Refusal>
     requires opened { IsOpen pool.old }
     requires can { IsTold pool.old → (rows : List (ℕ × List Value)) × (TreesCanChange pool.old.pages rows trees.now × CanChange change id row.now rows) }
-    ensures changed { IfOk result (λ after. IsTold pool.old → (rows : List (ℕ × List Value)) → TreesCanChange pool.old.pages rows trees.now → CanChange change id row.now rows → TreesChanged pool.old.pages pool.new.pages (rows_after change id row.now rows) trees.now after.items) }
+    ensures changed { IfOk result (λ after. IsTold pool.old → (rows : List (ℕ × List Value)) → TreesCanChange pool.old.pages rows trees.now → CanChange change id row.now rows
+        → TreesChanged pool.old.pages pool.new.pages (rows_after change id row.now rows) trees.now after.items) }
     ensures columns { IfOk result (λ after. SameColumns trees.now after.items) }
     ensures outside { IfErr result IsOutside }
     ensures within { InCommand pool.old pool.new }
-    ensures cause { HasCause pool.old pool.new result }
+    ensures cause { HasStoreCause pool.old pool.new result }
 {
     let mut changed = Vec::new(alloc);
     'trees: for at in 0..trees.len() {

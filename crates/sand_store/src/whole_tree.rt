@@ -7,7 +7,7 @@ ghost use Rattle.sand_model.specs.Database.{new_index};
 ghost use Rattle.sand_model.specs.Measure.{Measure, IsMeasure};
 ghost use Rattle.sand_model.specs.StatementChecks.{is_overfull};
 ghost use Rattle.sand_store.specs.Building.{Builds};
-ghost use Rattle.sand_store.specs.Calls.{HasCause};
+ghost use Rattle.sand_store.specs.Calls.{HasStoreCause};
 ghost use Rattle.sand_store.specs.Contents.{rows_in};
 ghost use Rattle.sand_store.specs.Standing.{RelationStands};
 ghost use Rattle.sand_store.specs.Steps.{IsOutsideOrFull};
@@ -44,7 +44,7 @@ pub fn quadtree_of<D: Disk>(
         → is_overfull limits (column, new_index gap (rows_in pool.old.pages relation.now) column (Some threshold)) ≡ true) }
     ensures outside { IfErr result IsOutsideOrFull }
     ensures within { InCommand pool.old pool.new }
-    ensures cause { HasCause pool.old pool.new result }
+    ensures cause { HasStoreCause pool.old pool.new result }
 {
     // For the proof alone: ids are below the next one, which is a u32.
     let _next = relation.next;

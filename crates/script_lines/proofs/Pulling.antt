@@ -3,8 +3,8 @@ use Rattle.std.proofs.Common.{◌≡◌, ℕ, ◌≤◌, Bool, true, false, cond
 use Rattle.std.specs.Io.KnownBytes.{Consumes}
 use Rattle.sand_base.specs.declared.source.Failed.{Failed}
 use Rattle.script_lines.specs.Lines.{is_no_line, is_short_line}
-use Rattle.script_lines.specs.Parts.{ChunkState, IsCutSoFar, IsAt, Seeks}
-use Rattle.script_lines.specs.Reading.{hand_of, Stands, Reads, GivesLine, Finds, found_line, Ends, HasFound}
+use Rattle.script_lines.specs.Parts.{ChunkState, IsCutSoFar, IsReaderAt, SeeksStop}
+use Rattle.script_lines.specs.Reading.{hand_of, ReaderStands, ReadsLines, GivesLine, FindsLines, found_line, EndsLines, HasFound}
 use Rattle.script_lines.specs.declared.TheConstants.{LONGEST_SCRIPT}
 use Rattle.script_lines.specs.declared.script_lines.Found.{Found}
 use Rattle.script_lines.specs.declared.script_lines.Found.TheVariants as found
@@ -24,10 +24,10 @@ pub record Begun (old begun : ScriptLines) : Type 0 where
 
 -- it stands where it stood
 pub begun_at : (old begun : ScriptLines) (left : Option (List ℕ)) (bytes : List ℕ) (given : List (List ℕ)) → Begun old begun
-    → Reads old left bytes given → IsAt begun.chunk begun.line bytes given
+    → ReadsLines old left bytes given → IsReaderAt begun.chunk begun.line bytes given
 begun_at old begun left bytes given b reads =
-    let at : IsAt old.chunk (hand_of old) bytes given = subst (λ e. Stands e old left bytes given) b.more reads in
-    subst (λ (r : ScriptLines). IsAt r.chunk r.line bytes given) (sym b.is) at
+    let at : IsReaderAt old.chunk (hand_of old) bytes given = subst (λ e. ReaderStands e old left bytes given) b.more reads in
+    subst (λ (r : ScriptLines). IsReaderAt r.chunk r.line bytes given) (sym b.is) at
 
 -- no line was given since
 begun_open : (old begun : ScriptLines) → Begun old begun → begun.is_given ≡ false
@@ -39,20 +39,20 @@ begun_more old begun b = ap (λ (r : ScriptLines). r.is_ended) b.is ∙ b.more
 
 -- a line in hand that is given is one found
 Finds-line : (answer : Found) (reader : ScriptLines) (left : Option (List ℕ)) (bytes : List ℕ) (given : List (List ℕ))
-    → answer ≡ found_line reader.line → GivesLine reader left bytes given → Finds (Ok answer) reader left bytes given
+    → answer ≡ found_line reader.line → GivesLine reader left bytes given → FindsLines (Ok answer) reader left bytes given
 Finds-line answer reader left bytes given is gives =
-    let go : (b : Bool) → is_short_line reader.line ≡ b → Finds (Ok (cond b found.Line found.TooLong)) reader left bytes given =
+    let go : (b : Bool) → is_short_line reader.line ≡ b → FindsLines (Ok (cond b found.Line found.TooLong)) reader left bytes given =
     elim [ true ↦ λ e. gives | false ↦ λ e. gives ] in
-    subst (λ a. Finds (Ok a) reader left bytes given) (sym is) (go (is_short_line reader.line) refl)
+    subst (λ a. FindsLines (Ok a) reader left bytes given) (sym is) (go (is_short_line reader.line) refl)
 
 -- a line feed was met
 pub Pulls-line : (old begun new : ScriptLines) (answer : Found) (chunk : ChunkState) (line before left : Option (List ℕ)) → Begun old begun
-    → (s : Stop) → s ≡ stop.LineFeed → Seeks (Ok s) begun.chunk chunk begun.line line before left
+    → (s : Stop) → s ≡ stop.LineFeed → SeeksStop (Ok s) begun.chunk chunk begun.line line before left
     → new ≡ record { chunk = chunk; line = line; is_given = true; is_ended = begun.is_ended } → answer ≡ found_line line
-    → (bytes : List ℕ) (given : List (List ℕ)) → Reads old before bytes given
-    → (read : List ℕ) × Consumes before left read × Finds (Ok answer) new left (bytes ++ read) given
+    → (bytes : List ℕ) (given : List (List ℕ)) → ReadsLines old before bytes given
+    → (read : List ℕ) × Consumes before left read × FindsLines (Ok answer) new left (bytes ++ read) given
 Pulls-line old begun new answer chunk line before left b s stopped seeks is found_is bytes given reads =
-    let one = subst (λ v. Seeks (Ok v) begun.chunk chunk begun.line line before left) stopped seeks bytes given (begun_at old begun before bytes given b reads) in
+    let one = subst (λ v. SeeksStop (Ok v) begun.chunk chunk begun.line line before left) stopped seeks bytes given (begun_at old begun before bytes given b reads) in
     let all = bytes ++ one.0 in
     let more = given ++ one.2.0 ∷ [] in
     let first = lines-first (Some []) chunk.ahead all more LONGEST_SCRIPT one.2.2.is_cut in
@@ -64,35 +64,35 @@ Pulls-line old begun new answer chunk line before left b s stopped seeks is foun
       others = first.0;
       first = first.1;
       most = one.2.2.most;
-      reads = subst (λ r. Reads r left all more) (sym now) one.2.2;
+      reads = subst (λ r. ReadsLines r left all more) (sym now) one.2.2;
     } in
     (one.0, one.1, Finds-line answer new left all given (found_is ∙ ap found_line (sym (ap (λ (r : ScriptLines). r.line) is))) gives)
 
 -- what was cut of a text that isn't too long, with no byte ahead
 whole_cut : (chunk : ChunkState) (line : Option (List ℕ)) (bytes : List ℕ) (given : List (List ℕ)) → length bytes ≤ LONGEST_SCRIPT → chunk.ahead ≡ []
-    → IsAt chunk line bytes given → IsCutSoFar line [] bytes given
+    → IsReaderAt chunk line bytes given → IsCutSoFar line [] bytes given
 whole_cut chunk line bytes given short none at =
     subst (λ b. IsCutSoFar line [] b given) (take_all LONGEST_SCRIPT bytes short) (subst (λ a. IsCutSoFar line a (take LONGEST_SCRIPT bytes) given) none at.is_cut)
 
 -- the end of the script was met
 pub Pulls-end : (old begun new : ScriptLines) (answer : Found) (chunk : ChunkState) (line before left : Option (List ℕ)) → Begun old begun
-    → (s : Stop) → s ≡ stop.End → Seeks (Ok s) begun.chunk chunk begun.line line before left
-    → Ends (record { chunk = chunk; line = line; is_given = begun.is_given; is_ended = begun.is_ended }) new answer
-    → (bytes : List ℕ) (given : List (List ℕ)) → Reads old before bytes given
-    → (read : List ℕ) × Consumes before left read × Finds (Ok answer) new left (bytes ++ read) given
+    → (s : Stop) → s ≡ stop.End → SeeksStop (Ok s) begun.chunk chunk begun.line line before left
+    → EndsLines (record { chunk = chunk; line = line; is_given = begun.is_given; is_ended = begun.is_ended }) new answer
+    → (bytes : List ℕ) (given : List (List ℕ)) → ReadsLines old before bytes given
+    → (read : List ℕ) × Consumes before left read × FindsLines (Ok answer) new left (bytes ++ read) given
 Pulls-end old begun new answer chunk line before left b s stopped seeks ends bytes given reads =
-    let one = subst (λ v. Seeks (Ok v) begun.chunk chunk begun.line line before left) stopped seeks bytes given (begun_at old begun before bytes given b reads) in
+    let one = subst (λ v. SeeksStop (Ok v) begun.chunk chunk begun.line line before left) stopped seeks bytes given (begun_at old begun before bytes given b reads) in
     let all = bytes ++ one.0 in
     let mid : ScriptLines = record { chunk = chunk; line = line; is_given = begun.is_given; is_ended = begun.is_ended } in
     let is_cut = whole_cut chunk line all given one.2.1 one.2.2 one.2.3 in
     let go : (e : Bool) → is_no_line line ≡ e
     → MatchBool e ((answer ≡ found.End) × (new ≡ record mid { is_ended = true })) ((answer ≡ found_line line) × (new ≡ record mid { is_given = true; is_ended = true }))
-    → Finds (Ok answer) new left all given =
+    → FindsLines (Ok answer) new left all given =
     elim [
       | true ↦ λ none is.
           let whole = lines-given line all given none is_cut in
-          let stands : Reads new left all given = subst (λ r. Reads r left all given) (sym is.1) (one.2.0, one.2.1, whole) in
-          subst (λ a. Finds (Ok a) new left all given) (sym is.0) (one.2.0, one.2.1, whole, stands)
+          let stands : ReadsLines new left all given = subst (λ r. ReadsLines r left all given) (sym is.1) (one.2.0, one.2.1, whole) in
+          subst (λ a. FindsLines (Ok a) new left all given) (sym is.0) (one.2.0, one.2.1, whole, stands)
       | false ↦ λ some is.
           let last = lines-last line all given some is_cut in
           let more = given ++ last.0 ∷ [] in
@@ -102,7 +102,7 @@ Pulls-end old begun new answer chunk line before left b s stopped seeks ends byt
             others = [];
             first = last.2 ∙ sym (append-nil more);
             most = omega (arith, one.2.1);
-            reads = subst (λ r. Reads r left all more) (sym is.1) (one.2.0, one.2.1, last.2);
+            reads = subst (λ r. ReadsLines r left all more) (sym is.1) (one.2.0, one.2.1, last.2);
           } in
           Finds-line answer new left all given (is.0 ∙ ap found_line (sym (ap (λ (r : ScriptLines). r.line) is.1))) gives
     ] in
@@ -110,20 +110,20 @@ Pulls-end old begun new answer chunk line before left b s stopped seeks ends byt
 
 -- the reader as it is now, between two bytes
 stands_now : (old begun : ScriptLines) (chunk : ChunkState) (line left : Option (List ℕ)) (bytes : List ℕ) (given : List (List ℕ)) → Begun old begun
-    → IsAt chunk line bytes given
-    → Reads (record { chunk = chunk; line = line; is_given = begun.is_given; is_ended = begun.is_ended }) left bytes given
+    → IsReaderAt chunk line bytes given
+    → ReadsLines (record { chunk = chunk; line = line; is_given = begun.is_given; is_ended = begun.is_ended }) left bytes given
 stands_now old begun chunk line left bytes given b at =
-    subst (λ e. Reads (record { chunk = chunk; line = line; is_given = begun.is_given; is_ended = e }) left bytes given) (sym (begun_more old begun b))
-    (subst (λ g. IsAt chunk (cond g (Some []) line) bytes given) (sym (begun_open old begun b)) at)
+    subst (λ e. ReadsLines (record { chunk = chunk; line = line; is_given = begun.is_given; is_ended = e }) left bytes given) (sym (begun_more old begun b))
+    (subst (λ g. IsReaderAt chunk (cond g (Some []) line) bytes given) (sym (begun_open old begun b)) at)
 
 -- a byte too many was read
 pub Pulls-over : (old begun : ScriptLines) (chunk : ChunkState) (line before left : Option (List ℕ)) → Begun old begun
-    → (s : Stop) → s ≡ stop.ScriptTooLong → Seeks (Ok s) begun.chunk chunk begun.line line before left
-    → (bytes : List ℕ) (given : List (List ℕ)) → Reads old before bytes given
+    → (s : Stop) → s ≡ stop.ScriptTooLong → SeeksStop (Ok s) begun.chunk chunk begun.line line before left
+    → (bytes : List ℕ) (given : List (List ℕ)) → ReadsLines old before bytes given
     → (read : List ℕ) × Consumes before left read
-    × Finds (Ok found.ScriptTooLong) (record { chunk = chunk; line = line; is_given = begun.is_given; is_ended = begun.is_ended }) left (bytes ++ read) given
+    × FindsLines (Ok found.ScriptTooLong) (record { chunk = chunk; line = line; is_given = begun.is_given; is_ended = begun.is_ended }) left (bytes ++ read) given
 Pulls-over old begun chunk line before left b s stopped seeks bytes given reads =
-    let one = subst (λ v. Seeks (Ok v) begun.chunk chunk begun.line line before left) stopped seeks bytes given (begun_at old begun before bytes given b reads) in
+    let one = subst (λ v. SeeksStop (Ok v) begun.chunk chunk begun.line line before left) stopped seeks bytes given (begun_at old begun before bytes given b reads) in
     let all = bytes ++ one.0 in
     let is_cut : IsCutSoFar line [] (take LONGEST_SCRIPT all) given =
     subst (λ a. IsCutSoFar line a (take LONGEST_SCRIPT all) given) one.2.1 one.2.2.is_cut in
@@ -131,10 +131,10 @@ Pulls-over old begun chunk line before left b s stopped seeks bytes given reads 
 
 -- the source failed
 pub Pulls-failed : (old begun : ScriptLines) (chunk : ChunkState) (line before left : Option (List ℕ)) (e : Failed) → Begun old begun
-    → Seeks (Err e) begun.chunk chunk begun.line line before left
-    → (bytes : List ℕ) (given : List (List ℕ)) → Reads old before bytes given
+    → SeeksStop (Err e) begun.chunk chunk begun.line line before left
+    → (bytes : List ℕ) (given : List (List ℕ)) → ReadsLines old before bytes given
     → (read : List ℕ) × Consumes before left read
-    × Finds (Err e) (record { chunk = chunk; line = line; is_given = begun.is_given; is_ended = begun.is_ended }) left (bytes ++ read) given
+    × FindsLines (Err e) (record { chunk = chunk; line = line; is_given = begun.is_given; is_ended = begun.is_ended }) left (bytes ++ read) given
 Pulls-failed old begun chunk line before left e b seeks bytes given reads =
     let one = seeks bytes given (begun_at old begun before bytes given b reads) in
     let all = bytes ++ one.0 in
@@ -147,7 +147,7 @@ HasFound-line answer line is =
     subst (λ a. HasFound (Ok a) line) (sym is) (go (is_short_line line) refl)
 
 -- the end of the script gives the line in hand, or none
-pub HasFound-end : (old new : ScriptLines) (answer : Found) → Ends old new answer → HasFound (Ok answer) new.line
+pub HasFound-end : (old new : ScriptLines) (answer : Found) → EndsLines old new answer → HasFound (Ok answer) new.line
 HasFound-end old new answer ends =
     let go : (e : Bool) → MatchBool e ((answer ≡ found.End) × (new ≡ record old { is_ended = true })) ((answer ≡ found_line old.line) × (new ≡ record old { is_given = true; is_ended = true }))
     → HasFound (Ok answer) new.line =

@@ -8,7 +8,7 @@ use Rattle.std.proofs.lemmas.List.{drop_all, length-drop, length-take-le}
 use Rattle.std.specs.Io.KnownBytes.{Keeps}
 use Rattle.std.proofs.KnownBytes.{Consumes-trans, Consumes-nil, Consumes-kept}
 use Rattle.sand_base.specs.declared.source.Failed.{Failed}
-use Rattle.script_lines.specs.Parts.{ChunkState, Refills, IsCutSoFar, IsAt, FillsLine, ReadsOn, Seeks, bytes_to_come}
+use Rattle.script_lines.specs.Parts.{ChunkState, Refills, IsCutSoFar, IsReaderAt, FillsLine, ReadsOn, SeeksStop, bytes_to_come}
 use Rattle.script_lines.specs.declared.TheConstants.{LONGEST_SCRIPT}
 use Rattle.script_lines.specs.declared.script_lines.Stop.TheVariants as stop
 use Rattle.script_lines.proofs.Cutting.{IsCutSoFar-read}
@@ -22,8 +22,8 @@ take-read n bytes read few =
 
 -- more was read once no byte was ahead
 pub IsAt-read : (old new : ChunkState) (hand before left : Option (List ℕ)) (some : Bool) (bytes : List ℕ) (given : List (List ℕ))
-    → old.ahead ≡ [] → old.count ≤ LONGEST_SCRIPT → (r : Refills some old new before left) → IsAt old hand bytes given
-    → IsAt new hand (bytes ++ r.read) given
+    → old.ahead ≡ [] → old.count ≤ LONGEST_SCRIPT → (r : Refills some old new before left) → IsReaderAt old hand bytes given
+    → IsReaderAt new hand (bytes ++ r.read) given
 IsAt-read old new hand before left some bytes given none few r at =
     let counted : length (bytes ++ r.read) ≡ new.count = length-append bytes r.read ∙ ap (λ n. n + length r.read) at.count ∙ sym r.count in
     let short : length bytes ≤ LONGEST_SCRIPT = subst (λ n. n ≤ LONGEST_SCRIPT) (sym at.count) few in
@@ -41,14 +41,14 @@ IsAt-read old new hand before left some bytes given none few r at =
 -- nothing was read yet
 pub ReadsOn-begin : (chunk : ChunkState) (hand left : Option (List ℕ)) → ReadsOn chunk chunk hand hand left left
 ReadsOn-begin chunk hand left bytes given at =
-    ([], Consumes-nil left, subst (λ b. IsAt chunk hand b given) (sym (append-nil bytes)) at)
+    ([], Consumes-nil left, subst (λ b. IsReaderAt chunk hand b given) (sym (append-nil bytes)) at)
 
 -- the bytes ahead joined the line in hand, to their end
 pub ReadsOn-fill : (old mid new : ChunkState) (hand hand' hand'' before left : Option (List ℕ)) → ReadsOn old mid hand hand' before left
     → FillsLine false hand' hand'' mid.ahead new.ahead → new.count ≡ mid.count → ReadsOn old new hand hand'' before left
 ReadsOn-fill old mid new hand hand' hand'' before left so_far fills same bytes given at =
     let one = so_far bytes given at in
-    let now : IsAt new hand'' (bytes ++ one.0) given = record {
+    let now : IsReaderAt new hand'' (bytes ++ one.0) given = record {
       count = one.2.count ∙ sym same;
       most = one.2.most;
       is_cut = fills.1 (take LONGEST_SCRIPT (bytes ++ one.0)) given one.2.is_cut;
@@ -63,22 +63,22 @@ ReadsOn-refill old mid new hand hand' before between left some so_far none few r
     let now = IsAt-read mid new hand' between left some (bytes ++ one.0) given none few r one.2 in (
       one.0 ++ r.read,
       Consumes-trans before between left one.0 r.read one.1 r.consumed,
-      subst (λ b. IsAt new hand' b given) (append_assoc bytes one.0 r.read) now,
+      subst (λ b. IsReaderAt new hand' b given) (append_assoc bytes one.0 r.read) now,
     )
 
 -- a line feed was met
 pub Seeks-line : (old mid new : ChunkState) (hand hand' hand'' before left : Option (List ℕ)) → ReadsOn old mid hand hand' before left
-    → FillsLine true hand' hand'' mid.ahead new.ahead → new.count ≡ mid.count → Seeks (Ok stop.LineFeed) old new hand hand'' before left
+    → FillsLine true hand' hand'' mid.ahead new.ahead → new.count ≡ mid.count → SeeksStop (Ok stop.LineFeed) old new hand hand'' before left
 Seeks-line old mid new hand hand' hand'' before left so_far fills same bytes given at =
     let one = so_far bytes given at in
     let ended = fills.1 (take LONGEST_SCRIPT (bytes ++ one.0)) given one.2.is_cut in
-    let now : IsAt new (Some []) (bytes ++ one.0) (given ++ ended.0 ∷ []) =
+    let now : IsReaderAt new (Some []) (bytes ++ one.0) (given ++ ended.0 ∷ []) =
     record { count = one.2.count ∙ sym same; most = one.2.most; is_cut = ended.2 } in
     (one.0, one.1, (ended.0, ended.1, now))
 
 -- a byte too many was read, and no line ends before it any more
 pub Seeks-over : (old new : ChunkState) (hand hand' before left : Option (List ℕ)) → ReadsOn old new hand hand' before left
-    → new.ahead ≡ [] → LONGEST_SCRIPT < new.count → Seeks (Ok stop.ScriptTooLong) old new hand hand' before left
+    → new.ahead ≡ [] → LONGEST_SCRIPT < new.count → SeeksStop (Ok stop.ScriptTooLong) old new hand hand' before left
 Seeks-over old new hand hand' before left so_far none many bytes given at =
     let one = so_far bytes given at in
     let all : length (bytes ++ one.0) ≡ LONGEST_SCRIPT + 1 = omega (arith, one.2.count, one.2.most, many) in
@@ -95,7 +95,7 @@ take_none n xs none = take_all n xs (omega (arith, ap length none)) ∙ none
 
 -- the end of the script
 pub Seeks-end : (old mid new : ChunkState) (hand hand' before between left : Option (List ℕ)) → ReadsOn old mid hand hand' before between
-    → mid.ahead ≡ [] → mid.count ≤ LONGEST_SCRIPT → (some : Bool) → some ≡ false → Refills some mid new between left → Seeks (Ok stop.End) old new hand hand' before left
+    → mid.ahead ≡ [] → mid.count ≤ LONGEST_SCRIPT → (some : Bool) → some ≡ false → Refills some mid new between left → SeeksStop (Ok stop.End) old new hand hand' before left
 Seeks-end old mid new hand hand' before between left so_far none few some ended r bytes given at =
     let one = ReadsOn-refill old mid new hand hand' before between left some so_far none few r bytes given at in
     let empty : r.read ≡ [] = no_bytes r.read (sym ended ∙ r.some_is) in
@@ -104,13 +104,13 @@ Seeks-end old mid new hand hand' before between left so_far none few some ended 
 
 -- the source failed
 pub Seeks-failed : (old mid new : ChunkState) (hand hand' before between left : Option (List ℕ)) (e : Failed) → ReadsOn old mid hand hand' before between
-    → mid.ahead ≡ [] → mid.count ≤ LONGEST_SCRIPT → Keeps between left → new ≡ mid → Seeks (Err e) old new hand hand' before left
+    → mid.ahead ≡ [] → mid.count ≤ LONGEST_SCRIPT → Keeps between left → new ≡ mid → SeeksStop (Err e) old new hand hand' before left
 Seeks-failed old mid new hand hand' before between left e so_far none few keeps same bytes given at =
     let one = so_far bytes given at in
     let short : length (bytes ++ one.0) ≤ LONGEST_SCRIPT = omega (arith, one.2.count, few) in (
       one.0,
       Consumes-kept before between left one.0 one.1 keeps,
-      (short, ap (λ (c : ChunkState). c.ahead) same ∙ none, subst (λ c. IsAt c hand' (bytes ++ one.0) given) (sym same) one.2),
+      (short, ap (λ (c : ChunkState). c.ahead) same ∙ none, subst (λ c. IsReaderAt c hand' (bytes ++ one.0) given) (sym same) one.2),
     )
 
 -- no more bytes are to come after a read than before it

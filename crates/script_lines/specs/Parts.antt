@@ -39,7 +39,7 @@ pub record IsCutSoFar (hand : Option (List ℕ)) (ahead bytes : List ℕ) (given
   pub leads : (more : List ℕ) → cut (bytes ++ more) ≡ behind given (cut ((begun ++ ahead) ++ more))
 
 -- the reader is between two bytes of the script, of which these were read
-pub record IsAt (chunk : ChunkState) (hand : Option (List ℕ)) (bytes : List ℕ) (given : List (List ℕ)) : Type 0 where
+pub record IsReaderAt (chunk : ChunkState) (hand : Option (List ℕ)) (bytes : List ℕ) (given : List (List ℕ)) : Type 0 where
   pub count : length bytes ≡ chunk.count
   pub most : length bytes ≤ LONGEST_SCRIPT + 1
   pub is_cut : IsCutSoFar hand chunk.ahead (take LONGEST_SCRIPT bytes) given
@@ -53,24 +53,24 @@ FillsLine false hand hand' ahead ahead' =
     (ahead' ≡ []) × ((bytes : List ℕ) (given : List (List ℕ)) → IsCutSoFar hand ahead bytes given → IsCutSoFar hand' ahead' bytes given)
 
 -- where the reader stands once it stopped
-abbrev pub StopsAt : Result Stop Failed → ChunkState → Option (List ℕ) → Option (List ℕ) → List ℕ → List (List ℕ) → Type 0
-StopsAt (Ok stop.LineFeed) chunk hand left bytes given =
-    (line : List ℕ) × (hand ≡ clipped line) × IsAt chunk (Some []) bytes (given ++ line ∷ [])
-StopsAt (Ok stop.End) chunk hand left bytes given =
-    IsAtEnd left × (length bytes ≤ LONGEST_SCRIPT) × (chunk.ahead ≡ []) × IsAt chunk hand bytes given
-StopsAt (Ok stop.ScriptTooLong) chunk hand left bytes given =
-    (length bytes ≡ LONGEST_SCRIPT + 1) × (chunk.ahead ≡ []) × IsAt chunk hand bytes given
-StopsAt (Err e) chunk hand left bytes given = (length bytes ≤ LONGEST_SCRIPT) × (chunk.ahead ≡ []) × IsAt chunk hand bytes given
+abbrev pub ReaderStopsAt : Result Stop Failed → ChunkState → Option (List ℕ) → Option (List ℕ) → List ℕ → List (List ℕ) → Type 0
+ReaderStopsAt (Ok stop.LineFeed) chunk hand left bytes given =
+    (line : List ℕ) × (hand ≡ clipped line) × IsReaderAt chunk (Some []) bytes (given ++ line ∷ [])
+ReaderStopsAt (Ok stop.End) chunk hand left bytes given =
+    IsAtEnd left × (length bytes ≤ LONGEST_SCRIPT) × (chunk.ahead ≡ []) × IsReaderAt chunk hand bytes given
+ReaderStopsAt (Ok stop.ScriptTooLong) chunk hand left bytes given =
+    (length bytes ≡ LONGEST_SCRIPT + 1) × (chunk.ahead ≡ []) × IsReaderAt chunk hand bytes given
+ReaderStopsAt (Err e) chunk hand left bytes given = (length bytes ≤ LONGEST_SCRIPT) × (chunk.ahead ≡ []) × IsReaderAt chunk hand bytes given
 
 -- wherever the reader stood, it read on
 abbrev pub ReadsOn : ChunkState → ChunkState → Option (List ℕ) → Option (List ℕ) → Option (List ℕ) → Option (List ℕ) → Type 0
-ReadsOn old new hand hand' before left = (bytes : List ℕ) (given : List (List ℕ)) → IsAt old hand bytes given
-    → (read : List ℕ) × Consumes before left read × IsAt new hand' (bytes ++ read) given
+ReadsOn old new hand hand' before left = (bytes : List ℕ) (given : List (List ℕ)) → IsReaderAt old hand bytes given
+    → (read : List ℕ) × Consumes before left read × IsReaderAt new hand' (bytes ++ read) given
 
 -- wherever the reader stood, it read on up to a stop
-abbrev pub Seeks : Result Stop Failed → ChunkState → ChunkState → Option (List ℕ) → Option (List ℕ) → Option (List ℕ) → Option (List ℕ) → Type 0
-Seeks answer old new hand hand' before left = (bytes : List ℕ) (given : List (List ℕ)) → IsAt old hand bytes given
-    → (read : List ℕ) × Consumes before left read × StopsAt answer new hand' left (bytes ++ read) given
+abbrev pub SeeksStop : Result Stop Failed → ChunkState → ChunkState → Option (List ℕ) → Option (List ℕ) → Option (List ℕ) → Option (List ℕ) → Type 0
+SeeksStop answer old new hand hand' before left = (bytes : List ℕ) (given : List (List ℕ)) → IsReaderAt old hand bytes given
+    → (read : List ℕ) × Consumes before left read × ReaderStopsAt answer new hand' left (bytes ++ read) given
 
 -- how many bytes are ahead or not yet read
 abbrev pub bytes_to_come : ChunkState → ℕ

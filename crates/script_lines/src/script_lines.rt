@@ -1,7 +1,7 @@
 ghost use Rattle.std.specs.Prelude.{◌≡◌, ◌≤◌, [], ℕ, List, Option, true, false, length, IfOk, IfSome};
 ghost use Rattle.sand_base.specs.Faults.{HasCause};
-ghost use Rattle.script_lines.specs.Parts.{BytesFall, FillsLine, Seeks};
-ghost use Rattle.script_lines.specs.Reading.{Ends, Falls, HasFound, Pulls, Reads, found_line, hand_of};
+ghost use Rattle.script_lines.specs.Parts.{BytesFall, FillsLine, SeeksStop};
+ghost use Rattle.script_lines.specs.Reading.{EndsLines, LeavesLess, HasFound, Pulls, ReadsLines, found_line, hand_of};
 ghost use Rattle.script_text.specs.declared.TheConstants.{LONGEST_LINE};
 
 use crate::chunk::Chunk;
@@ -55,7 +55,7 @@ fn fill_line(chunk: &mut Chunk, line: &mut OpenLine) -> bool
 
 // Reads on until a line feed is met or no more comes.
 fn seek<S: Source>(chunk: &mut Chunk, line: &mut OpenLine, script: &mut S) -> Result<Stop, Failed>
-    ensures seeks { Seeks result chunk.old chunk.new line.old line.new (S.left script.old) (S.left script.new) }
+    ensures seeks { SeeksStop result chunk.old chunk.new line.old line.new (S.left script.old) (S.left script.new) }
     ensures fall { BytesFall result chunk.old chunk.new }
     ensures cause { HasCause (S.faults script.old) (S.faults script.new) result }
 {
@@ -77,7 +77,7 @@ fn seek<S: Source>(chunk: &mut Chunk, line: &mut OpenLine, script: &mut S) -> Re
 impl ScriptLines {
     /// A reader before the first byte. It takes the memory for the longest line.
     pub fn new(alloc: Global) -> Result<ScriptLines, NoMemory>
-        ensures { IfOk result (λ reader. (left : Option (List ℕ)) → Reads reader left [] []) }
+        ensures { IfOk result (λ reader. (left : Option (List ℕ)) → ReadsLines reader left [] []) }
     {
         Ok(ScriptLines {
             chunk: Chunk::new(),
@@ -91,7 +91,7 @@ impl ScriptLines {
     pub fn next<S: Source>(&mut self, script: &mut S) -> Result<Found, Failed>
         ensures pulls { Pulls result self.old self.new (S.left script.old) (S.left script.new) }
         ensures found { HasFound result self.new.line }
-        ensures falls { Falls result self.old self.new }
+        ensures falls { LeavesLess result self.old self.new }
         ensures cause { HasCause (S.faults script.old) (S.faults script.new) result }
     {
         if self.is_ended {
@@ -139,7 +139,7 @@ impl ScriptLines {
 
     // The end of the script: a last line without a line feed is given too.
     fn end(&mut self) -> Found
-        ensures { Ends self.old self.new result }
+        ensures { EndsLines self.old self.new result }
     {
         self.is_ended = true;
         if self.line.is_empty() {

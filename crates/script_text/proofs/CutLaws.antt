@@ -5,7 +5,8 @@ use Rattle.std.specs.List.{prefix_len}
 use Rattle.script_text.specs.Lexical.{Placed, ArePieces, IsCut, IsFault, is_blank, skip_blanks}
 use Rattle.script_text.specs.Lexing.{Cut, Lexed, first_cut, put, lex, pieces, unread}
 use Rattle.script_text.proofs.LexLemmas.{lex-none, lex-some, shorter-cut}
-use Rattle.script_text.proofs.TokenLemmas.{first_cut-token, first_cut-fault, token-first_cut, fault-first_cut}
+use Rattle.script_text.proofs.CutTokens.{first_cut-fault}
+use Rattle.script_text.proofs.TokenLemmas.{first_cut-token, token-first_cut, fault-first_cut}
 
 -- nothing is left, or it begins with a fault
 abbrev pub IsEnd : List ℕ → Type 0

@@ -6,10 +6,12 @@ use Rattle.script_text.specs.Form.{Class, head_fits, Rule, a_plan, more_columns,
 use Rattle.script_text.specs.Grammar.{spelled_at, spelled, read_at, read_rule, reading}
 use Rattle.script_text.specs.Lexical.{Placed}
 use Rattle.statements.specs.Plan as plan
-use Rattle.script_text.specs.Reading.{State, Read, pure, bind, go_on, take_in, note, read}
+use Rattle.script_text.specs.Reading.{TokenState, Read, pure, bind, go_on, take_in, note, read}
 use Rattle.script_text.specs.Rules.{body}
 use Rattle.script_text.specs.Token.{name}
-use Rattle.script_text.proofs.FormLaws.{Example, RuleLaws, both, form-ok, form-bad, form-reads, begins}
+use Rattle.script_text.proofs.FormFronts.{Example}
+use Rattle.script_text.proofs.FormSteps.{both}
+use Rattle.script_text.proofs.FormLaws.{RuleLaws, form-ok, form-bad, form-reads, begins}
 use Rattle.script_text.proofs.Predictive.{null_of, firsts_of, goes_of, may_end, firsts, goes, is_decided, is_guarded, Front, Stops}
 
 -- one token in hand decides each rule
@@ -206,7 +208,7 @@ laws_at (suc n) = record {
 }
 
 -- no more tokens are left than there were
-no-longer : {A : Type 0} (n : ℕ) (f : Form A) (s : State) (y : A × State) → read (read_at n) f s ≡ Ok y → length y.1.left ≤ length s.left
+no-longer : {A : Type 0} (n : ℕ) (f : Form A) (s : TokenState) (y : A × TokenState) → read (read_at n) f s ≡ Ok y → length y.1.left ≤ length s.left
 no-longer n f s y e =
     let is = form-ok (spelled_at n) spelled (read_at n) (laws_at n) f s y e in
     let sum : length s.left ≡ length is.used + length y.1.left = ap length is.split ∙ length-append is.used y.1.left in
@@ -218,7 +220,7 @@ used-some cs null [] e h = absurd (false≢true (sym e ∙ h))
 used-some cs null (t ∷ used) e h = omega arith
 
 -- fewer tokens are left after a form that can't be empty
-pub shorter : {A : Type 0} (n : ℕ) (f : Form A) (s : State) (y : A × State) → may_end f ≡ false → read (read_at n) f s ≡ Ok y → length y.1.left < length s.left
+pub shorter : {A : Type 0} (n : ℕ) (f : Form A) (s : TokenState) (y : A × TokenState) → may_end f ≡ false → read (read_at n) f s ≡ Ok y → length y.1.left < length s.left
 shorter n f s y none e =
     let is = form-ok (spelled_at n) spelled (read_at n) (laws_at n) f s y e in
     let low = gather f y.0 is.flag is.used is.says in
@@ -232,15 +234,15 @@ not-end true h = absurd (false≢true h)
 not-end false h = refl
 
 -- what follows one outcome is the same, where it is so after each value
-same-after : {A B : Type 0} (r : Result (A × State) (List Placed)) (next other : A → Read B) → ((y : A × State) → r ≡ Ok y → next y.0 y.1 ≡ other y.0 y.1) → go_on r next ≡ go_on r other
+same-after : {A B : Type 0} (r : Result (A × TokenState) (List Placed)) (next other : A → Read B) → ((y : A × TokenState) → r ≡ Ok y → next y.0 y.1 ≡ other y.0 y.1) → go_on r next ≡ go_on r other
 same-after (Err bad) next other h = refl
 same-after (Ok y) next other h = h y refl
 
 -- where the rules are read alike before fewer tokens
-module _ (n : ℕ) (R : (r : Rule) → Read (RuleValue r)) (bound : ℕ) (same : (r : Rule) (t : State) → length t.left < bound → read_at n r t ≡ R r t) where
+module _ (n : ℕ) (R : (r : Rule) → Read (RuleValue r)) (bound : ℕ) (same : (r : Rule) (t : TokenState) → length t.left < bound → read_at n r t ≡ R r t) where
   -- both of two forms are read alike
-  agree-both : {A B C : Type 0} (join : B → C → A) (f : Form B) (g : Form C) (s : State) → read (read_at n) f s ≡ read R f s
-      → ((y : B × State) → read (read_at n) f s ≡ Ok y → read (read_at n) g y.1 ≡ read R g y.1)
+  agree-both : {A B C : Type 0} (join : B → C → A) (f : Form B) (g : Form C) (s : TokenState) → read (read_at n) f s ≡ read R f s
+      → ((y : B × TokenState) → read (read_at n) f s ≡ Ok y → read (read_at n) g y.1 ≡ read R g y.1)
       → both join (read (read_at n) f) (read (read_at n) g) s ≡ both join (read R f) (read R g) s
   agree-both join f g s one two =
       same-after (read (read_at n) f s) (λ y. bind (read (read_at n) g) (λ z. pure (join y z))) (λ y. bind (read R g) (λ z. pure (join y z)))
@@ -248,7 +250,7 @@ module _ (n : ℕ) (R : (r : Rule) → Read (RuleValue r)) (bound : ℕ) (same :
       ∙ ap (λ r. go_on r (λ y. bind (read R g) (λ z. pure (join y z)))) one
 
   -- a form is read alike before fewer tokens
-  agree-later : {A : Type 0} (f : Form A) (s : State) → length s.left < bound → read (read_at n) f s ≡ read R f s
+  agree-later : {A : Type 0} (f : Form A) (s : TokenState) → length s.left < bound → read (read_at n) f s ≡ read R f s
   agree-later (nothing y) s less = refl
   agree-later (take c value) s less = refl
   agree-later (alt c join f g) s less =
@@ -261,7 +263,7 @@ module _ (n : ℕ) (R : (r : Rule) → Read (RuleValue r)) (bound : ℕ) (same :
   agree-later (rule r) s less = same r s less
 
   -- and before as many, where it takes a token before each rule
-  pub agree-first : {A : Type 0} (f : Form A) → is_guarded f ≡ true → (s : State) → length s.left ≤ bound → read (read_at n) f s ≡ read R f s
+  pub agree-first : {A : Type 0} (f : Form A) → is_guarded f ≡ true → (s : TokenState) → length s.left ≤ bound → read (read_at n) f s ≡ read R f s
   agree-first (nothing y) d s le = refl
   agree-first (take c value) d s le = refl
   agree-first (alt c join f g) d s le =
@@ -275,20 +277,20 @@ module _ (n : ℕ) (R : (r : Rule) → Read (RuleValue r)) (bound : ℕ) (same :
   agree-first (rule r) d s le = absurd (false≢true d)
 
 -- two depths above the number of tokens are alike
-pub agree : (n k : ℕ) (r : Rule) (s : State) → length s.left < n → length s.left < k → read_at n r s ≡ read_at k r s
+pub agree : (n k : ℕ) (r : Rule) (s : TokenState) → length s.left < n → length s.left < k → read_at n r s ≡ read_at k r s
 agree zero k r s one two = absurd (omega arith)
 agree (suc n) zero r s one two = absurd (omega arith)
 agree (suc n) (suc k) r s one two =
     agree-first n (read_at k) (length s.left) (λ q t less. agree n k q t (omega (arith, less, one)) (omega (arith, less, two))) (body r) (guarded r) s (omega arith)
 
 -- a rule is read as its body
-pub rule-body : (r : Rule) (s : State) → read_rule r s ≡ reading (body r) s
+pub rule-body : (r : Rule) (s : TokenState) → read_rule r s ≡ reading (body r) s
 unfolding read_rule
 rule-body r s =
     agree-first (length s.left) read_rule (length s.left) (λ q t less. agree (length s.left) (suc (length t.left)) q t less (omega arith)) (body r) (guarded r) s (omega arith)
 
 -- a form is read as to each depth above the number of tokens
-pub reading-at : {A : Type 0} (n : ℕ) (f : Form A) (s : State) → length s.left < n → read (read_at n) f s ≡ reading f s
+pub reading-at : {A : Type 0} (n : ℕ) (f : Form A) (s : TokenState) → length s.left < n → read (read_at n) f s ≡ reading f s
 unfolding read_rule
 reading-at n f s less =
     agree-later n read_rule (suc (length s.left)) (λ q t le. agree n (suc (length t.left)) q t (omega (arith, le, less)) (omega arith)) f s (omega arith)

@@ -21,8 +21,8 @@ use Rattle.script_text.specs.Field.{IsShapeField, IsFieldOf, is_shape_byte}
 use Rattle.script_text.specs.Grammar.{IsOf, whole}
 use Rattle.script_text.specs.Lexical.{Placed, IsCut}
 use Rattle.script_text.specs.Lexing.{pieces, unread}
-use Rattle.script_text.specs.Number.{is_int, int, value_of}
-use Rattle.script_text.specs.Reading.{State, at, start}
+use Rattle.script_text.specs.Number.{is_int, int, number_value}
+use Rattle.script_text.specs.Reading.{TokenState, at, start}
 use Rattle.script_text.specs.Rules.{shape_form}
 use Rattle.script_text.specs.Token.{is_number, is_digits}
 use Rattle.script_text.proofs.CutLaws.{pieces-cut, cut-pieces, cut-unread}
@@ -33,7 +33,7 @@ use Rattle.script_text.proofs.Whole.{of-whole, whole-of}
 -- what a number in range is
 pub int-some : (field : List ℕ) (n : ℤ) → is_number field ≡ true → Some n ≡ int field → IsFieldOf kind.Int field (value.Int n)
 int-some field n h e =
-    let go : (t : Bool) → is_int field ≡ t → Some n ≡ cond t (Some (value_of field)) None → IsFieldOf kind.Int field (value.Int n) =
+    let go : (t : Bool) → is_int field ≡ t → Some n ≡ cond t (Some (number_value field)) None → IsFieldOf kind.Int field (value.Int n) =
     elim [ true ↦ λ k e. (refl, h, k, cc) | false ↦ λ k e. absurd cc ] in
     go (is_int field) refl e
 
@@ -49,7 +49,7 @@ pub no-number : (field : List ℕ) → is_number field ≡ false → (v : Value)
 no-number field h = only-int field (λ n i. false≢true (sym h ∙ n))
 
 pub no-int : (field : List ℕ) → None ≡ int field → (v : Value) → ¬ IsFieldOf kind.Int field v
-no-int field h = only-int field (λ n i. (let e : None ≡ Some (value_of field) = h ∙ cond-true (is_int field) _ _ i in absurd cc))
+no-int field h = only-int field (λ n i. (let e : None ≡ Some (number_value field) = h ∙ cond-true (is_int field) _ _ i in absurd cc))
 
 -- bytes of a number are below 128
 digit-ascii : (b : ℕ) → is_ascii_digit b ≡ true → b < 128
@@ -113,7 +113,7 @@ pub left-none : (k : Kind) (field left : List ℕ) → left ≡ unread field →
 left-none k field left e some s f = some (ap length (e ∙ sym (cut-unread field f.tokens [] f.lexed tt)))
 
 -- shapes that are read are the same
-ok-is : (p q : Shape × State) → ◌≡◌ {A = Result (Shape × State) (List Placed)} (Ok p) (Ok q) → p ≡ q
+ok-is : (p q : Shape × TokenState) → ◌≡◌ {A = Result (Shape × TokenState) (List Placed)} (Ok p) (Ok q) → p ≡ q
 ok-is p q e = cc
 
 -- nothing of no bytes
@@ -122,7 +122,7 @@ none-left [] h = refl
 none-left (b ∷ left) h = absurd (omega (arith, h))
 
 -- how a field is read that is all tokens
-module _ (k : Kind) (field : List ℕ) (first : State) (begins : first ≡ start field) (all : unread field ≡ []) where
+module _ (k : Kind) (field : List ℕ) (first : TokenState) (begins : first ≡ start field) (all : unread field ≡ []) where
   -- a shape that it writes is read
   reads : (s : Shape) → IsShapeField k field s → whole shape_form first ≡ Ok (s, at [] true)
   reads s f =
@@ -131,24 +131,24 @@ module _ (k : Kind) (field : List ℕ) (first : State) (begins : first ≡ start
 
   -- where the reader is stuck it writes none
   pub stuck-none : (bad : List Placed) → whole shape_form first ≡ Err bad → (s : Shape) → ¬ IsShapeField k field s
-  stuck-none bad e s f = let clash : ◌≡◌ {A = Result (Shape × State) (List Placed)} (Err bad) (Ok (s, at [] true)) = sym e ∙ reads s f in absurd cc
+  stuck-none bad e s f = let clash : ◌≡◌ {A = Result (Shape × TokenState) (List Placed)} (Err bad) (Ok (s, at [] true)) = sym e ∙ reads s f in absurd cc
 
   -- it writes nothing but what is read
-  read-same : (x : Shape) (after : State) → whole shape_form first ≡ Ok (x, after) → (s : Shape) → IsShapeField k field s
-      → ◌≡◌ {A = Shape × State} (x, after) (s, at [] true)
+  read-same : (x : Shape) (after : TokenState) → whole shape_form first ≡ Ok (x, after) → (s : Shape) → IsShapeField k field s
+      → ◌≡◌ {A = Shape × TokenState} (x, after) (s, at [] true)
   read-same x after e s f =
-      let same : ◌≡◌ {A = Result (Shape × State) (List Placed)} (Ok (x, after)) (Ok (s, at [] true)) = sym e ∙ reads s f in
+      let same : ◌≡◌ {A = Result (Shape × TokenState) (List Placed)} (Ok (x, after)) (Ok (s, at [] true)) = sym e ∙ reads s f in
       ok-is (x, after) (s, at [] true) same
 
   -- so none where that is out of range, or of another kind
-  pub out-none : (x : Shape) (after : State) → whole shape_form first ≡ Ok (x, after) → after.in_range ≡ false → (s : Shape) → ¬ IsShapeField k field s
+  pub out-none : (x : Shape) (after : TokenState) → whole shape_form first ≡ Ok (x, after) → after.in_range ≡ false → (s : Shape) → ¬ IsShapeField k field s
   out-none x after e h s f = false≢true (sym h ∙ ap (λ q. q.1.in_range) (read-same x after e s f))
 
-  pub other-none : (x : Shape) (after : State) → whole shape_form first ≡ Ok (x, after) → ¬ (kind_of x ≡ k) → (s : Shape) → ¬ IsShapeField k field s
+  pub other-none : (x : Shape) (after : TokenState) → whole shape_form first ≡ Ok (x, after) → ¬ (kind_of x ≡ k) → (s : Shape) → ¬ IsShapeField k field s
   other-none x after e other s f = other (ap (λ q. kind_of q.0) (read-same x after e s f) ∙ f.kind)
 
   -- and else that
-  pub shape-some : (x : Shape) (after : State) → whole shape_form first ≡ Ok (x, after) → after.in_range ≡ true → kind_of x ≡ k → list_all is_shape_byte field ≡ true → IsShapeField k field x
+  pub shape-some : (x : Shape) (after : TokenState) → whole shape_form first ≡ Ok (x, after) → after.in_range ≡ true → kind_of x ≡ k → list_all is_shape_byte field ≡ true → IsShapeField k field x
   shape-some x after e h same no_tab = record {
     kind = same;
     no_tab = no_tab;

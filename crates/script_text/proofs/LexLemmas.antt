@@ -4,7 +4,7 @@ use Rattle.std.proofs.Math.Numerals.{one-add}
 use Rattle.std.proofs.lemmas.Bool.{cond-false}
 use Rattle.std.specs.List.{prefix_len}
 use Rattle.script_text.specs.Lexical.{is_blank, skip_blanks}
-use Rattle.script_text.specs.Lexing.{Cut, first_cut, put, placed, lex_after, lex, IsNext, IsLast}
+use Rattle.script_text.specs.Lexing.{Cut, first_cut, put, placed_piece, lex_after, lex, IsNextPiece, IsLast}
 use Rattle.script_text.proofs.CutLemmas.{IsPiece-first_cut}
 
 -- bytes that are passed by are dropped
@@ -35,9 +35,9 @@ not_blank-first (a ∷ bytes) b more e =
 
 -- the pieces of bytes that begin with no blank
 lex-cons : (b : ℕ) (bytes : List ℕ) (o : Option Cut) → is_blank b ≡ false → first_cut (b ∷ bytes) ≡ o
-    → lex (b ∷ bytes) ≡ placed o (b ∷ bytes) (λ n. lex_after n bytes)
+    → lex (b ∷ bytes) ≡ placed_piece o (b ∷ bytes) (λ n. lex_after n bytes)
 unfolding lex
-lex-cons b bytes o h e = cond-false (is_blank b) _ _ h ∙ ap (λ o. placed o (b ∷ bytes) (λ n. lex_after n bytes)) e
+lex-cons b bytes o h e = cond-false (is_blank b) _ _ h ∙ ap (λ o. placed_piece o (b ∷ bytes) (λ n. lex_after n bytes)) e
 
 -- nothing is left of no bytes
 lex-nil : lex [] ≡ record { pieces = []; rest = [] }
@@ -77,7 +77,7 @@ shorter-cut bytes bare n skips some within =
 
 -- the piece that is cut stands next
 pub IsNext-first_cut : (bytes bare after : List ℕ) (c : Cut) → bare ≡ skip_blanks bytes → Some c ≡ first_cut bare → 1 ≤ c.len → c.len ≤ length bare
-    → after ≡ drop c.len bare → IsNext bytes c.piece after
+    → after ≡ drop c.len bare → IsNextPiece bytes c.piece after
 IsNext-first_cut bytes bare after c skips h some within e =
     let whole = lex-some bytes bare c (sym skips) (sym h) some in
     record {

@@ -10,14 +10,14 @@ use Rattle.script_text.specs.Grammar.{IsOf, room_at, whole}
 use Rattle.script_text.specs.Lexical.{Placed, IsCut, IsLexed, IsFault, IsColumn, is_blank, skip_blanks}
 use Rattle.script_text.specs.Lexing.{first_cut, pieces, unread, fault_room}
 use Rattle.script_text.specs.Line.{is_passed_over, IsReadAs, HasBadByte, HasBadToken, IsOutOfRange, Reads}
-use Rattle.script_text.specs.Reading.{State, start}
+use Rattle.script_text.specs.Reading.{TokenState, start}
 use Rattle.script_text.specs.Rules.{statement_form}
 use Rattle.statements.specs.Statement.{Statement}
 use Rattle.script_text.specs.Token.{Piece, IsToken}
 use Rattle.script_text.proofs.CutLaws.{IsEnd, cut-are, pieces-cut, unread-end, skip-within}
 use Rattle.script_text.proofs.Predictive.{is_decided}
 use Rattle.script_text.proofs.Ranged.{statement-in_range}
-use Rattle.script_text.proofs.TokenLemmas.{first_cut-fault}
+use Rattle.script_text.proofs.CutTokens.{first_cut-fault}
 use Rattle.script_text.proofs.Whole.{whole-of, whole-first_bad}
 
 -- one token in hand decides a statement
@@ -108,19 +108,19 @@ bad-byte line left e some column place = inl (record {
 })
 
 -- the reader stands before a line of which nothing is left
-module _ (line : List ℕ) (first : State) (begins : first ≡ start line) (lexed : unread line ≡ []) where
+module _ (line : List ℕ) (first : TokenState) (begins : first ≡ start line) (lexed : unread line ≡ []) where
   -- its pieces are its tokens
   is-lexed : IsLexed line (pieces line)
   is-lexed = subst (IsCut line (pieces line)) lexed (pieces-cut line)
 
   -- what was read is written
-  is-of : (x : Statement) (s : State) (flag : Bool) → whole statement_form first ≡ Ok (x, s) → s.in_range ≡ flag → IsOf statement_form x flag (pieces line)
+  is-of : (x : Statement) (s : TokenState) (flag : Bool) → whole statement_form first ≡ Ok (x, s) → s.in_range ≡ flag → IsOf statement_form x flag (pieces line)
   is-of x s flag e h =
       subst (λ b. IsOf statement_form x b (pieces line)) h
       (whole-of statement_form statement-decided (pieces line) (x, s) (ap (whole statement_form) (sym begins) ∙ e)).1
 
   -- where all is in range the line is read as the statement
-  pub is-read : (x : Statement) (s : State) → whole statement_form first ≡ Ok (x, s) → s.in_range ≡ true → IsReadAs line x
+  pub is-read : (x : Statement) (s : TokenState) → whole statement_form first ≡ Ok (x, s) → s.in_range ≡ true → IsReadAs line x
   is-read x s e h = record {
     tokens = pieces line;
     lexed = is-lexed;
@@ -129,7 +129,7 @@ module _ (line : List ℕ) (first : State) (begins : first ≡ start line) (lexe
   }
 
   -- where something isn't the line is out of range
-  pub is-out : (x : Statement) (s : State) → whole statement_form first ≡ Ok (x, s) → s.in_range ≡ false → IsOutOfRange line
+  pub is-out : (x : Statement) (s : TokenState) → whole statement_form first ≡ Ok (x, s) → s.in_range ≡ false → IsOutOfRange line
   is-out x s e h = record { tokens = pieces line; lexed = is-lexed; statement = x; out = is-of x s false e h }
 
   -- where the reader is stuck it is within the line

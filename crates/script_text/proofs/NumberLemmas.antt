@@ -9,8 +9,8 @@ use Rattle.std.specs.Char.{is_ascii_digit}
 use Rattle.std.specs.List.{list_all}
 use Rattle.std.specs.Str.Parse.{ParsesSigned, digits_value}
 use mir.Syntax.{w64}
-use Rattle.script_text.specs.Number.{value_of}
-use Rattle.script_text.specs.Number.{is_natural, magnitude, is_between, natural, int}
+use Rattle.script_text.specs.Number.{number_value}
+use Rattle.script_text.specs.Number.{is_natural, magnitude, is_natural_between, natural, int}
 use Rattle.script_text.specs.Token.{is_number, is_digits}
 
 -- the language's digits are those of `parse`
@@ -22,7 +22,7 @@ pub numerals : IsNumeralModel (λ ds. list_all is_ascii_digit ds ≡ true) (digi
 numerals = numerals_by_value _ tells_digits
 
 -- a number in a range is at most its greatest
-magnitude-le : (least most : ℕ) (text : List ℕ) → is_between least most text ≡ true → magnitude text ≤ most
+magnitude-le : (least most : ℕ) (text : List ℕ) → is_natural_between least most text ≡ true → magnitude text ≤ most
 magnitude-le least most text h =
     let low = leb least (magnitude text) in
     let high = leb (magnitude text) most in
@@ -58,7 +58,7 @@ neg-natural zero n e = (refl, cc)
 neg-natural (suc m) n e = absurd cc
 
 -- the value of a natural number is what its digits write
-pub value-natural : (text : List ℕ) → is_natural text ≡ true → value_of text ≡ pos (magnitude text)
+pub value-natural : (text : List ℕ) → is_natural text ≡ true → number_value text ≡ pos (magnitude text)
 value-natural [] h = refl
 value-natural (b ∷ bytes) h =
     let go : (t : Bool) → (not t || eqb (cond t (digits_value 10 bytes) (digits_value 10 (b ∷ bytes))) 0) ≡ true
@@ -67,7 +67,7 @@ value-natural (b ∷ bytes) h =
     go (eqb b 45) h
 
 -- a number of a natural value is natural
-natural-value : (text : List ℕ) (n : ℕ) → value_of text ≡ pos n → (is_natural text ≡ true) × (magnitude text ≡ n)
+natural-value : (text : List ℕ) (n : ℕ) → number_value text ≡ pos n → (is_natural text ≡ true) × (magnitude text ≡ n)
 natural-value [] n e = (refl, cc)
 natural-value (b ∷ bytes) n e =
     let go : (t : Bool) → cond t (neg_ℤ (pos (digits_value 10 bytes))) (pos (digits_value 10 (b ∷ bytes))) ≡ pos n
@@ -80,27 +80,27 @@ abbrev pub IsWithin : ℕ → ℕ → ℕ → Type 0
 IsWithin least most n = (least ≤ n) × (n ≤ most)
 
 -- what is given for a number is its value, and in the range
-pub natural-is : (least most : ℕ) (text : List ℕ) (n : ℕ) → natural least most text ≡ Some n → (value_of text ≡ pos n) × IsWithin least most n
+pub natural-is : (least most : ℕ) (text : List ℕ) (n : ℕ) → natural least most text ≡ Some n → (number_value text ≡ pos n) × IsWithin least most n
 natural-is least most text n e =
     let low = leb least (magnitude text) in
     let high = leb (magnitude text) most in
-    let go : (t : Bool) → is_between least most text ≡ t → cond t (Some (magnitude text)) None ≡ Some n → (value_of text ≡ pos n) × IsWithin least most n =
+    let go : (t : Bool) → is_natural_between least most text ≡ t → cond t (Some (magnitude text)) None ≡ Some n → (number_value text ≡ pos n) × IsWithin least most n =
     elim [
       | true ↦ λ h e.
           let same : magnitude text ≡ n = cc in
           let one = and_parts (is_natural text) (low && high) h in
           let two = and_parts low high one.1 in
-          subst (λ n. (value_of text ≡ pos n) × IsWithin least most n) same
+          subst (λ n. (number_value text ≡ pos n) × IsWithin least most n) same
           (value-natural text one.0, (leb-true least (magnitude text) two.0, leb-true (magnitude text) most two.1))
       | false ↦ λ h e. absurd cc
     ] in
     go _ refl e
 
 -- a number whose value is in the range gives it
-pub natural-from : (least most : ℕ) (text : List ℕ) (n : ℕ) → value_of text ≡ pos n → least ≤ n → n ≤ most → natural least most text ≡ Some n
+pub natural-from : (least most : ℕ) (text : List ℕ) (n : ℕ) → number_value text ≡ pos n → least ≤ n → n ≤ most → natural least most text ≡ Some n
 natural-from least most text n e low high =
     let two = natural-value text n e in
-    let within : is_between least most text ≡ true =
+    let within : is_natural_between least most text ≡ true =
     and_from (is_natural text) _ two.0 (rw two.1 (and_from _ _ (le-leb least n low) (le-leb n most high))) in
     cond-true _ _ _ within ∙ ap Some two.1
 

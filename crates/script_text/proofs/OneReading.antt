@@ -9,16 +9,16 @@ use Rattle.script_text.specs.Grammar.{IsOf, IsOfForm, IsFront, IsFirstBad, GoesW
 use Rattle.script_text.specs.Lexical.{Placed, ArePieces, IsCut, IsLexed, IsFault, IsColumn}
 use Rattle.script_text.specs.Lexing.{unread, fault_room}
 use Rattle.script_text.specs.Line.{is_passed_over, IsReadAs, IsOutOfRange, Reads}
-use Rattle.script_text.specs.Reading.{State, start, at}
+use Rattle.script_text.specs.Reading.{TokenState, start, at}
 use Rattle.script_text.specs.Rules.{statement_form}
 use Rattle.statements.specs.Statement.{Statement}
 use Rattle.script_text.proofs.CutLaws.{IsEnd, cut-are, cut-pieces, cut-unread}
-use Rattle.script_text.proofs.FormLaws.{are-append}
+use Rattle.script_text.proofs.FormFronts.{are-append}
 use Rattle.script_text.proofs.LineLemmas.{token-counts, statement-decided}
 use Rattle.script_text.proofs.Whole.{of-whole, whole-of, whole-first_bad}
 
 -- nothing is read of no tokens
-none-read : (y : Statement × State) → whole statement_form (at [] true) ≡ Ok y → ⊥
+none-read : (y : Statement × TokenState) → whole statement_form (at [] true) ≡ Ok y → ⊥
 unfolding whole
 none-read y e = absurd cc
 
@@ -86,7 +86,7 @@ lexed-counts line [] rest cut g = absurd (statement-some g.value g.flag g.is)
 lexed-counts line (t ∷ tokens) rest cut g = token-counts line t.piece cut.0 cut.1
 
 -- what a reading of the tokens answers
-abbrev outcome : List ℕ → Result (Statement × State) (List Placed) → Result (Option Statement) LineFault
+abbrev outcome : List ℕ → Result (Statement × TokenState) (List Placed) → Result (Option Statement) LineFault
 outcome line (Ok y) = cond y.1.in_range (Ok (Some y.0)) (Err Range)
 outcome line (Err bad) = Err (Syntax (length line + 1 - room_at bad))
 
@@ -132,14 +132,14 @@ fault-end [] h = tt
 fault-end (b ∷ rest) h = h
 
 -- what is read whole is of the grammar
-whole-form : (ts : List Placed) (y : Statement × State) → whole statement_form (at ts true) ≡ Ok y → IsOfForm statement_form ts
+whole-form : (ts : List Placed) (y : Statement × TokenState) → whole statement_form (at ts true) ≡ Ok y → IsOfForm statement_form ts
 whole-form ts y e = record { value = y.0; flag = y.1.in_range; is = (whole-of statement_form statement-decided ts y e).1 }
 
 -- the tokens of a line with a bad one answer its column
 outcome-bad : (line : List ℕ) (tokens bad : List Placed) (column : ℕ) → ArePieces tokens → IsFirstBad statement_form tokens bad → IsColumn line (room_at bad) column
     → Err (Syntax column) ≡ outcome line (whole statement_form (at tokens true))
 outcome-bad line tokens bad column are first place =
-    let go : (r : Result (Statement × State) (List Placed)) → whole statement_form (at tokens true) ≡ r → Err (Syntax column) ≡ outcome line r =
+    let go : (r : Result (Statement × TokenState) (List Placed)) → whole statement_form (at tokens true) ≡ r → Err (Syntax column) ≡ outcome line r =
     elim [
       | Ok y ↦ λ e. absurd (grammar-no_bad tokens bad first.good are (whole-form tokens y e) first.split first.wrong)
       | Err left ↦ λ e.

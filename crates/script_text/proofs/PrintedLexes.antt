@@ -15,7 +15,7 @@ use Rattle.script_text.specs.Text.{begins_quote}
 use Rattle.script_text.specs.Token.{Piece, name, number, text, mark, spelling, IsPiece}
 use Rattle.script_text.proofs.LexLemmas.{lex-cut}
 use Rattle.script_text.proofs.SpelledLemmas.{lex-name, lex-number, lex-text}
-use Rattle.script_text.proofs.Writes.{ArePieceWords, begins_open, is_calm, pieces_of}
+use Rattle.script_text.proofs.WritesTokens.{ArePieceWords, begins_open, is_calm, pieces_of}
 
 -- no word is made longer by this byte
 abbrev ends_word : ℕ → Bool

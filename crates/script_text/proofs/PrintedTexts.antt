@@ -11,7 +11,7 @@ use Rattle.std.proofs.lemmas.List.{append-nil, take_at, take-append-drop, take-a
 use Rattle.std.proofs.lemmas.List.Elements.{All-head, All-tail}
 use Rattle.std.proofs.lemmas.Str.{chars-encodes, encodes-chars, scalars-chars, chars_past_char, IsUtf8-past_char, length-encode, inside_one, encode_ascii}
 use Rattle.sand_base.specs.InRange.{is_control, IsTextInRange}
-use Rattle.script_text.specs.Text.{is_plain, plain_len, unit_len, run_after, content_after, content, doubled, IsInside}
+use Rattle.script_text.specs.Text.{is_plain_character, plain_len, unit_len, run_after, content_after, content, doubled, IsTextInside}
 use Rattle.script_text.proofs.TextContent.{has-code}
 use Rattle.script_text.proofs.TextLemmas.{plain_first, plain_second, plain_third, plain_fourth, plain-chars, plain-is, run-drop}
 
@@ -35,21 +35,21 @@ record IsAtMost (bytes : List ℕ) (n : ℕ) : Type 0 where
   some : 0 < plain_len bytes
   most : plain_len bytes ≤ n
 
-at-most-1 : (bytes : List ℕ) → is_plain (take 1 bytes) ≡ true → IsAtMost bytes 1
+at-most-1 : (bytes : List ℕ) → is_plain_character (take 1 bytes) ≡ true → IsAtMost bytes 1
 at-most-1 bytes h = let e = plain_first bytes h in record { some = omega (arith, e); most = omega (arith, e) }
 
-at-most-2 : (bytes : List ℕ) → is_plain (take 2 bytes) ≡ true → IsAtMost bytes 2
+at-most-2 : (bytes : List ℕ) → is_plain_character (take 2 bytes) ≡ true → IsAtMost bytes 2
 at-most-2 bytes h =
-    let go : (a : Bool) → is_plain (take 1 bytes) ≡ a → IsAtMost bytes 2 =
+    let go : (a : Bool) → is_plain_character (take 1 bytes) ≡ a → IsAtMost bytes 2 =
     elim [
       | true ↦ λ ha. let e = plain_first bytes ha in record { some = omega (arith, e); most = omega (arith, e) }
       | false ↦ λ ha. let e = plain_second bytes ha h in record { some = omega (arith, e); most = omega (arith, e) }
     ] in
     go _ refl
 
-at-most-3 : (bytes : List ℕ) → is_plain (take 3 bytes) ≡ true → IsAtMost bytes 3
+at-most-3 : (bytes : List ℕ) → is_plain_character (take 3 bytes) ≡ true → IsAtMost bytes 3
 at-most-3 bytes h =
-    let go : (a b : Bool) → is_plain (take 1 bytes) ≡ a → is_plain (take 2 bytes) ≡ b → IsAtMost bytes 3 =
+    let go : (a b : Bool) → is_plain_character (take 1 bytes) ≡ a → is_plain_character (take 2 bytes) ≡ b → IsAtMost bytes 3 =
     elim [
       | true ↦ λ b ha hb. let e = plain_first bytes ha in record { some = omega (arith, e); most = omega (arith, e) }
       | false ↦ elim [
@@ -59,9 +59,9 @@ at-most-3 bytes h =
     ] in
     go _ _ refl refl
 
-at-most-4 : (bytes : List ℕ) → is_plain (take 4 bytes) ≡ true → IsAtMost bytes 4
+at-most-4 : (bytes : List ℕ) → is_plain_character (take 4 bytes) ≡ true → IsAtMost bytes 4
 at-most-4 bytes h =
-    let go : (a b c : Bool) → is_plain (take 1 bytes) ≡ a → is_plain (take 2 bytes) ≡ b → is_plain (take 3 bytes) ≡ c → IsAtMost bytes 4 =
+    let go : (a b c : Bool) → is_plain_character (take 1 bytes) ≡ a → is_plain_character (take 2 bytes) ≡ b → is_plain_character (take 3 bytes) ≡ c → IsAtMost bytes 4 =
     elim [
       | true ↦ λ b c ha hb hc. let e = plain_first bytes ha in record { some = omega (arith, e); most = omega (arith, e) }
       | false ↦ elim [
@@ -75,9 +75,9 @@ at-most-4 bytes h =
     go _ _ _ refl refl refl
 
 -- a character has one to four bytes, so one that begins the bytes bounds the one at their front
-front-at-most : (c : ℕ) (bytes : List ℕ) → is_plain (take (len_utf8 c) bytes) ≡ true → IsAtMost bytes (len_utf8 c)
+front-at-most : (c : ℕ) (bytes : List ℕ) → is_plain_character (take (len_utf8 c) bytes) ≡ true → IsAtMost bytes (len_utf8 c)
 front-at-most c bytes =
-    let go : (a b d : Bool) → is_plain (take (cond a 1 (cond b 2 (cond d 3 4))) bytes) ≡ true → IsAtMost bytes (cond a 1 (cond b 2 (cond d 3 4))) =
+    let go : (a b d : Bool) → is_plain_character (take (cond a 1 (cond b 2 (cond d 3 4))) bytes) ≡ true → IsAtMost bytes (cond a 1 (cond b 2 (cond d 3 4))) =
     elim [
       | true ↦ λ b d h. at-most-1 bytes h
       | false ↦ elim [
@@ -95,7 +95,7 @@ one-chars : (c : ℕ) → scalar c ≡ true → chars (encode_utf8 c) ≡ c ∷ 
 one-chars c h = ap chars (sym (append-nil (encode_utf8 c))) ∙ chars-encodes (c ∷ []) (and_from (scalar c) true h refl)
 
 -- one that is no control character is a character of a text
-one-plain : (c : ℕ) → scalar c ≡ true → is_control c ≡ false → is_plain (encode_utf8 c) ≡ true
+one-plain : (c : ℕ) → scalar c ≡ true → is_control c ≡ false → is_plain_character (encode_utf8 c) ≡ true
 one-plain c h k = plain-chars (encode_utf8 c) (c ∷ []) (one-spelled c h) (one-chars c h) ∙ ap not k
 
 -- no bytes spell no character
@@ -103,7 +103,7 @@ none-left : (bytes : List ℕ) → IsUtf8 bytes → chars bytes ≡ [] → lengt
 none-left bytes h e = ap length (sym (encodes-chars bytes h) ∙ ap encode_utf8_all e)
 
 -- the front of a character that is one is all of it
-front-whole : (c k : ℕ) → scalar c ≡ true → k ≤ length (encode_utf8 c) → is_plain (take k (encode_utf8 c)) ≡ true → length (encode_utf8 c) ≤ k
+front-whole : (c k : ℕ) → scalar c ≡ true → k ≤ length (encode_utf8 c) → is_plain_character (take k (encode_utf8 c)) ≡ true → length (encode_utf8 c) ≤ k
 front-whole c k h le plain =
     let bytes = encode_utf8 c in
     let code = has-code (take k bytes) plain in
@@ -120,10 +120,10 @@ front-len : (c : ℕ) (more : List ℕ) → scalar c ≡ true → is_control c �
 front-len c more h k =
     let bytes = encode_utf8 c in
     let all : take (len_utf8 c) (bytes ++ more) ≡ bytes = take_at bytes more (len_utf8 c) (length-encode c) in
-    let most = front-at-most c (bytes ++ more) (ap is_plain all ∙ one-plain c h k) in
+    let most = front-at-most c (bytes ++ more) (ap is_plain_character all ∙ one-plain c h k) in
     let n = plain_len (bytes ++ more) in
     let within : n ≤ length bytes = omega (arith, most.most, length-encode c) in
-    let plain : is_plain (take n bytes) ≡ true = ap is_plain (sym (take-append-le n bytes more within)) ∙ (plain-is (bytes ++ more)).plain most.some in
+    let plain : is_plain_character (take n bytes) ≡ true = ap is_plain_character (sym (take-append-le n bytes more within)) ∙ (plain-is (bytes ++ more)).plain most.some in
     let least = front-whole c n h within plain in
     omega (arith, within, least)
 
@@ -167,7 +167,7 @@ inside-chars (c ∷ cs) h k =
           let bytes = encode_utf8 c in
           let more = doubled (encode_utf8_all cs) in
           let same = no-doubles bytes (encode_utf8_all cs) (λ j less. no-quote c j e less) in
-          let some : 0 < length bytes = (let most = front-at-most c (bytes ++ []) (ap is_plain (take_at bytes [] (len_utf8 c) (length-encode c)) ∙ one-plain c two.0 plain) in
+          let some : 0 < length bytes = (let most = front-at-most c (bytes ++ []) (ap is_plain_character (take_at bytes [] (len_utf8 c) (length-encode c)) ∙ one-plain c two.0 plain) in
           omega (arith, most.some, most.most, length-encode c)) in
           let run = run-past bytes more (λ j less. no-quote c j e less) (front-len c more two.0 plain) some in
           ap (run_after 0) same ∙ run ∙ ap (λ n. length bytes + n) rest ∙ sym (length-append bytes more) ∙ ap length (sym same)
@@ -175,7 +175,7 @@ inside-chars (c ∷ cs) h k =
     go (eqb c 34) refl
 
 -- a text in range, with its quotes doubled, may stand between quotes
-pub inside-doubled : (bytes : List ℕ) → IsTextInRange bytes → IsInside (doubled bytes)
-unfolding IsInside
+pub inside-doubled : (bytes : List ℕ) → IsTextInRange bytes → IsTextInside (doubled bytes)
+unfolding IsTextInside
 inside-doubled bytes h =
     subst (λ bytes. run_after 0 (doubled bytes) ≡ length (doubled bytes)) (encodes-chars bytes h.spelled) (inside-chars (chars bytes) (scalars-chars bytes h.spelled) h.plain)

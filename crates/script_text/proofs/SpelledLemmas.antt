@@ -11,7 +11,7 @@ use Rattle.script_text.specs.declared.TheConstants.{LONGEST_NAME}
 use Rattle.script_text.specs.Lexical.{is_blank}
 use Rattle.script_text.specs.Lexing.{Cut, first_cut, name_cut, number_cut, text_cut, begins_number, put, lex}
 use Rattle.script_text.specs.Name.{starts_name, continues_name, IsName}
-use Rattle.script_text.specs.Text.{IsInside, begins_quote}
+use Rattle.script_text.specs.Text.{IsTextInside, begins_quote}
 use Rattle.script_text.specs.Token.{name, number, text, is_number, is_digits}
 use Rattle.script_text.proofs.LexLemmas.{lex-cut}
 use Rattle.script_text.proofs.TextRuns.{text-front}
@@ -99,7 +99,7 @@ lex-number (b ∷ bytes) more h ends =
     ∙ ap (λ xs. put (record { piece = number (b ∷ bytes); room = length (b ∷ (bytes ++ more)) }) (lex xs)) (drop-seam b bytes more)
 
 -- a text that is spelled, and not followed by a quote, is cut
-pub first_cut-text : (bytes left : List ℕ) → IsInside bytes → begins_quote left ≡ false
+pub first_cut-text : (bytes left : List ℕ) → IsTextInside bytes → begins_quote left ≡ false
     → first_cut (34 ∷ (bytes ++ 34 ∷ left)) ≡ Some (record { piece = text bytes; len = length bytes + 2 })
 first_cut-text bytes left inside ends =
     ap (λ n. text_cut n (bytes ++ 34 ∷ left)) (text-front bytes left inside ends)
@@ -107,7 +107,7 @@ first_cut-text bytes left inside ends =
     ∙ ap (λ xs. Some (record { piece = text xs; len = length bytes + 2 })) (take-append_seam bytes (34 ∷ left))
 
 -- and is the next piece
-pub lex-text : (bytes left : List ℕ) → IsInside bytes → begins_quote left ≡ false
+pub lex-text : (bytes left : List ℕ) → IsTextInside bytes → begins_quote left ≡ false
     → lex (34 ∷ (bytes ++ 34 ∷ left)) ≡ put (record { piece = text bytes; room = length (34 ∷ (bytes ++ 34 ∷ left)) }) (lex left)
 lex-text bytes left inside ends =
     let cut : Cut = record { piece = text bytes; len = length bytes + 2 } in

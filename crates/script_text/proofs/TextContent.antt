@@ -9,7 +9,7 @@ use Rattle.std.proofs.lemmas.List.{append-nil, take-append-drop}
 use Rattle.std.proofs.lemmas.List.Elements.{All-nil, All-cons, All-append}
 use Rattle.std.proofs.lemmas.Str.{IsUtf8-nil, IsUtf8-append, chars-nil, chars-append, encodes-chars, inside_one, byte_from_char}
 use Rattle.sand_base.specs.InRange.{is_control, IsTextInRange}
-use Rattle.script_text.specs.Text.{is_one_plain, is_plain, plain_len, begins_quote, unit_len, run_after, content_after, content, IsInside}
+use Rattle.script_text.specs.Text.{is_one_plain, is_plain_character, plain_len, begins_quote, unit_len, run_after, content_after, content, IsTextInside}
 use Rattle.std.proofs.lemmas.Str.{IsUtf8-from_ascii, chars-IsAscii}
 use Rattle.std.proofs.lemmas.Str.Ascii.{IsAscii-nil, IsAscii-cons}
 use Rattle.script_text.proofs.TextLemmas.{plain-utf8, plain-chars, plain-is, unit_within, run-drop}
@@ -31,8 +31,8 @@ one-plain (c ∷ []) h = All-cons (λ c. is_control c ≡ false) c [] (denied (i
 one-plain (c ∷ d ∷ cs) h = absurd (false≢true h)
 
 -- one character is clean
-plain-clean : (bytes : List ℕ) → is_plain bytes ≡ true → IsClean bytes
-unfolding is_plain
+plain-clean : (bytes : List ℕ) → is_plain_character bytes ≡ true → IsClean bytes
+unfolding is_plain_character
 plain-clean bytes h = record { spelled = plain-utf8 bytes h; plain = one-plain (chars bytes) (and_parts (is_utf8 bytes) (is_one_plain (chars bytes)) h).1 }
 
 -- nothing is
@@ -47,7 +47,7 @@ append-clean xs ys h k = record {
 }
 
 -- a quote is a character
-quote-plain : is_plain (34 ∷ []) ≡ true
+quote-plain : is_plain_character (34 ∷ []) ≡ true
 quote-plain =
     let ascii = IsAscii-cons 34 [] (omega arith) IsAscii-nil in
     plain-chars (34 ∷ []) (34 ∷ []) (IsUtf8-from_ascii (34 ∷ []) ascii) (chars-IsAscii (34 ∷ []) ascii)
@@ -68,12 +68,12 @@ code-of bytes [] e h = absurd (false≢true h)
 code-of bytes (c ∷ []) e h = record { code = c; is = e }
 code-of bytes (c ∷ d ∷ cs) e h = absurd (false≢true h)
 
-pub has-code : (bytes : List ℕ) → is_plain bytes ≡ true → HasCode bytes
-unfolding is_plain
+pub has-code : (bytes : List ℕ) → is_plain_character bytes ≡ true → HasCode bytes
+unfolding is_plain_character
 has-code bytes h = code-of bytes (chars bytes) (sym (encodes-chars bytes (plain-utf8 bytes h))) (and_parts (is_utf8 bytes) (is_one_plain (chars bytes)) h).1
 
 -- a character has no quote among its bytes where it isn't one
-no-quote : (bytes : List ℕ) → is_plain bytes ≡ true → get_or bytes 0 0 ≢ 34 → (k : ℕ) → k < length bytes → get_or bytes k 0 ≢ 34
+no-quote : (bytes : List ℕ) → is_plain_character bytes ≡ true → get_or bytes 0 0 ≢ 34 → (k : ℕ) → k < length bytes → get_or bytes k 0 ≢ 34
 no-quote bytes h first k less quote =
     let one = has-code bytes h in
     let len : length bytes ≡ length (encode_utf8 one.code) = ap length (one.is ∙ append-nil (encode_utf8 one.code)) in
@@ -99,7 +99,7 @@ after-plain : (b : ℕ) (bytes : List ℕ) (u : ℕ) → eqb b 34 ≡ false → 
 after-plain b bytes zero h k some rest = absurd (omega (arith, some))
 after-plain b bytes (suc m) h k some rest =
     let is = plain-is (b ∷ bytes) in
-    let plain : is_plain (b ∷ take m bytes) ≡ true = subst (λ n. is_plain (take n (b ∷ bytes)) ≡ true) k (is.plain (omega (arith, k))) in
+    let plain : is_plain_character (b ∷ take m bytes) ≡ true = subst (λ n. is_plain_character (take n (b ∷ bytes)) ≡ true) k (is.plain (omega (arith, k))) in
     let same : suc m - 1 ≡ m = omega arith in
     let clean = subst (λ n. IsClean (content_after false (drop n bytes))) same rest in
     subst (λ bs. IsClean (content_after false (b ∷ bs))) (take-append-drop m bytes)
@@ -136,10 +136,10 @@ inside-clean (suc n) (b ∷ bytes) le e =
     go (eqb u 0) refl e
 
 -- what stands between the quotes of a text is UTF-8, without control characters
-pub content-clean : (bytes : List ℕ) → IsInside bytes → IsUtf8 (content bytes) × All (λ c. is_control c ≡ false) (chars (content bytes))
-unfolding IsInside content
+pub content-clean : (bytes : List ℕ) → IsTextInside bytes → IsUtf8 (content bytes) × All (λ c. is_control c ≡ false) (chars (content bytes))
+unfolding IsTextInside content
 content-clean bytes h = let clean = inside-clean (length bytes) bytes (omega arith) h in (clean.spelled, clean.plain)
 
 -- so it is a text in range where it isn't too long
-pub content-in_range : (bytes : List ℕ) → IsInside bytes → length (content bytes) ≤ 255 → IsTextInRange (content bytes)
+pub content-in_range : (bytes : List ℕ) → IsTextInside bytes → length (content bytes) ≤ 255 → IsTextInRange (content bytes)
 content-in_range bytes h short = let clean = content-clean bytes h in record { short = short; spelled = clean.0; plain = clean.1 }

@@ -11,7 +11,7 @@ use Rattle.std.specs.Char.{encode_utf8}
 use Rattle.std.specs.Char as char
 use Rattle.std.specs.Str.{is_utf8}
 use Rattle.sand_base.specs.InRange.{is_control}
-use Rattle.script_text.specs.Text.{is_one_plain, is_plain, plain_len, begins_quote, unit_len, run_after, text_run, content_after, content}
+use Rattle.script_text.specs.Text.{is_one_plain, is_plain_character, plain_len, begins_quote, unit_len, run_after, text_run, content_after, content}
 
 -- a truth value that isn't true is false
 not-so : (b : Bool) → (b ≡ true → ⊥) → false ≡ b
@@ -19,26 +19,26 @@ not-so true h = absurd (h refl)
 not-so false h = refl
 
 -- bytes of one character are UTF-8
-pub plain-utf8 : (bytes : List ℕ) → is_plain bytes ≡ true → IsUtf8 bytes
-unfolding is_plain
+pub plain-utf8 : (bytes : List ℕ) → is_plain_character bytes ≡ true → IsUtf8 bytes
+unfolding is_plain_character
 plain-utf8 bytes h = IsUtf8-from_is_utf8 bytes (and_parts (is_utf8 bytes) (is_one_plain (chars bytes)) h).0
 
 -- bytes that aren't are no character
-pub not_utf8 : (bytes : List ℕ) → (IsUtf8 bytes → ⊥) → false ≡ is_plain bytes
-not_utf8 bytes h = not-so (is_plain bytes) (λ k. h (plain-utf8 bytes k))
+pub not_utf8 : (bytes : List ℕ) → (IsUtf8 bytes → ⊥) → false ≡ is_plain_character bytes
+not_utf8 bytes h = not-so (is_plain_character bytes) (λ k. h (plain-utf8 bytes k))
 
 -- a character is told by the list of characters
-pub plain-chars : (bytes cs : List ℕ) → IsUtf8 bytes → chars bytes ≡ cs → is_plain bytes ≡ is_one_plain cs
-unfolding is_plain
+pub plain-chars : (bytes cs : List ℕ) → IsUtf8 bytes → chars bytes ≡ cs → is_plain_character bytes ≡ is_one_plain cs
+unfolding is_plain_character
 plain-chars bytes cs h e = ap (λ b. b && is_one_plain (chars bytes)) (is_utf8-from_IsUtf8 bytes h) ∙ ap is_one_plain e
 
 -- no bytes are no character
-pub no_bytes : (bytes : List ℕ) → IsUtf8 bytes → length bytes ≡ 0 → false ≡ is_plain bytes
+pub no_bytes : (bytes : List ℕ) → IsUtf8 bytes → length bytes ≡ 0 → false ≡ is_plain_character bytes
 no_bytes [] h e = sym (plain-chars [] [] h chars-nil)
 no_bytes (b ∷ bytes) h e = absurd (omega (arith, e))
 
 -- two characters are not one
-pub two_chars : (bytes rest after : List ℕ) (c d : ℕ) → IsUtf8 bytes → bytes ≡ encode_utf8 c ++ rest → rest ≡ encode_utf8 d ++ after → false ≡ is_plain bytes
+pub two_chars : (bytes rest after : List ℕ) (c d : ℕ) → IsUtf8 bytes → bytes ≡ encode_utf8 c ++ rest → rest ≡ encode_utf8 d ++ after → false ≡ is_plain_character bytes
 two_chars bytes rest after c d h e f =
     sym (plain-chars bytes (c ∷ d ∷ chars after) h
     (chars_past_char bytes rest c h e ∙ ap (λ cs. c ∷ cs) (chars_past_char rest after d (IsUtf8-past_char bytes rest c h e) f)))
@@ -48,7 +48,7 @@ pub control-same : (c : ℕ) → char.is_control c ≡ is_control c
 control-same c = grind (arith, nat_tests)
 
 -- one character is one
-pub one_char : (bytes rest : List ℕ) (c : ℕ) (told : Bool) → IsUtf8 bytes → bytes ≡ encode_utf8 c ++ rest → length rest ≡ 0 → told ≡ char.is_control c → not told ≡ is_plain bytes
+pub one_char : (bytes rest : List ℕ) (c : ℕ) (told : Bool) → IsUtf8 bytes → bytes ≡ encode_utf8 c ++ rest → length rest ≡ 0 → told ≡ char.is_control c → not told ≡ is_plain_character bytes
 one_char bytes [] c told h e n k =
     ap not (k ∙ control-same c) ∙ sym (plain-chars bytes (c ∷ []) h (chars_past_char bytes [] c h e ∙ ap (λ cs. c ∷ cs) chars-nil))
 one_char bytes (b ∷ rest) c told h e n k = absurd (omega (arith, n))
@@ -60,28 +60,30 @@ take_all zero (b ∷ bytes) h = absurd (omega (arith, h))
 take_all (suc n) (b ∷ bytes) h = ap (λ bs. b ∷ bs) (take_all n bytes (omega (arith, h)))
 
 -- the length of the character at the front, by the first length at which it is one
-pub plain_first : (bytes : List ℕ) → is_plain (take 1 bytes) ≡ true → plain_len bytes ≡ 1
+pub plain_first : (bytes : List ℕ) → is_plain_character (take 1 bytes) ≡ true → plain_len bytes ≡ 1
 unfolding plain_len
 plain_first bytes h = cond-true _ _ _ h
 
-pub plain_second : (bytes : List ℕ) → is_plain (take 1 bytes) ≡ false → is_plain (take 2 bytes) ≡ true → plain_len bytes ≡ 2
+pub plain_second : (bytes : List ℕ) → is_plain_character (take 1 bytes) ≡ false → is_plain_character (take 2 bytes) ≡ true → plain_len bytes ≡ 2
 unfolding plain_len
 plain_second bytes h k = cond-false _ _ _ h ∙ cond-true _ _ _ k
 
-pub plain_third : (bytes : List ℕ) → is_plain (take 1 bytes) ≡ false → is_plain (take 2 bytes) ≡ false → is_plain (take 3 bytes) ≡ true → plain_len bytes ≡ 3
+pub plain_third : (bytes : List ℕ) → is_plain_character (take 1 bytes) ≡ false → is_plain_character (take 2 bytes) ≡ false → is_plain_character (take 3 bytes) ≡ true → plain_len bytes ≡ 3
 unfolding plain_len
 plain_third bytes h k l = cond-false _ _ _ h ∙ cond-false _ _ _ k ∙ cond-true _ _ _ l
 
-pub plain_fourth : (bytes : List ℕ) → is_plain (take 1 bytes) ≡ false → is_plain (take 2 bytes) ≡ false → is_plain (take 3 bytes) ≡ false → is_plain (take 4 bytes) ≡ true → plain_len bytes ≡ 4
+pub plain_fourth : (bytes : List ℕ) → is_plain_character (take 1 bytes) ≡ false → is_plain_character (take 2 bytes) ≡ false → is_plain_character (take 3 bytes) ≡ false
+    → is_plain_character (take 4 bytes) ≡ true → plain_len bytes ≡ 4
 unfolding plain_len
 plain_fourth bytes h k l m = cond-false _ _ _ h ∙ cond-false _ _ _ k ∙ cond-false _ _ _ l ∙ cond-true _ _ _ m
 
-pub plain_none : (bytes : List ℕ) → is_plain (take 1 bytes) ≡ false → is_plain (take 2 bytes) ≡ false → is_plain (take 3 bytes) ≡ false → is_plain (take 4 bytes) ≡ false → plain_len bytes ≡ 0
+pub plain_none : (bytes : List ℕ) → is_plain_character (take 1 bytes) ≡ false → is_plain_character (take 2 bytes) ≡ false → is_plain_character (take 3 bytes) ≡ false
+    → is_plain_character (take 4 bytes) ≡ false → plain_len bytes ≡ 0
 unfolding plain_len
 plain_none bytes h k l m = cond-false _ _ _ h ∙ cond-false _ _ _ k ∙ cond-false _ _ _ l ∙ cond-false _ _ _ m
 
 -- no bytes are no character
-none-plain : (bytes : List ℕ) → is_plain (take 0 bytes) ≡ false
+none-plain : (bytes : List ℕ) → is_plain_character (take 0 bytes) ≡ false
 none-plain bytes = sym (no_bytes [] IsUtf8-nil refl)
 
 -- two quotes are within the bytes
@@ -96,24 +98,25 @@ short-take : (k : ℕ) (bytes : List ℕ) → length bytes ≤ k → take (suc k
 short-take k bytes h = take_all (suc k) bytes (omega (arith, h)) ∙ sym (take_all k bytes h)
 
 -- where a length is the first at which it is a character, there are so many bytes
-enough : (k : ℕ) (bytes : List ℕ) → is_plain (take k bytes) ≡ false → is_plain (take (suc k) bytes) ≡ true → suc k ≤ length bytes
+enough : (k : ℕ) (bytes : List ℕ) → is_plain_character (take k bytes) ≡ false → is_plain_character (take (suc k) bytes) ≡ true → suc k ≤ length bytes
 enough k bytes h l =
     let go : (t : Bool) → leb (suc k) (length bytes) ≡ t → suc k ≤ length bytes =
     elim [
       | true ↦ λ e. leb-true (suc k) (length bytes) e
-      | false ↦ λ e. absurd (false≢true (sym h ∙ ap is_plain (sym (short-take k bytes (omega (arith, leb-false (suc k) (length bytes) e)))) ∙ l))
+      | false ↦ λ e. absurd (false≢true (sym h ∙ ap is_plain_character (sym (short-take k bytes (omega (arith, leb-false (suc k) (length bytes) e)))) ∙ l))
     ] in
     go (leb (suc k) (length bytes)) refl
 
 -- what the character at the front is
 pub record IsPlainLen (bytes : List ℕ) (n : ℕ) : Type 0 where
   pub within : n ≤ length bytes
-  pub plain : 0 < n → is_plain (take n bytes) ≡ true
+  pub plain : 0 < n → is_plain_character (take n bytes) ≡ true
 
 -- it is so
 pub plain-is : (bytes : List ℕ) → IsPlainLen bytes (plain_len bytes)
 plain-is bytes =
-    let go : (a b c d : Bool) → is_plain (take 1 bytes) ≡ a → is_plain (take 2 bytes) ≡ b → is_plain (take 3 bytes) ≡ c → is_plain (take 4 bytes) ≡ d → IsPlainLen bytes (plain_len bytes) =
+    let go : (a b c d : Bool) → is_plain_character (take 1 bytes) ≡ a → is_plain_character (take 2 bytes) ≡ b → is_plain_character (take 3 bytes) ≡ c
+    → is_plain_character (take 4 bytes) ≡ d → IsPlainLen bytes (plain_len bytes) =
     elim [
       | true ↦ λ b c d ha hb hc hd. rw (plain_first bytes ha) (record { within = enough 0 bytes (none-plain bytes) ha; plain = λ some. ha })
       | false ↦ elim [
@@ -168,13 +171,13 @@ run_step (b ∷ bytes) (suc n) h some =
 
 -- a second character is there
 pub some_second : (A : Type 0) (bytes rest after : List ℕ) (c : ℕ) (r : Option ℕ) → IsUtf8 bytes → bytes ≡ encode_utf8 c ++ rest → is_some r ≡ true
-    → MatchOption r A (λ d. rest ≡ encode_utf8 d ++ after) → false ≡ is_plain bytes
+    → MatchOption r A (λ d. rest ≡ encode_utf8 d ++ after) → false ≡ is_plain_character bytes
 some_second A bytes rest after c None h e k m = absurd (false≢true k)
 some_second A bytes rest after c (Some d) h e k m = two_chars bytes rest after c d h e m
 
 -- or isn't
 pub none_second : (A : Type 0) (bytes rest after : List ℕ) (c : ℕ) (told : Bool) (r : Option ℕ) → IsUtf8 bytes → bytes ≡ encode_utf8 c ++ rest → is_some r ≡ false
-    → MatchOption r ((length rest ≡ 0) × A) (λ d. rest ≡ encode_utf8 d ++ after) → told ≡ char.is_control c → not told ≡ is_plain bytes
+    → MatchOption r ((length rest ≡ 0) × A) (λ d. rest ≡ encode_utf8 d ++ after) → told ≡ char.is_control c → not told ≡ is_plain_character bytes
 none_second A bytes rest after c told None h e k m l = one_char bytes rest c told h e m.0 l
 none_second A bytes rest after c told (Some d) h e k m l = absurd (false≢true (sym k))
 

@@ -4,30 +4,33 @@ use Rattle.std.proofs.Math.Numerals.{one-add}
 use Rattle.std.proofs.lemmas.Bool.{cond-true, cond-false, eqb-true, eqb-false, eq-eqb, false≢true}
 use Rattle.std.proofs.lemmas.List.{take_at, drop_at, drop-drop, take-take, take-append-drop, length-take-le}
 use Rattle.std.proofs.Math.Seq.{take-length, drop-nil}
-use Rattle.script_text.specs.Text.{is_plain, plain_len, begins_quote, unit_len, run_after, text_run, IsInside}
+use Rattle.script_text.specs.Text.{is_plain_character, plain_len, begins_quote, unit_len, run_after, text_run, IsTextInside}
 use Rattle.script_text.proofs.TextLemmas.{plain_first, plain_second, plain_third, plain_fourth, plain_none, unit_within, run-drop}
 
 -- a character at the front is told by its bytes
 plain_same : (bytes other : List ℕ) → 0 < plain_len bytes → ((k : ℕ) → k ≤ plain_len bytes → take k other ≡ take k bytes) → plain_len other ≡ plain_len bytes
 plain_same bytes other some same =
-    let go : (a b c d : Bool) → is_plain (take 1 bytes) ≡ a → is_plain (take 2 bytes) ≡ b → is_plain (take 3 bytes) ≡ c → is_plain (take 4 bytes) ≡ d → plain_len other ≡ plain_len bytes =
+    let go : (a b c d : Bool) → is_plain_character (take 1 bytes) ≡ a → is_plain_character (take 2 bytes) ≡ b → is_plain_character (take 3 bytes) ≡ c
+    → is_plain_character (take 4 bytes) ≡ d → plain_len other ≡ plain_len bytes =
     elim [
       | true ↦ λ b c d ha hb hc hd.
           let e = plain_first bytes ha in
-          plain_first other (ap is_plain (same 1 (omega (arith, e))) ∙ ha) ∙ sym e
+          plain_first other (ap is_plain_character (same 1 (omega (arith, e))) ∙ ha) ∙ sym e
       | false ↦ elim [
         | true ↦ λ c d ha hb hc hd.
             let e = plain_second bytes ha hb in
-            plain_second other (ap is_plain (same 1 (omega (arith, e))) ∙ ha) (ap is_plain (same 2 (omega (arith, e))) ∙ hb) ∙ sym e
+            plain_second other (ap is_plain_character (same 1 (omega (arith, e))) ∙ ha) (ap is_plain_character (same 2 (omega (arith, e))) ∙ hb) ∙ sym e
         | false ↦ elim [
           | true ↦ λ d ha hb hc hd.
               let e = plain_third bytes ha hb hc in
-              plain_third other (ap is_plain (same 1 (omega (arith, e))) ∙ ha) (ap is_plain (same 2 (omega (arith, e))) ∙ hb) (ap is_plain (same 3 (omega (arith, e))) ∙ hc) ∙ sym e
+              plain_third other (ap is_plain_character (same 1 (omega (arith, e))) ∙ ha) (ap is_plain_character (same 2 (omega (arith, e))) ∙ hb)
+              (ap is_plain_character (same 3 (omega (arith, e))) ∙ hc) ∙ sym e
           | false ↦ elim [
             | true ↦ λ ha hb hc hd.
                 let e = plain_fourth bytes ha hb hc hd in
-                plain_fourth other (ap is_plain (same 1 (omega (arith, e))) ∙ ha) (ap is_plain (same 2 (omega (arith, e))) ∙ hb) (ap is_plain (same 3 (omega (arith, e))) ∙ hc)
-                (ap is_plain (same 4 (omega (arith, e))) ∙ hd) ∙ sym e
+                plain_fourth other (ap is_plain_character (same 1 (omega (arith, e))) ∙ ha) (ap is_plain_character (same 2 (omega (arith, e))) ∙ hb)
+                (ap is_plain_character (same 3 (omega (arith, e))) ∙ hc)
+                (ap is_plain_character (same 4 (omega (arith, e))) ∙ hd) ∙ sym e
             | false ↦ λ ha hb hc hd. let e = plain_none bytes ha hb hc hd in absurd (omega (arith, e, some))
           ]
         ]
@@ -140,8 +143,8 @@ run-within zero (b ∷ bytes) =
     go (eqb u 0)
 
 -- the characters at the front are characters alone
-pub inside-run : (bytes : List ℕ) → IsInside (take (text_run bytes) bytes)
-unfolding text_run IsInside
+pub inside-run : (bytes : List ℕ) → IsTextInside (take (text_run bytes) bytes)
+unfolding text_run IsTextInside
 inside-run bytes =
     let m = run_after 0 bytes in
     let front = run-front 0 m bytes (take m bytes) (omega arith) refl (take-take m m bytes (omega arith)) in
@@ -149,14 +152,14 @@ inside-run bytes =
     omega (arith, front, none, length-take-le m bytes (run-within 0 bytes))
 
 -- a text at the front has no more characters than are there
-pub text-least : (bytes more : List ℕ) → IsInside bytes → text_run (bytes ++ more) ≡ length bytes + run_after 0 more
-unfolding text_run IsInside
+pub text-least : (bytes more : List ℕ) → IsTextInside bytes → text_run (bytes ++ more) ≡ length bytes + run_after 0 more
+unfolding text_run IsTextInside
 text-least bytes more inside =
     run-front 0 (length bytes) bytes (bytes ++ more) (omega arith) inside (take_at bytes more (length bytes) refl ∙ sym (take-length bytes))
     ∙ ap (λ bs. length bytes + run_after 0 bs) (drop_at bytes more (length bytes) refl)
 
 -- so the run of a text that a quote closes is all of it
-pub text-front : (bytes left : List ℕ) → IsInside bytes → begins_quote left ≡ false → text_run (bytes ++ 34 ∷ left) ≡ length bytes
+pub text-front : (bytes left : List ℕ) → IsTextInside bytes → begins_quote left ≡ false → text_run (bytes ++ 34 ∷ left) ≡ length bytes
 text-front bytes left inside ends =
     let stop : unit_len (34 ∷ left) ≡ 0 = cond-false (begins_quote left) 2 0 ends in
     let none : run_after 0 (34 ∷ left) ≡ 0 = cond-true (eqb (unit_len (34 ∷ left)) 0) _ _ (eq-eqb (unit_len (34 ∷ left)) 0 stop) in

@@ -5,11 +5,12 @@ use Rattle.std.proofs.Common.{inr, arith, append_assoc, length-append}
 use Rattle.std.specs.Prelude.{◌⊎◌}
 use Rattle.std.proofs.lemmas.List.{append-nil, take_at}
 use Rattle.script_text.specs.Form.{Class, Form, Spells}
-use Rattle.script_text.specs.Grammar.{IsOf, IsOfForm, IsFront, GoesWrong, IsFirstBad, spelled, spelled_at, read_at, reading, none_left, ended, whole}
+use Rattle.script_text.specs.Grammar.{IsOf, IsOfForm, IsFront, GoesWrong, IsFirstBad, spelled, spelled_at, read_at, reading, none_left, ended_form, whole}
 use Rattle.script_text.specs.Lexical.{Placed}
-use Rattle.script_text.specs.Reading.{State, at, go_on, read}
+use Rattle.script_text.specs.Reading.{TokenState, at, go_on, read}
 use Rattle.script_text.proofs.Depth.{laws_at, gather, raise-form, reading-at}
-use Rattle.script_text.proofs.FormLaws.{IsTaken, IsSameFront, form-ok, form-bad, form-reads}
+use Rattle.script_text.proofs.FormFronts.{IsTaken, IsSameFront}
+use Rattle.script_text.proofs.FormLaws.{form-ok, form-bad, form-reads}
 use Rattle.script_text.proofs.Predictive.{is_decided, goes, Stops}
 
 -- fronts of one length are the same
@@ -20,15 +21,15 @@ same-front xs ys zs e =
     sym (take_at xs zs (length ys) same) ∙ ap (take (length ys)) e ∙ take_at ys zs (length ys) refl
 
 -- values that are given are the same
-ok-is : {A : Type 0} (x y : A × State) → ◌≡◌ {A = Result (A × State) (List Placed)} (Ok x) (Ok y) → x ≡ y
+ok-is : {A : Type 0} (x y : A × TokenState) → ◌≡◌ {A = Result (A × TokenState) (List Placed)} (Ok x) (Ok y) → x ≡ y
 ok-is x y e = cc
 
 -- tokens that are left are the same
-err-is : {A : Type 0} (x y : List Placed) → ◌≡◌ {A = Result (A × State) (List Placed)} (Err x) (Err y) → x ≡ y
+err-is : {A : Type 0} (x y : List Placed) → ◌≡◌ {A = Result (A × TokenState) (List Placed)} (Err x) (Err y) → x ≡ y
 err-is x y e = cc
 
 -- a reading has one outcome
-not-both : {A : Type 0} (r : Result (A × State) (List Placed)) (x : A × State) (bad : List Placed) → r ≡ Ok x → r ≡ Err bad → ⊥
+not-both : {A : Type 0} (r : Result (A × TokenState) (List Placed)) (x : A × TokenState) (bad : List Placed) → r ≡ Ok x → r ≡ Err bad → ⊥
 not-both r x bad h k = let e : Ok x ≡ Err bad = sym h ∙ k in absurd cc
 
 -- a flag and the one before anything
@@ -37,16 +38,16 @@ and-true true = refl
 and-true false = refl
 
 -- both are what it is
-both-are : {A : Type 0} (r : Result (A × State) (List Placed)) (x y : A × State) → r ≡ Ok x → r ≡ Ok y → x ≡ y
+both-are : {A : Type 0} (r : Result (A × TokenState) (List Placed)) (x y : A × TokenState) → r ≡ Ok x → r ≡ Ok y → x ≡ y
 both-are r x y h k = ok-is x y (sym h ∙ k)
 
 -- at the end no token is left
-end-ok : {A : Type 0} (x : A) (s : State) (left : List Placed) (y : A × State) → s.left ≡ left → none_left x s left ≡ Ok y → ((x, s) ≡ y) × (s.left ≡ [])
+end-ok : {A : Type 0} (x : A) (s : TokenState) (left : List Placed) (y : A × TokenState) → s.left ≡ left → none_left x s left ≡ Ok y → ((x, s) ≡ y) × (s.left ≡ [])
 end-ok x s [] y e h = (ok-is (x, s) y h, e)
 end-ok x s (t ∷ left) y e h = absurd cc
 
 -- or those that are left are bad
-end-bad : {A : Type 0} (x : A) (s : State) (left bad : List Placed) → s.left ≡ left → none_left x s left ≡ Err bad → s.left ≡ bad
+end-bad : {A : Type 0} (x : A) (s : TokenState) (left bad : List Placed) → s.left ≡ left → none_left x s left ≡ Err bad → s.left ≡ bad
 end-bad x s [] bad e h = absurd cc
 end-bad x s (t ∷ left) bad e h = e ∙ err-is (t ∷ left) bad h
 
@@ -56,13 +57,13 @@ stops-none [] = tt
 stops-none (c ∷ cs) = (refl, stops-none cs)
 
 -- what a reading took
-pub read-taken : {A : Type 0} (f : Form A) (s : State) (y : A × State) → reading f s ≡ Ok y → IsTaken (read (read_at (suc (length s.left))) f) (Spells spelled f) s y
+pub read-taken : {A : Type 0} (f : Form A) (s : TokenState) (y : A × TokenState) → reading f s ≡ Ok y → IsTaken (read (read_at (suc (length s.left))) f) (Spells spelled f) s y
 read-taken f s y e =
     let n = suc (length s.left) in
     form-ok (spelled_at n) spelled (read_at n) (laws_at n) f s y (reading-at n f s (omega arith) ∙ e)
 
 -- no more tokens are left than there were
-pub left-within : {A : Type 0} (f : Form A) (s : State) (y : A × State) → reading f s ≡ Ok y → length y.1.left ≤ length s.left
+pub left-within : {A : Type 0} (f : Form A) (s : TokenState) (y : A × TokenState) → reading f s ≡ Ok y → length y.1.left ≤ length s.left
 left-within f s y e =
     let is = read-taken f s y e in
     omega (arith, ap length is.split, length-append is.used y.1.left)
@@ -84,13 +85,13 @@ module _ {A : Type 0} (f : Form A) (d : is_decided f ≡ true) where
   of-whole x flag ts h =
       let one : reading f (at ts true) ≡ Ok (x, at [] flag) =
       ap (λ ps. reading f (at ps true)) (sym (append-nil ts)) ∙ written-read f d x flag ts [] true h (stops-none (goes f)) ∙ ap (λ b. Ok (x, at [] b)) (and-true flag) in
-      ap (λ r. go_on r ended) one
+      ap (λ r. go_on r ended_form) one
 
   -- what is read whole is written
-  pub whole-of : (ts : List Placed) (y : A × State) → whole f (at ts true) ≡ Ok y → (y.1.left ≡ []) × IsOf f y.0 y.1.in_range ts
+  pub whole-of : (ts : List Placed) (y : A × TokenState) → whole f (at ts true) ≡ Ok y → (y.1.left ≡ []) × IsOf f y.0 y.1.in_range ts
   unfolding IsOf whole
   whole-of ts y e =
-      let go : (r : Result (A × State) (List Placed)) → reading f (at ts true) ≡ r → go_on r ended ≡ Ok y → (y.1.left ≡ []) × Spells spelled f y.0 y.1.in_range ts =
+      let go : (r : Result (A × TokenState) (List Placed)) → reading f (at ts true) ≡ r → go_on r ended_form ≡ Ok y → (y.1.left ≡ []) × Spells spelled f y.0 y.1.in_range ts =
       elim [
         | Err bad ↦ λ h e. absurd cc
         | Ok z ↦ λ h e.
@@ -108,8 +109,8 @@ module _ {A : Type 0} (f : Form A) (d : is_decided f ≡ true) where
   one-value x y b c ts h k =
       let first = of-whole x b ts h in
       let second = of-whole y c ts k in
-      let one : A × State = (x, at [] b) in
-      let two : A × State = (y, at [] c) in
+      let one : A × TokenState = (x, at [] b) in
+      let two : A × TokenState = (y, at [] c) in
       let same : one ≡ two = both-are (whole f (at ts true)) one two first second in
       (ap (λ p. p.0) same, ap (λ p. p.1.in_range) same)
 
@@ -152,7 +153,7 @@ module _ {A : Type 0} (f : Form A) (d : is_decided f ≡ true) where
       inl (ap (λ ps. read (read_at n) f (at (ps ++ p ∷ more) true)) (sym same) ∙ stuck.again p rest more true refl))
 
   -- where it ended before a token
-  wrong-after : (ts : List Placed) (p : Placed) (rest good : List Placed) → ts ≡ good ++ p ∷ rest → (y : A × State) → reading f (at ts true) ≡ Ok y → y.1.left ≡ p ∷ rest
+  wrong-after : (ts : List Placed) (p : Placed) (rest good : List Placed) → ts ≡ good ++ p ∷ rest → (y : A × TokenState) → reading f (at ts true) ≡ Ok y → y.1.left ≡ p ∷ rest
       → GoesWrong f good (p ∷ rest)
   wrong-after ts p rest good split y e left =
       no-front good p rest (λ n more one two.
@@ -162,7 +163,7 @@ module _ {A : Type 0} (f : Form A) (d : is_decided f ≡ true) where
       inr (y.0, (is.flag && true), ap (λ ps. read (read_at n) f (at (ps ++ p ∷ more) true)) (sym same) ∙ is.takes (p ∷ more) true before))
 
   -- so it is where tokens are left
-  wrong-left : (ts bad good : List Placed) → ts ≡ good ++ bad → (y : A × State) → reading f (at ts true) ≡ Ok y → y.1.left ≡ bad → ended y.0 y.1 ≡ Err bad → GoesWrong f good bad
+  wrong-left : (ts bad good : List Placed) → ts ≡ good ++ bad → (y : A × TokenState) → reading f (at ts true) ≡ Ok y → y.1.left ≡ bad → ended_form y.0 y.1 ≡ Err bad → GoesWrong f good bad
   wrong-left ts [] good split y e left h = absurd (not-both (none_left y.0 y.1 y.1.left) (y.0, y.1) [] (ap (none_left y.0 y.1) left) h)
   wrong-left ts (p ∷ rest) good split y e left h = wrong-after ts p rest good split y e left
 
@@ -170,7 +171,7 @@ module _ {A : Type 0} (f : Form A) (d : is_decided f ≡ true) where
   stuck-parts : (ts bad : List Placed) → whole f (at ts true) ≡ Err bad → IsFirstBad f ts bad
   unfolding IsOf whole
   stuck-parts ts bad e =
-      let go : (r : Result (A × State) (List Placed)) → reading f (at ts true) ≡ r → go_on r ended ≡ Err bad → IsFirstBad f ts bad =
+      let go : (r : Result (A × TokenState) (List Placed)) → reading f (at ts true) ≡ r → go_on r ended_form ≡ Err bad → IsFirstBad f ts bad =
       elim [
         | Err left ↦ λ h e.
             let same : left ≡ bad = err-is left bad e in

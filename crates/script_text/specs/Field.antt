@@ -10,7 +10,7 @@ use Rattle.sand_base.specs.declared.value.Value.{Value}
 use Rattle.sand_base.specs.declared.value.Value.TheVariants as value
 use Rattle.script_text.specs.Grammar.{IsOf}
 use Rattle.script_text.specs.Lexical.{Placed, IsLexed}
-use Rattle.script_text.specs.Number.{is_int, value_of}
+use Rattle.script_text.specs.Number.{is_int, number_value}
 use Rattle.script_text.specs.Rules.{shape_form}
 use Rattle.script_text.specs.Token.{is_number}
 
@@ -28,7 +28,7 @@ pub record IsShapeField (k : Kind) (field : List ℕ) (s : Shape) : Type 0 where
 
 -- the field is the value, of the kind: an int in 64 bits, a text in range, or a shape
 abbrev pub IsFieldOf : Kind → List ℕ → Value → Type 0
-IsFieldOf k field (value.Int n) = (k ≡ kind.Int) × (is_number field ≡ true) × (is_int field ≡ true) × (n ≡ value_of field)
+IsFieldOf k field (value.Int n) = (k ≡ kind.Int) × (is_number field ≡ true) × (is_int field ≡ true) × (n ≡ number_value field)
 IsFieldOf k field (value.Text t) = (k ≡ kind.Text) × (t ≡ field) × IsTextInRange field
 IsFieldOf k field (value.Shape s) = IsShapeField k field s
 

@@ -38,9 +38,9 @@ where_true true = Some (tt, true)
 where_true false = None
 
 -- a name with these bytes
-abbrev pub word_of : List ℕ → Piece → Option (Unit {0} × Bool)
-word_of word (name bytes) = where_true (bytes_eq bytes word)
-word_of word _ = None
+abbrev pub name_with : List ℕ → Piece → Option (Unit {0} × Bool)
+name_with word (name bytes) = where_true (bytes_eq bytes word)
+name_with word _ = None
 
 -- any name
 abbrev pub name_of : Piece → Option (List ℕ × Bool)
@@ -53,9 +53,9 @@ natural_of least most (number bytes) = Some (or_zero 0 (natural least most bytes
 natural_of least most _ = None
 
 -- a number, and whether 64 bits hold it; 0 stands for one that they don't
-abbrev pub int_of : Piece → Option (ℤ × Bool)
-int_of (number bytes) = Some (or_zero (pos 0) (int bytes))
-int_of _ = None
+abbrev pub int_in_range : Piece → Option (ℤ × Bool)
+int_in_range (number bytes) = Some (or_zero (pos 0) (int bytes))
+int_in_range _ = None
 
 -- the characters of a text, and whether they have at most 255 bytes
 abbrev pub text_of : Piece → Option (List ℕ × Bool)
@@ -63,18 +63,18 @@ text_of (text bytes) = Some (content bytes, nat_le (length (content bytes)) 255)
 text_of _ = None
 
 -- this symbol
-abbrev pub mark_of : Symbol → Piece → Option (Unit {0} × Bool)
-mark_of wanted (mark symbol) = where_true (bytes_eq (symbol_text symbol) (symbol_text wanted))
-mark_of wanted _ = None
+abbrev pub symbol_in : Symbol → Piece → Option (Unit {0} × Bool)
+symbol_in wanted (mark symbol) = where_true (bytes_eq (symbol_text symbol) (symbol_text wanted))
+symbol_in wanted _ = None
 
 -- what a token stands for where it is of the class, and whether that is in range
 abbrev pub got : (c : Class) → Piece → Option (Got c × Bool)
-got (a_word word) p = word_of word p
+got (a_word word) p = name_with word p
 got a_name p = name_of p
 got (a_natural least most) p = natural_of least most p
-got an_int p = int_of p
+got an_int p = int_in_range p
 got a_text p = text_of p
-got (a_mark symbol) p = mark_of symbol p
+got (a_mark symbol) p = symbol_in symbol p
 
 -- the token is of the class
 abbrev pub fits : Class → Placed → Bool
@@ -137,7 +137,7 @@ pub record Parts {A B C : Type 0} (join : B → C → A) (First : B → Bool →
   pub both : flag ≡ (two && one)
 
 -- the value is of the form, and in range only where it passes the test
-pub record IsChecked {A : Type 0} (test : A → Bool) (Inner : A → Bool → List Placed → Type 0) (x : A) (flag : Bool) (tokens : List Placed) : Type 0 where
+pub record IsCheckedForm {A : Type 0} (test : A → Bool) (Inner : A → Bool → List Placed → Type 0) (x : A) (flag : Bool) (tokens : List Placed) : Type 0 where
   pub here : Bool
   pub inner : Inner x here tokens
   pub both : flag ≡ (test x && here)
@@ -149,5 +149,5 @@ Spells P (nothing y) x flag tokens = (x ≡ y) × (flag ≡ true) × (tokens ≡
 Spells P (take c value) x flag tokens = IsOne c value x flag tokens
 Spells P (alt c join f g) x flag tokens = Parts join (IsOne c (λ v. v)) (Spells P f) x flag tokens ⊎ Spells P g x flag tokens
 Spells P (seq join f g) x flag tokens = Parts join (Spells P f) (Spells P g) x flag tokens
-Spells P (checked test f) x flag tokens = IsChecked test (Spells P f) x flag tokens
+Spells P (checked test f) x flag tokens = IsCheckedForm test (Spells P f) x flag tokens
 Spells P (rule r) x flag tokens = P r x flag tokens

@@ -3,7 +3,7 @@
 use Rattle.std.specs.Prelude.{◌≡◌, ℕ, zero, suc, Bool, List, [], ◌∷◌, ◌++◌, length, Result, Ok, Err}
 use Rattle.script_text.specs.Form.{Rule, RuleValue, Form, Spells}
 use Rattle.script_text.specs.Lexical.{Placed, ArePieces}
-use Rattle.script_text.specs.Reading.{State, Read, read, go_on}
+use Rattle.script_text.specs.Reading.{TokenState, Read, read, go_on}
 use Rattle.script_text.specs.Rules.{body}
 
 -- the tokens write the value by the rule, with rules inside one another to this depth
@@ -63,14 +63,14 @@ abbrev pub reading : {A : Type 0} → Form A → Read A
 reading f = read read_rule f
 
 -- nothing is left
-abbrev pub none_left : {A : Type 0} → A → State → List Placed → Result (A × State) (List Placed)
+abbrev pub none_left : {A : Type 0} → A → TokenState → List Placed → Result (A × TokenState) (List Placed)
 none_left x s [] = Ok (x, s)
 none_left x s (t ∷ tokens) = Err (t ∷ tokens)
 
 -- a form is read, and then no token is left
-abbrev pub ended : {A : Type 0} → A → Read A
-ended x s = none_left x s s.left
+abbrev pub ended_form : {A : Type 0} → A → Read A
+ended_form x s = none_left x s s.left
 
 -- a form read to the end of the line
 unfoldable pub whole : {A : Type 0} → Form A → Read A
-whole f s = go_on (reading f s) ended
+whole f s = go_on (reading f s) ended_form

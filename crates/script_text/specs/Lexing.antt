@@ -82,9 +82,9 @@ abbrev pub put : Placed → Lexed → Lexed
 put p lexed = record { pieces = p ∷ lexed.pieces; rest = lexed.rest }
 
 -- the piece of a cut, and the pieces after it; or none, and the bytes are left
-abbrev pub placed : Option Cut → List ℕ → (ℕ → Lexed) → Lexed
-placed None bytes after = record { pieces = []; rest = bytes }
-placed (Some c) bytes after = put (record { piece = c.piece; room = length bytes }) (after (c.len - 1))
+abbrev pub placed_piece : Option Cut → List ℕ → (ℕ → Lexed) → Lexed
+placed_piece None bytes after = record { pieces = []; rest = bytes }
+placed_piece (Some c) bytes after = put (record { piece = c.piece; room = length bytes }) (after (c.len - 1))
 
 -- The pieces of the bytes after the first few, which belong to a piece already. They end before a byte at
 -- which none begins.
@@ -92,7 +92,7 @@ abbrev pub lex_after : ℕ → List ℕ → Lexed
 lex_after n [] = record { pieces = []; rest = [] }
 lex_after (suc n) (b ∷ bytes) = lex_after n bytes
 lex_after zero (b ∷ bytes) =
-    cond (is_blank b) (lex_after zero bytes) (placed (first_cut (b ∷ bytes)) (b ∷ bytes) (λ n. lex_after n bytes))
+    cond (is_blank b) (lex_after zero bytes) (placed_piece (first_cut (b ∷ bytes)) (b ∷ bytes) (λ n. lex_after n bytes))
 
 -- the pieces of the bytes, and what is left after them
 unfoldable pub lex : List ℕ → Lexed
@@ -107,7 +107,7 @@ abbrev pub unread : List ℕ → List ℕ
 unread bytes = (lex bytes).rest
 
 -- the piece stands next in the bytes, and these are left after it
-pub record IsNext (bytes : List ℕ) (piece : Piece) (after : List ℕ) : Type 0 where
+pub record IsNextPiece (bytes : List ℕ) (piece : Piece) (after : List ℕ) : Type 0 where
   pub place : pieces bytes ≡ record { piece = piece; room = length (skip_blanks bytes) } ∷ pieces after
   pub rest : unread bytes ≡ unread after
   pub shape : IsPiece piece

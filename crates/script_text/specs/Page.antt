@@ -21,6 +21,6 @@ abbrev pub put : Page → Piece → Page
 put page w = put_spelled page (hugs_before w) (spelling w) (hugs_after w)
 
 -- some tokens more
-unfoldable pub put_all : Page → List Piece → Page
-put_all page [] = page
-put_all page (w ∷ ws) = put_all (put page w) ws
+unfoldable pub with_pieces : Page → List Piece → Page
+with_pieces page [] = page
+with_pieces page (w ∷ ws) = with_pieces (put page w) ws

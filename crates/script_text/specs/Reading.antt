@@ -8,36 +8,36 @@ use Rattle.script_text.specs.Form.{Class, Got, got, head_fits, Rule, RuleValue, 
 use Rattle.script_text.specs.Token.{Piece, IsPiece}
 
 -- the tokens that are left, and whether all so far was in range
-pub record State : Type 0 where
+pub record TokenState : Type 0 where
   pub left : List Placed
   pub in_range : Bool
 
 -- before these tokens
-abbrev pub at : List Placed → Bool → State
+abbrev pub at : List Placed → Bool → TokenState
 at left in_range = record { left = left; in_range = in_range }
 
 -- before a line
-abbrev pub start : List ℕ → State
+abbrev pub start : List ℕ → TokenState
 start line = at (pieces line) true
 
 -- the piece is the first of those that are left, and these bytes hold the others
-pub record IsHead (left : List Placed) (piece : Piece) (after : List ℕ) : Type 0 where
+pub record IsFirstPiece (left : List Placed) (piece : Piece) (after : List ℕ) : Type 0 where
   pub room : ℕ
   pub place : left ≡ record { piece = piece; room = room } ∷ pieces after
   pub shape : IsPiece piece
 
 -- a step takes tokens from the front and gives a value, or is stuck at the front of what it leaves
 abbrev pub Read : Type 0 → Type 0
-Read A = State → Result (A × State) (List Placed)
+Read A = TokenState → Result (A × TokenState) (List Placed)
 
 -- the reader did what the step says, or was refused memory
-abbrev pub Gives : {A : Type 0} → Read A → State → State → Result A Stuck → Type 0
+abbrev pub Gives : {A : Type 0} → Read A → TokenState → TokenState → Result A Stuck → Type 0
 Gives step old new (Ok x) = step old ≡ Ok (x, new)
 Gives step old new (Err stuck.Here) = step old ≡ Err new.left
 Gives step old new (Err stuck.Memory) = ⊤
 
 -- the reader did what the step says, where its value is told so, or was refused memory
-abbrev pub GivesAs : {A B : Type 0} → (B → A) → Read A → State → State → Result B Stuck → Type 0
+abbrev pub GivesAs : {A B : Type 0} → (B → A) → Read A → TokenState → TokenState → Result B Stuck → Type 0
 GivesAs told step old new (Ok x) = step old ≡ Ok (told x, new)
 GivesAs told step old new (Err stuck.Here) = step old ≡ Err new.left
 GivesAs told step old new (Err stuck.Memory) = ⊤
@@ -47,7 +47,7 @@ abbrev pub pure : {A : Type 0} → A → Read A
 pure x s = Ok (x, s)
 
 -- the second step goes on where the first one ended
-abbrev pub go_on : {A B : Type 0} → Result (A × State) (List Placed) → (A → Read B) → Result (B × State) (List Placed)
+abbrev pub go_on : {A B : Type 0} → Result (A × TokenState) (List Placed) → (A → Read B) → Result (B × TokenState) (List Placed)
 go_on (Ok p) next = next p.0 p.1
 go_on (Err bad) next = Err bad
 
@@ -56,14 +56,14 @@ abbrev pub bind : {A B : Type 0} → Read A → (A → Read B) → Read B
 bind first next s = go_on (first s) next
 
 -- a token that fits is taken
-abbrev pub taken : {A C : Type 0} → (C → A) → Option (C × Bool) → State → List Placed → Result (A × State) (List Placed)
-taken value None s after = Err s.left
-taken value (Some p) s after = Ok (value p.0, at after (p.1 && s.in_range))
+abbrev pub taken_token : {A C : Type 0} → (C → A) → Option (C × Bool) → TokenState → List Placed → Result (A × TokenState) (List Placed)
+taken_token value None s after = Err s.left
+taken_token value (Some p) s after = Ok (value p.0, at after (p.1 && s.in_range))
 
 -- the next token, of these
-abbrev pub front : {A : Type 0} (c : Class) → (Got c → A) → State → List Placed → Result (A × State) (List Placed)
+abbrev pub front : {A : Type 0} (c : Class) → (Got c → A) → TokenState → List Placed → Result (A × TokenState) (List Placed)
 front c value s [] = Err []
-front c value s (t ∷ after) = taken value (got c t.piece) s after
+front c value s (t ∷ after) = taken_token value (got c t.piece) s after
 
 -- one token of the class
 abbrev pub take_in : {A : Type 0} (c : Class) → (Got c → A) → Read A

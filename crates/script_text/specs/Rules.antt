@@ -54,8 +54,8 @@ abbrev pub case_sign : {A : Type 0} → Symbol → Form A → Form A → Form A
 case_sign s f g = alt (a_mark s) (λ (u : Unit {0}) x. x) f g
 
 -- a form with another value
-abbrev pub told : {A B : Type 0} → (A → B) → Form A → Form B
-told value f = seq (λ (u : Unit {0}) x. value x) (nothing tt) f
+abbrev pub told_form : {A B : Type 0} → (A → B) → Form A → Form B
+told_form value f = seq (λ (u : Unit {0}) x. value x) (nothing tt) f
 
 -- `NAME`
 abbrev pub name_form : Form (List ℕ)
@@ -113,7 +113,7 @@ spot_or_way x (y, Some b) = shape.Segment (record { a = record { x = x; y = y };
 
 -- what may follow a spot: `"-" spot`
 abbrev pub way_form : Form (Option Point)
-way_form = case_sign symbol.Minus (told (λ b. Some b) spot_form) (nothing None)
+way_form = case_sign symbol.Minus (told_form (λ b. Some b) spot_form) (nothing None)
 
 -- `NUM ")"`, after the bracket and the first number of a spot, and what may follow a spot
 abbrev pub spot_end : Form (ℕ × Option Point)
@@ -138,7 +138,7 @@ shape_form = after_sign symbol.Open shape_rest
 -- `plain | shape`
 abbrev pub value_form : Form Value
 value_form = alt an_int (λ n (u : Unit {0}). value.Int n) (nothing tt)
-    (alt a_text (λ t (u : Unit {0}). value.Text t) (nothing tt) (told (λ s. value.Shape s) shape_form))
+    (alt a_text (λ t (u : Unit {0}). value.Text t) (nothing tt) (told_form (λ s. value.Shape s) shape_form))
 
 -- `value { "," value }`
 abbrev pub values_form : Form (List Value)
@@ -213,7 +213,7 @@ window_rest = seq (λ c w. plan.Window c w) column_form rect_form
 -- `column "=" plain | column from NUM to NUM`
 abbrev pub pick_rest : Form Plan
 pick_rest = seq (λ c (p : Column → Plan). p c) column_form
-    (case_sign symbol.Equal (told (λ v c. plan.PickEqual c v) plain_form)
+    (case_sign symbol.Equal (told_form (λ v c. plan.PickEqual c v) plain_form)
     (after_word (codes "from") (seq (λ a b c. plan.PickBetween c a b) int_form (after_word (codes "to") int_form))))
 
 -- `column column [ within NUM ]`
@@ -252,7 +252,7 @@ first_rest = seq (λ n p. plan.First n p) (natural_form 1 MOST_ROWS) inner_form
 -- `"(" plan ")" by place | "(" plan ")" near place from shape`
 abbrev pub sort_rest : Form Plan
 sort_rest = seq (λ p (s : Plan → Plan). s p) inner_form
-    (case_word (codes "by") (told (λ l p. plan.SortBy p l) place_form)
+    (case_word (codes "by") (told_form (λ l p. plan.SortBy p l) place_form)
     (after_word (codes "near") (seq (λ l g p. plan.SortNear p l g) place_form (after_word (codes "from") shape_form))))
 
 -- a plan
@@ -295,7 +295,7 @@ index_rest = seq (λ c t. statement.Index c t) column_form (alt (a_natural 1 64)
 
 -- what follows the word of an R-tree
 abbrev pub rtree_rest : Form Statement
-rtree_rest = told (λ c. statement.Rtree c) column_form
+rtree_rest = told_form (λ c. statement.Rtree c) column_form
 
 -- `NAME "=" plan`
 abbrev pub open_rest : Form Statement
@@ -324,7 +324,7 @@ far_rest = seq (λ n (cg : Column × Point). statement.Far n cg.0 cg.1) (natural
 
 -- `column`
 abbrev pub blocks_rest : Form Statement
-blocks_rest = told (λ c. statement.Blocks c) column_form
+blocks_rest = told_form (λ c. statement.Blocks c) column_form
 
 -- a statement on cursors, plans or leaves, which changes no relation
 abbrev pub query_form : Form Statement

@@ -10,13 +10,13 @@ is_one_plain (c ∷ []) = not (is_control c)
 is_one_plain (c ∷ d ∷ more) = false
 
 -- the bytes spell one character, and no control character
-unfoldable pub is_plain : List ℕ → Bool
-is_plain bytes = is_utf8 bytes && is_one_plain (chars bytes)
+unfoldable pub is_plain_character : List ℕ → Bool
+is_plain_character bytes = is_utf8 bytes && is_one_plain (chars bytes)
 
 -- of how many bytes the character at the front is; 0 where none begins there, or a control character does
 unfoldable pub plain_len : List ℕ → ℕ
 plain_len bytes =
-    cond (is_plain (take 1 bytes)) 1 (cond (is_plain (take 2 bytes)) 2 (cond (is_plain (take 3 bytes)) 3 (cond (is_plain (take 4 bytes)) 4 0)))
+    cond (is_plain_character (take 1 bytes)) 1 (cond (is_plain_character (take 2 bytes)) 2 (cond (is_plain_character (take 3 bytes)) 3 (cond (is_plain_character (take 4 bytes)) 4 0)))
 
 -- the bytes begin with a quote
 abbrev pub begins_quote : List ℕ → Bool
@@ -39,8 +39,8 @@ unfoldable pub text_run : List ℕ → ℕ
 text_run bytes = run_after 0 bytes
 
 -- the bytes are characters of a text, and nothing else
-unfoldable pub IsInside : List ℕ → Type 0
-IsInside bytes = run_after 0 bytes ≡ length bytes
+unfoldable pub IsTextInside : List ℕ → Type 0
+IsTextInside bytes = run_after 0 bytes ≡ length bytes
 
 -- the bytes without every second quote, the next of which is one if so told
 abbrev pub content_after : Bool → List ℕ → List ℕ

@@ -3,7 +3,7 @@ use Rattle.std.specs.Prelude.{◌≡◌, ℕ, ◌≤◌, Bool, true, false, ◌&
 use Rattle.std.specs.Char.{is_ascii_digit}
 use Rattle.std.specs.List.{list_all}
 use Rattle.script_text.specs.Name.{IsName, is_name}
-use Rattle.script_text.specs.Text.{IsInside, begins_quote}
+use Rattle.script_text.specs.Text.{IsTextInside, begins_quote}
 use Rattle.script_text.specs.declared.token.Symbol.{Symbol}
 use Rattle.script_text.specs.declared.token.Symbol.TheVariants as symbol
 use Rattle.script_text.specs.declared.token.Token.{Token}
@@ -57,15 +57,15 @@ spelling (mark s) = symbol_text s
 abbrev pub IsPiece : Piece → Type 0
 IsPiece (name bytes) = IsName bytes
 IsPiece (number bytes) = is_number bytes ≡ true
-IsPiece (text bytes) = IsInside bytes
+IsPiece (text bytes) = IsTextInside bytes
 IsPiece (mark s) = Unit {0}
 
 -- the piece is of its shape; a name may have any length
-abbrev pub IsShaped : Piece → Type 0
-IsShaped (name bytes) = is_name bytes ≡ true
-IsShaped (number bytes) = is_number bytes ≡ true
-IsShaped (text bytes) = IsInside bytes
-IsShaped (mark s) = Unit {0}
+abbrev pub HasPieceShape : Piece → Type 0
+HasPieceShape (name bytes) = is_name bytes ≡ true
+HasPieceShape (number bytes) = is_number bytes ≡ true
+HasPieceShape (text bytes) = IsTextInside bytes
+HasPieceShape (mark s) = Unit {0}
 
 -- a text ends at a quote that no other one follows
 abbrev pub EndsBefore : Piece → List ℕ → Type 0
@@ -78,4 +78,4 @@ pub record IsToken (bytes : List ℕ) (piece : Piece) (after : List ℕ) : Type 
   pub shape : IsPiece piece
   pub split : bytes ≡ spelling piece ++ after
   pub closed : EndsBefore piece after
-  pub longest : (other : Piece) (left : List ℕ) → IsShaped other → bytes ≡ spelling other ++ left → length (spelling other) ≤ length (spelling piece)
+  pub longest : (other : Piece) (left : List ℕ) → HasPieceShape other → bytes ≡ spelling other ++ left → length (spelling other) ≤ length (spelling piece)

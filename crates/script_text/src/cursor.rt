@@ -1,10 +1,10 @@
 ghost use Rattle.std.specs.Prelude.{◌≡◌, ◌≤◌, ◌<◌, ◌^◌, ◌-◌, ◌&&◌, ℕ, true, [], IfOk, MatchOption, length};
 ghost use Rattle.script_text.specs.Accepting.{Accepts};
 ghost use Rattle.script_text.specs.Form.{a_word, a_name, a_natural, an_int, a_text, a_mark, head_fits};
-ghost use Rattle.script_text.specs.Grammar.{ended, room_at};
+ghost use Rattle.script_text.specs.Grammar.{ended_form, room_at};
 ghost use Rattle.script_text.specs.Number.{natural, int};
 ghost use Rattle.script_text.specs.Lexing.{pieces};
-ghost use Rattle.script_text.specs.Reading.{Gives, IsHead, at, start, take_in};
+ghost use Rattle.script_text.specs.Reading.{Gives, IsFirstPiece, at, start, take_in};
 ghost use Rattle.script_text.specs.Token.{is_number, piece_of};
 
 use crate::lexer::{next_token, skip_blanks};
@@ -26,15 +26,15 @@ pub struct Cursor<'t> {
 
 impl<'t> Model for Cursor<'t> {
     ghost use Rattle.std.specs.Prelude.{MatchOption};
-    ghost use Rattle.script_text.specs.Lexing.{pieces, IsNext, IsLast};
-    ghost use Rattle.script_text.specs.Reading.{State};
+    ghost use Rattle.script_text.specs.Lexing.{pieces, IsNextPiece, IsLast};
+    ghost use Rattle.script_text.specs.Reading.{TokenState};
     ghost use Rattle.script_text.specs.Token.{piece_of};
 
-    ghost Value = { State };
+    ghost Value = { TokenState };
 
     ghost view = { λ cursor. record { left = pieces cursor.rest.now; in_range = cursor.is_in_range } };
 
-    ghost invariant = { λ cursor. MatchOption cursor.head (IsLast cursor.rest.now) (λ p. IsNext cursor.rest.now (piece_of p.0) p.1.now) };
+    ghost invariant = { λ cursor. MatchOption cursor.head (IsLast cursor.rest.now) (λ p. IsNextPiece cursor.rest.now (piece_of p.0) p.1.now) };
 }
 
 // The number, where it is in this range.
@@ -73,7 +73,7 @@ impl<'t> Cursor<'t> {
 
     // The next token, and what stands after it.
     fn peek(&self) -> Option<(Token<'t>, &'t [u8])>
-        ensures { MatchOption result (self.now.left ≡ []) (λ p. IsHead self.now.left (piece_of p.0) p.1.now) }
+        ensures { MatchOption result (self.now.left ≡ []) (λ p. IsFirstPiece self.now.left (piece_of p.0) p.1.now) }
     {
         self.head
     }
@@ -265,7 +265,7 @@ impl<'t> Cursor<'t> {
 
     /// Nothing is left.
     pub fn end(&mut self) -> Result<(), Stuck>
-        ensures { Gives (ended tt) self.old self.new result }
+        ensures { Gives (ended_form tt) self.old self.new result }
     {
         match self.peek() {
             None => Ok(()),

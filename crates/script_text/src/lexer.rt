@@ -6,7 +6,7 @@ ghost use Rattle.std.specs.List.{prefix_len};
 ghost use Rattle.script_text.specs.Lexical.{is_blank, skip_blanks};
 ghost use Rattle.script_text.specs.Name.{starts_name, continues_name};
 ghost use Rattle.script_text.specs.Lexing.{first_cut, cut_of, text_cut, begins_number, short_symbol, long_symbol, symbol_at};
-ghost use Rattle.script_text.specs.Lexing.{unread, fault_room, IsNext, IsLast};
+ghost use Rattle.script_text.specs.Lexing.{unread, fault_room, IsNextPiece, IsLast};
 ghost use Rattle.script_text.specs.Token.{piece_of};
 ghost use Rattle.script_text.specs.Text.{text_run, begins_quote};
 
@@ -191,7 +191,7 @@ fn first_cut(bytes: &[u8]) -> Option<Cut<'_>>
 
 /// The next token of the rest of a line, and what stands after it.
 pub fn next_token(rest: &[u8]) -> Option<(Token<'_>, &[u8])>
-    ensures { MatchOption result (IsLast rest.now) (λ p. IsNext rest.now (piece_of p.0) p.1.now) }
+    ensures { MatchOption result (IsLast rest.now) (λ p. IsNextPiece rest.now (piece_of p.0) p.1.now) }
 {
     let bare = skip_blanks(rest);
     let Some(cut) = first_cut(bare) else {

@@ -1,5 +1,5 @@
 ghost use Rattle.std.specs.Prelude.{◌≡◌, IfOk};
-ghost use Rattle.script_text.specs.Page.{put_all};
+ghost use Rattle.script_text.specs.Page.{with_pieces};
 ghost use Rattle.statements.specs.Plan.{plan_value, Scan, Rank, Window, PickEqual, PickBetween, Join, Semi, Knn, Near, Filter, Match, Fetch, First, SortBy, SortNear};
 ghost use Rattle.script_text.specs.Printing.{inner_words, plan_words};
 
@@ -8,11 +8,11 @@ use crate::token::Symbol;
 use crate::{Column, Place, Places, Plan, Tests};
 use sand_base::{Label, NoMemory, Rect, Shape, Value};
 
-#[tactic(auto, using(crate::proofs::Pages::put_append), unfolding(crate::specs::Page::put_all))]
+#[tactic(auto, using(crate::proofs::Pages::put_append), unfolding(crate::specs::Page::with_pieces))]
 impl Printer {
     // Writes a `scan`.
     fn scan(&mut self, relation: &Label) -> Result<(), NoMemory>
-        ensures { IfOk result (λ _. self.new ≡ put_all self.old (plan_words (Scan relation.now))) }
+        ensures { IfOk result (λ _. self.new ≡ with_pieces self.old (plan_words (Scan relation.now))) }
     {
         self.name("scan")?;
         self.name(relation.as_str())?;
@@ -21,7 +21,7 @@ impl Printer {
 
     // Writes a `rank`.
     fn rank(&mut self, column: &Column, goal: &Shape, within: Option<u32>) -> Result<(), NoMemory>
-        ensures { IfOk result (λ _. self.new ≡ put_all self.old (plan_words (Rank column.now goal.now within))) }
+        ensures { IfOk result (λ _. self.new ≡ with_pieces self.old (plan_words (Rank column.now goal.now within))) }
     {
         self.name("rank")?;
         self.column(column)?;
@@ -33,7 +33,7 @@ impl Printer {
 
     // Writes a `window`.
     fn window(&mut self, column: &Column, window: Rect) -> Result<(), NoMemory>
-        ensures { IfOk result (λ _. self.new ≡ put_all self.old (plan_words (Window column.now window))) }
+        ensures { IfOk result (λ _. self.new ≡ with_pieces self.old (plan_words (Window column.now window))) }
     {
         self.name("window")?;
         self.column(column)?;
@@ -46,7 +46,7 @@ impl Printer {
 
     // Writes a `pick` of one value.
     fn pick_equal(&mut self, column: &Column, value: &Value) -> Result<(), NoMemory>
-        ensures { IfOk result (λ _. self.new ≡ put_all self.old (plan_words (PickEqual column.now value.now))) }
+        ensures { IfOk result (λ _. self.new ≡ with_pieces self.old (plan_words (PickEqual column.now value.now))) }
     {
         self.name("pick")?;
         self.column(column)?;
@@ -57,7 +57,7 @@ impl Printer {
 
     // Writes a `pick` of a range.
     fn pick_between(&mut self, column: &Column, low: i64, high: i64) -> Result<(), NoMemory>
-        ensures { IfOk result (λ _. self.new ≡ put_all self.old (plan_words (PickBetween column.now low high))) }
+        ensures { IfOk result (λ _. self.new ≡ with_pieces self.old (plan_words (PickBetween column.now low high))) }
     {
         self.name("pick")?;
         self.column(column)?;
@@ -70,7 +70,7 @@ impl Printer {
 
     // Writes a `join`.
     fn join(&mut self, left: &Column, right: &Column, within: Option<u32>) -> Result<(), NoMemory>
-        ensures { IfOk result (λ _. self.new ≡ put_all self.old (plan_words (Join left.now right.now within))) }
+        ensures { IfOk result (λ _. self.new ≡ with_pieces self.old (plan_words (Join left.now right.now within))) }
     {
         self.name("join")?;
         self.column(left)?;
@@ -81,7 +81,7 @@ impl Printer {
 
     // Writes a `semi`.
     fn semi(&mut self, left: &Column, right: &Column, within: Option<u32>) -> Result<(), NoMemory>
-        ensures { IfOk result (λ _. self.new ≡ put_all self.old (plan_words (Semi left.now right.now within))) }
+        ensures { IfOk result (λ _. self.new ≡ with_pieces self.old (plan_words (Semi left.now right.now within))) }
     {
         self.name("semi")?;
         self.column(left)?;
@@ -98,7 +98,7 @@ impl Printer {
         right: &Column,
         within: Option<u32>,
     ) -> Result<(), NoMemory>
-        ensures { IfOk result (λ _. self.new ≡ put_all self.old (plan_words (Knn k left.now right.now within))) }
+        ensures { IfOk result (λ _. self.new ≡ with_pieces self.old (plan_words (Knn k left.now right.now within))) }
     {
         self.name("knn")?;
         self.natural(u32::from(k))?;
@@ -110,7 +110,7 @@ impl Printer {
 
     // Writes a `near`.
     fn near(&mut self, column: &Column, goal: &Shape, within: Option<u32>) -> Result<(), NoMemory>
-        ensures { IfOk result (λ _. self.new ≡ put_all self.old (plan_words (Near column.now goal.now within))) }
+        ensures { IfOk result (λ _. self.new ≡ with_pieces self.old (plan_words (Near column.now goal.now within))) }
     {
         self.name("near")?;
         self.column(column)?;
@@ -123,7 +123,7 @@ impl Printer {
     // Writes a plan between brackets.
     #[cycle(plan)]
     fn inner(&mut self, plan: &Plan) -> Result<(), NoMemory>
-        ensures { IfOk result (λ _. self.new ≡ put_all self.old (inner_words (plan_words (plan_value plan.now)))) }
+        ensures { IfOk result (λ _. self.new ≡ with_pieces self.old (inner_words (plan_words (plan_value plan.now)))) }
     {
         self.mark(Symbol::Open)?;
         self.plan(plan)?;
@@ -134,7 +134,7 @@ impl Printer {
     // Writes a `filter`.
     #[cycle(plan)]
     fn filter(&mut self, plan: &Plan, tests: &Tests) -> Result<(), NoMemory>
-        ensures { IfOk result (λ _. self.new ≡ put_all self.old (plan_words (Filter (plan_value plan.now) tests.now))) }
+        ensures { IfOk result (λ _. self.new ≡ with_pieces self.old (plan_words (Filter (plan_value plan.now) tests.now))) }
     {
         self.name("filter")?;
         self.inner(plan)?;
@@ -146,7 +146,7 @@ impl Printer {
     // Writes a `match`.
     #[cycle(plan)]
     fn matched(&mut self, plan: &Plan, place: &Place, column: &Column) -> Result<(), NoMemory>
-        ensures { IfOk result (λ _. self.new ≡ put_all self.old (plan_words (Match (plan_value plan.now) place.now column.now))) }
+        ensures { IfOk result (λ _. self.new ≡ with_pieces self.old (plan_words (Match (plan_value plan.now) place.now column.now))) }
     {
         self.name("match")?;
         self.inner(plan)?;
@@ -159,7 +159,7 @@ impl Printer {
     // Writes a `fetch`.
     #[cycle(plan)]
     fn fetch(&mut self, plan: &Plan, places: &Places) -> Result<(), NoMemory>
-        ensures { IfOk result (λ _. self.new ≡ put_all self.old (plan_words (Fetch (plan_value plan.now) places.now))) }
+        ensures { IfOk result (λ _. self.new ≡ with_pieces self.old (plan_words (Fetch (plan_value plan.now) places.now))) }
     {
         self.name("fetch")?;
         self.inner(plan)?;
@@ -170,7 +170,7 @@ impl Printer {
     // Writes a `first`.
     #[cycle(plan)]
     fn first(&mut self, count: u32, plan: &Plan) -> Result<(), NoMemory>
-        ensures { IfOk result (λ _. self.new ≡ put_all self.old (plan_words (First count (plan_value plan.now)))) }
+        ensures { IfOk result (λ _. self.new ≡ with_pieces self.old (plan_words (First count (plan_value plan.now)))) }
     {
         self.name("first")?;
         self.natural(count)?;
@@ -181,7 +181,7 @@ impl Printer {
     // Writes a `sort` by values.
     #[cycle(plan)]
     fn sort_by(&mut self, plan: &Plan, place: &Place) -> Result<(), NoMemory>
-        ensures { IfOk result (λ _. self.new ≡ put_all self.old (plan_words (SortBy (plan_value plan.now) place.now))) }
+        ensures { IfOk result (λ _. self.new ≡ with_pieces self.old (plan_words (SortBy (plan_value plan.now) place.now))) }
     {
         self.name("sort")?;
         self.inner(plan)?;
@@ -193,7 +193,7 @@ impl Printer {
     // Writes a `sort` by gaps.
     #[cycle(plan)]
     fn sort_near(&mut self, plan: &Plan, place: &Place, goal: &Shape) -> Result<(), NoMemory>
-        ensures { IfOk result (λ _. self.new ≡ put_all self.old (plan_words (SortNear (plan_value plan.now) place.now goal.now))) }
+        ensures { IfOk result (λ _. self.new ≡ with_pieces self.old (plan_words (SortNear (plan_value plan.now) place.now goal.now))) }
     {
         self.name("sort")?;
         self.inner(plan)?;
@@ -208,7 +208,7 @@ impl Printer {
     /// little of the stack.
     #[cycle(plan)]
     pub fn plan(&mut self, plan: &Plan) -> Result<(), NoMemory>
-        ensures { IfOk result (λ _. self.new ≡ put_all self.old (plan_words (plan_value plan.now))) }
+        ensures { IfOk result (λ _. self.new ≡ with_pieces self.old (plan_words (plan_value plan.now))) }
     {
         match plan {
             Plan::Scan { relation } => self.scan(relation),

@@ -60,7 +60,8 @@ impl<'t> Cursor<'t> {
 
     // Reads the lowest and the highest number that are picked.
     fn picked_range(&mut self) -> Result<(i64, i64), Stuck>
-        ensures { GivesAs {A = Column → PlanTree} (λ r c. PickBetween c r.0 r.1) (reading (after_word (codes "from") (seq (λ a b c. PickBetween c a b) int_form (after_word (codes "to") int_form)))) self.old self.new result }
+        ensures { GivesAs {A = Column → PlanTree} (λ r c. PickBetween c r.0 r.1)
+            (reading (after_word (codes "from") (seq (λ a b c. PickBetween c a b) int_form (after_word (codes "to") int_form)))) self.old self.new result }
     {
         self.word("from")?;
         let low = self.int()?;
@@ -174,7 +175,8 @@ impl<'t> Cursor<'t> {
 
     // Reads the place whose shapes answers are sorted by, and the shape that they are compared with.
     fn sort_goal(&mut self, alloc: Global) -> Result<(Place, Shape), Stuck>
-        ensures { GivesAs {A = PlanTree → PlanTree} (λ q p. SortNear p q.0 q.1) (reading (after_word (codes "near") (seq (λ l g p. SortNear p l g) place_form (after_word (codes "from") shape_form)))) self.old self.new result }
+        ensures { GivesAs {A = PlanTree → PlanTree} (λ q p. SortNear p q.0 q.1)
+            (reading (after_word (codes "near") (seq (λ l g p. SortNear p l g) place_form (after_word (codes "from") shape_form)))) self.old self.new result }
     {
         self.word("near")?;
         let place = self.place(alloc)?;

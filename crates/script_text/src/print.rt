@@ -1,5 +1,5 @@
 ghost use Rattle.std.specs.Prelude.{◌≡◌, IfOk};
-ghost use Rattle.script_text.specs.Page.{put_all};
+ghost use Rattle.script_text.specs.Page.{with_pieces};
 ghost use Rattle.statements.specs.Plan.{plan_value};
 ghost use Rattle.script_text.specs.Printing.{printed, words};
 ghost use Rattle.statements.specs.Statement.{statement_value, Create, Insert, Delete, Load, Index, Rtree, OpenCursor, Next, CloseCursor, Show, Stats, Far, Blocks};
@@ -10,11 +10,11 @@ use crate::{Column, Plan, Statement};
 use sand_base::{Label, NoMemory, Point, Row, Schema};
 use std::alloc::Global;
 
-#[tactic(auto, using(crate::proofs::Pages::put_append), unfolding(crate::specs::Page::put_all))]
+#[tactic(auto, using(crate::proofs::Pages::put_append), unfolding(crate::specs::Page::with_pieces))]
 impl Printer {
     // Writes a `create`.
     fn create(&mut self, relation: &Label, columns: &Schema) -> Result<(), NoMemory>
-        ensures { IfOk result (λ _. self.new ≡ put_all self.old (words (Create relation.now columns.now))) }
+        ensures { IfOk result (λ _. self.new ≡ with_pieces self.old (words (Create relation.now columns.now))) }
     {
         self.name("create")?;
         self.name(relation.as_str())?;
@@ -26,7 +26,7 @@ impl Printer {
 
     // Writes an `insert`.
     fn insert(&mut self, relation: &Label, values: &Row) -> Result<(), NoMemory>
-        ensures { IfOk result (λ _. self.new ≡ put_all self.old (words (Insert relation.now values.now))) }
+        ensures { IfOk result (λ _. self.new ≡ with_pieces self.old (words (Insert relation.now values.now))) }
     {
         self.name("insert")?;
         self.name(relation.as_str())?;
@@ -36,7 +36,7 @@ impl Printer {
 
     // Writes a `delete`.
     fn delete(&mut self, relation: &Label, id: u32) -> Result<(), NoMemory>
-        ensures { IfOk result (λ _. self.new ≡ put_all self.old (words (Delete relation.now id))) }
+        ensures { IfOk result (λ _. self.new ≡ with_pieces self.old (words (Delete relation.now id))) }
     {
         self.name("delete")?;
         self.name(relation.as_str())?;
@@ -46,7 +46,7 @@ impl Printer {
 
     // Writes a `load`.
     fn load(&mut self, relation: &Label, file: &Label, header: bool) -> Result<(), NoMemory>
-        ensures { IfOk result (λ _. self.new ≡ put_all self.old (words (Load relation.now file.now header))) }
+        ensures { IfOk result (λ _. self.new ≡ with_pieces self.old (words (Load relation.now file.now header))) }
     {
         self.name("load")?;
         self.name(relation.as_str())?;
@@ -59,7 +59,7 @@ impl Printer {
 
     // Writes an `index`.
     fn index(&mut self, column: &Column, threshold: Option<u8>) -> Result<(), NoMemory>
-        ensures { IfOk result (λ _. self.new ≡ put_all self.old (words (Index column.now threshold))) }
+        ensures { IfOk result (λ _. self.new ≡ with_pieces self.old (words (Index column.now threshold))) }
     {
         self.name("index")?;
         self.column(column)?;
@@ -71,7 +71,7 @@ impl Printer {
 
     // Writes an `rtree`.
     fn rtree(&mut self, column: &Column) -> Result<(), NoMemory>
-        ensures { IfOk result (λ _. self.new ≡ put_all self.old (words (Rtree column.now))) }
+        ensures { IfOk result (λ _. self.new ≡ with_pieces self.old (words (Rtree column.now))) }
     {
         self.name("rtree")?;
         self.column(column)?;
@@ -80,7 +80,7 @@ impl Printer {
 
     // Writes an `open`.
     fn open(&mut self, cursor: &Label, plan: &Plan) -> Result<(), NoMemory>
-        ensures { IfOk result (λ _. self.new ≡ put_all self.old (words (OpenCursor cursor.now (plan_value plan.now)))) }
+        ensures { IfOk result (λ _. self.new ≡ with_pieces self.old (words (OpenCursor cursor.now (plan_value plan.now)))) }
     {
         self.name("open")?;
         self.name(cursor.as_str())?;
@@ -91,7 +91,7 @@ impl Printer {
 
     // Writes a `next`.
     fn next(&mut self, cursor: &Label, count: u32) -> Result<(), NoMemory>
-        ensures { IfOk result (λ _. self.new ≡ put_all self.old (words (Next cursor.now count))) }
+        ensures { IfOk result (λ _. self.new ≡ with_pieces self.old (words (Next cursor.now count))) }
     {
         self.name("next")?;
         self.name(cursor.as_str())?;
@@ -101,7 +101,7 @@ impl Printer {
 
     // Writes a `show`.
     fn show(&mut self, count: u32, plan: &Plan) -> Result<(), NoMemory>
-        ensures { IfOk result (λ _. self.new ≡ put_all self.old (words (Show count (plan_value plan.now)))) }
+        ensures { IfOk result (λ _. self.new ≡ with_pieces self.old (words (Show count (plan_value plan.now)))) }
     {
         self.name("show")?;
         self.natural(count)?;
@@ -111,7 +111,7 @@ impl Printer {
 
     // Writes a `close`.
     fn close(&mut self, cursor: &Label) -> Result<(), NoMemory>
-        ensures { IfOk result (λ _. self.new ≡ put_all self.old (words (CloseCursor cursor.now))) }
+        ensures { IfOk result (λ _. self.new ≡ with_pieces self.old (words (CloseCursor cursor.now))) }
     {
         self.name("close")?;
         self.name(cursor.as_str())?;
@@ -120,7 +120,7 @@ impl Printer {
 
     // Writes a `stats`.
     fn stats(&mut self, cursor: &Label) -> Result<(), NoMemory>
-        ensures { IfOk result (λ _. self.new ≡ put_all self.old (words (Stats cursor.now))) }
+        ensures { IfOk result (λ _. self.new ≡ with_pieces self.old (words (Stats cursor.now))) }
     {
         self.name("stats")?;
         self.name(cursor.as_str())?;
@@ -129,7 +129,7 @@ impl Printer {
 
     // Writes a `far`.
     fn far(&mut self, count: u32, column: &Column, goal: Point) -> Result<(), NoMemory>
-        ensures { IfOk result (λ _. self.new ≡ put_all self.old (words (Far count column.now goal))) }
+        ensures { IfOk result (λ _. self.new ≡ with_pieces self.old (words (Far count column.now goal))) }
     {
         self.name("far")?;
         self.natural(count)?;
@@ -141,7 +141,7 @@ impl Printer {
 
     // Writes a `blocks`.
     fn blocks(&mut self, column: &Column) -> Result<(), NoMemory>
-        ensures { IfOk result (λ _. self.new ≡ put_all self.old (words (Blocks column.now))) }
+        ensures { IfOk result (λ _. self.new ≡ with_pieces self.old (words (Blocks column.now))) }
     {
         self.name("blocks")?;
         self.column(column)?;
@@ -150,7 +150,7 @@ impl Printer {
 
     // Writes a statement.
     fn statement(&mut self, statement: &Statement) -> Result<(), NoMemory>
-        ensures { IfOk result (λ _. self.new ≡ put_all self.old (words (statement_value statement.now))) }
+        ensures { IfOk result (λ _. self.new ≡ with_pieces self.old (words (statement_value statement.now))) }
     {
         match statement {
             Statement::Create { relation, columns } => self.create(relation, columns),

@@ -1,6 +1,6 @@
 ghost use Rattle.std.specs.Prelude.{◌≡◌, ◌∷◌, [], ◌++◌, IfOk};
 ghost use Rattle.std.specs.Fmt.{decimal, signed_decimal};
-ghost use Rattle.script_text.specs.Page.{empty, put, put_all, put_spelled};
+ghost use Rattle.script_text.specs.Page.{empty, put, with_pieces, put_spelled};
 ghost use Rattle.script_text.specs.Printing.{hugs_after, hugs_before};
 ghost use Rattle.script_text.specs.Text.{doubled};
 ghost use Rattle.script_text.specs.Token.{name, number, text, mark, spelling, symbol_text};

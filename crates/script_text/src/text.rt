@@ -1,5 +1,5 @@
 ghost use Rattle.std.specs.Prelude.{◌≡◌, ◌≤◌, IfOk, length, take};
-ghost use Rattle.script_text.specs.Text.{IsInside, content, is_plain, plain_len, unit_len, text_run};
+ghost use Rattle.script_text.specs.Text.{IsTextInside, content, is_plain_character, plain_len, unit_len, text_run};
 
 use sand_base::{Label, NoMemory};
 use std::alloc::Global;
@@ -7,7 +7,7 @@ use std::str;
 
 // Whether the bytes are one character, and no control character.
 fn is_plain(bytes: &[u8]) -> bool
-    ensures { result ≡ is_plain bytes.now }
+    ensures { result ≡ is_plain_character bytes.now }
 {
     let Ok(text) = str::from_utf8(bytes) else {
         return false;
@@ -25,7 +25,7 @@ fn is_plain(bytes: &[u8]) -> bool
 // Whether so many bytes at the front, or all where there are fewer, are one character, and no control character.
 #[tactic(auto, using(crate::proofs::TextLemmas::take_all))]
 fn is_plain_front(bytes: &[u8], n: usize) -> bool
-    ensures { result ≡ is_plain (take n bytes.now) }
+    ensures { result ≡ is_plain_character (take n bytes.now) }
 {
     if n <= bytes.len() {
         return is_plain(bytes.split_at(n).0);
@@ -85,7 +85,7 @@ pub fn text_run(bytes: &[u8]) -> usize
 /// What the bytes between the quotes of a text write: two quotes are one.
 #[tactic(auto, using(crate::proofs::TextLemmas::content_start, crate::proofs::TextLemmas::content_skip, crate::proofs::TextLemmas::content_more, crate::proofs::TextLemmas::content_end))]
 pub fn content(alloc: Global, inside: &[u8]) -> Result<Label, NoMemory>
-    requires { IsInside inside.now }
+    requires { IsTextInside inside.now }
     ensures { IfOk result (λ label. label ≡ content inside.now) }
 {
     let mut bytes = Vec::with_capacity(alloc, inside.len())?;

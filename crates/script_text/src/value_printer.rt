@@ -1,5 +1,5 @@
 ghost use Rattle.std.specs.Prelude.{◌≡◌, IfOk, codes};
-ghost use Rattle.script_text.specs.Page.{put_all};
+ghost use Rattle.script_text.specs.Page.{with_pieces};
 ghost use Rattle.script_text.specs.Printing.{comma, column_words, each, field_words, fixed, kind_word, list_words, more_words};
 ghost use Rattle.script_text.specs.Printing.{op_symbol, place_words, shape_words, spot_words, test_words, value_words, within_words};
 
@@ -35,11 +35,11 @@ fn op_symbol(op: Op) -> Symbol
     }
 }
 
-#[tactic(auto, using(crate::proofs::Pages::put_append), unfolding(crate::specs::Page::put_all))]
+#[tactic(auto, using(crate::proofs::Pages::put_append), unfolding(crate::specs::Page::with_pieces))]
 impl Printer {
     /// Writes `relation.column`.
     pub fn column(&mut self, column: &Column) -> Result<(), NoMemory>
-        ensures { IfOk result (λ _. self.new ≡ put_all self.old (column_words column.now)) }
+        ensures { IfOk result (λ _. self.new ≡ with_pieces self.old (column_words column.now)) }
     {
         self.name(column.relation.as_str())?;
         self.mark(Symbol::Dot)?;
@@ -49,7 +49,7 @@ impl Printer {
 
     /// Writes `k.column`.
     pub fn place(&mut self, place: &Place) -> Result<(), NoMemory>
-        ensures { IfOk result (λ _. self.new ≡ put_all self.old (place_words place.now)) }
+        ensures { IfOk result (λ _. self.new ≡ with_pieces self.old (place_words place.now)) }
     {
         self.natural(place.k)?;
         self.mark(Symbol::Dot)?;
@@ -59,7 +59,7 @@ impl Printer {
 
     /// Writes `(x y)`.
     pub fn spot(&mut self, spot: Point) -> Result<(), NoMemory>
-        ensures { IfOk result (λ _. self.new ≡ put_all self.old (spot_words spot)) }
+        ensures { IfOk result (λ _. self.new ≡ with_pieces self.old (spot_words spot)) }
     {
         self.mark(Symbol::Open)?;
         self.natural(spot.x)?;
@@ -69,9 +69,9 @@ impl Printer {
     }
 
     // Writes the spots of a polygon.
-    #[tactic(auto, using(crate::proofs::Pages::each_step, crate::proofs::Pages::each_end), unfolding(crate::specs::Page::put_all))]
+    #[tactic(auto, using(crate::proofs::Pages::each_step, crate::proofs::Pages::each_end), unfolding(crate::specs::Page::with_pieces))]
     fn spots(&mut self, spots: &[Point]) -> Result<(), NoMemory>
-        ensures { IfOk result (λ _. self.new ≡ put_all self.old (each spot_words spots.now)) }
+        ensures { IfOk result (λ _. self.new ≡ with_pieces self.old (each spot_words spots.now)) }
     {
         'spots: for spot in spots {
             self.spot(*spot)?;
@@ -81,7 +81,7 @@ impl Printer {
 
     /// Writes a shape.
     pub fn shape(&mut self, shape: &Shape) -> Result<(), NoMemory>
-        ensures { IfOk result (λ _. self.new ≡ put_all self.old (shape_words shape.now)) }
+        ensures { IfOk result (λ _. self.new ≡ with_pieces self.old (shape_words shape.now)) }
     {
         match shape {
             Shape::Point(at) => self.spot(*at)?,
@@ -101,7 +101,7 @@ impl Printer {
 
     /// Writes a value.
     pub fn value(&mut self, value: &Value) -> Result<(), NoMemory>
-        ensures { IfOk result (λ _. self.new ≡ put_all self.old (value_words value.now)) }
+        ensures { IfOk result (λ _. self.new ≡ with_pieces self.old (value_words value.now)) }
     {
         match value {
             Value::Int(n) => self.int(*n)?,
@@ -112,9 +112,9 @@ impl Printer {
     }
 
     // Writes the values behind the first one.
-    #[tactic(auto, using(crate::proofs::Pages::more_step, crate::proofs::Pages::more_end), unfolding(crate::specs::Page::put_all))]
+    #[tactic(auto, using(crate::proofs::Pages::more_step, crate::proofs::Pages::more_end), unfolding(crate::specs::Page::with_pieces))]
     fn more_values(&mut self, values: &[Value]) -> Result<(), NoMemory>
-        ensures { IfOk result (λ _. self.new ≡ put_all self.old (more_words comma value_words values.now)) }
+        ensures { IfOk result (λ _. self.new ≡ with_pieces self.old (more_words comma value_words values.now)) }
     {
         'values: for value in values {
             self.mark(Symbol::Comma)?;
@@ -125,7 +125,7 @@ impl Printer {
 
     /// Writes the values of a row.
     pub fn values(&mut self, values: &[Value]) -> Result<(), NoMemory>
-        ensures { IfOk result (λ _. self.new ≡ put_all self.old (list_words comma value_words values.now)) }
+        ensures { IfOk result (λ _. self.new ≡ with_pieces self.old (list_words comma value_words values.now)) }
     {
         let [first, more @ ..] = values else {
             return Ok(());
@@ -137,7 +137,7 @@ impl Printer {
 
     // Writes a column's name and kind.
     fn field(&mut self, name: &Label, kind: Kind) -> Result<(), NoMemory>
-        ensures { IfOk result (λ _. self.new ≡ put_all self.old (field_words (name.now, kind))) }
+        ensures { IfOk result (λ _. self.new ≡ with_pieces self.old (field_words (name.now, kind))) }
     {
         self.name(name.as_str())?;
         self.name(kind_word(kind))?;
@@ -145,9 +145,9 @@ impl Printer {
     }
 
     // Writes the columns behind the first one.
-    #[tactic(auto, using(crate::proofs::Pages::more_step, crate::proofs::Pages::more_end), unfolding(crate::specs::Page::put_all))]
+    #[tactic(auto, using(crate::proofs::Pages::more_step, crate::proofs::Pages::more_end), unfolding(crate::specs::Page::with_pieces))]
     fn more_fields(&mut self, columns: &[(Label, Kind)]) -> Result<(), NoMemory>
-        ensures { IfOk result (λ _. self.new ≡ put_all self.old (more_words comma field_words columns.now)) }
+        ensures { IfOk result (λ _. self.new ≡ with_pieces self.old (more_words comma field_words columns.now)) }
     {
         'columns: for (name, kind) in columns {
             self.mark(Symbol::Comma)?;
@@ -158,7 +158,7 @@ impl Printer {
 
     /// Writes the columns of a relation.
     pub fn fields(&mut self, columns: &[(Label, Kind)]) -> Result<(), NoMemory>
-        ensures { IfOk result (λ _. self.new ≡ put_all self.old (list_words comma field_words columns.now)) }
+        ensures { IfOk result (λ _. self.new ≡ with_pieces self.old (list_words comma field_words columns.now)) }
     {
         let [(name, kind), more @ ..] = columns else {
             return Ok(());
@@ -170,7 +170,7 @@ impl Printer {
 
     // Writes a test.
     fn test(&mut self, test: &Test) -> Result<(), NoMemory>
-        ensures { IfOk result (λ _. self.new ≡ put_all self.old (test_words test.now)) }
+        ensures { IfOk result (λ _. self.new ≡ with_pieces self.old (test_words test.now)) }
     {
         self.place(&test.place)?;
         self.mark(op_symbol(test.op))?;
@@ -179,9 +179,9 @@ impl Printer {
     }
 
     // Writes the tests behind the first one.
-    #[tactic(auto, using(crate::proofs::Pages::more_step, crate::proofs::Pages::more_end), unfolding(crate::specs::Page::put_all))]
+    #[tactic(auto, using(crate::proofs::Pages::more_step, crate::proofs::Pages::more_end), unfolding(crate::specs::Page::with_pieces))]
     fn more_tests(&mut self, tests: &[Test]) -> Result<(), NoMemory>
-        ensures { IfOk result (λ _. self.new ≡ put_all self.old (more_words (fixed (codes "and")) test_words tests.now)) }
+        ensures { IfOk result (λ _. self.new ≡ with_pieces self.old (more_words (fixed (codes "and")) test_words tests.now)) }
     {
         'tests: for test in tests {
             self.name("and")?;
@@ -192,7 +192,7 @@ impl Printer {
 
     /// Writes the tests of a `filter`.
     pub fn tests(&mut self, tests: &[Test]) -> Result<(), NoMemory>
-        ensures { IfOk result (λ _. self.new ≡ put_all self.old (list_words (fixed (codes "and")) test_words tests.now)) }
+        ensures { IfOk result (λ _. self.new ≡ with_pieces self.old (list_words (fixed (codes "and")) test_words tests.now)) }
     {
         let [first, more @ ..] = tests else {
             return Ok(());
@@ -203,9 +203,9 @@ impl Printer {
     }
 
     // Writes the places behind the first one.
-    #[tactic(auto, using(crate::proofs::Pages::more_step, crate::proofs::Pages::more_end), unfolding(crate::specs::Page::put_all))]
+    #[tactic(auto, using(crate::proofs::Pages::more_step, crate::proofs::Pages::more_end), unfolding(crate::specs::Page::with_pieces))]
     fn more_places(&mut self, places: &[Place]) -> Result<(), NoMemory>
-        ensures { IfOk result (λ _. self.new ≡ put_all self.old (more_words comma place_words places.now)) }
+        ensures { IfOk result (λ _. self.new ≡ with_pieces self.old (more_words comma place_words places.now)) }
     {
         'places: for place in places {
             self.mark(Symbol::Comma)?;
@@ -216,7 +216,7 @@ impl Printer {
 
     /// Writes the places of a `fetch`.
     pub fn places(&mut self, places: &[Place]) -> Result<(), NoMemory>
-        ensures { IfOk result (λ _. self.new ≡ put_all self.old (list_words comma place_words places.now)) }
+        ensures { IfOk result (λ _. self.new ≡ with_pieces self.old (list_words comma place_words places.now)) }
     {
         let [first, more @ ..] = places else {
             return Ok(());
@@ -228,7 +228,7 @@ impl Printer {
 
     /// Writes a distance, where there is one.
     pub fn within(&mut self, within: Option<u32>) -> Result<(), NoMemory>
-        ensures { IfOk result (λ _. self.new ≡ put_all self.old (within_words within)) }
+        ensures { IfOk result (λ _. self.new ≡ with_pieces self.old (within_words within)) }
     {
         if let Some(distance) = within {
             self.name("within")?;

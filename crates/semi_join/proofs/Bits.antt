@@ -15,7 +15,7 @@ use Rattle.std.proofs.lemmas.List.{get_or-set_same, get_or-set_other, get_or_rea
 use Rattle.std.proofs.lemmas.Nat.{one_shl, pow_pos}
 use Rattle.std.proofs.Math.Nat.{one-mul, zero-mul}
 use Rattle.std.proofs.lemmas.Nat.Bits.{bit_at-zero, bit_at-lt, and_pow, bit_at_set_same, bit_at_set_other}
-use Rattle.semi_join.specs.LeftRows.{IdSet, has_bit, ids_below}
+use Rattle.semi_join.specs.LeftRows.{IdSet, has_left_bit, ids_below}
 
 pub tied : (a b : ℕ) → a ≡ b → eq_by_cmp nat_cmp a b ≡ true
 tied a b e = unsigned_tied a b ∙ eq-eqb a b e
@@ -47,17 +47,17 @@ put_here s k false e = e
 pub none_above : (words : List ℕ) (n id : ℕ) → n ≤ id → set.contains (ids_below words n) id ≡ false
 unfolding ids_below
 none_above words zero id h = set.contains-empty nat_cmp id
-none_above words (suc n) id h = put_if (ids_below words n) n id (has_bit words n) (λ e. absurd (omega arith)) ∙ none_above words n id (omega arith)
+none_above words (suc n) id h = put_if (ids_below words n) n id (has_left_bit words n) (λ e. absurd (omega arith)) ∙ none_above words n id (omega arith)
 
 -- an id below n is among them where its bit is set
-pub has_below : (words : List ℕ) (n id : ℕ) → id < n → set.contains (ids_below words n) id ≡ has_bit words id
+pub has_below : (words : List ℕ) (n id : ℕ) → id < n → set.contains (ids_below words n) id ≡ has_left_bit words id
 unfolding ids_below
 has_below words zero id h = absurd (omega arith)
 has_below words (suc n) id h =
     ⊎_elim
-    (λ e. subst (λ k. set.contains (cond (has_bit words n) (set.insert (ids_below words n) n) (ids_below words n)) k ≡ has_bit words k) (sym e)
-    (put_here (ids_below words n) n (has_bit words n) (none_above words n n (omega arith))))
-    (λ e. put_if (ids_below words n) n id (has_bit words n) e ∙ has_below words n id (omega arith))
+    (λ e. subst (λ k. set.contains (cond (has_left_bit words n) (set.insert (ids_below words n) n) (ids_below words n)) k ≡ has_left_bit words k) (sym e)
+    (put_here (ids_below words n) n (has_left_bit words n) (none_above words n n (omega arith))))
+    (λ e. put_if (ids_below words n) n id (has_left_bit words n) e ∙ has_below words n id (omega arith))
     (cases_eq id n)
 
 -- zeros have no id
@@ -73,12 +73,13 @@ zeros_have_none words zeros (suc n) =
 abbrev pub with_bit : ℕ → ℕ → ℕ
 with_bit word id = bit_or word (1 * 2 ^ (id % 64) % 2 ^ bits w64)
 
-bit_there : (words : List ℕ) (id word : ℕ) → id / 64 < length words → has_bit (set words (id / 64) (with_bit word id)) id ≡ true
+bit_there : (words : List ℕ) (id word : ℕ) → id / 64 < length words → has_left_bit (set words (id / 64) (with_bit word id)) id ≡ true
 bit_there words id word h =
     ap (λ w. nat_eq (bit_at w (id % 64)) 1) (get_or-set_same words (id / 64) (with_bit word id) 0 h)
     ∙ eq-eqb (bit_at (with_bit word id) (id % 64)) 1 (bit_at_set_same w64 word (id % 64) (omega arith))
 
-bit_elsewhere : (words : List ℕ) (id q word : ℕ) → id / 64 < length words → word ≡ get_or words (id / 64) 0 → (q ≡ id → ⊥) → has_bit (set words (id / 64) (with_bit word id)) q ≡ has_bit words q
+bit_elsewhere : (words : List ℕ) (id q word : ℕ) → id / 64 < length words → word ≡ get_or words (id / 64) 0 → (q ≡ id → ⊥)
+    → has_left_bit (set words (id / 64) (with_bit word id)) q ≡ has_left_bit words q
 bit_elsewhere words id q word h is ne =
     ⊎_elim
     (λ same.
@@ -99,7 +100,7 @@ one_more words id word n inside len read =
     ⊎_elim
     (λ low.
     ⊎_elim
-    (λ e. has_below new (64 * n) q low ∙ ap (has_bit new) e ∙ bit_there words id word inside ∙ sym (put_has (ids_below words (64 * n)) id q e))
+    (λ e. has_below new (64 * n) q low ∙ ap (has_left_bit new) e ∙ bit_there words id word inside ∙ sym (put_has (ids_below words (64 * n)) id q e))
     (λ e. has_below new (64 * n) q low ∙ bit_elsewhere words id q word inside is e ∙ sym (has_below words (64 * n) q low) ∙ sym (put_others (ids_below words (64 * n)) id q e))
     (cases_eq q id))
     (λ high. none_above new (64 * n) q high ∙ sym (put_others (ids_below words (64 * n)) id q (λ e. absurd (omega arith)) ∙ none_above words (64 * n) q high))

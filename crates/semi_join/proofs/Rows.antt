@@ -4,7 +4,7 @@ use Rattle.std.specs.Ordering.{is_gt, is_lt, ordering_then}
 use Rattle.std.specs.Cmp.{IsTotalOrder, nat_cmp_total, on_total, then_total, upto, tied_itself}
 use Rattle.exact_frac.specs.Frac.{value_cmp, value_cmp_total}
 use Rattle.best_first.specs.declared.hit.Hit.{Hit}
-use Rattle.best_first.specs.Item.{row_of}
+use Rattle.best_first.specs.Item.{row_item}
 use Rattle.best_first.specs.Reach.{IsAtMost}
 use Rattle.best_first.specs.Hierarchy.{Meaning}
 use Rattle.best_first.specs.Answer.{hit_cmp, IsAnswer, IsLater, IsNext}
@@ -21,7 +21,7 @@ rows_total =
 
 -- rows that the order does not tell apart have one left id
 pub rows_left : (a b : Hit) → hit_cmp a b ≡ Equal → b.left ≡ a.left
-rows_left a b e = let (far, is) = alike_row {N = ℕ} nat_cmp a.gap a.left a.right (row_of b) e in let row : row_of {N = ℕ} b ≡ _ = is in cc
+rows_left a b e = let (far, is) = alike_row {N = ℕ} nat_cmp a.gap a.left a.right (row_item b) e in let row : row_item {N = ℕ} b ≡ _ = is in cc
 
 not_after : (a b : Hit) → is_gt (hit_cmp a b) ≡ false → (hit_cmp a b ≡ Less) ⊎ (hit_cmp a b ≡ Equal)
 not_after a b n =

@@ -34,13 +34,13 @@ GivesLeft old new (Err fault) = new ≡ old
 -- ---- the bits
 
 -- the id's bit is set, where the bits stand 64 in a word, the lowest first
-abbrev pub has_bit : List ℕ → ℕ → Bool
-has_bit words id = nat_eq (bit_at (slice_index words (id / 64)) (id % 64)) 1
+abbrev pub has_left_bit : List ℕ → ℕ → Bool
+has_left_bit words id = nat_eq (bit_at (slice_index words (id / 64)) (id % 64)) 1
 
 -- the ids below n whose bits are set
 unfoldable pub ids_below : List ℕ → ℕ → IdSet
 ids_below words zero = set.empty
-ids_below words (suc n) = cond (has_bit words n) (set.insert (ids_below words n) n) (ids_below words n)
+ids_below words (suc n) = cond (has_left_bit words n) (set.insert (ids_below words n) n) (ids_below words n)
 
 -- left rows are stored as the triple of their parts
 abbrev pub left_rows_code : Coded LeftRows

@@ -26,7 +26,9 @@ pub fn next_pair<H: Hierarchy, Q: Queue<Item<H::Node>>, D: Disk>(
     ensures pair { IfSome (told_pages desk.old) (λ p. GivesFirstPair (H.meaning engine.old.hierarchy p) lefts.old.given result) }
     ensures lefts { GivesLeft lefts.old lefts.new result }
     ensures stands { IfSome (told_pages desk.old) (λ p. SemiStands H.Node.cmp (H.meaning engine.old.hierarchy p) (Q.held engine.new.frontier.queue) lefts.new) }
-    ensures visits { IfSome (told_pages desk.old) (λ p. MakesPairVisits H.Node.cmp (H.meaning engine.old.hierarchy p) (H.note engine.old.hierarchy) lefts.old (state (Q.held engine.old.frontier.queue) engine.old.frontier.last engine.old.frontier.counts desk.old) (state (Q.held engine.new.frontier.queue) engine.new.frontier.last engine.new.frontier.counts desk.new) result) }
+    ensures visits { IfSome (told_pages desk.old) (λ p. MakesPairVisits H.Node.cmp (H.meaning engine.old.hierarchy p) (H.note engine.old.hierarchy) lefts.old
+        (state (Q.held engine.old.frontier.queue) engine.old.frontier.last engine.old.frontier.counts desk.old)
+        (state (Q.held engine.new.frontier.queue) engine.new.frontier.last engine.new.frontier.counts desk.new) result) }
     ensures falls { Falls (steps (H.weight engine.old.hierarchy) (Q.held engine.old.frontier.queue)) (steps (H.weight engine.old.hierarchy) (Q.held engine.new.frontier.queue)) result }
 {
     match engine.next_wanted(&*lefts, desk) {

@@ -42,7 +42,8 @@ impl<H: Hierarchy, Q: Queue<Item<H::Node>> + Drop> Semi<H, Q> {
         ensures engine { IfOk result (λ s. s.engine ≡ engine) }
         ensures none_given { IfOk result (λ s. s.lefts.given ≡ set.empty) }
         ensures all_wait { IfOk result (λ s. s.lefts.waiting ≡ lefts) }
-        ensures stands { IfOk result (λ s. (p : PageMap) → StandsOver H.Node.cmp (H.meaning engine.hierarchy p) (Q.held engine.frontier.queue) engine.frontier.last → HasLefts (H.meaning engine.hierarchy p) lefts greatest → SemiStands H.Node.cmp (H.meaning engine.hierarchy p) (Q.held s.engine.frontier.queue) s.lefts) }
+        ensures stands { IfOk result (λ s. (p : PageMap) → StandsOver H.Node.cmp (H.meaning engine.hierarchy p) (Q.held engine.frontier.queue) engine.frontier.last
+            → HasLefts (H.meaning engine.hierarchy p) lefts greatest → SemiStands H.Node.cmp (H.meaning engine.hierarchy p) (Q.held s.engine.frontier.queue) s.lefts) }
     {
         let lefts = Lefts::new(alloc, lefts, greatest)?;
         Ok(Semi { engine, lefts })
@@ -61,11 +62,16 @@ impl<H: Hierarchy, Q: Queue<Item<H::Node>>> Semi<H, Q> {
         ensures cause { HasPageCause desk.old.pool desk.new.pool result }
         ensures pair { IfSome (told_pages desk.old) (λ p. GivesFirstPair (H.meaning self.old.engine.hierarchy p) self.old.lefts.given result) }
         ensures lefts { GivesLeft self.old.lefts self.new.lefts result }
-        ensures rest { IfSome (told_pages desk.old) (λ p. (answer : List Found) → ListsAnswer (H.meaning self.old.engine.hierarchy p) answer → TakesFirst (pairs_left self.old.lefts.given answer) (pairs_left self.new.lefts.given answer) result) }
+        ensures rest { IfSome (told_pages desk.old) (λ p. (answer : List Found) → ListsAnswer (H.meaning self.old.engine.hierarchy p) answer
+            → TakesFirst (pairs_left self.old.lefts.given answer) (pairs_left self.new.lefts.given answer) result) }
         ensures stands { IfSome (told_pages desk.old) (λ p. SemiStands H.Node.cmp (H.meaning self.old.engine.hierarchy p) (Q.held self.new.engine.frontier.queue) self.new.lefts) }
-        ensures visits { 0 < self.old.lefts.waiting → IfSome (told_pages desk.old) (λ p. MakesPairVisits H.Node.cmp (H.meaning self.old.engine.hierarchy p) (H.note self.old.engine.hierarchy) self.old.lefts (state (Q.held self.old.engine.frontier.queue) self.old.engine.frontier.last self.old.engine.frontier.counts desk.old) (state (Q.held self.new.engine.frontier.queue) self.new.engine.frontier.last self.new.engine.frontier.counts desk.new) result) }
+        ensures visits { 0 < self.old.lefts.waiting → IfSome (told_pages desk.old)
+            (λ p. MakesPairVisits H.Node.cmp (H.meaning self.old.engine.hierarchy p) (H.note self.old.engine.hierarchy) self.old.lefts
+            (state (Q.held self.old.engine.frontier.queue) self.old.engine.frontier.last self.old.engine.frontier.counts desk.old)
+            (state (Q.held self.new.engine.frontier.queue) self.new.engine.frontier.last self.new.engine.frontier.counts desk.new) result) }
         ensures ended { self.old.lefts.waiting ≡ 0 → (result ≡ Ok None) × (self.new ≡ self.old) × (desk.new ≡ desk.old) }
-        ensures falls { Falls (steps (H.weight self.old.engine.hierarchy) (Q.held self.old.engine.frontier.queue)) (steps (H.weight self.old.engine.hierarchy) (Q.held self.new.engine.frontier.queue)) result }
+        ensures falls { Falls (steps (H.weight self.old.engine.hierarchy) (Q.held self.old.engine.frontier.queue))
+            (steps (H.weight self.old.engine.hierarchy) (Q.held self.new.engine.frontier.queue)) result }
     {
         if self.lefts.waiting() == 0 {
             return Ok(None);

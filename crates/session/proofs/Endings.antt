@@ -10,13 +10,14 @@ use Rattle.statement_exec.proofs.Texts.{adds_none}
 use Rattle.script_lines.specs.Lines.{lines, ended_lines}
 use Rattle.script_lines.specs.declared.TheConstants.{LONGEST_SCRIPT}
 use Rattle.script_lines.specs.declared.script_lines.ScriptLines.{ScriptLines}
-use Rattle.line_meaning.specs.Carrying.{CarriesLine, CarriesLines, Follows}
+use Rattle.line_meaning.specs.Carrying.{CarriesLine, CarriesLines, FollowsMoment}
 use Rattle.statement_exec.specs.Moment.{Moment}
 use Rattle.statement_exec.specs.Printing.{Prints, PrintsSome}
-use Rattle.script_lines.specs.Reading.{Reads}
+use Rattle.script_lines.specs.Reading.{ReadsLines}
 use Rattle.session.specs.Outside.{SourceView, SinkView}
 use Rattle.session.specs.Ends.{HasBegun, WritesRun, EndsBetween, HasReadAll, HasRead}
-use Rattle.session.specs.RunStates.{RunState, run_state, IsBetweenLines, Draws, Grows, FromBetweenLines, FromLineInHand, Leads, HasLineInHand, IsOver, IsBeforeHand, IsOfFirst, EndsText, EndsAt, ended}
+use Rattle.session.specs.RunStates.{RunState, run_state, IsBetweenLines, Draws, GrowsText, FromBetweenLines, FromLineInHand, Leads, HasLineInHand, AreLinesOver}
+use Rattle.session.specs.RunStates.{IsBeforeHand, IsOfFirst, EndsText, EndsAt, ended}
 use Rattle.session.specs.declared.status.Status.{Status}
 use Rattle.session.specs.declared.status.Status.TheVariants as status
 use Rattle.session.proofs.LinesSaid.{prints_run, prints_some_run}
@@ -28,7 +29,7 @@ record Over (why : Status) (first now : Moment) (script left : Option (List ℕ)
   given : List (List ℕ)
   consumed : Consumes script left bytes
   printed : Prints (CarriesLines given first now) b text
-  over : IsOver why left bytes given
+  over : AreLinesOver why left bytes given
 
 -- the reader found no more line
 over : (why : Status) (first now : Moment) (script between left : Option (List ℕ)) (text : List ℕ) (reader reader' : ScriptLines) (b : Bool)
@@ -45,12 +46,12 @@ over why first now script between left text reader reader' b draws so_far =
     }
 
 -- nothing more is written at the end
-still : (took : List ℕ → Type 0) (text : List ℕ) (P : List ℕ → Type 0) → P text → Grows took took text P
+still : (took : List ℕ → Type 0) (text : List ℕ) (P : List ℕ → Type 0) → P text → GrowsText took took text P
 still took text P holds = ([], adds_none took, subst P (sym (append-nil text)) holds)
 
 -- the end of the script
 ends_done : (first now : Moment) (script left : Option (List ℕ)) (took : List ℕ → Type 0) (text : List ℕ) (b : Bool) → Over status.Done first now script left text b
-    → Grows took took text (λ all. HasReadAll script left (λ bytes. Prints (CarriesLines (lines bytes) first now) b all))
+    → GrowsText took took text (λ all. HasReadAll script left (λ bytes. Prints (CarriesLines (lines bytes) first now) b all))
 ends_done first now script left took text b o =
     let whole : Prints (CarriesLines (lines o.bytes) first now) b text = subst (λ l. Prints (CarriesLines l first now) b text) (sym o.over.2) o.printed in
     still took text (λ all. HasReadAll script left (λ bytes. Prints (CarriesLines (lines bytes) first now) b all))
@@ -124,7 +125,7 @@ ends_grown status.ReplayDamaged first last script left a b c text more adds ends
 -- the lines are over, behind a text that grew
 pub ends_grow : (first : Moment) (script : Option (List ℕ)) (text : List ℕ) (before took : List ℕ → Type 0) (why : Status) (reader reader' : ScriptLines)
     (between left : Option (List ℕ)) (now : Moment) (b : Bool) (result : Status)
-    → result ≡ ended why b → Draws (Err why) reader reader' between left → Grows before took text (λ all. IsBetweenLines first script all (run_state reader between now b))
+    → result ≡ ended why b → Draws (Err why) reader reader' between left → GrowsText before took text (λ all. IsBetweenLines first script all (run_state reader between now b))
     → EndsAt result now left before took first script text
 ends_grow first script text before took why reader reader' between left now b result is draws grown =
     let o = over why first now script between left (text ++ grown.0) reader reader' b draws grown.2 in
@@ -141,7 +142,7 @@ Ends-over old before took why reader reader' between left now b result is goes d
 
 -- a prefix of the output of the line in hand was written
 pub Ends-broken : (at : RunState) (new : Moment) (before now : List ℕ → Type 0) → WritesPrefix (PrintsSome (CarriesLine at.reader.line at.now new)) before now
-    → Follows at.now new → FromLineInHand at (EndsAt status.WriteFault new at.left before now)
+    → FollowsMoment at.now new → FromLineInHand at (EndsAt status.WriteFault new at.left before now)
 unfolding carried
 Ends-broken at new before now own follows first script text hand =
     let so_far = carried first script text own.text at new own.holds.0 hand own.holds.1 follows in
@@ -238,7 +239,8 @@ begun_of status.JournalBad first last script left before now text ends = absurd 
 begun_of status.ReplayFault first last script left before now text ends = absurd ends
 begun_of status.ReplayDamaged first last script left before now text ends = absurd ends
 
-pub Begun-script : (why : Status) (reader : ScriptLines) (first last : Moment) (script left : Option (List ℕ)) (before now : List ℕ → Type 0) → ((left : Option (List ℕ)) → Reads reader left [] [])
+pub Begun-script : (why : Status) (reader : ScriptLines) (first last : Moment) (script left : Option (List ℕ)) (before now : List ℕ → Type 0)
+    → ((left : Option (List ℕ)) → ReadsLines reader left [] [])
     → FromBetweenLines (run_state reader script first false) (EndsAt why last left before now) → HasBegun why
 Begun-script why reader first last script left before now none from =
     let end = from first script [] (begun_between reader first script none) in

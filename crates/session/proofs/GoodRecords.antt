@@ -3,7 +3,7 @@ use Rattle.std.proofs.Common.{◌≡◌, ◌≢◌, ◌⊎◌, ℕ, ◌+◌, ◌
 use Rattle.std.proofs.lemmas.List.{map-append}
 use Rattle.std.specs.List.{AllByRecursion}
 use Rattle.std.specs.Prelude.{IsTrue}
-use Rattle.journal_replay.specs.ChangedDatabase.{Takes, TakesAll, changed_by, world_after}
+use Rattle.journal_replay.specs.ChangedDatabase.{TakesChange, TakesAll, changed_by, world_after}
 use Rattle.sand_base.specs.declared.limits.Limits.{Limits}
 use Rattle.sand_journal.proofs.Bodies.{body_short}
 use Rattle.sand_journal.proofs.Frames.{length-framed, records-push}
@@ -99,7 +99,7 @@ one_changes one (x ∷ xs) (y ∷ ys) all_xs all_ys same =
 
 -- one of the changes that a database took was taken behind those before it
 takes_next : (setting : Setting) (xs : List ChangeValue) (change : ChangeValue) (rest : List ChangeValue) (d : Database) → TakesAll setting (xs ++ change ∷ rest) d
-    → Takes setting change (world_after setting xs d)
+    → TakesChange setting change (world_after setting xs d)
 takes_next setting [] change rest d all = all.0
 takes_next setting (x ∷ xs) change rest d all = takes_next setting xs change rest (changed_by setting x d) all.1
 
@@ -130,9 +130,10 @@ good_records one limits disk told image changes state has world tells known bad 
       let begun_told : IsTrue bad.begun.pool.disk.told = bad.known ∙ known in
       let own : bad.begun.catalog.limits ≡ limits = ap (λ (s : StoreState). s.catalog.limits) bad.empty in
       let here : setting.limits ≡ bad.begun.catalog.limits = bad.led.carries.limits in
-      let taken : Takes setting next.change (world_after setting bad.changes []) =
-      takes_next setting bad.changes next.change found.rest [] (subst (λ (cs : List ChangeValue). TakesAll setting cs []) split (world.takes known setting (is_some_setting bad.reached) (here ∙ own))) in
+      let taken : TakesChange setting next.change (world_after setting bad.changes []) =
+      takes_next setting bad.changes next.change found.rest []
+      (subst (λ (cs : List ChangeValue). TakesAll setting cs []) split (world.takes known setting (is_some_setting bad.reached) (here ∙ own))) in
       let reached : database bad.reached ≡ world_after setting bad.changes [] =
       bad.led.becomes begun_told setting (is_some_setting bad.reached) here ∙ ap (λ (d : Database). world_after setting bad.changes d) (ap (λ (s : StoreState). database s) bad.empty) in
       next.declines.not_taken (bad.led.carries.told ∙ begun_told) setting (is_some_setting bad.reached) refl
-      (subst (λ (d : Database). Takes setting next.change d) (sym reached) taken)
+      (subst (λ (d : Database). TakesChange setting next.change d) (sym reached) taken)

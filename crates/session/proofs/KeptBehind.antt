@@ -91,7 +91,8 @@ module _ {T : Type 0} (seen : T → TapeView) (opened journal : Journal T) (afte
         (λ image. least_first replayed.changes (shows.shown ++ shows.untold) image (whole shows.shown shows.untold shows.all))
         (joined (seen opened.tape) (seen journal.tape) (seen after) (LiesBetween bodies (map body_of (all_kept shows.shown shows.untold)))
         (weaker (seen opened.tape) (seen journal.tape) (HasBodies bodies) (LiesBetween bodies (map body_of (all_kept shows.shown shows.untold)))
-        (λ image own. subst (λ (bs : List (List ℕ)). LiesBetween bodies bs image) (sym (mapped shows.shown shows.untold)) (lies_more bodies bodies (map body_of (shows.shown ++ shows.untold)) image (lies_just bodies image own)))
+        (λ image own. subst (λ (bs : List (List ℕ)). LiesBetween bodies bs image) (sym (mapped shows.shown shows.untold))
+        (lies_more bodies bodies (map body_of (shows.shown ++ shows.untold)) image (lies_just bodies image own)))
         (while_read told))
         (subst (λ (bs : List (List ℕ)). LeavesOnly (seen journal.tape) (seen after) (LiesBetween bodies bs)) (sym (mapped shows.shown shows.untold)) (shows.any_moment bodies at (read.told ∙ told))));
     at_return = λ told image left.

@@ -8,7 +8,7 @@ use Rattle.journal_replay.specs.LedBy.{sketched_by, sketches_after}
 use Rattle.line_exec.specs.KeptChanges.{Appends, KeepsAll, KeepsChange, KeepsIfAny, LeadTo, UnlessJournal}
 use Rattle.line_exec.specs.declared.fault.LineFault.{LineFault}
 use Rattle.line_exec.specs.declared.fault.LineFault.TheVariants as fault
-use Rattle.line_meaning.specs.Carrying.{Follows}
+use Rattle.line_meaning.specs.Carrying.{FollowsMoment}
 use Rattle.sand_journal.proofs.Moments.{joined, weaker}
 use Rattle.sand_journal.specs.ChangeBody.{ChangeValue, IsChange, body_of}
 use Rattle.sand_journal.specs.Images.{HasBodies, LeavesOnly, LiesBetween}
@@ -54,7 +54,7 @@ lead_same changes first state last same lead = record {
 }
 
 -- changes lead on from where others led
-pub lead_on : (xs ys : List ChangeValue) (first mid : Moment) (last : State) → Follows first mid → LeadTo xs first mid.state → LeadTo ys mid last → LeadTo (xs ++ ys) first last
+pub lead_on : (xs ys : List ChangeValue) (first mid : Moment) (last : State) → FollowsMoment first mid → LeadTo xs first mid.state → LeadTo ys mid last → LeadTo (xs ++ ys) first last
 lead_on xs ys first mid last follows h k = record {
   sketched = k.sketched ∙ ap (λ (ss : List Sketch). sketches_after ys ss) h.sketched ∙ sym (sketches_both xs ys (outline_of first.state).relations);
   takes = λ told setting is limits. takes_both setting xs ys first.state.database (h.takes told setting is limits)
@@ -126,7 +126,7 @@ module _ {T : Type 0} (seen : T → TapeView) where
 
   -- ---- changes kept, and then those of a line
 
-  module _ (old mid new : Journal T) (first now : Moment) (last : State) (xs : List ChangeValue) (so_far : KeepsAll seen old mid xs first now.state (λ P. P)) (follows : Follows first now)
+  module _ (old mid new : Journal T) (first now : Moment) (last : State) (xs : List ChangeValue) (so_far : KeepsAll seen old mid xs first now.state (λ P. P)) (follows : FollowsMoment first now)
       (ys : List ChangeValue) (Done : Type 0 → Type 0) (on : (P Q : Type 0) → (P → Q) → Done P → Done Q) (line : KeepsAll seen mid new ys now last Done) where
     pub keeps_both : KeepsAll seen old new (xs ++ ys) first last Done
     keeps_both = record {
@@ -156,7 +156,7 @@ module _ {T : Type 0} (seen : T → TapeView) where
 
   -- one more line
   pub kept_line : (old mid new : Option (Journal T)) (first now : Moment) (last : State) (r : Result Bool LineFault) (refused : Bool) → r ≡ Ok refused → HasKeptIfAny seen old mid first now.state
-      → Follows first now → KeepsIfAny seen mid new now last r → HasKeptIfAny seen old new first last
+      → FollowsMoment first now → KeepsIfAny seen mid new now last r → HasKeptIfAny seen old new first last
   kept_line None mid new first now last r refused is so_far follows line = tt
   kept_line (Some old) None new first now last r refused is so_far follows line = absurd so_far
   kept_line (Some old) (Some mid) None first now last r refused is so_far follows line = line
@@ -227,8 +227,9 @@ module _ {T : Type 0} (seen : T → TapeView) where
     later bodies at told = line.keeps.appends.any_moment (bodies ++ map body_of xs) (keeps.appends.at_end bodies at) (subst IsTrue (sym keeps.appends.told) told)
 
   -- a line ended the run
-  pub shown_hand : (old mid new : Option (Journal T)) (first now : Moment) (state last : State) (r : Result Bool LineFault) (why : LineFault) (result : Status) → r ≡ Err why → result ≡ status_of_line why
-      → HasKeptIfAny seen old mid first now.state → Follows first now → KeepsIfAny seen mid new now state r → IsLastOf why now.state.database state.database last
+  pub shown_hand : (old mid new : Option (Journal T)) (first now : Moment) (state last : State) (r : Result Bool LineFault) (why : LineFault) (result : Status)
+      → r ≡ Err why → result ≡ status_of_line why
+      → HasKeptIfAny seen old mid first now.state → FollowsMoment first now → KeepsIfAny seen mid new now state r → IsLastOf why now.state.database state.database last
       → ShowsIfAny seen old new result first last
   shown_hand None mid new first now state last r why result is named so_far follows line ends = tt
   shown_hand (Some old) None new first now state last r why result is named so_far follows line ends = absurd so_far

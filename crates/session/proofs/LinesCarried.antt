@@ -6,12 +6,12 @@ use Rattle.sand_model.specs.OutputText.{is_refused}
 use Rattle.output_text.specs.Writing.{Writes}
 use Rattle.output_text.proofs.WrittenPrefix.{Adds-trans}
 use Rattle.script_lines.specs.Lines.{clipped}
-use Rattle.script_lines.specs.Reading.{Reads, Pulls}
+use Rattle.script_lines.specs.Reading.{ReadsLines, Pulls}
 use Rattle.script_lines.specs.declared.script_lines.Found.{Found}
 use Rattle.script_lines.specs.declared.script_lines.Found.TheVariants as found
 use Rattle.script_lines.specs.declared.script_lines.ScriptLines.{ScriptLines}
 use Rattle.sand_model.specs.ScriptLine.{ScriptLine}
-use Rattle.line_meaning.specs.Carrying.{CarriesLine, CarriesLines, Follows, InEach}
+use Rattle.line_meaning.specs.Carrying.{CarriesLine, CarriesLines, FollowsMoment, InEach}
 use Rattle.line_meaning.specs.ShelfRun.{ShelfRun}
 use Rattle.line_meaning.specs.Spoken.{AreLines}
 use Rattle.line_meaning.specs.Said.{AreAnswered}
@@ -20,7 +20,7 @@ use Rattle.statement_exec.specs.Moment.{Moment, rises_between}
 use Rattle.statement_exec.proofs.CausedLines.{caused_none}
 use Rattle.statement_exec.specs.Printing.{Prints}
 use Rattle.statement_exec.proofs.Texts.{text_append, adds_none}
-use Rattle.session.specs.RunStates.{RunState, run_state, IsBetweenLines, HasLineInHand, Draws, Grows, Leads}
+use Rattle.session.specs.RunStates.{RunState, run_state, IsBetweenLines, HasLineInHand, Draws, GrowsText, Leads}
 use Rattle.session.specs.declared.status.Status.TheVariants as status
 
 -- no line leads nowhere
@@ -39,7 +39,7 @@ list_any-append p (x ∷ xs) ys =
     ap (λ t. p x || t) (list_any-append p xs ys) ∙ go (p x) (list_any p xs) (list_any p ys)
 
 -- before the first line
-pub begun_between : (reader : ScriptLines) (first : Moment) (script : Option (List ℕ)) → ((left : Option (List ℕ)) → Reads reader left [] [])
+pub begun_between : (reader : ScriptLines) (first : Moment) (script : Option (List ℕ)) → ((left : Option (List ℕ)) → ReadsLines reader left [] [])
     → IsBetweenLines first script [] (run_state reader script first false)
 begun_between reader first script begun = record {
   bytes = [];
@@ -55,7 +55,7 @@ pub leads_nowhere : (at : RunState) (took : List ℕ → Type 0) → Leads IsBet
 leads_nowhere at took first script text so_far = ([], adds_none took, subst (λ t. IsBetweenLines first script t at) (sym (append-nil text)) so_far)
 
 -- a text grew, and then grew on
-pub grows_more : (a b c : List ℕ → Type 0) (text : List ℕ) (P Q : List ℕ → Type 0) → Grows a b text P → ((all : List ℕ) → P all → Grows b c all Q) → Grows a c text Q
+pub grows_more : (a b c : List ℕ → Type 0) (text : List ℕ) (P Q : List ℕ → Type 0) → GrowsText a b text P → ((all : List ℕ) → P all → GrowsText b c all Q) → GrowsText a c text Q
 grows_more a b c text P Q grown next =
     let more = next (text ++ grown.0) grown.2 in
     (grown.0 ++ more.0, Adds-trans a b c grown.0 more.0 grown.1 more.1, subst Q (append_assoc text grown.0 more.0) more.2)
@@ -77,7 +77,7 @@ drawn first script between left text reader reader' now b is_long draws so_far =
 
 -- the line in hand was carried out
 unfoldable pub carried : (first : Moment) (script : Option (List ℕ)) (text own : List ℕ) (at : RunState) (new : Moment) (r : Bool)
-    → HasLineInHand first script text at → Prints (CarriesLine at.reader.line at.now new) r own → Follows at.now new
+    → HasLineInHand first script text at → Prints (CarriesLine at.reader.line at.now new) r own → FollowsMoment at.now new
     → IsBetweenLines first script (text ++ own) (run_state at.reader at.left new (at.refused || r))
 carried first script text own at new r hand prints follows =
     let gives = hand.gives in
@@ -101,7 +101,7 @@ carried first script text own at new r hand prints follows =
 
 -- the line in hand was carried out, and its lines of output were written
 pub hand_carried : (old : RunState) (new : Moment) (before now : List ℕ → Type 0) (r t : Bool) → Writes (Prints (CarriesLine old.reader.line old.now new) r) before now
-    → Follows old.now new → t ≡ (old.refused || r) → Leads HasLineInHand IsBetweenLines old (run_state old.reader old.left new t) before now
+    → FollowsMoment old.now new → t ≡ (old.refused || r) → Leads HasLineInHand IsBetweenLines old (run_state old.reader old.left new t) before now
 hand_carried old new before now r t own follows joined first script text hand = (
   own.text,
   own.written,

@@ -7,7 +7,7 @@ use Rattle.line_exec.specs.Keeping.{IsUntold, last_end, most_kept}
 use Rattle.line_exec.specs.declared.fault.LineFault.{LineFault}
 use Rattle.line_exec.specs.declared.fault.LineFault.TheVariants as fault
 use Rattle.line_meaning.proofs.Runs.{follows_on}
-use Rattle.line_meaning.specs.Carrying.{CarriesLines, Follows}
+use Rattle.line_meaning.specs.Carrying.{CarriesLines, FollowsMoment}
 use Rattle.open_cursors.specs.Carried.{AreCounted, GaveAtMost}
 use Rattle.open_cursors.specs.OpenCursors.{AreHeld}
 use Rattle.open_cursors.specs.OverPages.{StandOver}
@@ -21,13 +21,13 @@ use Rattle.sand_base.specs.declared.source.Failed.{Failed}
 use Rattle.sand_model.specs.Cursor.{Cursor, State}
 use Rattle.sand_store.specs.Catalog.{StoreState}
 use Rattle.script_lines.specs.Lines.{cut, onto, lines, last_line}
-use Rattle.script_lines.specs.Reading.{Reads}
+use Rattle.script_lines.specs.Reading.{ReadsLines}
 use Rattle.script_lines.specs.declared.TheConstants.{LONGEST_SCRIPT}
 use Rattle.script_lines.specs.declared.script_lines.ScriptLines.{ScriptLines}
 use Rattle.sand_store.specs.Contents.{database}
 use Rattle.statement_exec.specs.Moment.{Moment, moment_of, state_with, while_open}
 use Rattle.session.proofs.KeptChanges.{IsLastOf}
-use Rattle.session.specs.OpenRun.{HasGiven, OpenRun, Spot, spot_of}
+use Rattle.session.specs.OpenRun.{HasGivenLines, OpenRun, Spot, spot_of}
 use Rattle.statement_exec.specs.Printing.{Prints}
 use Rattle.session.specs.RunStates.{Draws, EndsAt, FromBetweenLines, IsBeforeHand, RunState, ended, run_state, status_of_line}
 use Rattle.session.specs.declared.status.Status.{Status}
@@ -62,9 +62,10 @@ last_few (b ∷ piece) = omega arith
 lines_few : (bytes : List ℕ) → length (lines bytes) ≤ length bytes
 lines_few bytes = omega (arith, length-append (cut bytes).0 (last_line (cut bytes).1), last_few (cut bytes).1, cut_few bytes)
 
-module _ (reader reader' : ScriptLines) (between left : Option (List ℕ)) (count : ℕ) (is_long : Bool) (draws : Draws (Ok is_long) reader reader' between left) (h : HasGiven reader between count) where
+module _ (reader reader' : ScriptLines) (between left : Option (List ℕ)) (count : ℕ) (is_long : Bool) (draws : Draws (Ok is_long) reader reader' between left)
+    (h : HasGivenLines reader between count) where
   -- one more line was given
-  pub counted_more : HasGiven reader' left (count + 1)
+  pub counted_more : HasGivenLines reader' left (count + 1)
   counted_more =
       let one = draws.2 h.bytes h.given h.reads in
       record {
@@ -84,12 +85,12 @@ module _ (reader reader' : ScriptLines) (between left : Option (List ℕ)) (coun
 -- ---- how the run goes on and ends
 
 -- which cursors are open is nothing of what follows
-follows_state : (first last : Moment) (state : State) → Follows first last → Follows first (record last { state = state })
+follows_state : (first last : Moment) (state : State) → FollowsMoment first last → FollowsMoment first (record last { state = state })
 follows_state first last state f = record { limits = f.limits; told = f.told; files = f.files; disk = f.disk; shelf = f.shelf }
 
 -- before the first line
 abbrev pub OpenRun-begin : (reader : ScriptLines) (left : Option (List ℕ)) (store : StoreState) (files : Option Files) (shelf : ℕ) (items : List (OpenCursor Source Stage)) (took : List ℕ → Type 0)
-    → ((left : Option (List ℕ)) → Reads reader left [] []) → items ≡ [] → AreHeld store.pool.stamps items
+    → ((left : Option (List ℕ)) → ReadsLines reader left [] []) → items ≡ [] → AreHeld store.pool.stamps items
     → OpenRun (run_state reader left (moment_of store files shelf) false) took (spot_of reader left store files shelf items false took)
 OpenRun-begin reader left store files shelf items took begun none held = record {
   cs = [];
@@ -123,7 +124,7 @@ module _ (start : RunState) (before : List ℕ → Type 0) (at : Spot) (run : Op
         omega (arith, few)
 
     module _ (store' : StoreState) (files' : Option Files) (shelf' : ℕ) (items' : List (OpenCursor Source Stage)) (now : List ℕ → Type 0)
-        (follows : Follows (moment_of at.store at.files at.shelf) (moment_of store' files' shelf')) where
+        (follows : FollowsMoment (moment_of at.store at.files at.shelf) (moment_of store' files' shelf')) where
       -- the next line was carried out
       abbrev pub OpenRun-line : (r t : Bool) (l : LineCarried reader'.line (while_open at.store at.files at.shelf) (while_open store' files' shelf') run.cs at.took now
           (Ok r) (StandOver store'.pool items')) → AreHeld store'.pool.stamps items'
@@ -156,7 +157,7 @@ module _ (start : RunState) (before : List ℕ → Type 0) (at : Spot) (run : Op
           (follows_open at.store store' at.files files' at.shelf shelf' run.cs l.after follows)) first script text so_far
 
       -- where nothing of the line was written and no count rose, the moment before it is the last one but for its state
-      last_untold : (n m : Moment) → n.disk ≡ m.disk → n.shelf ≡ m.shelf → Follows m n → record n { state = m.state } ≡ m
+      last_untold : (n m : Moment) → n.disk ≡ m.disk → n.shelf ≡ m.shelf → FollowsMoment m n → record n { state = m.state } ≡ m
       last_untold n m disk shelf f =
           ap (λ (l : Limits). record n { state = m.state; limits = l }) f.limits
           ∙ ap (λ (b : Bool). record n { state = m.state; limits = m.limits; told = b }) f.told
@@ -170,7 +171,7 @@ module _ (start : RunState) (before : List ℕ → Type 0) (at : Spot) (run : Op
       Ends-untold untold first script text so_far =
           let old : Moment = while_open at.store at.files at.shelf run.cs in
           let last : Moment = moment_of store' files' shelf' in
-          let follows_old : Follows old last = follows_open at.store store' at.files files' at.shelf shelf' run.cs [] follows in
+          let follows_old : FollowsMoment old last = follows_open at.store store' at.files files' at.shelf shelf' run.cs [] follows in
           let grown = then_drawn start before at.took at.reader reader' at.left left' old at.refused is_long run.goes draws first script text so_far in
           let hand = grown.2 in
           let same : record last { state = old.state } ≡ old = last_untold last old untold.1 untold.2 follows_old in

@@ -8,7 +8,7 @@ use Rattle.sand_model.specs.Cursor.{State}
 use Rattle.sand_model.specs.Run.{no_state}
 use Rattle.sand_store.specs.Catalog.{StoreState, new_catalog}
 use Rattle.sand_store.specs.Contents.{database}
-use Rattle.script_lines.specs.Reading.{Reads}
+use Rattle.script_lines.specs.Reading.{ReadsLines}
 use Rattle.script_lines.specs.declared.script_lines.ScriptLines.{ScriptLines}
 use Rattle.statement_exec.specs.Moment.{Moment, moment_of, state_with}
 use Rattle.session.specs.Outside.{Outside, outside_of}
@@ -35,7 +35,7 @@ last_is store limits old new state same files disk =
     ∙ ap (λ (d : DiskView). record (last_moment limits old new state) { told = d.told; disk = d.faults }) (sym disk)
 
 -- A run of the whole script on a store, whose disk is handed back.
-module _ (why : Status) (reader : ScriptLines) (begun ended : StoreState) (old new : Outside) (none : (left : Option (List ℕ)) → Reads reader left [] [])
+module _ (why : Status) (reader : ScriptLines) (begun ended : StoreState) (old new : Outside) (none : (left : Option (List ℕ)) → ReadsLines reader left [] [])
     (counted : begun.pool.disk.faults ≡ old.disk.faults) (disk : new.disk ≡ ended.pool.disk)
     (last : State) (from : FromBetweenLines (run_state reader old.source.left (moment_of begun old.shelf.files old.shelf.faults) false)
     (EndsAt why (record (moment_of ended new.shelf.files new.shelf.faults) { state = last }) new.source.left old.sink.took new.sink.took)) where

@@ -4,10 +4,10 @@ use Rattle.std.specs.Prelude.{◌<◌, IsTrue, min}
 use Rattle.std.specs.List.{count_by}
 use Rattle.std.proofs.KnownBytes.{Consumes-whole}
 use Rattle.page_pool.specs.Disk.{DiskView}
-use Rattle.run_summary.specs.RefusedLines.{refused_lines}
-use Rattle.run_summary.specs.Summary.{summary}
-use Rattle.run_summary.specs.Taken.{HasTallied}
-use Rattle.run_summary.specs.declared.tally_sink.TallySink.{TallySink}
+use Rattle.work_gen.specs.RefusedLines.{refused_lines}
+use Rattle.work_gen.specs.Summary.{summary}
+use Rattle.work_gen.specs.Taken.{HasTallied}
+use Rattle.work_gen.specs.declared.tally_sink.TallySink.{TallySink}
 use Rattle.run_laws.proofs.DecidedLines.{answered_seen}
 use Rattle.sand_base.specs.Faults.{last_count}
 use Rattle.sand_model.specs.Cursor.{State}
@@ -23,8 +23,8 @@ use Rattle.script_lines.specs.declared.TheConstants.{LONGEST_SCRIPT}
 use Rattle.statement_exec.specs.Moment.{Moment, rises_between}
 use Rattle.statement_exec.specs.Printing.{Prints}
 use Rattle.work_gen.specs.Workload.{workload}
-use Rattle.work_source.specs.EmptyFiles.{empty_files}
-use Rattle.work_source.specs.Script.{IsScriptOf}
+use Rattle.work_gen.specs.EmptyFiles.{empty_files}
+use Rattle.work_gen.specs.Script.{IsScriptOf}
 use Rattle.session.specs.Outside.{Outside, outside_of}
 use Rattle.session.specs.Ends.{IsCaused, IsTaken, HasReadAll, RunsOver, WritesRun, Ends, first_moment, last_moment}
 use Rattle.session.specs.Tallies.{HasRun, Tallies, without_streams}

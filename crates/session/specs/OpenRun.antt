@@ -3,7 +3,7 @@ use Rattle.std.specs.Prelude.{◌≡◌, ⊤, ℕ, ◌+◌, ◌*◌, ◌^◌, Bo
 use Rattle.line_exec.specs.Keeping.{TakesUpTo, most_kept, tape_count}
 use Rattle.line_exec.specs.KeptChanges.{KeepsAll}
 use Rattle.line_exec.specs.LineCarried.{most_rows}
-use Rattle.line_meaning.specs.Carrying.{Follows}
+use Rattle.line_meaning.specs.Carrying.{FollowsMoment}
 use Rattle.open_cursors.specs.Carried.{GaveAtMost}
 use Rattle.open_cursors.specs.OpenCursors.{AreHeld, HaveOwnNames}
 use Rattle.open_cursors.specs.OverPages.{StandOver}
@@ -16,16 +16,16 @@ use Rattle.sand_journal.specs.Tape.{TapeView}
 use Rattle.sand_journal.specs.declared.journal.Journal.{Journal}
 use Rattle.sand_model.specs.Cursor.{Cursor, State}
 use Rattle.sand_store.specs.Catalog.{StoreState}
-use Rattle.script_lines.specs.Reading.{Reads}
+use Rattle.script_lines.specs.Reading.{ReadsLines}
 use Rattle.script_lines.specs.declared.script_lines.ScriptLines.{ScriptLines}
 use Rattle.statement_exec.specs.Moment.{Moment, while_open}
 use Rattle.session.specs.RunStates.{Leads, IsBetweenLines, RunState, run_state}
 
 -- the reader has read some of its script, and has given so many lines of it
-pub record HasGiven (reader : ScriptLines) (left : Option (List ℕ)) (count : ℕ) : Type 0 where
+pub record HasGivenLines (reader : ScriptLines) (left : Option (List ℕ)) (count : ℕ) : Type 0 where
   pub bytes : List ℕ
   pub given : List (List ℕ)
-  pub reads : Reads reader left bytes given
+  pub reads : ReadsLines reader left bytes given
   pub counted : length given ≡ count
 
 -- where a run stands: the reader and what is left of the script, the store, the shelf's files and count, the open cursors, whether a line was refused, and what the sink took
@@ -56,7 +56,7 @@ pub record OpenRun (start : RunState) (before : List ℕ → Type 0) (at : Spot)
   pub stand : StandOver at.store.pool at.items cs
   pub held : AreHeld at.store.pool.stamps at.items
   pub count : ℕ
-  pub counted : HasGiven at.reader at.left count
+  pub counted : HasGivenLines at.reader at.left count
   pub given : GaveAtMost (count * most_rows) cs
   pub goes : Leads IsBetweenLines IsBetweenLines start (state_at at cs) before at.took
 
@@ -74,5 +74,5 @@ HasKeptIfAny seen (Some old) (Some new) first state = (changes : List ChangeValu
 
 -- The moment follows the first, and what the lines so far changed is kept.
 pub record HasKept {T : Type 0} (seen : T → TapeView) (old new : Option (Journal T)) (first now : Moment) : Type 0 where
-  pub follows : Follows first now
+  pub follows : FollowsMoment first now
   pub keeps : HasKeptIfAny seen old new first now.state

@@ -4,10 +4,10 @@ use Rattle.std.specs.Io.KnownBytes.{Consumes, IsAtEnd}
 use Rattle.output_text.specs.Writing.{AddsPrefix}
 use Rattle.sand_base.specs.Streams.{Adds}
 use Rattle.script_lines.specs.Lines.{lines, ended_lines, is_short_line}
-use Rattle.script_lines.specs.Reading.{Reads, GivesLine, to_come}
+use Rattle.script_lines.specs.Reading.{ReadsLines, GivesLine, to_come}
 use Rattle.script_lines.specs.declared.TheConstants.{LONGEST_SCRIPT}
 use Rattle.script_lines.specs.declared.script_lines.ScriptLines.{ScriptLines}
-use Rattle.line_meaning.specs.Carrying.{CarriesLines, Follows}
+use Rattle.line_meaning.specs.Carrying.{CarriesLines, FollowsMoment}
 use Rattle.statement_exec.specs.Moment.{Moment}
 use Rattle.statement_exec.specs.Printing.{Prints, PrintsSome}
 use Rattle.session.specs.Ends.{HasRead, HasReadAll, source_after}
@@ -32,8 +32,8 @@ pub record IsBetweenLines (first : Moment) (script : Option (List ℕ)) (text : 
   pub bytes : List ℕ
   pub given : List (List ℕ)
   pub consumed : Consumes script at.left bytes
-  pub reads : Reads at.reader at.left bytes given
-  pub follows : Follows first at.now
+  pub reads : ReadsLines at.reader at.left bytes given
+  pub follows : FollowsMoment first at.now
   pub printed : Prints (CarriesLines given first at.now) at.refused text
 
 -- the same with one more line in hand, which isn't carried out yet
@@ -42,12 +42,12 @@ pub record HasLineInHand (first : Moment) (script : Option (List ℕ)) (text : L
   pub given : List (List ℕ)
   pub consumed : Consumes script at.left bytes
   pub gives : GivesLine at.reader at.left bytes given
-  pub follows : Follows first at.now
+  pub follows : FollowsMoment first at.now
   pub printed : Prints (CarriesLines given first at.now) at.refused text
 
 -- a text was written behind this one, and P holds of both together
-abbrev pub Grows : (List ℕ → Type 0) → (List ℕ → Type 0) → List ℕ → (List ℕ → Type 0) → Type 0
-Grows before now text P = (more : List ℕ) × Adds before now more × P (text ++ more)
+abbrev pub GrowsText : (List ℕ → Type 0) → (List ℕ → Type 0) → List ℕ → (List ℕ → Type 0) → Type 0
+GrowsText before now text P = (more : List ℕ) × Adds before now more × P (text ++ more)
 
 -- what is said of a run by its first moment, its script, and its text so far
 abbrev pub OfRun : Type 1
@@ -64,7 +64,7 @@ FromLineInHand old P = (first : Moment) (script : Option (List ℕ)) (text : Lis
 -- whatever run led to the old state, of which P holds, went on to the new one, of which Q does, and the text of what was carried out was written
 abbrev pub Leads : (Moment → Option (List ℕ) → List ℕ → RunState → Type 0) → (Moment → Option (List ℕ) → List ℕ → RunState → Type 0) → RunState → RunState
     → (List ℕ → Type 0) → (List ℕ → Type 0) → Type 0
-Leads P Q old new before now = (first : Moment) (script : Option (List ℕ)) (text : List ℕ) → P first script text old → Grows before now text (λ all. Q first script all new)
+Leads P Q old new before now = (first : Moment) (script : Option (List ℕ)) (text : List ℕ) → P first script text old → GrowsText before now text (λ all. Q first script all new)
 
 -- the text is that of a run over the first of these lines
 pub record IsOfFirst (script : List (List ℕ)) (first last : Moment) (text : List ℕ) : Type 0 where
@@ -84,44 +84,44 @@ pub record IsBeforeHand (script : List (List ℕ)) (first last : Moment) (text :
 -- how a run ended whose text was this before, by the status
 abbrev pub EndsText : Status → Moment → Moment → Option (List ℕ) → Option (List ℕ) → (List ℕ → Type 0) → (List ℕ → Type 0) → List ℕ → Type 0
 EndsText status.Done first last script left before now text =
-    Grows before now text (λ all. HasReadAll script left (λ bytes. Prints (CarriesLines (lines bytes) first last) false all))
+    GrowsText before now text (λ all. HasReadAll script left (λ bytes. Prints (CarriesLines (lines bytes) first last) false all))
 EndsText status.SomeRefused first last script left before now text =
-    Grows before now text (λ all. HasReadAll script left (λ bytes. Prints (CarriesLines (lines bytes) first last) true all))
+    GrowsText before now text (λ all. HasReadAll script left (λ bytes. Prints (CarriesLines (lines bytes) first last) true all))
 EndsText status.ReadFault first last script left before now text =
-    Grows before now text (λ all. HasRead script left (λ bytes. (length bytes ≤ LONGEST_SCRIPT)
+    GrowsText before now text (λ all. HasRead script left (λ bytes. (length bytes ≤ LONGEST_SCRIPT)
     × (some_refused : Bool) × Prints (CarriesLines (ended_lines bytes) first last) some_refused all))
 EndsText status.ScriptTooLong first last script left before now text =
-    Grows before now text (λ all. HasRead script left (λ bytes. (length bytes ≡ LONGEST_SCRIPT + 1)
+    GrowsText before now text (λ all. HasRead script left (λ bytes. (length bytes ≡ LONGEST_SCRIPT + 1)
     × (some_refused : Bool) × Prints (CarriesLines (ended_lines (take LONGEST_SCRIPT bytes)) first last) some_refused all))
 EndsText status.WriteFault first last script left before now text =
     (more : List ℕ) × AddsPrefix before now more
     × HasRead script left (λ bytes. (length bytes ≤ LONGEST_SCRIPT + 1) × IsOfFirst (lines bytes) first last (text ++ more))
 EndsText status.JournalFault first last script left before now text =
-    Grows before now text (λ all. HasRead script left (λ bytes. (length bytes ≤ LONGEST_SCRIPT + 1) × IsBeforeHand (lines bytes) first last all))
+    GrowsText before now text (λ all. HasRead script left (λ bytes. (length bytes ≤ LONGEST_SCRIPT + 1) × IsBeforeHand (lines bytes) first last all))
 EndsText _ first last script left before now text = ⊥
 
 -- the same up to this moment, and it follows the first
 abbrev pub EndsAt : Status → Moment → Option (List ℕ) → (List ℕ → Type 0) → (List ℕ → Type 0) → Moment → Option (List ℕ) → List ℕ → Type 0
-EndsAt why last left before now first script text = EndsText why first last script left before now text × Follows first last
+EndsAt why last left before now first script text = EndsText why first last script left before now text × FollowsMoment first last
 
 -- what the end of the lines says of all bytes read and of the lines given, by the status of the run
-abbrev pub IsOver : Status → Option (List ℕ) → List ℕ → List (List ℕ) → Type 0
-IsOver status.Done left bytes given = IsAtEnd left × (length bytes ≤ LONGEST_SCRIPT) × (lines bytes ≡ given)
-IsOver status.ScriptTooLong left bytes given =
+abbrev pub AreLinesOver : Status → Option (List ℕ) → List ℕ → List (List ℕ) → Type 0
+AreLinesOver status.Done left bytes given = IsAtEnd left × (length bytes ≤ LONGEST_SCRIPT) × (lines bytes ≡ given)
+AreLinesOver status.ScriptTooLong left bytes given =
     (length bytes ≡ LONGEST_SCRIPT + 1) × (ended_lines (take LONGEST_SCRIPT bytes) ≡ given)
-IsOver status.ReadFault left bytes given = (length bytes ≤ LONGEST_SCRIPT) × (ended_lines bytes ≡ given)
-IsOver _ left bytes given = ⊥
+AreLinesOver status.ReadFault left bytes given = (length bytes ≤ LONGEST_SCRIPT) × (ended_lines bytes ≡ given)
+AreLinesOver _ left bytes given = ⊥
 
 -- whatever was read and given before, a call read on, and of all this holds
-abbrev pub ReadsOn : ScriptLines → Option (List ℕ) → Option (List ℕ) → (List ℕ → List (List ℕ) → Type 0) → Type 0
-ReadsOn old before left P = (bytes : List ℕ) (given : List (List ℕ)) → Reads old before bytes given
+abbrev pub ReaderGoesOn : ScriptLines → Option (List ℕ) → Option (List ℕ) → (List ℕ → List (List ℕ) → Type 0) → Type 0
+ReaderGoesOn old before left P = (bytes : List ℕ) (given : List (List ℕ)) → ReadsLines old before bytes given
     → (read : List ℕ) × Consumes before left read × P (bytes ++ read) given
 
 -- the next line is in hand, and the mark says whether it is too long; or there is none, and the status says why
 abbrev pub Draws : Result Bool Status → ScriptLines → ScriptLines → Option (List ℕ) → Option (List ℕ) → Type 0
 Draws (Ok is_long) old new before left =
-    (is_short_line new.line ≡ not is_long) × (to_come new < to_come old) × ReadsOn old before left (λ bytes given. GivesLine new left bytes given)
-Draws (Err why) old new before left = ReadsOn old before left (λ bytes given. IsOver why left bytes given)
+    (is_short_line new.line ≡ not is_long) × (to_come new < to_come old) × ReaderGoesOn old before left (λ bytes given. GivesLine new left bytes given)
+Draws (Err why) old new before left = ReaderGoesOn old before left (λ bytes given. AreLinesOver why left bytes given)
 
 -- the source's count after the next line was looked for
 abbrev pub source_after_draw : Result Bool Status → ℕ → ℕ

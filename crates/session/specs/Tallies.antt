@@ -1,14 +1,14 @@
 -- A run of a workload whose text was only counted, before its summary is written.
 use Rattle.std.specs.Prelude.{ℕ, Bool, true, false, ⊤, List, None, Some}
 use Rattle.page_pool.specs.Disk.{DiskView}
-use Rattle.run_summary.specs.Taken.{HasTallied}
-use Rattle.run_summary.specs.declared.tally_sink.TallySink.{TallySink}
+use Rattle.work_gen.specs.Taken.{HasTallied}
+use Rattle.work_gen.specs.declared.tally_sink.TallySink.{TallySink}
 use Rattle.sand_base.specs.declared.limits.Limits.{Limits}
 use Rattle.sand_model.specs.Cursor.{State}
 use Rattle.statement_exec.specs.Moment.{Moment}
 use Rattle.statement_exec.specs.Printing.{Prints}
 use Rattle.work_gen.specs.Workload.{workload}
-use Rattle.work_source.specs.EmptyFiles.{empty_files}
+use Rattle.work_gen.specs.EmptyFiles.{empty_files}
 use Rattle.session.specs.Outside.{Outside, outside_of}
 use Rattle.session.specs.Ends.{RunsOver, Ends, first_moment, last_moment}
 use Rattle.session.specs.declared.status.Status.{Status}

@@ -2,9 +2,9 @@
 use Rattle.std.specs.Prelude.{◌≡◌, ℕ, ◌<◌, IsTrue, min, Bool, true, false, List, length, Option, Some, None, option_map, codes}
 use Rattle.std.specs.List.{count_by}
 use Rattle.output_text.specs.Writing.{Writes, WritesPrefix}
-use Rattle.run_summary.specs.RefusedLines.{refused_lines}
-use Rattle.run_summary.specs.Summary.{summary}
-use Rattle.run_words.specs.Asked.{number, value_of}
+use Rattle.work_gen.specs.RefusedLines.{refused_lines}
+use Rattle.work_gen.specs.Summary.{summary}
+use Rattle.run_words.specs.Asked.{number, option_value}
 use Rattle.sand_base.specs.Faults.{last_count}
 use Rattle.sand_base.specs.declared.limits.Limits.{Limits}
 use Rattle.sand_model.specs.Cursor.{State}
@@ -12,7 +12,7 @@ use Rattle.sand_model.specs.OutputText.{is_refused}
 use Rattle.statement_exec.specs.Moment.{Moment}
 use Rattle.statement_exec.specs.Printing.{Prints}
 use Rattle.work_gen.specs.Workload.{workload}
-use Rattle.work_source.specs.EmptyFiles.{empty_files}
+use Rattle.work_gen.specs.EmptyFiles.{empty_files}
 use Rattle.session.specs.Outside.{SinkView, Outside}
 use Rattle.session.specs.Ends.{RunsOver, Ends, first_moment, last_moment}
 use Rattle.session.specs.declared.status.Status.{Status}
@@ -49,7 +49,7 @@ EndsWorkload n ended limits old new =
 
 -- the workload that the words ask for in place of the script
 abbrev pub workload_of : List (List ℕ) → Option ℕ
-workload_of words = option_map number (value_of (codes "workload") words)
+workload_of words = option_map number (option_value (codes "workload") words)
 
 -- the whole promise, by whether a workload is asked for
 abbrev pub EndsAsked : Option ℕ → Status → Limits → Outside → Outside → Type 0

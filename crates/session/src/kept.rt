@@ -8,7 +8,7 @@ ghost use Rattle.sand_journal.specs.Journal.{HasPassed, IsReady};
 ghost use Rattle.sand_model.specs.Cursor.{State};
 ghost use Rattle.sand_store.specs.Catalog.{IsLimits, new_catalog};
 ghost use Rattle.sand_store.specs.Contents.{database};
-ghost use Rattle.script_lines.specs.Reading.{Reads};
+ghost use Rattle.script_lines.specs.Reading.{ReadsLines};
 ghost use Rattle.session.specs.Ends.{EndsTo, HasBegun, IsCaused, tape_after};
 ghost use Rattle.session.specs.KeptRun.{AreJudgedKept, EndsKept, EndsWithTape, HasAll, HasBadRecord, IsTakenKept, journal_of, kept_workload, status_of_replay};
 ghost use Rattle.session.specs.KeptTape.{IsOpened, KeepsBehind, KeepsShown};
@@ -68,12 +68,14 @@ fn run_on<S: Source, H: Shelf, D: Disk, K: Sink, T: Tape>(
     journal: Journal<T>,
     out: &mut K,
 ) -> (Status, D, T)
-    requires begun { (left : Option (List ℕ)) → Reads held.old.lines left [] [] }
+    requires begun { (left : Option (List ℕ)) → ReadsLines held.old.lines left [] [] }
     requires none { held.old.cursors.items ≡ [] }
     requires held { AreHeld store.pool.stamps held.old.cursors.items }
     requires ready { IsReady T.seen journal }
     requires near { journal.end ≤ 2 ^ 62 }
-    ensures promise { (last : State) × EndsTo (state_with [] (database store)) last result.0 store.catalog.limits (outside_of (S.left script.old) (S.faults script.old) (H.files shelf.old) (H.faults shelf.old) store.pool.disk (K.took out.old) (K.faults out.old)) (outside_of (S.left script.new) (S.faults script.new) (H.files shelf.new) (H.faults shelf.new) (D.seen result.1) (K.took out.new) (K.faults out.new))
+    ensures promise { (last : State) × EndsTo (state_with [] (database store)) last result.0 store.catalog.limits
+        (outside_of (S.left script.old) (S.faults script.old) (H.files shelf.old) (H.faults shelf.old) store.pool.disk (K.took out.old) (K.faults out.old))
+        (outside_of (S.left script.new) (S.faults script.new) (H.files shelf.new) (H.faults shelf.new) (D.seen result.1) (K.took out.new) (K.faults out.new))
         × KeepsShown T.seen journal result.2 result.0 (moment_of store (H.files shelf.old) (H.faults shelf.old)) last }
     ensures cause { IsCaused result.0 (S.faults script.old) (S.faults script.new) (K.faults out.old) (K.faults out.new) }
     ensures tape { (T.seen result.2).faults ≡ tape_after result.0 (T.seen journal.tape).faults }
@@ -95,11 +97,15 @@ fn run_behind<S: Source, H: Shelf, D: Disk, K: Sink, T: Tape>(
     journal: Journal<T>,
     out: &mut K,
 ) -> (Status, D, T)
-    requires begun { (left : Option (List ℕ)) → Reads held.old.lines left [] [] }
+    requires begun { (left : Option (List ℕ)) → ReadsLines held.old.lines left [] [] }
     requires none { held.old.cursors.items ≡ [] }
     requires empty { store ≡ record { catalog = new_catalog store.catalog.limits; pool = new_pool store.pool.disk store.pool.frames } }
     requires passed { HasPassed T.seen journal [] }
-    ensures promise { EndsKept result.0 store.catalog.limits (outside_of (S.left script.old) (S.faults script.old) (H.files shelf.old) (H.faults shelf.old) store.pool.disk (K.took out.old) (K.faults out.old)) (outside_of (S.left script.new) (S.faults script.new) (H.files shelf.new) (H.faults shelf.new) (D.seen result.1) (K.took out.new) (K.faults out.new)) (HasAll (T.seen journal.tape).told (T.seen journal.tape).bytes) (KeepsBehind T.seen store.catalog.limits (D.seen result.1).told result.0 journal.tape result.2) (HasBadRecord store.catalog.limits (D.seen result.1).told (T.seen journal.tape).told (T.seen journal.tape).bytes) }
+    ensures promise { EndsKept result.0 store.catalog.limits
+        (outside_of (S.left script.old) (S.faults script.old) (H.files shelf.old) (H.faults shelf.old) store.pool.disk (K.took out.old) (K.faults out.old))
+        (outside_of (S.left script.new) (S.faults script.new) (H.files shelf.new) (H.faults shelf.new) (D.seen result.1) (K.took out.new) (K.faults out.new))
+        (HasAll (T.seen journal.tape).told (T.seen journal.tape).bytes) (KeepsBehind T.seen store.catalog.limits (D.seen result.1).told result.0 journal.tape result.2)
+        (HasBadRecord store.catalog.limits (D.seen result.1).told (T.seen journal.tape).told (T.seen journal.tape).bytes) }
     ensures cause { IsCaused result.0 (S.faults script.old) (S.faults script.new) (K.faults out.old) (K.faults out.new) }
     ensures tape { (T.seen result.2).faults ≡ tape_after result.0 (T.seen journal.tape).faults }
     ensures taken { IsTakenKept result.0 }
@@ -127,10 +133,12 @@ fn run_opened<S: Source, H: Shelf, D: Disk, K: Sink, T: Tape>(
     tape: T,
     out: &mut K,
 ) -> (Status, D, T)
-    requires begun { (left : Option (List ℕ)) → Reads held.old.lines left [] [] }
+    requires begun { (left : Option (List ℕ)) → ReadsLines held.old.lines left [] [] }
     requires none { held.old.cursors.items ≡ [] }
     requires empty { store ≡ record { catalog = new_catalog store.catalog.limits; pool = new_pool store.pool.disk store.pool.frames } }
-    ensures promise { EndsWithTape T.seen result.0 store.catalog.limits (outside_of (S.left script.old) (S.faults script.old) (H.files shelf.old) (H.faults shelf.old) store.pool.disk (K.took out.old) (K.faults out.old)) (outside_of (S.left script.new) (S.faults script.new) (H.files shelf.new) (H.faults shelf.new) (D.seen result.1) (K.took out.new) (K.faults out.new)) tape result.2 }
+    ensures promise { EndsWithTape T.seen result.0 store.catalog.limits
+        (outside_of (S.left script.old) (S.faults script.old) (H.files shelf.old) (H.faults shelf.old) store.pool.disk (K.took out.old) (K.faults out.old))
+        (outside_of (S.left script.new) (S.faults script.new) (H.files shelf.new) (H.faults shelf.new) (D.seen result.1) (K.took out.new) (K.faults out.new)) tape result.2 }
     ensures cause { IsCaused result.0 (S.faults script.old) (S.faults script.new) (K.faults out.old) (K.faults out.new) }
     ensures tape { (T.seen result.2).faults ≡ tape_after result.0 (T.seen tape).faults }
     ensures taken { IsTakenKept result.0 }
@@ -157,9 +165,11 @@ fn run_journal<S: Source, H: Shelf, D: Disk, K: Sink, T: Tape>(
     requires least { 16 ≤ asked.now.frames }
     requires most { asked.now.frames ≤ 4096 }
     requires limits { IsLimits limits }
-    requires begun { (left : Option (List ℕ)) → Reads held.old.lines left [] [] }
+    requires begun { (left : Option (List ℕ)) → ReadsLines held.old.lines left [] [] }
     requires none { held.old.cursors.items ≡ [] }
-    ensures promise { EndsWithTape T.seen result.0 limits (outside_of (S.left script.old) (S.faults script.old) (H.files shelf.old) (H.faults shelf.old) (D.seen disk) (K.took out.old) (K.faults out.old)) (outside_of (S.left script.new) (S.faults script.new) (H.files shelf.new) (H.faults shelf.new) (D.seen result.1) (K.took out.new) (K.faults out.new)) tape result.2 }
+    ensures promise { EndsWithTape T.seen result.0 limits
+        (outside_of (S.left script.old) (S.faults script.old) (H.files shelf.old) (H.faults shelf.old) (D.seen disk) (K.took out.old) (K.faults out.old))
+        (outside_of (S.left script.new) (S.faults script.new) (H.files shelf.new) (H.faults shelf.new) (D.seen result.1) (K.took out.new) (K.faults out.new)) tape result.2 }
     ensures cause { IsCaused result.0 (S.faults script.old) (S.faults script.new) (K.faults out.old) (K.faults out.new) }
     ensures tape { (T.seen result.2).faults ≡ tape_after result.0 (T.seen tape).faults }
     ensures taken { IsTakenKept result.0 }
@@ -185,7 +195,9 @@ fn run_named<S: Source, H: Shelf, D: Disk, K: Sink, T: Tape>(
     requires least { 16 ≤ asked.now.frames }
     requires most { asked.now.frames ≤ 4096 }
     requires limits { IsLimits limits }
-    ensures promise { EndsWithTape T.seen result.0 limits (outside_of (S.left script.old) (S.faults script.old) (H.files shelf.old) (H.faults shelf.old) (D.seen disk) (K.took out.old) (K.faults out.old)) (outside_of (S.left script.new) (S.faults script.new) (H.files shelf.new) (H.faults shelf.new) (D.seen result.1) (K.took out.new) (K.faults out.new)) tape result.2 }
+    ensures promise { EndsWithTape T.seen result.0 limits
+        (outside_of (S.left script.old) (S.faults script.old) (H.files shelf.old) (H.faults shelf.old) (D.seen disk) (K.took out.old) (K.faults out.old))
+        (outside_of (S.left script.new) (S.faults script.new) (H.files shelf.new) (H.faults shelf.new) (D.seen result.1) (K.took out.new) (K.faults out.new)) tape result.2 }
     ensures cause { IsCaused result.0 (S.faults script.old) (S.faults script.new) (K.faults out.old) (K.faults out.new) }
     ensures tape { (T.seen result.2).faults ≡ tape_after result.0 (T.seen tape).faults }
     ensures taken { IsTakenKept result.0 }
@@ -216,8 +228,13 @@ fn run_kept_asked<S: Source, H: Shelf, D: Disk, K: Sink, T: Tape>(
     requires most { asked.now.words.frames ≤ 4096 }
     requires size { IfSome asked.now.words.workload (λ n. (1 ≤ n) × (n ≤ 100000)) }
     requires limits { IsLimits limits }
-    ensures plain { journal_beside asked.now.words.workload asked.now.journal ≡ None → EndsAsked asked.now.words.workload result.0 limits (outside_of (S.left script.old) (S.faults script.old) (H.files shelf.old) (H.faults shelf.old) (D.seen disk) (K.took out.old) (K.faults out.old)) (outside_of (S.left script.new) (S.faults script.new) (H.files shelf.new) (H.faults shelf.new) (D.seen result.1) (K.took out.new) (K.faults out.new)) × (result.2 ≡ tape) }
-    ensures kept { (name : List ℕ) → journal_beside asked.now.words.workload asked.now.journal ≡ Some name → EndsWithTape T.seen result.0 limits (outside_of (S.left script.old) (S.faults script.old) (H.files shelf.old) (H.faults shelf.old) (D.seen disk) (K.took out.old) (K.faults out.old)) (outside_of (S.left script.new) (S.faults script.new) (H.files shelf.new) (H.faults shelf.new) (D.seen result.1) (K.took out.new) (K.faults out.new)) tape result.2 }
+    ensures plain { journal_beside asked.now.words.workload asked.now.journal ≡ None
+        → EndsAsked asked.now.words.workload result.0 limits
+        (outside_of (S.left script.old) (S.faults script.old) (H.files shelf.old) (H.faults shelf.old) (D.seen disk) (K.took out.old) (K.faults out.old))
+        (outside_of (S.left script.new) (S.faults script.new) (H.files shelf.new) (H.faults shelf.new) (D.seen result.1) (K.took out.new) (K.faults out.new)) × (result.2 ≡ tape) }
+    ensures kept { (name : List ℕ) → journal_beside asked.now.words.workload asked.now.journal ≡ Some name
+        → EndsWithTape T.seen result.0 limits (outside_of (S.left script.old) (S.faults script.old) (H.files shelf.old) (H.faults shelf.old) (D.seen disk) (K.took out.old) (K.faults out.old))
+        (outside_of (S.left script.new) (S.faults script.new) (H.files shelf.new) (H.faults shelf.new) (D.seen result.1) (K.took out.new) (K.faults out.new)) tape result.2 }
     ensures cause { IsCaused result.0 (S.faults script.old) (S.faults script.new) (K.faults out.old) (K.faults out.new) }
     ensures tape { (T.seen result.2).faults ≡ tape_after result.0 (T.seen tape).faults }
     ensures taken { IsTakenKept result.0 }
@@ -246,8 +263,12 @@ pub fn run_kept<S: Source, H: Shelf, D: Disk, K: Sink, T: Tape>(
     out: &mut K,
 ) -> (Status, D, T)
     requires { IsLimits limits }
-    ensures plain { journal_of words.now ≡ None → EndsAsked (kept_workload words.now) result.0 limits (outside_of (S.left script.old) (S.faults script.old) (H.files shelf.old) (H.faults shelf.old) (D.seen disk) (K.took out.old) (K.faults out.old)) (outside_of (S.left script.new) (S.faults script.new) (H.files shelf.new) (H.faults shelf.new) (D.seen result.1) (K.took out.new) (K.faults out.new)) × (result.2 ≡ tape) }
-    ensures kept { (name : List ℕ) → journal_of words.now ≡ Some name → EndsWithTape T.seen result.0 limits (outside_of (S.left script.old) (S.faults script.old) (H.files shelf.old) (H.faults shelf.old) (D.seen disk) (K.took out.old) (K.faults out.old)) (outside_of (S.left script.new) (S.faults script.new) (H.files shelf.new) (H.faults shelf.new) (D.seen result.1) (K.took out.new) (K.faults out.new)) tape result.2 }
+    ensures plain { journal_of words.now ≡ None → EndsAsked (kept_workload words.now) result.0 limits
+        (outside_of (S.left script.old) (S.faults script.old) (H.files shelf.old) (H.faults shelf.old) (D.seen disk) (K.took out.old) (K.faults out.old))
+        (outside_of (S.left script.new) (S.faults script.new) (H.files shelf.new) (H.faults shelf.new) (D.seen result.1) (K.took out.new) (K.faults out.new)) × (result.2 ≡ tape) }
+    ensures kept { (name : List ℕ) → journal_of words.now ≡ Some name
+        → EndsWithTape T.seen result.0 limits (outside_of (S.left script.old) (S.faults script.old) (H.files shelf.old) (H.faults shelf.old) (D.seen disk) (K.took out.old) (K.faults out.old))
+        (outside_of (S.left script.new) (S.faults script.new) (H.files shelf.new) (H.faults shelf.new) (D.seen result.1) (K.took out.new) (K.faults out.new)) tape result.2 }
     ensures cause { IsCaused result.0 (S.faults script.old) (S.faults script.new) (K.faults out.old) (K.faults out.new) }
     ensures tape { (T.seen result.2).faults ≡ tape_after result.0 (T.seen tape).faults }
     ensures usage { AreJudgedKept result.0 words.now }

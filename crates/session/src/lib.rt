@@ -11,7 +11,7 @@
 //!
 //! Above: `sand_shell`, which passes the real streams. Below: `script_lines` for lines, `line_exec` for what one line
 //! does, `sand_store` for the relations, `open_cursors` for the list of cursors, `run_words` for the words of the command
-//! line, `work_source` and `run_summary` for a workload that runs in place of the script. Contracts see what is outside
+//! line, `work_gen` for a workload that runs in place of the script. Contracts see what is outside
 //! as one record before the run and one after it. Read `specs/Outside.antt` first, then `specs/Ends.antt` and
 //! `specs/Workload.antt`; `specs/RunStates.antt`, `specs/OpenRun.antt` and `specs/Tallies.antt` are for the proofs alone.
 #![tactic(auto)]

@@ -5,7 +5,7 @@ ghost use Rattle.page_pool.specs.Pool.{new_pool};
 ghost use Rattle.sand_model.specs.Cursor.{State};
 ghost use Rattle.sand_store.specs.Catalog.{IsLimits, new_catalog};
 ghost use Rattle.sand_store.specs.Contents.{database};
-ghost use Rattle.script_lines.specs.Reading.{Reads};
+ghost use Rattle.script_lines.specs.Reading.{ReadsLines};
 ghost use Rattle.session.specs.Ends.{AreJudged, Ends, EndsTo, HasBegun, IsCaused, IsTaken, standard_limits, tape_after};
 ghost use Rattle.session.specs.KeptTape.{ShowsIfAny};
 ghost use Rattle.session.specs.Outside.{outside_of};
@@ -34,11 +34,13 @@ pub(crate) fn run_from<S: Source, H: Shelf, D: Disk, K: Sink, T: Tape>(
     out: &mut K,
     journal: &mut Option<Journal<T>>,
 ) -> (Status, D)
-    requires begun { (left : Option (List ℕ)) → Reads held.old.lines left [] [] }
+    requires begun { (left : Option (List ℕ)) → ReadsLines held.old.lines left [] [] }
     requires none { held.old.cursors.items ≡ [] }
     requires held { AreHeld store.pool.stamps held.old.cursors.items }
     requires journal { TakesUpTo T.seen (2 ^ 62) journal.old }
-    ensures promise { (last : State) × EndsTo (state_with [] (database store)) last result.0 store.catalog.limits (outside_of (S.left script.old) (S.faults script.old) (H.files shelf.old) (H.faults shelf.old) store.pool.disk (K.took out.old) (K.faults out.old)) (outside_of (S.left script.new) (S.faults script.new) (H.files shelf.new) (H.faults shelf.new) (D.seen result.1) (K.took out.new) (K.faults out.new))
+    ensures promise { (last : State) × EndsTo (state_with [] (database store)) last result.0 store.catalog.limits
+        (outside_of (S.left script.old) (S.faults script.old) (H.files shelf.old) (H.faults shelf.old) store.pool.disk (K.took out.old) (K.faults out.old))
+        (outside_of (S.left script.new) (S.faults script.new) (H.files shelf.new) (H.faults shelf.new) (D.seen result.1) (K.took out.new) (K.faults out.new))
         × ShowsIfAny T.seen journal.old journal.new result.0 (moment_of store (H.files shelf.old) (H.faults shelf.old)) last }
     ensures cause { IsCaused result.0 (S.faults script.old) (S.faults script.new) (K.faults out.old) (K.faults out.new) }
     ensures told { (D.seen result.1).told ≡ store.pool.disk.told }
@@ -68,10 +70,12 @@ fn run_store<S: Source, H: Shelf, D: Disk, K: Sink>(
     shelf: &mut H,
     out: &mut K,
 ) -> (Status, D)
-    requires begun { (left : Option (List ℕ)) → Reads held.old.lines left [] [] }
+    requires begun { (left : Option (List ℕ)) → ReadsLines held.old.lines left [] [] }
     requires none { held.old.cursors.items ≡ [] }
     requires empty { store ≡ record { catalog = new_catalog store.catalog.limits; pool = new_pool store.pool.disk store.pool.frames } }
-    ensures promise { Ends result.0 store.catalog.limits (outside_of (S.left script.old) (S.faults script.old) (H.files shelf.old) (H.faults shelf.old) store.pool.disk (K.took out.old) (K.faults out.old)) (outside_of (S.left script.new) (S.faults script.new) (H.files shelf.new) (H.faults shelf.new) (D.seen result.1) (K.took out.new) (K.faults out.new)) }
+    ensures promise { Ends result.0 store.catalog.limits
+        (outside_of (S.left script.old) (S.faults script.old) (H.files shelf.old) (H.faults shelf.old) store.pool.disk (K.took out.old) (K.faults out.old))
+        (outside_of (S.left script.new) (S.faults script.new) (H.files shelf.new) (H.faults shelf.new) (D.seen result.1) (K.took out.new) (K.faults out.new)) }
     ensures cause { IsCaused result.0 (S.faults script.old) (S.faults script.new) (K.faults out.old) (K.faults out.new) }
     ensures begun { HasBegun result.0 }
 {
@@ -93,9 +97,10 @@ pub(crate) fn run_started<S: Source, H: Shelf, D: Disk, K: Sink>(
     requires least { 16 ≤ asked.now.frames }
     requires most { asked.now.frames ≤ 4096 }
     requires limits { IsLimits limits }
-    requires begun { (left : Option (List ℕ)) → Reads held.old.lines left [] [] }
+    requires begun { (left : Option (List ℕ)) → ReadsLines held.old.lines left [] [] }
     requires none { held.old.cursors.items ≡ [] }
-    ensures promise { Ends result.0 limits (outside_of (S.left script.old) (S.faults script.old) (H.files shelf.old) (H.faults shelf.old) (D.seen disk) (K.took out.old) (K.faults out.old)) (outside_of (S.left script.new) (S.faults script.new) (H.files shelf.new) (H.faults shelf.new) (D.seen result.1) (K.took out.new) (K.faults out.new)) }
+    ensures promise { Ends result.0 limits (outside_of (S.left script.old) (S.faults script.old) (H.files shelf.old) (H.faults shelf.old) (D.seen disk) (K.took out.old) (K.faults out.old))
+        (outside_of (S.left script.new) (S.faults script.new) (H.files shelf.new) (H.faults shelf.new) (D.seen result.1) (K.took out.new) (K.faults out.new)) }
     ensures cause { IsCaused result.0 (S.faults script.old) (S.faults script.new) (K.faults out.old) (K.faults out.new) }
     ensures taken { IsTaken result.0 }
 {
@@ -119,7 +124,9 @@ pub(crate) fn run_asked<S: Source, H: Shelf, D: Disk, K: Sink>(
     requires most { asked.now.frames ≤ 4096 }
     requires size { IfSome asked.now.workload (λ n. (1 ≤ n) × (n ≤ 100000)) }
     requires limits { IsLimits limits }
-    ensures promise { EndsAsked asked.now.workload result.0 limits (outside_of (S.left script.old) (S.faults script.old) (H.files shelf.old) (H.faults shelf.old) (D.seen disk) (K.took out.old) (K.faults out.old)) (outside_of (S.left script.new) (S.faults script.new) (H.files shelf.new) (H.faults shelf.new) (D.seen result.1) (K.took out.new) (K.faults out.new)) }
+    ensures promise { EndsAsked asked.now.workload result.0 limits
+        (outside_of (S.left script.old) (S.faults script.old) (H.files shelf.old) (H.faults shelf.old) (D.seen disk) (K.took out.old) (K.faults out.old))
+        (outside_of (S.left script.new) (S.faults script.new) (H.files shelf.new) (H.faults shelf.new) (D.seen result.1) (K.took out.new) (K.faults out.new)) }
     ensures cause { IsCaused result.0 (S.faults script.old) (S.faults script.new) (K.faults out.old) (K.faults out.new) }
     ensures taken { IsTaken result.0 }
 {
@@ -147,7 +154,9 @@ pub fn run_within<S: Source, H: Shelf, D: Disk, K: Sink>(
     out: &mut K,
 ) -> (Status, D)
     requires { IsLimits limits }
-    ensures promise { EndsAsked (workload_of words.now) result.0 limits (outside_of (S.left script.old) (S.faults script.old) (H.files shelf.old) (H.faults shelf.old) (D.seen disk) (K.took out.old) (K.faults out.old)) (outside_of (S.left script.new) (S.faults script.new) (H.files shelf.new) (H.faults shelf.new) (D.seen result.1) (K.took out.new) (K.faults out.new)) }
+    ensures promise { EndsAsked (workload_of words.now) result.0 limits
+        (outside_of (S.left script.old) (S.faults script.old) (H.files shelf.old) (H.faults shelf.old) (D.seen disk) (K.took out.old) (K.faults out.old))
+        (outside_of (S.left script.new) (S.faults script.new) (H.files shelf.new) (H.faults shelf.new) (D.seen result.1) (K.took out.new) (K.faults out.new)) }
     ensures cause { IsCaused result.0 (S.faults script.old) (S.faults script.new) (K.faults out.old) (K.faults out.new) }
     ensures usage { AreJudged result.0 words.now }
 {
@@ -167,7 +176,9 @@ pub fn run<S: Source, H: Shelf, D: Disk, K: Sink>(
     disk: D,
     out: &mut K,
 ) -> (Status, D)
-    ensures promise { EndsAsked (workload_of words.now) result.0 standard_limits (outside_of (S.left script.old) (S.faults script.old) (H.files shelf.old) (H.faults shelf.old) (D.seen disk) (K.took out.old) (K.faults out.old)) (outside_of (S.left script.new) (S.faults script.new) (H.files shelf.new) (H.faults shelf.new) (D.seen result.1) (K.took out.new) (K.faults out.new)) }
+    ensures promise { EndsAsked (workload_of words.now) result.0 standard_limits
+        (outside_of (S.left script.old) (S.faults script.old) (H.files shelf.old) (H.faults shelf.old) (D.seen disk) (K.took out.old) (K.faults out.old))
+        (outside_of (S.left script.new) (S.faults script.new) (H.files shelf.new) (H.faults shelf.new) (D.seen result.1) (K.took out.new) (K.faults out.new)) }
     ensures cause { IsCaused result.0 (S.faults script.old) (S.faults script.new) (K.faults out.old) (K.faults out.new) }
     ensures usage { AreJudged result.0 words.now }
 {

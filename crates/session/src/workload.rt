@@ -1,14 +1,14 @@
 // A workload in place of a script: its lines are run, and the sink gets a summary of their text.
 ghost use Rattle.std.specs.Prelude.{◌≡◌, ◌≤◌, [], ℕ, List, Option, OnOk, OnErr, length};
 ghost use Rattle.output_text.specs.Writing.{AddsPrefix};
-ghost use Rattle.run_summary.specs.RefusedLines.{refused_lines};
-ghost use Rattle.run_summary.specs.Summary.{summary};
-ghost use Rattle.run_summary.specs.Taken.{HasTallied};
+ghost use Rattle.work_gen.specs.RefusedLines.{refused_lines};
+ghost use Rattle.work_gen.specs.Summary.{summary};
+ghost use Rattle.work_gen.specs.Taken.{HasTallied};
 ghost use Rattle.sand_base.specs.Faults.{HasCause};
 ghost use Rattle.sand_base.specs.Shelf.{Files};
 ghost use Rattle.sand_base.specs.Streams.{Adds};
 ghost use Rattle.sand_store.specs.Catalog.{IsLimits};
-ghost use Rattle.script_lines.specs.Reading.{Reads};
+ghost use Rattle.script_lines.specs.Reading.{ReadsLines};
 ghost use Rattle.work_gen.specs.Workload.{workload};
 ghost use Rattle.session.specs.Ends.{IsCaused, IsTaken};
 ghost use Rattle.session.specs.Outside.{outside_of};
@@ -20,11 +20,10 @@ use crate::top::run_started;
 use crate::workspace::Workspace;
 use output_text::write_all;
 use page_pool::Disk;
-use run_summary::TallySink;
 use run_words::Words;
 use sand_base::{Failed, Limits, NoMemory, Sink};
 use std::alloc::Global;
-use work_source::{EmptyShelf, WorkSource, line_count};
+use work_gen::{EmptyShelf, TallySink, WorkSource, line_count};
 
 // Writes the summary of a run over the lines of the workload, whose text was counted.
 fn sum_up<K: Sink>(tally: TallySink, n: u32, out: &mut K) -> Result<(), Failed>
@@ -53,7 +52,7 @@ fn run_tallied<D: Disk>(
     requires least { 16 ≤ asked.now.frames }
     requires most { asked.now.frames ≤ 4096 }
     requires limits { IsLimits limits }
-    requires begun { (left : Option (List ℕ)) → Reads held.old.lines left [] [] }
+    requires begun { (left : Option (List ℕ)) → ReadsLines held.old.lines left [] [] }
     requires none { held.old.cursors.items ≡ [] }
     ensures tallied { Tallies n result.0 limits (without_streams (D.seen disk)) (without_streams (D.seen result.1)) result.2 }
 {
@@ -87,7 +86,9 @@ pub(crate) fn run_workload<D: Disk, K: Sink>(
     requires least { 16 ≤ asked.now.frames }
     requires most { asked.now.frames ≤ 4096 }
     requires limits { IsLimits limits }
-    ensures promise { (left : Option (List ℕ)) (reads : ℕ) (files : Option Files) (opens : ℕ) → EndsWorkload n result.0 limits (outside_of left reads files opens (D.seen disk) (K.took out.old) (K.faults out.old)) (outside_of left reads files opens (D.seen result.1) (K.took out.new) (K.faults out.new)) }
+    ensures promise { (left : Option (List ℕ)) (reads : ℕ) (files : Option Files) (opens : ℕ)
+        → EndsWorkload n result.0 limits (outside_of left reads files opens (D.seen disk) (K.took out.old) (K.faults out.old))
+        (outside_of left reads files opens (D.seen result.1) (K.took out.new) (K.faults out.new)) }
     ensures cause { (reads : ℕ) → IsCaused result.0 reads reads (K.faults out.old) (K.faults out.new) }
     ensures taken { IsTaken result.0 }
 {

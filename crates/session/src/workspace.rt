@@ -1,5 +1,5 @@
 ghost use Rattle.std.specs.Prelude.{◌≡◌, [], ℕ, List, IfOk, Option};
-ghost use Rattle.script_lines.specs.Reading.{Reads};
+ghost use Rattle.script_lines.specs.Reading.{ReadsLines};
 
 use open_cursors::{MOST_CURSORS, OpenCursor, end_cursors};
 use plan_ops::{Source, Stage};
@@ -17,7 +17,7 @@ pub(crate) struct Workspace {
 impl Workspace {
     /// Nothing is read, and no cursor is open.
     pub(crate) fn new(alloc: Global) -> Result<Workspace, NoMemory>
-        ensures begun { IfOk result (λ w. (left : Option (List ℕ)) → Reads w.lines left [] []) }
+        ensures begun { IfOk result (λ w. (left : Option (List ℕ)) → ReadsLines w.lines left [] []) }
         ensures none { IfOk result (λ w. w.cursors.items ≡ []) }
     {
         let lines = ScriptLines::new(alloc)?;

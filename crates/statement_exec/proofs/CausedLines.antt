@@ -14,7 +14,7 @@ use Rattle.sand_base.specs.declared.refusal.Refusal.{Refusal}
 use Rattle.sand_base.specs.declared.refusal.Refusal.TheVariants as why
 use Rattle.sand_model.specs.Cursor.{Cursor, OutputLine, Refused}
 use Rattle.sand_model.specs.OutputText.{is_refused}
-use Rattle.sand_store.specs.Calls.{HasCause, refusal_of}
+use Rattle.sand_store.specs.Calls.{HasStoreCause, refusal_of}
 use Rattle.sand_store.specs.Catalog.{CatalogView}
 use Rattle.statement_exec.specs.Causes.{IsCausedDamage, AreCaused, AreCausedIn, BlamesNone, BlamesNoFile}
 use Rattle.statement_exec.specs.Ending.{PagesHaveCause, refused_line}
@@ -112,7 +112,7 @@ module _ (old new : Moment) where
 
 module _ (cs cs' : List Cursor) (catalog catalog' : CatalogView) (old new : PoolState) (told : new.disk.told ≡ old.disk.told) (files files' : Option Files) (shelf shelf' : ℕ) where
   -- a refusal whose cause is told by pools
-  pub pools_cause : {T : Type 0} (w : Refusal) → HasCause {T = T} old new (Err w) → (w ≡ why.File → ⊥)
+  pub pools_cause : {T : Type 0} (w : Refusal) → HasStoreCause {T = T} old new (Err w) → (w ≡ why.File → ⊥)
       → HasItsCause (beside cs catalog old files shelf) (beside cs' catalog' new files' shelf') w
   pools_cause why.Device c n = λ few. rose old.disk.faults new.disk.faults c.counted few
   pools_cause (why.Damaged page kept read) c n = let d : IsDamage new page kept read = c.damaged in (sym told ∙ d.untold, d.differ)

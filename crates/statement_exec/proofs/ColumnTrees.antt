@@ -13,7 +13,7 @@ use Rattle.sand_store.specs.Catalog.{CatalogView, RelationView, IsDescribed}
 use Rattle.sand_store.specs.Contents.{database_in, relation_in}
 use Rattle.sand_store.specs.Paths.{IsTreeOf, HasNoIndex}
 use Rattle.sand_store.specs.Standing.{CatalogStands, RelationStands}
-use Rattle.statement_exec.specs.LeafLines.{HasTree, LacksTree}
+use Rattle.statement_exec.specs.LeafLines.{HasQuadtree, LacksTree}
 
 -- the element at a place within a list
 pub element_at : {A : Type 0} (xs : List A) (at : ℕ) (d : A) → at < length xs → element xs at ≡ Some (slice_index_or xs at d)
@@ -27,7 +27,7 @@ module _ (catalog : CatalogView) (r : RelationView) (column : Column) (at : ℕ)
   kind_is : kind_named (relation_in pages r) column.column ≡ Some kind.1
   kind_is = rw (place, is) refl
 
-  pub has_tree : (tree : Pmr) → IsTreeOf r at tree → (CatalogStands pages catalog → RelationStands pages catalog.limits r) → HasTree catalog column tree pages
+  pub has_tree : (tree : Pmr) → IsTreeOf r at tree → (CatalogStands pages catalog → RelationStands pages catalog.limits r) → HasQuadtree catalog column tree pages
   has_tree tree h stands =
       let index : index_at (relation_in pages r) at ≡ Some (Quadtree tree.threshold (tree_at pages tree)) = h.index pages in
       let indexed : is_indexed (relation_in pages r) column.column ≡ true = rw (place, index) refl in

@@ -15,8 +15,8 @@ use Rattle.sand_model.specs.Outcome.{uses_pages}
 use Rattle.statements.specs.declared.column.Column.{Column}
 use Rattle.statements.specs.Statement.{Statement, Create, Insert, Delete, Load, Index as IndexOn, Rtree}
 use Rattle.sand_model.specs.StatementChecks.{Setting, early, file_rows, late}
-use Rattle.sand_store.specs.Calls.{Refuses, IsRefusedBy, IsUnchanged, Created, Inserted, Deleted, Indexed, Treed, Loaded, LoadIsRefusedBy, IsRefusedPlainly, early_at}
-use Rattle.sand_store.specs.Calls.{late_at, load_early, load_late, load_plain, plain_checks, is_none, is_full, is_missing, is_of_a_row}
+use Rattle.sand_store.specs.Calls.{Refuses, IsStatementRefused, IsUnchanged, Created, RowInserted, Deleted, Indexed, Treed, Loaded, LoadIsRefusedBy, IsRefusedPlainly, early_at}
+use Rattle.sand_store.specs.Calls.{late_at, load_early, load_late, load_plain, plain_checks, is_none, is_index_full, is_missing, is_of_a_row}
 use Rattle.sand_store.specs.Catalog.{CatalogView, RelationView, StoreState}
 use Rattle.r_tree.specs.declared.tree.RTree.{RTree}
 use Rattle.sand_model.specs.Database.{Rectangles}
@@ -30,7 +30,8 @@ use Rattle.statement_exec.specs.Outline.{outline_of, sketch_in, bare}
 use Rattle.statement_exec.specs.Performing.{IsDecided}
 use Rattle.statement_exec.proofs.Decided.{found_own, after_refusal, by_early, by_memory, by_behind, by_passing, by_shelf}
 use Rattle.statement_exec.proofs.LoadChecks.{setting_with}
-use Rattle.statement_exec.proofs.Outlines.{shown, named_shown, rows_shown, plain_shown}
+use Rattle.statement_exec.proofs.OutlinedRelations.{shown, named_shown}
+use Rattle.statement_exec.proofs.Outlines.{rows_shown, plain_shown}
 
 -- ---- outlines
 
@@ -75,7 +76,7 @@ module _ (old new : StoreState) where
       outline_changed cs (λ rs. rs ++ new_sketch name schema ∷ []) h.sketched,
     )
 
-    pub inserted_decides : (name : List ℕ) (row : List Value) (id : ℕ) → Inserted old new name row id
+    pub inserted_decides : (name : List ℕ) (row : List Value) (id : ℕ) → RowInserted old new name row id
         → IsDecided (Insert name row) (while_open old files shelf cs) (while_open new files shelf cs) (Id id ∷ [])
     inserted_decides name row id h = λ setting s. (
       by_passing setting (state_with cs (database old)) (Insert name row) (Id id ∷ []) (h.passes setting s.is s.limits).0
@@ -107,7 +108,7 @@ module _ (old new : StoreState) where
     pub refused_decides : (statement : Statement) (is_late : Refusal → Bool) (w : Refusal) → uses_pages statement ≡ true
         → ((setting : Setting) → (early setting (state_with cs (database old)) statement ≡ early_at setting old statement)
         × (late setting (state_with cs (database old)) statement ≡ late_at setting old statement)) → ((r : Refusal) → is_late r ≡ true → ComesBehind statement r)
-        → IsUnchanged old new → IsRefusedBy is_late old statement w → IsDecided statement (while_open old files shelf cs) (while_open new files shelf cs) (Refused w ∷ [])
+        → IsUnchanged old new → IsStatementRefused is_late old statement w → IsDecided statement (while_open old files shelf cs) (while_open new files shelf cs) (Refused w ∷ [])
     refused_decides statement is_late w uses alike may same h = λ setting s. (
       found_own files setting statement (λ own. DecidesEarly own (bare (outline_of (state_with cs (database old)))) statement (Refused w ∷ [])) s.files
           (by_refusal setting (late_at setting old statement) w (h setting s.is s.limits)),
@@ -129,7 +130,7 @@ module _ (old new : StoreState) where
 pub late_create : (name : List ℕ) (schema : List (List ℕ × Kind)) (r : Refusal) → is_none r ≡ true → ComesBehind (Create name schema) r
 late_create name schema r e = absurd (true≢false (sym e))
 
-pub late_insert : (name : List ℕ) (row : List Value) (r : Refusal) → is_full r ≡ true → ComesBehind (Insert name row) r
+pub late_insert : (name : List ℕ) (row : List Value) (r : Refusal) → is_index_full r ≡ true → ComesBehind (Insert name row) r
 late_insert name row why.IndexFull e = tt
 late_insert name row _ e = absurd (true≢false (sym e))
 
@@ -137,7 +138,7 @@ pub late_delete : (name : List ℕ) (id : ℕ) (r : Refusal) → is_missing r �
 late_delete name id why.NoSuchId e = tt
 late_delete name id _ e = absurd (true≢false (sym e))
 
-pub late_index : (column : Column) (threshold : Option ℕ) (r : Refusal) → is_full r ≡ true → ComesBehind (IndexOn column threshold) r
+pub late_index : (column : Column) (threshold : Option ℕ) (r : Refusal) → is_index_full r ≡ true → ComesBehind (IndexOn column threshold) r
 late_index column threshold why.IndexFull e = tt
 late_index column threshold _ e = absurd (true≢false (sym e))
 

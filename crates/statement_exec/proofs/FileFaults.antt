@@ -1,8 +1,8 @@
 -- Why a data file gives no rows, and the data files that are found over a shelf that doesn't tell its own.
 use Rattle.std.proofs.Common.{◌≡◌, ℕ, zero, suc, ◌<◌, ◌≤◌, List, [], ◌∷◌, length, Option, Some, None, refl, sym, ap, arith, true≢false}
 use Rattle.std.specs.Prelude.{Result, Err, is_some}
-use Rattle.csv_load.specs.FileBytes.{IsCaused, IsTooLong as IsFileTooLong, IsWhole}
-use Rattle.csv_load.specs.FileRows.{file_rows, TellsBad}
+use Rattle.csv_load.specs.FileBytes.{IsLoadCaused, IsTooLong, IsWholeFile}
+use Rattle.csv_load.specs.FileRows.{rows_of_file, TellsBad}
 use Rattle.csv_load.specs.declared.fault.LoadFault.{LoadFault}
 use Rattle.csv_load.specs.declared.fault.LoadFault.TheVariants as fault
 use Rattle.sand_base.specs.Shelf.{Files}
@@ -10,8 +10,8 @@ use Rattle.sand_base.specs.declared.refusal.Refusal.{Refusal}
 use Rattle.sand_base.specs.declared.refusal.Refusal.TheVariants as why
 use Rattle.page_pool.specs.Pool.{PoolState}
 use Rattle.sand_model.specs.StatementChecks.{FileRows, HasBad, longest_file}
-use Rattle.sand_store.specs.Calls.{HasCause}
-use Rattle.statement_exec.specs.FileReading.{DataFile, HasRecords, IsTooLong, OfFound, GivesNone, refusal_of}
+use Rattle.sand_store.specs.Calls.{HasStoreCause}
+use Rattle.statement_exec.specs.FileReading.{DataFile, HasRecords, IsFileTooLong, OfFound, GivesNone, file_refusal}
 use Rattle.statement_exec.specs.Loading.{IsOfNoPage}
 use Rattle.statement_exec.specs.Moment.{AreTold}
 
@@ -37,8 +37,8 @@ found_so None P bytes told none = (λ name. Some bytes, none_told (λ name. Some
 found_so (Some files) P bytes told none = (files, told_same files, told files refl)
 
 -- a file that was read whole has its records
-pub found_records : (files : Option Files) (file : DataFile) (bytes : List ℕ) (rows : FileRows) → IsWhole files file.name bytes → length bytes ≤ longest_file
-    → file_rows bytes file.schema file.header ≡ rows → OfFound files (HasRecords file rows)
+pub found_records : (files : Option Files) (file : DataFile) (bytes : List ℕ) (rows : FileRows) → IsWholeFile files file.name bytes → length bytes ≤ longest_file
+    → rows_of_file bytes file.schema file.header ≡ rows → OfFound files (HasRecords file rows)
 found_records files file bytes rows whole short records =
     found_so files (HasRecords file rows) bytes (λ told e. record { bytes = bytes; there = whole told e; short = short; records = records })
     (λ e. record { bytes = bytes; there = refl; short = short; records = records })
@@ -49,8 +49,8 @@ longer zero = (0 ∷ [], omega arith)
 longer (suc n) = let l = longer n in (0 ∷ l.0, omega (arith, l.1))
 
 -- a record of a file that was read whole is no row
-pub bad_record : (files : Option Files) (file : DataFile) (bytes : List ℕ) (why : LoadFault) → IsWhole files file.name bytes → length bytes ≤ longest_file
-    → TellsBad (file_rows bytes file.schema file.header) why → GivesNone files file why
+pub bad_record : (files : Option Files) (file : DataFile) (bytes : List ℕ) (why : LoadFault) → IsWholeFile files file.name bytes → length bytes ≤ longest_file
+    → TellsBad (rows_of_file bytes file.schema file.header) why → GivesNone files file why
 bad_record files file bytes fault.Memory whole short h = tt
 bad_record files file bytes fault.File whole short h = tt
 bad_record files file bytes fault.FileTooLong whole short h = absurd h
@@ -58,24 +58,24 @@ bad_record files file bytes (fault.BadRecord row column) whole short h = found_r
 
 -- a file that can't be read whole
 pub gives_none : {A : Type 0} (files : Option Files) (file : DataFile) (left : Option (List ℕ)) (before now : ℕ) (why : LoadFault)
-    → IsCaused {A = A} before now (Err why) → (◌≡◌ {A = Result A LoadFault} (Err why) (Err fault.FileTooLong) → IsFileTooLong files file.name left) → GivesNone files file why
+    → IsLoadCaused {A = A} before now (Err why) → (◌≡◌ {A = Result A LoadFault} (Err why) (Err fault.FileTooLong) → IsTooLong files file.name left) → GivesNone files file why
 gives_none files file left before now fault.Memory c h = tt
 gives_none files file left before now fault.File c h = tt
 gives_none files file left before now fault.FileTooLong c h =
     let long = longer longest_file in
-    found_so files (IsTooLong file) long.0 (λ told e. let l = h refl told e in record { bytes = l.bytes; there = l.there; long = l.long })
+    found_so files (IsFileTooLong file) long.0 (λ told e. let l = h refl told e in record { bytes = l.bytes; there = l.there; long = l.long })
     (λ e. record { bytes = long.0; there = refl; long = long.1 })
 gives_none files file left before now (fault.BadRecord row column) c h = absurd c
 
 -- a file's fault is none of a page
-pub of_no_page : (fault : LoadFault) → IsOfNoPage (refusal_of fault)
+pub of_no_page : (fault : LoadFault) → IsOfNoPage (file_refusal fault)
 of_no_page fault.Memory = tt
 of_no_page fault.File = tt
 of_no_page fault.FileTooLong = tt
 of_no_page (fault.BadRecord row column) = tt
 
 -- a refusal before any page is touched leaves the pool
-pub untouched : {T : Type 0} (s : PoolState) (w : Refusal) → IsOfNoPage w → HasCause {T = T} s s (Err w)
+pub untouched : {T : Type 0} (s : PoolState) (w : Refusal) → IsOfNoPage w → HasStoreCause {T = T} s s (Err w)
 untouched s why.Device h = absurd h
 untouched s (why.Damaged n kept read) h = absurd h
 untouched s _ h = record { counted = refl; damaged = tt }

@@ -12,7 +12,7 @@ use Rattle.output_text.specs.Writing.{Writes, WritesPrefix}
 use Rattle.pmr_tree.specs.Keys.{IsShaped}
 use Rattle.pmr_tree.specs.Quadtree.{tree_at}
 use Rattle.pmr_tree.specs.declared.quadtree.Pmr.{Pmr}
-use Rattle.statement_exec.specs.LeafWalk.{Leaves, lines_of, code_end, WritesFirst, WritesAll, WritesLeaf, StopsAt, StopsWith}
+use Rattle.statement_exec.specs.LeafWalk.{Leaves, lines_of, code_end, WritesFirst, WritesLeaves, WritesLeaf, WalkStopsAt, StopsWith}
 use Rattle.statement_exec.specs.declared.stop.Stop.{Stop}
 use Rattle.statement_exec.specs.declared.stop.Stop.TheVariants as stop
 use Rattle.statement_exec.proofs.LeafSteps.{walked_on, walk_begins, walk_ended, are_first}
@@ -39,10 +39,10 @@ module _ (told : Type 0) (tree : Tree) (a b c : List ℕ → Type 0) where
     written = subst (λ (xs : List OutputLine). Writes (IsText xs) a c) (one_more h.visited k.leaf) (writes_more a b c (lines_of h.visited) (LeafOf k.leaf.0 k.leaf.1 ∷ []) h.written k.written);
   }
 
-  pub walk_end : (code : ℕ) → code_end ≤ code → WritesFirst told (leaves root_block tree) code a b → WritesAll told (leaves root_block tree) a b
+  pub walk_end : (code : ℕ) → code_end ≤ code → WritesFirst told (leaves root_block tree) code a b → WritesLeaves told (leaves root_block tree) a b
   walk_end code e h = record { visited = h.visited; are_all = λ t. walk_ended (leaves root_block tree) h.visited code (h.walked t) e; written = h.written }
 
-  pub walk_stops : (code : ℕ) (w : Stop) → WritesFirst told (leaves root_block tree) code a b → StopsAt told tree code b c w → StopsWith told (leaves root_block tree) a c w
+  pub walk_stops : (code : ℕ) (w : Stop) → WritesFirst told (leaves root_block tree) code a b → WalkStopsAt told tree code b c w → StopsWith told (leaves root_block tree) a c w
   walk_stops code (stop.Refused fault) h k = record {
     visited = h.visited;
     first = λ t. are_first (leaves root_block tree) h.visited code (h.walked t);
@@ -60,7 +60,7 @@ pub read_leaf : (s t : PoolState) (tree : Pmr) (code next : ℕ) (b c : List ℕ
     → WritesLeaf (IsTold s) (tree_at s.pages tree) code next b c
 read_leaf s t tree code next b c r h = rw (r.told, r.pages) at h
 
-pub read_stop : (s t : PoolState) (tree : Pmr) (code : ℕ) (b c : List ℕ → Type 0) (w : Stop) → IsRead s t → StopsAt (IsTold t) (tree_at t.pages tree) code b c w
-    → StopsAt (IsTold s) (tree_at s.pages tree) code b c w
+pub read_stop : (s t : PoolState) (tree : Pmr) (code : ℕ) (b c : List ℕ → Type 0) (w : Stop) → IsRead s t → WalkStopsAt (IsTold t) (tree_at t.pages tree) code b c w
+    → WalkStopsAt (IsTold s) (tree_at s.pages tree) code b c w
 read_stop s t tree code b c (stop.Refused fault) r h = h
 read_stop s t tree code b c stop.Failed r h = rw (r.told, r.pages) at h

@@ -9,32 +9,32 @@ use Rattle.z_code.specs.Block.{HasCode, child, code_count}
 use Rattle.z_code.specs.declared.block.Block.{Block}
 use Rattle.sand_model.specs.Tree.{Tree, Leaf, Inner, places, leaves, root_block, IsPlace}
 use Rattle.pmr_tree.specs.Keys.{IsShaped}
-use Rattle.statement_exec.specs.LeafWalk.{Leaves, Tiles, Walked, AreFirst, code_end}
+use Rattle.statement_exec.specs.LeafWalk.{Leaves, AreSideBySide, Walked, AreFirst, code_end}
 
 -- a block has codes
 count_some : (level : ℕ) → 0 < code_count level
 count_some level = rw (four_pow (COORDINATE_BITS - level)) (four_pow_pos (COORDINATE_BITS - level))
 
-tiles_at : (a b c d : ℕ) (xs : Leaves) → a ≡ b → c ≡ d → Tiles a xs c → Tiles b xs d
-tiles_at a b c d xs e k h = subst (λ (n : ℕ). Tiles n xs d) e (subst (λ (n : ℕ). Tiles a xs n) k h)
+tiles_at : (a b c d : ℕ) (xs : Leaves) → a ≡ b → c ≡ d → AreSideBySide a xs c → AreSideBySide b xs d
+tiles_at a b c d xs e k h = subst (λ (n : ℕ). AreSideBySide n xs d) e (subst (λ (n : ℕ). AreSideBySide a xs n) k h)
 
-tiles_append : (a b c : ℕ) (xs ys : Leaves) → Tiles a xs b → Tiles b ys c → Tiles a (xs ++ ys) c
-tiles_append a b c [] ys h k = subst (λ (n : ℕ). Tiles n ys c) (sym h) k
+tiles_append : (a b c : ℕ) (xs ys : Leaves) → AreSideBySide a xs b → AreSideBySide b ys c → AreSideBySide a (xs ++ ys) c
+tiles_append a b c [] ys h k = subst (λ (n : ℕ). AreSideBySide n ys c) (sym h) k
 tiles_append a b c (x ∷ xs) ys h k = (h.0, tiles_append (a + code_count x.0.level) b c xs ys h.1 k)
 
 -- the leaves of a tree are side by side over the codes of its block
-pub tiles_tree : (b : Block) (t : Tree) → IsShaped b t → Tiles b.z (leaves b t) (b.z + code_count b.level)
+pub tiles_tree : (b : Block) (t : Tree) → IsShaped b t → AreSideBySide b.z (leaves b t) (b.z + code_count b.level)
 tiles_tree b (Leaf ids) h = (refl, refl)
 tiles_tree b (Inner p q r s) h =
     let count : ℕ = code_count (b.level + 1) in
     let all : code_count b.level ≡ 4 * count = quarter_count b.level h.0 in
-    let first : Tiles b.z (leaves (child b 0) p) ((child b 1).z) =
+    let first : AreSideBySide b.z (leaves (child b 0) p) ((child b 1).z) =
     tiles_at ((child b 0).z) b.z ((child b 0).z + count) ((child b 1).z) (leaves (child b 0) p) (omega arith) (omega arith) (tiles_tree (child b 0) p h.1.0) in
-    let second : Tiles ((child b 1).z) (leaves (child b 1) q) ((child b 2).z) =
+    let second : AreSideBySide ((child b 1).z) (leaves (child b 1) q) ((child b 2).z) =
     tiles_at ((child b 1).z) ((child b 1).z) ((child b 1).z + count) ((child b 2).z) (leaves (child b 1) q) refl (omega arith) (tiles_tree (child b 1) q h.1.1.0) in
-    let third : Tiles ((child b 2).z) (leaves (child b 2) r) ((child b 3).z) =
+    let third : AreSideBySide ((child b 2).z) (leaves (child b 2) r) ((child b 3).z) =
     tiles_at ((child b 2).z) ((child b 2).z) ((child b 2).z + count) ((child b 3).z) (leaves (child b 2) r) refl (omega arith) (tiles_tree (child b 2) r h.1.1.1.0) in
-    let fourth : Tiles ((child b 3).z) (leaves (child b 3) s) (b.z + code_count b.level) =
+    let fourth : AreSideBySide ((child b 3).z) (leaves (child b 3) s) (b.z + code_count b.level) =
     tiles_at ((child b 3).z) ((child b 3).z) ((child b 3).z + count) (b.z + code_count b.level) (leaves (child b 3) s) refl (omega (arith, all)) (tiles_tree (child b 3) s h.1.1.1.1) in
     tiles_append b.z ((child b 1).z) (b.z + code_count b.level) (leaves (child b 0) p) (leaves (child b 1) q ++ (leaves (child b 2) r ++ leaves (child b 3) s)) first
     (tiles_append ((child b 1).z) ((child b 2).z) (b.z + code_count b.level) (leaves (child b 1) q) (leaves (child b 2) r ++ leaves (child b 3) s) second
@@ -109,11 +109,11 @@ leaf_in b (Inner p q r s) c ids (inr h) =
 
 -- a leaf of a run ends before the run does, and begins behind its beginning
 
-rises : (from to : ℕ) (xs : Leaves) → Tiles from xs to → from ≤ to
+rises : (from to : ℕ) (xs : Leaves) → AreSideBySide from xs to → from ≤ to
 rises from to [] h = let e : from ≡ to = h in omega (arith, e)
 rises from to (x ∷ xs) h = let rest : from + code_count x.0.level ≤ to = rises (from + code_count x.0.level) to xs h.1 in omega (arith, rest)
 
-ends_within : (from to : ℕ) (xs : Leaves) (leaf : Block × List ℕ) → Tiles from xs to → In leaf xs → leaf.0.z + code_count leaf.0.level ≤ to
+ends_within : (from to : ℕ) (xs : Leaves) (leaf : Block × List ℕ) → AreSideBySide from xs to → In leaf xs → leaf.0.z + code_count leaf.0.level ≤ to
 unfolding In
 ends_within from to [] leaf h i = absurd i
 ends_within from to (x ∷ xs) leaf h (inl e) =
@@ -123,7 +123,7 @@ ends_within from to (x ∷ xs) leaf h (inl e) =
     omega (arith, z, count, rest, h.0)
 ends_within from to (x ∷ xs) leaf h (inr i) = ends_within (from + code_count x.0.level) to xs leaf h.1 i
 
-begins_within : (from to : ℕ) (xs : Leaves) (leaf : Block × List ℕ) → Tiles from xs to → In leaf xs → from ≤ leaf.0.z
+begins_within : (from to : ℕ) (xs : Leaves) (leaf : Block × List ℕ) → AreSideBySide from xs to → In leaf xs → from ≤ leaf.0.z
 unfolding In
 begins_within from to [] leaf h i = absurd i
 begins_within from to (x ∷ xs) leaf h (inl e) = let z : leaf.0.z ≡ x.0.z = ap (λ (l : Block × List ℕ). l.0.z) e in omega (arith, z, h.0)
@@ -131,20 +131,20 @@ begins_within from to (x ∷ xs) leaf h (inr i) =
     let rest : from + code_count x.0.level ≤ leaf.0.z = begins_within (from + code_count x.0.level) to xs leaf h.1 i in omega (arith, rest)
 
 -- the leaf that has the next code is the next one
-next_leaf : (code to : ℕ) (visited rest : Leaves) (leaf : Block × List ℕ) → Tiles 0 visited code → Tiles code rest to → In leaf (visited ++ rest) → HasCode leaf.0 code
-    → (more : Leaves) × ((rest ≡ leaf ∷ more) × ((leaf.0.z ≡ code) × Tiles (code + code_count leaf.0.level) more to))
+next_leaf : (code to : ℕ) (visited rest : Leaves) (leaf : Block × List ℕ) → AreSideBySide 0 visited code → AreSideBySide code rest to → In leaf (visited ++ rest) → HasCode leaf.0 code
+    → (more : Leaves) × ((rest ≡ leaf ∷ more) × ((leaf.0.z ≡ code) × AreSideBySide (code + code_count leaf.0.level) more to))
 unfolding In
 next_leaf code to visited rest leaf h k i at = elim (in_append leaf visited rest i) [
   | inl j ↦ let ends : leaf.0.z + code_count leaf.0.level ≤ code = ends_within 0 code visited leaf h j in absurd (omega (arith, ends, at.below_next))
   | inr j ↦ here rest k j
 ] where
-  here : (rest : Leaves) → Tiles code rest to → In leaf rest → (more : Leaves) × ((rest ≡ leaf ∷ more) × ((leaf.0.z ≡ code) × Tiles (code + code_count leaf.0.level) more to))
+  here : (rest : Leaves) → AreSideBySide code rest to → In leaf rest → (more : Leaves) × ((rest ≡ leaf ∷ more) × ((leaf.0.z ≡ code) × AreSideBySide (code + code_count leaf.0.level) more to))
   here [] k j = absurd j
   here (x ∷ xs) k (inl e) = (
     xs,
     (
       ap (λ (l : Block × List ℕ). l ∷ xs) (sym e),
-      (ap (λ (l : Block × List ℕ). l.0.z) e ∙ k.0, subst (λ (l : Block × List ℕ). Tiles (code + code_count l.0.level) xs to) (sym e) k.1),
+      (ap (λ (l : Block × List ℕ). l.0.z) e ∙ k.0, subst (λ (l : Block × List ℕ). AreSideBySide (code + code_count l.0.level) xs to) (sym e) k.1),
     ),
   )
   here (x ∷ xs) k (inr j) =
@@ -166,7 +166,7 @@ walked_on tree visited code next leaf w at place is =
       rest = more;
       all_are = w.all_are ∙ (ap (λ (xs : Leaves). visited ++ xs) found.1.0 ∙ sym (append_assoc visited (leaf ∷ []) more));
       before = tiles_append 0 code next visited (leaf ∷ []) w.before (begins, to);
-      behind = subst (λ (n : ℕ). Tiles n more code_end) to found.1.1.1;
+      behind = subst (λ (n : ℕ). AreSideBySide n more code_end) to found.1.1.1;
     }
 
 -- the walk begins at the first code
@@ -176,7 +176,7 @@ walk_begins tree h = record { rest = leaves root_block tree; all_are = refl; bef
 -- it has ended behind the last code
 pub walk_ended : (all visited : Leaves) (code : ℕ) → Walked all visited code → code_end ≤ code → all ≡ visited
 walk_ended all visited code w h = ended w.rest w.all_are w.behind where
-  ended : (rest : Leaves) → all ≡ visited ++ rest → Tiles code rest code_end → all ≡ visited
+  ended : (rest : Leaves) → all ≡ visited ++ rest → AreSideBySide code rest code_end → all ≡ visited
   ended [] e k = e ∙ append-nil visited
   ended (x ∷ xs) e k =
       let rest : code + code_count x.0.level ≤ code_end = rises (code + code_count x.0.level) code_end xs k.1 in

@@ -8,6 +8,8 @@ pub mod CausedLines
 pub mod PlanChecks
 -- a setting of any store
 pub mod SomeSetting
+-- the checks of relations, by their names, read no more than their outline
+pub mod OutlinedRelations
 -- what the checks decide that need no page
 pub mod Outlines
 pub mod Decided

@@ -13,7 +13,7 @@ use Rattle.sand_model.specs.Outcome.{Rises, Outcome}
 use Rattle.statements.specs.Statement.{Statement, Load}
 use Rattle.sand_model.specs.StatementChecks.{Setting, IsSetting, early, late, entered, file_rows, in_relation}
 use Rattle.sand_store.proofs.SchemaRows.{loaded_entered}
-use Rattle.sand_store.specs.Calls.{Refuses, HasCause, IsUnchanged, Loaded, LoadIsRefusedBy, IsRefusedPlainly, loaded, load_early, load_late, is_of_a_row}
+use Rattle.sand_store.specs.Calls.{Refuses, HasStoreCause, IsUnchanged, Loaded, LoadIsRefusedBy, IsRefusedPlainly, loaded, load_early, load_late, is_of_a_row}
 use Rattle.sand_store.specs.Catalog.{StoreState}
 use Rattle.sand_store.specs.Contents.{database}
 use Rattle.statement_exec.specs.Loading.{LoadOf, Yields, InSettings, IsOfNoPage, IsRefusedEarly, shelf_at}
@@ -101,7 +101,7 @@ module _ (old new : StoreState) (load : LoadOf) (cs : List Cursor) (files files'
 
   -- a row was refused, or the outside refused
   pub refused_load : {T : Type 0} (rows : List (List Value)) (w : Refusal) → InSettings old.catalog files (λ setting state. Yields setting state load rows)
-      → LoadIsRefusedBy old load.relation rows w → IsRefusedPlainly old load.relation rows w → IsUnchanged old new → HasCause {T = T} old.pool new.pool (Err w)
+      → LoadIsRefusedBy old load.relation rows w → IsRefusedPlainly old load.relation rows w → IsUnchanged old new → HasStoreCause {T = T} old.pool new.pool (Err w)
       → Performs (load_statement load) (while_open old files shelf cs) (while_open new files' shelf' cs) (Refused w ∷ [])
   refused_load {T} rows w given h plain same cause = (
     (

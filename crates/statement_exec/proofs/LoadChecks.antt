@@ -14,7 +14,7 @@ use Rattle.statements.specs.Statement.{Load}
 use Rattle.sand_model.specs.StatementChecks.{Setting, IsSetting, FileRows, AreRows, HasBad, early, check_load, file_rows, longest_file}
 use Rattle.sand_store.specs.Catalog.{CatalogView, RelationView}
 use Rattle.sand_store.specs.Contents.{database_in, relation_in}
-use Rattle.statement_exec.specs.FileReading.{DataFile, HasRecords, IsTooLong, OfFound, GivesNone, refusal_of}
+use Rattle.statement_exec.specs.FileReading.{DataFile, HasRecords, IsFileTooLong, OfFound, GivesNone, file_refusal}
 use Rattle.statement_exec.specs.Loading.{LoadOf, Yields, InSettings, IsRefusedEarly}
 use Rattle.statement_exec.specs.Moment.{beside, IsSettingOf, state_with}
 use Rattle.statement_exec.proofs.FileFaults.{some_files}
@@ -88,7 +88,7 @@ module _ (files : Option Files) (catalog : CatalogView) (load : LoadOf) (r : Rel
         }
 
     -- a file that is too long, or has a bad record, refuses the load
-    long_in : IsTooLong (file_of load r) found → early own (state_with cs (database_in pool.pages catalog.relations)) (Load load.relation load.file load.header) ≡ Some why.FileTooLong
+    long_in : IsFileTooLong (file_of load r) found → early own (state_with cs (database_in pool.pages catalog.relations)) (Load load.relation load.file load.header) ≡ Some why.FileTooLong
     long_in h = too_long own cs (database_in pool.pages catalog.relations) load (relation_in pool.pages r) (named pool.pages) h.bytes h.there h.long
 
     bad_in : (row column : ℕ) → HasRecords (file_of load r) (HasBad row column) found
@@ -100,7 +100,7 @@ module _ (files : Option Files) (catalog : CatalogView) (load : LoadOf) (r : Rel
   yields rows (found, told, h) = (found, told, λ cs pool shelf setting s. yields_in found cs pool shelf setting s rows h)
 
   -- a file that gives none refuses the load
-  pub refuses : (fault : LoadFault) → GivesNone files (file_of load r) fault → InSettings catalog files (λ setting state. IsRefusedEarly setting state load (refusal_of fault))
+  pub refuses : (fault : LoadFault) → GivesNone files (file_of load r) fault → InSettings catalog files (λ setting state. IsRefusedEarly setting state load (file_refusal fault))
   refuses fault.Memory h = let f = some_files files in (f.0, f.1, λ cs pool shelf setting s. tt)
   refuses fault.File h =
       let f = some_files files in

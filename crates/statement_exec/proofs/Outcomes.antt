@@ -3,7 +3,7 @@ use Rattle.std.proofs.Common.{◌≡◌, List, Option, Some, None, inl, inr}
 use Rattle.sand_base.specs.Shelf.{Files}
 use Rattle.sand_base.specs.declared.refusal.Refusal.{Refusal}
 use Rattle.sand_model.specs.Cursor.{State, OutputLine}
-use Rattle.sand_model.specs.Outcome.{Rises, Outcome, IsLicensed, IsCaused, IsRefusedBy, IsCarriedOut}
+use Rattle.sand_model.specs.Outcome.{Rises, Outcome, IsLicensed, IsRefusalCaused, IsRefusedBy, IsCarriedOut}
 use Rattle.statements.specs.Statement.{Statement, Load}
 use Rattle.sand_model.specs.StatementChecks.{Setting, early, late}
 use Rattle.statement_exec.specs.Moment.{AreTold}
@@ -21,12 +21,12 @@ module _ (setting : Setting) (rises : Rises) (old : State) (statement : Statemen
   outcome_outside refusal c h = inl (refusal, c, h)
 
   -- an early check refuses
-  pub outcome_early : (refusal : Refusal) → early setting old statement ≡ Some refusal → IsCaused rises refusal → IsRefusedBy refusal old lines new
+  pub outcome_early : (refusal : Refusal) → early setting old statement ≡ Some refusal → IsRefusalCaused rises refusal → IsRefusedBy refusal old lines new
       → Outcome setting rises old statement lines new
   outcome_early refusal e c h = inr (rw e (c, h))
 
   -- a late check refuses
-  pub outcome_late : (refusal : Refusal) → early setting old statement ≡ None → late setting old statement ≡ Some refusal → IsCaused rises refusal
+  pub outcome_late : (refusal : Refusal) → early setting old statement ≡ None → late setting old statement ≡ Some refusal → IsRefusalCaused rises refusal
       → IsRefusedBy refusal old lines new → Outcome setting rises old statement lines new
   outcome_late refusal e l c h = inr (rw (e, l) (c, h))
 

@@ -10,11 +10,11 @@ use Rattle.sand_base.specs.declared.kind.Kind.{Kind}
 use Rattle.sand_model.specs.Checks.{first_refusal, kind_named}
 use Rattle.sand_model.specs.Cursor.{State, OutputLine}
 use Rattle.sand_model.specs.Database.{Database, Relation, relation_named}
-use Rattle.sand_model.specs.Outcome.{Rises, Outcome, IsCaused, IsRefusedBy, uses_pages}
+use Rattle.sand_model.specs.Outcome.{Rises, Outcome, IsRefusalCaused, IsRefusedBy, uses_pages}
 use Rattle.statements.specs.declared.column.Column.{Column}
 use Rattle.statements.specs.Statement.{Statement}
 use Rattle.sand_model.specs.StatementChecks.{Setting, early, late, refused_where, in_relation, in_column}
-use Rattle.sand_store.specs.Calls.{Refuses, HasCause}
+use Rattle.sand_store.specs.Calls.{Refuses, HasStoreCause}
 use Rattle.statement_exec.specs.LeafLines.{IsOfCheck}
 use Rattle.statement_exec.proofs.Outcomes.{outcome_outside, outcome_early, outcome_late}
 
@@ -38,7 +38,7 @@ by_check told is is_late before behind w o h = elim (is_late w) as (λ b. is_lat
 ] refl
 
 -- no cause is asked for a refusal of a check
-pub caused : (rises : Rises) (w : Refusal) → IsOfCheck w → IsCaused rises w
+pub caused : (rises : Rises) (w : Refusal) → IsOfCheck w → IsRefusalCaused rises w
 caused rises why.File o = absurd o
 caused rises _ o = tt
 
@@ -65,7 +65,7 @@ pub rose : (before now : ℕ) → now ≡ next_count before → now < last_count
 rose before now e l = omega arith
 
 -- the cause of a refusal over a disk that tells its pages
-pub allowed : {T : Type 0} (rises : Rises) (old new : PoolState) (w : Refusal) → HasCause {T = T} old new (Err w) → IsTold new → new.disk.faults < last_count
+pub allowed : {T : Type 0} (rises : Rises) (old new : PoolState) (w : Refusal) → HasStoreCause {T = T} old new (Err w) → IsTold new → new.disk.faults < last_count
     → rises.disk ≡ new.disk.faults - old.disk.faults → (w ≡ why.File → ⊥) → Allows rises w
 allowed rises old new why.Device c t l e n = subst (λ (d : ℕ). 0 < d) (sym e) (rose old.disk.faults new.disk.faults c.counted l)
 allowed rises old new (why.Damaged m kept read) c t l e n = let d : IsDamage new m kept read = c.damaged in absurd (true≢false (sym t ∙ d.untold))

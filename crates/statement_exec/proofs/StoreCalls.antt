@@ -15,13 +15,13 @@ use Rattle.statements.specs.declared.column.Column.{Column}
 use Rattle.sand_model.specs.RowSize.{row_size}
 use Rattle.statements.specs.Statement.{Statement, Create, Insert, Delete, Index, Rtree}
 use Rattle.sand_model.specs.StatementChecks.{Setting, IsSetting, refused_where, is_there, in_relation, in_column, is_row_of, check_length, check_ids, early, late}
-use Rattle.sand_store.specs.Calls.{HasCause, IsUnchanged, IsRefusedBy, Created, Inserted, Deleted, Indexed, Treed, Refuses, early_at, late_at}
+use Rattle.sand_store.specs.Calls.{HasStoreCause, IsUnchanged, IsStatementRefused, Created, RowInserted, Deleted, Indexed, Treed, Refuses, early_at, late_at}
 use Rattle.sand_store.specs.Catalog.{StoreState}
 use Rattle.sand_store.specs.Contents.{database}
 use Rattle.page_pool.specs.Pool.{IsTold}
 use Rattle.statement_exec.specs.Deciding.{ComesBehind}
 use Rattle.statement_exec.specs.Moment.{rises_between, state_with, while_open}
-use Rattle.statement_exec.specs.Performing.{Changes}
+use Rattle.statement_exec.specs.Performing.{ChangesStore}
 use Rattle.statement_exec.specs.declared.reply.Reply.TheVariants as reply
 use Rattle.statement_exec.proofs.DecidedCalls.{created_decides, inserted_decides, deleted_decides, indexed_decides, treed_decides, refused_decides}
 use Rattle.statement_exec.proofs.Outcomes.{outcome_done, outcome_over}
@@ -30,7 +30,7 @@ use Rattle.statement_exec.proofs.SomeSetting.{some_setting, is_some_setting}
 use Rattle.statement_exec.proofs.Refusals.{refused, allowed, no_file, Never, never_where, never_first, never_relation, never_column}
 
 pub created : (old new : StoreState) (name : List ℕ) (schema : List (List ℕ × Kind)) → Created old new name schema
-    → Changes (Create name schema) old new (Ok reply.Accepted)
+    → ChangesStore (Create name schema) old new (Ok reply.Accepted)
 created old new name schema h = λ cs files shelf. (
   (
     caused_plain (while_open old files shelf cs) (while_open new files shelf cs) (Accepted ∷ []) refl,
@@ -43,8 +43,8 @@ created old new name schema h = λ cs files shelf. (
       p.0 (p.1 told) (refl, ap (state_with cs) (h.becomes told setting.gap s.is.gap)),
 )
 
-pub inserted : (old new : StoreState) (name : List ℕ) (row : List Value) (id : ℕ) → Inserted old new name row id
-    → Changes (Insert name row) old new (Ok (reply.Id id))
+pub inserted : (old new : StoreState) (name : List ℕ) (row : List Value) (id : ℕ) → RowInserted old new name row id
+    → ChangesStore (Insert name row) old new (Ok (reply.Id id))
 inserted old new name row id h = λ cs files shelf. (
   (
     caused_plain (while_open old files shelf cs) (while_open new files shelf cs) (Id id ∷ []) refl,
@@ -57,7 +57,7 @@ inserted old new name row id h = λ cs files shelf. (
 )
 
 pub deleted : (old new : StoreState) (name : List ℕ) (id : ℕ) → Deleted old new name id
-    → Changes (Delete name id) old new (Ok reply.Accepted)
+    → ChangesStore (Delete name id) old new (Ok reply.Accepted)
 deleted old new name id h = λ cs files shelf. (
   (
     caused_plain (while_open old files shelf cs) (while_open new files shelf cs) (Accepted ∷ []) refl,
@@ -71,7 +71,7 @@ deleted old new name id h = λ cs files shelf. (
 )
 
 pub indexed : (old new : StoreState) (column : Column) (threshold : Option ℕ) → Indexed old new column threshold
-    → Changes (Index column threshold) old new (Ok reply.Accepted)
+    → ChangesStore (Index column threshold) old new (Ok reply.Accepted)
 indexed old new column threshold h = λ cs files shelf. (
   (
     caused_plain (while_open old files shelf cs) (while_open new files shelf cs) (Accepted ∷ []) refl,
@@ -84,7 +84,7 @@ indexed old new column threshold h = λ cs files shelf. (
       p.0 (p.1 told) (refl, ap (state_with cs) (h.becomes told setting.gap s.is.gap)),
 )
 
-pub treed : (old new : StoreState) (column : Column) → Treed old new column → Changes (Rtree column) old new (Ok reply.Accepted)
+pub treed : (old new : StoreState) (column : Column) → Treed old new column → ChangesStore (Rtree column) old new (Ok reply.Accepted)
 treed old new column h = λ cs files shelf. (
   (
     caused_plain (while_open old files shelf cs) (while_open new files shelf cs) (Accepted ∷ []) refl,
@@ -109,7 +109,7 @@ ReadsDatabase old statement = (cs : List Cursor) (setting : Setting) → (early 
 pub refused_call : {T : Type 0} (old new : StoreState) (statement : Statement) (is_late : Refusal → Bool) (w : Refusal) → uses_pages statement ≡ true
     → is_late why.File ≡ false → ReadsDatabase old statement → ((setting : Setting) → Never (early_at setting old statement))
     → ((r : Refusal) → is_late r ≡ true → ComesBehind statement r) → IsUnchanged old new
-    → IsRefusedBy is_late old statement w → HasCause {T = T} old.pool new.pool (Err w) → Changes statement old new (Err w)
+    → IsStatementRefused is_late old statement w → HasStoreCause {T = T} old.pool new.pool (Err w) → ChangesStore statement old new (Err w)
 refused_call {T} old new statement is_late w uses late_file alike never may same h cause = λ cs files shelf. (
   (
     caused_refusal (while_open old files shelf cs) (while_open new files shelf cs) w

@@ -10,14 +10,14 @@ use Rattle.sand_model.specs.Cursor.{Cursor, OutputLine, Refused}
 use Rattle.sand_model.specs.OutputText.{IsText, is_refused}
 use Rattle.statements.specs.Statement.{Statement}
 use Rattle.output_text.specs.Writing.{Writes}
-use Rattle.sand_store.specs.Calls.{faults_at}
+use Rattle.sand_store.specs.Calls.{store_faults_at}
 use Rattle.sand_store.specs.Catalog.{CatalogView}
 use Rattle.statement_exec.specs.Moment.{beside}
 use Rattle.statement_exec.specs.Performing.{Performs}
 
 -- a statement that changes no relation was carried out over a catalog, beside any cursors and whatever the shelf
-abbrev pub Reads : Statement → CatalogView → PoolState → PoolState → List OutputLine → Type 0
-Reads statement catalog old new lines =
+abbrev pub ReadsStatement : Statement → CatalogView → PoolState → PoolState → List OutputLine → Type 0
+ReadsStatement statement catalog old new lines =
     (cursors : List Cursor) (files : Option Files) (shelf : ℕ) → Performs statement (beside cursors catalog old files shelf) (beside cursors catalog new files shelf) lines
 
 -- the line of a refusal, where there is one
@@ -53,7 +53,7 @@ IsDamagedIfSo told _ = ⊤
 
 -- The refusal of a page has its cause, whichever map was read: the disk's count rose by one at Device and else stays, and a page is damaged where the refusal says so.
 pub record IsCausedByPages (old new : PoolState) (refusal : Refusal) : Type 0 where
-  pub counted : new.disk.faults ≡ faults_at old.disk.faults refusal
+  pub counted : new.disk.faults ≡ store_faults_at old.disk.faults refusal
   pub damaged : IsDamagedIfSo new.disk.told refusal
 
 -- The pages have their cause: that of the refusal, where there is one. Where the sink failed, the disk may have failed before.

@@ -1,6 +1,6 @@
 -- What reading the rows of a data file tells of the shelf's files, or of the file that was found where the shelf doesn't tell its own.
 use Rattle.std.specs.Prelude.{◌≡◌, ⊤, ℕ, ◌<◌, ◌≤◌, Bool, List, length, Option, Some, Result, Ok, Err}
-use Rattle.csv_load.specs.FileRows.{file_rows}
+use Rattle.csv_load.specs.FileRows.{rows_of_file}
 use Rattle.csv_load.specs.declared.fault.LoadFault.{LoadFault}
 use Rattle.csv_load.specs.declared.fault.LoadFault.TheVariants as fault
 use Rattle.sand_base.specs.declared.kind.Kind.{Kind}
@@ -22,10 +22,10 @@ pub record HasRecords (file : DataFile) (rows : FileRows) (files : Files) : Type
   pub bytes : List ℕ
   pub there : files file.name ≡ Some bytes
   pub short : length bytes ≤ longest_file
-  pub records : file_rows bytes file.schema file.header ≡ rows
+  pub records : rows_of_file bytes file.schema file.header ≡ rows
 
 -- the file is there, and too long
-pub record IsTooLong (file : DataFile) (files : Files) : Type 0 where
+pub record IsFileTooLong (file : DataFile) (files : Files) : Type 0 where
   pub bytes : List ℕ
   pub there : files file.name ≡ Some bytes
   pub long : longest_file < length bytes
@@ -38,7 +38,7 @@ OfFound files P = (found : Files) × AreTold files found × P found
 abbrev pub GivesNone : Option Files → DataFile → LoadFault → Type 0
 GivesNone files file fault.Memory = ⊤
 GivesNone files file fault.File = ⊤
-GivesNone files file fault.FileTooLong = OfFound files (IsTooLong file)
+GivesNone files file fault.FileTooLong = OfFound files (IsFileTooLong file)
 GivesNone files file (fault.BadRecord row column) = OfFound files (HasRecords file (HasBad row column))
 
 -- the shelf's count after this fault: one more where the shelf failed
@@ -52,8 +52,8 @@ shelf_after before (Ok a) = before
 shelf_after before (Err fault) = shelf_at before fault
 
 -- a fault of a file, as a statement is refused by it
-abbrev pub refusal_of : LoadFault → Refusal
-refusal_of fault.Memory = why.Memory
-refusal_of fault.File = why.File
-refusal_of fault.FileTooLong = why.FileTooLong
-refusal_of (fault.BadRecord row column) = why.BadRecord row column
+abbrev pub file_refusal : LoadFault → Refusal
+file_refusal fault.Memory = why.Memory
+file_refusal fault.File = why.File
+file_refusal fault.FileTooLong = why.FileTooLong
+file_refusal (fault.BadRecord row column) = why.BadRecord row column

@@ -18,12 +18,12 @@ use Rattle.sand_store.specs.Standing.{CatalogStands}
 use Rattle.statement_exec.specs.LeafWalk.{lines_of}
 
 -- the state of a catalog over pages, beside these cursors
-abbrev pub state_of : CatalogView → PageMap → List Cursor → State
-state_of catalog pages cursors = record { database = database_in pages catalog.relations; cursors = cursors }
+abbrev pub state_beside : CatalogView → PageMap → List Cursor → State
+state_beside catalog pages cursors = record { database = database_in pages catalog.relations; cursors = cursors }
 
 -- no check fails, and the lines are those of the leaves of this quadtree
-pub record HasTree (catalog : CatalogView) (column : Column) (tree : Pmr) (pages : PageMap) : Type 0 where
-  pub passes : (setting : Setting) (cursors : List Cursor) → early setting (state_of catalog pages cursors) (Blocks column) ≡ None
+pub record HasQuadtree (catalog : CatalogView) (column : Column) (tree : Pmr) (pages : PageMap) : Type 0 where
+  pub passes : (setting : Setting) (cursors : List Cursor) → early setting (state_beside catalog pages cursors) (Blocks column) ≡ None
   pub relation : Relation
   pub named : relation_named (database_in pages catalog.relations) column.relation ≡ Some relation
   pub lines : leaf_lines relation column.column ≡ lines_of (leaves root_block (tree_at pages tree))
@@ -32,7 +32,7 @@ pub record HasTree (catalog : CatalogView) (column : Column) (tree : Pmr) (pages
 -- the first check that fails gives this refusal
 abbrev pub LacksTree : CatalogView → Column → Refusal → PageMap → Type 0
 LacksTree catalog column refusal pages =
-    (setting : Setting) (cursors : List Cursor) → early setting (state_of catalog pages cursors) (Blocks column) ≡ Some refusal
+    (setting : Setting) (cursors : List Cursor) → early setting (state_beside catalog pages cursors) (Blocks column) ≡ Some refusal
 
 -- the refusal is one of a check
 abbrev pub IsOfCheck : Refusal → Type 0

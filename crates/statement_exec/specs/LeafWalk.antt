@@ -25,16 +25,16 @@ abbrev pub code_end : ℕ
 code_end = 2 ^ (2 * COORDINATE_BITS)
 
 -- the leaves' blocks lie side by side, from a code up to another
-abbrev pub Tiles : ℕ → Leaves → ℕ → Type 0
-Tiles from [] to = from ≡ to
-Tiles from (leaf ∷ leaves) to = (leaf.0.z ≡ from) × Tiles (from + code_count leaf.0.level) leaves to
+abbrev pub AreSideBySide : ℕ → Leaves → ℕ → Type 0
+AreSideBySide from [] to = from ≡ to
+AreSideBySide from (leaf ∷ leaves) to = (leaf.0.z ≡ from) × AreSideBySide (from + code_count leaf.0.level) leaves to
 
 -- of all leaves these were visited, and the next one begins at the code
 pub record Walked (all visited : Leaves) (code : ℕ) : Type 0 where
   pub rest : Leaves
   pub all_are : all ≡ visited ++ rest
-  pub before : Tiles 0 visited code
-  pub behind : Tiles code rest code_end
+  pub before : AreSideBySide 0 visited code
+  pub behind : AreSideBySide code rest code_end
 
 -- of all leaves these are the first
 pub record AreFirst (all visited : Leaves) : Type 0 where
@@ -61,9 +61,9 @@ pub record BreaksLeaf (told : Type 0) (tree : Tree) (code : ℕ) (before now : L
   pub broken : WritesPrefix (IsText (LeafOf leaf.0 leaf.1 ∷ [])) before now
 
 -- why no leaf was written: none was found, or the sink failed
-abbrev pub StopsAt : Type 0 → Tree → ℕ → (List ℕ → Type 0) → (List ℕ → Type 0) → Stop → Type 0
-StopsAt told tree code before now (stop.Refused fault) = Stays before now
-StopsAt told tree code before now stop.Failed = BreaksLeaf told tree code before now
+abbrev pub WalkStopsAt : Type 0 → Tree → ℕ → (List ℕ → Type 0) → (List ℕ → Type 0) → Stop → Type 0
+WalkStopsAt told tree code before now (stop.Refused fault) = Stays before now
+WalkStopsAt told tree code before now stop.Failed = BreaksLeaf told tree code before now
 
 -- leaves were written up to a code: where the disk tells, the first ones of all
 pub record WritesFirst (told : Type 0) (all : Leaves) (code : ℕ) (before now : List ℕ → Type 0) : Type 0 where
@@ -72,7 +72,7 @@ pub record WritesFirst (told : Type 0) (all : Leaves) (code : ℕ) (before now :
   pub written : Writes (IsText (lines_of visited)) before now
 
 -- all leaves were written
-pub record WritesAll (told : Type 0) (all : Leaves) (before now : List ℕ → Type 0) : Type 0 where
+pub record WritesLeaves (told : Type 0) (all : Leaves) (before now : List ℕ → Type 0) : Type 0 where
   pub visited : Leaves
   pub are_all : told → all ≡ visited
   pub written : Writes (IsText (lines_of visited)) before now
@@ -84,7 +84,7 @@ pub record WritesSome (told : Type 0) (all : Leaves) (before now : List ℕ → 
   pub written : Writes (IsText (lines_of visited)) before now
 
 -- a prefix of the first leaves was written
-pub record BreaksSome (told : Type 0) (all : Leaves) (before now : List ℕ → Type 0) : Type 0 where
+pub record BreaksLeaves (told : Type 0) (all : Leaves) (before now : List ℕ → Type 0) : Type 0 where
   pub visited : Leaves
   pub first : told → AreFirst all visited
   pub broken : WritesPrefix (IsText (lines_of visited)) before now
@@ -92,13 +92,13 @@ pub record BreaksSome (told : Type 0) (all : Leaves) (before now : List ℕ → 
 -- why not all leaves were written
 abbrev pub StopsWith : Type 0 → Leaves → (List ℕ → Type 0) → (List ℕ → Type 0) → Stop → Type 0
 StopsWith told all before now (stop.Refused fault) = WritesSome told all before now
-StopsWith told all before now stop.Failed = BreaksSome told all before now
+StopsWith told all before now stop.Failed = BreaksLeaves told all before now
 
 -- what the pages answered: a fault of the sink is none of theirs
-abbrev pub of_pages : {A : Type 0} → Result A Stop → Result (Unit {0}) PageFault
-of_pages (Ok a) = Ok tt
-of_pages (Err (stop.Refused fault)) = Err fault
-of_pages (Err stop.Failed) = Ok tt
+abbrev pub of_walked_pages : {A : Type 0} → Result A Stop → Result (Unit {0}) PageFault
+of_walked_pages (Ok a) = Ok tt
+of_walked_pages (Err (stop.Refused fault)) = Err fault
+of_walked_pages (Err stop.Failed) = Ok tt
 
 -- the sink failed where it is to blame
 abbrev pub of_sink : {A : Type 0} → Result A Stop → Result (Unit {0}) (Unit {0})

@@ -1,6 +1,6 @@
 -- What statements are carried out on, as contracts see it, and the settings in which that is told.
 use Rattle.std.specs.Prelude.{◌≡◌, ℕ, ◌-◌, ◌≤◌, Bool, List, [], Option, Some}
-use Rattle.csv_load.specs.FileRows.{file_rows}
+use Rattle.csv_load.specs.FileRows.{rows_of_file}
 use Rattle.page_pool.specs.Pool.{PoolState}
 use Rattle.sand_base.specs.declared.limits.Limits.{Limits}
 use Rattle.sand_base.specs.Shelf.{Files}
@@ -56,11 +56,11 @@ pub record IsSettingOf (at : Moment) (setting : Setting) : Type 0 where
   pub is : IsSetting setting
   pub limits : setting.limits ≡ at.limits
   pub files : AreTold at.files setting.files
-  pub rows_of : setting.rows_of ≡ file_rows
+  pub rows_of : setting.rows_of ≡ rows_of_file
   pub tells : setting.tells ≡ at.told
 
 -- what no statement changes: the limits, whether the disk tells, and the files; no count falls
-pub record Follows (old new : Moment) : Type 0 where
+pub record KeepsMoment (old new : Moment) : Type 0 where
   pub limits : new.limits ≡ old.limits
   pub told : new.told ≡ old.told
   pub files : new.files ≡ old.files

@@ -38,17 +38,17 @@ Performs statement old new lines =
     → ShelfOutcome old.files setting (rises_between old new) old.state statement lines new.state)
 
 -- the line of a reply
-abbrev pub line_of : Reply → OutputLine
-line_of reply.Accepted = Accepted
-line_of (reply.Id id) = Id id
-line_of (reply.Loaded rows) = Loaded rows
+abbrev pub reply_line : Reply → OutputLine
+reply_line reply.Accepted = Accepted
+reply_line (reply.Id id) = Id id
+reply_line (reply.Loaded rows) = Loaded rows
 
 -- the line of a statement that changes relations: that of its reply, or of its refusal
 abbrev pub line_of_answer : Result Reply Refusal → OutputLine
-line_of_answer (Ok reply) = line_of reply
+line_of_answer (Ok reply) = reply_line reply
 line_of_answer (Err refusal) = Refused refusal
 
 -- a statement that touches no data file was carried out on a store and was answered so, whatever cursors are open and whatever the shelf
-abbrev pub Changes : Statement → StoreState → StoreState → Result Reply Refusal → Type 0
-Changes statement old new answer =
+abbrev pub ChangesStore : Statement → StoreState → StoreState → Result Reply Refusal → Type 0
+ChangesStore statement old new answer =
     (cs : List Cursor) (files : Option Files) (shelf : ℕ) → Performs statement (while_open old files shelf cs) (while_open new files shelf cs) (line_of_answer answer ∷ [])

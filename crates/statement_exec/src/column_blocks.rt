@@ -5,7 +5,7 @@ ghost use Rattle.statements.specs.Statement.{Blocks};
 ghost use Rattle.sand_store.specs.Calls.{refusal_of};
 ghost use Rattle.sand_store.specs.Standing.{IsStore};
 ghost use Rattle.output_text.specs.Writing.{Writes, WritesPrefix};
-ghost use Rattle.statement_exec.specs.Ending.{PagesHaveCause, Reads, RisesByOne, WritesUpTo};
+ghost use Rattle.statement_exec.specs.Ending.{PagesHaveCause, ReadsStatement, RisesByOne, WritesUpTo};
 ghost use Rattle.statement_exec.specs.Printing.{PrintsSome, WritesOf};
 
 use crate::Stop;
@@ -38,8 +38,10 @@ fn print_column<D: Disk, K: Sink>(
     out: &mut K,
 ) -> Result<Option<Refusal>, Failed>
     requires { IsStore catalog.now desk.old.pool }
-    ensures written { IfOk result (λ end. WritesUpTo (Reads (Blocks (record { relation = relation.now; column = column.now })) catalog.now desk.old.pool desk.new.pool) end (K.took out.old) (K.took out.new)) }
-    ensures prefix { OnErr result (WritesPrefix (PrintsSome (Reads (Blocks (record { relation = relation.now; column = column.now })) catalog.now desk.old.pool desk.new.pool)) (K.took out.old) (K.took out.new)) }
+    ensures written { IfOk result (λ end. WritesUpTo (ReadsStatement (Blocks (record { relation = relation.now; column = column.now })) catalog.now desk.old.pool desk.new.pool) end
+        (K.took out.old) (K.took out.new)) }
+    ensures prefix { OnErr result (WritesPrefix (PrintsSome (ReadsStatement (Blocks (record { relation = relation.now; column = column.now })) catalog.now desk.old.pool desk.new.pool))
+        (K.took out.old) (K.took out.new)) }
     ensures read { IsRead desk.old.pool desk.new.pool }
     ensures cause { PagesHaveCause desk.old.pool desk.new.pool result }
     ensures sink { HasCause (K.faults out.old) (K.faults out.new) result }
@@ -66,7 +68,7 @@ pub fn print_blocks<D: Disk, K: Sink>(
     out: &mut K,
 ) -> Result<bool, Failed>
     requires { IsStore catalog.now desk.old.pool }
-    ensures written { WritesOf (Reads (Blocks (record { relation = relation.now; column = column.now })) catalog.now desk.old.pool desk.new.pool) (K.took out.old) (K.took out.new) result }
+    ensures written { WritesOf (ReadsStatement (Blocks (record { relation = relation.now; column = column.now })) catalog.now desk.old.pool desk.new.pool) (K.took out.old) (K.took out.new) result }
     ensures stands { IsStore catalog.now desk.new.pool }
     ensures read { IsRead desk.old.pool desk.new.pool }
     ensures cause { RisesByOne desk.old.pool.disk.faults desk.new.pool.disk.faults }

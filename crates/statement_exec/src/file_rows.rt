@@ -2,7 +2,7 @@
 ghost use Rattle.std.specs.Prelude.{◌≡◌, ◌≤◌, All, IfOk, IfErr};
 ghost use Rattle.sand_base.specs.InRange.{IsRowInRange, IsSchemaInRange};
 ghost use Rattle.sand_model.specs.StatementChecks.{AreRows};
-ghost use Rattle.statement_exec.specs.FileReading.{GivesNone, HasRecords, OfFound, refusal_of, shelf_after};
+ghost use Rattle.statement_exec.specs.FileReading.{GivesNone, HasRecords, OfFound, file_refusal, shelf_after};
 
 use csv_load::{LoadFault, read_file, rows_of, rows_of_a_file_fit_its_schema};
 use sand_base::{Label, Refusal, Row, Schema, Shelf};
@@ -10,7 +10,7 @@ use std::alloc::Global;
 
 /// A fault of a file, as a statement is refused by it.
 pub(crate) fn refusal_of(why: LoadFault) -> Refusal
-    ensures { result ≡ refusal_of why }
+    ensures { result ≡ file_refusal why }
 {
     match why {
         LoadFault::Memory => Refusal::Memory,

@@ -3,7 +3,7 @@ ghost use Rattle.std.specs.Prelude.{◌≡◌, IfOk, IfErr};
 ghost use Rattle.page_pool.specs.Disk.{PageMap};
 ghost use Rattle.sand_base.specs.Shape.{is_spatial};
 ghost use Rattle.sand_store.specs.Catalog.{IsCatalog};
-ghost use Rattle.statement_exec.specs.LeafLines.{HasTree, IsOfCheck, LacksTree};
+ghost use Rattle.statement_exec.specs.LeafLines.{HasQuadtree, IsOfCheck, LacksTree};
 
 use pmr_tree::Pmr;
 use sand_base::{Kind, Label, Refusal};
@@ -26,7 +26,7 @@ pub(crate) fn quadtree_of(
     column: &Label,
 ) -> Result<Pmr, Refusal>
     requires { IsCatalog catalog.now }
-    ensures tree { IfOk result (λ tree. (pages : PageMap) → HasTree catalog.now (record { relation = relation.now; column = column.now }) tree pages) }
+    ensures tree { IfOk result (λ tree. (pages : PageMap) → HasQuadtree catalog.now (record { relation = relation.now; column = column.now }) tree pages) }
     ensures none { IfErr result (λ why. (pages : PageMap) → LacksTree catalog.now (record { relation = relation.now; column = column.now }) why pages) }
     ensures check { IfErr result IsOfCheck }
 {

@@ -7,7 +7,7 @@ ghost use Rattle.pmr_tree.specs.Quadtree.{IsPmr, tree_at};
 ghost use Rattle.sand_base.specs.Faults.{HasCause};
 ghost use Rattle.sand_base.specs.declared.TheConstants.{COORDINATE_BITS};
 ghost use Rattle.sand_model.specs.Tree.{leaves, root_block};
-ghost use Rattle.statement_exec.specs.LeafWalk.{StopsAt, StopsWith, WritesAll, WritesLeaf, code_end, of_pages, of_sink};
+ghost use Rattle.statement_exec.specs.LeafWalk.{WalkStopsAt, StopsWith, WritesLeaves, WritesLeaf, code_end, of_walked_pages, of_sink};
 ghost use Rattle.statement_exec.specs.declared.leaves.TheConstants.{CODES};
 
 use crate::Stop;
@@ -31,9 +31,9 @@ fn print_leaf<D: Disk, K: Sink>(
     requires code { code < code_end }
     requires tree { IsTold desk.old.pool → IsPmr desk.old.pool.pages tree.now }
     ensures written { IfOk result (λ next. WritesLeaf (IsTold desk.old.pool) (tree_at desk.old.pool.pages tree.now) code next (K.took out.old) (K.took out.new)) }
-    ensures stops { IfErr result (StopsAt (IsTold desk.old.pool) (tree_at desk.old.pool.pages tree.now) code (K.took out.old) (K.took out.new)) }
+    ensures stops { IfErr result (WalkStopsAt (IsTold desk.old.pool) (tree_at desk.old.pool.pages tree.now) code (K.took out.old) (K.took out.new)) }
     ensures read { IsRead desk.old.pool desk.new.pool }
-    ensures cause { HasPageCause desk.old.pool desk.new.pool (of_pages result) }
+    ensures cause { HasPageCause desk.old.pool desk.new.pool (of_walked_pages result) }
     ensures sink { HasCause (K.faults out.old) (K.faults out.new) (of_sink result) }
 {
     let (block, ids) = match tree.leaf_at(alloc, desk, code) {
@@ -58,10 +58,10 @@ pub(crate) fn print_leaves<D: Disk, K: Sink>(
     out: &mut K,
 ) -> Result<(), Stop>
     requires tree { IsTold desk.old.pool → IsPmr desk.old.pool.pages tree.now }
-    ensures written { IfOk result (λ _. WritesAll (IsTold desk.old.pool) (leaves root_block (tree_at desk.old.pool.pages tree.now)) (K.took out.old) (K.took out.new)) }
+    ensures written { IfOk result (λ _. WritesLeaves (IsTold desk.old.pool) (leaves root_block (tree_at desk.old.pool.pages tree.now)) (K.took out.old) (K.took out.new)) }
     ensures stops { IfErr result (StopsWith (IsTold desk.old.pool) (leaves root_block (tree_at desk.old.pool.pages tree.now)) (K.took out.old) (K.took out.new)) }
     ensures read { IsRead desk.old.pool desk.new.pool }
-    ensures cause { HasPageCause desk.old.pool desk.new.pool (of_pages result) }
+    ensures cause { HasPageCause desk.old.pool desk.new.pool (of_walked_pages result) }
     ensures sink { HasCause (K.faults out.old) (K.faults out.new) (of_sink result) }
 {
     let mut code = 0;

@@ -1,6 +1,6 @@
 ghost use Rattle.std.specs.Prelude.{◌≡◌, ℕ, All, IfOk, IfErr, OnErr, OnOk};
 ghost use Rattle.sand_base.specs.InRange.{IsRowInRange};
-ghost use Rattle.sand_store.specs.Calls.{Carries, HasCause, IsUnchanged, Loaded};
+ghost use Rattle.sand_store.specs.Calls.{Carries, HasStoreCause, IsUnchanged, Loaded};
 ghost use Rattle.sand_store.specs.Catalog.{IsCatalog};
 ghost use Rattle.statement_exec.specs.Entering.{EntersRows};
 ghost use Rattle.statement_exec.specs.Loading.{InSettings, IsOfNoPage, IsRefusedEarly, LoadOf, Yields, shelf_after};
@@ -22,9 +22,11 @@ pub fn rows_to_load<H: Shelf>(
     header: bool,
 ) -> Result<Vec<Row>, Refusal>
     requires { IsCatalog catalog.now }
-    ensures yields { IfOk result (λ rows. InSettings catalog.now (H.files shelf.old) (λ setting state. Yields setting state (record { relation = name.now; file = file.now; header = header }) rows.items)) }
+    ensures yields { IfOk result (λ rows. InSettings catalog.now (H.files shelf.old)
+        (λ setting state. Yields setting state (record { relation = name.now; file = file.now; header = header }) rows.items)) }
     ensures in_range { IfOk result (λ rows. All IsRowInRange rows.items) }
-    ensures refused { IfErr result (λ refusal. InSettings catalog.now (H.files shelf.old) (λ setting state. IsRefusedEarly setting state (record { relation = name.now; file = file.now; header = header }) refusal)) }
+    ensures refused { IfErr result (λ refusal. InSettings catalog.now (H.files shelf.old)
+        (λ setting state. IsRefusedEarly setting state (record { relation = name.now; file = file.now; header = header }) refusal)) }
     ensures no_page { IfErr result IsOfNoPage }
     ensures files { H.files shelf.new ≡ H.files shelf.old }
     ensures cause { H.faults shelf.new ≡ shelf_after (H.faults shelf.old) result }
@@ -49,7 +51,7 @@ pub fn enter_rows<D: Disk>(
     ensures loaded { OnOk result ((count : ℕ) × Loaded store.old store.new name.now rows.items count) }
     ensures unchanged { OnErr result (IsUnchanged store.old store.new) }
     ensures carries { Carries store.old store.new }
-    ensures cause { HasCause store.old.pool store.new.pool result }
+    ensures cause { HasStoreCause store.old.pool store.new.pool result }
     ensures of_no_file { (n : ℕ) → shelf_after n result ≡ n }
 {
     match store.load_rows(name.as_str(), rows) {

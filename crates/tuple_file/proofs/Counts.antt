@@ -8,7 +8,7 @@ use Rattle.code_btree.specs.Items.{Above, Ascending, find_item, items_below, ite
 use Rattle.code_btree.specs.Tree.{same, times}
 use Rattle.code_btree.proofs.Lists.{same_cases, same_self, times-append}
 use Rattle.code_btree.proofs.Orders.{lt_is, lt_not, below-Above, above-Above}
-use Rattle.tuple_file.specs.File.{page_of, slot_of, places, homes, first_time, once}
+use Rattle.tuple_file.specs.File.{page_of, slot_of, tuple_places, homes, first_time, once}
 
 -- a number of a list of distinct ones, counted
 first_count : (q x : ℕ) (xs : List ℕ) (n : ℕ) → times x xs ≡ n → times q (once xs) ≡ min 1 (times q xs) → times q (first_time n x (once xs)) ≡ min 1 (same q x + times q xs)
@@ -35,17 +35,17 @@ same_up v x = elim (same_cases (page_of v) (page_of x)) [
   | inr i ↦ elim (same_cases v x) [ inl j ↦ absurd (i.1 (ap (λ (k : ℕ). page_of k) j.1)) | inr j ↦ omega (arith, j.0) ]
 ]
 
-pub times-up : (v : ℕ) (es : List Pair) → times v (places es) ≤ times (page_of v) (homes es)
+pub times-up : (v : ℕ) (es : List Pair) → times v (tuple_places es) ≤ times (page_of v) (homes es)
 times-up v [] = omega arith
 times-up v (e ∷ es) = omega (arith, same_up v e.1, times-up v es)
 
 -- a page to none of whose places an id leads is no page of the file
-pub none_home : (p : ℕ) (es : List Pair) → ((v : ℕ) → page_of v ≡ p → times v (places es) ≡ 0) → times p (homes es) ≡ 0
+pub none_home : (p : ℕ) (es : List Pair) → ((v : ℕ) → page_of v ≡ p → times v (tuple_places es) ≡ 0) → times p (homes es) ≡ 0
 none_home p [] h = refl
 none_home p (e ∷ es) h = elim (same_cases p (page_of e.1)) [
-  | inl i ↦ let n : same e.1 e.1 + times e.1 (places es) ≡ 0 = h e.1 (sym i.1) in absurd (omega (arith, n, same_self e.1))
+  | inl i ↦ let n : same e.1 e.1 + times e.1 (tuple_places es) ≡ 0 = h e.1 (sym i.1) in absurd (omega (arith, n, same_self e.1))
   | inr i ↦
-      let rest : (v : ℕ) → page_of v ≡ p → times v (places es) ≡ 0 = λ v k. (let n : same v e.1 + times v (places es) ≡ 0 = h v k in omega (arith, n)) in
+      let rest : (v : ℕ) → page_of v ≡ p → times v (tuple_places es) ≡ 0 = λ v k. (let n : same v e.1 + times v (tuple_places es) ≡ 0 = h v k in omega (arith, n)) in
       omega (arith, i.0, none_home p es rest)
 ]
 
@@ -124,7 +124,7 @@ times-drop g x k v es a h =
       parts_some g x k v es a h,
     )
 
-pub found_leads : (k v : ℕ) (es : List Pair) → find_item k es ≡ Some v → 1 ≤ times v (places es)
+pub found_leads : (k v : ℕ) (es : List Pair) → find_item k es ≡ Some v → 1 ≤ times v (tuple_places es)
 found_leads k v [] h = absurd (none_some v (sym h))
 found_leads k v (e ∷ es) h = elim (eqb_tells e.0 k) [
   | inl y ↦ omega (arith, same_self v, ap (λ (j : ℕ). same v j) (some_same e.1 v (find_first k e es (Some v) y.1 h)))

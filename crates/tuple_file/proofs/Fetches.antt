@@ -9,8 +9,8 @@ use Rattle.code_btree.specs.Items.{find_item, ceiling_item}
 use Rattle.code_btree.specs.Tree.{Store, tree_items}
 use Rattle.tuple_file.specs.declared.file.TupleFile.{TupleFile}
 use Rattle.tuple_file.specs.Page.{tuple_at}
-use Rattle.tuple_file.specs.Rows.{of_id, least_from}
-use Rattle.tuple_file.specs.File.{bytes_of, page_of, slot_of, tuple_of, file_rows}
+use Rattle.tuple_file.specs.Rows.{of_id, least_id_from}
+use Rattle.tuple_file.specs.File.{bytes_of, page_of, slot_of, tuple_of, tuples_of}
 use Rattle.tuple_file.specs.Calls.{IsDecoded, IsRowAt, IsValueAt}
 use Rattle.tuple_file.specs.declared.span.Span.{Span}
 use Rattle.tuple_file.specs.Spans.{Lies, AreKnown, span_of}
@@ -37,51 +37,51 @@ row_here schema rows id tuple (Some row) e h = (tuple, (e, h))
 
 -- the bytes of the id, where the tree leads to them, and where it doesn't
 bytes_here : (m : Store) (f : TupleFile) (id v n slot : ℕ) → Some v ≡ find_item id (tree_items m f.tree) → n ≡ page_of v → slot ≡ slot_of v
-    → of_id id (file_rows m f) ≡ Some (tuple_at (bytes_of (m n)) slot)
+    → of_id id (tuples_of m f) ≡ Some (tuple_at (bytes_of (m n)) slot)
 bytes_here m f id v n slot e en es =
     tuples_find m id (tree_items m f.tree) ∙ (ap (λ (o : Option ℕ). option_map (λ k. tuple_of m k) o) (sym e) ∙ ap (λ (b : List ℕ). Some b) (tuple_here m v n slot (sym en) (sym es)))
 
-bytes_absent : (m : Store) (f : TupleFile) (id : ℕ) → None ≡ find_item id (tree_items m f.tree) → of_id id (file_rows m f) ≡ None
+bytes_absent : (m : Store) (f : TupleFile) (id : ℕ) → None ≡ find_item id (tree_items m f.tree) → of_id id (tuples_of m f) ≡ None
 bytes_absent m f id e = tuples_find m id (tree_items m f.tree) ∙ ap (λ (o : Option ℕ). option_map (λ k. tuple_of m k) o) (sym e)
 
 pub row_found : (schema : List (List ℕ × Kind)) (m : Store) (f : TupleFile) (id v n slot : ℕ) (found : Option (List Value))
-    → Some v ≡ find_item id (tree_items m f.tree) → n ≡ page_of v → slot ≡ slot_of v → IsDecoded schema (tuple_at (bytes_of (m n)) slot) found → IsRowAt schema (file_rows m f) id found
+    → Some v ≡ find_item id (tree_items m f.tree) → n ≡ page_of v → slot ≡ slot_of v → IsDecoded schema (tuple_at (bytes_of (m n)) slot) found → IsRowAt schema (tuples_of m f) id found
 row_found schema m f id v n slot found e en es h =
-    row_here schema (file_rows m f) id (tuple_at (bytes_of (m n)) slot) found (bytes_here m f id v n slot e en es) h
+    row_here schema (tuples_of m f) id (tuple_at (bytes_of (m n)) slot) found (bytes_here m f id v n slot e en es) h
 
-pub row_absent : (schema : List (List ℕ × Kind)) (m : Store) (f : TupleFile) (id : ℕ) → None ≡ find_item id (tree_items m f.tree) → IsRowAt schema (file_rows m f) id None
+pub row_absent : (schema : List (List ℕ × Kind)) (m : Store) (f : TupleFile) (id : ℕ) → None ≡ find_item id (tree_items m f.tree) → IsRowAt schema (tuples_of m f) id None
 row_absent schema m f id e = λ bytes row at is. none_some bytes (sym at ∙ bytes_absent m f id e)
 
-pub least_is : (m : Store) (f : TupleFile) (from : ℕ) (o : Option Pair) → o ≡ ceiling_item from (tree_items m f.tree) → option_map (λ (e : Pair). e.0) o ≡ least_from from (file_rows m f)
+pub least_is : (m : Store) (f : TupleFile) (from : ℕ) (o : Option Pair) → o ≡ ceiling_item from (tree_items m f.tree) → option_map (λ (e : Pair). e.0) o ≡ least_id_from from (tuples_of m f)
 least_is m f from o e = ap (λ (p : Option Pair). option_map (λ (i : Pair). i.0) p) e ∙ sym (tuples_least m from (tree_items m f.tree))
 
 -- the same with what the code has: the key, the answer of the tree, and pages that stay
 pub row_found_by : (schema : List (List ℕ × Kind)) (m x : Store) (f : TupleFile) (id key v n slot : ℕ) (place : Option ℕ) (found : Option (List Value)) → key ≡ id → x ≡ m
     → place ≡ find_item key (tree_items m f.tree) → place ≡ Some v → n ≡ page_of v → slot ≡ slot_of v → IsDecoded schema (tuple_at (bytes_of (x n)) slot) found
-    → IsRowAt schema (file_rows m f) id found
+    → IsRowAt schema (tuples_of m f) id found
 row_found_by schema m x f id key v n slot place found ek ex e is en es h =
     let D : Store → Type 0 = λ s. IsDecoded schema (tuple_at (bytes_of (s n)) slot) found in
     row_found schema m f id v n slot found (sym is ∙ (e ∙ ap (λ (k : ℕ). find_item k (tree_items m f.tree)) ek)) en es (subst D ex h)
 
 pub row_absent_by : (schema : List (List ℕ × Kind)) (m : Store) (f : TupleFile) (id key : ℕ) (place : Option ℕ) → key ≡ id → place ≡ find_item key (tree_items m f.tree)
-    → place ≡ None → IsRowAt schema (file_rows m f) id None
+    → place ≡ None → IsRowAt schema (tuples_of m f) id None
 row_absent_by schema m f id key place ek e is = row_absent schema m f id (sym is ∙ (e ∙ ap (λ (k : ℕ). find_item k (tree_items m f.tree)) ek))
 
 pub least_by : (m : Store) (f : TupleFile) (from key : ℕ) (o : Option Pair) (given : Option ℕ) → key ≡ from → o ≡ ceiling_item key (tree_items m f.tree)
-    → option_map (λ (e : Pair). e.0) o ≡ given → given ≡ least_from from (file_rows m f)
+    → option_map (λ (e : Pair). e.0) o ≡ given → given ≡ least_id_from from (tuples_of m f)
 least_by m f from key o given ek e is = sym is ∙ least_is m f from o (e ∙ ap (λ (k : ℕ). ceiling_item k (tree_items m f.tree)) ek)
 
 -- the value in a column of the row of the id, and none where the id isn't there
 pub value_found_by : (schema : List (List ℕ × Kind)) (m x : Store) (f : TupleFile) (id key v n slot column : ℕ) (place : Option ℕ) (found : Option Value) → key ≡ id → x ≡ m
     → place ≡ find_item key (tree_items m f.tree) → place ≡ Some v → n ≡ page_of v → slot ≡ slot_of v → IsValueIn schema (tuple_at (bytes_of (x n)) slot) column found
-    → IsValueAt schema (file_rows m f) id column found
+    → IsValueAt schema (tuples_of m f) id column found
 value_found_by schema m x f id key v n slot column place found ek ex e is en es h =
     let V : Store → Type 0 = λ s. IsValueIn schema (tuple_at (bytes_of (s n)) slot) column found in
     let P : Option (List ℕ) → Type 0 = λ o. MatchOption o (found ≡ None) (λ bytes. IsValueIn schema bytes column found) in
     subst P (sym (bytes_here m f id v n slot (sym is ∙ (e ∙ ap (λ (k : ℕ). find_item k (tree_items m f.tree)) ek)) en es)) (subst V ex h)
 
 pub value_absent_by : (schema : List (List ℕ × Kind)) (m : Store) (f : TupleFile) (id key column : ℕ) (place : Option ℕ) → key ≡ id
-    → place ≡ find_item key (tree_items m f.tree) → place ≡ None → IsValueAt schema (file_rows m f) id column None
+    → place ≡ find_item key (tree_items m f.tree) → place ≡ None → IsValueAt schema (tuples_of m f) id column None
 value_absent_by schema m f id key column place ek e is =
     let none : Option Value = None in
     let P : Option (List ℕ) → Type 0 = λ o. MatchOption o (none ≡ None) (λ bytes. IsValueIn schema bytes column none) in
@@ -90,7 +90,7 @@ value_absent_by schema m f id key column place ek e is =
 -- and of an id of which it is known where its tuple lies
 pub value_placed : (schema : List (List ℕ × Kind)) (m : Store) (f : TupleFile) (spans : List ℕ) (id column : ℕ) (span : Span) (found : Option Value) → AreKnown m f spans
     → 1 ≤ id → 1 ≤ get_or spans (id - 1) 0
-    → span ≡ span_of (get_or spans (id - 1) 0) → IsValueIn schema (piece span.length span.start (bytes_of (m span.page))) column found → IsValueAt schema (file_rows m f) id column found
+    → span ≡ span_of (get_or spans (id - 1) 0) → IsValueIn schema (piece span.length span.start (bytes_of (m span.page))) column found → IsValueAt schema (tuples_of m f) id column found
 value_placed schema m f spans id column span found known l k e h =
     let same : id - 1 + 1 ≡ id = omega (arith, l) in
     let P : ℕ → Type 0 = λ i. Lies m f i (span_of (get_or spans (id - 1) 0)) in
@@ -98,7 +98,7 @@ value_placed schema m f spans id column span found known l k e h =
     let at : Lies m f id span = subst Q (sym e) (subst P same (known (id - 1) k)) in
     let page : List ℕ = bytes_of (m span.page) in
     let small : at.slot < 65536 = omega (arith, at.has.there) in
-    let here : of_id id (file_rows m f) ≡ Some (tuple_at page at.slot) =
+    let here : of_id id (tuples_of m f) ≡ Some (tuple_at page at.slot) =
     bytes_here m f id (span.page * 65536 + at.slot) span.page at.slot (sym at.leads) (sym (page_back span.page at.slot small)) (sym (slot_back span.page at.slot small)) in
     let tuple : tuple_at page at.slot ≡ piece span.length span.start page = tuple_in page at.slot at.has.there ∙ ap₂ (λ (w a : ℕ). piece w a page) at.has.length_is at.has.start_is in
     let V : Option (List ℕ) → Type 0 = λ o. MatchOption o (found ≡ None) (λ bytes. IsValueIn schema bytes column found) in

@@ -9,9 +9,9 @@ use Rattle.code_btree.specs.Tree.{Store, same, times, live, tree_items, tree_pag
 use Rattle.code_btree.proofs.Lists.{same_cases, live_small, live_none, none_live, live_same, times-append}
 use Rattle.code_btree.proofs.Frame.{frame}
 use Rattle.tuple_file.specs.declared.file.TupleFile.{TupleFile}
-use Rattle.tuple_file.specs.Page.{IsTuples, HasAt, slot_count, place_in, length_in, tuple_at, some}
-use Rattle.tuple_file.specs.File.{bytes_of, page_of, slot_of, tuple_of, tuples, places, homes, once, file_pages, IsFile}
-use Rattle.tuple_file.specs.Calls.{Unmoved}
+use Rattle.tuple_file.specs.Page.{IsTuples, HasAt, slot_count, slot_start, length_in, tuple_at, some}
+use Rattle.tuple_file.specs.File.{bytes_of, page_of, slot_of, tuple_of, tuples, tuple_places, homes, once, file_pages, IsFile}
+use Rattle.tuple_file.specs.Calls.{FileUnmoved}
 use Rattle.tuple_file.proofs.Counts.{times-once, times-up, found_leads, page_back}
 use Rattle.tuple_file.proofs.Lists.{tuples_same}
 
@@ -31,8 +31,8 @@ drop_none (suc a) = refl
 pub tuple_none : (i : ℕ) → tuple_at [] i ≡ []
 unfolding tuple_at
 tuple_none i =
-    let none : piece (length_in [] i) (place_in [] i) [] ≡ [] = ap (λ (x : List ℕ). take (length_in [] i) x) (drop_none (place_in [] i)) ∙ take_none (length_in [] i) in
-    elim (nat_lt i (slot_count [])) as (λ b. cond b (piece (length_in [] i) (place_in [] i) []) [] ≡ []) [ true ↦ none | false ↦ refl ]
+    let none : piece (length_in [] i) (slot_start [] i) [] ≡ [] = ap (λ (x : List ℕ). take (length_in [] i) x) (drop_none (slot_start [] i)) ∙ take_none (length_in [] i) in
+    elim (nat_lt i (slot_count [])) as (λ b. cond b (piece (length_in [] i) (slot_start [] i) []) [] ≡ []) [ true ↦ none | false ↦ refl ]
 
 -- the tuple at a place, by its page
 pub tuple_here : (m : Store) (v n i : ℕ) → page_of v ≡ n → slot_of v ≡ i → tuple_of m v ≡ tuple_at (bytes_of (m n)) i
@@ -73,7 +73,7 @@ ground m f n h s = elim s [
 ]
 
 -- each tuple of such a page has one id
-pub led_all : (m : Store) (f : TupleFile) (n : ℕ) → IsFile m f → Ground m f n → (v : ℕ) → page_of v ≡ n → times v (places (tree_items m f.tree)) ≡ some (tuple_of m v)
+pub led_all : (m : Store) (f : TupleFile) (n : ℕ) → IsFile m f → Ground m f n → (v : ℕ) → page_of v ≡ n → times v (tuple_places (tree_items m f.tree)) ≡ some (tuple_of m v)
 led_all m f n h g v e = elim (leb_tells 1 (times n (homes (tree_items m f.tree)))) [
   | inl x ↦ h.housed.led v (omega (arith, x.1, ap (λ (k : ℕ). times k (homes (tree_items m f.tree))) e))
   | inr x ↦
@@ -91,7 +91,7 @@ pub leads_home : (es : List Pair) (i page slot : ℕ) → slot < 65536 → find_
 leads_home es i page slot small h = omega (arith, found_leads i (page * 65536 + slot) es h, times-up (page * 65536 + slot) es, ap (λ (k : ℕ). times k (homes es)) (page_back page slot small))
 
 -- a file depends only on its own pages
-pub unmoved : (m w : Store) (f : TupleFile) → ((q : ℕ) → 1 ≤ times q (file_pages m f) → w q ≡ m q) → Unmoved m w f
+pub unmoved : (m w : Store) (f : TupleFile) → ((q : ℕ) → 1 ≤ times q (file_pages m f) → w q ≡ m q) → FileUnmoved m w f
 unmoved m w f h =
     let es : List Pair = tree_items m f.tree in
     let t = frame m w f.tree (λ q l. h q (omega (arith, l, pages_count m f q))) in
@@ -121,7 +121,7 @@ unmoved m w f h =
               subst P (sym (home q k)) (i.housed.sound q k);
           led = λ v l.
               let k : 1 ≤ times (page_of v) (homes es) = omega (arith, l, same_homes (page_of v)) in
-              ap (λ (xs : List Pair). times v (places xs)) t.items ∙ (i.housed.led v k ∙ sym (ap (λ (b : List ℕ). some b) (tuple_same m w v (home (page_of v) k))));
+              ap (λ (xs : List Pair). times v (tuple_places xs)) t.items ∙ (i.housed.led v k ∙ sym (ap (λ (b : List ℕ). some b) (tuple_same m w v (home (page_of v) k))));
         };
         newest = λ q e. omega (arith, i.newest q e, same_homes q);
       };

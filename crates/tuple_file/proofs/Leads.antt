@@ -8,7 +8,7 @@ use Rattle.code_btree.specs.Items.{find_item, items_below, items_above, put_item
 use Rattle.code_btree.specs.Tree.{Store}
 use Rattle.code_btree.proofs.Orders.{lt_is, lt_not, eq_is, eq_not}
 use Rattle.tuple_file.specs.declared.file.TupleFile.{TupleFile}
-use Rattle.tuple_file.specs.Calls.{Put, Taken, Unmoved}
+use Rattle.tuple_file.specs.Calls.{Put, TupleTaken, FileUnmoved}
 use Rattle.tuple_file.specs.declared.span.Span.{Span}
 use Rattle.tuple_file.specs.Spans.{Lies, AreKnown, Learnt, Forgot, span_of, forgotten}
 use Rattle.tuple_file.proofs.Counts.{find_past, find_first, none_some}
@@ -80,7 +80,7 @@ none_at spans i n e = elim (leb_tells (suc i) (length spans)) [
 ]
 
 -- where one is taken it stays true, but for its own span
-pub taken_known : (m w : Store) (f g : TupleFile) (id : ℕ) (was : Bool) (spans : List ℕ) → Taken m w f g id was → AreKnown m f spans → AreKnown w g (forgotten id spans)
+pub taken_known : (m w : Store) (f g : TupleFile) (id : ℕ) (was : Bool) (spans : List ℕ) → TupleTaken m w f g id was → AreKnown m f spans → AreKnown w g (forgotten id spans)
 taken_known m w f g zero was spans taken known n l = taken.stay (n + 1) (span_of (get_or spans n 0)) (omega arith) (known n l)
 taken_known m w f g (suc i) was spans taken known n l = elim (eqb_tells n i) [
   | inl x ↦ absurd (omega (arith, l, none_at spans i n x.1))
@@ -91,12 +91,12 @@ taken_known m w f g (suc i) was spans taken known n l = elim (eqb_tells n i) [
 ]
 
 -- so it does where the span of the id is forgotten, alone or with all others
-pub lost_known : (m w : Store) (f g : TupleFile) (id : ℕ) (was : Bool) (old new : List ℕ) → Taken m w f g id was → AreKnown m f old → Forgot old id new → AreKnown w g new
+pub lost_known : (m w : Store) (f g : TupleFile) (id : ℕ) (was : Bool) (old new : List ℕ) → TupleTaken m w f g id was → AreKnown m f old → Forgot old id new → AreKnown w g new
 lost_known m w f g id was old new taken known lost = elim lost [
   | inl one ↦ subst (AreKnown w g) (sym one) (taken_known m w f g id was old taken known)
   | inr all ↦ subst (AreKnown w g) (sym all) (none_known w g)
 ]
 
 -- and where the file's pages stay
-pub still_known : (m w : Store) (f : TupleFile) (spans : List ℕ) → Unmoved m w f → AreKnown m f spans → AreKnown w f spans
+pub still_known : (m w : Store) (f : TupleFile) (spans : List ℕ) → FileUnmoved m w f → AreKnown m f spans → AreKnown w f spans
 still_known m w f spans u known n l = u.stay (n + 1) (span_of (get_or spans n 0)) (known n l)

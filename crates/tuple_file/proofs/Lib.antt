@@ -9,6 +9,8 @@ pub mod Leads
 -- the writing calls
 pub mod Settles
 pub mod Puts
+-- what a file has at its places once a tuple left its page
+pub mod PlacesLeft
 pub mod Takes
 -- the reading calls, and rows in place of bytes
 pub mod Fetches

@@ -9,8 +9,8 @@ use Rattle.code_btree.specs.Items.{Above, Ascending, find_item, items_below, ite
 use Rattle.code_btree.specs.Tree.{Store, times}
 use Rattle.code_btree.proofs.Lists.{same_self, Each-map}
 use Rattle.code_btree.proofs.Orders.{lt_is, lt_not, eq_not, below-Above, above-Above}
-use Rattle.tuple_file.specs.Rows.{of_id, with_id, without_id, least_from}
-use Rattle.tuple_file.specs.File.{tuple_of, tuples, places}
+use Rattle.tuple_file.specs.Rows.{of_id, with_id, without_id, least_id_from}
+use Rattle.tuple_file.specs.File.{tuple_of, tuples, tuple_places}
 
 -- a filter on ids goes through to the pairs
 tuples-filter : (m : Store) (p : ℕ → Bool) (es : List Pair) → tuples m (filter (λ e. p e.0) es) ≡ filter (λ r. p r.0) (tuples m es)
@@ -67,7 +67,7 @@ tuples_find m k (e ∷ es) = elim (nat_eq e.0 k) as (λ b. option_map (λ (r : �
       | false ↦ tuples_find m k es
     ]
 
-pub tuples_least : (m : Store) (k : ℕ) (es : List Pair) → least_from k (tuples m es) ≡ option_map (λ (e : Pair). e.0) (ceiling_item k es)
+pub tuples_least : (m : Store) (k : ℕ) (es : List Pair) → least_id_from k (tuples m es) ≡ option_map (λ (e : Pair). e.0) (ceiling_item k es)
 tuples_least m k [] = refl
 tuples_least m k (e ∷ es) = elim (leb_tells k e.0) [
   | inl x ↦ rw (x.0, lt_not e.0 k x.1) refl
@@ -75,7 +75,7 @@ tuples_least m k (e ∷ es) = elim (leb_tells k e.0) [
 ]
 
 -- the same tuples at all places to which an id leads
-pub tuples_same : (m w : Store) (es : List Pair) → ((v : ℕ) → 1 ≤ times v (places es) → tuple_of w v ≡ tuple_of m v) → tuples w es ≡ tuples m es
+pub tuples_same : (m w : Store) (es : List Pair) → ((v : ℕ) → 1 ≤ times v (tuple_places es) → tuple_of w v ≡ tuple_of m v) → tuples w es ≡ tuples m es
 tuples_same m w [] h = refl
 tuples_same m w (e ∷ es) h =
     ap₂ (λ (a : List ℕ) (r : List (ℕ × List ℕ)). (e.0, a) ∷ r) (h e.1 (omega (arith, same_self e.1))) (tuples_same m w es (λ v l. h v (omega (arith, l))))

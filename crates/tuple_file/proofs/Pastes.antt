@@ -7,7 +7,7 @@ use Rattle.code_btree.specs.Bytes.{piece, pasted, half_of, half_bytes}
 use Rattle.code_btree.proofs.Numbers.{half_back, length-half_bytes}
 use Rattle.code_btree.proofs.Pieces.{length-piece, length-pasted, piece_apart, piece_within, pasted-before, pasted-within}
 use Rattle.code_btree.proofs.Orders.{lt_is, lt_not, eq_not}
-use Rattle.tuple_file.specs.Page.{slot_count, place_in, length_in, tuple_at, low, some, IsTuples, HasRoom, Added, Cleared, IsBlank}
+use Rattle.tuple_file.specs.Page.{slot_count, slot_start, length_in, tuple_at, low, some, IsTuples, HasRoom, Added, Cleared, IsBlank}
 
 -- one write
 
@@ -38,7 +38,7 @@ first p q at b e l h s = ap (λ (x : List ℕ). get_or x 0 0) e ∙ pasted-befor
 
 -- slots
 
-pub tuple_in : (p : List ℕ) (i : ℕ) → i < slot_count p → tuple_at p i ≡ piece (length_in p i) (place_in p i) p
+pub tuple_in : (p : List ℕ) (i : ℕ) → i < slot_count p → tuple_at p i ≡ piece (length_in p i) (slot_start p i) p
 unfolding tuple_at
 tuple_in p i h = rw (lt_is i (slot_count p) h) refl
 
@@ -52,11 +52,11 @@ last_of c n f e =
     let before : c - 1 ≡ n = omega (arith, e) in
     ap (λ (b : Bool). cond b 4096 (f (c - 1))) (eq_not c 0 some_slot) ∙ ap f before
 
-pub low_is : (p : List ℕ) (n : ℕ) → slot_count p ≡ suc n → low p ≡ place_in p n
-low_is p n e = last_of (slot_count p) n (λ i. place_in p i) e
+pub low_is : (p : List ℕ) (n : ℕ) → slot_count p ≡ suc n → low p ≡ slot_start p n
+low_is p n e = last_of (slot_count p) n (λ i. slot_start p i) e
 
-low_same : (p q : List ℕ) (n : ℕ) → slot_count p ≡ n → slot_count q ≡ n → ((i : ℕ) → i < n → place_in q i ≡ place_in p i) → low q ≡ low p
-low_same p q zero e f h = ap (λ (k : ℕ). cond (k == 0) 4096 (place_in q (k - 1))) f ∙ sym (ap (λ (k : ℕ). cond (k == 0) 4096 (place_in p (k - 1))) e)
+low_same : (p q : List ℕ) (n : ℕ) → slot_count p ≡ n → slot_count q ≡ n → ((i : ℕ) → i < n → slot_start q i ≡ slot_start p i) → low q ≡ low p
+low_same p q zero e f h = ap (λ (k : ℕ). cond (k == 0) 4096 (slot_start q (k - 1))) f ∙ sym (ap (λ (k : ℕ). cond (k == 0) 4096 (slot_start p (k - 1))) e)
 low_same p q (suc n) e f h = low_is q n f ∙ (h n (omega arith) ∙ sym (low_is p n e))
 
 -- what the four writes of a new tuple leave
@@ -64,10 +64,10 @@ pub record Made (p q bytes : List ℕ) (slot place : ℕ) : Type 0 where
   pub size : length q ≡ 4096
   pub kind : get_or q 0 0 ≡ get_or p 0 0
   pub count : half_of (piece 2 2 q) ≡ slot + 1
-  pub place_is : place_in q slot ≡ place
+  pub place_is : slot_start q slot ≡ place
   pub length_is : length_in q slot ≡ length bytes
   pub here : piece (length bytes) place q ≡ bytes
-  pub places : (i : ℕ) → i < slot → place_in q i ≡ place_in p i
+  pub places : (i : ℕ) → i < slot → slot_start q i ≡ slot_start p i
   pub lengths : (i : ℕ) → i < slot → length_in q i ≡ length_in p i
   pub above : (w a : ℕ) → place + length bytes ≤ a → piece w a q ≡ piece w a p
 
@@ -107,8 +107,8 @@ made p q r s t bytes slot place lp h h1 h2 eq er es et =
     }
 
 -- tuples of two pages with one place, one length and one piece
-tuple_same : (p q : List ℕ) (i : ℕ) → i < slot_count p → i < slot_count q → place_in q i ≡ place_in p i → length_in q i ≡ length_in p i
-    → piece (length_in p i) (place_in p i) q ≡ piece (length_in p i) (place_in p i) p → tuple_at q i ≡ tuple_at p i
+tuple_same : (p q : List ℕ) (i : ℕ) → i < slot_count p → i < slot_count q → slot_start q i ≡ slot_start p i → length_in q i ≡ length_in p i
+    → piece (length_in p i) (slot_start p i) q ≡ piece (length_in p i) (slot_start p i) p → tuple_at q i ≡ tuple_at p i
 tuple_same p q i hp hq place length_same same =
     tuple_in q i hq ∙ (ap₂ (λ (w a : ℕ). piece w a q) length_same place ∙ (same ∙ sym (tuple_in p i hp)))
 
@@ -128,7 +128,7 @@ added p q bytes slot place es ep room m h =
           | inl x ↦ let w = h.within i (omega (arith, x.1)) in let a = m.places i x.1 in let b = m.lengths i x.1 in (omega (arith, lowest, w.0, a), omega (arith, w.1, a, b))
           | inr x ↦
               let e : i ≡ slot = omega (arith, x.1, count) in
-              let a : place_in q i ≡ place = ap (λ (k : ℕ). place_in q k) e ∙ m.place_is in
+              let a : slot_start q i ≡ place = ap (λ (k : ℕ). slot_start q k) e ∙ m.place_is in
               let b : length_in q i ≡ length bytes = ap (λ (k : ℕ). length_in q k) e ∙ m.length_is in
               (omega (arith, lowest, a), omega (arith, a, b, h.top))
         ];
@@ -138,7 +138,7 @@ added p q bytes slot place es ep room m h =
       was = tuple_out p slot (omega (arith, es));
       others = λ i n. elim (leb_tells (suc i) slot) [
         | inl x ↦ tuple_same p q i (omega (arith, x.1)) (omega (arith, count, x.1)) (m.places i x.1) (m.lengths i x.1)
-            (m.above (length_in p i) (place_in p i) (omega (arith, (h.within i (omega (arith, x.1))).0)))
+            (m.above (length_in p i) (slot_start p i) (omega (arith, (h.within i (omega (arith, x.1))).0)))
         | inr x ↦ let far : suc slot ≤ i = omega (arith, x.1, n) in tuple_out q i (omega (arith, count)) ∙ sym (tuple_out p i (omega arith))
       ];
       has = record { there = omega (arith, count); start_is = m.place_is; length_is = m.length_is };
@@ -156,7 +156,7 @@ cleared p q slot from l ef ep h =
     let fits : at + length b ≤ 4096 = omega (arith, n) in
     let size = long p q at b e h.size fits in
     let count : slot_count q ≡ slot_count p = ap (λ (k : ℕ). min k 1022) (half_apart 2 p q at b e h.size fits (inl (omega arith))) in
-    let places : (i : ℕ) → place_in q i ≡ place_in p i =
+    let places : (i : ℕ) → slot_start q i ≡ slot_start p i =
     λ i. half_apart (8 + 4 * i) p q at b e h.size fits (elim (leb_tells i slot) [ inl x ↦ inl (omega (arith, x.1)) | inr x ↦ inr (omega (arith, x.1, n)) ]) in
     let lengths : (i : ℕ) → i ≢ slot → length_in q i ≡ length_in p i =
     λ i d. half_apart (10 + 4 * i) p q at b e h.size fits (elim (leb_tells i slot) [ inl x ↦ inl (omega (arith, x.1, d)) | inr x ↦ inr (omega (arith, x.1, n)) ]) in
@@ -174,10 +174,10 @@ cleared p q slot from l ef ep h =
             let shorter : length_in q i ≤ length_in p i = elim (eqb_tells i slot) [ inl y ↦ omega (arith, gone, ap (λ (k : ℕ). length_in q k) y.1) | inr y ↦ omega (arith, lengths i y.1) ] in
             (omega (arith, lowest, w.0, places i), omega (arith, w.1, places i, shorter));
       };
-      here = tuple_in q slot (omega (arith, count)) ∙ ap (λ (k : ℕ). piece k (place_in q slot) q) gone;
+      here = tuple_in q slot (omega (arith, count)) ∙ ap (λ (k : ℕ). piece k (slot_start q slot) q) gone;
       others = λ i d. elim (leb_tells (suc i) (slot_count p)) [
         | inl x ↦ tuple_same p q i x.1 (omega (arith, count, x.1)) (places i) (lengths i d)
-            (apart (length_in p i) (place_in p i) p q at b e h.size fits (inr (omega (arith, (h.within i x.1).0, table, n))))
+            (apart (length_in p i) (slot_start p i) p q at b e h.size fits (inr (omega (arith, (h.within i x.1).0, table, n))))
         | inr x ↦ tuple_out q i (omega (arith, count, x.1)) ∙ sym (tuple_out p i (omega (arith, x.1)))
       ];
       stays = λ i at many d has. record { there = omega (arith, has.there, count); start_is = places i ∙ has.start_is; length_is = lengths i d ∙ has.length_is };
@@ -189,7 +189,7 @@ cleared_none p slot l h = record { sound = h; here = tuple_out p slot l; others 
 
 pub bare_by : (p : List ℕ) → ((i : ℕ) → i < slot_count p → length_in p i ≡ 0) → (i : ℕ) → tuple_at p i ≡ []
 bare_by p h i = elim (leb_tells (suc i) (slot_count p)) [
-  | inl x ↦ tuple_in p i x.1 ∙ ap (λ (k : ℕ). piece k (place_in p i) p) (h i x.1)
+  | inl x ↦ tuple_in p i x.1 ∙ ap (λ (k : ℕ). piece k (slot_start p i) p) (h i x.1)
   | inr x ↦ tuple_out p i (omega (arith, x.1))
 ]
 
@@ -200,9 +200,9 @@ some_long (x ∷ xs) h = refl
 pub tuple_left : (p : List ℕ) (i : ℕ) → i < slot_count p → length_in p i ≢ 0 → IsTuples p → (k : ℕ) × ((k < 1022) × (some (tuple_at p k) ≡ 1))
 tuple_left p i l n h =
     let w = h.within i l in
-    let size : length (piece (length_in p i) (place_in p i) p) ≡ length_in p i = length-piece (length_in p i) (place_in p i) p (omega (arith, w.1, h.size)) in
+    let size : length (piece (length_in p i) (slot_start p i) p) ≡ length_in p i = length-piece (length_in p i) (slot_start p i) p (omega (arith, w.1, h.size)) in
     let least : 1 ≤ length_in p i = omega (arith, n) in
-    (i, (omega (arith, l), ap (λ (xs : List ℕ). some xs) (tuple_in p i l) ∙ some_long (piece (length_in p i) (place_in p i) p) (omega (arith, size, least))))
+    (i, (omega (arith, l), ap (λ (xs : List ℕ). some xs) (tuple_in p i l) ∙ some_long (piece (length_in p i) (slot_start p i) p) (omega (arith, size, least))))
 
 -- the same with the numbers that the code writes
 pub added_by : (p q r s t bytes : List ℕ) (slot lowest from from' here size count : ℕ) → slot ≡ slot_count p → lowest ≡ low p → HasRoom p (length bytes)
@@ -237,7 +237,7 @@ pub blank_is : (q : List ℕ) → q ≡ pasted (replicate 4096 0) 0 (3 ∷ []) �
 blank_is q e =
     let lz : length zeros ≡ 4096 = length-replicate {A = ℕ} 4096 0 in
     let count : slot_count q ≡ 0 = ap (λ (x : List ℕ). min (half_of (piece 2 2 x)) 1022) e ∙ ap (λ (k : ℕ). min k 1022) zero_count in
-    let lowest : low q ≡ 4096 = ap (λ (k : ℕ). cond (k == 0) 4096 (place_in q (k - 1))) count in
+    let lowest : low q ≡ 4096 = ap (λ (k : ℕ). cond (k == 0) 4096 (slot_start q (k - 1))) count in
     record {
       sound = record {
         size = long zeros q 0 (3 ∷ []) e lz (omega arith);

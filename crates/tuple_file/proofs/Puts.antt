@@ -15,8 +15,8 @@ use Rattle.code_btree.proofs.Frame.{frame}
 use Rattle.tuple_file.specs.declared.file.TupleFile.{TupleFile}
 use Rattle.tuple_file.specs.Page.{IsTuples, HasAt, some, Added}
 use Rattle.tuple_file.specs.Rows.{of_id, with_id}
-use Rattle.tuple_file.specs.File.{bytes_of, page_of, slot_of, tuple_of, tuples, places, homes, file_rows, file_pages, IsHoused, IsFile}
-use Rattle.tuple_file.specs.Calls.{Planted, Put}
+use Rattle.tuple_file.specs.File.{bytes_of, page_of, slot_of, tuple_of, tuples, tuple_places, homes, tuples_of, file_pages, IsHoused, IsFile}
+use Rattle.tuple_file.specs.Calls.{FilePlanted, Put}
 use Rattle.tuple_file.specs.Spans.{Lies}
 use Rattle.tuple_file.specs.Steps.{Settled}
 use Rattle.tuple_file.proofs.Counts.{times-up, times-put, page_back, slot_back, place_is, some_same, none_some}
@@ -31,10 +31,10 @@ record Placed (m w : Store) (es : List Pair) (n slot v : ℕ) (bytes : List ℕ)
   home : (q : ℕ) → 1 ≤ times q (homes es) → same q n ≡ 0 → w q ≡ m q
   start : ℕ
   added : Added (bytes_of (m n)) (bytes_of (w n)) bytes slot start
-  all : (y : ℕ) → page_of y ≡ n → times y (places es) ≡ some (tuple_of m y)
+  all : (y : ℕ) → page_of y ≡ n → times y (tuple_places es) ≡ some (tuple_of m y)
 
 -- the place had no tuple, so no id led there
-unled : (m w : Store) (es : List Pair) (n slot v : ℕ) (bytes : List ℕ) → Placed m w es n slot v bytes → times v (places es) ≡ 0
+unled : (m w : Store) (es : List Pair) (n slot v : ℕ) (bytes : List ℕ) → Placed m w es n slot v bytes → times v (tuple_places es) ≡ 0
 unled m w es n slot v bytes p = p.all v p.page_is ∙ ap (λ (b : List ℕ). some b) (tuple_here m v n slot p.page_is p.slot_is ∙ p.added.was)
 
 -- another place of the page
@@ -52,17 +52,17 @@ pub apart_pages : (y v n : ℕ) → page_of v ≡ n → same (page_of y) n ≡ 0
 apart_pages y v n s d = elim (same_cases y v) [ inl i ↦ absurd (omega (arith, d, same_self n, ap (λ (k : ℕ). same k n) (ap (λ (k : ℕ). page_of k) i.1 ∙ s))) | inr i ↦ i.0 ]
 
 -- the tuples to which ids led stay
-tuples_stay : (m w : Store) (es : List Pair) (n slot v : ℕ) (bytes : List ℕ) → Placed m w es n slot v bytes → (y : ℕ) → 1 ≤ times y (places es) → tuple_of w y ≡ tuple_of m y
+tuples_stay : (m w : Store) (es : List Pair) (n slot v : ℕ) (bytes : List ℕ) → Placed m w es n slot v bytes → (y : ℕ) → 1 ≤ times y (tuple_places es) → tuple_of w y ≡ tuple_of m y
 tuples_stay m w es n slot v bytes p y l = elim (same_cases (page_of y) n) [
   | inl j ↦ elim (eqb_tells (slot_of y) slot) [
-    | inl z ↦ absurd (omega (arith, l, unled m w es n slot v bytes p, ap (λ (k : ℕ). times k (places es)) (one_place y v n slot j.1 z.1 p.page_is p.slot_is)))
+    | inl z ↦ absurd (omega (arith, l, unled m w es n slot v bytes p, ap (λ (k : ℕ). times k (tuple_places es)) (one_place y v n slot j.1 z.1 p.page_is p.slot_is)))
     | inr z ↦ other_place m w es n slot v bytes p y j.1 z.1
   ]
   | inr j ↦ tuple_same m w y (p.home (page_of y) (omega (arith, l, times-up y es)) j.0)
 ]
 
 houses_put : (m w : Store) (es fs : List Pair) (n slot v : ℕ) (bytes : List ℕ) → IsHoused m es → Placed m w es n slot v bytes → 1 ≤ length bytes
-    → ((q : ℕ) → times q (homes fs) ≡ same q n + times q (homes es)) → ((y : ℕ) → times y (places fs) ≡ same y v + times y (places es)) → IsHoused w fs
+    → ((q : ℕ) → times q (homes fs) ≡ same q n + times q (homes es)) → ((y : ℕ) → times y (tuple_places fs) ≡ same y v + times y (tuple_places es)) → IsHoused w fs
 houses_put m w es fs n slot v bytes h p size hc pc = record {
   sound = λ q l.
       let P : Option (List ℕ) → Type 0 = λ o. IsTuples (bytes_of o) in
@@ -76,7 +76,7 @@ houses_put m w es fs n slot v bytes h p size hc pc = record {
       | inl z ↦
           let e : y ≡ v = one_place y v n slot j.1 z.1 p.page_is p.slot_is in
           let one : some (tuple_of w y) ≡ 1 = ap (λ (b : List ℕ). some b) (tuple_here w y n slot j.1 z.1 ∙ p.added.here) ∙ some_of bytes size in
-          omega (arith, one, pc y, same_self v, ap (λ (k : ℕ). same k v) e, unled m w es n slot v bytes p, ap (λ (k : ℕ). times k (places es)) e)
+          omega (arith, one, pc y, same_self v, ap (λ (k : ℕ). same k v) e, unled m w es n slot v bytes p, ap (λ (k : ℕ). times k (tuple_places es)) e)
       | inr z ↦ omega (arith, pc y, apart_slots y v slot p.slot_is z.1, p.all y j.1, ap (λ (b : List ℕ). some b) (other_place m w es n slot v bytes p y j.1 z.1))
     ]
     | inr j ↦
@@ -117,7 +117,7 @@ find_above k (e ∷ es) zs = elim (leb_tells (suc e.0) k) [
 find_put : (k v : ℕ) (es : List Pair) → find_item k (put_item k v es) ≡ Some v
 find_put k v es = find_above k es ((k, v) ∷ items_above k es) ∙ ap (λ (b : Bool). cond b (Some v) (find_item k (items_above k es))) (eq_is k k refl)
 
-pub put_done : (m x w : Store) (f : TupleFile) (u : Tree) (id n slot start v : ℕ) (bytes : List ℕ) (was : Option ℕ) → IsFile m f → of_id id (file_rows m f) ≡ None → 1 ≤ length bytes
+pub put_done : (m x w : Store) (f : TupleFile) (u : Tree) (id n slot start v : ℕ) (bytes : List ℕ) (was : Option ℕ) → IsFile m f → of_id id (tuples_of m f) ≡ None → 1 ≤ length bytes
     → Settled m x f.newest n slot start bytes → v ≡ n * 65536 + slot → Inserted x w f.tree u id v was → Put m w f (record { tree = u; newest = Some n }) id bytes
 put_done m x w f u id n slot start v bytes was file fresh size s ev i =
     let es : List Pair = tree_items m f.tree in
@@ -133,7 +133,7 @@ put_done m x w f u id n slot start v bytes was file fresh size s ev i =
     let slot_is : slot_of v ≡ slot = ap (λ (k : ℕ). slot_of k) ev ∙ slot_back n slot small in
     let hc : (q : ℕ) → times q (homes fs) ≡ same q n + times q (homes es) = λ q. ap (λ (xs : List Pair). times q (homes xs)) items
     ∙ (times-put (λ e. page_of e.1) q id v es none ∙ ap (λ (k : ℕ). same q k + times q (homes es)) page_is) in
-    let pc : (y : ℕ) → times y (places fs) ≡ same y v + times y (places es) = λ y. ap (λ (xs : List Pair). times y (places xs)) items ∙ times-put (λ e. e.1) y id v es none in
+    let pc : (y : ℕ) → times y (tuple_places fs) ≡ same y v + times y (tuple_places es) = λ y. ap (λ (xs : List Pair). times y (tuple_places xs)) items ∙ times-put (λ e. e.1) y id v es none in
     let tp : (q : ℕ) → times q (tree_pages x f.tree) ≡ times q ts = λ q. ap (λ (ps : List ℕ). times q ps) t.pages in
     let wn : w n ≡ x n = i.keeps.others n s.is_live (tp n ∙ gr.apart) in
     let A : Option (List ℕ) → Type 0 = λ o. Added (bytes_of (m n)) (bytes_of o) bytes slot start in
@@ -211,7 +211,7 @@ put_lies m x w f u id n slot start count v bytes was file ec s ev i =
     }
 
 -- a file of no tuples is its tree alone
-pub planted : (m w : Store) (u : Tree) → tree.Planted m w u → Planted m w (record { tree = u; newest = None })
+pub planted : (m w : Store) (u : Tree) → tree.Planted m w u → FilePlanted m w (record { tree = u; newest = None })
 planted m w u h =
     let g : TupleFile = record { tree = u; newest = None } in
     let c : (q : ℕ) → times q (file_pages w g) ≡ times q (tree_pages w u) = λ q. omega (arith, pages_count w g q, ap (λ (xs : List Pair). times q (homes xs)) h.items) in

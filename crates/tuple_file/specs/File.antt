@@ -23,8 +23,8 @@ abbrev pub tuple_of : Store → ℕ → List ℕ
 tuple_of m place = tuple_at (bytes_of (m (page_of place))) (slot_of place)
 
 -- the places to which the pairs of a tree lead, and the pages of these
-abbrev pub places : List Pair → List ℕ
-places es = map (λ e. e.1) es
+abbrev pub tuple_places : List Pair → List ℕ
+tuple_places es = map (λ e. e.1) es
 
 -- the pages of the places to which entries lead
 abbrev pub homes : List Pair → List ℕ
@@ -45,8 +45,8 @@ abbrev pub tuples : Store → List Pair → List (ℕ × List ℕ)
 tuples m es = map (λ e. (e.0, tuple_of m e.1)) es
 
 -- a file's list of (id, bytes)
-abbrev pub file_rows : Store → TupleFile → List (ℕ × List ℕ)
-file_rows m f = tuples m (tree_items m f.tree)
+abbrev pub tuples_of : Store → TupleFile → List (ℕ × List ℕ)
+tuples_of m f = tuples m (tree_items m f.tree)
 
 -- a file's pages: those of its tree, and those to which an id leads, each once
 abbrev pub file_pages : Store → TupleFile → List ℕ
@@ -55,7 +55,7 @@ file_pages m f = tree_pages m f.tree ++ once (homes (tree_items m f.tree))
 -- Every page to which an id leads is a page of tuples, and each of its tuples has one id: none is lost or shared.
 pub record IsHoused (m : Store) (es : List Pair) : Type 0 where
   pub sound : (q : ℕ) → 1 ≤ times q (homes es) → IsTuples (bytes_of (m q))
-  pub led : (place : ℕ) → 1 ≤ times (page_of place) (homes es) → times place (places es) ≡ some (tuple_of m place)
+  pub led : (place : ℕ) → 1 ≤ times (page_of place) (homes es) → times place (tuple_places es) ≡ some (tuple_of m place)
 
 -- The tree leads from ids to places. Each page of the file is live and stands there once. The newest page is one of tuples.
 pub record IsFile (m : Store) (f : TupleFile) : Type 0 where

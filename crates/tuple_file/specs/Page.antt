@@ -7,8 +7,8 @@ abbrev pub slot_count : List ℕ → ℕ
 slot_count page = min (half_of (piece 2 2 page)) 1022
 
 -- where the tuple of slot i begins
-abbrev pub place_in : List ℕ → ℕ → ℕ
-place_in page i = half_of (piece 2 (8 + 4 * i) page)
+abbrev pub slot_start : List ℕ → ℕ → ℕ
+slot_start page i = half_of (piece 2 (8 + 4 * i) page)
 
 -- how many bytes the tuple of slot i has: 0 where it was taken
 abbrev pub length_in : List ℕ → ℕ → ℕ
@@ -16,11 +16,11 @@ length_in page i = half_of (piece 2 (10 + 4 * i) page)
 
 -- the tuple of slot i: no bytes where it was taken, or where there is no such slot
 unfoldable pub tuple_at : List ℕ → ℕ → List ℕ
-tuple_at page i = cond (nat_lt i (slot_count page)) (piece (length_in page i) (place_in page i) page) []
+tuple_at page i = cond (nat_lt i (slot_count page)) (piece (length_in page i) (slot_start page i) page) []
 
 -- where the tuples begin: the newest slot's lies lowest
 abbrev pub low : List ℕ → ℕ
-low page = cond (slot_count page == 0) 4096 (place_in page (slot_count page - 1))
+low page = cond (slot_count page == 0) 4096 (slot_start page (slot_count page - 1))
 
 -- A page of tuples: byte 0 is 3, the table of slots ends below the tuples, and each of these lies within the page.
 pub record IsTuples (page : List ℕ) : Type 0 where
@@ -28,7 +28,7 @@ pub record IsTuples (page : List ℕ) : Type 0 where
   pub kind : get_or page 0 0 ≡ 3
   pub table : 8 + 4 * slot_count page ≤ low page
   pub top : low page ≤ 4096
-  pub within : (i : ℕ) → i < slot_count page → (low page ≤ place_in page i) × (place_in page i + length_in page i ≤ 4096)
+  pub within : (i : ℕ) → i < slot_count page → (low page ≤ slot_start page i) × (slot_start page i + length_in page i ≤ 4096)
 
 -- there is room for one slot more and a tuple of n bytes
 abbrev pub HasRoom : List ℕ → ℕ → Type 0
@@ -42,7 +42,7 @@ some (b ∷ bs) = 1
 -- the page has slot i, and its tuple begins there and is so long
 pub record HasAt (page : List ℕ) (i start count : ℕ) : Type 0 where
   pub there : i < slot_count page
-  pub start_is : place_in page i ≡ start
+  pub start_is : slot_start page i ≡ start
   pub length_is : length_in page i ≡ count
 
 -- the tuple is in a slot that had none, from the place on, and every other slot is as it was

@@ -15,5 +15,5 @@ abbrev pub without_id : {A : Type 0} → ℕ → List (ℕ × A) → List (ℕ �
 without_id id rows = filter (λ r. not (nat_eq r.0 id)) rows
 
 -- the least id not below this one
-abbrev pub least_from : {A : Type 0} → ℕ → List (ℕ × A) → Option ℕ
-least_from from rows = option_map (λ r. r.0) (find (λ r. nat_le from r.0) rows)
+abbrev pub least_id_from : {A : Type 0} → ℕ → List (ℕ × A) → Option ℕ
+least_id_from from rows = option_map (λ r. r.0) (find (λ r. nat_le from r.0) rows)

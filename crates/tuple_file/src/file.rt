@@ -5,9 +5,9 @@ ghost use Rattle.page_pool.specs.Causes.{HasPageCause};
 ghost use Rattle.page_pool.specs.Steps.{InCommand};
 ghost use Rattle.code_btree.specs.Tree.{pages_in};
 ghost use Rattle.code_btree.specs.Calls.{Looks};
-ghost use Rattle.tuple_file.specs.Rows.{of_id, least_from};
-ghost use Rattle.tuple_file.specs.File.{IsFile, file_rows};
-ghost use Rattle.tuple_file.specs.Calls.{Planted, Put, Taken, IsRowAt, IsValueAt};
+ghost use Rattle.tuple_file.specs.Rows.{of_id, least_id_from};
+ghost use Rattle.tuple_file.specs.File.{IsFile, tuples_of};
+ghost use Rattle.tuple_file.specs.Calls.{FilePlanted, Put, TupleTaken, IsRowAt, IsValueAt};
 ghost use Rattle.tuple_file.specs.Spans.{AreKnown, Lies};
 
 use crate::place::{place_of, spot_of};
@@ -32,7 +32,7 @@ impl TupleFile {
     /// The empty list.
     pub fn plant<D: Disk>(pool: &mut Pool<D>) -> Result<TupleFile, PageFault>
         requires { IsOpen pool.old }
-        ensures value { IfOk result (λ file. IsTold pool.old → Planted (pages_in pool.old) (pages_in pool.new) file) }
+        ensures value { IfOk result (λ file. IsTold pool.old → FilePlanted (pages_in pool.old) (pages_in pool.new) file) }
         ensures within { InCommand pool.old pool.new }
         ensures cause { HasPageCause pool.old pool.new result }
     {
@@ -52,7 +52,7 @@ impl TupleFile {
         requires some { 1 ≤ length bytes.now }
         requires short { length bytes.now ≤ 3900 }
         requires file { IsTold pool.old → IsFile (pages_in pool.old) self.old }
-        requires fresh { IsTold pool.old → of_id id (file_rows (pages_in pool.old) self.old) ≡ None }
+        requires fresh { IsTold pool.old → of_id id (tuples_of (pages_in pool.old) self.old) ≡ None }
         ensures value { OnOk result (IsTold pool.old → Put (pages_in pool.old) (pages_in pool.new) self.old self.new id bytes.now) }
         ensures unchanged { OnErr result (self.new ≡ self.old) }
         ensures within { InCommand pool.old pool.new }
@@ -73,7 +73,7 @@ impl TupleFile {
         requires some { 1 ≤ length bytes.now }
         requires short { length bytes.now ≤ 3900 }
         requires file { IsTold pool.old → IsFile (pages_in pool.old) self.old }
-        requires fresh { IsTold pool.old → of_id id (file_rows (pages_in pool.old) self.old) ≡ None }
+        requires fresh { IsTold pool.old → of_id id (tuples_of (pages_in pool.old) self.old) ≡ None }
         ensures value { OnOk result (IsTold pool.old → Put (pages_in pool.old) (pages_in pool.new) self.old self.new id bytes.now) }
         ensures placed { IfOk result (λ span. IsTold pool.old → Lies (pages_in pool.new) self.new id span) }
         ensures unchanged { OnErr result (self.new ≡ self.old) }
@@ -99,7 +99,7 @@ impl TupleFile {
     pub fn take<D: Disk>(&mut self, pool: &mut Pool<D>, id: u32) -> Result<bool, PageFault>
         requires opened { IsOpen pool.old }
         requires file { IsTold pool.old → IsFile (pages_in pool.old) self.old }
-        ensures value { IfOk result (λ was. IsTold pool.old → Taken (pages_in pool.old) (pages_in pool.new) self.old self.new id was) }
+        ensures value { IfOk result (λ was. IsTold pool.old → TupleTaken (pages_in pool.old) (pages_in pool.new) self.old self.new id was) }
         ensures unchanged { OnErr result (self.new ≡ self.old) }
         ensures within { InCommand pool.old pool.new }
         ensures cause { HasPageCause pool.old pool.new result }
@@ -133,7 +133,7 @@ impl TupleFile {
         id: u32,
     ) -> Result<Option<Row>, PageFault>
         requires { IsTold (P.shown pages.old) → IsFile (pages_in (P.shown pages.old)) self.now }
-        ensures value { IfOk result (λ row. IsTold (P.shown pages.old) → IsRowAt schema.now (file_rows (pages_in (P.shown pages.old)) self.now) id row) }
+        ensures value { IfOk result (λ row. IsTold (P.shown pages.old) → IsRowAt schema.now (tuples_of (pages_in (P.shown pages.old)) self.now) id row) }
         ensures looks { Looks (P.shown pages.old) (P.shown pages.new) (self.now.tree.height + 1) result }
     {
         let Some(place) = self.tree.get(pages, u128::from(id))? else {
@@ -157,7 +157,7 @@ impl TupleFile {
         column: usize,
     ) -> Result<Option<Value>, PageFault>
         requires { IsTold (P.shown pages.old) → IsFile (pages_in (P.shown pages.old)) self.now }
-        ensures value { IfOk result (λ value. IsTold (P.shown pages.old) → IsValueAt schema.now (file_rows (pages_in (P.shown pages.old)) self.now) id column value) }
+        ensures value { IfOk result (λ value. IsTold (P.shown pages.old) → IsValueAt schema.now (tuples_of (pages_in (P.shown pages.old)) self.now) id column value) }
         ensures in_range { IfOk result (λ value. IfSome value IsValueInRange) }
         ensures looks { Looks (P.shown pages.old) (P.shown pages.new) (self.now.tree.height + 1) result }
     {
@@ -183,7 +183,7 @@ impl TupleFile {
     ) -> Result<Option<Value>, PageFault>
         requires file { IsTold (P.shown pages.old) → IsFile (pages_in (P.shown pages.old)) self.now }
         requires known { IsTold (P.shown pages.old) → AreKnown (pages_in (P.shown pages.old)) self.now spans.now }
-        ensures value { IfOk result (λ value. IsTold (P.shown pages.old) → IsValueAt schema.now (file_rows (pages_in (P.shown pages.old)) self.now) id column value) }
+        ensures value { IfOk result (λ value. IsTold (P.shown pages.old) → IsValueAt schema.now (tuples_of (pages_in (P.shown pages.old)) self.now) id column value) }
         ensures in_range { IfOk result (λ value. IfSome value IsValueInRange) }
         ensures looks { Looks (P.shown pages.old) (P.shown pages.new) (self.now.tree.height + 1) result }
     {
@@ -196,7 +196,7 @@ impl TupleFile {
     /// The least id not below this one.
     pub fn scan<P: Pages>(&self, pages: &mut P, from: u32) -> Result<Option<u32>, PageFault>
         requires { IsTold (P.shown pages.old) → IsFile (pages_in (P.shown pages.old)) self.now }
-        ensures value { IfOk result (λ id. IsTold (P.shown pages.old) → id ≡ least_from from (file_rows (pages_in (P.shown pages.old)) self.now)) }
+        ensures value { IfOk result (λ id. IsTold (P.shown pages.old) → id ≡ least_id_from from (tuples_of (pages_in (P.shown pages.old)) self.now)) }
         ensures rises { IfOk result (λ id. IfSome id (λ id. from ≤ id)) }
         ensures looks { Looks (P.shown pages.old) (P.shown pages.new) (self.now.tree.height + 1) result }
     {

@@ -1,7 +1,7 @@
 // A slotted page: a table of slots that grows upwards, and tuples that grow from the page's end downwards.
 ghost use Rattle.std.specs.Prelude.{◌≡◌, ℕ, ◌+◌, ◌*◌, ◌≤◌, ◌<◌, ◌↔◌, false, IsTrue, [], length};
 ghost use Rattle.code_btree.specs.Bytes.{piece, half_of, half_bytes, pasted};
-ghost use Rattle.tuple_file.specs.Page.{slot_count, place_in, length_in, tuple_at, low, some, HasRoom, IsTuples, Added, Cleared, IsBlank};
+ghost use Rattle.tuple_file.specs.Page.{slot_count, slot_start, length_in, tuple_at, low, some, HasRoom, IsTuples, Added, Cleared, IsBlank};
 
 /// The bytes of a page.
 pub type Page = [u8; 4096];
@@ -51,7 +51,7 @@ fn count_of(page: &Page) -> u16
 // Where the tuple of a slot begins.
 fn place_at(page: &Page, slot: u16) -> u16
     requires { slot < 1022 }
-    ensures { result ≡ place_in page.now slot }
+    ensures { result ≡ slot_start page.now slot }
 {
     half_at(page, 8 + 4 * usize::from(slot))
 }

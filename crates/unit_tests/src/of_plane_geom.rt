@@ -1,19 +1,15 @@
+// Gaps of points, segments and rectangles, worked out by hand.
 ghost use Rattle.std.specs.Prelude.{IsTrue};
-ghost use Rattle.sand_base.specs.Plane.{IsInClosedPlane, IsRectInClosedPlane, IsSegmentInClosedPlane};
+ghost use Rattle.sand_base.specs.Plane.{IsRectInClosedPlane, IsSegmentInClosedPlane};
 
+use crate::closed_plane::{REACH, at, in_closed_plane};
 use exact_frac::Frac;
 use plane_geom::{
     gap_point_rect, gap_point_segment, gap_points, gap_rects, gap_segment_rect, gap_segments,
     on_segment,
 };
-use sand_base::{COORDINATE_BITS, Point, Rect, Segment};
+use sand_base::{Point, Rect, Segment};
 use std::process::Abort;
-
-const WIDTH: u32 = 1 << COORDINATE_BITS;
-
-fn at([x, y]: [u32; 2]) -> Point {
-    Point { x, y }
-}
 
 fn way([ax, ay, bx, by]: [u32; 4]) -> Segment {
     Segment {
@@ -27,12 +23,6 @@ fn area([low_x, low_y, high_x, high_y]: [u32; 4]) -> Rect {
         low: at([low_x, low_y]),
         high: at([high_x, high_y]),
     }
-}
-
-fn in_closed_plane(p: Point) -> bool
-    ensures { IsTrue result → IsInClosedPlane p }
-{
-    p.x <= WIDTH && p.y <= WIDTH
 }
 
 fn segment_in_closed_plane(s: Segment) -> bool
@@ -107,8 +97,8 @@ static POINTS: [(&str, [u32; 2], [u32; 2], u128); 7] = [
     ("three and four", [0, 0], [3, 4], 25),
     ("the same way back", [3, 4], [0, 0], 25),
     ("down to the right", [0, 4], [3, 0], 25),
-    ("one border", [0, 0], [WIDTH, 0], 1_099_511_627_776),
-    ("across", [0, WIDTH], [WIDTH, 0], 2_199_023_255_552),
+    ("one border", [0, 0], [REACH, 0], 1_099_511_627_776),
+    ("across", [0, REACH], [REACH, 0], 2_199_023_255_552),
 ];
 
 // The points of each case have this squared distance.
@@ -135,11 +125,11 @@ static POINTS_AND_SEGMENTS: [(&str, [u32; 2], [u32; 4], (u128, u128), bool); 13]
     ("on the line", [6, 1], [1, 1, 5, 1], (1, 1), false),
     ("over a slope", [0, 2], [0, 0, 2, 2], (2, 1), false),
     ("a fifth away", [0, 1], [0, 0, 1, 2], (1, 5), false),
-    ("a diagonal", [1, 1], [0, 0, WIDTH, WIDTH], (0, 1), true),
+    ("a diagonal", [1, 1], [0, 0, REACH, REACH], (0, 1), true),
     (
         "the far corner",
-        [0, WIDTH],
-        [0, 0, WIDTH, WIDTH],
+        [0, REACH],
+        [0, 0, REACH, REACH],
         (549_755_813_888, 1),
         false,
     ),
@@ -169,8 +159,8 @@ static SEGMENTS: [(&str, [u32; 4], [u32; 4], (u128, u128)); 16] = [
     ("turned round", [4, 0, 0, 4], [4, 4, 0, 0], (0, 1)),
     (
         "diagonals",
-        [0, 0, WIDTH, WIDTH],
-        [0, WIDTH, WIDTH, 0],
+        [0, 0, REACH, REACH],
+        [0, REACH, REACH, 0],
         (0, 1),
     ),
     ("end on end", [0, 0, 2, 2], [2, 2, 5, 1], (0, 1)),
@@ -186,13 +176,13 @@ static SEGMENTS: [(&str, [u32; 4], [u32; 4], (u128, u128)); 16] = [
     ("beside a slope", [0, 0, 4, 4], [3, 2, 6, 0], (1, 2)),
     (
         "two borders",
-        [0, 0, 0, WIDTH],
-        [WIDTH, 0, WIDTH, WIDTH],
+        [0, 0, 0, REACH],
+        [REACH, 0, REACH, REACH],
         (1_099_511_627_776, 1),
     ),
     (
         "nearly met",
-        [0, 0, WIDTH, WIDTH - 1],
+        [0, 0, REACH, REACH - 1],
         [1, 1, 1, 1],
         (1, 2_199_021_158_401),
     ),
@@ -221,7 +211,7 @@ static POINTS_AND_RECTANGLES: [(&str, [u32; 2], [u32; 4], u128); 8] = [
     (
         "across",
         [0, 0],
-        [WIDTH, WIDTH, WIDTH, WIDTH],
+        [REACH, REACH, REACH, REACH],
         2_199_023_255_552,
     ),
 ];
@@ -283,7 +273,7 @@ static RECTANGLES: [(&str, [u32; 4], [u32; 4], u128); 6] = [
     (
         "borders",
         [0, 0, 0, 9],
-        [WIDTH, 0, WIDTH, 9],
+        [REACH, 0, REACH, 9],
         1_099_511_627_776,
     ),
 ];

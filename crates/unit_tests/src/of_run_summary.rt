@@ -1,7 +1,7 @@
 // The summaries of two texts: one of three letters, whose digest is that of the standard, and one with refused lines.
-use run_summary::{DigestSink, TallySink};
 use sand_base::Sink;
 use std::test::Fail;
+use work_gen::{DigestSink, TallySink};
 
 const SUMMARY: &str =
     "lines 2210\nrefused 0\nbytes 3\nsha256 ba7816bf8f01cfea414140de5dae2223b00361a396177a9cb410ff61f20015ad\n";

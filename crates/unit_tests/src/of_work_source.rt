@@ -1,7 +1,7 @@
 // That the bytes of a workload come in order, however few of them are asked for at a time.
 use sand_base::Source;
 use std::test::Fail;
-use work_source::{WorkSource, line_count};
+use work_gen::{WorkSource, line_count};
 
 static PIECES: [&str; 6] = ["create ", "p (at p", "oint, p", "op int)", "\n", "create "];
 

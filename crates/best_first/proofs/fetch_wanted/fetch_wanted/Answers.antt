@@ -25,7 +25,8 @@ returns-in_err-exact-clause-moves g c =
 
 pub returns-clause-falls : goal.returns-clause-falls
 returns-clause-falls g c =
-    fetch_falls_for g.H.Node.Ord.cmp (g.W.Wanted.lefts c.args.wanted.now) (g.H.Hierarchy.weight c.args.hierarchy.now) (g.Q.Queue.held c.args.frontier.now.queue) (g.Q.Queue.held c.take_equal.new.queue) (g.Q.Queue.held c.push_wanted.new.queue)
+    fetch_falls_for g.H.Node.Ord.cmp (g.W.Wanted.lefts c.args.wanted.now) (g.H.Hierarchy.weight c.args.hierarchy.now) (g.Q.Queue.held c.args.frontier.now.queue)
+    (g.Q.Queue.held c.take_equal.new.queue) (g.Q.Queue.held c.push_wanted.new.queue)
     c.ceiling.result c.args.gap c.args.left c.args.right (record { gap = c.in_ok-exact.exact; left = c.args.left; right = c.args.right }) c.take_equal.ensures.taken c.push_wanted.ensures
 
 pub returns-clause-moves : goal.returns-clause-moves

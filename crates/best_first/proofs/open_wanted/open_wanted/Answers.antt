@@ -88,7 +88,8 @@ returns-clause-moves g c =
     x replaced.rest found c.ceiling.result c.args.gap front.0 c.args.node c.requires.front front.1 replaced.taken replaced.least replaced.put
     c.ceiling.ensures.value c.saturating_add-frontier.ensures refl c.requires.stands
     (subst (λ l. IfSome pages (λ p. FindsAlike (wanted_of wants ((meaning p).finds c.args.node)) [] l)) (sym c.keep_wanted.ensures)
-    (over_one pages (λ p. FindsAlike ((meaning p).finds c.args.node) [] c.expand_near.new.found.items) (λ p. FindsAlike (wanted_of wants ((meaning p).finds c.args.node)) [] (wanted_of wants c.expand_near.new.found.items))
+    (over_one pages (λ p. FindsAlike ((meaning p).finds c.args.node) [] c.expand_near.new.found.items)
+    (λ p. FindsAlike (wanted_of wants ((meaning p).finds c.args.node)) [] (wanted_of wants c.expand_near.new.found.items))
     (λ p h. finds_wanted wants ((meaning p).finds c.args.node) c.expand_near.new.found.items h)
     (subst (λ l. IfSome pages (λ p. FindsAlike ((meaning p).finds c.args.node) l c.expand_near.new.found.items)) c.clear.ensures.items c.in_ok-expand_near.ensures.found)))
     c.in_ok-expand_near.ensures.visits c.in_ok-expand_near.ensures.gets

@@ -55,7 +55,8 @@ steps-preserved g c =
       faults = e.cause.counted ∙ i.faults;
       last = e.last ∙ i.last;
       falls = omega arith;
-      stands = subst (λ t. IfSome t (λ p. StandsOverFor cmp (meaning p) wants (g.Q.Queue.held n.queue))) (sym later) (stands_over_for o meaning note wants (told_pages c.steps.desk) mid new i.stands moves);
+      stands = subst (λ t. IfSome t (λ p. StandsOverFor cmp (meaning p) wants (g.Q.Queue.held n.queue))) (sym later)
+          (stands_over_for o meaning note wants (told_pages c.steps.desk) mid new i.stands moves);
       near = subst (λ t. IfSome t (λ p. g.H.Hierarchy.IsNear c.args.hierarchy.now p c.step_wanted.new.near)) (sym later) e.near;
       moves = goes_over_for o meaning note wants (told_pages c.args.desk.now) old mid new i.moves (subst (λ t. IfSome t (λ p. GoesFor cmp (meaning p) note wants mid new)) same moves);
     }

@@ -1,7 +1,7 @@
 -- pair by pair, up to the first one behind the range
 use Rattle.std.proofs.Common.{◌≡◌, ℕ, ◌+◌, ◌-◌, ap, refl, arith}
 use Rattle.code_btree.specs.Node.{node_of, next_of, entry_key}
-use Rattle.code_btree.proofs.Betweens.{take_step, takes_inside, takes_on}
+use Rattle.code_btree.proofs.BetweenLeaf.{take_step, takes_inside, takes_on}
 use Rattle.code_btree.proofs.between.take_page.Goals as goal
 
 pub entries-init : goal.entries-init

@@ -1,12 +1,12 @@
 -- the head of a leaf tells its entries, and those before the rank are below the key
 use Rattle.std.proofs.Common.{◌≡◌, ◌∙◌, ℕ, List, sym, subst, arith}
 use Rattle.code_btree.specs.Bytes.{piece, half_of}
-use Rattle.code_btree.specs.Node.{IsLeafOf, count_of}
+use Rattle.code_btree.specs.Node.{IsLeafOf, count_in_page}
 use Rattle.code_btree.proofs.Nodes.{leaf_head, leaf_is_told}
 use Rattle.code_btree.proofs.PageRuns.{rank_from}
 use Rattle.code_btree.proofs.leaf_run.page_run.Goals as goal
 
-headed : (p : List ℕ) (n h : ℕ) → IsLeafOf p (count_of p) → n ≡ h → h ≡ half_of (piece 2 2 p) → IsLeafOf p n
+headed : (p : List ℕ) (n h : ℕ) → IsLeafOf p (count_in_page p) → n ≡ h → h ≡ half_of (piece 2 2 p) → IsLeafOf p n
 headed p n h is e f = let P : ℕ → Type 0 = λ x. IsLeafOf p x in subst P (sym (e ∙ f)) is
 
 pub rank-place-requires : goal.rank-place-requires

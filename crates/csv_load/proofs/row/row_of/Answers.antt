@@ -1,7 +1,7 @@
 -- Which column is bad, or that each has its value.
 use Rattle.std.proofs.Common.{◌≡◌, ◌+◌, length, Some, None, Err, refl, sym, ap, ◌∙◌, arith}
 use Rattle.csv.specs.Records.{fields_of, field_at}
-use Rattle.csv_load.specs.FieldValue.{value_in}
+use Rattle.csv_load.specs.FieldValue.{field_value_in}
 use Rattle.csv_load.proofs.RowByRow.{none-read, more-read, bad-column, surplus-there, whole-there, length-push}
 use Rattle.csv_load.proofs.row.row_of.Goals as goal
 
@@ -16,8 +16,8 @@ columns-init c = record {
 pub columns-preserved : goal.columns-preserved
 columns-preserved c =
     let at : c.len.result ≡ length c.columns.values.items = omega (arith, c.len.ensures, c.columns.values.ok.0) in
-    let is : Some c.in-Some.value ≡ value_in c.columns-item.result.1 (field_at (fields_of c.args.fields.now) (length c.columns.values.items)) =
-    sym c.in-Some.is ∙ c.in_ok-value.ensures ∙ ap (λ n. value_in c.columns-item.result.1 (field_at (fields_of c.args.fields.now) n)) at in
+    let is : Some c.in-Some.value ≡ field_value_in c.columns-item.result.1 (field_at (fields_of c.args.fields.now) (length c.columns.values.items)) =
+    sym c.in-Some.is ∙ c.in_ok-value.ensures ∙ ap (λ n. field_value_in c.columns-item.result.1 (field_at (fields_of c.args.fields.now) n)) at in
     record {
       counted =
           omega (arith, c.columns.invariant.counted, ap length c.in_ok-push.ensures.items, length-push c.columns.values.items c.in-Some.value);
@@ -32,8 +32,8 @@ pub returns-in_default-clause-bad : goal.returns-in_default-clause-bad
 returns-in_default-clause-bad c =
     let at : c.len.result ≡ length c.columns.values.items = omega (arith, c.len.ensures, c.columns.values.ok.0) in
     let again : c.len-in_default.result ≡ length c.columns.values.items = omega (arith, c.len-in_default.ensures, c.columns.values.ok.0) in
-    let is : None ≡ value_in c.columns-item.result.1 (field_at (fields_of c.args.fields.now) (length c.columns.values.items)) =
-    sym c.in_default.is ∙ c.in_ok-value.ensures ∙ ap (λ n. value_in c.columns-item.result.1 (field_at (fields_of c.args.fields.now) n)) at in
+    let is : None ≡ field_value_in c.columns-item.result.1 (field_at (fields_of c.args.fields.now) (length c.columns.values.items)) =
+    sym c.in_default.is ∙ c.in_ok-value.ensures ∙ ap (λ n. field_value_in c.columns-item.result.1 (field_at (fields_of c.args.fields.now) n)) at in
     rw c.bad_after.ensures (
       refl,
       bad-column c.args.columns.now (fields_of c.args.fields.now) c.columns.values.items c.columns.kind-index c.columns-item.result

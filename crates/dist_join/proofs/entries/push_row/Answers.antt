@@ -2,7 +2,7 @@
 use Rattle.std.proofs.Common.{refl, ◌∙◌, arith}
 use Rattle.sand_base.specs.declared.rough.Rough.TheVariants as rough
 use Rattle.rank_cursor.proofs.AlikeLists.{none_added, one_added}
-use Rattle.dist_join.specs.OverPages.{entry_found}
+use Rattle.dist_join.specs.OverPages.{pair_found}
 use Rattle.dist_join.proofs.entries.push_row.Goals as goal
 
 pub rights-init : goal.rights-init
@@ -13,7 +13,7 @@ rights-preserved c =
     let before = c.rights.invariant.len in
     let one = c.push_entry.ensures.len in
     record {
-      added = one_added (entry_found c.args.leaf c.args.left) c.args.rights.now c.rights.right-index (record { id = 0; rough = rough.Point (record { x = 0; y = 0 }) })
+      added = one_added (pair_found c.args.leaf c.args.left) c.args.rights.now c.rights.right-index (record { id = 0; rough = rough.Point (record { x = 0; y = 0 }) })
           c.args.found.now.items c.rights.found.items c.push_entry.new.found.items c.rights-test.true c.rights.invariant.added c.push_entry.ensures.added;
       len = omega arith;
       capacity = c.push_entry.ensures.capacity ∙ c.rights.invariant.capacity;

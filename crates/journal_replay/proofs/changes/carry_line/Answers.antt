@@ -1,11 +1,11 @@
 use Rattle.std.proofs.Common.{List, ℕ, sym, subst}
 use Rattle.sand_journal.specs.ChangeBody.{Line, line_value}
 use Rattle.statements.specs.Statement as model
-use Rattle.sand_store.specs.Calls.{Created, Deleted, Indexed, Treed, IsRefusedBy, is_none, is_missing, is_full}
+use Rattle.sand_store.specs.Calls.{Created, Deleted, Indexed, Treed, IsStatementRefused, is_none, is_missing, is_index_full}
 use Rattle.script_text.specs.InRange.{IsInRange}
 use Rattle.statements.specs.Statement.{Statement, Create, Delete, Index, Rtree}
 use Rattle.journal_replay.specs.LedBy.{LedByOne}
-use Rattle.journal_replay.specs.Declined.{fault_of}
+use Rattle.journal_replay.specs.Declined.{replay_fault}
 use Rattle.journal_replay.specs.Replayed.{IsDeclined}
 use Rattle.journal_replay.proofs.Declined.{passed_on, line_declined}
 use Rattle.journal_replay.proofs.Leading.{led_by_create, led_by_delete, led_by_index, led_by_rtree}
@@ -19,20 +19,21 @@ create-requires g c = (subst IsInRange (create_is c.args.statement c.in-Create.r
 -- a relation that is refused
 pub returns-in_err-create-in-Create-clause-declined : goal.returns-in_err-create-in-Create-clause-declined
 returns-in_err-create-in-Create-clause-declined g c =
-    passed_on c.from_residual.result (fault_of c.in_err-create-in-Create.field-0.0) (IsDeclined c.args.store.now (Line (line_value c.args.statement))) c.from_residual.ensures.1
+    passed_on c.from_residual.result (replay_fault c.in_err-create-in-Create.field-0.0) (IsDeclined c.args.store.now (Line (line_value c.args.statement))) c.from_residual.ensures.1
     (line_declined c.args.store.now c.args.statement (Create c.in-Create.relation c.in-Create.columns)
     (model.Create c.in-Create.relation c.in-Create.columns) is_none c.in_err-create-in-Create.field-0.0
     (create_is c.args.statement c.in-Create.relation c.in-Create.columns c.in-Create.is) (λ setting takes. takes) (λ check. check)
-    (subst (λ (n : List ℕ). IsRefusedBy is_none c.args.store.now (model.Create n c.in-Create.columns) c.in_err-create-in-Create.field-0.0) c.as_str.ensures c.in_err-create-in-Create.ensures.refused))
+    (subst (λ (n : List ℕ). IsStatementRefused is_none c.args.store.now
+    (model.Create n c.in-Create.columns) c.in_err-create-in-Create.field-0.0) c.as_str.ensures c.in_err-create-in-Create.ensures.refused))
 
 -- a removal that is refused
 pub returns-in_err-delete-in-Delete-clause-declined : goal.returns-in_err-delete-in-Delete-clause-declined
 returns-in_err-delete-in-Delete-clause-declined g c =
-    passed_on c.from_residual-in_err-delete-in-Delete.result (fault_of c.in_err-delete-in-Delete.field-0.0)
+    passed_on c.from_residual-in_err-delete-in-Delete.result (replay_fault c.in_err-delete-in-Delete.field-0.0)
     (IsDeclined c.args.store.now (Line (line_value c.args.statement))) c.from_residual-in_err-delete-in-Delete.ensures.1
     (line_declined c.args.store.now c.args.statement (Delete c.in-Delete.relation c.in-Delete.id) (model.Delete c.in-Delete.relation c.in-Delete.id) is_missing c.in_err-delete-in-Delete.field-0.0
     (delete_is c.args.statement c.in-Delete.relation c.in-Delete.id c.in-Delete.is) (λ setting takes. takes) (λ check. check)
-    (subst (λ (n : List ℕ). IsRefusedBy is_missing c.args.store.now
+    (subst (λ (n : List ℕ). IsStatementRefused is_missing c.args.store.now
     (model.Delete n c.in-Delete.id) c.in_err-delete-in-Delete.field-0.0) c.as_str-in-Delete.ensures c.in_err-delete-in-Delete.ensures.refused))
 
 -- a threshold in range is from 1 to 64
@@ -42,14 +43,14 @@ index-requires g c = threshold_fits c.in-Index.threshold (subst IsInRange (index
 -- an index that is refused
 pub returns-in_err-index-in-Index-clause-declined : goal.returns-in_err-index-in-Index-clause-declined
 returns-in_err-index-in-Index-clause-declined g c =
-    passed_on c.from_residual-in_err-index-in-Index.result (fault_of c.in_err-index-in-Index.field-0.0)
+    passed_on c.from_residual-in_err-index-in-Index.result (replay_fault c.in_err-index-in-Index.field-0.0)
     (IsDeclined c.args.store.now (Line (line_value c.args.statement))) c.from_residual-in_err-index-in-Index.ensures.1
     (line_declined c.args.store.now c.args.statement (Index c.in-Index.column c.in-Index.threshold)
-    (model.Index (record { relation = c.in-Index.column.relation; column = c.in-Index.column.column }) c.in-Index.threshold) is_full c.in_err-index-in-Index.field-0.0
+    (model.Index (record { relation = c.in-Index.column.relation; column = c.in-Index.column.column }) c.in-Index.threshold) is_index_full c.in_err-index-in-Index.field-0.0
     (index_is c.args.statement c.in-Index.column c.in-Index.threshold c.in-Index.is) (λ setting takes. takes) (λ check. check)
-    (subst (λ (n : List ℕ). IsRefusedBy is_full c.args.store.now
+    (subst (λ (n : List ℕ). IsStatementRefused is_index_full c.args.store.now
     (model.Index (record { relation = n; column = c.in-Index.column.column }) c.in-Index.threshold) c.in_err-index-in-Index.field-0.0) c.as_str-in-Index.ensures
-    (subst (λ (n : List ℕ). IsRefusedBy is_full c.args.store.now
+    (subst (λ (n : List ℕ). IsStatementRefused is_index_full c.args.store.now
     (model.Index (record { relation = c.as_str-in-Index.result.now; column = n }) c.in-Index.threshold) c.in_err-index-in-Index.field-0.0) c.as_str-in-Index-2.ensures
     c.in_err-index-in-Index.ensures.refused)))
 
@@ -84,13 +85,14 @@ returns-in_default g c = absurd (kept_ones c.args.statement c.requires.kept c.in
 -- an R-tree that is refused
 pub returns-in_err-rtree-in-Rtree-clause-declined : goal.returns-in_err-rtree-in-Rtree-clause-declined
 returns-in_err-rtree-in-Rtree-clause-declined g c =
-    passed_on c.from_residual-in_err-rtree-in-Rtree.result (fault_of c.in_err-rtree-in-Rtree.field-0.0)
+    passed_on c.from_residual-in_err-rtree-in-Rtree.result (replay_fault c.in_err-rtree-in-Rtree.field-0.0)
     (IsDeclined c.args.store.now (Line (line_value c.args.statement))) c.from_residual-in_err-rtree-in-Rtree.ensures.1
     (line_declined c.args.store.now c.args.statement (Rtree c.in-Rtree.column)
     (model.Rtree (record { relation = c.in-Rtree.column.relation; column = c.in-Rtree.column.column })) is_none c.in_err-rtree-in-Rtree.field-0.0
     (rtree_is c.args.statement c.in-Rtree.column c.in-Rtree.is) (λ setting takes. takes) (λ check. check)
-    (subst (λ (n : List ℕ). IsRefusedBy is_none c.args.store.now (model.Rtree (record { relation = n; column = c.in-Rtree.column.column })) c.in_err-rtree-in-Rtree.field-0.0) c.as_str-in-Rtree.ensures
-    (subst (λ (n : List ℕ). IsRefusedBy is_none c.args.store.now
+    (subst (λ (n : List ℕ). IsStatementRefused is_none c.args.store.now
+    (model.Rtree (record { relation = n; column = c.in-Rtree.column.column })) c.in_err-rtree-in-Rtree.field-0.0) c.as_str-in-Rtree.ensures
+    (subst (λ (n : List ℕ). IsStatementRefused is_none c.args.store.now
     (model.Rtree (record { relation = c.as_str-in-Rtree.result.now; column = n })) c.in_err-rtree-in-Rtree.field-0.0) c.as_str-in-Rtree-2.ensures
     c.in_err-rtree-in-Rtree.ensures.refused)))
 

@@ -3,7 +3,7 @@ use Rattle.sand_base.specs.declared.value.Value.{Value}
 use Rattle.sand_journal.specs.ChangeBody.{Rows}
 use Rattle.sand_store.specs.Catalog.{CatalogView}
 use Rattle.journal_replay.specs.EncodedRows.{HasRowsFor}
-use Rattle.journal_replay.specs.Declined.{fault_of}
+use Rattle.journal_replay.specs.Declined.{replay_fault}
 use Rattle.journal_replay.specs.Replayed.{IsDeclined}
 use Rattle.journal_replay.proofs.Declined.{passed_on, row_declined, rows_declined, lacking_declined}
 use Rattle.journal_replay.proofs.Entered.{led_by_rows}
@@ -19,7 +19,7 @@ returns-in_err-rows-clause-declined g c =
 -- a row that the store refuses
 pub returns-in_err-insert-in-Ok-clause-declined : goal.returns-in_err-insert-in-Ok-clause-declined
 returns-in_err-insert-in-Ok-clause-declined g c =
-    passed_on c.from_residual-in_err-insert-in-Ok.result (fault_of c.in_err-insert-in-Ok.field-0.0) (IsDeclined c.args.store.now (Rows c.args.relation.now c.args.encodings.now))
+    passed_on c.from_residual-in_err-insert-in-Ok.result (replay_fault c.in_err-insert-in-Ok.field-0.0) (IsDeclined c.args.store.now (Rows c.args.relation.now c.args.encodings.now))
     c.from_residual-in_err-insert-in-Ok.ensures.1
     (row_declined c.args.store.now c.args.relation.now c.args.encodings.now c.in-Ok.row
     (subst (λ (vs : List (List Value)). HasRowsFor c.args.store.now.catalog c.args.relation.now c.args.encodings.now vs) c.in-Ok.ensures.one
@@ -29,7 +29,7 @@ returns-in_err-insert-in-Ok-clause-declined g c =
 -- rows that the store refuses
 pub returns-in_err-load_rows-in-Err-clause-declined : goal.returns-in_err-load_rows-in-Err-clause-declined
 returns-in_err-load_rows-in-Err-clause-declined g c =
-    passed_on c.from_residual-in_err-load_rows-in-Err.result (fault_of c.in_err-load_rows-in-Err.field-0.0) (IsDeclined c.args.store.now (Rows c.args.relation.now c.args.encodings.now))
+    passed_on c.from_residual-in_err-load_rows-in-Err.result (replay_fault c.in_err-load_rows-in-Err.field-0.0) (IsDeclined c.args.store.now (Rows c.args.relation.now c.args.encodings.now))
     c.from_residual-in_err-load_rows-in-Err.ensures.1
     (rows_declined c.args.store.now c.args.relation.now c.args.encodings.now c.in-Err.rows.items
     (subst (λ (vs : List (List Value)). HasRowsFor c.args.store.now.catalog c.args.relation.now c.args.encodings.now vs) (sym (ap (λ v. v.items) c.in-Err.ensures.others))

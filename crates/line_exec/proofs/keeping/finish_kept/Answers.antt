@@ -27,4 +27,5 @@ returns-in-Ok-clause-appends g c =
 
 pub returns-in-Err-clause-appends : goal.returns-in-Err-clause-appends
 returns-in-Err-clause-appends g c =
-    appends_as g.T.Tape.seen c.args.journal.now c.keep.new.journal (bodies_kept c.args.changed.now.answer c.args.changed.now.kept) _ (UnlessJournal (Err fault.Journal)) (λ P h. tt) c.in-Err.ensures.appends
+    appends_as g.T.Tape.seen c.args.journal.now c.keep.new.journal (bodies_kept c.args.changed.now.answer c.args.changed.now.kept) _ (UnlessJournal (Err fault.Journal))
+    (λ P h. tt) c.in-Err.ensures.appends

@@ -2,7 +2,7 @@
 use Rattle.std.proofs.Common.{Bool, Result, Some, refl, sym, subst}
 use Rattle.line_meaning.proofs.Runs.{follows_on}
 use Rattle.open_cursors.proofs.HeldStamps.{held_settled}
-use Rattle.open_cursors.specs.Carried.{IsChange}
+use Rattle.open_cursors.specs.Carried.{ChangesRelations}
 use Rattle.open_cursors.specs.OverPages.{AreStanding, StandOver}
 use Rattle.sand_store.specs.Catalog.{StoreState}
 use Rattle.sand_base.specs.Faults.{HasCause}
@@ -36,7 +36,7 @@ pub read_statement-read-requires-clause-in_range : goal.read_statement-read-requ
 read_statement-read-requires-clause-in_range g c = subst (λ (v : Statement). IsInRange v) (sym c.in-Err.ensures.returned.0) c.requires.in_range
 
 pub read_statement-read-requires-clause-reads : goal.read_statement-read-requires-clause-reads
-read_statement-read-requires-clause-reads g c = subst (λ (v : Statement). IsChange v → ⊥) (sym c.in-Err.ensures.returned.0) c.in-Err.ensures.returned.1
+read_statement-read-requires-clause-reads g c = subst (λ (v : Statement). ChangesRelations v → ⊥) (sym c.in-Err.ensures.returned.0) c.in-Err.ensures.returned.1
 
 pub read_statement-read-requires-clause-stands : goal.read_statement-read-requires-clause-stands
 read_statement-read-requires-clause-stands g c = subst (λ (s : StoreState). AreStanding s.pool c.args.cursors.now.items) (sym c.in-Err.ensures.unchanged) c.requires.stands
@@ -96,5 +96,6 @@ returns-in-Ok-clause-kept g c =
 
 pub returns-in-Err-clause-kept : goal.returns-in-Err-clause-kept
 returns-in-Err-clause-kept g c =
-    keeps_none g.T.Tape.seen c.args.store c.read_statement-read.result.0 (g.H.Shelf.files c.args.shelf.now) (g.H.Shelf.faults c.args.shelf.now) (g.met.T.Tape.now_is_all) c.args.journal.now c.of_sink.result
+    keeps_none g.T.Tape.seen c.args.store c.read_statement-read.result.0 (g.H.Shelf.files c.args.shelf.now) (g.H.Shelf.faults c.args.shelf.now)
+    (g.met.T.Tape.now_is_all) c.args.journal.now c.of_sink.result
     (unchanged_read c.args.store c.change.new.store c.read_statement-read.result.0 c.in-Err.ensures.unchanged c.read_statement-read.ensures.catalog c.read_statement-read.ensures.pages)

@@ -3,8 +3,8 @@ use Rattle.std.proofs.Common.{sym, ◌∙◌}
 use Rattle.std.specs.FinMap as map
 use Rattle.std.specs.Prelude.{Ok, Err}
 use Rattle.page_pool.specs.Pool.{StampMap}
-use Rattle.plan_cursor.specs.Standing.{IsAt}
-use Rattle.plan_rows.specs.Rows.{counts_of}
+use Rattle.plan_iterator.specs.Standing.{IsAt}
+use Rattle.plan_iterator.specs.Rows.{counts_of}
 use Rattle.sand_base.specs.declared.refusal.Refusal.TheVariants as why
 use Rattle.sand_model.specs.Database.{same_name}
 use Rattle.open_cursors.proofs.ClosedCursors.{closes_none, closes_named, closes_so}

@@ -1,6 +1,6 @@
 -- the cursor of the name is gone, or none has the name
-use Rattle.plan_cursor.specs.Standing.{IsAt}
-use Rattle.plan_rows.specs.Rows.{counts_of}
+use Rattle.plan_iterator.specs.Standing.{IsAt}
+use Rattle.plan_iterator.specs.Rows.{counts_of}
 use Rattle.open_cursors.specs.OpenCursors.{AreNamed, AtStamp, StandAll}
 use Rattle.open_cursors.proofs.Carrying.{closed_carried, unclosed_carried}
 use Rattle.open_cursors.proofs.closing.close_line.Goals as goal

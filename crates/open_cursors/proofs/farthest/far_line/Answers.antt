@@ -1,7 +1,7 @@
 -- the rows of a search, or why there is none
 use Rattle.sand_base.specs.declared.source.Failed.{Failed}
 use Rattle.far_cursor.specs.FarCursor.{FarStands}
-use Rattle.rank_source.specs.Rankings.{by_code}
+use Rattle.plan_sources.specs.Rankings.{by_code}
 use Rattle.statement_exec.proofs.Endings.{at_most_one}
 use Rattle.open_cursors.proofs.FarthestOutcomes.{begun_broken, begun_written, not_started}
 use Rattle.open_cursors.proofs.Showings.{over_store}

@@ -5,7 +5,7 @@ use Rattle.sand_base.specs.declared.source.Failed.{Failed}
 use Rattle.page_pool.specs.Causes.{HasPageCause}
 use Rattle.best_first.specs.Visits.{told_pages}
 use Rattle.best_first.proofs.Passing.{read_itself, read_both, told_read}
-use Rattle.row_output.specs.Stepping.{refusal_of}
+use Rattle.row_output.specs.Stepping.{printed_refusal}
 use Rattle.row_output.specs.declared.next.Next.{Next}
 use Rattle.row_output.specs.declared.next.Next.TheVariants.{Row, End, Refused}
 use Rattle.open_cursors.specs.FarthestLines.{PrintsFarthest}
@@ -33,7 +33,7 @@ rows-preserved g c =
       few = omega (arith, less);
       count = refl;
       read = read_both c.args.desk.now.pool c.rows.desk.pool c.print_farthest.new.desk.pool c.rows.invariant.read c.print_farthest.ensures.read;
-      faults = (subst (λ r. HasPageCause c.rows.desk.pool c.print_farthest.new.desk.pool (refusal_of r)) is c.print_farthest.ensures.refused).counted ∙ c.rows.invariant.faults;
+      faults = (subst (λ r. HasPageCause c.rows.desk.pool c.print_farthest.new.desk.pool (printed_refusal r)) is c.print_farthest.ensures.refused).counted ∙ c.rows.invariant.faults;
       sink = (subst (λ r. HasCause (g.K.Sink.faults c.rows.out) (g.K.Sink.faults c.print_farthest.new.out) r) is c.print_farthest.ensures.sink).done ∙ c.rows.invariant.sink;
       hierarchy = c.print_farthest.ensures.hierarchy ∙ c.rows.invariant.hierarchy;
       stands = stands_on c.rows.desk c.print_farthest.new.desk c.rows.far.search.hierarchy c.print_farthest.new.far.search.hierarchy c.print_farthest.new.far.search.frontier.queue.items c.print_farthest.new.far.search.frontier.last

@@ -2,7 +2,7 @@ use Rattle.std.proofs.Common.{◌-◌, ◌≡◌, ◌≤◌, IfSome}
 use Rattle.page_pool.specs.Reads.{IsRead}
 use Rattle.best_first.specs.Visits.{told_pages}
 use Rattle.far_cursor.specs.FarCursor.{FarStands}
-use Rattle.rank_source.specs.Rankings.{by_code}
+use Rattle.plan_sources.specs.Rankings.{by_code}
 use Rattle.open_cursors.proofs.FarthestSteps.{SoFar}
 use Rattle.open_cursors.proofs.farthest.print_far.Given as goal
 

@@ -1,6 +1,6 @@
 -- rows up to a refusal and its line, or up to where the sink failed
-use Rattle.plan_cursor.specs.Standing.{IsAt}
-use Rattle.plan_rows.specs.Rows.{counts_of}
+use Rattle.plan_iterator.specs.Standing.{IsAt}
+use Rattle.plan_iterator.specs.Rows.{counts_of}
 use Rattle.sand_base.specs.declared.refusal.Refusal.TheVariants as why
 use Rattle.sand_base.specs.declared.source.Failed.{Failed}
 use Rattle.statement_exec.proofs.Endings.{at_most_one}

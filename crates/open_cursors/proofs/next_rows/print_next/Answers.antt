@@ -5,8 +5,8 @@ use Rattle.best_first.specs.Visits.{told_pages}
 use Rattle.page_pool.specs.Desk.{DeskState}
 use Rattle.page_pool.specs.Reads.{IsRead}
 use Rattle.page_pool.specs.Steps.{IsRead-refl}
-use Rattle.plan_cursor.specs.Standing.{IsAt}
-use Rattle.plan_rows.specs.Rows.{counts_of}
+use Rattle.plan_iterator.specs.Standing.{IsAt}
+use Rattle.plan_iterator.specs.Rows.{counts_of}
 use Rattle.sand_base.specs.declared.source.Failed.{Failed}
 use Rattle.sand_model.specs.Cursor.{Cursor}
 use Rattle.sand_model.specs.Database.{same_name}

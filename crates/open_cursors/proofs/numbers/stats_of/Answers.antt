@@ -1,7 +1,7 @@
 -- the cursor at the place of the name, or none has the name
 use Rattle.std.proofs.Common.{refl, sym}
-use Rattle.plan_cursor.specs.Standing.{IsAt}
-use Rattle.plan_rows.specs.Rows.{counts_of}
+use Rattle.plan_iterator.specs.Standing.{IsAt}
+use Rattle.plan_iterator.specs.Rows.{counts_of}
 use Rattle.open_cursors.proofs.CursorNumbers.{numbers_none, numbers_named}
 use Rattle.open_cursors.proofs.NamedCursors.{first_shown, none_shown}
 use Rattle.open_cursors.proofs.OpenNames.{open_at, open_none}

@@ -5,8 +5,8 @@ use Rattle.std.specs.Result.{result_err}
 use Rattle.std.specs.FinMap as map
 use Rattle.page_pool.specs.Disk.{PageMap}
 use Rattle.statements.specs.Plan.{plan_value}
-use Rattle.plan_cursor.specs.Standing.{IsAt}
-use Rattle.plan_rows.specs.Rows.{counts_of}
+use Rattle.plan_iterator.specs.Standing.{IsAt}
+use Rattle.plan_iterator.specs.Rows.{counts_of}
 use Rattle.sand_store.specs.Contents.{database_in}
 use Rattle.open_cursors.proofs.NamedCursors.{first_shown, none_shown}
 use Rattle.open_cursors.proofs.OpenNames.{stand_named}

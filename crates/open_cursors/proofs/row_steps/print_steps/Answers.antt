@@ -1,9 +1,9 @@
 -- rows up to their end, to a fault of a page, or to one of the sink
 use Rattle.std.proofs.Common.{Ok, Err}
 use Rattle.best_first.specs.Visits.{told_pages}
-use Rattle.plan_cursor.specs.Standing.{IsAt}
-use Rattle.plan_rows.specs.Rows.{counts_of}
-use Rattle.plan_steps.specs.Paying.{prices}
+use Rattle.plan_iterator.specs.Standing.{IsAt}
+use Rattle.plan_iterator.specs.Rows.{counts_of}
+use Rattle.plan_iterator.specs.Paying.{prices}
 use Rattle.open_cursors.proofs.CausedSteps.{page_no_file}
 use Rattle.open_cursors.proofs.RowsWritten.{rows_ended, rows_refused, rows_failed}
 use Rattle.open_cursors.proofs.StepCalls.{of_pages, told_end, told_fault, told_broken, told_stands}

@@ -4,7 +4,7 @@ use Rattle.std.proofs.Common.{sym, ◌∙◌, ap, List, ℕ}
 use Rattle.page_pool.specs.Disk.{PageMap}
 use Rattle.sand_model.specs.Database.{relation_named, column_named}
 use Rattle.sand_store.specs.Contents.{database_in, relation_in}
-use Rattle.plan_check.proofs.Columns.{seen_in}
+use Rattle.plan_names.proofs.Columns.{seen_in}
 use Rattle.plan_ops.proofs.Resolved.{near_related, near_placed, tree_there, described_at}
 use Rattle.plan_ops.proofs.columns.rtree_column.Goals as goal
 

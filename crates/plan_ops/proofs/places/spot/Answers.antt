@@ -8,7 +8,7 @@ use Rattle.sand_model.specs.Operators.{relations_of}
 use Rattle.statements.specs.declared.column.Column.{Column}
 use Rattle.sand_store.specs.Contents.{database_in}
 use Rattle.statements.specs.Plan.{plan_value}
-use Rattle.plan_places.specs.Spots.{HasNoColumn, names_of}
+use Rattle.plan_names.specs.Spots.{HasNoColumn, names_of}
 use Rattle.plan_ops.proofs.Resolved.{named_there, column_there}
 use Rattle.plan_ops.proofs.places.spot.Goals as goal
 

@@ -2,10 +2,10 @@
 use Rattle.std.specs.FinMap as map
 use Rattle.std.proofs.Common.{ap₂, subst, Ok, ◌∙◌}
 use Rattle.page_pool.specs.Disk.{PageMap}
-use Rattle.plain_source.specs.Plain.{LacksInts}
+use Rattle.plan_sources.specs.Plain.{LacksInts}
 use Rattle.plan_ops.proofs.Resolved.{not_lacking_ints}
 use Rattle.plan_ops.proofs.start_source.pick_between.Goals as goal
-use Rattle.plan_places.specs.Spots.{names_of}
+use Rattle.plan_names.specs.Spots.{names_of}
 use Rattle.statements.specs.declared.column.Column.{Column}
 use Rattle.sand_store.specs.Contents.{database_in}
 

@@ -4,8 +4,8 @@ use Rattle.std.proofs.Common.{false, ap₂, subst, Ok, ◌∙◌}
 use Rattle.page_pool.specs.Disk.{PageMap}
 use Rattle.statements.specs.declared.column.Column.{Column}
 use Rattle.sand_store.specs.Contents.{database_in}
-use Rattle.plan_places.specs.Indexed.{LacksIndex}
-use Rattle.plan_places.specs.Spots.{names_of}
+use Rattle.plan_names.specs.Indexed.{LacksIndex}
+use Rattle.plan_names.specs.Spots.{names_of}
 use Rattle.plan_ops.proofs.Resolved.{not_lacking}
 use Rattle.plan_ops.proofs.start_source.pick_equal.Goals as goal
 

@@ -21,7 +21,8 @@ members-preserved g c =
       counted = c.in_ok-met.ensures.cause.counted ∙ here.counted;
       taken = λ told m tells are.
           taken_step (g.S.ShapeOf.rows c.args.shapes.now) (g.P.Pages.shown c.members.pages).pages (g.P.Pages.shown c.args.pages.now).pages here.read.pages m c.args.block c.args.list.now
-          c.members.member-index _ lt c.in_ok-met.met c.args.parts.now c.members.parts c.push_parts.new.parts (c.in_ok-met.ensures.met (here.read.told ∙ told) m) tells are (here.taken told m tells are)
+          c.members.member-index _ lt c.in_ok-met.met c.args.parts.now c.members.parts c.push_parts.new.parts (c.in_ok-met.ensures.met (here.read.told ∙ told) m) tells are
+          (here.taken told m tells are)
           c.in_ok-push_parts.ensures;
     }
 

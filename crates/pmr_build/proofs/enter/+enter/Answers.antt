@@ -112,7 +112,8 @@ returns-in_err-enter-3-clause-full g t c =
     let s2 = g.P.Pages.shown c.enter.new.pages in
     let s3 = g.P.Pages.shown c.enter-2.new.pages in
     err_passed _ c.from_residual-in_err-enter-3.result _ c.from_residual-in_err-enter-3.ensures
-    (λ full. third_full rows s0 s1 s2 s3 c.args.rule b c.args.most c.args.list.now d (get_or cs 0 none) (get_or cs 1 none) (get_or cs 2 none) c.deref.result.now c.deref-2.result.now c.deref-3.result.now
+    (λ full. third_full rows s0 s1 s2 s3 c.args.rule b c.args.most c.args.list.now d (get_or cs 0 none) (get_or cs 1 none)
+    (get_or cs 2 none) c.deref.result.now c.deref-2.result.now c.deref-3.result.now
     c.args.entries.now.items c.enter.new.entries.items c.enter-2.new.entries.items w c.in_ok-enter.ensures.read c.in_ok-enter-2.ensures.read
     (record { block = first_is b cs none c.children.ensures.value; members = c.deref.ensures.value })
     (record { block = second_is b cs none c.children.ensures.value; members = c.deref-2.ensures.value })
@@ -145,7 +146,8 @@ returns-in_err-enter-4-clause-full g t c =
     let s3 = g.P.Pages.shown c.enter-2.new.pages in
     let s4 = g.P.Pages.shown c.enter-3.new.pages in
     err_passed _ c.from_residual-in_err-enter-4.result _ c.from_residual-in_err-enter-4.ensures
-    (λ full. fourth_full rows s0 s1 s2 s3 s4 c.args.rule b c.args.most c.args.list.now d (get_or cs 0 none) (get_or cs 1 none) (get_or cs 2 none) (get_or cs 3 none) c.deref.result.now c.deref-2.result.now c.deref-3.result.now c.deref-4.result.now
+    (λ full. fourth_full rows s0 s1 s2 s3 s4 c.args.rule b c.args.most c.args.list.now d (get_or cs 0 none) (get_or cs 1 none) (get_or cs 2 none)
+    (get_or cs 3 none) c.deref.result.now c.deref-2.result.now c.deref-3.result.now c.deref-4.result.now
     c.args.entries.now.items c.enter.new.entries.items c.enter-2.new.entries.items c.enter-3.new.entries.items w c.in_ok-enter.ensures.read c.in_ok-enter-2.ensures.read c.in_ok-enter-3.ensures.read
     (record { block = first_is b cs none c.children.ensures.value; members = c.deref.ensures.value })
     (record { block = second_is b cs none c.children.ensures.value; members = c.deref-2.ensures.value })
@@ -166,7 +168,8 @@ returns-clause-entered g t c =
     let s2 = g.P.Pages.shown c.enter.new.pages in
     let s3 = g.P.Pages.shown c.enter-2.new.pages in
     let s4 = g.P.Pages.shown c.enter-3.new.pages in
-    all_entered rows s0 s1 s2 s3 s4 c.args.rule b c.args.most c.args.list.now d (get_or cs 0 none) (get_or cs 1 none) (get_or cs 2 none) (get_or cs 3 none) c.deref.result.now c.deref-2.result.now c.deref-3.result.now c.deref-4.result.now
+    all_entered rows s0 s1 s2 s3 s4 c.args.rule b c.args.most c.args.list.now d (get_or cs 0 none) (get_or cs 1 none) (get_or cs 2 none)
+    (get_or cs 3 none) c.deref.result.now c.deref-2.result.now c.deref-3.result.now c.deref-4.result.now
     c.args.entries.now.items c.enter.new.entries.items c.enter-2.new.entries.items c.enter-3.new.entries.items c.enter-4.new.entries.items w c.in_ok-enter.ensures.read c.in_ok-enter-2.ensures.read c.in_ok-enter-3.ensures.read
     (record { block = first_is b cs none c.children.ensures.value; members = c.deref.ensures.value })
     (record { block = second_is b cs none c.children.ensures.value; members = c.deref-2.ensures.value })

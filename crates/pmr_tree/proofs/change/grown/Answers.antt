@@ -6,8 +6,8 @@ use Rattle.page_pool.specs.Steps.{InCommand-read, InCommand-trans, HasPageCause-
 use Rattle.code_btree.specs.Tree.{pages_in, tree_items, tree_pages}
 use Rattle.pmr_tree.specs.Plot.{IsReadyOn, LeadsOn-onward, TellsOf}
 use Rattle.pmr_tree.specs.Leaves.{firsts, Passes, id_test, Told}
-use Rattle.pmr_tree.specs.Changes.{Stands, Becomes, grown_where}
-use Rattle.pmr_tree.specs.Quadtree.{entries_at, keys_at, tree_at}
+use Rattle.pmr_tree.specs.Changes.{KeysStand, Becomes, grown_where}
+use Rattle.pmr_tree.specs.Quadtree.{quadtree_entries, keys_at, tree_at}
 use Rattle.pmr_tree.proofs.Begins.{start_stands, grown_from_root}
 use Rattle.pmr_tree.proofs.OwnPages.{keeps_none, leads_read}
 use Rattle.pmr_tree.proofs.TreeAt.{pmr_stands, pmr_reads}
@@ -28,7 +28,7 @@ grow-requires-clause-stands g c = λ later.
     let told = sym read.told ∙ later in
     let pages = c.args.pool.now.pages in
     let is = c.requires.tree told in
-    subst (λ w. Stands c.in_ok-start.start (keys_at w c.args.tree)) (sym read.pages)
+    subst (λ w. KeysStand c.in_ok-start.start (keys_at w c.args.tree)) (sym read.pages)
     (start_stands (keys_at pages c.args.tree) c.args.shape.now (tree_at pages c.args.tree) c.in_ok-start.start (pmr_stands pages c.args.tree is).rises
     (pmr_reads pages c.args.tree is) (c.in_ok-start.ensures.start told))
 
@@ -36,7 +36,7 @@ pub grow-requires-clause-shapes : goal.grow-requires-clause-shapes
 grow-requires-clause-shapes g c = λ later.
     let read = c.in_ok-start.ensures.read in
     let told = sym read.told ∙ later in
-    subst (λ w. Told (λ m has. TellsOf ((c.args.id, c.args.shape.now) ∷ g.G.ShapeOf.rows c.args.shapes.now w) m has) (entries_at w c.args.tree) c.args.id) (sym read.pages)
+    subst (λ w. Told (λ m has. TellsOf ((c.args.id, c.args.shape.now) ∷ g.G.ShapeOf.rows c.args.shapes.now w) m has) (quadtree_entries w c.args.tree) c.args.id) (sym read.pages)
     (told_of c.args.pool.now.pages c.args.tree (g.G.ShapeOf.rows c.args.shapes.now c.args.pool.now.pages) c.args.id c.args.shape.now (record {
       quarters = c.measure_laws.ensures.children;
       tests = c.measure_laws.ensures.tested;
@@ -77,14 +77,15 @@ returns-clause-grown g c = λ told.
           (keeps_none (pages_in c.args.pool.now) (tree_pages (pages_in c.args.pool.now) c.args.tree.map));
       becomes = λ m has tells passes one.
           (let new = firsts (tree_items (pages_in c.grow.new.pages) c.grow.new.ground.tree) in
-          let Grown : PageMap → Type 0 = λ w. TellsOf ((c.args.id, c.args.shape.now) ∷ rows w) m has → Passes (id_test has) (entries_at w c.args.tree) → has c.args.id ≡ true
+          let Grown : PageMap → Type 0 = λ w. TellsOf ((c.args.id, c.args.shape.now) ∷ rows w) m has → Passes (id_test has) (quadtree_entries w c.args.tree) → has c.args.id ≡ true
           → Becomes c.in_ok-start.start (grown_where m c.args.tree.threshold c.args.id c.in_ok-start.start) (keys_at w c.args.tree) new in
           grown_from_root c.ring_laws.ensures.holder (rows pages) c.args.id c.args.shape.now m has c.requires.plane tells one c.args.tree.threshold
           (keys_at pages c.args.tree) new (tree_at pages c.args.tree) c.in_ok-start.start
           (pmr_stands pages c.args.tree is).rises (pmr_reads pages c.args.tree is) c.in_ok-start.ensures.block (c.in_ok-start.ensures.start told)
           (subst Grown read.pages (λ tells passes one. c.in_ok-grow.ensures.keys later m has tells passes one) tells passes one));
       values = λ test one w.
-          (c.in_ok-grow.ensures.values later test (subst (λ v. test c.args.id v ≡ true) (sym c.value_of-value.ensures) one) (subst (λ w. Passes test (entries_at w c.args.tree)) (sym read.pages) w));
+          (c.in_ok-grow.ensures.values later test (subst (λ v. test c.args.id v ≡ true) (sym c.value_of-value.ensures) one)
+          (subst (λ w. Passes test (quadtree_entries w c.args.tree)) (sym read.pages) w));
     }) c.ring_laws.ensures.measured.0 c.ring_laws.ensures.measured.1
 
 pub returns-clause-within : goal.returns-clause-within

@@ -8,9 +8,9 @@ use Rattle.z_code.specs.declared.block.Block.{Block}
 use Rattle.code_btree.specs.Tree.{pages_in, tree_items, tree_pages}
 use Rattle.pmr_tree.specs.Plot.{IsReadyOn, LeadsOn-onward}
 use Rattle.pmr_tree.specs.Leaves.{firsts, Passes}
-use Rattle.pmr_tree.specs.Changes.{Stands, Becomes, shrunk_where}
+use Rattle.pmr_tree.specs.Changes.{KeysStand, Becomes, shrunk_where}
 use Rattle.pmr_tree.specs.Starts.{HasLeaf}
-use Rattle.pmr_tree.specs.Quadtree.{entries_at, keys_at, tree_at}
+use Rattle.pmr_tree.specs.Quadtree.{quadtree_entries, keys_at, tree_at}
 use Rattle.pmr_tree.proofs.Begins.{start_place, start_alone}
 use Rattle.pmr_tree.proofs.OwnPages.{keeps_none, leads_read}
 use Rattle.pmr_tree.proofs.TreeAt.{pmr_stands, pmr_reads}
@@ -28,8 +28,9 @@ pub shrink_at-requires-clause-stands : goal.shrink_at-requires-clause-stands
 shrink_at-requires-clause-stands g c = λ later.
     let read = c.in_ok-start.ensures.read in
     let pages = c.args.pool.now.pages in
-    subst (λ w. Stands c.root.result (keys_at w c.args.tree)) (sym read.pages)
-    (subst (λ b. Stands b (keys_at pages c.args.tree)) (sym (root_is c.root.result c.root.ensures.first c.root.ensures.level)) (pmr_stands pages c.args.tree (c.requires.tree (sym read.told ∙ later))))
+    subst (λ w. KeysStand c.root.result (keys_at w c.args.tree)) (sym read.pages)
+    (subst (λ b. KeysStand b (keys_at pages c.args.tree)) (sym (root_is c.root.result c.root.ensures.first c.root.ensures.level))
+    (pmr_stands pages c.args.tree (c.requires.tree (sym read.told ∙ later))))
 
 pub shrink_at-requires-clause-place : goal.shrink_at-requires-clause-place
 shrink_at-requires-clause-place g c = λ later lower.
@@ -87,7 +88,7 @@ returns-clause-shrunk g c = λ told.
           let At : PageMap → Type 0 = λ w. Becomes c.root.result (shrunk_where m c.args.tree.threshold c.args.id c.root.result) (keys_at w c.args.tree) new in
           let B : Block → Type 0 = λ b. Becomes b (shrunk_where m c.args.tree.threshold c.args.id b) (keys_at pages c.args.tree) new in
           subst B root (subst At read.pages (c.in_ok-shrink_at.ensures.keys later m has tells one)));
-      values = λ test w. c.in_ok-shrink_at.ensures.values later test (subst (λ w. Passes test (entries_at w c.args.tree)) (sym read.pages) w);
+      values = λ test w. c.in_ok-shrink_at.ensures.values later test (subst (λ w. Passes test (quadtree_entries w c.args.tree)) (sym read.pages) w);
     }) c.ring_laws.ensures.measured
 
 pub returns-clause-within : goal.returns-clause-within

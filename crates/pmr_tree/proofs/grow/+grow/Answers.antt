@@ -3,7 +3,7 @@ use Rattle.std.proofs.Common.{None, ◌<◌, ℕ, List, ap, sym, ◌∙◌, subs
 use Rattle.sand_base.specs.declared.TheConstants.{COORDINATE_BITS}
 use Rattle.pmr_tree.specs.Keys.{own}
 use Rattle.pmr_tree.specs.Leaves.{firsts, Passes, ListPasses, id_test}
-use Rattle.pmr_tree.specs.Changes.{Stands, Becomes, grown_where}
+use Rattle.pmr_tree.specs.Changes.{KeysStand, Becomes, grown_where}
 use Rattle.pmr_tree.proofs.Entries.{none_found, some_found, if_found, leaf_later}
 use Rattle.pmr_tree.proofs.Refusals.{passed_on}
 use Rattle.pmr_tree.proofs.Steps.{stands_above}
@@ -44,7 +44,7 @@ grow_leaf-requires-clause-stands g t c = λ known.
     let l1 = g.met.S.Ground.onward c.args.ground.now c.args.pages.now c.args.ground.now c.does_meet.new.pages c.args.ground.now c.leaf_of.new.pages None l0 c.in_ok-list.ensures.leads in
     let k = g.met.S.Ground.knew c.args.ground.now c.args.pages.now c.args.ground.now c.leaf_of.new.pages l1 known in
     let same = c.in_ok-list.ensures.same (g.met.S.Ground.known c.args.ground.now c.args.pages.now c.args.ground.now c.does_meet.new.pages l0 k) ∙ c.in_ok-does_meet.ensures.same k in
-    subst (Stands c.args.block) (sym (ap firsts same)) (c.requires.stands k)
+    subst (KeysStand c.args.block) (sym (ap firsts same)) (c.requires.stands k)
 
 pub grow_leaf-requires-clause-leaf : goal.grow_leaf-requires-clause-leaf
 grow_leaf-requires-clause-leaf g t c = λ known.
@@ -114,7 +114,7 @@ pub returns-then-from-ge-COORDINATE_BITS-clause-keys : goal.returns-then-from-ge
 returns-then-from-ge-COORDINATE_BITS-clause-keys g t c = λ k m has tells all one.
     let l0 = c.in_ok-does_meet.ensures.leads in
     let none = none_found _ _ _ c.in_default.is (c.in_ok-list.ensures.found (g.met.S.Ground.known c.args.ground.now c.args.pages.now c.args.ground.now c.does_meet.new.pages l0 k)) in
-    let stands = subst (Stands c.args.block) (sym (ap firsts (c.in_ok-does_meet.ensures.same k))) (c.requires.stands k) in
+    let stands = subst (KeysStand c.args.block) (sym (ap firsts (c.in_ok-does_meet.ensures.same k))) (c.requires.stands k) in
     let up = stands_above c.args.block _ stands none in
     absurd (omega (arith, up))
 
@@ -142,7 +142,7 @@ grow-requires g t c κs live =
                       let same = c.in_ok-list.ensures.same (g.met.S.Ground.known c.args.ground.now c.args.pages.now c.args.ground.now c.does_meet.new.pages l0 k) ∙ c.in_ok-does_meet.ensures.same k in
                       let none = ap (own c.args.block) (ap firsts (c.in_ok-list.ensures.same (g.met.S.Ground.known c.args.ground.now c.args.pages.now c.args.ground.now c.does_meet.new.pages l0 k)))
                       ∙ none_found _ _ _ c.in_default.is (c.in_ok-list.ensures.found (g.met.S.Ground.known c.args.ground.now c.args.pages.now c.args.ground.now c.does_meet.new.pages l0 k)) in
-                      let stands = subst (Stands c.args.block) (sym (ap firsts same)) (c.requires.stands k) in
+                      let stands = subst (KeysStand c.args.block) (sym (ap firsts same)) (c.requires.stands k) in
                       stands_first c.args.block _ _ _ c.children.ensures.value stands none,
                   λ known.
                       let k = g.met.S.Ground.knew c.args.ground.now c.args.pages.now c.args.ground.now c.leaf_of.new.pages l1 known in
@@ -185,7 +185,7 @@ grow-requires-2 g t c κs live =
                       let same = c.in_ok-list.ensures.same (g.met.S.Ground.known c.args.ground.now c.args.pages.now c.args.ground.now c.does_meet.new.pages l0 k) ∙ c.in_ok-does_meet.ensures.same k in
                       let none = ap (own c.args.block) (ap firsts (c.in_ok-list.ensures.same (g.met.S.Ground.known c.args.ground.now c.args.pages.now c.args.ground.now c.does_meet.new.pages l0 k)))
                       ∙ none_found _ _ _ c.in_default.is (c.in_ok-list.ensures.found (g.met.S.Ground.known c.args.ground.now c.args.pages.now c.args.ground.now c.does_meet.new.pages l0 k)) in
-                      let stands = subst (Stands c.args.block) (sym (ap firsts same)) (c.requires.stands k) in
+                      let stands = subst (KeysStand c.args.block) (sym (ap firsts same)) (c.requires.stands k) in
                       let told = c.requires.shapes k in
                       let w0 = subst (Passes (id_test told.has)) (sym same) told.listed in
                       let w1 = c.in_ok-grow.ensures.values (g.met.S.Ground.known c.args.ground.now c.args.pages.now c.args.ground.now c.leaf_of.new.pages l1 k) (id_test told.has) told.one w0 in
@@ -235,7 +235,7 @@ grow-requires-3 g t c κs live =
                       let same = c.in_ok-list.ensures.same (g.met.S.Ground.known c.args.ground.now c.args.pages.now c.args.ground.now c.does_meet.new.pages l0 k) ∙ c.in_ok-does_meet.ensures.same k in
                       let none = ap (own c.args.block) (ap firsts (c.in_ok-list.ensures.same (g.met.S.Ground.known c.args.ground.now c.args.pages.now c.args.ground.now c.does_meet.new.pages l0 k)))
                       ∙ none_found _ _ _ c.in_default.is (c.in_ok-list.ensures.found (g.met.S.Ground.known c.args.ground.now c.args.pages.now c.args.ground.now c.does_meet.new.pages l0 k)) in
-                      let stands = subst (Stands c.args.block) (sym (ap firsts same)) (c.requires.stands k) in
+                      let stands = subst (KeysStand c.args.block) (sym (ap firsts same)) (c.requires.stands k) in
                       let told = c.requires.shapes k in
                       let w0 = subst (Passes (id_test told.has)) (sym same) told.listed in
                       let w1 = c.in_ok-grow.ensures.values (g.met.S.Ground.known c.args.ground.now c.args.pages.now c.args.ground.now c.leaf_of.new.pages l1 k) (id_test told.has) told.one w0 in
@@ -291,7 +291,7 @@ grow-requires-4 g t c κs live =
                       let same = c.in_ok-list.ensures.same (g.met.S.Ground.known c.args.ground.now c.args.pages.now c.args.ground.now c.does_meet.new.pages l0 k) ∙ c.in_ok-does_meet.ensures.same k in
                       let none = ap (own c.args.block) (ap firsts (c.in_ok-list.ensures.same (g.met.S.Ground.known c.args.ground.now c.args.pages.now c.args.ground.now c.does_meet.new.pages l0 k)))
                       ∙ none_found _ _ _ c.in_default.is (c.in_ok-list.ensures.found (g.met.S.Ground.known c.args.ground.now c.args.pages.now c.args.ground.now c.does_meet.new.pages l0 k)) in
-                      let stands = subst (Stands c.args.block) (sym (ap firsts same)) (c.requires.stands k) in
+                      let stands = subst (KeysStand c.args.block) (sym (ap firsts same)) (c.requires.stands k) in
                       let told = c.requires.shapes k in
                       let w0 = subst (Passes (id_test told.has)) (sym same) told.listed in
                       let w1 = c.in_ok-grow.ensures.values (g.met.S.Ground.known c.args.ground.now c.args.pages.now c.args.ground.now c.leaf_of.new.pages l1 k) (id_test told.has) told.one w0 in
@@ -379,7 +379,7 @@ returns-clause-keys g t c = λ k m has tells all one.
     let same = c.in_ok-list.ensures.same (g.met.S.Ground.known c.args.ground.now c.args.pages.now c.args.ground.now c.does_meet.new.pages l0 k) ∙ c.in_ok-does_meet.ensures.same k in
     let none = ap (own c.args.block) (ap firsts (c.in_ok-list.ensures.same (g.met.S.Ground.known c.args.ground.now c.args.pages.now c.args.ground.now c.does_meet.new.pages l0 k)))
     ∙ none_found _ _ _ c.in_default.is (c.in_ok-list.ensures.found (g.met.S.Ground.known c.args.ground.now c.args.pages.now c.args.ground.now c.does_meet.new.pages l0 k)) in
-    let stands = subst (Stands c.args.block) (sym (ap firsts same)) (c.requires.stands k) in
+    let stands = subst (KeysStand c.args.block) (sym (ap firsts same)) (c.requires.stands k) in
     let w0 = subst (Passes (id_test has)) (sym same) all in
     let w1 = c.in_ok-grow.ensures.values (g.met.S.Ground.known c.args.ground.now c.args.pages.now c.args.ground.now c.leaf_of.new.pages l1 k) (id_test has) one w0 in
     let w2 = c.in_ok-grow-2.ensures.values (g.met.S.Ground.known c.args.ground.now c.args.pages.now c.grow.new.ground c.grow.new.pages l2 k) (id_test has) one w1 in

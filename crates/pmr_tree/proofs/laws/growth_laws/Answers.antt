@@ -1,10 +1,11 @@
 -- Each law of trees, for functions that tell of rows of shapes.
 use Rattle.sand_model.specs.Tree.{root_block}
 use Rattle.sand_model.specs.Database.{meets_block}
-use Rattle.pmr_tree.proofs.Orders.{each_map}
+use Rattle.pmr_tree.proofs.AscendingLists.{each_map}
 use Rattle.sand_model.specs.Database.{shape_at}
 use Rattle.std.proofs.Common.{◌≡◌}
-use Rattle.pmr_tree.proofs.Growth.{fits_grown, full_grown, fits_shrunk, full_shrunk}
+use Rattle.pmr_tree.proofs.GrownTrees.{fits_grown, full_grown}
+use Rattle.pmr_tree.proofs.Growth.{fits_shrunk, full_shrunk}
 use Rattle.pmr_tree.proofs.ShapeLaws.{rows_quarters, is_root, meets_alike, grown_alike, fits_alike, shallow_grown, shallow_shrunk, fits_lists}
 use Rattle.pmr_tree.proofs.laws.growth_laws.Goals as goal
 

@@ -4,7 +4,7 @@ use Rattle.sand_base.specs.declared.TheConstants.{COORDINATE_BITS}
 use Rattle.z_code.specs.Block.{child}
 use Rattle.pmr_tree.specs.Keys.{own}
 use Rattle.pmr_tree.specs.Leaves.{firsts, Passes}
-use Rattle.pmr_tree.specs.Changes.{Stands, Becomes, shrunk_where, below_shrunk}
+use Rattle.pmr_tree.specs.Changes.{KeysStand, Becomes, shrunk_where, below_shrunk}
 use Rattle.pmr_tree.proofs.Entries.{none_found, some_found, leaf_later}
 use Rattle.pmr_tree.proofs.Refusals.{passed_on}
 use Rattle.pmr_tree.proofs.Steps.{stands_above, stands_after}
@@ -46,7 +46,7 @@ leave-requires-clause-stands g t c = λ known.
     let l1 = g.met.S.Ground.onward c.args.ground.now c.args.pages.now c.args.ground.now c.does_meet.new.pages c.args.ground.now c.leaf_of.new.pages None l0 c.in_ok-list.ensures.leads in
     let k = g.met.S.Ground.knew c.args.ground.now c.args.pages.now c.args.ground.now c.leaf_of.new.pages l1 known in
     let same = c.in_ok-list.ensures.same (g.met.S.Ground.known c.args.ground.now c.args.pages.now c.args.ground.now c.does_meet.new.pages l0 k) ∙ c.in_ok-does_meet.ensures.same k in
-    subst (Stands c.args.block) (sym (ap firsts same)) (c.requires.stands k)
+    subst (KeysStand c.args.block) (sym (ap firsts same)) (c.requires.stands k)
 
 pub leave-requires-clause-leaf : goal.leave-requires-clause-leaf
 leave-requires-clause-leaf g t c = λ known.
@@ -109,7 +109,7 @@ pub returns-then-from-ge-COORDINATE_BITS-clause-keys : goal.returns-then-from-ge
 returns-then-from-ge-COORDINATE_BITS-clause-keys g t c = λ k m has tells one.
     let l0 = c.in_ok-does_meet.ensures.leads in
     let none = none_found _ _ _ c.in_default.is (c.in_ok-list.ensures.found (g.met.S.Ground.known c.args.ground.now c.args.pages.now c.args.ground.now c.does_meet.new.pages l0 k)) in
-    let stands = subst (Stands c.args.block) (sym (ap firsts (c.in_ok-does_meet.ensures.same k))) (c.requires.stands k) in
+    let stands = subst (KeysStand c.args.block) (sym (ap firsts (c.in_ok-does_meet.ensures.same k))) (c.requires.stands k) in
     let up = stands_above c.args.block _ stands none in
     absurd (omega (arith, up))
 
@@ -137,7 +137,7 @@ shrink-requires g t c κs live =
                       let same = c.in_ok-list.ensures.same (g.met.S.Ground.known c.args.ground.now c.args.pages.now c.args.ground.now c.does_meet.new.pages l0 k) ∙ c.in_ok-does_meet.ensures.same k in
                       let none = ap (own c.args.block) (ap firsts (c.in_ok-list.ensures.same (g.met.S.Ground.known c.args.ground.now c.args.pages.now c.args.ground.now c.does_meet.new.pages l0 k)))
                       ∙ none_found _ _ _ c.in_default.is (c.in_ok-list.ensures.found (g.met.S.Ground.known c.args.ground.now c.args.pages.now c.args.ground.now c.does_meet.new.pages l0 k)) in
-                      let stands = subst (Stands c.args.block) (sym (ap firsts same)) (c.requires.stands k) in
+                      let stands = subst (KeysStand c.args.block) (sym (ap firsts same)) (c.requires.stands k) in
                       stands_first c.args.block _ _ _ c.children.ensures.value stands none,
                   λ known.
                       let k = g.met.S.Ground.knew c.args.ground.now c.args.pages.now c.args.ground.now c.leaf_of.new.pages l1 known in
@@ -176,7 +176,7 @@ shrink-requires-2 g t c κs live =
                       let same = c.in_ok-list.ensures.same (g.met.S.Ground.known c.args.ground.now c.args.pages.now c.args.ground.now c.does_meet.new.pages l0 k) ∙ c.in_ok-does_meet.ensures.same k in
                       let none = ap (own c.args.block) (ap firsts (c.in_ok-list.ensures.same (g.met.S.Ground.known c.args.ground.now c.args.pages.now c.args.ground.now c.does_meet.new.pages l0 k)))
                       ∙ none_found _ _ _ c.in_default.is (c.in_ok-list.ensures.found (g.met.S.Ground.known c.args.ground.now c.args.pages.now c.args.ground.now c.does_meet.new.pages l0 k)) in
-                      let stands = subst (Stands c.args.block) (sym (ap firsts same)) (c.requires.stands k) in
+                      let stands = subst (KeysStand c.args.block) (sym (ap firsts same)) (c.requires.stands k) in
                       let told = c.requires.shapes k in
                       let g0 = c.in_ok-shrink.ensures.keys (g.met.S.Ground.known c.args.ground.now c.args.pages.now c.args.ground.now c.leaf_of.new.pages l1 k) told.meets told.has
                       (g.met.S.Ground.steady c.args.ground.now c.args.pages.now c.args.ground.now c.leaf_of.new.pages l1 c.requires.ready k told.meets told.has told.told) told.one in
@@ -219,7 +219,7 @@ shrink-requires-3 g t c κs live =
                       let same = c.in_ok-list.ensures.same (g.met.S.Ground.known c.args.ground.now c.args.pages.now c.args.ground.now c.does_meet.new.pages l0 k) ∙ c.in_ok-does_meet.ensures.same k in
                       let none = ap (own c.args.block) (ap firsts (c.in_ok-list.ensures.same (g.met.S.Ground.known c.args.ground.now c.args.pages.now c.args.ground.now c.does_meet.new.pages l0 k)))
                       ∙ none_found _ _ _ c.in_default.is (c.in_ok-list.ensures.found (g.met.S.Ground.known c.args.ground.now c.args.pages.now c.args.ground.now c.does_meet.new.pages l0 k)) in
-                      let stands = subst (Stands c.args.block) (sym (ap firsts same)) (c.requires.stands k) in
+                      let stands = subst (KeysStand c.args.block) (sym (ap firsts same)) (c.requires.stands k) in
                       let told = c.requires.shapes k in
                       let g0 = c.in_ok-shrink.ensures.keys (g.met.S.Ground.known c.args.ground.now c.args.pages.now c.args.ground.now c.leaf_of.new.pages l1 k) told.meets told.has
                       (g.met.S.Ground.steady c.args.ground.now c.args.pages.now c.args.ground.now c.leaf_of.new.pages l1 c.requires.ready k told.meets told.has told.told) told.one in
@@ -266,7 +266,7 @@ shrink-requires-4 g t c κs live =
                       let same = c.in_ok-list.ensures.same (g.met.S.Ground.known c.args.ground.now c.args.pages.now c.args.ground.now c.does_meet.new.pages l0 k) ∙ c.in_ok-does_meet.ensures.same k in
                       let none = ap (own c.args.block) (ap firsts (c.in_ok-list.ensures.same (g.met.S.Ground.known c.args.ground.now c.args.pages.now c.args.ground.now c.does_meet.new.pages l0 k)))
                       ∙ none_found _ _ _ c.in_default.is (c.in_ok-list.ensures.found (g.met.S.Ground.known c.args.ground.now c.args.pages.now c.args.ground.now c.does_meet.new.pages l0 k)) in
-                      let stands = subst (Stands c.args.block) (sym (ap firsts same)) (c.requires.stands k) in
+                      let stands = subst (KeysStand c.args.block) (sym (ap firsts same)) (c.requires.stands k) in
                       let told = c.requires.shapes k in
                       let g0 = c.in_ok-shrink.ensures.keys (g.met.S.Ground.known c.args.ground.now c.args.pages.now c.args.ground.now c.leaf_of.new.pages l1 k) told.meets told.has
                       (g.met.S.Ground.steady c.args.ground.now c.args.pages.now c.args.ground.now c.leaf_of.new.pages l1 c.requires.ready k told.meets told.has told.told) told.one in
@@ -355,7 +355,7 @@ merge-requires-clause-stands g t c = λ known.
     let same = c.in_ok-list.ensures.same (g.met.S.Ground.known c.args.ground.now c.args.pages.now c.args.ground.now c.does_meet.new.pages l0 k) ∙ c.in_ok-does_meet.ensures.same k in
     let none = ap (own c.args.block) (ap firsts (c.in_ok-list.ensures.same (g.met.S.Ground.known c.args.ground.now c.args.pages.now c.args.ground.now c.does_meet.new.pages l0 k)))
     ∙ none_found _ _ _ c.in_default.is (c.in_ok-list.ensures.found (g.met.S.Ground.known c.args.ground.now c.args.pages.now c.args.ground.now c.does_meet.new.pages l0 k)) in
-    let stands = subst (Stands c.args.block) (sym (ap firsts same)) (c.requires.stands k) in
+    let stands = subst (KeysStand c.args.block) (sym (ap firsts same)) (c.requires.stands k) in
     let told = c.requires.shapes k in
     let g0 = c.in_ok-shrink.ensures.keys (g.met.S.Ground.known c.args.ground.now c.args.pages.now c.args.ground.now c.leaf_of.new.pages l1 k) told.meets told.has
     (g.met.S.Ground.steady c.args.ground.now c.args.pages.now c.args.ground.now c.leaf_of.new.pages l1 c.requires.ready k told.meets told.has told.told) told.one in
@@ -379,7 +379,7 @@ merge-requires-clause-inner g t c = λ known.
     let same = c.in_ok-list.ensures.same (g.met.S.Ground.known c.args.ground.now c.args.pages.now c.args.ground.now c.does_meet.new.pages l0 k) ∙ c.in_ok-does_meet.ensures.same k in
     let none = ap (own c.args.block) (ap firsts (c.in_ok-list.ensures.same (g.met.S.Ground.known c.args.ground.now c.args.pages.now c.args.ground.now c.does_meet.new.pages l0 k)))
     ∙ none_found _ _ _ c.in_default.is (c.in_ok-list.ensures.found (g.met.S.Ground.known c.args.ground.now c.args.pages.now c.args.ground.now c.does_meet.new.pages l0 k)) in
-    let stands = subst (Stands c.args.block) (sym (ap firsts same)) (c.requires.stands k) in
+    let stands = subst (KeysStand c.args.block) (sym (ap firsts same)) (c.requires.stands k) in
     let told = c.requires.shapes k in
     let g0 = c.in_ok-shrink.ensures.keys (g.met.S.Ground.known c.args.ground.now c.args.pages.now c.args.ground.now c.leaf_of.new.pages l1 k) told.meets told.has
     (g.met.S.Ground.steady c.args.ground.now c.args.pages.now c.args.ground.now c.leaf_of.new.pages l1 c.requires.ready k told.meets told.has told.told) told.one in
@@ -415,7 +415,7 @@ returns-clause-keys g t c = λ k m has tells one.
     let same = c.in_ok-list.ensures.same (g.met.S.Ground.known c.args.ground.now c.args.pages.now c.args.ground.now c.does_meet.new.pages l0 k) ∙ c.in_ok-does_meet.ensures.same k in
     let none = ap (own c.args.block) (ap firsts (c.in_ok-list.ensures.same (g.met.S.Ground.known c.args.ground.now c.args.pages.now c.args.ground.now c.does_meet.new.pages l0 k)))
     ∙ none_found _ _ _ c.in_default.is (c.in_ok-list.ensures.found (g.met.S.Ground.known c.args.ground.now c.args.pages.now c.args.ground.now c.does_meet.new.pages l0 k)) in
-    let stands = subst (Stands c.args.block) (sym (ap firsts same)) (c.requires.stands k) in
+    let stands = subst (KeysStand c.args.block) (sym (ap firsts same)) (c.requires.stands k) in
     let g0 = c.in_ok-shrink.ensures.keys (g.met.S.Ground.known c.args.ground.now c.args.pages.now c.args.ground.now c.leaf_of.new.pages l1 k) m has
     (g.met.S.Ground.steady c.args.ground.now c.args.pages.now c.args.ground.now c.leaf_of.new.pages l1 c.requires.ready k m has tells) one in
     let g1 = c.in_ok-shrink-2.ensures.keys (g.met.S.Ground.known c.args.ground.now c.args.pages.now c.shrink.new.ground c.shrink.new.pages l2 k) m has

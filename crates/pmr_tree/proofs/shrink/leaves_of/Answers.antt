@@ -2,7 +2,7 @@
 use Rattle.std.proofs.Common.{◌≡◌, ℕ, List, [], get_or, ap, sym, ◌∙◌, subst, inl, inr}
 use Rattle.z_code.specs.declared.block.Block.{Block}
 use Rattle.pmr_tree.specs.Keys.{own}
-use Rattle.pmr_tree.specs.Leaves.{firsts, ids_of, IsLeafOf, Passes}
+use Rattle.pmr_tree.specs.Leaves.{firsts, ids_of, HasLeafIds, Passes}
 use Rattle.pmr_tree.proofs.Entries.{none_found, some_found, if_found}
 use Rattle.pmr_tree.proofs.Refusals.{passed_on}
 use Rattle.pmr_tree.proofs.GrowSteps.{first_block, second_block, third_block, fourth_block, at_child}
@@ -67,16 +67,16 @@ returns-clause-found g c = λ k.
     let e3 = c.in_ok-third.ensures.same (g.met.S.Ground.known _ _ _ _ l2 k) ∙ e2 in
     let ks : List ℕ = firsts (g.S.Ground.pairs c.args.ground.now c.args.pages.now) in
     record {
-      first = at_child c.args.block c.children.result 0 d (λ x. IsLeafOf x ks (ids_of c.in-Some.first.items)) c.children.ensures.value
+      first = at_child c.args.block c.children.result 0 d (λ x. HasLeafIds x ks (ids_of c.in-Some.first.items)) c.children.ensures.value
           (some_found _ _ _ _ c.in-Some.is (c.in_ok-first.ensures.found k));
-      second = at_child c.args.block c.children.result 1 d (λ x. IsLeafOf x ks (ids_of c.in-Some-2.second.items)) c.children.ensures.value
-          (subst (λ (x : List ℕ). IsLeafOf (get_or c.children.result 1 d) x (ids_of c.in-Some-2.second.items)) (ap firsts e1)
+      second = at_child c.args.block c.children.result 1 d (λ x. HasLeafIds x ks (ids_of c.in-Some-2.second.items)) c.children.ensures.value
+          (subst (λ (x : List ℕ). HasLeafIds (get_or c.children.result 1 d) x (ids_of c.in-Some-2.second.items)) (ap firsts e1)
           (some_found _ _ _ _ c.in-Some-2.is (c.in_ok-second.ensures.found (g.met.S.Ground.known _ _ _ _ l1 k))));
-      third = at_child c.args.block c.children.result 2 d (λ x. IsLeafOf x ks (ids_of c.in-Some-3.third.items)) c.children.ensures.value
-          (subst (λ (x : List ℕ). IsLeafOf (get_or c.children.result 2 d) x (ids_of c.in-Some-3.third.items)) (ap firsts e2)
+      third = at_child c.args.block c.children.result 2 d (λ x. HasLeafIds x ks (ids_of c.in-Some-3.third.items)) c.children.ensures.value
+          (subst (λ (x : List ℕ). HasLeafIds (get_or c.children.result 2 d) x (ids_of c.in-Some-3.third.items)) (ap firsts e2)
           (some_found _ _ _ _ c.in-Some-3.is (c.in_ok-third.ensures.found (g.met.S.Ground.known _ _ _ _ l2 k))));
-      fourth = at_child c.args.block c.children.result 3 d (λ x. IsLeafOf x ks (ids_of c.in-Some-4.fourth.items)) c.children.ensures.value
-          (subst (λ (x : List ℕ). IsLeafOf (get_or c.children.result 3 d) x (ids_of c.in-Some-4.fourth.items)) (ap firsts e3)
+      fourth = at_child c.args.block c.children.result 3 d (λ x. HasLeafIds x ks (ids_of c.in-Some-4.fourth.items)) c.children.ensures.value
+          (subst (λ (x : List ℕ). HasLeafIds (get_or c.children.result 3 d) x (ids_of c.in-Some-4.fourth.items)) (ap firsts e3)
           (some_found _ _ _ _ c.in-Some-4.is (c.in_ok-fourth.ensures.found (g.met.S.Ground.known _ _ _ _ l3 k))));
     }
 

@@ -5,7 +5,7 @@ use Rattle.page_pool.specs.Disk.{PageMap}
 use Rattle.page_pool.specs.Steps.{InCommand-refl, InCommand-trans}
 use Rattle.code_btree.specs.Tree.{Store, pages_in}
 use Rattle.r_tree.specs.declared.entry.NodeEntry.{NodeEntry}
-use Rattle.r_tree.specs.Steps.{Tiles, IsTop}
+use Rattle.r_tree.specs.Steps.{LaysNodes, IsTop}
 use Rattle.r_tree.proofs.Removes.{is_inner_test}
 use Rattle.r_tree.proofs.Tilings.{level_first, level_next, level_fewer}
 use Rattle.r_tree.proofs.build.tile_all.Goals as goal
@@ -29,8 +29,8 @@ levels-preserved g c =
     let es : List NodeEntry = c.levels.entries.items in
     let row : List NodeEntry = c.in_ok-entries-2.entries.items in
     let l : ℕ = c.levels.level in
-    let B : Bool → Type 0 = λ x. Tiles u w x es [] row in
-    let E : List NodeEntry → Type 0 = λ x. Tiles u w (nat_lt 0 l) x [] row in
+    let B : Bool → Type 0 = λ x. LaysNodes u w x es [] row in
+    let E : List NodeEntry → Type 0 = λ x. LaysNodes u w (nat_lt 0 l) x [] row in
     let T : ℕ → Type 0 = λ x. IsTop m w x row c.args.list.now in
     let many : 127 ≤ length es = omega (arith, c.levels-test.true, c.len.ensures, c.levels.entries.ok.0) in
     let level : suc l ≡ c.in-Some.above = omega (arith, c.in-Some.ensures) in
@@ -45,7 +45,7 @@ pub levels-smaller : goal.levels-smaller
 levels-smaller g c =
     let es : List NodeEntry = c.levels.entries.items in
     let row : List NodeEntry = c.in_ok-entries-2.entries.items in
-    let E : List NodeEntry → Type 0 = λ x. Tiles (pages_in c.levels.pool) (pages_in c.tile_level.new.pool) (nat_lt 0 c.levels.level) x [] row in
+    let E : List NodeEntry → Type 0 = λ x. LaysNodes (pages_in c.levels.pool) (pages_in c.tile_level.new.pool) (nat_lt 0 c.levels.level) x [] row in
     let many : 127 ≤ length es = omega (arith, c.levels-test.true, c.len.ensures, c.levels.entries.ok.0) in
     level_fewer (pages_in c.levels.pool) (pages_in c.tile_level.new.pool) (nat_lt 0 c.levels.level) es row many (subst E c.deref_mut.ensures.value c.in_ok-entries-2.ensures.value)
 

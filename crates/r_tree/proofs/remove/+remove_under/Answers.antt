@@ -11,7 +11,7 @@ use Rattle.r_tree.specs.declared.entry.NodeEntry.{NodeEntry}
 use Rattle.r_tree.specs.declared.remove.Shrunk.{Shrunk}
 use Rattle.r_tree.specs.Entry.{Member, box_of, covers}
 use Rattle.r_tree.specs.Ways.{ways_under}
-use Rattle.r_tree.specs.Steps.{Subtree, RemovesUnder, TakesUnder, Settles}
+use Rattle.r_tree.specs.Steps.{NodeTree, RemovesUnder, TakesUnder, SettlesEntry}
 use Rattle.r_tree.proofs.Inserts.{child_tree}
 use Rattle.r_tree.proofs.Removes.{settles_from}
 use Rattle.r_tree.proofs.Passes.{Tried, tried_after, none_passed, passed_over, passed_down, all_passed, reads_all, reads_last}
@@ -41,7 +41,7 @@ remove_under-requires g t c κs within = (omega arith, (within, (opened, tree)))
     opened : IsSome c.entries.pool.beginning
     opened = let P : Option PageMap → Type 0 = λ x. IsSome x in subst P (sym (c.entries.invariant.0.within.beginning ∙ c.read_node.ensures.within.beginning)) c.requires.opened
 
-    tree : IsTold c.entries.pool → Subtree (pages_in c.entries.pool) (c.args.level - 1) c.index-entry.result.now.child
+    tree : IsTold c.entries.pool → NodeTree (pages_in c.entries.pool) (c.args.level - 1) c.index-entry.result.now.child
     tree told =
         let es : List NodeEntry = c.in_ok-entries.entries.items in
         let a : PoolState = c.read_node.new.pool in
@@ -49,7 +49,7 @@ remove_under-requires g t c κs within = (omega arith, (within, (opened, tree)))
         let tried : Tried a c.args.level c.args.n es =
         tried_after c.args.pool.now a c.args.level c.args.n es c.if-level-eq0.false c.read_node.ensures.same c.read_node.ensures.within.told c.in_ok-entries.ensures.value c.requires.tree in
         let k : IsTold a = sym c.entries.invariant.0.within.told ∙ told in
-        let M : Store → Type 0 = λ x. Subtree x (c.args.level - 1) e.child in
+        let M : Store → Type 0 = λ x. NodeTree x (c.args.level - 1) e.child in
         subst M (sym (same_store c.entries.pool a c.entries.invariant.0.same))
         (child_tree (pages_in a) (c.args.level - 1) c.args.n c.entries.at e es (tried k).0 (tried k).1
         (omega (arith, c.entries-test.true, c.len-at-end.ensures, c.in_ok-entries.entries.ok.0))
@@ -68,13 +68,13 @@ returns-in-Some-clause-value g t c = λ told.
     let x : NodeEntry = c.swap_remove.result in
     let i : Member = (c.args.id, c.args.rough) in
     let l : c.args.level ≡ suc h = omega arith in
-    let S : ℕ → Type 0 = λ y. Subtree m y c.args.n in
+    let S : ℕ → Type 0 = λ y. NodeTree m y c.args.n in
     let R : ℕ → Type 0 = λ y. RemovesUnder m (pages_in c.settle.new.pool) y c.args.n i c.in_ok-shrunk.shrunk in
     let T : Option Shrunk → Type 0 = λ y. TakesUnder (pages_in c.entries.pool) (pages_in c.remove_under.new.pool) h e.child i y in
     let k : IsTold c.entries.pool = c.entries.invariant.0.within.told ∙ (c.read_node.ensures.within.told ∙ told) in
     let same : pages_in c.entries.pool ≡ m = same_store c.entries.pool c.read_node.new.pool c.entries.invariant.0.same ∙ same_store c.read_node.new.pool c.args.pool.now c.read_node.ensures.same in
     let seen : c.entries.entries.items ≡ es = ap (λ v. v.items) c.entries.invariant.1 in
-    let st : Settles m (pages_in c.remove_under.new.pool) h c.args.n i e c.swap_remove.new.self.items c.in-Some.below =
+    let st : SettlesEntry m (pages_in c.remove_under.new.pool) h c.args.n i e c.swap_remove.new.self.items c.in-Some.below =
     settles_from m (pages_in c.entries.pool) (pages_in c.remove_under.new.pool) h c.args.n c.entries.at i e x es c.swap_remove.new.self.items c.in-Some.below same
     (c.in_ok-entries.ensures.value told) (subst S l (c.requires.tree told))
     (omega (arith, c.entries-test.true, c.len-at-end.ensures, c.in_ok-entries.entries.ok.0))

@@ -1,6 +1,6 @@
 -- An entry joins after those before it.
 use Rattle.std.proofs.Common.{sym, subst, arith, length, get_or, ◌≤◌, ◌^◌}
-use Rattle.zero_search.specs.RowsAtZero.{zero_gap}
+use Rattle.best_first.specs.RowsAtZero.{zero_gap}
 use Rattle.rank_cursor.specs.AtZero.{HaveBits}
 use Rattle.rank_cursor.proofs.LeafEntries.{pair_found}
 use Rattle.rank_cursor.proofs.AtZeroEntries.{PairHasBit, one_joined, nothing_joined, all_joined, few_pairs, bits_apart}

@@ -1,7 +1,7 @@
 -- What the entries give takes the place of the block.
 use Rattle.std.proofs.Common.{sym, subst}
 use Rattle.z_code.specs.declared.block.Block.{Block}
-use Rattle.zero_search.specs.ZeroItems.{ZeroItems}
+use Rattle.best_first.specs.ZeroItems.{ZeroItems}
 use Rattle.rank_cursor.specs.AtZero.{HaveBits, list_found}
 use Rattle.rank_cursor.proofs.AlikeLists.{all_alike_itself}
 use Rattle.rank_cursor.proofs.AtZeroEntries.{from_taken}

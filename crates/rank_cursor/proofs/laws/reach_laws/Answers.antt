@@ -1,5 +1,5 @@
 -- Each is a lemma.
-use Rattle.rank_cursor.proofs.Counted.{row_is_reach, ceiling_is_reach, nothing_counted}
+use Rattle.rank_cursor.proofs.CountedItems.{row_is_reach, ceiling_is_reach, nothing_counted}
 use Rattle.rank_cursor.proofs.laws.reach_laws.Goals as goal
 
 -- all of them

@@ -1,8 +1,8 @@
 -- The step that was made, and the line that was written.
 use Rattle.std.proofs.Common.{Some, None, Ok, Err, refl, ap, ◌∙◌}
 use Rattle.best_first.specs.Visits.{told_pages}
-use Rattle.plan_rows.specs.Rows.{counts_of}
-use Rattle.plan_steps.specs.Paying.{prices}
+use Rattle.plan_iterator.specs.Rows.{counts_of}
+use Rattle.plan_iterator.specs.Paying.{prices}
 use Rattle.row_output.specs.declared.next.Next.TheVariants.{Row, End, Refused}
 use Rattle.row_output.proofs.Stepped.{prints_told, row_broken, end_broken}
 use Rattle.row_output.proofs.next.print_next.Goals as goal

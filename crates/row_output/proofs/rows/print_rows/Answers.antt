@@ -4,9 +4,9 @@ use Rattle.sand_base.specs.Faults.{HasCause}
 use Rattle.page_pool.specs.Causes.{HasPageCause}
 use Rattle.best_first.specs.Visits.{told_pages}
 use Rattle.best_first.proofs.Passing.{read_itself, read_both, told_read}
-use Rattle.plan_rows.specs.Rows.{counts_of}
-use Rattle.plan_steps.specs.Paying.{prices}
-use Rattle.row_output.specs.Stepping.{refusal_of}
+use Rattle.plan_iterator.specs.Rows.{counts_of}
+use Rattle.plan_iterator.specs.Paying.{prices}
+use Rattle.row_output.specs.Stepping.{printed_refusal}
 use Rattle.row_output.specs.declared.next.Next.TheVariants as next
 use Rattle.row_output.proofs.CountedLines.{none_so_far, all_so_far, step_is, row_so_far, end_so_far, refused_so_far, failed_so_far}
 use Rattle.row_output.proofs.Told.{told_none, told_stands, told_more, told_end, told_refused, told_failed, told_all}
@@ -53,7 +53,7 @@ rows-preserved g c =
       count = refl;
       read = read_both c.args.desk.now.pool c.rows.desk.pool c.print_next.new.desk.pool c.rows.invariant.read c.print_next.ensures.read;
       faults =
-          (subst (λ r. HasPageCause c.rows.desk.pool c.print_next.new.desk.pool (refusal_of r)) is c.print_next.ensures.refused).counted ∙ c.rows.invariant.faults;
+          (subst (λ r. HasPageCause c.rows.desk.pool c.print_next.new.desk.pool (printed_refusal r)) is c.print_next.ensures.refused).counted ∙ c.rows.invariant.faults;
       sink =
           (subst (λ r. HasCause (g.K.Sink.faults c.rows.out) (g.K.Sink.faults c.print_next.new.out) r) is c.print_next.ensures.cause).done ∙ c.rows.invariant.sink;
       plain = row_so_far c.rows.rows (g.K.Sink.took c.args.out.now) (g.K.Sink.took c.rows.out) (g.K.Sink.took c.print_next.new.out) c.rows.invariant.plain

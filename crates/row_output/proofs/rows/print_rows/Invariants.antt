@@ -1,8 +1,8 @@
 use Rattle.std.proofs.Common.{◌-◌, ◌≡◌, IfSome, ◌≤◌}
 use Rattle.page_pool.specs.Reads.{IsRead}
 use Rattle.best_first.specs.Visits.{told_pages}
-use Rattle.plan_rows.specs.Rows.{counts_of}
-use Rattle.plan_steps.specs.Paying.{prices}
+use Rattle.plan_iterator.specs.Rows.{counts_of}
+use Rattle.plan_iterator.specs.Paying.{prices}
 use Rattle.row_output.proofs.CountedLines.{RowsSoFar}
 use Rattle.row_output.proofs.Told.{SoFarPaid}
 use Rattle.row_output.proofs.rows.print_rows.Given as goal

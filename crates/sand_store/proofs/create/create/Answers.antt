@@ -1,6 +1,6 @@
 -- a check refuses, the command is carried out, or it is refused
 use Rattle.std.proofs.Common.{◌∙◌, sym, ap, subst, ℕ, List, ◌≡◌, None}
-use Rattle.sand_store.specs.Steps.{create_check, Adds}
+use Rattle.sand_store.specs.Steps.{create_check, AddsRelation}
 use Rattle.sand_store.proofs.Creates.{created_store, created_is}
 use Rattle.sand_store.proofs.Refusals.{create_refused, create_stopped}
 use Rattle.sand_store.proofs.create.create.Goals as goal
@@ -12,7 +12,7 @@ returns-in-Some-clause-refused g c =
 
 pub returns-in-Ok-add-clause-store : goal.returns-in-Ok-add-clause-store
 returns-in-Ok-add-clause-store g c =
-    let A : List ℕ → Type 0 = λ n. Adds c.args.pool.now c.add.new.pool c.args.relations.now.items c.add.new.relations.items n c.args.schema in
+    let A : List ℕ → Type 0 = λ n. AddsRelation c.args.pool.now c.add.new.pool c.args.relations.now.items c.add.new.relations.items n c.args.schema in
     let passes : create_check c.args.relations.now.items c.args.name.now c.args.schema ≡ None =
     ap (λ xs. create_check xs c.args.name.now c.args.schema) (sym c.deref.ensures.value) ∙ (sym c.refused.ensures ∙ c.in-None.is) in
     created_store c.args.pool.now c.add.new.pool c.args.relations.now.items c.add.new.relations.items c.args.limits c.args.name.now c.args.schema
@@ -20,7 +20,7 @@ returns-in-Ok-add-clause-store g c =
 
 pub returns-in-Ok-add-clause-created : goal.returns-in-Ok-add-clause-created
 returns-in-Ok-add-clause-created g c =
-    let A : List ℕ → Type 0 = λ n. Adds c.args.pool.now c.add.new.pool c.args.relations.now.items c.add.new.relations.items n c.args.schema in
+    let A : List ℕ → Type 0 = λ n. AddsRelation c.args.pool.now c.add.new.pool c.args.relations.now.items c.add.new.relations.items n c.args.schema in
     let passes : create_check c.args.relations.now.items c.args.name.now c.args.schema ≡ None =
     ap (λ xs. create_check xs c.args.name.now c.args.schema) (sym c.deref.ensures.value) ∙ (sym c.refused.ensures ∙ c.in-None.is) in
     created_is c.args.pool.now c.add.new.pool c.args.relations.now.items c.add.new.relations.items c.args.limits c.args.name.now c.args.schema

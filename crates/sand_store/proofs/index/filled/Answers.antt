@@ -1,7 +1,8 @@
 -- each row from an id on can be taken, and after the last one all are there
 use Rattle.std.proofs.Common.{◌≡◌, ◌+◌, ◌≤◌, ◌∙◌, sym, subst, arith, ℕ}
 use Rattle.page_pool.specs.Steps.{InCommand-trans}
-use Rattle.sand_store.proofs.Filling.{Filling, filling_start, filling_table, filling_can, filling_next, filling_full, filling_end, filling_within, filling_open, cause_passed, row_least}
+use Rattle.sand_store.proofs.HalfFilled.{Filling}
+use Rattle.sand_store.proofs.Filling.{filling_start, filling_table, filling_can, filling_next, filling_full, filling_end, filling_within, filling_open, cause_passed, row_least}
 use Rattle.sand_store.proofs.index.filled.Goals as goal
 
 pub rows-init : goal.rows-init

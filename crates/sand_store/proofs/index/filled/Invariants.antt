@@ -1,6 +1,6 @@
 -- the rows below an id are entered, and the rest is still to come; no call was refused
 use Rattle.std.proofs.Common.{◌-◌}
-use Rattle.sand_store.proofs.Filling.{Filling}
+use Rattle.sand_store.proofs.HalfFilled.{Filling}
 use Rattle.sand_store.proofs.index.filled.Given as goal
 
 abbrev pub invariant-rows : goal.invariant-rows

@@ -4,7 +4,8 @@ use Rattle.statements.specs.declared.column.Column.{Column}
 use Rattle.sand_store.specs.Catalog.{RelationView}
 use Rattle.sand_store.proofs.Changes.{first_at}
 use Rattle.sand_store.proofs.Found.{place_seen, read_twice}
-use Rattle.sand_store.proofs.IndexCall.{no_relation_to_index, column_refused, index_refused, wanted_column, wanted_threshold, set_same, reverted_store}
+use Rattle.sand_store.proofs.IndexRefusals.{no_relation_to_index, column_refused, index_refused}
+use Rattle.sand_store.proofs.IndexCall.{wanted_column, wanted_threshold, set_same, reverted_store}
 use Rattle.sand_store.proofs.IndexCall.{reverted_unchanged, store_indexed, database_indexed, full_by}
 use Rattle.sand_store.proofs.Inserts.{described_at, stands_at, owns_at}
 use Rattle.sand_store.proofs.index.index.Goals as goal

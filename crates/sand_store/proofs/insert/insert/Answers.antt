@@ -2,7 +2,7 @@
 use Rattle.std.proofs.Common.{◌≡◌, ◌∙◌, sym, ap, subst, ℕ, List, set, refl}
 use Rattle.page_pool.specs.Pool.{IsTold}
 use Rattle.tuple_file.specs.Spans.{Learnt}
-use Rattle.sand_store.specs.Calls.{Inserted}
+use Rattle.sand_store.specs.Calls.{RowInserted}
 use Rattle.sand_store.specs.Catalog.{RelationView}
 use Rattle.sand_store.specs.Steps.{Became, grown_view, store_from}
 use Rattle.sand_model.specs.Database.{with_row}
@@ -77,7 +77,7 @@ returns-clause-inserted g c =
     let became : IsTold c.args.pool.now → Became c.args.pool.now.pages c.add.new.pool.pages c.args.limits r u (λ gap. with_row gap c.args.row.now) =
     λ told. (c.in-Ok-add.ensures.grew told).became spans (subst L again c.take_over.ensures.learnt) in
     let us : List RelationView = set rs c.in-Some.at c.take_over.new.self in
-    let P : ℕ → Type 0 = λ id. Inserted (store_from rs c.args.limits c.args.pool.now) (store_from us c.args.limits c.add.new.pool) c.args.name.now c.args.row.now id in
+    let P : ℕ → Type 0 = λ id. RowInserted (store_from rs c.args.limits c.args.pool.now) (store_from us c.args.limits c.add.new.pool) c.args.name.now c.args.row.now id in
     subst P (sym (ap (λ y. y.next) c.relation.view_is))
     (inserted_is c.args.pool.now c.add.new.pool c.args.limits c.args.name.now c.args.row.now rs us c.in-Some.at r u
     c.requires.store f.0 f.1 c.index-relation.ensures (ap (λ y. set rs c.in-Some.at y) same) c.in-Ok.ensures.passes

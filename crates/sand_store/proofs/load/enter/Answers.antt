@@ -3,7 +3,7 @@ use Rattle.std.proofs.Common.{◌≡◌, ℕ, ◌≤◌, List, length, None, sym
 use Rattle.page_pool.specs.Pool.{IsTold}
 use Rattle.sand_model.specs.Database.{with_row}
 use Rattle.sand_store.specs.Catalog.{RelationView}
-use Rattle.sand_store.specs.Loads.{Counts}
+use Rattle.sand_store.specs.Loads.{CountsRows}
 use Rattle.sand_store.specs.Steps.{Became, row_check}
 use Rattle.sand_store.proofs.Loads.{counts_one}
 use Rattle.sand_store.proofs.PlainChecks.{row_fails}
@@ -19,7 +19,7 @@ with_row-requires-clause-some g c =
 
 pub returns-in-Ok-with_row-clause-counts : goal.returns-in-Ok-with_row-clause-counts
 returns-in-Ok-with_row-clause-counts g c =
-    let P : RelationView → Type 0 = λ u. Counts c.args.limits c.args.relation.now u 1 in
+    let P : RelationView → Type 0 = λ u. CountsRows c.args.limits c.args.relation.now u 1 in
     subst P (sym c.take_over.ensures.grown)
     (counts_one c.args.limits c.args.relation.now c.in-Ok-with_row.growth.file c.in-Ok-with_row.growth.paths.items c.in-Ok-with_row.growth.trees.items c.take_over.new.self.spans c.args.row.now c.requires.described
     c.in-Ok.ensures.passes c.in-Ok-with_row.ensures.places c.in-Ok-with_row.ensures.columns)

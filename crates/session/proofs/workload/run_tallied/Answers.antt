@@ -1,7 +1,7 @@
 -- The streams of a workload's run count no fault, and its script isn't too long.
 use Rattle.std.proofs.Common.{sym, subst}
 use Rattle.work_gen.specs.Workload.{workload}
-use Rattle.work_source.specs.Script.{IsScriptOf, bytes_left}
+use Rattle.work_gen.specs.Script.{IsScriptOf, bytes_left}
 use Rattle.session.proofs.WorkloadEndings.{Tallies-run}
 use Rattle.session.proofs.workload.run_tallied.Goals as goal
 

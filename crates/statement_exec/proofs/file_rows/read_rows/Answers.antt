@@ -2,7 +2,7 @@
 use Rattle.std.proofs.Common.{subst, sym}
 use Rattle.std.proofs.lemmas.Result.{err_from_is_err_and}
 use Rattle.std.specs.Prelude.{IfErr}
-use Rattle.csv_load.specs.FileRows.{file_rows, TellsBad}
+use Rattle.csv_load.specs.FileRows.{rows_of_file, TellsBad}
 use Rattle.csv_load.specs.declared.fault.LoadFault.{LoadFault}
 use Rattle.sand_model.specs.StatementChecks.{AreRows}
 use Rattle.statement_exec.proofs.FileFaults.{bad_record, found_records, gives_none}
@@ -24,7 +24,7 @@ pub returns-in_err-rows-clause-none : goal.returns-in_err-rows-clause-none
 returns-in_err-rows-clause-none g c =
     let file : DataFile = record { name = c.args.file.now; schema = c.args.schema.now; header = c.args.header } in
     let p = err_from_is_err_and c.from_residual.result c.from_residual.ensures.1 in
-    let bad : TellsBad (file_rows c.in-Ok.bytes.items c.args.schema.now c.args.header) c.in_err-rows.field-0.0 = rw c.deref.ensures.value at c.in_err-rows.ensures.bad in
+    let bad : TellsBad (rows_of_file c.in-Ok.bytes.items c.args.schema.now c.args.header) c.in_err-rows.field-0.0 = rw c.deref.ensures.value at c.in_err-rows.ensures.bad in
     let none : GivesNone (g.H.Shelf.files c.args.shelf.now) file p.0 =
     subst (λ (w : LoadFault). GivesNone (g.H.Shelf.files c.args.shelf.now) file w) (sym p.2)
     (bad_record (g.H.Shelf.files c.args.shelf.now) file c.in-Ok.bytes.items c.in_err-rows.field-0.0 (rw c.as_str.ensures at c.in-Ok.ensures.whole) c.in-Ok.ensures.short bad) in

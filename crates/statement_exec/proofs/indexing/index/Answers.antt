@@ -2,7 +2,7 @@
 use Rattle.std.proofs.Common.{ℕ, List, refl, subst}
 use Rattle.statements.specs.declared.column.Column.{Column}
 use Rattle.statements.specs.Statement.{Index}
-use Rattle.sand_store.specs.Calls.{IsRefusedBy, is_full}
+use Rattle.sand_store.specs.Calls.{IsStatementRefused, is_index_full}
 use Rattle.statement_exec.proofs.DecidedCalls.{late_index}
 use Rattle.statement_exec.proofs.StoreCalls.{indexed, refused_call, never_index}
 use Rattle.statement_exec.proofs.indexing.index.Goals as goal
@@ -15,11 +15,11 @@ returns-in-Ok-clause-performs g c =
 pub returns-in-Err-clause-performs : goal.returns-in-Err-clause-performs
 returns-in-Err-clause-performs g c =
     let column : Column = record { relation = c.args.relation.now; column = c.args.column.now } in
-    refused_call c.args.store.now c.index.new.self (Index column c.args.threshold) is_full c.in-Err.why refl refl (λ cs setting. (refl, refl))
+    refused_call c.args.store.now c.index.new.self (Index column c.args.threshold) is_index_full c.in-Err.why refl refl (λ cs setting. (refl, refl))
     (never_index c.args.store.now column c.args.threshold) (late_index column c.args.threshold)
     c.in-Err.ensures.unchanged (subst (λ (n : List ℕ).
-    IsRefusedBy is_full c.args.store.now (Index (record { relation = c.args.relation.now; column = n }) c.args.threshold) c.in-Err.why) c.as_str-2.ensures
-    (subst (λ (n : List ℕ). IsRefusedBy is_full c.args.store.now
+    IsStatementRefused is_index_full c.args.store.now (Index (record { relation = c.args.relation.now; column = n }) c.args.threshold) c.in-Err.why) c.as_str-2.ensures
+    (subst (λ (n : List ℕ). IsStatementRefused is_index_full c.args.store.now
     (Index (record { relation = n; column = c.as_str-2.result.now }) c.args.threshold) c.in-Err.why) c.as_str.ensures c.in-Err.ensures.refused)) c.in-Err.ensures.cause
 
 pub returns-in-Ok-clause-indexed : goal.returns-in-Ok-clause-indexed

@@ -2,7 +2,7 @@
 use Rattle.std.proofs.Common.{ap, refl, ◌∙◌}
 use Rattle.z_code.specs.Block.{IsBlock}
 use Rattle.page_pool.specs.Desk.{DeskState}
-use Rattle.rank_cursor.proofs.Searching.{refused_block}
+use Rattle.rank_cursor.proofs.SearchPages.{refused_block}
 use Rattle.dist_join.specs.Looks.{AreNear}
 use Rattle.dist_join.specs.OverPages.{paged}
 use Rattle.dist_join.proofs.Expanding.{at_desk, by_desk, never, can_look, found_ok, visits_ok, visits_tried, found_falls, nothing_falls}

@@ -1,7 +1,7 @@
 -- A visit finds what the ranking has at a place, at its price; no other value than a block is asked for where pages are told.
 use Rattle.z_code.specs.Block.{IsBlock}
 use Rattle.pmr_tree.specs.Quadtree.{IsNearIn}
-use Rattle.rank_cursor.proofs.Searching.{by_told, at_told, refused_block, nothing_falls}
+use Rattle.rank_cursor.proofs.SearchPages.{by_told, at_told, refused_block, nothing_falls}
 use Rattle.far_cursor.proofs.FarSearching.{asked_place, never, found_ok, visits_ok, visits_tried, visits_refused}
 use Rattle.far_cursor.proofs.FarWeights.{found_falls}
 use Rattle.far_cursor.proofs.as_hierarchy.FarTreeHierarchy.expand_near.Goals as goal

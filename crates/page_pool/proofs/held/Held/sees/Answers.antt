@@ -1,5 +1,5 @@
 use Rattle.std.proofs.Common.{sym, subst, ◌∙◌, arith}
-use Rattle.page_pool.specs.Images.{IsHeld}
+use Rattle.page_pool.specs.Images.{AreSixteenSlots}
 use Rattle.page_pool.proofs.Sights.{seen_in_slot, seen_in_none}
 use Rattle.page_pool.proofs.held.Held.sees.Goals as goal
 
@@ -9,4 +9,4 @@ returns-then-is_seen_in c = sym (seen_in_slot c.args.self.now c.args.made c.args
 
 -- no slot has one
 pub returns : goal.returns
-returns c = sym (seen_in_none c.args.self.now c.args.made c.args.until (subst IsHeld c.self.view_is c.self.invariant) (λ id low. c.slots.invariant id (omega arith)))
+returns c = sym (seen_in_none c.args.self.now c.args.made c.args.until (subst AreSixteenSlots c.self.view_is c.self.invariant) (λ id low. c.slots.invariant id (omega arith)))

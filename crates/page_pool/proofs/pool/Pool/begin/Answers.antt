@@ -1,7 +1,7 @@
 use Rattle.std.proofs.Common.{◌≡◌, ℕ, Some, None, sym, ap, subst, ◌∙◌}
 use Rattle.std.specs.FinMap as map
 use Rattle.std.proofs.lemmas.Result.{err_from_is_err_and}
-use Rattle.page_pool.specs.Commands.{Writes, WritesInOrder}
+use Rattle.page_pool.specs.Commands.{WritesPages, WritesInOrder}
 use Rattle.page_pool.specs.Inside.{IsWhole, state_of}
 use Rattle.page_pool.proofs.WritesAdd.{nothing_staged, whole-opened, writes_opened, all_stored, advance_refused}
 use Rattle.page_pool.proofs.pool.Pool.begin.Goals as goal
@@ -49,7 +49,7 @@ returns g c =
     record {
       writes = record {
         writes = writes_opened c.args.self.now c.self.inside.archive c.advance.new.self c.self.inside.staged c.self.inside.frames c.self.inside.numbers c.settle.new.self c.self.inside.is_open c.self.inside.gets c.self.inside.refused
-            none c.in_ok-advance.ensures.begun (ap (λ s. s.top) c.settle.ensures) (subst (Writes c.args.self.now) (sym c.self.view_is) c.in_ok-flush.ensures.writes.writes);
+            none c.in_ok-advance.ensures.begun (ap (λ s. s.top) c.settle.ensures) (subst (WritesPages c.args.self.now) (sym c.self.view_is) c.in_ok-flush.ensures.writes.writes);
         ascending = subst (WritesInOrder c.args.self.now) (sym c.self.view_is) c.in_ok-flush.ensures.writes.ascending;
         accepted = record { dirty = dirty; freed = freed };
         cause = record { counted = ap (λ d. d.faults) c.in_ok-advance.ensures.begun.disk ∙ ap (λ s. s.disk.faults) c.self.view_is ∙ c.in_ok-flush.ensures.writes.cause.counted; damaged = tt };

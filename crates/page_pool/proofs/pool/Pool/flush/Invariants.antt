@@ -1,11 +1,11 @@
 use Rattle.std.proofs.Common.{◌≡◌, None}
-use Rattle.page_pool.specs.Commands.{Writes, WritesInOrder, waiting_count}
+use Rattle.page_pool.specs.Commands.{WritesPages, WritesInOrder, waiting_count}
 use Rattle.page_pool.proofs.pool.Pool.flush.Given as goal
 
 -- what was written so far, in order, with no fault
 abbrev pub invariant-waiting : goal.invariant-waiting
 invariant-waiting g l = record {
-  writes : Writes l.fn.self l.self;
+  writes : WritesPages l.fn.self l.self;
   ascending : WritesInOrder l.fn.self l.self;
   closed : l.self.beginning ≡ None;
   faults : l.self.disk.faults ≡ l.fn.self.disk.faults;

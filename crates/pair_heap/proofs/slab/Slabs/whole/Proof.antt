@@ -23,7 +23,7 @@ use Rattle.core.proofs.alloc.Calls.{Goes-blank}
 use Rattle.std.proofs.raw_atomic.Walks.{proved_at, leaves}
 use Rattle.pair_heap.proofs.Nodes.{R, word, word_told, word_typed, ptr_typed, worded}
 use Rattle.pair_heap.proofs.SlabRooms.{unchained, rearranged, together, cleared, made_whole}
-use Rattle.pair_heap.specs.Chain.{places}
+use Rattle.pair_heap.specs.Chain.{chain_places}
 use Rattle.pair_heap.specs.Slot.{slots_own}
 use Rattle.pair_heap.specs.Slab.{all_slots, blocks_own}
 use Rattle.pair_heap.specs.declared.slab.Blocks.{Blocks}
@@ -49,14 +49,14 @@ whole_spec 𝓤 𝓛 𝓜 𝓡 wired U L =
     let is_me = word_told me.ptr z.0.4.0 are.0.0 in let is_trees = word_told trees.ptr z.0.4.1.0 are.1.0.0 in let is_spares = word_told spares.ptr z.0.4.1.1.0 are.1.1.0.0 in
     let toks = ‵ (flft κs.0 qs.0) ⊛ ‵ ftrue in
     qed 𝓛 ((toks ⊛ ‵ (owns (types_at En.signature.params κs) z.0.3 z.0.4))
-    ∷ (given (κs.0 ⊑ U.lives) (‵ ftrue) ⊛ given (IsPermutation (places trees.chain ++ spares.places) (all_slots me.slots)) (‵ ftrue)) ∷ []) ∵
+    ∷ (given (κs.0 ⊑ U.lives) (‵ ftrue) ⊛ given (IsPermutation (chain_places trees.chain ++ spares.places) (all_slots me.slots)) (‵ ftrue)) ∷ []) ∵
     move ! (1 ∷ []) $ split ! $ drop ! $ learn ! (λ asked. drop ! $ split ! $ move ! (1 ∷ []) $ fsplit3 ! $
     fsplit ! $ drop ! $ move ! (1 ∷ []) $ fsplit ! $ drop ! $ move ! (2 ∷ []) $ fsplit ! $ fsplit ! $ drop ! $
     -- [the spare slots; nothing; the trees; the slabs; the lifetimes]
     use1 𝓛 (‵ (slots_own Thing spares.places)) (unchained U L 𝓛 spares.places spares.ptr) $
-    move ! (2 ∷ 0 ∷ []) $ use1 𝓛 (‵ (slots_own Thing (places trees.chain))) (cleared U L 𝓛 trees.chain trees.ptr) $
-    use2 𝓛 (‵ (slots_own Thing (places trees.chain ++ spares.places))) (together U L 𝓛 (places trees.chain) spares.places) $
-    use1 𝓛 (‵ (slots_own Thing (all_slots me.slots))) (rearranged U L 𝓛 (places trees.chain ++ spares.places) (all_slots me.slots) asked) $ move ! (0 ∷ 2 ∷ []) $
+    move ! (2 ∷ 0 ∷ []) $ use1 𝓛 (‵ (slots_own Thing (chain_places trees.chain))) (cleared U L 𝓛 trees.chain trees.ptr) $
+    use2 𝓛 (‵ (slots_own Thing (chain_places trees.chain ++ spares.places))) (together U L 𝓛 (chain_places trees.chain) spares.places) $
+    use1 𝓛 (‵ (slots_own Thing (all_slots me.slots))) (rearranged U L 𝓛 (chain_places trees.chain ++ spares.places) (all_slots me.slots) asked) $ move ! (0 ∷ 2 ∷ []) $
     use2 𝓛 (‵ (blocks_own Thing (length me.slots) me.ptr)) (made_whole U L 𝓛 me.slots me.ptr) $
     -- [the blocks; nothing; the lifetimes]
     regoal ! (λ (us : List Val). prop (Run us)) (λ i. is_me i ++ (is_trees i ++ (is_spares i ++ []))) refl $

@@ -1,7 +1,7 @@
 -- The places stand over the pages that are told.
 use Rattle.std.proofs.Common.{List, subst, sym}
 use Rattle.plan_stages.specs.Fetches.{SpotsStand}
-use Rattle.plan_places.specs.declared.spot.Spot.{Spot}
+use Rattle.plan_names.specs.declared.spot.Spot.{Spot}
 use Rattle.plan_stages.proofs.Ready.{fetch_ready}
 use Rattle.plan_stages.proofs.fetch.FetchRowStage.work.Goals as goal
 

@@ -1,6 +1,6 @@
 -- Ids begin at 1, so none is passed over at the beginning.
 use Rattle.std.proofs.Common.{refl}
-use Rattle.plan_places.proofs.LookUps.{all_above_zero}
+use Rattle.plan_names.proofs.LookUps.{all_above_zero}
 use Rattle.plan_stages.proofs.matching.Match.new.Goals as goal
 
 pub returns : goal.returns

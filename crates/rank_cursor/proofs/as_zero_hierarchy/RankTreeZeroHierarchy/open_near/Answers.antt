@@ -1,9 +1,10 @@
 -- A visit puts into the queue what the ranking has at a place, at its price; no other value than a block is asked for where pages are told.
 use Rattle.z_code.specs.Block.{IsBlock}
 use Rattle.pmr_tree.specs.Quadtree.{IsNearIn}
-use Rattle.zero_search.specs.RowsAtZero.{zero_gap}
+use Rattle.best_first.specs.RowsAtZero.{zero_gap}
 use Rattle.rank_cursor.proofs.OpenedAtZero.{opens_nothing, opens_place}
-use Rattle.rank_cursor.proofs.Searching.{by_told, at_told, refused_block, asked_place, never, visits_ok, visits_tried, visits_refused}
+use Rattle.rank_cursor.proofs.SearchPages.{by_told, at_told, refused_block}
+use Rattle.rank_cursor.proofs.Searching.{asked_place, never, visits_ok, visits_tried, visits_refused}
 use Rattle.rank_cursor.proofs.as_zero_hierarchy.RankTreeZeroHierarchy.open_near.Goals as goal
 
 pub returns-then-not-is_block-clause-opened : goal.returns-then-not-is_block-clause-opened

@@ -1,7 +1,7 @@
 -- A ranking over pages that the quadtree fits is sound, and so lawful.
 use Rattle.rank_cursor.specs.Cursor.{ranking_over}
 use Rattle.rank_cursor.proofs.Lawful.{is_lawful}
-use Rattle.rank_cursor.proofs.Searching.{sound}
+use Rattle.rank_cursor.proofs.SearchPages.{sound}
 use Rattle.rank_cursor.proofs.rank_tree.RankTree.laws.Goals as goal
 
 pub returns : goal.returns

@@ -1,0 +1,7 @@
+-- the command is open, and the tree is one
+use Rattle.page_pool.specs.Pool.{IsOpen, IsTold}
+use Rattle.code_btree.specs.Tree.{IsTree, pages_in}
+use Rattle.benches.proofs.speed.command.Given as goal
+
+abbrev pub invariant-inserts : goal.invariant-inserts
+invariant-inserts l = record { opened : IsOpen l.pool; tree : IsTold l.pool → IsTree (pages_in l.pool) l.tree }

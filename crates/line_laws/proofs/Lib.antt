@@ -1,2 +1,0 @@
--- a reading of each line
-pub mod Readings

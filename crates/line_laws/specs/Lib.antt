@@ -1,1 +1,0 @@
--- No definitions: the law is said in the words of script_text.

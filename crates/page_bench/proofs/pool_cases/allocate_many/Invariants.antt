@@ -1,6 +1,0 @@
--- the command stays open
-use Rattle.page_pool.specs.Pool.{IsOpen}
-use Rattle.page_bench.proofs.pool_cases.allocate_many.Given as goal
-
-abbrev pub invariant-pages : goal.invariant-pages
-invariant-pages l = IsOpen l.run.pool

@@ -1,6 +1,0 @@
--- the command stays open through its steps
-use Rattle.page_pool.specs.Pool.{IsOpen}
-use Rattle.page_bench.proofs.pool_cases.carry_out.Given as goal
-
-abbrev pub invariant-steps : goal.invariant-steps
-invariant-steps l = IsOpen l.run.pool

@@ -1,9 +1,0 @@
--- a command stays open, or closed, while pages are read
-use Rattle.std.proofs.Common.{◌≡◌}
-use Rattle.page_bench.proofs.pool_cases.read_all.Given as goal
-
-abbrev pub invariant-pages : goal.invariant-pages
-invariant-pages l = record {
-  beginning : l.run.pool.beginning ≡ l.fn.run.pool.beginning;
-  shown : l.run.pool.live ≡ l.fn.run.pool.live;
-}

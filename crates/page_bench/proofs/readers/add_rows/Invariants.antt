@@ -1,6 +1,0 @@
--- the disk doesn't tell its pages
-use Rattle.std.proofs.Common.{◌≡◌, false}
-use Rattle.page_bench.proofs.readers.add_rows.Given as goal
-
-abbrev pub invariant-rows : goal.invariant-rows
-invariant-rows g l = l.desk.pool.disk.told ≡ false

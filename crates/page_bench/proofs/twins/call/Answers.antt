@@ -1,6 +1,0 @@
--- a look-up leaves the tree as it is
-use Rattle.page_bench.proofs.Kept.{kept}
-use Rattle.page_bench.proofs.twins.call.Goals as goal
-
-pub returns-clause-tree : goal.returns-clause-tree
-returns-clause-tree c = λ told. kept c.args.pool.now c.get.new.pages c.args.tree.now c.in_ok-found.ensures.looks.read c.requires.tree told

@@ -1,2 +1,0 @@
--- joins and semi-joins as the sources of plans
-pub mod Joins

@@ -1,4 +1,0 @@
--- sources of rows without distance
-pub mod Plain
--- what their steps cost
-pub mod Prices

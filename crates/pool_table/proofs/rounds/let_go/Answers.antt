@@ -1,6 +1,0 @@
--- the other stamps are held as before
-use Rattle.pool_table.proofs.Held.{others}
-use Rattle.pool_table.proofs.rounds.let_go.Goals as goal
-
-pub returns-clause-others : goal.returns-clause-others
-returns-clause-others c = others c.args.run.now.pool c.release.new.self c.args.kept.stamp c.release.ensures

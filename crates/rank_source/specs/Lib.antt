@@ -1,2 +1,0 @@
--- a ranking as the source of a plan
-pub mod Rankings

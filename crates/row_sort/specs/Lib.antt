@@ -1,2 +1,0 @@
--- rows with keys
-pub mod Keyed

@@ -1,8 +1,0 @@
-use plan_rows::Answer;
-
-/// A row with the key by which it is sorted.
-#[derive(Drop)]
-pub struct Keyed<K> {
-    pub key: K,
-    pub row: Answer,
-}

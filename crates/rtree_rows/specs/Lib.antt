@@ -1,2 +1,0 @@
--- The rows that an R-tree lists.
-pub mod Listing

@@ -1,8 +1,0 @@
--- What the loop over the bytes keeps.
-use Rattle.std.proofs.Common.{ℕ, List, ◌++◌, take}
-use Rattle.run_summary.specs.Tally.{HasCounted}
-use Rattle.run_summary.proofs.tally.Tally.take.Given as goal
-
--- the lines of the text and of the bytes so far were counted
-abbrev pub invariant-bytes : goal.invariant-bytes
-invariant-bytes l = (text : List ℕ) → HasCounted l.initial.self text → HasCounted l.self (text ++ take l.byte-index l.bytes)

@@ -1,6 +1,0 @@
--- The script of a workload is taken whole.
-use Rattle.work_source.proofs.WorkLines.{IsScriptOf-workload}
-use Rattle.work_source.proofs.work_source.WorkSource.new.Goals as goal
-
-pub returns-clause-script : goal.returns-clause-script
-returns-clause-script c = IsScriptOf-workload c.args.n c.requires.most

@@ -1,8 +1,0 @@
--- The ids so far.
-use Rattle.std.proofs.Common.{All, take}
-use Rattle.zero_search.specs.ZeroItems.{HasBit}
-use Rattle.zero_search.proofs.zero_queue.has_bits.Given as goal
-
--- each id so far has a bit
-abbrev pub invariant-found : goal.invariant-found
-invariant-found g l = All (HasBit l.ids.below) (take l.item-index l.found)
