@@ -11,7 +11,7 @@ use Rattle.pmr_tree.specs.Starts.{IsLeafIn, MeetsAlone, HasLeaf}
 use Rattle.pmr_tree.proofs.Begins.{apart_child, codes_in}
 use Rattle.pmr_tree.proofs.KeyLists.{Parts, reads_children, own_inner}
 use Rattle.pmr_tree.proofs.LeaveSteps.{shrunk_unmet}
-use Rattle.pmr_tree.proofs.MergeSteps.{some_inner, still_inner, shrunk_inner}
+use Rattle.pmr_tree.proofs.MergeSteps.{some_large, still_inner, shrunk_inner}
 use Rattle.pmr_tree.proofs.Quarter.{child_block}
 use Rattle.pmr_tree.proofs.Steps.{stands_sibling, stands_after, becomes_four}
 
@@ -37,7 +37,7 @@ stepped leaf b id ks p q r s block rise reads c hc level code at =
           (after m n 0 1 (omega arith) f new one q parts.second (u 1 (omega arith) (omega arith)))
           (after m n 0 2 (omega arith) f new one r parts.third (u 2 (omega arith) (omega arith)))
           (after m n 0 3 (omega arith) f new one s parts.fourth (u 3 (omega arith) (omega arith))))
-          (λ n new st no inner. some_inner n b new new st no (inl inner) refl)
+          (λ n new st no inner. some_large n b new new st no (inl (inl inner)) refl)
       | inr k ↦ elim k [
         | inl a ↦
             from 1 (omega arith) q parts.second a
@@ -48,7 +48,7 @@ stepped leaf b id ks p q r s block rise reads c hc level code at =
             (before m n 0 p parts.first (u 0 (omega arith) (omega arith))) one
             (after m n 1 2 (omega arith) f new one r parts.third (u 2 (omega arith) (omega arith)))
             (after m n 1 3 (omega arith) f new one s parts.fourth (u 3 (omega arith) (omega arith))))
-            (λ n new st no inner. some_inner n b new new st no (inr (inl inner)) refl)
+            (λ n new st no inner. some_large n b new new st no (inr (inl (inl inner))) refl)
         | inr e ↦ elim e [
           | inl a ↦
               from 2 (omega arith) r parts.third a
@@ -58,7 +58,7 @@ stepped leaf b id ks p q r s block rise reads c hc level code at =
               four m n ks ks new new
               (before m n 0 p parts.first (u 0 (omega arith) (omega arith))) (before m n 1 q parts.second (u 1 (omega arith) (omega arith))) one
               (after m n 2 3 (omega arith) f new one s parts.fourth (u 3 (omega arith) (omega arith))))
-              (λ n new st no inner. some_inner n b new new st no (inr (inr (inl inner))) refl)
+              (λ n new st no inner. some_large n b new new st no (inr (inr (inl (inl inner)))) refl)
           | inr a ↦
               from 3 (omega arith) s parts.fourth a
               (λ m h n new one.
@@ -66,7 +66,7 @@ stepped leaf b id ks p q r s block rise reads c hc level code at =
               four m n ks ks ks new
               (before m n 0 p parts.first (u 0 (omega arith) (omega arith))) (before m n 1 q parts.second (u 1 (omega arith) (omega arith)))
               (before m n 2 r parts.third (u 2 (omega arith) (omega arith))) one)
-              (λ n new st no inner. some_inner n b new new st no (inr (inr (inr inner))) refl)
+              (λ n new st no inner. some_large n b new new st no (inr (inr (inr (inl inner)))) refl)
         ]
       ]
     ]

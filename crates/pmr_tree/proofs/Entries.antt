@@ -1,14 +1,17 @@
 -- Entries and the keys in them; a leaf's ids and values, as they are read.
-use Rattle.std.proofs.Common.{◌≡◌, ℕ, zero, suc, ◌+◌, ◌^◌, ◌<◌, ◌≤◌, Bool, true, false, cond, not, List, [], ◌∷◌, ◌++◌, length, map, refl, sym, ◌∙◌, ap, subst, arith, get_or, drop, take, add-one}
+use Rattle.std.proofs.Common.{◌≡◌, ◌≢◌, ◌⊎◌, inl, inr, ℕ, zero, suc, ◌+◌, ◌^◌, ◌<◌, ◌≤◌, Bool, true, false, cond, not, List, [], ◌∷◌, ◌++◌, length, map, refl, sym, ◌∙◌, ap, subst, arith, get_or, drop, take, add-one}
 use Rattle.std.specs.Prelude.{filter, nat_eq, Option, None, Some, MatchOption, IfSome}
 use Rattle.std.proofs.lemmas.Bool.Decides.{nat_tests}
+use Rattle.sand_base.specs.declared.TheConstants.{COORDINATE_BITS}
 use Rattle.z_code.specs.declared.block.Block.{Block}
 use Rattle.std.proofs.Math.Seq.{drop-cons}
 use Rattle.std.proofs.lemmas.List.Elements.{filter-append}
 use Rattle.sand_model.specs.Tree.{Tree, Leaf, Inner, add, without}
 use Rattle.pmr_tree.specs.Lists.{Each, is_from_to, put_all, take_all}
+use Rattle.pmr_tree.specs.FirstIds.{IsUpTo, HasFirstIds, AreFirstPairs}
 use Rattle.pmr_tree.specs.Keys.{key_of, mark_of, leaf_keys, own, IsId, ReadsKeys, id_in, ids_in}
 use Rattle.pmr_tree.specs.Leaves.{firsts, Passes, own_pairs, kept_of, ids_of, ListPasses, HasLeafIds}
+use Rattle.pmr_tree.specs.Changes.{KeysStand}
 use Rattle.pmr_tree.specs.Listing.{Pair}
 use Rattle.pmr_tree.specs.declared.leaf.Kept.{Kept}
 use Rattle.pmr_tree.proofs.AscendingLists.{holds, fails, test, each_filter}
@@ -133,18 +136,121 @@ ids_met f list found e = ap ids_of e ∙ map_filter (λ k. k.id) f list
 pub passes_met : (test : ℕ → ℕ → Bool) (f : ℕ → Bool) (list found : List Kept) → found ≡ filter (λ k. f k.id) list → ListPasses test list → ListPasses test found
 passes_met test f list found e h = subst (ListPasses test) (sym e) (each_filter (λ k. test k.id k.value ≡ true) (λ k. f k.id) list h)
 
--- a read of a block's own entries
-pub leaf_read : {V : Type 0} (items : V → List Kept) (b : Block) (es pairs : List Pair) (found : Option V) → pairs ≡ own_pairs b es
-    → MatchOption found (length pairs ≡ 0) (λ list. (0 < length pairs) × (items list ≡ kept_of pairs))
-    → MatchOption found (own b (firsts es) ≡ []) (λ list. HasLeafIds b (firsts es) (ids_of (items list)))
-leaf_read items b es pairs None is h = no_leaf_found b es pairs is h
-leaf_read items b es pairs (Some list) is h = subst (λ t. HasLeafIds b (firsts es) (ids_of t)) (sym h.1) (leaf_found b es pairs is h.0)
+-- what is first of a list
+take_none : {A : Type 0} (n : ℕ) (xs : List A) → 1 ≤ n → length (take n xs) ≡ 0 → xs ≡ []
+take_none n [] l h = refl
+take_none zero (x ∷ xs) l h = absurd (omega (arith, l))
+take_none (suc n) (x ∷ xs) l h = absurd (omega (arith, h))
 
-pub passes_read : {V : Type 0} (items : V → List Kept) (test : ℕ → ℕ → Bool) (b : Block) (es pairs : List Pair) (found : Option V) → pairs ≡ own_pairs b es → Passes test es
+each_first : {A : Type 0} (P : A → Type 0) (n : ℕ) (xs : List A) → Each P xs → Each P (take n xs)
+each_first P zero xs h = tt
+each_first P (suc n) [] h = tt
+each_first P (suc n) (x ∷ xs) h = (h.0, each_first P n xs h.1)
+
+firsts_take : (n : ℕ) (es : List Pair) → firsts (take n es) ≡ take n (firsts es)
+firsts_take zero es = refl
+firsts_take (suc n) [] = refl
+firsts_take (suc n) (e ∷ es) = ap (λ t. e.0 ∷ t) (firsts_take n es)
+
+-- the ids of the first keys of a leaf: all, or so many
+ids_first : (b : Block) (most n : ℕ) (ids : List ℕ) → most ≤ n → 1 ≤ n → Each IsId ids → IsUpTo most ids (ids_in (take n (leaf_keys b ids)))
+ids_first b most zero ids l some h = absurd (omega (arith, some))
+ids_first b most (suc n) [] l some h = inl (ap (λ t. ids_in (mark_of b ∷ t)) (nothing n) ∙ ids_leaf b [] tt) where
+  nothing : (n : ℕ) → take {A = ℕ} n [] ≡ []
+  nothing zero = refl
+  nothing (suc n) = refl
+ids_first b most (suc n) (x ∷ xs) l some h = part (suc n) (x ∷ xs) h l where
+  in_part : (n : ℕ) (ids : List ℕ) → Each IsId ids → ids_in (take n (map (key_of b) ids)) ≡ take n ids
+  in_part zero ids h = refl
+  in_part (suc n) [] h = refl
+  in_part (suc n) (x ∷ xs) h =
+      let e = id_in_key b x h.0.small in
+      let some : not (nat_eq x 0) ≡ true = not_mark x h.0.above_mark in
+      rw (e, some) (ap (λ t. x ∷ t) (in_part n xs h.1))
+    where
+      not_mark : (x : ℕ) → 1 ≤ x → not (nat_eq x 0) ≡ true
+      not_mark x l = grind (arith, nat_tests)
+
+  whole_or : (n : ℕ) (ids : List ℕ) → (take n ids ≡ ids) ⊎ ((n ≤ length ids) × (n ≤ length (take n ids)))
+  whole_or zero ids = inr (omega arith, omega arith)
+  whole_or (suc n) [] = inl refl
+  whole_or (suc n) (x ∷ xs) = more n x xs (whole_or n xs) where
+    more : (n x : ℕ) (xs : List ℕ) → (take n xs ≡ xs) ⊎ ((n ≤ length xs) × (n ≤ length (take n xs)))
+        → (take (suc n) (x ∷ xs) ≡ x ∷ xs) ⊎ ((suc n ≤ length (x ∷ xs)) × (suc n ≤ length (take (suc n) (x ∷ xs))))
+    more n x xs (inl e) = inl (ap (λ t. x ∷ t) e)
+    more n x xs (inr h) = inr (omega (arith, h.0), omega (arith, h.1))
+
+  part : (n : ℕ) (ids : List ℕ) → Each IsId ids → most ≤ n → IsUpTo most ids (ids_in (take n (map (key_of b) ids)))
+  part n ids h l = subst (IsUpTo most ids) (sym (in_part n ids h)) (go (whole_or n ids)) where
+    go : (take n ids ≡ ids) ⊎ ((n ≤ length ids) × (n ≤ length (take n ids))) → IsUpTo most ids (take n ids)
+    go (inl e) = inl e
+    go (inr h) = inr (omega (arith, l, h.0), omega (arith, l, h.1))
+
+own_first : (b : Block) (ks : List ℕ) (most n : ℕ) → KeysStand b ks → own b ks ≢ [] → most ≤ n → 1 ≤ n → IsUpTo most (ids_in (own b ks)) (ids_in (take n (own b ks)))
+own_first b ks most n stands some l one = go stands.tree stands.reads where
+  go : (t : Tree) → ReadsKeys b ks t → IsUpTo most (ids_in (own b ks)) (ids_in (take n (own b ks)))
+  go (Inner p q r s) read = absurd (some (own_inner b ks p q r s read))
+  go (Leaf ids) read =
+      let own_is : own b ks ≡ leaf_keys b ids = own_leaf b ks ids read in
+      let each = read.shaped.1.1 in
+      subst (λ x. IsUpTo most (ids_in x) (ids_in (take n x))) (sym own_is) (subst (λ x. IsUpTo most x (ids_in (take n (leaf_keys b ids)))) (sym (ids_leaf b ids each)) (ids_first b most n ids l one each))
+
+-- a read of a block's own entries, or of the first of them
+first_pairs_leaf : (b : Block) (most : ℕ) (es pairs : List Pair) → KeysStand b (firsts es) → AreFirstPairs b most es pairs → 0 < length pairs → HasFirstIds b most (firsts es) (ids_of (kept_of pairs))
+first_pairs_leaf b most es pairs stands (inl is) some =
+    let leaf = leaf_found b es pairs is some in
+    record { some = leaf.some; up_to = inl leaf.ids_are; whole = λ up. leaf.ids_are }
+first_pairs_leaf b most es pairs stands (inr (deep, is)) some = record {
+  some = own_some;
+  up_to = subst (IsUpTo most (ids_in (own b (firsts es)))) (sym ids) (own_first b (firsts es) most (most + 1) stands own_some (omega arith) (omega arith));
+  whole = λ up. absurd (omega (arith, deep, up));
+} where
+  own_some : own b (firsts es) ≢ []
+  own_some none =
+      let no_own : own_pairs b es ≡ [] = no_pairs (own_pairs b es) (firsts_own b es ∙ none) in
+      let z : length pairs ≡ 0 = ap length is ∙ ap (λ x. length (take (most + 1) x)) no_own ∙ none_of (most + 1) in
+      absurd (omega (arith, some, z))
+    where
+      no_pairs : (xs : List Pair) → firsts xs ≡ [] → xs ≡ []
+      no_pairs [] h = refl
+      no_pairs (x ∷ xs) h = cc
+
+      none_of : (n : ℕ) → length (take {A = Pair} n []) ≡ 0
+      none_of zero = refl
+      none_of (suc n) = refl
+
+  ids : ids_of (kept_of pairs) ≡ ids_in (take (most + 1) (own b (firsts es)))
+  ids = ids_kept pairs ∙ ap ids_in (ap firsts is ∙ firsts_take (most + 1) (own_pairs b es) ∙ ap (take (most + 1)) (firsts_own b es))
+
+first_pairs_none : (b : Block) (most : ℕ) (es pairs : List Pair) → AreFirstPairs b most es pairs → length pairs ≡ 0 → own b (firsts es) ≡ []
+first_pairs_none b most es pairs (inl is) none = no_leaf_found b es pairs is none
+first_pairs_none b most es pairs (inr (deep, is)) none =
+    sym (firsts_own b es) ∙ ap firsts (take_none (most + 1) (own_pairs b es) (omega arith) (sym (ap length is) ∙ none))
+
+pub leaf_read : {V : Type 0} (items : V → List Kept) (b : Block) (most : ℕ) (es pairs : List Pair) (found : Option V) → KeysStand b (firsts es) → AreFirstPairs b most es pairs
+    → MatchOption found (length pairs ≡ 0) (λ list. (0 < length pairs) × (items list ≡ kept_of pairs))
+    → MatchOption found (own b (firsts es) ≡ []) (λ list. HasFirstIds b most (firsts es) (ids_of (items list)))
+leaf_read items b most es pairs None stands is h = first_pairs_none b most es pairs is h
+leaf_read items b most es pairs (Some list) stands is h = subst (λ t. HasFirstIds b most (firsts es) (ids_of t)) (sym h.1) (first_pairs_leaf b most es pairs stands is h.0)
+
+first_passes : (test : ℕ → ℕ → Bool) (b : Block) (most : ℕ) (es pairs : List Pair) → AreFirstPairs b most es pairs → Passes test es → ListPasses test (kept_of pairs)
+first_passes test b most es pairs (inl is) h = found_passes test b es pairs is h
+first_passes test b most es pairs (inr (deep, is)) h = passes_kept test pairs
+    (subst (Passes test) (sym is) (each_first (λ e. 1 ≤ id_in e.0 → test (id_in e.0) e.1 ≡ true) (most + 1) (own_pairs b es)
+    (each_filter (λ e. 1 ≤ id_in e.0 → test (id_in e.0) e.1 ≡ true) (λ e. is_from_to (mark_of b) (mark_of b + 2 ^ 32) e.0) es h)))
+
+pub passes_read : {V : Type 0} (items : V → List Kept) (test : ℕ → ℕ → Bool) (b : Block) (most : ℕ) (es pairs : List Pair) (found : Option V) → AreFirstPairs b most es pairs → Passes test es
     → MatchOption found (length pairs ≡ 0) (λ list. (0 < length pairs) × (items list ≡ kept_of pairs))
     → IfSome found (λ list. ListPasses test (items list))
-passes_read items test b es pairs None is w h = tt
-passes_read items test b es pairs (Some list) is w h = subst (ListPasses test) (sym h.1) (found_passes test b es pairs is w)
+passes_read items test b most es pairs None is w h = tt
+passes_read items test b most es pairs (Some list) is w h = subst (ListPasses test) (sym h.1) (first_passes test b most es pairs is w)
+
+-- a leaf has the ids that its keys tell; above the finest level they are those that were read
+pub leaf_all : (b : Block) (most : ℕ) (ks ids : List ℕ) → HasFirstIds b most ks ids → HasLeafIds b ks (ids_in (own b ks))
+leaf_all b most ks ids h = record { some = h.some; ids_are = refl }
+
+pub leaf_whole : (b : Block) (most : ℕ) (ks ids : List ℕ) → HasFirstIds b most ks ids → b.level < COORDINATE_BITS → HasLeafIds b ks ids
+leaf_whole b most ks ids h up = record { some = h.some; ids_are = h.whole up }
 
 -- what an answer says, where it is known which it is
 pub none_found : {V : Type 0} (found : Option V) (A : Type 0) (B : V → Type 0) → found ≡ None → MatchOption found A B → A
@@ -161,5 +267,5 @@ length_ids [] = refl
 length_ids (k ∷ ks) = ap suc (length_ids ks)
 
 -- a leaf is the same one later, where no key has changed
-pub leaf_later : (b : Block) (k0 k1 : List ℕ) (items list : List Kept) → k1 ≡ k0 → list ≡ items → HasLeafIds b k0 (ids_of items) → HasLeafIds b k1 (ids_of list)
-leaf_later b k0 k1 items list same is leaf = subst (λ k. HasLeafIds b k (ids_of list)) (sym same) (subst (λ x. HasLeafIds b k0 (ids_of x)) (sym is) leaf)
+pub leaf_later : (b : Block) (most : ℕ) (k0 k1 : List ℕ) (items list : List Kept) → k1 ≡ k0 → list ≡ items → HasFirstIds b most k0 (ids_of items) → HasFirstIds b most k1 (ids_of list)
+leaf_later b most k0 k1 items list same is leaf = subst (λ k. HasFirstIds b most k (ids_of list)) (sym same) (subst (λ x. HasFirstIds b most k0 (ids_of x)) (sym is) leaf)

@@ -7,14 +7,16 @@ use Rattle.z_code.specs.Block.{child}
 use Rattle.z_code.specs.declared.block.Block.{Block}
 use Rattle.sand_model.specs.Tree.{Tree, Leaf, Inner, add, without, split, settled}
 use Rattle.pmr_tree.specs.Lists.{Each, RiseStrictly, put_all, take_all}
-use Rattle.pmr_tree.specs.Keys.{key_of, mark_of, leaf_keys, keys, is_inside, keys_within, outside, own, IsId, IsShaped, ReadsKeys}
+use Rattle.pmr_tree.specs.Keys.{key_of, mark_of, leaf_keys, keys, is_inside, keys_within, outside, own, ids_in, IsId, IsShaped, ReadsKeys}
 use Rattle.pmr_tree.specs.Changes.{KeysStand, Becomes, grown_where, entered, split_leaf, below_grown, IsOneMore}
 use Rattle.pmr_tree.specs.Leaves.{HasLeafIds, ids_of}
+use Rattle.pmr_tree.specs.FirstIds.{HasFirstIds}
 use Rattle.pmr_tree.specs.declared.leaf.Kept.{Kept}
 use Rattle.pmr_tree.proofs.AscendingLists.{each_add, each_filter, filter_add, rises_add, rises_filter, put_all_append}
 use Rattle.pmr_tree.proofs.Orders.{map_add, add_some, length_add}
 use Rattle.pmr_tree.proofs.KeyLists.{lies_inside, own_leaf}
-use Rattle.pmr_tree.proofs.Entries.{leaf_is, length_ids}
+use Rattle.pmr_tree.proofs.Entries.{leaf_is, leaf_all, length_ids}
+use Rattle.pmr_tree.proofs.Unions.{up_to_many, up_to_few}
 use Rattle.pmr_tree.proofs.Steps.{becomes_refilled, becomes_same, becomes_as}
 use Rattle.pmr_tree.proofs.Quarter.{count_some}
 
@@ -157,12 +159,15 @@ becomes_grown_inner m n id b k0 k1 none h below = becomes_as b (below_grown m n 
   same (Inner p q r s) read = rw h refl
 
 -- the two ways in which an id comes to a leaf, step by step
-pub first_entered : (b : Block) (ks : List ℕ) (list : List Kept) (id key mark : ℕ) (mid new : List ℕ) → KeysStand b ks → HasLeafIds b ks (ids_of list) → IsId id → length list ≡ 0
+pub first_entered : (b : Block) (ks : List ℕ) (list : List Kept) (id key mark : ℕ) (mid new : List ℕ) → KeysStand b ks → HasFirstIds b 1 ks (ids_of list) → IsId id → length list ≡ 0
     → key ≡ key_of b id → mark ≡ mark_of b → mid ≡ without mark ks → new ≡ add key mid → Becomes b (entered id) ks new
 first_entered b ks list id key mark mid new stands leaf i none e f m n =
-    becomes_entered b ks (ids_of list) id stands leaf i new (λ z. n ∙ ap₂ add e (m ∙ ap (λ x. without x ks) f)) (λ some. absurd (omega (arith, length_ids list, none, some)))
+    let whole = up_to_few 1 (ids_in (own b ks)) (ids_of list) leaf.up_to (omega (arith, length_ids list, none)) in
+    becomes_entered b ks (ids_in (own b ks)) id stands (leaf_all b 1 ks (ids_of list) leaf) i new (λ z. n ∙ ap₂ add e (m ∙ ap (λ x. without x ks) f))
+    (λ some. absurd (omega (arith, length_ids list, none, some, ap length whole)))
 
-pub next_entered : (b : Block) (ks : List ℕ) (list : List Kept) (id key : ℕ) (new : List ℕ) → KeysStand b ks → HasLeafIds b ks (ids_of list) → IsId id → 0 < length list
+pub next_entered : (b : Block) (ks : List ℕ) (list : List Kept) (id key : ℕ) (new : List ℕ) → KeysStand b ks → HasFirstIds b 1 ks (ids_of list) → IsId id → 0 < length list
     → key ≡ key_of b id → new ≡ add key ks → Becomes b (entered id) ks new
 next_entered b ks list id key new stands leaf i some e n =
-    becomes_entered b ks (ids_of list) id stands leaf i new (λ none. absurd (omega (arith, length_ids list, none, some))) (λ z. n ∙ ap (λ x. add x ks) e)
+    let many = up_to_many 1 (ids_in (own b ks)) (ids_of list) leaf.up_to (omega (arith, length_ids list, some)) in
+    becomes_entered b ks (ids_in (own b ks)) id stands (leaf_all b 1 ks (ids_of list) leaf) i new (λ none. absurd (omega (arith, none, many))) (λ z. n ∙ ap (λ x. add x ks) e)

@@ -1,17 +1,19 @@
 -- An id leaves a leaf: its key goes, and a mark comes where no id is left.
-use Rattle.std.proofs.Common.{◌≡◌, ℕ, ◌<◌, Bool, true, false, cond, not, List, [], ◌∷◌, length, map, refl, sym, ◌∙◌, ap, ap₂, subst, arith, get_or}
+use Rattle.std.proofs.Common.{◌≡◌, inl, inr, ℕ, ◌<◌, Bool, true, false, cond, not, List, [], ◌∷◌, length, map, refl, sym, ◌∙◌, ap, ap₂, subst, arith, get_or}
 use Rattle.std.specs.Prelude.{nat_eq}
 use Rattle.std.proofs.lemmas.Bool.Decides.{nat_tests}
 use Rattle.z_code.specs.declared.block.Block.{Block}
 use Rattle.sand_model.specs.Tree.{Tree, Leaf, Inner, add, without}
 use Rattle.pmr_tree.specs.Lists.{RiseStrictly, put_all, take_all}
-use Rattle.pmr_tree.specs.Keys.{key_of, mark_of, leaf_keys, keys, is_inside, keys_within, outside, IsId, IsShaped, ReadsKeys}
+use Rattle.pmr_tree.specs.FirstIds.{IsUpTo, HasFirstIds}
+use Rattle.pmr_tree.specs.Keys.{key_of, mark_of, leaf_keys, keys, is_inside, keys_within, outside, own, ids_in, IsId, IsShaped, ReadsKeys}
 use Rattle.pmr_tree.specs.Changes.{KeysStand, Becomes, left, shrunk_where}
 use Rattle.pmr_tree.specs.Leaves.{HasLeafIds, ids_of}
 use Rattle.pmr_tree.specs.declared.leaf.Kept.{Kept}
 use Rattle.pmr_tree.proofs.AscendingLists.{holds, fails, test, each_filter, filter_swap, rises_filter}
 use Rattle.pmr_tree.proofs.Orders.{take_all_other}
-use Rattle.pmr_tree.proofs.Entries.{leaf_is, length_ids}
+use Rattle.pmr_tree.proofs.Entries.{leaf_is, leaf_all, length_ids}
+use Rattle.pmr_tree.proofs.Unions.{up_to_few}
 use Rattle.pmr_tree.proofs.LeafSteps.{key_inside}
 use Rattle.pmr_tree.proofs.Steps.{becomes_refilled, becomes_same, becomes_as}
 
@@ -113,15 +115,21 @@ left_last b ks id stands leaf new is = becomes_refilled b (left id) ks new stand
       subst (λ t. IsShaped b (left id t) × (new ≡ put_all (keys b (left id t)) (take_all (keys b t) ks))) (sym e)
       (subst (λ ids. IsShaped b (Leaf ids) × (new ≡ put_all (leaf_keys b ids) (take_all (leaf_keys b (id ∷ [])) ks))) (sym none) ((at.shaped.0, (tt, tt)), is))
 
--- the two ways in which an id leaves, as a list of ids tells them apart
-pub last_left : (b : Block) (ks : List ℕ) (list : List Kept) (id key mark : ℕ) (mid new : List ℕ) → KeysStand b ks → HasLeafIds b ks (ids_of list) → ids_of list ≡ id ∷ []
+-- the two ways in which an id leaves, as the first ids of the leaf tell them apart
+pub last_left : (b : Block) (ks : List ℕ) (list : List Kept) (id key mark : ℕ) (mid new : List ℕ) → KeysStand b ks → HasFirstIds b 2 ks (ids_of list) → ids_of list ≡ id ∷ []
     → key ≡ key_of b id → mark ≡ mark_of b → mid ≡ without key ks → new ≡ add mark mid → Becomes b (left id) ks new
 last_left b ks list id key mark mid new stands leaf only e f m n =
-    left_last b ks id stands (subst (HasLeafIds b ks) only leaf) new (n ∙ ap₂ add f (m ∙ ap (λ x. without x ks) e))
+    let whole = up_to_few 2 (ids_in (own b ks)) (ids_of list) leaf.up_to (omega (arith, ap length only)) in
+    left_last b ks id stands (subst (HasLeafIds b ks) (sym whole ∙ only) (leaf_all b 2 ks (ids_of list) leaf)) new (n ∙ ap₂ add f (m ∙ ap (λ x. without x ks) e))
 
-pub others_left : (b : Block) (ks : List ℕ) (list : List Kept) (id key : ℕ) (new : List ℕ) → KeysStand b ks → HasLeafIds b ks (ids_of list) → IsId id → (ids_of list ≡ id ∷ [] → ⊥)
+pub others_left : (b : Block) (ks : List ℕ) (list : List Kept) (id key : ℕ) (new : List ℕ) → KeysStand b ks → HasFirstIds b 2 ks (ids_of list) → IsId id → (ids_of list ≡ id ∷ [] → ⊥)
     → key ≡ key_of b id → new ≡ without key ks → Becomes b (left id) ks new
-others_left b ks list id key new stands leaf i more e n = left_more b ks (ids_of list) id stands leaf i more new (n ∙ ap (λ x. without x ks) e)
+others_left b ks list id key new stands leaf i more e n =
+    left_more b ks (ids_in (own b ks)) id stands (leaf_all b 2 ks (ids_of list) leaf) i (several leaf.up_to) new (n ∙ ap (λ x. without x ks) e)
+  where
+    several : IsUpTo 2 (ids_in (own b ks)) (ids_of list) → ids_in (own b ks) ≡ id ∷ [] → ⊥
+    several (inl is) only = more (is ∙ only)
+    several (inr h) only = omega (arith, h.0, ap length only)
 
 abbrev head_or : List ℕ → ℕ
 head_or [] = 0

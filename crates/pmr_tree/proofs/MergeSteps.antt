@@ -4,19 +4,19 @@ use Rattle.std.specs.Prelude.{nat_lt}
 use Rattle.std.proofs.lemmas.Bool.Decides.{nat_tests}
 use Rattle.z_code.specs.Block.{child, children_of}
 use Rattle.z_code.specs.declared.block.Block.{Block}
-use Rattle.sand_model.specs.Tree.{Tree, Leaf, Inner, union, union_of_four, merged}
+use Rattle.sand_model.specs.Tree.{Tree, Leaf, Inner, union, union_of_four, merged, HasEnough}
 use Rattle.pmr_tree.specs.Lists.{Each, RiseStrictly, put_all, take_all}
-use Rattle.pmr_tree.specs.Keys.{leaf_keys, keys, own, IsId, IsShaped, ReadsKeys}
+use Rattle.pmr_tree.specs.Keys.{leaf_keys, keys, own, ids_in, IsId, IsShaped, ReadsKeys}
 use Rattle.pmr_tree.specs.Changes.{KeysStand, Becomes, merging, below_shrunk, shrunk_where}
 use Rattle.pmr_tree.specs.Leaves.{HasLeafIds, ids_of}
-use Rattle.pmr_tree.specs.Parts.{HasInner}
+use Rattle.pmr_tree.specs.FirstIds.{HasLargeChild}
 use Rattle.pmr_tree.specs.declared.leaf.Kept.{Kept}
 use Rattle.pmr_tree.proofs.Orders.{take_all_append}
 use Rattle.pmr_tree.proofs.KeyLists.{Parts, reads_children, own_leaf, own_inner}
-use Rattle.pmr_tree.proofs.Entries.{leaf_is}
+use Rattle.pmr_tree.proofs.Entries.{leaf_is, ids_leaf}
 use Rattle.pmr_tree.proofs.GrownTrees.{enough_second, enough_third, enough_fourth}
 use Rattle.pmr_tree.proofs.Growth.{merged_full}
-use Rattle.pmr_tree.proofs.Unions.{union_nil, rises_union, each_union}
+use Rattle.pmr_tree.proofs.Unions.{union_nil, rises_union, each_union, union_grows, union_holds}
 use Rattle.pmr_tree.proofs.GrowSteps.{at_child}
 use Rattle.pmr_tree.proofs.Steps.{becomes_refilled, becomes_same, becomes_as, becomes_then, becomes_four, stands_parts}
 
@@ -52,14 +52,41 @@ kept_inner n b k0 k1 stands none h same = subst (Becomes b (merging n) k0) (sym 
   here (Leaf ids) r = absurd (leaf_no b k0 ids r none)
   here (Inner p q r s) read = sym (h p q r s (reads_children b k0 p q r s read))
 
--- nothing is merged where one of the children is an inner place
-pub some_inner : (n : ℕ) (b : Block) (k0 k1 : List ℕ) → KeysStand b k0 → own b k0 ≡ [] → HasInner b k0 → k1 ≡ k0 → Becomes b (merging n) k0 k1
-some_inner n b k0 k1 stands none inner same = kept_inner n b k0 k1 stands none (λ p q r s parts. apart p q r s parts inner) same where
-  apart : (p q r s : Tree) → Parts b k0 p q r s → HasInner b k0 → merged n p q r s ≡ Inner p q r s
-  apart p q r s parts (inl h) = merged_first n (child b 0) k0 p q r s parts.first h
-  apart p q r s parts (inr (inl h)) = merged_second n (child b 1) k0 p q r s parts.second h
-  apart p q r s parts (inr (inr (inl h))) = merged_third n (child b 2) k0 p q r s parts.third h
-  apart p q r s parts (inr (inr (inr h))) = merged_fourth n (child b 3) k0 p q r s parts.fourth h
+not_less : (x y : ℕ) → y ≤ x → nat_lt x y ≡ false
+not_less x y h = grind (arith, nat_tests)
+
+-- four leaves have enough ids where they have so many together
+enough_leaves : (n : ℕ) (p q r s : Tree) → ((a c d e : List ℕ) → p ≡ Leaf a → q ≡ Leaf c → r ≡ Leaf d → s ≡ Leaf e → n ≤ length (union_of_four a c d e)) → HasEnough n p q r s
+enough_leaves n (Leaf p) (Leaf q) (Leaf r) (Leaf s) h = not_less (length (union_of_four p q r s)) n (h p q r s refl refl refl refl)
+enough_leaves n (Inner a c d e) q r s h = tt
+enough_leaves n (Leaf p) (Inner a c d e) r s h = tt
+enough_leaves n (Leaf p) (Leaf q) (Inner a c d e) s h = tt
+enough_leaves n (Leaf p) (Leaf q) (Leaf r) (Inner a c d e) h = tt
+
+-- the ids of a leaf ascend, and are as many as its keys tell
+leaf_many : (n : ℕ) (b : Block) (ks : List ℕ) (t : Tree) (ids : List ℕ) → ReadsKeys b ks t → t ≡ Leaf ids → n ≤ length (ids_in (own b ks)) → RiseStrictly ids × (n ≤ length ids)
+leaf_many n b ks t ids read is many =
+    let at = subst (ReadsKeys b ks) is read in
+    (at.shaped.1.0, subst (λ x. n ≤ length x) (ap ids_in (own_leaf b ks ids at) ∙ ids_leaf b ids at.shaped.1.1) many)
+
+-- nothing is merged where one of the children is an inner place or has enough ids
+pub some_large : (n : ℕ) (b : Block) (k0 k1 : List ℕ) → KeysStand b k0 → own b k0 ≡ [] → HasLargeChild n b k0 → k1 ≡ k0 → Becomes b (merging n) k0 k1
+some_large n b k0 k1 stands none large same = kept_inner n b k0 k1 stands none (λ p q r s parts. apart p q r s parts large) same where
+  apart : (p q r s : Tree) → Parts b k0 p q r s → HasLargeChild n b k0 → merged n p q r s ≡ Inner p q r s
+  apart p q r s parts (inl (inl h)) = merged_first n (child b 0) k0 p q r s parts.first h
+  apart p q r s parts (inl (inr h)) = merged_full n p q r s (enough_leaves n p q r s (λ a c d e i j k l.
+      let m = leaf_many n (child b 0) k0 p a parts.first i h in omega (arith, m.1, union_holds a (union c (union d e)) m.0)))
+  apart p q r s parts (inr (inl (inl h))) = merged_second n (child b 1) k0 p q r s parts.second h
+  apart p q r s parts (inr (inl (inr h))) = merged_full n p q r s (enough_leaves n p q r s (λ a c d e i j k l.
+      let m = leaf_many n (child b 1) k0 q c parts.second j h in omega (arith, m.1, union_holds c (union d e) m.0, union_grows a (union c (union d e)))))
+  apart p q r s parts (inr (inr (inl (inl h)))) = merged_third n (child b 2) k0 p q r s parts.third h
+  apart p q r s parts (inr (inr (inl (inr h)))) = merged_full n p q r s (enough_leaves n p q r s (λ a c d e i j k l.
+      let m = leaf_many n (child b 2) k0 r d parts.third k h in
+      omega (arith, m.1, union_holds d e m.0, union_grows c (union d e), union_grows a (union c (union d e)))))
+  apart p q r s parts (inr (inr (inr (inl h)))) = merged_fourth n (child b 3) k0 p q r s parts.fourth h
+  apart p q r s parts (inr (inr (inr (inr h)))) = merged_full n p q r s (enough_leaves n p q r s (λ a c d e i j k l.
+      let m = leaf_many n (child b 3) k0 s e parts.fourth l h in
+      omega (arith, m.1, union_grows d e, union_grows c (union d e), union_grows a (union c (union d e)))))
 
 -- the four leaves of a place
 pub record Four (b : Block) (ks p q r s : List ℕ) : Type 0 where
@@ -83,9 +110,6 @@ pub joined : (b : Block) (ks p q r s : List ℕ) → KeysStand b ks → own b ks
 joined b ks p q r s stands none four =
     let at = subst (ReadsKeys b ks) (four_is b ks p q r s none four stands.tree stands.reads) stands.reads in
     ap (λ t. union p (union q (union r t))) (union_nil s at.shaped.1.1.1.1.1.0)
-
-not_less : (x y : ℕ) → y ≤ x → nat_lt x y ≡ false
-not_less x y h = grind (arith, nat_tests)
 
 is_less : (x y : ℕ) → x < y → nat_lt x y ≡ true
 is_less x y h = grind (arith, nat_tests)

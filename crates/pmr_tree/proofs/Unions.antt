@@ -1,5 +1,5 @@
 -- An ascending list with one id more, by its place; and with those of another list.
-use Rattle.std.proofs.Common.{◌≡◌, ℕ, zero, suc, ◌+◌, ◌<◌, ◌≤◌, Bool, true, false, cond, List, [], ◌∷◌, length, refl, sym, ◌∙◌, ap, arith, get_or, drop, take, add-one}
+use Rattle.std.proofs.Common.{◌≡◌, ◌⊎◌, inl, inr, ℕ, zero, suc, ◌+◌, ◌<◌, ◌≤◌, Bool, true, false, cond, List, [], ◌∷◌, length, refl, sym, ◌∙◌, ap, subst, arith, get_or, drop, take, add-one}
 use Rattle.std.specs.Prelude.{nat_eq, nat_lt}
 use Rattle.std.specs.List.{insert}
 use Rattle.std.proofs.Math.Seq.{drop-cons}
@@ -7,9 +7,10 @@ use Rattle.std.proofs.lemmas.Bool.{false≢true}
 use Rattle.std.proofs.lemmas.Bool.Decides.{nat_tests}
 use Rattle.sand_model.specs.Tree.{add, union}
 use Rattle.pmr_tree.specs.Lists.{Each, RiseStrictly, place_in, is_at}
+use Rattle.pmr_tree.specs.FirstIds.{IsUpTo}
 use Rattle.pmr_tree.specs.Leaves.{ids_of, ListPasses}
 use Rattle.pmr_tree.specs.declared.leaf.Kept.{Kept}
-use Rattle.pmr_tree.proofs.AscendingLists.{below, same, above, test, order, add_before, add_after, add_here, add_first, each_append, each_add, rises_add}
+use Rattle.pmr_tree.proofs.AscendingLists.{below, same, above, test, order, each_map, add_before, add_after, add_here, add_first, each_append, each_add, rises_add}
 
 -- the end of the search for a place
 pub place_end : (list : List Kept) (at id : ℕ) → length list ≤ at → place_in id (ids_of (drop at list)) ≡ 0
@@ -120,3 +121,66 @@ rises_union (x ∷ xs) ys h = rises_add x (union xs ys) (rises_union xs ys h)
 pub each_union : (P : ℕ → Type 0) (xs ys : List ℕ) → Each P xs → Each P ys → Each P (union xs ys)
 each_union P [] ys h k = k
 each_union P (x ∷ xs) ys h k = each_add P x (union xs ys) h.0 (each_union P xs ys h.1 k)
+
+-- a list with a number more is no shorter, and neither is one with many
+add_grows : (x : ℕ) (ys : List ℕ) → length ys ≤ length (add x ys)
+add_grows x [] = omega arith
+add_grows x (y ∷ ys) =
+    elim (order x y) [
+      | below l ↦ (let e : length (add x (y ∷ ys)) ≡ suc (suc (length ys)) = ap length (add_before x y ys l) in omega (arith, e))
+      | same s ↦ (let e : length (add x (y ∷ ys)) ≡ suc (length ys) = ap (λ z. length (add z (y ∷ ys))) s ∙ ap length (add_here y ys) in omega (arith, e))
+      | above l ↦ (let e : length (add x (y ∷ ys)) ≡ suc (length (add x ys)) = ap length (add_after x y ys l) in omega (arith, e, add_grows x ys))
+    ]
+
+pub union_grows : (xs ys : List ℕ) → length ys ≤ length (union xs ys)
+union_grows [] ys = omega arith
+union_grows (x ∷ xs) ys = omega (arith, union_grows xs ys, add_grows x (union xs ys))
+
+-- the numbers of one list stand in their order among those of another
+abbrev StandsIn : List ℕ → List ℕ → Type 0
+StandsIn [] zs = Unit {0}
+StandsIn (x ∷ xs) [] = ⊥
+StandsIn (x ∷ xs) (z ∷ zs) = ((x ≡ z) × StandsIn xs zs) ⊎ StandsIn (x ∷ xs) zs
+
+stands_short : (xs zs : List ℕ) → StandsIn xs zs → length xs ≤ length zs
+stands_short [] zs h = omega arith
+stands_short (x ∷ xs) [] h = absurd h
+stands_short (x ∷ xs) (z ∷ zs) (inl h) = omega (arith, stands_short xs zs h.1)
+stands_short (x ∷ xs) (z ∷ zs) (inr h) = omega (arith, stands_short (x ∷ xs) zs h)
+
+-- without a head that is below them
+stands_behind : (xs : List ℕ) (z : ℕ) (zs : List ℕ) → Each (λ x. z < x) xs → StandsIn xs (z ∷ zs) → StandsIn xs zs
+stands_behind [] z zs over h = tt
+stands_behind (x ∷ xs) z zs over (inl h) = absurd (omega (arith, over.0, h.0))
+stands_behind (x ∷ xs) z zs over (inr h) = h
+
+stands_add : (x : ℕ) (xs zs : List ℕ) → Each (λ y. x < y) xs → StandsIn xs zs → StandsIn (x ∷ xs) (add x zs)
+stands_add x [] [] over h = inl (refl, tt)
+stands_add x (y ∷ xs) [] over h = absurd h
+stands_add x xs (z ∷ zs) over h =
+    elim (order x z) [
+      | below l ↦ subst (StandsIn (x ∷ xs)) (sym (add_before x z zs l)) (inl (refl, h))
+      | same s ↦
+          (let at : add x (z ∷ zs) ≡ z ∷ zs = ap (λ w. add w (z ∷ zs)) s ∙ add_here z zs in
+          subst (StandsIn (x ∷ xs)) (sym at) (inl (s, stands_behind xs z zs (subst (λ w. Each (λ y. w < y) xs) s over) h)))
+      | above l ↦
+          subst (StandsIn (x ∷ xs)) (sym (add_after x z zs l))
+          (inr (stands_add x xs zs over (stands_behind xs z zs (each_map (λ y. x < y) (λ y. z < y) (λ y m. omega (arith, l, m)) xs over) h)))
+    ]
+
+stands_union : (xs ys : List ℕ) → RiseStrictly xs → StandsIn xs (union xs ys)
+stands_union [] ys rise = tt
+stands_union (x ∷ xs) ys rise = stands_add x xs (union xs ys) rise.0 (stands_union xs ys rise.1)
+
+-- with other numbers an ascending list is no shorter
+pub union_holds : (xs ys : List ℕ) → RiseStrictly xs → length xs ≤ length (union xs ys)
+union_holds xs ys rise = stands_short xs (union xs ys) (stands_union xs ys rise)
+
+-- a list of so many at most, where it has at least so many, and where it hasn't
+pub up_to_many : (most : ℕ) (whole list : List ℕ) → IsUpTo most whole list → most ≤ length list → most ≤ length whole
+up_to_many most whole list (inl e) l = omega (arith, l, ap length e)
+up_to_many most whole list (inr h) l = h.0
+
+pub up_to_few : (most : ℕ) (whole list : List ℕ) → IsUpTo most whole list → length list < most → list ≡ whole
+up_to_few most whole list (inl e) l = e
+up_to_few most whole list (inr h) l = absurd (omega (arith, h.1, l))

@@ -12,5 +12,6 @@ pub mod Laws
 pub mod Changes
 pub mod Starts
 pub mod Leaves
+pub mod FirstIds
 pub mod Parts
 pub mod Plot

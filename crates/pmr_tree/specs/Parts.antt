@@ -1,5 +1,5 @@
 -- The ids of a leaf, parted among the four children of its block.
-use Rattle.std.specs.Prelude.{◌≡◌, ◌↔◌, ◌⊎◌, IsTrue, ℕ, Bool, cond, List, [], ◌∷◌, ◌++◌, filter}
+use Rattle.std.specs.Prelude.{◌≡◌, ◌↔◌, IsTrue, ℕ, Bool, cond, List, [], ◌∷◌, ◌++◌, filter}
 use Rattle.sand_base.specs.declared.goal.Goal.TheVariants as figure
 use Rattle.sand_base.specs.declared.shape.Shape.{Shape}
 use Rattle.z_code.specs.Block.{child, square_of}
@@ -7,7 +7,7 @@ use Rattle.z_code.specs.declared.block.Block.{Block}
 use Rattle.sand_model.specs.FigureGap.{IsMeeting}
 use Rattle.pmr_tree.specs.Lists.{put_all, take_all}
 use Rattle.sand_model.specs.Tree.{union}
-use Rattle.pmr_tree.specs.Keys.{leaf_keys, own}
+use Rattle.pmr_tree.specs.Keys.{leaf_keys}
 use Rattle.pmr_tree.specs.Leaves.{ListPasses, ids_of, HasLeafIds}
 use Rattle.pmr_tree.specs.declared.leaf.Kept.{Kept}
 use Rattle.pmr_tree.specs.declared.part.QuartersMet.{QuartersMet}
@@ -74,10 +74,6 @@ pub record AreLeaves (b : Block) (ks : List ℕ) (parts : Parts) : Type 0 where
   pub second : HasLeafIds (child b 1) ks (ids_of parts.second.items)
   pub third : HasLeafIds (child b 2) ks (ids_of parts.third.items)
   pub fourth : HasLeafIds (child b 3) ks (ids_of parts.fourth.items)
-
--- one of the four children of a block has no keys of its own
-abbrev pub HasInner : Block → List ℕ → Type 0
-HasInner b ks = (own (child b 0) ks ≡ []) ⊎ ((own (child b 1) ks ≡ []) ⊎ ((own (child b 2) ks ≡ []) ⊎ (own (child b 3) ks ≡ [])))
 
 -- the ids of the four parts together
 abbrev pub ids_together : Parts → List ℕ

@@ -1,4 +1,4 @@
-ghost use Rattle.std.specs.Prelude.{◌≡◌, ℕ, ◌<◌, ◌≤◌, ◌^◌, Bool, true, List, length, filter, IfOk, OnOk, Option, None, Some};
+ghost use Rattle.std.specs.Prelude.{◌≡◌, ℕ, ◌<◌, ◌≤◌, ◌^◌, Bool, true, List, length, filter, take, option_to_list, IfOk, IfSome, OnOk, Option, None, Some};
 ghost use Rattle.sand_base.specs.declared.TheConstants.{COORDINATE_BITS};
 ghost use Rattle.z_code.specs.Block.{IsBlock};
 ghost use Rattle.z_code.specs.declared.block.Block.{Block};
@@ -45,6 +45,14 @@ pub trait Ground<P> {
         requires { IsReady self.now pages.old }
         ensures leads { Leads self.now pages.old self.now pages.new (fault_of result) }
         ensures found { IfOk result (λ found. IsKnown self.now pages.old → found.items ≡ filter (λ e. is_from_to low high e.0) (pairs self.now pages.old)) }
+        ensures same { OnOk result (IsKnown self.now pages.old → pairs self.now pages.new ≡ pairs self.now pages.old) };
+
+    /// The first entry from `low` on and below `high`, if there is one.
+    fn first(&self, pages: &mut P, low: u128, high: u128) -> Result<Option<(u128, u128)>, PmrFault>
+        requires { IsReady self.now pages.old }
+        ensures leads { Leads self.now pages.old self.now pages.new (fault_of result) }
+        ensures found { IfOk result (λ found. IsKnown self.now pages.old → option_to_list found ≡ take 1 (filter (λ e. is_from_to low high e.0) (pairs self.now pages.old))) }
+        ensures below { IfOk result (λ found. IfSome found (λ e. e.0 < high)) }
         ensures same { OnOk result (IsKnown self.now pages.old → pairs self.now pages.new ≡ pairs self.now pages.old) };
 
     /// Whether the shape of the id meets the square of the block.

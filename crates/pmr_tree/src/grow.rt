@@ -4,7 +4,8 @@ ghost use Rattle.z_code.specs.Block.{IsBlock};
 ghost use Rattle.z_code.specs.declared.block.Block.{Block};
 ghost use Rattle.sand_model.specs.Tree.{add};
 ghost use Rattle.pmr_tree.specs.Keys.{IsId};
-ghost use Rattle.pmr_tree.specs.Leaves.{firsts, ids_of, Passes, ListPasses, id_test, HasLeafIds, Told, fault_of};
+ghost use Rattle.pmr_tree.specs.Leaves.{firsts, ids_of, Passes, ListPasses, id_test, Told, fault_of};
+ghost use Rattle.pmr_tree.specs.FirstIds.{HasFirstIds};
 ghost use Rattle.pmr_tree.specs.Changes.{KeysStand, Becomes, grown_where};
 ghost use Rattle.pmr_tree.specs.declared.fault.PmrFault.TheVariants.{Memory};
 
@@ -42,7 +43,8 @@ fn with_one(alloc: Global, list: &[Kept], newcomer: Kept) -> Result<Vec<Kept>, P
     Ok(all)
 }
 
-// Brings an id into a leaf that has the ids of the list, which splits where it has too many then.
+// Brings an id into a leaf whose first ids are those of the list. It splits where it has too many then; a leaf of the
+// finest level doesn't, so that of its ids no more are asked for than tell whether there is one.
 fn grow_leaf<P, S: Ground<P>>(
     alloc: Global,
     ground: &mut S,
@@ -56,7 +58,7 @@ fn grow_leaf<P, S: Ground<P>>(
     requires block { IsBlock block }
     requires id { IsId newcomer.id }
     requires stands { S.IsKnown ground.old pages.old → KeysStand block (firsts (S.pairs ground.old pages.old)) }
-    requires leaf { S.IsKnown ground.old pages.old → HasLeafIds block (firsts (S.pairs ground.old pages.old)) (ids_of list.now) }
+    requires leaf { S.IsKnown ground.old pages.old → HasFirstIds block 1 (firsts (S.pairs ground.old pages.old)) (ids_of list.now) }
     requires told { S.IsKnown ground.old pages.old → (test : ℕ → ℕ → Bool) → Passes test (S.pairs ground.old pages.old) → ListPasses test list.now }
     ensures leads { S.Leads ground.old pages.old ground.new pages.new (fault_of result) }
     ensures keys { OnOk result (S.IsKnown ground.old pages.old → (m : Block → ℕ → Bool) (has : ℕ → Bool) → S.Tells ground.old pages.old m has
@@ -65,6 +67,10 @@ fn grow_leaf<P, S: Ground<P>>(
     ensures values { OnOk result (S.IsKnown ground.old pages.old → (test : ℕ → ℕ → Bool) → test newcomer.id newcomer.value ≡ true → Passes test (S.pairs ground.old pages.old)
         → Passes test (S.pairs ground.new pages.new)) }
 {
+    if u32::from(block.level) >= COORDINATE_BITS {
+        enter(ground, pages, block, newcomer, list)?;
+        return Ok(());
+    }
     if list.len() < threshold as usize {
         enter(ground, pages, block, newcomer, list)?;
         return Ok(());
@@ -102,7 +108,7 @@ pub fn grow<P, S: Ground<P>>(
     if !ground.does_meet(alloc, pages, block, newcomer.id)? {
         return Ok(());
     }
-    if let Some(list) = leaf_of(alloc, &*ground, pages, block)? {
+    if let Some(list) = leaf_of(alloc, &*ground, pages, block, 1)? {
         grow_leaf(alloc, ground, pages, threshold, block, newcomer, &list)?;
         return Ok(());
     }

@@ -1,12 +1,15 @@
-ghost use Rattle.std.specs.Prelude.{◌≡◌, ◌≢◌, ℕ, ◌+◌, ◌*◌, ◌<◌, ◌≤◌, ◌^◌, Bool, List, [], length, filter, IfOk, OnOk, IfSome, IsNone, MatchOption, Option, None, Some};
+ghost use Rattle.std.specs.Prelude.{◌≡◌, ◌≢◌, ℕ, ◌+◌, ◌*◌, ◌<◌, ◌≤◌, ◌^◌, Bool, List, [], length, filter, take, IfOk, OnOk, IfSome, IsNone, MatchOption, Option, None, Some};
 ghost use Rattle.sand_base.specs.declared.TheConstants.{COORDINATE_BITS};
 ghost use Rattle.z_code.specs.Block.{IsBlock};
 ghost use Rattle.pmr_tree.specs.Keys.{key_of, mark_of, id_in, own};
-ghost use Rattle.pmr_tree.specs.Lists.{is_from_to};
-ghost use Rattle.pmr_tree.specs.Leaves.{firsts, own_pairs, kept_of, ids_of, Passes, ListPasses, id_test, HasLeafIds, fault_of};
+ghost use Rattle.pmr_tree.specs.Lists.{RiseStrictly, is_from_to};
+ghost use Rattle.pmr_tree.specs.Leaves.{firsts, own_pairs, kept_of, ids_of, Passes, ListPasses, id_test, fault_of};
+ghost use Rattle.pmr_tree.specs.FirstIds.{HasFirstIds, AreFirstPairs};
+ghost use Rattle.pmr_tree.specs.Changes.{KeysStand};
 ghost use Rattle.pmr_tree.specs.Listing.{Pair};
 
 use crate::{Ground, PmrFault};
+use sand_base::COORDINATE_BITS;
 use std::alloc::{AllocError, Global};
 use z_code::Block;
 
@@ -76,23 +79,78 @@ fn own_pairs<P, S: Ground<P>>(
     ground.between(alloc, pages, mark, mark + (1 << 32))
 }
 
-// The ids of a leaf, or None where the block is an inner place.
+// The first entries of a block itself, one more than so many at most, by a search for each.
+fn first_pairs<P, S: Ground<P>>(
+    alloc: Global,
+    ground: &S,
+    pages: &mut P,
+    block: Block,
+    most: u8,
+) -> Result<Vec<(u128, u128)>, PmrFault>
+    requires ready { S.IsReady ground.now pages.old }
+    requires block { IsBlock block }
+    requires rises { S.IsKnown ground.now pages.old → RiseStrictly (firsts (S.pairs ground.now pages.old)) }
+    ensures leads { S.Leads ground.now pages.old ground.now pages.new (fault_of result) }
+    ensures found { IfOk result (λ found. S.IsKnown ground.now pages.old → found.items ≡ take (most + 1) (own_pairs block (S.pairs ground.now pages.old))) }
+    ensures same { OnOk result (S.IsKnown ground.now pages.old → S.pairs ground.now pages.new ≡ S.pairs ground.now pages.old) }
+{
+    let mut from = key_of(block, 0);
+    let end = from + (1 << 32);
+    let mut found = Vec::new(alloc);
+    'entries: while found.len() <= most as usize {
+        let Some(pair) = ground.first(pages, from, end)? else {
+            return Ok(found);
+        };
+        found.push(pair)?;
+        from = pair.0 + 1;
+    }
+    Ok(found)
+}
+
+// The entries of a block itself. A block of the finest level may have any number of them: only the first are read then,
+// one more than so many at most.
+fn few_pairs<P, S: Ground<P>>(
+    alloc: Global,
+    ground: &S,
+    pages: &mut P,
+    block: Block,
+    most: u8,
+) -> Result<Vec<(u128, u128)>, PmrFault>
+    requires ready { S.IsReady ground.now pages.old }
+    requires block { IsBlock block }
+    requires rises { S.IsKnown ground.now pages.old → RiseStrictly (firsts (S.pairs ground.now pages.old)) }
+    ensures leads { S.Leads ground.now pages.old ground.now pages.new (fault_of result) }
+    ensures found { IfOk result (λ found. S.IsKnown ground.now pages.old → AreFirstPairs block most (S.pairs ground.now pages.old) found.items) }
+    ensures same { OnOk result (S.IsKnown ground.now pages.old → S.pairs ground.now pages.new ≡ S.pairs ground.now pages.old) }
+{
+    if u32::from(block.level) < COORDINATE_BITS {
+        let all = own_pairs(alloc, ground, pages, block)?;
+        return Ok(all);
+    }
+    let first = first_pairs(alloc, ground, pages, block, most)?;
+    Ok(first)
+}
+
+// The ids of a leaf, or None where the block is an inner place. Of a leaf of the finest level only the first may come,
+// but at least so many where it has so many.
 pub fn leaf_of<P, S: Ground<P>>(
     alloc: Global,
     ground: &S,
     pages: &mut P,
     block: Block,
+    most: u8,
 ) -> Result<Option<Vec<Kept>>, PmrFault>
     requires ready { S.IsReady ground.now pages.old }
     requires block { IsBlock block }
+    requires stands { S.IsKnown ground.now pages.old → KeysStand block (firsts (S.pairs ground.now pages.old)) }
     ensures leads { S.Leads ground.now pages.old ground.now pages.new (fault_of result) }
     ensures found { IfOk result (λ found. S.IsKnown ground.now pages.old → MatchOption found
         (own block (firsts (S.pairs ground.now pages.old)) ≡ [])
-        (λ list. HasLeafIds block (firsts (S.pairs ground.now pages.old)) (ids_of list.items))) }
+        (λ list. HasFirstIds block most (firsts (S.pairs ground.now pages.old)) (ids_of list.items))) }
     ensures values { IfOk result (λ found. S.IsKnown ground.now pages.old → (test : ℕ → ℕ → Bool) → Passes test (S.pairs ground.now pages.old) → IfSome found (λ list. ListPasses test list.items)) }
     ensures same { OnOk result (S.IsKnown ground.now pages.old → S.pairs ground.now pages.new ≡ S.pairs ground.now pages.old) }
 {
-    let pairs = own_pairs(alloc, ground, pages, block)?;
+    let pairs = few_pairs(alloc, ground, pages, block, most)?;
     let found = leaf_in(alloc, &pairs)?;
     Ok(found)
 }

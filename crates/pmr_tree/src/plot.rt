@@ -5,7 +5,7 @@ ghost use Rattle.page_pool.specs.Pool.{IsTold};
 ghost use Rattle.pmr_tree.specs.Plot.{TellsOf, IsReadyOn, LeadsOn, LeadsOn-still, LeadsOn-spent, LeadsOn-onward, LeadsOn-from, IsReadyOn-from, TellsOf-from};
 
 use crate::part::{QuartersMet, quarters_met};
-use crate::range::entries_between;
+use crate::range::{entries_between, entry_between};
 use crate::{Ground, PmrFault, ShapeOf};
 use code_btree::Tree;
 use page_pool::{Disk, Pool};
@@ -43,6 +43,16 @@ impl<'s, D: Disk, G: ShapeOf> Ground<Pool<D>> for Plot<'s, G> {
         high: u128,
     ) -> Result<Vec<(u128, u128)>, PmrFault> {
         let found = entries_between(alloc, self.tree, pages, low, high)?;
+        Ok(found)
+    }
+
+    fn first(
+        &self,
+        pages: &mut Pool<D>,
+        low: u128,
+        high: u128,
+    ) -> Result<Option<(u128, u128)>, PmrFault> {
+        let found = entry_between(self.tree, pages, low, high)?;
         Ok(found)
     }
 

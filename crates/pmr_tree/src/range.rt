@@ -1,4 +1,4 @@
-ghost use Rattle.std.specs.Prelude.{◌≡◌, ◌+◌, ◌/◌, ◌≤◌, filter, length, min, IfOk, OnOk};
+ghost use Rattle.std.specs.Prelude.{◌≡◌, ◌+◌, ◌/◌, ◌<◌, ◌≤◌, filter, take, option_to_list, length, min, IfOk, IfSome, OnOk};
 ghost use Rattle.sand_base.specs.Faults.{next_count, last_count};
 ghost use Rattle.z_code.specs.Block.{IsBlock};
 ghost use Rattle.page_pool.specs.Pool.{IsTold};
@@ -30,6 +30,29 @@ pub fn entries_between<P: Pages>(
 {
     let found = tree.between(alloc, pages, low, high)?;
     Ok(found)
+}
+
+// The first entry of a tree from `low` on and below `high`, if there is one.
+pub fn entry_between<P: Pages>(
+    tree: Tree,
+    pages: &mut P,
+    low: u128,
+    high: u128,
+) -> Result<Option<(u128, u128)>, PageFault>
+    requires { IsTold (P.shown pages.old) → IsTree (pages_in (P.shown pages.old)) tree }
+    ensures found { IfOk result (λ found. IsTold (P.shown pages.old)
+        → option_to_list found ≡ take 1 (filter (λ e. is_from_to low high e.0) (tree_items (pages_in (P.shown pages.old)) tree))) }
+    ensures below { IfOk result (λ found. IfSome found (λ e. e.0 < high)) }
+    ensures read { IsRead (P.shown pages.old) (P.shown pages.new) }
+    ensures cause { HasPageCause (P.shown pages.old) (P.shown pages.new) result }
+{
+    let Some(pair) = tree.ceiling(pages, low)? else {
+        return Ok(None);
+    };
+    if pair.0 >= high {
+        return Ok(None);
+    }
+    Ok(Some(pair))
 }
 
 // The entries of a block itself, one get for each page on which they stand, and a descent before where they don't begin

@@ -4,9 +4,10 @@ ghost use Rattle.z_code.specs.Block.{IsBlock};
 ghost use Rattle.z_code.specs.declared.block.Block.{Block};
 ghost use Rattle.pmr_tree.specs.Lists.{put_all};
 ghost use Rattle.pmr_tree.specs.Keys.{IsId, own, leaf_keys};
-ghost use Rattle.pmr_tree.specs.Parts.{PartsPass, AreLeaves, HasInner, ids_together, without_parts};
+ghost use Rattle.pmr_tree.specs.Parts.{PartsPass, AreLeaves, ids_together, without_parts};
+ghost use Rattle.pmr_tree.specs.FirstIds.{HasLargeChild, IsLarge};
 ghost use Rattle.pmr_tree.specs.declared.fault.PmrFault.TheVariants.{Memory};
-ghost use Rattle.pmr_tree.specs.Leaves.{firsts, ids_of, Passes, ListPasses, Told, fault_of};
+ghost use Rattle.pmr_tree.specs.Leaves.{firsts, ids_of, Passes, ListPasses, HasLeafIds, Told, fault_of};
 ghost use Rattle.pmr_tree.specs.Changes.{KeysStand, Becomes, merging, shrunk_where};
 ghost use Rattle.pmr_tree.specs.Starts.{HasLeaf, MeetsAlone};
 
@@ -47,34 +48,64 @@ fn replace_four<P, S: Ground<P>>(
     Ok(())
 }
 
-// The ids of the four children of a block, or None where one of them is an inner place.
+// The ids of a leaf that has fewer than so many; else None, and so where the block is an inner place.
+fn small_leaf<P, S: Ground<P>>(
+    alloc: Global,
+    ground: &S,
+    pages: &mut P,
+    block: Block,
+    most: u8,
+) -> Result<Option<Vec<Kept>>, PmrFault>
+    requires ready { S.IsReady ground.now pages.old }
+    requires block { IsBlock block }
+    requires stands { S.IsKnown ground.now pages.old → KeysStand block (firsts (S.pairs ground.now pages.old)) }
+    ensures leads { S.Leads ground.now pages.old ground.now pages.new (fault_of result) }
+    ensures found { IfOk result (λ found. S.IsKnown ground.now pages.old → MatchOption found
+        (IsLarge most block (firsts (S.pairs ground.now pages.old)))
+        (λ list. HasLeafIds block (firsts (S.pairs ground.now pages.old)) (ids_of list.items))) }
+    ensures values { IfOk result (λ found. S.IsKnown ground.now pages.old → (test : ℕ → ℕ → Bool) → Passes test (S.pairs ground.now pages.old) → IfSome found (λ list. ListPasses test list.items)) }
+    ensures same { OnOk result (S.IsKnown ground.now pages.old → S.pairs ground.now pages.new ≡ S.pairs ground.now pages.old) }
+{
+    let Some(list) = leaf_of(alloc, ground, pages, block, most)? else {
+        return Ok(None);
+    };
+    if list.len() >= most as usize {
+        return Ok(None);
+    }
+    Ok(Some(list))
+}
+
+// The ids of the four children of a block, or None where one of them is an inner place or has at least so many.
 fn leaves_of<P, S: Ground<P>>(
     alloc: Global,
     ground: &S,
     pages: &mut P,
     block: Block,
+    most: u8,
 ) -> Result<Option<Parts>, PmrFault>
     requires ready { S.IsReady ground.now pages.old }
     requires block { IsBlock block }
     requires above_points { block.level < COORDINATE_BITS }
+    requires stands { S.IsKnown ground.now pages.old → KeysStand block (firsts (S.pairs ground.now pages.old)) }
+    requires inner { S.IsKnown ground.now pages.old → own block (firsts (S.pairs ground.now pages.old)) ≡ [] }
     ensures leads { S.Leads ground.now pages.old ground.now pages.new (fault_of result) }
     ensures found { IfOk result (λ found. S.IsKnown ground.now pages.old → MatchOption found
-        (HasInner block (firsts (S.pairs ground.now pages.old)))
+        (HasLargeChild most block (firsts (S.pairs ground.now pages.old)))
         (λ parts. AreLeaves block (firsts (S.pairs ground.now pages.old)) parts)) }
     ensures values { IfOk result (λ found. S.IsKnown ground.now pages.old → (test : ℕ → ℕ → Bool) → Passes test (S.pairs ground.now pages.old) → IfSome found (λ parts. PartsPass test parts)) }
     ensures same { OnOk result (S.IsKnown ground.now pages.old → S.pairs ground.now pages.new ≡ S.pairs ground.now pages.old) }
 {
     let [p, q, r, s] = block.children();
-    let Some(first) = leaf_of(alloc, ground, pages, p)? else {
+    let Some(first) = small_leaf(alloc, ground, pages, p, most)? else {
         return Ok(None);
     };
-    let Some(second) = leaf_of(alloc, ground, pages, q)? else {
+    let Some(second) = small_leaf(alloc, ground, pages, q, most)? else {
         return Ok(None);
     };
-    let Some(third) = leaf_of(alloc, ground, pages, r)? else {
+    let Some(third) = small_leaf(alloc, ground, pages, r, most)? else {
         return Ok(None);
     };
-    let Some(fourth) = leaf_of(alloc, ground, pages, s)? else {
+    let Some(fourth) = small_leaf(alloc, ground, pages, s, most)? else {
         return Ok(None);
     };
     Ok(Some(Parts {
@@ -118,7 +149,7 @@ fn merge<P, S: Ground<P>>(
     ensures inner { IfOk result (λ merged. merged ≡ false → S.IsKnown ground.old pages.old → own block (firsts (S.pairs ground.new pages.new)) ≡ []) }
     ensures values { OnOk result (S.IsKnown ground.old pages.old → (test : ℕ → ℕ → Bool) → Passes test (S.pairs ground.old pages.old) → Passes test (S.pairs ground.new pages.new)) }
 {
-    let Some(parts) = leaves_of(alloc, &*ground, pages, block)? else {
+    let Some(parts) = leaves_of(alloc, &*ground, pages, block, threshold)? else {
         return Ok(false);
     };
     let all = joined(alloc, &parts)?;
@@ -151,7 +182,7 @@ pub fn shrink<P, S: Ground<P>>(
     if !ground.does_meet(alloc, pages, block, id)? {
         return Ok(());
     }
-    if let Some(list) = leaf_of(alloc, &*ground, pages, block)? {
+    if let Some(list) = leaf_of(alloc, &*ground, pages, block, 2)? {
         leave(ground, pages, block, id, &list)?;
         return Ok(());
     }

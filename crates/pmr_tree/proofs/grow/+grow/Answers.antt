@@ -26,6 +26,11 @@ returns-then-not-branch-clause-values g t c = λ k test one w. subst (Passes tes
 pub leaf_of-requires-clause-ready : goal.leaf_of-requires-clause-ready
 leaf_of-requires-clause-ready g t c = g.met.S.Ground.ready _ _ _ _ c.in_ok-does_meet.ensures.leads c.requires.ready
 
+pub leaf_of-requires-clause-stands : goal.leaf_of-requires-clause-stands
+leaf_of-requires-clause-stands g t c = λ known.
+    let k = g.met.S.Ground.knew c.args.ground.now c.args.pages.now c.args.ground.now c.does_meet.new.pages c.in_ok-does_meet.ensures.leads known in
+    subst (KeysStand c.args.block) (sym (ap firsts (c.in_ok-does_meet.ensures.same k))) (c.requires.stands k)
+
 pub returns-in_err-list-clause-leads : goal.returns-in_err-list-clause-leads
 returns-in_err-list-clause-leads g t c =
     let l0 = c.in_ok-does_meet.ensures.leads in
@@ -52,7 +57,7 @@ grow_leaf-requires-clause-leaf g t c = λ known.
     let l1 = g.met.S.Ground.onward c.args.ground.now c.args.pages.now c.args.ground.now c.does_meet.new.pages c.args.ground.now c.leaf_of.new.pages None l0 c.in_ok-list.ensures.leads in
     let k0 = g.met.S.Ground.known c.args.ground.now c.args.pages.now c.args.ground.now c.does_meet.new.pages l0
     (g.met.S.Ground.knew c.args.ground.now c.args.pages.now c.args.ground.now c.leaf_of.new.pages l1 known) in
-    leaf_later c.args.block _ _ _ _ (ap firsts (c.in_ok-list.ensures.same k0)) c.deref.ensures.value (some_found _ _ _ _ c.in-Some.is (c.in_ok-list.ensures.found k0))
+    leaf_later c.args.block 1 _ _ _ _ (ap firsts (c.in_ok-list.ensures.same k0)) c.deref.ensures.value (some_found _ _ _ _ c.in-Some.is (c.in_ok-list.ensures.found k0))
 
 pub returns-in_err-grow_leaf-clause-leads : goal.returns-in_err-grow_leaf-clause-leads
 returns-in_err-grow_leaf-clause-leads g t c =

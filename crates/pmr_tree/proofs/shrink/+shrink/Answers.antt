@@ -5,7 +5,7 @@ use Rattle.z_code.specs.Block.{child}
 use Rattle.pmr_tree.specs.Keys.{own}
 use Rattle.pmr_tree.specs.Leaves.{firsts, Passes}
 use Rattle.pmr_tree.specs.Changes.{KeysStand, Becomes, shrunk_where, below_shrunk}
-use Rattle.pmr_tree.proofs.Entries.{none_found, some_found, leaf_later}
+use Rattle.pmr_tree.proofs.Entries.{none_found, some_found, leaf_all, leaf_later}
 use Rattle.pmr_tree.proofs.Refusals.{passed_on}
 use Rattle.pmr_tree.proofs.Steps.{stands_above, stands_after}
 use Rattle.pmr_tree.proofs.LeaveSteps.{shrunk_unmet, shrunk_leaf}
@@ -27,6 +27,11 @@ returns-then-not-branch-clause-values g t c = λ k test w. subst (Passes test) (
 -- accepted calls leave the pages ready for the next one
 pub leaf_of-requires-clause-ready : goal.leaf_of-requires-clause-ready
 leaf_of-requires-clause-ready g t c = g.met.S.Ground.ready _ _ _ _ c.in_ok-does_meet.ensures.leads c.requires.ready
+
+pub leaf_of-requires-clause-stands : goal.leaf_of-requires-clause-stands
+leaf_of-requires-clause-stands g t c = λ known.
+    let k = g.met.S.Ground.knew c.args.ground.now c.args.pages.now c.args.ground.now c.does_meet.new.pages c.in_ok-does_meet.ensures.leads known in
+    subst (KeysStand c.args.block) (sym (ap firsts (c.in_ok-does_meet.ensures.same k))) (c.requires.stands k)
 
 pub returns-in_err-list-clause-leads : goal.returns-in_err-list-clause-leads
 returns-in_err-list-clause-leads g t c =
@@ -54,7 +59,7 @@ leave-requires-clause-leaf g t c = λ known.
     let l1 = g.met.S.Ground.onward c.args.ground.now c.args.pages.now c.args.ground.now c.does_meet.new.pages c.args.ground.now c.leaf_of.new.pages None l0 c.in_ok-list.ensures.leads in
     let k0 = g.met.S.Ground.known c.args.ground.now c.args.pages.now c.args.ground.now c.does_meet.new.pages l0
     (g.met.S.Ground.knew c.args.ground.now c.args.pages.now c.args.ground.now c.leaf_of.new.pages l1 known) in
-    leaf_later c.args.block _ _ _ _ (ap firsts (c.in_ok-list.ensures.same k0)) c.deref.ensures.value (some_found _ _ _ _ c.in-Some.is (c.in_ok-list.ensures.found k0))
+    leaf_later c.args.block 2 _ _ _ _ (ap firsts (c.in_ok-list.ensures.same k0)) c.deref.ensures.value (some_found _ _ _ _ c.in-Some.is (c.in_ok-list.ensures.found k0))
 
 pub returns-in_err-leave-clause-leads : goal.returns-in_err-leave-clause-leads
 returns-in_err-leave-clause-leads g t c =
@@ -92,7 +97,7 @@ returns-in-Some-clause-keys g t c = λ k m has tells one.
     let l1 = g.met.S.Ground.onward c.args.ground.now c.args.pages.now c.args.ground.now c.does_meet.new.pages c.args.ground.now c.leaf_of.new.pages None l0 c.in_ok-list.ensures.leads in
     let k0 = g.met.S.Ground.known c.args.ground.now c.args.pages.now c.args.ground.now c.does_meet.new.pages l0 k in
     let same = c.in_ok-list.ensures.same k0 ∙ c.in_ok-does_meet.ensures.same k in
-    let leaf = some_found _ _ _ _ c.in-Some.is (c.in_ok-list.ensures.found k0) in
+    let leaf = leaf_all c.args.block 2 _ _ (some_found _ _ _ _ c.in-Some.is (c.in_ok-list.ensures.found k0)) in
     becomes_from c.args.block _ _ _ _ (ap firsts (c.in_ok-does_meet.ensures.same k))
     (shrunk_leaf m c.args.threshold c.args.id c.args.block _ _ _ leaf (sym (c.in_ok-does_meet.ensures.value k m has tells one) ∙ c.if-not-branch.false)
     (becomes_from c.args.block _ _ _ _ (ap firsts (c.in_ok-list.ensures.same k0))

@@ -1,29 +1,74 @@
 -- Each child is a leaf, or the first one that isn't shows an inner place.
-use Rattle.std.proofs.Common.{◌≡◌, ℕ, List, [], get_or, ap, sym, ◌∙◌, subst, inl, inr}
+use Rattle.std.proofs.Common.{ℕ, List, get_or, ap, sym, ◌∙◌, subst, inl, inr}
 use Rattle.z_code.specs.declared.block.Block.{Block}
-use Rattle.pmr_tree.specs.Keys.{own}
+use Rattle.pmr_tree.specs.Changes.{KeysStand}
 use Rattle.pmr_tree.specs.Leaves.{firsts, ids_of, HasLeafIds, Passes}
+use Rattle.pmr_tree.specs.FirstIds.{IsLarge}
 use Rattle.pmr_tree.proofs.Entries.{none_found, some_found, if_found}
 use Rattle.pmr_tree.proofs.Refusals.{passed_on}
-use Rattle.pmr_tree.proofs.GrowSteps.{first_block, second_block, third_block, fourth_block, at_child}
+use Rattle.pmr_tree.proofs.GrowSteps.{first_block, second_block, third_block, fourth_block, at_child, from_child}
+use Rattle.pmr_tree.proofs.Steps.{stands_0, stands_1, stands_2, stands_3}
 use Rattle.pmr_tree.proofs.shrink.leaves_of.Goals as goal
 
-pub leaf_of-requires-clause-block : goal.leaf_of-requires-clause-block
-leaf_of-requires-clause-block g c = (first_block c.args.block _ _ c.children.ensures.value c.requires.block c.requires.above_points).0
+pub small_leaf-requires-clause-block : goal.small_leaf-requires-clause-block
+small_leaf-requires-clause-block g c = (first_block c.args.block _ _ c.children.ensures.value c.requires.block c.requires.above_points).0
 
-pub leaf_of-requires-2-clause-block : goal.leaf_of-requires-2-clause-block
-leaf_of-requires-2-clause-block g c = (second_block c.args.block _ _ c.children.ensures.value c.requires.block c.requires.above_points).0
+pub small_leaf-requires-2-clause-block : goal.small_leaf-requires-2-clause-block
+small_leaf-requires-2-clause-block g c = (second_block c.args.block _ _ c.children.ensures.value c.requires.block c.requires.above_points).0
 
-pub leaf_of-requires-3-clause-block : goal.leaf_of-requires-3-clause-block
-leaf_of-requires-3-clause-block g c = (third_block c.args.block _ _ c.children.ensures.value c.requires.block c.requires.above_points).0
+pub small_leaf-requires-3-clause-block : goal.small_leaf-requires-3-clause-block
+small_leaf-requires-3-clause-block g c = (third_block c.args.block _ _ c.children.ensures.value c.requires.block c.requires.above_points).0
 
-pub leaf_of-requires-4-clause-block : goal.leaf_of-requires-4-clause-block
-leaf_of-requires-4-clause-block g c = (fourth_block c.args.block _ _ c.children.ensures.value c.requires.block c.requires.above_points).0
+pub small_leaf-requires-4-clause-block : goal.small_leaf-requires-4-clause-block
+small_leaf-requires-4-clause-block g c = (fourth_block c.args.block _ _ c.children.ensures.value c.requires.block c.requires.above_points).0
+
+-- the children of an inner place have the keys of trees
+pub small_leaf-requires-clause-stands : goal.small_leaf-requires-clause-stands
+small_leaf-requires-clause-stands g c = λ k.
+    let d : Block = record { z = 0; level = 0 } in
+    let ks : List ℕ = firsts (g.S.Ground.pairs c.args.ground.now c.args.pages.now) in
+    from_child c.args.block c.children.result 0 d (λ x. KeysStand x ks) c.children.ensures.value (stands_0 c.args.block ks (c.requires.stands k) (c.requires.inner k))
+
+pub small_leaf-requires-2-clause-stands : goal.small_leaf-requires-2-clause-stands
+small_leaf-requires-2-clause-stands g c = λ known.
+    let d : Block = record { z = 0; level = 0 } in
+    let l1 = c.in_ok-first.ensures.leads in
+    let k = g.met.S.Ground.knew _ _ _ _ l1 known in
+    let e1 = c.in_ok-first.ensures.same k in
+    let ks : List ℕ = firsts (g.S.Ground.pairs c.args.ground.now c.args.pages.now) in
+    subst (KeysStand (get_or c.children.result 1 d)) (sym (ap firsts e1))
+    (from_child c.args.block c.children.result 1 d (λ x. KeysStand x ks) c.children.ensures.value (stands_1 c.args.block ks (c.requires.stands k) (c.requires.inner k)))
+
+pub small_leaf-requires-3-clause-stands : goal.small_leaf-requires-3-clause-stands
+small_leaf-requires-3-clause-stands g c = λ known.
+    let d : Block = record { z = 0; level = 0 } in
+    let l1 = c.in_ok-first.ensures.leads in
+    let l2 = g.met.S.Ground.onward _ _ _ _ _ _ _ l1 c.in_ok-second.ensures.leads in
+    let k = g.met.S.Ground.knew _ _ _ _ l2 known in
+    let e1 = c.in_ok-first.ensures.same k in
+    let e2 = c.in_ok-second.ensures.same (g.met.S.Ground.known _ _ _ _ l1 k) ∙ e1 in
+    let ks : List ℕ = firsts (g.S.Ground.pairs c.args.ground.now c.args.pages.now) in
+    subst (KeysStand (get_or c.children.result 2 d)) (sym (ap firsts e2))
+    (from_child c.args.block c.children.result 2 d (λ x. KeysStand x ks) c.children.ensures.value (stands_2 c.args.block ks (c.requires.stands k) (c.requires.inner k)))
+
+pub small_leaf-requires-4-clause-stands : goal.small_leaf-requires-4-clause-stands
+small_leaf-requires-4-clause-stands g c = λ known.
+    let d : Block = record { z = 0; level = 0 } in
+    let l1 = c.in_ok-first.ensures.leads in
+    let l2 = g.met.S.Ground.onward _ _ _ _ _ _ _ l1 c.in_ok-second.ensures.leads in
+    let l3 = g.met.S.Ground.onward _ _ _ _ _ _ _ l2 c.in_ok-third.ensures.leads in
+    let k = g.met.S.Ground.knew _ _ _ _ l3 known in
+    let e1 = c.in_ok-first.ensures.same k in
+    let e2 = c.in_ok-second.ensures.same (g.met.S.Ground.known _ _ _ _ l1 k) ∙ e1 in
+    let e3 = c.in_ok-third.ensures.same (g.met.S.Ground.known _ _ _ _ l2 k) ∙ e2 in
+    let ks : List ℕ = firsts (g.S.Ground.pairs c.args.ground.now c.args.pages.now) in
+    subst (KeysStand (get_or c.children.result 3 d)) (sym (ap firsts e3))
+    (from_child c.args.block c.children.result 3 d (λ x. KeysStand x ks) c.children.ensures.value (stands_3 c.args.block ks (c.requires.stands k) (c.requires.inner k)))
 
 pub returns-in_default-clause-found : goal.returns-in_default-clause-found
 returns-in_default-clause-found g c = λ k.
     let d : Block = record { z = 0; level = 0 } in
-    inl (at_child c.args.block c.children.result 0 d (λ x. own x (firsts (g.S.Ground.pairs c.args.ground.now c.args.pages.now)) ≡ []) c.children.ensures.value
+    inl (at_child c.args.block c.children.result 0 d (λ x. IsLarge c.args.most x (firsts (g.S.Ground.pairs c.args.ground.now c.args.pages.now))) c.children.ensures.value
     (none_found _ _ _ c.in_default.is (c.in_ok-first.ensures.found k)))
 
 pub returns-in_default-2-clause-found : goal.returns-in_default-2-clause-found
@@ -31,8 +76,8 @@ returns-in_default-2-clause-found g c = λ k.
     let d : Block = record { z = 0; level = 0 } in
     let l1 = c.in_ok-first.ensures.leads in
     let e1 = c.in_ok-first.ensures.same k in
-    inr (inl (at_child c.args.block c.children.result 1 d (λ x. own x (firsts (g.S.Ground.pairs c.args.ground.now c.args.pages.now)) ≡ []) c.children.ensures.value
-    (ap (own (get_or c.children.result 1 d)) (ap firsts (sym e1)) ∙ none_found _ _ _ c.in_default-2.is (c.in_ok-second.ensures.found (g.met.S.Ground.known _ _ _ _ l1 k)))))
+    inr (inl (at_child c.args.block c.children.result 1 d (λ x. IsLarge c.args.most x (firsts (g.S.Ground.pairs c.args.ground.now c.args.pages.now))) c.children.ensures.value
+    (subst (IsLarge c.args.most (get_or c.children.result 1 d)) (ap firsts e1) (none_found _ _ _ c.in_default-2.is (c.in_ok-second.ensures.found (g.met.S.Ground.known _ _ _ _ l1 k))))))
 
 pub returns-in_default-3-clause-found : goal.returns-in_default-3-clause-found
 returns-in_default-3-clause-found g c = λ k.
@@ -41,8 +86,8 @@ returns-in_default-3-clause-found g c = λ k.
     let l2 = g.met.S.Ground.onward _ _ _ _ _ _ _ l1 c.in_ok-second.ensures.leads in
     let e1 = c.in_ok-first.ensures.same k in
     let e2 = c.in_ok-second.ensures.same (g.met.S.Ground.known _ _ _ _ l1 k) ∙ e1 in
-    inr (inr (inl (at_child c.args.block c.children.result 2 d (λ x. own x (firsts (g.S.Ground.pairs c.args.ground.now c.args.pages.now)) ≡ []) c.children.ensures.value
-    (ap (own (get_or c.children.result 2 d)) (ap firsts (sym e2)) ∙ none_found _ _ _ c.in_default-3.is (c.in_ok-third.ensures.found (g.met.S.Ground.known _ _ _ _ l2 k))))))
+    inr (inr (inl (at_child c.args.block c.children.result 2 d (λ x. IsLarge c.args.most x (firsts (g.S.Ground.pairs c.args.ground.now c.args.pages.now))) c.children.ensures.value
+    (subst (IsLarge c.args.most (get_or c.children.result 2 d)) (ap firsts e2) (none_found _ _ _ c.in_default-3.is (c.in_ok-third.ensures.found (g.met.S.Ground.known _ _ _ _ l2 k)))))))
 
 pub returns-in_default-4-clause-found : goal.returns-in_default-4-clause-found
 returns-in_default-4-clause-found g c = λ k.
@@ -53,8 +98,8 @@ returns-in_default-4-clause-found g c = λ k.
     let e1 = c.in_ok-first.ensures.same k in
     let e2 = c.in_ok-second.ensures.same (g.met.S.Ground.known _ _ _ _ l1 k) ∙ e1 in
     let e3 = c.in_ok-third.ensures.same (g.met.S.Ground.known _ _ _ _ l2 k) ∙ e2 in
-    inr (inr (inr ((at_child c.args.block c.children.result 3 d (λ x. own x (firsts (g.S.Ground.pairs c.args.ground.now c.args.pages.now)) ≡ []) c.children.ensures.value
-    (ap (own (get_or c.children.result 3 d)) (ap firsts (sym e3)) ∙ none_found _ _ _ c.in_default-4.is (c.in_ok-fourth.ensures.found (g.met.S.Ground.known _ _ _ _ l3 k)))))))
+    inr (inr (inr ((at_child c.args.block c.children.result 3 d (λ x. IsLarge c.args.most x (firsts (g.S.Ground.pairs c.args.ground.now c.args.pages.now))) c.children.ensures.value
+    (subst (IsLarge c.args.most (get_or c.children.result 3 d)) (ap firsts e3) (none_found _ _ _ c.in_default-4.is (c.in_ok-fourth.ensures.found (g.met.S.Ground.known _ _ _ _ l3 k))))))))
 
 pub returns-clause-found : goal.returns-clause-found
 returns-clause-found g c = λ k.
@@ -96,19 +141,19 @@ returns-clause-values g c = λ k test w.
     }
 
 -- accepted calls leave the pages ready for the next one
-pub leaf_of-requires-2-clause-ready : goal.leaf_of-requires-2-clause-ready
-leaf_of-requires-2-clause-ready g c =
+pub small_leaf-requires-2-clause-ready : goal.small_leaf-requires-2-clause-ready
+small_leaf-requires-2-clause-ready g c =
     let l1 = c.in_ok-first.ensures.leads in
     g.met.S.Ground.ready _ _ _ _ l1 c.requires.ready
 
-pub leaf_of-requires-3-clause-ready : goal.leaf_of-requires-3-clause-ready
-leaf_of-requires-3-clause-ready g c =
+pub small_leaf-requires-3-clause-ready : goal.small_leaf-requires-3-clause-ready
+small_leaf-requires-3-clause-ready g c =
     let l1 = c.in_ok-first.ensures.leads in
     let l2 = g.met.S.Ground.onward _ _ _ _ _ _ _ l1 c.in_ok-second.ensures.leads in
     g.met.S.Ground.ready _ _ _ _ l2 c.requires.ready
 
-pub leaf_of-requires-4-clause-ready : goal.leaf_of-requires-4-clause-ready
-leaf_of-requires-4-clause-ready g c =
+pub small_leaf-requires-4-clause-ready : goal.small_leaf-requires-4-clause-ready
+small_leaf-requires-4-clause-ready g c =
     let l1 = c.in_ok-first.ensures.leads in
     let l2 = g.met.S.Ground.onward _ _ _ _ _ _ _ l1 c.in_ok-second.ensures.leads in
     let l3 = g.met.S.Ground.onward _ _ _ _ _ _ _ l2 c.in_ok-third.ensures.leads in
@@ -117,19 +162,19 @@ leaf_of-requires-4-clause-ready g c =
 -- accepted calls lead on to the refused one, and its refusal is passed on
 pub returns-in_err-first-clause-leads : goal.returns-in_err-first-clause-leads
 returns-in_err-first-clause-leads g c =
-    passed_on _ _ (g.S.Ground.Leads c.args.ground.now c.args.pages.now c.args.ground.now c.leaf_of.new.pages) c.from_residual.ensures c.in_err-first.ensures.leads
+    passed_on _ _ (g.S.Ground.Leads c.args.ground.now c.args.pages.now c.args.ground.now c.small_leaf.new.pages) c.from_residual.ensures c.in_err-first.ensures.leads
 
 pub returns-in_err-second-clause-leads : goal.returns-in_err-second-clause-leads
 returns-in_err-second-clause-leads g c =
     let l1 = c.in_ok-first.ensures.leads in
-    passed_on _ _ (g.S.Ground.Leads c.args.ground.now c.args.pages.now c.args.ground.now c.leaf_of-2.new.pages) c.from_residual-in_err-second.ensures
+    passed_on _ _ (g.S.Ground.Leads c.args.ground.now c.args.pages.now c.args.ground.now c.small_leaf-2.new.pages) c.from_residual-in_err-second.ensures
     (g.met.S.Ground.onward _ _ _ _ _ _ _ l1 c.in_err-second.ensures.leads)
 
 pub returns-in_err-third-clause-leads : goal.returns-in_err-third-clause-leads
 returns-in_err-third-clause-leads g c =
     let l1 = c.in_ok-first.ensures.leads in
     let l2 = g.met.S.Ground.onward _ _ _ _ _ _ _ l1 c.in_ok-second.ensures.leads in
-    passed_on _ _ (g.S.Ground.Leads c.args.ground.now c.args.pages.now c.args.ground.now c.leaf_of-3.new.pages) c.from_residual-in_err-third.ensures
+    passed_on _ _ (g.S.Ground.Leads c.args.ground.now c.args.pages.now c.args.ground.now c.small_leaf-3.new.pages) c.from_residual-in_err-third.ensures
     (g.met.S.Ground.onward _ _ _ _ _ _ _ l2 c.in_err-third.ensures.leads)
 
 pub returns-in_err-fourth-clause-leads : goal.returns-in_err-fourth-clause-leads
@@ -137,7 +182,7 @@ returns-in_err-fourth-clause-leads g c =
     let l1 = c.in_ok-first.ensures.leads in
     let l2 = g.met.S.Ground.onward _ _ _ _ _ _ _ l1 c.in_ok-second.ensures.leads in
     let l3 = g.met.S.Ground.onward _ _ _ _ _ _ _ l2 c.in_ok-third.ensures.leads in
-    passed_on _ _ (g.S.Ground.Leads c.args.ground.now c.args.pages.now c.args.ground.now c.leaf_of-4.new.pages) c.from_residual-in_err-fourth.ensures
+    passed_on _ _ (g.S.Ground.Leads c.args.ground.now c.args.pages.now c.args.ground.now c.small_leaf-4.new.pages) c.from_residual-in_err-fourth.ensures
     (g.met.S.Ground.onward _ _ _ _ _ _ _ l3 c.in_err-fourth.ensures.leads)
 
 pub returns-in_default-clause-leads : goal.returns-in_default-clause-leads

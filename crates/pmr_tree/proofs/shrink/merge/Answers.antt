@@ -7,7 +7,7 @@ use Rattle.pmr_tree.specs.Parts.{without_parts}
 use Rattle.pmr_tree.specs.declared.fault.PmrFault.TheVariants.{Memory}
 use Rattle.pmr_tree.proofs.Refusals.{passed_on, passed_as}
 use Rattle.pmr_tree.proofs.Entries.{none_found, some_found, if_found, length_ids}
-use Rattle.pmr_tree.proofs.MergeSteps.{Four, some_inner, merge_enough, merge_few}
+use Rattle.pmr_tree.proofs.MergeSteps.{Four, some_large, merge_enough, merge_few}
 use Rattle.pmr_tree.proofs.shrink.merge.Goals as goal
 
 -- accepted calls lead on to the refused one, and its refusal is passed on
@@ -52,7 +52,7 @@ returns-clause-leads g c = g.met.S.Ground.onward _ _ _ _ _ _ _ c.in_ok-parts.ens
 
 pub returns-in_default-clause-keys : goal.returns-in_default-clause-keys
 returns-in_default-clause-keys g c = λ k.
-    some_inner c.args.threshold c.args.block _ _ (c.requires.stands k) (c.requires.inner k) (none_found _ _ _ c.in_default.is (c.in_ok-parts.ensures.found k))
+    some_large c.args.threshold c.args.block _ _ (c.requires.stands k) (c.requires.inner k) (none_found _ _ _ c.in_default.is (c.in_ok-parts.ensures.found k))
     (ap firsts (c.in_ok-parts.ensures.same k))
 
 pub returns-then-len-threshold-clause-keys : goal.returns-then-len-threshold-clause-keys
