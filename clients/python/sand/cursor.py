@@ -68,11 +68,16 @@ class Cursor(Iterator[Row]):
         self._is_open = True
 
     def __next__(self) -> Row:
+        line = self.line()
+        if line is None:
+            raise StopIteration
+        return self._reader.read(line)
+
+    def line(self) -> str | None:
+        """The next row as the program printed it, None behind the last."""
         if not self._waiting:
             self._pull()
-        if not self._waiting:
-            raise StopIteration
-        return self._reader.read(self._waiting.popleft())
+        return self._waiting.popleft() if self._waiting else None
 
     def _pull(self) -> None:
         if self._refusal:

@@ -5,7 +5,7 @@ import csv
 import os
 import tempfile
 from collections import deque
-from typing import Any, Iterable, Iterator, Sequence
+from typing import Any, Iterable, Iterator, Sequence, Tuple
 
 from .cursor import MOST_AT_ONCE, Cursor, RowReader
 from .plan_text import Place
@@ -51,9 +51,12 @@ class Sand:
 
     def answer(self, line: str) -> list[str]:
         """The lines that a statement prints, a refusal as the last of them; it raises none."""
+        self._close_abandoned()
+        return self._program.answer(line)
+
+    def _close_abandoned(self) -> None:
         while self._abandoned:
             self._program.answer(f"close {self._abandoned.popleft()}")
-        return self._program.answer(line)
 
     def ask(self, line: str) -> list[str]:
         """The lines that a statement prints; `Refused` where it is refused."""
@@ -61,6 +64,18 @@ class Sand:
         if lines and is_refusal(lines[-1]):
             raise Refused.of(lines[-1], line, lines[:-1])
         return lines
+
+    def shown(self, asked: Sequence[Tuple[str, int]]) -> list[list[str]]:
+        """The lines of the first rows of plans, so many of each at most and without `end`, asked together."""
+        self._close_abandoned()
+        lines = [f"show {count} {plan}" for plan, count in asked]
+        answers = self._program.answers([(line, count) for line, (_, count) in zip(lines, asked)])
+        for line, answer in zip(lines, answers):
+            if is_refusal(answer[-1]):
+                raise Refused.of(answer[-1], line, answer[:-1])
+            if answer[-1] == "end":
+                answer.pop()
+        return answers
 
     def tell(self, line: str) -> int | None:
         """Carries out a statement that prints one line: the number of an `id N` or a `loaded N`, else None."""

@@ -11,13 +11,16 @@ import secrets
 import shutil
 import subprocess
 import threading
+from io import BufferedReader
 from pathlib import Path
-from typing import Sequence
+from typing import Callable, Iterator, Sequence, Tuple, TypeVar, cast
 
 from .refusal import is_refusal
 
 # a longer line is refused, be it a comment
 MOST_BYTES = 8192
+# so many bytes of statements go to the program at once: what the pipe of any system holds, so that a write never waits
+AT_ONCE = 4096
 # the statements whose answer is one line
 ONE_LINE = frozenset("create insert delete load index open close stats".split())
 # the statements whose answer is so many rows at most, and `end` where they are fewer
@@ -32,6 +35,7 @@ STATUSES = {
     10: "the disk failed while the kept changes were carried out again",
     11: "a page that was read while the kept changes were carried out again isn't the one that was written",
 }
+Found = TypeVar("Found")
 
 
 def is_passed_over(line: str) -> bool:
@@ -92,7 +96,7 @@ class Program:
             words, stdin=subprocess.PIPE, stdout=subprocess.PIPE, stderr=subprocess.PIPE, cwd=folder, start_new_session=True,
             pass_fds=kept_open)
         assert self._process.stdin and self._process.stdout
-        self._input, self._output = self._process.stdin, self._process.stdout
+        self._input, self._output = self._process.stdin, cast(BufferedReader, self._process.stdout)
         self._mark = f"nobody_{secrets.token_hex(8)}"
         self._lock = threading.RLock()
         self._ended: ProgramEnded | None = None
@@ -107,11 +111,24 @@ class Program:
         """The lines that a statement prints, a refusal among them as the last."""
         if "\n" in line:
             raise ValueError("a statement is one line")
+        return self._guarded(lambda: self._exchange(line))
+
+    def answers(self, asked: Sequence[Tuple[str, int]]) -> list[list[str]]:
+        """The lines of statements that print so many rows each at most, as `answer` gives them.
+
+        Many go to the program in one write, and their answers come in few reads.
+        """
+        if any("\n" in line for line, _ in asked):
+            raise ValueError("a statement is one line")
+        return self._guarded(lambda: [lines for some in together(asked) for lines in self._exchange_all(some)])
+
+    def _guarded(self, exchange: Callable[[], Found]) -> Found:
+        """What an exchange gives; the program is ended where one is broken off."""
         with self._lock:
             if self._ended:
                 raise self._ended
             try:
-                return self._exchange(line)
+                return exchange()
             except (ProgramEnded, UnicodeEncodeError):
                 raise
             except OSError:
@@ -152,6 +169,28 @@ class Program:
             lines.append(self._read())
         return lines
 
+    def _exchange_all(self, asked: Sequence[Tuple[str, int]]) -> list[list[str]]:
+        self._send("\n".join(line for line, _ in asked))
+        printed = self._printed()
+        answers = []
+        for _, count in asked:
+            lines = [next(printed)]
+            while len(lines) < count and lines[-1] != "end" and not is_refusal(lines[-1]):
+                lines.append(next(printed))
+            answers.append(lines)
+        return answers
+
+    def _printed(self) -> Iterator[str]:
+        """The lines that are printed, read in blocks: all of them are taken before anything else is read."""
+        rest = b""
+        while True:
+            block = self._output.read1(1 << 16)
+            if not block:
+                raise self._learn_end()
+            whole, end, rest = (rest + block).rpartition(b"\n")
+            if end:
+                yield from whole.decode().split("\n")
+
     def _send(self, line: str) -> None:
         text = line.encode() + b"\n"
         self.sent += len(text)
@@ -189,3 +228,17 @@ class Program:
             status, _ = self._release()
             self._ended = ProgramEnded(None, "the program was closed")
             return status
+
+
+def together(asked: Sequence[Tuple[str, int]]) -> Iterator[Sequence[Tuple[str, int]]]:
+    """Statements in runs, each of which goes to the program at once."""
+    begin = size = 0
+    for at, (line, _) in enumerate(asked):
+        # a character may take four bytes
+        length = 1 + (len(line) if line.isascii() else 4 * len(line))
+        if size + length > AT_ONCE and at > begin:
+            yield asked[begin:at]
+            begin, size = at, 0
+        size += length
+    if asked:
+        yield asked[begin:]

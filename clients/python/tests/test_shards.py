@@ -30,9 +30,11 @@ try:
     from sand.shards import (Changed, Copied, Hash, KeyedRow, NotSpread, Progress, Region, ShardLost, ShardRefused, Shards,
                              Spread, quarters)
     from sand.shards.journals import Catalogue, locked
+    from sand.shards.parts import split_any, split_plain
     from sand.shards.plans import Gap, NoPlan, Place, form
     from sand.shards.regions import WIDTH, Box
-    from sand.shards.spread import Relation
+    from sand.shards.rows import Printed, Reading, lines_of
+    from sand.shards.spread import Homes, Relation
     distributed: Any = importlib.import_module("distributed")
 except (ImportError, NoProgram) as missing:
     MISSING = str(missing)
@@ -391,6 +393,28 @@ class Loads(unittest.TestCase):
             copy = pickle.loads(pickle.dumps(partly.exception))
             self.assertEqual((str(copy), copy.done), (str(partly.exception), partly.exception.done))
 
+    def test_plain_files_are_parted_as_others_are(self) -> None:
+        spreads: List[Spread] = [Hash("k"), Hash("name"), Region("k", "at")]
+        plain = ["(1 1),5,a\n(1048575 0),-7,\n", "(7 900000),12,b",
+                 "\n(1 1),0,a\n\n\n(2 2),9223372036854775807,c\n\n", "\ufeff(1 1),5,\u00fc\n"]
+        others = ["", "\n", "(1 1),5,a\r\n", '(1 1),5,"a"\n', "(1 1),5,a,b\n(1 1),5\n", "5\n"]
+        no_numbers = ["(1 1), 5,a\n", "(1 1),,a\n", "(1 1),5-1,a\n", "(1 1),99999999999999999999,a\n"]
+        no_points = ["( 1 1),5,a\n", "(1 1)(2 2),5,a\n,6,b\n", "(1048576 0),5,a\n", "(1 ),5,a\n", "1 1,5,a\n"]
+        for spread, bad in zip(spreads, (no_numbers, [], no_numbers + no_points)):
+            homes = Homes(Relation.of("create p (at point, k int, name text)", spread), 3, quarters(3))
+            for header in (False, True):
+                for text in plain:
+                    data = (text.replace("(", "at,k,name\n(", 1) if header else text).encode()
+                    pieces = split_plain("f", data, header, homes, 3) or []
+                    told = [[(list(piece.keys), piece.records(), list(piece.numbers), piece.copies) for piece in some]
+                            for some in (pieces, split_any("f", data, header, homes, 3))]
+                    self.assertEqual(told[0], told[1], (spread, text))
+                    self.assertEqual(sum(len(piece.keys) for piece in pieces), text.count("("))
+            for text in others + bad:
+                self.assertIsNone(split_plain("f", text.encode(), False, homes, 3), (spread, text))
+        margin = Homes(Relation.of("create p (at point, k int)", Region("k", "at", 0)), 3, quarters(3))
+        self.assertIsNone(split_plain("f", b"(1 1),5\n", False, margin, 3))
+
     def test_records_are_read_as_the_program_reads_them(self) -> None:
         text = '\ufeff"(1 1)",5,a\r\n\n( 2   2 ),007,"Brin, ""the old"""\r(3 3),"-8",\n(4 4),-0, Cork \n(6 6),1,"\'Elm"'
         with tempfile.TemporaryDirectory() as folder, Shards(client, 3) as db, Sand() as one:
@@ -437,7 +461,7 @@ class Loads(unittest.TestCase):
             made = Relation.of("create d (k int)", Copied("k"))
             for shard in (0, 2, 3):
                 db._links[shard].ask("create", made, Catalogue(db.regions, [made])).wait()
-            db._add(made)
+            db._planner.add(made)
             with self.assertRaises(ShardRefused) as partly:
                 db.insert("d", 7)
             self.assertEqual((list(partly.exception.refusals), partly.exception.done), ([1], {0: 1, 2: 1, 3: 1}))
@@ -500,7 +524,7 @@ class Parting(unittest.TestCase):
                 for _ in range(100):
                     point = Point(draw.randrange(WIDTH), draw.randrange(WIDTH))
                     box = Box(*point, *point)
-                    self.assertEqual(regions.gap(regions.home(*point), box), 0)
+                    self.assertEqual(regions.gaps(box)[regions.home(*point)], 0)
                     self.assertEqual(regions.near(box, 0), [regions.home(*point)])
             shares = [sum(regions.home(*point) == shard for point in crowd) for shard in range(count)]
             self.assertLess(max(shares), 2 * len(crowd) / count + 100, (count, shares))
@@ -509,6 +533,21 @@ class Parting(unittest.TestCase):
         said = subprocess.run([sys.executable, "-c", "import sand, sys; print('distributed' in sys.modules)"], capture_output=True,
                               text=True, cwd=Path(__file__).resolve().parents[1], timeout=60)
         self.assertEqual(said.stdout, "False\n", said.stderr)
+
+    def test_rows_are_read_off_lines(self) -> None:
+        reading = Reading(True, ("a", "b"), ("int", "text", "point"), (Place(1, "n"), Gap()), 0)
+        sent = Printed.of([("1/2\t7\t9\t5\tx\t(1 2)\t-3", ("k", 6)), ("4\t8\t9\t6\t\t(3 4)\t0", ("l", 6))])
+        first, second = lines_of(reading).came(sent)
+        self.assertEqual((first[0], second[0]), ((-3, Fraction(1, 2), "k", 6), (0, 4, "l", 6)))
+        rows = [lines_of(reading).row(came) for came in (first, second)]
+        for row in (rows[0], pickle.loads(pickle.dumps(rows[0]))):
+            self.assertEqual((row.gap, row.keys, row.values), (Fraction(1, 2), ("k", 6), (5, "x", Point(1, 2))))
+            self.assertEqual(row, (Fraction(1, 2), "k", 6, 5, "x", Point(1, 2)))
+            self.assertIsInstance(row, KeyedRow)
+        bare = lines_of(Reading(False, ("a",), (), (), 0))
+        (row,) = map(bare.row, bare.came(Printed.of([("7", (3,))])))
+        self.assertEqual((row, row.gap, row.keys, row.values), ((3,), None, (3,), ()))
+        self.assertEqual(bare.came(Printed.of([])), [])
 
     def test_shards_go_to_another_client_by_pickle(self) -> None:
         with Shards(client, 3) as db:

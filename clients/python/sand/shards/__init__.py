@@ -12,7 +12,8 @@
             print(gap, number, name)
 
 Where one program gives ids, a row has its keys: the values of its relations' key columns. Read `database.py` first, then
-`spread.py` (where rows go), `merged.py` (how answers come), `shard.py` (what a worker has). `import sand` needs no Dask.
+`spread.py` (where rows go), `merged.py` and `firsts.py` (how answers come), `shard.py` and `answering.py` (what a worker has).
+`import sand` needs no Dask.
 """
 from .database import Shards
 from .errors import NotSpread, ShardLost, ShardRefused

@@ -10,14 +10,15 @@ from typing import Any, Callable, Dict, Iterable, List, Mapping, Sequence
 from ..refusal import Refused
 from ..values import Value
 from .errors import NotSpread, ShardLost, ShardRefused
+from .firsts import first_rows
 from .journals import Catalogue, kept_text
 from .links import Link, all_of, distributed, started, workers
 from .loading import Progress, load_parts
-from .merged import Source, SpreadCursor, take_all
+from .merged import Source, SpreadCursor
 from .messages import Asking, Loaded, Setting
 from .parts import split_rows
-from .placing import asked, decides
-from .plans import Form, NoPlan, form
+from .planning import Planned, Planner
+from .plans import NoPlan
 from .regions import Regions, quarters
 from .rows import KeyedRow
 from .spread import Homes, Key, Relation, Spread
@@ -38,8 +39,6 @@ class Shards:
         if journal is not None and "{shard}" not in journal:
             raise ValueError("each shard has a journal of its own: {shard} stands in its name")
         self._client = client
-        self._relations: Dict[str, Relation] = {}
-        self._homes: Dict[str, Homes] = {}
         self._setting = Setting(words, options, program, folder, journal)
         self._begin()
         found = workers(client)
@@ -50,6 +49,9 @@ class Shards:
         self.regions = kept.regions if kept else regions or quarters(count)
         if len(self.regions.boxes) != count:
             raise ValueError(f"the plane is parted among {len(self.regions.boxes)} shards and not {count}")
+        self._planner = Planner(self.regions, count)
+        self._relations = self._planner.relations
+        self._homes = self._planner.homes
         self._links: List[Link] = []
         try:
             for number, worker in enumerate(homes):
@@ -57,7 +59,7 @@ class Shards:
             self._all("ready")
             for relation in kept.relations if kept else []:
                 self._all("know", relation, Homes(relation, count, self.regions))
-                self._add(relation)
+                self._planner.add(relation)
         except BaseException:
             self.close()
             raise
@@ -79,10 +81,6 @@ class Shards:
         # a relation whose making was broken off may stand in some alone
         relations = {relation.name: relation for catalogue in catalogues for relation in catalogue.relations}
         return Catalogue(catalogues[0].regions, list(relations.values()))
-
-    def _add(self, relation: Relation) -> None:
-        self._relations[relation.name] = relation
-        self._homes[relation.name] = Homes(relation, len(self._links), self.regions)
 
     def _begin(self) -> None:
         self._name = secrets.token_hex(6)
@@ -130,9 +128,9 @@ class Shards:
             self._all("create", relation, Catalogue(self.regions, [*self._relations.values(), relation]))
         except ShardLost:
             # where it is started again, the relation is made too
-            self._add(relation)
+            self._planner.add(relation)
             raise
-        self._add(relation)
+        self._planner.add(relation)
 
     def tell(self, line: str) -> None:
         """Carries out an `index` or an `rtree` in all shards."""
@@ -205,32 +203,22 @@ class Shards:
     def firsts(self, count: int, plans: Sequence[str]) -> List[List[KeyedRow]]:
         """The first rows of each of many plans, so many at most, with few messages to a shard for all of them.
 
-        A shard that may have one of the rows of a plan is asked for so many at once.
+        A shard that may have one of the rows of a plan is asked for so many at once, or for its share where a hash spreads them.
         """
-        return take_all([self._cursor(plan, count, count) for plan in plans], count)
+        return first_rows(self._links, [self._planned(plan) for plan in plans], count)
 
     def _cursor(self, plan: str, most: int, wanted: int) -> SpreadCursor:
-        found = self._form(plan)
-        deciding = decides(found, self._relations)
-        if deciding:
-            places = asked(found, self._relations, self._homes, self.regions, len(self._links))
-        else:
-            places = [(next(self._cursors) % len(self._links), ())]
-        has_copies = deciding and self._relations[found.relations[deciding - 1]].has_copies
-        # what a shard doesn't look at isn't sent
-        asking = Asking(found._replace(search=None, pairings=()), deciding if has_copies else 0, most)
+        planned = self._planned(plan)
         name = f"{self._name}-{next(self._cursors)}"
-        return SpreadCursor([Source(self._links[shard], name, asking, floor) for shard, floor in places], found.limit, wanted)
+        asking = Asking(planned.plan, planned.reading, most)
+        return SpreadCursor([Source(self._links[shard], name, asking, floor) for floor, shard in planned.starts], planned.limit, wanted)
 
-    def _form(self, plan: str) -> Form:
-        """The form of a plan over relations that are here; else what the program says of it."""
+    def _planned(self, plan: str) -> Planned:
+        """A plan as shards are asked it; what the program says of it where it is none over relations that are here."""
         try:
-            found = form(plan)
-            if all(relation in self._relations for relation in found.relations):
-                return found
+            return self._planner.planned(plan)
         except NoPlan:
-            pass
-        self._links[0].ask("check", plan).wait()
+            self._links[0].ask("check", plan).wait()
         raise NotSpread(f"what the program makes of this plan isn't known for shards: {plan}")
 
     def _known(self, relation: str) -> Homes:

@@ -2,7 +2,8 @@
 from __future__ import annotations
 
 from array import array
-from typing import Iterable, Iterator, MutableSequence, cast
+from operator import lt
+from typing import Iterable, Iterator, List, MutableSequence, Sequence, cast
 
 from .spread import Key
 
@@ -27,6 +28,11 @@ class Keys:
     def __getitem__(self, number: int) -> Key:
         return self._keys[number - 1]
 
+    def of(self, numbers: Iterable[int]) -> List[Key]:
+        """The keys of ids."""
+        keys = self._keys
+        return [keys[number - 1] for number in numbers]
+
     def add(self, key: Key, is_home: bool = True) -> None:
         """The key of the next id; `is_home` tells whether the row's home is this shard."""
         if self._keys and not self._keys[-1] < key:  # type: ignore[operator]
@@ -35,10 +41,14 @@ class Keys:
         if not is_home:
             self._copies.add(len(self._keys))
 
-    def extend(self, keys: Iterable[Key], copies: Iterable[bool]) -> None:
-        """The keys of the next ids, and which of them are copies of rows whose home is another shard."""
-        for key, is_copy in zip(keys, copies):
-            self.add(key, not is_copy)
+    def extend(self, keys: Sequence[Key], copies: bytes) -> None:
+        """The keys of the next ids, and a byte for each, 1 where the row is a copy of one whose home is another shard."""
+        begin = len(self._keys)
+        self._keys.extend(keys)
+        if self.ascending:
+            self.ascending = all(map(lt, self._keys[begin - 1:], keys) if begin else map(lt, keys, keys[1:]))
+        if 1 in copies:
+            self._copies.update(number for number, is_copy in enumerate(copies, begin + 1) if is_copy)
 
     def skip_to(self, number: int) -> None:
         """Ids up to a number that were given out and deleted before anybody looked: their keys are never asked for."""

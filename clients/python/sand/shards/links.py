@@ -24,6 +24,11 @@ class Pending:
         self._future = future
         self._lost = lost
 
+    @property
+    def shard(self) -> int:
+        """The number of the shard."""
+        return self._link.number
+
     def wait(self) -> Any:
         """What the call gives; raises what it raised, `ShardLost` where the worker or the program has ended."""
         while self._lost is None:

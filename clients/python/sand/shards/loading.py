@@ -7,9 +7,10 @@ from operator import itemgetter
 from typing import Any, Callable, Iterator, Mapping, NamedTuple, Sequence
 
 from .errors import ShardLost
+from .laying import lay_down
 from .links import LOOK, Link, Pending, all_of, workers
 from .messages import Loaded
-from .parts import lay_down, split
+from .parts import split
 from .spread import Homes
 
 

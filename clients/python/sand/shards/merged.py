@@ -3,28 +3,29 @@ from __future__ import annotations
 
 import heapq
 from collections import deque
-from typing import Any, Deque, Dict, Generator, Iterator, List, NamedTuple, Sequence, Tuple
+from typing import Any, Deque, Iterator, List, Sequence, Tuple
 
 from ..cursor import Stats
 from .errors import ShardLost
-from .links import Link, all_of
+from .links import Link, Pending, all_of
 from .messages import Asking, Pulled
-from .rows import KeyedRow, Order, Sent, received
+from .rows import Came, KeyedRow, Order, lines_of
 
 
 class Source:
-    """The rows of one shard. None of them comes before `floor`, which was known without asking for any."""
+    """The rows of one shard. `place` is that of its next row in the order of all, or one before it."""
 
     def __init__(self, link: Link, cursor: str, asking: Asking, floor: Order) -> None:
         self.link = link
         self.cursor = cursor
+        self.place = floor
         self.is_open = False
         self.is_spent = False
         self.asked = 0
         self._asking = asking
-        self._floor = floor
+        self._lines = lines_of(asking.reading)
         self._batch = 1
-        self._waiting: Deque[Sent] = deque()
+        self._waiting: Deque[Came] = deque()
 
     @property
     def has_row(self) -> bool:
@@ -34,48 +35,37 @@ class Source:
     def is_over(self) -> bool:
         return self.is_spent and not self._waiting
 
-    @property
-    def place(self) -> Order:
-        """The place of the next row in the order of all, or one before it."""
-        return self._waiting[0][0] if self._waiting else self._floor
-
-    def opening(self) -> Call:
-        """The call that opens it."""
+    def opening(self) -> Pending:
+        """Opens it."""
         self.is_open = True
-        return Call(self, "open", (self.cursor, self._asking))
+        return self.link.ask("open", self.cursor, self._asking)
 
-    def asking(self, wanted: int, bound: Order | None, is_all: bool) -> Call:
-        """The call for rows: for those before the bound and one more, or, where it may pull ahead, for a batch."""
+    def pulling(self, wanted: int, bound: Order | None, is_all: bool) -> Pending:
+        """Asks for rows: for those before the bound and one more, or, where it may pull ahead, for a batch."""
         count = wanted
         if self._asking.most > 1:
             count, bound = max(self._batch, min(wanted, self._asking.most)), None
             self._batch = min(2 * count, self._asking.most)
         if self.is_open:
-            return Call(self, "pull", (self.cursor, count, bound))
+            return self.link.ask("pull", self.cursor, count, bound)
         self.is_open = True
-        return Call(self, "start", (self.cursor, self._asking, count, bound, is_all and count >= wanted))
+        return self.link.ask("start", self.cursor, self._asking, count, bound, is_all and count >= wanted)
 
     def receive(self, pulled: Pulled) -> None:
-        self._waiting.extend(pulled.rows)
+        self._waiting.extend(self._lines.came(pulled.rows))
         self.asked = pulled.asked
         if pulled.is_last:
             self.is_spent, self.is_open = True, False
+        self._look()
 
-    def take(self) -> Sent:
-        row = self._waiting.popleft()
-        self._floor = row[0]
+    def take(self) -> KeyedRow:
+        row = self._lines.row(self._waiting.popleft())
+        self._look()
         return row
 
-
-class Call(NamedTuple):
-    """What is asked of a source's shard."""
-    source: Source
-    name: str
-    arguments: Tuple[Any, ...]
-
-
-# steps towards rows: what has to be asked first, as long as something has, and then the rows
-Steps = Generator[List[Call], None, List[KeyedRow]]
+    def _look(self) -> None:
+        if self._waiting:
+            self.place = self._waiting[0][0]
 
 
 class SpreadCursor(Iterator[KeyedRow]):
@@ -96,7 +86,7 @@ class SpreadCursor(Iterator[KeyedRow]):
         self._wanted = wanted
         self.failure: Exception | None = None
         if not wanted:
-            exchange([self], [source.opening() for source in self._sources])
+            self._answers([source.opening() for source in self._sources])
 
     def __next__(self) -> KeyedRow:
         rows = self.take(1)
@@ -106,20 +96,15 @@ class SpreadCursor(Iterator[KeyedRow]):
 
     def take(self, count: int) -> List[KeyedRow]:
         """The next rows, so many at most; asked for in fewer messages than one by one."""
-        return take_all([self], count)[0]
-
-    def steps(self, count: int) -> Steps:
-        """The steps towards the next rows, so many at most."""
         rows: List[KeyedRow] = []
         if self.failure:
             raise self.failure
         while len(rows) < count and self._left != 0 and self._queue:
             source = self._sources[self._queue[0][1]]
             if not source.has_row:
-                wanted = count - len(rows) if self._left is None else min(count - len(rows), self._left)
-                yield from self._asking(wanted)
+                self._pull(count - len(rows) if self._left is None else min(count - len(rows), self._left))
                 continue
-            rows.append(received(source.take()))
+            rows.append(source.take())
             if source.is_over:
                 heapq.heappop(self._queue)
             else:
@@ -130,17 +115,30 @@ class SpreadCursor(Iterator[KeyedRow]):
             self.leave()
         return rows
 
-    def _asking(self, wanted: int) -> Generator[List[Call], None, None]:
-        """The step that asks the sources that may have the next row, those that can't be told apart together."""
+    def _pull(self, wanted: int) -> None:
+        """Asks the sources that may have the next row, those that can't be told apart together."""
         least = self._queue[0][0]
         asked: List[int] = []
         while self._queue and self._queue[0][0] == least and not self._sources[self._queue[0][1]].has_row:
             asked.append(heapq.heappop(self._queue)[1])
         bound = least if len(asked) > 1 else self._queue[0][0] if self._queue else None
-        yield [self._sources[number].asking(wanted, bound, bool(self._wanted)) for number in asked]
-        for number in asked:
-            if not self._sources[number].is_over:
-                heapq.heappush(self._queue, (self._sources[number].place, number))
+        answers = self._answers([self._sources[number].pulling(wanted, bound, bool(self._wanted)) for number in asked])
+        for number, pulled in zip(asked, answers):
+            source = self._sources[number]
+            source.receive(pulled)
+            if not source.is_over:
+                heapq.heappush(self._queue, (source.place, number))
+
+    def _answers(self, calls: Sequence[Pending]) -> List[Any]:
+        """What calls of shards give; a failure is the cursor's from then on."""
+        try:
+            found = all_of({call.shard: call for call in calls})
+        except BaseException as failure:
+            # rows may be on their way that nobody takes any more, so it can't go on
+            self.failure = failure if isinstance(failure, Exception) else RuntimeError("the cursor was broken off")
+            self.leave()
+            raise
+        return [found[call.shard] for call in calls]
 
     @property
     def asked(self) -> int:
@@ -183,40 +181,3 @@ class SpreadCursor(Iterator[KeyedRow]):
         for source in getattr(self, "_sources", []):
             if source.is_open:
                 source.link.abandoned.append(source.cursor)
-
-
-def take_all(cursors: Sequence[SpreadCursor], count: int) -> List[List[KeyedRow]]:
-    """The next rows of each cursor, so many at most, with one message to a shard for what all of them ask of it."""
-    rows: Dict[int, List[KeyedRow]] = {}
-    steps = {number: cursor.steps(count) for number, cursor in enumerate(cursors)}
-    while steps:
-        calls: List[Call] = []
-        for number, towards in list(steps.items()):
-            try:
-                calls += next(towards)
-            except StopIteration as end:
-                rows[number] = end.value
-                del steps[number]
-        if calls:
-            exchange(cursors, calls)
-    return [rows[number] for number in range(len(cursors))]
-
-
-def exchange(cursors: Sequence[SpreadCursor], calls: Sequence[Call]) -> None:
-    """Carries out calls, those of a shard together, and hands rows to their sources; a failure is each cursor's."""
-    by_shard: Dict[int, List[Call]] = {}
-    for call in calls:
-        by_shard.setdefault(call.source.link.number, []).append(call)
-    try:
-        answers = all_of({shard: some[0].source.link.ask("together", [(call.name, call.arguments) for call in some])
-                          for shard, some in by_shard.items()})
-    except BaseException as failure:
-        # rows may be on their way that nobody takes any more, so these cursors can't go on
-        for cursor in cursors:
-            cursor.failure = failure if isinstance(failure, Exception) else RuntimeError("the cursor was broken off")
-            cursor.leave()
-        raise
-    for shard, some in by_shard.items():
-        for call, pulled in zip(some, answers[shard]):
-            if pulled is not None:
-                call.source.receive(pulled)

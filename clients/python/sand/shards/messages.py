@@ -4,8 +4,7 @@ from __future__ import annotations
 from typing import Any, Dict, List, NamedTuple, Tuple, Union
 
 from ..refusal import Refused
-from .plans import Form
-from .rows import Sent
+from .rows import Printed, Reading
 
 # an answer: a value, or what was raised
 Answer = Tuple[Any, Union[Exception, None]]
@@ -25,9 +24,9 @@ class Setting(NamedTuple):
 
 
 class Asking(NamedTuple):
-    """A plan as a shard is asked it; `decides` is the number of the id whose home gives the row, 0 where all rows count."""
-    form: Form
-    decides: int
+    """A plan as a shard is asked it, how its rows are read, and how many the program is asked for at once at most."""
+    plan: str
+    reading: Reading
     most: int
 
 
@@ -37,9 +36,15 @@ class Changed(Exception):
 
 class Pulled(NamedTuple):
     """Rows that were pulled, whether they were the last, and how many rows the program has given the cursor so far."""
-    rows: List[Sent]
+    rows: Printed
     is_last: bool
     asked: int
+
+
+class Firsts(NamedTuple):
+    """The first rows of plans, all in one, and how many each plan has of them."""
+    rows: Printed
+    counts: List[int]
 
 
 class Loaded(NamedTuple):

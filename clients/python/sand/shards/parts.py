@@ -2,51 +2,49 @@
 from __future__ import annotations
 
 import csv
+import io
 import itertools
-import os
-import pickle
-import tempfile
-from operator import itemgetter
-from typing import Iterable, Iterator, List, NamedTuple, Sequence, TextIO, Tuple
+from array import array
+from typing import Iterable, Iterator, List, NamedTuple, Sequence, TextIO, Tuple, Union
 
 from ..database import fields
 from ..refusal import Refused
 from ..values import Value, literal
 from .spread import Homes, Key
 
-# a load takes 67,108,864 bytes; more rows of a shard come in by several
-MOST_BYTES = 60_000_000
-LIST = "files.pickle"
 BAD_RECORD = 16
-# a row as it is laid down: its key, its record, whether its home is another shard, its part and number there
-Laid = Tuple[Key, str, bool, Tuple[str, int]]
+MARK = b"\xef\xbb\xbf"
+# keys in the fewest bytes: an array of ints, or a list of texts
+Keyed = Union["array[int]", List[Key]]
 
 
 class Piece(NamedTuple):
     """The rows of one part, a file or what a caller gave, that go to one shard.
 
-    A row has its key, its record as it stood, its number in the part, counted from 1, and whether its home is another shard.
+    `text` has their records as they stood, each with its line end, and `lengths` the bytes of each, None where each is a line. A
+    row has its key, its number in the part, counted from 1, and a byte of `copies`, 1 where its home is another shard.
     """
     part: str
-    keys: List[Key]
-    records: List[str]
-    numbers: List[int]
-    copies: List[bool]
+    keys: Keyed
+    text: bytes
+    lengths: array[int] | None
+    numbers: array[int]
+    copies: bytes
+
+    def records(self) -> List[bytes]:
+        """Its records, each with its line end."""
+        if self.lengths is None:
+            return self.text.splitlines(keepends=True)
+        ends = list(itertools.accumulate(self.lengths))
+        return [self.text[begin:end] for begin, end in zip([0, *ends], ends)]
 
 
-class File(NamedTuple):
-    """A data file that was laid down for one shard: its name, and the keys, copy marks and origins of its records."""
-    name: str
-    keys: List[Key]
-    copies: List[bool]
-    origins: List[Tuple[str, int]]
-
-    def refused(self, refusal: Refused) -> Refused:
-        """A refusal of this file as one of the part in which the record stood."""
-        if refusal.number != BAD_RECORD:
-            return refusal
-        part, number = self.origins[refusal.details[0] - 1]
-        return bad_record(part, number, refusal.details[1])
+def packed(keys: Sequence[Key]) -> Keyed:
+    """Keys in the fewest bytes."""
+    try:
+        return array("q", keys)  # type: ignore[arg-type]
+    except (OverflowError, TypeError):
+        return list(keys)
 
 
 def bad_record(part: str, number: int, column: int) -> Refused:
@@ -56,11 +54,44 @@ def bad_record(part: str, number: int, column: int) -> Refused:
 
 def split(path: str, has_header: bool, homes: Homes, count: int) -> List[Piece]:
     """The pieces of a data file, one for each shard; `Refused` where a record has no key or no place."""
-    with open(path, encoding="utf-8-sig", errors="surrogateescape") as file:
-        numbered = enumerate(records(file), 1)
-        if has_header:
-            next(numbered, None)
-        return parted(path, ((number, text, row) for number, (text, row) in numbered), homes, count)
+    with open(path, "rb") as file:
+        data = file.read()
+    pieces = split_plain(path, data, has_header, homes, count)
+    return split_any(path, data, has_header, homes, count) if pieces is None else pieces
+
+
+def split_any(path: str, data: bytes, has_header: bool, homes: Homes, count: int) -> List[Piece]:
+    """The pieces of a data file, record by record."""
+    text = io.TextIOWrapper(io.BytesIO(data), encoding="utf-8-sig", errors="surrogateescape")
+    numbered = enumerate(records(text), 1)
+    if has_header:
+        next(numbered, None)
+    return parted(path, ((number, record, row) for number, (record, row) in numbered), homes, count)
+
+
+def split_plain(path: str, data: bytes, has_header: bool, homes: Homes, count: int) -> List[Piece] | None:
+    """The pieces of a data file without quotes whose records all have a key and a place; None where it isn't known to be one."""
+    if b'"' in data or b"\r" in data:
+        return None
+    lines = (data[len(MARK):] if data.startswith(MARK) else data).splitlines(keepends=True)
+    if lines and not lines[-1].endswith(b"\n"):
+        lines[-1] += b"\n"
+    lines = [line for line in lines if line != b"\n"][has_header:]
+    width = lines[0].count(b",") + 2 if lines else 0
+    # all fields in one list, with the line end behind those of each record: a list for each would take longer than the rest
+    all_fields = b"".join(lines).replace(b"\n", b",\n,").split(b",")
+    if not width or all_fields[width - 1::width] != [b"\n"] * len(lines):
+        return None
+    try:
+        keys, found = homes.of_fields(all_fields[:-1], width)
+    except (ValueError, OverflowError):
+        # which record is bad, and in which column, is told by those who read them one by one
+        return None
+    rows: List[List[int]] = [[] for _ in range(count)]
+    for at, home in enumerate(found):
+        rows[home].append(at)
+    return [Piece(path, packed([keys[at] for at in some]), b"".join([lines[at] for at in some]), None,
+                  array("I", [1 + has_header + at for at in some]), bytes(len(some))) for some in rows]
 
 
 def split_rows(rows: Iterable[Sequence[Value]], homes: Homes, count: int) -> List[Piece]:
@@ -69,22 +100,21 @@ def split_rows(rows: Iterable[Sequence[Value]], homes: Homes, count: int) -> Lis
 
 
 def parted(part: str, numbered: Iterable[Tuple[int, str, Sequence[Value]]], homes: Homes, count: int) -> List[Piece]:
-    pieces = [Piece(part, [], [], [], []) for _ in range(count)]
+    rows: List[List[Tuple[Key, bytes, int, bool]]] = [[] for _ in range(count)]
     for number, text, row in numbered:
         try:
             key = homes.key(row)
             shards = homes.shards(key, row)
         except ValueError as wrong:
             raise bad_record(part, number, wrong.args[0] + 1) from None
+        data = text.encode("utf-8", "surrogateescape")
         is_copy = False
         for shard in shards:
-            piece = pieces[shard]
-            piece.keys.append(key)
-            piece.records.append(text)
-            piece.numbers.append(number)
-            piece.copies.append(is_copy)
+            rows[shard].append((key, data, number, is_copy))
             is_copy = not homes.is_copied
-    return pieces
+    return [Piece(part, packed([key for key, _, _, _ in some]), b"".join([data for _, data, _, _ in some]),
+                  array("I", [len(data) for _, data, _, _ in some]), array("I", [number for _, _, number, _ in some]),
+                  bytes([is_copy for _, _, _, is_copy in some])) for some in rows]
 
 
 def records(file: TextIO) -> Iterator[Tuple[str, List[str]]]:
@@ -125,40 +155,3 @@ def quoted(text: str) -> str:
     if text and not any(mark in text for mark in '",\r\n'):
         return text
     return '"' + text.replace('"', '""') + '"'
-
-
-def lay_down(pieces: Sequence[Piece]) -> str:
-    """Writes the rows of a shard into a new folder on this machine, by key, equal ones as they came; the folder."""
-    rows = [row for piece in pieces
-            for row in zip(piece.keys, piece.records, piece.copies, zip(itertools.repeat(piece.part), piece.numbers))]
-    rows.sort(key=itemgetter(0))
-    folder = tempfile.mkdtemp(prefix="sand-shard-")
-    files = [write(os.path.join(folder, f"{number}.csv"), some) for number, some in enumerate(chunks(rows))]
-    with open(os.path.join(folder, LIST), "wb") as file:
-        pickle.dump(files, file)
-    return folder
-
-
-def laid_down(folder: str) -> List[File]:
-    """The data files of a folder."""
-    with open(os.path.join(folder, LIST), "rb") as file:
-        files: List[File] = pickle.load(file)
-    return files
-
-
-def chunks(rows: List[Laid]) -> Iterator[List[Laid]]:
-    """Rows in runs, each of which a `load` takes."""
-    begin = size = 0
-    for at, row in enumerate(rows):
-        size += len(row[1]) if row[1].isascii() else len(row[1].encode("utf-8", "surrogateescape"))
-        if size > MOST_BYTES and at > begin:
-            yield rows[begin:at]
-            begin, size = at, len(row[1])
-    if rows:
-        yield rows[begin:]
-
-
-def write(name: str, rows: List[Laid]) -> File:
-    with open(name, "w", encoding="utf-8", errors="surrogateescape", newline="") as file:
-        file.writelines(text for _, text, _, _ in rows)
-    return File(name, [key for key, _, _, _ in rows], [is_copy for _, _, is_copy, _ in rows], [origin for _, _, _, origin in rows])

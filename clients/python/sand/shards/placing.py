@@ -1,13 +1,16 @@
 """Which shards a plan is asked of, and whose rows count."""
 from __future__ import annotations
 
-from typing import List, Mapping, Sequence, Tuple
+from typing import List, Mapping, Tuple
 
 from .errors import NotSpread
-from .plans import Form, Gap, Pairing, Pick, Search
-from .regions import Regions
+from .plans import Form, Pairing, Pick, Search
+from .regions import Box, Regions
 from .rows import Order
 from .spread import Copied, Hash, Homes, Region, Relation
+
+# a place in the order of all before which no row of a shard comes, and the shard
+Start = Tuple[Order, int]
 
 
 def decides(form: Form, relations: Mapping[str, Relation]) -> int:
@@ -46,21 +49,25 @@ def turned(pairing: Pairing) -> Pairing:
     return pairing._replace(left=pairing.right, right=pairing.left)
 
 
-def asked(form: Form, relations: Mapping[str, Relation], homes: Mapping[str, Homes], regions: Regions,
-          count: int) -> List[Tuple[int, Order]]:
-    """The shards that may have rows of an answer, each with a place in the order before which none of its rows comes."""
-    search = form.search
-    every: Sequence[int] = range(count)
-    if search is None:
-        return [(shard, ()) for shard in every]
-    relation = relations[search.column[0]]
-    if isinstance(search, Pick):
-        if isinstance(relation.spread, Hash) and relation.spread.key == search.column[1]:
-            every = homes[relation.name].of_key(search.value)
-        return [(shard, ()) for shard in every]
-    if not isinstance(relation.spread, Region) or search.word == "far" or search.column[1] != relation.spread.column \
-            or relation.kind(search.column[1]) != "point":
-        return [(shard, ()) for shard in every]
-    floors = ((shard, regions.gap(shard, search.goal)) for shard in every)
-    return [(shard, (gap,) if isinstance(form.order[0], Gap) else ()) for shard, gap in floors
-            if gap is not None and (search.within is None or gap <= search.within * search.within)]
+def by_squares(form: Form, relations: Mapping[str, Relation]) -> bool:
+    """Whether the squares of shards tell which of them may have rows of an answer, and from which place on."""
+    if not isinstance(form.search, Search):
+        return False
+    relation = relations[form.search.column[0]]
+    return (isinstance(relation.spread, Region) and form.search.word != "far" and form.search.column[1] == relation.spread.column
+            and relation.kind(form.search.column[1]) == "point")
+
+
+def everywhere(form: Form, relations: Mapping[str, Relation], homes: Mapping[str, Homes], count: int) -> List[Start]:
+    """The shards that may have rows of an answer, where no squares tell it."""
+    if isinstance(form.search, Pick):
+        relation, column = form.search.column
+        if isinstance(relations[relation].spread, Hash) and relations[relation].spread.key == column:
+            return [((), shard) for shard in homes[relation].of_key(form.search.value)]
+    return [((), shard) for shard in range(count)]
+
+
+def near(regions: Regions, goal: Box, within: int | None) -> List[Start]:
+    """The shards that have squares, or have them so near to a goal, from the gap of these on."""
+    most = None if within is None else within * within
+    return [((gap,), shard) for shard, gap in enumerate(regions.gaps(goal)) if gap is not None and (most is None or gap <= most)]

@@ -53,9 +53,10 @@ class Pairing(NamedTuple):
 class Form(NamedTuple):
     """The form of a plan's answer.
 
-    `relations` are those of a row's ids. Rows come by the parts of `order`, then by their keys. `limit` is how many there are
-    at most, where the plan says so; `search` is where rows without a sort come from, `pairings` what is paired. `plan` is the
-    plan without its limit: the first rows by key aren't those of each shard.
+    `relations` are those of a row's ids, `values` the places that are fetched. Rows come by the parts of `order`, then by their
+    keys. `limit` is how many there are at most, where the plan says so; `search` is where rows without a sort come from,
+    `pairings` what is paired. `plan` is the plan without its limit: the first rows by key aren't those of each shard. `has_gap`
+    tells whether a row begins with its gap.
     """
     relations: Tuple[str, ...]
     order: Tuple[Part, ...]
@@ -63,17 +64,14 @@ class Form(NamedTuple):
     search: Search | Pick | None = None
     pairings: Tuple[Pairing, ...] = ()
     plan: str = ""
+    values: Tuple[Place, ...] = ()
+    has_gap: bool = True
 
     @property
     def with_order(self) -> str:
         """The plan with the ints that its rows come by behind their values."""
         places = [f"{part.number}.{part.column}" for part in self.order if isinstance(part, Place)]
         return f"fetch ({self.plan}) {', '.join(places)}" if places else self.plan
-
-    @property
-    def is_far(self) -> bool:
-        """Whether it is a `far`, a statement that is taken for a plan."""
-        return self.plan.split(None, 1)[:1] == ["far"]
 
 
 class NoPlan(Exception):
@@ -167,8 +165,10 @@ class Reader:
         return Box.round(list(zip(numbers[::2], numbers[1::2])))
 
     def inner(self) -> Form:
-        """The plan in parentheses below an operator."""
+        """The plan in parentheses below an operator; a `far`, which is a statement, stands below none."""
         self.take("(")
+        if self.token() == "far":
+            raise NoPlan
         found = self.plan()
         self.take(")")
         return found
@@ -181,7 +181,7 @@ class Reader:
         return found
 
     def read_scan(self) -> Form:
-        return Form((self.name(),), ())
+        return Form((self.name(),), (), has_gap=False)
 
     def search_from(self, word: str, sign: int = 1) -> Form:
         column = self.column()
@@ -212,11 +212,11 @@ class Reader:
             value = token[1:-1].replace('""', '"') if token.startswith('"') else int(token) if is_number(token) else None
             if value is None:
                 raise NoPlan
-            return Form((relation,), (), search=Pick((relation, column), value))
+            return Form((relation,), (), search=Pick((relation, column), value), has_gap=False)
         self.number()
         self.take("to")
         self.number()
-        return Form((relation,), (Place(1, column),))
+        return Form((relation,), (Place(1, column),), has_gap=False)
 
     def paired(self, word: str) -> Form:
         left, right = self.column(), self.column()
@@ -254,11 +254,11 @@ class Reader:
 
     def read_fetch(self) -> Form:
         below = self.inner()
-        self.place()
+        places = [self.place()]
         while self.token() == ",":
             self.take()
-            self.place()
-        return below
+            places.append(self.place())
+        return below._replace(values=(*below.values, *places))
 
     def read_first(self) -> Form:
         begin = self._at - 1
@@ -278,7 +278,7 @@ class Reader:
             below = below._replace(order=())
         if any(isinstance(part, Gap) for part in below.order):
             raise NotSpread("a `sort near` over rows that have a gap: what they came by is gone from the row")
-        return below._replace(order=(Gap(), *below.order), search=None)
+        return below._replace(order=(Gap(), *below.order), search=None, has_gap=True)
 
 
 def is_number(token: str) -> bool:

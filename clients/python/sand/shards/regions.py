@@ -26,8 +26,9 @@ class Box(NamedTuple):
 
     def gap(self, other: Box) -> int:
         """The squared distance of two rectangles in steps of the grid, 0 where they meet."""
-        across = max(self.left - other.right, other.left - self.right, 0)
-        along = max(self.low - other.high, other.low - self.high, 0)
+        left, low, right, high = self
+        across = left - other[2] if left > other[2] else other[0] - right if other[0] > right else 0
+        along = low - other[3] if low > other[3] else other[1] - high if other[1] > high else 0
         return across * across + along * along
 
 
@@ -45,9 +46,14 @@ class Regions(NamedTuple):
         """The shard that has a point."""
         return self.homes[(y >> self.bits) * (WIDTH >> self.bits) + (x >> self.bits)]
 
-    def gap(self, shard: int, box: Box) -> int | None:
-        """The least squared distance from a rectangle to where a shard's points lie; None where it has no square."""
-        return min((own.gap(box) for own in self.boxes[shard]), default=None)
+    def all_homes(self, xs: Iterable[int], ys: Iterable[int]) -> List[int]:
+        """The shards that have points."""
+        homes, bits, across = self.homes, self.bits, WIDTH >> self.bits
+        return [homes[(y >> bits) * across + (x >> bits)] for x, y in zip(xs, ys)]
+
+    def gaps(self, box: Box) -> List[int | None]:
+        """The least squared distances from a rectangle to where each shard's points lie; None where it has no square."""
+        return [min([own.gap(box) for own in boxes]) if boxes else None for boxes in self.boxes]
 
     def near(self, box: Box, distance: int) -> list[int]:
         """The shards that have a square at most so many steps from a rectangle."""

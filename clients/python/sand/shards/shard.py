@@ -1,52 +1,35 @@
 """One shard: an actor on a worker, with a program of its own."""
 from __future__ import annotations
 
-import itertools
 import os
 import shutil
-from operator import itemgetter
-from typing import Any, Iterable, Iterator, List, Sequence, Tuple
+from typing import Any, List, Sequence
 
-from ..cursor import Cursor, Stats
 from ..database import Sand
 from ..program import ProgramEnded
 from ..refusal import Refused
-from ..values import Row, Value, literal, read_gap
+from ..values import Value, literal
+from .answering import Answering
 from .journals import Catalogue, keep_text, kept_text, locked
 from .keys import Keys
-from .messages import Answer, Asking, Changed, Loaded, Pulled, Setting
-from .parts import Piece, laid_down, lay_down
-from .plans import Form, Place
-from .rows import Order, Sent, exact
+from .laying import laid_down, lay_down
+from .messages import Answer, Loaded, Setting
+from .parts import Piece
 from .spread import Homes, Key, Relation
-
 
 # bytes of statements after which a program is started again over its journal
 ENOUGH = 12_000_000
-# what a `far` may be asked for
-MOST_ROWS = 1_000_000
 
 
-class Opened:
-    """An open cursor: the program's, None for a `far`, and the rows that are made of its own."""
-
-    def __init__(self, source: Cursor | None) -> None:
-        self.source = source
-        self.rows: Iterator[Sent] = iter(())
-        self.asked = 0
-
-
-class Shard:
+class Shard(Answering):
     """A program and its cursors. `call` gives an `Answer` and raises nothing: what is raised tells of a lost worker."""
 
     def __init__(self, number: int, setting: Setting) -> None:
+        super().__init__()
         self._number = number
         self._setting = setting
         self._lock: int | None = None
         self._journal = setting.journal and os.path.abspath(setting.journal)
-        self._keys: dict[str, Keys] = {}
-        self._cursors: dict[str, Opened] = {}
-        self._changes = 0
         self._failure: Exception | None = None
         try:
             if self._journal:
@@ -170,7 +153,7 @@ class Shard:
                     return Loaded(count, own, file.refused(refusal))
                 self._keys[relation].extend(file.keys, file.copies)
                 count += len(file.keys)
-                own += file.copies.count(False)
+                own += file.copies.count(0)
         finally:
             shutil.rmtree(folder, ignore_errors=True)
         return Loaded(count, own, None)
@@ -185,52 +168,6 @@ class Shard:
             keys.delete(number)
         return len(numbers)
 
-    def open(self, cursor: str, asking: Asking) -> None:
-        """Opens a cursor, from which nothing is pulled yet."""
-        opened = Opened(None if asking.form.is_far else self._db.rows(asking.form.with_order, asking.most))
-        rows = self._sent(opened.source or self._farthest(asking.form.plan), asking, opened)
-        opened.rows = self._by_key(rows, asking.form)
-        self._cursors[cursor] = opened
-
-    def pull(self, cursor: str, count: int, bound: Order | None) -> Pulled:
-        """The next rows of a cursor: so many at most, and none behind the first that doesn't come before the bound."""
-        opened = self._cursors[cursor]
-        rows: list[Sent] = []
-        for row in opened.rows:
-            rows.append(row)
-            if len(rows) == count or bound is not None and not row[0] < bound:
-                return Pulled(rows, False, opened.asked)
-        self.close(cursor)
-        return Pulled(rows, True, opened.asked)
-
-    def start(self, cursor: str, asking: Asking, count: int, bound: Order | None, is_all: bool) -> Pulled:
-        """Opens a cursor and pulls its first rows; where `is_all`, so many rows are all that is wanted, and it is closed."""
-        if is_all and bound is None and not asking.decides and not asking.form.is_far and self._is_by_key(asking.form):
-            opened = Opened(None)
-            rows = list(self._sent(self._db.first(count, asking.form.with_order), asking, opened))
-            return Pulled(rows, True, opened.asked)
-        self.open(cursor, asking)
-        pulled = self.pull(cursor, count, bound)
-        if is_all and len(pulled.rows) == count and not pulled.is_last:
-            self.close(cursor)
-            return pulled._replace(is_last=True)
-        return pulled
-
-    def together(self, calls: Sequence[Tuple[str, Sequence[Any]]]) -> List[Any]:
-        """Carries out calls one behind the other."""
-        return [getattr(self, name)(*arguments) for name, arguments in calls]
-
-    def stats(self, cursor: str) -> Stats | None:
-        """What an open cursor has visited."""
-        opened = self._cursors.get(cursor)
-        return opened.source.stats() if opened and opened.source else None
-
-    def close(self, cursor: str) -> None:
-        """Closes a cursor, or does nothing where it is closed."""
-        opened = self._cursors.pop(cursor, None)
-        if opened and opened.source:
-            opened.source.close()
-
     def end(self) -> int | None:
         """Ends the program; its status."""
         status = self._db.close()
@@ -241,44 +178,3 @@ class Shard:
         if self._lock is not None:
             os.close(self._lock)
             self._lock = None
-
-    def _sent(self, rows: Iterable[Row], asking: Asking, opened: Opened) -> Iterator[Sent]:
-        """Rows as they are sent, those left out whose home is another shard."""
-        known = [self._keys[relation] for relation in asking.form.relations]
-        places = sum(isinstance(part, Place) for part in asking.form.order)
-        for row in rows:
-            opened.asked += 1
-            if asking.decides and not known[asking.decides - 1].is_home(row.ids[asking.decides - 1]):
-                continue
-            gap = None if row.gap is None else exact(row.gap)
-            fetched = iter(row.values[len(row.values) - places:])
-            order = tuple(next(fetched) if isinstance(part, Place) else part.sign * (gap or 0) for part in asking.form.order)
-            keys = tuple(keys[number] for keys, number in zip(known, row.ids))
-            yield order + keys, gap, keys, row.values[:len(row.values) - places]
-
-    def _is_by_key(self, form: Form) -> bool:
-        """Whether rows come by key where they come by id, since keys only grew."""
-        return all(self._keys[relation].ascending for relation in form.relations)
-
-    def _by_key(self, rows: Iterator[Sent], form: Form) -> Iterator[Sent]:
-        """Rows at one place of their order by their keys."""
-        if self._is_by_key(form):
-            return rows
-        parts = len(form.order)
-        return itertools.chain.from_iterable(
-            sorted(ties, key=itemgetter(0)) for _, ties in itertools.groupby(rows, lambda row: row[0][:parts]))
-
-    def _farthest(self, plan: str) -> Iterator[Row]:
-        """The rows of a `far`, a statement that prints its rows at once: it is asked for twice as many each time."""
-        given, count, changes = 0, 1, self._changes
-        while True:
-            if changes != self._changes:
-                raise Changed(plan)
-            lines = self._db.ask(f"far {count} {plan.split(None, 1)[1]}")
-            is_last = lines[-1] == "end"
-            for line in lines[given:len(lines) - is_last]:
-                gap, number = line.split("\t")
-                yield Row(read_gap(gap), [int(number)], [])
-            if is_last or count == MOST_ROWS:
-                return
-            given, count = count, min(2 * count, MOST_ROWS)

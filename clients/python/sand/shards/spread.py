@@ -2,6 +2,7 @@
 from __future__ import annotations
 
 import re
+from array import array
 from typing import List, NamedTuple, Sequence, Tuple, Union
 from zlib import crc32
 
@@ -15,6 +16,8 @@ CREATE = re.compile(r"[ \t]*create[ \t]+(\w+)[ \t]*\(([^()]*)\)[ \t]*", re.ASCII
 COLUMN = re.compile(r"[ \t]*(\w+)[ \t]+(\w+)[ \t]*", re.ASCII)
 NUMBER_PAIR = re.compile(r"\([ \t]*(\d{1,9})[ \t]+(\d{1,9})[ \t]*\)", re.ASCII)
 WHOLE_NUMBER = re.compile(r"[ \t]*(-?\d{1,30})[ \t]*", re.ASCII)
+DIGITS = b"0123456789"
+MARKS_AS_BLANKS = bytes.maketrans(b"(),", b"   ")
 
 
 class Hash(NamedTuple):
@@ -108,9 +111,31 @@ class Homes:
             return value
         raise ValueError(self._key)
 
+    def of_fields(self, fields: Sequence[bytes], width: int) -> Tuple[Sequence[Key], List[int]]:
+        """The keys and homes of records, of all their fields, so many each with the line end; ValueError where one isn't plain.
+
+        Plain are numbers and points as the program prints them. The homes of rows that have copies aren't told so.
+        """
+        if max(self._key, self._place) >= width - 1:
+            raise ValueError("a field is missing")
+        texts = fields[self._key::width]
+        keys: Sequence[Key]
+        if self._is_number:
+            keys = plain_numbers(texts)
+        else:
+            keys = [text.decode("utf-8", "surrogateescape") for text in texts]
+        if isinstance(self._spread, Hash):
+            return keys, list(map(self._hashed, keys))
+        if isinstance(self._spread, Copied) or self._spread.margin is not None:
+            raise ValueError("rows have copies")
+        return keys, self._regions.all_homes(*plain_points(fields[self._place::width]))
+
     def of_key(self, key: Key) -> List[int]:
         """The shard of a key that is spread by a hash."""
-        return [crc32(str(key).encode("utf-8", "surrogateescape")) % self._count]
+        return [self._hashed(key)]
+
+    def _hashed(self, key: Key) -> int:
+        return crc32(str(key).encode("utf-8", "surrogateescape")) % self._count
 
     def shards(self, key: Key, row: Sequence[Value]) -> List[int]:
         """The shards that a row goes to; ValueError with the number of a column in which no place stands."""
@@ -127,3 +152,20 @@ class Homes:
             return [home]
         box = Box.round([(int(x), int(y)) for x, y in NUMBER_PAIR.findall(text)])
         return [home, *(shard for shard in self._regions.near(box, self._spread.margin) if shard != home)]
+
+
+def plain_numbers(texts: Sequence[bytes]) -> Sequence[int]:
+    """The numbers of fields that are printed so; OverflowError where one has more than 64 bits."""
+    if b"".join(texts).translate(None, DIGITS + b"-"):
+        raise ValueError("a field is no plain number")
+    return array("q", map(int, texts))
+
+
+def plain_points(texts: Sequence[bytes]) -> Tuple[List[int], List[int]]:
+    """The coordinates of fields that are printed so, points of the plane."""
+    text = b",".join(texts)
+    numbers = list(map(int, text.translate(MARKS_AS_BLANKS).split()))
+    is_plain = text.translate(None, DIGITS) == b",".join([b"( )"] * len(texts)) and len(numbers) == 2 * len(texts)
+    if not is_plain or max(numbers, default=0) >= WIDTH:
+        raise ValueError("a field is no plain point")
+    return numbers[::2], numbers[1::2]
