@@ -1,5 +1,5 @@
 #!/usr/bin/env python3
-"""Prints what shards take beside one program: loads, rankings, rows of the merge, memory. It gives no verdict.
+"""Prints what shards take beside one program, as the tables of docs/SCALING.md; it gives no verdict.
 
   bench/shards.py [--program FILE] [--rows N] [--sizes N,N..] [--shards N] [--clients N] [--rankings N] [--frames N]
                   [--repeat N] [--only NAME,NAME..]
@@ -7,11 +7,12 @@
 It needs Dask (python3-distributed of Debian: run it by /usr/bin/python3), and starts a cluster of as many workers as shards on
 this machine. Rows are points spread evenly over the plane, each with a text and a number, in two data files for each shard; one
 program loads them from one file. First one program is measured at each of the sizes, then it and shards at `rows`: `one`,
-`single` (one shard), `hash` and `region`; without `one` the ratios to it are left at 0, and 0 rankings leave them out. Rankings are
-of ten rows with their texts, pulled by clients that are processes of their own: each by a `first`, or all of a client's by one
-`firsts`. Filtered ones, a tenth as many, are of ten rows that one in a thousand passes. One program is asked on a pipe, by one.
+`single` (one shard), `hash` and `region`; what is left out of `only` has empty cells. Rankings are of ten rows with their texts,
+pulled by clients that are processes of their own: each by a `first`, or all of a client's by one `firsts`. Filtered ones, a tenth
+as many, are of ten rows that one in a thousand passes. One program is asked on a pipe, by one client, one ranking after the other.
 Seconds are of the wall clock, rates a second of it, the best of some repeats; megabytes are the most that a process had. What a
-build took of a processor, of shards in the worker that took most with its program, says what it is where processors are free.
+build took of a processor, of shards in the worker that took most with its program, says what it is where processors are free; so
+do the microseconds of a processor that a ranking takes of the client, of all workers and of all programs.
 """
 from __future__ import annotations
 
@@ -26,6 +27,8 @@ import tempfile
 import time
 from pathlib import Path
 from typing import Any, Callable, Dict, Iterable, List, NamedTuple, Tuple
+
+from shard_tables import Ranking, Taken, tables
 
 TOP = Path(__file__).resolve().parents[1]
 sys.path.insert(0, str(TOP / "clients" / "python"))
@@ -68,10 +71,8 @@ def megabytes(process: int | str) -> float:
 
 
 def processor(process: int | str) -> float:
-    """The seconds of the processor that a process has taken."""
-    with open(f"/proc/{process}/stat", encoding="utf-8") as stat:
-        fields = stat.read().rpartition(")")[2].split()
-    return (int(fields[11]) + int(fields[12])) / os.sysconf("SC_CLK_TCK")
+    """The seconds of the processor that the threads of a process have taken."""
+    return sum(int(Path(task, "schedstat").read_text().split()[0]) for task in Path(f"/proc/{process}/task").iterdir()) / 1e9
 
 
 class Used(NamedTuple):
@@ -103,120 +104,107 @@ def seconds(do: Callable[[], Any]) -> float:
     return time.perf_counter() - begin
 
 
-def tell(*columns: Any) -> None:
-    """Prints a line of the table."""
-    shown = [f"{column:,.3f}" if isinstance(column, float) and column < 100 else f"{column:,.0f}" if isinstance(column, float)
-             else str(column) for column in columns]
-    print(f"{shown[0]:<44}" + "".join(f"{column:>12}" for column in shown[1:]), flush=True)
+def note(text: str) -> None:
+    """Says how far it is, beside the tables."""
+    print(text, file=sys.stderr, flush=True)
 
 
-class One:
-    """What one program takes at a size, the best of some repeats; 0 where it isn't measured."""
-    built = loaded = taken = memory = rate = hard = row = row_ahead = 0.0
-
-    def measure(self, whole: str, size: int, asked: argparse.Namespace) -> None:
-        times: List[Tuple[float, float]] = []
-        rates: List[float] = [0]
-        hard: List[float] = [0]
-        taken: List[float] = []
-        rows: List[float] = []
-        ahead: List[float] = []
-        for _ in range(asked.repeat):
-            with Sand(program=asked.program, frames=asked.frames) as db:
-                db.tell(CREATE)
-                load = seconds(lambda: db.tell(f'load p "{whole}"'))
-                times.append((load + seconds(lambda: db.tell("index p.at")), load))
-                taken.append(processor(db._program._process.pid))
-                goals = plans(max(asked.rankings, 10), 1)
-                rates.append(len(goals) / seconds(lambda: [db.first(TEN, goal) for goal in goals]))
-                few = filtered(goals, size)
-                hard.append(len(few) / seconds(lambda: [db.first(TEN, goal) for goal in few]))
-                for most, kept in ((1, rows), (64, ahead)):
-                    with db.rows(goals[0], most) as cursor:
-                        kept.append(seconds(lambda: [next(cursor) for _ in range(ROWS)]) / ROWS * 1000)
-                self.memory = megabytes(db._program._process.pid)
-        (self.built, self.loaded), self.taken = min(times), min(taken)
-        self.rate, self.hard, self.row, self.row_ahead = max(rates), max(hard), min(rows), min(ahead)
+def measure_one(whole: str, size: int, asked: argparse.Namespace) -> Taken:
+    """What one program takes at a size."""
+    one = Taken()
+    for _ in range(asked.repeat):
+        with Sand(program=asked.program, frames=asked.frames) as db:
+            process = db._program._process.pid
+            db.tell(CREATE)
+            one.loads.append(seconds(lambda: db.tell(f'load p "{whole}"')))
+            one.builds.append(one.loads[-1] + seconds(lambda: db.tell("index p.at")))
+            one.processor.append(processor(process))
+            goals = plans(max(asked.rankings, 10), 1)
+            for way, some in (("first", goals), ("filtered", filtered(goals, size))):
+                own, other = time.process_time(), processor(process)
+                took = seconds(lambda: [db.first(TEN, goal) for goal in some])
+                count = len(some)
+                one.asked(way, Ranking(count / took, (time.process_time() - own) / count, 0.0, (processor(process) - other) / count))
+            times = []
+            for most in (1, 1, 64):
+                with db.rows(goals[0], most) as cursor:
+                    times.append(seconds(lambda: [next(cursor) for _ in range(ROWS)]) / ROWS * 1000)
+            one.rows(times)
+            one.memory = megabytes(process)
+    return one
 
 
-def ask_shards(client: Any, count: int, spread: Spread, parts: List[str], one: One, asked: argparse.Namespace) -> None:
-    """Shards: their load, their rankings pulled by several clients, their rows."""
-    told = f"{count} shard{'s' if count > 1 else ''} by {type(spread).__name__}"
-    times = []
-    taken = []
+def measure_shards(client: Any, count: int, spread: Spread, parts: List[str], asked: argparse.Namespace) -> Taken:
+    """What shards take: their load, their rankings pulled by several clients, their rows."""
+    taken = Taken()
     for left in reversed(range(asked.repeat)):
         with Shards(client, count, program=asked.program, frames=asked.frames) as db:
             db.create(CREATE, spread)
             before = used_by_all(client)
-            load = seconds(lambda: db.load_parts("p", parts))
-            times.append((load + seconds(lambda: db.tell("index p.at")), load))
+            taken.loads.append(seconds(lambda: db.load_parts("p", parts)))
+            taken.builds.append(taken.loads[-1] + seconds(lambda: db.tell("index p.at")))
             after = used_by_all(client)
-            taken.append(max(after[worker].worker_seconds - before[worker].worker_seconds + sum(after[worker].program_seconds)
-                             for worker in after))
+            taken.processor.append(max(after[worker].worker_seconds - before[worker].worker_seconds + sum(after[worker].program_seconds)
+                                       for worker in after))
+            taken.memory = max(most for worker in after.values() for most in worker.programs)
             if left == 0:
-                built, loaded = min(times)
-                tell(f"{told}: build, of it load; times one", built, loaded, one.built / built)
-                tell(f"{told}: processor of the longest; times one", min(taken), one.taken / min(taken))
-                programs = [most for worker in after.values() for most in worker.programs]
-                tell(f"{told}: MB of each program; of a worker", *programs, max(worker.worker for worker in after.values()))
-                if asked.rankings:
-                    ask_rankings(told, client, db, one, asked)
-                ask_rows(told, db, one, asked)
+                for way in ("first", "firsts", "filtered") if asked.rankings else ():
+                    for _ in range(asked.repeat):
+                        taken.asked(way, pulled(client, db, way, asked))
+                for _ in range(asked.repeat):
+                    taken.rows(row_times(db))
+    return taken
 
 
-def ask_rankings(told: str, client: Any, db: Shards, one: One, asked: argparse.Namespace) -> None:
-    for clients in sorted({1, asked.clients}):
-        single, many, hard = (max(pulled(client.scheduler.address, db, clients, way, asked) for _ in range(asked.repeat))
-                              for way in ("first", "firsts", "filtered"))
-        tell(f"{told}: by {clients}: rankings, times one", single, single / (one.rate or 1e99))
-        tell(f"{told}: by {clients}: by `firsts`, times one", many, many / (one.rate or 1e99))
-        tell(f"{told}: by {clients}: filtered, times one", hard, hard / (one.hard or 1e99))
-
-
-def ask_rows(told: str, db: Shards, one: One, asked: argparse.Namespace) -> None:
-    """Milliseconds that a row of a ranking takes more than in one program: row by row, by `take`, and asked ahead."""
+def row_times(db: Shards) -> List[float]:
+    """Milliseconds of a row of a ranking: row by row, by `take`, and asked ahead."""
     goal = plans(1, 1)[0]
-    best = [float("inf")] * 3
-    for _ in range(asked.repeat):
-        with db.rows(goal) as cursor, db.rows(goal) as taken, db.rows(goal, 64) as ahead:
-            took = (seconds(lambda: [next(cursor) for _ in range(ROWS)]), seconds(lambda: taken.take(ROWS)),
-                    seconds(lambda: [next(ahead) for _ in range(ROWS)]))
-        best = [min(pair) for pair in zip(best, took)]
-    by_row, by_take, by_many = (one_took / ROWS * 1000 for one_took in best)
-    tell(f"{told}: ms added a row; by take; most=64", by_row - one.row, by_take - one.row, by_many - one.row_ahead)
+    with db.rows(goal) as cursor, db.rows(goal) as taken, db.rows(goal, 64) as ahead:
+        return [took / ROWS * 1000 for took in (
+            seconds(lambda: [next(cursor) for _ in range(ROWS)]), seconds(lambda: taken.take(ROWS)),
+            seconds(lambda: [next(ahead) for _ in range(ROWS)]))]
 
 
-def pulled(address: str, db: Shards, clients: int, way: str, asked: argparse.Namespace) -> float:
-    """Rankings a second, pulled by so many clients."""
+def pulled(client: Any, db: Shards, way: str, asked: argparse.Namespace) -> Ranking:
+    """What rankings take that several clients pull."""
     spawn = multiprocessing.get_context("spawn")
-    gate = spawn.Barrier(clients + 1)
-    count = asked.rankings // clients
-    goals = [plans(count, seed) for seed in range(clients)]
+    gate, spent = spawn.Barrier(asked.clients + 1), spawn.Queue()
+    goals = [plans(asked.rankings // asked.clients, seed) for seed in range(asked.clients)]
     if way == "filtered":
         goals = [filtered(some, asked.rows) for some in goals]
-    processes = [spawn.Process(target=pull, args=(address, pickle.dumps(db), some, way, gate)) for some in goals]
+    count = sum(map(len, goals))
+    processes = [spawn.Process(target=pull, args=(client.scheduler.address, pickle.dumps(db), some, way, gate, spent)) for some in goals]
     for process in processes:
         process.start()
     gate.wait()
+    before = used_by_all(client)
+    gate.wait()
     took = seconds(gate.wait)
+    after = used_by_all(client)
+    own = sum(spent.get() for _ in processes)
     for process in processes:
         process.join()
-    return sum(map(len, goals)) / took
+    workers = sum(after[worker].worker_seconds - before[worker].worker_seconds for worker in after)
+    programs = sum(sum(after[worker].program_seconds) - sum(before[worker].program_seconds) for worker in after)
+    return Ranking(count / took, own / count, workers / count, programs / count)
 
 
-def pull(address: str, sent: bytes, goals: List[str], way: str, gate: Any) -> None:
+def pull(address: str, sent: bytes, goals: List[str], way: str, gate: Any, spent: Any) -> None:
     """One client: its rankings, between two gates at which all clients wait for each other."""
     with distributed.Client(address, direct_to_workers=True):
         db = pickle.loads(sent)
         # what has to be set up once is
         db.firsts(TEN, plans(50, 0))
         gate.wait()
+        gate.wait()
+        begin = time.process_time()
         if way == "first":
             for goal in goals:
                 db.first(TEN, goal, most=TEN)
         else:
             db.firsts(TEN, goals)
         gate.wait()
+        spent.put(time.process_time() - begin)
 
 
 def sizes(text: str) -> Iterable[int]:
@@ -236,26 +224,26 @@ def main() -> None:
     words.add_argument("--only", default="one,single,hash,region")
     asked = words.parse_args()
     asked.program = os.path.abspath(asked.program)
-    print(f"{os.cpu_count()} processors, load {os.getloadavg()[0]:.1f}; seconds, rates a second, milliseconds, megabytes")
+    only, began = asked.only.split(","), time.monotonic()
+    print(f"{os.cpu_count()} processors, load {os.getloadavg()[0]:.1f} at the begin")
+    found: Dict[str, Taken] = {}
+    by_size: Dict[int, Taken] = {}
     with tempfile.TemporaryDirectory() as folder:
-        one = One()
         for size in [*asked.sizes, asked.rows]:
             *parts, whole = write_rows(folder, size, 2 * asked.shards)
-            if "one" not in asked.only.split(","):
-                continue
-            one.measure(whole, size, asked)
-            tell(f"one program, {size:,} rows: build, of it load; MB", one.built, one.loaded, one.memory)
-            tell("one program: processor", one.taken)
-            tell("one program: rankings; filtered", one.rate, one.hard)
-            tell("one program: ms a row; most=64", one.row, one.row_ahead)
+            if "one" in only:
+                note(f"one program, {size:,} rows")
+                found["one"] = by_size[size] = measure_one(whole, size, asked)
         with distributed.LocalCluster(n_workers=asked.shards, threads_per_worker=1, processes=True, dashboard_address=":0",
                                       silence_logs=logging.ERROR) as cluster, \
                 distributed.Client(cluster, direct_to_workers=True) as client:
             spreads: Dict[str, Tuple[int, Spread]] = {
                 "single": (1, Hash("number")), "hash": (asked.shards, Hash("number")), "region": (asked.shards, Region("number", "at"))}
-            for count, spread in (spreads[name] for name in spreads if name in asked.only.split(",")):
-                ask_shards(client, count, spread, parts, one, asked)
-        print(f"load {os.getloadavg()[0]:.1f} at the end")
+            for name in [name for name in spreads if name in only]:
+                note(f"shards: {name}")
+                found[name] = measure_shards(client, *spreads[name], parts, asked)
+    tables(by_size, found, asked.rows, asked.shards, asked.clients)
+    print(f"\nload {os.getloadavg()[0]:.1f} at the end, {time.monotonic() - began:.0f} s")
 
 
 if __name__ == "__main__":
