@@ -2,11 +2,15 @@
 
 From the top of the repository: PYTHONPATH=clients/python /usr/bin/python3 clients/python/examples/cities.py
 """
+import logging
+
 from distributed import Client, LocalCluster
 from sand.shards import Region, Shards
 
 if __name__ == "__main__":
-    with LocalCluster(n_workers=2, dashboard_address=":0") as cluster, Client(cluster, direct_to_workers=True) as client:
+    # A worker that ends slowly is no news here.
+    quiet = LocalCluster(n_workers=2, dashboard_address=":0", silence_logs=logging.ERROR)
+    with quiet as cluster, Client(cluster, direct_to_workers=True) as client:
         with Shards(client, 4) as db:
             db.create("create city (at point, name text, country text)", Region("name", "at"))
             print(db.load_parts("city", ["examples/cookbook/europe.csv"], header=True), "cities")
