@@ -400,7 +400,8 @@ class Loads(unittest.TestCase):
         others = ["", "\n", "(1 1),5,a\r\n", '(1 1),5,"a"\n', "(1 1),5,a,b\n(1 1),5\n", "5\n"]
         no_numbers = ["(1 1), 5,a\n", "(1 1),,a\n", "(1 1),5-1,a\n", "(1 1),99999999999999999999,a\n"]
         no_points = ["( 1 1),5,a\n", "(1 1)(2 2),5,a\n,6,b\n", "(1048576 0),5,a\n", "(1 ),5,a\n", "1 1,5,a\n"]
-        for spread, bad in zip(spreads, (no_numbers, [], no_numbers + no_points)):
+        none: List[str] = []
+        for spread, bad in zip(spreads, (no_numbers, none, no_numbers + no_points)):
             homes = Homes(Relation.of("create p (at point, k int, name text)", spread), 3, quarters(3))
             for header in (False, True):
                 for text in plain:
