@@ -16,5 +16,7 @@ pub mod Appended
 pub mod Led
 -- what is to be kept of a statement
 pub mod ToKeep
+-- the changes that a line makes
+pub mod LineChanges
 -- what a line keeps
 pub mod LineKept

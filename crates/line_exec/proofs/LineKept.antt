@@ -12,7 +12,9 @@ use Rattle.statement_exec.specs.Moment.{moment_of, state_with}
 use Rattle.statement_exec.specs.declared.reply.Reply.{Reply}
 use Rattle.line_exec.proofs.Appended.{appends_none, unless_any}
 use Rattle.line_exec.proofs.Led.{lead_none, lead_one}
-use Rattle.line_exec.specs.KeptChanges.{Appends, AppendsIfAny, KeepsIfAny, IsToKeep, UnlessJournal, bodies_kept}
+use Rattle.line_exec.proofs.LineChanges.{made}
+use Rattle.line_exec.specs.KeptChanges.{Appends, AppendsIfAny, KeepsIfAny, IsToKeep, UnlessJournal, bodies_kept, no_changes}
+use Rattle.statements.specs.Statement.{Statement}
 use Rattle.line_exec.specs.declared.fault.LineFault.{LineFault}
 
 -- whether a line was refused, beside what was written of it
@@ -32,30 +34,28 @@ not_refused answer (Err why) accepted told is = let clash : ⊥ = cc in absurd c
 module _ {T : Type 0} (seen : T → TapeView) (old new : StoreState) (files : Option Files) (shelf : ℕ) where
   -- a line that left the store as it was
   pub keeps_none : ((tape : T) (image : List ℕ) → IsTrue (seen tape).told → (seen tape).since (seen tape).clock image → (seen tape).leaves image)
-      → (journal : Option (Journal T)) (r : Result Bool LineFault) → IsUnchanged old new → KeepsIfAny seen journal journal (moment_of old files shelf) (state_with [] (database new)) r
-  keeps_none now_is_all None r same = tt
+      → (journal : Option (Journal T)) (r : Result Bool LineFault) → IsUnchanged old new
+      → KeepsIfAny seen journal journal (no_changes journal) (moment_of old files shelf) (state_with [] (database new)) r
+  keeps_none now_is_all None r same = refl
   keeps_none now_is_all (Some journal) r same = record {
-    changes = [];
     one = omega arith;
     refused = λ is. refl;
     keeps = record { all = tt; lead = lead_none old new files shelf same; appends = appends_none seen now_is_all journal (UnlessJournal r) (unless_any r) };
   }
 
   -- a statement that changes relations, and what was appended behind its answer
-  pub keeps_change : (journal journal' : Option (Journal T)) (answer : Result Reply Refusal) (body : Option (List ℕ)) (r : Result Bool LineFault) → IsToKeep (is_some journal) answer body old new
-      → AppendsIfAny seen journal journal' (bodies_kept answer body) (UnlessJournal r) → IfOk r (λ refused. refused ≡ is_err answer)
-      → KeepsIfAny seen journal journal' (moment_of old files shelf) (state_with [] (database new)) r
-  keeps_change None journal' answer body r to_keep appends told = tt
-  keeps_change (Some journal) None answer body r to_keep appends told = appends
-  keeps_change (Some journal) (Some journal') (Err why) body r to_keep appends told = record {
-    changes = [];
+  pub keeps_change : (s : Statement) (journal journal' : Option (Journal T)) (answer : Result Reply Refusal) (body : Option (List ℕ)) (r : Result Bool LineFault)
+      → (keep : IsToKeep (is_some journal) s answer body old new) → AppendsIfAny seen journal journal' (bodies_kept answer body) (UnlessJournal r) → IfOk r (λ refused. refused ≡ is_err answer)
+      → KeepsIfAny seen journal journal' (made journal s answer body old new keep) (moment_of old files shelf) (state_with [] (database new)) r
+  keeps_change s None journal' answer body r to_keep appends told = refl
+  keeps_change s (Some journal) None answer body r to_keep appends told = absurd appends
+  keeps_change s (Some journal) (Some journal') (Err why) body r to_keep appends told = record {
     one = omega arith;
     refused = λ is. refl;
     keeps = record { all = tt; lead = lead_none old new files shelf to_keep; appends = appends };
   }
-  keeps_change (Some journal) (Some journal') (Ok given) None r to_keep appends told = absurd to_keep
-  keeps_change (Some journal) (Some journal') (Ok given) (Some body) r to_keep appends told = record {
-    changes = to_keep.change ∷ [];
+  keeps_change s (Some journal) (Some journal') (Ok given) None r to_keep appends told = absurd to_keep
+  keeps_change s (Some journal) (Some journal') (Ok given) (Some body) r to_keep appends told = record {
     one = omega arith;
     refused = λ is. absurd (not_refused (Ok given) r refl told is);
     keeps = record {

@@ -3,8 +3,10 @@ use Rattle.std.proofs.Common.{◌≡◌, ◌∙◌, ℕ, suc, ◌+◌, ◌≤◌
 use Rattle.std.proofs.lemmas.Bool.Decides.{leb_tells}
 use Rattle.std.specs.List.{AllByRecursion}
 use Rattle.std.specs.Prelude.{Result, Ok, Err, IfOk, OnOk, OnErr}
+use Rattle.journal_replay.proofs.Entered as entered
 use Rattle.journal_replay.proofs.Entered.{found_relation, led_by_rows}
 use Rattle.journal_replay.proofs.RowChanges.{led_by_row}
+use Rattle.journal_replay.specs.EncodedRows.{HasRowsFor}
 use Rattle.journal_replay.specs.KeptBody.{FitsSchema, HasNoBodyOfRows, IsKeptOfRows}
 use Rattle.journal_replay.specs.LedBy.{LedByOne}
 use Rattle.sand_base.specs.declared.kind.Kind.{Kind}
@@ -24,8 +26,9 @@ use Rattle.sand_store.specs.Catalog.{StoreState}
 use Rattle.sand_store.specs.Contents.{database}
 use Rattle.statement_exec.proofs.SomeSetting.{some_setting, is_some_setting}
 use Rattle.statement_exec.specs.declared.reply.Reply.{Reply}
-use Rattle.statements.specs.Statement.{Statement}
+use Rattle.statements.specs.Statement.{Statement, Insert, Load}
 use Rattle.line_exec.specs.KeptChanges.{IsToKeep}
+use Rattle.line_exec.specs.MadeChanges.{AddsRows, IsChangeBy}
 
 -- ---- a line
 
@@ -47,11 +50,11 @@ some_is a b e = ap value e where
 
 -- a statement that is kept as a line
 pub keep_line : (keeps : Bool) (answer : Result Reply Refusal) (body : Option (List ℕ)) (v : Statement) (old new : StoreState) → (keeps ≡ true → body ≡ Some (body_of (Line v))) → IsChange (Line v)
-    → OnOk answer (LedByOne (Line v) old new) → OnErr answer (IsUnchanged old new) → IsToKeep keeps answer body old new
-keep_line keeps (Err why) body v old new made is led same = same
-keep_line false (Ok given) body v old new made is led same = tt
-keep_line true (Ok given) None v old new made is led same = let clash : None ≡ Some (body_of (Line v)) = made refl in absurd (let no : ⊥ = cc in no)
-keep_line true (Ok given) (Some body) v old new made is led same = record { change = Line v; is = is; has = some_is body (body_of (Line v)) (made refl); led = led }
+    → IsChangeBy (database old) v (Line v) → OnOk answer (LedByOne (Line v) old new) → OnErr answer (IsUnchanged old new) → IsToKeep keeps v answer body old new
+keep_line keeps (Err why) body v old new made is by led same = same
+keep_line false (Ok given) body v old new made is by led same = tt
+keep_line true (Ok given) None v old new made is by led same = let clash : None ≡ Some (body_of (Line v)) = made refl in absurd (let no : ⊥ = cc in no)
+keep_line true (Ok given) (Some body) v old new made is by led same = record { change = Line v; by = by; is = is; has = some_is body (body_of (Line v)) (made refl); led = led }
 
 -- ---- rows
 
@@ -96,6 +99,17 @@ relation_there d name check passes = go (relation_named d name) refl where
   go None e = let none : in_relation d name check ≡ Some why.UnknownRelation = rw e refl in absurd (let no : ⊥ = cc in no)
   go (Some r) e = let same : in_relation d name check ≡ check r = rw e refl in (r, e, sym same ∙ passes)
 
+-- rows that have encodings by the catalog of a store are added to its relation
+adds : (old : StoreState) (name : List ℕ) (rows : List (List Value)) (encodings : List (List ℕ)) → HasRowsFor old.catalog name encodings rows
+    → AddsRows (database old) name rows (Rows name encodings)
+adds old name rows encodings has = record {
+  relation = entered.relation old name encodings rows has;
+  named = entered.named old name encodings rows has;
+  encodings = encodings;
+  encoded = has.encoded;
+  is = refl;
+}
+
 module _ (keeps : Bool) (body : Option (List ℕ)) (old new : StoreState) (name : List ℕ) where
   -- rows that fit the relation have a body
   made_of : (rows : List (List Value)) → HasNoBodyOfRows old.catalog name rows → (r : Relation) → relation_named (database old) name ≡ Some r → AllByRecursion (FitsSchema r.schema) rows → ⊥
@@ -105,7 +119,7 @@ module _ (keeps : Bool) (body : Option (List ℕ)) (old new : StoreState) (name 
 
   -- a row that was inserted
   pub keep_row : (answer : Result Reply Refusal) (row : List Value) → (keeps ≡ true → IsKeptOfRows old.catalog name (row ∷ []) body)
-      → OnOk answer ((id : ℕ) × RowInserted old new name row id) → OnErr answer (IsUnchanged old new) → Carries old new → IsToKeep keeps answer body old new
+      → OnOk answer ((id : ℕ) × RowInserted old new name row id) → OnErr answer (IsUnchanged old new) → Carries old new → IsToKeep keeps (Insert name row) answer body old new
   keep_row answer row made done same carries = by keeps answer body made done same where
     fits : (id : ℕ) → RowInserted old new name row id → (r : Relation) → relation_named (database old) name ≡ Some r → FitsSchema r.schema row
     fits id h r named =
@@ -117,7 +131,7 @@ module _ (keeps : Bool) (body : Option (List ℕ)) (old new : StoreState) (name 
         row_fits r.schema row (sym same ∙ a.0) b.0
 
     by : (k : Bool) (a : Result Reply Refusal) (o : Option (List ℕ)) → (k ≡ true → IsKeptOfRows old.catalog name (row ∷ []) o)
-        → OnOk a ((id : ℕ) × RowInserted old new name row id) → OnErr a (IsUnchanged old new) → IsToKeep k a o old new
+        → OnOk a ((id : ℕ) × RowInserted old new name row id) → OnErr a (IsUnchanged old new) → IsToKeep k (Insert name row) a o old new
     by k (Err why) o made done same = same
     by false (Ok given) o made done same = tt
     by true (Ok given) None made done same =
@@ -125,14 +139,14 @@ module _ (keeps : Bool) (body : Option (List ℕ)) (old new : StoreState) (name 
         made_of (row ∷ []) (made refl) next.0 next.1.0 (fits done.0 done.1 next.0 next.1.0, tt)
     by true (Ok given) (Some bytes) made done same =
         let b = made refl in
-        record { change = Rows name b.encodings; is = b.is; has = b.body; led = led_by_row old name b.encodings row b.encoded new done.0 done.1 carries }
+        record { change = Rows name b.encodings; by = adds old name (row ∷ []) b.encodings b.encoded; is = b.is; has = b.body; led = led_by_row old name b.encodings row b.encoded new done.0 done.1 carries }
 
   -- rows that were loaded
-  pub keep_rows : (answer : Result Reply Refusal) (rows : List (List Value)) → (keeps ≡ true → IsKeptOfRows old.catalog name rows body)
-      → OnOk answer ((count : ℕ) × Loaded old new name rows count) → OnErr answer (IsUnchanged old new) → Carries old new → IsToKeep keeps answer body old new
-  keep_rows answer rows made done same carries = by keeps answer body made done same where
+  pub keep_rows : (file : List ℕ) (header : Bool) (answer : Result Reply Refusal) (rows : List (List Value)) → (keeps ≡ true → IsKeptOfRows old.catalog name rows body)
+      → OnOk answer ((count : ℕ) × Loaded old new name rows count) → OnErr answer (IsUnchanged old new) → Carries old new → IsToKeep keeps (Load name file header) answer body old new
+  keep_rows file header answer rows made done same carries = by keeps answer body made done same where
     by : (k : Bool) (a : Result Reply Refusal) (o : Option (List ℕ)) → (k ≡ true → IsKeptOfRows old.catalog name rows o)
-        → OnOk a ((count : ℕ) × Loaded old new name rows count) → OnErr a (IsUnchanged old new) → IsToKeep k a o old new
+        → OnOk a ((count : ℕ) × Loaded old new name rows count) → OnErr a (IsUnchanged old new) → IsToKeep k (Load name file header) a o old new
     by k (Err why) o made done same = same
     by false (Ok given) o made done same = tt
     by true (Ok given) None made done same =
@@ -140,4 +154,4 @@ module _ (keeps : Bool) (body : Option (List ℕ)) (old new : StoreState) (name 
         made_of rows (made refl) there.0 there.1 (rows_fit old.catalog.limits rows there.0 there.2)
     by true (Ok given) (Some bytes) made done same =
         let b = made refl in
-        record { change = Rows name b.encodings; is = b.is; has = b.body; led = led_by_rows old name b.encodings rows b.encoded new done.0 done.1 carries }
+        record { change = Rows name b.encodings; by = (rows, adds old name rows b.encodings b.encoded); is = b.is; has = b.body; led = led_by_rows old name b.encodings rows b.encoded new done.0 done.1 carries }

@@ -13,9 +13,12 @@ use Rattle.sand_model.specs.Cursor.{State}
 use Rattle.sand_model.specs.StatementChecks.{Setting, IsSetting}
 use Rattle.sand_store.specs.Calls.{IsUnchanged}
 use Rattle.sand_store.specs.Catalog.{StoreState}
+use Rattle.sand_store.specs.Contents.{database}
+use Rattle.statements.specs.Statement.{Statement}
 use Rattle.statement_exec.specs.Moment.{Moment}
 use Rattle.statement_exec.specs.Outline.{outline_of}
 use Rattle.statement_exec.specs.declared.reply.Reply.{Reply}
+use Rattle.line_exec.specs.MadeChanges.{IsChangeBy}
 use Rattle.line_exec.specs.declared.fault.LineFault.{LineFault}
 use Rattle.line_exec.specs.declared.fault.LineFault.TheVariants as fault
 
@@ -30,20 +33,21 @@ pub record LeadTo (changes : List ChangeValue) (old : Moment) (state : State) : 
   pub takes : WhereTold old (λ setting. TakesAll setting changes old.state.database)
   pub becomes : WhereTold old (λ setting. state.database ≡ world_after setting changes old.state.database)
 
--- The bytes are the body of a change, which led a store from one state to another.
-pub record IsBodyOfStep (body : List ℕ) (old new : StoreState) : Type 0 where
+-- The bytes are the body of the statement's own change, which led a store from one state to another.
+pub record IsBodyOfStep (statement : Statement) (body : List ℕ) (old new : StoreState) : Type 0 where
   pub change : ChangeValue
+  pub by : IsChangeBy (database old) statement change
   pub is : IsChange change
   pub has : body ≡ body_of change
   pub led : LedByOne change old new
 
 -- What is to be kept of a statement that was answered so, where changes are kept: of an accepted one the body of the change that it made;
 -- of a refused one nothing, for the store is as it was.
-abbrev pub IsToKeep : Bool → Result Reply Refusal → Option (List ℕ) → StoreState → StoreState → Type 0
-IsToKeep keeps (Err why) body old new = IsUnchanged old new
-IsToKeep false (Ok given) body old new = ⊤
-IsToKeep true (Ok given) None old new = ⊥
-IsToKeep true (Ok given) (Some body) old new = IsBodyOfStep body old new
+abbrev pub IsToKeep : Bool → Statement → Result Reply Refusal → Option (List ℕ) → StoreState → StoreState → Type 0
+IsToKeep keeps statement (Err why) body old new = IsUnchanged old new
+IsToKeep false statement (Ok given) body old new = ⊤
+IsToKeep true statement (Ok given) None old new = ⊥
+IsToKeep true statement (Ok given) (Some body) old new = IsBodyOfStep statement body old new
 
 -- the bodies that are appended behind an answer: that of an accepted change, where one was made
 abbrev pub bodies_kept : Result Reply Refusal → Option (List ℕ) → List (List ℕ)
@@ -75,16 +79,20 @@ pub record KeepsAll {T : Type 0} (seen : T → TapeView) (old new : Journal T) (
   pub lead : LeadTo changes first state
   pub appends : Appends seen old new (map body_of changes) Done
 
--- The change of a line, at most one, leads from one moment to a state, and its record was appended to those that the journal had; a
+-- These changes of a line, at most one, lead from one moment to a state, and their records were appended to those that the journal had; a
 -- refused line made none.
-pub record KeepsChange {T : Type 0} (seen : T → TapeView) (old new : Journal T) (first : Moment) (state : State) (result : Result Bool LineFault) : Type 0 where
-  pub changes : List ChangeValue
+pub record KeepsChange {T : Type 0} (seen : T → TapeView) (old new : Journal T) (changes : List ChangeValue) (first : Moment) (state : State) (result : Result Bool LineFault) : Type 0 where
   pub one : length changes ≤ 1
   pub refused : result ≡ Ok true → changes ≡ []
   pub keeps : KeepsAll seen old new changes first state (UnlessJournal result)
 
--- the same of the journal of a run, where there is one
-abbrev pub KeepsIfAny : {T : Type 0} → (T → TapeView) → Option (Journal T) → Option (Journal T) → Moment → State → Result Bool LineFault → Type 0
-KeepsIfAny seen None new first state result = ⊤
-KeepsIfAny seen (Some old) None first state result = ⊥
-KeepsIfAny seen (Some old) (Some new) first state result = KeepsChange seen old new first state result
+-- no changes yet, where a journal keeps them
+abbrev pub no_changes : {T : Type 0} → Option (Journal T) → Option (List ChangeValue)
+no_changes None = None
+no_changes (Some journal) = Some []
+
+-- the journal of a run, where there is one, kept these changes of a line; without a journal none are named
+abbrev pub KeepsIfAny : {T : Type 0} → (T → TapeView) → Option (Journal T) → Option (Journal T) → Option (List ChangeValue) → Moment → State → Result Bool LineFault → Type 0
+KeepsIfAny seen None new kept first state result = kept ≡ None
+KeepsIfAny seen (Some old) (Some new) (Some changes) first state result = KeepsChange seen old new changes first state result
+KeepsIfAny seen (Some old) _ _ first state result = ⊥

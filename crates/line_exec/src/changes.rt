@@ -55,7 +55,7 @@ fn change_behind<D: Disk, H: Shelf>(
     ensures answers { IfOk result (λ made. (cs : List Cursor)
         → Performs (statement_value statement) (while_open store.old (H.files shelf.old) (H.faults shelf.old) cs)
         (while_open store.new (H.files shelf.new) (H.faults shelf.new) cs) (line_of_answer made.answer ∷ [])) }
-    ensures kept { IfOk result (λ made. IsToKeep keeps made.answer made.kept store.old store.new) }
+    ensures kept { IfOk result (λ made. IsToKeep keeps (statement_value statement) made.answer made.kept store.old store.new) }
     ensures returned { IfErr result (λ other. (statement_value other ≡ statement_value statement) × (ChangesRelations (statement_value statement) → ⊥)) }
     ensures unchanged { OnErr result (store.new ≡ store.old) }
     ensures carries { Carries store.old store.new }
@@ -107,7 +107,7 @@ pub(crate) fn change<D: Disk, H: Shelf>(
     ensures answers { IfOk result (λ made. (cs : List Cursor)
         → Performs (statement_value statement) (while_open store.old (H.files shelf.old) (H.faults shelf.old) cs)
         (while_open store.new (H.files shelf.new) (H.faults shelf.new) cs) (line_of_answer made.answer ∷ [])) }
-    ensures kept { IfOk result (λ made. IsToKeep keeps made.answer made.kept store.old store.new) }
+    ensures kept { IfOk result (λ made. IsToKeep keeps (statement_value statement) made.answer made.kept store.old store.new) }
     ensures returned { IfErr result (λ other. (statement_value other ≡ statement_value statement) × (ChangesRelations (statement_value statement) → ⊥)) }
     ensures unchanged { OnErr result (store.new ≡ store.old) }
     ensures carries { Carries store.old store.new }

@@ -1,5 +1,5 @@
 // A load: its rows are read, then their record is made, and then they enter their relation.
-ghost use Rattle.std.specs.Prelude.{◌≡◌, ◌∷◌, [], ℕ, true, List, All, IfOk, OnOk, Option};
+ghost use Rattle.std.specs.Prelude.{◌≡◌, ◌∷◌, [], ℕ, true, Bool, List, All, IfOk, OnOk, Option};
 ghost use Rattle.journal_replay.specs.KeptBody.{IsKeptOfRows};
 ghost use Rattle.line_meaning.specs.Carrying.{FollowsMoment};
 ghost use Rattle.sand_base.specs.InRange.{IsRowInRange};
@@ -55,7 +55,7 @@ fn enter<D: Disk>(
         → InSettings store.old.catalog files (λ setting state. Yields setting state load rows.items)
         → Performs (Load load.relation load.file load.header) (while_open store.old files shelf cs) (while_open store.new files shelf cs) (line_of_answer result.answer ∷ []) }
     ensures carries { Carries store.old store.new }
-    ensures kept { IsToKeep keeps result.answer result.kept store.old store.new }
+    ensures kept { (file : List ℕ) (header : Bool) → IsToKeep keeps (Load name.now file header) result.answer result.kept store.old store.new }
     ensures counts { (shelf : ℕ) → OnOk result.answer (IsCountedAlike store.old.pool store.new.pool shelf shelf) }
     ensures follows { (files : Option Files) (shelf : ℕ) → FollowsMoment (moment_of store.old files shelf) (moment_of store.new files shelf) }
 {
@@ -82,7 +82,7 @@ pub(crate) fn load<D: Disk, H: Shelf>(
     ensures performs { (cs : List Cursor) → Performs (Load name.now file.now header) (while_open store.old (H.files shelf.old) (H.faults shelf.old) cs)
         (while_open store.new (H.files shelf.new) (H.faults shelf.new) cs) (line_of_answer result.answer ∷ []) }
     ensures carries { Carries store.old store.new }
-    ensures kept { IsToKeep keeps result.answer result.kept store.old store.new }
+    ensures kept { IsToKeep keeps (Load name.now file.now header) result.answer result.kept store.old store.new }
     ensures files { H.files shelf.new ≡ H.files shelf.old }
     ensures counts { OnOk result.answer (IsCountedAlike store.old.pool store.new.pool (H.faults shelf.old) (H.faults shelf.new)) }
     ensures follows { FollowsMoment (moment_of store.old (H.files shelf.old) (H.faults shelf.old)) (moment_of store.new (H.files shelf.new) (H.faults shelf.new)) }

@@ -1,5 +1,5 @@
 -- What a run behind the changes of its journal leaves on its tape.
-use Rattle.std.proofs.Common.{◌≡◌, inl, ℕ, Bool, List, [], ◌++◌, length, map, Option, Some, refl, sym, ap, subst, ◌∙◌, append_assoc, arith, length-append}
+use Rattle.std.proofs.Common.{◌≡◌, inl, ℕ, Bool, List, [], ◌++◌, length, map, Option, None, Some, refl, sym, ap, subst, ◌∙◌, append_assoc, arith, length-append}
 use Rattle.std.proofs.lemmas.List.{take_at}
 use Rattle.std.specs.List.{AllByRecursion}
 use Rattle.std.specs.Prelude.{IsTrue}
@@ -25,10 +25,21 @@ use Rattle.session.specs.KeptTape.{HasWorldOf, KeepsBehind, KeepsShown, ShowsIfA
 use Rattle.session.specs.declared.status.Status.{Status}
 use Rattle.session.proofs.KeptChanges.{all_both, bodies_both, lies_just, lies_more, sketches_both, world_both}
 
--- the journal of a run that had one is there at its end
-pub Shows-there : {T : Type 0} (seen : T → TapeView) (old : Journal T) (new : Option (Journal T)) (journal : Journal T) (why : Status) (first : Moment) (last : State) → new ≡ Some journal
-    → ShowsIfAny seen (Some old) new why first last → KeepsShown seen old journal.tape why first last
-Shows-there {T} seen old new journal why first last is shows = subst (λ (o : Option (Journal T)). ShowsIfAny seen (Some old) o why first last) is shows
+-- The journal of a run that had one is there at its end, and its changes are named.
+pub record ShowsThere {T : Type 0} (seen : T → TapeView) (old journal : Journal T) (why : Status) (first : Moment) (last : State) (kept untold : Option (List ChangeValue)) : Type 0 where
+  pub shown : List ChangeValue
+  pub few : List ChangeValue
+  pub kept_is : kept ≡ Some shown
+  pub untold_is : untold ≡ Some few
+  pub shows : KeepsShown seen old journal.tape why first last shown few
+
+pub Shows-there : {T : Type 0} (seen : T → TapeView) (old : Journal T) (new : Option (Journal T)) (journal : Journal T) (why : Status) (first : Moment) (last : State)
+    (kept untold : Option (List ChangeValue)) → new ≡ Some journal → ShowsIfAny seen (Some old) new why first last kept untold → ShowsThere seen old journal why first last kept untold
+Shows-there {T} seen old new journal why first last kept untold is shows = go kept untold (subst (λ (o : Option (Journal T)). ShowsIfAny seen (Some old) o why first last kept untold) is shows) where
+  go : (k u : Option (List ChangeValue)) → ShowsIfAny seen (Some old) (Some journal) why first last k u → ShowsThere seen old journal why first last k u
+  go None u h = absurd h
+  go (Some xs) None h = absurd h
+  go (Some xs) (Some ys) h = record { shown = xs; few = ys; kept_is = refl; untold_is = refl; shows = h }
 
 -- an image between the first changes and all has the first ones, and maybe more
 least_first : (first more : List ChangeValue) (image : List ℕ) → AllByRecursion IsChange (first ++ more) → LiesBetween (map body_of first) (map body_of (first ++ more)) image
@@ -79,28 +90,24 @@ module _ {T : Type 0} (seen : T → TapeView) (opened journal : Journal T) (afte
   mapped : (shown untold : List ChangeValue) → map body_of (all_kept shown untold) ≡ bodies ++ map body_of (shown ++ untold)
   mapped shown untold = bodies_both replayed.changes (shown ++ untold)
 
-  pub Keeps-behind : (limits : Limits) (disk : Bool) (why : Status) (first : Moment) (last : State) → disk ≡ first.told → first.limits ≡ limits → HasWorldOf limits disk replayed.changes first.state
-      → KeepsShown seen journal after why first last → KeepsBehind seen limits disk why opened.tape after replayed.changes last
-  Keeps-behind limits disk why first last same own has shows = record {
-    shown = shows.shown;
-    untold = shows.untold;
+  pub Keeps-behind : (why : Status) (first : Moment) (last : State) (shown untold : List ChangeValue) → KeepsShown seen journal after why first last shown untold → KeepsBehind seen why opened.tape after replayed.changes shown untold
+  Keeps-behind why first last shown untold shows = record {
     few = shows.few;
-    world = World-on limits disk replayed.changes shows.shown first last same own has shows.lead;
     any_moment = λ told.
-        weaker (seen opened.tape) (seen after) (LiesBetween bodies (map body_of (all_kept shows.shown shows.untold))) (HasAtLeast (length replayed.changes) (all_kept shows.shown shows.untold))
-        (λ image. least_first replayed.changes (shows.shown ++ shows.untold) image (whole shows.shown shows.untold shows.all))
-        (joined (seen opened.tape) (seen journal.tape) (seen after) (LiesBetween bodies (map body_of (all_kept shows.shown shows.untold)))
-        (weaker (seen opened.tape) (seen journal.tape) (HasBodies bodies) (LiesBetween bodies (map body_of (all_kept shows.shown shows.untold)))
-        (λ image own. subst (λ (bs : List (List ℕ)). LiesBetween bodies bs image) (sym (mapped shows.shown shows.untold))
-        (lies_more bodies bodies (map body_of (shows.shown ++ shows.untold)) image (lies_just bodies image own)))
+        weaker (seen opened.tape) (seen after) (LiesBetween bodies (map body_of (all_kept shown untold))) (HasAtLeast (length replayed.changes) (all_kept shown untold))
+        (λ image. least_first replayed.changes (shown ++ untold) image (whole shown untold shows.all))
+        (joined (seen opened.tape) (seen journal.tape) (seen after) (LiesBetween bodies (map body_of (all_kept shown untold)))
+        (weaker (seen opened.tape) (seen journal.tape) (HasBodies bodies) (LiesBetween bodies (map body_of (all_kept shown untold)))
+        (λ image own. subst (λ (bs : List (List ℕ)). LiesBetween bodies bs image) (sym (mapped shown untold))
+        (lies_more bodies bodies (map body_of (shown ++ untold)) image (lies_just bodies image own)))
         (while_read told))
-        (subst (λ (bs : List (List ℕ)). LeavesOnly (seen journal.tape) (seen after) (LiesBetween bodies bs)) (sym (mapped shows.shown shows.untold)) (shows.any_moment bodies at (read.told ∙ told))));
+        (subst (λ (bs : List (List ℕ)). LeavesOnly (seen journal.tape) (seen after) (LiesBetween bodies bs)) (sym (mapped shown untold)) (shows.any_moment bodies at (read.told ∙ told))));
     at_return = λ told image left.
-        let lies : LiesBetween (bodies ++ map body_of shows.shown) (bodies ++ map body_of (shows.shown ++ shows.untold)) image = shows.at_return bodies at (read.told ∙ told) image left in
-        let parts : (replayed.changes ++ shows.shown) ++ shows.untold ≡ all_kept shows.shown shows.untold = append_assoc replayed.changes shows.shown shows.untold in
-        subst (λ (cs : List ChangeValue). HasAtLeast (length (replayed.changes ++ shows.shown)) cs image) parts
-        (least_first (replayed.changes ++ shows.shown) shows.untold image (subst (λ (cs : List ChangeValue). AllByRecursion IsChange cs) (sym parts) (whole shows.shown shows.untold shows.all))
-        (subst (λ (cs : List ChangeValue). LiesBetween (map body_of (replayed.changes ++ shows.shown)) (map body_of cs) image) (sym parts)
-        (subst (λ (bs : List (List ℕ)). LiesBetween (map body_of (replayed.changes ++ shows.shown)) bs image) (sym (mapped shows.shown shows.untold))
-        (subst (λ (bs : List (List ℕ)). LiesBetween bs (bodies ++ map body_of (shows.shown ++ shows.untold)) image) (sym (bodies_both replayed.changes shows.shown)) lies))));
+        let lies : LiesBetween (bodies ++ map body_of shown) (bodies ++ map body_of (shown ++ untold)) image = shows.at_return bodies at (read.told ∙ told) image left in
+        let parts : (replayed.changes ++ shown) ++ untold ≡ all_kept shown untold = append_assoc replayed.changes shown untold in
+        subst (λ (cs : List ChangeValue). HasAtLeast (length (replayed.changes ++ shown)) cs image) parts
+        (least_first (replayed.changes ++ shown) untold image (subst (λ (cs : List ChangeValue). AllByRecursion IsChange cs) (sym parts) (whole shown untold shows.all))
+        (subst (λ (cs : List ChangeValue). LiesBetween (map body_of (replayed.changes ++ shown)) (map body_of cs) image) (sym parts)
+        (subst (λ (bs : List (List ℕ)). LiesBetween (map body_of (replayed.changes ++ shown)) bs image) (sym (mapped shown untold))
+        (subst (λ (bs : List (List ℕ)). LiesBetween bs (bodies ++ map body_of (shown ++ untold)) image) (sym (bodies_both replayed.changes shown)) lies))));
   }

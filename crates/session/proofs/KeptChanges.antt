@@ -5,7 +5,7 @@ use Rattle.std.specs.List.{AllByRecursion}
 use Rattle.std.specs.Prelude.{IsTrue, Result, Ok, Err}
 use Rattle.journal_replay.specs.ChangedDatabase.{TakesAll, changed_by, world_after}
 use Rattle.journal_replay.specs.LedBy.{sketched_by, sketches_after}
-use Rattle.line_exec.specs.KeptChanges.{Appends, KeepsAll, KeepsChange, KeepsIfAny, LeadTo, UnlessJournal}
+use Rattle.line_exec.specs.KeptChanges.{Appends, KeepsAll, KeepsChange, KeepsIfAny, LeadTo, UnlessJournal, no_changes}
 use Rattle.line_exec.specs.declared.fault.LineFault.{LineFault}
 use Rattle.line_exec.specs.declared.fault.LineFault.TheVariants as fault
 use Rattle.line_meaning.specs.Carrying.{FollowsMoment}
@@ -23,7 +23,7 @@ use Rattle.statement_exec.specs.Moment.{Moment}
 use Rattle.statement_exec.specs.Outline.{outline_of, sketch_in}
 use Rattle.session.specs.KeptTape.{AreUntold, KeepsShown, ShowsIfAny}
 use Rattle.session.specs.OpenRun.{HasKeptIfAny}
-use Rattle.session.specs.RunStates.{status_of_line}
+use Rattle.session.specs.RunStates.{kept_both, kept_by, status_of_line, untold_by}
 use Rattle.session.specs.declared.status.Status.{Status}
 use Rattle.session.specs.declared.status.Status.TheVariants as status
 
@@ -143,26 +143,26 @@ module _ {T : Type 0} (seen : T → TapeView) where
   unless_on (Err fault.Journal) P Q on h = tt
 
   -- before the first line
-  pub kept_none : (appends : (journal : Journal T) → Appends seen journal journal [] (λ P. P)) (journal : Option (Journal T)) (first : Moment) → HasKeptIfAny seen journal journal first first.state
+  pub kept_none : (appends : (journal : Journal T) → Appends seen journal journal [] (λ P. P)) (journal : Option (Journal T)) (first : Moment)
+      → HasKeptIfAny seen journal journal (no_changes journal) first first.state
   kept_none appends None first = tt
-  kept_none appends (Some journal) first = (
-    [],
-    record {
-      all = tt;
-      lead = record { sketched = refl; takes = λ told setting is limits. tt; becomes = λ told setting is limits. refl };
-      appends = appends journal;
-    },
-  )
+  kept_none appends (Some journal) first = record {
+    all = tt;
+    lead = record { sketched = refl; takes = λ told setting is limits. tt; becomes = λ told setting is limits. refl };
+    appends = appends journal;
+  }
 
   -- one more line
-  pub kept_line : (old mid new : Option (Journal T)) (first now : Moment) (last : State) (r : Result Bool LineFault) (refused : Bool) → r ≡ Ok refused → HasKeptIfAny seen old mid first now.state
-      → FollowsMoment first now → KeepsIfAny seen mid new now last r → HasKeptIfAny seen old new first last
-  kept_line None mid new first now last r refused is so_far follows line = tt
-  kept_line (Some old) None new first now last r refused is so_far follows line = absurd so_far
-  kept_line (Some old) (Some mid) None first now last r refused is so_far follows line = line
-  kept_line (Some old) (Some mid) (Some new) first now last r refused is so_far follows line =
-      let done : KeepsChange seen mid new now last (Ok refused) = subst (λ (q : Result Bool LineFault). KeepsChange seen mid new now last q) is line in
-      (so_far.0 ++ done.changes, keeps_both old mid new first now last so_far.0 so_far.1 follows done.changes (λ P. P) (λ P Q on h. on h) done.keeps)
+  pub kept_line : (old mid new : Option (Journal T)) (kept own : Option (List ChangeValue)) (first now : Moment) (last : State) (r : Result Bool LineFault) (refused : Bool) → r ≡ Ok refused
+      → HasKeptIfAny seen old mid kept first now.state → FollowsMoment first now → KeepsIfAny seen mid new own now last r → HasKeptIfAny seen old new (kept_both kept own) first last
+  kept_line None mid new kept own first now last r refused is so_far follows line = tt
+  kept_line (Some old) None new kept own first now last r refused is so_far follows line = absurd so_far
+  kept_line (Some old) (Some mid) new None own first now last r refused is so_far follows line = absurd so_far
+  kept_line (Some old) (Some mid) None (Some xs) own first now last r refused is so_far follows line = absurd line
+  kept_line (Some old) (Some mid) (Some new) (Some xs) None first now last r refused is so_far follows line = absurd line
+  kept_line (Some old) (Some mid) (Some new) (Some xs) (Some ys) first now last r refused is so_far follows line =
+      let done : KeepsChange seen mid new ys now last (Ok refused) = subst (λ (q : Result Bool LineFault). KeepsChange seen mid new ys now last q) is line in
+      keeps_both old mid new first now last xs so_far follows ys (λ P. P) (λ P Q on h. on h) done.keeps
 
   -- ---- how the run ends
 
@@ -183,10 +183,8 @@ module _ {T : Type 0} (seen : T → TapeView) where
 
   -- all that was kept was told
   shown_all : (old new : Journal T) (why : Status) (first : Moment) (state last : State) (xs : List ChangeValue) → last.database ≡ state.database → KeepsAll seen old new xs first state (λ P. P)
-      → KeepsShown seen old new.tape why first last
+      → KeepsShown seen old new.tape why first last xs []
   shown_all old new why first state last xs same keeps = record {
-    shown = xs;
-    untold = [];
     few = untold_none why;
     all = all_both IsChange xs [] keeps.all tt;
     lead = lead_same xs first state last same keeps.lead;
@@ -200,46 +198,48 @@ module _ {T : Type 0} (seen : T → TapeView) where
   }
 
   -- no more lines
-  pub shown_over : (old new : Option (Journal T)) (why : Status) (first : Moment) (state last : State) → last.database ≡ state.database → HasKeptIfAny seen old new first state
-      → ShowsIfAny seen old new why first last
-  shown_over None new why first state last same kept = tt
-  shown_over (Some old) None why first state last same kept = kept
-  shown_over (Some old) (Some new) why first state last same kept = shown_all old new why first state last kept.0 same kept.1
+  pub shown_over : (old new : Option (Journal T)) (kept : Option (List ChangeValue)) (why : Status) (first : Moment) (state last : State) → last.database ≡ state.database
+      → HasKeptIfAny seen old new kept first state → ShowsIfAny seen old new why first last kept (no_changes old)
+  shown_over None new kept why first state last same h = tt
+  shown_over (Some old) None kept why first state last same h = h
+  shown_over (Some old) (Some new) None why first state last same h = h
+  shown_over (Some old) (Some new) (Some xs) why first state last same h = shown_all old new why first state last xs same h
 
   -- the journal failed: one more may have been kept than was told
   shown_but : (old mid new : Journal T) (first now : Moment) (state last : State) (xs : List ChangeValue) → last.database ≡ now.state.database → KeepsAll seen old mid xs first now.state (λ P. P)
-      → KeepsChange seen mid new now state (Err fault.Journal) → KeepsShown seen old new.tape status.JournalFault first last
-  shown_but old mid new first now state last xs same keeps line = record {
-    shown = xs;
-    untold = line.changes;
+      → (ys : List ChangeValue) → KeepsChange seen mid new ys now state (Err fault.Journal) → KeepsShown seen old new.tape status.JournalFault first last xs ys
+  shown_but old mid new first now state last xs same keeps ys line = record {
     few = line.one;
-    all = all_both IsChange xs line.changes keeps.all line.keeps.all;
+    all = all_both IsChange xs ys keeps.all line.keeps.all;
     lead = lead_same xs first now.state last same keeps.lead;
     any_moment = λ bodies at told.
-        subst (λ (bs : List (List ℕ)). LeavesOnly (seen old.tape) (seen new.tape) (LiesBetween bodies (bodies ++ bs))) (sym (bodies_both xs line.changes))
-        (moments_on old mid (map body_of xs) keeps.appends new (map body_of line.changes) bodies at told (later bodies at told));
+        subst (λ (bs : List (List ℕ)). LeavesOnly (seen old.tape) (seen new.tape) (LiesBetween bodies (bodies ++ bs))) (sym (bodies_both xs ys))
+        (moments_on old mid (map body_of xs) keeps.appends new (map body_of ys) bodies at told (later bodies at told));
     at_return = λ bodies at told image left.
-        subst (λ (bs : List (List ℕ)). LiesBetween (bodies ++ map body_of xs) (bodies ++ bs) image) (sym (bodies_both xs line.changes))
-        (subst (λ (bs : List (List ℕ)). LiesBetween (bodies ++ map body_of xs) bs image) (append_assoc bodies (map body_of xs) (map body_of line.changes)) ((later bodies at told).now image left));
+        subst (λ (bs : List (List ℕ)). LiesBetween (bodies ++ map body_of xs) (bodies ++ bs) image) (sym (bodies_both xs ys))
+        (subst (λ (bs : List (List ℕ)). LiesBetween (bodies ++ map body_of xs) bs image) (append_assoc bodies (map body_of xs) (map body_of ys)) ((later bodies at told).now image left));
   } where
     later : (bodies : List (List ℕ)) → IsAtEnd seen old bodies → IsTrue (seen old.tape).told
-        → LeavesOnly (seen mid.tape) (seen new.tape) (LiesBetween (bodies ++ map body_of xs) ((bodies ++ map body_of xs) ++ map body_of line.changes))
+        → LeavesOnly (seen mid.tape) (seen new.tape) (LiesBetween (bodies ++ map body_of xs) ((bodies ++ map body_of xs) ++ map body_of ys))
     later bodies at told = line.keeps.appends.any_moment (bodies ++ map body_of xs) (keeps.appends.at_end bodies at) (subst IsTrue (sym keeps.appends.told) told)
 
   -- a line ended the run
-  pub shown_hand : (old mid new : Option (Journal T)) (first now : Moment) (state last : State) (r : Result Bool LineFault) (why : LineFault) (result : Status)
+  pub shown_hand : (old mid new : Option (Journal T)) (kept own : Option (List ChangeValue)) (first now : Moment) (state last : State) (r : Result Bool LineFault) (why : LineFault) (result : Status)
       → r ≡ Err why → result ≡ status_of_line why
-      → HasKeptIfAny seen old mid first now.state → FollowsMoment first now → KeepsIfAny seen mid new now state r → IsLastOf why now.state.database state.database last
-      → ShowsIfAny seen old new result first last
-  shown_hand None mid new first now state last r why result is named so_far follows line ends = tt
-  shown_hand (Some old) None new first now state last r why result is named so_far follows line ends = absurd so_far
-  shown_hand (Some old) (Some mid) None first now state last r why result is named so_far follows line ends = line
-  shown_hand (Some old) (Some mid) (Some new) first now state last r why result is named so_far follows line ends =
-      subst (λ (s : Status). KeepsShown seen old new.tape s first last) (sym named)
-      (by why (subst (λ (q : Result Bool LineFault). KeepsChange seen mid new now state q) is line) ends) where
-        by : (w : LineFault) → KeepsChange seen mid new now state (Err w) → IsLastOf w now.state.database state.database last → KeepsShown seen old new.tape (status_of_line w) first last
+      → HasKeptIfAny seen old mid kept first now.state → FollowsMoment first now → KeepsIfAny seen mid new own now state r → IsLastOf why now.state.database state.database last
+      → ShowsIfAny seen old new result first last (kept_by why kept own) (untold_by why own)
+  shown_hand None mid new kept own first now state last r why result is named so_far follows line ends = tt
+  shown_hand (Some old) None new kept own first now state last r why result is named so_far follows line ends = absurd so_far
+  shown_hand (Some old) (Some mid) new None own first now state last r why result is named so_far follows line ends = absurd so_far
+  shown_hand (Some old) (Some mid) None (Some xs) own first now state last r why result is named so_far follows line ends = absurd line
+  shown_hand (Some old) (Some mid) (Some new) (Some xs) None first now state last r why result is named so_far follows line ends = absurd line
+  shown_hand (Some old) (Some mid) (Some new) (Some xs) (Some ys) first now state last r why result is named so_far follows line ends =
+      subst (λ (s : Status). ShowsIfAny seen (Some old) (Some new) s first last (kept_by why (Some xs) (Some ys)) (untold_by why (Some ys))) (sym named)
+      (by why (subst (λ (q : Result Bool LineFault). KeepsChange seen mid new ys now state q) is line) ends) where
+        by : (w : LineFault) → KeepsChange seen mid new ys now state (Err w) → IsLastOf w now.state.database state.database last
+            → ShowsIfAny seen (Some old) (Some new) (status_of_line w) first last (kept_by w (Some xs) (Some ys)) (untold_by w (Some ys))
         by fault.Sink k same =
-            shown_all old new status.WriteFault first state last (so_far.0 ++ k.changes) same
-            (keeps_both old mid new first now state so_far.0 so_far.1 follows k.changes (λ P. P) (λ P Q on h. on h)
+            shown_all old new status.WriteFault first state last (xs ++ ys) same
+            (keeps_both old mid new first now state xs so_far follows ys (λ P. P) (λ P Q on h. on h)
             (record { all = k.keeps.all; lead = k.keeps.lead; appends = record { told = k.keeps.appends.told; at_end = k.keeps.appends.at_end; any_moment = k.keeps.appends.any_moment } }))
-        by fault.Journal k same = shown_but old mid new first now state last so_far.0 same so_far.1 k
+        by fault.Journal k same = shown_but old mid new first now state last xs same so_far ys k

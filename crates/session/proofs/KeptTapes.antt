@@ -1,5 +1,5 @@
 -- With which world a run begins behind a journal, and which record is bad.
-use Rattle.std.proofs.Common.{◌≡◌, ◌⊎◌, ℕ, ◌^◌, ◌≤◌, Bool, List, [], ◌∷◌, ◌++◌, map, Result, refl, sym, ap, ◌∙◌, subst, inl, inr, ⊎_elim, arith}
+use Rattle.std.proofs.Common.{◌≡◌, ◌≢◌, ◌⊎◌, ℕ, ◌^◌, ◌≤◌, Bool, List, [], ◌∷◌, ◌++◌, map, Result, refl, sym, ap, ◌∙◌, subst, inl, inr, ⊎_elim, arith}
 use Rattle.std.specs.Prelude.{IsTrue, ⊤}
 use Rattle.journal_replay.specs.ChangedDatabase.{TakesAll, world_after}
 use Rattle.journal_replay.specs.LedBy.{LedBy, sketches_after}
@@ -11,7 +11,7 @@ use Rattle.sand_base.specs.declared.limits.Limits.{Limits}
 use Rattle.sand_journal.specs.ChangeBody.{ChangeValue, body_of}
 use Rattle.sand_journal.specs.Changes.{HasChanges}
 use Rattle.sand_journal.specs.Images.{HasBodies, records}
-use Rattle.sand_journal.specs.Journal.{HasOpened, HasPassed, IsBadBehind, IsOnlyRead}
+use Rattle.sand_journal.specs.Journal.{HasOpened, HasPassed, IsBadBehind, IsOnlyRead, WasOpened}
 use Rattle.sand_journal.specs.Tape.{BeginsWith, StartsTape, TapeView}
 use Rattle.sand_journal.specs.declared.journal.Journal.{Journal}
 use Rattle.sand_model.specs.Database.{Database}
@@ -21,7 +21,7 @@ use Rattle.sand_store.specs.Sketches.{Sketch, sketches}
 use Rattle.statement_exec.proofs.DecidedCalls.{sketched_in}
 use Rattle.statement_exec.specs.Moment.{state_with}
 use Rattle.session.specs.KeptRun.{HasAll, HasBadRecord, IsDeclinedNext, IsWorldOf, StartsWith}
-use Rattle.session.specs.KeptTape.{IsOpened, image_of}
+use Rattle.session.specs.KeptTape.{IsOpened, LosesNothing, image_of}
 
 -- this holds where a replay met a bad record
 abbrev pub IfBad : ReplayFault → Type 0 → Type 0
@@ -61,6 +61,11 @@ Opened-tape {U} {E} tape started opened result now_counts starts has = record {
   told = told;
   image = λ is. by is tape.bytes refl;
   durable = λ is. has.durable (starts.passes.told ∙ is);
+  later = λ is some.
+      let read = has.opened.read (starts.passes.told ∙ is) (λ empty. some (sym starts.kept.bytes ∙ empty)) in
+      let first = starts.passes.later in
+      let then = read.later in
+      omega (arith, first, then);
   earlier = λ is some t image le since.
       let read = has.opened.read (starts.passes.told ∙ is) (λ empty. some (sym starts.kept.bytes ∙ empty)) in
       let was : started.since t image = read.earlier (starts.passes.told ∙ is) t image (omega (arith, le, starts.passes.later)) since in
@@ -135,3 +140,53 @@ Bad-stopped {T} seen journal journal' store replayed.Bad disk empty known passed
         (gate.0, sym read.bytes ∙ gate.2);
     declines = h.declines;
   })
+
+-- ---- of a tape nothing was lost
+
+-- nothing was done
+pub Loses-none : (tape : TapeView) → LosesNothing tape tape
+Loses-none tape = record { told = refl; bytes = λ told some. refl; fewer = λ told some image left. left; earlier = λ told some t image le since. since }
+
+-- an image of bytes that aren't empty is those
+image_same : (bytes : List ℕ) → bytes ≢ [] → image_of bytes ≡ bytes
+image_same [] some = absurd (some refl)
+image_same (byte ∷ bytes) some = refl
+
+-- it was opened and read
+pub Loses-read : (tape opened after : TapeView) → (IsTrue tape.told → tape.leaves tape.bytes) → IsOpened tape opened → IsOnlyRead opened after → LosesNothing tape after
+Loses-read tape opened after law opens read = record {
+  told = read.told ∙ opens.told;
+  bytes = λ told some. read.bytes ∙ opens.image told ∙ image_same tape.bytes some;
+  fewer = λ told some image left.
+      subst tape.leaves (sym (opens.durable told image (read.fewer image left) ∙ opens.image told ∙ image_same tape.bytes some)) (law told);
+  earlier = λ told some t image le since.
+      opens.earlier told some t image le (read.earlier (opens.told ∙ told) t image (let later = opens.later told some in omega (arith, le, later)) since);
+}
+
+-- it was started, or that failed
+pub Loses-started : {U E : Type 0} (tape started : TapeView) (result : Result U E)
+    → ((t : ℕ) (image : List ℕ) → IsTrue tape.told → t ≤ tape.clock → tape.leaves image → tape.since t image) → StartsTape tape started result → LosesNothing tape started
+Loses-started {U} {E} tape started result now_counts starts = record {
+  told = starts.passes.told;
+  bytes = λ told some. starts.kept.bytes;
+  fewer = λ told some image left. starts.kept.fewer image left;
+  earlier = λ told some t image le since.
+      ⊎_elim (λ before. before) (λ now. now_counts t image told le (starts.kept.fewer image now)) ((starts.passes.time told).nothing_else t image le since);
+}
+
+-- it was started, and to open it failed
+pub Loses-unopened : {U E : Type 0} (tape started given : TapeView) (result : Result U E)
+    → ((t : ℕ) (image : List ℕ) → IsTrue tape.told → t ≤ tape.clock → tape.leaves image → tape.since t image) → StartsTape tape started result → WasOpened started given
+    → LosesNothing tape given
+Loses-unopened {U} {E} tape started given result now_counts starts was = record {
+  told = was.told ∙ begun.told;
+  bytes = λ told some. (read told some).bytes ∙ begun.bytes told some;
+  fewer = λ told some image left. begun.fewer told some image ((read told some).fewer image left);
+  earlier = λ told some t image le since.
+      begun.earlier told some t image le ((read told some).earlier (begun.told ∙ told) t image (let later = starts.passes.later in omega (arith, le, later)) since);
+} where
+  begun : LosesNothing tape started
+  begun = Loses-started tape started result now_counts starts
+
+  read : IsTrue tape.told → tape.bytes ≢ [] → IsOnlyRead started given
+  read told some = was.read (begun.told ∙ told) (λ empty. some (sym starts.kept.bytes ∙ empty))

@@ -4,6 +4,8 @@ pub mod LinesCarried
 pub mod LinesSaid
 -- How a run ends.
 pub mod Endings
+-- How it ended, where less is said of its lines.
+pub mod EndsWeaker
 -- How a run on a store ends.
 pub mod ScriptEndings
 -- What the answer of a call says.

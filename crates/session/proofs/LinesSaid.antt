@@ -1,14 +1,16 @@
 -- Each line of a script says something, so that lines which were carried out are a run over what they say.
-use Rattle.std.proofs.Common.{ℕ, Bool, List}
+use Rattle.std.proofs.Common.{ℕ, List, Option}
 use Rattle.run_laws.proofs.ScriptReadings.{script_told}
+use Rattle.sand_journal.specs.ChangeBody.{ChangeValue}
 use Rattle.sand_model.specs.Cursor.{OutputLine}
 use Rattle.line_meaning.specs.Carrying.{CarriesLines}
 use Rattle.statement_exec.specs.Moment.{Moment}
-use Rattle.statement_exec.specs.Printing.{Prints, PrintsSome}
 use Rattle.session.specs.Ends.{RunsOver}
+use Rattle.session.specs.KeptLines.{RunsKept}
+use Rattle.session.specs.RunStates.{CarriesAll}
 
-runs_over : (lines : List (List ℕ)) (first last : Moment) (printed : List OutputLine) → CarriesLines lines first last printed → RunsOver lines first last printed
-runs_over lines first last printed carries =
+runs_over : (first last : Moment) (lines : List (List ℕ)) (printed : List OutputLine) → CarriesLines lines first last printed → RunsOver first last lines printed
+runs_over first last lines printed carries =
     let said = script_told lines in
     let carried = carries.1 said.0 said.1 in (
       said.0,
@@ -18,9 +20,6 @@ runs_over lines first last printed carries =
       carried.1,
     )
 
-pub prints_run : (lines : List (List ℕ)) (first last : Moment) (b : Bool) (text : List ℕ) → Prints (CarriesLines lines first last) b text → Prints (RunsOver lines first last) b text
-prints_run lines first last b text prints =
-    record { lines = prints.lines; holds = runs_over lines first last prints.lines prints.holds; told = prints.told; refused = prints.refused }
-
-pub prints_some_run : (lines : List (List ℕ)) (first last : Moment) (text : List ℕ) → PrintsSome (CarriesLines lines first last) text → PrintsSome (RunsOver lines first last) text
-prints_some_run lines first last text prints = (prints.0, prints_run lines first last prints.0 text prints.1)
+-- and so are those whose changes are named
+pub runs_kept : (kept : Option (List ChangeValue)) (first last : Moment) (lines : List (List ℕ)) (printed : List OutputLine) → CarriesAll kept first last lines printed → RunsKept kept first last lines printed
+runs_kept kept first last lines printed carries = (runs_over first last lines printed carries.0, carries.1)

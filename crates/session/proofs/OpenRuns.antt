@@ -2,12 +2,12 @@
 use Rattle.std.proofs.Common.{◌≡◌, ℕ, suc, ◌+◌, ◌*◌, ◌^◌, ◌≤◌, Bool, false, ◌||◌, eqb, List, [], ◌∷◌, ◌++◌, length, Option, Ok, Err, refl, sym, ap, ◌∙◌, subst, append_assoc, arith, length-append}
 use Rattle.std.proofs.lemmas.Bool.{cond_both}
 use Rattle.line_exec.proofs.Moments.{follows_open, none_stand}
-use Rattle.line_exec.specs.LineCarried.{LineCarried}
+use Rattle.line_exec.specs.LineCarried.{CarriesKept, LineCarried}
 use Rattle.line_exec.specs.Keeping.{IsUntold, last_end, most_kept}
 use Rattle.line_exec.specs.declared.fault.LineFault.{LineFault}
 use Rattle.line_exec.specs.declared.fault.LineFault.TheVariants as fault
 use Rattle.line_meaning.proofs.Runs.{follows_on}
-use Rattle.line_meaning.specs.Carrying.{CarriesLines, FollowsMoment}
+use Rattle.line_meaning.specs.Carrying.{FollowsMoment}
 use Rattle.open_cursors.specs.Carried.{AreCounted, GaveAtMost}
 use Rattle.open_cursors.specs.OpenCursors.{AreHeld}
 use Rattle.open_cursors.specs.OverPages.{StandOver}
@@ -18,7 +18,8 @@ use Rattle.sand_base.specs.Faults.{last_count}
 use Rattle.sand_base.specs.Shelf.{Files}
 use Rattle.sand_base.specs.declared.limits.Limits.{Limits}
 use Rattle.sand_base.specs.declared.source.Failed.{Failed}
-use Rattle.sand_model.specs.Cursor.{Cursor, State}
+use Rattle.sand_journal.specs.ChangeBody.{ChangeValue}
+use Rattle.sand_model.specs.Cursor.{Cursor, OutputLine, State}
 use Rattle.sand_store.specs.Catalog.{StoreState}
 use Rattle.script_lines.specs.Lines.{cut, onto, lines, last_line}
 use Rattle.script_lines.specs.Reading.{ReadsLines}
@@ -29,7 +30,8 @@ use Rattle.statement_exec.specs.Moment.{Moment, moment_of, state_with, while_ope
 use Rattle.session.proofs.KeptChanges.{IsLastOf}
 use Rattle.session.specs.OpenRun.{HasGivenLines, OpenRun, Spot, spot_of}
 use Rattle.statement_exec.specs.Printing.{Prints}
-use Rattle.session.specs.RunStates.{Draws, EndsAt, FromBetweenLines, IsBeforeHand, RunState, ended, run_state, status_of_line}
+use Rattle.session.specs.KeptLines.{IsInHand}
+use Rattle.session.specs.RunStates.{CarriesAll, Draws, EndsAt, FromBetweenLines, IsBeforeHand, RunState, ended, kept_both, kept_by, run_state, status_of_line, untold_by}
 use Rattle.session.specs.declared.status.Status.{Status}
 use Rattle.session.specs.declared.status.Status.TheVariants as status
 use Rattle.session.proofs.LinesCarried.{leads_nowhere, then_carried, then_drawn, hand_carried}
@@ -90,9 +92,9 @@ follows_state first last state f = record { limits = f.limits; told = f.told; fi
 
 -- before the first line
 abbrev pub OpenRun-begin : (reader : ScriptLines) (left : Option (List ℕ)) (store : StoreState) (files : Option Files) (shelf : ℕ) (items : List (OpenCursor Source Stage)) (took : List ℕ → Type 0)
-    → ((left : Option (List ℕ)) → ReadsLines reader left [] []) → items ≡ [] → AreHeld store.pool.stamps items
-    → OpenRun (run_state reader left (moment_of store files shelf) false) took (spot_of reader left store files shelf items false took)
-OpenRun-begin reader left store files shelf items took begun none held = record {
+    (kept : Option (List ChangeValue)) → ((left : Option (List ℕ)) → ReadsLines reader left [] []) → items ≡ [] → AreHeld store.pool.stamps items
+    → OpenRun (run_state reader left (moment_of store files shelf) false kept) took (spot_of reader left store files shelf items false took)
+OpenRun-begin reader left store files shelf items took kept begun none held = record {
   cs = [];
   own = refl;
   stand = none_stand store.pool items none;
@@ -100,15 +102,17 @@ OpenRun-begin reader left store files shelf items took begun none held = record 
   count = 0;
   counted = record { bytes = []; given = []; reads = begun left; counted = refl };
   given = tt;
-  goes = leads_nowhere (run_state reader left (moment_of store files shelf) false) took;
+  kept = kept;
+  goes = leads_nowhere (run_state reader left (moment_of store files shelf) false kept) took;
 }
 
 module _ (start : RunState) (before : List ℕ → Type 0) (at : Spot) (run : OpenRun start before at) where
   -- no more lines
-  pub Ends-open : (why result : Status) (reader' : ScriptLines) (left : Option (List ℕ)) → result ≡ ended why at.refused → Draws (Err why) at.reader reader' at.left left
-      → FromBetweenLines start (EndsAt result (while_open at.store at.files at.shelf run.cs) left before at.took)
-  Ends-open why result reader' left is draws =
-      Ends-over start before at.took why at.reader reader' at.left left (while_open at.store at.files at.shelf run.cs) at.refused result is run.goes draws
+  pub Ends-open : (untold : Option (List ChangeValue)) (why result : Status) (reader' : ScriptLines) (left : Option (List ℕ)) → result ≡ ended why at.refused
+      → Draws (Err why) at.reader reader' at.left left
+      → FromBetweenLines start (EndsAt result (while_open at.store at.files at.shelf run.cs) run.kept untold left before at.took)
+  Ends-open untold why result reader' left is draws =
+      Ends-over start before at.took why at.reader reader' at.left left (while_open at.store at.files at.shelf run.cs) at.refused run.kept untold result is run.goes draws
 
   module _ (reader' : ScriptLines) (left' : Option (List ℕ)) (is_long : Bool) (draws : Draws (Ok is_long) at.reader reader' at.left left') where
     -- no cursor gave more rows than are counted
@@ -126,10 +130,10 @@ module _ (start : RunState) (before : List ℕ → Type 0) (at : Spot) (run : Op
     module _ (store' : StoreState) (files' : Option Files) (shelf' : ℕ) (items' : List (OpenCursor Source Stage)) (now : List ℕ → Type 0)
         (follows : FollowsMoment (moment_of at.store at.files at.shelf) (moment_of store' files' shelf')) where
       -- the next line was carried out
-      abbrev pub OpenRun-line : (r t : Bool) (l : LineCarried reader'.line (while_open at.store at.files at.shelf) (while_open store' files' shelf') run.cs at.took now
+      abbrev pub OpenRun-line : (mine : Option (List ChangeValue)) (r t : Bool) (l : LineCarried (CarriesKept reader'.line mine) (while_open at.store at.files at.shelf) (while_open store' files' shelf') run.cs at.took now
           (Ok r) (StandOver store'.pool items')) → AreHeld store'.pool.stamps items'
           → t ≡ (at.refused || r) → OpenRun start before (spot_of reader' left' store' files' shelf' items' t now)
-      OpenRun-line r t l held joined =
+      OpenRun-line mine r t l held joined =
           let old : Moment = while_open at.store at.files at.shelf run.cs in
           let new : Moment = while_open store' files' shelf' l.after in
           record {
@@ -140,20 +144,21 @@ module _ (start : RunState) (before : List ℕ → Type 0) (at : Spot) (run : Op
             count = run.count + 1;
             counted = counted_more at.reader reader' at.left left' run.count is_long draws run.counted;
             given = most_upto (run.count * 4294967295 + 4294967295) ((run.count + 1) * 4294967295) l.after (omega arith) (l.given (run.count * 4294967295) run.given);
-            goes = then_carried start (run_state reader' left' old at.refused) (run_state reader' left' new t) before at.took now
-                (then_drawn start before at.took at.reader reader' at.left left' old at.refused is_long run.goes draws)
-                (hand_carried (run_state reader' left' old at.refused) new at.took now r t l.writes (follows_open at.store store' at.files files' at.shelf shelf' run.cs l.after follows) joined);
+            kept = kept_both run.kept mine;
+            goes = then_carried start (run_state reader' left' old at.refused run.kept) (run_state reader' left' new t (kept_both run.kept mine)) before at.took now
+                (then_drawn start before at.took at.reader reader' at.left left' old at.refused run.kept is_long run.goes draws)
+                (hand_carried (run_state reader' left' old at.refused run.kept) new at.took now r t mine l.writes (follows_open at.store store' at.files files' at.shelf shelf' run.cs l.after follows) joined);
           }
 
       -- the sink failed
-      pub Ends-line : (e : Failed) (l : LineCarried reader'.line (while_open at.store at.files at.shelf) (while_open store' files' shelf') run.cs at.took now (Err e) (StandOver store'.pool items'))
-          → FromBetweenLines start (EndsAt status.WriteFault (while_open store' files' shelf' l.after) left' before now)
-      Ends-line e l first script text so_far =
+      pub Ends-line : (own untold : Option (List ChangeValue)) (e : Failed) (l : LineCarried (CarriesKept reader'.line own) (while_open at.store at.files at.shelf) (while_open store' files' shelf') run.cs at.took now (Err e) (StandOver store'.pool items'))
+          → FromBetweenLines start (EndsAt status.WriteFault (while_open store' files' shelf' l.after) (kept_both run.kept own) untold left' before now)
+      Ends-line own untold e l first script text so_far =
           let old : Moment = while_open at.store at.files at.shelf run.cs in
           let new : Moment = while_open store' files' shelf' l.after in
-          Ends-paused start (run_state reader' left' old at.refused) before at.took now status.WriteFault new left'
-          (then_drawn start before at.took at.reader reader' at.left left' old at.refused is_long run.goes draws)
-          (Ends-broken (run_state reader' left' old at.refused) new at.took now l.writes
+          Ends-paused start (run_state reader' left' old at.refused run.kept) before at.took now status.WriteFault new (kept_both run.kept own) untold left'
+          (then_drawn start before at.took at.reader reader' at.left left' old at.refused run.kept is_long run.goes draws)
+          (Ends-broken (run_state reader' left' old at.refused run.kept) new at.took now own untold l.writes
           (follows_open at.store store' at.files files' at.shelf shelf' run.cs l.after follows)) first script text so_far
 
       -- where nothing of the line was written and no count rose, the moment before it is the last one but for its state
@@ -166,35 +171,45 @@ module _ (start : RunState) (before : List ℕ → Type 0) (at : Spot) (run : Op
           ∙ ap (λ (k : ℕ). record m { shelf = k }) shelf
 
       -- the journal failed: what was written is the text of the lines before this one, which is in hand
-      pub Ends-untold : IsUntold at.took now (moment_of at.store at.files at.shelf) (moment_of store' files' shelf') fault.Journal
-          → FromBetweenLines start (EndsAt status.JournalFault (record (moment_of store' files' shelf') { state = (while_open at.store at.files at.shelf run.cs).state }) left' before now)
-      Ends-untold untold first script text so_far =
+      pub Ends-untold : (own : Option (List ChangeValue)) (e : Failed)
+          → LineCarried (CarriesKept reader'.line own) (while_open at.store at.files at.shelf) (while_open store' files' shelf') run.cs at.took now (Err e) (StandOver store'.pool items')
+          → IsUntold at.took now (moment_of at.store at.files at.shelf) (moment_of store' files' shelf') fault.Journal
+          → FromBetweenLines start (EndsAt status.JournalFault (record (moment_of store' files' shelf') { state = (while_open at.store at.files at.shelf run.cs).state }) run.kept own left' before now)
+      Ends-untold own e l untold first script text so_far =
           let old : Moment = while_open at.store at.files at.shelf run.cs in
           let last : Moment = moment_of store' files' shelf' in
           let follows_old : FollowsMoment old last = follows_open at.store store' at.files files' at.shelf shelf' run.cs [] follows in
-          let grown = then_drawn start before at.took at.reader reader' at.left left' old at.refused is_long run.goes draws first script text so_far in
+          let grown = then_drawn start before at.took at.reader reader' at.left left' old at.refused run.kept is_long run.goes draws first script text so_far in
           let hand = grown.2 in
           let same : record last { state = old.state } ≡ old = last_untold last old untold.1 untold.2 follows_old in
-          let stops : IsBeforeHand (lines hand.bytes) first (record last { state = old.state }) (text ++ grown.0) = record {
+          let printed : List OutputLine = l.writes.holds.1.lines in
+          let made : CarriesKept reader'.line own (record last { state = old.state }) (while_open store' files' shelf' l.after) printed =
+          subst (λ (m : Moment). CarriesKept reader'.line own m (while_open store' files' shelf' l.after) printed) (sym same) l.writes.holds.1.holds in
+          let stops : IsBeforeHand (CarriesAll run.kept first (record last { state = old.state })) (IsInHand own (record last { state = old.state })) (lines hand.bytes) (text ++ grown.0) = record {
             carried_out = hand.given;
             in_hand = hand.gives.line;
             others = hand.gives.others;
             first_of = hand.gives.first ∙ append_assoc hand.given (hand.gives.line ∷ []) hand.gives.others;
-            printed = (at.refused, subst (λ (m : Moment). Prints (CarriesLines hand.given first m) at.refused (text ++ grown.0)) (sym same) hand.printed);
+            hand = (
+              (while_open store' files' shelf' l.after).state,
+              printed,
+              subst (λ (line : Option (List ℕ)). CarriesKept line own (record last { state = old.state }) (while_open store' files' shelf' l.after) printed) hand.gives.hand made,
+            );
+            printed = (at.refused, subst (λ (m : Moment). Prints (CarriesAll run.kept first m hand.given) at.refused (text ++ grown.0)) (sym same) hand.printed);
           } in (
             (grown.0, λ bytes taken. untold.0 (bytes ++ grown.0) (grown.1 bytes taken), (hand.bytes, hand.consumed, (hand.gives.most, stops))),
             follows_state first last old.state (follows_on first old last hand.follows follows_old),
           )
 
       -- the line ended the run: in a state behind it where the sink failed, and before it where the journal did
-      abbrev pub HandEnds : LineFault → Status → Type 0
-      HandEnds why result = (last : State) × IsLastOf why (database at.store) (database store') last
-          × FromBetweenLines start (EndsAt result (record (moment_of store' files' shelf') { state = last }) left' before now)
+      abbrev pub HandEnds : Option (List ChangeValue) → LineFault → Status → Type 0
+      HandEnds own why result = (last : State) × IsLastOf why (database at.store) (database store') last
+          × FromBetweenLines start (EndsAt result (record (moment_of store' files' shelf') { state = last }) (kept_by why run.kept own) (untold_by why own) left' before now)
 
-      pub Ends-hand : (why : LineFault) (result : Status) → result ≡ status_of_line why
-          → LineCarried reader'.line (while_open at.store at.files at.shelf) (while_open store' files' shelf') run.cs at.took now (Err (record {})) (StandOver store'.pool items')
-          → IsUntold at.took now (moment_of at.store at.files at.shelf) (moment_of store' files' shelf') why → HandEnds why result
-      Ends-hand why result is l untold = subst (λ (s : Status). HandEnds why s) (sym is) (by why untold) where
-        by : (w : LineFault) → IsUntold at.took now (moment_of at.store at.files at.shelf) (moment_of store' files' shelf') w → HandEnds w (status_of_line w)
-        by fault.Sink u = (state_with l.after (database store'), refl, Ends-line (record {}) l)
-        by fault.Journal u = (state_with run.cs (database at.store), refl, Ends-untold u)
+      pub Ends-hand : (own : Option (List ChangeValue)) (why : LineFault) (result : Status) → result ≡ status_of_line why
+          → LineCarried (CarriesKept reader'.line own) (while_open at.store at.files at.shelf) (while_open store' files' shelf') run.cs at.took now (Err (record {})) (StandOver store'.pool items')
+          → IsUntold at.took now (moment_of at.store at.files at.shelf) (moment_of store' files' shelf') why → HandEnds own why result
+      Ends-hand own why result is l untold = subst (λ (s : Status). HandEnds own why s) (sym is) (by why untold) where
+        by : (w : LineFault) → IsUntold at.took now (moment_of at.store at.files at.shelf) (moment_of store' files' shelf') w → HandEnds own w (status_of_line w)
+        by fault.Sink u = (state_with l.after (database store'), refl, Ends-line own (untold_by fault.Sink own) (record {}) l)
+        by fault.Journal u = (state_with run.cs (database at.store), refl, Ends-untold own (record {}) l u)

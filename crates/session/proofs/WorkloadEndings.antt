@@ -34,10 +34,10 @@ use Rattle.session.specs.declared.status.Status.TheVariants as status
 
 -- a run whose text was taken by a sink that had taken nothing
 run_taken : (n : ℕ) (b : Bool) (first last : Moment) (script : List ℕ) (old new : TallySink) (r w : ℕ) → lines script ≡ workload n → HasTallied old []
-    → WritesRun (lines script) b first last (record { took = HasTallied old; faults = r }) (record { took = HasTallied new; faults = w }) → HasRun n b first last new
+    → WritesRun (RunsOver first last) (lines script) b (record { took = HasTallied old; faults = r }) (record { took = HasTallied new; faults = w }) → HasRun n b first last new
 run_taken n b first last script old new r w own none writes = record {
   text = writes.text;
-  printed = subst (λ (l : List (List ℕ)). Prints (RunsOver l first last) b writes.text) own writes.holds;
+  printed = subst (λ (l : List (List ℕ)). Prints (RunsOver first last l) b writes.text) own writes.holds;
   taken = writes.written [] none;
 }
 
@@ -55,10 +55,10 @@ module _ (n : ℕ) (limits : Limits) (script left : List ℕ) (disk disk' : Disk
   work_after = outside_of (Some left) 0 (Some empty_files) 0 disk' (HasTallied new) 0
 
   -- what was read is the whole script
-  whole : (b : Bool) (first last : Moment) → HasReadAll work_before.source.left work_after.source.left (λ bytes. WritesRun (lines bytes) b first last work_before.sink work_after.sink)
-      → WritesRun (lines script) b first last work_before.sink work_after.sink
+  whole : (b : Bool) (first last : Moment) → HasReadAll work_before.source.left work_after.source.left (λ bytes. WritesRun (RunsOver first last) (lines bytes) b work_before.sink work_after.sink)
+      → WritesRun (RunsOver first last) (lines script) b work_before.sink work_after.sink
   whole b first last (ended, (bytes, consumed, h)) =
-      Consumes-whole (Some script) (Some left) bytes (λ read. WritesRun (lines read) b first last work_before.sink work_after.sink) consumed ended h.1
+      Consumes-whole (Some script) (Some left) bytes (λ read. WritesRun (RunsOver first last) (lines read) b work_before.sink work_after.sink) consumed ended h.1
 
   -- its text was counted
   pub Tallies-run : (why : Status) → Ends why limits work_before work_after → IsCaused why 0 0 0 0 → IsTaken why
@@ -78,7 +78,7 @@ module _ (n : ℕ) (limits : Limits) (script left : List ℕ) (disk disk' : Disk
   Tallies-run status.ReplayDamaged ends caused taken = absurd taken
 
 -- over any disk, as many lines of the text begin with the word of a refusal as were refused
-counted_of : (n : ℕ) (b : Bool) (first last : Moment) (text : List ℕ) → (p : Prints (RunsOver (workload n) first last) b text) → refused_lines text ≡ min (count_by is_refused p.lines) last_count
+counted_of : (n : ℕ) (b : Bool) (first last : Moment) (text : List ℕ) → (p : Prints (RunsOver first last (workload n)) b text) → refused_lines text ≡ min (count_by is_refused p.lines) last_count
 counted_of n b first last text p = ap (λ (k : ℕ). min k last_count) (answered_seen p.holds.0 first last p.lines p.holds.3 text p.told)
 
 -- What is said of a run whose text was counted, by what the sink took of its summary.

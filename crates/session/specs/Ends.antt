@@ -28,21 +28,25 @@ use Rattle.session.specs.declared.status.Status.TheVariants as status
 -- The lines say this script. These lines of output, whose refusals from outside have their causes and which each line of the script printed
 -- as it is decided in the outline that the lines before it left, are those of a run over the shelf that led from one moment to another; the
 -- run where the disk tells its pages and no count is at its end.
-abbrev pub RunsOver : List (List ℕ) → Moment → Moment → List OutputLine → Type 0
-RunsOver lines old new printed =
+abbrev pub RunsOver : Moment → Moment → List (List ℕ) → List OutputLine → Type 0
+RunsOver old new lines printed =
     (script : List ScriptLine) × AreLines lines script × AreCaused old new printed × AreAnswered script old new printed
     × InEach old new (λ setting. ShelfRun old.files setting old.state script (rises_between old new) printed new.state)
 
--- a run over these lines led from one moment to another, its text was written, and the mark says whether a line was refused
-abbrev pub WritesRun : List (List ℕ) → Bool → Moment → Moment → SinkView → SinkView → Type 0
-WritesRun script some_refused first last before now = Writes (Prints (RunsOver script first last) some_refused) before.took now.took
+-- what is said of lines that were carried out, and of the lines of output that they printed
+abbrev pub OfLines : Type 1
+OfLines = List (List ℕ) → List OutputLine → Type 0
 
--- a run over the first of these lines led from one moment to another, and a prefix of its text was written
-pub record BreaksRun (script : List (List ℕ)) (first last : Moment) (before now : SinkView) : Type 0 where
+-- these lines were carried out so, the text that they printed was written, and the mark says whether a line was refused
+abbrev pub WritesRun : OfLines → List (List ℕ) → Bool → SinkView → SinkView → Type 0
+WritesRun Runs script some_refused before now = Writes (Prints (Runs script) some_refused) before.took now.took
+
+-- the first of these lines were carried out so, and a prefix of the text that they printed was written
+pub record BreaksRun (Runs : OfLines) (script : List (List ℕ)) (before now : SinkView) : Type 0 where
   pub carried_out : List (List ℕ)
   pub others : List (List ℕ)
   pub first_of : script ≡ carried_out ++ others
-  pub prefix : WritesPrefix (PrintsSome (RunsOver carried_out first last)) before.took now.took
+  pub prefix : WritesPrefix (PrintsSome (Runs carried_out)) before.took now.took
 
 -- these bytes were read of the script, and have what is said of them
 abbrev pub HasRead : Option (List ℕ) → Option (List ℕ) → (List ℕ → Type 0) → Type 0
@@ -52,35 +56,37 @@ HasRead before left P = (bytes : List ℕ) × Consumes before left bytes × P by
 abbrev pub HasReadAll : Option (List ℕ) → Option (List ℕ) → (List ℕ → Type 0) → Type 0
 HasReadAll before left P = IsAtEnd left × HasRead before left (λ bytes. (length bytes ≤ LONGEST_SCRIPT) × P bytes)
 
--- A run over the lines before one of these led from one moment to another, and its text was written.
-pub record StopsBefore (script : List (List ℕ)) (first last : Moment) (before now : SinkView) : Type 0 where
+-- The lines before one of these were carried out so, and the text that they printed was written; the one is in hand, and of it the second
+-- holds.
+pub record StopsBefore (Runs : OfLines) (Hand : List ℕ → Type 0) (script : List (List ℕ)) (before now : SinkView) : Type 0 where
   pub carried_out : List (List ℕ)
   pub in_hand : List ℕ
   pub others : List (List ℕ)
   pub first_of : script ≡ carried_out ++ in_hand ∷ others
-  pub written : Writes (PrintsSome (RunsOver carried_out first last)) before.took now.took
+  pub hand : Hand in_hand
+  pub written : Writes (PrintsSome (Runs carried_out)) before.took now.took
 
--- What a run from one moment to another leaves, by its status, of the source and the sink. With `Done` and `SomeRefused`
+-- What a run leaves, by its status, of the source and the sink, where the first is said of the lines carried out. With `Done` and `SomeRefused`
 -- the text of a run over all lines was written, and no line or some line was refused. With `ReadFault` and `ScriptTooLong`
 -- that of the lines which a line feed ended among the bytes read (the one byte too many isn't among them). With `WriteFault`
 -- a prefix of the text of the lines carried out, which are the first of those read; with `JournalFault` the text of the
--- lines before the one in hand, whose change was made and isn't told.
-abbrev pub EndsBetween : Status → Moment → Moment → SourceView → SourceView → SinkView → SinkView → Type 0
-EndsBetween status.Done first last before left sink sink' =
-    HasReadAll before.left left.left (λ bytes. WritesRun (lines bytes) false first last sink sink')
-EndsBetween status.SomeRefused first last before left sink sink' =
-    HasReadAll before.left left.left (λ bytes. WritesRun (lines bytes) true first last sink sink')
-EndsBetween status.ReadFault first last before left sink sink' =
+-- lines before the one in hand, of which the second is said: its change was made and isn't told.
+abbrev pub EndsBetween : Status → OfLines → (List ℕ → Type 0) → SourceView → SourceView → SinkView → SinkView → Type 0
+EndsBetween status.Done Runs Hand before left sink sink' =
+    HasReadAll before.left left.left (λ bytes. WritesRun Runs (lines bytes) false sink sink')
+EndsBetween status.SomeRefused Runs Hand before left sink sink' =
+    HasReadAll before.left left.left (λ bytes. WritesRun Runs (lines bytes) true sink sink')
+EndsBetween status.ReadFault Runs Hand before left sink sink' =
     HasRead before.left left.left (λ bytes. (length bytes ≤ LONGEST_SCRIPT)
-    × (some_refused : Bool) × WritesRun (ended_lines bytes) some_refused first last sink sink')
-EndsBetween status.ScriptTooLong first last before left sink sink' =
+    × (some_refused : Bool) × WritesRun Runs (ended_lines bytes) some_refused sink sink')
+EndsBetween status.ScriptTooLong Runs Hand before left sink sink' =
     HasRead before.left left.left (λ bytes. (length bytes ≡ LONGEST_SCRIPT + 1)
-    × (some_refused : Bool) × WritesRun (ended_lines (take LONGEST_SCRIPT bytes)) some_refused first last sink sink')
-EndsBetween status.WriteFault first last before left sink sink' =
-    HasRead before.left left.left (λ bytes. (length bytes ≤ LONGEST_SCRIPT + 1) × BreaksRun (lines bytes) first last sink sink')
-EndsBetween status.JournalFault first last before left sink sink' =
-    HasRead before.left left.left (λ bytes. (length bytes ≤ LONGEST_SCRIPT + 1) × StopsBefore (lines bytes) first last sink sink')
-EndsBetween _ first last before left sink sink' = ⊥
+    × (some_refused : Bool) × WritesRun Runs (ended_lines (take LONGEST_SCRIPT bytes)) some_refused sink sink')
+EndsBetween status.WriteFault Runs Hand before left sink sink' =
+    HasRead before.left left.left (λ bytes. (length bytes ≤ LONGEST_SCRIPT + 1) × BreaksRun Runs (lines bytes) sink sink')
+EndsBetween status.JournalFault Runs Hand before left sink sink' =
+    HasRead before.left left.left (λ bytes. (length bytes ≤ LONGEST_SCRIPT + 1) × StopsBefore Runs Hand (lines bytes) sink sink')
+EndsBetween _ Runs Hand before left sink sink' = ⊥
 
 -- the moment before the first line; whether the disk tells is read off the disk that is handed back
 abbrev pub first_moment : Limits → Outside → Outside → Moment
@@ -114,7 +120,7 @@ pub record IsUntouched (old new : Outside) : Type 0 where
 -- the promise of a run that began to read in one state and ended in another
 abbrev pub EndsTo : State → State → Status → Limits → Outside → Outside → Type 0
 EndsTo start last ended limits old new =
-    EndsBetween ended (record (first_moment limits old new) { state = start }) (last_moment limits old new last) old.source new.source old.sink new.sink
+    EndsBetween ended (RunsOver (record (first_moment limits old new) { state = start }) (last_moment limits old new last)) (λ line. ⊤) old.source new.source old.sink new.sink
 
 -- the promise of a run that began to read in this state
 abbrev pub EndsFrom : State → Status → Limits → Outside → Outside → Type 0

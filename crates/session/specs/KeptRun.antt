@@ -1,5 +1,5 @@
 -- How a run that keeps its changes in a journal may end: it begins with the world of the journal's changes.
-use Rattle.std.specs.Prelude.{◌≡◌, ◌≢◌, ◌⊎◌, ⊤, ℕ, ◌^◌, ◌≤◌, length, Bool, IsTrue, List, [], ◌∷◌, ◌++◌, Option, codes, map, option_map}
+use Rattle.std.specs.Prelude.{◌≡◌, ◌≢◌, ◌⊎◌, ⊤, ℕ, ◌^◌, ◌≤◌, length, Bool, IsTrue, List, [], ◌∷◌, ◌++◌, Option, Some, codes, map, option_map}
 use Rattle.std.specs.List.{AllByRecursion}
 use Rattle.clap.specs.Words.{Text, fault_of}
 use Rattle.run_words.specs.Asked.{number, value_in}
@@ -22,8 +22,9 @@ use Rattle.sand_store.specs.Catalog.{StoreState, new_catalog}
 use Rattle.journal_replay.specs.declared.fault.ReplayFault.{ReplayFault}
 use Rattle.journal_replay.specs.declared.fault.ReplayFault.TheVariants as replayed
 use Rattle.session.specs.Outside.{Outside}
-use Rattle.session.specs.Ends.{EndsTo, IsUntouched}
-use Rattle.session.specs.KeptTape.{HasWorldOf, KeepsTape, image_of}
+use Rattle.session.specs.Ends.{EndsBetween, IsUntouched, first_moment, last_moment}
+use Rattle.session.specs.KeptLines.{IsInHand, RunsKept}
+use Rattle.session.specs.KeptTape.{HasWorldOf, KeepsTape, LosesNothing, image_of}
 use Rattle.session.specs.declared.status.Status.{Status}
 use Rattle.session.specs.declared.status.Status.TheVariants as status
 
@@ -83,37 +84,54 @@ pub record IsWorldOf (limits : Limits) (told : Bool) (changes : List ChangeValue
   pub takes : IsTrue told → (setting : Setting) → IsSetting setting → setting.limits ≡ limits → TakesAll setting changes []
   pub has : HasWorldOf limits told changes state
 
--- The run began to read with the world of some changes, of which the first holds, and the second holds of them and of its last state.
-pub record EndsBehind (ended : Status) (limits : Limits) (old new : Outside) (Starts : List ChangeValue → Type 0) (Keeps : List ChangeValue → State → Type 0) : Type 0 where
+-- The promise of a run that began to read in one state and ended in another, whose lines made the changes that are named first; the others
+-- are those of a line in hand.
+abbrev pub EndsKeeping : State → State → Option (List ChangeValue) → Option (List ChangeValue) → Status → Limits → Outside → Outside → Type 0
+EndsKeeping start last kept untold ended limits old new =
+    EndsBetween ended (RunsKept kept (record (first_moment limits old new) { state = start }) (last_moment limits old new last))
+    (IsInHand untold (last_moment limits old new last)) old.source new.source old.sink new.sink
+
+-- what is said of the changes that a run began with, of those of its lines that it told, and of those of a line in hand
+abbrev pub OfChanges : Type 1
+OfChanges = List ChangeValue → List ChangeValue → List ChangeValue → Type 0
+
+-- The run began to read with the world of some changes, of which the first holds. It ended with their world and that of the changes which its
+-- lines made and told, and of all these the second holds.
+pub record EndsBehind (ended : Status) (limits : Limits) (old new : Outside) (Starts : List ChangeValue → Type 0) (Keeps : OfChanges) : Type 0 where
   pub changes : List ChangeValue
   pub starts : Starts changes
   pub state : State
   pub world : IsWorldOf limits new.disk.told changes state
+  pub shown : List ChangeValue
+  pub untold : List ChangeValue
   pub last : State
-  pub ends : EndsTo state last ended limits old new
-  pub keeps : Keeps changes last
+  pub ends : EndsKeeping state last (Some shown) (Some untold) ended limits old new
+  pub reached : HasWorldOf limits new.disk.told (changes ++ shown) last
+  pub keeps : Keeps changes shown untold
 
 -- nothing was read or written, and the disk's count stays
 abbrev pub IsUnbegun : Outside → Outside → Type 0
 IsUnbegun old new = IsUntouched old new × (new.disk.faults ≡ old.disk.faults)
 
 -- The whole promise of a run with a journal, by the status, where the first holds of the changes that it begins with, the second of them and
--- of its last state, and the third where a record is bad. `JournalFault` comes before the first line is read, or behind an accepted change.
-abbrev pub EndsKept : Status → Limits → Outside → Outside → (List ChangeValue → Type 0) → (List ChangeValue → State → Type 0) → Type 0 → Type 0
-EndsKept status.Usage limits old new Starts Keeps Bad = IsUnbegun old new
-EndsKept status.NoMemory limits old new Starts Keeps Bad = IsUnbegun old new
-EndsKept status.DiskNotStarted limits old new Starts Keeps Bad = IsUntouched old new × (new.disk.faults ≡ next_count old.disk.faults)
-EndsKept status.JournalFault limits old new Starts Keeps Bad = IsUnbegun old new ⊎ EndsBehind status.JournalFault limits old new Starts Keeps
-EndsKept status.JournalBad limits old new Starts Keeps Bad = IsUnbegun old new × Bad
-EndsKept status.ReplayFault limits old new Starts Keeps Bad = IsUntouched old new × (new.disk.faults ≡ next_count old.disk.faults)
-EndsKept status.ReplayDamaged limits old new Starts Keeps Bad = IsUnbegun old new × (IsTrue new.disk.told → ⊥)
-EndsKept ended limits old new Starts Keeps Bad = EndsBehind ended limits old new Starts Keeps
+-- of its own, the third where a record is bad, and the last of a run that ends before its first line. `JournalFault` comes before the first
+-- line is read, or behind an accepted change.
+abbrev pub EndsKept : Status → Limits → Outside → Outside → (List ChangeValue → Type 0) → OfChanges → Type 0 → Type 0 → Type 0
+EndsKept status.Usage limits old new Starts Keeps Bad Unread = IsUnbegun old new × Unread
+EndsKept status.NoMemory limits old new Starts Keeps Bad Unread = IsUnbegun old new × Unread
+EndsKept status.DiskNotStarted limits old new Starts Keeps Bad Unread = IsUntouched old new × (new.disk.faults ≡ next_count old.disk.faults) × Unread
+EndsKept status.JournalFault limits old new Starts Keeps Bad Unread = (IsUnbegun old new × Unread) ⊎ EndsBehind status.JournalFault limits old new Starts Keeps
+EndsKept status.JournalBad limits old new Starts Keeps Bad Unread = IsUnbegun old new × Bad × Unread
+EndsKept status.ReplayFault limits old new Starts Keeps Bad Unread = IsUntouched old new × (new.disk.faults ≡ next_count old.disk.faults) × Unread
+EndsKept status.ReplayDamaged limits old new Starts Keeps Bad Unread = IsUnbegun old new × (IsTrue new.disk.told → ⊥) × Unread
+EndsKept ended limits old new Starts Keeps Bad Unread = EndsBehind ended limits old new Starts Keeps
 
--- the whole promise of a run with a journal on this tape, which is handed back as the other, by the status
+-- The whole promise of a run with a journal on this tape, which is handed back as the other, by the status. A run that ends before its first
+-- line opened the tape and read it, or did less.
 abbrev pub EndsWithTape : {T : Type 0} → (T → TapeView) → Status → Limits → Outside → Outside → T → T → Type 0
 EndsWithTape seen ended limits old new before after =
-    EndsKept ended limits old new (StartsWith (seen before)) (KeepsTape seen limits new.disk.told ended before after)
-    (HasBadRecord limits new.disk.told (seen before).told (image_of (seen before).bytes))
+    EndsKept ended limits old new (StartsWith (seen before)) (KeepsTape seen ended before after)
+    (HasBadRecord limits new.disk.told (seen before).told (image_of (seen before).bytes)) (LosesNothing (seen before) (seen after))
 
 -- the command that may name a journal took the words
 abbrev pub IsTakenKept : Status → Type 0

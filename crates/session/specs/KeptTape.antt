@@ -29,6 +29,15 @@ pub record IsOpened (old new : TapeView) : Type 0 where
   pub told : new.told ≡ old.told
   pub image : IsTrue old.told → new.bytes ≡ image_of old.bytes
   pub durable : IsTrue old.told → Only new.bytes new.leaves
+  pub later : IsTrue old.told → old.bytes ≢ [] → old.clock ≤ new.clock
+  pub earlier : IsTrue old.told → old.bytes ≢ [] → (t : ℕ) (image : List ℕ) → t ≤ old.clock → new.since t image → old.since t image
+
+-- Of the tape nothing was lost: where it tells and its file isn't empty, a read gives what it gave, and a crash leaves no image that it might
+-- not have left before, neither now nor since any earlier moment.
+pub record LosesNothing (old new : TapeView) : Type 0 where
+  pub told : new.told ≡ old.told
+  pub bytes : IsTrue old.told → old.bytes ≢ [] → new.bytes ≡ old.bytes
+  pub fewer : IsTrue old.told → old.bytes ≢ [] → (image : List ℕ) → new.leaves image → old.leaves image
   pub earlier : IsTrue old.told → old.bytes ≢ [] → (t : ℕ) (image : List ℕ) → t ≤ old.clock → new.since t image → old.since t image
 
 -- Where the disk tells its pages the state has the world of these changes, and over any disk the relations that they sketch.
@@ -41,11 +50,9 @@ abbrev pub AreUntold : Status → List ChangeValue → Type 0
 AreUntold status.JournalFault changes = length changes ≤ 1
 AreUntold _ changes = changes ≡ []
 
--- The changes that a run told lead from its first moment to this state, and others may have been appended behind them. A crash at any
--- moment of the run leaves what the journal had, with the first of these; a crash at its return leaves all that were told.
-pub record KeepsShown {T : Type 0} (seen : T → TapeView) (old : Journal T) (after : T) (ended : Status) (first : Moment) (last : State) : Type 0 where
-  pub shown : List ChangeValue
-  pub untold : List ChangeValue
+-- The first changes, which a run told, lead from its first moment to this state, and the others may have been appended behind them. A crash
+-- at any moment of the run leaves what the journal had, with the first of these; a crash at its return leaves all that were told.
+pub record KeepsShown {T : Type 0} (seen : T → TapeView) (old : Journal T) (after : T) (ended : Status) (first : Moment) (last : State) (shown untold : List ChangeValue) : Type 0 where
   pub few : AreUntold ended untold
   pub all : AllByRecursion IsChange (shown ++ untold)
   pub lead : LeadTo shown first last
@@ -54,25 +61,22 @@ pub record KeepsShown {T : Type 0} (seen : T → TapeView) (old : Journal T) (af
   pub at_return : (bodies : List (List ℕ)) → IsAtEnd seen old bodies → IsTrue (seen old.tape).told → (image : List ℕ) → (seen after).leaves image
       → LiesBetween (bodies ++ map body_of shown) (bodies ++ map body_of (shown ++ untold)) image
 
--- the same of the journal of a run, where there is one
-abbrev pub ShowsIfAny : {T : Type 0} → (T → TapeView) → Option (Journal T) → Option (Journal T) → Status → Moment → State → Type 0
-ShowsIfAny seen None new ended first last = ⊤
-ShowsIfAny seen (Some old) None ended first last = ⊥
-ShowsIfAny seen (Some old) (Some new) ended first last = KeepsShown seen old new.tape ended first last
+-- the same of the journal of a run, where there is one, and of the changes that are named then
+abbrev pub ShowsIfAny : {T : Type 0} → (T → TapeView) → Option (Journal T) → Option (Journal T) → Status → Moment → State → Option (List ChangeValue) → Option (List ChangeValue) → Type 0
+ShowsIfAny seen None new ended first last kept untold = ⊤
+ShowsIfAny seen (Some old) (Some new) ended first last (Some shown) (Some untold) = KeepsShown seen old new.tape ended first last shown untold
+ShowsIfAny seen (Some old) _ ended first last _ _ = ⊥
 
--- A run that began with the world of the first changes kept its own on an opened tape: its last state is the world of the first changes
--- and of those that it told. A crash at any moment since leaves the first changes, and maybe some of its own, in their order; a crash at
--- its return leaves all that were told. One more may be kept than was told, where the journal failed.
-pub record KeepsBehind {T : Type 0} (seen : T → TapeView) (limits : Limits) (disk : Bool) (ended : Status) (opened after : T) (first : List ChangeValue) (last : State) : Type 0 where
-  pub shown : List ChangeValue
-  pub untold : List ChangeValue
+-- A run that began with the first changes kept its own on an opened tape. A crash at any moment since leaves the first changes, and maybe
+-- some of its own, in their order; a crash at its return leaves all that were told. One more may be kept than was told, where the journal
+-- failed.
+pub record KeepsBehind {T : Type 0} (seen : T → TapeView) (ended : Status) (opened after : T) (first shown untold : List ChangeValue) : Type 0 where
   pub few : AreUntold ended untold
-  pub world : HasWorldOf limits disk (first ++ shown) last
   pub any_moment : IsTrue (seen opened).told → LeavesOnly (seen opened) (seen after) (HasAtLeast (length first) (first ++ (shown ++ untold)))
   pub at_return : IsTrue (seen opened).told → (image : List ℕ) → (seen after).leaves image → HasAtLeast (length (first ++ shown)) (first ++ (shown ++ untold)) image
 
 -- A run opened the tape as its journal, and kept its changes there.
-pub record KeepsTape {T : Type 0} (seen : T → TapeView) (limits : Limits) (disk : Bool) (ended : Status) (before after : T) (first : List ChangeValue) (last : State) : Type 0 where
+pub record KeepsTape {T : Type 0} (seen : T → TapeView) (ended : Status) (before after : T) (first shown untold : List ChangeValue) : Type 0 where
   pub opened : T
   pub opens : IsOpened (seen before) (seen opened)
-  pub keeps : KeepsBehind seen limits disk ended opened after first last
+  pub keeps : KeepsBehind seen ended opened after first shown untold

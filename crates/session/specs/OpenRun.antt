@@ -44,9 +44,9 @@ abbrev pub spot_of : ScriptLines → Option (List ℕ) → StoreState → Option
 spot_of reader left store files shelf items refused took =
     record { reader = reader; left = left; store = store; files = files; shelf = shelf; items = items; refused = refused; took = took }
 
--- the state of a run at a spot, while these cursors are open
-abbrev pub state_at : Spot → List Cursor → RunState
-state_at at cs = run_state at.reader at.left (while_open at.store at.files at.shelf cs) at.refused
+-- the state of a run at a spot, while these cursors are open, with the changes that were kept
+abbrev pub state_at : Spot → List Cursor → Option (List ChangeValue) → RunState
+state_at at cs kept = run_state at.reader at.left (while_open at.store at.files at.shelf cs) at.refused kept
 
 -- The run went on from its start to this spot: cursors of the model with names of their own stand where the open ones do, each of which has
 -- a stamp of its own, and none gave more rows than the lines asked for.
@@ -58,7 +58,8 @@ pub record OpenRun (start : RunState) (before : List ℕ → Type 0) (at : Spot)
   pub count : ℕ
   pub counted : HasGivenLines at.reader at.left count
   pub given : GaveAtMost (count * most_rows) cs
-  pub goes : Leads IsBetweenLines IsBetweenLines start (state_at at cs) before at.took
+  pub kept : Option (List ChangeValue)
+  pub goes : Leads IsBetweenLines IsBetweenLines start (state_at at cs kept) before at.took
 
 -- Behind so many lines there is a journal where there was one, it has room for more, and its tape counted no fault.
 pub record KeepsJournal {T : Type 0} (seen : T → TapeView) (old new : Option (Journal T)) (count : ℕ) : Type 0 where
@@ -67,12 +68,12 @@ pub record KeepsJournal {T : Type 0} (seen : T → TapeView) (old new : Option (
   pub counted : tape_count seen new ≡ tape_count seen old
 
 -- The changes of the lines so far lead from the first moment to this state, and their records were appended to the journal, where there is one.
-abbrev pub HasKeptIfAny : {T : Type 0} → (T → TapeView) → Option (Journal T) → Option (Journal T) → Moment → State → Type 0
-HasKeptIfAny seen None new first state = ⊤
-HasKeptIfAny seen (Some old) None first state = ⊥
-HasKeptIfAny seen (Some old) (Some new) first state = (changes : List ChangeValue) × KeepsAll seen old new changes first state (λ P. P)
+abbrev pub HasKeptIfAny : {T : Type 0} → (T → TapeView) → Option (Journal T) → Option (Journal T) → Option (List ChangeValue) → Moment → State → Type 0
+HasKeptIfAny seen None new kept first state = ⊤
+HasKeptIfAny seen (Some old) (Some new) (Some changes) first state = KeepsAll seen old new changes first state (λ P. P)
+HasKeptIfAny seen (Some old) _ _ first state = ⊥
 
--- The moment follows the first, and what the lines so far changed is kept.
-pub record HasKept {T : Type 0} (seen : T → TapeView) (old new : Option (Journal T)) (first now : Moment) : Type 0 where
+-- The moment follows the first, and these changes of the lines so far are kept.
+pub record HasKept {T : Type 0} (seen : T → TapeView) (old new : Option (Journal T)) (kept : Option (List ChangeValue)) (first now : Moment) : Type 0 where
   pub follows : FollowsMoment first now
-  pub keeps : HasKeptIfAny seen old new first now.state
+  pub keeps : HasKeptIfAny seen old new kept first now.state

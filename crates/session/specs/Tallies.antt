@@ -21,7 +21,7 @@ without_streams disk = outside_of None 0 (Some empty_files) 0 disk (λ text. ⊤
 -- a run over the lines of the workload led from one moment to another, and the sink has taken its text
 pub record HasRun (n : ℕ) (some_refused : Bool) (first last : Moment) (tally : TallySink) : Type 0 where
   pub text : List ℕ
-  pub printed : Prints (RunsOver (workload n) first last) some_refused text
+  pub printed : Prints (RunsOver first last (workload n)) some_refused text
   pub taken : HasTallied tally text
 
 -- how the run ended, by its status

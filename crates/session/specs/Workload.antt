@@ -21,7 +21,7 @@ use Rattle.session.specs.declared.status.Status.TheVariants as status
 -- These four lines tell of a run over the lines of the workload from one moment to another; the mark says whether a line was refused. Over any disk they tell how many lines were refused.
 pub record IsSummary (n : ℕ) (some_refused : Bool) (first last : Moment) (told : List ℕ) : Type 0 where
   pub text : List ℕ
-  pub printed : Prints (RunsOver (workload n) first last) some_refused text
+  pub printed : Prints (RunsOver first last (workload n)) some_refused text
   pub told_of : told ≡ summary (length (workload n)) (refused_lines text) text
   pub counted : refused_lines text ≡ min (count_by is_refused printed.lines) last_count
 

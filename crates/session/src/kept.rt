@@ -4,14 +4,15 @@ ghost use Rattle.open_cursors.specs.OpenCursors.{AreHeld};
 ghost use Rattle.page_pool.specs.Pool.{new_pool};
 ghost use Rattle.run_words.specs.Journal.{journal_beside};
 ghost use Rattle.sand_base.specs.Faults.{next_count};
-ghost use Rattle.sand_journal.specs.Journal.{HasPassed, IsReady};
+ghost use Rattle.sand_journal.specs.Journal.{HasPassed, IsOnlyRead, IsReady};
+ghost use Rattle.sand_journal.specs.ChangeBody.{ChangeValue};
 ghost use Rattle.sand_model.specs.Cursor.{State};
 ghost use Rattle.sand_store.specs.Catalog.{IsLimits, new_catalog};
 ghost use Rattle.sand_store.specs.Contents.{database};
 ghost use Rattle.script_lines.specs.Reading.{ReadsLines};
-ghost use Rattle.session.specs.Ends.{EndsTo, HasBegun, IsCaused, tape_after};
-ghost use Rattle.session.specs.KeptRun.{AreJudgedKept, EndsKept, EndsWithTape, HasAll, HasBadRecord, IsTakenKept, journal_of, kept_workload, status_of_replay};
-ghost use Rattle.session.specs.KeptTape.{IsOpened, KeepsBehind, KeepsShown};
+ghost use Rattle.session.specs.Ends.{HasBegun, IsCaused, tape_after};
+ghost use Rattle.session.specs.KeptRun.{AreJudgedKept, EndsKeeping, EndsKept, EndsWithTape, HasAll, HasBadRecord, IsTakenKept, journal_of, kept_workload, status_of_replay};
+ghost use Rattle.session.specs.KeptTape.{IsOpened, KeepsBehind, KeepsShown, LosesNothing};
 ghost use Rattle.session.specs.Outside.{outside_of};
 ghost use Rattle.session.specs.Workload.{EndsAsked};
 ghost use Rattle.statement_exec.specs.Moment.{moment_of, state_with};
@@ -45,6 +46,7 @@ fn status_of_replay(why: ReplayFault) -> Status
 fn open_journal<T: Tape>(mut tape: T, name: &str) -> Result<Journal<T>, T>
     ensures passed { IfOk result (λ journal. HasPassed T.seen journal []) }
     ensures opened { IfOk result (λ journal. IsOpened (T.seen tape) (T.seen journal.tape)) }
+    ensures unread { IfErr result (λ given. LosesNothing (T.seen tape) (T.seen given)) }
     ensures counted { IfOk result (λ journal. (T.seen journal.tape).faults ≡ (T.seen tape).faults) }
     ensures cause { IfErr result (λ given. (T.seen given).faults ≡ next_count (T.seen tape).faults) }
 {
@@ -73,10 +75,11 @@ fn run_on<S: Source, H: Shelf, D: Disk, K: Sink, T: Tape>(
     requires held { AreHeld store.pool.stamps held.old.cursors.items }
     requires ready { IsReady T.seen journal }
     requires near { journal.end ≤ 2 ^ 62 }
-    ensures promise { (last : State) × EndsTo (state_with [] (database store)) last result.0 store.catalog.limits
+    ensures promise { (last : State) × (shown : List ChangeValue) × (untold : List ChangeValue)
+        × EndsKeeping (state_with [] (database store)) last (Some shown) (Some untold) result.0 store.catalog.limits
         (outside_of (S.left script.old) (S.faults script.old) (H.files shelf.old) (H.faults shelf.old) store.pool.disk (K.took out.old) (K.faults out.old))
         (outside_of (S.left script.new) (S.faults script.new) (H.files shelf.new) (H.faults shelf.new) (D.seen result.1) (K.took out.new) (K.faults out.new))
-        × KeepsShown T.seen journal result.2 result.0 (moment_of store (H.files shelf.old) (H.faults shelf.old)) last }
+        × KeepsShown T.seen journal result.2 result.0 (moment_of store (H.files shelf.old) (H.faults shelf.old)) last shown untold }
     ensures cause { IsCaused result.0 (S.faults script.old) (S.faults script.new) (K.faults out.old) (K.faults out.new) }
     ensures tape { (T.seen result.2).faults ≡ tape_after result.0 (T.seen journal.tape).faults }
     ensures told { (D.seen result.1).told ≡ store.pool.disk.told }
@@ -104,8 +107,9 @@ fn run_behind<S: Source, H: Shelf, D: Disk, K: Sink, T: Tape>(
     ensures promise { EndsKept result.0 store.catalog.limits
         (outside_of (S.left script.old) (S.faults script.old) (H.files shelf.old) (H.faults shelf.old) store.pool.disk (K.took out.old) (K.faults out.old))
         (outside_of (S.left script.new) (S.faults script.new) (H.files shelf.new) (H.faults shelf.new) (D.seen result.1) (K.took out.new) (K.faults out.new))
-        (HasAll (T.seen journal.tape).told (T.seen journal.tape).bytes) (KeepsBehind T.seen store.catalog.limits (D.seen result.1).told result.0 journal.tape result.2)
-        (HasBadRecord store.catalog.limits (D.seen result.1).told (T.seen journal.tape).told (T.seen journal.tape).bytes) }
+        (HasAll (T.seen journal.tape).told (T.seen journal.tape).bytes) (KeepsBehind T.seen result.0 journal.tape result.2)
+        (HasBadRecord store.catalog.limits (D.seen result.1).told (T.seen journal.tape).told (T.seen journal.tape).bytes)
+        (IsOnlyRead (T.seen journal.tape) (T.seen result.2)) }
     ensures cause { IsCaused result.0 (S.faults script.old) (S.faults script.new) (K.faults out.old) (K.faults out.new) }
     ensures tape { (T.seen result.2).faults ≡ tape_after result.0 (T.seen journal.tape).faults }
     ensures taken { IsTakenKept result.0 }

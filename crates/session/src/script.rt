@@ -1,12 +1,13 @@
 // The lines of the script, drawn and carried out one by one.
 ghost use Rattle.std.specs.Prelude.{◌≡◌, [], ℕ, List, Option, IfErr, false, is_some, not, ◌^◌};
-ghost use Rattle.line_exec.specs.KeptChanges.{KeepsIfAny};
+ghost use Rattle.line_exec.specs.KeptChanges.{KeepsIfAny, no_changes};
 ghost use Rattle.line_exec.specs.Keeping.{HasLineCause, IsUntold, KeepsOn, TakesUpTo, last_end, sink_result, tape_count};
-ghost use Rattle.line_exec.specs.LineCarried.{LineCarried};
+ghost use Rattle.line_exec.specs.LineCarried.{CarriesKept, LineCarried};
 ghost use Rattle.line_meaning.specs.Carrying.{FollowsMoment};
 ghost use Rattle.open_cursors.specs.Carried.{AreCounted};
 ghost use Rattle.open_cursors.specs.OpenCursors.{AreHeld, HaveOwnNames};
 ghost use Rattle.open_cursors.specs.OverPages.{AreStanding, StandOver};
+ghost use Rattle.sand_journal.specs.ChangeBody.{ChangeValue};
 ghost use Rattle.sand_model.specs.Cursor.{Cursor, State};
 ghost use Rattle.sand_store.specs.Contents.{database};
 ghost use Rattle.script_lines.specs.Lines.{is_short_line};
@@ -43,13 +44,14 @@ fn carry_hand<D: Disk, H: Shelf, K: Sink, T: Tape>(
     requires short { is_short_line lines.now.line ≡ not is_long }
     requires journal { TakesUpTo T.seen last_end journal.old }
     requires stands { AreStanding store.pool cursors.old.items }
-    ensures carried { (cs : List Cursor) → HaveOwnNames cs → AreCounted cs → StandOver store.pool cursors.old.items cs
-        → LineCarried lines.now.line (while_open store (H.files shelf.old) (H.faults shelf.old)) (while_open result.0 (H.files shelf.new) (H.faults shelf.new)) cs
-        (K.took out.old) (K.took out.new) (sink_result result.1) (StandOver result.0.pool cursors.new.items) }
+    ensures carried { (kept : Option (List ChangeValue)) × ((cs : List Cursor) → HaveOwnNames cs → AreCounted cs → StandOver store.pool cursors.old.items cs
+        → LineCarried (CarriesKept lines.now.line kept) (while_open store (H.files shelf.old) (H.faults shelf.old))
+        (while_open result.0 (H.files shelf.new) (H.faults shelf.new)) cs
+        (K.took out.old) (K.took out.new) (sink_result result.1) (StandOver result.0.pool cursors.new.items))
+        × KeepsIfAny T.seen journal.old journal.new kept (moment_of store (H.files shelf.old) (H.faults shelf.old)) (state_with [] (database result.0)) result.1 }
     ensures held { AreHeld result.0.pool.stamps cursors.new.items }
     ensures follows { FollowsMoment (moment_of store (H.files shelf.old) (H.faults shelf.old)) (moment_of result.0 (H.files shelf.new) (H.faults shelf.new)) }
     ensures keeps { KeepsOn T.seen journal.old journal.new result.1 }
-    ensures kept { KeepsIfAny T.seen journal.old journal.new (moment_of store (H.files shelf.old) (H.faults shelf.old)) (state_with [] (database result.0)) result.1 }
     ensures untold { IfErr result.1 (IsUntold (K.took out.old) (K.took out.new) (moment_of store (H.files shelf.old) (H.faults shelf.old))
         (moment_of result.0 (H.files shelf.new) (H.faults shelf.new))) }
     ensures cause { HasLineCause (K.faults out.old) (K.faults out.new) (tape_count T.seen journal.old) (tape_count T.seen journal.new) result.1 }
@@ -85,9 +87,10 @@ pub(crate) fn carry_script<S: Source, H: Shelf, D: Disk, K: Sink, T: Tape>(
     requires held { AreHeld store.pool.stamps cursors.old.items }
     requires begun { (left : Option (List ℕ)) → ReadsLines lines.old left [] [] }
     requires journal { TakesUpTo T.seen (2 ^ 62) journal.old }
-    ensures ends { (last : State) × FromBetweenLines (run_state lines.old (S.left script.old) (moment_of store (H.files shelf.old) (H.faults shelf.old)) false)
-        (EndsAt result.1 (record (moment_of result.0 (H.files shelf.new) (H.faults shelf.new)) { state = last }) (S.left script.new) (K.took out.old) (K.took out.new))
-        × ShowsIfAny T.seen journal.old journal.new result.1 (moment_of store (H.files shelf.old) (H.faults shelf.old)) last }
+    ensures ends { (last : State) × (kept : Option (List ChangeValue)) × (untold : Option (List ChangeValue))
+        × FromBetweenLines (run_state lines.old (S.left script.old) (moment_of store (H.files shelf.old) (H.faults shelf.old)) false (no_changes journal.old))
+        (EndsAt result.1 (record (moment_of result.0 (H.files shelf.new) (H.faults shelf.new)) { state = last }) kept untold (S.left script.new) (K.took out.old) (K.took out.new))
+        × ShowsIfAny T.seen journal.old journal.new result.1 (moment_of store (H.files shelf.old) (H.faults shelf.old)) last kept untold }
     ensures cause { IsCaused result.1 (S.faults script.old) (S.faults script.new) (K.faults out.old) (K.faults out.new) }
     ensures there { is_some journal.new ≡ is_some journal.old }
     ensures tape { tape_count T.seen journal.new ≡ tape_after result.1 (tape_count T.seen journal.old) }

@@ -2,11 +2,13 @@ ghost use Rattle.std.specs.Prelude.{◌≡◌, ◌≤◌, ◌^◌, [], Option, �
 ghost use Rattle.line_exec.specs.Keeping.{TakesUpTo, tape_count};
 ghost use Rattle.open_cursors.specs.OpenCursors.{AreHeld};
 ghost use Rattle.page_pool.specs.Pool.{new_pool};
+ghost use Rattle.sand_journal.specs.ChangeBody.{ChangeValue};
 ghost use Rattle.sand_model.specs.Cursor.{State};
 ghost use Rattle.sand_store.specs.Catalog.{IsLimits, new_catalog};
 ghost use Rattle.sand_store.specs.Contents.{database};
 ghost use Rattle.script_lines.specs.Reading.{ReadsLines};
-ghost use Rattle.session.specs.Ends.{AreJudged, Ends, EndsTo, HasBegun, IsCaused, IsTaken, standard_limits, tape_after};
+ghost use Rattle.session.specs.Ends.{AreJudged, Ends, HasBegun, IsCaused, IsTaken, standard_limits, tape_after};
+ghost use Rattle.session.specs.KeptRun.{EndsKeeping};
 ghost use Rattle.session.specs.KeptTape.{ShowsIfAny};
 ghost use Rattle.session.specs.Outside.{outside_of};
 ghost use Rattle.statement_exec.specs.Moment.{moment_of, state_with};
@@ -38,10 +40,11 @@ pub(crate) fn run_from<S: Source, H: Shelf, D: Disk, K: Sink, T: Tape>(
     requires none { held.old.cursors.items ≡ [] }
     requires held { AreHeld store.pool.stamps held.old.cursors.items }
     requires journal { TakesUpTo T.seen (2 ^ 62) journal.old }
-    ensures promise { (last : State) × EndsTo (state_with [] (database store)) last result.0 store.catalog.limits
+    ensures promise { (last : State) × (kept : Option (List ChangeValue)) × (untold : Option (List ChangeValue))
+        × EndsKeeping (state_with [] (database store)) last kept untold result.0 store.catalog.limits
         (outside_of (S.left script.old) (S.faults script.old) (H.files shelf.old) (H.faults shelf.old) store.pool.disk (K.took out.old) (K.faults out.old))
         (outside_of (S.left script.new) (S.faults script.new) (H.files shelf.new) (H.faults shelf.new) (D.seen result.1) (K.took out.new) (K.faults out.new))
-        × ShowsIfAny T.seen journal.old journal.new result.0 (moment_of store (H.files shelf.old) (H.faults shelf.old)) last }
+        × ShowsIfAny T.seen journal.old journal.new result.0 (moment_of store (H.files shelf.old) (H.faults shelf.old)) last kept untold }
     ensures cause { IsCaused result.0 (S.faults script.old) (S.faults script.new) (K.faults out.old) (K.faults out.new) }
     ensures told { (D.seen result.1).told ≡ store.pool.disk.told }
     ensures there { is_some journal.new ≡ is_some journal.old }

@@ -12,6 +12,7 @@ use Rattle.statement_exec.specs.Moment.{while_open}
 use Rattle.statement_exec.specs.Performing.{Performs, line_of_answer}
 use Rattle.line_exec.proofs.ShelfChanges.{counted_alike}
 use Rattle.line_exec.proofs.ToKeep.{keep_line, keep_row, on_accepted}
+use Rattle.line_exec.specs.KeptChanges.{IsToKeep}
 use Rattle.line_exec.proofs.changes.change_behind.Goals as goal
 
 pub returns-in-Create-clause-answers : goal.returns-in-Create-clause-answers
@@ -79,34 +80,44 @@ returns-in-Rtree-clause-counts g c = counted_alike c.args.store.now.pool c.rtree
 
 pub returns-in-Create-clause-kept : goal.returns-in-Create-clause-kept
 returns-in-Create-clause-kept g c =
-    keep_line c.args.keeps c.create.result c.args.kept (model.Create c.in-Create.relation c.in-Create.columns) c.args.store.now c.create.new.store
+    subst (λ (s : Statement). IsToKeep c.args.keeps (statement_value s) c.create.result c.args.kept c.args.store.now c.create.new.store) (sym c.in-Create.is)
+    (keep_line c.args.keeps c.create.result c.args.kept (model.Create c.in-Create.relation c.in-Create.columns) c.args.store.now c.create.new.store
     (λ k. subst (λ (v : model.Statement). IsKeptOf c.args.store.now.catalog v c.args.kept) (create_is c.args.statement c.in-Create.relation c.in-Create.columns c.in-Create.is) (c.requires.kept k))
-    (tt, subst (λ (s : Statement). IsInRange (statement_value s)) c.in-Create.is c.requires.in_range)
-    (on_accepted _ _ c.create.result (λ h. led_by_create c.args.store.now c.create.new.store c.in-Create.relation c.in-Create.columns h c.create.ensures.carries) c.create.ensures.created) c.create.ensures.unchanged
+    (tt, subst (λ (s : Statement). IsInRange (statement_value s)) c.in-Create.is c.requires.in_range) refl
+    (on_accepted _ _ c.create.result (λ h. led_by_create c.args.store.now c.create.new.store c.in-Create.relation c.in-Create.columns h c.create.ensures.carries) c.create.ensures.created) c.create.ensures.unchanged)
 
 pub returns-in-Delete-clause-kept : goal.returns-in-Delete-clause-kept
 returns-in-Delete-clause-kept g c =
-    keep_line c.args.keeps c.delete.result c.args.kept (model.Delete c.in-Delete.relation c.in-Delete.id) c.args.store.now c.delete.new.store
+    subst (λ (s : Statement). IsToKeep c.args.keeps (statement_value s) c.delete.result c.args.kept c.args.store.now c.delete.new.store) (sym c.in-Delete.is)
+    (keep_line c.args.keeps c.delete.result c.args.kept (model.Delete c.in-Delete.relation c.in-Delete.id) c.args.store.now c.delete.new.store
     (λ k. subst (λ (v : model.Statement). IsKeptOf c.args.store.now.catalog v c.args.kept) (delete_is c.args.statement c.in-Delete.relation c.in-Delete.id c.in-Delete.is) (c.requires.kept k))
-    (tt, subst (λ (s : Statement). IsInRange (statement_value s)) c.in-Delete.is c.requires.in_range)
-    (on_accepted _ _ c.delete.result (λ h. led_by_delete c.args.store.now c.delete.new.store c.in-Delete.relation c.in-Delete.id h c.delete.ensures.carries) c.delete.ensures.deleted) c.delete.ensures.unchanged
+    (tt, subst (λ (s : Statement). IsInRange (statement_value s)) c.in-Delete.is c.requires.in_range) refl
+    (on_accepted _ _ c.delete.result (λ h. led_by_delete c.args.store.now c.delete.new.store c.in-Delete.relation c.in-Delete.id h c.delete.ensures.carries) c.delete.ensures.deleted) c.delete.ensures.unchanged)
 
 pub returns-in-Index-clause-kept : goal.returns-in-Index-clause-kept
 returns-in-Index-clause-kept g c =
-    keep_line c.args.keeps c.index.result c.args.kept (model.Index c.in-Index.column c.in-Index.threshold) c.args.store.now c.index.new.store
+    subst (λ (s : Statement). IsToKeep c.args.keeps (statement_value s) c.index.result c.args.kept c.args.store.now c.index.new.store) (sym c.in-Index.is)
+    (keep_line c.args.keeps c.index.result c.args.kept (model.Index c.in-Index.column c.in-Index.threshold) c.args.store.now c.index.new.store
     (λ k. subst (λ (v : model.Statement). IsKeptOf c.args.store.now.catalog v c.args.kept) (index_is c.args.statement c.in-Index.column c.in-Index.threshold c.in-Index.is) (c.requires.kept k))
-    (tt, subst (λ (s : Statement). IsInRange (statement_value s)) c.in-Index.is c.requires.in_range)
-    (on_accepted _ _ c.index.result (λ h. led_by_index c.args.store.now c.index.new.store c.in-Index.column c.in-Index.threshold h c.index.ensures.carries) c.index.ensures.indexed) c.index.ensures.unchanged
+    (tt, subst (λ (s : Statement). IsInRange (statement_value s)) c.in-Index.is c.requires.in_range) refl
+    (on_accepted _ _ c.index.result (λ h. led_by_index c.args.store.now c.index.new.store c.in-Index.column c.in-Index.threshold h c.index.ensures.carries) c.index.ensures.indexed) c.index.ensures.unchanged)
 
 pub returns-in-Rtree-clause-kept : goal.returns-in-Rtree-clause-kept
 returns-in-Rtree-clause-kept g c =
-    keep_line c.args.keeps c.rtree.result c.args.kept (model.Rtree c.in-Rtree.column) c.args.store.now c.rtree.new.store
+    subst (λ (s : Statement). IsToKeep c.args.keeps (statement_value s) c.rtree.result c.args.kept c.args.store.now c.rtree.new.store) (sym c.in-Rtree.is)
+    (keep_line c.args.keeps c.rtree.result c.args.kept (model.Rtree c.in-Rtree.column) c.args.store.now c.rtree.new.store
     (λ k. subst (λ (v : model.Statement). IsKeptOf c.args.store.now.catalog v c.args.kept) (rtree_is c.args.statement c.in-Rtree.column c.in-Rtree.is) (c.requires.kept k))
-    (tt, subst (λ (s : Statement). IsInRange (statement_value s)) c.in-Rtree.is c.requires.in_range)
-    (on_accepted _ _ c.rtree.result (λ h. led_by_rtree c.args.store.now c.rtree.new.store c.in-Rtree.column h c.rtree.ensures.carries) c.rtree.ensures.treed) c.rtree.ensures.unchanged
+    (tt, subst (λ (s : Statement). IsInRange (statement_value s)) c.in-Rtree.is c.requires.in_range) refl
+    (on_accepted _ _ c.rtree.result (λ h. led_by_rtree c.args.store.now c.rtree.new.store c.in-Rtree.column h c.rtree.ensures.carries) c.rtree.ensures.treed) c.rtree.ensures.unchanged)
 
 pub returns-in-Insert-clause-kept : goal.returns-in-Insert-clause-kept
 returns-in-Insert-clause-kept g c =
-    keep_row c.args.keeps c.args.kept c.args.store.now c.insert.new.store c.in-Insert.relation c.insert.result c.in-Insert.values
+    subst (λ (s : Statement). IsToKeep c.args.keeps (statement_value s) c.insert.result c.args.kept c.args.store.now c.insert.new.store) (sym c.in-Insert.is)
+    (keep_row c.args.keeps c.args.kept c.args.store.now c.insert.new.store c.in-Insert.relation c.insert.result c.in-Insert.values
     (λ k. subst (λ (v : model.Statement). IsKeptOf c.args.store.now.catalog v c.args.kept) (insert_is c.args.statement c.in-Insert.relation c.in-Insert.values c.in-Insert.is) (c.requires.kept k))
-    c.insert.ensures.inserted c.insert.ensures.unchanged c.insert.ensures.carries
+    c.insert.ensures.inserted c.insert.ensures.unchanged c.insert.ensures.carries)
+
+-- a load kept its rows
+pub returns-in-Load-clause-kept : goal.returns-in-Load-clause-kept
+returns-in-Load-clause-kept g c =
+    subst (λ (s : Statement). IsToKeep c.args.keeps (statement_value s) c.load.result.answer c.load.result.kept c.args.store.now c.load.new.store) (sym c.in-Load.is) c.load.ensures.kept

@@ -4,7 +4,8 @@ use Rattle.sand_base.specs.Faults.{HasCause}
 use Rattle.sand_base.specs.declared.source.Failed.{Failed}
 use Rattle.open_cursors.specs.OverPages.{StandOver}
 use Rattle.line_exec.proofs.Kept.{cause_of_sink, keeps_same, untold_sink}
-use Rattle.line_exec.specs.LineCarried.{LineCarried}
+use Rattle.line_exec.specs.KeptChanges.{no_changes}
+use Rattle.line_exec.specs.LineCarried.{CarriesKept, LineCarried}
 use Rattle.line_exec.proofs.LineSteps.{line_of_nothing, line_of_refusal}
 use Rattle.statement_exec.specs.Moment.{moment_of, while_open}
 use Rattle.line_exec.proofs.Led.{unchanged_itself}
@@ -13,24 +14,35 @@ use Rattle.line_exec.proofs.line.carry_line.Goals as goal
 
 -- what its statement does
 pub returns-in-Ok-Some-clause-carried : goal.returns-in-Ok-Some-clause-carried
-returns-in-Ok-Some-clause-carried g c = c.carry_statement.ensures.carried c.args.line.now (rw c.in-Ok-Some.field-0-is at c.in-Ok-Some.ensures.says)
+returns-in-Ok-Some-clause-carried g c =
+    let all = c.carry_statement.ensures.carried in (all.0, all.1 c.args.line.now (rw c.in-Ok-Some.field-0-is at c.in-Ok-Some.ensures.says), all.2)
 
 -- nothing is printed, and all is as it was
 pub returns-in-Ok-None-clause-carried : goal.returns-in-Ok-None-clause-carried
-returns-in-Ok-None-clause-carried g c = λ cs own counted stand.
-    line_of_nothing (while_open c.args.store (g.H.Shelf.files c.args.shelf.now) (g.H.Shelf.faults c.args.shelf.now)) cs
-    (StandOver c.args.store.pool c.args.cursors.now.items) own stand (g.K.Sink.took c.args.out.now)
-    c.args.line.now (rw c.in-Ok-None.field-0-is at c.in-Ok-None.ensures.says)
+returns-in-Ok-None-clause-carried g c = (
+  no_changes c.args.journal.now,
+  λ cs own counted stand.
+      line_of_nothing c.args.journal.now (while_open c.args.store (g.H.Shelf.files c.args.shelf.now) (g.H.Shelf.faults c.args.shelf.now)) cs
+      (StandOver c.args.store.pool c.args.cursors.now.items) own stand (g.K.Sink.took c.args.out.now)
+      c.args.line.now (rw c.in-Ok-None.field-0-is at c.in-Ok-None.ensures.says),
+  keeps_none g.T.Tape.seen c.args.store c.args.store (g.H.Shelf.files c.args.shelf.now) (g.H.Shelf.faults c.args.shelf.now) (g.met.T.Tape.now_is_all) c.args.journal.now _
+      (unchanged_itself c.args.store),
+)
 
 -- the line is refused by what it says, or memory was
 pub returns-in-Err-clause-carried : goal.returns-in-Err-clause-carried
-returns-in-Err-clause-carried g c = λ cs own counted stand.
-    subst (λ (r : Result Bool Failed). LineCarried (Some c.args.line.now) (while_open c.args.store (g.H.Shelf.files c.args.shelf.now) (g.H.Shelf.faults c.args.shelf.now))
-    (while_open c.args.store (g.H.Shelf.files c.args.shelf.now) (g.H.Shelf.faults c.args.shelf.now)) cs (g.K.Sink.took c.args.out.now)
-    (g.K.Sink.took c.refuse.new.out) r (StandOver c.args.store.pool c.args.cursors.now.items)) c.of_sink.ensures.written
-    (line_of_refusal (while_open c.args.store (g.H.Shelf.files c.args.shelf.now) (g.H.Shelf.faults c.args.shelf.now)) cs
-    (StandOver c.args.store.pool c.args.cursors.now.items) own stand (g.K.Sink.took c.args.out.now) c.args.line.now
-    (g.K.Sink.took c.refuse.new.out) c.in-Err.why c.refuse.result c.in-Err.ensures.refuses c.in-Err.ensures.inside c.refuse.ensures.written c.refuse.ensures.prefix)
+returns-in-Err-clause-carried g c = (
+  no_changes c.args.journal.now,
+  λ cs own counted stand.
+      subst (λ (r : Result Bool Failed). LineCarried (CarriesKept (Some c.args.line.now) (no_changes c.args.journal.now)) (while_open c.args.store (g.H.Shelf.files c.args.shelf.now) (g.H.Shelf.faults c.args.shelf.now))
+      (while_open c.args.store (g.H.Shelf.files c.args.shelf.now) (g.H.Shelf.faults c.args.shelf.now)) cs (g.K.Sink.took c.args.out.now)
+      (g.K.Sink.took c.refuse.new.out) r (StandOver c.args.store.pool c.args.cursors.now.items)) c.of_sink.ensures.written
+      (line_of_refusal c.args.journal.now (while_open c.args.store (g.H.Shelf.files c.args.shelf.now) (g.H.Shelf.faults c.args.shelf.now)) cs
+      (StandOver c.args.store.pool c.args.cursors.now.items) own stand (g.K.Sink.took c.args.out.now) c.args.line.now
+      (g.K.Sink.took c.refuse.new.out) c.in-Err.why c.refuse.result c.in-Err.ensures.refuses c.in-Err.ensures.inside c.refuse.ensures.written c.refuse.ensures.prefix),
+  keeps_none g.T.Tape.seen c.args.store c.args.store (g.H.Shelf.files c.args.shelf.now) (g.H.Shelf.faults c.args.shelf.now) (g.met.T.Tape.now_is_all) c.args.journal.now c.of_sink.result
+      (unchanged_itself c.args.store),
+)
 
 -- the journal is as it was
 
@@ -49,13 +61,3 @@ pub returns-in-Err-clause-cause : goal.returns-in-Err-clause-cause
 returns-in-Err-clause-cause g c =
     cause_of_sink (g.K.Sink.faults c.args.out.now) (g.K.Sink.faults c.refuse.new.out) _ _ c.of_sink.result c.of_sink.ensures.sink
     (subst (λ (r : Result Bool Failed). HasCause (g.K.Sink.faults c.args.out.now) (g.K.Sink.faults c.refuse.new.out) r) c.of_sink.ensures.written c.refuse.ensures.cause) refl
-
-pub returns-in-Ok-None-clause-kept : goal.returns-in-Ok-None-clause-kept
-returns-in-Ok-None-clause-kept g c =
-    keeps_none g.T.Tape.seen c.args.store c.args.store (g.H.Shelf.files c.args.shelf.now) (g.H.Shelf.faults c.args.shelf.now) (g.met.T.Tape.now_is_all) c.args.journal.now _
-    (unchanged_itself c.args.store)
-
-pub returns-in-Err-clause-kept : goal.returns-in-Err-clause-kept
-returns-in-Err-clause-kept g c =
-    keeps_none g.T.Tape.seen c.args.store c.args.store (g.H.Shelf.files c.args.shelf.now) (g.H.Shelf.faults c.args.shelf.now) (g.met.T.Tape.now_is_all) c.args.journal.now c.of_sink.result
-    (unchanged_itself c.args.store)

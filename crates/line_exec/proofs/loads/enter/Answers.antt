@@ -17,9 +17,9 @@ returns-in-Ok-clause-counts g c = λ shelf. counted_alike c.args.store.now.pool 
 
 -- what is kept of the rows
 pub returns-in-Ok-clause-kept : goal.returns-in-Ok-clause-kept
-returns-in-Ok-clause-kept g c =
-    keep_rows c.args.keeps c.in-Ok.kept c.args.store.now c.enter_rows.new.store c.args.name.now c.enter_rows.result c.args.rows.items
+returns-in-Ok-clause-kept g c = λ file header.
+    keep_rows c.args.keeps c.in-Ok.kept c.args.store.now c.enter_rows.new.store c.args.name.now file header c.enter_rows.result c.args.rows.items
     (λ k. rw (c.catalog.ensures.catalog, c.deref.ensures.value) at (c.in-Ok.ensures k)) c.enter_rows.ensures.loaded c.enter_rows.ensures.unchanged c.enter_rows.ensures.carries
 
 pub returns-in-Err-clause-kept : goal.returns-in-Err-clause-kept
-returns-in-Err-clause-kept g c = rw c.refused.ensures (unchanged_itself c.args.store.now)
+returns-in-Err-clause-kept g c = λ file header. rw c.refused.ensures (unchanged_itself c.args.store.now)

@@ -37,3 +37,7 @@ returns-in-Ok-clause-follows g c =
 -- before any page nothing was done
 pub returns-in-Err-clause-kept : goal.returns-in-Err-clause-kept
 returns-in-Err-clause-kept g c = rw c.refused.ensures (unchanged_itself c.args.store.now)
+
+-- and the rows that enter are what is kept
+pub returns-in-Ok-clause-kept : goal.returns-in-Ok-clause-kept
+returns-in-Ok-clause-kept g c = c.enter.ensures.kept c.args.file.now c.args.header

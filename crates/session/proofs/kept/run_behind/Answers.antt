@@ -1,5 +1,5 @@
 -- the changes of the journal led the store on, and then the script; or the replay stopped
-use Rattle.std.proofs.Common.{◌≤◌, ◌^◌, List, [], refl, sym, ap, subst, ◌∙◌, nat_cmp, arith}
+use Rattle.std.proofs.Common.{◌≤◌, ◌^◌, List, [], Some, refl, sym, ap, subst, ◌∙◌, nat_cmp, arith}
 use Rattle.std.specs.FinMap as map
 use Rattle.open_cursors.proofs.HeldStamps.{held_settled}
 use Rattle.open_cursors.specs.OpenCursors.{AreHeld}
@@ -11,12 +11,13 @@ use Rattle.sand_base.specs.declared.limits.Limits.{Limits}
 use Rattle.sand_store.specs.Catalog.{StoreState}
 use Rattle.sand_store.specs.Contents.{database}
 use Rattle.statement_exec.specs.Moment.{moment_of, state_with}
-use Rattle.session.specs.Ends.{EndsTo, tape_after}
-use Rattle.session.specs.KeptRun.{EndsKept, HasAll, HasBadRecord}
+use Rattle.session.specs.Ends.{tape_after}
+use Rattle.session.specs.KeptRun.{EndsKeeping, EndsKept, HasAll, HasBadRecord}
+use Rattle.sand_journal.specs.Journal.{IsOnlyRead}
 use Rattle.session.specs.KeptTape.{KeepsBehind}
 use Rattle.session.specs.Outside.{outside_of}
 use Rattle.session.specs.declared.status.Status.{Status}
-use Rattle.session.proofs.KeptBehind.{Keeps-behind}
+use Rattle.session.proofs.KeptBehind.{Keeps-behind, World-on}
 use Rattle.session.proofs.KeptEndings.{Kept-begun, Kept-stopped}
 use Rattle.session.proofs.KeptStatuses.{Stopped, Taken-kept}
 use Rattle.session.proofs.KeptTapes.{Bad-stopped, Replayed-all, World-of}
@@ -44,28 +45,32 @@ returns-in-Ok-clause-promise g c =
     (g.H.Shelf.faults c.args.shelf.now) c.args.store.pool.disk c.replay.new.store.pool.disk (g.K.Sink.took c.args.out.now) (g.K.Sink.faults c.args.out.now)
     (outside_of (g.S.Source.left c.run_on.new.script) (g.S.Source.faults c.run_on.new.script) (g.H.Shelf.files c.run_on.new.shelf)
     (g.H.Shelf.faults c.run_on.new.shelf) (g.D.Disk.seen c.run_on.result.1) (g.K.Sink.took c.run_on.new.out)
-    (g.K.Sink.faults c.run_on.new.out)) c.in-Ok.ensures.cause.1 (state_with [] (database c.replay.new.store)) promise.0 c.run_on.result.0
-    (subst (λ (l : Limits). EndsTo (state_with [] (database c.replay.new.store)) promise.0 c.run_on.result.0 l
+    (g.K.Sink.faults c.run_on.new.out)) c.in-Ok.ensures.cause.1 (state_with [] (database c.replay.new.store)) promise.0 (Some promise.1) (Some promise.2) c.run_on.result.0
+    (subst (λ (l : Limits). EndsKeeping (state_with [] (database c.replay.new.store)) promise.0 (Some promise.1) (Some promise.2) c.run_on.result.0 l
     (outside_of (g.S.Source.left c.args.script.now) (g.S.Source.faults c.args.script.now) (g.H.Shelf.files c.args.shelf.now)
     (g.H.Shelf.faults c.args.shelf.now) c.replay.new.store.pool.disk (g.K.Sink.took c.args.out.now) (g.K.Sink.faults c.args.out.now)) (outside_of
     (g.S.Source.left c.run_on.new.script) (g.S.Source.faults c.run_on.new.script) (g.H.Shelf.files c.run_on.new.shelf)
-    (g.H.Shelf.faults c.run_on.new.shelf) (g.D.Disk.seen c.run_on.result.1) (g.K.Sink.took c.run_on.new.out) (g.K.Sink.faults c.run_on.new.out))) c.replay.ensures.carries.limits promise.1) in
+    (g.H.Shelf.faults c.run_on.new.shelf) (g.D.Disk.seen c.run_on.result.1) (g.K.Sink.took c.run_on.new.out) (g.K.Sink.faults c.run_on.new.out))) c.replay.ensures.carries.limits promise.3) in
     Kept-begun c.run_on.result.0 c.args.store.catalog.limits
     (outside_of (g.S.Source.left c.args.script.now) (g.S.Source.faults c.args.script.now) (g.H.Shelf.files c.args.shelf.now)
     (g.H.Shelf.faults c.args.shelf.now) c.args.store.pool.disk (g.K.Sink.took c.args.out.now) (g.K.Sink.faults c.args.out.now)) (outside_of
     (g.S.Source.left c.run_on.new.script) (g.S.Source.faults c.run_on.new.script) (g.H.Shelf.files c.run_on.new.shelf)
     (g.H.Shelf.faults c.run_on.new.shelf) (g.D.Disk.seen c.run_on.result.1) (g.K.Sink.took c.run_on.new.out) (g.K.Sink.faults c.run_on.new.out))
-    (HasAll (g.T.Tape.seen c.args.journal.tape).told (g.T.Tape.seen c.args.journal.tape).bytes) _ _ c.run_on.ensures.begun
+    (HasAll (g.T.Tape.seen c.args.journal.tape).told (g.T.Tape.seen c.args.journal.tape).bytes) _ _ _ c.run_on.ensures.begun
     (record {
       changes = c.in-Ok.ensures.replayed.changes;
       starts = starts;
       state = state_with [] (database c.replay.new.store);
       world = world;
+      shown = promise.1;
+      untold = promise.2;
       last = promise.0;
       ends = ends;
+      reached = World-on c.args.store.catalog.limits (g.D.Disk.seen c.run_on.result.1).told c.in-Ok.ensures.replayed.changes promise.1
+          (moment_of c.replay.new.store (g.H.Shelf.files c.args.shelf.now) (g.H.Shelf.faults c.args.shelf.now)) promise.0 c.run_on.ensures.told c.replay.ensures.carries.limits world.has promise.4.lead;
       keeps = Keeps-behind g.T.Tape.seen c.args.journal c.replay.new.journal c.run_on.result.2 c.args.store c.replay.new.store c.in-Ok.ensures.replayed c.requires.passed c.replay.ensures.read
-          (g.met.T.Tape.now_is_all c.args.journal.tape) c.args.store.catalog.limits (g.D.Disk.seen c.run_on.result.1).told c.run_on.result.0
-          (moment_of c.replay.new.store (g.H.Shelf.files c.args.shelf.now) (g.H.Shelf.faults c.args.shelf.now)) promise.0 c.run_on.ensures.told c.replay.ensures.carries.limits world.has promise.2;
+          (g.met.T.Tape.now_is_all c.args.journal.tape) c.run_on.result.0
+          (moment_of c.replay.new.store (g.H.Shelf.files c.args.shelf.now) (g.H.Shelf.faults c.args.shelf.now)) promise.0 promise.1 promise.2 promise.4;
     })
 
 pub returns-in-Ok-clause-tape : goal.returns-in-Ok-clause-tape
@@ -84,13 +89,15 @@ returns-in-Err-clause-promise g c =
     (g.S.Source.left c.args.script.now) (g.S.Source.faults c.args.script.now) (g.H.Shelf.files c.args.shelf.now) (g.H.Shelf.faults c.args.shelf.now)
     (g.D.Disk.seen c.into_disk.result) (g.K.Sink.took c.args.out.now) (g.K.Sink.faults c.args.out.now))
     (HasAll (g.T.Tape.seen c.args.journal.tape).told (g.T.Tape.seen c.args.journal.tape).bytes)
-    (KeepsBehind g.T.Tape.seen c.args.store.catalog.limits (g.D.Disk.seen c.into_disk.result).told why c.args.journal.tape c.into_tape.result)
+    (KeepsBehind g.T.Tape.seen why c.args.journal.tape c.into_tape.result)
     (HasBadRecord c.args.store.catalog.limits (g.D.Disk.seen c.into_disk.result).told (g.T.Tape.seen c.args.journal.tape).told
-    (g.T.Tape.seen c.args.journal.tape).bytes)) (sym c.status_of_replay.ensures)
+    (g.T.Tape.seen c.args.journal.tape).bytes) (IsOnlyRead (g.T.Tape.seen c.args.journal.tape) (g.T.Tape.seen c.into_tape.result))) (sym c.status_of_replay.ensures)
     (Kept-stopped c.args.store.catalog.limits (g.S.Source.left c.args.script.now) (g.S.Source.faults c.args.script.now) (g.H.Shelf.files c.args.shelf.now)
     (g.H.Shelf.faults c.args.shelf.now) c.args.store.pool.disk (g.D.Disk.seen c.into_disk.result) (g.K.Sink.took c.args.out.now) (g.K.Sink.faults c.args.out.now)
     (HasAll (g.T.Tape.seen c.args.journal.tape).told (g.T.Tape.seen c.args.journal.tape).bytes) _
     (HasBadRecord c.args.store.catalog.limits (g.D.Disk.seen c.into_disk.result).told (g.T.Tape.seen c.args.journal.tape).told (g.T.Tape.seen c.args.journal.tape).bytes)
+    (IsOnlyRead (g.T.Tape.seen c.args.journal.tape) (g.T.Tape.seen c.into_tape.result))
+    (subst (λ tape. IsOnlyRead (g.T.Tape.seen c.args.journal.tape) (g.T.Tape.seen tape)) (sym c.into_tape.ensures) c.replay.ensures.read)
     c.in-Err.why (g.T.Tape.seen c.args.journal.tape) (g.T.Tape.seen c.replay.new.journal.tape) c.args.store.pool c.replay.new.store.pool refl c.into_disk.ensures c.in-Err.ensures.cause
     (Bad-stopped g.T.Tape.seen c.args.journal c.replay.new.journal c.args.store c.in-Err.why (g.D.Disk.seen c.into_disk.result).told c.requires.empty
     (sym c.replay.ensures.carries.told ∙ sym (ap (λ (d : DiskView). d.told) c.into_disk.ensures)) c.requires.passed c.replay.ensures.read c.in-Err.ensures.bad))

@@ -4,7 +4,8 @@ use Rattle.line_exec.proofs.Appended.{appends_none}
 use Rattle.line_exec.proofs.Kept.{takes_more}
 use Rattle.line_exec.proofs.Moments.{are_standing}
 use Rattle.line_exec.specs.Keeping.{IsUntold, TakesUpTo, last_end, most_kept, sink_result}
-use Rattle.line_exec.specs.LineCarried.{LineCarried}
+use Rattle.line_exec.specs.KeptChanges.{no_changes}
+use Rattle.line_exec.specs.LineCarried.{CarriesKept, LineCarried}
 use Rattle.line_exec.specs.declared.fault.LineFault.{LineFault}
 use Rattle.line_meaning.proofs.Runs.{follows_itself, follows_on}
 use Rattle.open_cursors.specs.OverPages.{StandOver}
@@ -12,7 +13,7 @@ use Rattle.sand_store.specs.Contents.{database}
 use Rattle.statement_exec.specs.Moment.{moment_of, state_with, while_open}
 use Rattle.session.specs.Ends.{source_after, tape_after}
 use Rattle.session.specs.OpenRun.{spot_of}
-use Rattle.session.specs.RunStates.{run_state}
+use Rattle.session.specs.RunStates.{kept_by, run_state, untold_by}
 use Rattle.session.proofs.Answered.{if_err, on_ok, Caused-after, Caused-hand, Caused-line, Caused-over, Tape-over}
 use Rattle.session.proofs.KeptChanges.{kept_line, kept_none, shown_hand, shown_over}
 use Rattle.session.proofs.OpenRuns.{Ends-hand, Ends-open, OpenRun-begin, OpenRun-line, room_left, rows_counted}
@@ -21,7 +22,8 @@ use Rattle.session.proofs.script.carry_script.Goals as goal
 pub lines-init : goal.lines-init
 lines-init g c = (
   OpenRun-begin c.args.lines.now (g.S.Source.left c.args.script.now) c.args.store (g.H.Shelf.files c.args.shelf.now)
-      (g.H.Shelf.faults c.args.shelf.now) c.args.cursors.now.items (g.K.Sink.took c.args.out.now) c.requires.begun c.requires.none c.requires.held,
+      (g.H.Shelf.faults c.args.shelf.now) c.args.cursors.now.items (g.K.Sink.took c.args.out.now) (no_changes c.args.journal.now)
+      c.requires.begun c.requires.none c.requires.held,
   record { of_source = refl; of_sink = refl },
   record { there = refl; takes = takes_more g.T.Tape.seen (2 ^ 62) (2 ^ 62 + 0 * most_kept) c.args.journal.now (omega arith) c.requires.journal; counted = refl },
   record {
@@ -36,7 +38,7 @@ pub carry_hand-next-requires : goal.carry_hand-next-requires
 carry_hand-next-requires g c = record {
   short = c.in-Ok.ensures.draws.0;
   journal = takes_more g.T.Tape.seen (2 ^ 62 + c.lines.invariant.0.count * most_kept) last_end c.lines.journal
-      (room_left (run_state c.args.lines.now (g.S.Source.left c.args.script.now) (moment_of c.args.store (g.H.Shelf.files c.args.shelf.now) (g.H.Shelf.faults c.args.shelf.now)) false)
+      (room_left (run_state c.args.lines.now (g.S.Source.left c.args.script.now) (moment_of c.args.store (g.H.Shelf.files c.args.shelf.now) (g.H.Shelf.faults c.args.shelf.now)) false (no_changes c.args.journal.now))
       (g.K.Sink.took c.args.out.now) (spot_of c.lines.lines (g.S.Source.left c.lines.script) c.lines.now (g.H.Shelf.files c.lines.shelf)
       (g.H.Shelf.faults c.lines.shelf) c.lines.cursors.items c.lines.refused
       (g.K.Sink.took c.lines.out)) c.lines.invariant.0 c.draw.new.lines (g.S.Source.left c.draw.new.script) c.in-Ok.is_long c.in-Ok.ensures.draws)
@@ -48,11 +50,13 @@ carry_hand-next-requires g c = record {
 pub returns-in-Err-clause-ends : goal.returns-in-Err-clause-ends
 returns-in-Err-clause-ends g c = (
   state_with c.lines.invariant.0.cs (database c.lines.now),
-  Ends-open (run_state c.args.lines.now (g.S.Source.left c.args.script.now) (moment_of c.args.store (g.H.Shelf.files c.args.shelf.now) (g.H.Shelf.faults c.args.shelf.now)) false)
+  c.lines.invariant.0.kept,
+  no_changes c.args.journal.now,
+  Ends-open (run_state c.args.lines.now (g.S.Source.left c.args.script.now) (moment_of c.args.store (g.H.Shelf.files c.args.shelf.now) (g.H.Shelf.faults c.args.shelf.now)) false (no_changes c.args.journal.now))
       (g.K.Sink.took c.args.out.now) (spot_of c.lines.lines (g.S.Source.left c.lines.script) c.lines.now (g.H.Shelf.files c.lines.shelf)
       (g.H.Shelf.faults c.lines.shelf) c.lines.cursors.items c.lines.refused
-      (g.K.Sink.took c.lines.out)) c.lines.invariant.0 c.in-Err.status c.ended.result c.draw.new.lines (g.S.Source.left c.draw.new.script) c.ended.ensures c.in-Err.ensures.draws,
-  shown_over g.T.Tape.seen c.args.journal.now c.lines.journal c.ended.result (moment_of c.args.store (g.H.Shelf.files c.args.shelf.now) (g.H.Shelf.faults c.args.shelf.now))
+      (g.K.Sink.took c.lines.out)) c.lines.invariant.0 (no_changes c.args.journal.now) c.in-Err.status c.ended.result c.draw.new.lines (g.S.Source.left c.draw.new.script) c.ended.ensures c.in-Err.ensures.draws,
+  shown_over g.T.Tape.seen c.args.journal.now c.lines.journal c.lines.invariant.0.kept c.ended.result (moment_of c.args.store (g.H.Shelf.files c.args.shelf.now) (g.H.Shelf.faults c.args.shelf.now))
       (state_with [] (database c.lines.now)) (state_with c.lines.invariant.0.cs (database c.lines.now)) refl c.lines.invariant.3.keeps,
 )
 
@@ -69,18 +73,18 @@ returns-in-Err-clause-tape g c = Tape-over c.in-Err.status c.ended.result c.line
 
 pub lines-preserved-then-refused : goal.lines-preserved-then-refused
 lines-preserved-then-refused g c = (
-  OpenRun-line (run_state c.args.lines.now (g.S.Source.left c.args.script.now) (moment_of c.args.store (g.H.Shelf.files c.args.shelf.now) (g.H.Shelf.faults c.args.shelf.now)) false)
+  OpenRun-line (run_state c.args.lines.now (g.S.Source.left c.args.script.now) (moment_of c.args.store (g.H.Shelf.files c.args.shelf.now) (g.H.Shelf.faults c.args.shelf.now)) false (no_changes c.args.journal.now))
       (g.K.Sink.took c.args.out.now) (spot_of c.lines.lines (g.S.Source.left c.lines.script) c.lines.now (g.H.Shelf.files c.lines.shelf)
       (g.H.Shelf.faults c.lines.shelf) c.lines.cursors.items c.lines.refused
       (g.K.Sink.took c.lines.out)) c.lines.invariant.0 c.draw.new.lines (g.S.Source.left c.draw.new.script) c.in-Ok.is_long c.in-Ok.ensures.draws
       c.carry_hand-next.result.0 (g.H.Shelf.files c.carry_hand-next.new.shelf) (g.H.Shelf.faults c.carry_hand-next.new.shelf) c.carry_hand-next.new.cursors.items
       (g.K.Sink.took c.carry_hand-next.new.out) c.carry_hand-next.ensures.follows
-      c.in-Ok-done.refusal c.lines.refused
-      (subst (λ (r : Result Bool LineFault). LineCarried c.draw.new.lines.line (while_open c.lines.now (g.H.Shelf.files c.lines.shelf) (g.H.Shelf.faults c.lines.shelf))
+      c.carry_hand-next.ensures.carried.0 c.in-Ok-done.refusal c.lines.refused
+      (subst (λ (r : Result Bool LineFault). LineCarried (CarriesKept c.draw.new.lines.line c.carry_hand-next.ensures.carried.0) (while_open c.lines.now (g.H.Shelf.files c.lines.shelf) (g.H.Shelf.faults c.lines.shelf))
       (while_open c.carry_hand-next.result.0 (g.H.Shelf.files c.carry_hand-next.new.shelf) (g.H.Shelf.faults c.carry_hand-next.new.shelf))
       c.lines.invariant.0.cs (g.K.Sink.took c.lines.out) (g.K.Sink.took c.carry_hand-next.new.out) (sink_result r)
-      (StandOver c.carry_hand-next.result.0.pool c.carry_hand-next.new.cursors.items)) c.in-Ok-done.is (c.carry_hand-next.ensures.carried c.lines.invariant.0.cs c.lines.invariant.0.own
-      (rows_counted (run_state c.args.lines.now (g.S.Source.left c.args.script.now) (moment_of c.args.store (g.H.Shelf.files c.args.shelf.now) (g.H.Shelf.faults c.args.shelf.now)) false)
+      (StandOver c.carry_hand-next.result.0.pool c.carry_hand-next.new.cursors.items)) c.in-Ok-done.is (c.carry_hand-next.ensures.carried.1 c.lines.invariant.0.cs c.lines.invariant.0.own
+      (rows_counted (run_state c.args.lines.now (g.S.Source.left c.args.script.now) (moment_of c.args.store (g.H.Shelf.files c.args.shelf.now) (g.H.Shelf.faults c.args.shelf.now)) false (no_changes c.args.journal.now))
       (g.K.Sink.took c.args.out.now) (spot_of c.lines.lines (g.S.Source.left c.lines.script) c.lines.now (g.H.Shelf.files c.lines.shelf)
       (g.H.Shelf.faults c.lines.shelf) c.lines.cursors.items c.lines.refused
       (g.K.Sink.took c.lines.out)) c.lines.invariant.0 c.draw.new.lines (g.S.Source.left c.draw.new.script) c.in-Ok.is_long c.in-Ok.ensures.draws) c.lines.invariant.0.stand))
@@ -101,27 +105,27 @@ lines-preserved-then-refused g c = (
         (moment_of c.lines.now (g.H.Shelf.files c.lines.shelf) (g.H.Shelf.faults c.lines.shelf))
         (moment_of c.carry_hand-next.result.0 (g.H.Shelf.files c.carry_hand-next.new.shelf) (g.H.Shelf.faults c.carry_hand-next.new.shelf))
         c.lines.invariant.3.follows c.carry_hand-next.ensures.follows;
-    keeps = kept_line g.T.Tape.seen c.args.journal.now c.lines.journal c.carry_hand-next.new.journal
+    keeps = kept_line g.T.Tape.seen c.args.journal.now c.lines.journal c.carry_hand-next.new.journal c.lines.invariant.0.kept c.carry_hand-next.ensures.carried.0
         (moment_of c.args.store (g.H.Shelf.files c.args.shelf.now) (g.H.Shelf.faults c.args.shelf.now))
         (moment_of c.lines.now (g.H.Shelf.files c.lines.shelf) (g.H.Shelf.faults c.lines.shelf)) (state_with [] (database c.carry_hand-next.result.0))
-        c.carry_hand-next.result.1 c.in-Ok-done.refusal c.in-Ok-done.is c.lines.invariant.3.keeps c.lines.invariant.3.follows c.carry_hand-next.ensures.kept;
+        c.carry_hand-next.result.1 c.in-Ok-done.refusal c.in-Ok-done.is c.lines.invariant.3.keeps c.lines.invariant.3.follows c.carry_hand-next.ensures.carried.2;
   },
 )
 
 pub lines-preserved : goal.lines-preserved
 lines-preserved g c = (
-  OpenRun-line (run_state c.args.lines.now (g.S.Source.left c.args.script.now) (moment_of c.args.store (g.H.Shelf.files c.args.shelf.now) (g.H.Shelf.faults c.args.shelf.now)) false)
+  OpenRun-line (run_state c.args.lines.now (g.S.Source.left c.args.script.now) (moment_of c.args.store (g.H.Shelf.files c.args.shelf.now) (g.H.Shelf.faults c.args.shelf.now)) false (no_changes c.args.journal.now))
       (g.K.Sink.took c.args.out.now) (spot_of c.lines.lines (g.S.Source.left c.lines.script) c.lines.now (g.H.Shelf.files c.lines.shelf)
       (g.H.Shelf.faults c.lines.shelf) c.lines.cursors.items c.lines.refused
       (g.K.Sink.took c.lines.out)) c.lines.invariant.0 c.draw.new.lines (g.S.Source.left c.draw.new.script) c.in-Ok.is_long c.in-Ok.ensures.draws
       c.carry_hand-next.result.0 (g.H.Shelf.files c.carry_hand-next.new.shelf) (g.H.Shelf.faults c.carry_hand-next.new.shelf) c.carry_hand-next.new.cursors.items
       (g.K.Sink.took c.carry_hand-next.new.out) c.carry_hand-next.ensures.follows
-      c.in-Ok-done.refusal c.in-Ok-done.refusal
-      (subst (λ (r : Result Bool LineFault). LineCarried c.draw.new.lines.line (while_open c.lines.now (g.H.Shelf.files c.lines.shelf) (g.H.Shelf.faults c.lines.shelf))
+      c.carry_hand-next.ensures.carried.0 c.in-Ok-done.refusal c.in-Ok-done.refusal
+      (subst (λ (r : Result Bool LineFault). LineCarried (CarriesKept c.draw.new.lines.line c.carry_hand-next.ensures.carried.0) (while_open c.lines.now (g.H.Shelf.files c.lines.shelf) (g.H.Shelf.faults c.lines.shelf))
       (while_open c.carry_hand-next.result.0 (g.H.Shelf.files c.carry_hand-next.new.shelf) (g.H.Shelf.faults c.carry_hand-next.new.shelf))
       c.lines.invariant.0.cs (g.K.Sink.took c.lines.out) (g.K.Sink.took c.carry_hand-next.new.out) (sink_result r)
-      (StandOver c.carry_hand-next.result.0.pool c.carry_hand-next.new.cursors.items)) c.in-Ok-done.is (c.carry_hand-next.ensures.carried c.lines.invariant.0.cs c.lines.invariant.0.own
-      (rows_counted (run_state c.args.lines.now (g.S.Source.left c.args.script.now) (moment_of c.args.store (g.H.Shelf.files c.args.shelf.now) (g.H.Shelf.faults c.args.shelf.now)) false)
+      (StandOver c.carry_hand-next.result.0.pool c.carry_hand-next.new.cursors.items)) c.in-Ok-done.is (c.carry_hand-next.ensures.carried.1 c.lines.invariant.0.cs c.lines.invariant.0.own
+      (rows_counted (run_state c.args.lines.now (g.S.Source.left c.args.script.now) (moment_of c.args.store (g.H.Shelf.files c.args.shelf.now) (g.H.Shelf.faults c.args.shelf.now)) false (no_changes c.args.journal.now))
       (g.K.Sink.took c.args.out.now) (spot_of c.lines.lines (g.S.Source.left c.lines.script) c.lines.now (g.H.Shelf.files c.lines.shelf)
       (g.H.Shelf.faults c.lines.shelf) c.lines.cursors.items c.lines.refused
       (g.K.Sink.took c.lines.out)) c.lines.invariant.0 c.draw.new.lines (g.S.Source.left c.draw.new.script) c.in-Ok.is_long c.in-Ok.ensures.draws) c.lines.invariant.0.stand))
@@ -142,10 +146,10 @@ lines-preserved g c = (
         (moment_of c.lines.now (g.H.Shelf.files c.lines.shelf) (g.H.Shelf.faults c.lines.shelf))
         (moment_of c.carry_hand-next.result.0 (g.H.Shelf.files c.carry_hand-next.new.shelf) (g.H.Shelf.faults c.carry_hand-next.new.shelf))
         c.lines.invariant.3.follows c.carry_hand-next.ensures.follows;
-    keeps = kept_line g.T.Tape.seen c.args.journal.now c.lines.journal c.carry_hand-next.new.journal
+    keeps = kept_line g.T.Tape.seen c.args.journal.now c.lines.journal c.carry_hand-next.new.journal c.lines.invariant.0.kept c.carry_hand-next.ensures.carried.0
         (moment_of c.args.store (g.H.Shelf.files c.args.shelf.now) (g.H.Shelf.faults c.args.shelf.now))
         (moment_of c.lines.now (g.H.Shelf.files c.lines.shelf) (g.H.Shelf.faults c.lines.shelf)) (state_with [] (database c.carry_hand-next.result.0))
-        c.carry_hand-next.result.1 c.in-Ok-done.refusal c.in-Ok-done.is c.lines.invariant.3.keeps c.lines.invariant.3.follows c.carry_hand-next.ensures.kept;
+        c.carry_hand-next.result.1 c.in-Ok-done.refusal c.in-Ok-done.is c.lines.invariant.3.keeps c.lines.invariant.3.follows c.carry_hand-next.ensures.carried.2;
   },
 )
 
@@ -153,18 +157,18 @@ lines-preserved g c = (
 pub returns-in-Err-done-clause-ends : goal.returns-in-Err-done-clause-ends
 returns-in-Err-done-clause-ends g c =
     let ends =
-    Ends-hand (run_state c.args.lines.now (g.S.Source.left c.args.script.now) (moment_of c.args.store (g.H.Shelf.files c.args.shelf.now) (g.H.Shelf.faults c.args.shelf.now)) false)
+    Ends-hand (run_state c.args.lines.now (g.S.Source.left c.args.script.now) (moment_of c.args.store (g.H.Shelf.files c.args.shelf.now) (g.H.Shelf.faults c.args.shelf.now)) false (no_changes c.args.journal.now))
     (g.K.Sink.took c.args.out.now) (spot_of c.lines.lines (g.S.Source.left c.lines.script) c.lines.now (g.H.Shelf.files c.lines.shelf)
     (g.H.Shelf.faults c.lines.shelf) c.lines.cursors.items c.lines.refused
     (g.K.Sink.took c.lines.out)) c.lines.invariant.0 c.draw.new.lines (g.S.Source.left c.draw.new.script) c.in-Ok.is_long c.in-Ok.ensures.draws
     c.carry_hand-next.result.0 (g.H.Shelf.files c.carry_hand-next.new.shelf) (g.H.Shelf.faults c.carry_hand-next.new.shelf) c.carry_hand-next.new.cursors.items
     (g.K.Sink.took c.carry_hand-next.new.out) c.carry_hand-next.ensures.follows
-    c.in-Err-done.why c.status_of.result c.status_of.ensures
-    (subst (λ (r : Result Bool LineFault). LineCarried c.draw.new.lines.line (while_open c.lines.now (g.H.Shelf.files c.lines.shelf) (g.H.Shelf.faults c.lines.shelf))
+    c.carry_hand-next.ensures.carried.0 c.in-Err-done.why c.status_of.result c.status_of.ensures
+    (subst (λ (r : Result Bool LineFault). LineCarried (CarriesKept c.draw.new.lines.line c.carry_hand-next.ensures.carried.0) (while_open c.lines.now (g.H.Shelf.files c.lines.shelf) (g.H.Shelf.faults c.lines.shelf))
     (while_open c.carry_hand-next.result.0 (g.H.Shelf.files c.carry_hand-next.new.shelf) (g.H.Shelf.faults c.carry_hand-next.new.shelf))
     c.lines.invariant.0.cs (g.K.Sink.took c.lines.out) (g.K.Sink.took c.carry_hand-next.new.out) (sink_result r)
-    (StandOver c.carry_hand-next.result.0.pool c.carry_hand-next.new.cursors.items)) c.in-Err-done.is (c.carry_hand-next.ensures.carried c.lines.invariant.0.cs c.lines.invariant.0.own
-    (rows_counted (run_state c.args.lines.now (g.S.Source.left c.args.script.now) (moment_of c.args.store (g.H.Shelf.files c.args.shelf.now) (g.H.Shelf.faults c.args.shelf.now)) false)
+    (StandOver c.carry_hand-next.result.0.pool c.carry_hand-next.new.cursors.items)) c.in-Err-done.is (c.carry_hand-next.ensures.carried.1 c.lines.invariant.0.cs c.lines.invariant.0.own
+    (rows_counted (run_state c.args.lines.now (g.S.Source.left c.args.script.now) (moment_of c.args.store (g.H.Shelf.files c.args.shelf.now) (g.H.Shelf.faults c.args.shelf.now)) false (no_changes c.args.journal.now))
     (g.K.Sink.took c.args.out.now) (spot_of c.lines.lines (g.S.Source.left c.lines.script) c.lines.now (g.H.Shelf.files c.lines.shelf)
     (g.H.Shelf.faults c.lines.shelf) c.lines.cursors.items c.lines.refused
     (g.K.Sink.took c.lines.out)) c.lines.invariant.0 c.draw.new.lines (g.S.Source.left c.draw.new.script) c.in-Ok.is_long c.in-Ok.ensures.draws) c.lines.invariant.0.stand))
@@ -172,12 +176,14 @@ returns-in-Err-done-clause-ends g c =
     (moment_of c.carry_hand-next.result.0 (g.H.Shelf.files c.carry_hand-next.new.shelf)
     (g.H.Shelf.faults c.carry_hand-next.new.shelf))) c.carry_hand-next.result.1 c.in-Err-done.why c.in-Err-done.is c.carry_hand-next.ensures.untold) in (
       ends.0,
+      kept_by c.in-Err-done.why c.lines.invariant.0.kept c.carry_hand-next.ensures.carried.0,
+      untold_by c.in-Err-done.why c.carry_hand-next.ensures.carried.0,
       ends.2,
-      shown_hand g.T.Tape.seen c.args.journal.now c.lines.journal c.carry_hand-next.new.journal
+      shown_hand g.T.Tape.seen c.args.journal.now c.lines.journal c.carry_hand-next.new.journal c.lines.invariant.0.kept c.carry_hand-next.ensures.carried.0
           (moment_of c.args.store (g.H.Shelf.files c.args.shelf.now) (g.H.Shelf.faults c.args.shelf.now))
           (moment_of c.lines.now (g.H.Shelf.files c.lines.shelf) (g.H.Shelf.faults c.lines.shelf)) (state_with [] (database c.carry_hand-next.result.0)) ends.0
           c.carry_hand-next.result.1 c.in-Err-done.why c.status_of.result c.in-Err-done.is c.status_of.ensures c.lines.invariant.3.keeps c.lines.invariant.3.follows
-          c.carry_hand-next.ensures.kept ends.1,
+          c.carry_hand-next.ensures.carried.2 ends.1,
     )
 
 pub returns-in-Err-done-clause-cause : goal.returns-in-Err-done-clause-cause
