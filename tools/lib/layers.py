@@ -1,18 +1,16 @@
 """Points, lines and areas as three data files, a row a shape; what can't be taken is counted and named."""
 from __future__ import annotations
 
-import csv
 import heapq
-import io
 import os
 from typing import Iterable, NamedTuple, Optional, Sequence
 
 from fields import MOST_ROWS, Cleaner, is_whole, loading
 from frame import Frame
 from tool import Complaint, output, say
+from z_order import Records, Spot
 
 MOST_CORNERS = 64
-Spot = tuple[int, int]
 # a latitude and a longitude
 Place = tuple[float, float]
 
@@ -26,17 +24,15 @@ class Left(NamedTuple):
 class Layer:
     """The rows of one data file: a shape, and the same columns for each."""
 
-    def __init__(self, name: str, shape: str, kind: str, columns: Sequence[str]) -> None:
+    def __init__(self, name: str, shape: str, kind: str, columns: Sequence[str], in_order: bool) -> None:
         self.name, self.shape, self.kind, self.columns = name, shape, kind, list(columns)
         self.rows = 0
         self._whole = [True] * len(self.columns)
-        self._text = io.StringIO()
-        self._write = csv.writer(self._text, lineterminator="\n").writerow
-        self._write([shape, *self.columns])
+        self._records = Records([shape, *self.columns], in_order)
 
-    def add(self, literal: str, values: Sequence[str]) -> None:
+    def add(self, spots: Sequence[Spot], literal: str, values: Sequence[str]) -> None:
         self.rows += 1
-        self._write([literal, *values])
+        self._records.add(spots, [literal, *values])
         whole = self._whole
         for at, value in enumerate(values):
             if whole[at] and not is_whole(value):
@@ -46,7 +42,7 @@ class Layer:
         """Writes the file; the statements that load it."""
         file = os.path.join(folder, f"{self.name}.csv")
         with output(file) as it:
-            it.write(self._text.getvalue())
+            it.write(self._records.text())
         kinds = [(self.shape, self.kind), *zip(self.columns, ("int" if it else "text" for it in self._whole))]
         return loading(self.name, kinds, file, self.shape)
 
@@ -54,11 +50,11 @@ class Layer:
 class Layers:
     """The three layers of a frame, and what was left out of them."""
 
-    def __init__(self, frame: Frame, names: tuple[str, str, str], columns: Sequence[str], thin: bool, fill: bool) -> None:
+    def __init__(self, frame: Frame, names: tuple[str, str, str], columns: Sequence[str], thin: bool, fill: bool, in_order: bool) -> None:
         self._grid = frame.grid()
-        self.points = Layer(names[0], "at", "point", columns)
-        self.lines = Layer(names[1], "way", "segment", columns)
-        self.areas = Layer(names[2], "region", "polygon", columns)
+        self.points = Layer(names[0], "at", "point", columns, in_order)
+        self.lines = Layer(names[1], "way", "segment", columns, in_order)
+        self.areas = Layer(names[2], "region", "polygon", columns, in_order)
         self._thin, self._fill = thin, fill
         self.clean = Cleaner()
         self.left: dict[str, Left] = {}
@@ -73,7 +69,7 @@ class Layers:
         if spot is None:
             self.leave("points outside of the frame", what)
         else:
-            self.points.add(literal(spot), values)
+            self.points.add([spot], literal(spot), values)
 
     def line(self, places: Iterable[Place], values: Sequence[str], what: object) -> None:
         """A row for each piece of a line that lies in the frame."""
@@ -85,7 +81,7 @@ class Layers:
             self.leave("lines that leave the frame, with pieces", what)
         long = [(one, two) for one, two in pieces if one != two] or pieces[:1]
         for one, two in long:
-            self.lines.add(f"{literal(one)}-{literal(two)}", values)
+            self.lines.add([one, two], f"{literal(one)}-{literal(two)}", values)
 
     def area(self, rings: Sequence[Iterable[Place]], values: Sequence[str], what: object) -> None:
         """A row for a ring, the first; the others are its holes."""
@@ -101,7 +97,7 @@ class Layers:
             self.thinned += 1
         if len(corners) < 3:
             return self.leave("areas that are smaller than a step", what)
-        self.areas.add(f"({' '.join(map(literal, corners))})", values)
+        self.areas.add(corners, f"({' '.join(map(literal, corners))})", values)
 
     def save(self, name: str, folder: str) -> None:
         """Writes the files that have a row, prints the statements that load them, and says what was left out."""

@@ -2,13 +2,18 @@
 from __future__ import annotations
 
 import bz2
+import csv
 import json
 import os
+import re
 import subprocess
 import sys
 import unittest
 
 from ran import FRAME, TOOLS, XML, InFolder, Ran
+from z_order import middle, z_code
+
+SPOT = re.compile(r"\((\d+) (\d+)\)")
 
 
 class Latlon(InFolder):
@@ -23,6 +28,13 @@ class Latlon(InFolder):
         path = os.path.join(self.folder, "my places.csv")
         ran = Ran("latlon", FRAME, "csv", "lat", "lon", "name", "pop", "-o", path, "--relation", "city", given=self.CSV)
         self.assertEqual(ran.out, f'create city (at point, name text, pop int)\nload city "{path}" header\nindex city.at\n')
+
+    def test_in_z_order_neighbours_stand_together(self) -> None:
+        # the corners of a square round the centre, and a text of two lines in the north east; y decides before x
+        given = "lat,lon,name\n53,14,\"north\neast\"\n52,12,south west\n53,12,north west\n52,14,south east\n53,14,twin\n"
+        ran = Ran("latlon", FRAME, "csv", "lat", "lon", "name", "--z-order", given=given)
+        names = [record[1] for record in csv.reader(ran.out.splitlines(keepends=True))]
+        self.assertEqual(names, ["name", "south west", "south east", "north west", "north east", "twin"])
 
     def test_columns_by_number_tabs_and_quotes(self) -> None:
         given = '1\tthe "Alba"\t52.52\t13.405\t12.6\n2\tBrin\t52.53\t13.41\t-0.4\n'
@@ -122,6 +134,20 @@ geojson: left out: 1 areas of more than 64 corners (--thin takes away the flatte
         ran = Ran("geojson", FRAME, folder, "name", "--thin", "--fill", given=given)
         self.assertIn("3 areas\ngeojson: thinned to 64 corners: 1 areas\n", ran.said)
 
+    def test_in_z_order_neighbours_stand_together(self) -> None:
+        corners = [[12, 53], [14, 53], [12, 52], [14, 52]]
+        lines = [[[x, y], [x, y + 0.1]] for x, y in corners]
+        rings = [[[x, y], [x + 0.1, y], [x, y + 0.1], [x, y]] for x, y in corners]
+        given = self.collection({"type": "MultiPoint", "coordinates": corners}, {"type": "MultiLineString", "coordinates": lines},
+                                *({"type": "Polygon", "coordinates": [ring]} for ring in rings))
+        Ran("geojson", FRAME, self.folder, "--z-order", given=given)
+        for layer in ("points", "lines", "areas"):
+            codes = [z_code(middle([(int(x), int(y)) for x, y in SPOT.findall(row)])) for row in self.read(f"{layer}.csv").split("\n")[1:-1]]
+            self.assertEqual((len(codes), codes), (4, sorted(codes)), layer)
+        self.assertEqual([row[-1] for row in self.read("areas.csv").split("\n")[1:-1]], ["5", "6", "3", "4"])
+        Ran("geojson", FRAME, self.folder, given=given)
+        self.assertEqual([row[-1] for row in self.read("areas.csv").split("\n")[1:-1]], ["3", "4", "5", "6"])
+
     def test_a_feature_a_line(self) -> None:
         lines = "".join(json.dumps({"type": "Feature", "properties": {}, "geometry": {"type": "Point", "coordinates": [13, 52 + at / 100]}})
                         + "\n" for at in range(5))
@@ -157,6 +183,16 @@ osm: left out: 1 relations, the first relation 4
             self.assertEqual(self.read("places.csv").split("\n")[1], "(524217 523821),1,cafe,Alba & Co")
             self.assertEqual(self.read("roads.csv").count(",9,residential,Gasse\n"), 2)
             self.assertEqual(self.read("areas.csv").count(",10,park,\n"), 1)
+
+    def test_in_z_order_neighbours_stand_together(self) -> None:
+        # a road from the north to the south: its southern piece comes first
+        road = '<nd ref="1"/><nd ref="2"/><nd ref="3"/><tag k="highway"'
+        given = XML.replace(road, '<nd ref="3"/><nd ref="2"/><nd ref="1"/><tag k="highway"')
+        rows = []
+        for words in ((), ("--z-order",)):
+            Ran("osm", FRAME, self.folder, *words, given=given)
+            rows.append(self.read("roads.csv").split("\n")[1:3])
+        self.assertEqual(rows[1], rows[0][::-1])
 
     def test_what_cannot_be_taken_is_said_in_one_line(self) -> None:
         call = ("osm", FRAME, self.folder)
