@@ -5,7 +5,8 @@ It gives no verdict.
   bench/sqlite.py [--size N] [--set uniform|clustered] [--frames N] [--turns N] [--program FILE] [WORK..]
 
 In each turn SQLite does a work in a process of its own, and then the program does it. Seconds are of the processor and of the work
-alone, without loading and indexing (but for `build`) and without reading the data file on SQLite's side, the least of the turns.
+alone, without loading and indexing (but for `build`) and without reading the data file on SQLite's side; a figure is the median of
+the turns, and a ratio that of the turns' ratios.
 SQLite keeps its tree in memory, and is asked as a user of it would ask: a ranking takes the nearest of a window around its goal, and
 of a window of twice the side while they may not be the nearest. That both found the same is tried by the sums of their squared
 distances, or by the counts of their rows.
@@ -15,16 +16,20 @@ import csv
 import multiprocessing
 import os
 import sqlite3
+import statistics
+import subprocess
 import tempfile
+import threading
 import time
 from typing import Any
 
-from works import LAST, PROGRAM, Data, run
+from works import LAST, PROGRAM, Data
 
 WORKS = "build knn10 knn100 browse100 window update".split()
 NEAREST = """select (x0 - :x) * (x0 - :x) + (y0 - :y) * (y0 - :y) as gap, id from p
              where x1 >= :x - :side and x0 <= :x + :side and y1 >= :y - :side and y0 <= :y + :side and pop >= :least order by gap, id limit :most"""
 INSIDE = "select count(*) from p where x1 >= ? and y1 >= ? and x0 <= ? and y0 <= ?"
+END = "refused 21 UnknownCursor"
 INSERT = "insert into p values (?, ?, ?, ?, ?, ?, ?)"
 
 
@@ -70,14 +75,39 @@ def by_sqlite(data: Data, work: str, told: Any) -> None:
     told.put((time.process_time() - start, found))
 
 
-def by_program(words: list[str], data: Data, work: str) -> tuple[float, float, int]:
-    """The same of the program: the processor's seconds of two runs, the first of them without the work."""
-    load = data.load(work) + data.before(work)
-    base = run(words, data.folder, load[:1] if work == "build" else load)
-    full = run(words, data.folder, load + ([] if work == "build" else data.queries(work)))
-    rows = [it for it in full[3][len(base[3]) :] if "\t" in it]
-    found = len(rows) if work == "window" else sum(int(it.split("\t", 1)[0]) for it in rows)
-    return base[1], full[1], found
+class Program:
+    """The program on pipes, whose time is read between its answers."""
+
+    def __init__(self, words: list[str], folder: str) -> None:
+        self.process = subprocess.Popen(words, stdin=subprocess.PIPE, stdout=subprocess.PIPE, cwd=folder)
+        self.feed(["create p (at point, name text, pop int)"])
+
+    def feed(self, lines: list[str]) -> tuple[float, list[str]]:
+        """The processor's seconds of some lines, and what they print: all in front of the refusal of one that no work has."""
+        before, told = self.used(), "".join(f"{line}\n" for line in [*lines, "stats nobody"]).encode()
+        writer = threading.Thread(target=lambda: (self.process.stdin.write(told), self.process.stdin.flush()))
+        writer.start()
+        found = list(iter(lambda: self.process.stdout.readline().decode().rstrip("\n"), END))
+        writer.join()
+        return self.used() - before, found
+
+    def used(self) -> float:
+        with open(f"/proc/{self.process.pid}/schedstat", encoding="utf-8") as file:
+            return int(file.read().split()[0]) / 1e9
+
+
+def by_program(words: list[str], data: Data, work: str) -> tuple[float, int]:
+    """The same of the program."""
+    program = Program(words, data.folder)
+    build, _ = program.feed(data.load(work)[1:])
+    if work == "build":
+        seconds, lines = build, []
+    else:
+        program.feed(data.before(work))
+        seconds, lines = program.feed(data.queries(work))
+    program.process.communicate()
+    rows = [it for it in lines if "\t" in it]
+    return seconds, len(rows) if work == "window" else sum(int(it.split("\t", 1)[0]) for it in rows)
 
 
 def main() -> None:
@@ -92,21 +122,21 @@ def main() -> None:
     words = [os.path.abspath(asked.program), "--frames", str(asked.frames)]
     with tempfile.TemporaryDirectory() as folder:
         data = Data(folder, asked.size, asked.set)
-        print(f"{asked.size:,} {asked.set} points, {asked.frames} frames, SQLite {sqlite3.sqlite_version}, least of {asked.turns} turns\n")
+        print(f"{asked.size:,} {asked.set} points, {asked.frames} frames, SQLite {sqlite3.sqlite_version}, medians of {asked.turns} turns\n")
         print("| Work | SAND, s | SQLite, s | ratio |\n|---|---|---|---|")
         for work in asked.works:
-            bases, fulls, theirs = [], [], []
+            turns = []
             for _ in range(asked.turns):
                 told = multiprocessing.Queue()
                 child = multiprocessing.Process(target=by_sqlite, args=(data, work, told))
                 child.start()
-                (seconds, found), (base, full, rows) = told.get(), by_program(words, data, work)
+                (theirs, found), (ours, rows) = told.get(), by_program(words, data, work)
                 child.join()
                 if found != rows:
                     raise SystemExit(f"{work}: {rows} by the program, and {found} by SQLite")
-                bases, fulls, theirs = [*bases, base], [*fulls, full], [*theirs, seconds]
-            ours = min(fulls) - min(bases)
-            print(f"| {work} | {ours:.3f} | {min(theirs):.3f} | {ours / min(theirs):.2f} |", flush=True)
+                turns.append((ours, theirs, ours / theirs))
+            ours, theirs, ratio = (statistics.median(it) for it in zip(*turns))
+            print(f"| {work} | {ours:.3f} | {theirs:.3f} | {ratio:.2f} |", flush=True)
 
 
 if __name__ == "__main__":
