@@ -1,10 +1,11 @@
 #!/usr/bin/env python3
 """Prints what searches take over 10,000, 100,000 and 1,000,000 rows by how many frames there are, as a table in Markdown. It gives no verdict.
 
-  bench/sizes.py [--sizes N,N..] [--frames N,N..] [--turns N] [--z-order] [--program FILE] [points|roads|buildings ..]
+  bench/sizes.py [--sizes N,N..] [--frames N,N..] [--turns N] [--parts N] [--z-order] [--program FILE] [points|roads|buildings ..]
 
-The rows are those of bench/shapes.py, each with a text and an int. They come in no order; --z-order loads them in that of tools/lib/z_order.py,
-too. In each turn the program loads them, indexes them, and deletes one, so that no page waits to be written; then come 1,000 queries of a work:
+The rows are those of bench/shapes.py, each with a text and an int. They come in no order, from one data file, or from --parts or as many as
+their bytes need; --z-order loads them in the order of tools/lib/z_order.py, too. In each turn the program loads them, indexes them, and
+deletes one, so that no page waits to be written; then come 1,000 queries of a work:
 
   knn10      10 rows of a ranking
   browse100  a ranking up to the first row that one row in 100 passes
@@ -36,6 +37,8 @@ from sand import Sand  # noqa: E402
 from z_order import middle, z_code  # noqa: E402
 
 SPOT = re.compile(r"\((\d+) (\d+)\)")
+# bytes of a data file, some fewer than the program takes
+FULL = 60_000_000
 HEADS = "rows", "load, index: s", "knn10: us", "browse100: us", "window: us", "held: MB", "at most: MB"
 
 
@@ -43,12 +46,15 @@ def place_code(shape: str) -> int:
     return z_code(middle([(int(x), int(y)) for x, y in SPOT.findall(shape)]))
 
 
-def write(rows: list[str], file: str) -> str:
-    """A data file of these shapes."""
+def write(rows: list[str], name: str, parts: int) -> list[str]:
+    """Data files of these shapes."""
     draw = random.Random(len(rows))
-    with open(file, "w", encoding="utf-8") as it:
-        it.writelines(f"{shape},place {number},{draw.randint(0, 9_999_999)}\n" for number, shape in enumerate(rows))
-    return file
+    lines = [f"{shape},place {number},{draw.randint(0, 9_999_999)}\n" for number, shape in enumerate(rows)]
+    parts = max(parts, -(-sum(map(len, lines)) // FULL))
+    files = [f"{name}.{part}.csv" for part in range(parts)]
+    for part, file in enumerate(files):
+        Path(file).write_text("".join(lines[part * len(lines) // parts:(part + 1) * len(lines) // parts]), encoding="utf-8")
+    return files
 
 
 def works(data: Set) -> list[list[tuple[str, int]]]:
@@ -70,13 +76,14 @@ def megabytes(process: int, what: str) -> float:
         return next(int(line.split()[1]) / 1024 for line in status if line.startswith(what))
 
 
-def turn(program: str, frames: int, data: Set, file: str) -> list[float]:
+def turn(program: str, frames: int, data: Set, files: list[str]) -> list[float]:
     """What stands in a row of the table behind its first cell."""
     with Sand(program=program, frames=frames) as db:
         process = db._program._process.pid
         db.tell(f"create s (at {SETS[data.kind]}, name text, pop int)")
         begin = processor(process)
-        db.tell(f'load s "{file}"')
+        for file in files:
+            db.tell(f'load s "{file}"')
         db.tell("index s.at")
         took = [processor(process) - begin]
         db.tell("delete s 1")
@@ -87,14 +94,14 @@ def turn(program: str, frames: int, data: Set, file: str) -> list[float]:
         return [*took, megabytes(process, "VmRSS"), megabytes(process, "VmHWM")]
 
 
-def rows_of(asked: argparse.Namespace, data: Set, files: dict[str, str]) -> Iterable[list[str]]:
-    """The rows of the table for some data files; they and the numbers of frames take turns."""
-    found: dict[tuple[str, int], list[list[float]]] = {(file, count): [] for file in files.values() for count in asked.frames}
+def rows_of(asked: argparse.Namespace, data: Set, orders: dict[str, list[str]]) -> Iterable[list[str]]:
+    """The rows of the table for some orders of the rows, each in its data files; orders and numbers of frames take turns."""
+    found: dict[tuple[str, int], list[list[float]]] = {(name, count): [] for name in orders for count in asked.frames}
     for _ in range(asked.turns):
-        for (file, count), turns in found.items():
-            turns.append(turn(asked.program, count, data, file))
-    for name, file in files.items():
-        medians = [[statistics.median(column) for column in zip(*found[file, count])] for count in asked.frames]
+        for (name, count), turns in found.items():
+            turns.append(turn(asked.program, count, data, orders[name]))
+    for name in orders:
+        medians = [[statistics.median(column) for column in zip(*found[name, count])] for count in asked.frames]
         yield [name, *(", ".join(map(shown, column)) for column in zip(*medians))]
 
 
@@ -107,6 +114,7 @@ def main() -> None:
     asked.add_argument("--sizes", type=numbers, default=[1_000_000, 100_000, 10_000])
     asked.add_argument("--frames", type=numbers, default=[16, 256, 4096])
     asked.add_argument("--turns", type=int, default=5)
+    asked.add_argument("--parts", type=int, default=1)
     asked.add_argument("--z-order", action="store_true")
     asked.add_argument("--program", default=PROGRAM)
     asked.add_argument("sets", nargs="*", default=list(SETS))
@@ -118,10 +126,10 @@ def main() -> None:
         for size in asked.sizes:
             for kind in asked.sets:
                 data, name = Set(kind, size), f"{size:,} {kind}"
-                files = {name: write(data.rows, os.path.join(folder, "rows.csv"))}
+                orders = {name: write(data.rows, os.path.join(folder, "rows"), asked.parts)}
                 if asked.z_order:
-                    files[f"{name} in Z-order"] = write(sorted(data.rows, key=place_code), os.path.join(folder, "sorted.csv"))
-                for row in rows_of(asked, data, files):
+                    orders[f"{name} in Z-order"] = write(sorted(data.rows, key=place_code), os.path.join(folder, "sorted"), asked.parts)
+                for row in rows_of(asked, data, orders):
                     print(f"| {' | '.join(row)} |", flush=True)
 
 
