@@ -1,10 +1,10 @@
-//! The tests of sixteen libraries: plain types and streams, fractions, geometry, rows as bytes, printed lines, words, workloads, searches.
+//! The tests of thirteen libraries: plain types and streams, fractions, geometry, rows as bytes, printed lines, words, searches.
 //!
 //! A module for each library, and `untold`: a desk over a disk that doesn't tell its pages, so that a tree in a table can be searched, which no
 //! page holds. A test's build proves all functions of its own crate once more, so the tests stand apart from the
 //! libraries, in a crate with no function besides. They compare with values from outside, and show that calls which take memory
 //! succeed where some is left. Above: nothing. Below: `sand_base`, `exact_frac`, `z_code`, `plane_geom`, `ring_geom`, `tuple_codec`,
-//! `output_text`, `work_gen`, `run_words`, `csv_load`, `pair_heap`, `rank_queue`, `best_first`, `semi_join`.
+//! `output_text`, `work_gen`, `run_words`, `csv_load`, `pair_heap`, `rank_queue`, `best_first`.
 #![tactic(auto)]
 
 #[cfg(test)]
@@ -32,13 +32,7 @@ mod of_run_words;
 #[cfg(test)]
 mod of_sand_base;
 #[cfg(test)]
-mod of_semi_join;
-#[cfg(test)]
 mod of_tuple_codec;
-#[cfg(test)]
-mod of_work_gen;
-#[cfg(test)]
-mod of_work_source;
 #[cfg(test)]
 mod of_z_code;
 #[cfg(test)]

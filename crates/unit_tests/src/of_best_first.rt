@@ -15,12 +15,11 @@ use std::process::Abort;
 use std::test::Fail;
 use table::{ROWS, Table};
 
-// The rows of a search with their gaps, how many of its calls were refused, and how many calls the table had.
+// The rows of a search with their gaps, and how many of its calls were refused.
 #[derive(Drop)]
 struct Answer {
     rows: Vec<(u128, u32)>,
     refused: u64,
-    calls: u64,
 }
 
 // Notes what a call of the search gave, and tells whether it was the end.
@@ -56,12 +55,10 @@ fn answer_of<Q: Queue<Item<u32>> + Drop>(
     let mut answer = Answer {
         rows: Vec::new(alloc),
         refused: 0,
-        calls: 0,
     };
     'rows: for _ in 0..100u8 {
         let given = search.next(desk);
         if is_end(rt, &mut answer, given)? {
-            answer.calls = search.hierarchy().calls();
             return Ok(answer);
         }
     }
@@ -81,23 +78,12 @@ fn gave(
     assert_eq!(rt; answer.refused, refused, "{name} {number}");
 }
 
-// How many calls a search has of which none is refused.
-fn call_count(rt: &impl Abort, alloc: Global, desk: &mut Desk<ZeroDisk>) -> Result<u64, Fail>
-    requires { desk.old.pool.disk.told ≡ false }
-    ensures { desk.new.pool.disk.told ≡ false }
-{
-    let queue: PlainQueue<Item<u32>> = PlainQueue::empty(alloc);
-    let answer = answer_of(rt, alloc, Table::new(0, false, [0, 0]), queue, desk)?;
-    Ok(answer.calls)
-}
-
-// A search through the plain queue gives all rows, after so many refusals.
+// A search through the plain queue gives all rows.
 fn plain_gives(
     rt: &impl Abort,
     alloc: Global,
     table: Table,
     desk: &mut Desk<ZeroDisk>,
-    refused: u64,
     number: u64,
 ) -> Result<(), Fail>
     requires { desk.old.pool.disk.told ≡ false }
@@ -105,7 +91,7 @@ fn plain_gives(
 {
     let queue: PlainQueue<Item<u32>> = PlainQueue::empty(alloc);
     let answer = answer_of(rt, alloc, table, queue, desk)?;
-    gave(rt, &answer, &ROWS, refused, "plain", number);
+    gave(rt, &answer, &ROWS, 0, "plain", number);
     Ok(())
 }
 
@@ -116,7 +102,6 @@ fn pair_gives(
     table: Table,
     desk: &mut Desk<ZeroDisk>,
     rows: &[(u128, u32)],
-    refused: u64,
     number: u64,
 ) -> Result<(), Fail>
     requires { desk.old.pool.disk.told ≡ false }
@@ -124,7 +109,7 @@ fn pair_gives(
 {
     let queue: PairQueue<Item<u32>> = PairQueue::empty(alloc);
     let answer = answer_of(rt, alloc, table, queue, desk)?;
-    gave(rt, &answer, rows, refused, "paired", number);
+    gave(rt, &answer, rows, 0, "paired", number);
     Ok(())
 }
 
@@ -139,12 +124,12 @@ fn come_sorted(
     ensures { desk.new.pool.disk.told ≡ false }
 {
     let number = u64::from(turned);
-    let all = Table::new(turned, false, [0, 0]);
-    plain_gives(rt, alloc, all, desk, 0, number)?;
-    let all = Table::new(turned, false, [0, 0]);
-    pair_gives(rt, alloc, all, desk, &ROWS, 0, number)?;
-    let near = Table::new(turned, true, [0, 0]);
-    pair_gives(rt, alloc, near, desk, &ROWS[..6], 0, number)
+    let all = Table::new(turned, false);
+    plain_gives(rt, alloc, all, desk, number)?;
+    let all = Table::new(turned, false);
+    pair_gives(rt, alloc, all, desk, &ROWS, number)?;
+    let near = Table::new(turned, true);
+    pair_gives(rt, alloc, near, desk, &ROWS[..6], number)
 }
 
 // And so in each of the 256 orders.
@@ -169,47 +154,10 @@ fn rows_come_sorted_in_whatever_order_the_nodes_list_them(rt: HostRuntime) -> Re
     come_sorted_in_each_order(&rt, alloc, &mut desk)
 }
 
-// No row is lost or repeated where this call of the hierarchy is refused, once and three times.
-fn survives_a_call(
-    rt: &impl Abort,
-    alloc: Global,
-    desk: &mut Desk<ZeroDisk>,
-    call: u64,
-) -> Result<(), Fail>
-    requires { desk.old.pool.disk.told ≡ false }
-    ensures { desk.new.pool.disk.told ≡ false }
-{
-    let once = Table::new(0, false, [call, call]);
-    plain_gives(rt, alloc, once, desk, 1, call)?;
-    let thrice = Table::new(255, false, [call, call.saturating_add(2)]);
-    pair_gives(rt, alloc, thrice, desk, &ROWS, 3, call)
-}
-
-// And so where any call is.
-fn survives_each_call(rt: &impl Abort, alloc: Global, desk: &mut Desk<ZeroDisk>) -> Result<(), Fail>
-    requires { desk.old.pool.disk.told ≡ false }
-    ensures { desk.new.pool.disk.told ≡ false }
-{
-    let calls = call_count(rt, alloc, desk)?;
-    'calls: for call in 1..=calls {
-        survives_a_call(rt, alloc, desk, call)?;
-    }
-    Ok(())
-}
-
-#[test]
-fn a_refused_call_of_the_hierarchy_loses_no_row_and_repeats_none(
-    rt: HostRuntime,
-) -> Result<(), Fail> {
-    let alloc = rt.alloc();
-    let mut desk = untold_desk(alloc)?;
-    survives_each_call(&rt, alloc, &mut desk)
-}
-
 // No search begins where its first reservation is refused.
 fn is_refused_at_the_start(alloc: Global) -> Result<bool, NoMemory> {
     let queue = RefusingQueue::new(alloc, 1)?;
-    Ok(BestFirst::start(alloc, Table::new(0, false, [0, 0]), queue).is_err())
+    Ok(BestFirst::start(alloc, Table::new(0, false), queue).is_err())
 }
 
 // No row is lost or repeated where this reservation is refused. (Each of the eight nodes reserves places once.)
@@ -223,7 +171,7 @@ fn survives_a_reservation(
     ensures { desk.new.pool.disk.told ≡ false }
 {
     let queue = RefusingQueue::new(alloc, call)?;
-    let answer = answer_of(rt, alloc, Table::new(0, false, [0, 0]), queue, desk)?;
+    let answer = answer_of(rt, alloc, Table::new(0, false), queue, desk)?;
     let refused = u64::from(call < 10);
     gave(rt, &answer, &ROWS, refused, "reservation", call);
     Ok(())

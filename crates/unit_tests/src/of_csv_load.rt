@@ -1,11 +1,10 @@
-// What a file's records are, by hand, and that a shelf's faults are told.
+// What a file's records are, by hand.
 ghost use Rattle.std.specs.Prelude.{◌≡◌, IfOk, length};
 
-use csv_load::{LONGEST_FILE, LoadFault, read_file, rows_of};
-use sand_base::{Kind, Label, MemShelf, NoMemory, Schema};
+use csv_load::{LONGEST_FILE, LoadFault, rows_of};
+use sand_base::{Kind, Label, NoMemory, Schema};
 use std::alloc::Global;
 use std::process::Abort;
-use std::test::Fail;
 
 // Columns of a point and an int.
 fn two_columns(alloc: Global) -> Result<Schema, NoMemory>
@@ -74,28 +73,4 @@ fn records_are_rows_or_the_first_bad_one_is_told(rt: HostRuntime) {
     let alloc = rt.alloc();
     are_whole(&rt, alloc, &WHOLE);
     are_bad(&rt, alloc, &BAD);
-}
-
-// The length of the file of this name on a shelf with one of 10,000 bytes, where this call fails.
-fn read_length(alloc: Global, name: &str, failing: u64) -> Result<usize, LoadFault> {
-    let bytes = vec![in alloc; 7; 10_000]?;
-    let files = vec![in alloc; (Label::new(alloc, "p.csv")?, bytes)]?;
-    let fails = vec![in alloc; failing]?;
-    let mut shelf = MemShelf::new(alloc, files, fails);
-    Ok(read_file(alloc, &mut shelf, name)?.len())
-}
-
-#[test]
-fn a_file_is_read_whole_or_the_shelf_failed(rt: HostRuntime) -> Result<(), Fail> {
-    let alloc = rt.alloc();
-    for failing in 1..6u64 {
-        assert_eq!(rt;
-            read_length(alloc, "p.csv", failing),
-            Err(LoadFault::File),
-            "{failing}"
-        );
-    }
-    assert_eq!(rt; read_length(alloc, "p.csv", 6), Ok(10_000));
-    assert_eq!(rt; read_length(alloc, "none.csv", 0), Err(LoadFault::File));
-    Ok(())
 }

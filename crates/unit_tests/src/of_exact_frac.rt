@@ -37,13 +37,6 @@ fn fractions_are_ordered_by_their_values(rt: HostRuntime) {
     are_ordered(&rt, &ORDERED);
 }
 
-#[test]
-fn the_order_serves_a_bound(rt: HostRuntime) {
-    let fractions = [Frac::new(3, 2), Frac::new(0, 7), Frac::new(4, 1)];
-    let (least, most) = (fractions.iter().min(), fractions.iter().max());
-    assert!(rt; least == Some(&Frac::new(0, 1)) && most == Some(&Frac::new(8, 2)));
-}
-
 static PRINTED: [((u128, u128), &str); 10] = [
     ((0, 7), "0"),
     ((25, 1), "25"),
@@ -71,27 +64,6 @@ fn are_printed(rt: &impl Abort, cases: &[((u128, u128), &str)]) {
 #[test]
 fn fractions_are_printed_in_lowest_terms(rt: HostRuntime) {
     are_printed(&rt, &PRINTED);
-}
-
-static LOWEST: [((u128, u128), (u128, u128)); 5] = [
-    ((0, 7), (0, 1)),
-    ((6, 4), (3, 2)),
-    ((7, 7), (1, 1)),
-    ((4, 5), (4, 5)),
-    ((MAX_NUM, MAX_DEN), (MAX_DEN, 1)),
-];
-
-// Each fraction has these lowest terms.
-fn have_lowest_terms(rt: &impl Abort, cases: &[((u128, u128), (u128, u128))]) {
-    for &(parts, lowest) in cases {
-        let found = fraction(rt, parts).lowest();
-        assert_eq!(rt; (found.num(), found.den()), lowest);
-    }
-}
-
-#[test]
-fn lowest_terms_keep_the_value(rt: HostRuntime) {
-    have_lowest_terms(&rt, &LOWEST);
 }
 
 static SQUARES: [((u128, u128), u32, bool); 7] = [

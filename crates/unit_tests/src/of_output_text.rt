@@ -1,13 +1,12 @@
-// What lines look like, that each of these is one write, and what is taken of a line that breaks off.
+// What a row looks like, that it is one write, and what is taken of a line that breaks off.
 ghost use Rattle.output_text.specs.Line.{IsPrintable};
 
 use exact_frac::Frac;
 use output_text::{LineRef, write_line};
-use sand_base::{Label, MemSink, NoMemory, Point, Refusal, Ring, Segment, Shape, Value};
+use sand_base::{Label, MemSink, NoMemory, Point, Ring, Segment, Shape, Value};
 use std::alloc::Global;
 use std::process::Abort;
 use std::test::Fail;
-use z_code::Block;
 
 // The line is written as this text by one call, and nothing more by a call that fails.
 fn prints(rt: &impl Abort, alloc: Global, line: &LineRef, text: &str) -> Result<(), NoMemory>
@@ -23,45 +22,6 @@ fn prints(rt: &impl Abort, alloc: Global, line: &LineRef, text: &str) -> Result<
         ((true, false), text.as_bytes()),
         "{text}"
     );
-    Ok(())
-}
-
-// The counts of a cursor are written as this text.
-fn prints_counts(rt: &impl Abort, alloc: Global, text: &str) -> Result<(), NoMemory> {
-    let stats = LineRef::Stats {
-        blocks: 3,
-        pairs: 0,
-        geometries: 10,
-        rows: 18_446_744_073_709_551_615,
-    };
-    prints(rt, alloc, &stats, text)
-}
-
-// The refusal is written as this text.
-fn prints_refusal(
-    rt: &impl Abort,
-    alloc: Global,
-    why: Refusal,
-    text: &str,
-) -> Result<(), NoMemory> {
-    prints(rt, alloc, &LineRef::Refused(why), text)
-}
-
-// A leaf of these ids is written as this text.
-fn prints_leaf(rt: &impl Abort, alloc: Global, ids: &[u32], text: &str) -> Result<(), NoMemory> {
-    let block = Block::of_point(Point { x: 262144, y: 0 }, 2);
-    prints(rt, alloc, &LineRef::Leaf { block, ids }, text)
-}
-
-#[test]
-fn short_lines_have_their_texts(rt: HostRuntime) -> Result<(), NoMemory> {
-    let alloc = rt.alloc();
-    let text = "blocks 3 pairs 0 geometries 10 rows 18446744073709551615\n";
-    prints_counts(&rt, alloc, text)?;
-    let why = Refusal::BadRecord { row: 4, column: 2 };
-    prints_refusal(&rt, alloc, why, "refused 16 BadRecord 4 2\n")?;
-    prints_leaf(&rt, alloc, &[1, 2, 30], "2\t262144\t0\t1 2 30\n")?;
-    prints_leaf(&rt, alloc, &[], "2\t262144\t0\t-\n")?;
     Ok(())
 }
 

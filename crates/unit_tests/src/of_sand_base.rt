@@ -1,6 +1,6 @@
 use sand_base::{
-    Calls, Failed, Label, MemShelf, MemSink, MemSource, NoMemory, Point, Ring, Row, Shape, Shelf,
-    Sink, Source, SureSource, Value,
+    Calls, Failed, Label, MemShelf, MemSource, NoMemory, Point, Ring, Row, Shape, Shelf, Source,
+    SureSource, Value,
 };
 use std::alloc::{AllocError, Global};
 use std::process::Abort;
@@ -86,28 +86,6 @@ fn a_read_gives_no_more_than_the_piece_holds(rt: HostRuntime) -> Result<(), Allo
         &[(Ok(4), [1, 2, 3, 4]), (Ok(2), [5, 6, 0, 0]), END],
     );
     gives(&rt, &mut SureSource::new(alloc, vec![in alloc]?, 1), &[END]);
-    Ok(())
-}
-
-#[test]
-fn a_sink_takes_what_fits_and_fails_where_it_is_full(rt: HostRuntime) -> Result<(), NoMemory> {
-    let alloc = rt.alloc();
-    let mut sink = MemSink::new(alloc, 2, vec![in alloc; 1]?)?;
-    let answers = [
-        sink.write(&[7, 8, 9]),
-        sink.write(&[7, 8, 9]),
-        sink.write(&[9, 9, 9]),
-    ];
-    assert_eq!(rt; answers, [Err(Failed {}), Ok(2), Err(Failed {})]);
-    assert_eq!(rt; sink.bytes(), [7, 8].as_slice());
-    Ok(())
-}
-
-#[test]
-fn a_name_is_copied_where_memory_is_left(rt: HostRuntime) -> Result<(), NoMemory> {
-    let alloc = rt.alloc();
-    let label = Label::new(alloc, "north")?;
-    assert_eq!(rt; label.copy(alloc)?.as_str(), "north");
     Ok(())
 }
 

@@ -113,21 +113,6 @@ fn blocks_have_the_squares_and_the_ranges_of_their_heights(rt: HostRuntime) {
     have_squares_and_ranges(&rt, &SQUARES);
 }
 
-// The blocks are those of these points, a level above those of points alone.
-fn are_blocks_of(rt: &impl Abort, blocks: &[Block], corners: &[(u32, u32)]) {
-    for (block, corner) in blocks.iter().zip(corners) {
-        assert_eq!(rt; *block, block_of(rt, *corner, 1));
-    }
-}
-
-#[test]
-fn children_come_in_the_order_of_their_codes(rt: HostRuntime) {
-    let block = Block::of_point(point(&rt, (5, 3)), POINT_LEVEL - 2);
-    are_blocks_of(&rt, &block.children(), &[(4, 0), (6, 0), (4, 2), (6, 2)]);
-    let first = Block::of_point(point(&rt, (7, 1)), POINT_LEVEL - 1);
-    assert_eq!(rt; (first.parent(), Block::root().level), (block, 0));
-}
-
 static HELD: [((u32, u32), u8, (u32, u32), u8, bool); 8] = [
     ((5, 3), 2, (5, 3), 2, true),
     ((5, 3), 2, (7, 0), 1, true),
@@ -151,19 +136,4 @@ fn are_held(rt: &impl Abort, cases: &[((u32, u32), u8, (u32, u32), u8, bool)]) {
 #[test]
 fn a_block_holds_what_lies_inside_it(rt: HostRuntime) {
     are_held(&rt, &HELD);
-}
-
-#[test]
-fn blocks_are_in_order_by_code_and_then_by_level(rt: HostRuntime) {
-    let small = Block {
-        z: 16,
-        level: POINT_LEVEL,
-    };
-    let large = Block {
-        z: 16,
-        level: POINT_LEVEL - 2,
-    };
-    let next = Block { z: 17, level: 0 };
-    assert!(rt; large < small && small < next);
-    assert_eq!(rt; [next, small, large].iter().min(), Some(&large));
 }

@@ -1,8 +1,7 @@
-// A tree of bounds in a table, as a hierarchy whose calls can be refused.
-ghost use Rattle.std.specs.Prelude.{◌≡◌, [], Some, None, if◌then◌else◌, IfErr, sum_by};
+// A tree of bounds in a table, as a hierarchy.
+ghost use Rattle.std.specs.Prelude.{◌≡◌, [], Some, None, if◌then◌else◌, sum_by};
 ghost use Rattle.std.proofs.lemmas.Map.Lookups.{exact_unsigned};
 ghost use Rattle.sand_base.specs.declared.visit.Visit.TheVariants as visit;
-ghost use Rattle.page_pool.specs.declared.fault.PageFault.TheVariants.{Memory};
 ghost use Rattle.best_first.specs.Item.{node_if_any};
 
 use best_first::{Hierarchy, Item};
@@ -10,7 +9,6 @@ use exact_frac::Frac;
 use page_pool::{Desk, Disk, PageFault};
 use sand_base::Visit;
 use std::alloc::Global;
-use std::cell::Cell;
 
 // An item that a node lists, under its squared distance: a node by its number, a rough object or a row by its id.
 #[derive(Clone, Copy)]
@@ -84,44 +82,21 @@ fn item(entry: Entry) -> (Item<u32>, u32)
     }
 }
 
-// The table, with the nodes that turn their items round, whether rows farther than 2 are left out, and which calls
-// are refused.
+// The table, with the nodes that turn their items round, and whether rows farther than 2 are left out.
 #[derive(Drop)]
 pub struct Table {
     turned: u16,
     is_near: bool,
-    refused: [u64; 2],
     root_gap: Frac,
-    calls: Cell<u64>,
 }
 
 impl Table {
-    pub fn new(turned: u16, is_near: bool, refused: [u64; 2]) -> Table {
+    pub fn new(turned: u16, is_near: bool) -> Table {
         Table {
             turned,
             is_near,
-            refused,
             root_gap: whole(0),
-            calls: Cell::new(0),
         }
-    }
-
-    // How often a node was to be expanded or a rough object to be resolved.
-    pub fn calls(&self) -> u64 {
-        self.calls.get()
-    }
-
-    // Begins a call, which is refused from the first number to the last.
-    fn begin(&self) -> Result<(), PageFault>
-        ensures { IfErr result (λ fault. fault ≡ Memory) }
-    {
-        let call = self.calls.get().saturating_add(1);
-        self.calls.set(call);
-        let [first, last] = self.refused;
-        if first <= call && call <= last {
-            return Err(PageFault::Memory);
-        }
-        Ok(())
     }
 
     // What the node lists, in the order that the table is to have.
@@ -177,10 +152,6 @@ impl Hierarchy for Table {
         _near: &mut (),
         found: &mut Vec<Item<u32>>,
     ) -> Result<(), PageFault> {
-        match self.begin() {
-            Ok(()) => {}
-            Err(fault) => return Err(fault),
-        }
         let Some((first, second)) = self.finds(node) else {
             return Err(PageFault::Memory);
         };
@@ -202,10 +173,7 @@ impl Hierarchy for Table {
         left: u32,
         _right: u32,
     ) -> Result<Frac, PageFault> {
-        match self.begin() {
-            Ok(()) => Ok(whole(exact(left))),
-            Err(fault) => Err(fault),
-        }
+        Ok(whole(exact(left)))
     }
 
     ghost exact = { exact_unsigned };
