@@ -7,9 +7,8 @@ use Rattle.page_pool.specs.Pool.{PoolState}
 use Rattle.page_pool.specs.Desk.{DeskState}
 use Rattle.page_pool.specs.Reads.{IsRead}
 use Rattle.page_pool.specs.Steps.{IsRead-refl, IsRead-trans}
-use Rattle.page_pool.specs.Causes.{HasPageCause}
+use Rattle.page_pool.specs.Causes.{HasPageCause, failures_at, failures_of}
 use Rattle.page_pool.specs.declared.fault.PageFault.{PageFault}
-use Rattle.page_pool.specs.declared.fault.PageFault.TheVariants.{Memory, Device, Damaged}
 use Rattle.rank_queue.specs.Least.{IsFirst}
 use Rattle.best_first.specs.declared.hit.Hit.{Hit}
 use Rattle.best_first.specs.declared.item.Item.{Item}
@@ -36,10 +35,8 @@ pub told_read : (old new : DeskState) → IsRead old.pool new.pool → told_page
 told_read old new r = ap₂ (λ (t : Bool) (p : PageMap). if t then Some p else None) r.told r.pages
 
 -- a refusal has its cause in the whole call where the calls before it were accepted
-pub cause_later : {T U : Type 0} (old mid new : PoolState) (fault : PageFault) → mid.disk.faults ≡ old.disk.faults → HasPageCause {T = T} mid new (Err fault) → HasPageCause {T = U} old new (Err fault)
-cause_later {T} {U} old mid new Memory e h = record { counted = h.counted ∙ e; damaged = h.damaged }
-cause_later {T} {U} old mid new Device e h = record { counted = h.counted ∙ ap Rattle.sand_base.specs.Faults.next_count e; damaged = h.damaged }
-cause_later {T} {U} old mid new (Damaged page kept read) e h = record { counted = h.counted ∙ e; damaged = h.damaged }
+pub cause_later : {T U : Type 0} (old mid new : PoolState) (fault : PageFault) → failures_of mid ≡ failures_of old → HasPageCause {T = T} mid new (Err fault) → HasPageCause {T = U} old new (Err fault)
+cause_later old mid new fault e h = record { counted = h.counted ∙ ap (λ n. failures_at n fault) e; damaged = h.damaged }
 
 pub all_over : (pages : Option PageMap) (C : PageMap → Type 0) → ((p : PageMap) → C p) → IfSome pages C
 all_over None C f = tt

@@ -1,7 +1,7 @@
 -- How a replay ends: its changes are carried out, or it stops, for a cause.
 use Rattle.std.specs.Prelude.{◌≡◌, ◌⊎◌, ℕ, List, [], ◌∷◌, ◌++◌, map, IsTrue, Result, Ok, Err, ⊤}
 use Rattle.std.specs.List.{AllByRecursion}
-use Rattle.page_pool.specs.Causes.{IsDamage}
+use Rattle.page_pool.specs.Causes.{IsDamage, failures_of}
 use Rattle.page_pool.specs.Pool.{PoolState}
 use Rattle.sand_base.specs.Faults.{next_count}
 use Rattle.sand_journal.specs.ChangeBody.{ChangeValue, IsChange, body_of}
@@ -38,23 +38,23 @@ IsLacking catalog name encodings fault.Memory = ⊤
 IsLacking catalog name encodings fault.Bad = LacksRowsFor catalog name encodings
 IsLacking catalog name encodings _ = ⊥
 
--- A change's answer has its cause: the disk's count rises by one at Device and else stays, and a page is damaged at Damaged; the tape isn't blamed.
+-- A change's answer has its cause: the disk's count rises by one at Device, that of damaged pages by one at Damaged, and neither else; a page is damaged at Damaged; the tape isn't blamed.
 abbrev pub HasChangeCause : {T : Type 0} → PoolState → PoolState → Result T ReplayFault → Type 0
-HasChangeCause old new (Ok _) = new.disk.faults ≡ old.disk.faults
-HasChangeCause old new (Err fault.Memory) = new.disk.faults ≡ old.disk.faults
+HasChangeCause old new (Ok _) = failures_of new ≡ failures_of old
+HasChangeCause old new (Err fault.Memory) = failures_of new ≡ failures_of old
 HasChangeCause old new (Err fault.Tape) = ⊥
-HasChangeCause old new (Err fault.Bad) = new.disk.faults ≡ old.disk.faults
-HasChangeCause old new (Err fault.Device) = new.disk.faults ≡ next_count old.disk.faults
-HasChangeCause old new (Err fault.Damaged) = (new.disk.faults ≡ old.disk.faults) × SomeDamage new
+HasChangeCause old new (Err fault.Bad) = failures_of new ≡ failures_of old
+HasChangeCause old new (Err fault.Device) = failures_of new ≡ (next_count old.disk.faults, old.damages)
+HasChangeCause old new (Err fault.Damaged) = (failures_of new ≡ (old.disk.faults, next_count old.damages)) × SomeDamage new
 
--- A replay's answer has its cause: the tape's count rises by one at Tape, the disk's at Device, and a page is damaged at Damaged.
+-- A replay's answer has its cause: the tape's count rises by one at Tape, the disk's at Device, and that of damaged pages at Damaged, where a page is damaged; none of them rises else.
 abbrev pub HasReplayCause : {T : Type 0} → TapeView → TapeView → PoolState → PoolState → Result T ReplayFault → Type 0
-HasReplayCause tape tape' old new (Ok _) = (tape'.faults ≡ tape.faults) × (new.disk.faults ≡ old.disk.faults)
-HasReplayCause tape tape' old new (Err fault.Memory) = (tape'.faults ≡ tape.faults) × (new.disk.faults ≡ old.disk.faults)
-HasReplayCause tape tape' old new (Err fault.Tape) = (tape'.faults ≡ next_count tape.faults) × (new.disk.faults ≡ old.disk.faults)
-HasReplayCause tape tape' old new (Err fault.Bad) = (tape'.faults ≡ tape.faults) × (new.disk.faults ≡ old.disk.faults)
-HasReplayCause tape tape' old new (Err fault.Device) = (tape'.faults ≡ tape.faults) × (new.disk.faults ≡ next_count old.disk.faults)
-HasReplayCause tape tape' old new (Err fault.Damaged) = (tape'.faults ≡ tape.faults) × (new.disk.faults ≡ old.disk.faults) × SomeDamage new
+HasReplayCause tape tape' old new (Ok _) = (tape'.faults ≡ tape.faults) × (failures_of new ≡ failures_of old)
+HasReplayCause tape tape' old new (Err fault.Memory) = (tape'.faults ≡ tape.faults) × (failures_of new ≡ failures_of old)
+HasReplayCause tape tape' old new (Err fault.Tape) = (tape'.faults ≡ next_count tape.faults) × (failures_of new ≡ failures_of old)
+HasReplayCause tape tape' old new (Err fault.Bad) = (tape'.faults ≡ tape.faults) × (failures_of new ≡ failures_of old)
+HasReplayCause tape tape' old new (Err fault.Device) = (tape'.faults ≡ tape.faults) × (failures_of new ≡ (next_count old.disk.faults, old.damages))
+HasReplayCause tape tape' old new (Err fault.Damaged) = (tape'.faults ≡ tape.faults) × (failures_of new ≡ (old.disk.faults, next_count old.damages)) × SomeDamage new
 
 -- A replay carried out the changes of all records that a journal hadn't passed, and the journal has passed them now.
 pub record IsReplayed {T : Type 0} (seen : T → TapeView) (journal journal' : Journal T) (store store' : StoreState) : Type 0 where

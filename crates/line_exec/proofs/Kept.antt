@@ -1,11 +1,13 @@
 -- What a line does to a journal, and why it ends a run: the steps of the proofs.
-use Rattle.std.proofs.Common.{◌≡◌, ℕ, ◌+◌, ◌≤◌, Bool, List, [], ◌∷◌, Option, Some, None, true≢false, refl, sym, arith}
-use Rattle.std.specs.Prelude.{Result, Ok, Err, IfOk, IfErr, OnOk, OnErr, IsOk, is_some}
+use Rattle.std.proofs.Common.{◌≡◌, ℕ, ◌+◌, ◌≤◌, ◌∙◌, Bool, true, false, List, [], ◌∷◌, Option, Some, None, true≢false, refl, sym, ap, subst, arith}
+use Rattle.std.specs.Prelude.{Result, Ok, Err, IfOk, IfErr, OnOk, OnErr, IsOk, is_err, is_some}
 use Rattle.output_text.specs.Writing.{WritesPrefix}
+use Rattle.page_pool.specs.Causes.{failures_of}
 use Rattle.page_pool.specs.Pool.{PoolState}
 use Rattle.sand_base.specs.Faults.{HasCause}
 use Rattle.sand_base.specs.Streams.{Stays}
 use Rattle.sand_base.specs.declared.refusal.Refusal.{Refusal}
+use Rattle.sand_base.specs.declared.source.Failed.{Failed}
 use Rattle.sand_journal.specs.ChangeBody.{line_value}
 use Rattle.sand_journal.specs.Tape.{TapeView}
 use Rattle.sand_journal.specs.declared.journal.Journal.{Journal}
@@ -13,12 +15,14 @@ use Rattle.sand_model.specs.OutputText.{IsText}
 use Rattle.script_text.specs.InRange.{IsInRange}
 use Rattle.statements.specs.Statement.{statement_value}
 use Rattle.statements.specs.declared.statement.Statement.{Statement}
+use Rattle.sand_store.specs.Catalog.{StoreState}
 use Rattle.statement_exec.proofs.Texts.{adds_none}
+use Rattle.statement_exec.specs.Ending.{PagesHaveLineCause}
 use Rattle.statement_exec.specs.Moment.{Moment}
 use Rattle.statement_exec.specs.Performing.{line_of_answer}
 use Rattle.statement_exec.specs.declared.reply.Reply.{Reply}
 use Rattle.statement_exec.specs.declared.reply.Reply.TheVariants as reply
-use Rattle.line_exec.specs.Keeping.{HasLineCause, IsCountedAlike, IsUntold, KeepsOn, TakesUpTo, most_kept, sink_result}
+use Rattle.line_exec.specs.Keeping.{AcceptsUnfailed, HasLineCause, IsCountedAlike, IsUntold, KeepsOn, TakesUpTo, most_kept, sink_result}
 use Rattle.line_exec.specs.declared.fault.LineFault.{LineFault}
 use Rattle.line_exec.specs.declared.fault.LineFault.TheVariants as fault
 
@@ -65,8 +69,32 @@ module _ (before now : List ℕ → Type 0) (pool pool' : PoolState) (shelf shel
       → IfErr r (λ why. why ≡ fault.Journal → IsOk answer × Stays before now) → IfErr r (IsUntold before now old new)
   untold_change answer (Ok refused) counts disk count h = tt
   untold_change answer (Err fault.Sink) counts disk count h = tt
-  untold_change (Ok given) (Err fault.Journal) counts disk count h = let all = h refl in (all.1, disk counts.disk, count counts.shelf)
+  untold_change (Ok given) (Err fault.Journal) counts disk count h = let all = h refl in (all.1, disk (ap (λ (n : ℕ × ℕ). n.0) counts.failures), count counts.shelf)
   untold_change (Err why) (Err fault.Journal) counts disk count h = absurd (true≢false (sym (h refl).0))
+
+-- ---- what an accepted line found
+
+pub accepted_change : (P : Type 0) (pool pool' : PoolState) (shelf shelf' : ℕ) (answer : Result Reply Refusal) (r : Result Bool LineFault) → OnOk answer (IsCountedAlike pool pool' shelf shelf')
+    → IfOk r (λ refused. (refused ≡ is_err answer) × P) → AcceptsUnfailed pool pool' r
+accepted_change P pool pool' shelf shelf' (Ok given) (Ok false) counts w = counts.failures
+accepted_change P pool pool' shelf shelf' (Err why) (Ok false) counts w = absurd (true≢false (sym w.0))
+accepted_change P pool pool' shelf shelf' answer (Ok true) counts w = tt
+accepted_change P pool pool' shelf shelf' answer (Err why) counts w = tt
+
+-- a statement that was read behind what left the store
+pub accepted_read : (old mid new : StoreState) (done : Result Bool Failed) (r : Result Bool LineFault) → mid ≡ old → PagesHaveLineCause mid.pool new.pool done → done ≡ sink_result r
+    → AcceptsUnfailed old.pool new.pool r
+accepted_read old mid new done (Ok false) same h is =
+    let found : failures_of new.pool ≡ failures_of mid.pool = subst (λ (d : Result Bool Failed). PagesHaveLineCause mid.pool new.pool d) is h in
+    found ∙ ap (λ (s : StoreState). failures_of s.pool) same
+accepted_read old mid new done (Ok true) same h is = tt
+accepted_read old mid new done (Err why) same h is = tt
+
+-- a line that reads no page
+pub accepted_unread : (pool : PoolState) (r : Result Bool LineFault) → AcceptsUnfailed pool pool r
+accepted_unread pool (Ok false) = refl
+accepted_unread pool (Ok true) = tt
+accepted_unread pool (Err why) = tt
 
 -- ---- what a line did to a journal
 

@@ -1,5 +1,5 @@
 -- Moments that follow one another, and cursors none of which is open.
-use Rattle.std.proofs.Common.{◌≡◌, ℕ, ◌<◌, ◌≤◌, ◌∙◌, List, [], Option, None, Some, refl, sym, ap, subst, inl, inr, arith}
+use Rattle.std.proofs.Common.{◌≡◌, ℕ, ◌<◌, ◌≤◌, ◌∙◌, List, [], Option, None, Some, refl, sym, ap, subst, arith}
 use Rattle.std.specs.Prelude.{IfSome}
 use Rattle.line_meaning.specs.Carrying.{FollowsMoment}
 use Rattle.open_cursors.specs.OpenCursors.{StandAll}
@@ -10,20 +10,23 @@ use Rattle.open_cursors.specs.OverPages.{AreStanding, LeavesPages, StandOver, to
 use Rattle.open_cursors.specs.PlanCursors.{PlanAt, PlanOver}
 use Rattle.open_cursors.specs.declared.open_cursor.OpenCursor.{OpenCursor}
 use Rattle.page_pool.specs.Commands.{SettlesStamps}
+use Rattle.page_pool.specs.Causes.{failures_at}
 use Rattle.page_pool.specs.Pool.{PoolState, StampMap}
+use Rattle.page_pool.specs.declared.fault.PageFault.{PageFault}
+use Rattle.page_pool.specs.declared.fault.PageFault.TheVariants.{Memory, Device, Damaged}
 use Rattle.plan_ops.specs.declared.source.Source.{Source}
 use Rattle.plan_ops.specs.declared.stage.Stage.{Stage}
-use Rattle.sand_base.specs.Faults.{last_count}
+use Rattle.sand_base.specs.Faults.{last_count, next_count}
 use Rattle.sand_base.specs.Shelf.{Files}
 use Rattle.sand_model.specs.Cursor.{Cursor}
 use Rattle.sand_store.specs.Catalog.{CatalogView, StoreState}
-use Rattle.statement_exec.specs.Ending.{RisesByOne}
 use Rattle.statement_exec.specs.Moment.{moment_of, while_open}
 
--- a count that rises by one at most doesn't fall before its end
-rises : (before now : ℕ) → RisesByOne before now → now < last_count → before ≤ now
-rises before now (inl e) few = omega (arith, e)
-rises before now (inr e) few = omega (arith, e, few)
+-- the disk's count doesn't fall before its end where one failure at most was counted
+rises : (before now damages damages' : ℕ) (fault : PageFault) → (now, damages') ≡ failures_at (before, damages) fault → now < last_count → before ≤ now
+rises before now damages damages' Memory e few = let same : now ≡ before = ap (λ (n : ℕ × ℕ). n.0) e in omega (arith, same)
+rises before now damages damages' Device e few = let next : now ≡ next_count before = ap (λ (n : ℕ × ℕ). n.0) e in omega (arith, next, few)
+rises before now damages damages' (Damaged page kept read) e few = let same : now ≡ before = ap (λ (n : ℕ × ℕ). n.0) e in omega (arith, same)
 
 -- what is read over a store leaves a moment that follows
 pub follows_read : (old new : StoreState) (files : Option Files) (shelf : ℕ) → new.catalog ≡ old.catalog → LeavesPages old.pool new.pool
@@ -32,7 +35,7 @@ follows_read old new files shelf same left = record {
   limits = ap (λ (k : CatalogView). k.limits) same;
   told = left.told;
   files = refl;
-  disk = λ few. rises old.pool.disk.faults new.pool.disk.faults left.counted few;
+  disk = λ few. rises old.pool.disk.faults new.pool.disk.faults old.pool.damages new.pool.damages left.counted.0 left.counted.1 few;
   shelf = λ few. omega arith;
 }
 

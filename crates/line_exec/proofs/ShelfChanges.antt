@@ -23,7 +23,7 @@ over_shelf statement old new files files' shelf shelf' cs lines told count h =
 
 -- a call of the store that was accepted leaves the counts
 pub counted_alike : (old new : PoolState) (shelf shelf' : ℕ) (answer : Result Reply Refusal) → HasStoreCause old new answer → shelf' ≡ shelf → OnOk answer (IsCountedAlike old new shelf shelf')
-counted_alike old new shelf shelf' (Ok reply) cause count = record { disk = cause.counted; shelf = count }
+counted_alike old new shelf shelf' (Ok reply) cause count = record { failures = cause.counted; shelf = count }
 counted_alike old new shelf shelf' (Err why) cause count = tt
 
 -- what follows over a shelf follows over one that tells the same and counted the same

@@ -1,5 +1,6 @@
 -- What a line does to the journal that keeps its change, where there is one, and why it ends a run.
-use Rattle.std.specs.Prelude.{◌≡◌, ⊤, ℕ, ◌+◌, ◌-◌, ◌^◌, ◌≤◌, Bool, List, Option, Some, None, is_some, Result, Ok, Err, OnOk}
+use Rattle.std.specs.Prelude.{◌≡◌, ⊤, ℕ, ◌+◌, ◌-◌, ◌^◌, ◌≤◌, Bool, true, false, List, Option, Some, None, is_some, Result, Ok, Err, OnOk}
+use Rattle.page_pool.specs.Causes.{failures_of}
 use Rattle.page_pool.specs.Pool.{PoolState}
 use Rattle.sand_base.specs.Faults.{next_count}
 use Rattle.sand_base.specs.Streams.{Stays}
@@ -54,10 +55,16 @@ abbrev pub sink_result : Result Bool LineFault → Result Bool Failed
 sink_result (Ok refused) = Ok refused
 sink_result (Err why) = Err (record {})
 
--- Neither the disk's count nor the shelf's rose.
+-- Neither a count of the pool's failures nor the shelf's rose.
 pub record IsCountedAlike (old new : PoolState) (opens opens' : ℕ) : Type 0 where
-  pub disk : new.disk.faults ≡ old.disk.faults
+  pub failures : failures_of new ≡ failures_of old
   pub shelf : opens' ≡ opens
+
+-- a line that was accepted found no failed disk and no damaged page
+abbrev pub AcceptsUnfailed : PoolState → PoolState → Result Bool LineFault → Type 0
+AcceptsUnfailed old new (Ok false) = failures_of new ≡ failures_of old
+AcceptsUnfailed old new (Ok true) = ⊤
+AcceptsUnfailed old new (Err why) = ⊤
 
 -- Where the journal failed, the sink took nothing of the line, and no count but the tape's rose.
 abbrev pub IsUntold : (List ℕ → Type 0) → (List ℕ → Type 0) → Moment → Moment → LineFault → Type 0

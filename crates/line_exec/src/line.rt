@@ -8,7 +8,7 @@ ghost use Rattle.sand_model.specs.Cursor.{Cursor};
 ghost use Rattle.sand_store.specs.Contents.{database};
 ghost use Rattle.script_text.specs.declared.TheConstants.{LONGEST_LINE};
 ghost use Rattle.statement_exec.specs.Moment.{moment_of, state_with, while_open};
-ghost use Rattle.line_exec.specs.Keeping.{HasLineCause, IsUntold, KeepsOn, TakesUpTo, last_end, sink_result, tape_count};
+ghost use Rattle.line_exec.specs.Keeping.{AcceptsUnfailed, HasLineCause, IsUntold, KeepsOn, TakesUpTo, last_end, sink_result, tape_count};
 ghost use Rattle.line_exec.specs.KeptChanges.{KeepsIfAny};
 ghost use Rattle.line_exec.specs.LineCarried.{CarriesKept, LineCarried};
 
@@ -53,6 +53,7 @@ pub fn carry_line<D: Disk, H: Shelf, K: Sink, T: Tape>(
     ensures untold { IfErr result.1 (IsUntold (K.took out.old) (K.took out.new) (moment_of store (H.files shelf.old) (H.faults shelf.old))
         (moment_of result.0 (H.files shelf.new) (H.faults shelf.new))) }
     ensures cause { HasLineCause (K.faults out.old) (K.faults out.new) (tape_count T.seen journal.old) (tape_count T.seen journal.new) result.1 }
+    ensures unfailed { AcceptsUnfailed store.pool result.0.pool result.1 }
 {
     match read_line(alloc, line) {
         Ok(Some(statement)) => {

@@ -39,8 +39,8 @@ module _ (catalog : CatalogView) (cs : List Cursor) (old new : PoolState) (read 
       → early setting (state_beside catalog old.pages cs) (Next name count) ≡ None
       → IsLicensed setting (rises_between (beside cs catalog old files shelf) (beside cs' catalog new files shelf)) (state_beside catalog old.pages cs) (Next name count) w
   licensed setting files shelf cs' why.Memory o c t l e = tt
-  licensed setting files shelf cs' why.Device o c t l e = ((refl, e), rose old.disk.faults new.disk.faults c.counted l)
-  licensed setting files shelf cs' (why.Damaged n kept read') o c t l e = absurd (true≢false (sym (read.told ∙ t) ∙ c.damaged.untold))
+  licensed setting files shelf cs' why.Device o c t l e = ((refl, e), rose old.disk.faults new.disk.faults (ap (λ (n : ℕ × ℕ). n.0) c.counted) l)
+  licensed setting files shelf cs' (why.Damaged n kept read') o c t l e = absurd (true≢false (sym (read.told ∙ t) ∙ c.damaged.damage.untold))
   licensed setting files shelf cs' _ o c t l e = absurd o
 
   some_is : (a b : Refusal) → Some a ≡ Some b → a ≡ b

@@ -115,8 +115,8 @@ module _ (catalog : CatalogView) (count : ℕ) (column : Column) (goal : Point) 
       licensed : (files : Option Files) (shelf : ℕ) (setting : Setting) (w : Refusal) → IsOfPages (Some w) → IsCausedByPages old new w → IsTold old
           → new.disk.faults < last_count → May files shelf setting w
       licensed files shelf setting why.Memory o c t l = tt
-      licensed files shelf setting why.Device o c t l = ((refl, passes), rose old.disk.faults new.disk.faults c.counted l)
-      licensed files shelf setting (why.Damaged n kept read') o c t l = absurd (true≢false (sym (read.told ∙ t) ∙ c.damaged.untold))
+      licensed files shelf setting why.Device o c t l = ((refl, passes), rose old.disk.faults new.disk.faults (ap (λ (n : ℕ × ℕ). n.0) c.counted) l)
+      licensed files shelf setting (why.Damaged n kept read') o c t l = absurd (true≢false (sym (read.told ∙ t) ∙ c.damaged.damage.untold))
       licensed files shelf setting _ o c t l = absurd o
 
       -- all lines, or the first of them and a refusal

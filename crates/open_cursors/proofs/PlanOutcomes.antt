@@ -117,8 +117,8 @@ module _ (catalog : CatalogView) (cs : List Cursor) (old new : PoolState) (read 
       licensed : (files : Option Files) (shelf : ℕ) (setting : Setting) (w : Refusal) → IsOfPages (Some w) → IsCausedByPages old new w → IsTold old
           → new.disk.faults < last_count → May files shelf setting w
       licensed files shelf setting why.Memory o c t l = tt
-      licensed files shelf setting why.Device o c t l = ((refl, passes setting), rose old.disk.faults new.disk.faults c.counted l)
-      licensed files shelf setting (why.Damaged n kept read') o c t l = absurd (true≢false (sym (read.told ∙ t) ∙ c.damaged.untold))
+      licensed files shelf setting why.Device o c t l = ((refl, passes setting), rose old.disk.faults new.disk.faults (ap (λ (n : ℕ × ℕ). n.0) c.counted) l)
+      licensed files shelf setting (why.Damaged n kept read') o c t l = absurd (true≢false (sym (read.told ∙ t) ∙ c.damaged.damage.untold))
       licensed files shelf setting _ o c t l = absurd o
 
       of_end : (end : Option Refusal) → IsOfPages end → PagesHaveCause {E = Failed} old new (Ok end) → (files : Option Files) (shelf : ℕ) → IsTold old

@@ -1,10 +1,12 @@
 -- A store of which a map was taken or let go, and what a statement that reads leaves.
-use Rattle.std.proofs.Common.{◌≡◌, ℕ, refl, ◌∙◌, ap, sym, inl}
+use Rattle.std.proofs.Common.{◌≡◌, ℕ, refl, ◌∙◌, ap, sym}
+use Rattle.page_pool.specs.Causes.{failures_of}
 use Rattle.page_pool.specs.Pool.{PoolState, StampMap}
 use Rattle.page_pool.specs.Reads.{IsRead}
 use Rattle.page_pool.specs.Stamps.{KeepsMap, LetsMapGo}
+use Rattle.page_pool.specs.declared.fault.PageFault.TheVariants.{Memory}
 use Rattle.sand_store.specs.Catalog.{StoreState}
-use Rattle.statement_exec.specs.Ending.{RisesByOne}
+use Rattle.statement_exec.specs.Ending.{FailsOnceAtMost}
 use Rattle.open_cursors.specs.OverPages.{HoldsOthers, LeavesPages}
 
 -- the state with the stamps and places of another
@@ -25,13 +27,13 @@ pub leaves_held : (old new : StoreState) → HoldsOthers old new → LeavesPages
 leaves_held old new h = record {
   pages = ap (λ (q : PoolState). q.pages) h.pool;
   told = ap (λ (q : PoolState). q.disk.told) h.pool;
-  counted = inl (ap (λ (q : PoolState). q.disk.faults) h.pool);
+  counted = (Memory, ap (λ (q : PoolState). failures_of q) h.pool);
 }
 
 -- pages were read
-pub leaves_read : (old new : PoolState) → IsRead old new → RisesByOne old.disk.faults new.disk.faults → LeavesPages old new
+pub leaves_read : (old new : PoolState) → IsRead old new → FailsOnceAtMost old new → LeavesPages old new
 leaves_read old new read counted = record { pages = read.pages; told = read.told; counted = counted }
 
 -- nothing was read
 pub leaves_all : (pool : PoolState) → LeavesPages pool pool
-leaves_all pool = record { pages = refl; told = refl; counted = inl refl }
+leaves_all pool = record { pages = refl; told = refl; counted = (Memory, refl) }

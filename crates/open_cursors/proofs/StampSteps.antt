@@ -1,20 +1,21 @@
 -- The steps of an open cursor over the pages that its stamp holds, and what they leave of the store.
-use Rattle.std.proofs.Common.{◌≡◌, ℕ, Bool, true, false, List, [], Option, Some, None, refl, sym, ◌∙◌, ap, subst, true≢false}
+use Rattle.std.proofs.Common.{◌≡◌, ℕ, Bool, true, false, List, [], Option, Some, None, refl, sym, ◌∙◌, ap, subst, inl, inr, true≢false}
 use Rattle.std.specs.FinMap as map
 use Rattle.std.specs.Option.{option_map_or}
 use Rattle.std.specs.Prelude.{IfSome, IsNone, Result, Ok, Err, if◌then◌else◌, is_some}
 use Rattle.best_first.specs.Visits.{told_pages}
 use Rattle.page_pool.specs.Desk.{DeskState}
-use Rattle.page_pool.specs.Disk.{PageMap}
+use Rattle.page_pool.specs.Disk.{DigestMap, PageMap}
 use Rattle.page_pool.specs.Pool.{PoolState, Shown, StampMap, back, live_again, showing, shown_of}
 use Rattle.page_pool.specs.Reads.{IsRead}
 use Rattle.page_pool.specs.Steps.{IsClosed-read}
 use Rattle.sand_base.specs.declared.refusal.Refusal.{Refusal}
+use Rattle.sand_base.specs.declared.refusal.Refusal.TheVariants as why
 use Rattle.sand_base.specs.declared.source.Failed.{Failed}
 use Rattle.sand_model.specs.Cursor.{Cursor}
 use Rattle.sand_store.specs.Catalog.{CatalogView}
 use Rattle.sand_store.specs.Standing.{CatalogStands, IsStore}
-use Rattle.statement_exec.specs.Ending.{PagesHaveCause}
+use Rattle.statement_exec.specs.Ending.{IsCausedByPages, IsDamaged, IsMapOf, PagesHaveCause}
 use Rattle.open_cursors.proofs.ToldStamps.{told_of}
 use Rattle.open_cursors.specs.OpenCursors.{AtStamp, IsHeld, OverPages}
 use Rattle.open_cursors.specs.OverPages.{told_stamps}
@@ -91,11 +92,36 @@ store_back catalog pool new shown store read =
       stands = λ told. subst (λ (m : PageMap). CatalogStands m catalog) (sym r.pages) (store.stands (sym r.told ∙ told));
     }
 
--- a map that is shown is nothing of a fault's cause
-pub cause_back : (E : Type 0) (pool new : PoolState) (shown : Shown) (read : IsRead (showing pool shown) new) (result : Result (Option Refusal) E)
-    → PagesHaveCause (showing pool shown) new result → PagesHaveCause pool (back new) result
-cause_back E pool new shown read result h = subst (λ (p : PoolState). PagesHaveCause pool p result) (sym (back_is new (shown_of pool) read.live)) (go result h) where
+-- a page that was damaged while the map of a held stamp was shown is one of a held stamp's map once the live one is shown again
+damage_back : (pool new : PoolState) (id : ℕ) (shown : Shown) → map.get pool.stamps id ≡ Some shown → IsRead (showing pool shown) new
+    → (page : ℕ) (kept given : List ℕ) → IsDamaged new page kept given → IsDamaged (live_again new (shown_of pool)) page kept given
+damage_back pool new id shown held read page kept given h = by_map h.is_seen where
+  by_map : IsMapOf new h.seen → IsDamaged (live_again new (shown_of pool)) page kept given
+  by_map (inl is) = record {
+    seen = shown;
+    is_seen = inr (id, ap (λ (t : StampMap). map.get t id) read.stamps ∙ held);
+    damage = record {
+      kept_is = sym (ap (λ (m : Shown). map.get m.kept page) is ∙ ap (λ (k : DigestMap). map.get k page) read.kept) ∙ h.damage.kept_is;
+      read_is = h.damage.read_is;
+      differ = h.damage.differ;
+      untold = h.damage.untold;
+    };
+  }
+  by_map (inr is) = record {
+    seen = h.seen;
+    is_seen = inr is;
+    damage = record { kept_is = h.damage.kept_is; read_is = h.damage.read_is; differ = h.damage.differ; untold = h.damage.untold };
+  }
+
+-- that the map of a held stamp is shown is nothing of a fault's cause
+pub cause_back : (E : Type 0) (pool new : PoolState) (id : ℕ) (shown : Shown) (held : map.get pool.stamps id ≡ Some shown) (read : IsRead (showing pool shown) new)
+    (result : Result (Option Refusal) E) → PagesHaveCause (showing pool shown) new result → PagesHaveCause pool (back new) result
+cause_back E pool new id shown held read result h = subst (λ (p : PoolState). PagesHaveCause pool p result) (sym (back_is new (shown_of pool) read.live)) (go result h) where
+  of_refusal : (w : Refusal) → IsCausedByPages (showing pool shown) new w → IsCausedByPages pool (live_again new (shown_of pool)) w
+  of_refusal (why.Damaged page kept given) h = record { counted = h.counted; damaged = damage_back pool new id shown held read page kept given h.damaged }
+  of_refusal _ h = record { counted = h.counted; damaged = tt }
+
   go : (result : Result (Option Refusal) E) → PagesHaveCause (showing pool shown) new result → PagesHaveCause pool (live_again new (shown_of pool)) result
   go (Ok None) h = h
-  go (Ok (Some w)) h = record { counted = h.counted; damaged = h.damaged }
+  go (Ok (Some w)) h = of_refusal w h
   go (Err e) h = h

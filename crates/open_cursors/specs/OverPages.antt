@@ -5,7 +5,7 @@ use Rattle.plan_ops.specs.declared.source.Source.{Source}
 use Rattle.plan_ops.specs.declared.stage.Stage.{Stage}
 use Rattle.sand_model.specs.Cursor.{Cursor}
 use Rattle.sand_store.specs.Catalog.{StoreState}
-use Rattle.statement_exec.specs.Ending.{RisesByOne}
+use Rattle.statement_exec.specs.Ending.{FailsOnceAtMost}
 use Rattle.open_cursors.specs.OpenCursors.{AreHeld, AreNamed, StandAll}
 use Rattle.open_cursors.specs.PlanCursors.{PlanAt}
 use Rattle.open_cursors.specs.declared.open_cursor.OpenCursor.{OpenCursor}
@@ -27,8 +27,8 @@ pub record HoldsOthers (old new : StoreState) : Type 0 where
   pub catalog : new.catalog ≡ old.catalog
   pub pool : new.pool ≡ record old.pool { stamps = new.pool.stamps; places = new.pool.places }
 
--- What a statement that reads leaves: the live pages, and whether the disk tells; one fault at most was counted.
+-- What a statement that reads leaves: the live pages, and whether the disk tells; one failure at most was counted.
 pub record LeavesPages (old new : PoolState) : Type 0 where
   pub pages : new.pages ≡ old.pages
   pub told : new.disk.told ≡ old.disk.told
-  pub counted : RisesByOne old.disk.faults new.disk.faults
+  pub counted : FailsOnceAtMost old new

@@ -13,7 +13,7 @@ ghost use Rattle.sand_base.specs.Plane.{IsInPlane};
 ghost use Rattle.sand_model.specs.Cursor.{Cursor, Row as RowLine};
 ghost use Rattle.sand_model.specs.OutputText.{IsText};
 ghost use Rattle.sand_store.specs.Standing.{IsStore};
-ghost use Rattle.statement_exec.specs.Ending.{PagesHaveCause, RisesByOne};
+ghost use Rattle.statement_exec.specs.Ending.{PagesHaveCause, PagesHaveLineCause};
 ghost use Rattle.statement_exec.specs.Printing.{WritesOf};
 ghost use Rattle.statements.specs.Statement.{Far as FarFrom};
 ghost use Rattle.open_cursors.specs.FarthestLines.{BreaksFound, PrintsFarthest, WritesFound, answer_of, first_found, far_found};
@@ -130,7 +130,7 @@ pub(crate) fn far_line<D: Disk, K: Sink>(
     ensures written { (cs : List Cursor) → WritesOf (PerformsBeside (FarFrom count column.now goal) catalog.now desk.old.pool desk.new.pool cs cs) (K.took out.old) (K.took out.new) result }
     ensures stands { IsStore catalog.now desk.new.pool }
     ensures read { IsRead desk.old.pool desk.new.pool }
-    ensures cause { RisesByOne desk.old.pool.disk.faults desk.new.pool.disk.faults }
+    ensures cause { PagesHaveLineCause desk.old.pool desk.new.pool result }
     ensures sink { HasCause (K.faults out.old) (K.faults out.new) result }
 {
     let relation = column.relation.as_str();

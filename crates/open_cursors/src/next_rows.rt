@@ -7,7 +7,7 @@ ghost use Rattle.sand_base.specs.Streams.{Stays};
 ghost use Rattle.sand_model.specs.Cursor.{Cursor};
 ghost use Rattle.sand_model.specs.Database.{same_name};
 ghost use Rattle.statement_exec.specs.Causes.{BlamesNoFile};
-ghost use Rattle.statement_exec.specs.Ending.{PagesHaveCause, RisesByOne};
+ghost use Rattle.statement_exec.specs.Ending.{PagesHaveCause, PagesHaveLineCause};
 ghost use Rattle.open_cursors.specs.OpenCursors.{AnswersNext, AreHeld, AtStamp, HaveOwnNames, NextOf, StandAll, is_open, named, cursors_without, AreNamed};
 ghost use Rattle.statements.specs.Statement.{Next};
 ghost use Rattle.sand_store.specs.Catalog.{CatalogView};
@@ -90,7 +90,7 @@ pub(crate) fn next_line<S: RowSource, T: RowStage, D: Disk, K: Sink>(
     ensures catalog { result.0.catalog ≡ store.catalog }
     ensures read { IsRead store.pool result.0.pool }
     ensures held { AreHeld store.pool.stamps cursors.new.items }
-    ensures cause { RisesByOne store.pool.disk.faults result.0.pool.disk.faults }
+    ensures cause { PagesHaveLineCause store.pool result.0.pool result.1 }
     ensures sink { HasCause (K.faults out.old) (K.faults out.new) result.1 }
 {
     let (store, printed) = print_next(alloc, store, cursors, name, count, out);

@@ -10,7 +10,7 @@ ghost use Rattle.script_text.specs.InRange.{IsPlanInRange};
 ghost use Rattle.open_cursors.specs.Outcomes.{PerformsBeside};
 ghost use Rattle.statement_exec.specs.Printing.{WritesOf};
 ghost use Rattle.script_text.specs.InRange.{IsInRange};
-ghost use Rattle.statement_exec.specs.Ending.{RisesByOne};
+ghost use Rattle.statement_exec.specs.Ending.{PagesHaveLineCause};
 ghost use Rattle.open_cursors.specs.OpenCursors.{AreHeld, HaveOwnNames};
 ghost use Rattle.open_cursors.specs.Carried.{AreCounted, CarriesBeside, ChangesRelations};
 ghost use Rattle.open_cursors.specs.OverPages.{AreStanding, LeavesPages, StandOver};
@@ -42,7 +42,7 @@ fn show<D: Disk, K: Sink>(
     ensures written { (cs : List Cursor) → WritesOf (PerformsBeside (Show count (plan_value plan.now)) store.catalog store.pool result.0.pool cs cs) (K.took out.old) (K.took out.new) result.1 }
     ensures catalog { result.0.catalog ≡ store.catalog }
     ensures read { IsRead store.pool result.0.pool }
-    ensures cause { RisesByOne store.pool.disk.faults result.0.pool.disk.faults }
+    ensures cause { PagesHaveLineCause store.pool result.0.pool result.1 }
     ensures sink { HasCause (K.faults out.old) (K.faults out.new) result.1 }
 {
     let (catalog, mut desk) = store.part();
@@ -62,7 +62,7 @@ fn blocks<D: Disk, K: Sink>(
         (K.took out.old) (K.took out.new) result.1 }
     ensures catalog { result.0.catalog ≡ store.catalog }
     ensures read { IsRead store.pool result.0.pool }
-    ensures cause { RisesByOne store.pool.disk.faults result.0.pool.disk.faults }
+    ensures cause { PagesHaveLineCause store.pool result.0.pool result.1 }
     ensures sink { HasCause (K.faults out.old) (K.faults out.new) result.1 }
 {
     let (catalog, mut desk) = store.part();
@@ -83,7 +83,7 @@ fn far<D: Disk, K: Sink>(
     ensures written { (cs : List Cursor) → WritesOf (PerformsBeside (Far count column.now goal) store.catalog store.pool result.0.pool cs cs) (K.took out.old) (K.took out.new) result.1 }
     ensures catalog { result.0.catalog ≡ store.catalog }
     ensures read { IsRead store.pool result.0.pool }
-    ensures cause { RisesByOne store.pool.disk.faults result.0.pool.disk.faults }
+    ensures cause { PagesHaveLineCause store.pool result.0.pool result.1 }
     ensures sink { HasCause (K.faults out.old) (K.faults out.new) result.1 }
 {
     let (catalog, mut desk) = store.part();
@@ -108,6 +108,7 @@ pub fn read_statement<D: Disk, K: Sink>(
     ensures held { AreHeld result.0.pool.stamps cursors.new.items }
     ensures catalog { result.0.catalog ≡ store.catalog }
     ensures pages { LeavesPages store.pool result.0.pool }
+    ensures cause { PagesHaveLineCause store.pool result.0.pool result.1 }
     ensures sink { HasCause (K.faults out.old) (K.faults out.new) result.1 }
 {
     match statement {

@@ -5,7 +5,7 @@ ghost use Rattle.plan_iterator.specs.Standing.{IsAt};
 ghost use Rattle.plan_iterator.specs.Rows.{counts_of};
 ghost use Rattle.sand_base.specs.Faults.{HasCause};
 ghost use Rattle.sand_model.specs.Cursor.{Cursor};
-ghost use Rattle.statement_exec.specs.Ending.{RisesByOne};
+ghost use Rattle.statement_exec.specs.Ending.{PagesHaveLineCause};
 ghost use Rattle.open_cursors.specs.Carried.{AreRowLines, RowsOf};
 ghost use Rattle.statement_exec.specs.Printing.{WritesOf};
 ghost use Rattle.statements.specs.Plan.{plan_value};
@@ -38,7 +38,7 @@ fn rows_line<S: RowSource, T: RowStage, D: Disk, K: Sink>(
     ensures written { IfSome (told_pages desk.old) (λ pages. (c : Cursor) → IsAt S.At T.Stands T.closed (λ s. counts_of (S.seen s)) cursor.old pages c
         → WritesOf (RowsOf c count desk.old.pool desk.new.pool) (K.took out.old) (K.took out.new) result) }
     ensures read { IsRead desk.old.pool desk.new.pool }
-    ensures cause { RisesByOne desk.old.pool.disk.faults desk.new.pool.disk.faults }
+    ensures cause { PagesHaveLineCause desk.old.pool desk.new.pool result }
     ensures sink { HasCause (K.faults out.old) (K.faults out.new) result }
 {
     match print_steps(cursor, alloc, desk, count, out) {
@@ -62,7 +62,7 @@ pub(crate) fn show_line<D: Disk, K: Sink>(
     ensures written { (cs : List Cursor) → WritesOf (PerformsBeside (Show count (plan_value plan.now)) catalog.now desk.old.pool desk.new.pool cs cs) (K.took out.old) (K.took out.new) result }
     ensures stands { IsStore catalog.now desk.new.pool }
     ensures read { IsRead desk.old.pool desk.new.pool }
-    ensures cause { RisesByOne desk.old.pool.disk.faults desk.new.pool.disk.faults }
+    ensures cause { PagesHaveLineCause desk.old.pool desk.new.pool result }
     ensures sink { HasCause (K.faults out.old) (K.faults out.new) result }
 {
     match started(alloc, catalog, plan) {

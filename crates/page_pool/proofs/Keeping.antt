@@ -41,13 +41,13 @@ none_shown : (a : ArchiveState) (changes : ChangeMap) (slot : ℕ) → map.get a
 none_shown a changes slot none = get-shown a changes slot ∙ ap (option_map (shown_images a.begun changes)) none
 
 -- a stamp was taken
-pub keeps_state : (a b : ArchiveState) (staged : StagedState) (frames : CacheState) (numbers : NumbersState) (is_open : Bool) (gets refused slot : ℕ)
+pub keeps_state : (a b : ArchiveState) (staged : StagedState) (frames : CacheState) (numbers : NumbersState) (is_open : Bool) (gets damages slot : ℕ)
     → map.get a.stamps slot ≡ None → b ≡ holding a slot
-    → KeepsMap (state_of a staged frames numbers is_open gets refused) (state_of b staged frames numbers is_open gets refused) slot
-keeps_state a b staged frames numbers is_open gets refused slot none is =
-    subst (λ s. KeepsMap (state_of a staged frames numbers is_open gets refused) (state_of s staged frames numbers is_open gets refused) slot) (sym is) record {
+    → KeepsMap (state_of a staged frames numbers is_open gets damages) (state_of b staged frames numbers is_open gets damages) slot
+keeps_state a b staged frames numbers is_open gets damages slot none is =
+    subst (λ s. KeepsMap (state_of a staged frames numbers is_open gets damages) (state_of s staged frames numbers is_open gets damages) slot) (sym is) record {
       fresh = none_shown a staged.changes slot none;
-      after = ap (λ m. record (state_of a staged frames numbers is_open gets refused) { stamps = m }) (stamps_kept a staged.changes slot);
+      after = ap (λ m. record (state_of a staged frames numbers is_open gets damages) { stamps = m }) (stamps_kept a staged.changes slot);
     }
 
 -- a stamp of an earlier command was held before
@@ -97,9 +97,9 @@ places_left a b changes slot r =
     first false y z h e = absurd (true≢false (sym e))
 
 -- a stamp was let go
-pub lets_go_state : (a b : ArchiveState) (staged : StagedState) (frames : CacheState) (numbers : NumbersState) (is_open : Bool) (gets refused slot : ℕ) → Releases a b slot
-    → LetsMapGo (state_of a staged frames numbers is_open gets refused) (state_of b staged frames numbers is_open gets refused) slot
-lets_go_state a b staged frames numbers is_open gets refused slot r = record {
+pub lets_go_state : (a b : ArchiveState) (staged : StagedState) (frames : CacheState) (numbers : NumbersState) (is_open : Bool) (gets damages slot : ℕ) → Releases a b slot
+    → LetsMapGo (state_of a staged frames numbers is_open gets damages) (state_of b staged frames numbers is_open gets damages) slot
+lets_go_state a b staged frames numbers is_open gets damages slot r = record {
   after = λ i. record {
     pages = overlaid staged.changes (r.pages i);
     beginning = cond is_open (Some (r.pages i)) None;
@@ -112,7 +112,7 @@ lets_go_state a b staged frames numbers is_open gets refused slot r = record {
     frames = frames.most;
     held = frames.count + staged.count;
     gets = gets;
-    refused = refused;
+    damages = damages;
     stamps = stamps_left a b staged.changes slot r i;
     live = None;
     places = place_count b staged.changes;

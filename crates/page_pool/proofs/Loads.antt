@@ -8,9 +8,9 @@ use Rattle.page_pool.specs.declared.fault.PageFault.{PageFault}
 use Rattle.page_pool.specs.declared.fault.PageFault.TheVariants.{Memory, Device, Damaged}
 use Rattle.page_pool.specs.Disk.{DigestMap}
 use Rattle.page_pool.specs.Archive.{ArchiveState, IsArchive, IsReadArchive, IsImageDamage}
-use Rattle.page_pool.specs.Inside.{ChangeMap, StagedState, CacheState, NumbersState, IsImageOf, IsWhole, state_of, Compares, ReadsIn}
+use Rattle.page_pool.specs.Inside.{ChangeMap, StagedState, CacheState, NumbersState, IsImageOf, IsWhole, state_of, Compares, ReadsIn, damages_after}
 use Rattle.page_pool.specs.Pool.{PoolState}
-use Rattle.page_pool.specs.Causes.{faults_after, refused_after, IsDamageIfDamaged, IsNoDamage, Names}
+use Rattle.page_pool.specs.Causes.{faults_at, faults_after, failures_at, failures_after, IsDamageIfDamaged, IsNoDamage, Names}
 use Rattle.page_pool.proofs.States.{read_state}
 
 -- the damage of an image is one of its page, and names it
@@ -23,17 +23,18 @@ damage_of s kept n (Err (Damaged page digest read)) same h =
     (record { kept_is = (λ i. map.get (same i) (h.0 i)) ∙ h.1.0; read_is = h.1.1.0; differ = h.1.1.1.0; untold = h.1.1.1.1 }, h.0)
 
 -- the page is read and compared, whatever the answer
-pub compares_state : {T : Type 0} (a b : ArchiveState) (staged : StagedState) (frames frames' : CacheState) (numbers : NumbersState) (is_open : Bool) (gets refused : ℕ)
+pub compares_state : {T : Type 0} (a b : ArchiveState) (staged : StagedState) (frames frames' : CacheState) (numbers : NumbersState) (is_open : Bool) (gets damages : ℕ)
     (n : ℕ) (result : Result T PageFault)
     → IsReadArchive a b → frames'.most ≡ frames.most → b.disk.faults ≡ faults_after a.disk.faults result → IfErr result (IsImageDamage b.disk a.kept n)
-    → Compares (state_of a staged frames numbers is_open gets refused) (state_of b staged frames' numbers is_open gets refused) n result
-compares_state a b staged frames frames' numbers is_open gets refused n result read most faults damaged =
-    let cause = damage_of (state_of b staged frames' numbers is_open gets refused) a.kept n result (ap (λ s. s.kept) read.same) damaged in
+    → Compares (state_of a staged frames numbers is_open gets damages) (state_of b staged frames' numbers is_open gets damages) n result
+compares_state a b staged frames frames' numbers is_open gets damages n result read most faults damaged =
+    let cause = damage_of (state_of b staged frames' numbers is_open gets damages) a.kept n result (ap (λ s. s.kept) read.same) damaged in
     record {
-      read = read_state a b staged frames frames' numbers is_open gets gets refused refused read most;
+      read = read_state a b staged frames frames' numbers is_open gets gets damages damages read most;
       gets = refl;
-      refused = refl;
-      cause = record { counted = faults; damaged = cause.0 };
+      damages = refl;
+      faults = faults;
+      damaged = cause.0;
       named = cause.1;
     }
 
@@ -62,9 +63,17 @@ pub not_there : {X : Type 0} (o : Option (Bor X)) → is_some o ≡ false → op
 not_there None h = refl
 not_there (Some x) h = absurd (true≢false h)
 
--- a page that was read and compared, and its refusal counted
+-- a fault of the disk and a damage, each counted beside the other
+pub counted_both : {T : Type 0} (faults faults' damages damages' : ℕ) (result : Result T PageFault) → faults' ≡ faults_after faults result → damages' ≡ damages_after damages result
+    → (faults', damages') ≡ failures_after (faults, damages) result
+counted_both faults faults' damages damages' (Ok x) f d = λ i. (f i, d i)
+counted_both faults faults' damages damages' (Err Memory) f d = λ i. (f i, d i)
+counted_both faults faults' damages damages' (Err Device) f d = λ i. (f i, d i)
+counted_both faults faults' damages damages' (Err (Damaged page kept read)) f d = λ i. (f i, d i)
+
+-- a page that was read and compared, and its damage counted
 pub counted_in : {T : Type 0} (old mid new : PoolState) (n : ℕ) (result : Result T PageFault) → Compares old mid n result
-    → new ≡ record mid { refused = refused_after mid.refused result } → ReadsIn old new n result
+    → new ≡ record mid { damages = damages_after mid.damages result } → ReadsIn old new n result
 counted_in {T = T} old mid new n result h is = subst (λ s. ReadsIn old s n result) (sym is) record {
   read = record {
     pages = h.read.pages;
@@ -82,12 +91,14 @@ counted_in {T = T} old mid new n result h is = subst (λ s. ReadsIn old s n resu
     places = h.read.places;
   };
   gets = h.gets;
-  refused = ap (λ k. refused_after k result) h.refused;
-  cause = record { counted = h.cause.counted; damaged = damage_same result h.cause.damaged };
+  cause = record {
+    counted = counted_both old.disk.faults mid.disk.faults old.damages (damages_after mid.damages result) result h.faults (ap (λ k. damages_after k result) h.damages);
+    damaged = damage_same result h.damaged;
+  };
   named = h.named;
 }
   where
-    damage_same : (r : Result T PageFault) → IfErr r (IsDamageIfDamaged mid) → IfErr r (IsDamageIfDamaged (record mid { refused = refused_after mid.refused result }))
+    damage_same : (r : Result T PageFault) → IfErr r (IsDamageIfDamaged mid) → IfErr r (IsDamageIfDamaged (record mid { damages = damages_after mid.damages result }))
     damage_same (Ok x) h = tt
     damage_same (Err Memory) h = tt
     damage_same (Err Device) h = tt
@@ -98,3 +109,9 @@ pub undamaged_cause : (s : PoolState) (fault : PageFault) → IsNoDamage fault �
 undamaged_cause s Memory h = tt
 undamaged_cause s Device h = tt
 undamaged_cause s (Damaged page kept read) h = absurd h
+
+-- a refusal that is no damage counts none
+pub counted_undamaged : (faults faults' damages : ℕ) (fault : PageFault) → IsNoDamage fault → faults' ≡ faults_at faults fault → (faults', damages) ≡ failures_at (faults, damages) fault
+counted_undamaged faults faults' damages Memory h f = ap (λ n. (n, damages)) f
+counted_undamaged faults faults' damages Device h f = ap (λ n. (n, damages)) f
+counted_undamaged faults faults' damages (Damaged page kept read) h f = absurd h

@@ -88,15 +88,15 @@ module _ (a b : ArchiveState) (changes changes' : ChangeMap) (frames frames' : C
   settles_released = settles_same a.disk.told _ _ pages_released dirty_stays
       (λ q live clean. change.kept q (λ one. true≢false (sym live ∙ ap (map.contains_key (overlaid changes a.pages)) one ∙ ap is_some not_live)))
 
-  pub writes_released : (count count' gets refused : ℕ) → IsArchive a → frames'.most ≡ frames.most → ReplacesImage a b n
-      → WritesPages (state_of a record { changes = changes; count = count } frames numbers is_open gets refused)
-      (state_of b record { changes = changes'; count = count' } frames' numbers' is_open gets refused)
-  writes_released count count' gets refused old most replaces =
+  pub writes_released : (count count' gets damages : ℕ) → IsArchive a → frames'.most ≡ frames.most → ReplacesImage a b n
+      → WritesPages (state_of a record { changes = changes; count = count } frames numbers is_open gets damages)
+      (state_of b record { changes = changes'; count = count' } frames' numbers' is_open gets damages)
+  writes_released count count' gets damages old most replaces =
       let fewer : b.seen + set.len (staged_shared b.shared changes') ≤ a.seen + set.len (staged_shared a.shared changes) =
       shared_falls a.shared b.shared changes changes' n a.seen b.seen (ap is_some gone) (λ q apart. ap is_some (change_apart q apart)) replaces.shared replaces.seen in
       let pages : map.len (overlaid changes' b.pages) ≡ map.len (overlaid changes a.pages) = ap map.len pages_released in
-      writes_from (state_of a record { changes = changes; count = count } frames numbers is_open gets refused)
-      (state_of b record { changes = changes'; count = count' } frames' numbers' is_open gets refused)
+      writes_from (state_of a record { changes = changes; count = count } frames numbers is_open gets damages)
+      (state_of b record { changes = changes'; count = count' } frames' numbers' is_open gets damages)
       settles_released change.told change.given top most refl refl
       record { held = held_still a b n change changes changes'; settles = stamp_settled a b n change a.disk.told changes changes' old archive settles_released }
       refl (omega arith)
@@ -127,7 +127,7 @@ whole-forgot a changes frames frames' numbers is_open n closed forgot same_past 
   early = λ opened. absurd (true≢false (sym opened ∙ closed));
 }
 
-pub writes_nothing : (a : ArchiveState) (staged : StagedState) (frames frames' : CacheState) (numbers : NumbersState) (is_open : Bool) (gets refused : ℕ) → frames'.most ≡ frames.most
-    → WritesPages (state_of a staged frames numbers is_open gets refused) (state_of a staged frames' numbers is_open gets refused)
-writes_nothing a staged frames frames' numbers is_open gets refused most = writes_from (state_of a staged frames numbers is_open gets refused) (state_of a staged frames' numbers is_open gets refused)
+pub writes_nothing : (a : ArchiveState) (staged : StagedState) (frames frames' : CacheState) (numbers : NumbersState) (is_open : Bool) (gets damages : ℕ) → frames'.most ≡ frames.most
+    → WritesPages (state_of a staged frames numbers is_open gets damages) (state_of a staged frames' numbers is_open gets damages)
+writes_nothing a staged frames frames' numbers is_open gets damages most = writes_from (state_of a staged frames numbers is_open gets damages) (state_of a staged frames' numbers is_open gets damages)
     (Settles-refl a.disk.told _) refl refl refl most refl refl (stamps_same _ _ refl) refl (omega arith)

@@ -90,12 +90,12 @@ stamp_map a f id changes archive held stands = (elim (nat_lt f.at a.begun) as (�
       (is_map a (newest_images a) changes archive.live stands)
 ]) refl
 
-module _ (a : ArchiveState) (staged : StagedState) (frames : CacheState) (numbers : NumbersState) (is_open : Bool) (gets refused : ℕ) (whole : IsWhole a staged.changes frames numbers is_open) where
+module _ (a : ArchiveState) (staged : StagedState) (frames : CacheState) (numbers : NumbersState) (is_open : Bool) (gets damages : ℕ) (whole : IsWhole a staged.changes frames numbers is_open) where
   abbrev pages : PageMap
   pages = overlaid staged.changes a.pages
 
   -- a staged page is the page
-  pub page_staged : (n : ℕ) (page : List ℕ) → map.get staged.changes n ≡ Some (Some page) → IsPage (state_of a staged frames numbers is_open gets refused) n page
+  pub page_staged : (n : ℕ) (page : List ℕ) → map.get staged.changes n ≡ Some (Some page) → IsPage (state_of a staged frames numbers is_open gets damages) n page
   page_staged n page is =
       let here : map.get pages n ≡ Some page = get-overlaid staged.changes a.pages n ∙ ap (λ c. unwrap_or c (map.get a.pages n)) is in
       record {
@@ -117,14 +117,14 @@ module _ (a : ArchiveState) (staged : StagedState) (frames : CacheState) (number
   framed_live n page none is = kept_live n none (ap is_some (whole.newest n page is).0)
 
   -- a page in a frame is the page, if none is staged
-  pub page_framed : (n : ℕ) (page : List ℕ) → map.get staged.changes n ≡ None → map.get frames.newest n ≡ Some page → IsPage (state_of a staged frames numbers is_open gets refused) n page
+  pub page_framed : (n : ℕ) (page : List ℕ) → map.get staged.changes n ≡ None → map.get frames.newest n ≡ Some page → IsPage (state_of a staged frames numbers is_open gets damages) n page
   page_framed n page none is = record {
     told = λ told. get-unstaged a staged.changes frames numbers is_open whole n none ∙ (whole.newest n page is).1 told;
     dirty = λ dirty. absurd (true≢false (sym dirty ∙ contains-dirty staged.changes n ∙ ap is_page none));
     clean = λ _. (whole.newest n page is).0;
   }
 
-  pub loses_none : LosesNoNumber (state_of a staged frames numbers is_open gets refused)
+  pub loses_none : LosesNoNumber (state_of a staged frames numbers is_open gets damages)
   loses_none = record {
     used = λ n low high. elim (whole.numbers_now.all n low high) [
       | inl used ↦ by_change n (map.get staged.changes n) refl used

@@ -29,18 +29,18 @@ stamps_frozen a changes changes' early = stamps-alike a a changes changes' (λ i
         ap (option_map (shown_images a.begun changes')) is ∙ ap (λ m. Some m) (shown-early a.begun changes' f before ∙ sym (shown-early a.begun changes f before))
         ∙ sym (ap (option_map (shown_images a.begun changes)) is)
 
-module _ (a : ArchiveState) (staged staged' : StagedState) (frames : CacheState) (numbers : NumbersState) (is_open : Bool) (gets refused : ℕ) (opened : is_open ≡ true)
+module _ (a : ArchiveState) (staged staged' : StagedState) (frames : CacheState) (numbers : NumbersState) (is_open : Bool) (gets damages : ℕ) (opened : is_open ≡ true)
     (whole : IsWhole a staged.changes frames numbers is_open) where
   -- a staged page
   pub puts_state : (n : ℕ) (page : List ℕ) → staged'.changes ≡ map.insert staged.changes n (Some page) → map.contains_key (overlaid staged.changes a.pages) n ≡ true
       → is_gone (map.get staged.changes n) ≡ false
-      → Puts (state_of a staged frames numbers is_open gets refused) (state_of a staged' frames numbers is_open gets refused) n page
+      → Puts (state_of a staged frames numbers is_open gets damages) (state_of a staged' frames numbers is_open gets damages) n page
   puts_state n page is live there = record {
     changes = record {
       pages = ap (λ c. overlaid c a.pages) is ∙ overlaid-page staged.changes a.pages n page;
       dirty = ap dirty_of is ∙ dirty-page staged.changes n page;
       beginning = refl;
-      keeps = record { disk = refl; kept = refl; frames = refl; gets = refl; refused = refl; stamps = stamps_frozen a staged.changes staged'.changes (whole.early opened); live = refl };
+      keeps = record { disk = refl; kept = refl; frames = refl; gets = refl; damages = refl; stamps = stamps_frozen a staged.changes staged'.changes (whole.early opened); live = refl };
       places = subst (λ c. place_count a c + set.len (dirty_of staged.changes) ≤ place_count a staged.changes + set.len (set.insert (dirty_of staged.changes) n)) (sym is)
           (put_places a staged.changes n page (λ out. absurd (true≢false (sym live ∙ out))));
     };
@@ -51,13 +51,13 @@ module _ (a : ArchiveState) (staged staged' : StagedState) (frames : CacheState)
 
   -- a freed page
   pub frees_state : (n : ℕ) → staged'.changes ≡ map.insert staged.changes n None → map.contains_key (overlaid staged.changes a.pages) n ≡ true
-      → Frees (state_of a staged frames numbers is_open gets refused) (state_of a staged' frames numbers is_open gets refused) n
+      → Frees (state_of a staged frames numbers is_open gets damages) (state_of a staged' frames numbers is_open gets damages) n
   frees_state n is live = record {
     changes = record {
       pages = ap (λ c. overlaid c a.pages) is ∙ overlaid-none staged.changes a.pages n;
       dirty = ap dirty_of is ∙ dirty-none staged.changes n;
       beginning = refl;
-      keeps = record { disk = refl; kept = refl; frames = refl; gets = refl; refused = refl; stamps = stamps_frozen a staged.changes staged'.changes (whole.early opened); live = refl };
+      keeps = record { disk = refl; kept = refl; frames = refl; gets = refl; damages = refl; stamps = stamps_frozen a staged.changes staged'.changes (whole.early opened); live = refl };
       places = subst (λ c. place_count a c + set.len (dirty_of staged.changes) ≤ place_count a staged.changes + set.len (set.remove (dirty_of staged.changes) n)) (sym is)
           (freed_places a staged.changes n live);
     };
@@ -88,10 +88,10 @@ unimaged a n archive none = (
 )
 
 -- a page of zeros under a number that was taken
-pub allocates_state : (a : ArchiveState) (staged staged' : StagedState) (frames : CacheState) (numbers taken : NumbersState) (is_open : Bool) (gets refused : ℕ) (n : ℕ) → is_open ≡ true
+pub allocates_state : (a : ArchiveState) (staged staged' : StagedState) (frames : CacheState) (numbers taken : NumbersState) (is_open : Bool) (gets damages : ℕ) (n : ℕ) → is_open ≡ true
     → staged'.changes ≡ map.insert staged.changes n (Some zero_page) → TakesNumber numbers taken n → IsWhole a staged.changes frames numbers is_open
-    → Allocates (state_of a staged frames numbers is_open gets refused) (state_of a staged' frames taken is_open gets refused) n
-allocates_state a staged staged' frames numbers taken is_open gets refused n opened is takes whole =
+    → Allocates (state_of a staged frames numbers is_open gets damages) (state_of a staged' frames taken is_open gets damages) n
+allocates_state a staged staged' frames numbers taken is_open gets damages n opened is takes whole =
     let free = taken_free (is_used staged.changes a.kept) numbers taken n whole.numbers_now takes in
     let none : (map.get staged.changes n ≡ None) × (map.get a.kept n ≡ None) = unused staged.changes a.kept n free in
     let unstored = unimaged a n whole.archived none.1 in
@@ -103,7 +103,7 @@ allocates_state a staged staged' frames numbers taken is_open gets refused n ope
         pages = ap (λ c. overlaid c a.pages) is ∙ overlaid-page staged.changes a.pages n zero_page;
         dirty = ap dirty_of is ∙ dirty-page staged.changes n zero_page;
         beginning = refl;
-        keeps = record { disk = refl; kept = refl; frames = refl; gets = refl; refused = refl; stamps = stamps_frozen a staged.changes staged'.changes (whole.early opened); live = refl };
+        keeps = record { disk = refl; kept = refl; frames = refl; gets = refl; damages = refl; stamps = stamps_frozen a staged.changes staged'.changes (whole.early opened); live = refl };
         places = subst (λ c. place_count a c + set.len (dirty_of staged.changes) ≤ place_count a staged.changes + set.len (set.insert (dirty_of staged.changes) n)) (sym is)
             (put_places a staged.changes n zero_page (λ _. unstored.1));
       };
@@ -116,15 +116,15 @@ allocates_state a staged staged' frames numbers taken is_open gets refused n ope
     at false h = tt
 
 -- the changes are dropped, and the numbers are those of the beginning
-pub aborts_state : (a : ArchiveState) (staged staged' : StagedState) (frames : CacheState) (numbers numbers' : NumbersState) (is_open : Bool) (gets refused : ℕ)
+pub aborts_state : (a : ArchiveState) (staged staged' : StagedState) (frames : CacheState) (numbers numbers' : NumbersState) (is_open : Bool) (gets damages : ℕ)
     → is_open ≡ true → IsWhole a staged.changes frames numbers is_open
-    → staged'.changes ≡ map.empty → Aborts (state_of a staged frames numbers is_open gets refused) (state_of a staged' frames numbers' false gets refused)
-aborts_state a staged staged' frames numbers numbers' is_open gets refused opened whole is = record {
+    → staged'.changes ≡ map.empty → Aborts (state_of a staged frames numbers is_open gets damages) (state_of a staged' frames numbers' false gets damages)
+aborts_state a staged staged' frames numbers numbers' is_open gets damages opened whole is = record {
   pages = at is_open;
   closed = refl;
   dirty = ap dirty_of is ∙ dirty-empty;
   freed = ap freed_of is ∙ freed-empty;
-  keeps = record { disk = refl; kept = refl; frames = refl; gets = refl; refused = refl; stamps = stamps_frozen a staged.changes staged'.changes (whole.early opened); live = refl };
+  keeps = record { disk = refl; kept = refl; frames = refl; gets = refl; damages = refl; stamps = stamps_frozen a staged.changes staged'.changes (whole.early opened); live = refl };
   shown = refl;
 }
   where
@@ -136,10 +136,10 @@ aborts_state a staged staged' frames numbers numbers' is_open gets refused opene
     at false = tt
 
 -- reading changes the frames and the counts alone
-pub read_state : (a b : ArchiveState) (staged : StagedState) (frames frames' : CacheState) (numbers : NumbersState) (is_open : Bool) (gets gets' refused refused' : ℕ)
+pub read_state : (a b : ArchiveState) (staged : StagedState) (frames frames' : CacheState) (numbers : NumbersState) (is_open : Bool) (gets gets' damages damages' : ℕ)
     → IsReadArchive a b → frames'.most ≡ frames.most
-    → IsRead (state_of a staged frames numbers is_open gets refused) (state_of b staged frames' numbers is_open gets' refused')
-read_state a b staged frames frames' numbers is_open gets gets' refused refused' read most = record {
+    → IsRead (state_of a staged frames numbers is_open gets damages) (state_of b staged frames' numbers is_open gets' damages')
+read_state a b staged frames frames' numbers is_open gets gets' damages damages' read most = record {
   pages = ap (λ s. overlaid staged.changes s.pages) read.same;
   beginning = ap (λ s. cond is_open (Some s.pages) None) read.same;
   dirty = refl;

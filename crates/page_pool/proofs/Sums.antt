@@ -56,9 +56,9 @@ few_kept_images a changes archive =
 slot_low : (a : ArchiveState) (changes : ChangeMap) (id : ℕ) → IsArchive a → map.contains_key (shown_stamps a changes) id ≡ true → id < 16
 slot_low a changes id archive held = let there = some_is (map.get a.stamps id) (sym (held-shown a changes id) ∙ held) in (archive.early id there.0 there.1).0
 
-pub is_pool : (a : ArchiveState) (staged : StagedState) (frames : CacheState) (numbers : NumbersState) (is_open : Bool) (gets refused : ℕ)
-    → IsWhole a staged.changes frames numbers is_open → frames.count ≤ frames.most → staged.count ≤ set.len (dirty_of staged.changes) → IsPool (state_of a staged frames numbers is_open gets refused)
-is_pool a staged frames numbers is_open gets refused whole few_frames few_staged = record {
+pub is_pool : (a : ArchiveState) (staged : StagedState) (frames : CacheState) (numbers : NumbersState) (is_open : Bool) (gets damages : ℕ)
+    → IsWhole a staged.changes frames numbers is_open → frames.count ≤ frames.most → staged.count ≤ set.len (dirty_of staged.changes) → IsPool (state_of a staged frames numbers is_open gets damages)
+is_pool a staged frames numbers is_open gets damages whole few_frames few_staged = record {
   slots = λ id held. slot_low a staged.changes id whole.archived held;
   least = omega arith;
   most = let kept : a.seen + set.len (staged_shared a.shared staged.changes) ≤ map_sizes (shown_stamps a staged.changes) 16 = few_kept_images a staged.changes whole.archived in omega arith;

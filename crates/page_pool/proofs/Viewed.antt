@@ -54,10 +54,10 @@ read_showing s t m h = record {
 }
 
 -- a stamp that is held and not of an earlier command has the live map
-pub latest_shown : (a : ArchiveState) (staged : StagedState) (frames : CacheState) (numbers : NumbersState) (is_open : Bool) (gets refused slot : ℕ) → IsArchive a
-    → IsTrue (map.contains_key (state_of a staged frames numbers is_open gets refused).stamps slot) → option_map_or (λ f. nat_lt f.at a.begun) (map.get a.stamps slot) false ≡ false
-    → map.get (state_of a staged frames numbers is_open gets refused).stamps slot ≡ Some (shown_of (state_of a staged frames numbers is_open gets refused))
-latest_shown a staged frames numbers is_open gets refused slot archive held late =
+pub latest_shown : (a : ArchiveState) (staged : StagedState) (frames : CacheState) (numbers : NumbersState) (is_open : Bool) (gets damages slot : ℕ) → IsArchive a
+    → IsTrue (map.contains_key (state_of a staged frames numbers is_open gets damages).stamps slot) → option_map_or (λ f. nat_lt f.at a.begun) (map.get a.stamps slot) false ≡ false
+    → map.get (state_of a staged frames numbers is_open gets damages).stamps slot ≡ Some (shown_of (state_of a staged frames numbers is_open gets damages))
+latest_shown a staged frames numbers is_open gets damages slot archive held late =
     let f = some_is (map.get a.stamps slot) (sym (held-shown a staged.changes slot) ∙ held) in
     let not_early : nat_lt f.0.at a.begun ≡ false = sym (ap (λ o. option_map_or (λ f. nat_lt f.at a.begun) o false) f.1) ∙ late in
     let same : f.0 ≡ newest_images a = archive.latest slot f.0 f.1 (at_end f.0.at a.begun not_early (archive.early slot f.0 f.1).1) in
@@ -72,18 +72,18 @@ older_is a slot older = by_slot (map.get a.stamps slot) refl older
     by_slot None is h = absurd (true≢false (sym h))
     by_slot (Some f) is h = (f, (is, lt_is f.at a.begun h))
 
-module _ (a : ArchiveState) (staged : StagedState) (frames : CacheState) (numbers : NumbersState) (is_open : Bool) (gets refused slot n : ℕ) (f : ImageMap)
+module _ (a : ArchiveState) (staged : StagedState) (frames : CacheState) (numbers : NumbersState) (is_open : Bool) (gets damages slot n : ℕ) (f : ImageMap)
     (held : map.get a.stamps slot ≡ Some f) (early : f.at < a.begun) where
   abbrev state : PoolState
-  state = state_of a staged frames numbers is_open gets refused
+  state = state_of a staged frames numbers is_open gets damages
 
   -- a stamp of an earlier command shows its images
-  pub older_shown : seen_at (state_of a staged frames numbers is_open gets refused) slot ≡ showing (state_of a staged frames numbers is_open gets refused) (shown_frozen f)
+  pub older_shown : seen_at (state_of a staged frames numbers is_open gets damages) slot ≡ showing (state_of a staged frames numbers is_open gets damages) (shown_frozen f)
   older_shown = seen_is state slot (shown_frozen f) (get-shown a staged.changes slot ∙ ap (option_map (shown_images a.begun staged.changes)) held
       ∙ ap (λ m. Some m) (shown-early a.begun staged.changes f (lt_to f.at a.begun early)))
 
   -- its images are its pages
-  pub older_page : (page : List ℕ) → IsImageOf a.disk.told f.pages f.kept n page → IsPage (seen_at (state_of a staged frames numbers is_open gets refused) slot) n page
+  pub older_page : (page : List ℕ) → IsImageOf a.disk.told f.pages f.kept n page → IsPage (seen_at (state_of a staged frames numbers is_open gets damages) slot) n page
   older_page page image = subst (λ s. IsPage s n page) (sym older_shown) record {
     told = λ told. image.1 told;
     dirty = λ dirty. absurd (true≢false (sym dirty ∙ set.contains-empty nat_cmp n));
@@ -91,11 +91,11 @@ module _ (a : ArchiveState) (staged : StagedState) (frames : CacheState) (number
   }
 
   -- a page is in its map where it has an image
-  pub older_live : IsArchive a → map.contains_key (seen_at (state_of a staged frames numbers is_open gets refused) slot).pages n ≡ map.contains_key f.kept n
+  pub older_live : IsArchive a → map.contains_key (seen_at (state_of a staged frames numbers is_open gets damages) slot).pages n ≡ map.contains_key f.kept n
   older_live archive = ap (λ s. map.contains_key s.pages n) older_shown ∙ imaged_kept a f (archive.maps slot f held) n (archive.stands slot f (held, early) n)
 
   -- and it has one where it lies at a place
-  pub older_place_live : IsArchive a → map.contains_key (seen_at (state_of a staged frames numbers is_open gets refused) slot).pages n
+  pub older_place_live : IsArchive a → map.contains_key (seen_at (state_of a staged frames numbers is_open gets damages) slot).pages n
       ≡ is_some (option_and_then (λ g. map.get g.places n) (map.get a.stamps slot))
   older_place_live archive = older_live archive ∙ (archive.maps slot f held).keys n ∙ ap (λ o. is_some (option_and_then (λ g. map.get g.places n) o)) (sym held)
 

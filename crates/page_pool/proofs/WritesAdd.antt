@@ -13,7 +13,7 @@ use Rattle.page_pool.specs.Archive.{ImageMap, ArchiveState, IsArchive, Advances,
 use Rattle.page_pool.specs.Pool.{PoolState}
 use Rattle.page_pool.specs.declared.fault.PageFault.{PageFault}
 use Rattle.page_pool.specs.declared.fault.PageFault.TheVariants.{Memory}
-use Rattle.page_pool.specs.Causes.{HasPageCause, faults_after}
+use Rattle.page_pool.specs.Causes.{HasPageCause, failures_after, failures_of}
 use Rattle.page_pool.specs.Commands.{WritesPages, WritesOne, WritesAll, WritesInOrder}
 use Rattle.page_pool.specs.Inside.{ChangeMap, StagedState, CacheState, NumbersState, IsAccount, IsImageOf, IsWhole, is_used, state_of, overlaid, dirty_of, freed_of, staged_shared, shown_images}
 use Rattle.page_pool.proofs.Maps.{same}
@@ -43,7 +43,7 @@ Writes-refl s shown = record {
   top = refl;
   frames = refl;
   gets = refl;
-  refused = refl;
+  damages = refl;
   stamps = stamps_same s s refl;
   shown = shown;
   places = omega arith;
@@ -67,7 +67,7 @@ Writes-trans a b c h k = record {
   top = k.top ∙ h.top;
   frames = k.frames ∙ h.frames;
   gets = k.gets ∙ h.gets;
-  refused = k.refused ∙ h.refused;
+  damages = k.damages ∙ h.damages;
   stamps = stamps_both a b c h.told h.stamps k.stamps;
   shown = k.shown;
   places = fewer_both a.places b.places c.places h.places k.places;
@@ -150,12 +150,12 @@ none_shared shared changes none = ap set.len
     ∙ set.len-empty nat_cmp
 
 -- a pool that opened after an accepted writing
-pub writes_opened : (old : PoolState) (a b : ArchiveState) (staged : StagedState) (frames : CacheState) (numbers numbers' : NumbersState) (is_open : Bool) (gets refused : ℕ)
+pub writes_opened : (old : PoolState) (a b : ArchiveState) (staged : StagedState) (frames : CacheState) (numbers numbers' : NumbersState) (is_open : Bool) (gets damages : ℕ)
     → ((q : ℕ) → map.get staged.changes q ≡ None) → Advances a b → numbers'.top ≡ numbers.top
-    → WritesPages old (state_of a staged frames numbers is_open gets refused) → WritesPages old (state_of b staged frames numbers' true gets refused)
-writes_opened old a b staged frames numbers numbers' is_open gets refused none advances top w =
-    Writes-trans old (state_of a staged frames numbers is_open gets refused) (state_of b staged frames numbers' true gets refused) w
-    (writes_from (state_of a staged frames numbers is_open gets refused) (state_of b staged frames numbers' true gets refused)
+    → WritesPages old (state_of a staged frames numbers is_open gets damages) → WritesPages old (state_of b staged frames numbers' true gets damages)
+writes_opened old a b staged frames numbers numbers' is_open gets damages none advances top w =
+    Writes-trans old (state_of a staged frames numbers is_open gets damages) (state_of b staged frames numbers' true gets damages) w
+    (writes_from (state_of a staged frames numbers is_open gets damages) (state_of b staged frames numbers' true gets damages)
     (settles_same a.disk.told _ _ (ap (overlaid staged.changes) advances.pages) refl (λ q live clean. ap (λ m. map.get m q) advances.kept))
     (ap (λ d. d.told) advances.disk) (ap (λ d. d.given) advances.disk) top refl refl refl
     (stamps_same _ _ (stamps-alike a b staged.changes staged.changes (λ id.
@@ -197,9 +197,9 @@ none_there None h = refl
 none_there (Some x) h = absurd (true≢false h)
 
 -- the writings so far, and one more
-pub writes_more : {T : Type 0} (a b c : PoolState) (n : ℕ) (result : Result T PageFault) → WritesPages a b → b.disk.faults ≡ a.disk.faults → WritesOne b c n result
+pub writes_more : {T : Type 0} (a b c : PoolState) (n : ℕ) (result : Result T PageFault) → WritesPages a b → failures_of b ≡ failures_of a → WritesOne b c n result
     → WritesPages a c × HasPageCause a c result
-writes_more a b c n result before same one = (Writes-trans a b c before one.writes, record { counted = one.cause.counted ∙ ap (λ n. faults_after n result) same; damaged = one.cause.damaged })
+writes_more a b c n result before same one = (Writes-trans a b c before one.writes, record { counted = one.cause.counted ∙ ap (λ n. failures_after n result) same; damaged = one.cause.damaged })
 
 -- no writing is in order
 pub in_order_none : (s : PoolState) → WritesInOrder s s

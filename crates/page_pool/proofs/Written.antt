@@ -68,9 +68,9 @@ freed_is changes n freed = by_change (map.get changes n) refl (sym (contains-fre
 
 -- a writing, by what it does to the live map and to those of the stamps
 pub writes_from : (old new : PoolState) → Settles old.disk.told (shown_of old) (shown_of new) → new.disk.told ≡ old.disk.told → new.disk.given ≡ old.disk.given
-    → new.top ≡ old.top → new.frames ≡ old.frames → new.gets ≡ old.gets → new.refused ≡ old.refused
+    → new.top ≡ old.top → new.frames ≡ old.frames → new.gets ≡ old.gets → new.damages ≡ old.damages
     → SettlesStamps old new → IsNone new.live → new.places ≤ old.places → WritesPages old new
-writes_from old new live told given top frames gets refused stamps shown places = record {
+writes_from old new live told given top frames gets damages stamps shown places = record {
   lives = live.lives;
   pages = live.pages;
   dirty = live.dirty;
@@ -82,7 +82,7 @@ writes_from old new live told given top frames gets refused stamps shown places 
   top = top;
   frames = frames;
   gets = gets;
-  refused = refused;
+  damages = damages;
   stamps = stamps;
   shown = shown;
   places = places;
@@ -157,13 +157,13 @@ module _ (a b : ArchiveState) (changes : ChangeMap) (frames frames' : CacheState
       ]
 
   -- all pages are as they were
-  pub writes_spoiled : (staged : StagedState) (gets refused : ℕ) → staged.changes ≡ changes → IsArchive a → frames'.most ≡ frames.most → numbers'.top ≡ numbers.top
+  pub writes_spoiled : (staged : StagedState) (gets damages : ℕ) → staged.changes ≡ changes → IsArchive a → frames'.most ≡ frames.most → numbers'.top ≡ numbers.top
       → b.seen + set.len (staged_shared b.shared changes) ≤ a.seen + set.len (staged_shared a.shared changes)
-      → WritesPages (state_of a staged frames numbers is_open gets refused) (state_of b staged frames' numbers' is_open gets refused)
-  writes_spoiled staged gets refused is old most top fewer =
-      subst (λ c. WritesPages (state_of a (record staged { changes = c }) frames numbers is_open gets refused) (state_of b (record staged { changes = c }) frames' numbers' is_open gets refused))
+      → WritesPages (state_of a staged frames numbers is_open gets damages) (state_of b staged frames' numbers' is_open gets damages)
+  writes_spoiled staged gets damages is old most top fewer =
+      subst (λ c. WritesPages (state_of a (record staged { changes = c }) frames numbers is_open gets damages) (state_of b (record staged { changes = c }) frames' numbers' is_open gets damages))
       (sym is)
-      (writes_from (state_of a (record staged { changes = changes }) frames numbers is_open gets refused) (state_of b (record staged { changes = changes }) frames' numbers' is_open gets refused)
+      (writes_from (state_of a (record staged { changes = changes }) frames numbers is_open gets damages) (state_of b (record staged { changes = changes }) frames' numbers' is_open gets damages)
       settles_spoiled change.told change.given top most refl refl
       record { held = held_still a b n change changes changes; settles = stamp_settled a b n change a.disk.told changes changes old archive settles_spoiled }
       refl (let pages : map.len (overlaid changes b.pages) ≡ map.len (overlaid changes a.pages) = ap map.len pages_spoiled in omega arith))
@@ -262,15 +262,15 @@ module _ (a b : ArchiveState) (changes changes' : ChangeMap) (frames forgotten f
     ];
   }
 
-  pub writes_settled : (count count' gets refused : ℕ) → IsArchive a → frames'.most ≡ frames.most → ReplacesImage a b n
-      → WritesPages (state_of a record { changes = changes; count = count } frames numbers is_open gets refused)
-      (state_of b record { changes = changes'; count = count' } frames' numbers is_open gets refused)
-  writes_settled count count' gets refused old most replaces =
+  pub writes_settled : (count count' gets damages : ℕ) → IsArchive a → frames'.most ≡ frames.most → ReplacesImage a b n
+      → WritesPages (state_of a record { changes = changes; count = count } frames numbers is_open gets damages)
+      (state_of b record { changes = changes'; count = count' } frames' numbers is_open gets damages)
+  writes_settled count count' gets damages old most replaces =
       let fewer : b.seen + set.len (staged_shared b.shared changes') ≤ a.seen + set.len (staged_shared a.shared changes) =
       shared_falls a.shared b.shared changes changes' n a.seen b.seen (ap is_some waits) (λ q apart. ap is_some (change_other q apart)) replaces.shared replaces.seen in
       let pages : map.len (overlaid changes' b.pages) ≤ map.len (overlaid changes a.pages) = no_more _ _ lives_settled in
-      writes_from (state_of a record { changes = changes; count = count } frames numbers is_open gets refused)
-      (state_of b record { changes = changes'; count = count' } frames' numbers is_open gets refused)
+      writes_from (state_of a record { changes = changes; count = count } frames numbers is_open gets damages)
+      (state_of b record { changes = changes'; count = count' } frames' numbers is_open gets damages)
       settles_written change.told change.given refl most refl refl
       record { held = held_still a b n change changes changes'; settles = stamp_settled a b n change a.disk.told changes changes' old archive settles_written }
       refl (omega arith)

@@ -25,12 +25,20 @@ abbrev pub faults_after : {T : Type 0} → ℕ → Result T PageFault → ℕ
 faults_after before (Ok _) = before
 faults_after before (Err fault) = faults_at before fault
 
--- the count of refused gets after a get: one more where the disk failed or the page is damaged
-abbrev pub refused_after : {T : Type 0} → ℕ → Result T PageFault → ℕ
-refused_after before (Ok _) = before
-refused_after before (Err Memory) = before
-refused_after before (Err Device) = next_count before
-refused_after before (Err (Damaged page kept read)) = next_count before
+-- what a pool counts of failures: those of its disk, and the damaged pages among those that were asked for
+abbrev pub failures_of : PoolState → ℕ × ℕ
+failures_of s = (s.disk.faults, s.damages)
+
+-- these counts after this refusal: one more failure of the disk at Device, and one more damaged page at Damaged
+abbrev pub failures_at : ℕ × ℕ → PageFault → ℕ × ℕ
+failures_at before Memory = before
+failures_at before Device = (next_count before.0, before.1)
+failures_at before (Damaged page kept read) = (before.0, next_count before.1)
+
+-- these counts after a call: the same at Ok
+abbrev pub failures_after : {T : Type 0} → ℕ × ℕ → Result T PageFault → ℕ × ℕ
+failures_after before (Ok _) = before
+failures_after before (Err fault) = failures_at before fault
 
 -- a page is damaged only where the digest kept for it differs from that of the page that the disk gave last, and the disk doesn't tell
 pub record IsDamage (s : PoolState) (page : ℕ) (kept read : List ℕ) : Type 0 where
@@ -45,9 +53,9 @@ IsDamageIfDamaged s Memory = ⊤
 IsDamageIfDamaged s Device = ⊤
 IsDamageIfDamaged s (Damaged page kept read) = IsDamage s page kept read
 
--- A call that was lent pages has its cause: the disk's count rose by one at Device and stays at any other answer, and a page is damaged where the answer says so.
+-- A call that was lent pages has its cause: the disk's count rose by one at Device, that of damaged pages by one at Damaged, and neither at any other answer; and a page is damaged where the answer says so.
 pub record HasPageCause {T : Type 0} (old new : PoolState) (result : Result T PageFault) : Type 0 where
-  pub counted : new.disk.faults ≡ faults_after old.disk.faults result
+  pub counted : failures_of new ≡ failures_after (failures_of old) result
   pub damaged : IfErr result (IsDamageIfDamaged new)
 
 -- a fault that is damage names this page

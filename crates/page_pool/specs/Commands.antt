@@ -8,13 +8,13 @@ use Rattle.page_pool.specs.Disk.{PageMap, NumberSet}
 use Rattle.page_pool.specs.Pool.{PoolState, Shown, IsLive, IsDirty, IsTold, zero_page}
 use Rattle.page_pool.specs.Causes.{HasPageCause, IsNoDamage}
 
--- what no call of a command changes: the disk, the kept digests, the frames, the numbers of gets and of refused ones, the maps of the held stamps, and which map is shown
+-- what no call of a command changes: the disk, the kept digests, the frames, the numbers of gets and of damaged pages, the maps of the held stamps, and which map is shown
 pub record KeepsDisk (old new : PoolState) : Type 0 where
   pub disk : new.disk ≡ old.disk
   pub kept : new.kept ≡ old.kept
   pub frames : new.frames ≡ old.frames
   pub gets : new.gets ≡ old.gets
-  pub refused : new.refused ≡ old.refused
+  pub damages : new.damages ≡ old.damages
   pub stamps : new.stamps ≡ old.stamps
   pub live : new.live ≡ old.live
 
@@ -91,7 +91,7 @@ pub record WritesPages (old new : PoolState) : Type 0 where
   pub top : new.top ≡ old.top
   pub frames : new.frames ≡ old.frames
   pub gets : new.gets ≡ old.gets
-  pub refused : new.refused ≡ old.refused
+  pub damages : new.damages ≡ old.damages
   pub stamps : SettlesStamps old new
   pub shown : IsNone new.live
   pub places : new.places ≤ old.places

@@ -1,6 +1,6 @@
 -- How a pool's parts make up what contracts see of it. (For proofs; no clause above speaks of it.)
 use Rattle.std.specs.Prelude.{◌≡◌, ℕ, zero, suc, ◌+◌, ◌-◌, ◌^◌, ◌≤◌, ◌<◌, List, [], ◌∷◌, length, slice_get, Bool, true, false, cond, ◌||◌, nat_eq, nat_lt, IsTrue, Option}
-use Rattle.std.specs.Prelude.{None, Some, is_some, Result, IfErr, ◌⊎◌, ⊤, refl}
+use Rattle.std.specs.Prelude.{None, Some, is_some, Result, Ok, Err, IfErr, ◌⊎◌, ⊤, refl}
 use Rattle.std.specs.FinMap as map
 use Rattle.std.specs.FinSet as set
 use Rattle.std.specs.BTreeSet as tree
@@ -8,12 +8,14 @@ use Rattle.std.specs.BTreeSet.{BTreeSet}
 use Rattle.std.specs.Option.{option_map}
 use Rattle.std.specs.Ordering.{nat_cmp}
 use Rattle.std.specs.Coded.{Coded, code_by, coded×, coded_ℕ, coded_list, coded_option, coded_bool}
+use Rattle.sand_base.specs.Faults.{next_count}
 use Rattle.sha2.specs.Sha256.{sha256}
 use Rattle.lru.specs.LruCache.{LruCache}
 use Rattle.page_pool.specs.Disk.{PageMap, DigestMap, NumberSet, DiskView}
 use Rattle.page_pool.specs.declared.fault.PageFault.{PageFault}
+use Rattle.page_pool.specs.declared.fault.PageFault.TheVariants.{Memory, Device, Damaged}
 use Rattle.page_pool.specs.Pool.{PoolState, Shown, StampMap}
-use Rattle.page_pool.specs.Causes.{HasPageCause, Names, refused_after}
+use Rattle.page_pool.specs.Causes.{HasPageCause, IsDamageIfDamaged, Names, faults_after}
 use Rattle.page_pool.specs.Reads.{IsRead}
 use Rattle.page_pool.specs.Archive.{ImageMap, ArchiveState, IsArchive, IsFrozen, StandsWritten}
 use Rattle.page_pool.specs.InsideArchive.{collected}
@@ -137,20 +139,27 @@ pub record IsAccount (in_use : ℕ → Bool) (top : ℕ) (spare : NumberSet) : T
 abbrev pub IsUnstaged : PoolState → ℕ → Type 0
 IsUnstaged s n = (set.contains s.dirty n ≡ false) × (set.contains s.freed n ≡ false)
 
+-- the count of damaged pages after a reading: one more where it found one
+abbrev pub damages_after : {T : Type 0} → ℕ → Result T PageFault → ℕ
+damages_after before (Ok _) = before
+damages_after before (Err Memory) = before
+damages_after before (Err Device) = before
+damages_after before (Err (Damaged page kept read)) = next_count before
+
 -- Page n is read in, whatever the answer, and its get was counted before: nothing else changes, and a refusal has its cause in this call and names this page.
 pub record ReadsIn {T : Type 0} (old new : PoolState) (n : ℕ) (result : Result T PageFault) : Type 0 where
   pub read : IsRead old new
   pub gets : new.gets ≡ old.gets
-  pub refused : new.refused ≡ refused_after old.refused result
   pub cause : HasPageCause old new result
   pub named : IfErr result (Names n)
 
--- Page n is read and compared, whatever the answer, and nothing is counted: nothing else changes, and a refusal has its cause in this call and names this page.
+-- Page n is read and compared, whatever the answer: nothing else changes, a refusal has its cause in this call and names this page, and no damage is counted yet.
 pub record Compares {T : Type 0} (old new : PoolState) (n : ℕ) (result : Result T PageFault) : Type 0 where
   pub read : IsRead old new
   pub gets : new.gets ≡ old.gets
-  pub refused : new.refused ≡ old.refused
-  pub cause : HasPageCause old new result
+  pub damages : new.damages ≡ old.damages
+  pub faults : new.disk.faults ≡ faults_after old.disk.faults result
+  pub damaged : IfErr result (IsDamageIfDamaged new)
   pub named : IfErr result (Names n)
 
 -- the number has a staged change or a kept digest
@@ -173,7 +182,7 @@ pool_code = code_by
     (coded× (coded× page_map_code (coded× (coded_option page_map_code) (coded× number_set_code (coded× number_set_code page_map_code))))
     (coded× (coded× coded_ℕ (coded× number_set_code disk_code))
     (coded× (coded× coded_ℕ (coded× coded_ℕ (coded× coded_ℕ coded_ℕ))) (coded× stamp_map_code (coded× (coded_option shown_code) coded_ℕ)))))
-    (λ s. ((s.pages, (s.beginning, (s.dirty, (s.freed, s.kept)))), ((s.top, (s.spare, s.disk)), ((s.frames, (s.held, (s.gets, s.refused))), (s.stamps, (s.live, s.places))))))
+    (λ s. ((s.pages, (s.beginning, (s.dirty, (s.freed, s.kept)))), ((s.top, (s.spare, s.disk)), ((s.frames, (s.held, (s.gets, s.damages))), (s.stamps, (s.live, s.places))))))
     (λ p. record {
       pages = p.0.0;
       beginning = p.0.1.0;
@@ -186,7 +195,7 @@ pool_code = code_by
       frames = p.1.1.0.0;
       held = p.1.1.0.1.0;
       gets = p.1.1.0.1.1.0;
-      refused = p.1.1.0.1.1.1;
+      damages = p.1.1.0.1.1.1;
       stamps = p.1.1.1.0;
       live = p.1.1.1.1.0;
       places = p.1.1.1.1.1;
@@ -260,7 +269,7 @@ place_count archive changes = map.len (overlaid changes archive.pages) + (archiv
 
 -- what contracts see of a pool's parts
 abbrev pub state_of : ArchiveState → StagedState → CacheState → NumbersState → Bool → ℕ → ℕ → PoolState
-state_of archive staged frames numbers is_open gets refused = record {
+state_of archive staged frames numbers is_open gets damages = record {
   pages = overlaid staged.changes archive.pages;
   beginning = cond is_open (Some archive.pages) None;
   dirty = dirty_of staged.changes;
@@ -272,7 +281,7 @@ state_of archive staged frames numbers is_open gets refused = record {
   frames = frames.most;
   held = frames.count + staged.count;
   gets = gets;
-  refused = refused;
+  damages = damages;
   stamps = shown_stamps archive staged.changes;
   live = None;
   places = place_count archive staged.changes;

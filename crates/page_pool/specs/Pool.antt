@@ -41,8 +41,8 @@ pub record PoolState : Type 0 where
   pub held : ℕ
   -- how often a page was asked for
   pub gets : ℕ
-  -- how often a page that was asked for was refused, since the disk failed or the page was damaged
-  pub refused : ℕ
+  -- how often a page that was asked for was damaged
+  pub damages : ℕ
   -- the maps of the held stamps
   pub stamps : StampMap
   -- the live map, while another is shown
@@ -146,7 +146,7 @@ new_pool disk frames = record {
   frames = frames;
   held = 0;
   gets = 0;
-  refused = 0;
+  damages = 0;
   stamps = map.empty;
   live = None;
   places = 0;

@@ -6,7 +6,7 @@ use Rattle.page_pool.specs.declared.fault.PageFault.{PageFault}
 use Rattle.page_pool.specs.declared.fault.PageFault.TheVariants.{Memory}
 use Rattle.page_pool.specs.Disk.{PageMap, NumberSet}
 use Rattle.page_pool.specs.Pool.{PoolState, Shown, IsClosed, live_again, back}
-use Rattle.page_pool.specs.Causes.{HasPageCause, faults_after}
+use Rattle.page_pool.specs.Causes.{HasPageCause, failures_after, failures_of}
 use Rattle.page_pool.specs.Reads.{IsRead}
 use Rattle.page_pool.specs.Commands.{ChangesLive}
 
@@ -101,18 +101,18 @@ back-live s none = by_live s.live none
     by_live None h = refl
     by_live (Some live) h = absurd (true≢false h)
 
--- what came before a refused call was accepted, and counted no fault
-pub HasPageCause-before : {T : Type 0} (a b c : PoolState) (result : Result T PageFault) → b.disk.faults ≡ a.disk.faults → HasPageCause b c result → HasPageCause a c result
-HasPageCause-before a b c result same h = record { counted = h.counted ∙ ap (λ n. faults_after n result) same; damaged = h.damaged }
+-- what came before a refused call was accepted, and counted no failure
+pub HasPageCause-before : {T : Type 0} (a b c : PoolState) (result : Result T PageFault) → failures_of b ≡ failures_of a → HasPageCause b c result → HasPageCause a c result
+HasPageCause-before a b c result same h = record { counted = h.counted ∙ ap (λ n. failures_after n result) same; damaged = h.damaged }
 
 -- a refusal that is passed on keeps its cause
 pub HasPageCause-passed : {T U : Type 0} (a b : PoolState) (fault : PageFault) → HasPageCause {T = T} a b (Err fault) → HasPageCause {T = U} a b (Err fault)
 HasPageCause-passed a b fault h = record { counted = h.counted; damaged = h.damaged }
 
 -- a refusal of memory is a cause of its own
-pub HasPageCause-memory : {T : Type 0} (a b : PoolState) → b.disk.faults ≡ a.disk.faults → HasPageCause {T = T} a b (Err Memory)
+pub HasPageCause-memory : {T : Type 0} (a b : PoolState) → failures_of b ≡ failures_of a → HasPageCause {T = T} a b (Err Memory)
 HasPageCause-memory a b same = record { counted = same; damaged = tt }
 
 -- an accepted call needs none
-pub HasPageCause-done : {T : Type 0} (a b : PoolState) (x : T) → b.disk.faults ≡ a.disk.faults → HasPageCause a b (Ok x)
+pub HasPageCause-done : {T : Type 0} (a b : PoolState) (x : T) → failures_of b ≡ failures_of a → HasPageCause a b (Ok x)
 HasPageCause-done a b x same = record { counted = same; damaged = tt }

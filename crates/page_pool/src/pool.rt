@@ -26,7 +26,7 @@ pub struct Pool<D: Disk> {
     numbers: Numbers,
     is_open: bool,
     gets: u64,
-    refused: u64,
+    damages: u64,
     alloc: Global,
 }
 
@@ -38,7 +38,7 @@ impl<D: Disk> Model for Pool<D> {
 
     ghost coded = { pool_code };
 
-    ghost view = { λ a. state_of a.archive a.staged a.frames a.numbers a.is_open a.gets a.refused };
+    ghost view = { λ a. state_of a.archive a.staged a.frames a.numbers a.is_open a.gets a.damages };
 
     ghost invariant = { λ a. IsWhole a.archive a.staged.changes a.frames a.numbers a.is_open };
 }
@@ -73,7 +73,7 @@ impl<D: Disk> Pool<D> {
             numbers: Numbers::new(alloc),
             is_open: false,
             gets: 0,
-            refused: 0,
+            damages: 0,
             alloc,
         })
     }
@@ -98,7 +98,7 @@ impl<D: Disk> Pool<D> {
             numbers: _,
             is_open: _,
             gets: _,
-            refused: _,
+            damages: _,
             alloc: _,
         } = self;
         archive.into_disk()

@@ -16,15 +16,9 @@ use Rattle.plan_iterator.specs.declared.answer.Answer.{Answer}
 use Rattle.plan_iterator.specs.Following.{Taking}
 use Rattle.plan_iterator.specs.Paying.{Prices}
 use Rattle.plan_iterator.specs.Stages.{Standing}
-use Rattle.plan_iterator.specs.CursorStep.{GivesStep}
+use Rattle.plan_iterator.specs.CursorStep.{GivesStep, number_after}
 use Rattle.plan_iterator.specs.PaidCalls.{AdvancesPaid, StepsPaid}
 use Rattle.plan_iterator.specs.declared.cursor.RowCursor.{RowCursor}
-
--- the number of rows after a call
-abbrev pub number_after : ℕ → Result (Option Answer) PageFault → ℕ
-number_after n (Ok (Some a)) = min (n + 1) last_count
-number_after n (Ok None) = n
-number_after n (Err fault) = n
 
 one_more : (n g after most : ℕ) → n ≡ min g most → after ≡ g + 1 → min (n + 1) most ≡ min after most
 one_more n g after most e more = omega (arith, e, more)

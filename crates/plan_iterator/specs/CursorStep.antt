@@ -1,5 +1,5 @@
 -- A call of a cursor is one step of the cursor of the model: the row, the counts, and the visits, which lie within the reach of what the source then has taken.
-use Rattle.std.specs.Prelude.{◌≡◌, ◌+◌, ◌-◌, ◌≤◌, min, true, false, cond, nat_lt, List, [], ◌∷◌, ◌++◌, length, All, Option, None, Some, Result, Ok, Err, OnOk, ⊤}
+use Rattle.std.specs.Prelude.{◌≡◌, ℕ, ◌+◌, ◌-◌, ◌≤◌, min, true, false, cond, nat_lt, List, [], ◌∷◌, ◌++◌, length, All, Option, None, Some, Result, Ok, Err, OnOk, ⊤}
 use Rattle.sand_base.specs.Faults.{last_count}
 use Rattle.sand_base.specs.declared.refusal.Refusal.{Refusal}
 use Rattle.sand_base.specs.declared.visit.Visit.{Visit}
@@ -20,6 +20,12 @@ abbrev pub GivesStep : Cursor → Result (Option Answer) PageFault → Cursor �
 GivesStep c (Ok (Some a)) after = step_of plan_measure c ≡ (Row (row_of a), after)
 GivesStep c (Ok None) after = step_of plan_measure c ≡ (End, after)
 GivesStep c (Err fault) after = (refusal : Refusal) → IsRefusedStep plan_measure c refusal after
+
+-- the number of rows given after a call: one more where a row was given, and the same at the end and after a refusal
+abbrev pub number_after : ℕ → Result (Option Answer) PageFault → ℕ
+number_after n (Ok (Some a)) = min (n + 1) last_count
+number_after n (Ok None) = n
+number_after n (Err fault) = n
 
 -- what the source has taken after the next step: what one more row needs, or the end where there is none
 abbrev pub step_taken : Cursor → Taken

@@ -8,6 +8,7 @@ ghost use Rattle.statements.specs.Plan.{Plan};
 ghost use Rattle.sand_model.specs.Reach.{no_counts};
 ghost use Rattle.best_first.specs.Visits.{told_pages};
 ghost use Rattle.plan_iterator.specs.Rows.{counts_of};
+ghost use Rattle.plan_iterator.specs.CursorStep.{number_after};
 ghost use Rattle.plan_iterator.specs.SourceSteps.{FallsAtRow, nothing_taken};
 ghost use Rattle.plan_iterator.specs.Following.{Follows, source_of, steps_of};
 ghost use Rattle.plan_iterator.specs.Paying.{prices};
@@ -48,6 +49,7 @@ impl<S: RowSource, T: RowStage> RowCursor<S, T> {
         requires stands { IfSome (told_pages desk.old) (λ pages. (c : Cursor) × IsAt S.At T.Stands T.closed (λ s. counts_of (S.seen s)) self.old pages c) }
         ensures read { IsRead desk.old.pool desk.new.pool }
         ensures cause { HasPageCause desk.old.pool desk.new.pool result }
+        ensures number { self.new.given ≡ number_after self.old.given result }
         ensures falls { FallsAtRow (steps_of S.steps T.steps self.old.operator) (steps_of S.steps T.steps self.new.operator) result }
         ensures step { IfSome (told_pages desk.old) (StepsPaid S.At T.Stands T.closed (prices S.heights S.step_price S.owed T.price T.owed)
             (λ s. counts_of (S.seen s)) self.old self.new desk.old desk.new result) }
@@ -65,6 +67,7 @@ impl<S: RowSource, T: RowStage> RowCursor<S, T> {
     /// What the source has visited, and how many rows were given. It reads no page and takes no memory.
     pub fn stats(&self) -> Stats
         ensures counts { counts_among result ≡ counts_of (S.seen (source_of self.now.operator)) }
+        ensures rows { result.rows ≡ self.now.given }
         ensures stands { (pages : PageMap) (c : Cursor) → IsAt S.At T.Stands T.closed (λ s. counts_of (S.seen s)) self.now pages c → AreStats c result }
     {
         let seen = counts_below(&self.operator);

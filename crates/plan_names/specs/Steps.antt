@@ -1,5 +1,6 @@
 -- A value of the row of an id, and how an index leads to rows with an equal value: what only proofs need.
 use Rattle.std.specs.Prelude.{◌≡◌, ℕ, ℤ, ◌+◌, ◌*◌, ◌≤◌, min, Bool, true, false, List, [], ◌∷◌, filter, filter_map, Option, None, Some, option_map, option_and_then, Result, Ok, Err}
+use Rattle.page_pool.specs.Causes.{failures_of}
 use Rattle.page_pool.specs.Disk.{PageMap}
 use Rattle.page_pool.specs.Pool.{PoolState, IsTold}
 use Rattle.page_pool.specs.Reads.{IsRead}
@@ -65,7 +66,7 @@ id_of (Err fault) = Err fault
 -- So far nothing changed, and no row with the value lies between the id from which a look-up began and the last one that the index gave.
 pub record IsLooking (l : LookUp) (v : Value) (after last : ℕ) (old now : PoolState) : Type 0 where
   pub read : IsRead old now
-  pub faults : now.disk.faults ≡ old.disk.faults
+  pub failures : failures_of now ≡ failures_of old
   pub up : min old.gets last_count ≤ now.gets
   pub reached : after ≤ last
   pub fewer : IsTold old → entries_above old.pages l v last ≤ entries_above old.pages l v after

@@ -7,6 +7,7 @@ ghost use Rattle.sand_store.specs.Contents.{database_in};
 ghost use Rattle.sand_store.specs.Standing.{CatalogStands};
 ghost use Rattle.best_first.specs.Visits.{told_pages};
 ghost use Rattle.statements.specs.Plan.{plan_value};
+ghost use Rattle.plan_iterator.specs.CursorStep.{number_after};
 ghost use Rattle.plan_iterator.specs.Standing.{AreStats};
 ghost use Rattle.plan_iterator.specs.SourceSteps.{FallsAtRow};
 ghost use Rattle.plan_ops.specs.Openable.{IsOpenable};
@@ -52,6 +53,7 @@ impl Running {
         requires stands { IfSome (told_pages desk.old) (λ pages. (c : Cursor) × RunningStandsAt self.old pages c) }
         ensures read { IsRead desk.old.pool desk.new.pool }
         ensures cause { HasPageCause desk.old.pool desk.new.pool result }
+        ensures number { self.new.cursor.given ≡ number_after self.old.cursor.given result }
         ensures falls { FallsAtRow (steps_left self.old) (steps_left self.new) result }
         ensures step { IfSome (told_pages desk.old) (TakesPaidStep self.old self.new desk.old desk.new result) }
     {

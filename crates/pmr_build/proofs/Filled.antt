@@ -2,6 +2,7 @@
 use Rattle.std.proofs.Common.{◌≡◌, ℕ, zero, suc, ◌+◌, ◌<◌, List, [], ◌∷◌, ◌++◌, length, get_or, take, sym, ◌∙◌, ap, ap₂, subst, arith}
 use Rattle.std.specs.Prelude.{Option}
 use Rattle.std.proofs.lemmas.List.{take_more}
+use Rattle.page_pool.specs.Causes.{failures_of}
 use Rattle.page_pool.specs.Pool.{PoolState, IsTold}
 use Rattle.page_pool.specs.Steps.{InCommand, InCommand-trans}
 use Rattle.code_btree.specs.Calls.{Planted, Inserted}
@@ -30,10 +31,10 @@ before_below (e ∷ es) (suc k) d h l = (above es k (omega (arith, l)) h.0, befo
 -- What holds between two entries: the tree has those before, and no other page was touched.
 pub record Filling (first now : PoolState) (t : Tree) (done : List Pair) : Type 0 where
   pub within : InCommand first now
-  pub counted : now.disk.faults ≡ first.disk.faults
+  pub counted : failures_of now ≡ failures_of first
   pub built : IsTold first → BuildsTree (pages_in first) (pages_in now) t done
 
-pub filling_start : (first now : PoolState) (t : Tree) → InCommand first now → now.disk.faults ≡ first.disk.faults → (IsTold first → Planted (pages_in first) (pages_in now) t)
+pub filling_start : (first now : PoolState) (t : Tree) → InCommand first now → failures_of now ≡ failures_of first → (IsTold first → Planted (pages_in first) (pages_in now) t)
     → Filling first now t []
 filling_start first now t within counted p = record {
   within = within;
@@ -52,7 +53,7 @@ took m w v t u key value was done below b i =
     }
 
 pub filling_next : (first now next : PoolState) (t u : Tree) (es : List Pair) (k : ℕ) (d : Pair) (was : Option ℕ) → k < length es → (IsTold first → Ascending es)
-    → Filling first now t (take k es) → InCommand now next → next.disk.faults ≡ now.disk.faults
+    → Filling first now t (take k es) → InCommand now next → failures_of next ≡ failures_of now
     → (IsTold now → Inserted (pages_in now) (pages_in next) t u (get_or es k d).0 (get_or es k d).1 was) → Filling first next u (take (k + 1) es)
 filling_next first now next t u es k d was l rise f within counted i = record {
   within = InCommand-trans first now next f.within within;

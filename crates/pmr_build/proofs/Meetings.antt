@@ -22,7 +22,7 @@ use Rattle.pmr_tree.proofs.PartSteps.{meeting_told}
 use Rattle.pmr_tree.proofs.Quarter.{child_block}
 use Rattle.pmr_tree.proofs.ShapeLaws.{some_same}
 use Rattle.pmr_build.specs.Members.{Member, IsMemberOf, TellsRows}
-use Rattle.pmr_build.specs.Parts.{IsSquareOf, AreSquares, MeetsSquares, AreNear, IsOne, AreQuartersMet}
+use Rattle.pmr_build.specs.Parts.{IsSquareOf, AreSquares, MeetsSquares, TellOverlaps, IsJustOne, AreQuartersMet}
 use Rattle.pmr_build.specs.declared.met.QuartersMet.{QuartersMet}
 use Rattle.pmr_build.specs.declared.met.Squares.{Squares}
 
@@ -81,7 +81,7 @@ corners_covered bound r s is e = go s (sym (ap figure_of is) ∙ e) where
       subst (AreCovered (first ∷ more)) same (bound_holds first more (bound_from first more) (omega arith) (omega arith) (omega arith) (omega arith))
 
 -- just one of four answers is yes, and it is the one that is left
-one_left : (n0 n1 n2 n3 q0 q1 q2 q3 : Bool) → IsOne n0 n1 n2 n3 → (n0 ≡ false → n0 ≡ q0) → (n1 ≡ false → n1 ≡ q1) → (n2 ≡ false → n2 ≡ q2) → (n3 ≡ false → n3 ≡ q3)
+one_left : (n0 n1 n2 n3 q0 q1 q2 q3 : Bool) → IsJustOne n0 n1 n2 n3 → (n0 ≡ false → n0 ≡ q0) → (n1 ≡ false → n1 ≡ q1) → (n2 ≡ false → n2 ≡ q2) → (n3 ≡ false → n3 ≡ q3)
     → (q0 || (q1 || (q2 || q3))) ≡ true → (n0 ≡ q0) × ((n1 ≡ q1) × ((n2 ≡ q2) × (n3 ≡ q3)))
 one_left true false false false q0 q1 q2 q3 one f0 f1 f2 f3 or = (only q0 q1 q2 q3 (f1 refl) (f2 refl) (f3 refl) or, (f1 refl, (f2 refl, f3 refl))) where
   only : (a b c d : Bool) → false ≡ b → false ≡ c → false ≡ d → (a || (b || (c || d))) ≡ true → true ≡ a
@@ -128,7 +128,7 @@ far_told rows m c i bound r near block told h covered square k e =
     meeting_told h.shape t.0 c r near (m c i.0) one square.0 (rejected h.shape bound r near square.1.x square.1.y covered e k) (t.1.1 c block)
 
 pub near_told : (rows : List (ℕ × Shape)) (m : Block → ℕ → Bool) (b : Block) (i : Member) (bound : Rect) (q : Squares) (near : QuartersMet) → IsBlock b → b.level < COORDINATE_BITS → TellsRows rows m
-    → (h : IsMemberOf rows i) → m b i.0 ≡ true → i.1 ≡ rough.Bound bound → AreSquares b q → AreNear bound q near → IsOne near.first near.second near.third near.fourth → AreQuartersMet m b i.0 near
+    → (h : IsMemberOf rows i) → m b i.0 ≡ true → i.1 ≡ rough.Bound bound → AreSquares b q → TellOverlaps bound q near → IsJustOne near.first near.second near.third near.fourth → AreQuartersMet m b i.0 near
 near_told rows m b i bound q near block up told h met is squares are one =
     let covered = corners_covered bound i.1 h.shape is h.rough in
     let all = one_left near.first near.second near.third near.fourth (m (child b 0) i.0) (m (child b 1) i.0) (m (child b 2) i.0) (m (child b 3) i.0) one

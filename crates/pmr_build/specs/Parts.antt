@@ -38,19 +38,19 @@ pub record MeetsSquares (s : Shape) (b : Block) (met : QuartersMet) : Type 0 whe
   pub fourth : TellsMeeting s (child b 3) met.fourth
 
 -- each square that the rectangle overlaps has the answer yes
-pub record AreNear (bound : Rect) (squares : Squares) (near : QuartersMet) : Type 0 where
+pub record TellOverlaps (bound : Rect) (squares : Squares) (near : QuartersMet) : Type 0 where
   pub first : Overlap bound squares.first → IsTrue near.first
   pub second : Overlap bound squares.second → IsTrue near.second
   pub third : Overlap bound squares.third → IsTrue near.third
   pub fourth : Overlap bound squares.fourth → IsTrue near.fourth
 
 -- just one of four answers is yes
-abbrev pub IsOne : Bool → Bool → Bool → Bool → Type 0
-IsOne true false false false = ⊤
-IsOne false true false false = ⊤
-IsOne false false true false = ⊤
-IsOne false false false true = ⊤
-IsOne _ _ _ _ = ⊥
+abbrev pub IsJustOne : Bool → Bool → Bool → Bool → Type 0
+IsJustOne true false false false = ⊤
+IsJustOne false true false false = ⊤
+IsJustOne false false true false = ⊤
+IsJustOne false false false true = ⊤
+IsJustOne _ _ _ _ = ⊥
 
 -- the four answers are those of a test of the id at the four children
 pub record AreQuartersMet (meets : Block → ℕ → Bool) (b : Block) (id : ℕ) (met : QuartersMet) : Type 0 where

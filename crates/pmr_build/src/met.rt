@@ -10,7 +10,7 @@ ghost use Rattle.z_code.specs.Block.{IsBlock};
 ghost use Rattle.z_code.specs.declared.block.Block.{Block};
 ghost use Rattle.pmr_build.specs.Members.{IsMemberOf, TellsRows};
 ghost use Rattle.ring_geom.specs.Bounding.{Overlap};
-ghost use Rattle.pmr_build.specs.Parts.{AreSquares, MeetsSquares, AreNear, IsOne, AreQuartersMet};
+ghost use Rattle.pmr_build.specs.Parts.{AreSquares, MeetsSquares, TellOverlaps, IsJustOne, AreQuartersMet};
 
 use page_pool::{PageFault, Pages};
 use pmr_tree::ShapeOf;
@@ -82,7 +82,7 @@ fn overlap(a: Rect, b: Rect) -> bool
 
 // The squares that a rectangle touches.
 fn squares_near(bound: Rect, squares: Squares) -> QuartersMet
-    ensures { AreNear bound squares result }
+    ensures { TellOverlaps bound squares result }
 {
     QuartersMet {
         first: overlap(bound, squares.first),
@@ -94,7 +94,7 @@ fn squares_near(bound: Rect, squares: Squares) -> QuartersMet
 
 // Whether just one of the four answers is yes.
 fn is_one(met: QuartersMet) -> bool
-    ensures { result ≡ true → IsOne met.first met.second met.third met.fourth }
+    ensures { result ≡ true → IsJustOne met.first met.second met.third met.fourth }
 {
     match (met.first, met.second, met.third, met.fourth) {
         (true, false, false, false) | (false, true, false, false) => true,

@@ -5,6 +5,7 @@ use Rattle.std.specs.List.{sum_by}
 use Rattle.std.proofs.lemmas.List.{take_more}
 use Rattle.std.proofs.lemmas.List.Sums.{sum_by_push, sum_by-take-le}
 use Rattle.sand_base.specs.declared.rect.Rect.{Rect}
+use Rattle.page_pool.specs.Causes.{failures_of}
 use Rattle.page_pool.specs.Pool.{PoolState, IsTold}
 use Rattle.page_pool.specs.Steps.{InCommand, InCommand-refl, InCommand-trans}
 use Rattle.code_btree.specs.Tree.{Store, pages_in}
@@ -55,7 +56,7 @@ tried_after a b level n es h same told e t = λ k.
     (subst N s (e (sym told ∙ k)), subst S s (subst L l (t (sym told ∙ k))))
 
 pub none_passed : (a : PoolState) (level : ℕ) (es : List NodeEntry) (i : Member) → PassesBy a a level 0 es i
-none_passed a level es i = record { same = refl; within = InCommand-refl a; faults = refl; lacks = λ k. tt; gets = λ k. omega arith }
+none_passed a level es i = record { same = refl; within = InCommand-refl a; failures = refl; lacks = λ k. tt; gets = λ k. omega arith }
 
 -- an entry whose rectangle doesn't hold the member's box
 pub passed_over : (a b : PoolState) (level n at : ℕ) (es : List NodeEntry) (i : Member) (e : NodeEntry) → Tried a level n es → at < length es → e ≡ get_or es at e
@@ -65,24 +66,24 @@ passed_over a b level n at es i e t lt is c p =
     record {
       same = p.same;
       within = p.within;
-      faults = p.faults;
+      failures = p.failures;
       lacks = λ k. lacks_more (pages_in a) (level - 1) at i e es lt (p.lacks k) (past_lacks (pages_in a) (level - 1) n at i e es (t k).0 (t k).1 lt (subst C is c));
       gets = λ k. omega (arith, p.gets k, ways_more (pages_in a) (level - 1) at e es (box_of i.1) lt);
     }
 
 -- an entry under which the member isn't listed
 pub passed_down : (a b d : PoolState) (level at : ℕ) (es : List NodeEntry) (i : Member) (e : NodeEntry) → at < length es → e ≡ get_or es at e → d.pages ≡ b.pages
-    → InCommand b d → d.disk.faults ≡ b.disk.faults
+    → InCommand b d → failures_of d ≡ failures_of b
     → (IsTold b → Lacks (pages_in b) (level - 1) e.child i) → covers (box_of e.rough) (box_of i.1) ≡ true
     → (IsTold b → d.gets ≤ b.gets + ways_under (pages_in b) (level - 1) e.child (box_of i.1)) → PassesBy a b level at es i → PassesBy a d level (at + 1) es i
-passed_down a b d level at es i e lt is same within faults lacks c reads p =
+passed_down a b d level at es i e lt is same within failures lacks c reads p =
     let s : pages_in b ≡ pages_in a = same_store b a p.same in
     let L : Store → Type 0 = λ x. Lacks x (level - 1) e.child i in
     let C : NodeEntry → Type 0 = λ x. Lacks (pages_in a) (level - 1) x.child i in
     record {
       same = same ∙ p.same;
       within = InCommand-trans a b d p.within within;
-      faults = faults ∙ p.faults;
+      failures = failures ∙ p.failures;
       lacks = λ k. lacks_more (pages_in a) (level - 1) at i e es lt (p.lacks k) (subst C is (subst L s (lacks (p.within.told ∙ k))));
       gets = λ k. omega (
         arith,

@@ -1,6 +1,7 @@
 -- Steps inside a writing call: single nodes written and gained, pages and members that move, and what becomes of the tree under one page.
 use Rattle.std.specs.Prelude.{◌≡◌, ◌≢◌, ℕ, suc, ◌+◌, ◌-◌, ◌≤◌, take, List, [], ◌∷◌, ◌++◌, Bool, true, map, length, Option, None, Some, IsPermutation}
 use Rattle.std.specs.List.{flat_map}
+use Rattle.page_pool.specs.Causes.{failures_of}
 use Rattle.page_pool.specs.Pool.{PoolState, IsTold}
 use Rattle.page_pool.specs.Steps.{InCommand}
 use Rattle.code_btree.specs.Items.{Each}
@@ -150,6 +151,6 @@ pub record LoneChild (m : Store) (n child : ℕ) : Type 0 where
 pub record PassesBy (old now : PoolState) (level at : ℕ) (es : List NodeEntry) (i : Member) : Type 0 where
   pub same : now.pages ≡ old.pages
   pub within : InCommand old now
-  pub faults : now.disk.faults ≡ old.disk.faults
+  pub failures : failures_of now ≡ failures_of old
   pub lacks : IsTold old → Each (λ j. j ≢ i) (members_in (pages_in old) (suc (level - 1)) (take at es))
   pub gets : IsTold old → now.gets ≤ old.gets + ways_below (pages_in old) (suc (level - 1)) (take at es) (box_of i.1)

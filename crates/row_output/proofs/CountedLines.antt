@@ -1,8 +1,9 @@
 -- Lines of rows, so many, and then one more, or the end.
-use Rattle.std.proofs.Common.{◌≡◌, ℕ, ◌+◌, ◌<◌, true, false, List, [], ◌∷◌, ◌++◌, Option, None, Some, Result, Ok, Err, refl, sym, ap, subst, ◌∙◌, arith, length-append}
+use Rattle.std.proofs.Common.{◌≡◌, ℕ, suc, ◌+◌, ◌<◌, true, false, List, [], ◌∷◌, ◌++◌, Option, None, Some, Result, Ok, Err, refl, sym, ap, subst, ◌∙◌, arith, length-append}
 use Rattle.std.specs.Prelude.{All}
 use Rattle.std.proofs.lemmas.Bool.{lt-ltb, le-ltb}
 use Rattle.std.proofs.lemmas.List.Elements.{All-nil, All-cons, All-append}
+use Rattle.sand_base.specs.Faults.{next_count}
 use Rattle.sand_base.specs.declared.source.Failed.{Failed}
 use Rattle.page_pool.specs.declared.fault.PageFault.{PageFault}
 use Rattle.sand_model.specs.Cursor as line
@@ -12,7 +13,7 @@ use Rattle.sand_model.specs.PlainLines.{AreLinesOfRows, IsPlainRow, IsPlainLine,
 use Rattle.output_text.specs.Writing.{Writes}
 use Rattle.plan_iterator.specs.Rows.{row_of}
 use Rattle.plan_iterator.specs.declared.answer.Answer.{Answer}
-use Rattle.row_output.specs.Printing.{WritesCounted}
+use Rattle.row_output.specs.Printing.{WritesCounted, number_behind}
 use Rattle.row_output.specs.Stepping.{PrintsStep}
 use Rattle.row_output.specs.declared.next.Next.{Next}
 use Rattle.row_output.specs.declared.next.Next.TheVariants as next
@@ -92,3 +93,9 @@ module _ (rows : ℕ) (before at now : List ℕ → Type 0) (s : RowsSoFar rows 
     writes_prefix s.lines (line.End ∷ []) before at now s.written w,
   )
   failed_so_far count failed few (Err fault, w) = absurd w
+
+-- the number of a cursor's rows after one more
+pub step_counted : (first before now rows : ℕ) → before ≡ number_behind first rows → now ≡ next_count before → now ≡ number_behind first (rows + 1)
+step_counted first before now rows so more =
+    let same : suc rows ≡ rows + 1 = omega arith in
+    more ∙ (ap (λ (n : ℕ). next_count n) so ∙ ap (λ (n : ℕ). number_behind first n) same)

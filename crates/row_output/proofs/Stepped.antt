@@ -19,7 +19,7 @@ use Rattle.plan_iterator.specs.declared.operator.Operator.{Operator}
 use Rattle.plan_iterator.specs.PaidCalls.{left_behind, IsAtPaid, StepsPaid}
 use Rattle.plan_iterator.specs.declared.cursor.RowCursor.{RowCursor}
 use Rattle.plan_iterator.proofs.Chained.{at_less, step_then}
-use Rattle.row_output.specs.Stepping.{PrintsStep, left_by_line, PrintsNextPaid}
+use Rattle.row_output.specs.Stepping.{CountsStep, PrintsStep, left_by_line, PrintsNextPaid}
 use Rattle.row_output.specs.declared.next.Next.{Next}
 use Rattle.row_output.specs.declared.next.Next.TheVariants.{Row, End, Refused}
 
@@ -69,3 +69,8 @@ row_broken a (Err failed) before now is w = w
 pub end_broken : (result : Result Next Failed) (before now : List ℕ → Type 0) → IsErr result → WritesPrefix (IsText (line.End ∷ [])) before now → PrintsStep (Ok None) result before now
 end_broken (Ok next) before now is w = absurd (true≢false (sym is))
 end_broken (Err failed) before now is w = w
+
+-- where the sink failed, nothing is said of the number of rows
+pub counts_broken : (before now : ℕ) (result : Result Next Failed) → IsErr result → CountsStep before now result
+counts_broken before now (Ok next) is = absurd (true≢false (sym is))
+counts_broken before now (Err failed) is = tt

@@ -1,6 +1,6 @@
 -- Some steps of a cursor with their lines, written one after the other.
-use Rattle.std.specs.Prelude.{◌≡◌, ℕ, ◌+◌, ◌-◌, ◌<◌, ◌≤◌, min, Bool, true, false, cond, nat_lt, List, [], ◌∷◌, ◌++◌, length, All, Result, Ok, Err, OnOk, ⊤}
-use Rattle.sand_base.specs.Faults.{last_count}
+use Rattle.std.specs.Prelude.{◌≡◌, ℕ, zero, suc, ◌+◌, ◌-◌, ◌<◌, ◌≤◌, min, Bool, true, false, cond, nat_lt, List, [], ◌∷◌, ◌++◌, length, All, Result, Ok, Err, OnOk, ⊤}
+use Rattle.sand_base.specs.Faults.{last_count, next_count}
 use Rattle.sand_base.specs.Streams.{Adds}
 use Rattle.sand_base.specs.declared.refusal.Refusal.{Refusal}
 use Rattle.sand_base.specs.declared.source.Failed.{Failed}
@@ -46,6 +46,17 @@ abbrev pub AreCountedLines : ℕ → Result Printed Failed → List OutputLine �
 AreCountedLines count (Ok (Rows rows end)) lines = (rows ≤ count) × (end ≡ nat_lt rows count) × AreRowsThen rows end lines
 AreCountedLines count (Ok (Refused rows fault)) lines = (rows < count) × AreLinesOfRows rows lines
 AreCountedLines count (Err failed) lines = (rows : ℕ) × (end : Bool) × (rows + cond end 1 0 ≤ count) × AreRowsThen rows end lines
+
+-- the number of a cursor's rows after so many more
+abbrev pub number_behind : ℕ → ℕ → ℕ
+number_behind before zero = before
+number_behind before (suc rows) = next_count (number_behind before rows)
+
+-- the number of a cursor's rows is as many more as lines of rows are answered
+abbrev pub CountsRows : ℕ → ℕ → Result Printed Failed → Type 0
+CountsRows before now (Ok (Rows rows end)) = now ≡ number_behind before rows
+CountsRows before now (Ok (Refused rows fault)) = now ≡ number_behind before rows
+CountsRows before now (Err failed) = ⊤
 
 -- Up to so many steps were made with these lines, none of them refused: so many rows, and the end where this is said. The last step says how much of the source was taken.
 pub record MakesSteps (c : Cursor) (count rows : ℕ) (end : Bool) (lines : List OutputLine) (after : Cursor) (last : Taken) : Type 0 where

@@ -1,5 +1,6 @@
 -- One step of a cursor, and its line.
-use Rattle.std.specs.Prelude.{◌≡◌, ℕ, Bool, List, [], ◌∷◌, Option, None, Some, Result, Ok, Err}
+use Rattle.std.specs.Prelude.{◌≡◌, ℕ, Bool, List, [], ◌∷◌, Option, None, Some, Result, Ok, Err, ⊤}
+use Rattle.sand_base.specs.Faults.{next_count}
 use Rattle.sand_base.specs.Streams.{Stays}
 use Rattle.sand_base.specs.declared.source.Failed.{Failed}
 use Rattle.page_pool.specs.Desk.{DeskState}
@@ -29,6 +30,13 @@ printed_refusal (Ok (Refused fault)) = Err fault
 printed_refusal (Ok Row) = Ok tt
 printed_refusal (Ok End) = Ok tt
 printed_refusal (Err failed) = Ok tt
+
+-- the number of a cursor's rows is one more behind the line of a row, and the same behind that of the end and after a refused step
+abbrev pub CountsStep : ℕ → ℕ → Result Next Failed → Type 0
+CountsStep before now (Ok Row) = now ≡ next_count before
+CountsStep before now (Ok End) = now ≡ before
+CountsStep before now (Ok (Refused fault)) = now ≡ before
+CountsStep before now (Err failed) = ⊤
 
 -- the line of a step was written, or a prefix of it where the sink failed; a refused step has no line yet
 abbrev pub PrintsStep : Result (Option Answer) PageFault → Result Next Failed → (List ℕ → Type 0) → (List ℕ → Type 0) → Type 0

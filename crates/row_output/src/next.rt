@@ -9,7 +9,7 @@ ghost use Rattle.plan_iterator.specs.Rows.{counts_of};
 ghost use Rattle.plan_iterator.specs.declared.answer.Answer.{Answer};
 ghost use Rattle.plan_iterator.specs.Standing.{IsAt};
 ghost use Rattle.plan_iterator.specs.Paying.{prices};
-ghost use Rattle.row_output.specs.Stepping.{PrintsNextPaid, PrintsStep, printed_refusal};
+ghost use Rattle.row_output.specs.Stepping.{CountsStep, PrintsNextPaid, PrintsStep, printed_refusal};
 
 use crate::row::print_row;
 use output_text::{LineRef, write_line};
@@ -36,6 +36,7 @@ pub fn print_next<S: RowSource, T: RowStage, D: Disk, K: Sink>(
     ensures read { IsRead desk.old.pool desk.new.pool }
     ensures refused { HasPageCause desk.old.pool desk.new.pool (printed_refusal result) }
     ensures cause { HasCause (K.faults out.old) (K.faults out.new) result }
+    ensures number { CountsStep cursor.old.given cursor.new.given result }
     ensures line { (answer : Result (Option Answer) Fault) × PrintsStep answer result (K.took out.old) (K.took out.new) }
     ensures step { IfSome (told_pages desk.old) (PrintsNextPaid S.At T.Stands T.closed (prices S.heights S.step_price S.owed T.price T.owed)
         (λ s. counts_of (S.seen s)) cursor.old cursor.new desk.old desk.new (K.took out.old) (K.took out.new) result) }

@@ -7,7 +7,7 @@ ghost use Rattle.best_first.specs.Visits.{told_pages};
 ghost use Rattle.plan_iterator.specs.Rows.{counts_of};
 ghost use Rattle.plan_iterator.specs.Standing.{IsAt};
 ghost use Rattle.plan_iterator.specs.Paying.{prices};
-ghost use Rattle.row_output.specs.Printing.{PrintsRowsPaid, WritesCounted, refusal_in};
+ghost use Rattle.row_output.specs.Printing.{CountsRows, PrintsRowsPaid, WritesCounted, refusal_in};
 
 use crate::next::{Next, print_next};
 use page_pool::{Desk, Disk, PageFault};
@@ -39,6 +39,7 @@ pub fn print_rows<S: RowSource, T: RowStage, D: Disk, K: Sink>(
     ensures read { IsRead desk.old.pool desk.new.pool }
     ensures refused { HasPageCause desk.old.pool desk.new.pool (refusal_in result) }
     ensures cause { HasCause (K.faults out.old) (K.faults out.new) result }
+    ensures number { CountsRows cursor.old.given cursor.new.given result }
     ensures lines { WritesCounted count result (K.took out.old) (K.took out.new) }
     ensures step { IfSome (told_pages desk.old) (PrintsRowsPaid S.At T.Stands T.closed (prices S.heights S.step_price S.owed T.price T.owed)
         (λ s. counts_of (S.seen s)) cursor.old cursor.new count desk.old desk.new (K.took out.old) (K.took out.new) result) }

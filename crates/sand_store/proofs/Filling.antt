@@ -5,6 +5,7 @@ use Rattle.std.specs.Prelude.{nat_le, IfSome, IsSome, Err}
 use Rattle.std.specs.List.{find}
 use Rattle.code_btree.specs.Tree.{times, live}
 use Rattle.code_btree.proofs.Lists.{live_small}
+use Rattle.page_pool.specs.Causes.{failures_of}
 use Rattle.page_pool.specs.Disk.{PageMap}
 use Rattle.page_pool.specs.Pool.{PoolState, IsTold, IsLive, IsOpen}
 use Rattle.page_pool.specs.Reads.{IsRead}
@@ -26,7 +27,7 @@ use Rattle.tuple_file.specs.Rows.{least_id_from}
 use Rattle.sand_store.specs.declared.path.AccessPath.{AccessPath}
 use Rattle.sand_store.specs.declared.path.AccessPath.TheVariants.{Quadtree}
 use Rattle.sand_store.specs.Building.{index_after, CanTake, PathTook, CanFill, Fills}
-use Rattle.sand_store.specs.Calls.{HasStoreCause, store_faults_at}
+use Rattle.sand_store.specs.Calls.{HasStoreCause, store_failures_at}
 use Rattle.sand_store.specs.Catalog.{IsPathOf}
 use Rattle.sand_store.specs.Contents.{rows_at, index_in}
 use Rattle.sand_store.specs.Standing.{TableStands}
@@ -66,8 +67,8 @@ filling_can first now read limits schema file column a b from id row k can r e t
 
 -- a step of the loop
 pub filling_next : (first now read next : PoolState) (limits : Limits) (schema : List (List ℕ × Kind)) (file : TupleFile) (column : ℕ) (a b c : AccessPath) (from id : ℕ) (row : List Value)
-    → Filling first now limits schema file column a b from → IsRead now read → read.disk.faults ≡ now.disk.faults
-    → (IsTold now → Some (id, row) ≡ find (λ r. nat_le from r.0) (rows_at now.pages schema file)) → InCommand read next → next.disk.faults ≡ read.disk.faults
+    → Filling first now limits schema file column a b from → IsRead now read → failures_of read ≡ failures_of now
+    → (IsTold now → Some (id, row) ≡ find (λ r. nat_le from r.0) (rows_at now.pages schema file)) → InCommand read next → failures_of next ≡ failures_of read
     → (IsPathOf schema (column, b) → IsPathOf schema (column, c))
     → (IsTold read → (h : CanTake read.pages limits schema file id row (column, b)) → PathTook read.pages next.pages limits schema (rows_at read.pages schema file) h.before id row column b c)
     → Filling first next limits schema file column a c (id + 1)
@@ -161,8 +162,8 @@ filling_open first now read limits schema file column a b from k r opened =
     let P : Option PageMap → Type 0 = λ o. IsSome o in
     subst P (sym (r.beginning ∙ k.within.beginning)) opened
 
-pub cause_passed : {T U : Type 0} (first now next : PoolState) (w : Refusal) → now.disk.faults ≡ first.disk.faults → HasStoreCause {T = T} now next (Err w) → HasStoreCause {T = U} first next (Err w)
-cause_passed first now next w same h = record { counted = h.counted ∙ ap (λ (n : ℕ). store_faults_at n w) same; damaged = h.damaged }
+pub cause_passed : {T U : Type 0} (first now next : PoolState) (w : Refusal) → failures_of now ≡ failures_of first → HasStoreCause {T = T} now next (Err w) → HasStoreCause {T = U} first next (Err w)
+cause_passed first now next w same h = record { counted = h.counted ∙ ap (λ (n : ℕ × ℕ). store_failures_at n w) same; damaged = h.damaged }
 
 pub row_least : (from : ℕ) (first : Option (ℕ × List Value)) (r : ℕ × List Value) → IfSome first (λ row. from ≤ row.0) → first ≡ Some r → from ≤ r.0
 row_least from first r h e = (let P : Option (ℕ × List Value) → Type 0 = λ o. IfSome o (λ row. from ≤ row.0) in subst P e h)

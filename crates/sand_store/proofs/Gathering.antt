@@ -7,6 +7,7 @@ use Rattle.std.proofs.lemmas.List.{append_assoc, append-nil, map-append}
 use Rattle.std.proofs.lemmas.List.Elements.{All-nil, All-head, All-tail, All-push, All-weaker}
 use Rattle.code_btree.specs.Tree.{same, times}
 use Rattle.code_btree.proofs.Lists.{same_cases}
+use Rattle.page_pool.specs.Causes.{failures_of}
 use Rattle.page_pool.specs.Disk.{PageMap}
 use Rattle.page_pool.specs.Pool.{PoolState, IsTold}
 use Rattle.page_pool.specs.Reads.{IsRead}
@@ -97,7 +98,7 @@ gathered_end rows column from done k e =
 -- Between two steps of the loop: nothing was changed, and where the pages are told the rows below an id are gathered.
 pub record Gathering (first now : PoolState) (schema : List (List ℕ × Kind)) (file : TupleFile) (column from : ℕ) (done : List Member) : Type 0 where
   pub read : IsRead first now
-  pub counted : now.disk.faults ≡ first.disk.faults
+  pub counted : failures_of now ≡ failures_of first
   pub midway : IsTold first → Gathered (rows_at first.pages schema file) column from done
 
 pub gathering_start : (pool : PoolState) (schema : List (List ℕ × Kind)) (file : TupleFile) (column : ℕ) → Gathering pool pool schema file column 0 []
@@ -119,7 +120,7 @@ found_first first now schema file from found r e told =
 
 -- a step of the loop
 pub gathering_next : (first now next : PoolState) (schema : List (List ℕ × Kind)) (file : TupleFile) (column from id : ℕ) (done : List Member) (row : List Value) (s : Shape) (q : Rough)
-    → Gathering first now schema file column from done → (IsTold first → TableStands first.pages schema file) → IsRead now next → next.disk.faults ≡ now.disk.faults
+    → Gathering first now schema file column from done → (IsTold first → TableStands first.pages schema file) → IsRead now next → failures_of next ≡ failures_of now
     → (IsTold now → Some (id, row) ≡ find (λ r. nat_le from r.0) (rows_at now.pages schema file)) → shape_in column row ≡ Some s → figure_of q ≡ rough_figure s
     → Gathering first next schema file column (id + 1) (done ++ (id, q) ∷ [])
 gathering_next first now next schema file column from id done row s q k table r faults e shape figure = record {

@@ -8,6 +8,7 @@ use Rattle.std.proofs.lemmas.List.{append_assoc, append-nil}
 use Rattle.std.proofs.lemmas.List.Elements.{All-nil, All-cons, All-head, All-tail, All-push, All-weaker}
 use Rattle.code_btree.specs.Tree.{times, live}
 use Rattle.code_btree.specs.Calls.{Keeps}
+use Rattle.page_pool.specs.Causes.{failures_of}
 use Rattle.page_pool.specs.Disk.{PageMap}
 use Rattle.page_pool.specs.Pool.{PoolState, IsTold}
 use Rattle.page_pool.specs.Steps.{InCommand}
@@ -273,7 +274,7 @@ half_end m w limits schema file column a b from k e =
 -- Between two steps of the loop: what holds of the pages where they are told, and what holds anyway.
 pub record Filling (first now : PoolState) (limits : Limits) (schema : List (List ℕ × Kind)) (file : TupleFile) (column : ℕ) (a b : AccessPath) (from : ℕ) : Type 0 where
   pub within : InCommand first now
-  pub counted : now.disk.faults ≡ first.disk.faults
+  pub counted : failures_of now ≡ failures_of first
   pub begun : 1 ≤ from
   pub of : IsPathOf schema (column, a) → IsPathOf schema (column, b)
   pub midway : IsTold first → CanFill first.pages limits schema file (column, a) → HalfFilled first.pages now.pages limits schema file column a b from

@@ -2,6 +2,7 @@
 use Rattle.std.proofs.Common.{◌≡◌, ℕ, zero, suc, ◌+◌, ◌-◌, ◌<◌, true, List, [], ◌∷◌, ◌++◌, length, take, drop, get_or, set, refl, sym, ◌∙◌, ap, subst, arith, Option, Some, None, inl, inr, true≢false}
 use Rattle.std.specs.List.{find}
 use Rattle.std.proofs.lemmas.List.{take-append-drop}
+use Rattle.page_pool.specs.Causes.{failures_of}
 use Rattle.page_pool.specs.Disk.{PageMap}
 use Rattle.page_pool.specs.Pool.{PoolState, IsTold, IsClosed}
 use Rattle.page_pool.specs.Steps.{InCommand, InCommand-trans}
@@ -74,7 +75,7 @@ enters_next m v w limits r u x rows row rest k passes b = record {
 -- Between two rows of the loop: what holds of the pages where they are told, and what holds anyway.
 pub record Loading (first now : PoolState) (limits : Limits) (r u : RelationView) (rows : Rows) (at : ℕ) : Type 0 where
   pub within : InCommand first now
-  pub counted : now.disk.faults ≡ first.disk.faults
+  pub counted : failures_of now ≡ failures_of first
   pub counts : CountsRows limits r u at
   pub passed : plain_of limits r (take at rows) ≡ None
   pub enters : IsTold first → Enters first.pages now.pages limits r u rows (drop at rows)
@@ -96,7 +97,7 @@ before_row first now limits r u rows at row k l here told =
 
 -- a step of the loop
 pub loading_next : (first now next : PoolState) (limits : Limits) (r u x : RelationView) (rows : Rows) (at : ℕ) (row : List Value) → Loading first now limits r u rows at
-    → at < length rows → row ≡ get_or rows at row → InCommand now next → next.disk.faults ≡ now.disk.faults → CountsRows limits u x 1 → row_check limits u row ≡ None
+    → at < length rows → row ≡ get_or rows at row → InCommand now next → failures_of next ≡ failures_of now → CountsRows limits u x 1 → row_check limits u row ≡ None
     → (IsTold now → Became now.pages next.pages limits u x (λ gap. with_row gap row)) → Loading first next limits r x rows (at + 1)
 loading_next first now next limits r u x rows at row k l here within counted counts passes became = record {
   within = InCommand-trans first now next k.within within;

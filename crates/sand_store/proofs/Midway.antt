@@ -3,6 +3,7 @@ use Rattle.std.proofs.Common.{◌≡◌, ℕ, ◌+◌, ◌<◌, ◌≤◌, Bool,
 use Rattle.std.proofs.lemmas.List.{map-append}
 use Rattle.std.proofs.lemmas.List.Elements.{All-nil, All-head, All-push}
 use Rattle.std.specs.List.{list_any}
+use Rattle.page_pool.specs.Causes.{failures_of}
 use Rattle.page_pool.specs.Disk.{PageMap}
 use Rattle.page_pool.specs.Pool.{PoolState, IsTold, IsLive}
 use Rattle.page_pool.specs.Steps.{InCommand, InCommand-refl, InCommand-trans}
@@ -58,7 +59,7 @@ file_apart m v limits schema file id row all done rest h k q =
 -- Between two steps of the loop: what holds of the pages where they are told, and what holds anyway.
 pub record Between (first now : PoolState) (limits : Limits) (schema : List (List ℕ × Kind)) (file : TupleFile) (id : ℕ) (row : List Value) (all done : Paths) (at : ℕ) : Type 0 where
   pub within : InCommand first now
-  pub counted : now.disk.faults ≡ first.disk.faults
+  pub counted : failures_of now ≡ failures_of first
   pub places : map (λ (p : ℕ × AccessPath). p.0) done ≡ map (λ (p : ℕ × AccessPath). p.0) (take at all)
   pub kinds : All (IsPathOf schema) done
   pub partway : IsTold first → (h : AllCanGrow first.pages limits schema file id row all)
@@ -93,7 +94,7 @@ rows_stay first now limits schema file id row all done rest h k =
 -- a step of the loop
 pub between_next : (first now next : PoolState) (limits : Limits) (schema : List (List ℕ × Kind)) (file : TupleFile) (id : ℕ) (row : List Value) (all done : Paths)
     (at : ℕ) (p : ℕ × AccessPath) (b : AccessPath)
-    → Between first now limits schema file id row all done at → at < length all → p ≡ slice_index_or all at p → InCommand now next → next.disk.faults ≡ now.disk.faults
+    → Between first now limits schema file id row all done at → at < length all → p ≡ slice_index_or all at p → InCommand now next → failures_of next ≡ failures_of now
     → IsPathOf schema (p.0, b) → (IsTold now → PathGrew now.pages next.pages limits schema (rows_at now.pages schema file) id p.0 p.1 b)
     → Between first next limits schema file id row all (done ++ (p.0, b) ∷ []) (at + 1)
 between_next first now next limits schema file id row all done at p b k l here within counted kind grew =

@@ -3,6 +3,7 @@ use Rattle.std.proofs.Common.{◌≡◌, ℕ, zero, suc, ◌+◌, ◌<◌, ◌�
 use Rattle.std.proofs.lemmas.List.{map-append, append_assoc, append-nil}
 use Rattle.std.proofs.lemmas.List.Concat.{flat_map-append}
 use Rattle.std.proofs.lemmas.List.Elements.{All-nil, All-head, All-tail, All-push}
+use Rattle.page_pool.specs.Causes.{failures_of}
 use Rattle.page_pool.specs.Disk.{PageMap}
 use Rattle.page_pool.specs.Pool.{PoolState, IsTold}
 use Rattle.page_pool.specs.Steps.{InCommand, InCommand-refl, InCommand-trans}
@@ -137,7 +138,7 @@ drop_all (x ∷ xs) (suc n) l = drop_all xs n (omega arith)
 -- Between two steps of the loop in which access paths lose a row: what holds of the pages where they are told, and what holds anyway.
 pub record Losing (first now : PoolState) (id : ℕ) (row : List Value) (all done : Paths) (at : ℕ) : Type 0 where
   pub within : InCommand first now
-  pub counted : now.disk.faults ≡ first.disk.faults
+  pub counted : failures_of now ≡ failures_of first
   pub places : map (λ (p : ℕ × AccessPath). p.0) done ≡ map (λ (p : ℕ × AccessPath). p.0) (take at all)
   pub kinds : (schema : List (List ℕ × Kind)) → All (IsPathOf schema) all → All (IsPathOf schema) done
   pub partway : IsTold first → (held : Holding) → AllCanLose first.pages held id row all → Partway first.pages now.pages (losing held id) all done (drop at all)
@@ -161,7 +162,7 @@ losing_can first now held id row all done at p k l here told h =
 
 -- a step of the loop
 pub losing_next : (first now next : PoolState) (id : ℕ) (row : List Value) (all done : Paths) (at : ℕ) (p : ℕ × AccessPath) (b : AccessPath) → Losing first now id row all done at
-    → at < length all → p ≡ slice_index_or all at p → InCommand now next → next.disk.faults ≡ now.disk.faults
+    → at < length all → p ≡ slice_index_or all at p → InCommand now next → failures_of next ≡ failures_of now
     → ((schema : List (List ℕ × Kind)) → IsPathOf schema p → IsPathOf schema (p.0, b))
     → (IsTold now → (held : Holding) → CanLose now.pages held id row p → PathChanged now.pages next.pages (losing held id) p.0 p.1 b)
     → Losing first next id row all (done ++ (p.0, b) ∷ []) (at + 1)

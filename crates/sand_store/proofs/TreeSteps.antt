@@ -3,6 +3,7 @@ use Rattle.std.proofs.Common.{◌≡◌, ℕ, ◌+◌, ◌<◌, ◌≤◌, List,
 use Rattle.std.proofs.lemmas.List.{map-append, append-nil}
 use Rattle.std.proofs.lemmas.List.Concat.{flat_map-append}
 use Rattle.std.proofs.lemmas.List.Elements.{All-nil, All-cons, All-head, All-tail, All-push}
+use Rattle.page_pool.specs.Causes.{failures_of}
 use Rattle.page_pool.specs.Disk.{PageMap}
 use Rattle.page_pool.specs.Pool.{PoolState, IsTold}
 use Rattle.page_pool.specs.Steps.{InCommand, InCommand-refl, InCommand-trans}
@@ -99,7 +100,7 @@ partly_end m w old new all done k =
 -- Between two steps of the loop: what holds of the pages where they are told, and what holds anyway.
 pub record Turning (first now : PoolState) (change : RowChange) (id : ℕ) (row : List Value) (all done : Trees) (at : ℕ) : Type 0 where
   pub within : InCommand first now
-  pub counted : now.disk.faults ≡ first.disk.faults
+  pub counted : failures_of now ≡ failures_of first
   pub columns : SameColumns (take at all) done
   pub partly : IsTold first → (rows : Rows) → TreesCanChange first.pages rows all → CanChange change id row rows
       → Partly first.pages now.pages rows (rows_after change id row rows) all done (drop at all)
@@ -129,7 +130,7 @@ turning_can first now change id row all done at t k l here told rows h c =
 
 -- a step of the loop
 pub turning_next : (first now next : PoolState) (change : RowChange) (id : ℕ) (row : List Value) (all done : Trees) (at : ℕ) (t : ℕ × RTree) (u : RTree)
-    → Turning first now change id row all done at → at < length all → t ≡ slice_index_or all at t → InCommand now next → next.disk.faults ≡ now.disk.faults
+    → Turning first now change id row all done at → at < length all → t ≡ slice_index_or all at t → InCommand now next → failures_of next ≡ failures_of now
     → (IsTold now → (rows : Rows) → TreeStands now.pages rows t → CanChange change id row rows → TreeChanged now.pages next.pages (rows_after change id row rows) t.0 t.1 u)
     → Turning first next change id row all (done ++ (t.0, u) ∷ []) (at + 1)
 turning_next first now next change id row all done at t u k l here within counted changed =

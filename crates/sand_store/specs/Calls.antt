@@ -6,7 +6,7 @@ use Rattle.sand_base.specs.declared.limits.Limits.{Limits}
 use Rattle.sand_base.specs.declared.refusal.Refusal.{Refusal}
 use Rattle.sand_base.specs.declared.refusal.Refusal.TheVariants as why
 use Rattle.sand_base.specs.declared.value.Value.{Value}
-use Rattle.page_pool.specs.Causes.{IsDamage}
+use Rattle.page_pool.specs.Causes.{IsDamage, failures_of}
 use Rattle.page_pool.specs.Commands.{SettlesStamps}
 use Rattle.page_pool.specs.Pool.{PoolState, IsTold}
 use Rattle.page_pool.specs.declared.fault.PageFault.{PageFault}
@@ -28,24 +28,25 @@ refusal_of page.Memory = why.Memory
 refusal_of page.Device = why.Device
 refusal_of (page.Damaged n kept read) = why.Damaged n kept read
 
--- the count of the disk's faults after this refusal: one more at Device
-abbrev pub store_faults_at : ℕ → Refusal → ℕ
-store_faults_at before why.Device = next_count before
-store_faults_at before _ = before
+-- the counts of a pool's failures after this refusal: one more failure of the disk at Device, and one more damaged page at Damaged
+abbrev pub store_failures_at : ℕ × ℕ → Refusal → ℕ × ℕ
+store_failures_at before why.Device = (next_count before.0, before.1)
+store_failures_at before (why.Damaged n kept read) = (before.0, next_count before.1)
+store_failures_at before _ = before
 
--- the count of the disk's faults after a call: the same at Ok
-abbrev pub store_faults_after : {T : Type 0} → ℕ → Result T Refusal → ℕ
-store_faults_after before (Ok _) = before
-store_faults_after before (Err refusal) = store_faults_at before refusal
+-- these counts after a call: the same at Ok
+abbrev pub store_failures_after : {T : Type 0} → ℕ × ℕ → Result T Refusal → ℕ × ℕ
+store_failures_after before (Ok _) = before
+store_failures_after before (Err refusal) = store_failures_at before refusal
 
 -- the refusal is no damage, or a page of these is damaged
 abbrev pub IsStoreDamage : PoolState → Refusal → Type 0
 IsStoreDamage s (why.Damaged n kept read) = IsDamage s n kept read
 IsStoreDamage s _ = ⊤
 
--- A call has its cause: the disk's count rose by one at Device and stays at any other answer, and a page is damaged where the answer says so.
+-- A call has its cause: the disk's count rose by one at Device, that of damaged pages by one at Damaged, and neither at any other answer; and a page is damaged where the answer says so.
 pub record HasStoreCause {T : Type 0} (old new : PoolState) (result : Result T Refusal) : Type 0 where
-  pub counted : new.disk.faults ≡ store_faults_after old.disk.faults result
+  pub counted : failures_of new ≡ store_failures_after (failures_of old) result
   pub damaged : IfErr result (IsStoreDamage new)
 
 -- What every call keeps: the limits, whether the disk tells its pages, and the maps of the held stamps, whose dirty pages may be written.

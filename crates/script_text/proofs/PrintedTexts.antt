@@ -13,7 +13,7 @@ use Rattle.std.proofs.lemmas.Str.{chars-encodes, encodes-chars, scalars-chars, c
 use Rattle.sand_base.specs.InRange.{is_control, IsTextInRange}
 use Rattle.script_text.specs.Text.{is_plain_character, plain_len, unit_len, run_after, content_after, content, doubled, IsTextInside}
 use Rattle.script_text.proofs.TextContent.{has-code}
-use Rattle.script_text.proofs.TextLemmas.{plain_first, plain_second, plain_third, plain_fourth, plain-chars, plain-is, run-drop}
+use Rattle.script_text.proofs.TextLemmas.{len_1, len_2, len_3, len_4, plain-chars, plain-is, run-drop}
 
 -- the bytes with each quote doubled write the bytes
 written-doubled : (bytes : List ℕ) → content_after false (doubled bytes) ≡ bytes
@@ -36,14 +36,14 @@ record IsAtMost (bytes : List ℕ) (n : ℕ) : Type 0 where
   most : plain_len bytes ≤ n
 
 at-most-1 : (bytes : List ℕ) → is_plain_character (take 1 bytes) ≡ true → IsAtMost bytes 1
-at-most-1 bytes h = let e = plain_first bytes h in record { some = omega (arith, e); most = omega (arith, e) }
+at-most-1 bytes h = let e = len_1 bytes h in record { some = omega (arith, e); most = omega (arith, e) }
 
 at-most-2 : (bytes : List ℕ) → is_plain_character (take 2 bytes) ≡ true → IsAtMost bytes 2
 at-most-2 bytes h =
     let go : (a : Bool) → is_plain_character (take 1 bytes) ≡ a → IsAtMost bytes 2 =
     elim [
-      | true ↦ λ ha. let e = plain_first bytes ha in record { some = omega (arith, e); most = omega (arith, e) }
-      | false ↦ λ ha. let e = plain_second bytes ha h in record { some = omega (arith, e); most = omega (arith, e) }
+      | true ↦ λ ha. let e = len_1 bytes ha in record { some = omega (arith, e); most = omega (arith, e) }
+      | false ↦ λ ha. let e = len_2 bytes ha h in record { some = omega (arith, e); most = omega (arith, e) }
     ] in
     go _ refl
 
@@ -51,10 +51,10 @@ at-most-3 : (bytes : List ℕ) → is_plain_character (take 3 bytes) ≡ true �
 at-most-3 bytes h =
     let go : (a b : Bool) → is_plain_character (take 1 bytes) ≡ a → is_plain_character (take 2 bytes) ≡ b → IsAtMost bytes 3 =
     elim [
-      | true ↦ λ b ha hb. let e = plain_first bytes ha in record { some = omega (arith, e); most = omega (arith, e) }
+      | true ↦ λ b ha hb. let e = len_1 bytes ha in record { some = omega (arith, e); most = omega (arith, e) }
       | false ↦ elim [
-        | true ↦ λ ha hb. let e = plain_second bytes ha hb in record { some = omega (arith, e); most = omega (arith, e) }
-        | false ↦ λ ha hb. let e = plain_third bytes ha hb h in record { some = omega (arith, e); most = omega (arith, e) }
+        | true ↦ λ ha hb. let e = len_2 bytes ha hb in record { some = omega (arith, e); most = omega (arith, e) }
+        | false ↦ λ ha hb. let e = len_3 bytes ha hb h in record { some = omega (arith, e); most = omega (arith, e) }
       ]
     ] in
     go _ _ refl refl
@@ -63,12 +63,12 @@ at-most-4 : (bytes : List ℕ) → is_plain_character (take 4 bytes) ≡ true �
 at-most-4 bytes h =
     let go : (a b c : Bool) → is_plain_character (take 1 bytes) ≡ a → is_plain_character (take 2 bytes) ≡ b → is_plain_character (take 3 bytes) ≡ c → IsAtMost bytes 4 =
     elim [
-      | true ↦ λ b c ha hb hc. let e = plain_first bytes ha in record { some = omega (arith, e); most = omega (arith, e) }
+      | true ↦ λ b c ha hb hc. let e = len_1 bytes ha in record { some = omega (arith, e); most = omega (arith, e) }
       | false ↦ elim [
-        | true ↦ λ c ha hb hc. let e = plain_second bytes ha hb in record { some = omega (arith, e); most = omega (arith, e) }
+        | true ↦ λ c ha hb hc. let e = len_2 bytes ha hb in record { some = omega (arith, e); most = omega (arith, e) }
         | false ↦ elim [
-          | true ↦ λ ha hb hc. let e = plain_third bytes ha hb hc in record { some = omega (arith, e); most = omega (arith, e) }
-          | false ↦ λ ha hb hc. let e = plain_fourth bytes ha hb hc h in record { some = omega (arith, e); most = omega (arith, e) }
+          | true ↦ λ ha hb hc. let e = len_3 bytes ha hb hc in record { some = omega (arith, e); most = omega (arith, e) }
+          | false ↦ λ ha hb hc. let e = len_4 bytes ha hb hc h in record { some = omega (arith, e); most = omega (arith, e) }
         ]
       ]
     ] in

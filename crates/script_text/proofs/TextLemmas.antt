@@ -60,27 +60,27 @@ take_all zero (b ∷ bytes) h = absurd (omega (arith, h))
 take_all (suc n) (b ∷ bytes) h = ap (λ bs. b ∷ bs) (take_all n bytes (omega (arith, h)))
 
 -- the length of the character at the front, by the first length at which it is one
-pub plain_first : (bytes : List ℕ) → is_plain_character (take 1 bytes) ≡ true → plain_len bytes ≡ 1
+pub len_1 : (bytes : List ℕ) → is_plain_character (take 1 bytes) ≡ true → plain_len bytes ≡ 1
 unfolding plain_len
-plain_first bytes h = cond-true _ _ _ h
+len_1 bytes h = cond-true _ _ _ h
 
-pub plain_second : (bytes : List ℕ) → is_plain_character (take 1 bytes) ≡ false → is_plain_character (take 2 bytes) ≡ true → plain_len bytes ≡ 2
+pub len_2 : (bytes : List ℕ) → is_plain_character (take 1 bytes) ≡ false → is_plain_character (take 2 bytes) ≡ true → plain_len bytes ≡ 2
 unfolding plain_len
-plain_second bytes h k = cond-false _ _ _ h ∙ cond-true _ _ _ k
+len_2 bytes h k = cond-false _ _ _ h ∙ cond-true _ _ _ k
 
-pub plain_third : (bytes : List ℕ) → is_plain_character (take 1 bytes) ≡ false → is_plain_character (take 2 bytes) ≡ false → is_plain_character (take 3 bytes) ≡ true → plain_len bytes ≡ 3
+pub len_3 : (bytes : List ℕ) → is_plain_character (take 1 bytes) ≡ false → is_plain_character (take 2 bytes) ≡ false → is_plain_character (take 3 bytes) ≡ true → plain_len bytes ≡ 3
 unfolding plain_len
-plain_third bytes h k l = cond-false _ _ _ h ∙ cond-false _ _ _ k ∙ cond-true _ _ _ l
+len_3 bytes h k l = cond-false _ _ _ h ∙ cond-false _ _ _ k ∙ cond-true _ _ _ l
 
-pub plain_fourth : (bytes : List ℕ) → is_plain_character (take 1 bytes) ≡ false → is_plain_character (take 2 bytes) ≡ false → is_plain_character (take 3 bytes) ≡ false
+pub len_4 : (bytes : List ℕ) → is_plain_character (take 1 bytes) ≡ false → is_plain_character (take 2 bytes) ≡ false → is_plain_character (take 3 bytes) ≡ false
     → is_plain_character (take 4 bytes) ≡ true → plain_len bytes ≡ 4
 unfolding plain_len
-plain_fourth bytes h k l m = cond-false _ _ _ h ∙ cond-false _ _ _ k ∙ cond-false _ _ _ l ∙ cond-true _ _ _ m
+len_4 bytes h k l m = cond-false _ _ _ h ∙ cond-false _ _ _ k ∙ cond-false _ _ _ l ∙ cond-true _ _ _ m
 
-pub plain_none : (bytes : List ℕ) → is_plain_character (take 1 bytes) ≡ false → is_plain_character (take 2 bytes) ≡ false → is_plain_character (take 3 bytes) ≡ false
+pub len_0 : (bytes : List ℕ) → is_plain_character (take 1 bytes) ≡ false → is_plain_character (take 2 bytes) ≡ false → is_plain_character (take 3 bytes) ≡ false
     → is_plain_character (take 4 bytes) ≡ false → plain_len bytes ≡ 0
 unfolding plain_len
-plain_none bytes h k l m = cond-false _ _ _ h ∙ cond-false _ _ _ k ∙ cond-false _ _ _ l ∙ cond-false _ _ _ m
+len_0 bytes h k l m = cond-false _ _ _ h ∙ cond-false _ _ _ k ∙ cond-false _ _ _ l ∙ cond-false _ _ _ m
 
 -- no bytes are no character
 none-plain : (bytes : List ℕ) → is_plain_character (take 0 bytes) ≡ false
@@ -118,14 +118,14 @@ plain-is bytes =
     let go : (a b c d : Bool) → is_plain_character (take 1 bytes) ≡ a → is_plain_character (take 2 bytes) ≡ b → is_plain_character (take 3 bytes) ≡ c
     → is_plain_character (take 4 bytes) ≡ d → IsPlainLen bytes (plain_len bytes) =
     elim [
-      | true ↦ λ b c d ha hb hc hd. rw (plain_first bytes ha) (record { within = enough 0 bytes (none-plain bytes) ha; plain = λ some. ha })
+      | true ↦ λ b c d ha hb hc hd. rw (len_1 bytes ha) (record { within = enough 0 bytes (none-plain bytes) ha; plain = λ some. ha })
       | false ↦ elim [
-        | true ↦ λ c d ha hb hc hd. rw (plain_second bytes ha hb) (record { within = enough 1 bytes ha hb; plain = λ some. hb })
+        | true ↦ λ c d ha hb hc hd. rw (len_2 bytes ha hb) (record { within = enough 1 bytes ha hb; plain = λ some. hb })
         | false ↦ elim [
-          | true ↦ λ d ha hb hc hd. rw (plain_third bytes ha hb hc) (record { within = enough 2 bytes hb hc; plain = λ some. hc })
+          | true ↦ λ d ha hb hc hd. rw (len_3 bytes ha hb hc) (record { within = enough 2 bytes hb hc; plain = λ some. hc })
           | false ↦ elim [
-            | true ↦ λ ha hb hc hd. rw (plain_fourth bytes ha hb hc hd) (record { within = enough 3 bytes hc hd; plain = λ some. hd })
-            | false ↦ λ ha hb hc hd. rw (plain_none bytes ha hb hc hd) (record { within = omega arith; plain = λ some. absurd (omega (arith, some)) })
+            | true ↦ λ ha hb hc hd. rw (len_4 bytes ha hb hc hd) (record { within = enough 3 bytes hc hd; plain = λ some. hd })
+            | false ↦ λ ha hb hc hd. rw (len_0 bytes ha hb hc hd) (record { within = omega arith; plain = λ some. absurd (omega (arith, some)) })
           ]
         ]
       ]

@@ -5,7 +5,7 @@ use Rattle.std.proofs.lemmas.Bool.{cond-true, cond-false, eqb-true, eqb-false, e
 use Rattle.std.proofs.lemmas.List.{take_at, drop_at, drop-drop, take-take, take-append-drop, length-take-le}
 use Rattle.std.proofs.Math.Seq.{take-length, drop-nil}
 use Rattle.script_text.specs.Text.{is_plain_character, plain_len, begins_quote, unit_len, run_after, text_run, IsTextInside}
-use Rattle.script_text.proofs.TextLemmas.{plain_first, plain_second, plain_third, plain_fourth, plain_none, unit_within, run-drop}
+use Rattle.script_text.proofs.TextLemmas.{len_1, len_2, len_3, len_4, len_0, unit_within, run-drop}
 
 -- a character at the front is told by its bytes
 plain_same : (bytes other : List ℕ) → 0 < plain_len bytes → ((k : ℕ) → k ≤ plain_len bytes → take k other ≡ take k bytes) → plain_len other ≡ plain_len bytes
@@ -14,24 +14,24 @@ plain_same bytes other some same =
     → is_plain_character (take 4 bytes) ≡ d → plain_len other ≡ plain_len bytes =
     elim [
       | true ↦ λ b c d ha hb hc hd.
-          let e = plain_first bytes ha in
-          plain_first other (ap is_plain_character (same 1 (omega (arith, e))) ∙ ha) ∙ sym e
+          let e = len_1 bytes ha in
+          len_1 other (ap is_plain_character (same 1 (omega (arith, e))) ∙ ha) ∙ sym e
       | false ↦ elim [
         | true ↦ λ c d ha hb hc hd.
-            let e = plain_second bytes ha hb in
-            plain_second other (ap is_plain_character (same 1 (omega (arith, e))) ∙ ha) (ap is_plain_character (same 2 (omega (arith, e))) ∙ hb) ∙ sym e
+            let e = len_2 bytes ha hb in
+            len_2 other (ap is_plain_character (same 1 (omega (arith, e))) ∙ ha) (ap is_plain_character (same 2 (omega (arith, e))) ∙ hb) ∙ sym e
         | false ↦ elim [
           | true ↦ λ d ha hb hc hd.
-              let e = plain_third bytes ha hb hc in
-              plain_third other (ap is_plain_character (same 1 (omega (arith, e))) ∙ ha) (ap is_plain_character (same 2 (omega (arith, e))) ∙ hb)
+              let e = len_3 bytes ha hb hc in
+              len_3 other (ap is_plain_character (same 1 (omega (arith, e))) ∙ ha) (ap is_plain_character (same 2 (omega (arith, e))) ∙ hb)
               (ap is_plain_character (same 3 (omega (arith, e))) ∙ hc) ∙ sym e
           | false ↦ elim [
             | true ↦ λ ha hb hc hd.
-                let e = plain_fourth bytes ha hb hc hd in
-                plain_fourth other (ap is_plain_character (same 1 (omega (arith, e))) ∙ ha) (ap is_plain_character (same 2 (omega (arith, e))) ∙ hb)
+                let e = len_4 bytes ha hb hc hd in
+                len_4 other (ap is_plain_character (same 1 (omega (arith, e))) ∙ ha) (ap is_plain_character (same 2 (omega (arith, e))) ∙ hb)
                 (ap is_plain_character (same 3 (omega (arith, e))) ∙ hc)
                 (ap is_plain_character (same 4 (omega (arith, e))) ∙ hd) ∙ sym e
-            | false ↦ λ ha hb hc hd. let e = plain_none bytes ha hb hc hd in absurd (omega (arith, e, some))
+            | false ↦ λ ha hb hc hd. let e = len_0 bytes ha hb hc hd in absurd (omega (arith, e, some))
           ]
         ]
       ]

@@ -34,7 +34,7 @@ fn is_plain_front(bytes: &[u8], n: usize) -> bool
 }
 
 // Of how many bytes the character at the front is; 0 where none begins there, or a control character does.
-#[tactic(auto, using(crate::proofs::TextLemmas::plain_first, crate::proofs::TextLemmas::plain_second, crate::proofs::TextLemmas::plain_third, crate::proofs::TextLemmas::plain_fourth, crate::proofs::TextLemmas::plain_none))]
+#[tactic(auto, using(crate::proofs::TextLemmas::len_1, crate::proofs::TextLemmas::len_2, crate::proofs::TextLemmas::len_3, crate::proofs::TextLemmas::len_4, crate::proofs::TextLemmas::len_0))]
 fn plain_len(bytes: &[u8]) -> usize
     ensures { result ≡ plain_len bytes.now }
 {

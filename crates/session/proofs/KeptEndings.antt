@@ -72,14 +72,14 @@ module _ (limits : Limits) (left : Option (List ℕ)) (reads : ℕ) (files : Opt
   pub Kept-stopped : (why : ReplayFault) (tape tape' : TapeView) (old new : PoolState) → old.disk.faults ≡ before.faults → disk ≡ new.disk
       → HasReplayCause {T = ⊤} tape tape' old new (Err why) → IfBad why Bad
       → EndsKept (status_of_replay why) limits kept_before kept_behind Starts Keeps Bad Unread
-  Kept-stopped replayed.Memory tape tape' old new began same cause bad = (Unbegun (ap (λ (d : DiskView). d.faults) same ∙ cause.1 ∙ began), unread)
-  Kept-stopped replayed.Tape tape tape' old new began same cause bad = inl (Unbegun (ap (λ (d : DiskView). d.faults) same ∙ cause.1 ∙ began), unread)
-  Kept-stopped replayed.Bad tape tape' old new began same cause bad = (Unbegun (ap (λ (d : DiskView). d.faults) same ∙ cause.1 ∙ began), bad, unread)
+  Kept-stopped replayed.Memory tape tape' old new began same cause bad = (Unbegun (ap (λ (d : DiskView). d.faults) same ∙ ap (λ (n : ℕ × ℕ). n.0) cause.1 ∙ began), unread)
+  Kept-stopped replayed.Tape tape tape' old new began same cause bad = inl (Unbegun (ap (λ (d : DiskView). d.faults) same ∙ ap (λ (n : ℕ × ℕ). n.0) cause.1 ∙ began), unread)
+  Kept-stopped replayed.Bad tape tape' old new began same cause bad = (Unbegun (ap (λ (d : DiskView). d.faults) same ∙ ap (λ (n : ℕ × ℕ). n.0) cause.1 ∙ began), bad, unread)
   Kept-stopped replayed.Device tape tape' old new began same cause bad =
-      (record { source = refl; files = refl; shelf = refl; sink = λ text h. h }, ap (λ (d : DiskView). d.faults) same ∙ cause.1 ∙ ap next_count began, unread)
+      (record { source = refl; files = refl; shelf = refl; sink = λ text h. h }, ap (λ (d : DiskView). d.faults) same ∙ ap (λ (n : ℕ × ℕ). n.0) cause.1 ∙ ap next_count began, unread)
   Kept-stopped replayed.Damaged tape tape' old new began same cause bad =
       let damage : IsDamage new cause.2.0 cause.2.1 cause.2.2 = cause.2.3 in
-      (Unbegun (ap (λ (d : DiskView). d.faults) same ∙ cause.1 ∙ began), λ told. true≢false (sym told ∙ ap (λ (d : DiskView). d.told) same ∙ damage.untold), unread)
+      (Unbegun (ap (λ (d : DiskView). d.faults) same ∙ ap (λ (n : ℕ × ℕ). n.0) cause.1 ∙ began), λ told. true≢false (sym told ∙ ap (λ (d : DiskView). d.told) same ∙ damage.untold), unread)
 
 -- what holds of the changes holds where less is asked of them
 pub Kept-weaker : (why : Status) (limits : Limits) (old new : Outside) (P Q : List ChangeValue → Type 0) (K L : OfChanges) (B C U V : Type 0)

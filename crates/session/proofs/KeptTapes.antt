@@ -21,7 +21,7 @@ use Rattle.sand_store.specs.Sketches.{Sketch, sketches}
 use Rattle.statement_exec.proofs.DecidedCalls.{sketched_in}
 use Rattle.statement_exec.specs.Moment.{state_with}
 use Rattle.session.specs.KeptRun.{HasAll, HasBadRecord, IsDeclinedNext, IsWorldOf, StartsWith}
-use Rattle.session.specs.KeptTape.{IsOpened, LosesNothing, image_of}
+use Rattle.session.specs.KeptTape.{BecomesJournal, LosesNothing, read_opened}
 
 -- this holds where a replay met a bad record
 abbrev pub IfBad : ReplayFault → Type 0 → Type 0
@@ -56,7 +56,7 @@ Replayed-all {T} seen journal journal' store store' r passed near read = record 
 -- a tape that was started, and then opened as a journal
 pub Opened-tape : {U E : Type 0} (tape started opened : TapeView) (result : Result U E)
     → ((t : ℕ) (image : List ℕ) → IsTrue tape.told → t ≤ tape.clock → tape.leaves image → tape.since t image)
-    → StartsTape tape started result → HasOpened started opened → IsOpened tape opened
+    → StartsTape tape started result → HasOpened started opened → BecomesJournal tape opened
 Opened-tape {U} {E} tape started opened result now_counts starts has = record {
   told = told;
   image = λ is. by is tape.bytes refl;
@@ -74,13 +74,13 @@ Opened-tape {U} {E} tape started opened result now_counts starts has = record {
   told : opened.told ≡ tape.told
   told = has.opened.told ∙ starts.passes.told
 
-  by : IsTrue tape.told → (bytes : List ℕ) → tape.bytes ≡ bytes → opened.bytes ≡ image_of bytes
+  by : IsTrue tape.told → (bytes : List ℕ) → tape.bytes ≡ bytes → opened.bytes ≡ read_opened bytes
   by is [] none = has.empty (starts.passes.told ∙ is) (starts.kept.bytes ∙ none)
   by is (byte ∷ bytes) some =
       (has.opened.read (starts.passes.told ∙ is) (λ empty. let no : byte ∷ bytes ≡ [] = sym (starts.kept.bytes ∙ some) ∙ empty in cc)).bytes ∙ starts.kept.bytes ∙ some
 
 -- the changes that an opened tape has are those that it began with
-pub Starts-opened : (tape opened : TapeView) (changes : List ChangeValue) → IsOpened tape opened → HasAll opened.told opened.bytes changes → StartsWith tape changes
+pub Starts-opened : (tape opened : TapeView) (changes : List ChangeValue) → BecomesJournal tape opened → HasAll opened.told opened.bytes changes → StartsWith tape changes
 Starts-opened tape opened changes opens has = record {
   all = has.all;
   near = λ told. has.near (opens.told ∙ told);
@@ -88,8 +88,8 @@ Starts-opened tape opened changes opens has = record {
 }
 
 -- what stands behind the records of an opened tape stands there in the image that it began with
-pub Bad-opened : (limits : Limits) (disk : Bool) (tape opened : TapeView) → IsOpened tape opened → HasBadRecord limits disk opened.told opened.bytes
-    → HasBadRecord limits disk tape.told (image_of tape.bytes)
+pub Bad-opened : (limits : Limits) (disk : Bool) (tape opened : TapeView) → BecomesJournal tape opened → HasBadRecord limits disk opened.told opened.bytes
+    → HasBadRecord limits disk tape.told (read_opened tape.bytes)
 Bad-opened limits disk tape opened opens bad = record {
   changes = bad.changes;
   all = bad.all;
@@ -101,7 +101,7 @@ Bad-opened limits disk tape opened opens bad = record {
   next = go bad.next;
 } where
   go : (IsTrue opened.told → IsBadBehind opened.bytes (map body_of bad.changes)) ⊎ IsDeclinedNext opened.told opened.bytes bad.changes bad.reached
-      → (IsTrue tape.told → IsBadBehind (image_of tape.bytes) (map body_of bad.changes)) ⊎ IsDeclinedNext tape.told (image_of tape.bytes) bad.changes bad.reached
+      → (IsTrue tape.told → IsBadBehind (read_opened tape.bytes) (map body_of bad.changes)) ⊎ IsDeclinedNext tape.told (read_opened tape.bytes) bad.changes bad.reached
   go (inl h) = inl (λ told. subst (λ (bytes : List ℕ). IsBadBehind bytes (map body_of bad.changes)) (opens.image told) (h (opens.told ∙ told)))
   go (inr h) = inr (record {
     change = h.change;
@@ -148,12 +148,12 @@ pub Loses-none : (tape : TapeView) → LosesNothing tape tape
 Loses-none tape = record { told = refl; bytes = λ told some. refl; fewer = λ told some image left. left; earlier = λ told some t image le since. since }
 
 -- an image of bytes that aren't empty is those
-image_same : (bytes : List ℕ) → bytes ≢ [] → image_of bytes ≡ bytes
+image_same : (bytes : List ℕ) → bytes ≢ [] → read_opened bytes ≡ bytes
 image_same [] some = absurd (some refl)
 image_same (byte ∷ bytes) some = refl
 
 -- it was opened and read
-pub Loses-read : (tape opened after : TapeView) → (IsTrue tape.told → tape.leaves tape.bytes) → IsOpened tape opened → IsOnlyRead opened after → LosesNothing tape after
+pub Loses-read : (tape opened after : TapeView) → (IsTrue tape.told → tape.leaves tape.bytes) → BecomesJournal tape opened → IsOnlyRead opened after → LosesNothing tape after
 Loses-read tape opened after law opens read = record {
   told = read.told ∙ opens.told;
   bytes = λ told some. read.bytes ∙ opens.image told ∙ image_same tape.bytes some;

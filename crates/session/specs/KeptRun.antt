@@ -24,7 +24,7 @@ use Rattle.journal_replay.specs.declared.fault.ReplayFault.TheVariants as replay
 use Rattle.session.specs.Outside.{Outside}
 use Rattle.session.specs.Ends.{EndsBetween, IsUntouched, first_moment, last_moment}
 use Rattle.session.specs.KeptLines.{IsInHand, RunsKept}
-use Rattle.session.specs.KeptTape.{HasWorldOf, KeepsTape, LosesNothing, image_of}
+use Rattle.session.specs.KeptTape.{HasWorldOf, KeepsTape, LosesNothing, read_opened}
 use Rattle.session.specs.declared.status.Status.{Status}
 use Rattle.session.specs.declared.status.Status.TheVariants as status
 
@@ -52,7 +52,7 @@ pub record HasAll (told : Bool) (image : List ℕ) (changes : List ChangeValue) 
 
 -- where the tape tells, these are all changes of the image that it reads once it is opened
 abbrev pub StartsWith : TapeView → List ChangeValue → Type 0
-StartsWith tape = HasAll tape.told (image_of tape.bytes)
+StartsWith tape = HasAll tape.told (read_opened tape.bytes)
 
 -- Where the tape tells, its image begins with the records of these changes.
 abbrev pub BeginsWithAll : Bool → List ℕ → List ChangeValue → Type 0
@@ -131,7 +131,7 @@ EndsKept ended limits old new Starts Keeps Bad Unread = EndsBehind ended limits 
 abbrev pub EndsWithTape : {T : Type 0} → (T → TapeView) → Status → Limits → Outside → Outside → T → T → Type 0
 EndsWithTape seen ended limits old new before after =
     EndsKept ended limits old new (StartsWith (seen before)) (KeepsTape seen ended before after)
-    (HasBadRecord limits new.disk.told (seen before).told (image_of (seen before).bytes)) (LosesNothing (seen before) (seen after))
+    (HasBadRecord limits new.disk.told (seen before).told (read_opened (seen before).bytes)) (LosesNothing (seen before) (seen after))
 
 -- the command that may name a journal took the words
 abbrev pub IsTakenKept : Status → Type 0

@@ -19,15 +19,15 @@ use Rattle.session.specs.declared.status.Status.{Status}
 use Rattle.session.specs.declared.status.Status.TheVariants as status
 
 -- what a read gives of a file whose journal was opened: an empty one has one shut gate
-abbrev pub image_of : List ℕ → List ℕ
-image_of [] = 0 ∷ []
-image_of (byte ∷ bytes) = byte ∷ bytes
+abbrev pub read_opened : List ℕ → List ℕ
+read_opened [] = 0 ∷ []
+read_opened (byte ∷ bytes) = byte ∷ bytes
 
 -- The tape was opened as a journal. Where it tells, a crash now leaves what a read gives; where its file wasn't empty, a crash since any
 -- earlier moment leaves no image that it might not have left before.
-pub record IsOpened (old new : TapeView) : Type 0 where
+pub record BecomesJournal (old new : TapeView) : Type 0 where
   pub told : new.told ≡ old.told
-  pub image : IsTrue old.told → new.bytes ≡ image_of old.bytes
+  pub image : IsTrue old.told → new.bytes ≡ read_opened old.bytes
   pub durable : IsTrue old.told → Only new.bytes new.leaves
   pub later : IsTrue old.told → old.bytes ≢ [] → old.clock ≤ new.clock
   pub earlier : IsTrue old.told → old.bytes ≢ [] → (t : ℕ) (image : List ℕ) → t ≤ old.clock → new.since t image → old.since t image
@@ -78,5 +78,5 @@ pub record KeepsBehind {T : Type 0} (seen : T → TapeView) (ended : Status) (op
 -- A run opened the tape as its journal, and kept its changes there.
 pub record KeepsTape {T : Type 0} (seen : T → TapeView) (ended : Status) (before after : T) (first shown untold : List ChangeValue) : Type 0 where
   pub opened : T
-  pub opens : IsOpened (seen before) (seen opened)
+  pub opens : BecomesJournal (seen before) (seen opened)
   pub keeps : KeepsBehind seen ended opened after first shown untold

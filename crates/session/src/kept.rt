@@ -12,7 +12,7 @@ ghost use Rattle.sand_store.specs.Contents.{database};
 ghost use Rattle.script_lines.specs.Reading.{ReadsLines};
 ghost use Rattle.session.specs.Ends.{HasBegun, IsCaused, tape_after};
 ghost use Rattle.session.specs.KeptRun.{AreJudgedKept, EndsKeeping, EndsKept, EndsWithTape, HasAll, HasBadRecord, IsTakenKept, journal_of, kept_workload, status_of_replay};
-ghost use Rattle.session.specs.KeptTape.{IsOpened, KeepsBehind, KeepsShown, LosesNothing};
+ghost use Rattle.session.specs.KeptTape.{BecomesJournal, KeepsBehind, KeepsShown, LosesNothing};
 ghost use Rattle.session.specs.Outside.{outside_of};
 ghost use Rattle.session.specs.Workload.{EndsAsked};
 ghost use Rattle.statement_exec.specs.Moment.{moment_of, state_with};
@@ -45,7 +45,7 @@ fn status_of_replay(why: ReplayFault) -> Status
 // The journal in the file of this name. A fault gives the tape back.
 fn open_journal<T: Tape>(mut tape: T, name: &str) -> Result<Journal<T>, T>
     ensures passed { IfOk result (λ journal. HasPassed T.seen journal []) }
-    ensures opened { IfOk result (λ journal. IsOpened (T.seen tape) (T.seen journal.tape)) }
+    ensures opened { IfOk result (λ journal. BecomesJournal (T.seen tape) (T.seen journal.tape)) }
     ensures unread { IfErr result (λ given. LosesNothing (T.seen tape) (T.seen given)) }
     ensures counted { IfOk result (λ journal. (T.seen journal.tape).faults ≡ (T.seen tape).faults) }
     ensures cause { IfErr result (λ given. (T.seen given).faults ≡ next_count (T.seen tape).faults) }

@@ -78,7 +78,7 @@ module _ (catalog : CatalogView) (column : Column) (old new : PoolState) (read :
       → new.disk.faults < last_count → early setting (state_beside catalog old.pages cursors) (Blocks column) ≡ None
       → IsLicensed setting (rises cursors files shelf) (state_beside catalog old.pages cursors) (Blocks column) (refusal_of fault)
   licensed cursors files shelf setting page.Memory c t l e = tt
-  licensed cursors files shelf setting page.Device c t l e = ((refl, e), rose old.disk.faults new.disk.faults c.counted l)
+  licensed cursors files shelf setting page.Device c t l e = ((refl, e), rose old.disk.faults new.disk.faults (ap (λ (n : ℕ × ℕ). n.0) c.counted) l)
   licensed cursors files shelf setting (page.Damaged n kept read') c t l e =
       let d : IsDamage new n kept read' = c.damaged in absurd (true≢false (sym (read.told ∙ t) ∙ d.untold))
 

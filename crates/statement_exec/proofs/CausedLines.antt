@@ -1,5 +1,5 @@
 -- Lines that have their causes, one after the other.
-use Rattle.std.proofs.Common.{◌≡◌, ◌≢◌, ◌⊎◌, ℕ, ◌-◌, ◌<◌, Bool, true, false, List, [], ◌∷◌, ◌++◌, Option, Some, None, refl, sym, ◌∙◌, subst, inl, inr, arith, true≢false}
+use Rattle.std.proofs.Common.{◌≡◌, ◌≢◌, ◌⊎◌, ℕ, ◌-◌, ◌<◌, Bool, true, false, List, [], ◌∷◌, ◌++◌, Option, Some, None, refl, sym, ap, ◌∙◌, subst, inl, inr, arith, true≢false}
 use Rattle.std.specs.Prelude.{⊤, Ok, Err}
 use Rattle.std.specs.List.{list_any}
 use Rattle.std.proofs.lemmas.List.{append-nil}
@@ -114,7 +114,7 @@ module _ (cs cs' : List Cursor) (catalog catalog' : CatalogView) (old new : Pool
   -- a refusal whose cause is told by pools
   pub pools_cause : {T : Type 0} (w : Refusal) → HasStoreCause {T = T} old new (Err w) → (w ≡ why.File → ⊥)
       → HasItsCause (beside cs catalog old files shelf) (beside cs' catalog' new files' shelf') w
-  pools_cause why.Device c n = λ few. rose old.disk.faults new.disk.faults c.counted few
+  pools_cause why.Device c n = λ few. rose old.disk.faults new.disk.faults (ap (λ (n : ℕ × ℕ). n.0) c.counted) few
   pools_cause (why.Damaged page kept read) c n = let d : IsDamage new page kept read = c.damaged in (sym told ∙ d.untold, d.differ)
   pools_cause why.File c n = absurd (n refl)
   pools_cause _ c n = tt
@@ -123,15 +123,15 @@ module _ (cs cs' : List Cursor) (catalog catalog' : CatalogView) (old new : Pool
   pub page_cause : {T : Type 0} (fault : PageFault) → HasPageCause {T = T} old new (Err fault)
       → HasItsCause (beside cs catalog old files shelf) (beside cs' catalog' new files' shelf') (refusal_of fault)
   page_cause page.Memory c = tt
-  page_cause page.Device c = λ few. rose old.disk.faults new.disk.faults c.counted few
+  page_cause page.Device c = λ few. rose old.disk.faults new.disk.faults (ap (λ (n : ℕ × ℕ). n.0) c.counted) few
   page_cause (page.Damaged n kept read) c = let d : IsDamage new n kept read = c.damaged in (sym told ∙ d.untold, d.differ)
 
   -- what was printed up to a refusal
   pub end_cause : (E : Type 0) (end : Option Refusal) → PagesHaveCause {E = E} old new (Ok end) → BlamesNoFile end
       → EndHasCause (beside cs catalog old files shelf) (beside cs' catalog' new files' shelf') end
   end_cause E None c n = tt
-  end_cause E (Some why.Device) c n = λ few. rose old.disk.faults new.disk.faults c.counted few
-  end_cause E (Some (why.Damaged page kept read)) c n = (sym told ∙ c.damaged.untold, c.damaged.differ)
+  end_cause E (Some why.Device) c n = λ few. rose old.disk.faults new.disk.faults (ap (λ (n : ℕ × ℕ). n.0) c.counted) few
+  end_cause E (Some (why.Damaged page kept read)) c n = (sym told ∙ c.damaged.damage.untold, c.damaged.damage.differ)
   end_cause E (Some why.File) c n = absurd n
   end_cause E (Some _) c n = tt
 

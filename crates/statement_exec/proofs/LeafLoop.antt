@@ -1,6 +1,7 @@
 -- What the loop over leaves keeps.
 use Rattle.std.proofs.Common.{◌≡◌, ℕ, ◌+◌, ◌≤◌, List, [], ◌∷◌, ◌++◌, refl, sym, subst}
 use Rattle.std.proofs.lemmas.List.{map-append}
+use Rattle.page_pool.specs.Causes.{failures_of}
 use Rattle.page_pool.specs.Pool.{PoolState, IsTold}
 use Rattle.page_pool.specs.Reads.{IsRead}
 use Rattle.z_code.specs.Block.{code_count}
@@ -22,7 +23,7 @@ use Rattle.statement_exec.proofs.Texts.{writes_none, writes_more, breaks_more, w
 pub record Walking (told : Type 0) (all : Leaves) (code : ℕ) (first now : PoolState) (before after : List ℕ → Type 0) (faults faults' : ℕ) : Type 0 where
   pub walk : WritesFirst told all code before after
   pub read : IsRead first now
-  pub disk : now.disk.faults ≡ first.disk.faults
+  pub disk : failures_of now ≡ failures_of first
   pub sink : faults' ≡ faults
 
 one_more : (visited : Leaves) (leaf : Block × List ℕ) → lines_of visited ++ LeafOf leaf.0 leaf.1 ∷ [] ≡ lines_of (visited ++ leaf ∷ [])

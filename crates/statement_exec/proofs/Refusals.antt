@@ -67,7 +67,7 @@ rose before now e l = omega arith
 -- the cause of a refusal over a disk that tells its pages
 pub allowed : {T : Type 0} (rises : Rises) (old new : PoolState) (w : Refusal) → HasStoreCause {T = T} old new (Err w) → IsTold new → new.disk.faults < last_count
     → rises.disk ≡ new.disk.faults - old.disk.faults → (w ≡ why.File → ⊥) → Allows rises w
-allowed rises old new why.Device c t l e n = subst (λ (d : ℕ). 0 < d) (sym e) (rose old.disk.faults new.disk.faults c.counted l)
+allowed rises old new why.Device c t l e n = subst (λ (d : ℕ). 0 < d) (sym e) (rose old.disk.faults new.disk.faults (ap (λ (n : ℕ × ℕ). n.0) c.counted) l)
 allowed rises old new (why.Damaged m kept read) c t l e n = let d : IsDamage new m kept read = c.damaged in absurd (true≢false (sym t ∙ d.untold))
 allowed rises old new why.File c t l e n = absurd (n refl)
 allowed rises old new _ c t l e n = tt

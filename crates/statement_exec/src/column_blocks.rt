@@ -5,7 +5,7 @@ ghost use Rattle.statements.specs.Statement.{Blocks};
 ghost use Rattle.sand_store.specs.Calls.{refusal_of};
 ghost use Rattle.sand_store.specs.Standing.{IsStore};
 ghost use Rattle.output_text.specs.Writing.{Writes, WritesPrefix};
-ghost use Rattle.statement_exec.specs.Ending.{PagesHaveCause, ReadsStatement, RisesByOne, WritesUpTo};
+ghost use Rattle.statement_exec.specs.Ending.{PagesHaveCause, PagesHaveLineCause, ReadsStatement, WritesUpTo};
 ghost use Rattle.statement_exec.specs.Printing.{PrintsSome, WritesOf};
 
 use crate::Stop;
@@ -71,7 +71,7 @@ pub fn print_blocks<D: Disk, K: Sink>(
     ensures written { WritesOf (ReadsStatement (Blocks (record { relation = relation.now; column = column.now })) catalog.now desk.old.pool desk.new.pool) (K.took out.old) (K.took out.new) result }
     ensures stands { IsStore catalog.now desk.new.pool }
     ensures read { IsRead desk.old.pool desk.new.pool }
-    ensures cause { RisesByOne desk.old.pool.disk.faults desk.new.pool.disk.faults }
+    ensures cause { PagesHaveLineCause desk.old.pool desk.new.pool result }
     ensures sink { HasCause (K.faults out.old) (K.faults out.new) result }
 {
     match print_column(alloc, catalog, desk, relation, column, out) {

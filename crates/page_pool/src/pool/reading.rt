@@ -2,9 +2,9 @@ ghost use Rattle.std.specs.Prelude.{◌≡◌, IfSome, IfOk, IfErr, OnOk, false}
 ghost use Rattle.std.specs.Borrow.{sem};
 ghost use Rattle.std.specs.Io.BufRead.{Rests};
 ghost use Rattle.std.specs.FinMap as map;
-ghost use Rattle.page_pool.specs.Inside.{IsUnstaged, ReadsIn, Compares};
+ghost use Rattle.page_pool.specs.Inside.{IsUnstaged, ReadsIn, Compares, damages_after};
 ghost use Rattle.page_pool.specs.Pool.{IsLive, IsPage};
-ghost use Rattle.page_pool.specs.Causes.{IsMemory, refused_after};
+ghost use Rattle.page_pool.specs.Causes.{IsMemory};
 ghost use Rattle.page_pool.specs.Reads.{Gets};
 
 use crate::page::Page;
@@ -68,14 +68,14 @@ impl<D: Disk> Pool<D> {
         }
     }
 
-    // Page `n`, which isn't staged, read from the disk into a frame. Its get was counted, and its refusal is.
+    // Page `n`, which isn't staged, read from the disk into a frame. Its get was counted, and its damage is.
     fn load(&mut self, n: u64) -> Result<(), PageFault>
         requires { IsUnstaged self.old n }
         ensures missing { map.contains_key self.old.pages n ≡ false → IfErr result IsMemory }
         ensures read_in { ReadsIn self.old self.new n result }
     {
         let read = self.read_compared(n);
-        self.refused = refused_by(self.refused, &read);
+        self.damages = damages_by(self.damages, &read);
         read
     }
 
@@ -153,12 +153,12 @@ impl<D: Disk> Pages for Pool<D> {
     }
 }
 
-// The number of refused gets after this reading: one more, unless the page was had or memory was refused.
-pub(super) fn refused_by<T>(refused: u64, read: &Result<T, PageFault>) -> u64
-    ensures { result ≡ refused_after refused read.now }
+// The number of damaged pages after this reading: one more where it found one.
+pub(super) fn damages_by<T>(damages: u64, read: &Result<T, PageFault>) -> u64
+    ensures { result ≡ damages_after damages read.now }
 {
     match read {
-        Err(PageFault::Device | PageFault::Damaged { .. }) => refused.saturating_add(1),
-        _ => refused,
+        Err(PageFault::Damaged { .. }) => damages.saturating_add(1),
+        _ => damages,
     }
 }

@@ -6,7 +6,7 @@ ghost use Rattle.page_pool.specs.Pool.{IsLive, IsPage, seen_at, shown_of};
 ghost use Rattle.page_pool.specs.Causes.{IsMemory};
 ghost use Rattle.page_pool.specs.Reads.{IsRead, Gets};
 
-use super::reading::refused_by;
+use super::reading::damages_by;
 use crate::{Disk, PageFault, Pages, Pool};
 
 // The pages of the map that a held stamp has.
@@ -51,7 +51,7 @@ impl<D: Disk> Pool<D> {
         let is_newest = self.archive.lies_at(n, place);
         if !self.frames.has_image(n, place, is_newest) {
             let read = self.archive.read_seen(slot, n);
-            self.refused = refused_by(self.refused, &read);
+            self.damages = damages_by(self.damages, &read);
             self.frames.put_image(n, place, is_newest, read?)?;
         }
         match self.frames.used_image(n, place, is_newest) {

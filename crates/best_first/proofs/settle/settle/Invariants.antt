@@ -1,4 +1,5 @@
 use Rattle.std.proofs.Common.{◌≡◌, ◌≤◌, IfSome}
+use Rattle.page_pool.specs.Causes.{failures_of}
 use Rattle.page_pool.specs.Reads.{IsRead}
 use Rattle.best_first.specs.Order.{item_cmp}
 use Rattle.best_first.specs.Frontier.{StandsOver}
@@ -10,7 +11,7 @@ use Rattle.best_first.proofs.settle.settle.Given as goal
 abbrev pub invariant-steps : goal.invariant-steps
 invariant-steps g l = record {
   read : IsRead l.fn.desk.pool l.desk.pool;
-  faults : l.desk.pool.disk.faults ≡ l.fn.desk.pool.disk.faults;
+  failures : failures_of l.desk.pool ≡ failures_of l.fn.desk.pool;
   last : l.frontier.last ≡ l.fn.frontier.last;
   falls : steps (g.H.Hierarchy.weight l.hierarchy) (g.Q.Queue.held l.frontier.queue) ≤ steps (g.H.Hierarchy.weight l.hierarchy) (g.Q.Queue.held l.fn.frontier.queue);
   stands : IfSome (told_pages l.desk) (λ p. StandsOver g.H.Node.Ord.cmp (g.H.Hierarchy.meaning l.hierarchy p) (g.Q.Queue.held l.frontier.queue) l.frontier.last);

@@ -15,7 +15,7 @@ steps-init g c =
     let f = c.args.frontier.now in
     record {
       read = read_itself c.args.desk.now.pool;
-      faults = refl;
+      failures = refl;
       last = refl;
       falls = omega arith;
       stands = c.requires;
@@ -52,7 +52,7 @@ steps-preserved g c =
     let apart = subst (λ b. ZeroStepSettles m n c.steps.desk c.step.new.desk (Ok b)) c.in-Ok-true.field-0-test e.settles in
     record {
       read = read_both c.args.desk.now.pool c.steps.desk.pool c.step.new.desk.pool i.read e.read;
-      faults = e.cause.counted ∙ i.faults;
+      failures = e.cause.counted ∙ i.failures;
       last = e.last ∙ i.last;
       falls = omega arith;
       stands = subst (λ t. IfSome t (λ p. StandsWithin cmp (meaning p) (items_of n.queue) n.last)) (sym later) (within_goes cmp meaning note (told_pages c.steps.desk) mid new i.stands moves);
@@ -93,7 +93,7 @@ pub returns-in-Ok-false-clause-read : goal.returns-in-Ok-false-clause-read
 returns-in-Ok-false-clause-read g c = read_both c.args.desk.now.pool c.steps.desk.pool c.step.new.desk.pool c.steps.invariant.read c.in-Ok-false.ensures.read
 
 pub returns-in-Ok-false-clause-cause : goal.returns-in-Ok-false-clause-cause
-returns-in-Ok-false-clause-cause g c = record { counted = c.in-Ok-false.ensures.cause.counted ∙ c.steps.invariant.faults; damaged = tt }
+returns-in-Ok-false-clause-cause g c = record { counted = c.in-Ok-false.ensures.cause.counted ∙ c.steps.invariant.failures; damaged = tt }
 
 pub returns-in-Ok-false-clause-last : goal.returns-in-Ok-false-clause-last
 returns-in-Ok-false-clause-last g c = c.in-Ok-false.ensures.last ∙ c.steps.invariant.last
@@ -127,7 +127,7 @@ pub returns-in-Err-clause-read : goal.returns-in-Err-clause-read
 returns-in-Err-clause-read g c = read_both c.args.desk.now.pool c.steps.desk.pool c.step.new.desk.pool c.steps.invariant.read c.in-Err.ensures.read
 
 pub returns-in-Err-clause-cause : goal.returns-in-Err-clause-cause
-returns-in-Err-clause-cause g c = cause_later c.args.desk.now.pool c.steps.desk.pool c.step.new.desk.pool c.in-Err.fault c.steps.invariant.faults c.in-Err.ensures.cause
+returns-in-Err-clause-cause g c = cause_later c.args.desk.now.pool c.steps.desk.pool c.step.new.desk.pool c.in-Err.fault c.steps.invariant.failures c.in-Err.ensures.cause
 
 pub returns-in-Err-clause-last : goal.returns-in-Err-clause-last
 returns-in-Err-clause-last g c = c.in-Err.ensures.last ∙ c.steps.invariant.last

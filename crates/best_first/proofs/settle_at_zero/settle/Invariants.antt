@@ -1,4 +1,5 @@
 use Rattle.std.proofs.Common.{◌≡◌, ◌≤◌, IfSome}
+use Rattle.page_pool.specs.Causes.{failures_of}
 use Rattle.page_pool.specs.Reads.{IsRead}
 use Rattle.best_first.specs.Visits.{told_pages, state, Goes}
 use Rattle.best_first.specs.Steps.{steps}
@@ -10,7 +11,7 @@ use Rattle.best_first.proofs.settle_at_zero.settle.Given as goal
 abbrev pub invariant-steps : goal.invariant-steps
 invariant-steps g l = record {
   read : IsRead l.fn.desk.pool l.desk.pool;
-  faults : l.desk.pool.disk.faults ≡ l.fn.desk.pool.disk.faults;
+  failures : failures_of l.desk.pool ≡ failures_of l.fn.desk.pool;
   last : l.frontier.last ≡ l.fn.frontier.last;
   falls : steps (g.H.Hierarchy.weight l.hierarchy) (items_of l.frontier.queue) ≤ steps (g.H.Hierarchy.weight l.hierarchy) (items_of l.fn.frontier.queue);
   stands : IfSome (told_pages l.desk) (λ p. StandsWithin g.H.Node.Ord.cmp (g.H.Hierarchy.meaning l.hierarchy p) (items_of l.frontier.queue) l.frontier.last);

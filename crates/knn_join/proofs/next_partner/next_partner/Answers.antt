@@ -17,7 +17,7 @@ rows-init g c =
     record {
       hierarchy = refl;
       read = read_itself c.args.desk.now.pool;
-      faults = refl;
+      failures = refl;
       partners = refl;
       falls = omega arith;
       passes = begins g.H.Node.Ord.cmp (g.H.Hierarchy.meaning first.hierarchy) (g.H.Hierarchy.note first.hierarchy) c.args.partners.now
@@ -52,7 +52,7 @@ rows-preserved g c =
     record {
       hierarchy = e.hierarchy ∙ inv.hierarchy;
       read = read_both c.args.desk.now.pool c.rows.desk.pool c.next.new.desk.pool inv.read e.read;
-      faults = e.cause.counted ∙ inv.faults;
+      failures = e.cause.counted ∙ inv.failures;
       partners = why.0;
       falls = omega arith;
       passes = passes cmp (meaning first.hierarchy) (note first.hierarchy) c.args.partners.now old pages mid new hit last why.1 inv.passes call;

@@ -1,4 +1,5 @@
 use Rattle.std.proofs.Common.{◌≡◌, ◌≤◌, IfSome}
+use Rattle.page_pool.specs.Causes.{failures_of}
 use Rattle.page_pool.specs.Reads.{IsRead}
 use Rattle.best_first.specs.Visits.{told_pages, state}
 use Rattle.best_first.specs.Steps.{steps}
@@ -10,7 +11,7 @@ abbrev pub invariant-rows : goal.invariant-rows
 invariant-rows g l = record {
   hierarchy : l.engine.hierarchy ≡ l.fn.engine.hierarchy;
   read : IsRead l.fn.desk.pool l.desk.pool;
-  faults : l.desk.pool.disk.faults ≡ l.fn.desk.pool.disk.faults;
+  failures : failures_of l.desk.pool ≡ failures_of l.fn.desk.pool;
   partners : l.partners ≡ l.fn.partners;
   falls : steps (g.H.Hierarchy.weight l.fn.engine.hierarchy) (g.Q.Queue.held l.engine.frontier.queue) ≤ steps (g.H.Hierarchy.weight l.fn.engine.hierarchy) (g.Q.Queue.held l.fn.engine.frontier.queue);
   passes : IfSome (told_pages l.fn.desk) (λ p. Passes g.H.Node.Ord.cmp (g.H.Hierarchy.meaning l.fn.engine.hierarchy p) (g.H.Hierarchy.note l.fn.engine.hierarchy) l.fn.partners

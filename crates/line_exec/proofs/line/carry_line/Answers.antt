@@ -3,7 +3,7 @@ use Rattle.std.proofs.Common.{Bool, Some, Result, refl, subst}
 use Rattle.sand_base.specs.Faults.{HasCause}
 use Rattle.sand_base.specs.declared.source.Failed.{Failed}
 use Rattle.open_cursors.specs.OverPages.{StandOver}
-use Rattle.line_exec.proofs.Kept.{cause_of_sink, keeps_same, untold_sink}
+use Rattle.line_exec.proofs.Kept.{accepted_unread, cause_of_sink, keeps_same, untold_sink}
 use Rattle.line_exec.specs.KeptChanges.{no_changes}
 use Rattle.line_exec.specs.LineCarried.{CarriesKept, LineCarried}
 use Rattle.line_exec.proofs.LineSteps.{line_of_nothing, line_of_refusal}
@@ -61,3 +61,7 @@ pub returns-in-Err-clause-cause : goal.returns-in-Err-clause-cause
 returns-in-Err-clause-cause g c =
     cause_of_sink (g.K.Sink.faults c.args.out.now) (g.K.Sink.faults c.refuse.new.out) _ _ c.of_sink.result c.of_sink.ensures.sink
     (subst (λ (r : Result Bool Failed). HasCause (g.K.Sink.faults c.args.out.now) (g.K.Sink.faults c.refuse.new.out) r) c.of_sink.ensures.written c.refuse.ensures.cause) refl
+
+-- no page was read
+pub returns-in-Err-clause-unfailed : goal.returns-in-Err-clause-unfailed
+returns-in-Err-clause-unfailed g c = accepted_unread c.args.store.pool c.of_sink.result

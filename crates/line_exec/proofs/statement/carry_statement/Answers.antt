@@ -11,7 +11,7 @@ use Rattle.sand_base.specs.declared.source.Failed.{Failed}
 use Rattle.script_text.specs.InRange.{IsInRange}
 use Rattle.statements.specs.Statement.{Statement, statement_value}
 use Rattle.statement_exec.specs.Moment.{moment_of, while_open}
-use Rattle.line_exec.proofs.Kept.{cause_of_sink, err_written, keeps_same, ok_written, untold_change, untold_sink}
+use Rattle.line_exec.proofs.Kept.{accepted_change, accepted_read, cause_of_sink, err_written, keeps_same, ok_written, untold_change, untold_sink}
 use Rattle.line_exec.specs.Keeping.{sink_result}
 use Rattle.line_exec.specs.KeptChanges.{IsToKeep, no_changes}
 use Rattle.line_exec.specs.LineCarried.{CarriesKept, LineCarried}
@@ -108,3 +108,15 @@ pub returns-in-Err-clause-cause : goal.returns-in-Err-clause-cause
 returns-in-Err-clause-cause g c =
     cause_of_sink (g.K.Sink.faults c.args.out.now) (g.K.Sink.faults c.read_statement-read.new.out) _ _ c.of_sink.result c.of_sink.ensures.sink
     (subst (λ (r : Result Bool Failed). HasCause (g.K.Sink.faults c.args.out.now) (g.K.Sink.faults c.read_statement-read.new.out) r) c.of_sink.ensures.written c.read_statement-read.ensures.sink) refl
+
+-- an accepted line found no failure
+
+pub returns-in-Ok-clause-unfailed : goal.returns-in-Ok-clause-unfailed
+returns-in-Ok-clause-unfailed g c =
+    accepted_change _ c.args.store.pool c.change.new.store.pool (g.H.Shelf.faults c.args.shelf.now) (g.H.Shelf.faults c.change.new.shelf) c.in-Ok.made.answer c.finish_kept.result
+    c.in-Ok.ensures.counts c.finish_kept.ensures.written
+
+pub returns-in-Err-clause-unfailed : goal.returns-in-Err-clause-unfailed
+returns-in-Err-clause-unfailed g c =
+    accepted_read c.args.store c.change.new.store c.read_statement-read.result.0 c.read_statement-read.result.1 c.of_sink.result
+    c.in-Err.ensures.unchanged c.read_statement-read.ensures.cause c.of_sink.ensures.written

@@ -1,8 +1,12 @@
 -- the rows of a search, or why there is none
+use Rattle.std.proofs.Common.{refl}
 use Rattle.sand_base.specs.declared.source.Failed.{Failed}
 use Rattle.far_cursor.specs.FarCursor.{FarStands}
 use Rattle.plan_sources.specs.Rankings.{by_code}
-use Rattle.statement_exec.proofs.Endings.{at_most_one}
+use Rattle.output_text.specs.Writing.{Writes}
+use Rattle.sand_model.specs.OutputText.{IsText}
+use Rattle.statement_exec.specs.Ending.{refused_line}
+use Rattle.statement_exec.proofs.Endings.{line_cause, pages_unread}
 use Rattle.open_cursors.proofs.FarthestOutcomes.{begun_broken, begun_written, not_started}
 use Rattle.open_cursors.proofs.Showings.{over_store}
 use Rattle.open_cursors.proofs.farthest.far_line.Goals as goal
@@ -31,7 +35,14 @@ returns-in-Ok-print_far-clause-written g c = λ cs.
     c.end_with.result c.end_with.ensures.written c.end_with.ensures.prefix
 
 pub returns-in-Ok-print_far-clause-cause : goal.returns-in-Ok-print_far-clause-cause
-returns-in-Ok-print_far-clause-cause g c = at_most_one Failed c.args.desk.now.pool c.print_far.new.desk.pool c.in-Ok-print_far.end c.in-Ok-print_far.ensures.cause
+returns-in-Ok-print_far-clause-cause g c =
+    line_cause Failed (Writes (IsText (refused_line c.in-Ok-print_far.end)) (g.K.Sink.took c.print_far.new.out) (g.K.Sink.took c.end_with.new.out))
+    c.args.desk.now.pool c.print_far.new.desk.pool c.in-Ok-print_far.end c.end_with.result
+    c.in-Ok-print_far.ensures.cause c.end_with.ensures.written
+
+-- no page was read
+pub returns-in-Err-clause-cause : goal.returns-in-Err-clause-cause
+returns-in-Err-clause-cause g c = pages_unread c.args.desk.now.pool c.args.desk.now.pool c.refuse.result refl
 
 pub returns-clause-written : goal.returns-clause-written
 returns-clause-written g c = λ cs.

@@ -3,11 +3,14 @@ use Rattle.std.proofs.Common.{Result, Ok, Err, refl, ap, ◌∙◌, subst, arith
 use Rattle.sand_base.specs.Faults.{HasCause}
 use Rattle.sand_base.specs.declared.source.Failed.{Failed}
 use Rattle.page_pool.specs.Causes.{HasPageCause}
+use Rattle.page_pool.specs.Steps.{HasPageCause-before}
+use Rattle.page_pool.specs.declared.fault.PageFault.TheVariants.{Memory}
 use Rattle.best_first.specs.Visits.{told_pages}
 use Rattle.best_first.proofs.Passing.{read_itself, read_both, told_read}
 use Rattle.row_output.specs.Stepping.{printed_refusal}
 use Rattle.row_output.specs.declared.next.Next.{Next}
 use Rattle.row_output.specs.declared.next.Next.TheVariants.{Row, End, Refused}
+use Rattle.statement_exec.proofs.PageCauses.{caused_by_pages}
 use Rattle.open_cursors.specs.FarthestLines.{PrintsFarthest}
 use Rattle.open_cursors.proofs.FarthestSteps.{all_asked, as_before, at_break, at_end, at_refusal, none_yet, one_row, stands_on}
 use Rattle.open_cursors.proofs.StepCalls.{of_pages}
@@ -18,7 +21,7 @@ rows-init g c = record {
   few = omega arith;
   count = refl;
   read = read_itself c.args.desk.now.pool;
-  faults = refl;
+  failures = refl;
   sink = refl;
   hierarchy = refl;
   stands = c.requires.stands;
@@ -33,7 +36,7 @@ rows-preserved g c =
       few = omega (arith, less);
       count = refl;
       read = read_both c.args.desk.now.pool c.rows.desk.pool c.print_farthest.new.desk.pool c.rows.invariant.read c.print_farthest.ensures.read;
-      faults = (subst (λ r. HasPageCause c.rows.desk.pool c.print_farthest.new.desk.pool (printed_refusal r)) is c.print_farthest.ensures.refused).counted ∙ c.rows.invariant.faults;
+      failures = (subst (λ r. HasPageCause c.rows.desk.pool c.print_farthest.new.desk.pool (printed_refusal r)) is c.print_farthest.ensures.refused).counted ∙ c.rows.invariant.failures;
       sink = (subst (λ r. HasCause (g.K.Sink.faults c.rows.out) (g.K.Sink.faults c.print_farthest.new.out) r) is c.print_farthest.ensures.sink).done ∙ c.rows.invariant.sink;
       hierarchy = c.print_farthest.ensures.hierarchy ∙ c.rows.invariant.hierarchy;
       stands = stands_on c.rows.desk c.print_farthest.new.desk c.rows.far.search.hierarchy c.print_farthest.new.far.search.hierarchy c.print_farthest.new.far.search.frontier.queue.items c.print_farthest.new.far.search.frontier.last
@@ -83,3 +86,17 @@ returns-in-Err-clause-broken g c =
 
 pub returns-in-Ok-Refused-clause-pages : goal.returns-in-Ok-Refused-clause-pages
 returns-in-Ok-Refused-clause-pages g c = rw c.refusal_of.ensures (of_pages c.in-Ok-Refused.fault)
+
+-- why the pages refused, if they did
+pub returns-in-Ok-Refused-clause-cause : goal.returns-in-Ok-Refused-clause-cause
+returns-in-Ok-Refused-clause-cause g c =
+    let is = c.in-Ok-Refused.is ∙ ap Ok c.in-Ok-Refused.field-0-is in
+    rw c.refusal_of.ensures (caused_by_pages c.args.desk.now.pool c.print_farthest.new.desk.pool c.in-Ok-Refused.fault
+    (HasPageCause-before c.args.desk.now.pool c.rows.desk.pool c.print_farthest.new.desk.pool (Err c.in-Ok-Refused.fault) c.rows.invariant.failures
+    (subst (λ r. HasPageCause c.rows.desk.pool c.print_farthest.new.desk.pool (printed_refusal r)) is c.print_farthest.ensures.refused)))
+
+pub returns-in-Err-clause-cause : goal.returns-in-Err-clause-cause
+returns-in-Err-clause-cause g c = (
+  Memory,
+  (subst (λ r. HasPageCause c.rows.desk.pool c.print_farthest.new.desk.pool (printed_refusal r)) c.in-Err.is c.print_farthest.ensures.refused).counted ∙ c.rows.invariant.failures,
+)

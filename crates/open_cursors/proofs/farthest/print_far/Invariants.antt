@@ -1,4 +1,5 @@
 use Rattle.std.proofs.Common.{◌-◌, ◌≡◌, ◌≤◌, IfSome}
+use Rattle.page_pool.specs.Causes.{failures_of}
 use Rattle.page_pool.specs.Reads.{IsRead}
 use Rattle.best_first.specs.Visits.{told_pages}
 use Rattle.far_cursor.specs.FarCursor.{FarStands}
@@ -12,7 +13,7 @@ invariant-rows g l = record {
   few : l.rows ≤ l.count;
   count : l.count ≡ l.fn.count;
   read : IsRead l.fn.desk.pool l.desk.pool;
-  faults : l.desk.pool.disk.faults ≡ l.fn.desk.pool.disk.faults;
+  failures : failures_of l.desk.pool ≡ failures_of l.fn.desk.pool;
   sink : g.K.Sink.faults l.out ≡ g.K.Sink.faults l.fn.out;
   hierarchy : l.far.search.hierarchy ≡ l.fn.far.search.hierarchy;
   stands : IfSome (told_pages l.desk) (FarStands by_code l.far.search.hierarchy l.far.search.frontier.queue.items l.far.search.frontier.last);

@@ -3,7 +3,10 @@ use Rattle.plan_iterator.specs.Standing.{IsAt}
 use Rattle.plan_iterator.specs.Rows.{counts_of}
 use Rattle.sand_base.specs.declared.refusal.Refusal.TheVariants as why
 use Rattle.sand_base.specs.declared.source.Failed.{Failed}
-use Rattle.statement_exec.proofs.Endings.{at_most_one}
+use Rattle.output_text.specs.Writing.{Writes}
+use Rattle.sand_model.specs.OutputText.{IsText}
+use Rattle.statement_exec.specs.Ending.{refused_line}
+use Rattle.statement_exec.proofs.Endings.{line_cause}
 use Rattle.open_cursors.proofs.MoreSteps.{stays_refused}
 use Rattle.open_cursors.proofs.ToldSteps.{told_carried, told_broken}
 use Rattle.open_cursors.proofs.NextByName.{next_by_name, next_broken_by_name}
@@ -20,7 +23,10 @@ returns-in-Ok-clause-carried g c =
     c.in-Ok.end (rw c.in-Ok.is at c.print_next-store.ensures.cause) c.end_with.result c.end_with.ensures.written c.end_with.ensures.prefix (rw c.in-Ok.is at c.print_next-store.ensures.steps)
 
 pub returns-in-Ok-clause-cause : goal.returns-in-Ok-clause-cause
-returns-in-Ok-clause-cause g c = at_most_one Failed c.args.store.pool c.print_next-store.result.0.pool c.in-Ok.end (rw c.in-Ok.is at c.print_next-store.ensures.cause)
+returns-in-Ok-clause-cause g c =
+    line_cause Failed (Writes (IsText (refused_line c.in-Ok.end)) (g.K.Sink.took c.print_next-store.new.out) (g.K.Sink.took c.end_with.new.out))
+    c.args.store.pool c.print_next-store.result.0.pool c.in-Ok.end c.end_with.result
+    (rw c.in-Ok.is at c.print_next-store.ensures.cause) c.end_with.ensures.written
 
 pub returns-in-Err-clause-carried : goal.returns-in-Err-clause-carried
 returns-in-Err-clause-carried g c =
@@ -33,13 +39,15 @@ returns-in-Err-clause-carried g c =
 -- by the names, whatever rows were printed
 pub returns-in-Ok-clause-named : goal.returns-in-Ok-clause-named
 returns-in-Ok-clause-named g c = λ untold cs own all catalog.
-    next_by_name catalog cs c.args.store.pool c.print_next-store.result.0.pool c.print_next-store.ensures.read c.args.name.now c.args.count untold c.args.cursors.now.items c.print_next-store.new.cursors.items own all
+    next_by_name catalog cs
+    c.args.store.pool c.print_next-store.result.0.pool c.print_next-store.ensures.read c.args.name.now c.args.count untold c.args.cursors.now.items c.print_next-store.new.cursors.items own all
     c.print_next-store.ensures.names (g.K.Sink.took c.args.out.now) (g.K.Sink.took c.print_next-store.new.out) (g.K.Sink.took c.end_with.new.out) c.in-Ok.end
     (rw c.in-Ok.is at c.print_next-store.ensures.cause) (rw c.in-Ok.is at c.print_next-store.ensures.unknown)
     c.print_next-store.ensures.silent (rw c.in-Ok.is at c.print_next-store.ensures.rows) c.end_with.result c.end_with.ensures.written c.end_with.ensures.prefix
 
 pub returns-in-Err-clause-named : goal.returns-in-Err-clause-named
 returns-in-Err-clause-named g c = λ untold cs own all catalog.
-    next_broken_by_name catalog cs c.args.store.pool c.print_next-store.result.0.pool c.print_next-store.ensures.read c.args.name.now c.args.count untold c.args.cursors.now.items c.print_next-store.new.cursors.items own all
+    next_broken_by_name catalog cs
+    c.args.store.pool c.print_next-store.result.0.pool c.print_next-store.ensures.read c.args.name.now c.args.count untold c.args.cursors.now.items c.print_next-store.new.cursors.items own all
     c.print_next-store.ensures.names (g.K.Sink.took c.args.out.now) (g.K.Sink.took c.print_next-store.new.out) c.in-Err.field-0
     (rw c.in-Err.is at c.print_next-store.ensures.unknown) (rw c.in-Err.is at c.print_next-store.ensures.rows)

@@ -86,7 +86,7 @@ returns-clause-cause g c =
     (λ x. same_name x.name c.args.name.now) c.in-Some.at c.index_mut-open.result.now c.index_mut-open.ensures.value c.requires.held
     (first_shown c.deref.result.now c.args.cursors.now.items c.as_str.result.now c.args.name.now c.place_of.result c.in-Some.at c.place_of.ensures c.as_str.ensures c.deref.ensures.value c.in-Some.is)) in
     subst (λ (k : StoreState). PagesHaveCause c.args.store.pool k.pool c.print_steps-printed.result) (sym c.rejoin.ensures)
-    (cause_back Failed c.args.store.pool c.print_steps-printed.new.desk.pool held.0
+    (cause_back Failed c.args.store.pool c.print_steps-printed.new.desk.pool c.index_mut-open.result.now.stamp held.0 held.1
     (subst (λ (d : DeskState). IsRead d.pool c.print_steps-printed.new.desk.pool) (c.part_at-catalog.ensures.desk held.0 held.1) c.print_steps-printed.ensures.read) c.print_steps-printed.result
     (subst (λ (d : DeskState). PagesHaveCause d.pool c.print_steps-printed.new.desk.pool c.print_steps-printed.result)
     (c.part_at-catalog.ensures.desk held.0 held.1) c.print_steps-printed.ensures.cause))

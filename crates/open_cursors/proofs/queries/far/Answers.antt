@@ -5,7 +5,7 @@ use Rattle.page_pool.specs.Reads.{IsRead}
 use Rattle.statements.specs.Statement.{Far}
 use Rattle.sand_store.specs.Catalog.{CatalogView}
 use Rattle.sand_store.specs.Standing.{IsStore}
-use Rattle.statement_exec.specs.Ending.{RisesByOne}
+use Rattle.statement_exec.specs.Ending.{PagesHaveLineCause}
 use Rattle.statement_exec.specs.Printing.{WritesOf}
 use Rattle.open_cursors.specs.Outcomes.{PerformsBeside}
 use Rattle.open_cursors.proofs.Lent.{lent, shows_live}
@@ -30,5 +30,5 @@ returns-clause-read g c =
 pub returns-clause-cause : goal.returns-clause-cause
 returns-clause-cause g c =
     lent (λ (k : CatalogView) (p q : PoolState).
-    RisesByOne p.disk.faults q.disk.faults) c.args.store c.rejoin.result c.part-catalog.result.0 c.part-catalog.result.1 c.far_line-printed.new.desk c.part-catalog.ensures.whole.closed.1
+    PagesHaveLineCause p q c.far_line-printed.result) c.args.store c.rejoin.result c.part-catalog.result.0 c.part-catalog.result.1 c.far_line-printed.new.desk c.part-catalog.ensures.whole.closed.1
     c.part-catalog.ensures.catalog c.part-catalog.ensures.desk c.far_line-printed.ensures.read c.rejoin.ensures c.far_line-printed.ensures.cause

@@ -4,6 +4,8 @@ use Rattle.best_first.specs.Visits.{told_pages}
 use Rattle.plan_iterator.specs.Standing.{IsAt}
 use Rattle.plan_iterator.specs.Rows.{counts_of}
 use Rattle.plan_iterator.specs.Paying.{prices}
+use Rattle.page_pool.specs.declared.fault.PageFault.TheVariants.{Memory}
+use Rattle.statement_exec.proofs.PageCauses.{caused_by_pages}
 use Rattle.open_cursors.proofs.CausedSteps.{page_no_file}
 use Rattle.open_cursors.proofs.RowsWritten.{rows_ended, rows_refused, rows_failed}
 use Rattle.open_cursors.proofs.StepCalls.{of_pages, told_end, told_fault, told_broken, told_stands}
@@ -59,3 +61,11 @@ returns-in-Ok-Refused-clause-rows g c =
 
 pub returns-in-Err-clause-rows : goal.returns-in-Err-clause-rows
 returns-in-Err-clause-rows g c = rows_failed c.args.count (g.K.Sink.took c.args.out.now) (g.K.Sink.took c.print_rows.new.out) c.in-Err.field-0 c.in-Err.ensures.lines
+
+-- why the pages refused, if they did
+pub returns-in-Ok-Refused-clause-cause : goal.returns-in-Ok-Refused-clause-cause
+returns-in-Ok-Refused-clause-cause g c =
+    rw c.refusal_of.ensures (caused_by_pages c.args.desk.now.pool c.print_rows.new.desk.pool c.in-Ok-Refused.fault (rw c.in-Ok-Refused.field-0-is at c.in-Ok-Refused.ensures.refused))
+
+pub returns-in-Err-clause-cause : goal.returns-in-Err-clause-cause
+returns-in-Err-clause-cause g c = (Memory, c.in-Err.ensures.refused.counted)

@@ -4,7 +4,10 @@ use Rattle.plan_iterator.specs.Standing.{IsAt}
 use Rattle.plan_iterator.specs.Rows.{counts_of}
 use Rattle.sand_base.specs.declared.refusal.Refusal.TheVariants as why
 use Rattle.sand_base.specs.declared.source.Failed.{Failed}
-use Rattle.statement_exec.proofs.Endings.{at_most_one}
+use Rattle.output_text.specs.Writing.{Writes}
+use Rattle.sand_model.specs.OutputText.{IsText}
+use Rattle.statement_exec.specs.Ending.{refused_line}
+use Rattle.statement_exec.proofs.Endings.{line_cause}
 use Rattle.open_cursors.proofs.MoreSteps.{stays_refused}
 use Rattle.open_cursors.proofs.NewRows.{told_rows, told_rows_broken}
 use Rattle.open_cursors.proofs.Written.{rows_written, rows_broken}
@@ -18,7 +21,10 @@ returns-in-Ok-clause-written g c =
     c.in-Ok.end c.in-Ok.ensures.cause c.end_with.result c.end_with.ensures.written c.end_with.ensures.prefix c.in-Ok.ensures.steps
 
 pub returns-in-Ok-clause-cause : goal.returns-in-Ok-clause-cause
-returns-in-Ok-clause-cause g c = at_most_one Failed c.args.desk.now.pool c.print_steps.new.desk.pool c.in-Ok.end c.in-Ok.ensures.cause
+returns-in-Ok-clause-cause g c =
+    line_cause Failed (Writes (IsText (refused_line c.in-Ok.end)) (g.K.Sink.took c.print_steps.new.out) (g.K.Sink.took c.end_with.new.out))
+    c.args.desk.now.pool c.print_steps.new.desk.pool c.in-Ok.end c.end_with.result
+    c.in-Ok.ensures.cause c.end_with.ensures.written
 
 pub returns-in-Err-clause-written : goal.returns-in-Err-clause-written
 returns-in-Err-clause-written g c =

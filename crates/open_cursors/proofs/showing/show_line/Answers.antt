@@ -1,8 +1,9 @@
 -- the rows of a new cursor, or why there is none
-use Rattle.std.proofs.Common.{[]}
+use Rattle.std.proofs.Common.{[], refl}
 use Rattle.statements.specs.Plan.{plan_value}
 use Rattle.sand_model.specs.Cursor.{Cursor, new_cursor}
 use Rattle.sand_store.specs.Contents.{database_in}
+use Rattle.statement_exec.proofs.Endings.{pages_unread}
 use Rattle.open_cursors.specs.PlanCursors.{PlanOver}
 use Rattle.open_cursors.proofs.Showings.{over_store, show_written, show_not_started}
 use Rattle.open_cursors.proofs.showing.show_line.Goals as goal
@@ -23,3 +24,7 @@ pub returns-in-Err-clause-written : goal.returns-in-Err-clause-written
 returns-in-Err-clause-written g c = λ cs.
     show_not_started c.args.catalog.now c.args.count (plan_value c.args.plan.now) cs c.args.desk.now.pool (g.K.Sink.took c.args.out.now) (g.K.Sink.took c.refuse.new.out)
     c.in-Err.why c.in-Err.ensures.refused c.refuse.result c.refuse.ensures.written c.refuse.ensures.prefix
+
+-- no page was read
+pub returns-in-Err-clause-cause : goal.returns-in-Err-clause-cause
+returns-in-Err-clause-cause g c = pages_unread c.args.desk.now.pool c.args.desk.now.pool c.refuse.result refl

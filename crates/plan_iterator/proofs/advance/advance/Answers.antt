@@ -12,7 +12,7 @@ use Rattle.plan_iterator.proofs.advance.advance.Goals as goal
 pub steps-init : goal.steps-init
 steps-init g c = record {
   read = read_itself c.args.desk.now.pool;
-  faults = refl;
+  failures = refl;
   falls = omega arith;
   passed =
       told_first g.S.RowSource.At g.T.RowStage.Stands g.T.RowStage.closed (prices g.S.RowSource.heights g.S.RowSource.step_price g.S.RowSource.owed g.T.RowStage.price g.T.RowStage.owed)
@@ -36,7 +36,7 @@ steps-preserved g c =
     let less : steps c.step.new.self < steps c.steps.operator = subst (λ r. Lowers (steps c.steps.operator) (steps c.step.new.self) r) is c.step.ensures.falls in
     record {
       read = read_both c.args.desk.now.pool c.steps.desk.pool c.step.new.desk.pool c.steps.invariant.read c.step.ensures.read;
-      faults = c.in-Ok-Pass.ensures.cause.counted ∙ c.steps.invariant.faults;
+      failures = c.in-Ok-Pass.ensures.cause.counted ∙ c.steps.invariant.failures;
       falls = omega (arith, less, before);
       passed =
           told_more g.S.RowSource.At g.T.RowStage.Stands g.T.RowStage.closed

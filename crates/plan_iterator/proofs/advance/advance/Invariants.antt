@@ -1,4 +1,5 @@
 use Rattle.std.proofs.Common.{◌≡◌, IfSome, ◌≤◌}
+use Rattle.page_pool.specs.Causes.{failures_of}
 use Rattle.page_pool.specs.Reads.{IsRead}
 use Rattle.best_first.specs.Visits.{told_pages}
 use Rattle.plan_iterator.specs.Rows.{counts_of}
@@ -11,7 +12,7 @@ use Rattle.plan_iterator.proofs.advance.advance.Given as goal
 abbrev pub invariant-steps : goal.invariant-steps
 invariant-steps g l = record {
   read : IsRead l.fn.desk.pool l.desk.pool;
-  faults : l.desk.pool.disk.faults ≡ l.fn.desk.pool.disk.faults;
+  failures : failures_of l.desk.pool ≡ failures_of l.fn.desk.pool;
   falls : steps_of g.S.RowSource.steps g.T.RowStage.steps l.operator ≤ steps_of g.S.RowSource.steps g.T.RowStage.steps l.fn.operator;
   passed : IfSome (told_pages l.fn.desk) (PassedFrom g.S.RowSource.At g.T.RowStage.Stands g.T.RowStage.closed
       (prices g.S.RowSource.heights g.S.RowSource.step_price g.S.RowSource.owed g.T.RowStage.price g.T.RowStage.owed)

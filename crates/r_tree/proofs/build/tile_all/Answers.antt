@@ -13,7 +13,7 @@ use Rattle.r_tree.proofs.build.tile_all.Goals as goal
 pub levels-init : goal.levels-init
 levels-init g c = record {
   within = InCommand-refl c.args.pool.now;
-  faults = refl;
+  failures = refl;
   gets = refl;
   top = level_first (pages_in c.args.pool.now) c.in_ok-entries.entries.items c.args.list.now c.in_ok-entries.ensures;
 }
@@ -36,7 +36,7 @@ levels-preserved g c =
     let level : suc l ≡ c.in-Some.above = omega (arith, c.in-Some.ensures) in
     record {
       within = InCommand-trans c.args.pool.now c.levels.pool c.tile_level.new.pool c.levels.invariant.within c.in_ok-entries-2.ensures.within;
-      faults = c.in_ok-entries-2.ensures.cause.counted ∙ c.levels.invariant.faults;
+      failures = c.in_ok-entries-2.ensures.cause.counted ∙ c.levels.invariant.failures;
       gets = c.in_ok-entries-2.ensures.gets ∙ c.levels.invariant.gets;
       top = subst T level (level_next m u w l es row c.args.list.now many c.levels.invariant.top (subst B (is_inner_test l) (subst E c.deref_mut.ensures.value c.in_ok-entries-2.ensures.value)));
     }

@@ -1,5 +1,6 @@
 -- each level has fewer entries; those of the last one are a root's
 use Rattle.std.proofs.Common.{◌≡◌, length}
+use Rattle.page_pool.specs.Causes.{failures_of}
 use Rattle.page_pool.specs.Steps.{InCommand}
 use Rattle.code_btree.specs.Tree.{pages_in}
 use Rattle.r_tree.specs.Steps.{IsTop}
@@ -8,7 +9,7 @@ use Rattle.r_tree.proofs.build.tile_all.Given as goal
 abbrev pub invariant-levels : goal.invariant-levels
 invariant-levels g l = record {
   within : InCommand l.initial.pool l.pool;
-  faults : l.pool.disk.faults ≡ l.initial.pool.disk.faults;
+  failures : failures_of l.pool ≡ failures_of l.initial.pool;
   gets : l.pool.gets ≡ l.initial.pool.gets;
   top : IsTop (pages_in l.initial.pool) (pages_in l.pool) l.level l.entries.items l.list;
 }

@@ -1,10 +1,11 @@
 -- The step that was made, and the line that was written.
-use Rattle.std.proofs.Common.{Some, None, Ok, Err, refl, ap, ◌∙◌}
+use Rattle.std.proofs.Common.{◌≡◌, Some, None, Ok, Err, refl, ap, subst, ◌∙◌}
 use Rattle.best_first.specs.Visits.{told_pages}
 use Rattle.plan_iterator.specs.Rows.{counts_of}
+use Rattle.plan_iterator.specs.CursorStep.{number_after}
 use Rattle.plan_iterator.specs.Paying.{prices}
 use Rattle.row_output.specs.declared.next.Next.TheVariants.{Row, End, Refused}
-use Rattle.row_output.proofs.Stepped.{prints_told, row_broken, end_broken}
+use Rattle.row_output.proofs.Stepped.{prints_told, row_broken, end_broken, counts_broken}
 use Rattle.row_output.proofs.next.print_next.Goals as goal
 
 pub returns-in_ok-print_row-in-Ok-Some-clause-step : goal.returns-in_ok-print_row-in-Ok-Some-clause-step
@@ -68,3 +69,23 @@ returns-in_err-write_line-in-Ok-None-clause-line g c = (
   end_broken c.from_residual-in_err-write_line-in-Ok-None.result (g.K.Sink.took c.args.out.now) (g.K.Sink.took c.write_line.new.out) c.from_residual-in_err-write_line-in-Ok-None.ensures.0
       c.in_err-write_line-in-Ok-None.ensures.prefix,
 )
+
+-- the number of the cursor's rows
+
+pub returns-in_ok-print_row-in-Ok-Some-clause-number : goal.returns-in_ok-print_row-in-Ok-Some-clause-number
+returns-in_ok-print_row-in-Ok-Some-clause-number g c =
+    subst (λ r. c.next.new.self.given ≡ number_after c.args.cursor.now.given r) (c.in-Ok-Some.is ∙ ap Ok c.in-Ok-Some.field-0-is) c.next.ensures.number
+
+pub returns-in_ok-write_line-in-Ok-None-clause-number : goal.returns-in_ok-write_line-in-Ok-None-clause-number
+returns-in_ok-write_line-in-Ok-None-clause-number g c =
+    subst (λ r. c.next.new.self.given ≡ number_after c.args.cursor.now.given r) (c.in-Ok-None.is ∙ ap Ok c.in-Ok-None.field-0-is) c.next.ensures.number
+
+pub returns-in-Err-clause-number : goal.returns-in-Err-clause-number
+returns-in-Err-clause-number g c = subst (λ r. c.next.new.self.given ≡ number_after c.args.cursor.now.given r) c.in-Err.is c.next.ensures.number
+
+pub returns-in_err-print_row-in-Ok-Some-clause-number : goal.returns-in_err-print_row-in-Ok-Some-clause-number
+returns-in_err-print_row-in-Ok-Some-clause-number g c = counts_broken c.args.cursor.now.given c.next.new.self.given c.from_residual.result c.from_residual.ensures.0
+
+pub returns-in_err-write_line-in-Ok-None-clause-number : goal.returns-in_err-write_line-in-Ok-None-clause-number
+returns-in_err-write_line-in-Ok-None-clause-number g c =
+    counts_broken c.args.cursor.now.given c.next.new.self.given c.from_residual-in_err-write_line-in-Ok-None.result c.from_residual-in_err-write_line-in-Ok-None.ensures.0

@@ -1,5 +1,5 @@
 -- the changes of the journal led the store on, and then the script; or the replay stopped
-use Rattle.std.proofs.Common.{◌≤◌, ◌^◌, List, [], Some, refl, sym, ap, subst, ◌∙◌, nat_cmp, arith}
+use Rattle.std.proofs.Common.{ℕ, ◌≤◌, ◌^◌, List, [], Some, refl, sym, ap, subst, ◌∙◌, nat_cmp, arith}
 use Rattle.std.specs.FinMap as map
 use Rattle.open_cursors.proofs.HeldStamps.{held_settled}
 use Rattle.open_cursors.specs.OpenCursors.{AreHeld}
@@ -45,7 +45,7 @@ returns-in-Ok-clause-promise g c =
     (g.H.Shelf.faults c.args.shelf.now) c.args.store.pool.disk c.replay.new.store.pool.disk (g.K.Sink.took c.args.out.now) (g.K.Sink.faults c.args.out.now)
     (outside_of (g.S.Source.left c.run_on.new.script) (g.S.Source.faults c.run_on.new.script) (g.H.Shelf.files c.run_on.new.shelf)
     (g.H.Shelf.faults c.run_on.new.shelf) (g.D.Disk.seen c.run_on.result.1) (g.K.Sink.took c.run_on.new.out)
-    (g.K.Sink.faults c.run_on.new.out)) c.in-Ok.ensures.cause.1 (state_with [] (database c.replay.new.store)) promise.0 (Some promise.1) (Some promise.2) c.run_on.result.0
+    (g.K.Sink.faults c.run_on.new.out)) (ap (λ (n : ℕ × ℕ). n.0) c.in-Ok.ensures.cause.1) (state_with [] (database c.replay.new.store)) promise.0 (Some promise.1) (Some promise.2) c.run_on.result.0
     (subst (λ (l : Limits). EndsKeeping (state_with [] (database c.replay.new.store)) promise.0 (Some promise.1) (Some promise.2) c.run_on.result.0 l
     (outside_of (g.S.Source.left c.args.script.now) (g.S.Source.faults c.args.script.now) (g.H.Shelf.files c.args.shelf.now)
     (g.H.Shelf.faults c.args.shelf.now) c.replay.new.store.pool.disk (g.K.Sink.took c.args.out.now) (g.K.Sink.faults c.args.out.now)) (outside_of

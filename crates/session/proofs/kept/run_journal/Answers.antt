@@ -3,7 +3,7 @@ use Rattle.std.proofs.Common.{ap, subst}
 use Rattle.sand_base.specs.declared.limits.Limits.{Limits}
 use Rattle.sand_store.specs.Catalog.{StoreState}
 use Rattle.session.specs.KeptRun.{EndsWithTape, HasBadRecord, StartsWith}
-use Rattle.session.specs.KeptTape.{KeepsTape, LosesNothing, image_of}
+use Rattle.session.specs.KeptTape.{KeepsTape, LosesNothing, read_opened}
 use Rattle.session.specs.Outside.{outside_of}
 use Rattle.session.proofs.KeptEndings.{Kept-counted, Kept-unstarted}
 use Rattle.session.proofs.KeptStatuses.{Unstarted}
@@ -25,7 +25,7 @@ returns-in-Ok-clause-promise g c =
     (StartsWith (g.T.Tape.seen c.args.tape))
     (KeepsTape g.T.Tape.seen c.run_opened.result.0 c.args.tape c.run_opened.result.2)
     (HasBadRecord c.in-Ok.store.catalog.limits (g.D.Disk.seen c.run_opened.result.1).told (g.T.Tape.seen c.args.tape).told
-    (image_of (g.T.Tape.seen c.args.tape).bytes)) (LosesNothing (g.T.Tape.seen c.args.tape) (g.T.Tape.seen c.run_opened.result.2)) c.in-Ok.ensures.counted c.run_opened.result.0 c.run_opened.ensures.promise)
+    (read_opened (g.T.Tape.seen c.args.tape).bytes)) (LosesNothing (g.T.Tape.seen c.args.tape) (g.T.Tape.seen c.run_opened.result.2)) c.in-Ok.ensures.counted c.run_opened.result.0 c.run_opened.ensures.promise)
 
 pub returns-in-Err-clause-promise : goal.returns-in-Err-clause-promise
 returns-in-Err-clause-promise g c =

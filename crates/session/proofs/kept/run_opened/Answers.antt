@@ -4,7 +4,7 @@ use Rattle.page_pool.specs.Disk.{DiskView}
 use Rattle.sand_journal.specs.Journal.{IsOnlyRead}
 use Rattle.session.specs.Ends.{tape_after}
 use Rattle.session.specs.KeptRun.{HasAll, HasBadRecord, StartsWith}
-use Rattle.session.specs.KeptTape.{KeepsBehind, KeepsTape, LosesNothing, image_of}
+use Rattle.session.specs.KeptTape.{KeepsBehind, KeepsTape, LosesNothing, read_opened}
 use Rattle.session.specs.declared.status.Status.TheVariants as status
 use Rattle.session.specs.Outside.{outside_of}
 use Rattle.session.proofs.KeptEndings.{Kept-weaker, Unbegun}
@@ -22,7 +22,7 @@ returns-in-Ok-clause-promise g c =
     (KeepsBehind g.T.Tape.seen c.run_behind.result.0 c.in-Ok.journal.tape c.run_behind.result.2)
     (KeepsTape g.T.Tape.seen c.run_behind.result.0 c.args.tape c.run_behind.result.2)
     (HasBadRecord c.args.store.catalog.limits (g.D.Disk.seen c.run_behind.result.1).told (g.T.Tape.seen c.in-Ok.journal.tape).told (g.T.Tape.seen c.in-Ok.journal.tape).bytes)
-    (HasBadRecord c.args.store.catalog.limits (g.D.Disk.seen c.run_behind.result.1).told (g.T.Tape.seen c.args.tape).told (image_of (g.T.Tape.seen c.args.tape).bytes))
+    (HasBadRecord c.args.store.catalog.limits (g.D.Disk.seen c.run_behind.result.1).told (g.T.Tape.seen c.args.tape).told (read_opened (g.T.Tape.seen c.args.tape).bytes))
     (IsOnlyRead (g.T.Tape.seen c.in-Ok.journal.tape) (g.T.Tape.seen c.run_behind.result.2)) (LosesNothing (g.T.Tape.seen c.args.tape) (g.T.Tape.seen c.run_behind.result.2))
     (λ changes. Starts-opened (g.T.Tape.seen c.args.tape) (g.T.Tape.seen c.in-Ok.journal.tape) changes c.in-Ok.ensures.opened)
     (λ changes shown untold keeps. record { opened = c.in-Ok.journal.tape; opens = c.in-Ok.ensures.opened; keeps = keeps })
@@ -39,7 +39,7 @@ returns-in-Err-clause-promise g c =
       Unbegun c.args.store.catalog.limits (g.S.Source.left c.args.script.now) (g.S.Source.faults c.args.script.now) (g.H.Shelf.files c.args.shelf.now)
           (g.H.Shelf.faults c.args.shelf.now) c.args.store.pool.disk (g.D.Disk.seen c.into_disk.result) (g.K.Sink.took c.args.out.now) (g.K.Sink.faults c.args.out.now)
           (StartsWith (g.T.Tape.seen c.args.tape)) (KeepsTape g.T.Tape.seen status.JournalFault c.args.tape c.in-Err.tape)
-          (HasBadRecord c.args.store.catalog.limits (g.D.Disk.seen c.into_disk.result).told (g.T.Tape.seen c.args.tape).told (image_of (g.T.Tape.seen c.args.tape).bytes))
+          (HasBadRecord c.args.store.catalog.limits (g.D.Disk.seen c.into_disk.result).told (g.T.Tape.seen c.args.tape).told (read_opened (g.T.Tape.seen c.args.tape).bytes))
           (LosesNothing (g.T.Tape.seen c.args.tape) (g.T.Tape.seen c.in-Err.tape)) c.in-Err.ensures.unread
           (ap (λ (d : DiskView). d.faults) c.into_disk.ensures),
       c.in-Err.ensures.unread,

@@ -21,7 +21,7 @@ unfolding zero_page
 returns-clause-allocated g c =
     let opened : c.self.inside.is_open ≡ true = open_is c.self.inside.is_open c.self.inside.archive.pages (subst (λ s. IsSome s.beginning) (sym c.self.view_is) c.requires) in
     let takes : TakesNumber c.self.inside.numbers c.take.new.self c.in-Some.n = subst (λ o. IfSome o (TakesNumber c.self.inside.numbers c.take.new.self)) (sym c.in-Some.ensures) c.take.ensures in
-    subst (λ old. Allocates old (state_of c.self.inside.archive c.insert.new.self c.self.inside.frames c.take.new.self c.self.inside.is_open c.self.inside.gets c.self.inside.refused) c.in-Some.n) c.self.view_is
-    (allocates_state c.self.inside.archive c.self.inside.staged c.insert.new.self c.self.inside.frames c.self.inside.numbers c.take.new.self c.self.inside.is_open c.self.inside.gets c.self.inside.refused c.in-Some.n opened
+    subst (λ old. Allocates old (state_of c.self.inside.archive c.insert.new.self c.self.inside.frames c.take.new.self c.self.inside.is_open c.self.inside.gets c.self.inside.damages) c.in-Some.n) c.self.view_is
+    (allocates_state c.self.inside.archive c.self.inside.staged c.insert.new.self c.self.inside.frames c.self.inside.numbers c.take.new.self c.self.inside.is_open c.self.inside.gets c.self.inside.damages c.in-Some.n opened
     (c.in_ok-insert.ensures.staged ∙ ap (λ page. map.insert c.self.inside.staged.changes c.in-Some.n (Some page)) c.in_ok-page.ensures)
     takes c.self.invariant)

@@ -1,6 +1,7 @@
 use Rattle.std.proofs.Common.{◌≡◌, ℕ, Some, None, sym, ap, subst, ◌∙◌}
 use Rattle.std.specs.FinMap as map
 use Rattle.std.proofs.lemmas.Result.{err_from_is_err_and}
+use Rattle.page_pool.specs.Causes.{failures_of}
 use Rattle.page_pool.specs.Commands.{WritesPages, WritesInOrder}
 use Rattle.page_pool.specs.Inside.{IsWhole, state_of}
 use Rattle.page_pool.proofs.WritesAdd.{nothing_staged, whole-opened, writes_opened, all_stored, advance_refused}
@@ -34,11 +35,11 @@ returns-in_err-flush g c =
 pub returns-in_err-advance : goal.returns-in_err-advance
 returns-in_err-advance g c =
     let p = err_from_is_err_and c.from_residual-in_err-advance.result c.from_residual-in_err-advance.ensures.1 in
-    let as_written : c.flush.new.self ≡ state_of c.advance.new.self c.self.inside.staged c.self.inside.frames c.self.inside.numbers c.self.inside.is_open c.self.inside.gets c.self.inside.refused =
-    sym c.self.view_is ∙ ap (λ a. state_of a c.self.inside.staged c.self.inside.frames c.self.inside.numbers c.self.inside.is_open c.self.inside.gets c.self.inside.refused)
+    let as_written : c.flush.new.self ≡ state_of c.advance.new.self c.self.inside.staged c.self.inside.frames c.self.inside.numbers c.self.inside.is_open c.self.inside.gets c.self.inside.damages =
+    sym c.self.view_is ∙ ap (λ a. state_of a c.self.inside.staged c.self.inside.frames c.self.inside.numbers c.self.inside.is_open c.self.inside.gets c.self.inside.damages)
     (sym c.in_err-advance.ensures.unchanged) in
     let refused = advance_refused c.args.self.now c.flush.new.self
-    (state_of c.advance.new.self c.self.inside.staged c.self.inside.frames c.self.inside.numbers c.self.inside.is_open c.self.inside.gets c.self.inside.refused) tt as_written c.in_ok-flush.ensures.writes c.flush.ensures.closed in
+    (state_of c.advance.new.self c.self.inside.staged c.self.inside.frames c.self.inside.numbers c.self.inside.is_open c.self.inside.gets c.self.inside.damages) tt as_written c.in_ok-flush.ensures.writes c.flush.ensures.closed in
     rw (p.1, p.2) record { writes = refused.0; opened = tt; closed = refused.1.1 }
 
 pub returns : goal.returns
@@ -48,11 +49,14 @@ returns g c =
     let none : (q : ℕ) → map.get c.self.inside.staged.changes q ≡ None = nothing_staged c.self.inside.staged.changes dirty freed in
     record {
       writes = record {
-        writes = writes_opened c.args.self.now c.self.inside.archive c.advance.new.self c.self.inside.staged c.self.inside.frames c.self.inside.numbers c.settle.new.self c.self.inside.is_open c.self.inside.gets c.self.inside.refused
+        writes = writes_opened c.args.self.now c.self.inside.archive c.advance.new.self c.self.inside.staged c.self.inside.frames c.self.inside.numbers c.settle.new.self c.self.inside.is_open c.self.inside.gets c.self.inside.damages
             none c.in_ok-advance.ensures.begun (ap (λ s. s.top) c.settle.ensures) (subst (WritesPages c.args.self.now) (sym c.self.view_is) c.in_ok-flush.ensures.writes.writes);
         ascending = subst (WritesInOrder c.args.self.now) (sym c.self.view_is) c.in_ok-flush.ensures.writes.ascending;
         accepted = record { dirty = dirty; freed = freed };
-        cause = record { counted = ap (λ d. d.faults) c.in_ok-advance.ensures.begun.disk ∙ ap (λ s. s.disk.faults) c.self.view_is ∙ c.in_ok-flush.ensures.writes.cause.counted; damaged = tt };
+        cause = record {
+          counted = ap (λ d. (d.faults, c.self.inside.damages)) c.in_ok-advance.ensures.begun.disk ∙ ap (λ s. failures_of s) c.self.view_is ∙ c.in_ok-flush.ensures.writes.cause.counted;
+          damaged = tt;
+        };
         undamaged = tt;
       };
       opened = ap (λ m. Some m) (sym (all_stored c.advance.new.self.pages c.self.inside.staged.changes none));

@@ -3,10 +3,10 @@ use Rattle.std.specs.FinMap as map
 use Rattle.std.proofs.lemmas.Result.{err_from_is_err_and}
 use Rattle.page_pool.specs.declared.fault.PageFault.TheVariants.{Memory}
 use Rattle.page_pool.specs.Archive.{ReadsImage}
-use Rattle.page_pool.specs.Causes.{refused_after}
+use Rattle.page_pool.specs.Inside.{damages_after}
 use Rattle.page_pool.proofs.Loads.{whole_read}
 use Rattle.page_pool.proofs.Viewed.{some_and, if_some, older_live, whole_seen}
-use Rattle.page_pool.proofs.Older.{refused_same, gets_older, got_older}
+use Rattle.page_pool.proofs.Older.{damages_same, gets_older, got_older}
 use Rattle.page_pool.proofs.pool.Pool.find_older.Goals as goal
 use Rattle.page_pool.proofs.pool.Pool.find_older.Goals.{then-not-has_image+in_ok-read+in_ok-put_image, else-not-has_image}
 
@@ -33,15 +33,15 @@ returns-in_err-read g c =
         refl,
         λ _. tt,
         gets_older c.self.inside.archive c.read_seen-read.new.self c.self.inside.staged c.self.inside.frames c.self.inside.frames c.self.inside.numbers c.self.inside.is_open
-            c.self.inside.gets c.saturating_add-self-inside.result c.self.inside.refused c.refused_by-self-inside.result c.args.slot c.args.n f.0 f.1.0 f.1.1.0 read.read (Err c.in_err-read.field-0.0)
-            refl c.saturating_add-self-inside.ensures (c.refused_by-self-inside.ensures ∙ ap (refused_after c.self.inside.refused) was
-            ∙ refused_same (List ℕ) (Bor (List ℕ)) c.self.inside.refused c.in_err-read.field-0.0)
+            c.self.inside.gets c.saturating_add-self-inside.result c.self.inside.damages c.damages_by-self-inside.result c.args.slot c.args.n f.0 f.1.0 f.1.1.0 read.read (Err c.in_err-read.field-0.0)
+            refl c.saturating_add-self-inside.ensures (c.damages_by-self-inside.ensures ∙ ap (damages_after c.self.inside.damages) was
+            ∙ damages_same (List ℕ) (Bor (List ℕ)) c.self.inside.damages c.in_err-read.field-0.0)
             read.counted read.damaged,
       ),
       record {
         live = tt;
         missing = λ missing.
-            read.missing (sym (older_live c.self.inside.archive c.self.inside.staged c.self.inside.frames c.self.inside.numbers c.self.inside.is_open c.self.inside.gets c.self.inside.refused c.args.slot c.args.n f.0 f.1.0 f.1.1.0 c.self.invariant.archived) ∙ missing);
+            read.missing (sym (older_live c.self.inside.archive c.self.inside.staged c.self.inside.frames c.self.inside.numbers c.self.inside.is_open c.self.inside.gets c.self.inside.damages c.args.slot c.args.n f.0 f.1.0 f.1.1.0 c.self.invariant.archived) ∙ missing);
         value = tt;
         after = tt;
       },
@@ -73,8 +73,8 @@ returns-in_err-put_image g c =
         refl,
         λ _. tt,
         gets_older c.self.inside.archive c.read_seen-read.new.self c.self.inside.staged c.self.inside.frames c.put_image.new.self c.self.inside.numbers c.self.inside.is_open
-            c.self.inside.gets c.saturating_add-self-inside.result c.self.inside.refused c.refused_by-self-inside.result c.args.slot c.args.n f.0 f.1.0 f.1.1.0 read.read (Err Memory)
-            c.put_image.ensures.most c.saturating_add-self-inside.ensures (c.refused_by-self-inside.ensures ∙ ap (refused_after c.self.inside.refused) was)
+            c.self.inside.gets c.saturating_add-self-inside.result c.self.inside.damages c.damages_by-self-inside.result c.args.slot c.args.n f.0 f.1.0 f.1.1.0 read.read (Err Memory)
+            c.put_image.ensures.most c.saturating_add-self-inside.ensures (c.damages_by-self-inside.ensures ∙ ap (damages_after c.self.inside.damages) was)
             read.counted tt,
       ),
       record { live = tt; missing = λ _. refl; value = tt; after = tt },
@@ -109,7 +109,7 @@ returns-in-Some-used_image g c =
           let was : w.read_seen-read.result ≡ Ok w.in_ok-read.field-0 = w.in_ok-read.was in
           let read = subst (ReadsImage c.self.inside.archive w.read_seen-read.new.self f.0.pages f.0.kept c.args.n) was whole in
           let got = got_older c.self.inside.archive w.read_seen-read.new.self c.self.inside.staged c.self.inside.frames w.put_image.new.self c.self.inside.numbers c.self.inside.is_open
-          c.self.inside.gets c.saturating_add-self-inside.result c.self.inside.refused w.refused_by-self-inside.result c.args.slot c.args.n f.0 f.1.0 f.1.1.0 read.read
+          c.self.inside.gets c.saturating_add-self-inside.result c.self.inside.damages w.damages_by-self-inside.result c.args.slot c.args.n f.0 f.1.0 f.1.1.0 read.read
           c.in-Some.place c.lies_at-is_newest.result f.1.1.1 c.lies_at-is_newest.ensures.there c.lies_at-is_newest.ensures.elsewhere c.self.invariant.archived
           (whole_seen c.self.inside.archive w.read_seen-read.new.self c.self.inside.staged.changes c.self.inside.frames w.put_image.new.self c.self.inside.numbers c.self.inside.is_open c.args.slot c.args.n c.in-Some.place f.0 c.lies_at-is_newest.result
           f.1.0 f.1.1.1 c.lies_at-is_newest.ensures.there c.lies_at-is_newest.ensures.elsewhere w.in_ok-read.field-0
@@ -120,14 +120,14 @@ returns-in-Some-used_image g c =
               refl,
               λ _. tt,
               gets_older c.self.inside.archive w.read_seen-read.new.self c.self.inside.staged c.self.inside.frames w.put_image.new.self c.self.inside.numbers c.self.inside.is_open
-                  c.self.inside.gets c.saturating_add-self-inside.result c.self.inside.refused w.refused_by-self-inside.result c.args.slot c.args.n f.0 f.1.0 f.1.1.0 read.read (Ok c.bytes.result)
-                  w.put_image.ensures.most c.saturating_add-self-inside.ensures (w.refused_by-self-inside.ensures ∙ ap (refused_after c.self.inside.refused) was) read.counted tt,
+                  c.self.inside.gets c.saturating_add-self-inside.result c.self.inside.damages w.damages_by-self-inside.result c.args.slot c.args.n f.0 f.1.0 f.1.1.0 read.read (Ok c.bytes.result)
+                  w.put_image.ensures.most c.saturating_add-self-inside.ensures (w.damages_by-self-inside.ensures ∙ ap (damages_after c.self.inside.damages) was) read.counted tt,
             ),
             record { live = got.0; missing = λ _. tt; value = got.1; after = tt },
           )
       | else-not-has_image w ↦
           let got = got_older c.self.inside.archive c.self.inside.archive c.self.inside.staged c.self.inside.frames c.self.inside.frames c.self.inside.numbers c.self.inside.is_open
-          c.self.inside.gets c.saturating_add-self-inside.result c.self.inside.refused c.self.inside.refused c.args.slot c.args.n f.0 f.1.0 f.1.1.0 (record { same = refl; told = refl; stored = refl })
+          c.self.inside.gets c.saturating_add-self-inside.result c.self.inside.damages c.self.inside.damages c.args.slot c.args.n f.0 f.1.0 f.1.1.0 (record { same = refl; told = refl; stored = refl })
           c.in-Some.place c.lies_at-is_newest.result f.1.1.1 c.lies_at-is_newest.ensures.there c.lies_at-is_newest.ensures.elsewhere c.self.invariant.archived
           (c.self.invariant)
           c.bytes.result.now (ap (λ t. cond c.lies_at-is_newest.result (map.get t.frames.newest c.args.n) (map.get t.frames.past c.in-Some.place)) (sym w.self-inside-is) ∙ framed) in
@@ -136,7 +136,7 @@ returns-in-Some-used_image g c =
               refl,
               λ _. tt,
               gets_older c.self.inside.archive c.self.inside.archive c.self.inside.staged c.self.inside.frames c.self.inside.frames c.self.inside.numbers c.self.inside.is_open
-                  c.self.inside.gets c.saturating_add-self-inside.result c.self.inside.refused c.self.inside.refused c.args.slot c.args.n f.0 f.1.0 f.1.1.0
+                  c.self.inside.gets c.saturating_add-self-inside.result c.self.inside.damages c.self.inside.damages c.args.slot c.args.n f.0 f.1.0 f.1.1.0
                   (record { same = refl; told = refl; stored = refl }) (Ok c.bytes.result)
                   refl c.saturating_add-self-inside.ensures refl refl tt,
             ),
@@ -159,8 +159,8 @@ returns-in-None g c =
               refl,
               λ _. tt,
               gets_older c.self.inside.archive w.read_seen-read.new.self c.self.inside.staged c.self.inside.frames w.put_image.new.self c.self.inside.numbers c.self.inside.is_open
-                  c.self.inside.gets c.saturating_add-self-inside.result c.self.inside.refused w.refused_by-self-inside.result c.args.slot c.args.n f.0 f.1.0 f.1.1.0 read.read (Err Memory)
-                  w.put_image.ensures.most c.saturating_add-self-inside.ensures (w.refused_by-self-inside.ensures ∙ ap (refused_after c.self.inside.refused) was) read.counted tt,
+                  c.self.inside.gets c.saturating_add-self-inside.result c.self.inside.damages w.damages_by-self-inside.result c.args.slot c.args.n f.0 f.1.0 f.1.1.0 read.read (Err Memory)
+                  w.put_image.ensures.most c.saturating_add-self-inside.ensures (w.damages_by-self-inside.ensures ∙ ap (damages_after c.self.inside.damages) was) read.counted tt,
             ),
             record { live = tt; missing = λ _. refl; value = tt; after = tt },
           )
@@ -170,7 +170,7 @@ returns-in-None g c =
               refl,
               λ _. tt,
               gets_older c.self.inside.archive c.self.inside.archive c.self.inside.staged c.self.inside.frames c.self.inside.frames c.self.inside.numbers c.self.inside.is_open
-                  c.self.inside.gets c.saturating_add-self-inside.result c.self.inside.refused c.self.inside.refused c.args.slot c.args.n f.0 f.1.0 f.1.1.0
+                  c.self.inside.gets c.saturating_add-self-inside.result c.self.inside.damages c.self.inside.damages c.args.slot c.args.n f.0 f.1.0 f.1.1.0
                   (record { same = refl; told = refl; stored = refl }) (Err Memory)
                   refl c.saturating_add-self-inside.ensures refl refl tt,
             ),

@@ -1,6 +1,6 @@
 use Rattle.std.proofs.Common.{refl, ap, ◌∙◌}
 use Rattle.std.proofs.lemmas.Result.{err_from_is_err_and}
-use Rattle.page_pool.specs.Causes.{faults_at}
+use Rattle.page_pool.specs.Causes.{failures_at}
 use Rattle.page_pool.proofs.WritesAdd.{in_order_none, in_order_more, Writes-refl, Writes-trans, none_there}
 use Rattle.page_pool.proofs.pool.Pool.flush.Goals as goal
 
@@ -32,7 +32,7 @@ returns-in_err-write_one g c =
         ascending = in_order_more c.args.self.now c.waiting.self c.write_one.new.self c.in-Some.n c.in-Some.ensures.least c.write_one.ensures.others c.write_one.ensures.writes.dirty c.waiting.invariant.ascending;
         accepted = tt;
         cause = record {
-          counted = c.in_err-write_one.ensures.cause.counted ∙ ap (λ n. faults_at n c.in_err-write_one.field-0.0) c.waiting.invariant.faults;
+          counted = c.in_err-write_one.ensures.cause.counted ∙ ap (λ n. failures_at n c.in_err-write_one.field-0.0) c.waiting.invariant.faults;
           damaged = c.in_err-write_one.ensures.cause.damaged;
         };
         undamaged = c.in_err-write_one.ensures.undamaged;

@@ -1,4 +1,5 @@
 use Rattle.std.proofs.Common.{◌≡◌, None}
+use Rattle.page_pool.specs.Causes.{failures_of}
 use Rattle.page_pool.specs.Commands.{WritesPages, WritesInOrder, waiting_count}
 use Rattle.page_pool.proofs.pool.Pool.flush.Given as goal
 
@@ -8,7 +9,7 @@ invariant-waiting g l = record {
   writes : WritesPages l.fn.self l.self;
   ascending : WritesInOrder l.fn.self l.self;
   closed : l.self.beginning ≡ None;
-  faults : l.self.disk.faults ≡ l.fn.self.disk.faults;
+  faults : failures_of l.self ≡ failures_of l.fn.self;
 }
 
 -- fewer wait each time

@@ -11,7 +11,7 @@ returns-in-Some-clause-value g c =
     from_unstaged c.self.inside.staged.changes c.args.n (ap (λ s. set.contains s.dirty c.args.n) c.self.view_is ∙ c.requires.0)
     (ap (λ s. set.contains s.freed c.args.n) c.self.view_is ∙ c.requires.1) in
     subst (λ s. IsPage s c.args.n c.bytes.result.now) c.self.view_is
-    (page_framed c.self.inside.archive c.self.inside.staged c.self.inside.frames c.self.inside.numbers c.self.inside.is_open c.self.inside.gets c.self.inside.refused c.self.invariant c.args.n c.bytes.result.now
+    (page_framed c.self.inside.archive c.self.inside.staged c.self.inside.frames c.self.inside.numbers c.self.inside.is_open c.self.inside.gets c.self.inside.damages c.self.invariant c.args.n c.bytes.result.now
     none (sym c.in-Some.ensures ∙ ap (λ page. Some page) (sym c.bytes.ensures)))
 
 pub returns-in-Some-clause-live : goal.returns-in-Some-clause-live
@@ -20,5 +20,5 @@ returns-in-Some-clause-live g c =
     from_unstaged c.self.inside.staged.changes c.args.n (ap (λ s. set.contains s.dirty c.args.n) c.self.view_is ∙ c.requires.0)
     (ap (λ s. set.contains s.freed c.args.n) c.self.view_is ∙ c.requires.1) in
     ap (λ s. map.contains_key s.pages c.args.n) (sym c.self.view_is)
-    ∙ framed_live c.self.inside.archive c.self.inside.staged c.self.inside.frames c.self.inside.numbers c.self.inside.is_open c.self.inside.gets c.self.inside.refused c.self.invariant c.args.n c.bytes.result.now
+    ∙ framed_live c.self.inside.archive c.self.inside.staged c.self.inside.frames c.self.inside.numbers c.self.inside.is_open c.self.inside.gets c.self.inside.damages c.self.invariant c.args.n c.bytes.result.now
     none (sym c.in-Some.ensures ∙ ap (λ page. Some page) (sym c.bytes.ensures))

@@ -19,13 +19,13 @@ returns-in_err-keep g c =
     let p = err_from_is_err_and c.from_residual.result c.from_residual.ensures.1 in
     rw p.1 record {
       kept = tt;
-      unchanged = ap (λ a. state_of a c.self.inside.staged c.self.inside.frames c.self.inside.numbers c.self.inside.is_open c.self.inside.gets c.self.inside.refused) c.in_err-keep.ensures.unchanged
+      unchanged = ap (λ a. state_of a c.self.inside.staged c.self.inside.frames c.self.inside.numbers c.self.inside.is_open c.self.inside.gets c.self.inside.damages) c.in_err-keep.ensures.unchanged
           ∙ c.self.view_is;
     }
 
 pub returns-clause-kept : goal.returns-clause-kept
 returns-clause-kept g c =
-    subst (λ old. KeepsMap old (state_of c.keep.new.self c.self.inside.staged c.self.inside.frames c.self.inside.numbers c.self.inside.is_open c.self.inside.gets c.self.inside.refused) c.new.result) c.self.view_is
-    (subst (KeepsMap (state_of c.self.inside.archive c.self.inside.staged c.self.inside.frames c.self.inside.numbers c.self.inside.is_open c.self.inside.gets c.self.inside.refused)
-    (state_of c.keep.new.self c.self.inside.staged c.self.inside.frames c.self.inside.numbers c.self.inside.is_open c.self.inside.gets c.self.inside.refused)) (sym c.new.ensures)
-    (keeps_state c.self.inside.archive c.keep.new.self c.self.inside.staged c.self.inside.frames c.self.inside.numbers c.self.inside.is_open c.self.inside.gets c.self.inside.refused c.in_ok-keep.field-0 c.in_ok-keep.ensures.free c.in_ok-keep.ensures.kept))
+    subst (λ old. KeepsMap old (state_of c.keep.new.self c.self.inside.staged c.self.inside.frames c.self.inside.numbers c.self.inside.is_open c.self.inside.gets c.self.inside.damages) c.new.result) c.self.view_is
+    (subst (KeepsMap (state_of c.self.inside.archive c.self.inside.staged c.self.inside.frames c.self.inside.numbers c.self.inside.is_open c.self.inside.gets c.self.inside.damages)
+    (state_of c.keep.new.self c.self.inside.staged c.self.inside.frames c.self.inside.numbers c.self.inside.is_open c.self.inside.gets c.self.inside.damages)) (sym c.new.ensures)
+    (keeps_state c.self.inside.archive c.keep.new.self c.self.inside.staged c.self.inside.frames c.self.inside.numbers c.self.inside.is_open c.self.inside.gets c.self.inside.damages c.in_ok-keep.field-0 c.in_ok-keep.ensures.free c.in_ok-keep.ensures.kept))

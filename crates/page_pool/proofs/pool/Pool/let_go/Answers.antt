@@ -44,12 +44,12 @@ returns-in_err-leave g c =
     let closed : c.self.inside.is_open ≡ false = closed_is c.self.inside.is_open c.self.inside.archive.pages (subst (λ s. IsNone s.beginning) (sym c.self.view_is) c.requires.closed.0) in
     let p = err_from_is_err_and c.from_residual.result c.from_residual.ensures.1 in
     rw (p.1, p.2)
-    (subst (λ a. WritesOne c.args.self.now (state_of a c.self.inside.staged c.forget.new.self c.self.inside.numbers c.self.inside.is_open c.self.inside.gets c.self.inside.refused) c.args.n
+    (subst (λ a. WritesOne c.args.self.now (state_of a c.self.inside.staged c.forget.new.self c.self.inside.numbers c.self.inside.is_open c.self.inside.gets c.self.inside.damages) c.args.n
     (Err Memory)) (sym c.in_err-leave.ensures.unchanged)
-    (subst (λ old. WritesOne old (state_of c.self.inside.archive c.self.inside.staged c.forget.new.self c.self.inside.numbers c.self.inside.is_open c.self.inside.gets c.self.inside.refused) c.args.n
+    (subst (λ old. WritesOne old (state_of c.self.inside.archive c.self.inside.staged c.forget.new.self c.self.inside.numbers c.self.inside.is_open c.self.inside.gets c.self.inside.damages) c.args.n
     (Err Memory)) c.self.view_is
     record {
-      writes = writes_nothing c.self.inside.archive c.self.inside.staged c.self.inside.frames c.forget.new.self c.self.inside.numbers c.self.inside.is_open c.self.inside.gets c.self.inside.refused c.forget.ensures.most;
+      writes = writes_nothing c.self.inside.archive c.self.inside.staged c.self.inside.frames c.forget.new.self c.self.inside.numbers c.self.inside.is_open c.self.inside.gets c.self.inside.damages c.forget.ensures.most;
       others = λ q apart d. d;
       closed = ap (λ b. cond b (Some c.self.inside.archive.pages) None) closed;
       cause = record { counted = refl; damaged = tt };
@@ -63,18 +63,18 @@ returns-in_err-add g c =
     let gone : map.get c.self.inside.staged.changes c.args.n ≡ Some None = freed_is c.self.inside.staged.changes c.args.n (ap (λ s. set.contains s.freed c.args.n) c.self.view_is ∙ c.requires.freed) in
     let p = err_from_is_err_and c.from_residual-in_err-add.result c.from_residual-in_err-add.ensures.1 in
     rw (p.1, p.2)
-    (subst (λ old. WritesOne old (state_of c.leave.new.self c.self.inside.staged c.forget.new.self c.add.new.self c.self.inside.is_open c.self.inside.gets c.self.inside.refused) c.args.n
+    (subst (λ old. WritesOne old (state_of c.leave.new.self c.self.inside.staged c.forget.new.self c.add.new.self c.self.inside.is_open c.self.inside.gets c.self.inside.damages) c.args.n
     (Err Memory)) c.self.view_is
     record {
       writes = writes_spoiled c.self.inside.archive c.leave.new.self c.self.inside.staged.changes c.self.inside.frames c.forget.new.self c.self.inside.numbers c.add.new.self c.self.inside.is_open c.args.n
           (ap is_some gone) closed c.in_ok-leave.ensures.left.change c.leave.ensures.whole c.forget.ensures.newest c.forget.ensures.past
-          (λ p is. no_one p (map.get c.leave.new.self.places c.args.n) c.in_ok-leave.ensures.left.places is _) c.self.inside.staged c.self.inside.gets c.self.inside.refused refl c.self.invariant.archived c.forget.ensures.most c.in_err-add.ensures.top
+          (λ p is. no_one p (map.get c.leave.new.self.places c.args.n) c.in_ok-leave.ensures.left.places is _) c.self.inside.staged c.self.inside.gets c.self.inside.damages refl c.self.invariant.archived c.forget.ensures.most c.in_err-add.ensures.top
           (shared_falls c.self.inside.archive.shared c.leave.new.self.shared c.self.inside.staged.changes c.self.inside.staged.changes c.args.n c.self.inside.archive.seen c.leave.new.self.seen
           (ap is_some gone) (λ q apart. refl)
           c.in_ok-leave.ensures.left.replaced.shared c.in_ok-leave.ensures.left.replaced.seen);
       others = λ q apart d. d;
       closed = ap (λ b. cond b (Some c.leave.new.self.pages) None) closed;
-      cause = record { counted = ap (λ d. d.faults) c.in_ok-leave.ensures.left.disk; damaged = tt };
+      cause = record { counted = ap (λ d. (d.faults, c.self.inside.damages)) c.in_ok-leave.ensures.left.disk; damaged = tt };
       undamaged = tt;
       fewer = tt;
     })
@@ -83,16 +83,16 @@ pub returns : goal.returns
 returns g c =
     let closed : c.self.inside.is_open ≡ false = closed_is c.self.inside.is_open c.self.inside.archive.pages (subst (λ s. IsNone s.beginning) (sym c.self.view_is) c.requires.closed.0) in
     let gone : map.get c.self.inside.staged.changes c.args.n ≡ Some None = freed_is c.self.inside.staged.changes c.args.n (ap (λ s. set.contains s.freed c.args.n) c.self.view_is ∙ c.requires.freed) in
-    subst (λ old. WritesOne old (state_of c.leave.new.self c.take.new.self c.forget.new.self c.add.new.self c.self.inside.is_open c.self.inside.gets c.self.inside.refused) c.args.n
+    subst (λ old. WritesOne old (state_of c.leave.new.self c.take.new.self c.forget.new.self c.add.new.self c.self.inside.is_open c.self.inside.gets c.self.inside.damages) c.args.n
     (Ok tt)) c.self.view_is
     record {
       writes = writes_released c.self.inside.archive c.leave.new.self c.self.inside.staged.changes c.take.new.self.changes c.self.inside.frames c.forget.new.self c.self.inside.numbers c.add.new.self c.self.inside.is_open c.args.n
           gone closed c.in_ok-leave.ensures.left.change c.leave.ensures.whole c.in_ok-leave.ensures.left.places c.forget.ensures.newest c.forget.ensures.past c.take.ensures.left c.in_ok-add.ensures.top c.in_ok-add.ensures.spare
-          c.self.inside.staged.count c.take.new.self.count c.self.inside.gets c.self.inside.refused c.self.invariant.archived c.forget.ensures.most c.in_ok-leave.ensures.left.replaced;
+          c.self.inside.staged.count c.take.new.self.count c.self.inside.gets c.self.inside.damages c.self.invariant.archived c.forget.ensures.most c.in_ok-leave.ensures.left.replaced;
       others = others_released c.self.inside.archive c.leave.new.self c.self.inside.staged.changes c.take.new.self.changes c.self.inside.frames c.forget.new.self c.self.inside.numbers c.add.new.self c.self.inside.is_open c.args.n
           gone closed c.in_ok-leave.ensures.left.change c.leave.ensures.whole c.in_ok-leave.ensures.left.places c.forget.ensures.newest c.forget.ensures.past c.take.ensures.left c.in_ok-add.ensures.top c.in_ok-add.ensures.spare;
       closed = ap (λ b. cond b (Some c.leave.new.self.pages) None) closed;
-      cause = record { counted = ap (λ d. d.faults) c.in_ok-leave.ensures.left.disk; damaged = tt };
+      cause = record { counted = ap (λ d. (d.faults, c.self.inside.damages)) c.in_ok-leave.ensures.left.disk; damaged = tt };
       undamaged = tt;
       fewer = fewer_released c.self.inside.archive c.leave.new.self c.self.inside.staged.changes c.take.new.self.changes c.self.inside.frames c.forget.new.self c.self.inside.numbers c.add.new.self c.self.inside.is_open c.args.n
           gone closed c.in_ok-leave.ensures.left.change c.leave.ensures.whole c.in_ok-leave.ensures.left.places c.forget.ensures.newest c.forget.ensures.past c.take.ensures.left c.in_ok-add.ensures.top c.in_ok-add.ensures.spare;

@@ -19,7 +19,7 @@ pub returns-clause-put : goal.returns-clause-put
 returns-clause-put g c =
     let opened : c.self.inside.is_open ≡ true = open_is c.self.inside.is_open c.self.inside.archive.pages (subst (λ s. IsSome s.beginning) (sym c.self.view_is) c.requires.open) in
     let live : map.contains_key (overlaid c.self.inside.staged.changes c.self.inside.archive.pages) c.args.n ≡ true = ap (λ s. map.contains_key s.pages c.args.n) c.self.view_is ∙ c.requires.live in
-    subst (λ old. Puts old (state_of c.self.inside.archive c.put.new.self c.self.inside.frames c.self.inside.numbers c.self.inside.is_open c.self.inside.gets c.self.inside.refused) c.args.n c.args.bytes.now) c.self.view_is
-    (puts_state c.self.inside.archive c.self.inside.staged c.put.new.self c.self.inside.frames c.self.inside.numbers c.self.inside.is_open c.self.inside.gets c.self.inside.refused opened c.self.invariant c.args.n c.args.bytes.now
+    subst (λ old. Puts old (state_of c.self.inside.archive c.put.new.self c.self.inside.frames c.self.inside.numbers c.self.inside.is_open c.self.inside.gets c.self.inside.damages) c.args.n c.args.bytes.now) c.self.view_is
+    (puts_state c.self.inside.archive c.self.inside.staged c.put.new.self c.self.inside.frames c.self.inside.numbers c.self.inside.is_open c.self.inside.gets c.self.inside.damages opened c.self.invariant c.args.n c.args.bytes.now
     c.in_ok-put.ensures.staged live
     (live_there c.self.inside.archive c.self.invariant.archived c.self.inside.staged.changes c.args.n live))

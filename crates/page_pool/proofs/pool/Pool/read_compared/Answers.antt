@@ -66,9 +66,9 @@ pub returns-in_err-page-clause-read : goal.returns-in_err-page-clause-read
 returns-in_err-page-clause-read g c =
     let p = err_from_is_err_and c.from_residual.result c.from_residual.ensures.1 in
     rw (p.1, p.2)
-    (subst (λ old. Compares old (state_of c.read.new.self c.self.inside.staged c.self.inside.frames c.self.inside.numbers c.self.inside.is_open c.self.inside.gets c.self.inside.refused) c.args.n
+    (subst (λ old. Compares old (state_of c.read.new.self c.self.inside.staged c.self.inside.frames c.self.inside.numbers c.self.inside.is_open c.self.inside.gets c.self.inside.damages) c.args.n
     (Err c.in_err-page.field-0.0)) c.self.view_is
-    (compares_state c.self.inside.archive c.read.new.self c.self.inside.staged c.self.inside.frames c.self.inside.frames c.self.inside.numbers c.self.inside.is_open c.self.inside.gets c.self.inside.refused c.args.n (Err c.in_err-page.field-0.0)
+    (compares_state c.self.inside.archive c.read.new.self c.self.inside.staged c.self.inside.frames c.self.inside.frames c.self.inside.numbers c.self.inside.is_open c.self.inside.gets c.self.inside.damages c.args.n (Err c.in_err-page.field-0.0)
     c.in_err-page.ensures.read.read refl c.in_err-page.ensures.read.counted c.in_err-page.ensures.read.damaged))
 
 -- memory for the frame was refused
@@ -76,14 +76,14 @@ pub returns-in_err-put-clause-read : goal.returns-in_err-put-clause-read
 returns-in_err-put-clause-read g c =
     let p = err_from_is_err_and c.from_residual-in_err-put.result c.from_residual-in_err-put.ensures.1 in
     rw (p.1, p.2)
-    (subst (λ old. Compares old (state_of c.read.new.self c.self.inside.staged c.put.new.self c.self.inside.numbers c.self.inside.is_open c.self.inside.gets c.self.inside.refused) c.args.n
+    (subst (λ old. Compares old (state_of c.read.new.self c.self.inside.staged c.put.new.self c.self.inside.numbers c.self.inside.is_open c.self.inside.gets c.self.inside.damages) c.args.n
     (Err Memory)) c.self.view_is
-    (compares_state c.self.inside.archive c.read.new.self c.self.inside.staged c.self.inside.frames c.put.new.self c.self.inside.numbers c.self.inside.is_open c.self.inside.gets c.self.inside.refused c.args.n (Err Memory)
+    (compares_state c.self.inside.archive c.read.new.self c.self.inside.staged c.self.inside.frames c.put.new.self c.self.inside.numbers c.self.inside.is_open c.self.inside.gets c.self.inside.damages c.args.n (Err Memory)
     c.in_ok-page.ensures.read.read c.put.ensures.most c.in_ok-page.ensures.read.counted tt))
 
 pub returns-clause-read : goal.returns-clause-read
 returns-clause-read g c =
-    subst (λ old. Compares old (state_of c.read.new.self c.self.inside.staged c.put.new.self c.self.inside.numbers c.self.inside.is_open c.self.inside.gets c.self.inside.refused) c.args.n
+    subst (λ old. Compares old (state_of c.read.new.self c.self.inside.staged c.put.new.self c.self.inside.numbers c.self.inside.is_open c.self.inside.gets c.self.inside.damages) c.args.n
     (Ok tt)) c.self.view_is
-    (compares_state c.self.inside.archive c.read.new.self c.self.inside.staged c.self.inside.frames c.put.new.self c.self.inside.numbers c.self.inside.is_open c.self.inside.gets c.self.inside.refused c.args.n (Ok tt)
+    (compares_state c.self.inside.archive c.read.new.self c.self.inside.staged c.self.inside.frames c.put.new.self c.self.inside.numbers c.self.inside.is_open c.self.inside.gets c.self.inside.damages c.args.n (Ok tt)
     c.in_ok-page.ensures.read.read c.put.ensures.most c.in_ok-page.ensures.read.counted tt)

@@ -15,5 +15,5 @@ invariant_of-self g c =
 pub returns : goal.returns
 returns g c =
     let lets : Releases c.self.inside.archive c.release.new.self c.args.stamp = subst (Releases c.self.inside.archive c.release.new.self) c.slot.ensures c.release.ensures.released in
-    subst (λ old. LetsMapGo old (state_of c.release.new.self c.self.inside.staged c.self.inside.frames c.self.inside.numbers c.self.inside.is_open c.self.inside.gets c.self.inside.refused) c.args.stamp) c.self.view_is
-    (lets_go_state c.self.inside.archive c.release.new.self c.self.inside.staged c.self.inside.frames c.self.inside.numbers c.self.inside.is_open c.self.inside.gets c.self.inside.refused c.args.stamp lets)
+    subst (λ old. LetsMapGo old (state_of c.release.new.self c.self.inside.staged c.self.inside.frames c.self.inside.numbers c.self.inside.is_open c.self.inside.gets c.self.inside.damages) c.args.stamp) c.self.view_is
+    (lets_go_state c.self.inside.archive c.release.new.self c.self.inside.staged c.self.inside.frames c.self.inside.numbers c.self.inside.is_open c.self.inside.gets c.self.inside.damages c.args.stamp lets)

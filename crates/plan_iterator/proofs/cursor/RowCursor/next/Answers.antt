@@ -26,3 +26,7 @@ returns-in-Err-clause-step g c =
     (λ s. counts_of (g.S.RowSource.seen s)) (told_pages c.args.desk.now)
     c.args.self.now (record { operator = c.advance.new.operator; given = c.args.self.now.given }) c.args.desk.now c.advance.new.desk c.advance.result (Err c.in-Err.fault)
     c.in-Err.is refl c.advance.ensures.step
+
+-- over any disk
+pub returns-in-Ok-Some-clause-number : goal.returns-in-Ok-Some-clause-number
+returns-in-Ok-Some-clause-number g c = c.saturating_add-self.ensures
