@@ -53,7 +53,8 @@ IsDamageIfDamaged s Memory = ⊤
 IsDamageIfDamaged s Device = ⊤
 IsDamageIfDamaged s (Damaged page kept read) = IsDamage s page kept read
 
--- A call that was lent pages has its cause: the disk's count rose by one at Device, that of damaged pages by one at Damaged, and neither at any other answer; and a page is damaged where the answer says so.
+-- A call that was lent pages has its cause: the disk's count rose by one at Device, that of damaged pages by one at Damaged, and neither at any
+-- other answer; and a page is damaged where the answer says so.
 pub record HasPageCause {T : Type 0} (old new : PoolState) (result : Result T PageFault) : Type 0 where
   pub counted : failures_of new ≡ failures_after (failures_of old) result
   pub damaged : IfErr result (IsDamageIfDamaged new)
