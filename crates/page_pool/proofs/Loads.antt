@@ -8,9 +8,9 @@ use Rattle.page_pool.specs.declared.fault.PageFault.{PageFault}
 use Rattle.page_pool.specs.declared.fault.PageFault.TheVariants.{Memory, Device, Damaged}
 use Rattle.page_pool.specs.Disk.{DigestMap}
 use Rattle.page_pool.specs.Archive.{ArchiveState, IsArchive, IsReadArchive, IsImageDamage}
-use Rattle.page_pool.specs.Inside.{ChangeMap, StagedState, CacheState, NumbersState, IsImageOf, IsWhole, state_of, Compares, ReadsIn, damages_after}
+use Rattle.page_pool.specs.Inside.{ChangeMap, StagedState, CacheState, NumbersState, IsImageOf, IsWhole, state_of, Compares, ReadsIn}
 use Rattle.page_pool.specs.Pool.{PoolState}
-use Rattle.page_pool.specs.Causes.{faults_at, faults_after, failures_at, failures_after, IsDamageIfDamaged, IsNoDamage, Names}
+use Rattle.page_pool.specs.Causes.{faults_at, faults_after, failures_at, failures_after, IsDamageIfDamaged, IsNoDamage, Names, damages_after}
 use Rattle.page_pool.proofs.States.{read_state}
 
 -- the damage of an image is one of its page, and names it

@@ -5,9 +5,9 @@ use Rattle.sand_base.specs.Faults.{next_count}
 use Rattle.page_pool.specs.declared.fault.PageFault.{PageFault}
 use Rattle.page_pool.specs.declared.fault.PageFault.TheVariants.{Memory, Device, Damaged}
 use Rattle.page_pool.specs.Archive.{ImageMap, ArchiveState, IsArchive, IsReadArchive, IsImageDamage}
-use Rattle.page_pool.specs.Inside.{StagedState, CacheState, NumbersState, IsWhole, IsImageOf, state_of, damages_after}
+use Rattle.page_pool.specs.Inside.{StagedState, CacheState, NumbersState, IsWhole, IsImageOf, state_of}
 use Rattle.page_pool.specs.Pool.{PoolState, IsLive, IsPage, seen_at, showing}
-use Rattle.page_pool.specs.Causes.{faults_after}
+use Rattle.page_pool.specs.Causes.{faults_after, damages_after}
 use Rattle.page_pool.specs.Reads.{IsRead, Gets}
 use Rattle.page_pool.proofs.Stamped.{shown_frozen}
 use Rattle.page_pool.proofs.States.{read_state}

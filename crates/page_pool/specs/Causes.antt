@@ -25,6 +25,13 @@ abbrev pub faults_after : {T : Type 0} → ℕ → Result T PageFault → ℕ
 faults_after before (Ok _) = before
 faults_after before (Err fault) = faults_at before fault
 
+-- the count of damaged pages after a reading: one more where it found one
+abbrev pub damages_after : {T : Type 0} → ℕ → Result T PageFault → ℕ
+damages_after before (Ok _) = before
+damages_after before (Err Memory) = before
+damages_after before (Err Device) = before
+damages_after before (Err (Damaged page kept read)) = next_count before
+
 -- what a pool counts of failures: those of its disk, and the damaged pages among those that were asked for
 abbrev pub failures_of : PoolState → ℕ × ℕ
 failures_of s = (s.disk.faults, s.damages)

@@ -1,6 +1,6 @@
 -- How a pool's parts make up what contracts see of it. (For proofs; no clause above speaks of it.)
 use Rattle.std.specs.Prelude.{◌≡◌, ℕ, zero, suc, ◌+◌, ◌-◌, ◌^◌, ◌≤◌, ◌<◌, List, [], ◌∷◌, length, slice_get, Bool, true, false, cond, ◌||◌, nat_eq, nat_lt, IsTrue, Option}
-use Rattle.std.specs.Prelude.{None, Some, is_some, Result, Ok, Err, IfErr, ◌⊎◌, ⊤, refl}
+use Rattle.std.specs.Prelude.{None, Some, is_some, Result, IfErr, ◌⊎◌, ⊤, refl}
 use Rattle.std.specs.FinMap as map
 use Rattle.std.specs.FinSet as set
 use Rattle.std.specs.BTreeSet as tree
@@ -8,14 +8,12 @@ use Rattle.std.specs.BTreeSet.{BTreeSet}
 use Rattle.std.specs.Option.{option_map}
 use Rattle.std.specs.Ordering.{nat_cmp}
 use Rattle.std.specs.Coded.{Coded, code_by, coded×, coded_ℕ, coded_list, coded_option, coded_bool}
-use Rattle.sand_base.specs.Faults.{next_count}
 use Rattle.sha2.specs.Sha256.{sha256}
 use Rattle.lru.specs.LruCache.{LruCache}
 use Rattle.page_pool.specs.Disk.{PageMap, DigestMap, NumberSet, DiskView}
 use Rattle.page_pool.specs.declared.fault.PageFault.{PageFault}
-use Rattle.page_pool.specs.declared.fault.PageFault.TheVariants.{Memory, Device, Damaged}
 use Rattle.page_pool.specs.Pool.{PoolState, Shown, StampMap}
-use Rattle.page_pool.specs.Causes.{HasPageCause, IsDamageIfDamaged, Names, faults_after}
+use Rattle.page_pool.specs.Causes.{HasPageCause, IsDamageIfDamaged, Names, damages_after, faults_after}
 use Rattle.page_pool.specs.Reads.{IsRead}
 use Rattle.page_pool.specs.Archive.{ImageMap, ArchiveState, IsArchive, IsFrozen, StandsWritten}
 use Rattle.page_pool.specs.InsideArchive.{collected}
@@ -138,13 +136,6 @@ pub record IsAccount (in_use : ℕ → Bool) (top : ℕ) (spare : NumberSet) : T
 -- neither a page nor a freed number waits under this number
 abbrev pub IsUnstaged : PoolState → ℕ → Type 0
 IsUnstaged s n = (set.contains s.dirty n ≡ false) × (set.contains s.freed n ≡ false)
-
--- the count of damaged pages after a reading: one more where it found one
-abbrev pub damages_after : {T : Type 0} → ℕ → Result T PageFault → ℕ
-damages_after before (Ok _) = before
-damages_after before (Err Memory) = before
-damages_after before (Err Device) = before
-damages_after before (Err (Damaged page kept read)) = next_count before
 
 -- Page n is read in, whatever the answer, and its get was counted before: nothing else changes, and a refusal has its cause in this call and names this page.
 pub record ReadsIn {T : Type 0} (old new : PoolState) (n : ℕ) (result : Result T PageFault) : Type 0 where

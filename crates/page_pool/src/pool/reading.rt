@@ -2,9 +2,9 @@ ghost use Rattle.std.specs.Prelude.{◌≡◌, IfSome, IfOk, IfErr, OnOk, false}
 ghost use Rattle.std.specs.Borrow.{sem};
 ghost use Rattle.std.specs.Io.BufRead.{Rests};
 ghost use Rattle.std.specs.FinMap as map;
-ghost use Rattle.page_pool.specs.Inside.{IsUnstaged, ReadsIn, Compares, damages_after};
+ghost use Rattle.page_pool.specs.Inside.{IsUnstaged, ReadsIn, Compares};
 ghost use Rattle.page_pool.specs.Pool.{IsLive, IsPage};
-ghost use Rattle.page_pool.specs.Causes.{IsMemory};
+ghost use Rattle.page_pool.specs.Causes.{IsMemory, damages_after};
 ghost use Rattle.page_pool.specs.Reads.{Gets};
 
 use crate::page::Page;

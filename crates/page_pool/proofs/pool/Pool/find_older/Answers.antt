@@ -3,7 +3,7 @@ use Rattle.std.specs.FinMap as map
 use Rattle.std.proofs.lemmas.Result.{err_from_is_err_and}
 use Rattle.page_pool.specs.declared.fault.PageFault.TheVariants.{Memory}
 use Rattle.page_pool.specs.Archive.{ReadsImage}
-use Rattle.page_pool.specs.Inside.{damages_after}
+use Rattle.page_pool.specs.Causes.{damages_after}
 use Rattle.page_pool.proofs.Loads.{whole_read}
 use Rattle.page_pool.proofs.Viewed.{some_and, if_some, older_live, whole_seen}
 use Rattle.page_pool.proofs.Older.{damages_same, gets_older, got_older}
