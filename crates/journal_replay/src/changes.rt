@@ -12,11 +12,20 @@ use page_pool::Disk;
 use sand_base::Row;
 use sand_journal::{Change, Encodings};
 use sand_store::Store;
-use script_text::Statement;
+use script_text::{Plan, Statement};
 use std::alloc::Global;
 
-// Ends a statement: here alone it is dropped, with its plan.
-fn end_statement(_statement: Statement) {}
+// Ends a plan: here alone it is dropped.
+fn end_plan(_plan: Plan) {}
+
+// Ends a statement: here alone it is dropped, and its plan apart, since a drop has a way for each form of what it drops.
+pub(crate) fn end_statement(statement: Statement) {
+    match statement {
+        Statement::OpenCursor { cursor: _, plan } => end_plan(plan),
+        Statement::Show { count: _, plan } => end_plan(plan),
+        _ => {}
+    }
+}
 
 // A statement that a journal keeps, carried out.
 fn carry_line<D: Disk>(store: &mut Store<D>, statement: Statement) -> Result<(), ReplayFault>

@@ -6,6 +6,7 @@ ghost use Rattle.script_text.specs.InRange.{IsInRange};
 ghost use Rattle.script_text.specs.Name.{IsName};
 ghost use Rattle.journal_replay.specs.KeptBody.{IsKeptOf, IsKeptOfRows, IsLineOf};
 
+use crate::changes::end_statement;
 use crate::encoding::{encode_all, is_body_short};
 use sand_base::{Label, NoMemory, Row};
 use sand_journal::{Change, Encodings, Record};
@@ -14,8 +15,16 @@ use script_text::{Column, Statement};
 use std::alloc::Global;
 use std::slice;
 
-// Ends a change: here alone it is dropped, with its statement.
-fn end_change(_change: Change) {}
+// Ends a change: here alone it is dropped, and its statement apart.
+fn end_change(change: Change) {
+    match change {
+        Change::Line(statement) => end_statement(statement),
+        Change::Rows {
+            relation: _,
+            rows: _,
+        } => {}
+    }
+}
 
 // The record of a statement that a journal keeps as a line.
 fn record_of_line(alloc: Global, statement: Statement) -> Result<Record, NoMemory>
